@@ -1,0 +1,2 @@
+pub mod BlockMaps
+pub mod Laws

@@ -1,0 +1,86 @@
+-- What an act on a part is to the client's own solo machine.
+use Rattle.std.proofs.Common.{◌≡◌, ℕ, suc, true, List, map, Option, Some, None, option_map, option_and_then, refl, arith, ap, rules}
+use Rattle.std.specs.Prelude.{nat_lt, slice_set}
+use Rattle.std.proofs.Math.ListN.{get_or-map}
+use Rattle.std.proofs.Math.Seq.{map-set_same}
+use Rattle.std.proofs.lemmas.Option.{none-some}
+use Rattle.std.proofs.lemmas.List.{map-set}
+use Rattle.scsi_cmd.specs.declared.Command.{Command}
+use Rattle.scsi_cmd.specs.declared.Reply.{Reply}
+use Rattle.solo_model.specs.declared.TheConstants.{TASK_SLOT}
+use Rattle.solo_model.specs.declared.Label.{Label}
+use Rattle.solo_model.specs.declared.Label.TheVariants.{Submit as SubmitLabel}
+use Rattle.solo_model.specs.Held.{held_at}
+use Rattle.solo_model.specs.Solo.{SoloState, solo_step, silently}
+use Rattle.bus_core.specs.declared.Place.{Place}
+use Rattle.bus_core.specs.declared.Entry.{Entry}
+use Rattle.bus_core.specs.declared.Completion.{Completion}
+use Rattle.bus_core.specs.declared.Step.{Step}
+use Rattle.bus_core.specs.Part.{Part, Act, carry_act, move_act, send_act, event_act, seen_entry, event_place, seen_by, fault_at, submitted_part, take_act, own_task, slot_tag}
+use Rattle.bus_core.specs.Isolation.{label_of, renumbered, solo_of, own_tag}
+
+-- the solo machine's step on a label, and no step where there is none
+abbrev pub solo_try : SoloState → Option Label → Option (SoloState × Option Reply)
+solo_try state None = Some (silently state)
+solo_try state (Some label) = solo_step state label
+
+-- what a client's own solo machine makes of an act on its part
+abbrev pub IsOwnAct : ℕ → Step → Part → Act → Type 0
+IsOwnAct client step part act =
+    solo_try (solo_of part) (label_of act.mark step) ≡ Some (solo_of act.part, option_map (renumbered client) act.reply)
+
+-- what the solo machine has in a slot is the task of the entry there
+pub held_at-solo_of : (entries : List (Option Entry)) (slot : ℕ) → held_at (map (option_map own_task) entries) slot ≡ option_map own_task (held_at entries slot)
+held_at-solo_of entries slot = get_or-map (option_map own_task) entries slot None
+
+-- an entry that keeps its task
+pub map-own_task : (entries : List (Option Entry)) (slot : ℕ) (now : Option Entry) →
+    map (option_map own_task) (slice_set entries slot now) ≡ slice_set (map (option_map own_task) entries) slot (option_map own_task now)
+map-own_task entries slot now = map-set (option_map own_task) entries slot now
+
+-- the device receives the command under a slot
+pub carry_act-own : (client : ℕ) (step : Step) (place : Place) (part : Part) → IsOwnAct client step part (carry_act place part)
+carry_act-own client step place part = search (rules, map-own_task, held_at-solo_of)
+
+-- the device moves a chunk under a slot
+pub move_act-own : (client : ℕ) (step : Step) (place : Place) (part : Part) → IsOwnAct client step part (move_act place part)
+move_act-own client step place part = search (rules, map-own_task, held_at-solo_of)
+
+-- the device hands over the answer under a slot
+pub send_act-own : (client : ℕ) (step : Step) (place : Place) (part : Part) → IsOwnAct client step part (send_act place part)
+send_act-own client step place part = search (rules, map-own_task, held_at-solo_of)
+
+-- seeing an event keeps the task
+pub seen_by-task : (event : Completion) (entry seen : Entry) → seen_by event entry ≡ Some seen → seen.task ≡ entry.task
+seen_by-task event entry seen is = search rules
+
+-- the same, of whatever a slot holds
+pub seen_held-task : (event : Completion) (held : Option Entry) (seen : Entry) →
+    option_and_then (seen_by event) held ≡ Some seen → option_map own_task (Some seen) ≡ option_map own_task held
+seen_held-task event None seen is = absurd (none-some seen is)
+seen_held-task event (Some entry) seen is = ap Some (seen_by-task event entry seen is)
+
+-- an entry with an event seen is the same to the client
+pub seen_entry-own : (client : ℕ) (step : Step) (event : Completion) (part : Part) (slot : ℕ) (seen : Option Entry) →
+    option_and_then (seen_by event) (held_at part.entries slot) ≡ seen → IsOwnAct client step part (seen_entry part slot seen)
+seen_entry-own client step event part slot None is = refl
+seen_entry-own client step event part slot (Some seen) is =
+    let same = map-set_same (option_map own_task) part.entries slot (Some seen) None (seen_held-task event (held_at part.entries slot) seen is) in
+    rw same refl
+
+-- the client can't tell that the host takes an event
+pub event_act-own : (client : ℕ) (step : Step) (event : Completion) (part : Part) → IsOwnAct client step part (event_act event part)
+event_act-own client step event part = seen_entry-own client step event part (event_place event).slot _ refl
+
+-- the tag of a slot of a client, renumbered for it, is the slot's index
+pub own_tag-slot_tag : (client slot : ℕ) → own_tag client (slot_tag client slot) ≡ suc slot
+own_tag-slot_tag client slot = omega arith
+
+-- the client takes the reply that was ready first
+pub take_act-own : (client : ℕ) (step : Step) (part : Part) → IsOwnAct client step part (take_act client part)
+take_act-own client step part = search (rules, map-own_task, held_at-solo_of, own_tag-slot_tag)
+
+-- an accepted submission is accepted by the client's own solo machine
+pub submitted_part-own : (part : Part) (slot ticket : ℕ) (command : Command) → nat_lt slot TASK_SLOT ≡ true → fault_at part slot ticket command ≡ None →
+    solo_step (solo_of part) (SubmitLabel (suc slot) ticket command) ≡ Some (silently (solo_of (submitted_part part slot ticket command)))
+submitted_part-own part slot ticket command within none = search (rules, map-own_task, held_at-solo_of)

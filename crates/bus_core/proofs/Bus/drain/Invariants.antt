@@ -1,0 +1,13 @@
+use Rattle.std.proofs.Common.{◌≡◌, suc, ◌≤◌}
+use Rattle.bus_core.specs.Drain.{rounds, drained}
+use Rattle.bus_core.proofs.Bus.drain.Given as goal
+
+-- the rounds that are left lead to the drain's end
+abbrev pub invariant-loop-limit : goal.invariant-loop-limit
+invariant-loop-limit l = record {
+  rest : rounds (suc l.more) (l.self, l.left) ≡ drained l.initial.self l.limit;
+  within : l.left ≤ l.limit;
+}
+
+abbrev pub decreases-loop-limit : goal.decreases-loop-limit
+decreases-loop-limit l = l.more

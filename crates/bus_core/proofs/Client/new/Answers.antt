@@ -1,0 +1,14 @@
+use Rattle.std.proofs.Common.{refl, arith}
+use Rattle.bus_core.specs.Soundness.{IsSoundEntry, IsFramed}
+use Rattle.bus_core.proofs.Slots.{AllHeld-none, AllPaired-none}
+use Rattle.bus_core.proofs.Client.new.Goals as goal
+
+pub invariant_of-result : goal.invariant_of-result
+invariant_of-result c = record {
+  number = c.requires;
+  slots = rw c.no_entries.ensures refl;
+  buffers = c.new_frames.ensures;
+  sound = rw c.no_entries.ensures (AllHeld-none (IsSoundEntry c.args.unit.count) 8);
+  framed = rw c.no_entries.ensures (AllPaired-none (IsFramed c.args.number) 0 8 c.new_frames.result);
+  ready = rw c.new.ensures (omega arith);
+}

@@ -1,0 +1,162 @@
+-- What a step of the shared machine is to each client's own solo machine.
+use Rattle.std.proofs.Common.{◌≡◌, ℕ, zero, suc, true, false, cond, List, [], ◌∷◌, Option, Some, None, option_map, refl, ap, subst, rules}
+use Rattle.std.specs.Prelude.{nat_lt, ◌==◌, slice_get, slice_set, length, option_and_then}
+use Rattle.std.proofs.lemmas.Bool.{eqb-true, eqb-false}
+use Rattle.std.proofs.lemmas.Option.{none-some}
+use Rattle.scsi_cmd.specs.declared.Command.{Command}
+use Rattle.scsi_cmd.specs.declared.SubmitFault.{SubmitFault}
+use Rattle.scsi_cmd.specs.declared.SubmitFault.TheVariants.{NotYours}
+use Rattle.solo_model.specs.declared.TheConstants.{TASK_SLOT}
+use Rattle.solo_model.specs.Solo.{SoloState}
+use Rattle.bus_core.specs.declared.Place.{Place}
+use Rattle.bus_core.specs.declared.Completion.{Completion}
+use Rattle.bus_core.specs.declared.Step.{Step}
+use Rattle.bus_core.specs.declared.Step.TheVariants.{Submit, CommandPipe, Data, Status, Event, Take}
+use Rattle.bus_core.specs.declared.Mark.TheVariants.{Quiet}
+use Rattle.bus_core.specs.declared.Outcome.{Outcome}
+use Rattle.bus_core.specs.Tags.{place_of, own_slot, command_slot}
+use Rattle.bus_core.specs.Part.{Part, Act, fault_at, submitted_part, carry_act, move_act, send_act, event_act, event_place, take_act}
+use Rattle.bus_core.specs.Shared.{Shared, idle, unmoved, refusal, due, acted_on, routed, routed_to, routed_by_tag, accepted, answered, submitted_to, submitted_under, carry_step, event_step, due_step, shared_step}
+use Rattle.bus_core.specs.Isolation.{label_of, own_label, own_reply, renumbered, solo_of, own_state}
+use Rattle.bus_core.proofs.Acts.{solo_try, IsOwnAct, carry_act-own, move_act-own, send_act-own, event_act-own, take_act-own, submitted_part-own}
+
+-- what each client's own solo machine makes of a step of the shared machine
+abbrev pub IsOwnStep : ℕ → Step → Shared → Shared × Outcome → Type 0
+IsOwnStep client step old after =
+    solo_try (own_state old client) (own_label client step after.1) ≡ Some (own_state after.0 client, own_reply client after.1)
+
+-- PLACES OF A LIST
+
+-- what was written is there
+pub slice_get-slice_set_same : {T : Type 0} (list : List T) (at : ℕ) (was now : T) → slice_get list at ≡ Some was → slice_get (slice_set list at now) at ≡ Some now
+slice_get-slice_set_same [] at was now is = absurd (none-some was is)
+slice_get-slice_set_same (first ∷ rest) zero was now is = refl
+slice_get-slice_set_same (first ∷ rest) (suc at) was now is = slice_get-slice_set_same rest at was now is
+
+-- elsewhere a write changes nothing
+pub slice_get-slice_set_other : {T : Type 0} (list : List T) (at other : ℕ) (now : T) → (at ≡ other → ⊥) → slice_get (slice_set list at now) other ≡ slice_get list other
+slice_get-slice_set_other [] at other now apart = refl
+slice_get-slice_set_other (first ∷ rest) zero zero now apart = absurd (apart refl)
+slice_get-slice_set_other (first ∷ rest) zero (suc other) now apart = refl
+slice_get-slice_set_other (first ∷ rest) (suc at) zero now apart = refl
+slice_get-slice_set_other (first ∷ rest) (suc at) (suc other) now apart = slice_get-slice_set_other rest at other now (λ same. apart (ap suc same))
+
+-- ONE STEP
+
+-- a step without a mark that changes no part
+pub quiet-own : (client : ℕ) (step : Step) (old new : Shared) (outcome : Outcome) → new.parts ≡ old.parts → outcome.mark ≡ Quiet → outcome.reply ≡ None →
+    IsOwnStep client step old (new, outcome)
+quiet-own client step old new outcome same mark reply = search rules
+
+-- to its owner a step on one part is what it is to that part
+pub written-owner : (client : ℕ) (step : Step) (old new : Shared) (outcome : Outcome) (part now : Part) →
+    slice_get old.parts client ≡ Some part → new.parts ≡ slice_set old.parts client now →
+    solo_try (solo_of part) (label_of outcome.mark step) ≡ Some (solo_of now, option_map (renumbered client) outcome.reply) →
+    solo_try (own_state old client) (label_of outcome.mark step) ≡ Some (own_state new client, option_map (renumbered client) outcome.reply)
+written-owner client step old new outcome part now found wrote own =
+    rw (found, wrote, slice_get-slice_set_same old.parts client part now found) own
+
+-- nobody else can tell a step on one part
+pub written-other : (owner client : ℕ) (old new : Shared) (now : Part) → (owner ≡ client → ⊥) → new.parts ≡ slice_set old.parts owner now →
+    own_state old client ≡ own_state new client
+written-other owner client old new now apart wrote = rw (wrote, slice_get-slice_set_other old.parts owner client now apart) refl
+
+-- a step on one part is to each client what it is to its own part, or nothing
+pub written-own : (client : ℕ) (step : Step) (old new : Shared) (owner : ℕ) (outcome : Outcome) (part now : Part) →
+    slice_get old.parts owner ≡ Some part → new.parts ≡ slice_set old.parts owner now → outcome.owner ≡ Some owner →
+    solo_try (solo_of part) (label_of outcome.mark step) ≡ Some (solo_of now, option_map (renumbered owner) outcome.reply) →
+    IsOwnStep client step old (new, outcome)
+written-own client step old new owner outcome part now found wrote owns own =
+    rw owns (elim (owner == client) as (λ b. (owner == client) ≡ b → solo_try (own_state old client) (cond b (label_of outcome.mark step) None)
+    ≡ Some (own_state new client, cond b (option_map (renumbered client) outcome.reply) None)) [
+      | true ↦ λ same. let it : owner ≡ client = eqb-true owner client same in
+          written-owner client step old new outcome part now (subst (λ o. slice_get old.parts o ≡ Some part) it found)
+          (subst (λ o. new.parts ≡ slice_set old.parts o now) it wrote)
+          (subst (λ o. solo_try (solo_of part) (label_of outcome.mark step) ≡ Some (solo_of now, option_map (renumbered o) outcome.reply)) it own)
+      | false ↦ λ apart. ap (λ (state : SoloState). Some (state, None)) (written-other owner client old new now (eqb-false owner client apart) wrote)
+    ] refl)
+
+-- an act routed to a client is what it is to that client's part
+pub routed_to-own : (client : ℕ) (step : Step) (old : Shared) (owner : ℕ) (act : Part → Act) (found : Option Part) →
+    slice_get old.parts owner ≡ found → ((part : Part) → IsOwnAct owner step part (act part)) → IsOwnStep client step old (routed_to old owner act found)
+routed_to-own client step old owner act None is own = quiet-own client step old old (unmoved owner) refl refl refl
+routed_to-own client step old owner act (Some part) is own =
+    written-own client step old (acted_on old owner (act part)).0 owner (acted_on old owner (act part)).1 part (act part).part is refl refl (own part)
+
+-- the same, of the client of a number
+pub routed-own : (client : ℕ) (step : Step) (old : Shared) (owner : ℕ) (act : Part → Act) →
+    ((part : Part) → IsOwnAct owner step part (act part)) → IsOwnStep client step old (routed old owner act)
+routed-own client step old owner act own = routed_to-own client step old owner act (slice_get old.parts owner) refl own
+
+-- the same, of the place of a tag
+pub routed_by_tag-own : (client : ℕ) (step : Step) (old : Shared) (act : Place → Part → Act) (place : Option Place) →
+    ((owner : ℕ) (place : Place) (part : Part) → IsOwnAct owner step part (act place part)) → IsOwnStep client step old (routed_by_tag old act place)
+routed_by_tag-own client step old act None own = quiet-own client step old old idle refl refl refl
+routed_by_tag-own client step old act (Some place) own = routed-own client step old place.client (act place) (own place.client place)
+
+-- the first message leaves the command pipe
+pub carry_step-own : (client : ℕ) (step : Step) (old : Shared) (messages : List Place) → IsOwnStep client step old (carry_step old messages)
+carry_step-own client step old [] = quiet-own client step old old idle refl refl refl
+carry_step-own client step old (place ∷ rest) =
+    routed-own client step (record old { messages = rest }) place.client (carry_act place) (carry_act-own place.client step place)
+
+-- the first event is taken
+pub event_step-own : (client : ℕ) (step : Step) (old : Shared) (events : List Completion) → IsOwnStep client step old (event_step old events)
+event_step-own client step old [] = quiet-own client step old old idle refl refl refl
+event_step-own client step old (event ∷ rest) =
+    routed-own client step (record old { events = rest }) (event_place event).client (event_act event) (event_act-own (event_place event).client step event)
+
+-- SUBMISSION
+
+-- the slot of a command tag is no task management's
+pub placed_slot-within : (client : ℕ) (place : Option Place) (slot : ℕ) → option_and_then (own_slot client) place ≡ Some slot → nat_lt slot TASK_SLOT ≡ true
+placed_slot-within client place slot is = search rules
+
+-- a submission is accepted, or refused and Quiet
+pub answered-own : (client : ℕ) (old : Shared) (part : Part) (owner tag ticket slot : ℕ) (command : Command) (fault : Option SubmitFault) →
+    slice_get old.parts owner ≡ Some part → nat_lt slot TASK_SLOT ≡ true → fault_at part slot ticket command ≡ fault →
+    IsOwnStep client (Submit owner tag ticket command) old (answered old part (record { client = owner; slot = slot }) tag ticket command fault)
+answered-own client old part owner tag ticket slot command None found within none =
+    let after = accepted old part (record { client = owner; slot = slot }) tag ticket command in
+    written-own client (Submit owner tag ticket command) old after.0 owner after.1 part (submitted_part part slot ticket command) found refl refl
+    (submitted_part-own part slot ticket command within none)
+answered-own client old part owner tag ticket slot command (Some fault) found within some =
+    quiet-own client (Submit owner tag ticket command) old old (refusal owner fault command) refl refl refl
+
+-- the same, of a client that is there, or isn't
+pub submitted_to-own : (client : ℕ) (old : Shared) (owner tag ticket slot : ℕ) (command : Command) (found : Option Part) →
+    slice_get old.parts owner ≡ found → nat_lt slot TASK_SLOT ≡ true →
+    IsOwnStep client (Submit owner tag ticket command) old (submitted_to old (record { client = owner; slot = slot }) tag ticket command found)
+submitted_to-own client old owner tag ticket slot command None is within =
+    quiet-own client (Submit owner tag ticket command) old old (refusal owner NotYours command) refl refl refl
+submitted_to-own client old owner tag ticket slot command (Some part) is within =
+    answered-own client old part owner tag ticket slot command (fault_at part slot ticket command) is within refl
+
+-- the same, under a tag that is the client's, or isn't
+pub submitted_under-own : (client : ℕ) (old : Shared) (owner tag ticket : ℕ) (command : Command) (place : Option Place) (slot : Option ℕ) →
+    option_and_then (own_slot owner) place ≡ slot →
+    IsOwnStep client (Submit owner tag ticket command) old (submitted_under old owner tag ticket command slot)
+submitted_under-own client old owner tag ticket command place None is =
+    quiet-own client (Submit owner tag ticket command) old old (refusal owner NotYours command) refl refl refl
+submitted_under-own client old owner tag ticket command place (Some slot) is =
+    submitted_to-own client old owner tag ticket slot command (slice_get old.parts owner) refl (placed_slot-within owner place slot is)
+
+-- EVERY STEP
+
+-- whatever is due is to each client what its own solo machine makes of it
+pub due_step-own : (client : ℕ) (old : Shared) (step : Step) → IsOwnStep client step old (due_step old step)
+due_step-own client old (Submit owner tag ticket command) =
+    submitted_under-own client old owner tag ticket command (place_of (length old.parts) tag) (command_slot (length old.parts) owner tag) refl
+due_step-own client old CommandPipe = carry_step-own client CommandPipe old old.messages
+due_step-own client old (Data tag) = routed_by_tag-own client (Data tag) old move_act (place_of (length old.parts) tag) (λ owner. move_act-own owner (Data tag))
+due_step-own client old (Status tag) = routed_by_tag-own client (Status tag) old send_act (place_of (length old.parts) tag) (λ owner. send_act-own owner (Status tag))
+due_step-own client old Event = event_step-own client Event old old.events
+due_step-own client old (Take owner) = routed-own client (Take owner) old owner (take_act owner) (take_act-own owner (Take owner))
+
+-- each client's own solo machine takes the step's own label to its own state after it, with its own reply
+pub shared_step-own : (client : ℕ) (old : Shared) (step : Step) → IsOwnStep client step old (shared_step old step)
+shared_step-own client old step =
+    elim (due old step) as (λ b. IsOwnStep client step old (cond b (due_step old step) (old, idle))) [
+      | true ↦ due_step-own client old step
+      | false ↦ quiet-own client step old old idle refl refl refl
+    ]

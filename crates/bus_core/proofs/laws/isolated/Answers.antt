@@ -1,0 +1,5 @@
+use Rattle.bus_core.proofs.Runs.{replayed-isolated}
+use Rattle.bus_core.proofs.laws.isolated.Goals as goal
+
+pub returns : goal.returns
+returns c = replayed-isolated

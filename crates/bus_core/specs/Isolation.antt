@@ -1,0 +1,86 @@
+-- The headline's words: a client's own labels and replies in a run, and its part as a state of the solo machine.
+use Rattle.std.specs.Prelude.{◌≡◌, ℕ, ◌-◌, ◌*◌, ◌==◌, Bool, true, false, List, [], ◌∷◌, ◌++◌, if◌then◌else◌, Option, Some, None, option_map, option_to_list, slice_get, map}
+use Rattle.std.specs.Option.{option_map_or}
+use Rattle.block_unit.specs.BlockMaps.{BlockMaps}
+use Rattle.scsi_cmd.specs.declared.Reply.{Reply}
+use Rattle.scsi_cmd.specs.declared.Reply.TheVariants.{Status as StatusReply, Aborted as AbortedReply, Task as TaskReply}
+use Rattle.solo_model.specs.declared.TheConstants.{TAGS}
+use Rattle.solo_model.specs.declared.Label.{Label}
+use Rattle.solo_model.specs.declared.Label.TheVariants.{Submit as SubmitLabel, Carry as CarryLabel, Move as MoveLabel, Send as SendLabel, Settle as SettleLabel}
+use Rattle.solo_model.specs.Solo.{SoloState, solo_run}
+use Rattle.bus_core.specs.declared.Step.{Step}
+use Rattle.bus_core.specs.declared.Step.TheVariants.{Submit, CommandPipe, Data, Status, Event, Take}
+use Rattle.bus_core.specs.declared.Mark.{Mark}
+use Rattle.bus_core.specs.declared.Mark.TheVariants.{Submit as SubmitMark, Carry, Move, Send, Settle, Quiet}
+use Rattle.bus_core.specs.declared.Outcome.{Outcome}
+use Rattle.bus_core.specs.Part.{Part, own_task}
+use Rattle.bus_core.specs.Shared.{Shared}
+use Rattle.bus_core.specs.Replay.{replayed}
+
+-- the label of an accepted submission: its index, and what the client handed in
+abbrev pub submit_label : ℕ → Step → Option Label
+submit_label index (Submit client tag ticket command) = Some (SubmitLabel index ticket command)
+submit_label index CommandPipe = None
+submit_label index (Data tag) = None
+submit_label index (Status tag) = None
+submit_label index Event = None
+submit_label index (Take client) = None
+
+-- the label of a step with this mark; none where it is Quiet
+abbrev pub label_of : Mark → Step → Option Label
+label_of (SubmitMark index) step = submit_label index step
+label_of (Carry index) step = Some (CarryLabel index)
+label_of (Move index) step = Some (MoveLabel index)
+label_of (Send index) step = Some (SendLabel index)
+label_of (Settle index) step = Some (SettleLabel index)
+label_of Quiet step = None
+
+-- the outcome is of a step of this client
+abbrev pub is_own : ℕ → Outcome → Bool
+is_own client outcome = option_map_or (λ owner. owner == client) outcome.owner false
+
+abbrev pub own_label : ℕ → Step → Outcome → Option Label
+own_label client step outcome = if is_own client outcome then label_of outcome.mark step else None
+
+-- Own labels: the labels, in order, of the steps of the run that acted, are the client's and aren't Quiet.
+abbrev pub own_labels : ℕ → List Step → List Outcome → List Label
+own_labels client [] outcomes = []
+own_labels client (step ∷ steps) [] = []
+own_labels client (step ∷ steps) (outcome ∷ outcomes) =
+    option_to_list (own_label client step outcome) ++ own_labels client steps outcomes
+
+-- tag t of client c becomes t - 8c
+abbrev pub own_tag : ℕ → ℕ → ℕ
+own_tag client tag = tag - client * TAGS
+
+abbrev pub renumbered : ℕ → Reply → Reply
+renumbered client (StatusReply tag ticket status sense buffer) = StatusReply (own_tag client tag) ticket status sense buffer
+renumbered client (AbortedReply tag ticket buffer) = AbortedReply (own_tag client tag) ticket buffer
+renumbered client (TaskReply tag ticket code) = TaskReply (own_tag client tag) ticket code
+
+abbrev pub own_reply : ℕ → Outcome → Option Reply
+own_reply client outcome = if is_own client outcome then option_map (renumbered client) outcome.reply else None
+
+-- the replies in the outcomes of the client's steps, in order
+abbrev pub own_replies : ℕ → List Outcome → List Reply
+own_replies client [] = []
+own_replies client (outcome ∷ outcomes) = option_to_list (own_reply client outcome) ++ own_replies client outcomes
+
+-- a part as a state of the solo machine: it forgets the TDs, the ready slots and the number
+abbrev pub solo_of : Part → SoloState
+solo_of part = record { unit = part.unit; tasks = map (option_map own_task) part.entries; least = part.least }
+
+-- a client that isn't there has nothing
+abbrev pub nobody : SoloState
+nobody = record { unit = record { count = 0; blocks = []; medium = []; attention = false; bad = [] }; tasks = []; least = 0 }
+
+-- the client's part of the shared machine as a state of the solo machine
+abbrev pub own_state : Shared → ℕ → SoloState
+own_state state client = option_map_or solo_of (slice_get state.parts client) nobody
+
+-- The headline, of a run from one state to another with these outcomes: from the client's own state, its own labels are
+-- a run of the solo machine, with these replies, to its own state after them.
+abbrev pub IsIsolated : Shared → List Step → List Outcome → Shared → ℕ → Type 0
+IsIsolated old steps outcomes new client =
+    solo_run (own_state old client) (own_labels client steps outcomes)
+    ≡ Some (own_state new client, own_replies client outcomes)

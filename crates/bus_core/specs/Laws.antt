@@ -1,0 +1,124 @@
+-- The laws of the shared machine, as statements that a contract can name.
+use Rattle.std.specs.Prelude.{◌≡◌, ℕ, ◌+◌, ◌<◌, true, false, if◌then◌else◌, List, [], ◌∷◌, length, slice_get}
+use Rattle.std.specs.Option.{option_map_or}
+use Rattle.scsi_cmd.specs.declared.Reply.{Reply}
+use Rattle.scsi_cmd.specs.declared.Reply.TheVariants.{Status as StatusReply, Aborted as AbortedReply, Task as TaskReply}
+use Rattle.solo_model.specs.Held.{held_at}
+use Rattle.solo_model.specs.declared.Phase.{Phase}
+use Rattle.solo_model.specs.declared.Phase.TheVariants.{Queued, Moving, Ended, Sent}
+use Rattle.bus_core.specs.declared.Entry.{Entry}
+use Rattle.bus_core.specs.declared.Step.{Step}
+use Rattle.bus_core.specs.declared.Step.TheVariants.{Take}
+use Rattle.bus_core.specs.Td.{is_ready}
+use Rattle.bus_core.specs.Part.{Part}
+use Rattle.bus_core.specs.Shared.{Shared, idle, due, shared_step}
+use Rattle.bus_core.specs.Replay.{replayed}
+use Rattle.bus_core.specs.Drain.{tries, drained}
+use Rattle.bus_core.specs.Isolation.{IsIsolated, own_labels, own_replies, own_state}
+
+-- THE HEADLINE
+
+-- The headline holds of every run of the shared machine.
+abbrev pub HeadlineHolds : Type 0
+HeadlineHolds =
+    (state : Shared) (steps : List Step) (client : ℕ)
+    → IsIsolated state steps (replayed state steps).1 (replayed state steps).0 client
+
+-- Two clients, each in a world of its own, that start alike and do alike are answered alike and end alike, whatever
+-- the other clients of their worlds do.
+abbrev pub WorldsAgree : Type 0
+WorldsAgree =
+    (here there : Shared) (first second : List Step) (a b : ℕ)
+    → own_state here a ≡ own_state there b
+    → own_labels a first (replayed here first).1 ≡ own_labels b second (replayed there second).1
+    → (own_replies a (replayed here first).1 ≡ own_replies b (replayed there second).1)
+    × (own_state (replayed here first).0 a ≡ own_state (replayed there second).0 b)
+
+-- WHERE A STEP ACTS
+
+-- a step acts exactly where it is due
+abbrev pub ActsWhereDue : Type 0
+ActsWhereDue = (state : Shared) (step : Step) → (shared_step state step).1.acted ≡ due state step
+
+-- a step that isn't due changes nothing and tells nothing
+abbrev pub IdleChangesNothing : Type 0
+IdleChangesNothing = (state : Shared) (step : Step) → due state step ≡ false → shared_step state step ≡ (state, idle)
+
+-- a step keeps the number of clients
+abbrev pub StepKeepsClients : Type 0
+StepKeepsClients = (state : Shared) (step : Step) → length (shared_step state step).0.parts ≡ length state.parts
+
+-- THE DRAIN
+
+-- none of these steps is due
+abbrev pub NoneDue : Shared → List Step → Type 0
+NoneDue state [] = Unit {0}
+NoneDue state (step ∷ steps) = (due state step ≡ false) × NoneDue state steps
+
+-- a drain that ends quiet leaves nothing due that it tries
+abbrev pub QuietLeavesNothingDue : Type 0
+QuietLeavesNothingDue =
+    (state : Shared) (limit : ℕ) → (drained state limit).quiet ≡ true
+    → NoneDue (drained state limit).state (tries (length (drained state limit).state.parts))
+
+-- a drain that doesn't end quiet took as many steps as it may
+abbrev pub UnquietSpendsLimit : Type 0
+UnquietSpendsLimit = (state : Shared) (limit : ℕ) → (drained state limit).quiet ≡ false → (drained state limit).left ≡ 0
+
+-- a drain that ends quiet could have taken more
+abbrev pub QuietSparesLimit : Type 0
+QuietSparesLimit = (state : Shared) (limit : ℕ) → (drained state limit).quiet ≡ true → 0 < (drained state limit).left
+
+-- each of these steps is due in its turn
+abbrev pub AllDue : Shared → List Step → Type 0
+AllDue state [] = Unit {0}
+AllDue state (step ∷ steps) = (due state step ≡ true) × AllDue (shared_step state step).0 steps
+
+-- these steps, each due in its turn, lead from one state to the other
+pub record LeadsTo (old : Shared) (steps : List Step) (new : Shared) : Type 0 where
+  pub due : AllDue old steps
+  pub state : (replayed old steps).0 ≡ new
+
+-- a drain is a run of steps that act, so many as it took of those that it may
+abbrev pub DrainIsRun : Type 0
+DrainIsRun =
+    (state : Shared) (limit : ℕ)
+    → (steps : List Step) × LeadsTo state steps (drained state limit).state × (length steps + (drained state limit).left ≡ limit)
+
+-- a drain keeps the number of clients
+abbrev pub DrainKeepsClients : Type 0
+DrainKeepsClients = (state : Shared) (limit : ℕ) → length (drained state limit).state.parts ≡ length state.parts
+
+-- THE NEXT REPLY
+
+-- how many bytes a reply brings; a task's brings none
+abbrev pub reply_len : Reply → ℕ
+reply_len (StatusReply tag ticket status sense buffer) = length buffer
+reply_len (AbortedReply tag ticket buffer) = length buffer
+reply_len (TaskReply tag ticket code) = 0
+
+-- a command brings its buffer once its answer was sent
+abbrev pub sent_len : Phase → List ℕ → ℕ
+sent_len Queued buffer = 0
+sent_len (Moving chunk) buffer = 0
+sent_len (Ended answer) buffer = 0
+sent_len (Sent answer) buffer = length buffer
+
+abbrev pub entry_len : Entry → ℕ
+entry_len entry = if is_ready entry then sent_len entry.task.phase entry.task.buffer else 0
+
+abbrev pub first_len : Part → List ℕ → ℕ
+first_len part [] = 0
+first_len part (slot ∷ rest) = option_map_or entry_len (held_at part.entries slot) 0
+
+abbrev pub part_len : Part → ℕ
+part_len part = first_len part part.ready
+
+-- how many bytes the client's next reply would bring, 0 where none is ready
+abbrev pub next_len : Shared → ℕ → ℕ
+next_len state client = option_map_or part_len (slice_get state.parts client) 0
+
+-- a Take's reply brings as many bytes as was told of it, and no reply brings none
+abbrev pub TakeBringsNextLen : Type 0
+TakeBringsNextLen =
+    (state : Shared) (client : ℕ) → option_map_or reply_len (shared_step state (Take client)).1.reply 0 ≡ next_len state client

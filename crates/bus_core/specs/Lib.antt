@@ -1,0 +1,12 @@
+pub mod Tags
+pub mod Td
+pub mod Part
+pub mod Pipes
+pub mod Wire
+pub mod Soundness
+pub mod Shared
+pub mod Bus
+pub mod Replay
+pub mod Drain
+pub mod Isolation
+pub mod Laws

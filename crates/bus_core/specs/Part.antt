@@ -1,0 +1,234 @@
+-- One client's part of the shared machine, and what each step does to it.
+use Rattle.std.specs.Prelude.{ℕ, suc, ◌+◌, ◌==◌, Bool, true, false, List, [], ◌∷◌, ◌++◌, if◌then◌else◌, Option, Some, None, is_some, option_map, option_and_then, slice_set, replicate}
+use Rattle.block_unit.specs.BlockMaps.{BlockMaps}
+use Rattle.scsi_cmd.specs.declared.Command.{Command}
+use Rattle.scsi_cmd.specs.declared.Reply.{Reply}
+use Rattle.scsi_cmd.specs.declared.SubmitFault.{SubmitFault}
+use Rattle.scsi_cmd.specs.Op.{moved_bytes}
+use Rattle.solo_model.specs.declared.TheConstants.{TAGS}
+use Rattle.solo_model.specs.declared.TaggedTask.{TaggedTask}
+use Rattle.solo_model.specs.declared.Phase.{Phase}
+use Rattle.solo_model.specs.declared.Phase.TheVariants.{Queued, Moving, Ended, Sent}
+use Rattle.solo_model.specs.declared.Answer.{Answer}
+use Rattle.solo_model.specs.declared.Answer.TheVariants.{Good, Check}
+use Rattle.solo_model.specs.Held.{held_at}
+use Rattle.solo_model.specs.Solo.{SoloState}
+use Rattle.solo_model.specs.TaggedTask.{first_submit_fault, queued, carried, moved, sent, reply_of}
+use Rattle.bus_core.specs.declared.Place.{Place}
+use Rattle.bus_core.specs.declared.Td.{Td}
+use Rattle.bus_core.specs.declared.Entry.{Entry}
+use Rattle.bus_core.specs.declared.Completion.{Completion}
+use Rattle.bus_core.specs.declared.Completion.TheVariants.{CommandDone, DataDone, StatusDone}
+use Rattle.bus_core.specs.declared.News.{News}
+use Rattle.bus_core.specs.declared.Mark.{Mark}
+use Rattle.bus_core.specs.declared.Mark.TheVariants.{Submit, Carry, Move, Send, Settle, Quiet}
+use Rattle.bus_core.specs.Tags.{tag_of}
+use Rattle.bus_core.specs.Td.{pushed, data_trbs, has_trb, is_awaited, with_trb_taken, with_event_seen, data_after_status, is_ready}
+
+-- a client's number, unit, entries by slot, least ticket, and ready slots in order
+pub record Part : Type 0 where
+  pub number : ℕ
+  pub unit : BlockMaps
+  pub entries : List (Option Entry)
+  pub least : ℕ
+  pub ready : List ℕ
+
+-- the part of a client that has submitted nothing
+abbrev pub new_part : ℕ → BlockMaps → Part
+new_part number unit = record { number = number; unit = unit; entries = replicate TAGS None; least = 0; ready = [] }
+
+-- the part with this under a slot
+abbrev pub with_entry : Part → ℕ → Entry → Part
+with_entry part slot entry = record part { entries = slice_set part.entries slot (Some entry) }
+
+-- What a step does to one client's part, and its news: the event that the controller posts, the mark, the reply.
+pub record Act : Type 0 where
+  pub part : Part
+  pub event : Option Completion
+  pub mark : Mark
+  pub reply : Option Reply
+
+-- nothing changes
+abbrev pub nothing : Part → Act
+nothing part = record { part = part; event = None; mark = Quiet; reply = None }
+
+-- SUBMIT
+
+-- only a command that moves bytes has a data TD
+abbrev pub data_td_for : ℕ → Option Td
+data_td_for bytes = if bytes == 0 then None else Some pushed
+
+-- the entry of a command that was just submitted
+abbrev pub new_entry : ℕ → Command → Entry
+new_entry ticket command = record {
+  task = queued ticket command;
+  command_td = pushed;
+  status_td = pushed;
+  data_td = data_td_for (moved_bytes command.op);
+}
+
+-- the first fault of a submission under a command slot of the client
+abbrev pub fault_at : Part → ℕ → ℕ → Command → Option SubmitFault
+fault_at part slot ticket command = first_submit_fault true (is_some (held_at part.entries slot)) part.least ticket command
+
+abbrev pub submitted_part : Part → ℕ → ℕ → Command → Part
+submitted_part part slot ticket command = record (with_entry part slot (new_entry ticket command)) { least = ticket + 1 }
+
+-- CARRY
+
+abbrev pub carried_entry : Part → ℕ → Place → Entry → Option (BlockMaps × TaggedTask) → Act
+carried_entry part slot place entry None = nothing part
+carried_entry part slot place entry (Some after) = record {
+  part = with_entry (record part { unit = after.0 }) slot (record entry { task = after.1; command_td = with_trb_taken entry.command_td });
+  event = Some (CommandDone place);
+  mark = Carry (suc slot);
+  reply = None;
+}
+
+abbrev pub carried_slot : Part → ℕ → Place → Option Entry → Act
+carried_slot part slot place None = nothing part
+carried_slot part slot place (Some entry) = carried_entry part slot place entry (carried part.unit entry.task)
+
+-- the device receives the command under this slot
+abbrev pub carry_act : Place → Part → Act
+carry_act place part = carried_slot part place.slot place (held_at part.entries place.slot)
+
+-- MOVE
+
+-- a chunk that met a bad block takes no TRB
+abbrev pub took_trb : Phase → Bool
+took_trb Queued = true
+took_trb (Moving chunk) = true
+took_trb (Ended Good) = true
+took_trb (Ended (Check sense)) = false
+took_trb (Sent answer) = true
+
+abbrev pub data_td_after : Bool → Option Td → Option Td
+data_td_after taken None = None
+data_td_after taken (Some td) = Some (if taken then with_trb_taken td else td)
+
+-- the event of a data TD comes with its last TRB
+abbrev pub is_last_trb : Bool → ℕ → Option Td → Bool
+is_last_trb taken trbs None = false
+is_last_trb taken trbs (Some td) = if taken then (td.consumed + 1 == trbs) else false
+
+abbrev pub moved_entry : Part → ℕ → Place → Entry → Option (BlockMaps × TaggedTask) → Act
+moved_entry part slot place entry None = nothing part
+moved_entry part slot place entry (Some after) = record {
+  part = with_entry (record part { unit = after.0 }) slot (record entry { task = after.1; data_td = data_td_after (took_trb after.1.phase) entry.data_td });
+  event = if is_last_trb (took_trb after.1.phase) (data_trbs entry.task.request) entry.data_td then Some (DataDone place) else None;
+  mark = Move (suc slot);
+  reply = None;
+}
+
+abbrev pub moved_slot : Part → ℕ → Place → Option Entry → Act
+moved_slot part slot place None = nothing part
+moved_slot part slot place (Some entry) = moved_entry part slot place entry (moved part.unit entry.task)
+
+-- the device moves a chunk under this slot
+abbrev pub move_act : Place → Part → Act
+move_act place part = moved_slot part place.slot place (held_at part.entries place.slot)
+
+-- SEND
+
+abbrev pub sent_entry : Part → ℕ → Place → Entry → Option TaggedTask → Act
+sent_entry part slot place entry None = nothing part
+sent_entry part slot place entry (Some task) = record {
+  part = with_entry part slot (record entry { task = task; status_td = with_trb_taken entry.status_td });
+  event = Some (StatusDone place);
+  mark = Send (suc slot);
+  reply = None;
+}
+
+abbrev pub sent_slot : Part → ℕ → Place → Option Entry → Act
+sent_slot part slot place None = nothing part
+sent_slot part slot place (Some entry) = sent_entry part slot place entry (sent entry.task)
+
+-- the device hands over the answer under this slot
+abbrev pub send_act : Place → Part → Act
+send_act place part = sent_slot part place.slot place (held_at part.entries place.slot)
+
+-- EVENT
+
+-- The entry once the host has seen the event, or none where it awaits no such event. CHECK CONDITION leaves an
+-- unseen data TD over.
+abbrev pub seen_command : Entry → Option Entry
+seen_command entry = if is_awaited entry.command_td 1 then Some (record entry { command_td = with_event_seen entry.command_td }) else None
+
+abbrev pub seen_data_td : Entry → Option Td → Option Entry
+seen_data_td entry None = None
+seen_data_td entry (Some td) =
+    if is_awaited td (data_trbs entry.task.request) then Some (record entry { data_td = Some (with_event_seen td) }) else None
+
+abbrev pub seen_data : Entry → Option Entry
+seen_data entry = seen_data_td entry entry.data_td
+
+abbrev pub seen_status : Entry → Option Entry
+seen_status entry =
+    if is_awaited entry.status_td 1
+    then Some (record entry { status_td = with_event_seen entry.status_td; data_td = data_after_status entry.task.phase entry.data_td })
+    else None
+
+-- which TD an event is of
+abbrev pub seen_by : Completion → Entry → Option Entry
+seen_by (CommandDone place) entry = seen_command entry
+seen_by (DataDone place) entry = seen_data entry
+seen_by (StatusDone place) entry = seen_status entry
+
+abbrev pub event_place : Completion → Place
+event_place (CommandDone place) = place
+event_place (DataDone place) = place
+event_place (StatusDone place) = place
+
+-- a command that is ready now is the last of the ready ones
+abbrev pub ready_after : List ℕ → ℕ → Entry → List ℕ
+ready_after ready slot entry = if is_ready entry then ready ++ slot ∷ [] else ready
+
+abbrev pub seen_entry : Part → ℕ → Option Entry → Act
+seen_entry part slot None = nothing part
+seen_entry part slot (Some entry) =
+    nothing (record (with_entry part slot entry) { ready = ready_after part.ready slot entry })
+
+-- the host takes an event of this client
+abbrev pub event_act : Completion → Part → Act
+event_act event part =
+    seen_entry part (event_place event).slot (option_and_then (seen_by event) (held_at part.entries (event_place event).slot))
+
+-- TAKE
+
+abbrev pub settled : Part → ℕ → List ℕ → Option Reply → Act
+settled part slot rest None = nothing (record part { ready = rest })
+settled part slot rest (Some reply) = record {
+  part = record part { entries = slice_set part.entries slot None; ready = rest };
+  event = None;
+  mark = Settle (suc slot);
+  reply = Some reply;
+}
+
+-- the tag of a slot of this client
+abbrev pub slot_tag : ℕ → ℕ → ℕ
+slot_tag client slot = tag_of (record { client = client; slot = slot })
+
+-- the reply of an entry that is ready
+abbrev pub ready_reply : ℕ → Entry → Option Reply
+ready_reply tag entry = if is_ready entry then reply_of tag entry.task else None
+
+abbrev pub taken : ℕ → Part → List ℕ → Act
+taken client part [] = nothing part
+taken client part (slot ∷ rest) =
+    settled part slot rest (option_and_then (ready_reply (slot_tag client slot)) (held_at part.entries slot))
+
+-- the client takes the reply that was ready first
+abbrev pub take_act : ℕ → Part → Act
+take_act client part = taken client part part.ready
+
+-- NEWS: what the code tells of an act beside the part
+
+abbrev pub told : Part → News → Act
+told part news = record { part = part; event = news.event; mark = news.mark; reply = news.reply }
+
+-- THE CLIENT'S OWN VIEW
+
+-- what the solo machine has of an entry
+abbrev pub own_task : Entry → TaggedTask
+own_task entry = entry.task

@@ -1,0 +1,212 @@
+-- What is true of every client of a bus: the invariant behind the shared machine.
+use Rattle.std.specs.Prelude.{◌≡◌, ℕ, suc, ◌+◌, ◌<◌, ◌≤◌, Bool, true, false, cond, List, [], ◌∷◌, length, Option, Some, None, IfSome, sum_by, option_map, if◌then◌else◌}
+use Rattle.solo_model.specs.declared.TheConstants.{TAGS}
+use Rattle.solo_model.specs.declared.Phase.{Phase}
+use Rattle.solo_model.specs.declared.Phase.TheVariants.{Queued, Moving, Ended, Sent}
+use Rattle.solo_model.specs.declared.Answer.{Answer}
+use Rattle.solo_model.specs.declared.Answer.TheVariants.{Good, Check}
+use Rattle.solo_model.specs.Held.{AllHeld}
+use Rattle.solo_model.specs.Soundness.{IsSound, IsCdbOf}
+use Rattle.solo_model.specs.TaggedTask.{carried, moved, sent}
+use Rattle.block_unit.specs.BlockMaps.{BlockMaps}
+use Rattle.bus_core.specs.declared.TheConstants.{MAX_CLIENTS}
+use Rattle.bus_core.specs.declared.Td.{Td}
+use Rattle.bus_core.specs.declared.Entry.{Entry}
+use Rattle.bus_core.specs.declared.Frame.{Frame}
+use Rattle.bus_core.specs.Td.{pushed, is_awaited, data_trbs, is_ready, data_after_status, left_over_data, with_trb_taken}
+use Rattle.bus_core.specs.Part.{Part, slot_tag, data_td_after, took_trb, is_last_trb}
+use Rattle.bus_core.specs.Wire.{request_text, answer_text}
+
+-- until the device has received a command its command TD is untouched, and until its answer was sent its status TD is
+abbrev pub HasTds : Phase → Entry → Type 0
+HasTds Queued entry = (entry.command_td ≡ pushed) × (entry.status_td ≡ pushed)
+HasTds (Moving chunk) entry = entry.status_td ≡ pushed
+HasTds (Ended answer) entry = entry.status_td ≡ pushed
+HasTds (Sent answer) entry = Unit {0}
+
+-- of a data TD of so many TRBs, as many were taken as chunks were moved, and one more is there
+abbrev pub TookTrbs : ℕ → ℕ → Option Td → Type 0
+TookTrbs trbs chunks None = Unit {0}
+TookTrbs trbs chunks (Some td) = (td.consumed ≡ chunks) × (chunks < trbs)
+
+-- not every TRB of the data TD was taken, so that no event of it comes
+abbrev pub LacksTrb : ℕ → Option Td → Type 0
+LacksTrb trbs None = Unit {0}
+LacksTrb trbs (Some td) = td.consumed < trbs
+
+abbrev pub HasDataTdEnded : ℕ → Answer → Option Td → Type 0
+HasDataTdEnded trbs Good td = Unit {0}
+HasDataTdEnded trbs (Check sense) td = LacksTrb trbs td
+
+-- each chunk that was moved took a TRB of the data TD, and what ended with CHECK CONDITION left one
+abbrev pub HasDataTd : ℕ → Phase → Option Td → Type 0
+HasDataTd trbs Queued td = TookTrbs trbs 0 td
+HasDataTd trbs (Moving chunk) td = TookTrbs trbs chunk td
+HasDataTd trbs (Ended answer) td = HasDataTdEnded trbs answer td
+HasDataTd trbs (Sent answer) td = HasDataTdEnded trbs answer td
+
+pub record IsSoundEntry (count : ℕ) (entry : Entry) : Type 0 where
+  pub task : IsSound count entry.task
+  pub tds : HasTds entry.task.phase entry
+  pub chunks : HasDataTd (data_trbs entry.task.request) entry.task.phase entry.data_td
+
+-- the status buffer has the answer once it was sent
+abbrev pub HasAnswer : Phase → ℕ → Frame → Type 0
+HasAnswer Queued tag frame = Unit {0}
+HasAnswer (Moving chunk) tag frame = Unit {0}
+HasAnswer (Ended answer) tag frame = Unit {0}
+HasAnswer (Sent answer) tag frame = frame.status.items ≡ answer_text tag answer
+
+-- the buffers of a tag have its unit, and its answer once that was sent
+pub record IsFramed (number slot : ℕ) (entry : Entry) (frame : Frame) : Type 0 where
+  pub unit : frame.command.items ≡ request_text number (slot_tag number slot) entry.task.request
+  pub answer : HasAnswer entry.task.phase (slot_tag number slot) frame
+
+-- whatever a place holds is so with what stands beside it, by slot from this one on
+abbrev pub AllPaired : {T F : Type 0} → (ℕ → T → F → Type 0) → ℕ → List (Option T) → List F → Type 0
+AllPaired P slot [] beside = Unit {0}
+AllPaired P slot (place ∷ places) [] = Unit {0}
+AllPaired P slot (place ∷ places) (frame ∷ frames) = IfSome place (λ held. P slot held frame) × AllPaired P (suc slot) places frames
+
+-- COUNTS
+
+abbrev pub is_queued : Phase → Bool
+is_queued Queued = true
+is_queued (Moving chunk) = false
+is_queued (Ended answer) = false
+is_queued (Sent answer) = false
+
+abbrev pub one_if : Bool → ℕ
+one_if b = cond b 1 0
+
+-- how many messages an entry has waiting at most
+abbrev pub waiting_of : Option Entry → ℕ
+waiting_of None = 0
+waiting_of (Some entry) = one_if (is_queued entry.task.phase)
+
+abbrev pub awaited_data : ℕ → Option Td → ℕ
+awaited_data trbs None = 0
+awaited_data trbs (Some td) = one_if (is_awaited td trbs)
+
+-- how many events of an entry the host hasn't seen
+abbrev pub awaited_of : Option Entry → ℕ
+awaited_of None = 0
+awaited_of (Some entry) =
+    one_if (is_awaited entry.command_td 1) + one_if (is_awaited entry.status_td 1) + awaited_data (data_trbs entry.task.request) entry.data_td
+
+abbrev pub readied_of : Option Entry → ℕ
+readied_of None = 0
+readied_of (Some entry) = one_if (is_ready entry)
+
+-- the same over the slots of a client
+abbrev pub waiting_in : Part → ℕ
+waiting_in part = sum_by waiting_of part.entries
+
+abbrev pub awaited_in : Part → ℕ
+awaited_in part = sum_by awaited_of part.entries
+
+abbrev pub slots_in : Part → ℕ
+slots_in part = length part.entries
+
+-- A client: its number, the slots, the buffers, and no more ready slots than entries that are ready.
+pub record IsSoundClient (lun count : ℕ) (entries : List (Option Entry)) (queue : List ℕ) (frames : List Frame) : Type 0 where
+  pub number : lun < MAX_CLIENTS
+  pub slots : length entries ≡ TAGS
+  pub buffers : length frames ≡ TAGS
+  pub sound : AllHeld (IsSoundEntry count) entries
+  pub framed : AllPaired (IsFramed lun) 0 entries frames
+  pub ready : length queue ≤ sum_by readied_of entries
+
+-- How an entry's counts move: messages pushed and popped, events posted and taken, ready slots queued and left.
+pub record IsCountedEntry (old new : Option Entry) (pushes pops posts takes queues leaves : ℕ) : Type 0 where
+  pub waiting : waiting_of old + pushes ≤ waiting_of new + pops
+  pub awaited : awaited_of old + posts ≤ awaited_of new + takes
+  pub readied : readied_of old + queues ≤ readied_of new + leaves
+
+-- The same of a client, which keeps its number and its slots.
+pub record IsCounted (old new : Part) (pushes pops posts takes : ℕ) : Type 0 where
+  pub number : new.number ≡ old.number
+  pub slots : slots_in new ≡ slots_in old
+  pub waiting : waiting_in old + pushes ≤ waiting_in new + pops
+  pub awaited : awaited_in old + posts ≤ awaited_in new + takes
+
+-- whatever is held asks for its request by this CDB
+abbrev pub AsksFor : Option Entry → List ℕ → Type 0
+AsksFor None cdb = Unit {0}
+AsksFor (Some entry) cdb = IsCdbOf entry.task.request cdb
+
+-- an entry that has just seen an event may be ready
+abbrev pub readied_if : Bool → Option Entry → ℕ
+readied_if seen entry = cond seen (readied_of entry) 0
+
+-- whether the answer whose event is awaited is CHECK CONDITION, as far as the data TD can tell
+abbrev pub TellsCheck : Option Entry → Bool → Type 0
+TellsCheck None checked = Unit {0}
+TellsCheck (Some entry) checked =
+    is_awaited entry.status_td 1 ≡ true → data_after_status entry.task.phase entry.data_td ≡ cond checked (left_over_data entry.data_td) entry.data_td
+
+-- the bytes are the answer of a task whose answer was sent
+abbrev pub IsAnswered : Phase → ℕ → List ℕ → Type 0
+IsAnswered Queued tag bytes = ⊥
+IsAnswered (Moving chunk) tag bytes = ⊥
+IsAnswered (Ended answer) tag bytes = ⊥
+IsAnswered (Sent answer) tag bytes = bytes ≡ answer_text tag answer
+
+-- the buffers of a tag that fit one entry fit another
+abbrev pub KeepsFrame : Entry → Entry → Type 0
+KeepsFrame old new = (number slot : ℕ) (frame : Frame) → IsFramed number slot old frame → IsFramed number slot new frame
+
+-- the same of what is held
+abbrev pub KeepsHeldFrame : Option Entry → Option Entry → Type 0
+KeepsHeldFrame old new = (number slot : ℕ) (frame : Frame) → IfSome old (λ held. IsFramed number slot held frame) → IfSome new (λ held. IsFramed number slot held frame)
+
+-- the same over the slots of a client
+abbrev pub KeepsFrames : List (Option Entry) → List (Option Entry) → Type 0
+KeepsFrames old new = (number : ℕ) (frames : List Frame) → AllPaired (IsFramed number) 0 old frames → AllPaired (IsFramed number) 0 new frames
+
+-- How the counts over the slots move.
+pub record IsCountedSlots (old new : List (Option Entry)) (pushes pops posts takes queues leaves : ℕ) : Type 0 where
+  pub slots : length new ≡ length old
+  pub waiting : sum_by waiting_of old + pushes ≤ sum_by waiting_of new + pops
+  pub awaited : sum_by awaited_of old + posts ≤ sum_by awaited_of new + takes
+  pub readied : sum_by readied_of old + queues ≤ sum_by readied_of new + leaves
+
+-- STEPS ON WHAT IS HELD
+
+-- the unit and the entry once the device has received the command
+abbrev pub carried_held : BlockMaps → Entry → Option (BlockMaps × Entry)
+carried_held unit entry =
+    option_map (λ after. (after.0, record entry { task = after.1; command_td = with_trb_taken entry.command_td })) (carried unit entry.task)
+
+-- the unit and the entry after a chunk, and whether the data TD took its last TRB
+abbrev pub moved_held : BlockMaps → Entry → Option (BlockMaps × Entry × Bool)
+moved_held unit entry =
+    option_map (λ after. (
+      after.0,
+      record entry { task = after.1; data_td = data_td_after (took_trb after.1.phase) entry.data_td },
+      is_last_trb (took_trb after.1.phase) (data_trbs entry.task.request) entry.data_td,
+    )) (moved unit entry.task)
+
+-- the entry once the device has handed over its answer
+abbrev pub sent_held : Entry → Option Entry
+sent_held entry = option_map (λ task. record entry { task = task; status_td = with_trb_taken entry.status_td }) (sent entry.task)
+
+-- the entry, where it is ready
+abbrev pub if_ready : Entry → Option Entry
+if_ready entry = if is_ready entry then Some entry else None
+
+-- the answer that a task has to send
+abbrev pub answer_in : Phase → Option Answer
+answer_in Queued = None
+answer_in (Moving chunk) = None
+answer_in (Ended answer) = Some answer
+answer_in (Sent answer) = None
+
+abbrev pub held_answer : Option Entry → Option Answer
+held_answer None = None
+held_answer (Some entry) = answer_in entry.task.phase
+
+-- the buffers with this answer written
+abbrev pub frame_telling : ℕ → Option Answer → Frame → Frame
+frame_telling tag None frame = frame
+frame_telling tag (Some answer) frame = record frame { status = record { items = answer_text tag answer } }

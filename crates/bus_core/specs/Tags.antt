@@ -1,0 +1,22 @@
+-- Tags, and the client and slot that a tag names. The stream identifier of a tag is the tag.
+use Rattle.std.specs.Prelude.{ℕ, zero, suc, ◌+◌, ◌*◌, ◌/◌, ◌%◌, ◌==◌, nat_lt, Bool, ◌&&◌, if◌then◌else◌, Option, Some, None, option_and_then}
+use Rattle.solo_model.specs.declared.TheConstants.{TAGS, TASK_SLOT}
+use Rattle.bus_core.specs.declared.Place.{Place}
+
+-- The tag of a place: client c has the tags 8c + 1 to 8c + 8. Checked by hand: tag 18 is slot 1 of client 2.
+abbrev pub tag_of : Place → ℕ
+tag_of place = place.client * TAGS + place.slot + 1
+
+-- the place that a tag names on a bus of so many clients
+abbrev pub place_of : ℕ → ℕ → Option Place
+place_of clients zero = None
+place_of clients (suc before) =
+    if nat_lt (before / TAGS) clients then Some (record { client = before / TAGS; slot = before % TAGS }) else None
+
+-- the slot of a place that is this client's and for commands
+abbrev pub own_slot : ℕ → Place → Option ℕ
+own_slot client place = if (place.client == client) && nat_lt place.slot TASK_SLOT then Some place.slot else None
+
+-- the slot of a command tag of this client, of the clients that are there
+abbrev pub command_slot : ℕ → ℕ → ℕ → Option ℕ
+command_slot clients client tag = option_and_then (own_slot client) (place_of clients tag)

@@ -1,0 +1,241 @@
+//! The bus: up to 31 clients' disks behind one controller, as one machine of atomic steps.
+//!
+//! Host, controller and device are private parts here. A command crosses the command pipe as the 32 bytes of its
+//! Command unit, in a buffer of its tag, and the answer comes back as the bytes of a Sense unit in another. The
+//! rest (the queue of the command pipe, the events, the TDs, the rung streams) is kept as lists.
+//!
+//! ```text
+//!   client --Submit--> entry, Command unit --CommandPipe--> device --Data--> buffer
+//!                          |                                   |
+//!   client <--Take-- ready <--Event-- events <-----------------+--Status--> Sense unit
+//! ```
+//!
+//! What is promised: [`Bus::step`] is the shared machine's step (`shared_step` in specs/Shared.antt), so it acts
+//! exactly where it is due; [`Bus::run`] is the shared machine's replay, and each client's replies and unit after it
+//! are those of the solo machine for the client's own labels (the headline, `IsIsolated` in specs/Isolation.antt).
+//! No step takes memory. It stands on scsi_cmd, block_unit, uas_iu and solo_model.
+#![tactic(auto)]
+
+mod clients;
+mod dispatch;
+mod entries;
+mod laws;
+mod machine;
+mod wire;
+
+use arrayvec::ArrayVec;
+use block_unit::Unit;
+pub use laws::{
+    acts_where_due, brings_next_len, drains_to_quiet, idle_changes_nothing, isolated,
+    keeps_clients, worlds_agree,
+};
+use scsi_cmd::{Command, Reply, SubmitFault};
+use solo_model::{TAGS, TaggedTask};
+use std::collections::VecDeque;
+use std::marker::Model;
+use uas_iu::MAX_UNIT_BYTES;
+
+/// The most clients of a bus.
+pub const MAX_CLIENTS: usize = 31;
+
+/// Streams of a pipe, the reserved stream 0 among them.
+pub const STREAMS: usize = 256;
+
+/// The most doorbells that one step rings.
+pub const MOST_DOORBELLS: usize = 3;
+
+/// A client and a slot, the index of a tag less 1.
+#[derive(Clone, Copy, Debug, PartialEq, Eq)]
+pub struct Place {
+    pub client: usize,
+    pub slot: usize,
+}
+
+/// How far the host is with a TD (xHCI 4.11).
+#[derive(Clone, Copy, Debug, PartialEq, Eq)]
+pub enum TdState {
+    /// Its event hasn't been seen.
+    Pending,
+    /// Its event was seen.
+    Seen,
+    /// Its event can no longer come, and its TRBs are still in the ring.
+    LeftOver,
+    /// Its TRBs were taken out of the ring.
+    Retired,
+}
+
+/// A TD: its state, and how many of its TRBs the controller took.
+#[derive(Clone, Copy, Debug, PartialEq, Eq)]
+pub struct Td {
+    pub state: TdState,
+    pub consumed: usize,
+}
+
+/// What a client has under a slot: the task, and the TDs that carry it.
+#[derive(Debug, Drop)]
+pub struct Entry {
+    pub task: TaggedTask,
+    pub command_td: Td,
+    pub status_td: Td,
+    pub data_td: Option<Td>,
+}
+
+/// A completion event: the TD of which place the controller is done with (xHCI 4.11.3).
+#[derive(Clone, Copy, Debug, PartialEq, Eq)]
+pub enum Completion {
+    CommandDone(Place),
+    DataDone(Place),
+    StatusDone(Place),
+}
+
+/// One of the device's pipes with streams: whether its endpoint runs, and which streams were rung since its last stop.
+#[derive(Clone, Copy, Debug, PartialEq, Eq)]
+pub struct PipeState {
+    pub runs: bool,
+    pub rung: [bool; STREAMS],
+}
+
+/// One atomic step of the bus.
+#[derive(Debug, Drop)]
+pub enum Step {
+    /// A client submits a command on one of its command tags, with a ticket below 2^60.
+    Submit {
+        client: usize,
+        tag: u16,
+        ticket: u64,
+        command: Command,
+    },
+    /// The device receives the oldest unit in the command pipe.
+    CommandPipe,
+    /// The controller moves one chunk of the tag's data.
+    Data(u16),
+    /// The controller moves the tag's status.
+    Status(u16),
+    /// The host takes the oldest event.
+    Event,
+    /// A client takes its oldest reply that is ready.
+    Take(usize),
+}
+
+/// What a step was to its owner: the index of the tag, without what the client handed in.
+#[derive(Clone, Copy, Debug, PartialEq, Eq)]
+pub enum Mark {
+    Submit(u16),
+    Carry(u16),
+    Move(u16),
+    Send(u16),
+    Settle(u16),
+    /// Nothing that the owner can tell.
+    Quiet,
+}
+
+/// A refused submission: why, and the command handed back.
+#[derive(Debug, Drop)]
+pub struct Refusal {
+    pub fault: SubmitFault,
+    pub command: Command,
+}
+
+/// What came of a step.
+#[derive(Debug, Drop)]
+pub struct Outcome {
+    /// Whether it was due.
+    pub acted: bool,
+    /// The client of the submission, of the tag, of the message or event; none of an idle step.
+    pub owner: Option<usize>,
+    pub mark: Mark,
+    pub reply: Option<Reply>,
+    pub refused: Option<Refusal>,
+    /// The doorbells that were rung, in order.
+    pub doors: ArrayVec<u32, MOST_DOORBELLS>,
+}
+
+/// What an act of one client tells: the event that the controller posts, the mark, and the reply.
+#[derive(Debug, Drop)]
+pub struct News {
+    pub event: Option<Completion>,
+    pub mark: Mark,
+    pub reply: Option<Reply>,
+}
+
+/// The two buffers of a tag: its Command unit, and its Sense unit once the device has answered.
+#[derive(Debug, Drop)]
+pub struct Frame {
+    pub command: ArrayVec<u8, MAX_UNIT_BYTES>,
+    pub status: ArrayVec<u8, MAX_UNIT_BYTES>,
+}
+
+/// One client: the host's entries, the device's unit and the buffers between them.
+#[derive(Debug, Drop)]
+pub struct Client {
+    number: usize,
+    unit: Unit,
+    entries: [Option<Entry>; TAGS],
+    least: u64,
+    ready: ArrayVec<usize, TAGS>,
+    frames: [Frame; TAGS],
+}
+
+impl Model for Client {
+    ghost use Rattle.bus_core.specs.Part.{Part};
+
+    ghost Value = { Part };
+
+    ghost use Rattle.bus_core.specs.Soundness.{IsSoundClient};
+
+    ghost view = { λ client. record {
+      number = client.number;
+      unit = client.unit;
+      entries = client.entries;
+      least = client.least;
+      ready = client.ready.items;
+    } };
+
+    ghost invariant = { λ client. IsSoundClient client.number client.unit.count client.entries client.ready.items client.frames };
+}
+
+/// The bus: its clients, the command pipe, the event ring, and the pipes with streams.
+#[derive(Debug, Drop)]
+pub struct Bus {
+    clients: Vec<Client>,
+    messages: VecDeque<Place>,
+    events: VecDeque<Completion>,
+    status: PipeState,
+    data_in: PipeState,
+    data_out: PipeState,
+}
+
+impl Model for Bus {
+    ghost use Rattle.std.specs.VecDeque.{deque_len, deque_capacity};
+    ghost use Rattle.bus_core.specs.Shared.{Shared};
+
+    ghost Value = { Shared };
+
+    ghost use Rattle.bus_core.specs.Bus.{IsSoundBus};
+
+    ghost view = { λ bus. record {
+      parts = bus.clients.items;
+      messages = bus.messages.items;
+      events = bus.events.items;
+      status = bus.status;
+      data_in = bus.data_in;
+      data_out = bus.data_out;
+    } };
+
+    ghost invariant = { λ bus. IsSoundBus bus.clients.items bus.messages.items bus.events.items (deque_len bus.messages) (deque_capacity bus.messages) (deque_len bus.events) (deque_capacity bus.events) };
+}
+
+/// The outcomes of a run, in order.
+#[derive(Debug, Drop)]
+pub struct Trace {
+    outcomes: Vec<Outcome>,
+}
+
+impl Model for Trace {
+    ghost use Rattle.std.specs.Prelude.{List};
+    ghost use Rattle.bus_core.specs.declared.Outcome.{Outcome};
+
+    ghost Value = { List Outcome };
+
+    ghost view = { λ trace. trace.outcomes.items };
+}

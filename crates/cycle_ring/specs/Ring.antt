@@ -1,0 +1,108 @@
+-- A ring of n places of which the last is a Link (xHCI 1.2, 4.9 and 4.11), as a counted list.
+use Rattle.std.specs.Prelude.{◌≡◌, ℕ, ◌+◌, ◌-◌, ◌*◌, ◌/◌, ◌%◌, ◌^◌, ◌<◌, ◌≤◌, ◌⊎◌, Bool, true, false, List, [], ◌∷◌, length, drop, Option, Some, slice_get, option_map, ◌==◌, All}
+use Rattle.xhci_trb.specs.declared.Trb.{Trb}
+use Rattle.xhci_trb.specs.declared.Trb.TheVariants.{Normal, Link, StopEndpoint, SetDequeue}
+use Rattle.xhci_trb.specs.Text.{HasText, has_chain, text}
+
+-- Where the ring starts, the counted place of the first TRB that isn't reclaimed (below 2 (n - 1), so
+-- that it has a place and a turn), the TRBs put and not reclaimed, and how many of them are consumed.
+pub record Ring : Type 0 where
+  pub base : ℕ
+  pub at : ℕ
+  pub put : List Trb
+  pub got : ℕ
+
+-- a ring of zeros at its first place, both cycle states 1 (4.9.2)
+abbrev pub opening : ℕ → Ring
+opening base = record { base = base; at = 0; put = []; got = 0 }
+
+-- The place of item k: the Link's place n - 1 is stepped over.
+-- Worked: n = 20 and at = 16: items 0, 1, 2 stand at 16, 17, 18, item 3 at 0.
+abbrev pub place_of : ℕ → Ring → ℕ → ℕ
+place_of n r k = (r.at + k) % (n - 1)
+
+-- the Cycle bit of item k: 1 on even turns (4.9.2.2)
+abbrev pub cycle_of : ℕ → Ring → ℕ → Bool
+cycle_of n r k = (r.at + k) / (n - 1) % 2 == 0
+
+-- the address of item k
+abbrev pub pointer_of : ℕ → Ring → ℕ → ℕ
+pointer_of n r k = r.base + 16 * place_of n r k
+
+-- the first pending TRB and its address
+abbrev pub front_of : ℕ → Ring → Option (ℕ × Trb)
+front_of n r = option_map (λ trb. (pointer_of n r r.got, trb)) (slice_get r.put r.got)
+
+-- the first m items are freed
+abbrev pub reclaimed : ℕ → ℕ → Ring → Ring
+reclaimed n m r = record r { at = (r.at + m) % (2 * (n - 1)); put = drop m r.put; got = r.got - m }
+
+-- item i of the new ring is item m + i of the old one: same address, same Cycle bit
+pub record IsShifted (n m : ℕ) (old new : Ring) (i : ℕ) : Type 0 where
+  pub pointer : pointer_of n new i ≡ pointer_of n old (m + i)
+  pub cycle : cycle_of n new i ≡ cycle_of n old (m + i)
+
+-- item k is consumed, and this is its address
+abbrev pub IsConsumed : ℕ → Ring → ℕ → ℕ → Type 0
+IsConsumed n r k pointer = (k < r.got) × (pointer ≡ pointer_of n r k)
+
+-- item k is pending, and this is its address and its Cycle bit
+abbrev pub IsPending : ℕ → Ring → ℕ → ℕ → Bool → Type 0
+IsPending n r k pointer cycle =
+    (r.got ≤ k) × (k < length r.put) × (pointer ≡ pointer_of n r k) × (cycle ≡ cycle_of n r k)
+
+-- the Link behind item k: back to the first place, Toggle Cycle, the Chain bit of the TRB before it
+abbrev pub link_behind : Ring → Trb → Trb
+link_behind r trb = Link r.base true (has_chain trb) false
+
+-- the bytes of item k, where it is there
+abbrev pub item_image : ℕ → Ring → ℕ → Option (List ℕ)
+item_image n r k = option_map (λ trb. text trb (cycle_of n r k)) (slice_get r.put k)
+
+-- the bytes of the Link behind item k, where that is there: the Cycle bit is that of item k
+abbrev pub link_image : ℕ → Ring → ℕ → Option (List ℕ)
+link_image n r k = option_map (λ trb. text (link_behind r trb) (cycle_of n r k)) (slice_get r.put k)
+
+-- item k is at this place, or is the last before the Link and this is the Link's place
+abbrev pub IsInUse : ℕ → Ring → ℕ → ℕ → Type 0
+IsInUse n r k place =
+    (k < length r.put) × ((place ≡ place_of n r k) ⊎ ((place ≡ n - 1) × (place_of n r k ≡ n - 2)))
+
+abbrev pub IsNormal : Trb → Type 0
+IsNormal (Normal pointer length td_size flags) = Unit {0}
+IsNormal _ = ⊥
+
+abbrev pub IsCommand : Trb → Type 0
+IsCommand (StopEndpoint endpoint slot) = Unit {0}
+IsCommand (SetDequeue pointer cycle stream endpoint slot) = Unit {0}
+IsCommand _ = ⊥
+
+-- Normal TRBs of which all have the Chain bit but the last, which hasn't (4.11.2.2)
+abbrev pub IsChain : List Trb → Type 0
+IsChain [] = ⊥
+IsChain (trb ∷ []) = IsNormal trb × (has_chain trb ≡ false)
+IsChain (trb ∷ next ∷ rest) = (IsNormal trb × (has_chain trb ≡ true)) × IsChain (next ∷ rest)
+
+abbrev pub IsOneCommand : List Trb → Type 0
+IsOneCommand (trb ∷ []) = IsCommand trb
+IsOneCommand _ = ⊥
+
+-- a transfer TD, or the TD of one command (4.11)
+abbrev pub IsTd : List Trb → Type 0
+IsTd trbs = IsChain trbs ⊎ IsOneCommand trbs
+
+-- the last of these TRBs, if there is one, ends its TD
+abbrev pub EndsTd : List Trb → Type 0
+EndsTd put = (trb : Trb) → slice_get put (length put - 1) ≡ Some trb → has_chain trb ≡ false
+
+-- what holds of every ring of n places
+pub record IsRing (n : ℕ) (r : Ring) : Type 0 where
+  pub least_places : 4 ≤ n
+  pub most_places : n ≤ 256
+  pub base_aligned : r.base % 16 ≡ 0
+  pub base_below : r.base < 2 ^ 63
+  pub at_below : r.at < 2 * (n - 1)
+  pub consumed : r.got ≤ length r.put
+  pub room_left : length r.put ≤ n - 2
+  pub texts : All HasText r.put
+  pub ends_td : EndsTd r.put

@@ -1,0 +1,304 @@
+//! Transfer and command rings of one segment (xHCI 1.2, 4.9 and 4.11).
+//!
+//! Initialisation: a ring is N places of 16 bytes, all zeros. Enqueue and dequeue pointer name the
+//! first place, and both cycle states are 1. The last place is kept for a Link TRB.
+//!
+//! Cycle bit: whoever writes a TRB sets its Cycle bit to the producer's cycle state. A TRB belongs to
+//! the consumer where its Cycle bit equals the consumer's cycle state, so neither end reads the
+//! other's pointer.
+//!
+//! Producer: it writes a whole TD, of which all TRBs but the last have the Chain bit, and moves its
+//! enqueue pointer behind it. When the place before the last is filled, it writes the Link with its
+//! cycle state of that moment, Toggle Cycle set and the Chain bit of the TRB before it, goes on at
+//! the first place, and toggles its cycle state.
+//!
+//! Consumer: it takes the TRB at its dequeue pointer while that TRB is its own, and steps to the
+//! next place. At the Link it goes to the first place and toggles its cycle state, and gives the
+//! Link to nobody. While it is stopped, its dequeue pointer may be set to another pending place.
+//!
+//! Full and empty: the ring is empty where both pointers are equal, and full where one more TRB would
+//! make them equal. A place is free again only when the producer has seen the event of its TRB and
+//! reclaims it, so a ring holds at most N - 2 TRBs that are put and not reclaimed.
+//!
+//! What is promised: a [`CycleRing`] is a counted list, the TRBs put and not reclaimed and how many
+//! of them are consumed. TRB k of the list stands at place `(at + k) mod (N - 1)`, and its Cycle bit
+//! is 1 on even turns; [`CycleRing::image`] shows the bytes at each place, the Link's too. A TD is
+//! refused exactly where the room is too small. `new` takes all memory, and no other call takes any.
+//! The crate stands on `xhci_trb` for the texts of TRBs.
+#![tactic(auto)]
+
+ghost use Rattle.std.specs.Prelude.{◌≡◌, ◌≢◌, ℕ, ◌+◌, ◌-◌, ◌*◌, ◌/◌, ◌%◌, ◌^◌, ◌<◌, ◌≤◌, ◌++◌, ◌↔◌, Bool, Some, None, All, length, slice_get, drop, ◌⊎◌, IsOk, IsSome, IfSome, IfOk, OnOk, OnErr};
+ghost use Rattle.std.specs.VecDeque.{deque_len, deque_capacity};
+ghost use Rattle.xhci_trb.specs.declared.Trb.{Trb};
+ghost use Rattle.xhci_trb.specs.Text.{HasText, has_chain, text};
+
+use std::alloc::{AllocError, Global};
+use std::collections::VecDeque;
+use std::marker::Model;
+use thiserror::Error;
+use xhci_trb::{Trb, encode};
+
+#[cfg(test)]
+mod tests;
+
+/// Want of memory, the one refusal of a constructor.
+pub type NoMemory = AllocError;
+
+/// The TD has more TRBs than there is room for.
+#[derive(Clone, Copy, PartialEq, Eq, Debug, Error)]
+#[error("the ring has too little room")]
+pub struct RingFull;
+
+/// The address or the cycle state is not that of a pending place.
+#[derive(Clone, Copy, PartialEq, Eq, Debug, Error)]
+#[error("no pending place of the ring")]
+pub struct NotAPlace;
+
+/// The addresses of the first and the last TRB of a TD.
+#[derive(Clone, Copy, PartialEq, Eq, Debug)]
+pub struct Td {
+    pub first: u64,
+    pub last: u64,
+}
+
+/// A ring of `N` places, 4 to 256, of which the last is the Link's, with the producer's and the
+/// consumer's end.
+#[derive(Debug, Drop)]
+pub struct CycleRing<const N: usize> {
+    base: u64,
+    at: usize,
+    items: VecDeque<Trb>,
+    got: usize,
+}
+
+impl<const N: usize> Model for CycleRing<N> {
+    ghost use Rattle.std.specs.Prelude.{ℕ, ◌-◌, ◌≤◌};
+    ghost use Rattle.std.specs.VecDeque.{deque_capacity};
+    ghost use Rattle.cycle_ring.specs.Ring.{Ring, IsRing};
+
+    ghost Value = { Ring };
+
+    ghost view = { λ r. record { base = r.base; at = r.at; put = r.items.items; got = r.got } };
+
+    ghost invariant = { λ r. IsRing N (record { base = r.base; at = r.at; put = r.items.items; got = r.got }) × (N - 2 ≤ deque_capacity r.items) };
+}
+
+impl<const N: usize> CycleRing<N> {
+    ghost use Rattle.cycle_ring.specs.Ring.{Ring, IsRing, opening, place_of, cycle_of, pointer_of, front_of, reclaimed, IsConsumed, IsPending, IsShifted, IsInUse, item_image, link_image, link_behind, IsTd};
+
+    /// An empty ring at this address, a multiple of 16 below `2^63` (4.9.2). Refused for want of memory
+    /// alone.
+    pub fn new(alloc: Global, base: u64) -> Result<Self, NoMemory>
+        requires least_places { 4 ≤ N }
+        requires most_places { N ≤ 256 }
+        requires aligned { base % 16 ≡ 0 }
+        requires below { base < 2 ^ 63 }
+        ensures { IfOk result (λ ring. ring ≡ opening base) }
+    {
+        Ok(CycleRing {
+            base,
+            at: 0,
+            items: VecDeque::with_capacity(alloc, N - 2)?,
+            got: 0,
+        })
+    }
+
+    /// How many TRBs can still be put: N - 2 less those put and not reclaimed.
+    pub fn room(&self) -> usize
+        ensures room { result + length self.now.put ≡ N - 2 }
+        ensures standing { IsRing N self.now }
+    {
+        let count = self.items.len();
+        N - 2 - count
+    }
+
+    /// Puts a TD and gives the addresses of its first and last TRB (4.11). Asks 1 to N - 2 Normal TRBs of
+    /// which all but the last have the Chain bit, or one command, and that each has a text. Refused
+    /// where the room is too small; nothing is put then.
+    pub fn push_td(&mut self, trbs: &[Trb]) -> Result<Td, RingFull>
+        requires td { IsTd trbs.now }
+        requires texts { All HasText trbs.now }
+        requires at_most { length trbs.now ≤ N - 2 }
+        ensures room { IsOk result ↔ (length self.old.put + length trbs.now ≤ N - 2) }
+        ensures put { OnOk result (self.new ≡ record self.old { put = self.old.put ++ trbs.now }) }
+        ensures td { IfOk result (λ td. td ≡ record { first = pointer_of N self.old (length self.old.put); last = pointer_of N self.old (length self.old.put + length trbs.now - 1) }) }
+        ensures full { OnErr result (self.new ≡ self.old) }
+    {
+        let count = self.items.len();
+        if N - 2 - count < trbs.len() {
+            return Err(RingFull);
+        }
+        let td = Td {
+            first: self.pointer(count),
+            last: self.pointer(count + trbs.len() - 1),
+        };
+        put_back(&mut self.items, trbs);
+        Ok(td)
+    }
+
+    /// The enqueue pointer and the producer's cycle state. The pointer is never the Link's.
+    pub fn place(&self) -> (u64, bool)
+        ensures place { result ≡ (pointer_of N self.now (length self.now.put), cycle_of N self.now (length self.now.put)) }
+        ensures unused { (k : ℕ) → k < length self.now.put → pointer_of N self.now k ≢ result.0 }
+    {
+        let count = self.items.len();
+        (self.pointer(count), self.cycle(count))
+    }
+
+    /// The first pending TRB and its address, if there is one (4.9.2).
+    pub fn front(&self) -> Option<(u64, Trb)>
+        ensures front { result ≡ front_of N self.now }
+        ensures pending { IsSome result ↔ (self.now.got < length self.now.put) }
+    {
+        let trb = self.items.get(self.got)?;
+        Some((self.pointer(self.got), *trb))
+    }
+
+    /// The dequeue pointer and the consumer's cycle state. The pointer is never the Link's.
+    pub fn dequeue(&self) -> (u64, bool)
+        ensures dequeue { result ≡ (pointer_of N self.now self.now.got, cycle_of N self.now self.now.got) }
+        ensures aligned { result.0 % 16 ≡ 0 }
+    {
+        (self.pointer(self.got), self.cycle(self.got))
+    }
+
+    /// Consumes the first pending TRB, and steps over the Link. Asks that there is one.
+    pub fn advance(&mut self)
+        requires { self.old.got < length self.old.put }
+        ensures { self.new ≡ record self.old { got = self.old.got + 1 } }
+    {
+        self.got += 1;
+    }
+
+    /// Moves the consumer's end to a pending place (4.6.10). Refused where the address is that of no
+    /// pending TRB (so the Link's, the enqueue place and a consumed place are), or where the cycle
+    /// state isn't that place's Cycle bit.
+    pub fn set_dequeue(&mut self, pointer: u64, cycle: bool) -> Result<(), NotAPlace>
+        ensures accepted { IsOk result ↔ ((k : ℕ) × IsPending N self.old k pointer cycle) }
+        ensures set { (k : ℕ) → IsPending N self.old k pointer cycle → self.new ≡ record self.old { got = k } }
+        ensures refused { OnErr result (self.new ≡ self.old) }
+    {
+        let Some(item) = self.item_of(pointer) else {
+            return Err(NotAPlace);
+        };
+        if item < self.got || self.items.len() <= item || self.cycle(item) != cycle {
+            return Err(NotAPlace);
+        }
+        self.got = item;
+        Ok(())
+    }
+
+    /// Frees the TRBs up to and with the one at this address. Asks a consumed TRB that isn't reclaimed.
+    pub fn reclaim(&mut self, pointer: u64)
+        requires { (k : ℕ) × IsConsumed N self.old k pointer }
+        ensures freed { (k : ℕ) → IsConsumed N self.old k pointer → self.new ≡ reclaimed N (k + 1) self.old }
+        ensures shifted { (k : ℕ) → IsConsumed N self.old k pointer → (i : ℕ) → IsShifted N (k + 1) self.old self.new i }
+    {
+        let count = self.item_of(pointer).unwrap() + 1;
+        drop_front(&mut self.items, count);
+        self.at = (self.at + count) % (2 * (N - 1));
+        self.got -= count;
+    }
+
+    /// The 16 bytes at a place whose TRB isn't reclaimed, and at the Link's while the TRB before it
+    /// isn't (6.4.4.1). Elsewhere nothing.
+    pub fn image(&self, place: usize) -> Option<[u8; 16]>
+        ensures item { (k : ℕ) → k < N - 1 → place ≡ place_of N self.now k → result ≡ item_image N self.now k }
+        ensures link { (k : ℕ) → k < N - 1 → place_of N self.now k ≡ N - 2 → place ≡ N - 1 → result ≡ link_image N self.now k }
+        ensures in_use { IsSome result → (k : ℕ) × IsInUse N self.now k place }
+    {
+        let count = self.items.len();
+        if place < N - 1 {
+            let item = self.item_at(place);
+            if item < count {
+                return Some(encode(&self.items[item], self.cycle(item)));
+            }
+        }
+        if place == N - 1 {
+            let item = self.item_at(N - 2);
+            if item < count {
+                return Some(encode(&self.link_behind(item), self.cycle(item)));
+            }
+        }
+        None
+    }
+
+    // The Link that the push of this item wrote, where the item is the last before the Link (6.4.4.1).
+    fn link_behind(&self, item: usize) -> Trb
+        requires { item < length self.now.put }
+        ensures link { (trb : Trb) → slice_get self.now.put item ≡ Some trb → result ≡ link_behind self.now trb }
+        ensures text { HasText result }
+    {
+        Trb::Link {
+            pointer: self.base,
+            toggle: true,
+            chain: self.items[item].has_chain(),
+            ioc: false,
+        }
+    }
+
+    // The item that stands, or would stand, at this place.
+    fn item_at(&self, place: usize) -> usize
+        requires { place < N - 1 }
+        ensures bound { result < N - 1 }
+        ensures place { place_of N self.now result ≡ place }
+        ensures only { (k : ℕ) → k < N - 1 → place_of N self.now k ≡ place → k ≡ result }
+    {
+        let turn = N - 1;
+        let first = self.at % turn;
+        if first <= place {
+            place - first
+        } else {
+            place + turn - first
+        }
+    }
+
+    // The item that stands, or would stand, at this address.
+    fn item_of(&self, pointer: u64) -> Option<usize>
+        ensures found { IfSome result (λ k. (k < N - 1) × (pointer ≡ pointer_of N self.now k)) }
+        ensures every { (k : ℕ) → k < N - 1 → pointer ≡ pointer_of N self.now k → result ≡ Some k }
+    {
+        let offset = pointer.checked_sub(self.base)?;
+        let place = offset / 16;
+        if offset % 16 != 0 || place >= (N - 1) as u64 {
+            return None;
+        }
+        Some(self.item_at(place as usize))
+    }
+
+    fn pointer(&self, item: usize) -> u64
+        requires { item ≤ N }
+        ensures { result ≡ pointer_of N self.now item }
+    {
+        self.base + 16 * ((self.at + item) % (N - 1)) as u64
+    }
+
+    fn cycle(&self, item: usize) -> bool
+        requires { item ≤ N }
+        ensures { result ≡ cycle_of N self.now item }
+    {
+        (self.at + item) / (N - 1) % 2 == 0
+    }
+}
+
+// Puts the TRBs behind the items; there is room.
+fn put_back(items: &mut VecDeque<Trb>, trbs: &[Trb])
+    requires { deque_len items.old + length trbs.now ≤ deque_capacity items.old }
+    ensures items { items.new.items ≡ items.old.items ++ trbs.now }
+    ensures capacity { deque_capacity items.new ≡ deque_capacity items.old }
+{
+    for trb in trbs {
+        items.push_back_reserved(*trb);
+    }
+}
+
+// Takes that many items from the front.
+fn drop_front(items: &mut VecDeque<Trb>, count: usize)
+    requires { count ≤ deque_len items.old }
+    ensures items { items.new.items ≡ drop count items.old.items }
+    ensures capacity { deque_capacity items.new ≡ deque_capacity items.old }
+{
+    for _ in 0..count {
+        items.pop_front();
+    }
+}

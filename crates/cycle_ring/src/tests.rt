@@ -1,0 +1,199 @@
+ghost use Rattle.std.specs.Prelude.{◌≡◌, ◌<◌, ◌≤◌, true, false, length, All};
+ghost use Rattle.xhci_trb.specs.Text.{HasText, has_chain};
+ghost use Rattle.cycle_ring.specs.Ring.{IsNormal, IsTd};
+
+use crate::{CycleRing, NotAPlace, RingFull};
+use std::process::Abort;
+use std::test::Fail;
+use xhci_trb::{Trb, TrbFlags};
+
+// One of 4,096 bytes of a data TD.
+fn chained(pointer: u64, td_size: u8) -> Trb
+    requires { td_size < 32 }
+    ensures kind { IsNormal result }
+    ensures chain { has_chain result ≡ true }
+    ensures text { HasText result }
+{
+    Trb::Normal {
+        pointer,
+        length: 4096,
+        td_size,
+        flags: TrbFlags::CH,
+    }
+}
+
+// The last of a data TD.
+fn last(pointer: u64) -> Trb
+    ensures kind { IsNormal result }
+    ensures chain { has_chain result ≡ false }
+    ensures text { HasText result }
+{
+    Trb::Normal {
+        pointer,
+        length: 4096,
+        td_size: 0,
+        flags: TrbFlags::IOC,
+    }
+}
+
+// The 16 TRBs of a READ of 128 blocks: packets of 1,024 bytes that are still to come, at most 31.
+fn long_read() -> [Trb; 16]
+    ensures td { IsTd result }
+    ensures texts { All HasText result }
+{
+    let window = 0x1_0001_0000;
+    [
+        chained(window, 31),
+        chained(window + 0x1000, 31),
+        chained(window + 0x2000, 31),
+        chained(window + 0x3000, 31),
+        chained(window + 0x4000, 31),
+        chained(window + 0x5000, 31),
+        chained(window + 0x6000, 31),
+        chained(window + 0x7000, 31),
+        chained(window + 0x8000, 28),
+        chained(window + 0x9000, 24),
+        chained(window + 0xa000, 20),
+        chained(window + 0xb000, 16),
+        chained(window + 0xc000, 12),
+        chained(window + 0xd000, 8),
+        chained(window + 0xe000, 4),
+        last(window + 0xf000),
+    ]
+}
+
+// The status word and the low half of the control word at a place.
+fn words_at(ring: &CycleRing<20>, place: usize) -> Option<(u32, u32)> {
+    let bytes = ring.image(place)?;
+    let status = u32::from_le_bytes([bytes[8], bytes[9], bytes[10], bytes[11]]);
+    Some((status, u32::from(bytes[12]) + 256 * u32::from(bytes[13])))
+}
+
+// The status words of rows long-read and long-read-wraps, in the order of the TRBs.
+const STATUS: [u32; 16] = [
+    0x003e_1000,
+    0x003e_1000,
+    0x003e_1000,
+    0x003e_1000,
+    0x003e_1000,
+    0x003e_1000,
+    0x003e_1000,
+    0x003e_1000,
+    0x0038_1000,
+    0x0030_1000,
+    0x0028_1000,
+    0x0020_1000,
+    0x0018_1000,
+    0x0010_1000,
+    0x0008_1000,
+    0x0000_1000,
+];
+
+// The controller moves every pending TRB, and the host frees them.
+fn consume_all(ring: &mut CycleRing<20>) {
+    for _ in 0..18 {
+        let Some((pointer, _)) = ring.front() else {
+            return;
+        };
+        ring.advance();
+        ring.reclaim(pointer);
+    }
+}
+
+// Rows long-read and long-read-wraps.
+#[test]
+fn long_read_twice(rt: HostRuntime) -> Result<(), Fail> {
+    let mut ring = CycleRing::<20>::new(rt.alloc(), 0x4300_1000)?;
+    let td = ring.push_td(&long_read())?;
+    assert_eq!(rt; (td.first, td.last), (0x4300_1000, 0x4300_10f0));
+    for (place, status) in STATUS.iter().enumerate() {
+        let control = if place == 15 { 0x421 } else { 0x411 };
+        assert_eq!(rt; words_at(&ring, place), Some((*status, control)));
+    }
+    for place in 16..21 {
+        assert_eq!(rt; ring.image(place), None);
+    }
+    consume_all(&mut ring);
+    assert_eq!(rt; ring.room(), 18);
+    assert_eq!(rt; ring.place(), (0x4300_1100, true));
+
+    let td = ring.push_td(&long_read())?;
+    assert_eq!(rt; (td.first, td.last), (0x4300_1100, 0x4300_10c0));
+    for (k, status) in STATUS.iter().enumerate() {
+        let (place, control) = match k {
+            0..3 => (16 + k, 0x411),
+            15 => (12, 0x420),
+            _ => (k - 3, 0x410),
+        };
+        assert_eq!(rt; words_at(&ring, place), Some((*status, control)));
+    }
+    let link = b"\x00\x10\x00\x43\x00\x00\x00\x00\x00\x00\x00\x00\x13\x18\x00\x00";
+    assert_eq!(rt; ring.image(19), Some(*link));
+    for place in 13..16 {
+        assert_eq!(rt; ring.image(place), None);
+    }
+    assert_eq!(rt; ring.place(), (0x4300_10d0, false));
+    Ok(())
+}
+
+// One command after another through three turns, each at the next place, with the Cycle bit of its turn.
+fn three_turns<const N: usize>(rt: &impl Abort, ring: &mut CycleRing<N>) {
+    let room = ring.room();
+    let places = room as u64 + 1;
+    let stop = Trb::StopEndpoint {
+        endpoint: 5,
+        slot: 1,
+    };
+    for count in 0..3 * places {
+        let place = count % places;
+        let odd = count / places % 2 == 1;
+        assert_eq!(rt; ring.place(), (0x5000_0000 + 16 * place, !odd));
+        let td = ring.push_td(&[stop]);
+        assert!(rt; td.is_ok());
+        let pointer = match ring.front() {
+            Some((pointer, _)) => pointer,
+            None => return,
+        };
+        assert_eq!(rt; pointer, 0x5000_0000 + 16 * place);
+        ring.advance();
+        assert!(rt; ring.front().is_none());
+        assert_eq!(rt; ring.dequeue(), ring.place());
+        ring.reclaim(pointer);
+        assert_eq!(rt; ring.room(), room);
+    }
+}
+
+#[test]
+fn the_smallest_and_the_largest_ring(rt: HostRuntime) -> Result<(), Fail> {
+    let mut smallest = CycleRing::<4>::new(rt.alloc(), 0x5000_0000)?;
+    three_turns(&rt, &mut smallest);
+    assert_eq!(rt; smallest.place(), (0x5000_0000, false));
+    let mut largest = CycleRing::<256>::new(rt.alloc(), 0x5000_0000)?;
+    three_turns(&rt, &mut largest);
+    assert_eq!(rt; largest.place(), (0x5000_0000, false));
+    Ok(())
+}
+
+#[test]
+fn refusals(rt: HostRuntime) -> Result<(), Fail> {
+    let stop = Trb::StopEndpoint {
+        endpoint: 5,
+        slot: 1,
+    };
+    let mut ring = CycleRing::<4>::new(rt.alloc(), 0x5000_0000)?;
+    ring.push_td(&[stop])?;
+    ring.push_td(&[stop])?;
+    assert_eq!(rt; ring.push_td(&[stop]), Err(RingFull));
+    assert_eq!(rt; ring.place(), (0x5000_0020, true));
+    // the enqueue place, the Link's, no place, the wrong cycle state
+    assert_eq!(rt; ring.set_dequeue(0x5000_0020, true), Err(NotAPlace));
+    assert_eq!(rt; ring.set_dequeue(0x5000_0030, true), Err(NotAPlace));
+    assert_eq!(rt; ring.set_dequeue(0x5000_0011, true), Err(NotAPlace));
+    assert_eq!(rt; ring.set_dequeue(0x4fff_fff0, true), Err(NotAPlace));
+    assert_eq!(rt; ring.set_dequeue(0x5000_0010, false), Err(NotAPlace));
+    assert_eq!(rt; ring.set_dequeue(0x5000_0010, true), Ok(()));
+    assert_eq!(rt; ring.front(), Some((0x5000_0010, stop)));
+    // now a consumed place
+    assert_eq!(rt; ring.set_dequeue(0x5000_0000, true), Err(NotAPlace));
+    Ok(())
+}

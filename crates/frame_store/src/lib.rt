@@ -1,0 +1,259 @@
+//! The memory that host and controller share: small buffers of each tag, and the clients' own vectors while they are lent.
+//!
+//! In xHCI a TRB names memory by a 64-bit address (sections 4.11 and 6.4.1.1). Here memory is a store of byte buffers, and the
+//! address map says which bytes an address names. Each tag from 1 to 248 has a command buffer of 32 bytes, which holds the
+//! unit that its command pipe TRB points to, and a status buffer of 112 bytes, for the unit that comes back. While a client's
+//! vector is lent for a tag, its bytes are that tag's data window.
+//!
+//! ```text
+//! 0x0_1000_0000 + 0x100 t      command buffer of tag t, 32 bytes
+//! 0x0_2000_0000 + 0x100 t      status buffer of tag t, 112 bytes
+//! 0x1_0000_0000 + 0x1_0000 t   data window of tag t, as many bytes as its lent vector has, 65,536 at most
+//! ```
+//!
+//! What is promised: no two bytes have one address, and an address is found by arithmetic, without a search (`Place`).
+//! `check` answers Ok exactly where there is no byte to name or all of them are bytes of one buffer that is there; `read`,
+//! `window` and `write` then give and change exactly those bytes. A lent vector is moved in and moved out again: its bytes are
+//! never copied. `Frames::new` takes the memory of all small buffers at once, and no other call takes any.
+//!
+//! A caller sees the store as the list of its tags' buffers, tag 1 first (`specs/Buffers.antt`). The address map is
+//! `specs/Places.antt`. The crate stands on std and `thiserror` alone.
+#![tactic(auto)]
+
+ghost use Rattle.std.specs.Prelude.{◌≡◌, ◌≢◌, ℕ, ◌+◌, ◌-◌, ◌*◌, ◌<◌, ◌≤◌, ◌↔◌, length, take, drop, vec_len, Option, None, Some, IsOk, IsErr, IsNone, IsSome, IfOk, IfErr, OnOk, OnErr};
+ghost use Rattle.std.specs.Borrow.{sem};
+
+mod buffers;
+mod places;
+
+use std::alloc::{AllocError, Global};
+use std::marker::Model;
+use thiserror::Error;
+
+/// A tag, from 1 to `TAGS`.
+pub type Tag = u16;
+
+/// Want of memory.
+pub type NoMemory = AllocError;
+
+/// How many tags have buffers: 1 to this number.
+pub const TAGS: usize = 248;
+
+/// The bytes of a command buffer.
+pub const COMMAND_BYTES: usize = 32;
+
+/// The bytes of a status buffer.
+pub const STATUS_BYTES: usize = 112;
+
+/// The most bytes that a lent vector has.
+pub const WINDOW_BYTES: usize = 65_536;
+
+/// Why the store refused a call.
+#[derive(Clone, Copy, Debug, Drop, Error, PartialEq, Eq)]
+pub enum FrameFault {
+    #[error("a byte is in no buffer, or two are in different ones")]
+    BadAddress = 1,
+    #[error("the tag has no vector lent")]
+    NotLent = 2,
+    #[error("the tag has a vector lent already")]
+    AlreadyLent = 3,
+}
+
+/// The three buffers of a tag.
+#[derive(Clone, Copy, Debug, Drop, PartialEq, Eq)]
+pub enum Buffer {
+    Command,
+    Status,
+    Window,
+}
+
+/// A byte that a tag's buffer has room for, by its offset in the buffer.
+#[derive(Clone, Copy, Debug, Drop, PartialEq, Eq)]
+pub struct Place {
+    pub tag: Tag,
+    pub buffer: Buffer,
+    pub offset: usize,
+}
+
+/// The bytes of one buffer, which contracts see as a list.
+#[derive(Debug, Drop)]
+pub struct Bytes {
+    bytes: Vec<u8>,
+}
+
+impl Model for Bytes {
+    ghost use Rattle.std.specs.Prelude.{List, ℕ};
+
+    ghost Value = { List ℕ };
+
+    ghost view = { λ b. b.bytes.items };
+}
+
+/// What contracts see of one tag: its two small buffers, and the client's vector while it is lent.
+#[derive(Debug, Drop)]
+pub struct TagBuffers {
+    pub command: Bytes,
+    pub status: Bytes,
+    pub lent: Option<Bytes>,
+}
+
+/// The store: the buffers of every tag.
+#[derive(Debug, Drop)]
+pub struct Frames {
+    tags: Vec<TagBuffers>,
+}
+
+impl Model for Frames {
+    ghost use Rattle.std.specs.Prelude.{List};
+    ghost use Rattle.frame_store.specs.declared.TagBuffers.{TagBuffers};
+
+    ghost Value = { List TagBuffers };
+
+    ghost use Rattle.frame_store.specs.Buffers.{IsWhole};
+
+    ghost view = { λ f. f.tags.items };
+
+    ghost invariant = { λ f. IsWhole f.tags.items };
+}
+
+impl Frames {
+    ghost use Rattle.frame_store.specs.declared.FrameFault.TheVariants.{BadAddress, NotLent, AlreadyLent};
+    ghost use Rattle.frame_store.specs.declared.Place.{Place};
+    ghost use Rattle.frame_store.specs.Buffers.{opening, held_for, with_lent, bytes_of, with_bytes, front_of, Names, IsNamed, IsWhole, bytes_at, written, left_at};
+    ghost use Rattle.frame_store.specs.FramesLending.{LendsFrom, LendsWindow};
+
+    /// A store with zeroed small buffers and nothing lent. It takes all the memory that the store uses.
+    #[tactic(auto, using(crate::proofs::FramesLaws::replicate_whole), unfolding(crate::specs::Buffers::opening))]
+    pub fn new(alloc: Global) -> Result<Frames, NoMemory>
+        ensures { IfOk result (λ frames. frames ≡ opening) }
+    {
+        let mut tags = Vec::with_capacity(alloc, TAGS)?;
+        for _ in 0..TAGS {
+            tags.push(TagBuffers::new(alloc)?)?;
+        }
+        Ok(Frames { tags })
+    }
+
+    /// Takes in a client's vector, of at most 65,536 bytes, as the tag's window. `AlreadyLent` gives it back.
+    pub fn lend(&mut self, tag: Tag, bytes: Vec<u8>) -> Result<(), (FrameFault, Vec<u8>)>
+        requires first_tag { 1 ≤ tag }
+        requires last_tag { tag ≤ TAGS }
+        requires fits { vec_len bytes ≤ WINDOW_BYTES }
+        ensures already { IsErr result ↔ IsSome (held_for self.old tag).lent }
+        ensures lent { OnOk result (self.new ≡ with_lent self.old tag (Some bytes.items)) }
+        ensures refused { OnErr result (self.new ≡ self.old) }
+        ensures back { IfErr result (λ back. back ≡ (AlreadyLent, bytes)) }
+    {
+        let held = &mut self.tags[tag as usize - 1];
+        if held.lent.is_some() {
+            return Err((FrameFault::AlreadyLent, bytes));
+        }
+        held.lent = Some(Bytes { bytes });
+        Ok(())
+    }
+
+    /// Gives the lent vector back, or answers `NotLent` where the tag has none.
+    pub fn take_back(&mut self, tag: Tag) -> Result<Vec<u8>, FrameFault>
+        requires first_tag { 1 ≤ tag }
+        requires last_tag { tag ≤ TAGS }
+        ensures back { IfOk result (λ bytes. (held_for self.old tag).lent ≡ Some bytes.items) }
+        ensures taken { OnOk result (self.new ≡ with_lent self.old tag None) }
+        ensures not_lent { IsErr result ↔ IsNone (held_for self.old tag).lent }
+        ensures fault { IfErr result (λ fault. fault ≡ NotLent) }
+        ensures refused { OnErr result (self.new ≡ self.old) }
+    {
+        match self.tags[tag as usize - 1].lent.take() {
+            Some(lent) => Ok(lent.bytes),
+            None => Err(FrameFault::NotLent),
+        }
+    }
+
+    /// The 32 bytes of the tag's command buffer, to be written.
+    pub fn iu(&mut self, tag: Tag) -> &mut [u8]
+        requires first_tag { 1 ≤ tag }
+        requires last_tag { tag ≤ TAGS }
+        ensures* writes_back { sem 𝓛 (LendsFrom self.entry (front_of Buffer.Command tag) result) }
+        ensures value { result.now ≡ (held_for self.old tag).command }
+        ensures len { length result.now ≡ COMMAND_BYTES }
+    {
+        let held = &mut self.tags[tag as usize - 1];
+        held.part_mut(Buffer::Command, 0, COMMAND_BYTES)
+    }
+
+    /// The 112 bytes of the tag's status buffer.
+    pub fn status(&self, tag: Tag) -> &[u8]
+        requires first_tag { 1 ≤ tag }
+        requires last_tag { tag ≤ TAGS }
+        ensures value { result.now ≡ (held_for self.now tag).status }
+        ensures len { length result.now ≡ STATUS_BYTES }
+    {
+        let held = &self.tags[tag as usize - 1];
+        held.status.as_slice()
+    }
+
+    /// Ok where the `len` bytes from an address on are bytes of one buffer, or `len` is 0; else `BadAddress`.
+    pub fn check(&self, address: u64, len: usize) -> Result<(), FrameFault>
+        ensures named { IsOk result ↔ IsNamed self.now address len }
+        ensures bad { IfErr result (λ fault. fault ≡ BadAddress) }
+        ensures whole { IsWhole self.now }
+    {
+        if len <= self.left(address) {
+            Ok(())
+        } else {
+            Err(FrameFault::BadAddress)
+        }
+    }
+
+    // How many bytes the buffer of an address has from there on.
+    fn left(&self, address: u64) -> usize
+        ensures value { result ≡ left_at self.now address }
+        ensures whole { IsWhole self.now }
+    {
+        let tags = &self.tags;
+        match Place::at(address) {
+            Some(place) => tags[place.tag as usize - 1]
+                .len(place.buffer)
+                .saturating_sub(place.offset),
+            None => 0,
+        }
+    }
+
+    /// The `len` bytes from an address on, for which `check` is Ok.
+    pub fn read(&self, address: u64, len: usize) -> &[u8]
+        requires { IsNamed self.now address len }
+        ensures value { result.now ≡ bytes_at self.now address len }
+        ensures named { (place : Place) → Names self.now address len place →
+            result.now ≡ take len (drop place.offset (bytes_of self.now place)) }
+        ensures len { length result.now ≡ len }
+    {
+        let place = Place::start(address, len);
+        let held = &self.tags[place.tag as usize - 1];
+        held.part(place.buffer, place.offset, len)
+    }
+
+    /// The `len` bytes from an address on, for which `check` is Ok, to be written.
+    pub fn window(&mut self, address: u64, len: usize) -> &mut [u8]
+        requires { IsNamed self.old address len }
+        ensures* writes_back { sem 𝓛 (LendsWindow self.entry address len result) }
+        ensures value { result.now ≡ bytes_at self.old address len }
+        ensures len { length result.now ≡ len }
+        ensures whole { IsWhole self.old }
+    {
+        let place = Place::start(address, len);
+        let held = &mut self.tags[place.tag as usize - 1];
+        held.part_mut(place.buffer, place.offset, len)
+    }
+
+    /// Writes bytes from an address on, for which `check` is Ok.
+    pub fn write(&mut self, address: u64, bytes: &[u8])
+        requires { IsNamed self.old address (length bytes.now) }
+        ensures value { self.new ≡ written self.old address (length bytes.now) bytes.now }
+        ensures named { (place : Place) → Names self.old address (length bytes.now) place →
+            self.new ≡ with_bytes self.old place bytes.now }
+    {
+        self.window(address, bytes.len()).copy_from_slice(bytes);
+    }
+}
+
+#[cfg(test)]
+mod tests;

@@ -1,0 +1,115 @@
+// The address map: where a byte stands, and which byte an address belongs to.
+ghost use Rattle.std.specs.Prelude.{◌≡◌, ◌<◌, ◌≤◌, ◌↔◌, Some};
+ghost use Rattle.frame_store.specs.declared.TheConstants.{TAGS};
+
+use crate::{Buffer, COMMAND_BYTES, Place, STATUS_BYTES, TAGS, Tag, WINDOW_BYTES};
+
+// Where the buffers of tag 0 would begin, and how far those of two tags lie apart.
+const COMMAND_BASE: u64 = 0x1000_0000;
+
+const STATUS_BASE: u64 = 0x2000_0000;
+
+const WINDOW_BASE: u64 = 0x1_0000_0000;
+
+const BUFFER_STRIDE: u64 = 0x100;
+
+const WINDOW_STRIDE: u64 = 0x1_0000;
+
+impl Buffer {
+    ghost use Rattle.frame_store.specs.Places.{base_of, stride_of, room_of, buffer_at};
+
+    fn base(self) -> u64
+        ensures { result ≡ base_of self }
+    {
+        match self {
+            Buffer::Command => COMMAND_BASE,
+            Buffer::Status => STATUS_BASE,
+            Buffer::Window => WINDOW_BASE,
+        }
+    }
+
+    fn stride(self) -> u64
+        ensures value { result ≡ stride_of self }
+        ensures positive { 0 < result }
+    {
+        match self {
+            Buffer::Command | Buffer::Status => BUFFER_STRIDE,
+            Buffer::Window => WINDOW_STRIDE,
+        }
+    }
+
+    fn room(self) -> usize
+        ensures { result ≡ room_of self }
+    {
+        match self {
+            Buffer::Command => COMMAND_BYTES,
+            Buffer::Status => STATUS_BYTES,
+            Buffer::Window => WINDOW_BYTES,
+        }
+    }
+
+    fn at(address: u64) -> Buffer
+        ensures { result ≡ buffer_at address }
+    {
+        if address < STATUS_BASE {
+            Buffer::Command
+        } else if address < WINDOW_BASE {
+            Buffer::Status
+        } else {
+            Buffer::Window
+        }
+    }
+}
+
+impl Place {
+    ghost use Rattle.frame_store.specs.Places.{address_of, place_at, IsPlace};
+    ghost use Rattle.frame_store.specs.Buffers.{start_of};
+    ghost use Rattle.frame_store.specs.declared.Place.{Place};
+
+    pub(crate) const FIRST: Place = Place {
+        tag: 1,
+        buffer: Buffer::Command,
+        offset: 0,
+    };
+
+    /// The address of this byte, which no other byte has.
+    pub fn address(&self) -> u64
+        requires { IsPlace self.now }
+        ensures value { result ≡ address_of self.now }
+        ensures alone { (other : Place) → IsPlace other → address_of other ≡ result → other ≡ self.now }
+    {
+        self.buffer.base() + self.buffer.stride() * self.tag as u64 + self.offset as u64
+    }
+
+    /// The byte that an address belongs to, or None where no buffer has room there.
+    pub fn at(address: u64) -> Option<Place>
+        ensures value { result ≡ place_at address }
+        ensures inverse { (place : Place) → (result ≡ Some place) ↔ (IsPlace place × (address_of place ≡ address)) }
+    {
+        let buffer = Buffer::at(address);
+        let beyond = address.checked_sub(buffer.base())?;
+        let tag = beyond / buffer.stride();
+        let offset = (beyond % buffer.stride()) as usize;
+        if 0 < tag && tag <= TAGS as u64 && offset < buffer.room() {
+            Some(Place {
+                tag: tag as Tag,
+                buffer,
+                offset,
+            })
+        } else {
+            None
+        }
+    }
+
+    // Where `len` bytes from an address on begin. No byte at all begins nowhere, so the first byte of all stands for it.
+    pub(crate) fn start(address: u64, len: usize) -> Place
+        ensures value { result ≡ start_of address len }
+        ensures first_tag { 1 ≤ result.tag }
+        ensures last_tag { result.tag ≤ TAGS }
+    {
+        if len == 0 {
+            return Place::FIRST;
+        }
+        Place::at(address).unwrap_or(Place::FIRST)
+    }
+}

@@ -1,0 +1,8 @@
+-- What CDBs, sense data and the requests and replies of the layers above mean.
+pub mod Fields
+pub mod Op
+pub mod Sense
+pub mod Meaning
+pub mod Data
+pub mod Buffers
+pub mod Faults

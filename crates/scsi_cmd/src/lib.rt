@@ -1,0 +1,341 @@
+//! SCSI commands as a host and a device speak of them: what a CDB asks of a disk, the sense that answers a
+//! faulty one, and the requests and replies that the layers above share.
+//!
+//! The six commands are TEST UNIT READY and INQUIRY (SPC), and READ CAPACITY(10), READ(10), WRITE(10) and
+//! SYNCHRONIZE CACHE(10) (SBC). All fields of CDBs, of sense and of data are big endian.
+//!
+//! It promises what any 16 bytes ask of a unit of so many blocks, an operation or the sense that tells the
+//! first fault, and that the CDB of an operation asks for that operation. The faults are tested in this order:
+//!
+//! 1. an operation code that is none of the six;
+//! 2. EVPD or a page on INQUIRY, a protect field that isn't 0 on READ or WRITE, more than 128 blocks for either;
+//! 3. a first block that isn't on the unit, for a count of 0 too, or blocks behind the last one.
+//!
+//! DPO, the immediate bit of SYNCHRONIZE CACHE and every bit without a field are ignored.
+//!
+//! It stands on `arrayvec` for a reply's sense, on `byteorder` and on `thiserror`. Only `Buffer::try_clone`
+//! takes memory.
+#![tactic(auto)]
+
+ghost use Rattle.std.specs.Prelude.{◌≡◌, ℕ, ◌+◌, ◌≤◌, ◌↔◌, [], length, take, drop, IsTrue, IfSome, IfOk};
+ghost use Rattle.std.specs.Borrow.{Lends, sem, Array, u8 as byte};
+ghost use Rattle.scsi_cmd.specs.contracts.Buffer.{the_row};
+ghost use Rattle.scsi_cmd.specs.Sense.{sense_bytes};
+ghost use Rattle.scsi_cmd.specs.Buffers.{with_bytes_at, written_at};
+ghost use Rattle.scsi_cmd.specs.Faults.{fault_number};
+
+mod cdbs;
+mod data;
+
+use arrayvec::ArrayVec;
+pub use cdbs::{cdb, moves, parse};
+pub use data::{capacity_data, inquiry_data};
+use std::alloc::{AllocError, Global};
+use std::marker::Model;
+use thiserror::Error;
+
+/// Bytes of a block.
+pub const BLOCK_BYTES: usize = 512;
+
+/// The most blocks of one READ or WRITE (65,536 bytes).
+pub const MAX_BLOCKS: u16 = 128;
+
+/// Bytes of sense data in the fixed format (SPC).
+pub const SENSE_BYTES: usize = 18;
+
+/// The most bytes of sense data in a reply.
+pub const MAX_SENSE_BYTES: usize = 96;
+
+/// The status GOOD (SAM).
+pub const GOOD: u8 = 0x00;
+
+/// The status CHECK CONDITION (SAM).
+pub const CHECK_CONDITION: u8 = 0x02;
+
+/// An operation on one logical unit, as its CDB asks for it.
+#[derive(Clone, Copy, Debug, PartialEq, Eq)]
+pub enum Op {
+    /// TEST UNIT READY (SPC).
+    TestUnitReady,
+    /// INQUIRY (SPC): the standard data, at most `allocation` bytes of it.
+    Inquiry { allocation: u16 },
+    /// READ CAPACITY(10) (SBC).
+    ReadCapacity,
+    /// READ(10) (SBC): `count` blocks from `lba` on.
+    Read { lba: u32, count: u16, fua: bool },
+    /// WRITE(10) (SBC): `count` blocks from `lba` on; with `fua` to the medium too.
+    Write { lba: u32, count: u16, fua: bool },
+    /// SYNCHRONIZE CACHE(10) (SBC): `count` blocks from `lba` on, or all from there for 0.
+    Sync { lba: u32, count: u16 },
+}
+
+/// Which way an operation moves data.
+#[derive(Clone, Copy, Debug, PartialEq, Eq)]
+pub enum Direction {
+    /// No data.
+    Nothing,
+    /// From the device to the host.
+    ToHost,
+    /// From the host to the device.
+    ToDevice,
+}
+
+/// Sense data: a sense key, an additional sense code and its qualifier (SPC).
+#[derive(Clone, Copy, Debug, PartialEq, Eq)]
+pub struct Sense {
+    pub key: u8,
+    pub asc: u8,
+    pub ascq: u8,
+}
+
+impl Sense {
+    /// The operation code is none of the six.
+    pub const INVALID_OPERATION_CODE: Sense = Sense {
+        key: 0x5,
+        asc: 0x20,
+        ascq: 0x00,
+    };
+
+    /// A field of the CDB has a value that isn't supported.
+    pub const INVALID_FIELD_IN_CDB: Sense = Sense {
+        key: 0x5,
+        asc: 0x24,
+        ascq: 0x00,
+    };
+
+    /// A block isn't on the unit.
+    pub const OUT_OF_RANGE: Sense = Sense {
+        key: 0x5,
+        asc: 0x21,
+        ascq: 0x00,
+    };
+
+    /// No unit has this number.
+    pub const UNIT_NOT_SUPPORTED: Sense = Sense {
+        key: 0x5,
+        asc: 0x25,
+        ascq: 0x00,
+    };
+
+    /// The unit was reset.
+    pub const RESET_OCCURRED: Sense = Sense {
+        key: 0x6,
+        asc: 0x29,
+        ascq: 0x03,
+    };
+
+    /// A block could not be read.
+    pub const UNRECOVERED_READ_ERROR: Sense = Sense {
+        key: 0x3,
+        asc: 0x11,
+        ascq: 0x00,
+    };
+
+    /// A block could not be written.
+    pub const WRITE_ERROR: Sense = Sense {
+        key: 0x3,
+        asc: 0x0c,
+        ascq: 0x00,
+    };
+
+    /// The 18 bytes in the fixed format (SPC, fixed format sense data).
+    pub fn bytes(&self) -> [u8; 18]
+        ensures { result ≡ sense_bytes self.now }
+    {
+        [
+            0x70, 0, self.key, 0, 0, 0, 0, 0x0a, 0, 0, 0, 0, self.asc, self.ascq, 0, 0, 0, 0,
+        ]
+    }
+
+    /// Reads the 18 bytes of a sense; `None` for any other bytes.
+    pub fn from_bytes(bytes: &[u8]) -> Option<Sense>
+        ensures found { IfSome result (λ sense. bytes.now ≡ sense_bytes sense) }
+        ensures every { (sense : Sense) → bytes.now ≡ sense_bytes sense → result ≡ Some sense }
+    {
+        if bytes.len() != SENSE_BYTES {
+            return None;
+        }
+        let sense = Sense {
+            key: bytes[2],
+            asc: bytes[12],
+            ascq: bytes[13],
+        };
+        if bytes == sense.bytes().as_slice() {
+            Some(sense)
+        } else {
+            None
+        }
+    }
+}
+
+/// The bytes that a command brings or takes; contracts see the list of them.
+#[derive(Debug, Drop)]
+pub struct Buffer {
+    bytes: Vec<u8>,
+}
+
+impl Model for Buffer {
+    ghost use Rattle.std.specs.Prelude.{ℕ, List};
+
+    ghost Value = { List ℕ };
+
+    ghost view = { λ buffer. buffer.bytes.items };
+}
+
+impl Buffer {
+    /// The buffer of these bytes; takes no memory.
+    pub fn from_vec(bytes: Vec<u8>) -> Buffer
+        ensures { result ≡ bytes.items }
+    {
+        Self { bytes }
+    }
+
+    /// The bytes again; takes no memory.
+    pub fn into_vec(self) -> Vec<u8>
+        ensures { result.items ≡ self }
+    {
+        let Buffer { bytes } = self;
+        bytes
+    }
+
+    /// A buffer of no bytes; takes no memory.
+    pub fn empty(alloc: Global) -> Buffer
+        ensures { result ≡ [] }
+    {
+        Self {
+            bytes: Vec::new(alloc),
+        }
+    }
+
+    /// The bytes.
+    pub fn as_slice(&self) -> &[u8]
+        ensures { result.now ≡ self.now }
+    {
+        self.bytes.as_slice()
+    }
+
+    /// How many bytes it has.
+    pub fn len(&self) -> usize
+        ensures { result ≡ length self.now }
+    {
+        self.bytes.len()
+    }
+
+    /// Whether it has no bytes.
+    pub fn is_empty(&self) -> bool
+        ensures { IsTrue result ↔ (self.now ≡ []) }
+    {
+        self.bytes.is_empty()
+    }
+
+    /// The `len` bytes from byte `at` on, to be written; takes no memory.
+    pub fn range_mut(&mut self, at: usize, len: usize) -> &mut [u8]
+        requires { at + len ≤ length self.old }
+        ensures* writes_back { sem 𝓛 (Lends the_row (Array byte 0) self.entry result (written_at self.entry.now at)) }
+        ensures value { result.now ≡ take len (drop at self.old) }
+        ensures len { length result.now ≡ len }
+    {
+        self.bytes.slice_mut(at..at + len)
+    }
+
+    /// Writes `bytes` over its own from byte `at` on; takes no memory.
+    pub fn write_at(&mut self, at: usize, bytes: &[u8])
+        requires { at + length bytes.now ≤ length self.old }
+        ensures bytes { self.new ≡ with_bytes_at self.old at bytes.now }
+        ensures len { length self.new ≡ length self.old }
+    {
+        self.range_mut(at, bytes.len()).copy_from_slice(bytes);
+    }
+
+    /// A copy of it.
+    pub fn try_clone(&self, alloc: Global) -> Result<Buffer, AllocError>
+        ensures { IfOk result (λ copy. copy ≡ self.now) }
+    {
+        let bytes = Vec::from_slice(alloc, self.as_slice())?;
+        Ok(Buffer { bytes })
+    }
+
+    /// Whether both have the same bytes.
+    pub fn same(&self, other: &Buffer) -> bool
+        ensures { IsTrue result ↔ (self.now ≡ other.now) }
+    {
+        self.as_slice() == other.as_slice()
+    }
+}
+
+/// A command: an operation, and the bytes that it brings or is to fill.
+#[derive(Debug, Drop)]
+pub struct Command {
+    pub op: Op,
+    pub buffer: Buffer,
+}
+
+/// A task management (SAM).
+#[derive(Clone, Copy, Debug, PartialEq, Eq)]
+pub enum Task {
+    /// ABORT TASK of the command on this tag.
+    Abort { tag: u16 },
+    /// LOGICAL UNIT RESET.
+    Reset,
+}
+
+/// What a submission came to.
+#[derive(Debug, Drop)]
+pub enum Reply {
+    /// A command's status (GOOD without sense, else CHECK CONDITION), and its buffer as filled.
+    Status {
+        tag: u16,
+        ticket: u64,
+        status: u8,
+        sense: ArrayVec<u8, 96>,
+        buffer: Buffer,
+    },
+    /// A command that a task management ended, and its buffer as filled so far.
+    Aborted {
+        tag: u16,
+        ticket: u64,
+        buffer: Buffer,
+    },
+    /// The response code of a task management.
+    Task {
+        tag: u16,
+        ticket: u64,
+        code: u8,
+    },
+}
+
+/// Why a submission is refused: the first of these that holds.
+#[derive(Clone, Copy, Debug, PartialEq, Eq, Error)]
+pub enum SubmitFault {
+    #[error("no command tag of this client")]
+    NotYours,
+    #[error("tag in use")]
+    InUse,
+    #[error("buffer of another length than the operation moves")]
+    BadLength,
+    #[error("more than 128 blocks")]
+    TooLong,
+    #[error("ticket below {0}")]
+    OutOfTurn(u64),
+    #[error("no such task")]
+    NoSuchTask,
+}
+
+impl SubmitFault {
+    /// Its place in the order of the tests, from 1.
+    pub fn number(&self) -> u8
+        ensures { result ≡ fault_number self.now }
+    {
+        match self {
+            SubmitFault::NotYours => 1,
+            SubmitFault::InUse => 2,
+            SubmitFault::BadLength => 3,
+            SubmitFault::TooLong => 4,
+            SubmitFault::OutOfTurn(_) => 5,
+            SubmitFault::NoSuchTask => 6,
+        }
+    }
+}
+
+#[cfg(test)]
+mod tests;

@@ -1,0 +1,36 @@
+-- Places that hold something or nothing: what is so of all that is held.
+use Rattle.std.proofs.Common.{◌≡◌, ℕ, zero, suc, ◌<◌, ◌≤◌, List, [], ◌∷◌, length, Option, Some, None, IfSome, refl, arith, subst, sym, ap, ◌∙◌}
+use Rattle.std.specs.Prelude.{slice_set, slice_index_or, is_some, option_and_then, true, Bool}
+use Rattle.std.proofs.lemmas.List.{get_or_default}
+use Rattle.solo_model.specs.Held.{AllHeld, held_at, held_under}
+
+pub AllHeld-at : {T : Type 0} (P : T → Type 0) (places : List (Option T)) (slot : ℕ) → AllHeld P places → IfSome (held_at places slot) P
+AllHeld-at P [] slot all = tt
+AllHeld-at P (place ∷ places) zero all = all.0
+AllHeld-at P (place ∷ places) (suc slot) all = AllHeld-at P places slot all.1
+
+-- what a place holds is so
+pub AllHeld-held : {T : Type 0} (P : T → Type 0) (places : List (Option T)) (slot : ℕ) (held : T) → AllHeld P places → held_at places slot ≡ Some held → P held
+AllHeld-held {T} P places slot held all is = let Q : Option T → Type 0 = λ o. IfSome o P in subst Q is (AllHeld-at P places slot all)
+
+-- a place may hold what is so
+pub AllHeld-set : {T : Type 0} (P : T → Type 0) (places : List (Option T)) (slot : ℕ) (now : Option T) → AllHeld P places → IfSome now P → AllHeld P (slice_set places slot now)
+AllHeld-set P [] slot now all so = tt
+AllHeld-set P (place ∷ places) zero now all so = (so, all.1)
+AllHeld-set P (place ∷ places) (suc slot) now all so = (all.0, AllHeld-set P places slot now all.1 so)
+
+-- past the last place nothing is held
+pub held_at-past : {T : Type 0} (places : List (Option T)) (slot : ℕ) → length places ≤ slot → held_at places slot ≡ None
+held_at-past [] slot past = refl
+held_at-past (place ∷ places) zero past = absurd (omega arith)
+held_at-past (place ∷ places) (suc slot) past = held_at-past places slot (omega arith)
+
+-- what was read at a place is what it holds
+pub held_at-read : {T : Type 0} (places : List (Option T)) (slot : ℕ) (read held : Option T) → slot < length places → slice_index_or places slot read ≡ held → held_at places slot ≡ held
+held_at-read places slot read held within is = get_or_default places slot None read within ∙ is
+
+-- what was answered of a read is answered of what is held
+pub answered-held : {T U : Type 0} (f : T → Option U) (places : List (Option T)) (slot : ℕ) (read : Option T) (held : T) (answer : Bool) → slot < length places →
+    answer ≡ is_some (option_and_then f (slice_index_or places slot read)) → answer ≡ true → held_at places slot ≡ Some held → is_some (f held) ≡ true
+answered-held {T} {U} f places slot read held answer within told so is =
+    ap (λ (o : Option T). is_some (option_and_then f o)) (sym is ∙ sym (sym (held_at-read places slot read (slice_index_or places slot read) within refl))) ∙ sym told ∙ so

@@ -1,0 +1,15 @@
+use Rattle.std.proofs.Common.{ap, sym, ◌∙◌, length-set}
+use Rattle.std.specs.Prelude.{is_some}
+use Rattle.solo_model.specs.Soundness.{IsSound}
+use Rattle.solo_model.proofs.Held.{AllHeld-set}
+use Rattle.solo_model.proofs.Kept.{submit_fault-none, IsSound-queued}
+use Rattle.solo_model.proofs.Solo.submit.Goals as goal
+
+pub invariant_of-self : goal.invariant_of-self
+invariant_of-self c = record {
+  places = simp length-set c.self.invariant.places;
+  tasks =
+      AllHeld-set (IsSound c.self.inside.unit.count) c.self.inside.tasks _ _ c.self.invariant.tasks
+      (IsSound-queued _ _ _ _ c.new.ensures
+      (submit_fault-none _ _ _ _ _ (ap is_some (sym c.submit_fault.ensures) ∙ sym c.is_some.ensures ∙ c.if-is_some.false)));
+}

@@ -1,0 +1,4 @@
+pub mod Held
+pub mod TaggedTask
+pub mod Soundness
+pub mod Solo

@@ -1,0 +1,116 @@
+//! The solo machine: one client with one logical unit, and nothing else. No queue, event, pipe or ring stands
+//! between a command and its reply, so it says what a client may expect of a disk that it has alone.
+//!
+//! A client has eight tags, seven for commands and the last for task management, named here by their index
+//! from 1 on. A command goes through the steps *submit*, *carry* (the device receives it), *move* (one chunk
+//! of at most eight blocks, on the blocks of that moment), *send* (the device hands over its answer) and
+//! *settle* (the client gets its reply); a [`Label`] names one step, and [`Solo::apply`] does it or says that
+//! it isn't a step here. `Solo::apply` is the definition `solo_step`, exactly, and takes no memory.
+//!
+//! The steps on one task (`submit_fault`, [`TaggedTask::new`], [`carry`], [`move_chunk`], [`send`], [`reply`])
+//! stand by themselves, because a bus of many clients is made of the same functions.
+#![tactic(auto)]
+
+mod device;
+mod host;
+mod machine;
+
+use block_unit::Unit;
+pub use device::{begin, carry, move_chunk, send};
+pub use host::{reply, status_and_sense, submit_fault};
+use scsi_cmd::{Command, Op, Sense};
+pub use scsi_cmd::{Buffer, Reply, SubmitFault};
+use std::marker::Model;
+use thiserror::Error;
+
+/// Tags of a client.
+pub const TAGS: usize = 8;
+
+/// The slot (index less 1) of the tag for task management; those below it are for commands.
+pub const TASK_SLOT: usize = 7;
+
+/// The most blocks of one chunk.
+pub const CHUNK_BLOCKS: u16 = 8;
+
+/// The most bytes of one chunk.
+pub const CHUNK_BYTES: usize = 4096;
+
+/// What a task is asked to do.
+#[derive(Clone, Copy, Debug, PartialEq, Eq)]
+pub enum Request {
+    /// Execute a command.
+    Execute(Op),
+}
+
+/// How a task ended.
+#[derive(Clone, Copy, Debug, PartialEq, Eq)]
+pub enum Answer {
+    /// With the status GOOD.
+    Good,
+    /// With CHECK CONDITION and this sense.
+    Check(Sense),
+}
+
+/// How far a task has come.
+#[derive(Clone, Copy, Debug, PartialEq, Eq)]
+pub enum Phase {
+    /// Submitted; the device hasn't received it.
+    Queued,
+    /// The device moves its data, and so many chunks are done.
+    Moving(u16),
+    /// The device has its answer.
+    Ended(Answer),
+    /// The answer was handed over.
+    Sent(Answer),
+}
+
+/// A task under one tag of a client.
+#[derive(Debug, Drop)]
+pub struct TaggedTask {
+    /// The number that the client gave it.
+    pub ticket: u64,
+    pub request: Request,
+    /// The bytes that it brings, or those that came in so far over what was handed in.
+    pub buffer: Buffer,
+    pub phase: Phase,
+}
+
+/// One step of the solo machine; the number is the index of a tag, from 1 on.
+#[derive(Debug, Drop)]
+pub enum Label {
+    /// The client submits a command with this ticket.
+    Submit(u16, u64, Command),
+    /// The device receives it.
+    Carry(u16),
+    /// The device moves its next chunk.
+    Move(u16),
+    /// The device hands over its answer.
+    Send(u16),
+    /// The client gets its reply.
+    Settle(u16),
+}
+
+/// The label is no step here.
+#[derive(Clone, Copy, Debug, PartialEq, Eq, Error)]
+#[error("not a run")]
+pub struct NotARun;
+
+/// One client and its logical unit.
+#[derive(Debug, Drop)]
+pub struct Solo {
+    unit: Unit,
+    tasks: [Option<TaggedTask>; TAGS],
+    least: u64,
+}
+
+impl Model for Solo {
+    ghost use Rattle.solo_model.specs.Solo.{SoloState};
+
+    ghost Value = { SoloState };
+
+    ghost use Rattle.solo_model.specs.Soundness.{IsSoundSolo};
+
+    ghost view = { λ solo. record { unit = solo.unit; tasks = solo.tasks; least = solo.least } };
+
+    ghost invariant = { λ solo. IsSoundSolo solo.unit.count solo.tasks };
+}

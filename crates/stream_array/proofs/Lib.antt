@@ -1,0 +1,4 @@
+pub mod Entries
+pub mod Opening
+pub mod Apart
+pub mod Frames

@@ -1,0 +1,81 @@
+-- All rings between host and controller, and what their stream contexts show (xHCI 1.2, 4.12).
+use Rattle.std.specs.Prelude.{◌≡◌, ℕ, ◌-◌, ◌<◌, ◌≤◌, List, length, Some, None, slice_index_or, slice_set}
+use Rattle.cycle_ring.specs.Ring.{Ring, opening, pointer_of, cycle_of}
+use Rattle.event_ring.specs.Events.{Events, opening as opening_events}
+use Rattle.stream_array.specs.declared.Pipe.{Pipe}
+use Rattle.stream_array.specs.declared.Pipe.TheVariants.{Command, Status, DataIn, DataOut}
+use Rattle.stream_array.specs.declared.Dequeue.{Dequeue}
+use Rattle.stream_array.specs.declared.TheConstants.{STREAMS, STREAM_ENTRIES, STREAM_RING_PLACES, ENGINE_RING}
+use Rattle.stream_array.specs.Map.{HasRing, ring_base}
+use Rattle.stream_array.specs.Contexts.{Contexts, entry_of}
+
+-- the ring of a stream in the list of its pipe's rings, where stream 1 is the first
+abbrev pub stream_ring : List Ring → ℕ → Ring
+stream_ring rings stream = slice_index_or rings (stream - 1) (opening 0)
+
+-- the consumer's end of a stream's ring
+abbrev pub consumer_end : Ring → Dequeue
+consumer_end r = record {
+  pointer = pointer_of STREAM_RING_PLACES r r.got;
+  cycle = cycle_of STREAM_RING_PLACES r r.got;
+}
+
+-- a pipe's contexts show the consumer's end of each ring, and nothing elsewhere
+pub record IsShown (shown : List Ring) (contexts : Contexts) : Type 0 where
+  pub rings : length shown ≡ STREAMS
+  pub entries : length contexts ≡ STREAM_ENTRIES
+  pub reserved : entry_of contexts 0 ≡ None
+  pub ring : (stream : ℕ) → 0 < stream → stream ≤ STREAMS → entry_of contexts stream ≡ Some (consumer_end (stream_ring shown stream))
+  pub none : (stream : ℕ) → STREAMS < stream → entry_of contexts stream ≡ None
+
+-- The rings: the command pipe's, those of the three pipes with streams, the controller's command ring and
+-- the event ring.
+pub record LinesState : Type 0 where
+  pub command : Ring
+  pub status : List Ring
+  pub data_in : List Ring
+  pub data_out : List Ring
+  pub engine : Ring
+  pub events : Events
+
+-- the ring of a pipe and a stream, 0 for the command pipe
+abbrev pub ring_of : LinesState → Pipe → ℕ → Ring
+ring_of l Command stream = l.command
+ring_of l Status stream = stream_ring l.status stream
+ring_of l DataIn stream = stream_ring l.data_in stream
+ring_of l DataOut stream = stream_ring l.data_out stream
+
+-- the same rings but for that one
+abbrev pub with_ring : LinesState → Pipe → ℕ → Ring → LinesState
+with_ring l Command stream r = record l { command = r }
+with_ring l Status stream r = record l { status = slice_set l.status (stream - 1) r }
+with_ring l DataIn stream r = record l { data_in = slice_set l.data_in (stream - 1) r }
+with_ring l DataOut stream r = record l { data_out = slice_set l.data_out (stream - 1) r }
+
+-- the same rings but for the controller's command ring, and but for the event ring
+abbrev pub with_engine : LinesState → Ring → LinesState
+with_engine l r = record l { engine = r }
+
+abbrev pub with_events : LinesState → Events → LinesState
+with_events l e = record l { events = e }
+
+-- these contexts show the rings of a pipe with streams
+abbrev pub ShowsRings : LinesState → Pipe → Contexts → Type 0
+ShowsRings l Command contexts = ⊥
+ShowsRings l Status contexts = IsShown l.status contexts
+ShowsRings l DataIn contexts = IsShown l.data_in contexts
+ShowsRings l DataOut contexts = IsShown l.data_out contexts
+
+-- all rings new, at their addresses
+pub record IsOpeningLines (l : LinesState) : Type 0 where
+  pub ring : (pipe : Pipe) (stream : ℕ) → HasRing pipe stream → ring_of l pipe stream ≡ opening (ring_base pipe stream)
+  pub engine : l.engine ≡ opening ENGINE_RING
+  pub events : l.events ≡ opening_events
+
+-- what holds of all rings: they lie where the address map says
+pub record IsLines (l : LinesState) : Type 0 where
+  pub status : length l.status ≡ STREAMS
+  pub data_in : length l.data_in ≡ STREAMS
+  pub data_out : length l.data_out ≡ STREAMS
+  pub base : (pipe : Pipe) (stream : ℕ) → HasRing pipe stream → (ring_of l pipe stream).base ≡ ring_base pipe stream
+  pub engine : l.engine.base ≡ ENGINE_RING

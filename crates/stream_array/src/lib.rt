@@ -1,0 +1,146 @@
+//! The rings, stream arrays and doorbells between a host and its xHCI controller.
+//!
+//! A UAS interface has four pipes. The command pipe has one ring; the status, data-in and data-out
+//! pipes have a ring for each stream, and a linear primary stream array whose contexts point at them
+//! (xHCI 1.2, 4.12 and 6.2.4). Beside these stand the controller's command ring and the event ring.
+//! A context is 16 bytes: the cycle state (DCS) in bit 0, stream context type 1 in bits 3:1, the
+//! dequeue pointer in 63:4, else 0; entry 0 is reserved.
+//!
+//! Each ring lies at an address of its own: pipe p's ring of stream s (0 for the command pipe) begins at
+//! `0x40000000 + 0x1000000 p + 0x1000 s`, the command ring at `0x50000000`, the event ring at
+//! `0x60000000`, and each place has 16 bytes.
+//!
+//! What is promised: [`find`] is the inverse of this map, Some exactly for the first byte of a place of
+//! a pipe's ring; all places are disjoint ([`laws`]). A [`StreamArray`] is a list of entries. A call of
+//! [`Lines`] is the named ring's, changes that ring alone, and keeps the ring's context at its
+//! consumer's end. `new` takes all memory, and no other call takes any. The crate stands on
+//! `cycle_ring` and `event_ring` for the rings and on `xhci_trb` for the texts of TRBs.
+#![tactic(auto)]
+
+ghost use Rattle.std.specs.Prelude.{◌≡◌, ℕ, ◌+◌, ◌*◌, ◌^◌, ◌<◌, ◌≤◌, Some, None, IfSome};
+ghost use Rattle.stream_array.specs.declared.Pipe.{Pipe};
+ghost use Rattle.stream_array.specs.Map.{IsPlace, place_address, number_of, ring_base, HasRing};
+
+pub use contexts::StreamArray;
+pub use lines::Lines;
+use std::alloc::AllocError;
+use thiserror::Error;
+
+mod contexts;
+pub mod laws;
+mod lines;
+mod streams;
+#[cfg(test)]
+mod tests;
+
+/// Want of memory, the one refusal of a constructor.
+pub type NoMemory = AllocError;
+
+/// Streams that have a ring on a pipe with streams: 1 to 248.
+pub const STREAMS: u16 = 248;
+/// Entries of a stream array (MaxPStreams 7, 4.12).
+pub const STREAM_ENTRIES: usize = 256;
+/// Places of a stream's ring.
+pub const STREAM_RING_PLACES: usize = 20;
+/// Places of the command pipe's ring.
+pub const COMMAND_RING_PLACES: usize = 256;
+/// Places of the controller's command ring.
+pub const ENGINE_RING_PLACES: usize = 16;
+/// Places of the event ring.
+pub const EVENT_RING_PLACES: usize = 1024;
+/// Where the pipes' rings begin, and how many bytes a pipe and a stream have.
+pub const RINGS: u64 = 0x4000_0000;
+
+pub const PIPE_SPAN: u64 = 0x0100_0000;
+
+pub const STREAM_SPAN: u64 = 0x1000;
+/// Where the controller's command ring and the event ring begin.
+pub const ENGINE_RING: u64 = 0x5000_0000;
+
+pub const EVENT_RING: u64 = 0x6000_0000;
+
+/// The four pipes of a UAS interface.
+#[derive(Clone, Copy, PartialEq, Eq, Debug)]
+pub enum Pipe {
+    Command,
+    Status,
+    DataIn,
+    DataOut,
+}
+
+/// A stream's dequeue pointer and cycle state.
+#[derive(Clone, Copy, PartialEq, Eq, Debug)]
+pub struct Dequeue {
+    pub pointer: u64,
+    pub cycle: bool,
+}
+
+/// Stream 0, a stream past the array's end, or for a write one without a ring.
+#[derive(Clone, Copy, PartialEq, Eq, Debug, Error)]
+#[error("no such stream")]
+pub struct InvalidStream;
+
+impl Pipe {
+    /// The pipe's number, 1 to 4.
+    pub fn number(self) -> u8
+        ensures { result ≡ number_of self }
+    {
+        match self {
+            Pipe::Command => 1,
+            Pipe::Status => 2,
+            Pipe::DataIn => 3,
+            Pipe::DataOut => 4,
+        }
+    }
+}
+
+/// The pipe, the stream (0 for the command pipe) and the place of the ring at whose place this address
+/// is the first byte, if there is one.
+pub fn find(pointer: u64) -> Option<(Pipe, u16, usize)>
+    ensures found { IfSome result (λ at. IsPlace at.0 at.1 at.2 × (pointer ≡ place_address at.0 at.1 at.2)) }
+    ensures every { (pipe : Pipe) (stream place : ℕ) → IsPlace pipe stream place → pointer ≡ place_address pipe stream place → result ≡ Some (pipe, stream, place) }
+{
+    let offset = pointer.checked_sub(RINGS)?;
+    let inside = offset % PIPE_SPAN;
+    match offset / PIPE_SPAN {
+        1 => find_in_command(inside),
+        2 => find_in_stream(Pipe::Status, inside),
+        3 => find_in_stream(Pipe::DataIn, inside),
+        4 => find_in_stream(Pipe::DataOut, inside),
+        _ => None,
+    }
+}
+
+fn find_in_command(inside: u64) -> Option<(Pipe, u16, usize)>
+    ensures found { IfSome result (λ at. (at.0 ≡ Pipe.Command) × (at.1 ≡ 0) × (at.2 < COMMAND_RING_PLACES) × (inside ≡ 16 * at.2)) }
+    ensures every { (place : ℕ) → place < COMMAND_RING_PLACES → inside ≡ 16 * place → result ≡ Some (Pipe.Command, 0, place) }
+{
+    let place = inside / 16;
+    if inside % 16 != 0 || place >= COMMAND_RING_PLACES as u64 {
+        return None;
+    }
+    Some((Pipe::Command, 0, place as usize))
+}
+
+fn find_in_stream(pipe: Pipe, inside: u64) -> Option<(Pipe, u16, usize)>
+    ensures found { IfSome result (λ at. (at.0 ≡ pipe) × (0 < at.1) × (at.1 ≤ STREAMS) × (at.2 < STREAM_RING_PLACES) × (inside ≡ STREAM_SPAN * at.1 + 16 * at.2)) }
+    ensures every { (stream place : ℕ) → 0 < stream → stream ≤ STREAMS → place < STREAM_RING_PLACES → inside ≡ STREAM_SPAN * stream + 16 * place → result ≡ Some (pipe, stream, place) }
+{
+    let stream = inside / STREAM_SPAN;
+    let place = inside % STREAM_SPAN / 16;
+    if stream == 0
+        || stream > STREAMS as u64
+        || inside % 16 != 0
+        || place >= STREAM_RING_PLACES as u64
+    {
+        return None;
+    }
+    Some((pipe, stream as u16, place as usize))
+}
+
+/// The doorbell value of an endpoint's target and a stream (5.6): target 7:0, stream 31:16.
+pub fn doorbell(target: u8, stream: u16) -> u32
+    ensures { result ≡ target + 2 ^ 16 * stream }
+{
+    u32::from(target) + (u32::from(stream) << 16)
+}

@@ -1,0 +1,317 @@
+// All rings of a controller with one interface, as host and controller are lent them.
+
+ghost use Rattle.std.specs.Prelude.{◌≡◌, ◌≢◌, ℕ, ◌+◌, ◌-◌, ◌<◌, ◌≤◌, ◌++◌, [], ◌∷◌, ◌↔◌, All, length, slice_get, IsTrue, IsOk, IsSome, IfOk, OnOk, OnErr, OnSome, IfNone};
+ghost use Rattle.xhci_trb.specs.Text.{HasText};
+ghost use Rattle.cycle_ring.specs.Ring.{IsRing, IsTd, place_of, pointer_of, cycle_of, front_of, reclaimed, item_image, link_image, IsConsumed, IsPending, IsInUse};
+ghost use Rattle.event_ring.specs.Events.{IsWritable, taken, event_image, place_of as event_place_of, IsInUse as IsEventInUse, IsRing as IsEventRing};
+ghost use Rattle.stream_array.specs.Map.{HasRing, HasStreams, places_of, ring_base};
+ghost use Rattle.stream_array.specs.Rings.{ring_of, with_ring, with_engine, with_events, ShowsRings, IsLines, IsOpeningLines};
+
+use crate::streams::Streams;
+use crate::{
+    COMMAND_RING_PLACES, ENGINE_RING, ENGINE_RING_PLACES, EVENT_RING_PLACES, NoMemory, PIPE_SPAN,
+    Pipe, RINGS, STREAM_ENTRIES, StreamArray,
+};
+use cycle_ring::{CycleRing, NotAPlace, RingFull, Td};
+use event_ring::{Event, EventRing, EventRingFull};
+use std::alloc::Global;
+use std::marker::Model;
+use xhci_trb::Trb;
+
+/// Every ring between host and controller: the command pipe's, one for each stream of the three pipes
+/// with streams, the controller's command ring and the event ring; and the three stream arrays, each of
+/// whose contexts is kept at its ring's consumer's end.
+#[derive(Debug, Drop)]
+pub struct Lines {
+    command: CycleRing<COMMAND_RING_PLACES>,
+    status: Streams,
+    data_in: Streams,
+    data_out: Streams,
+    engine: CycleRing<ENGINE_RING_PLACES>,
+    events: EventRing<EVENT_RING_PLACES>,
+}
+
+impl Model for Lines {
+    ghost use Rattle.stream_array.specs.Rings.{LinesState, IsLines};
+
+    ghost Value = { LinesState };
+
+    ghost view = { λ l. record { command = l.command; status = l.status; data_in = l.data_in; data_out = l.data_out; engine = l.engine; events = l.events } };
+
+    ghost invariant = { λ l. IsLines (record { command = l.command; status = l.status; data_in = l.data_in; data_out = l.data_out; engine = l.engine; events = l.events }) };
+}
+
+impl Lines {
+    /// All rings, empty, at their addresses. Refused for want of memory alone.
+    pub fn new(alloc: Global) -> Result<Self, NoMemory>
+        ensures { IfOk result IsOpeningLines }
+    {
+        Ok(Lines {
+            command: CycleRing::new(alloc, RINGS + PIPE_SPAN)?,
+            status: Streams::new(alloc, Pipe::Status)?,
+            data_in: Streams::new(alloc, Pipe::DataIn)?,
+            data_out: Streams::new(alloc, Pipe::DataOut)?,
+            engine: CycleRing::new(alloc, ENGINE_RING)?,
+            events: EventRing::new(alloc)?,
+        })
+    }
+
+    /// The room of a ring.
+    pub fn room(&self, pipe: Pipe, stream: u16) -> usize
+        requires { HasRing pipe stream }
+        ensures room { result + length (ring_of self.now pipe stream).put ≡ places_of pipe - 2 }
+        ensures standing { IsRing (places_of pipe) (ring_of self.now pipe stream) }
+        ensures base { (ring_of self.now pipe stream).base ≡ ring_base pipe stream }
+        ensures lines { IsLines self.now }
+    {
+        match pipe {
+            Pipe::Command => self.command.room(),
+            Pipe::Status => self.status.ring(stream).room(),
+            Pipe::DataIn => self.data_in.ring(stream).room(),
+            Pipe::DataOut => self.data_out.ring(stream).room(),
+        }
+    }
+
+    /// Puts a TD on a ring, as the ring's call does. Refused where its room is too small.
+    pub fn push_td(&mut self, pipe: Pipe, stream: u16, trbs: &[Trb]) -> Result<Td, RingFull>
+        requires ring { HasRing pipe stream }
+        requires td { IsTd trbs.now }
+        requires texts { All HasText trbs.now }
+        requires at_most { length trbs.now ≤ places_of pipe - 2 }
+        ensures room { IsOk result ↔ (length (ring_of self.old pipe stream).put + length trbs.now ≤ places_of pipe - 2) }
+        ensures put { OnOk result (let ring = ring_of self.old pipe stream in self.new ≡ with_ring self.old pipe stream (record ring { put = ring.put ++ trbs.now })) }
+        ensures td { IfOk result (λ td. let ring = ring_of self.old pipe stream in td ≡ record { first = pointer_of (places_of pipe) ring (length ring.put); last = pointer_of (places_of pipe) ring (length ring.put + length trbs.now - 1) }) }
+        ensures full { OnErr result (self.new ≡ self.old) }
+    {
+        match pipe {
+            Pipe::Command => self.command.push_td(trbs),
+            Pipe::Status => self.status.push_td(stream, trbs),
+            Pipe::DataIn => self.data_in.push_td(stream, trbs),
+            Pipe::DataOut => self.data_out.push_td(stream, trbs),
+        }
+    }
+
+    /// The enqueue pointer and the producer's cycle state of a ring.
+    pub fn place(&self, pipe: Pipe, stream: u16) -> (u64, bool)
+        requires { HasRing pipe stream }
+        ensures place { let ring = ring_of self.now pipe stream in result ≡ (pointer_of (places_of pipe) ring (length ring.put), cycle_of (places_of pipe) ring (length ring.put)) }
+        ensures unused { (k : ℕ) → k < length (ring_of self.now pipe stream).put → pointer_of (places_of pipe) (ring_of self.now pipe stream) k ≢ result.0 }
+    {
+        match pipe {
+            Pipe::Command => self.command.place(),
+            Pipe::Status => self.status.ring(stream).place(),
+            Pipe::DataIn => self.data_in.ring(stream).place(),
+            Pipe::DataOut => self.data_out.ring(stream).place(),
+        }
+    }
+
+    /// The first pending TRB of a ring and its address, if there is one.
+    pub fn front(&self, pipe: Pipe, stream: u16) -> Option<(u64, Trb)>
+        requires { HasRing pipe stream }
+        ensures front { result ≡ front_of (places_of pipe) (ring_of self.now pipe stream) }
+        ensures pending { IsSome result ↔ ((ring_of self.now pipe stream).got < length (ring_of self.now pipe stream).put) }
+    {
+        match pipe {
+            Pipe::Command => self.command.front(),
+            Pipe::Status => self.status.ring(stream).front(),
+            Pipe::DataIn => self.data_in.ring(stream).front(),
+            Pipe::DataOut => self.data_out.ring(stream).front(),
+        }
+    }
+
+    /// Consumes the first pending TRB of a ring. Asks that there is one.
+    pub fn advance(&mut self, pipe: Pipe, stream: u16)
+        requires ring { HasRing pipe stream }
+        requires pending { (ring_of self.old pipe stream).got < length (ring_of self.old pipe stream).put }
+        ensures { let ring = ring_of self.old pipe stream in self.new ≡ with_ring self.old pipe stream (record ring { got = ring.got + 1 }) }
+    {
+        match pipe {
+            Pipe::Command => self.command.advance(),
+            Pipe::Status => self.status.advance(stream),
+            Pipe::DataIn => self.data_in.advance(stream),
+            Pipe::DataOut => self.data_out.advance(stream),
+        }
+    }
+
+    /// Moves a ring's consumer's end to a pending place. Refused where the address or the cycle state is not
+    /// that of a pending TRB.
+    pub fn set_dequeue(
+        &mut self,
+        pipe: Pipe,
+        stream: u16,
+        pointer: u64,
+        cycle: bool,
+    ) -> Result<(), NotAPlace>
+        requires { HasRing pipe stream }
+        ensures accepted { IsOk result ↔ ((k : ℕ) × IsPending (places_of pipe) (ring_of self.old pipe stream) k pointer cycle) }
+        ensures set { (k : ℕ) → IsPending (places_of pipe) (ring_of self.old pipe stream) k pointer cycle → let ring = ring_of self.old pipe stream in self.new ≡ with_ring self.old pipe stream (record ring { got = k }) }
+        ensures refused { OnErr result (self.new ≡ self.old) }
+    {
+        match pipe {
+            Pipe::Command => self.command.set_dequeue(pointer, cycle),
+            Pipe::Status => self.status.set_dequeue(stream, pointer, cycle),
+            Pipe::DataIn => self.data_in.set_dequeue(stream, pointer, cycle),
+            Pipe::DataOut => self.data_out.set_dequeue(stream, pointer, cycle),
+        }
+    }
+
+    /// Frees the TRBs of a ring up to and with the one at this address. Asks a consumed TRB that isn't
+    /// reclaimed.
+    pub fn reclaim(&mut self, pipe: Pipe, stream: u16, pointer: u64)
+        requires ring { HasRing pipe stream }
+        requires consumed { (k : ℕ) × IsConsumed (places_of pipe) (ring_of self.old pipe stream) k pointer }
+        ensures { (k : ℕ) → IsConsumed (places_of pipe) (ring_of self.old pipe stream) k pointer → self.new ≡ with_ring self.old pipe stream (reclaimed (places_of pipe) (k + 1) (ring_of self.old pipe stream)) }
+    {
+        match pipe {
+            Pipe::Command => self.command.reclaim(pointer),
+            Pipe::Status => self.status.reclaim(stream, pointer),
+            Pipe::DataIn => self.data_in.reclaim(stream, pointer),
+            Pipe::DataOut => self.data_out.reclaim(stream, pointer),
+        }
+    }
+
+    /// The bytes at a place of a ring, as the ring's call gives them.
+    pub fn image(&self, pipe: Pipe, stream: u16, place: usize) -> Option<[u8; 16]>
+        requires { HasRing pipe stream }
+        ensures item { (k : ℕ) → k < places_of pipe - 1 → place ≡ place_of (places_of pipe) (ring_of self.now pipe stream) k → result ≡ item_image (places_of pipe) (ring_of self.now pipe stream) k }
+        ensures link { (k : ℕ) → k < places_of pipe - 1 → place_of (places_of pipe) (ring_of self.now pipe stream) k ≡ places_of pipe - 2 → place ≡ places_of pipe - 1 → result ≡ link_image (places_of pipe) (ring_of self.now pipe stream) k }
+        ensures in_use { IsSome result → (k : ℕ) × IsInUse (places_of pipe) (ring_of self.now pipe stream) k place }
+    {
+        match pipe {
+            Pipe::Command => self.command.image(place),
+            Pipe::Status => self.status.ring(stream).image(place),
+            Pipe::DataIn => self.data_in.ring(stream).image(place),
+            Pipe::DataOut => self.data_out.ring(stream).image(place),
+        }
+    }
+
+    /// The stream array of a pipe with streams, which shows the consumer's end of each of its rings (4.12).
+    pub fn array(&self, pipe: Pipe) -> &StreamArray<STREAM_ENTRIES>
+        requires { HasStreams pipe }
+        ensures { ShowsRings self.now pipe result.now }
+    {
+        match pipe {
+            Pipe::Command => unreachable!(),
+            Pipe::Status => self.status.contexts(),
+            Pipe::DataIn => self.data_in.contexts(),
+            Pipe::DataOut => self.data_out.contexts(),
+        }
+    }
+
+    /// The room of the controller's command ring.
+    pub fn room_engine(&self) -> usize
+        ensures room { result + length self.now.engine.put ≡ ENGINE_RING_PLACES - 2 }
+        ensures standing { IsRing ENGINE_RING_PLACES self.now.engine }
+        ensures base { self.now.engine.base ≡ ENGINE_RING }
+        ensures lines { IsLines self.now }
+    {
+        self.engine.room()
+    }
+
+    /// Puts a command on the controller's command ring. Refused where its room is too small.
+    pub fn push_td_engine(&mut self, trbs: &[Trb]) -> Result<Td, RingFull>
+        requires td { IsTd trbs.now }
+        requires texts { All HasText trbs.now }
+        requires at_most { length trbs.now ≤ ENGINE_RING_PLACES - 2 }
+        ensures room { IsOk result ↔ (length self.old.engine.put + length trbs.now ≤ ENGINE_RING_PLACES - 2) }
+        ensures put { OnOk result (self.new ≡ with_engine self.old (record self.old.engine { put = self.old.engine.put ++ trbs.now })) }
+        ensures td { IfOk result (λ td. td ≡ record { first = pointer_of ENGINE_RING_PLACES self.old.engine (length self.old.engine.put); last = pointer_of ENGINE_RING_PLACES self.old.engine (length self.old.engine.put + length trbs.now - 1) }) }
+        ensures full { OnErr result (self.new ≡ self.old) }
+    {
+        self.engine.push_td(trbs)
+    }
+
+    /// The enqueue pointer and the producer's cycle state of the controller's command ring.
+    pub fn place_engine(&self) -> (u64, bool)
+        ensures place { result ≡ (pointer_of ENGINE_RING_PLACES self.now.engine (length self.now.engine.put), cycle_of ENGINE_RING_PLACES self.now.engine (length self.now.engine.put)) }
+        ensures unused { (k : ℕ) → k < length self.now.engine.put → pointer_of ENGINE_RING_PLACES self.now.engine k ≢ result.0 }
+    {
+        self.engine.place()
+    }
+
+    /// The first pending command and its address, if there is one.
+    pub fn front_engine(&self) -> Option<(u64, Trb)>
+        ensures front { result ≡ front_of ENGINE_RING_PLACES self.now.engine }
+        ensures pending { IsSome result ↔ (self.now.engine.got < length self.now.engine.put) }
+    {
+        self.engine.front()
+    }
+
+    /// Consumes the first pending command. Asks that there is one.
+    pub fn advance_engine(&mut self)
+        requires { self.old.engine.got < length self.old.engine.put }
+        ensures { self.new ≡ with_engine self.old (record self.old.engine { got = self.old.engine.got + 1 }) }
+    {
+        self.engine.advance();
+    }
+
+    /// Moves the consumer's end of the controller's command ring to a pending place. Refused as the ring's
+    /// call refuses.
+    pub fn set_dequeue_engine(&mut self, pointer: u64, cycle: bool) -> Result<(), NotAPlace>
+        ensures accepted { IsOk result ↔ ((k : ℕ) × IsPending ENGINE_RING_PLACES self.old.engine k pointer cycle) }
+        ensures set { (k : ℕ) → IsPending ENGINE_RING_PLACES self.old.engine k pointer cycle → self.new ≡ with_engine self.old (record self.old.engine { got = k }) }
+        ensures refused { OnErr result (self.new ≡ self.old) }
+    {
+        self.engine.set_dequeue(pointer, cycle)
+    }
+
+    /// Frees the commands up to and with the one at this address. Asks a consumed one that isn't reclaimed.
+    pub fn reclaim_engine(&mut self, pointer: u64)
+        requires { (k : ℕ) × IsConsumed ENGINE_RING_PLACES self.old.engine k pointer }
+        ensures { (k : ℕ) → IsConsumed ENGINE_RING_PLACES self.old.engine k pointer → self.new ≡ with_engine self.old (reclaimed ENGINE_RING_PLACES (k + 1) self.old.engine) }
+    {
+        self.engine.reclaim(pointer);
+    }
+
+    /// The bytes at a place of the controller's command ring.
+    pub fn image_engine(&self, place: usize) -> Option<[u8; 16]>
+        ensures item { (k : ℕ) → k < ENGINE_RING_PLACES - 1 → place ≡ place_of ENGINE_RING_PLACES self.now.engine k → result ≡ item_image ENGINE_RING_PLACES self.now.engine k }
+        ensures link { (k : ℕ) → k < ENGINE_RING_PLACES - 1 → place_of ENGINE_RING_PLACES self.now.engine k ≡ ENGINE_RING_PLACES - 2 → place ≡ ENGINE_RING_PLACES - 1 → result ≡ link_image ENGINE_RING_PLACES self.now.engine k }
+        ensures in_use { IsSome result → (k : ℕ) × IsInUse ENGINE_RING_PLACES self.now.engine k place }
+    {
+        self.engine.image(place)
+    }
+
+    /// Posts an event. Asks that each field fits its bits. Refused where the event ring is full.
+    pub fn post(&mut self, event: Event) -> Result<(), EventRingFull>
+        requires { IsWritable event }
+        ensures room { IsOk result ↔ (length self.old.events.pending < EVENT_RING_PLACES - 1) }
+        ensures posted { OnOk result (self.new ≡ with_events self.old (record self.old.events { pending = self.old.events.pending ++ event ∷ [] })) }
+        ensures full { OnErr result (self.new ≡ self.old) }
+    {
+        self.events.post(event)
+    }
+
+    /// Takes the first pending event, if there is one.
+    pub fn take(&mut self) -> Option<Event>
+        ensures first { result ≡ slice_get self.old.events.pending 0 }
+        ensures taken { OnSome result (self.new ≡ with_events self.old (taken EVENT_RING_PLACES self.old.events)) }
+        ensures empty { IfNone result ((self.new ≡ self.old) × (self.old.events.pending ≡ [])) }
+    {
+        self.events.take()
+    }
+
+    /// How many events are pending.
+    pub fn len(&self) -> usize
+        ensures len { result ≡ length self.now.events.pending }
+        ensures standing { IsEventRing EVENT_RING_PLACES self.now.events }
+        ensures lines { IsLines self.now }
+    {
+        self.events.len()
+    }
+
+    /// Whether no event is pending.
+    pub fn is_empty(&self) -> bool
+        ensures { IsTrue result ↔ (length self.now.events.pending ≡ 0) }
+    {
+        self.events.is_empty()
+    }
+
+    /// The bytes at a place of the event ring.
+    pub fn image_event(&self, place: usize) -> Option<[u8; 16]>
+        ensures event { (k : ℕ) → k < EVENT_RING_PLACES → place ≡ event_place_of EVENT_RING_PLACES self.now.events k → result ≡ event_image EVENT_RING_PLACES self.now.events k }
+        ensures in_use { IsSome result → (k : ℕ) × IsEventInUse EVENT_RING_PLACES self.now.events k place }
+    {
+        self.events.image(place)
+    }
+}

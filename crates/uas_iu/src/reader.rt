@@ -1,0 +1,187 @@
+//! From bytes to the unit whose text they are, or to their first fault.
+ghost use Rattle.std.specs.Prelude.{◌≡◌, ◌+◌, ◌*◌, ◌≤◌, ◌++◌, not, ◌==◌, length, drop, slice_index, Ok, IfOk};
+ghost use Rattle.std.specs.List.{list_any};
+ghost use Rattle.std.specs.Result.{result_err};
+ghost use Rattle.uas_iu.specs.Faults.{first_fault, identifier};
+ghost use Rattle.uas_iu.specs.Units.{Fits, IsTextOf, unit_text};
+ghost use Rattle.uas_iu.specs.declared.Iu.{Iu};
+
+use crate::{
+    COMMAND_BYTES, COMMAND_ID, Iu, IuFault, MAX_UNIT_BYTES, RESPONSE_BYTES, RESPONSE_ID,
+    SENSE_HEADER_BYTES, SENSE_ID, TASK_BYTES, TASK_ID,
+};
+use arrayvec::ArrayVec;
+
+// The places of the fields.
+const TAG_PLACE: usize = 2;
+
+const ADDITIONAL_CDB_PLACE: usize = 6;
+
+const STATUS_PLACE: usize = 6;
+
+const SENSE_LENGTH_PLACE: usize = 14;
+
+const CODE_PLACE: usize = 7;
+
+const FUNCTION_PLACE: usize = 4;
+
+const TASK_TAG_PLACE: usize = 6;
+
+const LUN_PLACE: usize = 8;
+
+const CDB_PLACE: usize = 16;
+
+// The places that hold 0. The additional CDB length of a Command isn't one: it is a length field.
+const COMMAND_ZEROS: [usize; 4] = [1, 4, 5, 7];
+
+const SENSE_ZEROS: [usize; 10] = [1, 4, 5, 7, 8, 9, 10, 11, 12, 13];
+
+const RESPONSE_ZEROS: [usize; 4] = [1, 4, 5, 6];
+
+const TASK_ZEROS: [usize; 2] = [1, 5];
+
+/// The unit whose text `bytes` is, and else the first fault in the order of [`IuFault`] (INCITS 471,
+/// information units). No bytes at all are `Short`, as they have no identifier.
+#[tactic(auto, using(crate::proofs::Laws::every_text_found), unfolding(crate::specs::Faults::first_fault))]
+pub fn read(bytes: &[u8]) -> Result<Iu, IuFault>
+    ensures fault { result_err result ≡ first_fault bytes.now }
+    ensures found { IfOk result (λ unit. IsTextOf bytes.now unit) }
+    // What `write` wrote is among these texts.
+    ensures only { (unit : Iu) → Fits unit → bytes.now ≡ unit_text unit → result ≡ Ok unit }
+{
+    let [id, ..] = bytes else {
+        return Err(IuFault::Short);
+    };
+    match *id {
+        COMMAND_ID => read_command(bytes),
+        SENSE_ID => read_sense(bytes),
+        RESPONSE_ID => read_response(bytes),
+        TASK_ID => read_task(bytes),
+        _ => Err(IuFault::UnknownId),
+    }
+}
+
+#[tactic(auto, unfolding(crate::specs::Faults::first_fault, crate::specs::Units::unit_text))]
+fn read_command(bytes: &[u8]) -> Result<Iu, IuFault>
+    requires { identifier bytes.now ≡ 1 }
+    ensures fault { result_err result ≡ first_fault bytes.now }
+    ensures found { IfOk result (λ unit. IsTextOf bytes.now unit) }
+{
+    if bytes.len() < COMMAND_BYTES {
+        return Err(IuFault::Short);
+    }
+    if bytes.len() > COMMAND_BYTES {
+        return Err(IuFault::Long);
+    }
+    if is_any_set(bytes, &COMMAND_ZEROS) {
+        return Err(IuFault::ReservedSet);
+    }
+    if bytes[ADDITIONAL_CDB_PLACE] != 0 {
+        return Err(IuFault::LengthField);
+    }
+    Ok(Iu::Command {
+        tag: number_at(bytes, TAG_PLACE),
+        lun: array_at(bytes, LUN_PLACE),
+        cdb: array_at(bytes, CDB_PLACE),
+    })
+}
+
+#[tactic(auto, unfolding(crate::specs::Faults::first_fault, crate::specs::Units::unit_text))]
+fn read_sense(bytes: &[u8]) -> Result<Iu, IuFault>
+    requires { identifier bytes.now ≡ 3 }
+    ensures fault { result_err result ≡ first_fault bytes.now }
+    ensures found { IfOk result (λ unit. IsTextOf bytes.now unit) }
+{
+    if bytes.len() < SENSE_HEADER_BYTES {
+        return Err(IuFault::Short);
+    }
+    if bytes.len() > MAX_UNIT_BYTES {
+        return Err(IuFault::Long);
+    }
+    if is_any_set(bytes, &SENSE_ZEROS) {
+        return Err(IuFault::ReservedSet);
+    }
+    if SENSE_HEADER_BYTES + usize::from(number_at(bytes, SENSE_LENGTH_PLACE)) != bytes.len() {
+        return Err(IuFault::LengthField);
+    }
+    let mut sense = ArrayVec::new();
+    for byte in &bytes[SENSE_HEADER_BYTES..] {
+        sense.push(*byte);
+    }
+    Ok(Iu::Sense {
+        tag: number_at(bytes, TAG_PLACE),
+        status: bytes[STATUS_PLACE],
+        sense,
+    })
+}
+
+#[tactic(auto, unfolding(crate::specs::Faults::first_fault, crate::specs::Units::unit_text))]
+fn read_response(bytes: &[u8]) -> Result<Iu, IuFault>
+    requires { identifier bytes.now ≡ 4 }
+    ensures fault { result_err result ≡ first_fault bytes.now }
+    ensures found { IfOk result (λ unit. IsTextOf bytes.now unit) }
+{
+    if bytes.len() < RESPONSE_BYTES {
+        return Err(IuFault::Short);
+    }
+    if bytes.len() > RESPONSE_BYTES {
+        return Err(IuFault::Long);
+    }
+    if is_any_set(bytes, &RESPONSE_ZEROS) {
+        return Err(IuFault::ReservedSet);
+    }
+    Ok(Iu::Response {
+        tag: number_at(bytes, TAG_PLACE),
+        code: bytes[CODE_PLACE],
+    })
+}
+
+#[tactic(auto, unfolding(crate::specs::Faults::first_fault, crate::specs::Units::unit_text))]
+fn read_task(bytes: &[u8]) -> Result<Iu, IuFault>
+    requires { identifier bytes.now ≡ 5 }
+    ensures fault { result_err result ≡ first_fault bytes.now }
+    ensures found { IfOk result (λ unit. IsTextOf bytes.now unit) }
+{
+    if bytes.len() < TASK_BYTES {
+        return Err(IuFault::Short);
+    }
+    if bytes.len() > TASK_BYTES {
+        return Err(IuFault::Long);
+    }
+    if is_any_set(bytes, &TASK_ZEROS) {
+        return Err(IuFault::ReservedSet);
+    }
+    Ok(Iu::Task {
+        tag: number_at(bytes, TAG_PLACE),
+        function: bytes[FUNCTION_PLACE],
+        task_tag: number_at(bytes, TASK_TAG_PLACE),
+        lun: array_at(bytes, LUN_PLACE),
+    })
+}
+
+/// Whether a byte at one of `places` is not 0.
+fn is_any_set(bytes: &[u8], places: &[usize]) -> bool
+    ensures { result ≡ list_any (λ place. not (slice_index bytes.now place == 0)) places.now }
+{
+    places
+        .iter()
+        .any(|place| bytes.get(*place).is_some_and(|byte| *byte != 0))
+}
+
+/// The big endian number of two bytes at `place`.
+fn number_at(bytes: &[u8], place: usize) -> u16
+    requires { place + 2 ≤ length bytes.now }
+    ensures { result ≡ slice_index bytes.now place * 256 + slice_index bytes.now (place + 1) }
+{
+    u16::from_be_bytes([bytes[place], bytes[place + 1]])
+}
+
+/// The `N` bytes from `place` on.
+fn array_at<const N: usize>(bytes: &[u8], place: usize) -> [u8; N]
+    requires { place + N ≤ length bytes.now }
+    ensures { drop place bytes.now ≡ result ++ drop (place + N) bytes.now }
+{
+    let mut array = [0; N];
+    array.copy_from_slice(&bytes[place..place + N]);
+    array
+}

@@ -1,0 +1,61 @@
+//! From a unit to its bytes.
+ghost use Rattle.std.specs.Prelude.{◌≡◌, ◌+◌, ◌≤◌, ◌++◌, length};
+ghost use Rattle.arrayvec.specs.ArrayVec.{array_vec_len};
+ghost use Rattle.uas_iu.specs.Units.{Fits, unit_text};
+
+use crate::{COMMAND_ID, Iu, MAX_UNIT_BYTES, RESPONSE_ID, SENSE_ID, TASK_ID};
+use arrayvec::ArrayVec;
+
+/// Writes the bytes of `unit` into `out`, which is asked to be empty and has room for every unit
+/// (INCITS 471, information units).
+#[tactic(auto, unfolding(crate::specs::Units::unit_text))]
+pub fn write(unit: &Iu, out: &mut ArrayVec<u8, MAX_UNIT_BYTES>)
+    requires { array_vec_len out.old ≡ 0 }
+    ensures text { out.new.items ≡ unit_text unit.now }
+    ensures fits { Fits unit.now }
+{
+    match unit {
+        Iu::Command { tag, lun, cdb } => {
+            put(out, &[COMMAND_ID, 0]);
+            put(out, &tag.to_be_bytes());
+            put(out, &[0; 4]);
+            put(out, lun);
+            put(out, cdb);
+        }
+        Iu::Sense { tag, status, sense } => {
+            put(out, &[SENSE_ID, 0]);
+            put(out, &tag.to_be_bytes());
+            put(out, &[0, 0, *status]);
+            put(out, &[0; 7]);
+            put(out, &(sense.len() as u16).to_be_bytes());
+            put(out, sense);
+        }
+        Iu::Response { tag, code } => {
+            put(out, &[RESPONSE_ID, 0]);
+            put(out, &tag.to_be_bytes());
+            put(out, &[0, 0, 0, *code]);
+        }
+        Iu::Task {
+            tag,
+            function,
+            task_tag,
+            lun,
+        } => {
+            put(out, &[TASK_ID, 0]);
+            put(out, &tag.to_be_bytes());
+            put(out, &[*function, 0]);
+            put(out, &task_tag.to_be_bytes());
+            put(out, lun);
+        }
+    }
+}
+
+/// Appends `bytes`, for which there is room.
+fn put(out: &mut ArrayVec<u8, MAX_UNIT_BYTES>, bytes: &[u8])
+    requires { array_vec_len out.old + length bytes.now ≤ MAX_UNIT_BYTES }
+    ensures { out.new.items ≡ out.old.items ++ bytes.now }
+{
+    for byte in bytes {
+        out.push(*byte);
+    }
+}

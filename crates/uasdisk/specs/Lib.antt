@@ -1,0 +1,8 @@
+-- What a script asks for, and what the program prints.
+pub mod Words
+pub mod Script
+pub mod Printed
+pub mod Images
+pub mod Runs
+pub mod Options
+pub mod Told

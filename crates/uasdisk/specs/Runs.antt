@@ -1,0 +1,76 @@
+-- When a run may give up.
+use Rattle.std.specs.Prelude.{◌≡◌, ℕ, Bool, IsTrue, List, ◌⊎◌, Option, IfSome, Result, Ok, Err, ⊤}
+use Rattle.uasdisk.specs.declared.status.RunFault.{RunFault}
+use Rattle.uasdisk.specs.declared.status.RunFault.TheVariants.{Image, ImageFile, Script, ScriptFile, NoMemory}
+use Rattle.uasdisk.specs.declared.streams.StreamFault.{StreamFault}
+use Rattle.uasdisk.specs.declared.streams.StreamFault.TheVariants.{NoMemory as StreamNoMemory, File}
+use Rattle.std.specs.Io.KnownBytes.{Appends, Keeps}
+use Rattle.block_unit.specs.BlockMaps.{BlockMaps}
+use Rattle.uasdisk.specs.declared.script.Line.{Line}
+use Rattle.uasdisk.specs.declared.script.ScriptFault.{ScriptFault}
+use Rattle.uasdisk.specs.Script.{script}
+use Rattle.uasdisk.specs.Told.{told}
+use Rattle.block_unit.specs.declared.ImageFault.{ImageFault}
+use Rattle.uasdisk.specs.Images.{blocks_in, info_text}
+
+-- A run that reads an image and prints: the image's own fault, where its bytes are known; its file's, where that can
+-- fail; standard output's, where that can fail; want of memory.
+abbrev pub ImageGivesUp : Option (List ℕ) → Bool → Bool → RunFault → Type 0
+ImageGivesUp left can_read_fail can_write_fail (Image fault) = IfSome left (λ bytes. blocks_in bytes ≡ Err fault)
+ImageGivesUp left can_read_fail can_write_fail ImageFile = IsTrue can_read_fail
+ImageGivesUp left can_read_fail can_write_fail (Script fault) = ⊥
+ImageGivesUp left can_read_fail can_write_fail ScriptFile = IsTrue can_write_fail
+ImageGivesUp left can_read_fail can_write_fail NoMemory = ⊤
+
+-- A run that writes an image and prints: the fault of its file, of standard output, or want of memory.
+abbrev pub MakeGivesUp : Bool → Bool → RunFault → Type 0
+MakeGivesUp can_file_fail can_write_fail (Image fault) = ⊥
+MakeGivesUp can_file_fail can_write_fail ImageFile = IsTrue can_file_fail
+MakeGivesUp can_file_fail can_write_fail (Script fault) = ⊥
+MakeGivesUp can_file_fail can_write_fail ScriptFile = IsTrue can_write_fail
+MakeGivesUp can_file_fail can_write_fail NoMemory = ⊤
+
+-- What a run that reads an image prints, by the number of blocks in it: of no other file does it print anything.
+abbrev pub InfoPrints : Result ℕ ImageFault → Option (List ℕ) → Option (List ℕ) → Type 0
+InfoPrints (Ok blocks) old new = Appends old new (info_text blocks)
+InfoPrints (Err fault) old new = ⊥
+
+-- A run of a script that told something: its lines' text, and their number as the exit status.
+abbrev pub Tells : List BlockMaps → Result (List Line) ScriptFault → Option (List ℕ) → Option (List ℕ) → ℕ → Type 0
+Tells units (Ok lines) old new status = Appends old new (told units lines).0 × (status ≡ (told units lines).1)
+Tells units (Err fault) old new status = ⊥
+
+-- A run that reads a script for so many clients: the script's own fault, where its bytes are known; the reader's, where
+-- that can fail; want of memory.
+abbrev pub ScriptGivesUp : ℕ → Option (List ℕ) → Bool → RunFault → Type 0
+ScriptGivesUp clients left can_fail (Image fault) = ⊥
+ScriptGivesUp clients left can_fail ImageFile = ⊥
+ScriptGivesUp clients left can_fail (Script fault) = IfSome left (λ bytes. script clients bytes ≡ Err fault)
+ScriptGivesUp clients left can_fail ScriptFile = IsTrue can_fail
+ScriptGivesUp clients left can_fail NoMemory = ⊤
+
+-- A run that prints too: nothing was written at the script's own fault.
+abbrev pub ReplayGivesUp : ℕ → Option (List ℕ) → Bool → Bool → Option (List ℕ) → Option (List ℕ) → RunFault → Type 0
+ReplayGivesUp clients left can_read_fail can_write_fail old new (Image fault) = ⊥
+ReplayGivesUp clients left can_read_fail can_write_fail old new ImageFile = ⊥
+ReplayGivesUp clients left can_read_fail can_write_fail old new (Script fault) = IfSome left (λ bytes. script clients bytes ≡ Err fault) × Keeps old new
+ReplayGivesUp clients left can_read_fail can_write_fail old new ScriptFile = IsTrue can_read_fail ⊎ IsTrue can_write_fail
+ReplayGivesUp clients left can_read_fail can_write_fail old new NoMemory = ⊤
+
+-- the exit status of a fault
+abbrev pub status_of : RunFault → ℕ
+status_of (Image fault) = 3
+status_of ImageFile = 3
+status_of (Script fault) = 3
+status_of ScriptFile = 3
+status_of NoMemory = 4
+
+-- a fault of an image's file, as the run tells it
+abbrev pub file_fault : StreamFault → RunFault
+file_fault StreamNoMemory = NoMemory
+file_fault File = ImageFile
+
+-- a fault of standard output or of a script's reader, as the run tells it
+abbrev pub output_fault : StreamFault → RunFault
+output_fault StreamNoMemory = NoMemory
+output_fault File = ScriptFile

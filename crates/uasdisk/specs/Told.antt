@@ -1,0 +1,190 @@
+-- What a script tells: the text that its run prints, and a number.
+use Rattle.std.specs.Prelude.{ℕ, zero, suc, ◌+◌, ◌*◌, Bool, true, false, ◌||◌, if◌then◌else◌, List, [], ◌∷◌, ◌++◌, length, fold, replicate, slice_get, slice_set, slice_index_or, Option, Some, None, Result, Ok, Err}
+use Rattle.block_unit.specs.BlockMaps.{BlockMaps, fresh}
+use Rattle.scsi_cmd.specs.declared.Op.{Op}
+use Rattle.scsi_cmd.specs.declared.Command.{Command}
+use Rattle.scsi_cmd.specs.declared.Direction.{Direction}
+use Rattle.scsi_cmd.specs.declared.Direction.TheVariants.{Nothing, ToHost, ToDevice}
+use Rattle.scsi_cmd.specs.declared.Reply.{Reply}
+use Rattle.scsi_cmd.specs.declared.Reply.TheVariants.{Status as StatusReply, Aborted as AbortedReply, Task as TaskReply}
+use Rattle.scsi_cmd.specs.Op.{moved_bytes, direction_of}
+use Rattle.tag_range.specs.declared.Refused.{Refused}
+use Rattle.tag_range.specs.Tags.{ClientTags, opening as opening_tags, issue, free, is_issued}
+use Rattle.bus_core.specs.declared.Step.{Step}
+use Rattle.bus_core.specs.declared.Step.TheVariants as step
+use Rattle.bus_core.specs.declared.Refusal.{Refusal}
+use Rattle.bus_core.specs.declared.Outcome.{Outcome}
+use Rattle.bus_core.specs.Shared.{Shared, opening, due, shared_step}
+use Rattle.bus_core.specs.Drain.{drained}
+use Rattle.uasdisk.specs.declared.script.Request.{Request}
+use Rattle.uasdisk.specs.declared.script.Line.{Line}
+use Rattle.uasdisk.specs.declared.script.Line.TheVariants as line
+use Rattle.uasdisk.specs.Printed.{reply_line, is_failure, refused_name, fault_name, refusal_line, idle_line}
+
+-- tags of a client, the last one for task management
+abbrev pub tags_each : ℕ
+tags_each = 8
+
+-- a drain takes so many steps at most
+abbrev pub drain_limit : ℕ
+drain_limit = 100000
+
+-- A run of a script: the shared machine, each client's tags, for each tag whether its last command moves data to the
+-- host, the text so far, and whether it told a check, an abort or a refusal.
+pub record Told : Type 0 where
+  pub machine : Shared
+  pub ranges : List ClientTags
+  pub brings_in : List Bool
+  pub text : List ℕ
+  pub failed : Bool
+
+-- so many units of zeroed blocks
+abbrev pub zeroed_units : ℕ → ℕ → List BlockMaps
+zeroed_units clients blocks = replicate clients (fresh blocks [])
+
+-- the tags of the clients below this number, none of them out
+abbrev pub opening_ranges : ℕ → List ClientTags
+opening_ranges zero = []
+opening_ranges (suc client) = opening_ranges client ++ opening_tags tags_each client ∷ []
+
+-- the run before its first line
+abbrev pub opening_run : List BlockMaps → Told
+opening_run units = record {
+  machine = opening units;
+  ranges = opening_ranges (length units);
+  brings_in = replicate (tags_each * length units + 1) false;
+  text = [];
+  failed = false;
+}
+
+-- the machine after a step, and what came of it
+unfoldable pub step_of : Shared → Step → Shared × Outcome
+step_of machine step = shared_step machine step
+
+unfoldable pub is_due : Shared → Step → Bool
+is_due machine step = due machine step
+
+-- the machine after a drain
+unfoldable pub drained_machine : Shared → Shared
+drained_machine machine = (drained machine drain_limit).state
+
+-- SUBMISSIONS
+
+abbrev pub is_to_host : Direction → Bool
+is_to_host Nothing = false
+is_to_host ToHost = true
+is_to_host ToDevice = false
+
+-- the operation, with a buffer of the fill byte, as long as what it moves
+abbrev pub command_of : Request → Command
+command_of request = record { op = request.op; buffer = replicate (moved_bytes request.op) request.fill }
+
+-- a refusal prints its name and is a failure
+abbrev pub refused_run : Told → ℕ → List ℕ → Told
+refused_run run client name = record run { text = run.text ++ refusal_line client name; failed = true }
+
+-- a tag that is out is freed
+abbrev pub freed_tags : ClientTags → ℕ → ClientTags
+freed_tags tags tag = if is_issued tags_each tags tag then free tags_each tags tag else tags
+
+abbrev pub freed_range : List ClientTags → ℕ → ℕ → Option ClientTags → List ClientTags
+freed_range ranges client tag None = ranges
+freed_range ranges client tag (Some tags) = slice_set ranges client (freed_tags tags tag)
+
+abbrev pub freed_run : Told → ℕ → ℕ → Told
+freed_run run client tag = record run { ranges = freed_range run.ranges client tag (slice_get run.ranges client) }
+
+-- what the bus made of a submission: its refusal skips the ticket and frees the tag
+abbrev pub handed_over : Told → ℕ → ℕ → Option Refusal → Told
+handed_over run client tag None = run
+handed_over run client tag (Some refusal) = refused_run (freed_run run client tag) client (fault_name refusal.fault)
+
+-- a submission whose client's tags gave it a tag and a ticket, or refused
+abbrev pub issued_run : Told → ℕ → Request → Result (ℕ × ℕ) Refused → Told
+issued_run run client request (Err refused) = refused_run run client (refused_name refused)
+issued_run run client request (Ok given) =
+    let after = step_of run.machine (step.Submit client given.0 given.1 (command_of request)) in
+    handed_over (record run {
+      machine = after.0;
+      brings_in = slice_set run.brings_in given.0 (is_to_host (direction_of request.op));
+    }) client given.0 after.1.refused
+
+abbrev pub with_range : Told → ℕ → ClientTags → Told
+with_range run client tags = record run { ranges = slice_set run.ranges client tags }
+
+abbrev pub submitted_by : Told → ℕ → Request → Option ClientTags → Told
+submitted_by run client request None = run
+submitted_by run client request (Some tags) =
+    issued_run (with_range run client (issue tags_each tags).0) client request (issue tags_each tags).1
+
+unfoldable pub submitted : Told → ℕ → Request → Told
+submitted run client request = submitted_by run client request (slice_get run.ranges client)
+
+-- STEPS AND REPLIES
+
+abbrev pub tag_of : Reply → ℕ
+tag_of (StatusReply tag ticket status sense buffer) = tag
+tag_of (AbortedReply tag ticket buffer) = tag
+tag_of (TaskReply tag ticket code) = tag
+
+-- a reply prints its line and frees its tag
+abbrev pub replied : Told → ℕ → Option Reply → Told
+replied run client None = run
+replied run client (Some reply) = record (freed_run run client (tag_of reply)) {
+  text = run.text ++ reply_line client (slice_index_or run.brings_in (tag_of reply) false) reply;
+  failed = run.failed || is_failure reply;
+}
+
+-- a client takes a reply, where one is ready
+unfoldable pub taken : Told → ℕ → Told
+taken run client =
+    let after = step_of run.machine (step.Take client) in
+    if is_due run.machine (step.Take client) then replied (record run { machine = after.0 }) client after.1.reply else run
+
+abbrev pub idle_run : Told → Told
+idle_run run = record run { text = run.text ++ idle_line }
+
+-- a step of the bus prints nothing where it acts
+unfoldable pub stepped : Told → Step → Told
+stepped run step = if is_due run.machine step then record run { machine = (step_of run.machine step).0 } else idle_run run
+
+-- the step Take as a line
+unfoldable pub taken_or_idle : Told → ℕ → Told
+taken_or_idle run client = if is_due run.machine (step.Take client) then taken run client else idle_run run
+
+-- a client takes its replies, so many at most
+abbrev pub taken_times : ℕ → Told → ℕ → Told
+taken_times zero run client = run
+taken_times (suc times) run client = taken (taken_times times run client) client
+
+-- A client takes its replies until none is ready: of eight tags, those are at most eight.
+unfoldable pub all_taken_by : Told → ℕ → Told
+all_taken_by run client = taken_times tags_each run client
+
+-- the clients below this number take theirs, by rising number
+abbrev pub taken_below : ℕ → Told → Told
+taken_below zero run = run
+taken_below (suc client) run = all_taken_by (taken_below client run) client
+
+unfoldable pub all_taken : Told → Told
+all_taken run = taken_below (length run.ranges) run
+
+-- the line `drain`
+unfoldable pub drained_run : Told → Told
+drained_run run = all_taken (record run { machine = drained_machine run.machine })
+
+-- SCRIPTS
+
+unfoldable pub told_line : Told → Line → Told
+told_line run (line.Submit client request) = submitted run client request
+told_line run line.CommandPipe = stepped run step.CommandPipe
+told_line run line.Event = stepped run step.Event
+told_line run (line.Data tag) = stepped run (step.Data tag)
+told_line run (line.Status tag) = stepped run (step.Status tag)
+told_line run (line.Take client) = taken_or_idle run client
+told_line run line.Drain = drained_run run
+
+-- Script meaning: the text printed for these lines on these units, and 1 where it tells a check, an abort or a refusal,
+-- else 0. A drain follows the last line.
+unfoldable pub told : List BlockMaps → List Line → List ℕ × ℕ
+told units lines = let after = drained_run (fold told_line (opening_run units) lines) in (after.text, if after.failed then 1 else 0)

@@ -1,0 +1,129 @@
+//! Image files: the bytes of a unit's blocks, in their order.
+
+ghost use Rattle.std.specs.Prelude.{◌≡◌, ℕ, ◌+◌, ◌-◌, ◌*◌, ◌≤◌, ◌<◌, ◌++◌, ◌⊎◌, length, true, false, Ok, Err, IsTrue, IsErr, IfOk, IfErr, OnOk, IfSome, MatchResult};
+ghost use Rattle.std.specs.Io.KnownBytes.{Consumes, Appends, IsAtEnd};
+ghost use Rattle.std.specs.String.{string_bytes};
+ghost use Rattle.uasdisk.specs.Images.{blocks_in, info_text, made_text, made_image, max_image_bytes};
+ghost use Rattle.uasdisk.specs.Runs.{ImageGivesUp, MakeGivesUp, InfoPrints};
+
+use crate::status::{DONE, RunFault, file_fault, output_fault};
+use crate::streams::{Sink, Source, read_at_most};
+use block_unit::{BLOCK_BYTES, ImageFault, MAX_BLOCKS};
+use std::alloc::{AllocError, Global};
+use std::io::Write;
+
+/// The most bytes of an image.
+pub const MAX_IMAGE_BYTES: usize = BLOCK_BYTES * MAX_BLOCKS as usize;
+
+/// The number of blocks in an image: `TooLarge` above 65,536, else `NotWhole` where it is empty or a part is left.
+pub fn blocks_in(bytes: &[u8]) -> Result<usize, ImageFault>
+    ensures { result ≡ blocks_in bytes.now }
+{
+    if bytes.len() > MAX_IMAGE_BYTES {
+        return Err(ImageFault::TooLarge);
+    }
+    if bytes.is_empty() || bytes.len() % BLOCK_BYTES != 0 {
+        return Err(ImageFault::NotWhole);
+    }
+    Ok(bytes.len() / BLOCK_BYTES)
+}
+
+/// Reads an image: `TooLarge` once the reader gave more bytes than an image has.
+pub fn read_image<S: Source>(alloc: Global, source: &mut S) -> Result<Vec<u8>, RunFault>
+    ensures bytes { IfOk result (λ bytes. IfSome (S.left source.old) (λ left. bytes.items ≡ left)) }
+    ensures end { OnOk result (IsAtEnd (S.left source.new)) }
+    ensures bound { IfOk result (λ bytes. length bytes.items ≤ max_image_bytes) }
+    ensures fault { IfErr result (ImageGivesUp (S.left source.old) (S.can_fail source.old) false) }
+{
+    let bytes = read_at_most(alloc, source, MAX_IMAGE_BYTES + 1).map_err(file_fault)?;
+    if bytes.len() > MAX_IMAGE_BYTES {
+        return Err(RunFault::Image(ImageFault::TooLarge));
+    }
+    Ok(bytes)
+}
+
+/// Writes an image. Where that fails, the writer may have a beginning of it.
+pub fn write_image<W: Sink>(sink: &mut W, bytes: &[u8]) -> Result<(), RunFault>
+    ensures bytes { OnOk result (Appends (W.written sink.old) (W.written sink.new) bytes.now) }
+    ensures fault { IfErr result (MakeGivesUp (W.can_fail sink.old) false) }
+{
+    sink.write(bytes).map_err(file_fault)
+}
+
+/// The run `info`: reads an image and prints `blocks N last L`. It answers the exit status.
+pub fn run_info<S: Source, O: Sink, W: Write>(
+    alloc: Global,
+    source: &mut S,
+    output: &mut O,
+    faults: &mut W,
+) -> u8
+    ensures statuses { (result ≡ 0) ⊎ ((result ≡ 3) ⊎ (result ≡ 4)) }
+    ensures done { result ≡ 0 → IfSome (S.left source.old) (λ bytes.
+        InfoPrints (blocks_in bytes) (O.written output.old) (O.written output.new)) }
+    ensures fault { result ≡ 3 → IfSome (S.left source.old) (λ bytes. IsErr (blocks_in bytes))
+        ⊎ (IsTrue (S.can_fail source.old) ⊎ IsTrue (O.can_fail output.old)) }
+{
+    match info(alloc, source, output) {
+        Ok(()) => DONE,
+        Err(fault) => fault.tell(faults),
+    }
+}
+
+fn info<S: Source, O: Sink>(alloc: Global, source: &mut S, output: &mut O) -> Result<(), RunFault>
+    ensures done { OnOk result (IfSome (S.left source.old) (λ bytes.
+        InfoPrints (blocks_in bytes) (O.written output.old) (O.written output.new))) }
+    ensures fault { IfErr result (ImageGivesUp (S.left source.old) (S.can_fail source.old) (O.can_fail output.old)) }
+{
+    let bytes = read_image(alloc, source)?;
+    let blocks = blocks_in(&bytes).map_err(RunFault::Image)?;
+    let text = info_text(alloc, blocks).map_err(|_| RunFault::NoMemory)?;
+    output.write(text.as_bytes()).map_err(output_fault)
+}
+
+/// `blocks N last L`.
+fn info_text(alloc: Global, blocks: usize) -> Result<String, AllocError>
+    requires { 0 < blocks }
+    ensures { IfOk result (λ text. string_bytes text ≡ info_text blocks) }
+{
+    let last = blocks - 1;
+    format!(in alloc; "blocks {blocks} last {last}\n")
+}
+
+/// The run `make`: writes an image of `blocks` zeroed blocks, 1 to 65,536, and prints `made N`. It answers the exit
+/// status.
+pub fn run_make<I: Sink, O: Sink, W: Write>(
+    alloc: Global,
+    blocks: u32,
+    image: &mut I,
+    output: &mut O,
+    faults: &mut W,
+) -> u8
+    requires some { 1 ≤ blocks }
+    requires most { blocks ≤ 65536 }
+    ensures statuses { (result ≡ 0) ⊎ ((result ≡ 3) ⊎ (result ≡ 4)) }
+    ensures image { result ≡ 0 → Appends (I.written image.old) (I.written image.new) (made_image blocks) }
+    ensures output { result ≡ 0 → Appends (O.written output.old) (O.written output.new) (made_text blocks) }
+    ensures fault { result ≡ 3 → IsTrue (I.can_fail image.old) ⊎ IsTrue (O.can_fail output.old) }
+{
+    match make(alloc, blocks, image, output) {
+        Ok(()) => DONE,
+        Err(fault) => fault.tell(faults),
+    }
+}
+
+fn make<I: Sink, O: Sink>(
+    alloc: Global,
+    blocks: u32,
+    image: &mut I,
+    output: &mut O,
+) -> Result<(), RunFault>
+    requires most { blocks ≤ 65536 }
+    ensures image { OnOk result (Appends (I.written image.old) (I.written image.new) (made_image blocks)) }
+    ensures output { OnOk result (Appends (O.written output.old) (O.written output.new) (made_text blocks)) }
+    ensures fault { IfErr result (MakeGivesUp (I.can_fail image.old) (O.can_fail output.old)) }
+{
+    let bytes = vec![in alloc; 0; BLOCK_BYTES * blocks as usize].map_err(|_| RunFault::NoMemory)?;
+    let text = format!(in alloc; "made {blocks}\n").map_err(|_| RunFault::NoMemory)?;
+    write_image(image, &bytes)?;
+    output.write(text.as_bytes()).map_err(output_fault)
+}

@@ -1,0 +1,357 @@
+//! A script's run: its lines in turn, over the bus and each client's tags.
+
+ghost use Rattle.std.specs.Prelude.{◌≡◌, ℕ, ◌+◌, ◌*◌, ◌≤◌, ◌<◌, ◌^◌, Bool, List, length, fold, IfOk, OnOk, vec_len};
+ghost use Rattle.scsi_cmd.specs.Op.{direction_of};
+ghost use Rattle.uasdisk.specs.Told.{zeroed_units, opening_ranges, tag_of, command_of, is_to_host, told};
+
+use crate::printed;
+use crate::script::{Line, Request};
+use crate::status::{COMMAND_FAILED, DONE};
+use block_unit::Unit;
+use bus_core::{Bus, Outcome, Refusal, Step};
+use scsi_cmd::{Buffer, Command, Direction, Op, Reply, moves};
+use std::alloc::{AllocError, Global};
+use std::marker::Model;
+use tag_range::TagRange;
+
+/// Tags of a client, the last one for task management.
+const TAGS: usize = 8;
+
+/// The most steps of a drain.
+const DRAIN_LIMIT: usize = 100_000;
+
+/// A script's run.
+#[derive(Drop)]
+pub struct ScriptRun {
+    alloc: Global,
+    bus: Bus,
+    ranges: Vec<TagRange<8>>,
+    // For each tag, whether its last command moves data to the host.
+    brings_in: Vec<bool>,
+    text: Vec<u8>,
+    // Whether it told a check, an abort or a refusal.
+    failed: bool,
+}
+
+impl Model for ScriptRun {
+    ghost use Rattle.uasdisk.specs.Told.{Told};
+
+    ghost Value = { Told };
+
+    ghost view = { λ run. record {
+      machine = run.bus;
+      ranges = run.ranges.items;
+      brings_in = run.brings_in.items;
+      text = run.text.items;
+      failed = run.failed;
+    } };
+}
+
+impl ScriptRun {
+    ghost use Rattle.uasdisk.specs.Told.{Told, zeroed_units, opening_run, step_of, is_due, drained_machine, refused_run, freed_run, handed_over, issued_run, submitted, replied, taken, idle_run, stepped, taken_or_idle, all_taken_by, all_taken, drained_run, told_line};
+
+    /// The run before its first line, of 1 to 31 clients on units of 1 to 65,536 zeroed blocks.
+    pub fn new(alloc: Global, clients: usize, blocks: u32) -> Result<ScriptRun, AllocError>
+        requires some_clients { 1 ≤ clients }
+        requires most_clients { clients ≤ 31 }
+        requires some_blocks { 1 ≤ blocks }
+        requires most_blocks { blocks ≤ 65536 }
+        ensures { IfOk result (λ run. run ≡ opening_run (zeroed_units clients blocks)) }
+    {
+        Ok(ScriptRun {
+            alloc,
+            bus: Bus::new(alloc, zeroed_units(alloc, clients, blocks)?)?,
+            ranges: opening_ranges(alloc, clients)?,
+            brings_in: vec![in alloc; false; TAGS * clients + 1]?,
+            text: Vec::new(alloc),
+            failed: false,
+        })
+    }
+
+    /// One step of the bus, due or not.
+    #[tactic(auto, unfolding(crate::specs::Told::step_of))]
+    fn act(&mut self, step: Step) -> Outcome
+        ensures outcome { result ≡ (step_of self.old.machine step).1 }
+        ensures run { self.new ≡ record self.old { machine = (step_of self.old.machine step).0 } }
+    {
+        self.bus.step(step)
+    }
+
+    /// Whether a step of the bus is due.
+    #[tactic(auto, unfolding(crate::specs::Told::is_due))]
+    fn is_due(&self, step: &Step) -> bool
+        ensures { result ≡ is_due self.now.machine step.now }
+    {
+        self.bus.due(step)
+    }
+
+    /// Steps of the bus until none acts.
+    #[tactic(auto, unfolding(crate::specs::Told::drained_machine))]
+    fn act_all(&mut self)
+        ensures { self.new ≡ record self.old { machine = drained_machine self.old.machine } }
+    {
+        let _ = self.bus.drain(DRAIN_LIMIT);
+    }
+
+    /// Prints a refusal.
+    fn refuse(&mut self, client: usize, name: &str) -> Result<(), AllocError>
+        ensures { OnOk result (self.new ≡ refused_run self.old client name.now) }
+    {
+        self.failed = true;
+        printed::push_refusal(self.alloc, &mut self.text, client, name)
+    }
+
+    /// Frees a tag that is out.
+    fn free(&mut self, client: usize, tag: u16)
+        ensures { self.new ≡ freed_run self.old client tag }
+    {
+        if let Some(range) = self.ranges.get_mut(client) {
+            if range.is_issued(tag) {
+                range.free(tag);
+            }
+        }
+    }
+
+    /// Prints a reply and frees its tag.
+    fn reply(&mut self, client: usize, reply: &Reply) -> Result<(), AllocError>
+        ensures { OnOk result (self.new ≡ replied self.old client (Some reply.now)) }
+    {
+        let tag = tag_of(reply);
+        let brings_in = self.brings_in.get(tag as usize).copied().unwrap_or(false);
+        printed::push_reply(self.alloc, &mut self.text, client, brings_in, reply)?;
+        self.failed = self.failed || printed::is_failure(reply);
+        self.free(client, tag);
+        Ok(())
+    }
+
+    /// Prints that a step wasn't due.
+    fn idle(&mut self) -> Result<(), AllocError>
+        ensures { OnOk result (self.new ≡ idle_run self.old) }
+    {
+        printed::push_idle(&mut self.text)
+    }
+
+    /// One step of the bus.
+    #[tactic(auto, unfolding(crate::specs::Told::stepped))]
+    fn step(&mut self, step: Step) -> Result<(), AllocError>
+        ensures { OnOk result (self.new ≡ stepped self.old step) }
+    {
+        if !self.is_due(&step) {
+            return self.idle();
+        }
+        let _ = self.act(step);
+        Ok(())
+    }
+
+    /// A submission: the client's tags give it a tag and a ticket, or refuse it.
+    #[tactic(auto, unfolding(crate::specs::Told::submitted))]
+    fn submit(&mut self, client: usize, request: Request) -> Result<(), AllocError>
+        ensures { OnOk result (self.new ≡ submitted self.old client request) }
+    {
+        let Some(range) = self.ranges.get_mut(client) else {
+            return Ok(());
+        };
+        match range.issue() {
+            Ok((tag, ticket)) => self.hand_over(client, tag, ticket, request),
+            Err(refused) => self.refuse(client, printed::refused_name(refused)),
+        }
+    }
+
+    /// Hands a submission to the bus.
+    fn hand_over(
+        &mut self,
+        client: usize,
+        tag: u16,
+        ticket: u64,
+        request: Request,
+    ) -> Result<(), AllocError>
+        requires { ticket < 2 ^ 60 }
+        ensures { OnOk result (self.new ≡ issued_run self.old client request (Ok (tag, ticket))) }
+    {
+        let command = command_of(self.alloc, request)?;
+        if let Some(brings_in) = self.brings_in.get_mut(tag as usize) {
+            *brings_in = is_to_host(&request.op);
+        }
+        let Outcome { refused, .. } = self.act(Step::Submit {
+            client,
+            tag,
+            ticket,
+            command,
+        });
+        self.hear(client, tag, refused)
+    }
+
+    /// What the bus made of a submission: where it refused it, the ticket is skipped and the tag freed.
+    fn hear(&mut self, client: usize, tag: u16, refused: Option<Refusal>) -> Result<(), AllocError>
+        ensures { OnOk result (self.new ≡ handed_over self.old client tag refused) }
+    {
+        let Some(refusal) = refused else {
+            return Ok(());
+        };
+        self.free(client, tag);
+        self.refuse(client, printed::fault_name(refusal.fault))
+    }
+
+    /// A client takes a reply, where one is ready.
+    #[tactic(auto, unfolding(crate::specs::Told::taken))]
+    fn take(&mut self, client: usize) -> Result<(), AllocError>
+        ensures { OnOk result (self.new ≡ taken self.old client) }
+    {
+        if !self.is_due(&Step::Take(client)) {
+            return Ok(());
+        }
+        let Outcome { reply, .. } = self.act(Step::Take(client));
+        match reply {
+            Some(reply) => self.reply(client, &reply),
+            None => Ok(()),
+        }
+    }
+
+    /// The step Take as a line.
+    #[tactic(auto, unfolding(crate::specs::Told::taken_or_idle))]
+    fn take_or_idle(&mut self, client: usize) -> Result<(), AllocError>
+        ensures { OnOk result (self.new ≡ taken_or_idle self.old client) }
+    {
+        if self.is_due(&Step::Take(client)) {
+            self.take(client)
+        } else {
+            self.idle()
+        }
+    }
+
+    /// A client takes its replies until none is ready.
+    #[tactic(auto, unfolding(crate::specs::Told::all_taken_by))]
+    fn take_all_of(&mut self, client: usize) -> Result<(), AllocError>
+        ensures { OnOk result (self.new ≡ all_taken_by self.old client) }
+    {
+        for turn in 0..TAGS {
+            self.take(client)?;
+        }
+        Ok(())
+    }
+
+    /// Clients take their replies, by rising number.
+    #[tactic(auto, unfolding(crate::specs::Told::all_taken))]
+    fn take_all(&mut self) -> Result<(), AllocError>
+        ensures { OnOk result (self.new ≡ all_taken self.old) }
+    {
+        for client in 0..self.ranges.len() {
+            self.take_all_of(client)?;
+        }
+        Ok(())
+    }
+
+    /// A drain, then every reply.
+    #[tactic(auto, unfolding(crate::specs::Told::drained_run))]
+    fn drain(&mut self) -> Result<(), AllocError>
+        ensures { OnOk result (self.new ≡ drained_run self.old) }
+    {
+        self.act_all();
+        self.take_all()
+    }
+
+    /// Runs one line.
+    #[tactic(auto, unfolding(crate::specs::Told::told_line))]
+    fn line(&mut self, line: Line) -> Result<(), AllocError>
+        ensures { OnOk result (self.new ≡ told_line self.old line) }
+    {
+        match line {
+            Line::Submit { client, request } => self.submit(client, request),
+            Line::CommandPipe => self.step(Step::CommandPipe),
+            Line::Event => self.step(Step::Event),
+            Line::Data(tag) => self.step(Step::Data(tag)),
+            Line::Status(tag) => self.step(Step::Status(tag)),
+            Line::Take(client) => self.take_or_idle(client),
+            Line::Drain => self.drain(),
+        }
+    }
+
+    /// Runs lines in their order.
+    fn lines(&mut self, lines: &[Line]) -> Result<(), AllocError>
+        ensures { OnOk result (self.new ≡ fold told_line self.old lines.now) }
+    {
+        for line in lines {
+            self.line(*line)?;
+        }
+        Ok(())
+    }
+}
+
+/// So many units of zeroed blocks.
+fn zeroed_units(alloc: Global, clients: usize, blocks: u32) -> Result<Vec<Unit>, AllocError>
+    requires some { 1 ≤ blocks }
+    requires most { blocks ≤ 65536 }
+    ensures { IfOk result (λ units. units.items ≡ zeroed_units clients blocks) }
+{
+    let mut units = Vec::new(alloc);
+    for _ in 0..clients {
+        units.push(Unit::new(alloc, blocks, Vec::new(alloc))?)?;
+    }
+    Ok(units)
+}
+
+/// The tags of so many clients, none of them out.
+fn opening_ranges(alloc: Global, clients: usize) -> Result<Vec<TagRange<8>>, AllocError>
+    requires { clients ≤ 31 }
+    ensures { IfOk result (λ ranges. ranges.items ≡ opening_ranges clients) }
+{
+    let mut ranges = Vec::new(alloc);
+    for client in 0..clients {
+        ranges.push(TagRange::new(client as u8))?;
+    }
+    Ok(ranges)
+}
+
+/// The tag that a reply brings back.
+fn tag_of(reply: &Reply) -> u16
+    ensures { result ≡ tag_of reply.now }
+{
+    match reply {
+        Reply::Status { tag, .. } | Reply::Aborted { tag, .. } | Reply::Task { tag, .. } => *tag,
+    }
+}
+
+/// Whether an operation moves data to the host.
+fn is_to_host(op: &Op) -> bool
+    ensures { result ≡ is_to_host (direction_of op.now) }
+{
+    match moves(op).0 {
+        Direction::ToHost => true,
+        Direction::Nothing | Direction::ToDevice => false,
+    }
+}
+
+/// The command of a request, with its buffer filled.
+fn command_of(alloc: Global, request: Request) -> Result<Command, AllocError>
+    ensures { IfOk result (λ command. command ≡ command_of request) }
+{
+    let bytes = vec![in alloc; request.fill; moves(&request.op).1]?;
+    let buffer = Buffer::from_vec(bytes);
+    Ok(Command {
+        op: request.op,
+        buffer,
+    })
+}
+
+/// What lines tell on zeroed units: the text, and 1 where it tells a check, an abort or a refusal, else 0.
+#[tactic(auto, unfolding(crate::specs::Told::told))]
+pub fn told(
+    alloc: Global,
+    clients: usize,
+    blocks: u32,
+    lines: &[Line],
+) -> Result<(Vec<u8>, u8), AllocError>
+    requires some_clients { 1 ≤ clients }
+    requires most_clients { clients ≤ 31 }
+    requires some_blocks { 1 ≤ blocks }
+    requires most_blocks { blocks ≤ 65536 }
+    ensures text { IfOk result (λ given. given.0.items ≡ (told (zeroed_units clients blocks) lines.now).0) }
+    ensures status { IfOk result (λ given. given.1 ≤ 1) }
+    ensures number { IfOk result (λ given. given.1 ≡ (told (zeroed_units clients blocks) lines.now).1) }
+{
+    let mut run = ScriptRun::new(alloc, clients, blocks)?;
+    run.lines(lines)?;
+    run.drain()?;
+    let ScriptRun { text, failed, .. } = run;
+    Ok((text, if failed { COMMAND_FAILED } else { DONE }))
+}

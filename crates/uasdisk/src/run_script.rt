@@ -1,0 +1,101 @@
+//! The run `replay`: a script from a reader, and what it tells to a writer.
+
+ghost use Rattle.std.specs.Prelude.{◌≡◌, ℕ, ◌+◌, ◌≤◌, ◌<◌, ◌⊎◌, length, true, Ok, Err, IsTrue, IsErr, IfOk, IfErr, OnOk, IfSome};
+ghost use Rattle.std.specs.Io.KnownBytes.{Consumes, Appends, Keeps, IsAtEnd};
+ghost use Rattle.uasdisk.specs.Script.{script};
+ghost use Rattle.uasdisk.specs.Told.{told, zeroed_units};
+ghost use Rattle.uasdisk.specs.Runs.{Tells, ScriptGivesUp, ReplayGivesUp};
+
+use crate::replay::told;
+use crate::script::{Line, MAX_SCRIPT_BYTES, ScriptFault, parse_script};
+use crate::status::{RunFault, output_fault};
+use crate::streams::{Sink, Source, read_at_most};
+use std::alloc::Global;
+use std::io::Write;
+
+/// The run `replay`: reads a script of 1 to 31 clients and runs it on units of 1 to 65,536 zeroed blocks. The whole script
+/// is read before anything is run. It answers the exit status: 1 where a command ended other than GOOD or was refused,
+/// 3 at a fault of the script, the reader or the writer, 4 for want of memory, else 0.
+pub fn run_script<S: Source, O: Sink, W: Write>(
+    alloc: Global,
+    clients: usize,
+    blocks: u32,
+    reader: &mut S,
+    writer: &mut O,
+    faults: &mut W,
+) -> u8
+    requires some_clients { 1 ≤ clients }
+    requires most_clients { clients ≤ 31 }
+    requires some_blocks { 1 ≤ blocks }
+    requires most_blocks { blocks ≤ 65536 }
+    ensures statuses { (result ≤ 1) ⊎ ((result ≡ 3) ⊎ (result ≡ 4)) }
+    ensures told { result ≤ 1 → IfSome (S.left reader.old) (λ bytes.
+        Tells (zeroed_units clients blocks) (script clients bytes) (O.written writer.old) (O.written writer.new) result) }
+    ensures read { result ≤ 1 → IsAtEnd (S.left reader.new) }
+    ensures fault { result ≡ 3 →
+        (IfSome (S.left reader.old) (λ bytes. IsErr (script clients bytes)) × Keeps (O.written writer.old) (O.written writer.new))
+        ⊎ (IsTrue (S.can_fail reader.old) ⊎ IsTrue (O.can_fail writer.old)) }
+{
+    match tell_script(alloc, clients, blocks, reader, writer) {
+        Ok(status) => status,
+        Err(fault) => fault.tell(faults),
+    }
+}
+
+fn tell_script<S: Source, O: Sink>(
+    alloc: Global,
+    clients: usize,
+    blocks: u32,
+    reader: &mut S,
+    writer: &mut O,
+) -> Result<u8, RunFault>
+    requires some_clients { 1 ≤ clients }
+    requires most_clients { clients ≤ 31 }
+    requires some_blocks { 1 ≤ blocks }
+    requires most_blocks { blocks ≤ 65536 }
+    ensures status { IfOk result (λ status. status ≤ 1) }
+    ensures told { IfOk result (λ status. IfSome (S.left reader.old) (λ bytes.
+        Tells (zeroed_units clients blocks) (script clients bytes) (O.written writer.old) (O.written writer.new) status)) }
+    ensures read { OnOk result (IsAtEnd (S.left reader.new)) }
+    ensures fault { IfErr result (ReplayGivesUp clients (S.left reader.old) (S.can_fail reader.old) (O.can_fail writer.old)
+        (O.written writer.old) (O.written writer.new)) }
+{
+    let lines = read_script(alloc, clients, reader)?;
+    let (text, status) = told(alloc, clients, blocks, &lines).map_err(|_| RunFault::NoMemory)?;
+    writer.write(&text).map_err(output_fault)?;
+    Ok(status)
+}
+
+/// Reads a script for so many clients, 1 to 31.
+pub fn read_script<S: Source>(
+    alloc: Global,
+    clients: usize,
+    reader: &mut S,
+) -> Result<Vec<Line>, RunFault>
+    requires some_clients { 1 ≤ clients }
+    requires most_clients { clients ≤ 31 }
+    ensures lines { IfOk result (λ lines. IfSome (S.left reader.old) (λ bytes. script clients bytes ≡ Ok lines.items)) }
+    ensures read { OnOk result (IsAtEnd (S.left reader.new)) }
+    ensures fault { IfErr result (ScriptGivesUp clients (S.left reader.old) (S.can_fail reader.old)) }
+{
+    let text = read_text(alloc, reader)?;
+    match parse_script(alloc, clients, &text) {
+        Ok(Ok(lines)) => Ok(lines),
+        Ok(Err(fault)) => Err(RunFault::Script(fault)),
+        Err(_) => Err(RunFault::NoMemory),
+    }
+}
+
+/// Reads the text of a script: too long once the reader gave more bytes than a script has.
+#[tactic(auto, unfolding(crate::specs::Script::script))]
+fn read_text<S: Source>(alloc: Global, reader: &mut S) -> Result<Vec<u8>, RunFault>
+    ensures bytes { IfOk result (λ text. IfSome (S.left reader.old) (λ bytes. text.items ≡ bytes)) }
+    ensures read { OnOk result (IsAtEnd (S.left reader.new)) }
+    ensures fault { (clients : ℕ) → IfErr result (ScriptGivesUp clients (S.left reader.old) (S.can_fail reader.old)) }
+{
+    let text = read_at_most(alloc, reader, MAX_SCRIPT_BYTES + 1).map_err(output_fault)?;
+    if text.len() > MAX_SCRIPT_BYTES {
+        return Err(RunFault::Script(ScriptFault::TooLong));
+    }
+    Ok(text)
+}

@@ -1,0 +1,268 @@
+//! What the words of a line ask for.
+
+ghost use Rattle.std.specs.Prelude.{◌≡◌, ℕ, ◌≤◌, ◌<◌, map, IfSome, length};
+ghost use Rattle.std.specs.Str.{bytes_eq};
+ghost use Rattle.uasdisk.specs.Script.{number_at, fua_at, client_at, tag_at, lba_at, count_at, byte_at, request_named, request_has, zeroed, request_of, submission_of, submission, step_named, step_has, step_of, named_step, line_of_words};
+
+use super::words::{is_number, number_in};
+use super::{Line, LineFault, Request, RequestName, StepName};
+use scsi_cmd::Op;
+
+/// The greatest tag.
+const MAX_TAG: u32 = 248;
+
+fn is_word(word: &[u8], name: &str) -> bool
+    ensures { result ≡ bytes_eq word.now name.now }
+{
+    word == name.as_bytes()
+}
+
+/// The word at a place, as a number of this range.
+fn number_at(words: &[&[u8]], place: usize, least: u32, most: u32) -> Option<u32>
+    ensures value { result ≡ number_at (map (λ word. word.now) words.now) place least most }
+    ensures range { IfSome result (λ value. value ≤ most) }
+{
+    number_in(least, most, words.get(place)?)
+}
+
+/// The word at a place, as the number of one of so many clients.
+fn client_at(clients: usize, words: &[&[u8]], place: usize) -> Option<usize>
+    requires few { clients ≤ 31 }
+    requires some { 0 < clients }
+    ensures { result ≡ client_at clients (map (λ word. word.now) words.now) place }
+{
+    let client = number_at(words, place, 0, clients as u32 - 1)?;
+    Some(client as usize)
+}
+
+/// The word at a place, as a tag.
+fn tag_at(words: &[&[u8]], place: usize) -> Option<u16>
+    ensures { result ≡ tag_at (map (λ word. word.now) words.now) place }
+{
+    let tag = number_at(words, place, 1, MAX_TAG)?;
+    Some(tag as u16)
+}
+
+/// The word at a place, as a block number.
+fn lba_at(words: &[&[u8]], place: usize) -> Option<u32>
+    ensures { result ≡ lba_at (map (λ word. word.now) words.now) place }
+{
+    number_at(words, place, 0, u32::MAX)
+}
+
+/// The word at a place, as a count of blocks or bytes.
+fn count_at(words: &[&[u8]], place: usize) -> Option<u16>
+    ensures { result ≡ count_at (map (λ word. word.now) words.now) place }
+{
+    let count = number_at(words, place, 0, u32::from(u16::MAX))?;
+    Some(count as u16)
+}
+
+/// The word at a place, as a byte.
+fn byte_at(words: &[&[u8]], place: usize) -> Option<u8>
+    ensures { result ≡ byte_at (map (λ word. word.now) words.now) place }
+{
+    let byte = number_at(words, place, 0, u32::from(u8::MAX))?;
+    Some(byte as u8)
+}
+
+/// Whether the word at a place is `fua`, where there is one; no other word may stand there.
+fn fua_at(words: &[&[u8]], place: usize) -> Option<bool>
+    ensures { result ≡ fua_at (map (λ word. word.now) words.now) place }
+{
+    match words.get(place) {
+        None => Some(false),
+        Some(word) if is_word(word, "fua") => Some(true),
+        Some(_) => None,
+    }
+}
+
+/// The request of this name.
+fn request_named(word: &[u8]) -> Option<RequestName>
+    ensures { result ≡ request_named word.now }
+{
+    if is_word(word, "tur") {
+        Some(RequestName::Tur)
+    } else if is_word(word, "inquiry") {
+        Some(RequestName::Inquiry)
+    } else if is_word(word, "capacity") {
+        Some(RequestName::Capacity)
+    } else if is_word(word, "read") {
+        Some(RequestName::Read)
+    } else if is_word(word, "write") {
+        Some(RequestName::Write)
+    } else if is_word(word, "sync") {
+        Some(RequestName::Sync)
+    } else {
+        None
+    }
+}
+
+impl RequestName {
+    /// Whether its line may have so many words.
+    fn request_has(self, count: usize) -> bool
+        ensures { result ≡ request_has self count }
+    {
+        match self {
+            RequestName::Tur | RequestName::Capacity => count == 2,
+            RequestName::Inquiry => count == 3,
+            RequestName::Read => count == 4 || count == 5,
+            RequestName::Write => count == 5 || count == 6,
+            RequestName::Sync => count == 4,
+        }
+    }
+}
+
+/// What the words ask for, where each number is in its range.
+fn request_of(name: RequestName, words: &[&[u8]]) -> Option<Request>
+    ensures { result ≡ request_of name (map (λ word. word.now) words.now) }
+{
+    match name {
+        RequestName::Tur => Some(zeroed(Op::TestUnitReady)),
+        RequestName::Inquiry => {
+            let allocation = count_at(words, 2)?;
+            Some(zeroed(Op::Inquiry { allocation }))
+        }
+        RequestName::Capacity => Some(zeroed(Op::ReadCapacity)),
+        RequestName::Read => read_request(words),
+        RequestName::Write => write_request(words),
+        RequestName::Sync => {
+            let lba = lba_at(words, 2)?;
+            let count = count_at(words, 3)?;
+            Some(zeroed(Op::Sync { lba, count }))
+        }
+    }
+}
+
+fn read_request(words: &[&[u8]]) -> Option<Request>
+    ensures { result ≡ request_of RequestName.Read (map (λ word. word.now) words.now) }
+{
+    let lba = lba_at(words, 2)?;
+    let count = count_at(words, 3)?;
+    let fua = fua_at(words, 4)?;
+    Some(zeroed(Op::Read { lba, count, fua }))
+}
+
+fn write_request(words: &[&[u8]]) -> Option<Request>
+    ensures { result ≡ request_of RequestName.Write (map (λ word. word.now) words.now) }
+{
+    let lba = lba_at(words, 2)?;
+    let count = count_at(words, 3)?;
+    let fill = byte_at(words, 4)?;
+    let fua = fua_at(words, 5)?;
+    Some(Request {
+        op: Op::Write { lba, count, fua },
+        fill,
+    })
+}
+
+/// An operation whose buffer is zeroed.
+fn zeroed(op: Op) -> Request
+    ensures { result ≡ zeroed op }
+{
+    Request { op, fill: 0 }
+}
+
+/// What a line asks for whose first word is a number.
+fn submission(clients: usize, words: &[&[u8]]) -> Result<Line, LineFault>
+    requires few { clients ≤ 31 }
+    requires some { 0 < clients }
+    ensures { result ≡ submission clients (map (λ word. word.now) words.now) }
+{
+    let Some(word) = words.get(1) else {
+        return Err(LineFault::UnknownWord);
+    };
+    let name = request_named(word).ok_or(LineFault::UnknownWord)?;
+    if !name.request_has(words.len()) {
+        return Err(LineFault::WrongNumberOfWords);
+    }
+    submission_of(clients, name, words).ok_or(LineFault::NumberOutOfRange)
+}
+
+fn submission_of(clients: usize, name: RequestName, words: &[&[u8]]) -> Option<Line>
+    requires few { clients ≤ 31 }
+    requires some { 0 < clients }
+    ensures { result ≡ submission_of clients name (map (λ word. word.now) words.now) }
+{
+    let client = client_at(clients, words, 0)?;
+    let request = request_of(name, words)?;
+    Some(Line::Submit { client, request })
+}
+
+/// The step of this name.
+fn step_named(word: &[u8]) -> Option<StepName>
+    ensures { result ≡ step_named word.now }
+{
+    if is_word(word, "command") {
+        Some(StepName::Command)
+    } else if is_word(word, "event") {
+        Some(StepName::Event)
+    } else if is_word(word, "data") {
+        Some(StepName::Data)
+    } else if is_word(word, "status") {
+        Some(StepName::Status)
+    } else if is_word(word, "take") {
+        Some(StepName::Take)
+    } else if is_word(word, "drain") {
+        Some(StepName::Drain)
+    } else {
+        None
+    }
+}
+
+impl StepName {
+    /// How many words its line has.
+    fn words(self) -> usize
+        ensures { result ≡ step_has self }
+    {
+        match self {
+            StepName::Command | StepName::Event | StepName::Drain => 1,
+            StepName::Data | StepName::Status | StepName::Take => 2,
+        }
+    }
+}
+
+/// What a line asks for whose first word is a name.
+fn named_step(clients: usize, first: &[u8], words: &[&[u8]]) -> Result<Line, LineFault>
+    requires few { clients ≤ 31 }
+    requires some { 0 < clients }
+    ensures { result ≡ named_step clients (map (λ word. word.now) words.now) (step_named first.now) }
+{
+    let name = step_named(first).ok_or(LineFault::UnknownWord)?;
+    if words.len() != name.words() {
+        return Err(LineFault::WrongNumberOfWords);
+    }
+    step_of(clients, name, words).ok_or(LineFault::NumberOutOfRange)
+}
+
+fn step_of(clients: usize, name: StepName, words: &[&[u8]]) -> Option<Line>
+    requires few { clients ≤ 31 }
+    requires some { 0 < clients }
+    ensures { result ≡ step_of clients name (map (λ word. word.now) words.now) }
+{
+    match name {
+        StepName::Command => Some(Line::CommandPipe),
+        StepName::Event => Some(Line::Event),
+        StepName::Data => Some(Line::Data(tag_at(words, 1)?)),
+        StepName::Status => Some(Line::Status(tag_at(words, 1)?)),
+        StepName::Take => Some(Line::Take(client_at(clients, words, 1)?)),
+        StepName::Drain => Some(Line::Drain),
+    }
+}
+
+/// What the words of a line ask for: nothing where there are none.
+pub fn line_of_words(clients: usize, words: &[&[u8]]) -> Result<Option<Line>, LineFault>
+    requires few { clients ≤ 31 }
+    requires some { 0 < clients }
+    ensures { result ≡ line_of_words clients (map (λ word. word.now) words.now) }
+{
+    let Some(first) = words.get(0) else {
+        return Ok(None);
+    };
+    let line = if is_number(first) {
+        submission(clients, words)?
+    } else {
+        named_step(clients, first, words)?
+    };
+    Ok(Some(line))
+}

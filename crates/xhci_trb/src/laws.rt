@@ -1,0 +1,34 @@
+//! The laws of the texts, each the contract of a function that does nothing.
+
+ghost use Rattle.std.specs.Prelude.{◌≡◌, None};
+ghost use Rattle.byteorder.specs.Endian.{little_number};
+ghost use Rattle.xhci_trb.specs.Words.{number_of, words_in};
+ghost use Rattle.xhci_trb.specs.Text.{Fits, HasText, text, words_of, fault_in};
+ghost use Rattle.xhci_trb.specs.Reader.{trb_in, cycle_in};
+
+use crate::{Trb, decode};
+
+/// A text is one little endian number of 128 bits, the sum of the TRB's fields at their places.
+pub fn text_is_one_number(trb: &Trb, cycle: bool)
+    requires { Fits trb.now }
+    ensures { little_number 16 (text trb.now cycle) ≡ number_of (words_of trb.now cycle) }
+{}
+
+/// The reader of words gives a text's TRB and Cycle bit back.
+pub fn text_reads_back(trb: &Trb, cycle: bool)
+    requires { Fits trb.now }
+    ensures trb { trb_in (words_in (text trb.now cycle)) ≡ trb.now }
+    ensures cycle { cycle_in (words_in (text trb.now cycle)) ≡ cycle }
+{
+    let _trb = *trb;
+    let _cycle = cycle;
+}
+
+/// What the reader finds in bytes without a fault has a text, which is those bytes.
+pub fn reading_writes_back(bytes: &[u8; 16])
+    requires { fault_in (words_in bytes.now) ≡ None }
+    ensures has_text { HasText (trb_in (words_in bytes.now)) }
+    ensures bytes { text (trb_in (words_in bytes.now)) (cycle_in (words_in bytes.now)) ≡ bytes.now }
+{
+    let _read = decode(bytes);
+}

@@ -6,7 +6,7 @@ use Rattle.std.specs.Option.{option_map_or}
 use Rattle.solo_model.specs.declared.Answer.{Answer}
 use Rattle.solo_model.specs.declared.Phase.{Phase}
 use Rattle.solo_model.specs.declared.Phase.TheVariants.{Queued, Moving, Ended, Sent}
-use Rattle.solo_model.specs.TaggedTask.{sent_from, queued, status_of, carried_from}
+use Rattle.solo_model.specs.TaggedTask.{sent_from, queued, status_of}
 use Rattle.solo_model.specs.Soundness.{IsCdbOf}
 use Rattle.solo_model.proofs.Kept.{IsSound-queued}
 use Rattle.solo_model.specs.declared.Answer.TheVariants.{Good, Check}
@@ -20,10 +20,9 @@ use Rattle.bus_core.specs.declared.Td.{Td}
 use Rattle.bus_core.specs.declared.Entry.{Entry}
 use Rattle.bus_core.specs.declared.Frame.{Frame}
 use Rattle.bus_core.specs.Td.{pushed, is_seen, is_over, is_pending, is_awaited, is_data_over, is_ready, data_trbs, with_trb_taken, data_after_answer, data_after_status, left_over_data}
-use Rattle.bus_core.specs.Part.{Part, slot_tag, data_td_for, new_entry, carried_slot, carried_entry, nothing}
+use Rattle.bus_core.specs.Part.{slot_tag, data_td_for, new_entry}
 use Rattle.bus_core.specs.Wire.{request_text, answer_text, IsReceived}
 use Rattle.bus_core.specs.declared.wire.Received.{Received}
-use Rattle.bus_core.specs.declared.Place.{Place}
 use Rattle.bus_core.specs.Soundness.{IsSoundEntry, HasTds, HasAnswer, IsFramed, IsCountedEntry, waiting_of, awaited_data, one_if, is_queued, sent_held, answer_in, frame_telling, TookTrbs, TellsCheck, AsksFor, IsAnswered}
 
 both : (a b : Bool) → (a && b) ≡ true → (a ≡ true) × (b ≡ true)

@@ -64,9 +64,9 @@ step_of machine step = shared_step machine step
 unfoldable pub is_due : Shared → Step → Bool
 is_due machine step = due machine step
 
--- the machine after a drain
-unfoldable pub drained_machine : Shared → Shared
-drained_machine machine = (drained machine drain_limit).state
+-- the machine after a drain of so many steps at most
+unfoldable pub drained_machine : Shared → ℕ → Shared
+drained_machine machine limit = (drained machine limit).state
 
 -- SUBMISSIONS
 
@@ -171,7 +171,7 @@ all_taken run = taken_below (length run.ranges) run
 
 -- the line `drain`
 unfoldable pub drained_run : Told → Told
-drained_run run = all_taken (record run { machine = drained_machine run.machine })
+drained_run run = all_taken (record run { machine = drained_machine run.machine drain_limit })
 
 -- SCRIPTS
 

@@ -1,4 +1,21 @@
-//! Disks of many clients over USB Attached SCSI.
+//! The program: disks of many clients over USB Attached SCSI, from the words of a command line to an exit status.
+//!
+//! ```text
+//! uasdisk replay CLIENTS BLOCKS < script     runs a script on zeroed units, one for each client
+//! uasdisk make FILE BLOCKS                   makes an image of zeroed blocks
+//! uasdisk info FILE                          tells how many blocks an image has
+//! ```
+//!
+//! A line of a script submits a command for a client, takes one step of the bus, or drains it; what replies and refusals
+//! came of it is printed. The exit status is 0 where all went well, 1 where a command ended other than GOOD or was
+//! refused, 2 where the words are refused, 3 at a fault of a script, an image or a file, and 4 for want of memory.
+//!
+//! `main` reads the words, opens the files and calls one function for each subcommand, over readers and writers:
+//! `run_script`, `run_make` and `run_info`. What they promise is said over readers and writers that tell their bytes and
+//! whether they can fail (`streams`): the text that is written is that of `specs/Told.antt`, a fold of a script's lines over
+//! the shared machine of the bus and the tags of each client, and nothing else; a fault is answered only where there was
+//! one. Which lines a text has, or which fault, is `specs/Script.antt`. The rest is tested: the texts of faults, and the
+//! words.
 #![tactic(auto)]
 
 pub mod image;

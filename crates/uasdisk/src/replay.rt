@@ -25,7 +25,7 @@ const DRAIN_LIMIT: usize = 100_000;
 pub struct ScriptRun {
     alloc: Global,
     bus: Bus,
-    ranges: Vec<TagRange<8>>,
+    ranges: Vec<TagRange<TAGS>>,
     // For each tag, whether its last command moves data to the host.
     brings_in: Vec<bool>,
     text: Vec<u8>,
@@ -48,6 +48,7 @@ impl Model for ScriptRun {
 }
 
 impl ScriptRun {
+    ghost use Rattle.bus_core.specs.Bus.{HasTicket};
     ghost use Rattle.uasdisk.specs.Told.{Told, zeroed_units, opening_run, step_of, is_due, drained_machine, refused_run, freed_run, handed_over, issued_run, submitted, replied, taken, idle_run, stepped, taken_or_idle, all_taken_by, all_taken, drained_run, told_line};
 
     /// The run before its first line, of 1 to 31 clients on units of 1 to 65,536 zeroed blocks.
@@ -71,6 +72,7 @@ impl ScriptRun {
     /// One step of the bus, due or not.
     #[tactic(auto, unfolding(crate::specs::Told::step_of))]
     fn act(&mut self, step: Step) -> Outcome
+        requires { HasTicket step }
         ensures outcome { result ≡ (step_of self.old.machine step).1 }
         ensures run { self.new ≡ record self.old { machine = (step_of self.old.machine step).0 } }
     {
@@ -85,12 +87,12 @@ impl ScriptRun {
         self.bus.due(step)
     }
 
-    /// Steps of the bus until none acts.
+    /// Steps of the bus until none acts, or so many have acted.
     #[tactic(auto, unfolding(crate::specs::Told::drained_machine))]
-    fn act_all(&mut self)
-        ensures { self.new ≡ record self.old { machine = drained_machine self.old.machine } }
+    fn act_all(&mut self, limit: usize)
+        ensures { self.new ≡ record self.old { machine = drained_machine self.old.machine limit } }
     {
-        let _ = self.bus.drain(DRAIN_LIMIT);
+        let _ = self.bus.drain(limit);
     }
 
     /// Prints a refusal.
@@ -134,6 +136,7 @@ impl ScriptRun {
     /// One step of the bus.
     #[tactic(auto, unfolding(crate::specs::Told::stepped))]
     fn step(&mut self, step: Step) -> Result<(), AllocError>
+        requires { HasTicket step }
         ensures { OnOk result (self.new ≡ stepped self.old step) }
     {
         if !self.is_due(&step) {
@@ -246,7 +249,7 @@ impl ScriptRun {
     fn drain(&mut self) -> Result<(), AllocError>
         ensures { OnOk result (self.new ≡ drained_run self.old) }
     {
-        self.act_all();
+        self.act_all(DRAIN_LIMIT);
         self.take_all()
     }
 
@@ -291,7 +294,7 @@ fn zeroed_units(alloc: Global, clients: usize, blocks: u32) -> Result<Vec<Unit>,
 }
 
 /// The tags of so many clients, none of them out.
-fn opening_ranges(alloc: Global, clients: usize) -> Result<Vec<TagRange<8>>, AllocError>
+fn opening_ranges(alloc: Global, clients: usize) -> Result<Vec<TagRange<TAGS>>, AllocError>
     requires { clients ≤ 31 }
     ensures { IfOk result (λ ranges. ranges.items ≡ opening_ranges clients) }
 {

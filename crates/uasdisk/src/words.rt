@@ -3,9 +3,13 @@
 ghost use Rattle.std.specs.Prelude.{◌≡◌, ℕ, ◌≤◌, IfOk, IfSome};
 ghost use Rattle.uasdisk.specs.Options.{IsInRange, AreClients, AreBlocks};
 
+use block_unit::MAX_BLOCKS;
 use clap::error::ErrorKind;
 use clap::{Arg, ArgAction, ArgMatches, Command, Error};
 use std::alloc::{AllocError, Global};
+
+/// The most clients.
+const MAX_CLIENTS: u8 = 31;
 
 /// What the program is to do.
 #[derive(Clone, Copy, Debug, PartialEq, Eq)]
@@ -43,15 +47,15 @@ fn command<'a>(alloc: Global) -> Result<Command<'a>, AllocError> {
 fn replay_command<'a>(alloc: Global) -> Result<Command<'a>, AllocError> {
     Command::new(alloc, "replay")
         .about("Reads a script from standard input and runs it on zeroed units")
-        .arg(number(alloc, "CLIENTS", 31))?
-        .arg(number(alloc, "BLOCKS", 65_536))
+        .arg(number(alloc, "CLIENTS", u32::from(MAX_CLIENTS)))?
+        .arg(number(alloc, "BLOCKS", MAX_BLOCKS))
 }
 
 fn make_command<'a>(alloc: Global) -> Result<Command<'a>, AllocError> {
     Command::new(alloc, "make")
         .about("Makes an image file of zeroed blocks")
         .arg(file(alloc))?
-        .arg(number(alloc, "BLOCKS", 65_536))
+        .arg(number(alloc, "BLOCKS", MAX_BLOCKS))
 }
 
 fn info_command<'a>(alloc: Global) -> Result<Command<'a>, AllocError> {
@@ -66,11 +70,11 @@ fn file<'a>(alloc: Global) -> Arg<'a> {
         .action(ArgAction::Set)
 }
 
-fn number<'a>(alloc: Global, name: &'a str, most: i64) -> Arg<'a> {
+fn number<'a>(alloc: Global, name: &'a str, most: u32) -> Arg<'a> {
     Arg::new(alloc, name)
         .required(true)
         .action(ArgAction::Set)
-        .value_parser(clap::value_parser!(u32).range(1..=most))
+        .value_parser(clap::value_parser!(u32).range(1..=i64::from(most)))
 }
 
 /// What the words ask for; `None` never comes, as the parsers have refused every other word.
@@ -100,7 +104,7 @@ fn clients_in(words: &ArgMatches<'_>) -> Option<u8>
     ensures { IfSome result AreClients }
 {
     let clients = words.get_one::<u8>("CLIENTS")?;
-    if 1 <= clients && clients <= 31 {
+    if 1 <= clients && clients <= MAX_CLIENTS {
         Some(clients)
     } else {
         None
@@ -111,7 +115,7 @@ fn blocks_in(words: &ArgMatches<'_>) -> Option<u32>
     ensures { IfSome result AreBlocks }
 {
     let blocks = words.get_one::<u32>("BLOCKS")?;
-    if 1 <= blocks && blocks <= 65_536 {
+    if 1 <= blocks && blocks <= MAX_BLOCKS {
         Some(blocks)
     } else {
         None

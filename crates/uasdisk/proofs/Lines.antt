@@ -1,6 +1,6 @@
 -- One more line of a script.
-use Rattle.std.proofs.Common.{◌≡◌, ℕ, suc, ◌+◌, ◌<◌, List, [], ◌∷◌, ◌++◌, length, map, drop, get_or, ap, sym, ◌∙◌, refl, arith, add-one}
-use Rattle.std.specs.Prelude.{Option, option_to_list, Result, Ok, Err}
+use Rattle.std.proofs.Common.{◌≡◌, ℕ, suc, ◌+◌, ◌<◌, List, [], ◌∷◌, ◌++◌, length, map, drop, get_or, ap, ◌∙◌, refl, add-one}
+use Rattle.std.specs.Prelude.{Option, option_to_list, Ok, Err}
 use Rattle.std.proofs.Math.Seq.{drop-cons, drop-length}
 use Rattle.std.proofs.Math.ListN.{get_or-map, length-map}
 use Rattle.uasdisk.specs.declared.script.Line.{Line}

@@ -1,5 +1,5 @@
 -- Image files: the bytes of a unit's blocks, in their order.
-use Rattle.std.specs.Prelude.{ℕ, ◌+◌, ◌-◌, ◌*◌, ◌/◌, ◌%◌, ◌==◌, nat_lt, Bool, not, ◌&&◌, if◌then◌else◌, List, ◌++◌, length, replicate, codes, Result, Ok, Err}
+use Rattle.std.specs.Prelude.{ℕ, ◌-◌, ◌*◌, ◌/◌, ◌%◌, ◌==◌, nat_lt, not, ◌&&◌, if◌then◌else◌, List, ◌++◌, length, replicate, codes, Result, Ok, Err}
 use Rattle.std.specs.Fmt.{decimal}
 use Rattle.block_unit.specs.declared.ImageFault.{ImageFault}
 use Rattle.block_unit.specs.declared.ImageFault.TheVariants.{NotWhole, TooLarge}

@@ -1,4 +1,4 @@
-use Rattle.std.proofs.Common.{sym, ◌∙◌, ◌+◌, arith, ap, get_or}
+use Rattle.std.proofs.Common.{sym, ◌∙◌, ◌+◌, arith}
 use Rattle.uasdisk.proofs.Lines.{read_at, faulty_at, ended_at}
 use Rattle.uasdisk.proofs.script.lines_of.Goals as goal
 

@@ -1,4 +1,4 @@
-use Rattle.std.proofs.Common.{rules, arith, ◌==◌, refl}
+use Rattle.std.proofs.Common.{rules, arith}
 use Rattle.std.proofs.lemmas.Grind.{common_steps}
 use borrow.Author.Tests.{tests}
 use Rattle.std.specs.Char.{is_ascii_digit}

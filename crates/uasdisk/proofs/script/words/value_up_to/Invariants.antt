@@ -1,4 +1,4 @@
-use Rattle.std.proofs.Common.{◌≡◌, ℕ, ◌≤◌, fold, drop}
+use Rattle.std.proofs.Common.{◌≡◌, ◌≤◌, fold, drop}
 use Rattle.uasdisk.specs.Words.{with_digit, value_of}
 use Rattle.uasdisk.proofs.script.words.value_up_to.Given as goal
 

@@ -1,7 +1,6 @@
 -- What the steps of a client do is what its acts say.
 use Rattle.std.proofs.Common.{◌≡◌, ℕ, suc, Bool, true, false, List, [], ◌∷◌, ◌++◌, cond, length, arith, Option, Some, None, refl, sym, ap, ◌∙◌, subst}
-use Rattle.std.specs.Prelude.{MatchOption, option_map, option_and_then, slice_set, slice_index_or, remove, ◌==◌, if◌then◌else◌}
-use Rattle.std.proofs.lemmas.Bool.{eqb-true}
+use Rattle.std.specs.Prelude.{MatchOption, option_map, option_and_then, slice_set, if◌then◌else◌}
 use Rattle.block_unit.specs.BlockMaps.{BlockMaps}
 use Rattle.scsi_cmd.specs.declared.Reply.{Reply}
 use Rattle.solo_model.specs.Held.{held_at}
@@ -13,8 +12,8 @@ use Rattle.bus_core.specs.declared.Completion.{Completion}
 use Rattle.bus_core.specs.declared.Completion.TheVariants.{CommandDone, DataDone, StatusDone}
 use Rattle.bus_core.specs.declared.Mark.TheVariants.{Carry, Move, Send, Settle}
 use Rattle.bus_core.specs.Td.{is_ready, with_trb_taken, data_trbs}
-use Rattle.bus_core.specs.Part.{Part, nothing, carry_act, carried_slot, carried_entry, move_act, moved_slot, moved_entry, send_act, sent_slot, sent_entry, event_act, event_place, seen_entry, seen_by, ready_after, take_act, taken, settled, ready_reply, slot_tag, took_trb, data_td_after, is_last_trb}
-use Rattle.bus_core.specs.Soundness.{carried_held, moved_held, sent_held, if_ready}
+use Rattle.bus_core.specs.Part.{Part, nothing, carry_act, carried_slot, carried_entry, move_act, moved_slot, moved_entry, send_act, sent_slot, sent_entry, event_act, event_place, seen_entry, seen_by, ready_after, take_act, taken, settled, entry_reply, slot_tag, took_trb, data_td_after, is_last_trb}
+use Rattle.bus_core.specs.Soundness.{carried_held, moved_held, sent_held}
 use Rattle.bus_core.proofs.Kept.{IsSentBy}
 
 pub clash : {A : Type 0} (b : Bool) → b ≡ true → b ≡ false → A
@@ -118,56 +117,18 @@ move_still (Some a) told still same moves now is idle = clash told.0 (ap (λ (t 
 
 -- TAKE
 
-pub record IsReadyEntry (held : Option Entry) (entry : Entry) : Type 0 where
-  pub is : held ≡ Some entry
-  pub ready : is_ready entry ≡ true
-
-pub if_ready-some : (held : Option Entry) (entry : Entry) → option_and_then if_ready held ≡ Some entry → IsReadyEntry held entry
-if_ready-some None entry = λ is. let no : ◌≡◌ {A = Option Entry} None (Some entry) = is in let it : ⊥ = cc in absurd it
-if_ready-some (Some found) entry =
-    elim (is_ready found) as (λ b. is_ready found ≡ b → ◌≡◌ {A = Option Entry} (cond b (Some found) None) (Some entry) → IsReadyEntry (Some found) entry) [
-      | true ↦ λ ready is. let same : found ≡ entry = cc in record { is = is; ready = subst (λ e. is_ready e ≡ true) same ready }
-      | false ↦ λ ready is. let it : ⊥ = cc in absurd it
-    ] refl
-
-if_ready-none : (tag : ℕ) (held : Option Entry) → option_and_then if_ready held ≡ None → option_and_then (ready_reply tag) held ≡ None
-if_ready-none tag None = λ is. refl
-if_ready-none tag (Some found) =
-    elim (is_ready found) as (λ b. ◌≡◌ {A = Option Entry} (cond b (Some found) None) None → ◌≡◌ {A = Option Reply} (cond b (reply_of tag found.task) None) None) [
-      | true ↦ λ is. let it : ⊥ = cc in absurd it
-      | false ↦ λ is. refl
-    ]
-
 pub take_empty : (client : ℕ) (part : Part) → part.ready ≡ [] → nothing part ≡ take_act client part
 take_empty client part empty = rw empty refl
-
--- nothing is taken where the first ready slot has no reply
-pub take_nothing : (client : ℕ) (part : Part) (slot : ℕ) (rest : List ℕ) (entries : List (Option Entry)) → part.ready ≡ slot ∷ rest → option_and_then if_ready (held_at part.entries slot) ≡ None →
-    entries ≡ part.entries → nothing (record part { entries = entries; ready = rest }) ≡ take_act client part
-take_nothing client part slot rest entries first none same =
-    rw same
-    (ap (λ o. settled part slot rest o) (sym (if_ready-none (slot_tag client slot) (held_at part.entries slot) none)) ∙ ap (λ ready. taken client part ready) (sym first))
-
--- the queue of ready slots
-pub queue_empty : (queue : List ℕ) → (length queue == 0) ≡ true → queue ≡ []
-queue_empty [] is = refl
-queue_empty (slot ∷ rest) is = let no : length (slot ∷ rest) ≡ 0 = eqb-true _ _ is in absurd (omega arith)
-
-pub queue_first : (queue rest : List ℕ) (slot : ℕ) → (length queue == 0) ≡ false → slot ≡ slice_index_or queue 0 slot → rest ≡ remove queue 0 → queue ≡ slot ∷ rest
-queue_first [] rest slot some first others = let no : true ≡ false = some in cc
-queue_first (x ∷ xs) rest slot some first others = let here : slot ≡ x = first in let there : rest ≡ xs = others in cc
 
 sent_reply : (tag : ℕ) (entry : Entry) → IsSentBy entry.task.phase → (reply : Reply) × (reply_of tag entry.task ≡ Some reply)
 sent_reply tag entry sent = (_, ap (λ p. reply_from tag entry.task p) sent.is)
 
 -- the reply of the first ready slot is taken
 pub take_reply : (client : ℕ) (part : Part) (slot : ℕ) (rest : List ℕ) (entry : Entry) (entries : List (Option Entry)) (reply : Option Reply) → part.ready ≡ slot ∷ rest →
-    option_and_then if_ready (held_at part.entries slot) ≡ Some entry → IsSentBy entry.task.phase → reply ≡ reply_of (slot_tag client slot) entry.task → entries ≡ slice_set part.entries slot None →
+    held_at part.entries slot ≡ Some entry → IsSentBy entry.task.phase → reply ≡ reply_of (slot_tag client slot) entry.task → entries ≡ slice_set part.entries slot None →
     record { part = record part { entries = entries; ready = rest }; event = None; mark = Settle (suc slot); reply = reply } ≡ take_act client part
-take_reply client part slot rest entry entries reply first some sent is now =
-    let it : IsReadyEntry (held_at part.entries slot) entry = if_ready-some (held_at part.entries slot) entry some in
+take_reply client part slot rest entry entries reply first held sent is now =
     let told : (answer : Reply) × (reply_of (slot_tag client slot) entry.task ≡ Some answer) = sent_reply (slot_tag client slot) entry sent in
-    let found : option_and_then (ready_reply (slot_tag client slot)) (held_at part.entries slot) ≡ Some told.0 =
-    ap (λ (o : Option Entry). option_and_then (ready_reply (slot_tag client slot)) o) it.is
-    ∙ (ap (λ b. cond b (reply_of (slot_tag client slot) entry.task) None) it.ready ∙ told.1) in
+    let found : option_and_then (entry_reply (slot_tag client slot)) (held_at part.entries slot) ≡ Some told.0 =
+    ap (λ (o : Option Entry). option_and_then (entry_reply (slot_tag client slot)) o) held ∙ told.1 in
     rw (is ∙ told.1, now) (ap (λ o. settled part slot rest o) (sym found) ∙ ap (λ ready. taken client part ready) (sym first))

@@ -89,6 +89,7 @@ round-none now some same =
 
 -- rounds that end quiet leave nothing due
 pub rounds-quiet : (most : ℕ) (now : Shared × ℕ) → QuietIsDone (rounds most now)
+unfolding rounds
 rounds-quiet zero now = λ is. absurd (false≢true is)
 rounds-quiet (suc more) now =
     ended-so QuietIsDone now.1 (round now) (rounds more (round now))
@@ -96,6 +97,7 @@ rounds-quiet (suc more) now =
 
 -- rounds that don't end quiet took as many steps as they may, if there are more rounds than that
 pub rounds-unquiet : (most : ℕ) (now : Shared × ℕ) → now.1 < most → UnquietIsSpent (rounds most now)
+unfolding rounds
 rounds-unquiet zero now few = absurd (omega arith)
 rounds-unquiet (suc more) now few =
     ended-so UnquietIsSpent now.1 (round now) (rounds more (round now))
@@ -104,6 +106,7 @@ rounds-unquiet (suc more) now few =
 
 -- rounds that end quiet could have taken more
 pub rounds-spare : (most : ℕ) (now : Shared × ℕ) → QuietIsSpare (rounds most now)
+unfolding rounds
 rounds-spare zero now = λ is. absurd (false≢true is)
 rounds-spare (suc more) now =
     ended-so QuietIsSpare now.1 (round now) (rounds more (round now))
@@ -111,6 +114,7 @@ rounds-spare (suc more) now =
 
 -- rounds keep the number of clients
 pub rounds-parts : (most : ℕ) (now : Shared × ℕ) → length (rounds most now).state.parts ≡ length now.0.parts
+unfolding rounds
 rounds-parts zero now = refl
 rounds-parts (suc more) now =
     let same = tried-parts now (tries (length now.0.parts)) in
@@ -170,6 +174,7 @@ tried-taken now (step ∷ steps) =
 
 -- so do rounds
 pub rounds-taken : (most : ℕ) (now : Shared × ℕ) → Taken now ((rounds most now).state, (rounds most now).left)
+unfolding rounds
 rounds-taken zero now = Taken-none now
 rounds-taken (suc more) now =
     let one = tried-taken now (tries (length now.0.parts)) in

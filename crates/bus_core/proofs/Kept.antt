@@ -23,7 +23,8 @@ use Rattle.bus_core.specs.Td.{pushed, is_seen, is_over, is_pending, is_awaited, 
 use Rattle.bus_core.specs.Part.{slot_tag, data_td_for, new_entry}
 use Rattle.bus_core.specs.Wire.{request_text, answer_text, IsReceived}
 use Rattle.bus_core.specs.declared.wire.Received.{Received}
-use Rattle.bus_core.specs.Soundness.{IsSoundEntry, HasTds, HasAnswer, IsFramed, IsCountedEntry, waiting_of, awaited_data, one_if, is_queued, sent_held, answer_in, frame_telling, TookTrbs, TellsCheck, AsksFor, IsAnswered}
+use Rattle.bus_core.proofs.Readied.{readied-ready}
+use Rattle.bus_core.specs.Soundness.{IsSoundEntry, HasTds, HasAnswer, IsFramed, IsCountedEntry, waiting_of, awaited_data, readied_of, one_if, is_queued, sent_held, answer_in, frame_telling, TookTrbs, TellsCheck, AsksFor, IsAnswered}
 
 both : (a b : Bool) → (a && b) ≡ true → (a ≡ true) × (b ≡ true)
 both true b is = (refl, is)
@@ -74,20 +75,17 @@ waiting_sent : (phase : Phase) → IsSentBy phase → one_if (is_queued phase) �
 waiting_sent phase sent = ap (λ p. one_if (is_queued p)) sent.is
 
 -- an entry that is ready leaves no message and no event
-pub ready_leaves : (count : ℕ) (held taken : Option Entry) (ready : Bool) → ready ≡ option_map_or is_ready held false → ready ≡ true → taken ≡ held →
-    IfSome held (IsSoundEntry count) → IsCountedEntry held None 0 0 0 0 0 (one_if (is_some taken))
-ready_leaves count None taken ready is was same sound = let no : true ≡ false = sym was ∙ is in let it : ⊥ = cc in absurd it
-ready_leaves count (Some entry) taken ready is was same sound =
-    let is_it : is_ready entry ≡ true = sym is ∙ was in
+pub ready_leaves : (count : ℕ) (held : Option Entry) → readied_of held ≡ 1 → IfSome held (IsSoundEntry count) → IsCountedEntry held None 0 0 0 0
+ready_leaves count None one sound = let no : ◌≡◌ {A = ℕ} 0 1 = one in absurd (omega arith)
+ready_leaves count (Some entry) one sound =
+    let is_it : is_ready entry ≡ true = readied-ready (Some entry) entry refl one in
     let first : (is_seen entry.command_td.state ≡ true) × ((is_over entry.status_td.state && is_data_over entry.data_td) ≡ true) = both (is_seen entry.command_td.state) _ is_it in
     let rest : (is_over entry.status_td.state ≡ true) × (is_data_over entry.data_td ≡ true) = both (is_over entry.status_td.state) _ first.1 in
     let waits : one_if (is_queued entry.task.phase) ≡ 0 = waiting_sent entry.task.phase (ready_is_sent count entry sound is_it) in
     let command : one_if (is_awaited entry.command_td 1) ≡ 0 = none_awaited entry.command_td 1 (seen_pends _ first.0) in
     let status : one_if (is_awaited entry.status_td 1) ≡ 0 = none_awaited entry.status_td 1 (over_pends _ rest.0) in
     let moved : awaited_data (data_trbs entry.task.request) entry.data_td ≡ 0 = data_awaited _ entry.data_td rest.1 in
-    let one : one_if (is_ready entry) ≡ 1 = ap one_if is_it in
-    let some : one_if (is_some taken) ≡ 1 = ap (λ (o : Option Entry). one_if (is_some o)) same in
-    record { waiting = omega arith; awaited = omega arith; readied = omega arith }
+    record { waiting = omega arith; awaited = omega arith }
 
 -- SEEN
 

@@ -1,10 +1,11 @@
 pub mod Units
-pub mod Slots
+pub mod EachSlot
+pub mod Readied
 pub mod Kept
 pub mod ClientActs
 pub mod Acts
 pub mod Routes
-pub mod Runs
+pub mod WholeRuns
 pub mod Worlds
 pub mod Due
 pub mod NumberOfClients

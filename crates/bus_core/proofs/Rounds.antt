@@ -38,6 +38,7 @@ tried-next kind now count at after at-is after-is =
 
 -- a round that isn't the last
 pub rounds-on : (more : ℕ) (now : Shared × ℕ) → ((round now).1 == 0) ≡ false → ((round now).1 == now.1) ≡ false → rounds (suc (suc more)) now ≡ rounds (suc more) (round now)
+unfolding rounds
 rounds-on more now some fewer = rw (some, fewer) refl
 
 pub rounds-next : (more : ℕ) (now after : Shared × ℕ) → after ≡ round now → (after.1 ≡ 0 → ⊥) → (after.1 ≡ now.1 → ⊥) → (more ≡ 0 → ⊥) →

@@ -14,7 +14,7 @@ use Rattle.bus_core.specs.declared.Completion.TheVariants.{CommandDone, DataDone
 use Rattle.bus_core.specs.declared.News.{News}
 use Rattle.bus_core.specs.declared.Outcome.{Outcome}
 use Rattle.bus_core.specs.Td.{data_trbs}
-use Rattle.bus_core.specs.Part.{Part, Act, told, event_place, carry_act, carried_slot, carried_entry, move_act, moved_slot, moved_entry, send_act, sent_slot, sent_entry, is_last_trb, took_trb, event_act, seen_by, seen_entry, fault_at, submitted_part, settled, taken, take_act, ready_reply, slot_tag}
+use Rattle.bus_core.specs.Part.{Part, Act, told, event_place, carry_act, carried_slot, carried_entry, move_act, moved_slot, moved_entry, send_act, sent_slot, sent_entry, is_last_trb, took_trb, event_act, seen_by, seen_entry, fault_at, submitted_part, settled, taken, take_act, entry_reply, slot_tag}
 use Rattle.bus_core.specs.Soundness.{slots_in, waiting_in, awaited_in}
 use Rattle.bus_core.specs.Shared.{Shared, routed, routed_to, acted_on, outcome_of, with_streams_rung, acceptance, refusal, submitted_to, answered}
 use Rattle.bus_core.specs.Pipes.{rung_at, data_in_after, data_out_after, submission_doors}
@@ -235,7 +235,7 @@ event-settled part slot rest (Some reply) = refl
 
 pub event-taken : (client : ℕ) (part : Part) (ready : List ℕ) → (taken client part ready).event ≡ None
 event-taken client part [] = refl
-event-taken client part (slot ∷ rest) = event-settled part slot rest (option_and_then (ready_reply (slot_tag client slot)) (held_at part.entries slot))
+event-taken client part (slot ∷ rest) = event-settled part slot rest (option_and_then (entry_reply (slot_tag client slot)) (held_at part.entries slot))
 
 pub routed-taken : (state : Shared) (client : ℕ) (new : List Part) (news : News) (outcome : Outcome) → IsActOn (take_act client) client state.parts new news →
     ((part : Part) → outcome ≡ outcome_of client (told part news)) →

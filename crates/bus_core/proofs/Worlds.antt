@@ -7,7 +7,7 @@ use Rattle.bus_core.specs.declared.Step.{Step}
 use Rattle.bus_core.specs.Shared.{Shared}
 use Rattle.bus_core.specs.Replay.{replayed}
 use Rattle.bus_core.specs.Isolation.{own_labels, own_replies, own_state}
-use Rattle.bus_core.proofs.Runs.{replayed-isolated}
+use Rattle.bus_core.proofs.WholeRuns.{replayed-isolated}
 
 -- who starts alike and does alike is answered alike and ends alike
 pub replayed-agree : (here there : Shared) (first second : List Step) (a b : ℕ) → own_state here a ≡ own_state there b →

@@ -39,7 +39,7 @@ pub record Drained : Type 0 where
 
 -- A drain of at most so many rounds, of which so many steps may act. It ends after a round in which nothing acted, or
 -- as soon as no more step may act.
-abbrev pub rounds : ℕ → Shared × ℕ → Drained
+unfoldable pub rounds : ℕ → Shared × ℕ → Drained
 rounds zero now = record { state = now.0; left = now.1; quiet = false }
 rounds (suc more) now =
     let after = round now in

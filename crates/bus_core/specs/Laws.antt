@@ -1,5 +1,5 @@
 -- The laws of the shared machine, as statements that a contract can name.
-use Rattle.std.specs.Prelude.{◌≡◌, ℕ, ◌+◌, ◌<◌, true, false, if◌then◌else◌, List, [], ◌∷◌, length, slice_get}
+use Rattle.std.specs.Prelude.{◌≡◌, ℕ, ◌+◌, ◌<◌, true, false, List, [], ◌∷◌, length, slice_get}
 use Rattle.std.specs.Option.{option_map_or}
 use Rattle.scsi_cmd.specs.declared.Reply.{Reply}
 use Rattle.scsi_cmd.specs.declared.Reply.TheVariants.{Status as StatusReply, Aborted as AbortedReply, Task as TaskReply}
@@ -9,7 +9,6 @@ use Rattle.solo_model.specs.declared.Phase.TheVariants.{Queued, Moving, Ended, S
 use Rattle.bus_core.specs.declared.Entry.{Entry}
 use Rattle.bus_core.specs.declared.Step.{Step}
 use Rattle.bus_core.specs.declared.Step.TheVariants.{Take}
-use Rattle.bus_core.specs.Td.{is_ready}
 use Rattle.bus_core.specs.Part.{Part}
 use Rattle.bus_core.specs.Shared.{Shared, idle, due, shared_step}
 use Rattle.bus_core.specs.Replay.{replayed}
@@ -105,7 +104,7 @@ sent_len (Ended answer) buffer = 0
 sent_len (Sent answer) buffer = length buffer
 
 abbrev pub entry_len : Entry → ℕ
-entry_len entry = if is_ready entry then sent_len entry.task.phase entry.task.buffer else 0
+entry_len entry = sent_len entry.task.phase entry.task.buffer
 
 abbrev pub first_len : Part → List ℕ → ℕ
 first_len part [] = 0

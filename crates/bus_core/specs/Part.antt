@@ -196,8 +196,9 @@ event_act event part =
 
 -- TAKE
 
+-- No reply can't come: a ready slot holds an entry whose answer was sent.
 abbrev pub settled : Part → ℕ → List ℕ → Option Reply → Act
-settled part slot rest None = nothing (record part { ready = rest })
+settled part slot rest None = nothing part
 settled part slot rest (Some reply) = record {
   part = record part { entries = slice_set part.entries slot None; ready = rest };
   event = None;
@@ -209,14 +210,14 @@ settled part slot rest (Some reply) = record {
 abbrev pub slot_tag : ℕ → ℕ → ℕ
 slot_tag client slot = tag_of (record { client = client; slot = slot })
 
--- the reply of an entry that is ready
-abbrev pub ready_reply : ℕ → Entry → Option Reply
-ready_reply tag entry = if is_ready entry then reply_of tag entry.task else None
+-- the reply of an entry
+abbrev pub entry_reply : ℕ → Entry → Option Reply
+entry_reply tag entry = reply_of tag entry.task
 
 abbrev pub taken : ℕ → Part → List ℕ → Act
 taken client part [] = nothing part
 taken client part (slot ∷ rest) =
-    settled part slot rest (option_and_then (ready_reply (slot_tag client slot)) (held_at part.entries slot))
+    settled part slot rest (option_and_then (entry_reply (slot_tag client slot)) (held_at part.entries slot))
 
 -- the client takes the reply that was ready first
 abbrev pub take_act : ℕ → Part → Act

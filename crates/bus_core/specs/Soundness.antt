@@ -1,11 +1,11 @@
 -- What is true of every client of a bus: the invariant behind the shared machine.
-use Rattle.std.specs.Prelude.{◌≡◌, ℕ, suc, ◌+◌, ◌<◌, ◌≤◌, Bool, true, false, cond, List, [], ◌∷◌, length, Option, Some, None, IfSome, sum_by, option_map, if◌then◌else◌}
+use Rattle.std.specs.Prelude.{◌≡◌, ℕ, suc, ◌+◌, ◌<◌, ◌≤◌, ◌==◌, Bool, true, false, cond, List, [], ◌∷◌, ◌++◌, length, Option, Some, None, IfSome, sum_by, option_map, if◌then◌else◌}
 use Rattle.solo_model.specs.declared.TheConstants.{TAGS}
 use Rattle.solo_model.specs.declared.Phase.{Phase}
 use Rattle.solo_model.specs.declared.Phase.TheVariants.{Queued, Moving, Ended, Sent}
 use Rattle.solo_model.specs.declared.Answer.{Answer}
 use Rattle.solo_model.specs.declared.Answer.TheVariants.{Good, Check}
-use Rattle.solo_model.specs.Held.{AllHeld}
+use Rattle.solo_model.specs.Held.{AllHeld, held_at}
 use Rattle.solo_model.specs.Soundness.{IsSound, IsCdbOf}
 use Rattle.solo_model.specs.TaggedTask.{carried, moved, sent}
 use Rattle.block_unit.specs.BlockMaps.{BlockMaps}
@@ -108,20 +108,28 @@ awaited_in part = sum_by awaited_of part.entries
 abbrev pub slots_in : Part → ℕ
 slots_in part = length part.entries
 
--- A client: its number, the slots, the buffers, and no more ready slots than entries that are ready.
+-- how often a slot is in a queue
+abbrev pub times_in : ℕ → List ℕ → ℕ
+times_in slot [] = 0
+times_in slot (first ∷ rest) = one_if (first == slot) + times_in slot rest
+
+-- the slots whose entries are ready are queued, each once, and no other slot is
+abbrev pub AreReady : List (Option Entry) → List ℕ → Type 0
+AreReady entries queue = (slot : ℕ) → times_in slot queue ≡ readied_of (held_at entries slot)
+
+-- A client: its number, the slots, the buffers, and the queue of the slots that are ready.
 pub record IsSoundClient (lun count : ℕ) (entries : List (Option Entry)) (queue : List ℕ) (frames : List Frame) : Type 0 where
   pub number : lun < MAX_CLIENTS
   pub slots : length entries ≡ TAGS
   pub buffers : length frames ≡ TAGS
   pub sound : AllHeld (IsSoundEntry count) entries
   pub framed : AllPaired (IsFramed lun) 0 entries frames
-  pub ready : length queue ≤ sum_by readied_of entries
+  pub ready : AreReady entries queue
 
--- How an entry's counts move: messages pushed and popped, events posted and taken, ready slots queued and left.
-pub record IsCountedEntry (old new : Option Entry) (pushes pops posts takes queues leaves : ℕ) : Type 0 where
+-- How an entry's counts move: messages pushed and popped, events posted and taken.
+pub record IsCountedEntry (old new : Option Entry) (pushes pops posts takes : ℕ) : Type 0 where
   pub waiting : waiting_of old + pushes ≤ waiting_of new + pops
   pub awaited : awaited_of old + posts ≤ awaited_of new + takes
-  pub readied : readied_of old + queues ≤ readied_of new + leaves
 
 -- The same of a client, which keeps its number and its slots.
 pub record IsCounted (old new : Part) (pushes pops posts takes : ℕ) : Type 0 where
@@ -164,12 +172,19 @@ KeepsHeldFrame old new = (number slot : ℕ) (frame : Frame) → IfSome old (λ 
 abbrev pub KeepsFrames : List (Option Entry) → List (Option Entry) → Type 0
 KeepsFrames old new = (number : ℕ) (frames : List Frame) → AllPaired (IsFramed number) 0 old frames → AllPaired (IsFramed number) 0 new frames
 
+-- a queue of the slots that are ready stays one
+abbrev pub KeepsReady : List (Option Entry) → List (Option Entry) → Type 0
+KeepsReady old new = (queue : List ℕ) → AreReady old queue → AreReady new queue
+
+-- a slot that is ready now is the last of the queue
+abbrev pub queued_if : Bool → List ℕ → ℕ → List ℕ
+queued_if ready queue slot = cond ready (queue ++ slot ∷ []) queue
+
 -- How the counts over the slots move.
-pub record IsCountedSlots (old new : List (Option Entry)) (pushes pops posts takes queues leaves : ℕ) : Type 0 where
+pub record IsCountedSlots (old new : List (Option Entry)) (pushes pops posts takes : ℕ) : Type 0 where
   pub slots : length new ≡ length old
   pub waiting : sum_by waiting_of old + pushes ≤ sum_by waiting_of new + pops
   pub awaited : sum_by awaited_of old + posts ≤ sum_by awaited_of new + takes
-  pub readied : sum_by readied_of old + queues ≤ sum_by readied_of new + leaves
 
 -- STEPS ON WHAT IS HELD
 
@@ -190,10 +205,6 @@ moved_held unit entry =
 -- the entry once the device has handed over its answer
 abbrev pub sent_held : Entry → Option Entry
 sent_held entry = option_map (λ task. record entry { task = task; status_td = with_trb_taken entry.status_td }) (sent entry.task)
-
--- the entry, where it is ready
-abbrev pub if_ready : Entry → Option Entry
-if_ready entry = if is_ready entry then Some entry else None
 
 -- the answer that a task has to send
 abbrev pub answer_in : Phase → Option Answer

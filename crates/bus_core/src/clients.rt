@@ -11,7 +11,8 @@ ghost use Rattle.bus_core.specs.Part.{Part, new_part, fault_at, submitted_part, 
 ghost use Rattle.bus_core.specs.Shared.{entry_fact, has_data_trb, has_ready};
 ghost use Rattle.bus_core.specs.Soundness.{IsCounted, AsksFor, IsAnswered};
 
-use crate::entries::{carry_at, is_queued, move_at, place_of, put_at, see_at, send_at, take_at};
+use crate::entries::is_queued;
+use crate::slots::{carry_at, move_at, put_at, see_at, send_at, take_at};
 use crate::wire::{Received, read_answer, read_request};
 use crate::{Client, Completion, Entry, Frame, MAX_CLIENTS, Mark, News, Place};
 use arrayvec::ArrayVec;
@@ -21,7 +22,7 @@ use solo_model::{TAGS, TASK_SLOT, TaggedTask, submit_fault};
 
 impl News {
     /// No news.
-    pub fn none() -> News
+    pub(crate) fn none() -> News
         ensures { (part : Part) → told part result ≡ nothing part }
     {
         News {
@@ -90,7 +91,7 @@ fn tag_under(number: usize, slot: usize) -> u16
 
 impl Client {
     /// The client of this number, which has submitted nothing, with its unit.
-    pub fn new(number: usize, unit: Unit) -> Client
+    pub(crate) fn new(number: usize, unit: Unit) -> Client
         requires { number < MAX_CLIENTS }
         ensures { result ≡ new_part number unit }
     {
@@ -105,14 +106,14 @@ impl Client {
     }
 
     /// The unit.
-    pub fn unit(&self) -> &Unit
+    pub(crate) fn unit(&self) -> &Unit
         ensures { result.now ≡ self.now.unit }
     {
         &self.unit
     }
 
     /// What is under a slot.
-    pub fn entry(&self, slot: usize) -> &Option<Entry>
+    pub(crate) fn entry(&self, slot: usize) -> &Option<Entry>
         requires { slot < TAGS }
         ensures { result.now ≡ held_at self.now.entries slot }
     {
@@ -120,14 +121,14 @@ impl Client {
     }
 
     /// Whether a reply is ready.
-    pub fn has_ready(&self) -> bool
+    pub(crate) fn has_ready(&self) -> bool
         ensures { result ≡ has_ready self.now }
     {
         !self.ready.is_empty()
     }
 
     /// Submits a command under a command slot: its unit goes into the command buffer. The first fault hands it back.
-    pub fn submit(
+    pub(crate) fn submit(
         &mut self,
         slot: usize,
         ticket: u64,
@@ -158,7 +159,7 @@ impl Client {
     }
 
     /// The device reads the unit of a queued command; `None` where none is queued under the slot.
-    pub fn received(&self, slot: usize) -> Option<Received>
+    pub(crate) fn received(&self, slot: usize) -> Option<Received>
         requires { slot < TAGS }
         ensures some { IfSome result (λ unit. (unit.number ≡ self.now.number) × (unit.tag ≡ slot_tag self.now.number slot) × AsksFor (held_at self.now.entries slot) unit.cdb) }
         ensures none { IfNone result ((place : Place) → place.slot ≡ slot → carry_act place self.now ≡ nothing self.now) }
@@ -170,7 +171,7 @@ impl Client {
     }
 
     /// The device receives the command under a slot, whose CDB this is.
-    pub fn carry(&mut self, place: Place, cdb: &[u8; 16]) -> News
+    pub(crate) fn carry(&mut self, place: Place, cdb: &[u8; 16]) -> News
         requires slot { place.slot < TAGS }
         requires cdb { AsksFor (held_at self.old.entries place.slot) cdb.now }
         ensures act { told self.new result ≡ carry_act place self.old }
@@ -186,7 +187,7 @@ impl Client {
     }
 
     /// The device moves a chunk of the command under a slot, whose data TD has a TRB.
-    pub fn move_chunk(&mut self, place: Place) -> News
+    pub(crate) fn move_chunk(&mut self, place: Place) -> News
         requires slot { place.slot < TAGS }
         requires armed { entry_fact (λ entry. has_data_trb (data_trbs entry.task.request) entry.data_td) place.slot self.old ≡ true }
         ensures act { told self.new result ≡ move_act place self.old }
@@ -203,7 +204,7 @@ impl Client {
     }
 
     /// The device hands over the answer of the command under a slot: its Sense unit goes into the status buffer.
-    pub fn send(&mut self, place: Place) -> News
+    pub(crate) fn send(&mut self, place: Place) -> News
         requires slot { place.slot < TAGS }
         requires armed { entry_fact (λ entry. has_trb entry.status_td 1) place.slot self.old ≡ true }
         ensures act { told self.new result ≡ send_act place self.old }
@@ -220,12 +221,12 @@ impl Client {
     }
 
     /// The host sees an event; the command may be ready then.
-    pub fn see(&mut self, event: Completion) -> News
+    pub(crate) fn see(&mut self, event: Completion) -> News
         requires slot { (event_place event).slot < TAGS }
         ensures act { told self.new result ≡ event_act event self.old }
         ensures counted { IsCounted self.old self.new 0 0 0 1 }
     {
-        let slot = place_of(event).slot;
+        let slot = event.place().slot;
         // only the event of a status TD looks at it
         let checked = is_check(self.frames[slot].status.as_slice());
         if !see_at(&mut self.entries, event, checked) {
@@ -236,7 +237,7 @@ impl Client {
     }
 
     /// The client of this number takes the reply that was ready first, as the Sense unit tells it.
-    pub fn take(&mut self, client: usize) -> News
+    pub(crate) fn take(&mut self, client: usize) -> News
         requires { client ≡ self.old.number }
         ensures act { told self.new result ≡ take_act client self.old }
         ensures counted { IsCounted self.old self.new 0 0 0 0 }
@@ -245,9 +246,6 @@ impl Client {
             return News::none();
         }
         let slot = self.ready.remove(0);
-        if slot >= TAGS {
-            return News::none();
-        }
         let Some(entry) = take_at(&mut self.entries, slot) else {
             return News::none();
         };

@@ -11,7 +11,7 @@ use scsi_cmd::{Command, SubmitFault};
 use solo_model::{TAGS, TASK_SLOT};
 
 /// The place that a tag names on a bus of so many clients.
-pub fn place_of_tag(clients: usize, tag: u16) -> Option<Place>
+pub(crate) fn place_of_tag(clients: usize, tag: u16) -> Option<Place>
     ensures place { result ≡ place_of clients tag }
     ensures known { IfSome result (IsPlace clients) }
     ensures stream { IfSome result (λ place. tag ≤ clients * TAGS) }
@@ -29,7 +29,7 @@ pub fn place_of_tag(clients: usize, tag: u16) -> Option<Place>
 }
 
 /// The slot of a command tag of a client that is there.
-pub fn command_slot_of(clients: usize, client: usize, tag: u16) -> Option<usize>
+pub(crate) fn command_slot_of(clients: usize, client: usize, tag: u16) -> Option<usize>
     ensures slot { result ≡ command_slot clients client tag }
     ensures known { IfSome result (λ slot. (slot < TASK_SLOT) × (client < clients)) }
     ensures stream { IfSome result (λ slot. tag ≤ clients * TAGS) }
@@ -41,7 +41,7 @@ pub fn command_slot_of(clients: usize, client: usize, tag: u16) -> Option<usize>
 }
 
 /// The device receives the unit of a place and acts on the client and tag that the unit names.
-pub fn carry_at(clients: &mut [Client], place: Place) -> News
+pub(crate) fn carry_at(clients: &mut [Client], place: Place) -> News
     requires place { IsPlace (length clients.old) place }
     requires most { length clients.old ≤ MAX_CLIENTS }
     requires numbered { AreNumbered 0 clients.old }
@@ -63,7 +63,7 @@ pub fn carry_at(clients: &mut [Client], place: Place) -> News
 }
 
 /// The device moves a chunk at a place.
-pub fn move_at(clients: &mut [Client], place: Place) -> News
+pub(crate) fn move_at(clients: &mut [Client], place: Place) -> News
     requires place { IsPlace (length clients.old) place }
     requires armed { HasEntryFact clients.old place (λ entry. has_data_trb (data_trbs entry.task.request) entry.data_td) }
     ensures act { IsActOn (move_act place) place.client clients.old clients.new result }
@@ -73,7 +73,7 @@ pub fn move_at(clients: &mut [Client], place: Place) -> News
 }
 
 /// The device hands over its answer at a place.
-pub fn send_at(clients: &mut [Client], place: Place) -> News
+pub(crate) fn send_at(clients: &mut [Client], place: Place) -> News
     requires place { IsPlace (length clients.old) place }
     requires armed { HasEntryFact clients.old place (λ entry. has_trb entry.status_td 1) }
     ensures act { IsActOn (send_act place) place.client clients.old clients.new result }
@@ -83,7 +83,7 @@ pub fn send_at(clients: &mut [Client], place: Place) -> News
 }
 
 /// The host sees an event.
-pub fn see_at(clients: &mut [Client], event: Completion) -> News
+pub(crate) fn see_at(clients: &mut [Client], event: Completion) -> News
     requires place { IsPlace (length clients.old) (event_place event) }
     ensures act { IsActOn (event_act event) (event_place event).client clients.old clients.new result }
     ensures counted { AreCounted clients.old clients.new 0 0 0 1 }
@@ -93,7 +93,7 @@ pub fn see_at(clients: &mut [Client], event: Completion) -> News
 }
 
 /// A client takes its first reply.
-pub fn take_at(clients: &mut [Client], client: usize) -> News
+pub(crate) fn take_at(clients: &mut [Client], client: usize) -> News
     requires client { client < length clients.old }
     requires numbered { AreNumbered 0 clients.old }
     ensures act { IsActOn (take_act client) client clients.old clients.new result }
@@ -103,7 +103,7 @@ pub fn take_at(clients: &mut [Client], client: usize) -> News
 }
 
 /// A client submits a command under a command slot.
-pub fn submit_at(
+pub(crate) fn submit_at(
     clients: &mut [Client],
     place: Place,
     ticket: u64,
@@ -117,17 +117,4 @@ pub fn submit_at(
         (λ fault. (result ≡ Err (fault, command)) × (clients.new ≡ clients.old))) }
 {
     clients[place.client].submit(place.slot, ticket, command)
-}
-
-impl Completion {
-    /// The place of the TD.
-    pub fn place(self) -> Place
-        ensures { result ≡ event_place self }
-    {
-        match self {
-            Completion::CommandDone(place)
-            | Completion::DataDone(place)
-            | Completion::StatusDone(place) => place,
-        }
-    }
 }

@@ -21,6 +21,11 @@ mod dispatch;
 mod entries;
 mod laws;
 mod machine;
+mod outcomes;
+mod pipes;
+mod runs;
+mod slots;
+mod tds;
 mod wire;
 
 use arrayvec::ArrayVec;
@@ -39,21 +44,21 @@ use uas_iu::MAX_UNIT_BYTES;
 pub const MAX_CLIENTS: usize = 31;
 
 /// Streams of a pipe, the reserved stream 0 among them.
-pub const STREAMS: usize = 256;
+pub(crate) const STREAMS: usize = 256;
 
 /// The most doorbells that one step rings.
 pub const MOST_DOORBELLS: usize = 3;
 
 /// A client and a slot, the index of a tag less 1.
 #[derive(Clone, Copy, Debug, PartialEq, Eq)]
-pub struct Place {
+pub(crate) struct Place {
     pub client: usize,
     pub slot: usize,
 }
 
 /// How far the host is with a TD (xHCI 4.11).
 #[derive(Clone, Copy, Debug, PartialEq, Eq)]
-pub enum TdState {
+pub(crate) enum TdState {
     /// Its event hasn't been seen.
     Pending,
     /// Its event was seen.
@@ -66,14 +71,14 @@ pub enum TdState {
 
 /// A TD: its state, and how many of its TRBs the controller took.
 #[derive(Clone, Copy, Debug, PartialEq, Eq)]
-pub struct Td {
+pub(crate) struct Td {
     pub state: TdState,
     pub consumed: usize,
 }
 
 /// What a client has under a slot: the task, and the TDs that carry it.
 #[derive(Debug, Drop)]
-pub struct Entry {
+pub(crate) struct Entry {
     pub task: TaggedTask,
     pub command_td: Td,
     pub status_td: Td,
@@ -82,7 +87,7 @@ pub struct Entry {
 
 /// A completion event: the TD of which place the controller is done with (xHCI 4.11.3).
 #[derive(Clone, Copy, Debug, PartialEq, Eq)]
-pub enum Completion {
+pub(crate) enum Completion {
     CommandDone(Place),
     DataDone(Place),
     StatusDone(Place),
@@ -90,7 +95,7 @@ pub enum Completion {
 
 /// One of the device's pipes with streams: whether its endpoint runs, and which streams were rung since its last stop.
 #[derive(Clone, Copy, Debug, PartialEq, Eq)]
-pub struct PipeState {
+pub(crate) struct PipeState {
     pub runs: bool,
     pub rung: [bool; STREAMS],
 }
@@ -152,7 +157,7 @@ pub struct Outcome {
 
 /// What an act of one client tells: the event that the controller posts, the mark, and the reply.
 #[derive(Debug, Drop)]
-pub struct News {
+pub(crate) struct News {
     pub event: Option<Completion>,
     pub mark: Mark,
     pub reply: Option<Reply>,
@@ -160,14 +165,14 @@ pub struct News {
 
 /// The two buffers of a tag: its Command unit, and its Sense unit once the device has answered.
 #[derive(Debug, Drop)]
-pub struct Frame {
+pub(crate) struct Frame {
     pub command: ArrayVec<u8, MAX_UNIT_BYTES>,
     pub status: ArrayVec<u8, MAX_UNIT_BYTES>,
 }
 
 /// One client: the host's entries, the device's unit and the buffers between them.
 #[derive(Debug, Drop)]
-pub struct Client {
+pub(crate) struct Client {
     number: usize,
     unit: Unit,
     entries: [Option<Entry>; TAGS],

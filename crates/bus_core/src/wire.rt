@@ -12,7 +12,7 @@ use uas_iu::{Iu, MAX_UNIT_BYTES, lun_bytes, lun_number, read, write};
 
 /// A received Command unit.
 #[derive(Drop)]
-pub struct Received {
+pub(crate) struct Received {
     pub number: u8,
     pub tag: u16,
     pub cdb: [u8; 16],
@@ -20,14 +20,14 @@ pub struct Received {
 
 /// A received Sense unit.
 #[derive(Drop)]
-pub struct Told {
+pub(crate) struct Told {
     pub tag: u16,
     pub status: u8,
     pub sense: ArrayVec<u8, MAX_SENSE_BYTES>,
 }
 
 /// Writes the Command unit of a request to the logical unit of this number.
-pub fn write_request(
+pub(crate) fn write_request(
     number: u8,
     tag: u16,
     request: &Request,
@@ -48,7 +48,7 @@ pub fn write_request(
 }
 
 /// Reads a Command unit whose LUN is the number of a logical unit.
-pub fn read_request(bytes: &[u8]) -> Option<Received>
+pub(crate) fn read_request(bytes: &[u8]) -> Option<Received>
     ensures { IsReceived bytes.now result }
 {
     match read(bytes) {
@@ -76,7 +76,7 @@ fn with_lun(tag: u16, lun: &[u8; 8], cdb: [u8; 16]) -> Option<Received>
 }
 
 /// Writes the Sense unit of an answer.
-pub fn write_answer(tag: u16, answer: &Answer, out: &mut ArrayVec<u8, MAX_UNIT_BYTES>)
+pub(crate) fn write_answer(tag: u16, answer: &Answer, out: &mut ArrayVec<u8, MAX_UNIT_BYTES>)
     ensures { out.new.items ≡ answer_text tag answer.now }
 {
     let (status, sense) = status_and_sense(answer);
@@ -85,7 +85,7 @@ pub fn write_answer(tag: u16, answer: &Answer, out: &mut ArrayVec<u8, MAX_UNIT_B
 }
 
 /// Reads a Sense unit.
-pub fn read_answer(bytes: &[u8]) -> Option<Told>
+pub(crate) fn read_answer(bytes: &[u8]) -> Option<Told>
     ensures { IsAnswer bytes.now result }
 {
     match read(bytes) {

@@ -5,7 +5,7 @@ use Rattle.std.specs.Prelude.{ℕ, ◌+◌, ◌*◌, ◌/◌, ◌%◌, ◌^◌, 
 abbrev pub two_bytes : ℕ → List ℕ
 two_bytes n = (n / 256) ∷ (n % 256) ∷ []
 
--- the four bytes of a field, the highest one first
+-- the four bytes of a field, the highest one first: 512 is 00 00 02 00
 abbrev pub four_bytes : ℕ → List ℕ
 four_bytes n = two_bytes (n / 2 ^ 16) ++ two_bytes (n % 2 ^ 16)
 
@@ -17,7 +17,7 @@ field_of_two bytes at = 256 * slice_index bytes at + slice_index bytes (at + 1)
 abbrev pub field_of_four : List ℕ → ℕ → ℕ
 field_of_four bytes at = 2 ^ 16 * field_of_two bytes at + field_of_two bytes (at + 2)
 
--- whether this bit of the byte is set; bit 0 is the lowest
+-- whether this bit of the byte is set; bit 0 is the lowest, and bit 3 is set in 08h
 abbrev pub is_bit_set : ℕ → ℕ → Bool
 is_bit_set byte bit = byte / 2 ^ bit % 2 == 1
 

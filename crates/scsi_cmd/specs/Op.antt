@@ -25,7 +25,8 @@ abbrev pub block_cdb : ℕ → ℕ → ℕ → ℕ → List ℕ
 block_cdb code flags lba count =
     (code ∷ flags ∷ []) ++ four_bytes lba ++ (0 ∷ []) ++ two_bytes count ++ zeros 7
 
--- The 16 bytes of the CDB. Checked by hand: INQUIRY of 36 is 12 00 00 00 24 and eleven zeros.
+-- The 16 bytes of the CDB. Checked by hand: INQUIRY of 36 is 12 00 00 00 24 and eleven zeros; READ of 2 blocks from
+-- 01020304h on with FUA is 28 08 01 02 03 04 00 00 02 and seven zeros.
 unfoldable pub cdb_bytes : Op → List ℕ
 cdb_bytes TestUnitReady = zeros 16
 cdb_bytes (Inquiry allocation) = (0x12 ∷ 0 ∷ 0 ∷ []) ++ two_bytes allocation ++ zeros 11
@@ -34,7 +35,8 @@ cdb_bytes (Read lba count fua) = block_cdb 0x28 (fua_byte fua) lba count
 cdb_bytes (Write lba count fua) = block_cdb 0x2a (fua_byte fua) lba count
 cdb_bytes (Sync lba count) = block_cdb 0x35 0 lba count
 
--- how many bytes the operation moves; INQUIRY data has 36, READ CAPACITY data 8, a block 512
+-- how many bytes the operation moves; INQUIRY data has 36, READ CAPACITY data 8, a block 512. Checked by hand: INQUIRY
+-- with allocation 5 moves 5, with 255 it moves 36.
 abbrev pub moved_bytes : Op → ℕ
 moved_bytes TestUnitReady = 0
 moved_bytes (Inquiry allocation) = min allocation 36
@@ -52,6 +54,6 @@ way_of (Read lba count fua) = ToHost
 way_of (Write lba count fua) = ToDevice
 way_of (Sync lba count) = Nothing
 
--- no direction where no byte moves
+-- no direction where no byte moves: READ of no blocks has none
 abbrev pub direction_of : Op → Direction
 direction_of op = if moved_bytes op == 0 then Nothing else way_of op

@@ -90,6 +90,41 @@ fn out_of_range_read(rt: HostRuntime) {
     assert_eq!(rt; Sense::from_bytes(&sense), Some(Sense::OUT_OF_RANGE));
 }
 
+/// Each fault of a CDB, with the later ones beside it, on 100 blocks: another operation code; EVPD, a page, a protect
+/// field or 129 blocks; a block that isn't there.
+#[test]
+fn cdb_faults_in_order(rt: HostRuntime) {
+    let code = (0x20, 0x00);
+    let field = (0x24, 0x00);
+    let range = (0x21, 0x00);
+    for (first, (asc, ascq)) in [
+        ([0x08, 0xff, 0xff, 0xff, 0xff, 0xff, 0, 0xff, 0xff], code),
+        ([0x03, 0, 0, 0, 0, 0, 0, 0, 0], code),
+        ([0x12, 0x01, 0, 0, 36, 0, 0, 0, 0], field),
+        ([0x12, 0, 0x80, 0, 36, 0, 0, 0, 0], field),
+        ([0x28, 0x20, 0, 0, 0, 100, 0, 0, 1], field),
+        ([0x2a, 0x80, 0, 0, 0, 0, 0, 0, 1], field),
+        ([0x28, 0, 0, 0, 0, 100, 0, 0, 129], field),
+        ([0x2a, 0, 0xff, 0, 0, 0, 0, 1, 0], field),
+        ([0x28, 0, 0, 0, 0, 100, 0, 0, 128], range),
+        ([0x2a, 0, 0, 0, 0, 98, 0, 0, 3], range),
+        ([0x2a, 0, 0xff, 0xff, 0xff, 0xff, 0, 0, 1], range),
+        ([0x35, 0, 0, 0, 0, 100, 0, 0, 0], range),
+        ([0x35, 0, 0, 0, 0, 99, 0, 0, 2], range),
+    ] {
+        let mut bytes = [0; 16];
+        bytes[..9].copy_from_slice(&first);
+        let sense = Sense {
+            key: 0x5,
+            asc,
+            ascq,
+        };
+        assert_eq!(rt; parse(&bytes, 100), Err(sense), "{first:?}");
+    }
+    let last = [0x28, 0, 0, 0, 0, 98, 0, 0, 2, 0, 0, 0, 0, 0, 0, 0];
+    assert!(rt; parse(&last, 100).is_ok());
+}
+
 /// DPO of READ, the immediate bit of SYNCHRONIZE CACHE, and bytes without a field.
 #[test]
 fn ignored_bits(rt: HostRuntime) {

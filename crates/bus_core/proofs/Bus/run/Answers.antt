@@ -2,7 +2,7 @@ use Rattle.std.proofs.Common.{◌≡◌, List, sym, subst}
 use Rattle.bus_core.specs.declared.Outcome.{Outcome}
 use Rattle.bus_core.specs.Shared.{Shared}
 use Rattle.bus_core.specs.Isolation.{IsIsolated}
-use Rattle.bus_core.proofs.Runs.{replayed-isolated}
+use Rattle.bus_core.proofs.WholeRuns.{replayed-isolated}
 use Rattle.bus_core.proofs.Bus.run.Goals as goal
 
 pub returns-clause-isolated : goal.returns-clause-isolated

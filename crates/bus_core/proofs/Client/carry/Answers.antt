@@ -3,7 +3,7 @@ use Rattle.std.specs.Prelude.{option_to_list}
 use Rattle.bus_core.specs.contracts.Client.{the_view}
 use Rattle.bus_core.specs.Part.{Part, Act}
 use Rattle.bus_core.specs.Soundness.{one_if}
-use Rattle.bus_core.proofs.Slots.{IsCounted-slots}
+use Rattle.bus_core.proofs.EachSlot.{IsCounted-slots}
 use Rattle.bus_core.specs.Part.{carry_act}
 use Rattle.bus_core.proofs.ClientActs.{carry_told}
 use Rattle.bus_core.proofs.Client.carry.Goals as goal
@@ -13,5 +13,5 @@ returns-then-not-carry_at-clause-act c = c.none.ensures _ ∙ ((carry_told (the_
 
 pub returns-then-not-carry_at-clause-counted : goal.returns-then-not-carry_at-clause-counted
 returns-then-not-carry_at-clause-counted c =
-    IsCounted-slots (the_view c.self.inside) c.args.self.now _ c.none.result.event _ _ _ _ _ _ c.self.view_is c.carry_at.ensures.counted refl
+    IsCounted-slots (the_view c.self.inside) c.args.self.now _ c.none.result.event _ _ _ _ c.self.view_is c.carry_at.ensures.counted refl
     (ap (λ (a : Act). length (option_to_list a.event)) (c.none.ensures (the_view c.self.inside)) ∙ sym (ap one_if c.if-not-carry_at.true))

@@ -2,7 +2,7 @@ use Rattle.std.proofs.Common.{◌≡◌, IfSome, refl, arith, sym, ap, ◌∙◌
 use Rattle.std.specs.Prelude.{slice_index_or}
 use Rattle.bus_core.specs.Part.{Part}
 use Rattle.bus_core.specs.Soundness.{IsFramed, waiting_of, AsksFor}
-use Rattle.bus_core.proofs.Slots.{read, AllPaired-held}
+use Rattle.bus_core.proofs.EachSlot.{read, AllPaired-held}
 use Rattle.bus_core.specs.Part.{slot_tag}
 use Rattle.bus_core.proofs.Kept.{received_some, none_of_some}
 use Rattle.solo_model.specs.Held.{held_at}

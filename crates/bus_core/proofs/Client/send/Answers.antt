@@ -3,7 +3,7 @@ use Rattle.std.specs.Prelude.{option_to_list}
 use Rattle.bus_core.specs.contracts.Client.{the_view}
 use Rattle.bus_core.specs.Part.{Part, Act}
 use Rattle.bus_core.specs.Soundness.{one_if}
-use Rattle.bus_core.proofs.Slots.{IsCounted-slots}
+use Rattle.bus_core.proofs.EachSlot.{IsCounted-slots}
 use Rattle.bus_core.specs.Part.{send_act}
 use Rattle.bus_core.proofs.ClientActs.{send_told}
 use Rattle.bus_core.proofs.Client.send.Goals as goal
@@ -13,7 +13,7 @@ returns-then-not-send_at-clause-act c = c.none.ensures _ ∙ ((send_told (the_vi
 
 pub returns-then-not-send_at-clause-counted : goal.returns-then-not-send_at-clause-counted
 returns-then-not-send_at-clause-counted c =
-    IsCounted-slots (the_view c.self.inside) c.args.self.now _ c.none.result.event _ _ _ _ _ _ c.self.view_is c.send_at.ensures.counted refl
+    IsCounted-slots (the_view c.self.inside) c.args.self.now _ c.none.result.event _ _ _ _ c.self.view_is c.send_at.ensures.counted refl
     (ap (λ (a : Act). length (option_to_list a.event)) (c.none.ensures (the_view c.self.inside)) ∙ sym (ap one_if c.if-not-send_at.true))
 
 pub invariant_of-self-2 : goal.invariant_of-self-2
@@ -23,5 +23,5 @@ invariant_of-self-2 c = record {
   buffers = omega (arith, c.send_at.auto.frames, c.self.invariant.buffers);
   sound = c.send_at.ensures.sound _ c.self.invariant.sound;
   framed = c.send_at.ensures.framed c.self.inside.number c.tag_under-tag.ensures.tag c.self.invariant.framed;
-  ready = omega (arith, c.send_at.ensures.counted.readied, c.self.invariant.ready);
+  ready = c.send_at.ensures.ready _ c.self.invariant.ready;
 }

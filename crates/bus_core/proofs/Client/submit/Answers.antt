@@ -15,5 +15,5 @@ invariant_of-self c = record {
       (IsSoundEntry-new _ c.args.ticket c.args.command _ c.new-entry.ensures
       (submit_fault-none true c.is_some-in_use.result c.self.inside.least c.args.ticket c.args.command (ap is_some (sym c.submit_fault.ensures ∙ c.in_default.is)))));
   framed = c.put_at.ensures.framed c.tag_under-tag.ensures.tag c.self.invariant.framed;
-  ready = omega (arith, c.put_at.ensures.counted.readied, c.self.invariant.ready);
+  ready = c.put_at.ensures.ready _ c.self.invariant.ready;
 }

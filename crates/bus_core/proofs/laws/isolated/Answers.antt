@@ -1,4 +1,4 @@
-use Rattle.bus_core.proofs.Runs.{replayed-isolated}
+use Rattle.bus_core.proofs.WholeRuns.{replayed-isolated}
 use Rattle.bus_core.proofs.laws.isolated.Goals as goal
 
 pub returns : goal.returns

@@ -1,0 +1,94 @@
+ghost use Rattle.std.specs.Prelude.{◌≡◌, ℕ, ◌+◌, ◌≤◌, IfOk, vec_len, vec_capacity, OnErr};
+ghost use Rattle.bus_core.specs.Bus.{AllTicketed, HasTicket};
+ghost use Rattle.bus_core.specs.Drain.{drained, round, tried_one};
+ghost use Rattle.bus_core.specs.Isolation.{IsIsolated};
+ghost use Rattle.bus_core.specs.Replay.{replayed};
+
+use crate::{Bus, Outcome, Step, Trace};
+use solo_model::TAGS;
+use std::alloc::{AllocError, Global};
+
+impl Bus {
+    /// Takes every step, in order: the outcome of each. The room for the outcomes is made first: at `AllocError` no step
+    /// was taken.
+    pub fn run(&mut self, alloc: Global, steps: Vec<Step>) -> Result<Trace, AllocError>
+        requires { AllTicketed steps.items }
+        // The bus and the outcomes are the shared machine's.
+        ensures replay { IfOk result (λ trace. (self.new, trace) ≡ replayed self.old steps.items) }
+        // The headline: each client's replies and unit are those of a disk that it had alone.
+        ensures isolated { IfOk result (λ trace. (client : ℕ) → IsIsolated self.old steps.items trace self.new client) }
+        ensures err { OnErr result (self.new ≡ self.old) }
+    {
+        let mut outcomes = Vec::with_capacity(alloc, steps.len())?;
+        self.take_steps(steps, &mut outcomes);
+        Ok(Trace { outcomes })
+    }
+
+    fn take_steps(&mut self, steps: Vec<Step>, outcomes: &mut Vec<Outcome>)
+        requires ticketed { AllTicketed steps.items }
+        requires empty { vec_len outcomes.old ≡ 0 }
+        requires room { vec_len steps ≤ vec_capacity outcomes.old }
+        ensures { (self.new, outcomes.new.items) ≡ replayed self.old steps.items }
+    {
+        let mut rest = steps.into_iter();
+        while let Some(step) = rest.next() {
+            let outcome = self.step(step);
+            outcomes.push_reserved(outcome);
+        }
+    }
+
+    /// Takes rounds of the steps that need no client, in a fixed order, until none acts or `limit` acted: how many
+    /// acted, and whether it ended because none is due. It takes no replies.
+    #[tactic(auto, unfolding(crate::specs::Drain::rounds))]
+    pub fn drain(&mut self, limit: usize) -> (usize, bool)
+        ensures state { self.new ≡ (drained self.old limit).state }
+        ensures acted { result.0 + (drained self.old limit).left ≡ limit }
+        ensures quiet { result.1 ≡ (drained self.old limit).quiet }
+    {
+        let mut left = limit;
+        let mut more = limit;
+        loop {
+            let after = self.round(left);
+            if after == 0 {
+                return (limit, false);
+            }
+            if after == left {
+                return (limit - left, true);
+            }
+            if more == 0 {
+                return (limit - after, false);
+            }
+            more -= 1;
+            left = after;
+        }
+    }
+
+    /// One round of tries, of which so many may act: how many more may act after it.
+    fn round(&mut self, left: usize) -> usize
+        ensures round { (self.new, result) ≡ round (self.old, left) }
+        ensures less { result ≤ left }
+    {
+        let tags = self.clients.len() * TAGS;
+        let mut left = self.try_step(Step::CommandPipe, left);
+        left = self.try_step(Step::Event, left);
+        for before in 0..tags {
+            left = self.try_step(Step::Data(before as u16 + 1), left);
+        }
+        for before in 0..tags {
+            left = self.try_step(Step::Status(before as u16 + 1), left);
+        }
+        left
+    }
+
+    /// One try: how many more may act after it.
+    fn try_step(&mut self, step: Step, left: usize) -> usize
+        requires { HasTicket step }
+        ensures { (self.new, result) ≡ tried_one (self.old, left) step }
+    {
+        if left == 0 || !self.due(&step) {
+            return left;
+        }
+        let _ = self.step(step);
+        left - 1
+    }
+}

@@ -1,0 +1,4 @@
+pub mod Counts
+pub mod Sound
+pub mod Luns
+pub mod Received

@@ -1,0 +1,66 @@
+-- What comes of the text of a unit.
+use Rattle.std.proofs.Common.{◌≡◌, ℕ, ◌+◌, ◌*◌, ◌/◌, ◌%◌, ◌<◌, ◌^◌, List, [], ◌∷◌, take, refl, arith, ap, ◌∙◌}
+use Rattle.std.proofs.lemmas.List.{take_at, drop_at, take_all}
+use Rattle.uas_iu.specs.declared.Iu.TheVariants.{Command, Sense, Response, Task}
+use Rattle.uas_iu.specs.Units.{Fits, unit_text}
+use Rattle.uas_iu.proofs.Laws.{first_fault-unit_text}
+use Rattle.uas_target.specs.Device.{Device, called, executed, on_its_tag, received_unit, with_response, with_units_and_task}
+use Rattle.uas_target.specs.Fields.{tag_in, lun_in, cdb_in}
+use Rattle.uas_target.specs.Laws.{CommandsAreExecuted, TasksAreAnswered, SensesAreDropped, ResponsesAreDropped, CallsAreFolded}
+
+-- a number below 2^16 is that of its two bytes
+two_bytes : (n : ℕ) → n < 2 ^ 16 → n / 256 % 256 * 256 + n % 256 ≡ n
+two_bytes n less = omega arith
+
+tag_in-command : (tag : ℕ) (lun cdb : List ℕ) → Fits (Command tag lun cdb) → tag_in (unit_text (Command tag lun cdb)) ≡ tag
+unfolding unit_text
+tag_in-command tag lun cdb fits = two_bytes tag fits.0
+
+lun_in-command : (tag : ℕ) (lun cdb : List ℕ) → Fits (Command tag lun cdb) → lun_in (unit_text (Command tag lun cdb)) ≡ lun
+unfolding unit_text
+lun_in-command tag lun cdb fits = take_at lun cdb 8 fits.1
+
+cdb_in-command : (tag : ℕ) (lun cdb : List ℕ) → Fits (Command tag lun cdb) → cdb_in (unit_text (Command tag lun cdb)) ≡ cdb
+unfolding unit_text
+cdb_in-command tag lun cdb fits = ap (take 16) (drop_at lun cdb 8 fits.1) ∙ take_all 16 cdb (omega (arith, fits.2))
+
+tag_in-task : (tag function task_tag : ℕ) (lun : List ℕ) → Fits (Task tag function task_tag lun) → tag_in (unit_text (Task tag function task_tag lun)) ≡ tag
+unfolding unit_text
+tag_in-task tag function task_tag lun fits = two_bytes tag fits.0
+
+command_unit : (device : Device) (tag : ℕ) (lun cdb : List ℕ) → Fits (Command tag lun cdb) →
+    received_unit device (unit_text (Command tag lun cdb)) (tag_in (unit_text (Command tag lun cdb)))
+    ≡ on_its_tag device tag (with_units_and_task device tag (executed device.units (lun_in (unit_text (Command tag lun cdb))) (cdb_in (unit_text (Command tag lun cdb)))))
+unfolding unit_text
+command_unit device tag lun cdb fits =
+    ap (λ n. on_its_tag device n (with_units_and_task device n (executed device.units (lun_in (unit_text (Command tag lun cdb))) (cdb_in (unit_text (Command tag lun cdb)))))) (tag_in-command tag lun cdb fits)
+
+pub received-command : CommandsAreExecuted
+received-command device tag lun cdb fits =
+    rw (first_fault-unit_text (Command tag lun cdb) fits)
+    (command_unit device tag lun cdb fits
+    ∙ ap (λ l. on_its_tag device tag (with_units_and_task device tag (executed device.units l (cdb_in (unit_text (Command tag lun cdb)))))) (lun_in-command tag lun cdb fits)
+    ∙ ap (λ b. on_its_tag device tag (with_units_and_task device tag (executed device.units lun b))) (cdb_in-command tag lun cdb fits))
+
+task_unit : (device : Device) (tag function task_tag : ℕ) (lun : List ℕ) → Fits (Task tag function task_tag lun) →
+    received_unit device (unit_text (Task tag function task_tag lun)) (tag_in (unit_text (Task tag function task_tag lun))) ≡ on_its_tag device tag (with_response device tag 4)
+unfolding unit_text
+task_unit device tag function task_tag lun fits = ap (λ n. on_its_tag device n (with_response device n 4)) (tag_in-task tag function task_tag lun fits)
+
+pub received-task : TasksAreAnswered
+received-task device tag function task_tag lun fits = rw (first_fault-unit_text (Task tag function task_tag lun) fits) (task_unit device tag function task_tag lun fits)
+
+pub received-sense : SensesAreDropped
+unfolding unit_text
+received-sense device tag status sense fits = rw (first_fault-unit_text (Sense tag status sense) fits) refl
+
+pub received-response : ResponsesAreDropped
+unfolding unit_text
+received-response device tag code fits = rw (first_fault-unit_text (Response tag code) fits) refl
+
+-- one call more
+pub folded : CallsAreFolded
+folded device [] call = refl
+folded device (first ∷ calls) call = folded (called device first) calls call
+
+pub ruleset of_texts = (received-command, received-task, received-sense, received-response, folded)

@@ -1,0 +1,142 @@
+-- The device: the units and the tasks by tag, and what each call makes of them.
+use Rattle.std.specs.Prelude.{ℕ, nat_le, ◌==◌, Bool, false, not, ◌&&◌, if◌then◌else◌, List, [], ◌∷◌, length, slice_set, slice_index, replicate, Option, None, Some, is_some, option_and_then, Result, Ok, Err}
+use Rattle.std.specs.Option.{option_map_or}
+use Rattle.block_unit.specs.BlockMaps.{BlockMaps}
+use Rattle.scsi_cmd.specs.Meaning.{asked}
+use Rattle.solo_model.specs.Held.{held_under, with_held_under}
+use Rattle.solo_model.specs.TaggedTask.{begun}
+use Rattle.uas_iu.specs.declared.Iu.{Iu}
+use Rattle.uas_iu.specs.Faults.{first_fault, identifier}
+use Rattle.uas_target.specs.declared.DeviceAnswer.TheVariants.{Response}
+use Rattle.uas_target.specs.declared.DeviceTask.{DeviceTask}
+use Rattle.uas_target.specs.declared.DeviceTask.TheVariants.{Ended}
+use Rattle.uas_target.specs.declared.Overlap.{Overlap}
+use Rattle.uas_target.specs.declared.Phase.{Phase}
+use Rattle.uas_target.specs.declared.Phase.TheVariants.{Absent}
+use Rattle.uas_target.specs.declared.TheConstants.{GREATEST_TAG}
+use Rattle.uas_target.specs.declared.Took.{Took}
+use Rattle.uas_target.specs.declared.Took.TheVariants.{Began, Dropped}
+use Rattle.uas_target.specs.Fields.{is_tag, tag_in, lun_in, cdb_in, addressed}
+use Rattle.uas_target.specs.Tasks.{task_in, missing_phase, task_wants, task_given, task_fits, task_taken, task_left, task_answer}
+
+-- the units by number, and the task of each tag, tag 1 first
+pub record Device : Type 0 where
+  pub units : List BlockMaps
+  pub tasks : List (Option DeviceTask)
+
+-- no task yet
+abbrev pub opening : List BlockMaps → Device
+opening units = record { units = units; tasks = replicate GREATEST_TAG None }
+
+-- these are the units now, and a tag has this task, or none
+abbrev pub with_units_and_task : Device → ℕ → List BlockMaps × Option DeviceTask → Device
+with_units_and_task device tag after = record { units = after.0; tasks = with_held_under device.tasks tag after.1 }
+
+-- the task of a tag
+abbrev pub task_of : Device → ℕ → Option DeviceTask
+task_of device tag = held_under device.tasks tag
+
+-- a tag has this task now, or none
+abbrev pub with_task : Device → ℕ → Option DeviceTask → Device
+with_task device tag task = record device { tasks = with_held_under device.tasks tag task }
+
+abbrev pub without_task : Device → ℕ → Device
+without_task device tag = with_task device tag None
+
+-- a tag's task has ended with a Response of this code
+abbrev pub with_response : Device → ℕ → ℕ → Device
+with_response device tag code = with_task device tag (Some (Ended None (Response code)))
+
+-- RECEIVING
+
+-- the units and the task once the addressed unit executed a CDB as far as its data; where there is none, INQUIRY alone is
+-- executed, which asks for the same of any unit
+abbrev pub executed_on : List BlockMaps → ℕ → List ℕ → Option BlockMaps → List BlockMaps × Option DeviceTask
+executed_on units number cdb None = (units, task_in None (asked cdb 0) (missing_phase cdb (asked cdb 0)))
+executed_on units number cdb (Some unit) =
+    let asks = asked cdb unit.count in
+    (slice_set units number (begun unit asks).0, task_in (Some number) asks (begun unit asks).1)
+
+abbrev pub executed : List BlockMaps → List ℕ → List ℕ → List BlockMaps × Option DeviceTask
+executed units lun cdb = executed_on units (slice_index lun 1) cdb (addressed units lun)
+
+-- nothing comes of a unit
+abbrev pub dropped : Device → Device × Result Took Overlap
+dropped device = (device, Ok Dropped)
+
+-- a readable unit that begins a task: it is dropped where no task may have its tag, and refused where a task has it
+abbrev pub on_its_tag : Device → ℕ → Device → Device × Result Took Overlap
+on_its_tag device tag after =
+    if not (is_tag tag) then dropped device
+    else (if is_some (task_of device tag) then (device, Err (record {})) else (after, Ok (Began tag)))
+
+-- bytes that are no unit: where at least four came, the tag among them is free and a task may have it, the answer is 02h,
+-- INVALID INFORMATION UNIT
+abbrev pub received_unreadable : Device → List ℕ → ℕ → Device × Result Took Overlap
+received_unreadable device bytes tag =
+    if nat_le 4 (length bytes) && is_tag tag && not (is_some (task_of device tag))
+    then (with_response device tag 2, Ok (Began tag)) else dropped device
+
+-- a readable unit, by its identifier: Command is executed, Task Management is answered with 04h, NOT SUPPORTED, and what a
+-- device sends is dropped
+abbrev pub received_unit : Device → List ℕ → ℕ → Device × Result Took Overlap
+received_unit device bytes tag =
+    if identifier bytes == 1 then on_its_tag device tag (with_units_and_task device tag (executed device.units (lun_in bytes) (cdb_in bytes)))
+    else (if identifier bytes == 5 then on_its_tag device tag (with_response device tag 4)
+    else dropped device)
+
+-- what comes of received bytes, and the answer of the call
+abbrev pub received : Device → List ℕ → Device × Result Took Overlap
+received device bytes =
+    if is_some (first_fault bytes) then received_unreadable device bytes (tag_in bytes)
+    else received_unit device bytes (tag_in bytes)
+
+-- DATA
+
+-- what the device does next on a tag
+abbrev pub wanted : Device → ℕ → Phase
+wanted device tag = option_map_or task_wants (task_of device tag) Absent
+
+-- the bytes that it gives on a tag as the next chunk; None at a bad block
+abbrev pub given : Device → ℕ → Option (List ℕ)
+given device tag = option_and_then (task_given device.units) (task_of device tag)
+
+-- the device once it gave a chunk on a tag, or met a bad block
+abbrev pub gave : Device → ℕ → Device
+gave device tag = with_task device tag (option_and_then (task_left device.units) (task_of device tag))
+
+-- whether it takes the next chunk on a tag: false at a bad block
+abbrev pub fits : Device → ℕ → Bool
+fits device tag = option_map_or (task_fits device.units) (task_of device tag) false
+
+-- the device once it took these bytes on a tag, or met a bad block
+abbrev pub took : Device → ℕ → List ℕ → Device
+took device tag bytes =
+    with_units_and_task device tag
+    (option_map_or (task_taken device.units bytes) (task_of device tag) device.units, option_and_then (task_left device.units) (task_of device tag))
+
+-- ANSWERS
+
+-- the unit that answers a tag's task, once it has ended
+abbrev pub answered : Device → ℕ → Option Iu
+answered device tag = option_and_then (task_answer tag) (task_of device tag)
+
+-- A LIST OF CALLS
+
+-- what changes the device: bytes received, a chunk given or taken on a tag, an answer sent
+pub data Call : Type 0 where
+  Receive : List ℕ → Call
+  Give : ℕ → Call
+  Take : ℕ → List ℕ → Call
+  Send : ℕ → Call
+
+abbrev pub called : Device → Call → Device
+called device (Receive bytes) = (received device bytes).0
+called device (Give tag) = gave device tag
+called device (Take tag bytes) = took device tag bytes
+called device (Send tag) = without_task device tag
+
+-- the device after a list of calls
+abbrev pub device_after : Device → List Call → Device
+device_after device [] = device
+device_after device (call ∷ calls) = device_after (called device call) calls

@@ -1,0 +1,6 @@
+-- The device's tasks by tag, and what each call makes of them.
+pub mod Fields
+pub mod Tasks
+pub mod Device
+pub mod Soundness
+pub mod Laws

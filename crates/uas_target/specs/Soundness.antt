@@ -1,0 +1,40 @@
+-- What is true of every task that the device has.
+use Rattle.std.specs.Prelude.{◌≡◌, ℕ, ◌*◌, ◌<◌, ◌≤◌, List, length, map, slice_get, Option, None, Some, MatchOption}
+use Rattle.block_unit.specs.BlockMaps.{BlockMaps}
+use Rattle.scsi_cmd.specs.declared.Op.{Op}
+use Rattle.scsi_cmd.specs.declared.Op.TheVariants.{TestUnitReady, Inquiry, ReadCapacity, Read, Write, Sync}
+use Rattle.scsi_cmd.specs.Op.{moved_bytes}
+use Rattle.scsi_cmd.specs.Meaning.{op_fault}
+use Rattle.solo_model.specs.Held.{AllHeld}
+use Rattle.uas_target.specs.declared.DeviceTask.{DeviceTask}
+use Rattle.uas_target.specs.declared.DeviceTask.TheVariants.{Moving, Ended}
+use Rattle.uas_target.specs.declared.TheConstants.{GREATEST_TAG, MAX_UNITS}
+
+-- how many blocks each unit has
+abbrev pub counts_of : List BlockMaps → List ℕ
+counts_of units = map (λ unit. unit.count) units
+
+abbrev pub IsInquiry : Op → Type 0
+IsInquiry TestUnitReady = ⊥
+IsInquiry (Inquiry allocation) = Unit {0}
+IsInquiry ReadCapacity = ⊥
+IsInquiry (Read lba count fua) = ⊥
+IsInquiry (Write lba count fua) = ⊥
+IsInquiry (Sync lba count) = ⊥
+
+-- an operation can be executed on this unit, of units of so many blocks: without a unit it is INQUIRY
+abbrev pub IsOn : List ℕ → Op → Option ℕ → Type 0
+IsOn counts op None = IsInquiry op
+IsOn counts op (Some number) = MatchOption (slice_get counts number) ⊥ (λ count. op_fault op count ≡ None)
+
+-- a task that moves data has bytes left to move, and its blocks are on its unit
+abbrev pub IsSoundTask : List ℕ → DeviceTask → Type 0
+IsSoundTask counts (Moving unit op chunk) = (4096 * chunk < moved_bytes op) × IsOn counts op unit
+IsSoundTask counts (Ended unit answer) = Unit {0}
+
+-- 1 to 31 units, a place for each tag, and every task is sound
+pub record IsSoundDevice (units : List BlockMaps) (held : List (Option DeviceTask)) : Type 0 where
+  pub some_unit : 1 ≤ length units
+  pub most_units : length units ≤ MAX_UNITS
+  pub places : length held ≡ GREATEST_TAG
+  pub tasks : AllHeld (IsSoundTask (counts_of units)) held

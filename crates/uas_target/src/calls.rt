@@ -1,0 +1,114 @@
+//! The calls on a tag's task.
+ghost use Rattle.std.specs.Prelude.{◌≡◌, ℕ, ◌+◌, ◌*◌, ◌<◌, ◌≤◌, IfOk, MatchOption, None, Some, is_some, length, option_map, slice_get, slice_set, vec_len};
+ghost use Rattle.std.specs.Option.{unwrap_or};
+ghost use Rattle.scsi_cmd.specs.Meaning.{op_fault};
+ghost use Rattle.scsi_cmd.specs.Op.{moved_bytes};
+ghost use Rattle.solo_model.specs.TaggedTask.{phase_after};
+ghost use Rattle.uas_target.specs.Device.{answered, fits, gave, given, opening, took, wanted, without_task};
+ghost use Rattle.uas_target.specs.Fields.{addressed};
+ghost use Rattle.uas_target.specs.Soundness.{IsOn, counts_of};
+ghost use Rattle.uas_target.specs.Tasks.{answer_unit, chunk_fits, chunk_wanted, unit_taken};
+
+use crate::chunks::{chunk_wants, give_task, take_task};
+use crate::receiver::unit_number;
+use crate::{DeviceAnswer, DeviceTask, MAX_UNITS, Phase, Target, TaskTable};
+use block_unit::Unit;
+use solo_model::status_and_sense;
+use std::alloc::{AllocError, Global};
+use uas_iu::{Iu, LUN_BYTES};
+
+impl Target {
+    /// A device of these logical units, 1 to 31, without a task. The error is want of memory.
+    pub fn new(alloc: Global, units: Vec<Unit>) -> Result<Target, AllocError>
+        requires some { 1 ≤ vec_len units }
+        requires most { vec_len units ≤ MAX_UNITS }
+        ensures { IfOk result (λ target. target ≡ opening units.items) }
+    {
+        Ok(Target {
+            units,
+            tasks: TaskTable::new(alloc)?,
+        })
+    }
+
+    /// What the device does next on a tag; of a tag that no task may have it is `Absent`.
+    pub fn wants(&self, tag: u16) -> Phase
+        ensures { result ≡ wanted self.now tag }
+    {
+        match self.tasks.get(tag) {
+            Some(DeviceTask::Moving { op, chunk, .. }) => chunk_wants(op, chunk),
+            Some(DeviceTask::Ended { .. }) => Phase::Ends,
+            None => Phase::Absent,
+        }
+    }
+
+    /// Fills `bytes` with the next chunk of a tag that gives as many. False at a bad block: then `bytes` are as they were,
+    /// and the command has ended with UNRECOVERED READ ERROR (SBC).
+    pub fn give_chunk(&mut self, tag: u16, bytes: &mut [u8]) -> bool
+        requires { wanted self.old tag ≡ Phase.Gives (length bytes.old) }
+        ensures device { self.new ≡ gave self.old tag }
+        ensures good { result ≡ is_some (given self.old tag) }
+        ensures bytes { bytes.new ≡ unwrap_or (given self.old tag) bytes.old }
+    {
+        let Some(task) = self.tasks.get(tag) else {
+            return false;
+        };
+        let (good, left) = give_task(&self.units, task, bytes);
+        self.tasks.set(tag, left);
+        good
+    }
+
+    /// Takes `bytes` as the next chunk of a tag that takes as many; FUA reaches the medium too (SBC). False at a bad
+    /// block: then the blocks are as they were, and the command has ended with WRITE ERROR.
+    pub fn take_chunk(&mut self, tag: u16, bytes: &[u8]) -> bool
+        requires { wanted self.old tag ≡ Phase.Takes (length bytes.now) }
+        ensures device { self.new ≡ took self.old tag bytes.now }
+        ensures good { result ≡ fits self.old tag }
+    {
+        let Some(task) = self.tasks.get(tag) else {
+            return false;
+        };
+        let (good, left) = take_task(&mut self.units, task, bytes);
+        self.tasks.set(tag, left);
+        good
+    }
+
+    /// The unit that answers the task of a tag, once it has ended: Sense with GOOD or CHECK CONDITION, or Response.
+    pub fn status_of(&self, tag: u16) -> Option<Iu>
+        ensures { result ≡ answered self.now tag }
+    {
+        match self.tasks.get(tag) {
+            Some(DeviceTask::Ended { answer, .. }) => Some(unit_of(tag, &answer)),
+            _ => None,
+        }
+    }
+
+    /// The answer of a tag whose task has ended was sent: the device has no task of it any more.
+    pub fn sent(&mut self, tag: u16)
+        requires { wanted self.old tag ≡ Phase.Ends }
+        ensures { self.new ≡ without_task self.old tag }
+    {
+        self.tasks.set(tag, None);
+    }
+
+    /// The logical unit that a LUN addresses, where it is there (SAM, single level LUN structure).
+    pub fn unit(&self, lun: &[u8; LUN_BYTES]) -> Option<&Unit>
+        ensures { option_map (λ unit. unit.now) result ≡ addressed self.now.units lun.now }
+    {
+        match unit_number(&self.units, lun) {
+            Some(number) => Some(&self.units[number]),
+            None => None,
+        }
+    }
+}
+
+fn unit_of(tag: u16, answer: &DeviceAnswer) -> Iu
+    ensures { result ≡ answer_unit tag answer.now }
+{
+    match answer {
+        DeviceAnswer::Status(answer) => {
+            let (status, sense) = status_and_sense(answer);
+            Iu::Sense { tag, status, sense }
+        }
+        DeviceAnswer::Response(code) => Iu::Response { tag, code: *code },
+    }
+}

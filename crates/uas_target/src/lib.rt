@@ -1,0 +1,119 @@
+//! A simulated USB Attached SCSI device (INCITS 471): logical units, and the tasks that a host began on them, by tag.
+//!
+//! ```text
+//!                receive                  give_chunk, take_chunk            sent
+//!     no task ------------> moving data ------------------------> ended ----------> no task
+//!        |                                                          ^
+//!        +----------------------------------------------------------+
+//!          receive: no data, a fault, an attention, bytes that are no unit
+//! ```
+//!
+//! A received Command unit is executed whole on the unit that its LUN addresses, up to the data: a unit attention comes
+//! first (SAM; INQUIRY neither reports nor clears one), then the faults of its CDB, and what moves no data has ended. Data
+//! moves in chunks of at most eight blocks, each on the blocks of its own moment, so a task holds no bytes. A bad block in
+//! a chunk ends the command, and the chunks before it stand. Where the LUN addresses no unit, INQUIRY tells so in its data,
+//! and every other command ends with LOGICAL UNIT NOT SUPPORTED. Bytes that are no unit are answered where a free tag can
+//! be read from them.
+//!
+//! What is promised: a [`Target`] is the record `Device` of `specs/Device.antt`, block maps by unit number and tasks by
+//! tag, and each call makes of it exactly what the definition of that name says, and answers so. So after any list of
+//! calls it is `device_after` of that list. The steps of a command are those of `solo_model`: `begun` where it is received,
+//! `phase_after` at each chunk.
+//!
+//! [`Target::new`] takes all memory that the device ever has; no later call takes any. Finding a tag's task is one index.
+//!
+//! It stands on `uas_iu` for the units, `scsi_cmd` for what a CDB asks, `block_unit` for the blocks, and `solo_model` for
+//! the steps of one command.
+#![tactic(auto)]
+
+mod calls;
+mod chunks;
+mod laws;
+mod receiver;
+mod table;
+
+use block_unit::Unit;
+pub use laws::{calls_are_folded, received_texts};
+use scsi_cmd::Op;
+use solo_model::Answer;
+use std::marker::Model;
+pub use table::TaskTable;
+use thiserror::Error;
+
+/// The greatest tag that a task may have; the least is 1.
+pub const GREATEST_TAG: u16 = 248;
+
+/// The most logical units of a device.
+pub const MAX_UNITS: usize = 31;
+
+/// How a task ended.
+#[derive(Clone, Copy, Debug, PartialEq, Eq)]
+pub enum DeviceAnswer {
+    /// A command, with a status.
+    Status(Answer),
+    /// With a response code.
+    Response(u8),
+}
+
+/// A task of the device. `unit` is the number of the logical unit of a command, and `None` where that unit isn't there
+/// and where the task is no command's.
+#[derive(Clone, Copy, Debug, PartialEq, Eq)]
+pub enum DeviceTask {
+    /// It moves the data of an operation, of which so many chunks are done.
+    Moving {
+        unit: Option<usize>,
+        op: Op,
+        chunk: u16,
+    },
+    /// Its answer waits to be sent.
+    Ended {
+        unit: Option<usize>,
+        answer: DeviceAnswer,
+    },
+}
+
+/// What the device does next on a tag.
+#[derive(Clone, Copy, Debug, PartialEq, Eq)]
+pub enum Phase {
+    /// It has no task of that tag.
+    Absent,
+    /// It gives a chunk of so many bytes to the host.
+    Gives(usize),
+    /// It takes a chunk of so many bytes from the host.
+    Takes(usize),
+    /// It sends its answer.
+    Ends,
+}
+
+/// What came of received bytes.
+#[derive(Clone, Copy, Debug, PartialEq, Eq)]
+pub enum Took {
+    /// A task began on this tag.
+    Began(u16),
+    /// Nothing.
+    Dropped,
+}
+
+/// The tag of a received unit has a task (INCITS 471, overlapped tag).
+#[derive(Clone, Copy, Debug, PartialEq, Eq, Error)]
+#[error("the tag has a task")]
+pub struct Overlap;
+
+/// The device: its logical units by number, and its tasks by tag.
+#[derive(Debug, Drop)]
+pub struct Target {
+    units: Vec<Unit>,
+    tasks: TaskTable,
+}
+
+impl Model for Target {
+    ghost use Rattle.uas_target.specs.Device.{Device};
+
+    ghost Value = { Device };
+
+    ghost use Rattle.uas_target.specs.Soundness.{IsSoundDevice};
+
+    ghost view = { λ target. record { units = target.units.items; tasks = target.tasks } };
+
+    ghost invariant = { λ target. IsSoundDevice target.units.items target.tasks };
+}

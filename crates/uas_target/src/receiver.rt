@@ -1,0 +1,165 @@
+//! What comes of received bytes.
+ghost use Rattle.std.specs.Prelude.{◌≡◌, ℕ, ◌<◌, ◌≤◌, List, true, None, Some, Ok, IfNone, IfSome, MatchOption, length, slice_get, slice_index, slice_set};
+ghost use Rattle.scsi_cmd.specs.Meaning.{asked};
+ghost use Rattle.solo_model.specs.TaggedTask.{begun};
+ghost use Rattle.uas_target.specs.Device.{executed, on_its_tag, received, received_unreadable, with_response, with_units_and_task};
+ghost use Rattle.uas_target.specs.Fields.{addressed, is_tag, tag_in};
+ghost use Rattle.uas_target.specs.Soundness.{IsSoundTask, counts_of};
+ghost use Rattle.uas_target.specs.Tasks.{asked_phase, missing_phase, task_in};
+
+use crate::chunks::task_in;
+use crate::table::is_tag;
+use crate::{DeviceAnswer, DeviceTask, Overlap, Target, Took};
+use block_unit::Unit;
+use scsi_cmd::{Op, Sense, moves, parse};
+use solo_model::{Answer, Phase as Step, begin};
+use uas_iu::{CDB_BYTES, INVALID_INFORMATION_UNIT, Iu, LUN_BYTES, NOT_SUPPORTED, lun_number, read};
+
+/// Operation code of INQUIRY (SPC).
+const INQUIRY: u8 = 0x12;
+
+/// The number of the unit that a LUN addresses, where it is there (SAM, single level LUN structure).
+pub fn unit_number(units: &[Unit], lun: &[u8; LUN_BYTES]) -> Option<usize>
+    ensures none { IfNone result (addressed units.now lun.now ≡ None) }
+    ensures some { IfSome result (λ number. (number < length units.now) × (number ≡ slice_index lun.now 1) × (addressed units.now lun.now ≡ slice_get units.now number)) }
+{
+    let number = usize::from(lun_number(lun)?);
+    if number < units.len() {
+        Some(number)
+    } else {
+        None
+    }
+}
+
+/// The addressed unit executes a CDB as far as its data; what the device has of the command then.
+fn execute(units: &mut [Unit], lun: &[u8; LUN_BYTES], cdb: &[u8; CDB_BYTES]) -> Option<DeviceTask>
+    ensures executed { (units.new, result) ≡ executed units.old lun.now cdb.now }
+    ensures counts { counts_of units.new ≡ counts_of units.old }
+    ensures sound { IfSome result (IsSoundTask (counts_of units.new)) }
+{
+    match unit_number(units, lun) {
+        Some(number) => begin_at(units, number, cdb),
+        None => missing_task(cdb),
+    }
+}
+
+/// The unit of this number executes a CDB as far as its data.
+fn begin_on(unit: &mut Unit, number: usize, cdb: &[u8; CDB_BYTES]) -> Option<DeviceTask>
+    ensures unit { unit.new ≡ (begun unit.old (asked cdb.now unit.old.count)).0 }
+    ensures task { result ≡ task_in (Some number) (asked cdb.now unit.old.count) (begun unit.old (asked cdb.now unit.old.count)).1 }
+    ensures count { unit.new.count ≡ unit.old.count }
+    ensures sound { (counts : List ℕ) → slice_get counts number ≡ Some unit.old.count → IfSome result (IsSoundTask counts) }
+{
+    let asked = parse(cdb, unit.blocks());
+    let step = begin(unit, asked);
+    task_in(Some(number), &asked, step)
+}
+
+fn begin_at(units: &mut [Unit], number: usize, cdb: &[u8; CDB_BYTES]) -> Option<DeviceTask>
+    requires { number < length units.old }
+    ensures begun { MatchOption (slice_get units.old number) ⊥ (λ unit.
+        (units.new ≡ slice_set units.old number (begun unit (asked cdb.now unit.count)).0)
+        × (result ≡ task_in (Some number) (asked cdb.now unit.count) (begun unit (asked cdb.now unit.count)).1)) }
+    ensures counts { counts_of units.new ≡ counts_of units.old }
+    ensures sound { IfSome result (IsSoundTask (counts_of units.new)) }
+{
+    begin_on(&mut units[number], number, cdb)
+}
+
+/// A command to a unit that isn't there: INQUIRY alone is executed.
+fn missing_task(cdb: &[u8; CDB_BYTES]) -> Option<DeviceTask>
+    ensures { result ≡ task_in None (asked cdb.now 0) (missing_phase cdb.now (asked cdb.now 0)) }
+{
+    let asked = parse(cdb, 0);
+    let step = if cdb[0] == INQUIRY {
+        step_of(&asked)
+    } else {
+        Step::Ended(Answer::Check(Sense::UNIT_NOT_SUPPORTED))
+    };
+    task_in(None, &asked, step)
+}
+
+fn step_of(asked: &Result<Op, Sense>) -> Step
+    ensures { result ≡ asked_phase asked.now }
+{
+    match asked {
+        Ok(op) if moves(op).1 > 0 => Step::Moving(0),
+        Ok(_) => Step::Ended(Answer::Good),
+        Err(sense) => Step::Ended(Answer::Check(*sense)),
+    }
+}
+
+impl Target {
+    /// Receives the bytes of a unit (INCITS 471): `Began` where a task began on its tag, which may have ended at once,
+    /// and `Dropped` where nothing came of them. A readable Command unit is executed as far as its data, and Task
+    /// Management is answered as not supported. Bytes that are no unit are answered as such, where at least four came and
+    /// the tag in bytes 2 and 3 is free and may have a task. What a device sends, and a unit whose tag no task may have,
+    /// is dropped. `Overlap`, and nothing changes, where the tag of a readable Command or Task Management unit has a task.
+    pub fn receive(&mut self, bytes: &[u8]) -> Result<Took, Overlap>
+        ensures { (self.new, result) ≡ received self.old bytes.now }
+    {
+        match read(bytes) {
+            Ok(Iu::Command { tag, lun, cdb }) => self.receive_command(tag, &lun, &cdb),
+            Ok(Iu::Task { tag, .. }) => self.receive_task(tag),
+            Ok(Iu::Sense { .. }) => Ok(Took::Dropped),
+            Ok(Iu::Response { .. }) => Ok(Took::Dropped),
+            Err(_) => Ok(self.receive_unreadable(bytes)),
+        }
+    }
+
+    fn receive_command(
+        &mut self,
+        tag: u16,
+        lun: &[u8; LUN_BYTES],
+        cdb: &[u8; CDB_BYTES],
+    ) -> Result<Took, Overlap>
+        ensures { (self.new, result) ≡ on_its_tag self.old tag (with_units_and_task self.old tag (executed self.old.units lun.now cdb.now)) }
+    {
+        if !is_tag(tag) {
+            return Ok(Took::Dropped);
+        }
+        if self.tasks.get(tag).is_some() {
+            return Err(Overlap);
+        }
+        let task = execute(&mut self.units, lun, cdb);
+        self.tasks.set(tag, task);
+        Ok(Took::Began(tag))
+    }
+
+    fn receive_task(&mut self, tag: u16) -> Result<Took, Overlap>
+        ensures { (self.new, result) ≡ on_its_tag self.old tag (with_response self.old tag 4) }
+    {
+        if !is_tag(tag) {
+            return Ok(Took::Dropped);
+        }
+        if self.tasks.get(tag).is_some() {
+            return Err(Overlap);
+        }
+        self.respond(tag, NOT_SUPPORTED);
+        Ok(Took::Began(tag))
+    }
+
+    fn receive_unreadable(&mut self, bytes: &[u8]) -> Took
+        ensures { (self.new, Ok result) ≡ received_unreadable self.old bytes.now (tag_in bytes.now) }
+    {
+        let [_, _, high, low, ..] = bytes else {
+            return Took::Dropped;
+        };
+        let tag = u16::from_be_bytes([*high, *low]);
+        if !is_tag(tag) || self.tasks.get(tag).is_some() {
+            return Took::Dropped;
+        }
+        self.respond(tag, INVALID_INFORMATION_UNIT);
+        Took::Began(tag)
+    }
+
+    /// The task of a free tag has ended with a response code.
+    fn respond(&mut self, tag: u16, code: u8)
+        requires { is_tag tag ≡ true }
+        ensures { self.new ≡ with_response self.old tag code }
+    {
+        let answer = DeviceAnswer::Response(code);
+        self.tasks
+            .set(tag, Some(DeviceTask::Ended { unit: None, answer }));
+    }
+}

@@ -77,7 +77,7 @@ IsCommand (StopEndpoint endpoint slot) = Unit {0}
 IsCommand (SetDequeue pointer cycle stream endpoint slot) = Unit {0}
 IsCommand _ = ⊥
 
--- Normal TRBs of which all have the Chain bit but the last, which hasn't (4.11.2.2)
+-- Normal TRBs of which all have the Chain bit but the last, which hasn't (4.11)
 abbrev pub IsChain : List Trb → Type 0
 IsChain [] = ⊥
 IsChain (trb ∷ []) = IsNormal trb × (has_chain trb ≡ false)

@@ -120,9 +120,14 @@ fn borders(rt: HostRuntime) -> Result<(), Fail> {
         (u64::MAX, 1, false),
         (0x1000_0100, usize::MAX, false),
     ] {
+        let answer = if ok {
+            Ok(())
+        } else {
+            Err(FrameFault::BadAddress)
+        };
         assert_eq!(rt;
-            frames.check(address, len).is_ok(),
-            ok,
+            frames.check(address, len),
+            answer,
             "{len} bytes at {address:#x}"
         );
     }

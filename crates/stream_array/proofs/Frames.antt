@@ -7,12 +7,12 @@ use Rattle.stream_array.specs.Map.{HasRing}
 use Rattle.stream_array.specs.Rings.{LinesState, IsLines, ring_of, with_ring}
 
 -- the ring that was changed
-pub ring_of-with_ring : (l : LinesState) (pipe : Pipe) (stream : ℕ) (r : Ring) → IsLines l → HasRing pipe stream
+pub ring_of_with_ring : (l : LinesState) (pipe : Pipe) (stream : ℕ) (r : Ring) → IsLines l → HasRing pipe stream
     → ring_of (with_ring l pipe stream r) pipe stream ≡ r
-ring_of-with_ring l Command stream r lines has = refl
-ring_of-with_ring l Status stream r lines has = get_or-set_same l.status (stream - 1) r (opening 0) (omega (arith, lines.status))
-ring_of-with_ring l DataIn stream r lines has = get_or-set_same l.data_in (stream - 1) r (opening 0) (omega (arith, lines.data_in))
-ring_of-with_ring l DataOut stream r lines has = get_or-set_same l.data_out (stream - 1) r (opening 0) (omega (arith, lines.data_out))
+ring_of_with_ring l Command stream r lines has = refl
+ring_of_with_ring l Status stream r lines has = get_or-set_same l.status (stream - 1) r (opening 0) (omega (arith, lines.status))
+ring_of_with_ring l DataIn stream r lines has = get_or-set_same l.data_in (stream - 1) r (opening 0) (omega (arith, lines.data_in))
+ring_of_with_ring l DataOut stream r lines has = get_or-set_same l.data_out (stream - 1) r (opening 0) (omega (arith, lines.data_out))
 
 -- the other rings of its pipe
 pub ring_of-with_stream : (l : LinesState) (pipe : Pipe) (stream : ℕ) (r : Ring) (other : ℕ) → HasRing pipe stream → HasRing pipe other

@@ -22,7 +22,7 @@ tag_at per client index = per * client + index
 abbrev pub task_tag : ℕ → ℕ → ℕ
 task_tag per client = tag_at per client per
 
--- The entry of a command tag: the tag of index k + 1 has entry k.
+-- The entry of a command tag: the tag of index k + 1 has entry k. By hand: with 8 tags, tag 18 of client 2 has entry 1.
 abbrev pub entry_of : ℕ → ClientTags → ℕ → ℕ
 entry_of per tags tag = tag - per * tags.client - 1
 
@@ -38,7 +38,8 @@ commands_out tags = count_by (λ is_out. is_out) tags.out
 abbrev pub outstanding : ClientTags → ℕ
 outstanding tags = commands_out tags + (if tags.task_out then 1 else 0)
 
--- Whether a tag of the client is out; a tag of another client never is.
+-- Whether a tag of the client is out; a tag of another client never is. By hand: for client 1 of 8 tags, tags 8 and 17 are
+-- not, whatever is out.
 abbrev pub is_issued : ℕ → ClientTags → ℕ → Bool
 is_issued per tags tag =
     if tag == task_tag per tags.client then tags.task_out else
@@ -71,7 +72,8 @@ issue_task per tags =
     if is_worn tags then (tags, Err Worn) else
     (record tags { next = tags.next + 1; task_out = true }, Ok (task_tag per tags.client, tags.next))
 
--- A tag that is freed is no longer out. No ticket comes back.
+-- A tag that is freed is no longer out. No ticket comes back. By hand: with 8 tags, client 2 issues 17 and 18 and frees 17;
+-- then 18 is out, and the next command has tag 17 with ticket 2.
 abbrev pub free : ℕ → ClientTags → ℕ → ClientTags
 free per tags tag =
     if tag == task_tag per tags.client then record tags { task_out = false } else
@@ -84,6 +86,6 @@ pub record IsLeastFree (per : ℕ) (tags : ClientTags) (tag : ℕ) : Type 0 wher
   pub free : is_issued per tags tag ≡ false
   pub least : (other : ℕ) → per * tags.client < other → other < tag → is_issued per tags other ≡ true
 
--- The n lowest bits of a mask, each as whether it is 1.
+-- The n lowest bits of a mask, each as whether it is 1, bit 0 first. By hand: of mask 6 the 3 lowest are false, true, true.
 unfoldable pub flags : ℕ → ℕ → List Bool
 flags n mask = map (λ k. bit_at mask k == 1) (range_with_len 0 n)

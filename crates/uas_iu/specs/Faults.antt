@@ -42,7 +42,8 @@ abbrev pub is_reserved_set : List ℕ → Bool
 is_reserved_set bytes =
     list_any (λ place. not (slice_index bytes place == 0)) (reserved_places (identifier bytes))
 
--- the additional CDB length isn't 0, or the sense length isn't the number of bytes after byte 15
+-- the additional CDB length isn't 0, or the sense length isn't the number of bytes after byte 15: a Sense
+-- unit of 34 bytes has 00 12 in bytes 14 and 15
 abbrev pub is_length_wrong : List ℕ → Bool
 is_length_wrong bytes =
     if identifier bytes == 1 then not (slice_index bytes 6 == 0)
@@ -50,6 +51,8 @@ is_length_wrong bytes =
     else false)
 
 -- the first of the tests that holds
+-- no bytes are Short, and so are the 31 bytes 01 00 00 12 ..; 33 bytes 01 01 .. are Long, and 32 such ReservedSet;
+-- 113 bytes 03 .. are Long, and 112 aren't
 unfoldable pub first_fault : List ℕ → Option IuFault
 first_fault bytes =
     if is_unknown bytes then Some UnknownId

@@ -28,7 +28,7 @@ use Rattle.uas_target.specs.declared.Phase.TheVariants.{Gives, Takes}
 use Rattle.uas_target.specs.declared.TheConstants.{GREATEST_TAG}
 use Rattle.uas_target.specs.Fields.{is_tag}
 use Rattle.uas_target.specs.Soundness.{IsSoundTask, IsSoundDevice, IsOn, IsInquiry, counts_of}
-use Rattle.uas_target.specs.Tasks.{task_in, missing_phase, asked_phase, chunk_wanted, chunk_given}
+use Rattle.uas_target.specs.Tasks.{task_in, begun_by, is_inquiry, missing_phase, asked_phase, chunk_wanted, chunk_given}
 use Rattle.uas_target.proofs.Counts.{slice_get-counts_of}
 
 -- what a tag has is sound
@@ -86,9 +86,18 @@ begun_asked_sound counts number unit (Ok op) is in_range =
       | false ↦ first_phase_sound counts (Some number) op (moved_bytes op) refl (rw is (in_range op refl))
     ]
 
+step_asked_sound : (counts : List ℕ) (number blocks : ℕ) (asks : Result Op Sense) → slice_get counts number ≡ Some blocks →
+    ((op : Op) → asks ≡ Ok op → op_fault op blocks ≡ None) → IfSome (task_in (Some number) asks (asked_phase asks)) (IsSoundTask counts)
+step_asked_sound counts number blocks (Err sense) is in_range = tt
+step_asked_sound counts number blocks (Ok op) is in_range = first_phase_sound counts (Some number) op (moved_bytes op) refl (rw is (in_range op refl))
+
 pub begun_sound : (counts : List ℕ) (number : ℕ) (unit : BlockMaps) (cdb : List ℕ) → slice_get counts number ≡ Some unit.count →
-    IfSome (task_in (Some number) (asked cdb unit.count) (begun unit (asked cdb unit.count)).1) (IsSoundTask counts)
-begun_sound counts number unit cdb is = begun_asked_sound counts number unit (asked cdb unit.count) is (asked_in_range cdb unit.count)
+    IfSome (task_in (Some number) (asked cdb unit.count) (begun_by unit cdb (asked cdb unit.count)).1) (IsSoundTask counts)
+begun_sound counts number unit cdb is =
+    elim (is_inquiry cdb) as (λ b. IfSome (task_in (Some number) (asked cdb unit.count) (cond {A = BlockMaps × Step} b (unit, asked_phase (asked cdb unit.count)) (begun unit (asked cdb unit.count))).1) (IsSoundTask counts)) [
+      | true ↦ step_asked_sound counts number unit.count (asked cdb unit.count) is (asked_in_range cdb unit.count)
+      | false ↦ begun_asked_sound counts number unit (asked cdb unit.count) is (asked_in_range cdb unit.count)
+    ]
 
 -- A UNIT THAT ISN'T THERE
 

@@ -4,7 +4,6 @@ use Rattle.std.specs.Option.{option_map_or}
 use Rattle.block_unit.specs.BlockMaps.{BlockMaps}
 use Rattle.scsi_cmd.specs.Meaning.{asked}
 use Rattle.solo_model.specs.Held.{held_under, with_held_under}
-use Rattle.solo_model.specs.TaggedTask.{begun}
 use Rattle.uas_iu.specs.declared.Iu.{Iu}
 use Rattle.uas_iu.specs.Faults.{first_fault, identifier}
 use Rattle.uas_target.specs.declared.DeviceAnswer.TheVariants.{Response}
@@ -17,7 +16,7 @@ use Rattle.uas_target.specs.declared.TheConstants.{GREATEST_TAG}
 use Rattle.uas_target.specs.declared.Took.{Took}
 use Rattle.uas_target.specs.declared.Took.TheVariants.{Began, Dropped}
 use Rattle.uas_target.specs.Fields.{is_tag, tag_in, lun_in, cdb_in, addressed}
-use Rattle.uas_target.specs.Tasks.{task_in, missing_phase, task_wants, task_given, task_fits, task_taken, task_left, task_answer}
+use Rattle.uas_target.specs.Tasks.{task_in, begun_by, missing_phase, task_wants, task_given, task_fits, task_taken, task_left, task_answer}
 
 -- the units by number, and the task of each tag, tag 1 first
 pub record Device : Type 0 where
@@ -55,7 +54,7 @@ abbrev pub executed_on : List BlockMaps → ℕ → List ℕ → Option BlockMap
 executed_on units number cdb None = (units, task_in None (asked cdb 0) (missing_phase cdb (asked cdb 0)))
 executed_on units number cdb (Some unit) =
     let asks = asked cdb unit.count in
-    (slice_set units number (begun unit asks).0, task_in (Some number) asks (begun unit asks).1)
+    (slice_set units number (begun_by unit cdb asks).0, task_in (Some number) asks (begun_by unit cdb asks).1)
 
 abbrev pub executed : List BlockMaps → List ℕ → List ℕ → List BlockMaps × Option DeviceTask
 executed units lun cdb = executed_on units (slice_index lun 1) cdb (addressed units lun)

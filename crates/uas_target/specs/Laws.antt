@@ -3,6 +3,12 @@ use Rattle.std.specs.Prelude.{◌≡◌, ℕ, List, [], ◌∷◌, ◌++◌}
 use Rattle.uas_iu.specs.declared.Iu.TheVariants.{Command, Sense, Response, Task}
 use Rattle.uas_iu.specs.Units.{Fits, unit_text}
 use Rattle.arrayvec.specs.ArrayVec.{ArrayVec}
+use Rattle.block_unit.specs.BlockMaps.{BlockMaps}
+use Rattle.scsi_cmd.specs.declared.Op.{Op}
+use Rattle.scsi_cmd.specs.Meaning.{asked, checked}
+use Rattle.scsi_cmd.specs.Op.{cdb_bytes}
+use Rattle.solo_model.specs.TaggedTask.{begun}
+use Rattle.uas_target.specs.Tasks.{begun_by}
 use Rattle.uas_target.specs.Device.{Device, Call, called, device_after, dropped, executed, on_its_tag, received, with_response, with_units_and_task}
 
 -- WHAT COMES OF THE TEXT OF A UNIT
@@ -29,6 +35,12 @@ abbrev pub ResponsesAreDropped : Type 0
 ResponsesAreDropped =
     (device : Device) (tag code : ℕ) → Fits (Response tag code)
     → received device (unit_text (Response tag code)) ≡ dropped device
+
+-- what a host asks for begins as in the solo machine
+abbrev pub BeginsAsSolo : Type 0
+BeginsAsSolo =
+    (unit : BlockMaps) (op : Op)
+    → begun_by unit (cdb_bytes op) (asked (cdb_bytes op) unit.count) ≡ begun unit (checked op unit.count)
 
 -- A LIST OF CALLS
 

@@ -8,6 +8,8 @@ use Rattle.scsi_cmd.specs.Meaning.{op_fault}
 use Rattle.solo_model.specs.Held.{AllHeld}
 use Rattle.uas_target.specs.declared.DeviceTask.{DeviceTask}
 use Rattle.uas_target.specs.declared.DeviceTask.TheVariants.{Moving, Ended}
+use Rattle.uas_target.specs.declared.Phase.{Phase}
+use Rattle.uas_target.specs.declared.Phase.TheVariants.{Absent, Gives, Takes, Ends}
 use Rattle.uas_target.specs.declared.TheConstants.{GREATEST_TAG, MAX_UNITS}
 
 -- how many blocks each unit has
@@ -31,6 +33,13 @@ IsOn counts op (Some number) = MatchOption (slice_get counts number) ⊥ (λ cou
 abbrev pub IsSoundTask : List ℕ → DeviceTask → Type 0
 IsSoundTask counts (Moving unit op chunk) = (4096 * chunk < moved_bytes op) × IsOn counts op unit
 IsSoundTask counts (Ended unit answer) = Unit {0}
+
+-- a chunk has bytes, and at most those of eight blocks
+abbrev pub IsChunk : Phase → Type 0
+IsChunk Absent = Unit {0}
+IsChunk (Gives size) = (0 < size) × (size ≤ 4096)
+IsChunk (Takes size) = (0 < size) × (size ≤ 4096)
+IsChunk Ends = Unit {0}
 
 -- 1 to 31 units, a place for each tag, and every task is sound
 pub record IsSoundDevice (units : List BlockMaps) (held : List (Option DeviceTask)) : Type 0 where

@@ -12,7 +12,7 @@ use Rattle.scsi_cmd.specs.Data.{inquiry_bytes, capacity_bytes}
 use Rattle.solo_model.specs.declared.Answer.TheVariants.{Good, Check}
 use Rattle.solo_model.specs.declared.Phase.{Phase as Step}
 use Rattle.solo_model.specs.declared.Phase.TheVariants.{Queued as QueuedStep, Moving as MovingStep, Ended as EndedStep, Sent as SentStep}
-use Rattle.solo_model.specs.TaggedTask.{first_phase, chunk_blocks, meets_bad_chunk, phase_after, status_of, sense_of}
+use Rattle.solo_model.specs.TaggedTask.{begun, first_phase, chunk_blocks, meets_bad_chunk, phase_after, status_of, sense_of}
 use Rattle.uas_iu.specs.declared.Iu.{Iu}
 use Rattle.uas_iu.specs.declared.Iu.TheVariants.{Sense as SenseIu, Response as ResponseIu}
 use Rattle.uas_target.specs.declared.DeviceAnswer.{DeviceAnswer}
@@ -30,16 +30,25 @@ task_in unit asks (MovingStep chunk) = option_map (λ op. Moving unit op chunk) 
 task_in unit asks (EndedStep answer) = Some (Ended unit (Status answer))
 task_in unit asks (SentStep answer) = None
 
--- A COMMAND TO A UNIT THAT ISN'T THERE
+-- WHERE A COMMAND IS RECEIVED
 
--- its phase, by what its CDB asks
+-- INQUIRY has the operation code 12h (SPC)
+abbrev pub is_inquiry : List ℕ → Bool
+is_inquiry cdb = slice_index cdb 0 == 0x12
+
+-- the phase of a command that reports no attention, by what its CDB asks
 abbrev pub asked_phase : Result Op Sense → Step
 asked_phase (Ok op) = first_phase (moved_bytes op)
 asked_phase (Err sense) = EndedStep (Check sense)
 
--- INQUIRY (operation code 12h) is parsed as ever; any other CDB ends with LOGICAL UNIT NOT SUPPORTED (SPC)
+-- The unit and the phase once a CDB was received that asks for this. INQUIRY neither reports nor clears a unit attention,
+-- also where its CDB has a fault; any other command is begun as in the solo machine, an attention first.
+abbrev pub begun_by : BlockMaps → List ℕ → Result Op Sense → BlockMaps × Step
+begun_by unit cdb asks = if is_inquiry cdb then (unit, asked_phase asks) else begun unit asks
+
+-- the phase where there is no unit: INQUIRY is parsed as ever; any other CDB ends with LOGICAL UNIT NOT SUPPORTED
 abbrev pub missing_phase : List ℕ → Result Op Sense → Step
-missing_phase cdb asks = if slice_index cdb 0 == 0x12 then asked_phase asks else EndedStep (Check unit_not_supported)
+missing_phase cdb asks = if is_inquiry cdb then asked_phase asks else EndedStep (Check unit_not_supported)
 
 -- WHAT A TASK WANTS
 

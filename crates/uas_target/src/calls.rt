@@ -1,13 +1,10 @@
 //! The calls on a tag's task.
-ghost use Rattle.std.specs.Prelude.{◌≡◌, ℕ, ◌+◌, ◌*◌, ◌<◌, ◌≤◌, IfOk, MatchOption, None, Some, is_some, length, option_map, slice_get, slice_set, vec_len};
+ghost use Rattle.std.specs.Prelude.{◌≡◌, ◌≤◌, IfOk, is_some, length, option_map, vec_len};
 ghost use Rattle.std.specs.Option.{unwrap_or};
-ghost use Rattle.scsi_cmd.specs.Meaning.{op_fault};
-ghost use Rattle.scsi_cmd.specs.Op.{moved_bytes};
-ghost use Rattle.solo_model.specs.TaggedTask.{phase_after};
 ghost use Rattle.uas_target.specs.Device.{answered, fits, gave, given, opening, took, wanted, without_task};
 ghost use Rattle.uas_target.specs.Fields.{addressed};
-ghost use Rattle.uas_target.specs.Soundness.{IsOn, counts_of};
-ghost use Rattle.uas_target.specs.Tasks.{answer_unit, chunk_fits, chunk_wanted, unit_taken};
+ghost use Rattle.uas_target.specs.Soundness.{IsChunk};
+ghost use Rattle.uas_target.specs.Tasks.{answer_unit};
 
 use crate::chunks::{chunk_wants, give_task, take_task};
 use crate::receiver::unit_number;
@@ -32,7 +29,8 @@ impl Target {
 
     /// What the device does next on a tag; of a tag that no task may have it is `Absent`.
     pub fn wants(&self, tag: u16) -> Phase
-        ensures { result ≡ wanted self.now tag }
+        ensures phase { result ≡ wanted self.now tag }
+        ensures chunk { IsChunk result }
     {
         match self.tasks.get(tag) {
             Some(DeviceTask::Moving { op, chunk, .. }) => chunk_wants(op, chunk),
@@ -76,10 +74,10 @@ impl Target {
     pub fn status_of(&self, tag: u16) -> Option<Iu>
         ensures { result ≡ answered self.now tag }
     {
-        match self.tasks.get(tag) {
-            Some(DeviceTask::Ended { answer, .. }) => Some(unit_of(tag, &answer)),
-            _ => None,
-        }
+        let Some(DeviceTask::Ended { answer, .. }) = self.tasks.get(tag) else {
+            return None;
+        };
+        Some(unit_of(tag, &answer))
     }
 
     /// The answer of a tag whose task has ended was sent: the device has no task of it any more.

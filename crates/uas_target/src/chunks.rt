@@ -7,7 +7,7 @@ ghost use Rattle.scsi_cmd.specs.Op.{moved_bytes};
 ghost use Rattle.scsi_cmd.specs.Sense.{unrecovered_read_error, write_error};
 ghost use Rattle.scsi_cmd.specs.Data.{inquiry_bytes};
 ghost use Rattle.solo_model.specs.TaggedTask.{chunk_blocks, next_phase, phase_after, phase_after_chunk, meets_bad_chunk};
-ghost use Rattle.uas_target.specs.Soundness.{IsOn, IsSoundTask, counts_of};
+ghost use Rattle.uas_target.specs.Soundness.{IsChunk, IsOn, IsSoundTask, counts_of};
 ghost use Rattle.uas_target.specs.Tasks.{blocks_given, chunk_fits, chunk_given, chunk_wanted, task_fits, task_given, task_in, task_left, task_taken, task_wants, unit_taken};
 
 use crate::{DeviceAnswer, DeviceTask, Phase};
@@ -36,7 +36,8 @@ pub fn task_in(unit: Option<usize>, asked: &Result<Op, Sense>, step: Step) -> Op
 /// The way and the bytes of the next chunk of an operation that has bytes left to move.
 pub fn chunk_wants(op: Op, chunk: u16) -> Phase
     requires { 4096 * chunk < moved_bytes op }
-    ensures { result ≡ chunk_wanted chunk op }
+    ensures phase { result ≡ chunk_wanted chunk op }
+    ensures chunk { IsChunk result }
 {
     match op {
         Op::Inquiry { .. } | Op::ReadCapacity => Phase::Gives(moves(&op).1),
@@ -49,7 +50,9 @@ pub fn chunk_wants(op: Op, chunk: u16) -> Phase
 /// The bytes of a chunk, of so many blocks in all.
 fn chunk_bytes(count: u16, chunk: u16) -> usize
     requires { 8 * chunk < count }
-    ensures { result ≡ 512 * chunk_blocks count chunk }
+    ensures size { result ≡ 512 * chunk_blocks count chunk }
+    ensures some { 0 < result }
+    ensures most { result ≤ 4096 }
 {
     BLOCK_BYTES * usize::from((count - CHUNK_BLOCKS * chunk).min(CHUNK_BLOCKS))
 }

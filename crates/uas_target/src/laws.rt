@@ -1,5 +1,5 @@
 //! Laws of the device's definitions.
-ghost use Rattle.uas_target.specs.Laws.{CallsAreFolded, CommandsAreExecuted, ResponsesAreDropped, SensesAreDropped, TasksAreAnswered};
+ghost use Rattle.uas_target.specs.Laws.{BeginsAsSolo, CallsAreFolded, CommandsAreExecuted, ResponsesAreDropped, SensesAreDropped, TasksAreAnswered};
 
 /// Law: what comes of the text of each kind of unit.
 #[tactic(auto, using(crate::proofs::Received::of_texts))]
@@ -8,6 +8,12 @@ pub fn received_texts()
     ensures tasks { TasksAreAnswered }
     ensures senses { SensesAreDropped }
     ensures responses { ResponsesAreDropped }
+{}
+
+/// Law: an operation that a host asks for begins as in the solo machine.
+#[tactic(auto, using(crate::proofs::Received::of_texts))]
+pub fn begins_as_solo()
+    ensures { BeginsAsSolo }
 {}
 
 /// Law: the device after a list of calls is what each call in turn makes of it.

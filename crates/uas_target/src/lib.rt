@@ -31,9 +31,11 @@ mod chunks;
 mod laws;
 mod receiver;
 mod table;
+#[cfg(test)]
+mod tests;
 
 use block_unit::Unit;
-pub use laws::{calls_are_folded, received_texts};
+pub use laws::{begins_as_solo, calls_are_folded, received_texts};
 use scsi_cmd::Op;
 use solo_model::Answer;
 use std::marker::Model;

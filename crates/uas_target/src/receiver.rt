@@ -1,11 +1,11 @@
 //! What comes of received bytes.
 ghost use Rattle.std.specs.Prelude.{◌≡◌, ℕ, ◌<◌, ◌≤◌, List, true, None, Some, Ok, IfNone, IfSome, MatchOption, length, slice_get, slice_index, slice_set};
-ghost use Rattle.scsi_cmd.specs.Meaning.{asked};
-ghost use Rattle.solo_model.specs.TaggedTask.{begun};
-ghost use Rattle.uas_target.specs.Device.{executed, on_its_tag, received, received_unreadable, with_response, with_units_and_task};
+ghost use Rattle.std.specs.Result.{ForOk};
+ghost use Rattle.scsi_cmd.specs.Meaning.{asked, op_fault};
+ghost use Rattle.uas_target.specs.Device.{Device, executed, on_its_tag, received, received_unreadable, task_of, with_response, with_units_and_task};
 ghost use Rattle.uas_target.specs.Fields.{addressed, is_tag, tag_in};
 ghost use Rattle.uas_target.specs.Soundness.{IsSoundTask, counts_of};
-ghost use Rattle.uas_target.specs.Tasks.{asked_phase, missing_phase, task_in};
+ghost use Rattle.uas_target.specs.Tasks.{asked_phase, begun_by, is_inquiry, missing_phase, task_in};
 
 use crate::chunks::task_in;
 use crate::table::is_tag;
@@ -45,25 +45,40 @@ fn execute(units: &mut [Unit], lun: &[u8; LUN_BYTES], cdb: &[u8; CDB_BYTES]) -> 
 
 /// The unit of this number executes a CDB as far as its data.
 fn begin_on(unit: &mut Unit, number: usize, cdb: &[u8; CDB_BYTES]) -> Option<DeviceTask>
-    ensures unit { unit.new ≡ (begun unit.old (asked cdb.now unit.old.count)).0 }
-    ensures task { result ≡ task_in (Some number) (asked cdb.now unit.old.count) (begun unit.old (asked cdb.now unit.old.count)).1 }
+    ensures unit { unit.new ≡ (begun_by unit.old cdb.now (asked cdb.now unit.old.count)).0 }
+    ensures task { result ≡ task_in (Some number) (asked cdb.now unit.old.count) (begun_by unit.old cdb.now (asked cdb.now unit.old.count)).1 }
     ensures count { unit.new.count ≡ unit.old.count }
     ensures sound { (counts : List ℕ) → slice_get counts number ≡ Some unit.old.count → IfSome result (IsSoundTask counts) }
 {
     let asked = parse(cdb, unit.blocks());
-    let step = begin(unit, asked);
+    let step = begin_by(unit, cdb, asked);
     task_in(Some(number), &asked, step)
 }
 
 fn begin_at(units: &mut [Unit], number: usize, cdb: &[u8; CDB_BYTES]) -> Option<DeviceTask>
     requires { number < length units.old }
     ensures begun { MatchOption (slice_get units.old number) ⊥ (λ unit.
-        (units.new ≡ slice_set units.old number (begun unit (asked cdb.now unit.count)).0)
-        × (result ≡ task_in (Some number) (asked cdb.now unit.count) (begun unit (asked cdb.now unit.count)).1)) }
+        (units.new ≡ slice_set units.old number (begun_by unit cdb.now (asked cdb.now unit.count)).0)
+        × (result ≡ task_in (Some number) (asked cdb.now unit.count) (begun_by unit cdb.now (asked cdb.now unit.count)).1)) }
     ensures counts { counts_of units.new ≡ counts_of units.old }
     ensures sound { IfSome result (IsSoundTask (counts_of units.new)) }
 {
     begin_on(&mut units[number], number, cdb)
+}
+
+/// INQUIRY neither reports nor clears a unit attention, also where its CDB has a fault (SPC); an attention comes before
+/// anything else that another CDB asks for.
+fn begin_by(unit: &mut Unit, cdb: &[u8; CDB_BYTES], asked: Result<Op, Sense>) -> Step
+    requires { ForOk asked (λ op. op_fault op unit.old.count ≡ None) }
+    ensures unit { unit.new ≡ (begun_by unit.old cdb.now asked).0 }
+    ensures step { result ≡ (begun_by unit.old cdb.now asked).1 }
+    ensures count { unit.new.count ≡ unit.old.count }
+{
+    if is_inquiry(cdb) {
+        step_of(&asked)
+    } else {
+        begin(unit, asked)
+    }
 }
 
 /// A command to a unit that isn't there: INQUIRY alone is executed.
@@ -71,7 +86,7 @@ fn missing_task(cdb: &[u8; CDB_BYTES]) -> Option<DeviceTask>
     ensures { result ≡ task_in None (asked cdb.now 0) (missing_phase cdb.now (asked cdb.now 0)) }
 {
     let asked = parse(cdb, 0);
-    let step = if cdb[0] == INQUIRY {
+    let step = if is_inquiry(cdb) {
         step_of(&asked)
     } else {
         Step::Ended(Answer::Check(Sense::UNIT_NOT_SUPPORTED))
@@ -79,6 +94,13 @@ fn missing_task(cdb: &[u8; CDB_BYTES]) -> Option<DeviceTask>
     task_in(None, &asked, step)
 }
 
+fn is_inquiry(cdb: &[u8; CDB_BYTES]) -> bool
+    ensures { result ≡ is_inquiry cdb.now }
+{
+    cdb[0] == INQUIRY
+}
+
+/// The phase of a command that reports no attention.
 fn step_of(asked: &Result<Op, Sense>) -> Step
     ensures { result ≡ asked_phase asked.now }
 {
@@ -107,6 +129,21 @@ impl Target {
         }
     }
 
+    /// What comes of a readable unit that begins a task on a tag where none can begin: it is dropped where no task may have
+    /// the tag, and an overlap where a task has it.
+    fn refusal(&self, tag: u16) -> Option<Result<Took, Overlap>>
+        ensures free { IfNone result ((is_tag tag ≡ true) × (task_of self.now tag ≡ None)) }
+        ensures refused { IfSome result (λ refused. (after : Device) → on_its_tag self.now tag after ≡ (self.now, refused)) }
+    {
+        if !is_tag(tag) {
+            Some(Ok(Took::Dropped))
+        } else if self.tasks.get(tag).is_some() {
+            Some(Err(Overlap))
+        } else {
+            None
+        }
+    }
+
     fn receive_command(
         &mut self,
         tag: u16,
@@ -115,11 +152,8 @@ impl Target {
     ) -> Result<Took, Overlap>
         ensures { (self.new, result) ≡ on_its_tag self.old tag (with_units_and_task self.old tag (executed self.old.units lun.now cdb.now)) }
     {
-        if !is_tag(tag) {
-            return Ok(Took::Dropped);
-        }
-        if self.tasks.get(tag).is_some() {
-            return Err(Overlap);
+        if let Some(refused) = self.refusal(tag) {
+            return refused;
         }
         let task = execute(&mut self.units, lun, cdb);
         self.tasks.set(tag, task);
@@ -129,11 +163,8 @@ impl Target {
     fn receive_task(&mut self, tag: u16) -> Result<Took, Overlap>
         ensures { (self.new, result) ≡ on_its_tag self.old tag (with_response self.old tag 4) }
     {
-        if !is_tag(tag) {
-            return Ok(Took::Dropped);
-        }
-        if self.tasks.get(tag).is_some() {
-            return Err(Overlap);
+        if let Some(refused) = self.refusal(tag) {
+            return refused;
         }
         self.respond(tag, NOT_SUPPORTED);
         Ok(Took::Began(tag))

@@ -15,6 +15,9 @@ use std::io::Write;
 /// The most bytes of an image.
 pub const MAX_IMAGE_BYTES: usize = BLOCK_BYTES * MAX_BLOCKS as usize;
 
+/// How many blocks of a new image are written at once. A run of more is long, and can show how far it is.
+const PART_BLOCKS: u32 = 4096;
+
 /// The number of blocks in an image: `TooLarge` above 65,536, else `NotWhole` where it is empty or a part is left.
 pub fn blocks_in(bytes: &[u8]) -> Result<usize, ImageFault>
     ensures { result ≡ blocks_in bytes.now }
@@ -46,6 +49,7 @@ pub fn read_image<S: Source>(alloc: Global, source: &mut S) -> Result<Vec<u8>, R
 pub fn write_image<W: Sink>(sink: &mut W, bytes: &[u8]) -> Result<(), RunFault>
     ensures bytes { OnOk result (Appends (W.written sink.old) (W.written sink.new) bytes.now) }
     ensures fault { IfErr result (MakeGivesUp (W.can_fail sink.old) false) }
+    ensures same { W.can_fail sink.new ≡ W.can_fail sink.old }
 {
     sink.write(bytes).map_err(file_fault)
 }
@@ -89,14 +93,15 @@ fn info_text(alloc: Global, blocks: usize) -> Result<String, AllocError>
     format!(in alloc; "blocks {blocks} last {last}\n")
 }
 
-/// The run `make`: writes an image of `blocks` zeroed blocks, 1 to 65,536, and prints `made N`. It answers the exit
-/// status.
+/// The run `make`: writes an image of `blocks` zeroed blocks, 1 to 65,536, and prints `made N`. A long run shows on
+/// `faults` how far it is, where that is asked for. It answers the exit status.
 pub fn run_make<I: Sink, O: Sink, W: Write>(
     alloc: Global,
     blocks: u32,
     image: &mut I,
     output: &mut O,
     faults: &mut W,
+    shows_progress: bool,
 ) -> u8
     requires some { 1 ≤ blocks }
     requires most { blocks ≤ 65536 }
@@ -105,25 +110,58 @@ pub fn run_make<I: Sink, O: Sink, W: Write>(
     ensures output { result ≡ 0 → Appends (O.written output.old) (O.written output.new) (made_text blocks) }
     ensures fault { result ≡ 3 → IsTrue (I.can_fail image.old) ⊎ IsTrue (O.can_fail output.old) }
 {
-    match make(alloc, blocks, image, output) {
+    let shows_progress = shows_progress && blocks > PART_BLOCKS;
+    match make(alloc, blocks, image, output, faults, shows_progress) {
         Ok(()) => DONE,
         Err(fault) => fault.tell(faults),
     }
 }
 
-fn make<I: Sink, O: Sink>(
+fn make<I: Sink, O: Sink, W: Write>(
     alloc: Global,
     blocks: u32,
     image: &mut I,
     output: &mut O,
+    notes: &mut W,
+    shows_progress: bool,
 ) -> Result<(), RunFault>
     requires most { blocks ≤ 65536 }
     ensures image { OnOk result (Appends (I.written image.old) (I.written image.new) (made_image blocks)) }
     ensures output { OnOk result (Appends (O.written output.old) (O.written output.new) (made_text blocks)) }
     ensures fault { IfErr result (MakeGivesUp (I.can_fail image.old) (O.can_fail output.old)) }
 {
-    let bytes = vec![in alloc; 0; BLOCK_BYTES * blocks as usize].map_err(|_| RunFault::NoMemory)?;
     let text = format!(in alloc; "made {blocks}\n").map_err(|_| RunFault::NoMemory)?;
-    write_image(image, &bytes)?;
+    write_zeros(alloc, blocks, image, notes, shows_progress)?;
     output.write(text.as_bytes()).map_err(output_fault)
+}
+
+/// Writes so many zeroed blocks, a part at a time.
+fn write_zeros<I: Sink, W: Write>(
+    alloc: Global,
+    blocks: u32,
+    image: &mut I,
+    notes: &mut W,
+    shows_progress: bool,
+) -> Result<(), RunFault>
+    requires most { blocks ≤ 65536 }
+    ensures image { OnOk result (Appends (I.written image.old) (I.written image.new) (made_image blocks)) }
+    ensures fault { IfErr result (MakeGivesUp (I.can_fail image.old) false) }
+{
+    let part = PART_BLOCKS.min(blocks);
+    let zeros = vec![in alloc; 0; BLOCK_BYTES * part as usize].map_err(|_| RunFault::NoMemory)?;
+    let mut done = 0;
+    while done < blocks {
+        let count = part.min(blocks - done);
+        write_image(image, &zeros[..BLOCK_BYTES * count as usize])?;
+        done += count;
+        tell_progress(notes, shows_progress, done, blocks);
+    }
+    Ok(())
+}
+
+/// Tells how many of the blocks are written, where that is asked for. A fault of `notes` changes nothing.
+fn tell_progress<W: Write>(notes: &mut W, is_shown: bool, done: u32, blocks: u32) {
+    if is_shown {
+        let _ = writeln!(notes, "{done} of {blocks} blocks");
+    }
 }

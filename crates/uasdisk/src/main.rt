@@ -33,6 +33,7 @@ use clap::Error;
 use clap::error::ErrorKind;
 use status::RunFault;
 use std::alloc::AllocError;
+use std::io::{IsTerminal, Write};
 use std::process::ExitCode;
 use std::{env, fs, io};
 use streams::{Reader, Writer};
@@ -91,15 +92,21 @@ fn replay_script(rt: &HostRuntime, clients: u8, blocks: u32) -> u8
 fn make_image(rt: &HostRuntime, file: &str, blocks: u32) -> u8
     requires { AreBlocks blocks }
 {
+    let mut faults = rt.stderr();
+    let shows_progress = faults.is_terminal();
+    // A file that is opened takes the place of a standard output that is closed, and would get its text.
+    let is_output_open = rt.stdout().write(b"").is_ok();
     match fs::create(rt, file) {
+        Ok(_) if !is_output_open => RunFault::ScriptFile.tell(&mut faults),
         Ok(image) => image::run_make(
             rt.alloc(),
             blocks,
             &mut Writer(image),
             &mut Writer(rt.stdout()),
-            &mut rt.stderr(),
+            &mut faults,
+            shows_progress,
         ),
-        Err(_) => RunFault::ImageFile.tell(&mut rt.stderr()),
+        Err(_) => RunFault::ImageFile.tell(&mut faults),
     }
 }
 

@@ -324,7 +324,7 @@ fn writers_that_fail(rt: HostRuntime) {
         assert_eq!(rt; status, 3, "idle");
     }
     for bytes in 0..7 {
-        let status = run_make(alloc(), 2, &mut taken, &mut room(bytes), &mut faults);
+        let status = run_make(alloc(), 2, &mut taken, &mut room(bytes), &mut faults, false);
         assert_eq!(rt; status, 3, "made 2");
     }
     for bytes in 0..16 {
@@ -344,7 +344,7 @@ fn writers_that_fail(rt: HostRuntime) {
     );
     faults.clear();
     for bytes in [0, 1, 511, 512, 1023] {
-        let status = run_make(alloc(), 2, &mut room(bytes), &mut taken, &mut faults);
+        let status = run_make(alloc(), 2, &mut room(bytes), &mut taken, &mut faults, true);
         assert_eq!(rt; status, 3, "an image of 1,024 bytes");
     }
     assert_eq!(rt; faults.len(), 5 * 12);
@@ -377,7 +377,14 @@ fn writers_at_their_end(rt: HostRuntime) {
         0
     );
     assert_eq!(rt;
-        run_make(rt.alloc(), 2, &mut room(1024), &mut room(7), &mut faults),
+        run_make(
+            rt.alloc(),
+            2,
+            &mut room(1024),
+            &mut room(7),
+            &mut faults,
+            true
+        ),
         0
     );
     assert!(rt; faults.is_empty());
@@ -413,23 +420,43 @@ fn writers_at_their_end(rt: HostRuntime) {
         3
     );
     assert!(rt; taken.0.is_empty());
+    assert_eq!(rt;
+        run_make(rt.alloc(), 9000, &mut taken, &mut room(10), &mut none, true),
+        0
+    );
 }
 
-/// The parts of row disk-file that need no bus.
+/// Images of so many blocks, what `make` and `info` print, and what a long run shows where that is asked for. The first
+/// is the part of row disk-file that needs no bus.
+static IMAGES: [(u32, bool, &[u8], &[u8]); 5] = [
+    (2, true, b"made 2\nblocks 2 last 1\n", b""),
+    (1, false, b"made 1\nblocks 1 last 0\n", b""),
+    (4096, true, b"made 4096\nblocks 4096 last 4095\n", b""),
+    (
+        9000,
+        true,
+        b"made 9000\nblocks 9000 last 8999\n",
+        b"4096 of 9000 blocks\n8192 of 9000 blocks\n9000 of 9000 blocks\n",
+    ),
+    (65_536, false, b"made 65536\nblocks 65536 last 65535\n", b""),
+];
+
 #[test]
 fn images_are_made_and_told(rt: HostRuntime) {
-    let mut faults = Vec::new(rt.alloc());
-    for (blocks, told) in [
-        (2, b"made 2\nblocks 2 last 1\n".as_slice()),
-        (1, b"made 1\nblocks 1 last 0\n".as_slice()),
-        (65_536, b"made 65536\nblocks 65536 last 65535\n".as_slice()),
-    ] {
+    for (blocks, shows_progress, told, shown) in IMAGES {
         let mut image = BytesTaken(Vec::new(rt.alloc()));
         let mut output = BytesTaken(Vec::new(rt.alloc()));
-        assert_eq!(rt;
-            run_make(rt.alloc(), blocks, &mut image, &mut output, &mut faults),
-            0
+        let mut faults = Vec::new(rt.alloc());
+        assert!(rt; 1 <= blocks && blocks <= 65_536);
+        let status = run_make(
+            rt.alloc(),
+            blocks,
+            &mut image,
+            &mut output,
+            &mut faults,
+            shows_progress,
         );
+        assert_eq!(rt; status, 0);
         assert_eq!(rt; image.0.len(), BLOCK_BYTES * blocks as usize);
         assert!(rt; image.0.iter().all(|byte| *byte == 0));
         assert_eq!(rt;
@@ -442,8 +469,8 @@ fn images_are_made_and_told(rt: HostRuntime) {
             0
         );
         assert_eq!(rt; output.0.as_slice(), told);
+        assert_eq!(rt; faults.as_slice(), shown);
     }
-    assert!(rt; faults.is_empty());
 }
 
 /// Images of a wrong size, and readers of images that fail: an image is read until the reader gave one byte more than the

@@ -1,4 +1,4 @@
--- The three words of a TRB and their bytes (xHCI 1.2, 6.4 and 1.6): every word lies low byte first.
+-- The three words of a TRB and their bytes (xHCI 1.2, 6.4): every word lies low byte first.
 use Rattle.std.specs.Prelude.{ℕ, ◌+◌, ◌*◌, ◌^◌, ◌<◌, List, ◌++◌, drop}
 use Rattle.byteorder.specs.Endian.{little_number, little_bytes}
 use Rattle.xhci_trb.specs.declared.words.Words.{Words}

@@ -6,13 +6,15 @@ ghost use Rattle.xhci_trb.specs.Words.{number_of, words_in};
 ghost use Rattle.xhci_trb.specs.Text.{Fits, HasText, text, words_of, fault_in};
 ghost use Rattle.xhci_trb.specs.Reader.{trb_in, cycle_in};
 
-use crate::{Trb, decode};
+use crate::{Trb, decode, encode};
 
 /// A text is one little endian number of 128 bits, the sum of the TRB's fields at their places.
 pub fn text_is_one_number(trb: &Trb, cycle: bool)
     requires { Fits trb.now }
     ensures { little_number 16 (text trb.now cycle) ≡ number_of (words_of trb.now cycle) }
-{}
+{
+    let _bytes = encode(trb, cycle);
+}
 
 /// The reader of words gives a text's TRB and Cycle bit back.
 pub fn text_reads_back(trb: &Trb, cycle: bool)

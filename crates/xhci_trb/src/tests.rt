@@ -167,7 +167,7 @@ fn zeros_and_lengths(rt: HostRuntime) {
 // Each reserved field of each TRB, by its lowest and its highest bit.
 #[test]
 fn reserved_fields(rt: HostRuntime) {
-    let reserved: [(u64, u32, u32); 42] = [
+    let reserved: [(u64, u32, u32); 45] = [
         // Normal: interrupter target, control 8:7, 31:16
         (0, 1 << 22, 0x400),
         (0, 1 << 31, 0x400),
@@ -214,8 +214,11 @@ fn reserved_fields(rt: HostRuntime) {
         (1, 0, 0x8400),
         (8, 0, 0x8400),
         (0, 1, 0x8400),
+        (0, 1 << 23, 0x8400),
         (0, 0, 0x8402),
+        (0, 0, 0x8600),
         (0, 0, 0x1_8400),
+        (0, 0, 0x80_8400),
     ];
     for (parameter, status, control) in reserved {
         assert_eq!(rt;

@@ -1,0 +1,12 @@
+use Rattle.std.proofs.Common.{rules, arith, ◌∙◌, ◌*◌}
+use Rattle.uasdisk.proofs.Zeros.{zeros_after}
+use Rattle.uasdisk.proofs.image.write_zeros.Goals as goal
+
+pub loop-done-preserved : goal.loop-done-preserved
+loop-done-preserved g c =
+    let l = c.loop-done in
+    record {
+      written = zeros_after _ _ _ (512 * l.done) (512 * c.min-count.result) (512 * c.min-part.result) _ c.deref.result.now (search rules) (omega arith) (omega arith) l.invariant.written (search (rules, c.in_ok-write_image.ensures));
+      bound = omega arith;
+      same = c.write_image.ensures.same ∙ l.invariant.same;
+    }

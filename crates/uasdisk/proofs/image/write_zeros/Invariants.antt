@@ -1,0 +1,14 @@
+use Rattle.std.proofs.Common.{◌≡◌, ◌-◌, ◌*◌, ◌≤◌}
+use Rattle.std.specs.Prelude.{replicate}
+use Rattle.std.specs.Io.KnownBytes.{Appends}
+use Rattle.uasdisk.proofs.image.write_zeros.Given as goal
+
+abbrev pub invariant-loop-done : goal.invariant-loop-done
+invariant-loop-done g l = record {
+  written : Appends (g.I.Sink.written l.fn.image) (g.I.Sink.written l.image) (replicate (512 * l.done) 0);
+  bound : l.done ≤ l.blocks;
+  same : g.I.Sink.can_fail l.image ≡ g.I.Sink.can_fail l.fn.image;
+}
+
+abbrev pub decreases-loop-done : goal.decreases-loop-done
+decreases-loop-done g l = l.blocks - l.done

@@ -36,7 +36,7 @@ with_bytes bytes place part = take place bytes ++ part ++ drop (place + length p
 unfoldable pub block_at : List ℕ → ℕ → List ℕ
 block_at bytes block = bytes_from bytes (512 * block) 512
 
--- a block is one of so many from this one on: of none it never is
+-- a block is one of so many from this one on: of two from block 2 on these are 2 and 3, of none there are none
 unfoldable pub covers : ℕ → ℕ → ℕ → Bool
 covers lba many block = nat_le lba block && nat_lt block (lba + many)
 
@@ -59,7 +59,7 @@ written maps lba bytes through = record {
 }
 
 -- how many blocks a synchronization covers that names so many from this one on: 0 stands for all that follow, so from block 0
--- on for the whole unit
+-- on for the whole unit, and of 10 blocks from block 4 on for 6
 unfoldable pub blocks_covered : BlockMaps → ℕ → ℕ → ℕ
 blocks_covered maps lba many = if many == 0 then maps.count - lba else many
 

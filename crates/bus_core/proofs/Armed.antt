@@ -1,5 +1,5 @@
 -- A step that is due finds its TRB.
-use Rattle.std.proofs.Common.{◌≡◌, ℕ, Bool, true, false, ◌&&◌, List, length, Option, Some, None, MatchOption, refl, ap, sym, ◌∙◌}
+use Rattle.std.proofs.Common.{◌≡◌, ℕ, Bool, true, false, ◌&&◌, List, length, Some, None, MatchOption}
 use Rattle.std.specs.Prelude.{slice_get}
 use Rattle.std.specs.Option.{option_map_or}
 use Rattle.solo_model.specs.Held.{held_at}
@@ -9,7 +9,7 @@ use Rattle.bus_core.specs.declared.Step.TheVariants.{Data, Status}
 use Rattle.bus_core.specs.Tags.{place_of}
 use Rattle.bus_core.specs.Td.{data_trbs, has_trb}
 use Rattle.bus_core.specs.Part.{Part}
-use Rattle.bus_core.specs.Shared.{Shared, due, entry_fact, data_is_due, status_is_due, has_data_trb, place_fact, part_fact, is_moving, is_ended, is_data_open, request_direction}
+use Rattle.bus_core.specs.Shared.{Shared, due, entry_fact, data_is_due, status_is_due, has_data_trb, is_moving, is_ended, is_data_open, request_direction}
 use Rattle.bus_core.specs.Pipes.{is_open}
 use Rattle.bus_core.specs.Bus.{HasEntryFact}
 

@@ -1,15 +1,14 @@
 -- The slots of a client: their counts and buffers, when one of them changes.
 use Rattle.std.proofs.Common.{◌≡◌, ℕ, zero, suc, ◌+◌, ◌<◌, ◌≤◌, List, [], ◌∷◌, length, Option, Some, None, IfSome, refl, arith, subst, sym, ap, ◌∙◌, length-set}
-use Rattle.std.specs.Prelude.{slice_set, slice_index_or, sum_by, replicate, option_to_list, Bool, true, false, MatchOption, option_and_then}
-use Rattle.std.proofs.lemmas.List.Sums.{sum_by-set, sum_by-cons}
+use Rattle.std.specs.Prelude.{slice_set, slice_index_or, sum_by, replicate, option_to_list, MatchOption, option_and_then}
+use Rattle.std.proofs.lemmas.List.Sums.{sum_by-set}
 use Rattle.std.proofs.lemmas.List.{get_or_default}
 use Rattle.solo_model.specs.Held.{AllHeld, held_at}
 use Rattle.solo_model.proofs.Held.{held_at-read}
 use Rattle.bus_core.specs.declared.Entry.{Entry}
 use Rattle.bus_core.specs.declared.Completion.{Completion}
-use Rattle.bus_core.specs.Td.{is_ready}
 use Rattle.bus_core.specs.Part.{Part}
-use Rattle.bus_core.specs.Soundness.{IsCountedEntry, IsCountedSlots, IsFramed, KeepsFrame, KeepsHeldFrame, KeepsFrames, AllPaired, waiting_of, awaited_of, readied_of, one_if, IsCounted}
+use Rattle.bus_core.specs.Soundness.{IsCountedEntry, IsCountedSlots, IsFramed, KeepsFrame, KeepsHeldFrame, KeepsFrames, AllPaired, waiting_of, awaited_of, IsCounted}
 
 sum_moves : (f : Option Entry → ℕ) (entries : List (Option Entry)) (slot : ℕ) (old new : Option Entry) (more less : ℕ) → slot < length entries → held_at entries slot ≡ old →
     f old + more ≤ f new + less → sum_by f entries + more ≤ sum_by f (slice_set entries slot new) + less

@@ -1,9 +1,9 @@
 -- A new bus is sound.
-use Rattle.std.proofs.Common.{◌≡◌, ℕ, zero, suc, ◌+◌, ◌*◌, ◌≤◌, List, [], ◌∷◌, length, refl, arith, ap, sym, ◌∙◌}
+use Rattle.std.proofs.Common.{◌≡◌, ℕ, suc, ◌+◌, ◌*◌, ◌≤◌, List, [], ◌∷◌, length, refl, arith, ap, sym, ◌∙◌}
 use Rattle.std.specs.Prelude.{sum_by}
 use Rattle.std.proofs.lemmas.List.Sums.{sum_by-cons}
 use Rattle.block_unit.specs.BlockMaps.{BlockMaps}
-use Rattle.bus_core.specs.Part.{Part, new_part}
+use Rattle.bus_core.specs.Part.{new_part}
 use Rattle.bus_core.specs.Soundness.{slots_in}
 use Rattle.bus_core.specs.Shared.{new_parts}
 use Rattle.bus_core.specs.Bus.{AreNumbered, IsSoundBus}

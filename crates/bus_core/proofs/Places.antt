@@ -1,10 +1,10 @@
 -- Places and the tags that name them; acts that change nothing.
-use Rattle.std.proofs.Common.{◌≡◌, ℕ, zero, suc, ◌+◌, ◌-◌, ◌*◌, ◌/◌, ◌%◌, ◌<◌, ◌≤◌, Bool, true, false, cond, List, [], ◌∷◌, length, length-set, Option, Some, None, Result, Ok, Err, MatchOption, refl, arith, ap, sym, subst, ◌∙◌, add-one}
+use Rattle.std.proofs.Common.{◌≡◌, ℕ, zero, suc, ◌+◌, ◌*◌, ◌/◌, ◌%◌, true, List, [], ◌∷◌, length, Option, Some, None, Result, Err, MatchOption, refl, arith, ap, sym, ◌∙◌, add-one}
 use Rattle.std.specs.Prelude.{slice_set, slice_get, nat_lt, option_to_list}
 use Rattle.std.proofs.lemmas.Bool.{lt-ltb}
 use Rattle.bus_core.specs.declared.Place.{Place}
 use Rattle.bus_core.specs.declared.News.{News}
-use Rattle.bus_core.specs.Tags.{place_of, tag_of}
+use Rattle.bus_core.specs.Tags.{place_of}
 use Rattle.bus_core.specs.Part.{Part, Act, nothing, slot_tag, told}
 use Rattle.bus_core.specs.Bus.{IsPlace, AreCounted, AreNumbered, IsActOn}
 use Rattle.scsi_cmd.specs.declared.SubmitFault.{SubmitFault}

@@ -1,10 +1,10 @@
 -- A round, one try after another.
-use Rattle.std.proofs.Common.{◌≡◌, ℕ, zero, suc, ◌+◌, ◌-◌, ◌≤◌, Bool, true, false, cond, List, [], ◌∷◌, ◌++◌, map, add-one, refl, arith, ap, sym, ◌∙◌}
+use Rattle.std.proofs.Common.{◌≡◌, ℕ, zero, suc, ◌+◌, ◌-◌, false, List, [], ◌∷◌, ◌++◌, map, add-one, refl, arith, ap, sym, ◌∙◌}
 use Rattle.std.specs.Prelude.{◌==◌}
 use Rattle.std.specs.List.{range_with_len}
 use Rattle.bus_core.specs.declared.Step.{Step}
 use Rattle.bus_core.specs.declared.Step.TheVariants.{CommandPipe, Data, Status, Event}
-use Rattle.bus_core.specs.Shared.{Shared, due, shared_step}
+use Rattle.bus_core.specs.Shared.{Shared}
 use Rattle.bus_core.specs.Drain.{tried, tried_one, round, rounds}
 use Rattle.std.proofs.lemmas.Bool.{ne_eqb}
 

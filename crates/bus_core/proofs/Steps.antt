@@ -1,6 +1,6 @@
 -- A step of the bus is the shared machine's, and keeps the bus sound.
-use Rattle.std.proofs.Common.{◌≡◌, ℕ, zero, suc, ◌+◌, ◌*◌, ◌<◌, ◌≤◌, Bool, true, false, cond, List, [], ◌∷◌, ◌++◌, length, take, drop, Option, Some, None, IfSome, MatchOption, Result, Ok, Err, refl, arith, ap, sym, subst, ◌∙◌}
-use Rattle.std.specs.Prelude.{slice_set, slice_get, option_to_list, option_and_then, sum_by}
+use Rattle.std.proofs.Common.{◌≡◌, ℕ, ◌+◌, ◌*◌, ◌<◌, ◌≤◌, Bool, true, false, cond, List, [], ◌∷◌, ◌++◌, length, take, drop, Option, Some, None, IfSome, MatchOption, Result, Ok, Err, refl, arith, ap, sym, subst, ◌∙◌}
+use Rattle.std.specs.Prelude.{slice_set, slice_get, option_to_list, option_and_then}
 use Rattle.std.proofs.lemmas.List.{append-nil}
 use Rattle.std.proofs.Math.Seq.{take-append_seam}
 use Rattle.solo_model.specs.Held.{held_at}
@@ -10,13 +10,12 @@ use Rattle.block_unit.specs.BlockMaps.{BlockMaps}
 use Rattle.bus_core.specs.declared.Place.{Place}
 use Rattle.bus_core.specs.declared.Entry.{Entry}
 use Rattle.bus_core.specs.declared.Completion.{Completion}
-use Rattle.bus_core.specs.declared.Completion.TheVariants.{CommandDone, DataDone, StatusDone}
+use Rattle.bus_core.specs.declared.Completion.TheVariants.{DataDone}
 use Rattle.bus_core.specs.declared.News.{News}
 use Rattle.bus_core.specs.declared.Outcome.{Outcome}
 use Rattle.bus_core.specs.Td.{data_trbs}
 use Rattle.bus_core.specs.Part.{Part, Act, told, event_place, carry_act, carried_slot, carried_entry, move_act, moved_slot, moved_entry, send_act, sent_slot, sent_entry, is_last_trb, took_trb, event_act, seen_by, seen_entry, fault_at, submitted_part, settled, taken, take_act, entry_reply, slot_tag}
-use Rattle.bus_core.specs.Soundness.{slots_in, waiting_in, awaited_in}
-use Rattle.bus_core.specs.Shared.{Shared, routed, routed_to, acted_on, outcome_of, with_streams_rung, acceptance, refusal, submitted_to, answered}
+use Rattle.bus_core.specs.Shared.{Shared, routed, routed_to, outcome_of, with_streams_rung, acceptance, refusal, submitted_to, answered}
 use Rattle.bus_core.specs.Pipes.{rung_at, data_in_after, data_out_after, submission_doors}
 use Rattle.bus_core.specs.declared.PipeState.{PipeState}
 use Rattle.scsi_cmd.specs.declared.Direction.{Direction}
@@ -25,7 +24,7 @@ use Rattle.scsi_cmd.specs.declared.Command.{Command}
 use Rattle.scsi_cmd.specs.declared.Reply.{Reply}
 use Rattle.scsi_cmd.specs.declared.SubmitFault.{SubmitFault}
 use Rattle.scsi_cmd.specs.Op.{direction_of}
-use Rattle.bus_core.specs.Bus.{IsPlace, ArePlaces, AreOfPlaces, AreNumbered, AreCounted, IsActOn, IsSoundBus}
+use Rattle.bus_core.specs.Bus.{IsPlace, ArePlaces, AreOfPlaces, AreCounted, IsActOn, IsSoundBus}
 use Rattle.bus_core.proofs.Counting.{all_waiting-le, all_awaited-le, AreOfPlaces-push}
 
 -- an act on one client, as the shared machine routes it

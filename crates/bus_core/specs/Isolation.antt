@@ -1,7 +1,6 @@
 -- The headline's words: a client's own labels and replies in a run, and its part as a state of the solo machine.
-use Rattle.std.specs.Prelude.{◌≡◌, ℕ, ◌-◌, ◌*◌, ◌==◌, Bool, true, false, List, [], ◌∷◌, ◌++◌, if◌then◌else◌, Option, Some, None, option_map, option_to_list, slice_get, map}
+use Rattle.std.specs.Prelude.{◌≡◌, ℕ, ◌-◌, ◌*◌, ◌==◌, Bool, false, List, [], ◌∷◌, ◌++◌, if◌then◌else◌, Option, Some, None, option_map, option_to_list, slice_get, map}
 use Rattle.std.specs.Option.{option_map_or}
-use Rattle.block_unit.specs.BlockMaps.{BlockMaps}
 use Rattle.scsi_cmd.specs.declared.Reply.{Reply}
 use Rattle.scsi_cmd.specs.declared.Reply.TheVariants.{Status as StatusReply, Aborted as AbortedReply, Task as TaskReply}
 use Rattle.solo_model.specs.declared.TheConstants.{TAGS}
@@ -15,7 +14,6 @@ use Rattle.bus_core.specs.declared.Mark.TheVariants.{Submit as SubmitMark, Carry
 use Rattle.bus_core.specs.declared.Outcome.{Outcome}
 use Rattle.bus_core.specs.Part.{Part, own_task}
 use Rattle.bus_core.specs.Shared.{Shared}
-use Rattle.bus_core.specs.Replay.{replayed}
 
 -- the label of an accepted submission: its index, and what the client handed in
 abbrev pub submit_label : ℕ → Step → Option Label

@@ -1,5 +1,5 @@
 -- One client's part of the shared machine, and what each step does to it.
-use Rattle.std.specs.Prelude.{ℕ, suc, ◌+◌, ◌==◌, Bool, true, false, List, [], ◌∷◌, ◌++◌, if◌then◌else◌, Option, Some, None, is_some, option_map, option_and_then, slice_set, replicate}
+use Rattle.std.specs.Prelude.{ℕ, suc, ◌+◌, ◌==◌, Bool, true, false, List, [], ◌∷◌, ◌++◌, if◌then◌else◌, Option, Some, None, is_some, option_and_then, slice_set, replicate}
 use Rattle.block_unit.specs.BlockMaps.{BlockMaps}
 use Rattle.scsi_cmd.specs.declared.Command.{Command}
 use Rattle.scsi_cmd.specs.declared.Reply.{Reply}
@@ -9,10 +9,8 @@ use Rattle.solo_model.specs.declared.TheConstants.{TAGS}
 use Rattle.solo_model.specs.declared.TaggedTask.{TaggedTask}
 use Rattle.solo_model.specs.declared.Phase.{Phase}
 use Rattle.solo_model.specs.declared.Phase.TheVariants.{Queued, Moving, Ended, Sent}
-use Rattle.solo_model.specs.declared.Answer.{Answer}
 use Rattle.solo_model.specs.declared.Answer.TheVariants.{Good, Check}
 use Rattle.solo_model.specs.Held.{held_at}
-use Rattle.solo_model.specs.Solo.{SoloState}
 use Rattle.solo_model.specs.TaggedTask.{first_submit_fault, queued, carried, moved, sent, reply_of}
 use Rattle.bus_core.specs.declared.Place.{Place}
 use Rattle.bus_core.specs.declared.Td.{Td}
@@ -21,9 +19,9 @@ use Rattle.bus_core.specs.declared.Completion.{Completion}
 use Rattle.bus_core.specs.declared.Completion.TheVariants.{CommandDone, DataDone, StatusDone}
 use Rattle.bus_core.specs.declared.News.{News}
 use Rattle.bus_core.specs.declared.Mark.{Mark}
-use Rattle.bus_core.specs.declared.Mark.TheVariants.{Submit, Carry, Move, Send, Settle, Quiet}
+use Rattle.bus_core.specs.declared.Mark.TheVariants.{Carry, Move, Send, Settle, Quiet}
 use Rattle.bus_core.specs.Tags.{tag_of}
-use Rattle.bus_core.specs.Td.{pushed, data_trbs, has_trb, is_awaited, with_trb_taken, with_event_seen, data_after_status, is_ready}
+use Rattle.bus_core.specs.Td.{pushed, data_trbs, is_awaited, with_trb_taken, with_event_seen, data_after_status, is_ready}
 
 -- a client's number, unit, entries by slot, least ticket, and ready slots in order
 pub record Part : Type 0 where

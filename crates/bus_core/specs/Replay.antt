@@ -1,5 +1,5 @@
 -- The shared machine over whole lists of steps.
-use Rattle.std.specs.Prelude.{ℕ, List, [], ◌∷◌}
+use Rattle.std.specs.Prelude.{List, [], ◌∷◌}
 use Rattle.block_unit.specs.BlockMaps.{BlockMaps}
 use Rattle.bus_core.specs.declared.Step.{Step}
 use Rattle.bus_core.specs.declared.Outcome.{Outcome}

@@ -1,7 +1,6 @@
 -- The shared machine: many clients over one controller and one device, without rings or bytes.
-use Rattle.std.specs.Prelude.{ℕ, suc, ◌+◌, ◌==◌, Bool, true, false, not, ◌&&◌, if◌then◌else◌, List, [], ◌∷◌, ◌++◌, length, slice_get, slice_set, Option, Some, None, option_map, option_and_then, option_to_list}
+use Rattle.std.specs.Prelude.{ℕ, suc, Bool, true, false, ◌&&◌, if◌then◌else◌, List, [], ◌∷◌, ◌++◌, length, slice_get, slice_set, Option, Some, None, option_to_list}
 use Rattle.std.specs.Option.{option_map_or}
-use Rattle.std.specs.List.{enumerate_from}
 use Rattle.block_unit.specs.BlockMaps.{BlockMaps}
 use Rattle.scsi_cmd.specs.declared.Command.{Command}
 use Rattle.scsi_cmd.specs.declared.Direction.{Direction}
@@ -19,17 +18,14 @@ use Rattle.bus_core.specs.declared.Td.{Td}
 use Rattle.bus_core.specs.declared.Entry.{Entry}
 use Rattle.bus_core.specs.declared.Completion.{Completion}
 use Rattle.bus_core.specs.declared.PipeState.{PipeState}
-use Rattle.bus_core.specs.declared.Mark.{Mark}
 use Rattle.bus_core.specs.declared.Mark.TheVariants.{Submit as SubmitMark, Quiet}
 use Rattle.bus_core.specs.declared.Step.{Step}
 use Rattle.bus_core.specs.declared.Step.TheVariants.{Submit, CommandPipe, Data, Status, Event, Take}
-use Rattle.bus_core.specs.declared.Refusal.{Refusal}
 use Rattle.bus_core.specs.declared.Outcome.{Outcome}
-use Rattle.bus_core.specs.Tags.{tag_of, place_of, command_slot}
+use Rattle.bus_core.specs.Tags.{place_of, command_slot}
 use Rattle.bus_core.specs.Td.{has_trb, data_trbs}
 use Rattle.bus_core.specs.Pipes.{new_pipe, rung_at, is_open, submission_doors}
 use Rattle.bus_core.specs.Part.{Part, Act, new_part, fault_at, submitted_part, carry_act, move_act, send_act, event_act, event_place, take_act}
-use Rattle.arrayvec.specs.ArrayVec.{ArrayVec}
 
 -- each client's part by number; the messages in the command pipe and the events not yet taken, the oldest first; the
 -- pipes 2 to 4

@@ -1,5 +1,5 @@
 -- Tags, and the client and slot that a tag names. The stream identifier of a tag is the tag.
-use Rattle.std.specs.Prelude.{ℕ, zero, suc, ◌+◌, ◌*◌, ◌/◌, ◌%◌, ◌==◌, nat_lt, Bool, ◌&&◌, if◌then◌else◌, Option, Some, None, option_and_then}
+use Rattle.std.specs.Prelude.{ℕ, zero, suc, ◌+◌, ◌*◌, ◌/◌, ◌%◌, ◌==◌, nat_lt, ◌&&◌, if◌then◌else◌, Option, Some, None, option_and_then}
 use Rattle.solo_model.specs.declared.TheConstants.{TAGS, TASK_SLOT}
 use Rattle.bus_core.specs.declared.Place.{Place}
 

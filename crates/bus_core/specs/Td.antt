@@ -1,6 +1,5 @@
 -- Transfer descriptors (xHCI 4.11): how far the controller and the host are with one.
-use Rattle.std.specs.Prelude.{ℕ, ◌+◌, ◌-◌, ◌*◌, ◌/◌, ◌==◌, nat_lt, Bool, true, false, ◌&&◌, if◌then◌else◌, Option, Some, None}
-use Rattle.scsi_cmd.specs.declared.Op.{Op}
+use Rattle.std.specs.Prelude.{ℕ, ◌+◌, ◌/◌, ◌==◌, nat_lt, Bool, true, false, ◌&&◌, if◌then◌else◌, Option, Some, None}
 use Rattle.scsi_cmd.specs.Op.{moved_bytes}
 use Rattle.solo_model.specs.declared.Request.{Request}
 use Rattle.solo_model.specs.declared.Request.TheVariants.{Execute}

@@ -26,6 +26,8 @@ mod pipes;
 mod runs;
 mod slots;
 mod tds;
+#[cfg(test)]
+mod tests;
 mod wire;
 
 use arrayvec::ArrayVec;

@@ -92,3 +92,12 @@ impl Bus {
         left - 1
     }
 }
+
+impl Trace {
+    /// The outcomes, in order.
+    pub fn outcomes(&self) -> &[Outcome]
+        ensures { result.now ≡ self.now }
+    {
+        self.outcomes.as_slice()
+    }
+}

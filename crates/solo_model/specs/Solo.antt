@@ -22,12 +22,12 @@ pub record SoloState : Type 0 where
 abbrev pub opening : BlockMaps → SoloState
 opening unit = record { unit = unit; tasks = replicate TAGS None; least = 0 }
 
--- the slot of an index, where there is one
+-- the slot of an index, where there is one: index 1 has slot 0 and index 8 slot 7, 0 and 9 have none
 abbrev pub slot_under : ℕ → Option ℕ
 slot_under zero = None
 slot_under (suc slot) = if nat_lt slot TAGS then Some slot else None
 
--- commands have the indices below the last one, which is for task management
+-- commands have the indices 1 to 7; the last one, 8, is for task management
 abbrev pub is_command_index : ℕ → Bool
 is_command_index zero = false
 is_command_index (suc slot) = nat_lt slot TASK_SLOT
@@ -50,7 +50,8 @@ submitted state index ticket command None =
     Some (silently (record (with_task state index (state.unit, queued ticket command)) { least = ticket + 1 }))
 submitted state index ticket command (Some fault) = None
 
--- One step. None: the label has no step here, so it isn't a run.
+-- One step. None: the label has no step here, so it isn't a run. Checked by hand: after Submit 1 and Carry 1 of TEST UNIT
+-- READY, Send 1 is a step, and Carry 1, Move 1 and Settle 1 are none; the ticket 5 is taken where the least is 5.
 abbrev pub solo_step : SoloState → Label → Option (SoloState × Option Reply)
 solo_step state (Submit index ticket command) =
     submitted state index ticket command
@@ -78,7 +79,9 @@ abbrev pub with_reply : Option Reply → SoloState × List Reply → SoloState �
 with_reply None after = after
 with_reply (Some reply) after = (after.0, reply ∷ after.1)
 
--- The solo run: the state after a list of labels and the replies in order; None where it isn't a run.
+-- The solo run: the state after a list of labels and the replies in order; None where it isn't a run. Checked by hand: 16
+-- blocks of 01 written under index 1 over zeros and the same blocks read under 2, by Submit 1, Submit 2, Carry 1, Carry 2,
+-- Move 1, Move 2, Move 2, Move 1, Send 2, Settle 2: the one reply has 4,096 bytes 01 and then 4,096 bytes 00.
 abbrev pub solo_run : SoloState → List Label → Option (SoloState × List Reply)
 solo_run state [] = Some (state, [])
 solo_run state (label ∷ labels) = option_and_then (λ after. option_map (with_reply after.1) (solo_run after.0 labels)) (solo_step state label)

@@ -11,7 +11,7 @@ use Rattle.solo_model.specs.declared.Phase.{Phase}
 use Rattle.solo_model.specs.declared.Phase.TheVariants.{Queued, Moving, Ended, Sent}
 use Rattle.solo_model.specs.declared.TaggedTask.{TaggedTask}
 
--- a task that moves data has bytes left to move, and its blocks are on the unit
+-- a task that moves data has bytes left to move, and its blocks are on the unit: READ of 16 blocks is at chunk 0 or 1
 abbrev pub HasChunk : ℕ → Op → Phase → Type 0
 HasChunk count op Queued = Unit {0}
 HasChunk count op (Moving chunk) = (4096 * chunk < moved_bytes op) × (op_fault op count ≡ None)

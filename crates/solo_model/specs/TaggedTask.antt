@@ -25,7 +25,7 @@ use Rattle.solo_model.specs.declared.TaggedTask.{TaggedTask}
 
 -- SUBMISSION
 
--- READ and WRITE have at most 128 blocks; no other command is too long
+-- READ and WRITE have at most 128 blocks, so 129 are too long; no other command is, SYNCHRONIZE CACHE of 65,535 blocks neither
 abbrev pub is_too_long : Op → Bool
 is_too_long TestUnitReady = false
 is_too_long (Inquiry allocation) = false
@@ -75,7 +75,7 @@ flushed unit (Read lba count fua) = unit
 flushed unit (Write lba count fua) = unit
 flushed unit (Sync lba count) = synced unit lba count
 
--- what moves no data has ended
+-- what moves no data has ended: READ of no blocks is carried and is GOOD
 abbrev pub first_phase : ℕ → Phase
 first_phase bytes = if bytes == 0 then Ended Good else Moving 0
 
@@ -84,7 +84,8 @@ abbrev pub started : BlockMaps → Result Op Sense → BlockMaps × Phase
 started unit (Ok op) = (flushed unit op, first_phase (moved_bytes op))
 started unit (Err sense) = (unit, Ended (Check sense))
 
--- a unit attention ends any command that reports it, and is then gone
+-- A unit attention ends any command that reports it, and is then gone. Checked by hand: with an attention INQUIRY is as ever,
+-- then TEST UNIT READY or an unknown code is 6/29/03, and the next TEST UNIT READY is GOOD.
 abbrev pub begun : BlockMaps → Result Op Sense → BlockMaps × Phase
 begun unit asked =
     if takes_attention asked && unit.attention
@@ -110,11 +111,11 @@ carried unit task = carried_from unit task task.phase
 
 -- MOVE: one chunk of at most 8 blocks, on the blocks of this moment
 
--- the blocks of a chunk, of so many blocks in all
+-- the blocks of a chunk, of so many blocks in all: of 20 these are 8, 8 and 4
 abbrev pub chunk_blocks : ℕ → ℕ → ℕ
 chunk_blocks count chunk = min 8 (count - 8 * chunk)
 
--- the last chunk ends the command
+-- the last chunk ends the command: of 8,192 bytes chunk 0 gives Moving 1 and chunk 1 ends it, of 4,096 chunk 0 does
 abbrev pub next_phase : ℕ → ℕ → Phase
 next_phase bytes chunk = if nat_lt (4096 * (chunk + 1)) bytes then Moving (chunk + 1) else Ended Good
 
@@ -127,7 +128,7 @@ abbrev pub phase_after_chunk : BlockMaps → ℕ → ℕ → ℕ → Sense → P
 phase_after_chunk unit lba count chunk sense =
     if meets_bad_chunk unit lba count chunk then Ended (Check sense) else next_phase (512 * count) chunk
 
--- the buffer of a READ after a chunk
+-- the buffer of a READ after a chunk: of 16 blocks from block 10 on, chunk 1 brings 18 to 25 to the bytes from 4,096 on
 abbrev pub buffer_after_read : BlockMaps → List ℕ → ℕ → ℕ → ℕ → List ℕ
 buffer_after_read unit buffer lba count chunk =
     if meets_bad_chunk unit lba count chunk then buffer

@@ -14,6 +14,8 @@
 mod device;
 mod host;
 mod machine;
+#[cfg(test)]
+mod tests;
 
 use block_unit::Unit;
 pub use device::{begin, carry, move_chunk, send};

@@ -2,3 +2,4 @@ pub mod Counts
 pub mod Sound
 pub mod Luns
 pub mod Received
+pub mod Kept

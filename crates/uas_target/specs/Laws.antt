@@ -9,7 +9,8 @@ use Rattle.scsi_cmd.specs.Meaning.{asked, checked}
 use Rattle.scsi_cmd.specs.Op.{cdb_bytes}
 use Rattle.solo_model.specs.TaggedTask.{begun}
 use Rattle.uas_target.specs.Tasks.{begun_by}
-use Rattle.uas_target.specs.Device.{Device, Call, called, device_after, dropped, executed, on_its_tag, received, with_response, with_units_and_task}
+use Rattle.uas_target.specs.Device.{Device, Call, Receive, Give, Take, Send, called, device_after, dropped, executed, on_its_tag, received, task_of, with_response, with_units_and_task}
+use Rattle.uas_target.specs.Fields.{tag_in}
 
 -- WHAT COMES OF THE TEXT OF A UNIT
 
@@ -43,6 +44,19 @@ BeginsAsSolo =
     → begun_by unit (cdb_bytes op) (asked (cdb_bytes op) unit.count) ≡ begun unit (checked op unit.count)
 
 -- A LIST OF CALLS
+
+-- the tag that a call names
+abbrev pub tag_of : Call → ℕ
+tag_of (Receive bytes) = tag_in bytes
+tag_of (Give tag) = tag
+tag_of (Take tag bytes) = tag
+tag_of (Send tag) = tag
+
+-- a call leaves the tasks of all other tags alone
+abbrev pub OtherTagsAreKept : Type 0
+OtherTagsAreKept =
+    (device : Device) (call : Call) (other : ℕ) → (other ≡ tag_of call → ⊥)
+    → task_of (called device call) other ≡ task_of device other
 
 -- after one call more the device is what that call makes of it
 abbrev pub CallsAreFolded : Type 0

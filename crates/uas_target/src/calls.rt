@@ -8,7 +8,8 @@ ghost use Rattle.uas_target.specs.Tasks.{answer_unit};
 
 use crate::chunks::{chunk_wants, give_task, take_task};
 use crate::receiver::unit_number;
-use crate::{DeviceAnswer, DeviceTask, MAX_UNITS, Phase, Target, TaskTable};
+use crate::table::TaskTable;
+use crate::{DeviceAnswer, DeviceTask, MAX_UNITS, Phase, Target};
 use block_unit::Unit;
 use solo_model::status_and_sense;
 use std::alloc::{AllocError, Global};

@@ -1,5 +1,5 @@
 //! Laws of the device's definitions.
-ghost use Rattle.uas_target.specs.Laws.{BeginsAsSolo, CallsAreFolded, CommandsAreExecuted, ResponsesAreDropped, SensesAreDropped, TasksAreAnswered};
+ghost use Rattle.uas_target.specs.Laws.{BeginsAsSolo, CallsAreFolded, CommandsAreExecuted, OtherTagsAreKept, ResponsesAreDropped, SensesAreDropped, TasksAreAnswered};
 
 /// Law: what comes of the text of each kind of unit.
 #[tactic(auto, using(crate::proofs::Received::of_texts))]
@@ -20,4 +20,10 @@ pub fn begins_as_solo()
 #[tactic(auto, using(crate::proofs::Received::of_texts))]
 pub fn calls_are_folded()
     ensures { CallsAreFolded }
+{}
+
+/// Law: a call leaves the tasks of all tags but its own alone.
+#[tactic(auto, using(crate::proofs::Kept::kept))]
+pub fn other_tags_are_kept()
+    ensures { OtherTagsAreKept }
 {}

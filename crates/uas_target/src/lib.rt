@@ -17,8 +17,8 @@
 //!
 //! What is promised: a [`Target`] is the record `Device` of `specs/Device.antt`, block maps by unit number and tasks by
 //! tag, and each call makes of it exactly what the definition of that name says, and answers so. So after any list of
-//! calls it is `device_after` of that list. The steps of a command are those of `solo_model`: `begun` where it is received,
-//! `phase_after` at each chunk.
+//! calls it is `device_after` of that list. What a host asks for begins as in `solo_model` (`begins_as_solo`), each chunk
+//! goes as there, and a call leaves the tasks of all tags but its own alone (`other_tags_are_kept`).
 //!
 //! [`Target::new`] takes all memory that the device ever has; no later call takes any. Finding a tag's task is one index.
 //!
@@ -35,11 +35,11 @@ mod table;
 mod tests;
 
 use block_unit::Unit;
-pub use laws::{begins_as_solo, calls_are_folded, received_texts};
+pub use laws::{begins_as_solo, calls_are_folded, other_tags_are_kept, received_texts};
 use scsi_cmd::Op;
 use solo_model::Answer;
 use std::marker::Model;
-pub use table::TaskTable;
+use table::TaskTable;
 use thiserror::Error;
 
 /// The greatest tag that a task may have; the least is 1.

@@ -1,4 +1,4 @@
-use Rattle.std.proofs.Common.{◌≡◌, arith, ap, sym, ◌∙◌}
+use Rattle.std.proofs.Common.{arith, ◌∙◌}
 use Rattle.bus_core.proofs.Rounds.{rounds-next}
 use Rattle.bus_core.proofs.Bus.drain.Goals as goal
 

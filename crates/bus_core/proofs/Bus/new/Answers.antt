@@ -1,4 +1,4 @@
-use Rattle.std.proofs.Common.{◌≡◌, ℕ, ◌≤◌, ◌*◌, length, arith, sym, ◌∙◌, deque_capacity}
+use Rattle.std.proofs.Common.{arith}
 use Rattle.bus_core.proofs.Opening.{IsSoundBus-new}
 use Rattle.bus_core.proofs.Bus.new.Goals as goal
 

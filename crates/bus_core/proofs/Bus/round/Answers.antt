@@ -1,8 +1,8 @@
-use Rattle.std.proofs.Common.{◌≡◌, ℕ, ◌*◌, ◌+◌, ◌∷◌, [], ◌++◌, length, map, arith, ap, sym, ◌∙◌}
+use Rattle.std.proofs.Common.{◌≡◌, ℕ, ◌*◌, ◌∷◌, [], length, map, arith, ap, ◌∙◌}
 use Rattle.std.specs.List.{range_with_len}
 use Rattle.bus_core.specs.declared.Step.TheVariants.{CommandPipe, Event, Data, Status}
 use Rattle.bus_core.specs.Shared.{Shared}
-use Rattle.bus_core.specs.Drain.{tried, tried_one, round, tries}
+use Rattle.bus_core.specs.Drain.{tried, tried_one}
 use Rattle.bus_core.proofs.Drains.{tried-left}
 use Rattle.bus_core.proofs.Rounds.{tried-next, round-parts}
 use Rattle.bus_core.proofs.Bus.round.Goals as goal

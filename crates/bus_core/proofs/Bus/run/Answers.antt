@@ -1,4 +1,4 @@
-use Rattle.std.proofs.Common.{◌≡◌, List, sym, subst}
+use Rattle.std.proofs.Common.{List, sym, subst}
 use Rattle.bus_core.specs.declared.Outcome.{Outcome}
 use Rattle.bus_core.specs.Shared.{Shared}
 use Rattle.bus_core.specs.Isolation.{IsIsolated}

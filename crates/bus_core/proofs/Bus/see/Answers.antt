@@ -1,5 +1,4 @@
-use Rattle.std.proofs.Common.{◌≡◌, ℕ, List, refl, ap, sym, ◌∙◌, arith, length}
-use Rattle.bus_core.specs.Part.{event_act}
+use Rattle.std.proofs.Common.{◌≡◌, ap, sym, ◌∙◌, length}
 use Rattle.bus_core.specs.Shared.{Shared, event_step}
 use Rattle.bus_core.proofs.Steps.{written_back, routed-seen}
 use Rattle.bus_core.proofs.Bus.see.Goals as goal

@@ -1,4 +1,4 @@
-use Rattle.std.proofs.Common.{◌≡◌, ℕ, Some, List, refl, ap, sym, ◌∙◌, arith, length, length-append}
+use Rattle.std.proofs.Common.{◌≡◌, Some, refl, ap, sym, ◌∙◌, arith, length, length-append}
 use Rattle.bus_core.specs.declared.Completion.{Completion}
 use Rattle.bus_core.specs.Tags.{place_of}
 use Rattle.bus_core.specs.Part.{send_act}

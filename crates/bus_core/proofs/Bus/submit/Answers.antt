@@ -1,11 +1,10 @@
-use Rattle.std.proofs.Common.{◌≡◌, ℕ, ◌∷◌, Some, List, refl, ap, sym, ◌∙◌, arith, length, length-append}
+use Rattle.std.proofs.Common.{◌≡◌, Some, refl, ap, sym, ◌∙◌, arith, length, length-append}
 use Rattle.std.specs.Prelude.{slice_get}
 use Rattle.bus_core.specs.declared.Place.{Place}
-use Rattle.bus_core.specs.Shared.{Shared, submit_step, submitted_under}
+use Rattle.bus_core.specs.Shared.{Shared, submit_step}
 use Rattle.bus_core.specs.Tags.{command_slot}
 use Rattle.bus_core.proofs.Counting.{ArePlaces-push}
 use Rattle.bus_core.proofs.Steps.{message-room, IsSoundBus-counted, written_back, counted-if_ok, same-if_err, submitted-err}
-use Rattle.bus_core.proofs.Places.{AreCounted-same}
 use Rattle.bus_core.proofs.Bus.submit.Goals as goal
 
 pub push_back_reserved-requires : goal.push_back_reserved-requires

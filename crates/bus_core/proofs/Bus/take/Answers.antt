@@ -1,4 +1,4 @@
-use Rattle.std.proofs.Common.{◌≡◌, ℕ, List, refl, ap, sym, ◌∙◌, arith, length}
+use Rattle.std.proofs.Common.{◌≡◌, ap, sym, ◌∙◌, length}
 use Rattle.bus_core.specs.Part.{take_act}
 use Rattle.bus_core.specs.Shared.{Shared, routed}
 use Rattle.bus_core.proofs.Steps.{written_back, routed-taken}

@@ -1,4 +1,4 @@
-use Rattle.std.proofs.Common.{refl, arith}
+use Rattle.std.proofs.Common.{refl}
 use Rattle.bus_core.specs.Soundness.{IsSoundEntry, IsFramed}
 use Rattle.bus_core.proofs.EachSlot.{AllHeld-none, AllPaired-none}
 use Rattle.bus_core.proofs.Readied.{AreReady-none}

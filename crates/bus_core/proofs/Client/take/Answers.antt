@@ -1,9 +1,8 @@
-use Rattle.std.proofs.Common.{◌≡◌, ◌^◌, ◌<◌, length, Option, Some, None, refl, arith, sym, ap, ◌∙◌, subst}
-use Rattle.std.specs.Prelude.{slice_index_or, slice_set}
+use Rattle.std.proofs.Common.{◌≡◌, ◌^◌, ◌<◌, length, Some, arith, sym, ap, ◌∙◌, subst}
+use Rattle.std.specs.Prelude.{slice_index_or}
 use Rattle.solo_model.specs.Held.{held_at}
 use Rattle.solo_model.specs.TaggedTask.{reply_of}
 use Rattle.solo_model.proofs.Held.{AllHeld-held}
-use Rattle.bus_core.specs.declared.Entry.{Entry}
 use Rattle.bus_core.specs.contracts.Client.{the_view}
 use Rattle.bus_core.specs.Part.{Part, nothing, take_act, slot_tag}
 use Rattle.bus_core.specs.Soundness.{IsSoundEntry, IsFramed}

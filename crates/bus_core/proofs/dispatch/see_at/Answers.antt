@@ -1,4 +1,3 @@
-use Rattle.std.proofs.Common.{◌≡◌}
 use Rattle.std.proofs.lemmas.Option.{slice_get-get_or}
 use Rattle.bus_core.specs.Part.{event_place}
 use Rattle.bus_core.proofs.Counting.{AreCounted-set}

@@ -1,4 +1,4 @@
-use Rattle.std.proofs.Common.{◌≡◌, sym}
+use Rattle.std.proofs.Common.{sym}
 use Rattle.std.proofs.lemmas.Option.{slice_get-get_or}
 use Rattle.bus_core.specs.Part.{take_act}
 use Rattle.bus_core.proofs.Counting.{AreCounted-set}

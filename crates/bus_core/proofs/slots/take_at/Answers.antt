@@ -1,5 +1,5 @@
-use Rattle.std.proofs.Common.{None, refl, sym, ◌∙◌}
-use Rattle.solo_model.proofs.Held.{AllHeld-at, AllHeld-set, held_at-read}
+use Rattle.std.proofs.Common.{None, refl}
+use Rattle.solo_model.proofs.Held.{AllHeld-at, AllHeld-set}
 use Rattle.bus_core.specs.Soundness.{IsSoundEntry}
 use Rattle.bus_core.proofs.EachSlot.{KeepsFrames-held, IsCountedSlots-set}
 use Rattle.bus_core.proofs.Kept.{ready_leaves}

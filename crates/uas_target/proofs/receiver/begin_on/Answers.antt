@@ -1,4 +1,4 @@
-use Rattle.std.proofs.Common.{◌≡◌, sym, ◌∙◌}
+use Rattle.std.proofs.Common.{sym, ◌∙◌}
 use Rattle.uas_target.proofs.Sound.{asked_in_range, begun_sound}
 use Rattle.uas_target.proofs.receiver.begin_on.Goals as goal
 

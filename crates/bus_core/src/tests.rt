@@ -1,0 +1,314 @@
+//! Whole runs: what a client is told, alone and beside others.
+ghost use Rattle.std.specs.Prelude.{◌<◌};
+ghost use Rattle.bus_core.specs.Bus.{AllTicketed, HasTicket};
+
+use super::*;
+use scsi_cmd::{Buffer, CHECK_CONDITION, GOOD, Op, moves};
+use std::alloc::{AllocError, Global};
+use std::process::Abort;
+use std::test::Fail;
+
+/// Steps whose tickets are small.
+#[derive(Drop)]
+struct Steps {
+    list: Vec<Step>,
+}
+
+impl Model for Steps {
+    ghost use Rattle.std.specs.Prelude.{List};
+    ghost use Rattle.bus_core.specs.declared.Step.{Step};
+    ghost use Rattle.bus_core.specs.Bus.{AllTicketed};
+
+    ghost Value = { List Step };
+
+    ghost view = { λ steps. steps.list.items };
+
+    ghost invariant = { λ steps. AllTicketed steps.list.items };
+}
+
+impl Steps {
+    fn new(alloc: Global) -> Steps {
+        Steps {
+            list: Vec::new(alloc),
+        }
+    }
+
+    #[tactic(auto, using(crate::proofs::WholeRuns::all_ticketed_push))]
+    fn push(&mut self, step: Step) -> Result<(), AllocError>
+        requires { HasTicket step }
+    {
+        self.list.push(step)?;
+        Ok(())
+    }
+
+    fn into_vec(self) -> Vec<Step>
+        ensures { AllTicketed result.items }
+    {
+        let Steps { list } = self;
+        list
+    }
+}
+
+/// A command whose buffer is filled with a byte.
+fn command(alloc: Global, op: Op, byte: u8) -> Result<Command, AllocError> {
+    let bytes = vec![in alloc; byte; moves(&op).1]?;
+    Ok(Command {
+        op,
+        buffer: Buffer::from_vec(bytes),
+    })
+}
+
+/// A new bus of so many units of 100 blocks.
+fn new_bus(rt: &impl Abort, alloc: Global, clients: usize) -> Result<Bus, Fail> {
+    let mut units = Vec::new(alloc);
+    for _ in 0..clients {
+        units.push(Unit::new(alloc, 100, Vec::new(alloc))?)?;
+    }
+    assert!(rt; !units.is_empty() && units.len() <= MAX_CLIENTS);
+    Ok(Bus::new(alloc, units)?)
+}
+
+/// A status as a reply tells it: the tag, the ticket, the status, the first 14 bytes of the sense data, and the buffer's
+/// length and byte.
+#[derive(Clone, Copy)]
+struct Told {
+    tag: u16,
+    ticket: u64,
+    status: u8,
+    sense: &'static [u8],
+    length: usize,
+    byte: u8,
+}
+
+fn assert_told(rt: &impl Abort, reply: &Reply, told: Told) {
+    match reply {
+        Reply::Status {
+            tag,
+            ticket,
+            status,
+            sense,
+            buffer,
+        } => {
+            assert_eq!(rt; *tag, told.tag);
+            assert_eq!(rt; *ticket, told.ticket);
+            assert_eq!(rt; *status, told.status);
+            assert_eq!(rt; sense.as_slice(), told.sense);
+            assert_eq!(rt; buffer.len(), told.length);
+            assert!(rt; buffer.as_slice().iter().all(|byte| *byte == told.byte));
+        }
+        _ => assert!(rt; false, "no status"),
+    }
+}
+
+/// READ of one block by client 2 of 3 on tag 18: it rings 0x00120005, 0x00120003 and 0x00000002. Then a drain carries
+/// it, sees its event, moves its chunk and its status in the first round, and sees an event in each of two more.
+#[test]
+fn read_on_tag_18(rt: HostRuntime) -> Result<(), Fail> {
+    let read = Op::Read {
+        lba: 7,
+        count: 1,
+        fua: false,
+    };
+    for (first, second) in [
+        ((100, (6, true)), (0, true)),
+        ((6, (6, false)), (0, true)),
+        ((4, (4, false)), (2, true)),
+        ((0, (0, false)), (6, true)),
+    ] {
+        let mut bus = new_bus(&rt, rt.alloc(), 3)?;
+        let submitted = bus.step(Step::Submit {
+            client: 2,
+            tag: 18,
+            ticket: 5,
+            command: command(rt.alloc(), read, 0xFF)?,
+        });
+        assert!(rt; submitted.acted);
+        assert_eq!(rt; submitted.owner, Some(2));
+        assert_eq!(rt; submitted.mark, Mark::Submit(2));
+        assert_eq!(rt;
+            submitted.doors.as_slice(),
+            [0x0012_0005, 0x0012_0003, 0x0000_0002].as_slice()
+        );
+        assert!(rt; !bus.due(&Step::Take(2)));
+        let (limit, answer) = first;
+        assert_eq!(rt; bus.drain(limit), answer);
+        assert_eq!(rt; bus.drain(100), second);
+        assert!(rt; bus.due(&Step::Take(2)));
+        let taken = bus.step(Step::Take(2));
+        assert_eq!(rt; taken.mark, Mark::Settle(2));
+        let told = Told {
+            tag: 18,
+            ticket: 5,
+            status: GOOD,
+            sense: &[],
+            length: 512,
+            byte: 0,
+        };
+        assert_told(&rt, &taken.reply.ok_or("no reply")?, told);
+    }
+    Ok(())
+}
+
+/// The client that has this turn, where client 0 has turn `own` and the others follow by number.
+fn client_at(turn: usize, own: usize) -> usize {
+    if turn == own {
+        0
+    } else if turn < own {
+        turn + 1
+    } else {
+        turn
+    }
+}
+
+/// The tag of a slot of a client.
+fn tag_at(rt: &impl Abort, client: usize, slot: u16) -> u16 {
+    assert!(rt; client < MAX_CLIENTS && slot < 8);
+    client as u16 * 8 + slot + 1
+}
+
+/// The byte that a client writes.
+fn byte_of(client: usize) -> u8 {
+    if client == 0 {
+        0xAA
+    } else {
+        (client % 64) as u8
+    }
+}
+
+/// What a client submits: a WRITE of two chunks, two READs of one chunk each, and a READ of no blocks at a block that
+/// isn't there.
+static OPS: [Op; 4] = [
+    Op::Write {
+        lba: 0,
+        count: 16,
+        fua: false,
+    },
+    Op::Read {
+        lba: 8,
+        count: 8,
+        fua: false,
+    },
+    Op::Read {
+        lba: 0,
+        count: 8,
+        fua: false,
+    },
+    Op::Read {
+        lba: 101,
+        count: 0,
+        fua: false,
+    },
+];
+
+/// What client 0 has in the end: its replies, and the bytes of its unit.
+#[derive(Drop)]
+struct Own {
+    replies: Vec<Reply>,
+    contents: Vec<u8>,
+}
+
+/// A run of so many clients, of which each does the same with a byte of its own; client 0 has this turn among them. Of
+/// each client the first chunk of the WRITE comes first, then the READs, then its second chunk; then the statuses of the
+/// last command, the second, the first and the third.
+fn world(rt: &impl Abort, alloc: Global, clients: usize, own: usize) -> Result<Own, Fail> {
+    let mut bus = new_bus(rt, alloc, clients)?;
+    assert_eq!(rt; bus.clients(), clients);
+    let mut steps = Steps::new(alloc);
+    for slot in 0..4u16 {
+        for turn in 0..clients {
+            let client = client_at(turn, own);
+            steps.push(Step::Submit {
+                client,
+                tag: tag_at(rt, client, slot),
+                ticket: u64::from(slot),
+                command: command(alloc, OPS[usize::from(slot)], byte_of(client))?,
+            })?;
+        }
+    }
+    for _ in 0..clients * 4 {
+        steps.push(Step::CommandPipe)?;
+    }
+    for slot in [0, 1, 2, 0] {
+        for turn in 0..clients {
+            steps.push(Step::Data(tag_at(rt, client_at(turn, own), slot)))?;
+        }
+    }
+    for slot in [3, 1, 0, 2] {
+        for turn in 0..clients {
+            steps.push(Step::Status(tag_at(rt, client_at(turn, own), slot)))?;
+        }
+    }
+    for _ in 0..clients * 11 {
+        steps.push(Step::Event)?;
+    }
+    for _ in 0..4 {
+        for turn in 0..clients {
+            steps.push(Step::Take(client_at(turn, own)))?;
+        }
+    }
+    let trace = bus.run(alloc, steps.into_vec())?;
+    let mut replies = Vec::new(alloc);
+    for outcome in trace.outcomes {
+        assert!(rt; outcome.acted);
+        if let (Some(0), Some(reply)) = (outcome.owner, outcome.reply) {
+            replies.push(reply)?;
+        }
+    }
+    assert_eq!(rt; bus.clients(), clients);
+    let contents = Vec::from_slice(alloc, bus.unit(0).contents())?;
+    Ok(Own { replies, contents })
+}
+
+/// Client 0 alone, beside one other and beside 30, each doing the same on its own unit: its replies and its blocks are
+/// the same, and those of a disk of its own. The READ of blocks 8 to 15 comes before they are written.
+#[test]
+fn two_worlds(rt: HostRuntime) -> Result<(), Fail> {
+    let good = Told {
+        tag: 0,
+        ticket: 0,
+        status: GOOD,
+        sense: &[],
+        length: 4096,
+        byte: 0xAA,
+    };
+    let expected = [
+        Told {
+            tag: 4,
+            ticket: 3,
+            status: CHECK_CONDITION,
+            sense: &[
+                0x70, 0, 0x05, 0, 0, 0, 0, 0x0a, 0, 0, 0, 0, 0x21, 0, 0, 0, 0, 0,
+            ],
+            length: 0,
+            byte: 0,
+        },
+        Told {
+            tag: 2,
+            ticket: 1,
+            byte: 0,
+            ..good
+        },
+        Told {
+            tag: 1,
+            length: 8192,
+            ..good
+        },
+        Told {
+            tag: 3,
+            ticket: 2,
+            ..good
+        },
+    ];
+    for (clients, own) in [(1, 0), (2, 0), (2, 1), (31, 0), (31, 7), (31, 30)] {
+        let ran = world(&rt, rt.alloc(), clients, own)?;
+        assert_eq!(rt; ran.replies.len(), expected.len());
+        for (reply, told) in ran.replies.iter().zip(expected) {
+            assert_told(&rt, reply, told);
+        }
+        assert_eq!(rt; ran.contents.len(), 51_200);
+        let (written, rest) = ran.contents.split_at(8192);
+        assert!(rt; written.iter().all(|byte| *byte == 0xAA));
+        assert!(rt; rest.iter().all(|byte| *byte == 0));
+    }
+    Ok(())
+}

@@ -1,0 +1,178 @@
+ghost use Rattle.solo_model.specs.Solo.{TicketFits};
+
+use super::*;
+use std::alloc::{AllocError, Global};
+use std::test::Fail;
+
+fn command_of(alloc: Global, op: Op, byte: u8, length: usize) -> Result<Command, AllocError> {
+    let bytes = vec![in alloc; byte; length]?;
+    Ok(Command {
+        op,
+        buffer: Buffer::from_vec(bytes),
+    })
+}
+
+#[derive(Clone, Copy)]
+enum Kind {
+    Carry,
+    Move,
+    Send,
+    Settle,
+}
+
+fn label_of(kind: Kind, index: u16) -> Label
+    ensures { TicketFits result }
+{
+    match kind {
+        Kind::Carry => Label::Carry(index),
+        Kind::Move => Label::Move(index),
+        Kind::Send => Label::Send(index),
+        Kind::Settle => Label::Settle(index),
+    }
+}
+
+/// Whether each label in turn is a step where it is said to be one, and none where not.
+fn follows(solo: &mut Solo, labels: &[(Kind, u16, bool)]) -> bool {
+    for (kind, index, is_step) in labels {
+        if solo.apply(label_of(*kind, *index)).is_ok() != *is_step {
+            return false;
+        }
+    }
+    true
+}
+
+fn submits(solo: &mut Solo, index: u16, ticket: u32, command: Command) -> bool {
+    solo.apply(Label::Submit(index, u64::from(ticket), command))
+        .is_ok()
+}
+
+fn settled(solo: &mut Solo, index: u16) -> Option<Reply> {
+    solo.apply(Label::Settle(index)).unwrap_or(None)
+}
+
+/// A WRITE of 16 blocks of 01 on index 1 and a READ of the same on index 2, zeros before. The read's first chunk moves
+/// after the write's first, and its second before the write's second, so it has 4,096 bytes 01 and 4,096 zeros. A
+/// device that copied all blocks as it received the READ would give zeros alone. Between the steps stand labels that are
+/// no step at that moment.
+#[test]
+fn read_sees_write(rt: HostRuntime) -> Result<(), Fail> {
+    let mut solo = Solo::new(Unit::new(rt.alloc(), 16, Vec::new(rt.alloc()))?);
+    let (lba, count, fua) = (0, 16, false);
+    let write = command_of(rt.alloc(), Op::Write { lba, count, fua }, 0x01, 8192)?;
+    let read = command_of(rt.alloc(), Op::Read { lba, count, fua }, 0x00, 8192)?;
+    assert!(rt; submits(&mut solo, 1, 0, write));
+    assert!(rt; submits(&mut solo, 2, 1, read));
+    let labels = [
+        (Kind::Move, 2, false),
+        (Kind::Carry, 1, true),
+        (Kind::Carry, 2, true),
+        (Kind::Carry, 2, false),
+        (Kind::Move, 1, true),
+        (Kind::Move, 2, true),
+        (Kind::Send, 2, false),
+        (Kind::Move, 2, true),
+        (Kind::Move, 1, true),
+        (Kind::Move, 1, false),
+        (Kind::Settle, 2, false),
+        (Kind::Send, 2, true),
+    ];
+    assert!(rt; follows(&mut solo, &labels));
+    let Some(
+        Reply::Status {
+            tag,
+            ticket,
+            status,
+            sense,
+            buffer,
+        },
+    ) = settled(&mut solo, 2)
+    else {
+        panic!(rt; "no reply")
+    };
+    assert_eq!(rt; (tag, ticket, status, sense.len()), (2, 1, 0x00, 0));
+    let mut bytes = [0x00; 8192];
+    bytes[..4096].copy_from_slice(&[0x01; 4096]);
+    assert_eq!(rt; buffer.as_slice(), bytes.as_slice());
+    assert!(rt; settled(&mut solo, 2).is_none());
+    assert_eq!(rt; solo.unit().contents(), [0x01u8; 8192].as_slice());
+    assert_eq!(rt; solo.unit().medium(), [0x00u8; 8192].as_slice());
+    Ok(())
+}
+
+/// A READ of blocks 99 and 100 of 100 ends with 5/21/00 and moves nothing.
+#[test]
+fn out_of_range_read(rt: HostRuntime) -> Result<(), Fail> {
+    let mut solo = Solo::new(Unit::new(rt.alloc(), 100, Vec::new(rt.alloc()))?);
+    let (lba, count, fua) = (99, 2, false);
+    let read = command_of(rt.alloc(), Op::Read { lba, count, fua }, 0xee, 1024)?;
+    assert!(rt; submits(&mut solo, 7, 3, read));
+    let labels = [
+        (Kind::Carry, 7, true),
+        (Kind::Move, 7, false),
+        (Kind::Send, 7, true),
+    ];
+    assert!(rt; follows(&mut solo, &labels));
+    let Some(
+        Reply::Status {
+            status,
+            sense,
+            buffer,
+            ..
+        },
+    ) = settled(&mut solo, 7)
+    else {
+        panic!(rt; "no reply")
+    };
+    assert_eq!(rt; status, 0x02);
+    assert_eq!(rt;
+        sense.as_slice(),
+        [
+            0x70, 0x00, 0x05, 0, 0, 0, 0, 0x0a, 0, 0, 0, 0, 0x21, 0x00, 0, 0, 0, 0
+        ]
+        .as_slice()
+    );
+    assert_eq!(rt; buffer.as_slice(), [0xeeu8; 1024].as_slice());
+    Ok(())
+}
+
+/// Each fault of a submission, with every later one beside it; READ of 129 blocks with 66,048 bytes and of one block
+/// with 511 bytes among them.
+#[test]
+fn submission_faults(rt: HostRuntime) -> Result<(), Fail> {
+    let (lba, fua) = (0, false);
+    let long = Op::Read {
+        lba,
+        count: 129,
+        fua,
+    };
+    let bad_and_long = command_of(rt.alloc(), long, 0, 511)?;
+    assert_eq!(rt;
+        submit_fault(false, true, 5, 4, &bad_and_long),
+        Some(SubmitFault::NotYours)
+    );
+    assert_eq!(rt;
+        submit_fault(true, true, 5, 4, &bad_and_long),
+        Some(SubmitFault::InUse)
+    );
+    assert_eq!(rt;
+        submit_fault(true, false, 5, 4, &bad_and_long),
+        Some(SubmitFault::BadLength)
+    );
+    let too_long = command_of(rt.alloc(), long, 0, 66_048)?;
+    assert_eq!(rt;
+        submit_fault(true, false, 5, 4, &too_long),
+        Some(SubmitFault::TooLong)
+    );
+    let bad_length = command_of(rt.alloc(), Op::Read { lba, count: 1, fua }, 0, 511)?;
+    assert_eq!(rt;
+        submit_fault(true, false, 0, 0, &bad_length),
+        Some(SubmitFault::BadLength)
+    );
+    let one_block = command_of(rt.alloc(), Op::Read { lba, count: 1, fua }, 0, 512)?;
+    assert_eq!(rt;
+        submit_fault(true, false, 5, 4, &one_block),
+        Some(SubmitFault::OutOfTurn(5))
+    );
+    assert_eq!(rt; submit_fault(true, false, 5, 5, &one_block), None);
+    Ok(())
+}

@@ -1,4 +1,4 @@
-//! The laws of the texts, each the contract of a function that does nothing.
+//! The laws of the texts.
 
 ghost use Rattle.std.specs.Prelude.{◌≡◌, None};
 ghost use Rattle.byteorder.specs.Endian.{little_number};
@@ -7,13 +7,16 @@ ghost use Rattle.xhci_trb.specs.Text.{Fits, HasText, text, words_of, fault_in};
 ghost use Rattle.xhci_trb.specs.Reader.{trb_in, cycle_in};
 
 use crate::{Trb, decode, encode};
+use byteorder::{ByteOrder, LittleEndian};
 
-/// A text is one little endian number of 128 bits, the sum of the TRB's fields at their places.
-pub fn text_is_one_number(trb: &Trb, cycle: bool)
+/// A text as the number of 128 bits that its bytes are, low byte first: the sum of the TRB's fields at their places (6.4).
+/// Asks what [`encode`] asks.
+pub fn text_number(trb: &Trb, cycle: bool) -> u128
     requires { Fits trb.now }
-    ensures { little_number 16 (text trb.now cycle) ≡ number_of (words_of trb.now cycle) }
+    ensures bytes { result ≡ little_number 16 (text trb.now cycle) }
+    ensures fields { result ≡ number_of (words_of trb.now cycle) }
 {
-    let _bytes = encode(trb, cycle);
+    LittleEndian::read_u128(&encode(trb, cycle))
 }
 
 /// The reader of words gives a text's TRB and Cycle bit back.

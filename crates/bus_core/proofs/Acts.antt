@@ -13,7 +13,7 @@ use Rattle.solo_model.specs.declared.Label.TheVariants.{Submit as SubmitLabel}
 use Rattle.solo_model.specs.Held.{held_at}
 use Rattle.solo_model.specs.Solo.{SoloState, solo_step, silently}
 use Rattle.bus_core.specs.declared.Place.{Place}
-use Rattle.bus_core.specs.declared.Entry.{Entry}
+use Rattle.bus_core.specs.Td.{Entry}
 use Rattle.bus_core.specs.declared.Completion.{Completion}
 use Rattle.bus_core.specs.declared.Step.{Step}
 use Rattle.bus_core.specs.Part.{Part, Act, carry_act, move_act, send_act, event_act, seen_entry, event_place, seen_by, fault_at, submitted_part, take_act, own_task, slot_tag}

@@ -4,7 +4,7 @@ use Rattle.std.specs.Prelude.{slice_set, slice_get, sum_by}
 use Rattle.std.proofs.lemmas.List.Sums.{sum_by-cons}
 use Rattle.bus_core.specs.declared.Place.{Place}
 use Rattle.bus_core.specs.declared.Completion.{Completion}
-use Rattle.bus_core.specs.declared.Entry.{Entry}
+use Rattle.bus_core.specs.Td.{Entry}
 use Rattle.bus_core.specs.Part.{Part, event_place}
 use Rattle.bus_core.specs.Soundness.{IsCounted, slots_in, waiting_in, awaited_in, waiting_of, awaited_of}
 use Rattle.bus_core.specs.Bus.{AreNumbered, AreCounted, IsPlace, ArePlaces, AreOfPlaces}
@@ -23,12 +23,6 @@ pub AreNumbered-set : (number : ℕ) (parts : List Part) (client : ℕ) (old new
 AreNumbered-set number [] client old new held same all = tt
 AreNumbered-set number (part ∷ parts) zero old new held same all = let it : part ≡ old = cc in (same ∙ ap (λ (p : Part). p.number) (sym it) ∙ all.0, all.1)
 AreNumbered-set number (part ∷ parts) (suc client) old new held same all = (all.0, AreNumbered-set (suc number) parts client old new held same all.1)
-
--- the client at a place has that number
-pub AreNumbered-at : (number : ℕ) (parts : List Part) (client : ℕ) (part : Part) → AreNumbered number parts → slice_get parts client ≡ Some part → part.number ≡ number + client
-AreNumbered-at number [] client part all held = let no : None ≡ Some part = held in cc
-AreNumbered-at number (first ∷ parts) zero part all held = let it : first ≡ part = cc in sym (ap (λ (p : Part). p.number) it) ∙ all.0 ∙ omega arith
-AreNumbered-at number (first ∷ parts) (suc client) part all held = AreNumbered-at (suc number) parts client part all.1 held ∙ omega arith
 
 -- the counts of all clients move as those of the one that acts
 pub AreCounted-set : (parts : List Part) (client : ℕ) (old new : Part) (pushes pops posts takes : ℕ) → slice_get parts client ≡ Some old →

@@ -1,14 +1,12 @@
 -- The slots of a client: their counts and buffers, when one of them changes.
 use Rattle.std.proofs.Common.{◌≡◌, ℕ, zero, suc, ◌+◌, ◌<◌, ◌≤◌, List, [], ◌∷◌, length, Option, Some, None, IfSome, refl, arith, subst, sym, ap, ◌∙◌, length-set}
-use Rattle.std.specs.Prelude.{slice_set, slice_index_or, sum_by, replicate, option_to_list, MatchOption, option_and_then}
+use Rattle.std.specs.Prelude.{slice_set, slice_index_or, sum_by, replicate}
 use Rattle.std.proofs.lemmas.List.Sums.{sum_by-set}
 use Rattle.std.proofs.lemmas.List.{get_or_default}
 use Rattle.solo_model.specs.Held.{AllHeld, held_at}
 use Rattle.solo_model.proofs.Held.{held_at-read}
-use Rattle.bus_core.specs.declared.Entry.{Entry}
-use Rattle.bus_core.specs.declared.Completion.{Completion}
-use Rattle.bus_core.specs.Part.{Part}
-use Rattle.bus_core.specs.Soundness.{IsCountedEntry, IsCountedSlots, IsFramed, KeepsFrame, KeepsHeldFrame, KeepsFrames, AllPaired, waiting_of, awaited_of, IsCounted}
+use Rattle.bus_core.specs.Td.{Entry}
+use Rattle.bus_core.specs.Soundness.{IsCountedEntry, IsCountedSlots, IsFramed, KeepsFrame, KeepsHeldFrame, KeepsFrames, AllPaired, waiting_of, awaited_of}
 
 sum_moves : (f : Option Entry → ℕ) (entries : List (Option Entry)) (slot : ℕ) (old new : Option Entry) (more less : ℕ) → slot < length entries → held_at entries slot ≡ old →
     f old + more ≤ f new + less → sum_by f entries + more ≤ sum_by f (slice_set entries slot new) + less
@@ -25,10 +23,6 @@ IsCountedSlots-set entries slot old new pushes pops posts takes within is moves 
   waiting = sum_moves waiting_of entries slot old new pushes pops within is moves.waiting;
   awaited = sum_moves awaited_of entries slot old new posts takes within is moves.awaited;
 }
-
--- where nothing changes, nothing is pushed or posted
-pub IsCountedSlots-same : (entries : List (Option Entry)) (pops takes : ℕ) → IsCountedSlots entries entries 0 pops 0 takes
-IsCountedSlots-same entries pops takes = record { slots = refl; waiting = omega arith; awaited = omega arith }
 
 -- BUFFERS
 
@@ -85,70 +79,6 @@ KeepsFrames-set entries slot old new is keeps =
     λ number frames all. AllPaired-set (IsFramed number) entries frames 0 slot slot (Some new) all (omega arith)
     (λ frame fits. keeps number slot frame (subst (λ (o : Option Entry). IfSome o (λ held. IsFramed number slot held frame)) is fits))
 
--- what is held may be put back
-pub slice_set-back : (entries : List (Option Entry)) (slot : ℕ) (old : Option Entry) → held_at entries slot ≡ old → slice_set entries slot old ≡ entries
-slice_set-back [] slot old is = refl
-slice_set-back (place ∷ places) zero old is = ap (λ (o : Option Entry). o ∷ places) (sym is)
-slice_set-back (place ∷ places) (suc slot) old is = ap (λ os. place ∷ os) (slice_set-back places slot old is)
-
--- a step on what is held is a step on its slot
-pub held_step_at : (f : Entry → Option Entry) (idle : Type 0) (act : Entry → Type 0) (entries : List (Option Entry)) (slot : ℕ) (old new : Option Entry) →
-    held_at entries slot ≡ old →
-    MatchOption (option_and_then f old) (idle × (new ≡ old)) (λ after. act after × (new ≡ Some after)) →
-    MatchOption (option_and_then f (held_at entries slot)) (idle × (slice_set entries slot new ≡ entries))
-    (λ after. act after × (slice_set entries slot new ≡ slice_set entries slot (Some after)))
-held_step_at f idle act entries slot old new is =
-    let stay : new ≡ old → slice_set entries slot new ≡ entries =
-    λ same. ap (λ o. slice_set entries slot o) same ∙ slice_set-back entries slot old is in
-    let P : Option Entry → Type 0 = λ held. MatchOption (option_and_then f old) (idle × (new ≡ old)) (λ after. act after × (new ≡ Some after)) →
-    MatchOption (option_and_then f held) (idle × (slice_set entries slot new ≡ entries))
-    (λ after. act after × (slice_set entries slot new ≡ slice_set entries slot (Some after))) in
-    subst P (sym is) (elim (option_and_then f old) as (λ o. MatchOption o (idle × (new ≡ old)) (λ after. act after × (new ≡ Some after)) →
-    MatchOption o (idle × (slice_set entries slot new ≡ entries)) (λ after. act after × (slice_set entries slot new ≡ slice_set entries slot (Some after)))) [
-      | None ↦ λ told. (told.0, stay told.1)
-      | Some after ↦ λ told. (told.0, ap (λ o. slice_set entries slot o) told.1)
-    ])
-
--- a step on an entry is a step on what its slot holds
-pub step_at : {A : Type 0} (f : Entry → Option A) (next : A → Entry) (idle : Type 0) (act : A → Type 0) (entries : List (Option Entry)) (slot : ℕ) (old new : Entry) →
-    held_at entries slot ≡ Some old →
-    MatchOption (f old) (idle × (new ≡ old)) (λ after. act after × (new ≡ next after)) →
-    MatchOption (option_and_then f (held_at entries slot)) (idle × (slice_set entries slot (Some new) ≡ entries))
-    (λ after. act after × (slice_set entries slot (Some new) ≡ slice_set entries slot (Some (next after))))
-step_at {A} f next idle act entries slot old new is =
-    let stay : new ≡ old → slice_set entries slot (Some new) ≡ entries =
-    λ same. ap (λ e. slice_set entries slot (Some e)) same ∙ slice_set-back entries slot (Some old) is in
-    let go : (after : A) → new ≡ next after → slice_set entries slot (Some new) ≡ slice_set entries slot (Some (next after)) =
-    λ after same. ap (λ e. slice_set entries slot (Some e)) same in
-    let P : Option Entry → Type 0 = λ held. MatchOption (f old) (idle × (new ≡ old)) (λ after. act after × (new ≡ next after)) →
-    MatchOption (option_and_then f held) (idle × (slice_set entries slot (Some new) ≡ entries))
-    (λ after. act after × (slice_set entries slot (Some new) ≡ slice_set entries slot (Some (next after)))) in
-    subst P (sym is) (elim (f old) as (λ o. MatchOption o (idle × (new ≡ old)) (λ after. act after × (new ≡ next after)) →
-    MatchOption o (idle × (slice_set entries slot (Some new) ≡ entries)) (λ after. act after × (slice_set entries slot (Some new) ≡ slice_set entries slot (Some (next after))))) [
-      | None ↦ λ told. (told.0, stay told.1)
-      | Some after ↦ λ told. (told.0, go after told.1)
-    ])
-
--- the same of a step on the unit too
-pub unit_step_at : {A : Type 0} (f : Entry → Option A) (next : A → Entry) (idle still : Type 0) (act moves : A → Type 0) (entries : List (Option Entry)) (slot : ℕ) (old new : Entry) →
-    held_at entries slot ≡ Some old →
-    MatchOption (f old) (idle × still × (new ≡ old)) (λ after. act after × moves after × (new ≡ next after)) →
-    MatchOption (option_and_then f (held_at entries slot)) (idle × still × (slice_set entries slot (Some new) ≡ entries))
-    (λ after. act after × moves after × (slice_set entries slot (Some new) ≡ slice_set entries slot (Some (next after))))
-unit_step_at {A} f next idle still act moves entries slot old new is =
-    let stay : new ≡ old → slice_set entries slot (Some new) ≡ entries =
-    λ same. ap (λ e. slice_set entries slot (Some e)) same ∙ slice_set-back entries slot (Some old) is in
-    let go : (after : A) → new ≡ next after → slice_set entries slot (Some new) ≡ slice_set entries slot (Some (next after)) =
-    λ after same. ap (λ e. slice_set entries slot (Some e)) same in
-    let P : Option Entry → Type 0 = λ held. MatchOption (f old) (idle × still × (new ≡ old)) (λ after. act after × moves after × (new ≡ next after)) →
-    MatchOption (option_and_then f held) (idle × still × (slice_set entries slot (Some new) ≡ entries))
-    (λ after. act after × moves after × (slice_set entries slot (Some new) ≡ slice_set entries slot (Some (next after)))) in
-    subst P (sym is) (elim (f old) as (λ o. MatchOption o (idle × still × (new ≡ old)) (λ after. act after × moves after × (new ≡ next after)) →
-    MatchOption o (idle × still × (slice_set entries slot (Some new) ≡ entries)) (λ after. act after × moves after × (slice_set entries slot (Some new) ≡ slice_set entries slot (Some (next after))))) [
-      | None ↦ λ told. (told.0, told.1, stay told.2)
-      | Some after ↦ λ told. (told.0, told.1, go after told.2)
-    ])
-
 -- what was read at a slot is what it holds
 pub read : (entries : List (Option Entry)) (slot at : ℕ) (else : Option Entry) → slot < length entries → at ≡ slot → held_at entries slot ≡ slice_index_or entries at else
 read entries slot at else within same = held_at-read entries slot else _ within refl ∙ ap (λ n. slice_index_or entries n else) (sym same)
@@ -171,15 +101,3 @@ AllPaired-none P first (suc n) (frame ∷ frames) = (tt, AllPaired-none P (suc f
 pub AllHeld-none : {T : Type 0} (P : T → Type 0) (n : ℕ) → AllHeld P (replicate n None)
 AllHeld-none P zero = tt
 AllHeld-none P (suc n) = (tt, AllHeld-none P n)
-
--- the counts of the slots are those of the client
-pub IsCounted-slots : (part old new : Part) (event : Option Completion) (pushes pops posts takes : ℕ) → part ≡ old →
-    IsCountedSlots part.entries new.entries pushes pops posts takes → new.number ≡ part.number → length (option_to_list event) ≡ posts →
-    IsCounted old new pushes pops (length (option_to_list event)) takes
-IsCounted-slots part old new event pushes pops posts takes same moves number posted =
-    subst (λ p. IsCounted p new pushes pops (length (option_to_list event)) takes) same (record {
-      number = number;
-      slots = moves.slots;
-      waiting = moves.waiting;
-      awaited = omega (arith, moves.awaited, posted);
-    })

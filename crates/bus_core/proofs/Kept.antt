@@ -1,30 +1,25 @@
 -- What the steps on one entry keep.
-use Rattle.std.proofs.Common.{◌≡◌, ℕ, ◌+◌, ◌/◌, ◌^◌, ◌<◌, Bool, true, false, ◌&&◌, List, Option, Some, None, IfSome, IfNone, length, cond, refl, arith, subst, sym, ap, ◌∙◌}
-use Rattle.std.specs.Prelude.{MatchOption, is_some, option_map, ◌==◌}
+use Rattle.std.proofs.Common.{◌≡◌, ℕ, ◌+◌, ◌/◌, ◌^◌, ◌<◌, Bool, true, false, ◌&&◌, List, Option, Some, None, IfSome, length, cond, refl, arith, subst, sym, ap, ◌∙◌}
+use Rattle.std.specs.Prelude.{◌==◌}
 use Rattle.std.proofs.lemmas.Bool.{eqb-false}
-use Rattle.std.specs.Option.{option_map_or}
 use Rattle.solo_model.specs.declared.Answer.{Answer}
 use Rattle.solo_model.specs.declared.Phase.{Phase}
 use Rattle.solo_model.specs.declared.Phase.TheVariants.{Queued, Moving, Ended, Sent}
-use Rattle.solo_model.specs.TaggedTask.{sent_from, queued, status_of}
-use Rattle.solo_model.specs.Soundness.{IsCdbOf}
+use Rattle.solo_model.specs.TaggedTask.{queued, status_of}
 use Rattle.solo_model.proofs.Kept.{IsSound-queued}
 use Rattle.solo_model.specs.declared.Answer.TheVariants.{Good, Check}
-use Rattle.solo_model.specs.declared.Request.{Request}
-use Rattle.solo_model.specs.declared.Request.TheVariants.{Execute}
 use Rattle.scsi_cmd.specs.declared.Command.{Command}
-use Rattle.scsi_cmd.specs.Op.{moved_bytes, cdb_bytes}
+use Rattle.scsi_cmd.specs.Op.{moved_bytes}
 use Rattle.bus_core.specs.declared.TdState.{TdState}
 use Rattle.bus_core.specs.declared.TdState.TheVariants.{Pending, Seen, LeftOver, Retired}
 use Rattle.bus_core.specs.declared.Td.{Td}
-use Rattle.bus_core.specs.declared.Entry.{Entry}
+use Rattle.bus_core.specs.Td.{Entry}
 use Rattle.bus_core.specs.declared.Frame.{Frame}
-use Rattle.bus_core.specs.Td.{pushed, is_seen, is_over, is_pending, is_awaited, is_data_over, is_ready, data_trbs, with_trb_taken, data_after_answer, data_after_status, left_over_data}
+use Rattle.bus_core.specs.Td.{pushed, is_seen, is_over, is_pending, is_awaited, is_data_over, is_ready, data_trbs, data_after_answer, data_after_status, left_over_data}
 use Rattle.bus_core.specs.Part.{slot_tag, data_td_for, new_entry}
-use Rattle.bus_core.specs.Wire.{request_text, answer_text, IsReceived}
-use Rattle.bus_core.specs.declared.wire.Received.{Received}
+use Rattle.bus_core.specs.Wire.{answer_text}
 use Rattle.bus_core.proofs.Readied.{readied-ready}
-use Rattle.bus_core.specs.Soundness.{IsSoundEntry, HasTds, HasAnswer, IsFramed, IsCountedEntry, waiting_of, awaited_data, readied_of, one_if, is_queued, sent_held, answer_in, frame_telling, TookTrbs, TellsCheck, AsksFor, IsAnswered}
+use Rattle.bus_core.specs.Soundness.{IsSoundEntry, HasTds, HasAnswer, IsFramed, IsCountedEntry, awaited_data, readied_of, one_if, is_queued, TookTrbs, TellsCheck, IsAnswered}
 
 both : (a b : Bool) → (a && b) ≡ true → (a ≡ true) × (b ≡ true)
 both true b is = (refl, is)
@@ -89,38 +84,9 @@ ready_leaves count (Some entry) one sound =
 
 -- SEEN
 
--- what was seen may be ready now
-pub seen_ready : (after old new : Option Entry) (seen ready : Bool) → seen ≡ true → ready ≡ option_map_or is_ready new false →
-    MatchOption after ((seen ≡ false) × (new ≡ old)) (λ entry. (seen ≡ true) × (new ≡ Some entry)) →
-    MatchOption after ((ready ≡ false) × (new ≡ old)) (λ entry. (ready ≡ is_ready entry) × (new ≡ Some entry))
-seen_ready None old new seen ready was is told = let no : true ≡ false = sym was ∙ told.0 in let it : ⊥ = cc in absurd it
-seen_ready (Some entry) old new seen ready was is told = (is ∙ ap (λ held. option_map_or is_ready held false) told.1, told.1)
-
 -- SENT
 
--- an entry whose answer was written fits its buffers once it was sent
-pub IsFramed-sent : (number slot tag : ℕ) (old new : Entry) (frame : Frame) (acted : Bool) → tag ≡ slot_tag number slot → IsFramed number slot old frame →
-    MatchOption (sent_held old) ((acted ≡ false) × (new ≡ old)) (λ after. (acted ≡ true) × (new ≡ after)) →
-    IsFramed number slot new (frame_telling tag (answer_in old.task.phase) frame)
-IsFramed-sent number slot tag old new frame acted same framed =
-    let stay : (new ≡ old) → IsFramed number slot new frame = λ is. subst (λ e. IsFramed number slot e frame) (sym is) framed in
-    elim old.task.phase as (λ p. MatchOption (option_map (λ task. record old { task = task; status_td = with_trb_taken old.status_td }) (sent_from old.task p))
-    ((acted ≡ false) × (new ≡ old)) (λ after. (acted ≡ true) × (new ≡ after)) → IsFramed number slot new (frame_telling tag (answer_in p) frame)) [
-      | Queued ↦ λ told. stay told.1
-      | Moving chunk ↦ λ told. stay told.1
-      | Ended answer ↦ λ told. subst (λ e. IsFramed number slot e (frame_telling tag (Some answer) frame)) (sym told.1)
-          (record { unit = framed.unit; answer = ap (λ t. answer_text t answer) same })
-      | Sent answer ↦ λ told. stay told.1
-    ]
-
 -- SUBMITTED
-
-pub IsFramed-queued : (number slot tag : ℕ) (entry : Entry) (frame : Frame) → entry.task.phase ≡ Queued → tag ≡ slot_tag number slot →
-    frame.command.items ≡ request_text number tag entry.task.request → IsFramed number slot entry frame
-IsFramed-queued number slot tag entry frame queued same told = record {
-  unit = told ∙ ap (λ t. request_text number t entry.task.request) same;
-  answer = subst (λ p. HasAnswer p (slot_tag number slot) frame) (sym queued) tt;
-}
 
 TookTrbs-first : (bytes : ℕ) → TookTrbs ((bytes + 4095) / 4096) 0 (data_td_for bytes)
 TookTrbs-first bytes =
@@ -164,29 +130,6 @@ tells_check count number slot (Some entry) frame bytes checked sound framed is a
     phase_tells entry.task.phase number slot entry frame bytes checked sound.tds framed.answer is at less
 
 -- RECEIVED
-
-received_request : (number slot : ℕ) (request : Request) (bytes : List ℕ) (result : Option Received) → IsReceived bytes result → bytes ≡ request_text number (slot_tag number slot) request →
-    slot_tag number slot < 2 ^ 16 →
-    IfSome result (λ unit. (unit.number ≡ number) × (unit.tag ≡ slot_tag number slot) × IsCdbOf request unit.cdb) × (is_some result ≡ true)
-received_request number slot (Execute op) bytes result reads at less =
-    let is : result ≡ Some (record { number = number; tag = slot_tag number slot; cdb = cdb_bytes op }) = reads number (slot_tag number slot) op less at in
-    subst (λ (o : Option Received). IfSome o (λ unit. (unit.number ≡ number) × (unit.tag ≡ slot_tag number slot) × IsCdbOf (Execute op) unit.cdb) × (is_some o ≡ true)) (sym is)
-    ((refl, refl, refl), refl)
-
-pub received_some : (number slot : ℕ) (held : Option Entry) (frame : Frame) (bytes : List ℕ) (result : Option Received) (waits : Bool) → waits ≡ true → one_if waits ≡ waiting_of held →
-    IfSome held (λ entry. IsFramed number slot entry frame) → IsReceived bytes result → bytes ≡ frame.command.items → slot_tag number slot < 2 ^ 16 →
-    IfSome result (λ unit. (unit.number ≡ number) × (unit.tag ≡ slot_tag number slot) × AsksFor held unit.cdb) × (is_some result ≡ true)
-received_some number slot None frame bytes result waits was counts framed reads at less =
-    absurd (let one : one_if waits ≡ 1 = ap one_if was in omega arith)
-received_some number slot (Some entry) frame bytes result waits was counts framed reads at less =
-    let it : (request : Request) → entry.task.request ≡ request → frame.command.items ≡ request_text number (slot_tag number slot) request →
-    IfSome result (λ unit. (unit.number ≡ number) × (unit.tag ≡ slot_tag number slot) × IsCdbOf request unit.cdb) × (is_some result ≡ true) =
-    λ request is text. received_request number slot request bytes result reads (at ∙ text) less in
-    it entry.task.request refl framed.unit
-
-pub none_of_some : {T : Type 0} (o : Option T) (P : Type 0) → is_some o ≡ true → IfNone o P
-none_of_some None P is = let no : false ≡ true = is in let it : ⊥ = cc in absurd it
-none_of_some (Some x) P is = tt
 
 -- REPLY
 

@@ -1,4 +1,3 @@
-pub mod Units
 pub mod EachSlot
 pub mod Readied
 pub mod Kept
@@ -17,3 +16,13 @@ pub mod Steps
 pub mod Opening
 pub mod Rounds
 pub mod Armed
+pub mod Joined
+pub mod Standing
+pub mod EntrySteps
+pub mod DeviceSteps
+pub mod ClientSteps
+pub mod SeenSteps
+pub mod HostSteps
+pub mod HostEvents
+pub mod Done
+pub mod Doing

@@ -1,11 +1,11 @@
 -- The slots of a client that are ready, and their queue.
 use Rattle.std.proofs.Common.{◌≡◌, ℕ, zero, suc, ◌+◌, ◌<◌, ◌≤◌, Bool, true, false, List, [], ◌∷◌, ◌++◌, length, Option, Some, None, refl, arith, subst, sym, ap, ◌∙◌}
-use Rattle.std.specs.Prelude.{◌==◌, remove, replicate, slice_index_or, slice_set, sum_by}
+use Rattle.std.specs.Prelude.{◌==◌, replicate, slice_set, sum_by}
 use Rattle.std.proofs.lemmas.Bool.{eqb-true, eqb-false, ne_eqb}
 use Rattle.std.proofs.lemmas.List.{get_or-set_same, get_or-set_other}
 use Rattle.std.proofs.lemmas.List.Sums.{sum_by-set, sum_by-cons}
 use Rattle.solo_model.specs.Held.{held_at}
-use Rattle.bus_core.specs.declared.Entry.{Entry}
+use Rattle.bus_core.specs.Td.{Entry}
 use Rattle.bus_core.specs.Td.{is_ready}
 use Rattle.bus_core.specs.Soundness.{AreReady, one_if, readied_of, times_in, queued_if}
 
@@ -97,14 +97,6 @@ pub AreReady-length : (queue : List ℕ) (entries : List (Option Entry)) → Are
 AreReady-length queue entries all = omega (arith, queue_within queue entries all, readied_most entries)
 
 -- THE FIRST OF THE QUEUE
-
-pub queue_empty : (queue : List ℕ) → (length queue == 0) ≡ true → queue ≡ []
-queue_empty [] is = refl
-queue_empty (slot ∷ rest) is = let no : length (slot ∷ rest) ≡ 0 = eqb-true _ _ is in absurd (omega arith)
-
-pub queue_first : (queue rest : List ℕ) (slot : ℕ) → (length queue == 0) ≡ false → slot ≡ slice_index_or queue 0 slot → rest ≡ remove queue 0 → queue ≡ slot ∷ rest
-queue_first [] rest slot some first others = let no : true ≡ false = some in cc
-queue_first (x ∷ xs) rest slot some first others = let here : slot ≡ x = first in let there : rest ≡ xs = others in cc
 
 -- what is so of the slot that leaves the queue
 pub record IsFirst (entries : List (Option Entry)) (slot : ℕ) (rest : List ℕ) : Type 0 where

@@ -8,22 +8,17 @@ use Rattle.solo_model.specs.TaggedTask.{carried, moved, sent}
 use Rattle.solo_model.specs.declared.TaggedTask.{TaggedTask}
 use Rattle.block_unit.specs.BlockMaps.{BlockMaps}
 use Rattle.bus_core.specs.declared.Place.{Place}
-use Rattle.bus_core.specs.declared.Entry.{Entry}
+use Rattle.bus_core.specs.Td.{Entry}
 use Rattle.bus_core.specs.declared.Completion.{Completion}
 use Rattle.bus_core.specs.declared.Completion.TheVariants.{DataDone}
 use Rattle.bus_core.specs.declared.News.{News}
 use Rattle.bus_core.specs.declared.Outcome.{Outcome}
 use Rattle.bus_core.specs.Td.{data_trbs}
 use Rattle.bus_core.specs.Part.{Part, Act, told, event_place, carry_act, carried_slot, carried_entry, move_act, moved_slot, moved_entry, send_act, sent_slot, sent_entry, is_last_trb, took_trb, event_act, seen_by, seen_entry, fault_at, submitted_part, settled, taken, take_act, entry_reply, slot_tag}
-use Rattle.bus_core.specs.Shared.{Shared, routed, routed_to, outcome_of, with_streams_rung, acceptance, refusal, submitted_to, answered}
-use Rattle.bus_core.specs.Pipes.{rung_at, data_in_after, data_out_after, submission_doors}
-use Rattle.bus_core.specs.declared.PipeState.{PipeState}
-use Rattle.scsi_cmd.specs.declared.Direction.{Direction}
-use Rattle.scsi_cmd.specs.declared.Direction.TheVariants.{Nothing, ToHost, ToDevice}
+use Rattle.bus_core.specs.Shared.{Shared, routed, routed_to, outcome_of, refusal, submitted_to, answered}
 use Rattle.scsi_cmd.specs.declared.Command.{Command}
 use Rattle.scsi_cmd.specs.declared.Reply.{Reply}
 use Rattle.scsi_cmd.specs.declared.SubmitFault.{SubmitFault}
-use Rattle.scsi_cmd.specs.Op.{direction_of}
 use Rattle.bus_core.specs.Bus.{IsPlace, ArePlaces, AreOfPlaces, AreCounted, IsActOn, IsSoundBus}
 use Rattle.bus_core.proofs.Counting.{all_waiting-le, all_awaited-le, AreOfPlaces-push}
 
@@ -164,13 +159,6 @@ routed-seen state event new news outcome acts says =
     ∙ ap (λ (e : Option Completion). (record state { parts = new; events = state.events ++ option_to_list e }, outcome)) posts_none
     ∙ ap (λ (es : List Completion). (record state { parts = new; events = es }, outcome)) (append-nil state.events)
 
--- the pipes after the doorbells of a submission
-pub with_streams_rung-is : (state : Shared) (way : Direction) (tag : ℕ) →
-    with_streams_rung state way tag ≡ record state { status = rung_at state.status tag; data_in = data_in_after way state.data_in tag; data_out = data_out_after way state.data_out tag }
-with_streams_rung-is state Nothing tag = refl
-with_streams_rung-is state ToHost tag = refl
-with_streams_rung-is state ToDevice tag = refl
-
 -- SUBMISSIONS: what the code knows of the clients after one, by whether there was a fault
 abbrev pub IsSubmitted : Option Part → ℕ → ℕ → Command → List Part → List Part → ℕ → Result (Unit {0}) (SubmitFault × Command) → Type 0
 IsSubmitted held slot ticket command old new client result =
@@ -195,20 +183,6 @@ same-if_err (Some part) slot ticket command old new client result error err =
       | None ↦ λ all. let differ : ◌≡◌ {A = Result (Unit {0}) (SubmitFault × Command)} (Err error) (Ok (record {})) = sym err ∙ all.0 in absurd cc
       | Some fault ↦ λ refused. refused.1
     ]
-
--- an accepted submission, as the shared machine has it
-pub submitted-ok : (state : Shared) (held : Option Part) (place : Place) (tag ticket : ℕ) (command : Command) (new : List Part) (result : Result (Unit {0}) (SubmitFault × Command)) (status data_in data_out : PipeState) (outcome : Outcome) →
-    IsSubmitted held place.slot ticket command state.parts new place.client result → result ≡ Ok (record {}) →
-    status ≡ rung_at state.status tag → data_in ≡ data_in_after (direction_of command.op) state.data_in tag → data_out ≡ data_out_after (direction_of command.op) state.data_out tag →
-    outcome ≡ acceptance place.client place.slot (submission_doors (direction_of command.op) tag) →
-    submitted_to state place tag ticket command held ≡ (record { parts = new; messages = state.messages ++ place ∷ []; events = state.events; status = status; data_in = data_in; data_out = data_out }, outcome)
-submitted-ok state None place tag ticket command new result status data_in data_out outcome none ok s i o says = absurd none
-submitted-ok state (Some part) place tag ticket command new result status data_in data_out outcome answer ok s i o says =
-    elim (fault_at part place.slot ticket command) as (λ fault. MatchOption fault ((result ≡ Ok (record {})) × (new ≡ slice_set state.parts place.client (submitted_part part place.slot ticket command)) × AreCounted state.parts new 1 0 0 0) (λ f. (result ≡ Err (f, command)) × (new ≡ state.parts)) →
-    answered state part place tag ticket command fault ≡ (record { parts = new; messages = state.messages ++ place ∷ []; events = state.events; status = status; data_in = data_in; data_out = data_out }, outcome)) [
-      | None ↦ λ all. rw (with_streams_rung-is, s, i, o, says, all.1) refl
-      | Some fault ↦ λ refused. let differ : ◌≡◌ {A = Result (Unit {0}) (SubmitFault × Command)} (Ok (record {})) (Err (fault, command)) = sym ok ∙ refused.0 in absurd cc
-    ] answer
 
 -- a refused submission
 pub submitted-err : (state : Shared) (held : Option Part) (place : Place) (tag ticket : ℕ) (command : Command) (new : List Part) (result : Result (Unit {0}) (SubmitFault × Command)) (fault : SubmitFault) (back : Command) (outcome : Outcome) →

@@ -8,7 +8,7 @@ use Rattle.bus_core.specs.declared.News.{News}
 use Rattle.bus_core.specs.declared.Step.{Step}
 use Rattle.bus_core.specs.declared.Step.TheVariants.{Submit, CommandPipe, Data, Status, Event, Take}
 use Rattle.bus_core.specs.Part.{Part, Act, told, event_place}
-use Rattle.bus_core.specs.declared.Entry.{Entry}
+use Rattle.bus_core.specs.Td.{Entry}
 use Rattle.bus_core.specs.Shared.{entry_fact}
 use Rattle.bus_core.specs.Soundness.{slots_in, waiting_in, awaited_in}
 

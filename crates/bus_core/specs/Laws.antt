@@ -6,7 +6,7 @@ use Rattle.scsi_cmd.specs.declared.Reply.TheVariants.{Status as StatusReply, Abo
 use Rattle.solo_model.specs.Held.{held_at}
 use Rattle.solo_model.specs.declared.Phase.{Phase}
 use Rattle.solo_model.specs.declared.Phase.TheVariants.{Queued, Moving, Ended, Sent}
-use Rattle.bus_core.specs.declared.Entry.{Entry}
+use Rattle.bus_core.specs.Td.{Entry}
 use Rattle.bus_core.specs.declared.Step.{Step}
 use Rattle.bus_core.specs.declared.Step.TheVariants.{Take}
 use Rattle.bus_core.specs.Part.{Part}

@@ -5,6 +5,7 @@ pub mod Pipes
 pub mod Wire
 pub mod Soundness
 pub mod Shared
+pub mod Hosts
 pub mod Bus
 pub mod Replay
 pub mod Drain

@@ -14,7 +14,7 @@ use Rattle.solo_model.specs.Held.{held_at}
 use Rattle.solo_model.specs.TaggedTask.{first_submit_fault, queued, carried, moved, sent, reply_of}
 use Rattle.bus_core.specs.declared.Place.{Place}
 use Rattle.bus_core.specs.declared.Td.{Td}
-use Rattle.bus_core.specs.declared.Entry.{Entry}
+use Rattle.bus_core.specs.Td.{Entry}
 use Rattle.bus_core.specs.declared.Completion.{Completion}
 use Rattle.bus_core.specs.declared.Completion.TheVariants.{CommandDone, DataDone, StatusDone}
 use Rattle.bus_core.specs.declared.News.{News}

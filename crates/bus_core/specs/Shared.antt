@@ -15,7 +15,7 @@ use Rattle.solo_model.specs.declared.Phase.TheVariants.{Queued, Moving, Ended, S
 use Rattle.solo_model.specs.Held.{held_at}
 use Rattle.bus_core.specs.declared.Place.{Place}
 use Rattle.bus_core.specs.declared.Td.{Td}
-use Rattle.bus_core.specs.declared.Entry.{Entry}
+use Rattle.bus_core.specs.Td.{Entry}
 use Rattle.bus_core.specs.declared.Completion.{Completion}
 use Rattle.bus_core.specs.declared.PipeState.{PipeState}
 use Rattle.bus_core.specs.declared.Mark.TheVariants.{Submit as SubmitMark, Quiet}

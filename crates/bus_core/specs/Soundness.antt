@@ -1,20 +1,18 @@
 -- What is true of every client of a bus: the invariant behind the shared machine.
-use Rattle.std.specs.Prelude.{◌≡◌, ℕ, suc, ◌+◌, ◌<◌, ◌≤◌, ◌==◌, Bool, true, false, cond, List, [], ◌∷◌, ◌++◌, length, Option, Some, None, IfSome, sum_by, option_map}
+use Rattle.std.specs.Prelude.{◌≡◌, ℕ, suc, ◌+◌, ◌<◌, ◌≤◌, ◌==◌, Bool, true, false, cond, List, [], ◌∷◌, ◌++◌, length, Option, Some, None, IfSome, sum_by}
 use Rattle.solo_model.specs.declared.TheConstants.{TAGS}
 use Rattle.solo_model.specs.declared.Phase.{Phase}
 use Rattle.solo_model.specs.declared.Phase.TheVariants.{Queued, Moving, Ended, Sent}
 use Rattle.solo_model.specs.declared.Answer.{Answer}
 use Rattle.solo_model.specs.declared.Answer.TheVariants.{Good, Check}
 use Rattle.solo_model.specs.Held.{AllHeld, held_at}
-use Rattle.solo_model.specs.Soundness.{IsSound, IsCdbOf}
-use Rattle.solo_model.specs.TaggedTask.{carried, moved, sent}
-use Rattle.block_unit.specs.BlockMaps.{BlockMaps}
+use Rattle.solo_model.specs.Soundness.{IsSound}
 use Rattle.bus_core.specs.declared.TheConstants.{MAX_CLIENTS}
 use Rattle.bus_core.specs.declared.Td.{Td}
-use Rattle.bus_core.specs.declared.Entry.{Entry}
+use Rattle.bus_core.specs.Td.{Entry}
 use Rattle.bus_core.specs.declared.Frame.{Frame}
-use Rattle.bus_core.specs.Td.{pushed, is_awaited, data_trbs, is_ready, data_after_status, left_over_data, with_trb_taken}
-use Rattle.bus_core.specs.Part.{Part, slot_tag, data_td_after, took_trb, is_last_trb}
+use Rattle.bus_core.specs.Td.{pushed, is_awaited, data_trbs, is_ready, data_after_status, left_over_data}
+use Rattle.bus_core.specs.Part.{Part, slot_tag}
 use Rattle.bus_core.specs.Wire.{request_text, answer_text}
 
 -- until the device has received a command its command TD is untouched, and until its answer was sent its status TD is
@@ -138,15 +136,6 @@ pub record IsCounted (old new : Part) (pushes pops posts takes : ℕ) : Type 0 w
   pub waiting : waiting_in old + pushes ≤ waiting_in new + pops
   pub awaited : awaited_in old + posts ≤ awaited_in new + takes
 
--- whatever is held asks for its request by this CDB
-abbrev pub AsksFor : Option Entry → List ℕ → Type 0
-AsksFor None cdb = Unit {0}
-AsksFor (Some entry) cdb = IsCdbOf entry.task.request cdb
-
--- an entry that has just seen an event may be ready
-abbrev pub readied_if : Bool → Option Entry → ℕ
-readied_if seen entry = cond seen (readied_of entry) 0
-
 -- whether the answer whose event is awaited is CHECK CONDITION, as far as the data TD can tell
 abbrev pub TellsCheck : Option Entry → Bool → Type 0
 TellsCheck None checked = Unit {0}
@@ -172,10 +161,6 @@ KeepsHeldFrame old new = (number slot : ℕ) (frame : Frame) → IfSome old (λ 
 abbrev pub KeepsFrames : List (Option Entry) → List (Option Entry) → Type 0
 KeepsFrames old new = (number : ℕ) (frames : List Frame) → AllPaired (IsFramed number) 0 old frames → AllPaired (IsFramed number) 0 new frames
 
--- a queue of the slots that are ready stays one
-abbrev pub KeepsReady : List (Option Entry) → List (Option Entry) → Type 0
-KeepsReady old new = (queue : List ℕ) → AreReady old queue → AreReady new queue
-
 -- a slot that is ready now is the last of the queue
 abbrev pub queued_if : Bool → List ℕ → ℕ → List ℕ
 queued_if ready queue slot = cond ready (queue ++ slot ∷ []) queue
@@ -185,39 +170,3 @@ pub record IsCountedSlots (old new : List (Option Entry)) (pushes pops posts tak
   pub slots : length new ≡ length old
   pub waiting : sum_by waiting_of old + pushes ≤ sum_by waiting_of new + pops
   pub awaited : sum_by awaited_of old + posts ≤ sum_by awaited_of new + takes
-
--- STEPS ON WHAT IS HELD
-
--- the unit and the entry once the device has received the command
-abbrev pub carried_held : BlockMaps → Entry → Option (BlockMaps × Entry)
-carried_held unit entry =
-    option_map (λ after. (after.0, record entry { task = after.1; command_td = with_trb_taken entry.command_td })) (carried unit entry.task)
-
--- the unit and the entry after a chunk, and whether the data TD took its last TRB
-abbrev pub moved_held : BlockMaps → Entry → Option (BlockMaps × Entry × Bool)
-moved_held unit entry =
-    option_map (λ after. (
-      after.0,
-      record entry { task = after.1; data_td = data_td_after (took_trb after.1.phase) entry.data_td },
-      is_last_trb (took_trb after.1.phase) (data_trbs entry.task.request) entry.data_td,
-    )) (moved unit entry.task)
-
--- the entry once the device has handed over its answer
-abbrev pub sent_held : Entry → Option Entry
-sent_held entry = option_map (λ task. record entry { task = task; status_td = with_trb_taken entry.status_td }) (sent entry.task)
-
--- the answer that a task has to send
-abbrev pub answer_in : Phase → Option Answer
-answer_in Queued = None
-answer_in (Moving chunk) = None
-answer_in (Ended answer) = Some answer
-answer_in (Sent answer) = None
-
-abbrev pub held_answer : Option Entry → Option Answer
-held_answer None = None
-held_answer (Some entry) = answer_in entry.task.phase
-
--- the buffers with this answer written
-abbrev pub frame_telling : ℕ → Option Answer → Frame → Frame
-frame_telling tag None frame = frame
-frame_telling tag (Some answer) frame = record frame { status = record { items = answer_text tag answer } }

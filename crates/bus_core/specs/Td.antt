@@ -1,6 +1,7 @@
 -- Transfer descriptors (xHCI 4.11): how far the controller and the host are with one.
 use Rattle.std.specs.Prelude.{ℕ, ◌+◌, ◌/◌, ◌==◌, nat_lt, Bool, true, false, ◌&&◌, if◌then◌else◌, Option, Some, None}
 use Rattle.scsi_cmd.specs.Op.{moved_bytes}
+use Rattle.solo_model.specs.declared.TaggedTask.{TaggedTask}
 use Rattle.solo_model.specs.declared.Request.{Request}
 use Rattle.solo_model.specs.declared.Request.TheVariants.{Execute}
 use Rattle.solo_model.specs.declared.Phase.{Phase}
@@ -10,7 +11,13 @@ use Rattle.solo_model.specs.declared.Answer.TheVariants.{Good, Check}
 use Rattle.bus_core.specs.declared.TdState.{TdState}
 use Rattle.bus_core.specs.declared.TdState.TheVariants.{Pending, Seen, LeftOver, Retired}
 use Rattle.bus_core.specs.declared.Td.{Td}
-use Rattle.bus_core.specs.declared.Entry.{Entry}
+
+-- what a client has under a slot: the task, and the TDs that carry it
+pub record Entry : Type 0 where
+  pub task : TaggedTask
+  pub command_td : Td
+  pub status_td : Td
+  pub data_td : Option Td
 
 -- a TD as it is pushed
 abbrev pub pushed : Td

@@ -1,11 +1,9 @@
 -- The units that cross the pipes, as bytes (INCITS 471, information units).
 use Rattle.std.specs.Prelude.{◌≡◌, ℕ, ◌^◌, ◌<◌, List, Option, Some}
-use Rattle.scsi_cmd.specs.declared.Op.{Op}
 use Rattle.scsi_cmd.specs.Op.{cdb_bytes}
 use Rattle.uas_iu.specs.declared.Iu.TheVariants.{Command, Sense}
 use Rattle.uas_iu.specs.Units.{unit_text}
 use Rattle.uas_iu.specs.Lun.{lun_text}
-use Rattle.bus_core.specs.declared.wire.Received.{Received}
 use Rattle.bus_core.specs.declared.wire.Told.{Told}
 use Rattle.solo_model.specs.declared.Request.{Request}
 use Rattle.solo_model.specs.declared.Request.TheVariants.{Execute}
@@ -19,11 +17,6 @@ request_text number tag (Execute op) = unit_text (Command tag (lun_text number) 
 -- the unit that tells the answer under this tag
 abbrev pub answer_text : ℕ → Answer → List ℕ
 answer_text tag answer = unit_text (Sense tag (status_of answer) (record { items = sense_of answer }))
-
--- a request that was written is read again
-abbrev pub IsReceived : List ℕ → Option Received → Type 0
-IsReceived bytes result = (number tag : ℕ) (op : Op) → tag < 2 ^ 16 → bytes ≡ request_text number tag (Execute op) →
-    result ≡ Some (record { number = number; tag = tag; cdb = cdb_bytes op })
 
 -- an answer that was written is read again
 abbrev pub IsAnswer : List ℕ → Option Told → Type 0

@@ -1,6 +1,6 @@
 //! The bus: up to 31 clients' disks behind one controller, as one machine of atomic steps.
 //!
-//! Host, controller and device are private parts here. A command crosses the command pipe as the 32 bytes of its
+//! Host and controller are private parts here, and the device is a `uas_target::Target`. A command crosses the command pipe as the 32 bytes of its
 //! Command unit, in a buffer of its tag, and the answer comes back as the bytes of a Sense unit in another. The
 //! rest (the queue of the command pipe, the events, the TDs, the rung streams) is kept as lists.
 //!
@@ -13,22 +13,23 @@
 //! What is promised: [`Bus::step`] is the shared machine's step (`shared_step` in specs/Shared.antt), so it acts
 //! exactly where it is due; [`Bus::run`] is the shared machine's replay, and each client's replies and unit after it
 //! are those of the solo machine for the client's own labels (the headline, `IsIsolated` in specs/Isolation.antt).
-//! No step takes memory. It stands on scsi_cmd, block_unit, uas_iu and solo_model.
+//! No step takes memory. It stands on scsi_cmd, block_unit, uas_iu, solo_model and uas_target.
 #![tactic(auto)]
 
-mod clients;
 mod dispatch;
 mod entries;
+mod hosts;
 mod laws;
 mod machine;
 mod outcomes;
 mod pipes;
 mod runs;
-mod slots;
 mod tds;
+mod telling;
 #[cfg(test)]
 mod tests;
 mod wire;
+mod wired;
 
 use arrayvec::ArrayVec;
 use block_unit::Unit;
@@ -37,10 +38,11 @@ pub use laws::{
     keeps_clients, worlds_agree,
 };
 use scsi_cmd::{Command, Reply, SubmitFault};
-use solo_model::{TAGS, TaggedTask};
+use solo_model::{Buffer, Request, TAGS};
 use std::collections::VecDeque;
 use std::marker::Model;
 use uas_iu::MAX_UNIT_BYTES;
+use uas_target::Target;
 
 /// The most clients of a bus.
 pub const MAX_CLIENTS: usize = 31;
@@ -76,15 +78,6 @@ pub(crate) enum TdState {
 pub(crate) struct Td {
     pub state: TdState,
     pub consumed: usize,
-}
-
-/// What a client has under a slot: the task, and the TDs that carry it.
-#[derive(Debug, Drop)]
-pub(crate) struct Entry {
-    pub task: TaggedTask,
-    pub command_td: Td,
-    pub status_td: Td,
-    pub data_td: Option<Td>,
 }
 
 /// A completion event: the TD of which place the controller is done with (xHCI 4.11.3).
@@ -172,39 +165,50 @@ pub(crate) struct Frame {
     pub status: ArrayVec<u8, MAX_UNIT_BYTES>,
 }
 
-/// One client: the host's entries, the device's unit and the buffers between them.
+/// What the host knows of a command under a slot: all but how far the device is with it.
 #[derive(Debug, Drop)]
-pub(crate) struct Client {
-    number: usize,
-    unit: Unit,
-    entries: [Option<Entry>; TAGS],
-    least: u64,
-    ready: ArrayVec<usize, TAGS>,
-    frames: [Frame; TAGS],
+pub(crate) struct HostEntry {
+    pub ticket: u64,
+    pub request: Request,
+    pub buffer: Buffer,
+    pub command_td: Td,
+    pub status_td: Td,
+    pub data_td: Option<Td>,
 }
 
-impl Model for Client {
+/// The host's side of one client: its entries, and the buffers that it shares with the device.
+#[derive(Debug, Drop)]
+pub(crate) struct Host {
+    pub entries: [Option<HostEntry>; TAGS],
+    pub least: u64,
+    pub ready: ArrayVec<usize, TAGS>,
+    pub frames: [Frame; TAGS],
+}
+
+/// The clients: the host's side of each, and the device.
+#[derive(Debug, Drop)]
+pub(crate) struct Disks {
+    hosts: Vec<Host>,
+    target: Target,
+}
+
+impl Model for Disks {
+    ghost use Rattle.std.specs.Prelude.{List};
     ghost use Rattle.bus_core.specs.Part.{Part};
 
-    ghost Value = { Part };
+    ghost Value = { List Part };
 
-    ghost use Rattle.bus_core.specs.Soundness.{IsSoundClient};
+    ghost use Rattle.bus_core.specs.Hosts.{StandForAll, joined};
 
-    ghost view = { λ client. record {
-      number = client.number;
-      unit = client.unit;
-      entries = client.entries;
-      least = client.least;
-      ready = client.ready.items;
-    } };
+    ghost view = { λ disks. joined disks.target.tasks 0 disks.hosts.items disks.target.units };
 
-    ghost invariant = { λ client. IsSoundClient client.number client.unit.count client.entries client.ready.items client.frames };
+    ghost invariant = { λ disks. StandForAll disks.target.units disks.target.tasks disks.hosts.items (joined disks.target.tasks 0 disks.hosts.items disks.target.units) };
 }
 
 /// The bus: its clients, the command pipe, the event ring, and the pipes with streams.
 #[derive(Debug, Drop)]
 pub struct Bus {
-    clients: Vec<Client>,
+    disks: Disks,
     messages: VecDeque<Place>,
     events: VecDeque<Completion>,
     status: PipeState,
@@ -221,7 +225,7 @@ impl Model for Bus {
     ghost use Rattle.bus_core.specs.Bus.{IsSoundBus};
 
     ghost view = { λ bus. record {
-      parts = bus.clients.items;
+      parts = bus.disks;
       messages = bus.messages.items;
       events = bus.events.items;
       status = bus.status;
@@ -229,7 +233,7 @@ impl Model for Bus {
       data_out = bus.data_out;
     } };
 
-    ghost invariant = { λ bus. IsSoundBus bus.clients.items bus.messages.items bus.events.items (deque_len bus.messages) (deque_capacity bus.messages) (deque_len bus.events) (deque_capacity bus.events) };
+    ghost invariant = { λ bus. IsSoundBus bus.disks bus.messages.items bus.events.items (deque_len bus.messages) (deque_capacity bus.messages) (deque_len bus.events) (deque_capacity bus.events) };
 }
 
 /// The outcomes of a run, in order.

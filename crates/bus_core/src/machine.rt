@@ -5,11 +5,9 @@ ghost use Rattle.bus_core.specs.Part.{move_act, send_act, take_act};
 ghost use Rattle.bus_core.specs.Shared.{carry_step, due, event_step, is_data_open, opening, new_parts, routed, routed_by_tag, shared_step, submit_step};
 ghost use Rattle.bus_core.specs.Tags.{place_of};
 
-use crate::dispatch::{
-    carry_at, command_slot_of, move_at, place_of_tag, see_at, send_at, submit_at, take_at,
-};
+use crate::dispatch::{command_slot_of, place_of_tag};
 use crate::pipes::{doors_of, ring_all};
-use crate::{Bus, Client, Completion, MAX_CLIENTS, News, Outcome, PipeState, Place, STREAMS, Step};
+use crate::{Bus, Completion, Disks, MAX_CLIENTS, Outcome, PipeState, Place, STREAMS, Step};
 use block_unit::Unit;
 use scsi_cmd::{Command, Direction, SubmitFault, moves};
 use solo_model::TAGS;
@@ -28,9 +26,9 @@ impl Bus {
         ensures { IfOk result (λ bus. bus ≡ opening units.items) }
     {
         let tags = units.len() * TAGS;
-        let clients = clients_of(alloc, units)?;
+        let disks = Disks::new(alloc, units)?;
         Ok(Bus {
-            clients,
+            disks,
             messages: VecDeque::with_capacity(alloc, tags)?,
             events: VecDeque::with_capacity(alloc, EVENTS_OF_TAG * tags)?,
             status: PipeState::new(),
@@ -45,7 +43,7 @@ impl Bus {
         ensures some { 1 ≤ length self.now.parts }
         ensures most { length self.now.parts ≤ MAX_CLIENTS }
     {
-        self.clients.len()
+        self.disks.len()
     }
 
     /// The unit of a client of the bus.
@@ -53,7 +51,7 @@ impl Bus {
         requires { client < length self.now.parts }
         ensures { IfSome (slice_get self.now.parts client) (λ part. result.now ≡ part.unit) }
     {
-        self.clients[client].unit()
+        self.disks.unit(client)
     }
 
     /// Whether a step would act.
@@ -73,20 +71,18 @@ impl Bus {
     fn take_is_due(&self, client: usize) -> bool
         ensures { result ≡ due self.now (Step.Take client) }
     {
-        client < self.clients.len() && self.clients[client].has_ready()
+        client < self.disks.len() && self.disks.has_ready(client)
     }
 
     /// The data stream of the tag is armed, and the device gives or takes on it.
     fn data_is_due(&self, tag: u16) -> bool
         ensures { result ≡ due self.now (Step.Data tag) }
     {
-        let Some(place) = place_of_tag(self.clients.len(), tag) else {
+        let Some(place) = place_of_tag(self.disks.len(), tag) else {
             return false;
         };
-        match self.clients[place.client].entry(place.slot) {
-            Some(entry) => entry.is_moving()
-                && self.is_data_open(tag, entry.direction())
-                && entry.has_data_trb(),
+        match self.disks.data_way(place) {
+            Some(way) => self.is_data_open(tag, way),
             None => false,
         }
     }
@@ -95,15 +91,10 @@ impl Bus {
     fn status_is_due(&self, tag: u16) -> bool
         ensures { result ≡ due self.now (Step.Status tag) }
     {
-        let Some(place) = place_of_tag(self.clients.len(), tag) else {
+        let Some(place) = place_of_tag(self.disks.len(), tag) else {
             return false;
         };
-        match self.clients[place.client].entry(place.slot) {
-            Some(entry) => entry.has_answer()
-                && self.status.is_open(tag)
-                && entry.status_td.has_trb(1),
-            None => false,
-        }
+        self.status.is_open(tag) && self.disks.has_answer(place)
     }
 
     fn is_data_open(&self, tag: u16, way: Direction) -> bool
@@ -145,12 +136,12 @@ impl Bus {
         requires { ticket < 2 ^ 60 }
         ensures { submit_step self.old client tag ticket command ≡ (self.new, result) }
     {
-        let Some(slot) = command_slot_of(self.clients.len(), client, tag) else {
+        let Some(slot) = command_slot_of(self.disks.len(), client, tag) else {
             return Outcome::refused(client, SubmitFault::NotYours, command);
         };
         let place = Place { client, slot };
         let way = moves(&command.op).0;
-        match submit_at(&mut self.clients, place, ticket, command) {
+        match self.disks.submit_at(place, ticket, command) {
             Ok(()) => {
                 ring_all(
                     &mut self.status,
@@ -173,7 +164,7 @@ impl Bus {
         let Some(place) = self.messages.pop_front() else {
             return Outcome::idle();
         };
-        let news = carry_at(&mut self.clients, place);
+        let news = self.disks.carry_at(place);
         post(&mut self.events, news.event);
         Outcome::of(place.client, news)
     }
@@ -183,10 +174,10 @@ impl Bus {
         requires { due self.old (Step.Data tag) ≡ true }
         ensures { routed_by_tag self.old move_act (place_of (length self.old.parts) tag) ≡ (self.new, result) }
     {
-        let Some(place) = place_of_tag(self.clients.len(), tag) else {
+        let Some(place) = place_of_tag(self.disks.len(), tag) else {
             return Outcome::idle();
         };
-        let news = move_at(&mut self.clients, place);
+        let news = self.disks.move_at(place);
         post(&mut self.events, news.event);
         Outcome::of(place.client, news)
     }
@@ -196,10 +187,10 @@ impl Bus {
         requires { due self.old (Step.Status tag) ≡ true }
         ensures { routed_by_tag self.old send_act (place_of (length self.old.parts) tag) ≡ (self.new, result) }
     {
-        let Some(place) = place_of_tag(self.clients.len(), tag) else {
+        let Some(place) = place_of_tag(self.disks.len(), tag) else {
             return Outcome::idle();
         };
-        let news = send_at(&mut self.clients, place);
+        let news = self.disks.send_at(place);
         post(&mut self.events, news.event);
         Outcome::of(place.client, news)
     }
@@ -211,7 +202,7 @@ impl Bus {
         let Some(event) = self.events.pop_front() else {
             return Outcome::idle();
         };
-        let news = see_at(&mut self.clients, event);
+        let news = self.disks.see_at(event);
         Outcome::of(event.place().client, news)
     }
 
@@ -220,25 +211,9 @@ impl Bus {
         requires { due self.old (Step.Take client) ≡ true }
         ensures { routed self.old client (take_act client) ≡ (self.new, result) }
     {
-        if client >= self.clients.len() {
-            return Outcome::of(client, News::none());
-        }
-        let news = take_at(&mut self.clients, client);
+        let news = self.disks.take_at(client);
         Outcome::of(client, news)
     }
-}
-
-/// The clients of these units, by number.
-fn clients_of(alloc: Global, units: Vec<Unit>) -> Result<Vec<Client>, AllocError>
-    requires { vec_len units ≤ MAX_CLIENTS }
-    ensures { IfOk result (λ clients. clients.items ≡ new_parts 0 units.items) }
-{
-    let mut clients = Vec::with_capacity(alloc, units.len())?;
-    let mut rest = units.into_iter();
-    while let Some(unit) = rest.next() {
-        clients.push(Client::new(clients.len(), unit))?;
-    }
-    Ok(clients)
 }
 
 /// Posts an event, where there is one.

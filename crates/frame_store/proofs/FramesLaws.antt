@@ -1,10 +1,10 @@
 -- Laws of the store.
-use Rattle.std.proofs.Common.{◌≡◌, ◌≢◌, ℕ, ◌+◌, ◌-◌, ◌<◌, ◌≤◌, ◌↔◌, Option, Some, None, List, [], ◌∷◌, ◌++◌, take, drop, length, replicate, unwrap_or, option_map, refl, sym, ap, ◌∙◌, inl, inr, arith}
+use Rattle.std.proofs.Common.{◌≡◌, ℕ, ◌-◌, ◌<◌, ◌≤◌, ◌↔◌, Option, Some, None, List, [], ◌∷◌, ◌++◌, take, drop, length, replicate, unwrap_or, option_map, refl, sym, ap, ◌∙◌, inl, inr, arith}
 use Rattle.std.proofs.Math.ListN.{set}
 use Rattle.std.proofs.Math.Seq.{take-append_seam}
 use Rattle.std.specs.List.{length_refill}
 use Rattle.std.specs.Option.{option_map_or}
-use Rattle.std.proofs.lemmas.List.{length-set, get_or-set_same, get_or-set_other, get_or-replicate, length-replicate, take-append-drop, set-get_or, drop-drop, take-append-le, take_all, length-take, length-drop, length-append}
+use Rattle.std.proofs.lemmas.List.{length-set, get_or-set_same, get_or-set_other, get_or-replicate, length-replicate, take-append-drop, set-get_or}
 use Rattle.std.proofs.lemmas.Bool.{cases_eq, ne_eqb}
 use Rattle.frame_store.specs.declared.Buffer.{Buffer}
 use Rattle.frame_store.specs.declared.Buffer.TheVariants.{Command, Status, Window}
@@ -12,7 +12,7 @@ use Rattle.frame_store.specs.declared.Place.{Place}
 use Rattle.frame_store.specs.declared.TagBuffers.{TagBuffers}
 use Rattle.frame_store.specs.Places.{room_of, place_at}
 use Rattle.frame_store.specs.Splice.{spliced}
-use Rattle.frame_store.specs.Buffers.{bytes_in, with_bytes_in, with_part, opening_buffers, no_buffers, held_for, with_held, bytes_of, with_bytes, Names, IsNamed, HasSizes, IsWhole, start_of, bytes_at, written, left_at}
+use Rattle.frame_store.specs.Buffers.{bytes_in, with_bytes_in, with_part, opening_buffers, no_buffers, held_for, with_held, bytes_of, with_bytes, Names, IsNamed, HasSizes, IsWhole, start_of, written, left_at}
 use Rattle.frame_store.proofs.PlacesLaws.{place_at-address_of, address_of-place_at}
 
 -- writing over a part keeps the length
@@ -87,27 +87,10 @@ names-left frames address len h (inr (place, named)) =
 pub left_at-named : (frames : List TagBuffers) (address len : ℕ) → IsWhole frames → (len ≤ left_at frames address) ↔ IsNamed frames address len
 left_at-named frames address len h = (left-names frames address len (place_at address) refl, names-left frames address len h)
 
--- where bytes that can be given begin, and that they stay in their buffer
-pub start_of-within : (frames : List TagBuffers) (address len : ℕ) → IsWhole frames → IsNamed frames address len → (start_of address len).offset + len ≤ length (bytes_of frames (start_of address len))
-start_of-within frames address len h (inl none) = rw (none) (omega arith)
-start_of-within frames address len h (inr (place, named)) =
-    elim (cases_eq len 0) as (λ _. (start_of address len).offset + len ≤ length (bytes_of frames (start_of address len))) [
-      | inl none ↦ rw (none) (omega arith)
-      | inr some ↦ rw (ne_eqb len 0 some, place_at-named frames address len place h named (omega arith)) named.within
-    ]
-
 -- at least one byte that an address names begins at its place
 pub start_of-named : (frames : List TagBuffers) (address len : ℕ) (place : Place) → IsWhole frames → Names frames address len place → 0 < len → start_of address len ≡ place
 start_of-named frames address len place h named some =
     rw (ne_eqb len 0 (λ e. omega arith), place_at-named frames address len place h named some) refl
-
--- the bytes that an address names are those from its place on
-pub bytes_at-named : (frames : List TagBuffers) (address len : ℕ) (place : Place) → IsWhole frames → Names frames address len place → bytes_at frames address len ≡ take len (drop place.offset (bytes_of frames place))
-bytes_at-named frames address len place h named =
-    elim (cases_eq len 0) as (λ _. bytes_at frames address len ≡ take len (drop place.offset (bytes_of frames place))) [
-      | inl none ↦ rw none refl
-      | inr some ↦ ap (λ (p : Place). take len (drop p.offset (bytes_of frames p))) (start_of-named frames address len place h named (omega arith))
-    ]
 
 -- nothing written changes nothing
 pub spliced-none : (old : List ℕ) (from : ℕ) → spliced old from [] ≡ old
@@ -134,22 +117,3 @@ written-named frames address len [] place h named size =
     with_bytes-none frames (start_of address len) ∙ sym (with_bytes-none frames place)
 written-named frames address len (x ∷ new) place h named size =
     ap (λ (p : Place). with_bytes frames p (x ∷ new)) (start_of-named frames address len place h named (omega (arith, size)))
-
--- what a tag has after its buffers were changed, and after another's were
-pub held_for-with_held_same : (frames : List TagBuffers) (tag : ℕ) (held : TagBuffers) → IsWhole frames → 1 ≤ tag → tag ≤ 248 → held_for (with_held frames tag held) tag ≡ held
-held_for-with_held_same frames tag held h first last = get_or-set_same frames (tag - 1) held no_buffers (omega (arith, h.tags))
-
-pub held_for-with_held_other : (frames : List TagBuffers) (tag other : ℕ) (held : TagBuffers) → 1 ≤ tag → 1 ≤ other → other ≢ tag → held_for (with_held frames tag held) other ≡ held_for frames other
-held_for-with_held_other frames tag other held first second differs =
-    let apart : other - 1 ≢ tag - 1 = λ e. differs (omega arith) in
-    get_or-set_other frames (tag - 1) (other - 1) held no_buffers apart
-
--- bytes that fit are written as they are
-pub spliced-within : (old : List ℕ) (from : ℕ) (new : List ℕ) → from + length new ≤ length old → spliced old from new ≡ take from old ++ (new ++ drop (from + length new) old)
-spliced-within old from new fits =
-    let parts : List ℕ = take from old ++ (new ++ drop (length new) (drop from old)) in
-    let same : length parts ≡ length old =
-    length-append (take from old) (new ++ drop (length new) (drop from old)) ∙
-    (omega (arith, length-take from old, length-append new (drop (length new) (drop from old)), length-drop (length new) (drop from old), length-drop from old)) in
-    take-append-le (length old) parts (drop (length parts) old) (omega (arith, same)) ∙ take_all (length old) parts (omega (arith, same)) ∙
-    ap (λ rest. take from old ++ (new ++ rest)) (drop-drop (length new) from old ∙ ap (λ n. drop n old) (omega arith))

@@ -1,5 +1,5 @@
 -- Tasks stay sound.
-use Rattle.std.proofs.Common.{◌≡◌, ℕ, zero, suc, ◌<◌, ◌≤◌, true, false, ◌&&◌, cond, List, [], ◌∷◌, ◌++◌, length, take, drop, min, inl, inr, length-set, Option, Some, None, IfSome, Result, Ok, Err, refl, arith, ap, sym, ◌∙◌, subst}
+use Rattle.std.proofs.Common.{◌≡◌, ℕ, zero, suc, ◌<◌, true, false, ◌&&◌, cond, List, [], ◌∷◌, ◌++◌, length, take, drop, inl, inr, length-set, Option, Some, None, IfSome, Result, Ok, Err, refl, arith, ap, sym, ◌∙◌, subst}
 use Rattle.std.specs.Prelude.{◌==◌, slice_get, slice_index, slice_index_or}
 use Rattle.std.proofs.lemmas.Bool.{eqb-false, eqb-true, cases_lt, le-leb}
 use Rattle.std.proofs.lemmas.List.{length-map}
@@ -7,9 +7,8 @@ use Rattle.std.proofs.Math.Seq.{take-append_seam}
 use Rattle.std.proofs.lemmas.Option.{slice_get-get_or}
 use Rattle.block_unit.specs.BlockMaps.{BlockMaps, with_attention}
 use Rattle.scsi_cmd.specs.declared.Op.{Op}
-use Rattle.scsi_cmd.specs.declared.Op.TheVariants.{TestUnitReady, Inquiry, ReadCapacity, Read, Write, Sync}
+use Rattle.scsi_cmd.specs.declared.Op.TheVariants.{Inquiry}
 use Rattle.scsi_cmd.specs.Fields.{field_of_two}
-use Rattle.scsi_cmd.specs.Data.{inquiry_bytes}
 use Rattle.scsi_cmd.specs.declared.Sense.{Sense}
 use Rattle.scsi_cmd.specs.Op.{moved_bytes}
 use Rattle.scsi_cmd.specs.Meaning.{asked, checked, op_fault, named_op, has_invalid_field}
@@ -23,12 +22,10 @@ use Rattle.solo_model.specs.declared.Answer.TheVariants.{Good, Check}
 use Rattle.solo_model.proofs.Held.{AllHeld-held, AllHeld-set, held_at-past}
 use Rattle.solo_model.proofs.Kept.{checked_in_range, HasChunk-after}
 use Rattle.uas_target.specs.declared.DeviceTask.{DeviceTask}
-use Rattle.uas_target.specs.declared.Phase.{Phase as Wants}
-use Rattle.uas_target.specs.declared.Phase.TheVariants.{Gives, Takes}
 use Rattle.uas_target.specs.declared.TheConstants.{GREATEST_TAG}
 use Rattle.uas_target.specs.Fields.{is_tag}
 use Rattle.uas_target.specs.Soundness.{IsSoundTask, IsSoundDevice, IsOn, IsInquiry, counts_of}
-use Rattle.uas_target.specs.Tasks.{task_in, begun_by, is_inquiry, missing_phase, asked_phase, chunk_wanted, chunk_given}
+use Rattle.uas_target.specs.Tasks.{task_in, begun_by, is_inquiry, missing_phase, asked_phase}
 use Rattle.uas_target.proofs.Counts.{slice_get-counts_of}
 
 -- what a tag has is sound
@@ -159,32 +156,6 @@ left_sound units number chunk op read on =
     HasChunk-sound (counts_of units) number unit.count op (phase_after unit chunk op)
     (slice_get-counts_of units number unit (slice_get-get_or units number read (on_within units number op on)))
     (HasChunk-after unit chunk op unit.count (on_in_range units number op read on))
-
--- INQUIRY alone needs no unit
-pub inquiry_size : (chunk size : ℕ) (op : Op) → IsInquiry op → chunk_wanted chunk op ≡ Gives size → size ≤ 36
-inquiry_size chunk size (Inquiry allocation) is wants = let same : min allocation 36 ≡ size = cc in omega arith
-inquiry_size chunk size TestUnitReady is wants = absurd is
-inquiry_size chunk size ReadCapacity is wants = absurd is
-inquiry_size chunk size (Read lba count fua) is wants = absurd is
-inquiry_size chunk size (Write lba count fua) is wants = absurd is
-inquiry_size chunk size (Sync lba count) is wants = absurd is
-
-pub inquiry_given : (chunk size : ℕ) (op : Op) → IsInquiry op → chunk_wanted chunk op ≡ Gives size → chunk_given None chunk op ≡ Some (take size (inquiry_bytes false))
-inquiry_given chunk size (Inquiry allocation) is wants = let same : min allocation 36 ≡ size = cc in ap (λ n. Some (take n (inquiry_bytes false))) same
-inquiry_given chunk size TestUnitReady is wants = absurd is
-inquiry_given chunk size ReadCapacity is wants = absurd is
-inquiry_given chunk size (Read lba count fua) is wants = absurd is
-inquiry_given chunk size (Write lba count fua) is wants = absurd is
-inquiry_given chunk size (Sync lba count) is wants = absurd is
-
--- without a unit no task takes anything
-pub inquiry_takes_none : (chunk size : ℕ) (op : Op) → IsInquiry op → chunk_wanted chunk op ≡ Takes size → ⊥
-inquiry_takes_none chunk size (Inquiry allocation) is wants = let no : ◌≡◌ {A = Wants} (Gives (min allocation 36)) (Takes size) = wants in cc
-inquiry_takes_none chunk size TestUnitReady is wants = is
-inquiry_takes_none chunk size ReadCapacity is wants = is
-inquiry_takes_none chunk size (Read lba count fua) is wants = is
-inquiry_takes_none chunk size (Write lba count fua) is wants = is
-inquiry_takes_none chunk size (Sync lba count) is wants = is
 
 -- THE DEVICE
 

@@ -16,7 +16,11 @@ use scsi_cmd::{BLOCK_BYTES, Op, Sense, capacity_data, inquiry_data, moves};
 use solo_model::{Answer, CHUNK_BLOCKS, Phase as Step};
 
 /// What the device has of a command in this phase.
-pub fn task_in(unit: Option<usize>, asked: &Result<Op, Sense>, step: Step) -> Option<DeviceTask>
+pub(crate) fn task_in(
+    unit: Option<usize>,
+    asked: &Result<Op, Sense>,
+    step: Step,
+) -> Option<DeviceTask>
     ensures { result ≡ task_in unit asked.now step }
 {
     match (step, asked) {
@@ -34,7 +38,7 @@ pub fn task_in(unit: Option<usize>, asked: &Result<Op, Sense>, step: Step) -> Op
 }
 
 /// The way and the bytes of the next chunk of an operation that has bytes left to move.
-pub fn chunk_wants(op: Op, chunk: u16) -> Phase
+pub(crate) fn chunk_wants(op: Op, chunk: u16) -> Phase
     requires { 4096 * chunk < moved_bytes op }
     ensures phase { result ≡ chunk_wanted chunk op }
     ensures chunk { IsChunk result }
@@ -58,7 +62,11 @@ fn chunk_bytes(count: u16, chunk: u16) -> usize
 }
 
 /// Gives the next chunk of a task: whether it met no bad block, and the task after it.
-pub fn give_task(units: &[Unit], task: DeviceTask, bytes: &mut [u8]) -> (bool, Option<DeviceTask>)
+pub(crate) fn give_task(
+    units: &[Unit],
+    task: DeviceTask,
+    bytes: &mut [u8],
+) -> (bool, Option<DeviceTask>)
     requires sound { IsSoundTask (counts_of units.now) task }
     requires wanted { task_wants task ≡ Phase.Gives (length bytes.old) }
     ensures good { result.0 ≡ is_some (task_given units.now task) }
@@ -84,7 +92,11 @@ pub fn give_task(units: &[Unit], task: DeviceTask, bytes: &mut [u8]) -> (bool, O
 }
 
 /// Takes the next chunk of a task: whether it met no bad block, and the task after it.
-pub fn take_task(units: &mut [Unit], task: DeviceTask, bytes: &[u8]) -> (bool, Option<DeviceTask>)
+pub(crate) fn take_task(
+    units: &mut [Unit],
+    task: DeviceTask,
+    bytes: &[u8],
+) -> (bool, Option<DeviceTask>)
     requires sound { IsSoundTask (counts_of units.old) task }
     requires wanted { task_wants task ≡ Phase.Takes (length bytes.now) }
     ensures good { result.0 ≡ task_fits units.old task }
@@ -125,7 +137,7 @@ fn take_at(
 }
 
 /// Gives a chunk of a command to a unit that is there: whether it met no bad block, and the phase after it.
-pub fn give(unit: &Unit, op: Op, chunk: u16, bytes: &mut [u8]) -> (bool, Step)
+fn give(unit: &Unit, op: Op, chunk: u16, bytes: &mut [u8]) -> (bool, Step)
     requires wanted { chunk_wanted chunk op ≡ Phase.Gives (length bytes.old) }
     requires left { 4096 * chunk < moved_bytes op }
     requires range { op_fault op unit.now.count ≡ None }
@@ -151,7 +163,7 @@ pub fn give(unit: &Unit, op: Op, chunk: u16, bytes: &mut [u8]) -> (bool, Step)
 }
 
 /// The front of the INQUIRY data, as many bytes as are asked.
-pub fn give_inquiry(present: bool, bytes: &mut [u8])
+fn give_inquiry(present: bool, bytes: &mut [u8])
     requires { length bytes.old ≤ 36 }
     ensures { bytes.new ≡ take (length bytes.old) (inquiry_bytes present) }
 {
@@ -178,7 +190,7 @@ fn read_chunk(unit: &Unit, lba: u32, count: u16, chunk: u16, bytes: &mut [u8]) -
 }
 
 /// Takes a chunk of a command to a unit: whether it met no bad block, and the phase after it.
-pub fn take(unit: &mut Unit, op: Op, chunk: u16, bytes: &[u8]) -> (bool, Step)
+fn take(unit: &mut Unit, op: Op, chunk: u16, bytes: &[u8]) -> (bool, Step)
     requires wanted { chunk_wanted chunk op ≡ Phase.Takes (length bytes.now) }
     requires left { 4096 * chunk < moved_bytes op }
     requires range { op_fault op unit.old.count ≡ None }

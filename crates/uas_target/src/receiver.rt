@@ -19,7 +19,7 @@ use uas_iu::{CDB_BYTES, INVALID_INFORMATION_UNIT, Iu, LUN_BYTES, NOT_SUPPORTED, 
 const INQUIRY: u8 = 0x12;
 
 /// The number of the unit that a LUN addresses, where it is there (SAM, single level LUN structure).
-pub fn unit_number(units: &[Unit], lun: &[u8; LUN_BYTES]) -> Option<usize>
+pub(crate) fn unit_number(units: &[Unit], lun: &[u8; LUN_BYTES]) -> Option<usize>
     ensures none { IfNone result (addressed units.now lun.now ≡ None) }
     ensures some { IfSome result (λ number. (number < length units.now) × (number ≡ slice_index lun.now 1) × (addressed units.now lun.now ≡ slice_get units.now number)) }
 {

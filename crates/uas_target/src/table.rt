@@ -9,7 +9,7 @@ use std::marker::Model;
 
 /// A place for the task of each tag; contracts see the list of them, tag 1 first.
 #[derive(Debug, Drop)]
-pub struct TaskTable {
+pub(crate) struct TaskTable {
     places: Vec<Option<DeviceTask>>,
 }
 
@@ -26,7 +26,7 @@ impl Model for TaskTable {
 }
 
 /// Whether a task may have this tag.
-pub fn is_tag(tag: u16) -> bool
+pub(crate) fn is_tag(tag: u16) -> bool
     ensures { result ≡ is_tag tag }
 {
     tag != 0 && tag <= GREATEST_TAG
@@ -34,7 +34,7 @@ pub fn is_tag(tag: u16) -> bool
 
 impl TaskTable {
     /// No task of any tag.
-    pub fn new(alloc: Global) -> Result<TaskTable, AllocError>
+    pub(crate) fn new(alloc: Global) -> Result<TaskTable, AllocError>
         ensures tasks { IfOk result (λ table. table ≡ replicate GREATEST_TAG None) }
         ensures places { IfOk result (λ table. length table ≡ GREATEST_TAG) }
     {
@@ -44,7 +44,7 @@ impl TaskTable {
     }
 
     /// The task of a tag.
-    pub fn get(&self, tag: u16) -> Option<DeviceTask>
+    pub(crate) fn get(&self, tag: u16) -> Option<DeviceTask>
         ensures { result ≡ held_under self.now tag }
     {
         if tag == 0 {
@@ -57,7 +57,7 @@ impl TaskTable {
     }
 
     /// Gives a tag a task, or takes it away.
-    pub fn set(&mut self, tag: u16, task: Option<DeviceTask>)
+    pub(crate) fn set(&mut self, tag: u16, task: Option<DeviceTask>)
         requires { is_tag tag ≡ true }
         ensures task { self.new ≡ with_held_under self.old tag task }
         ensures places { length self.new ≡ length self.old }

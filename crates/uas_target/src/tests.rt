@@ -1,4 +1,4 @@
-//! Received units and their answers, byte for byte, and data on the blocks of its moment.
+//! Received units and their answers, byte for byte, data on the blocks of its moment, and want of memory.
 use crate::{Overlap, Phase, Target, Took};
 use arrayvec::ArrayVec;
 use block_unit::Unit;
@@ -172,6 +172,22 @@ fn check_answer(
         assert_eq!(rt; bytes.as_slice(), data.as_slice(), "{rest}");
     }
     end(rt, target, tag, &answer);
+    Ok(())
+}
+
+/// Where memory is wanting there is no device, and the next call makes one. From then on it takes none. This holds with any
+/// one allocation failing (`rt try --test --fail-alloc N`).
+#[test]
+fn want_of_memory(rt: HostRuntime) -> Result<(), Fail> {
+    let first = device(rt.alloc(), &[]);
+    let second = device(rt.alloc(), &[]);
+    let mut target = first.or(second)?;
+    let mut command = [0; 32];
+    command[..4].copy_from_slice(&BUSY);
+    assert_eq!(rt; target.wants(5), Phase::Absent);
+    assert_eq!(rt; target.receive(&command), Ok(Took::Began(5)));
+    let good = [0x03, 0, 0, 5, 0, 0, 0, 0, 0, 0, 0, 0, 0, 0, 0, 0];
+    end(&rt, &mut target, 5, &good);
     Ok(())
 }
 

@@ -1,3 +1,6 @@
 mod Digits
 mod Lines
 mod Zeros
+mod NumberWords
+mod CommandLineFacts
+mod PlainLines

@@ -5,4 +5,5 @@ pub mod Printed
 pub mod Images
 pub mod Runs
 pub mod Options
+pub mod CommandLine
 pub mod Told

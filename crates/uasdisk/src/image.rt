@@ -109,6 +109,7 @@ pub fn run_make<I: Sink, O: Sink, W: Write>(
     ensures image { result ≡ 0 → Appends (I.written image.old) (I.written image.new) (made_image blocks) }
     ensures output { result ≡ 0 → Appends (O.written output.old) (O.written output.new) (made_text blocks) }
     ensures fault { result ≡ 3 → IsTrue (I.can_fail image.old) ⊎ IsTrue (O.can_fail output.old) }
+    ensures quiet { result ≡ 0 → shows_progress ≡ false → faults.new ≡ faults.old }
 {
     let shows_progress = shows_progress && blocks > PART_BLOCKS;
     match make(alloc, blocks, image, output, faults, shows_progress) {
@@ -129,13 +130,14 @@ fn make<I: Sink, O: Sink, W: Write>(
     ensures image { OnOk result (Appends (I.written image.old) (I.written image.new) (made_image blocks)) }
     ensures output { OnOk result (Appends (O.written output.old) (O.written output.new) (made_text blocks)) }
     ensures fault { IfErr result (MakeGivesUp (I.can_fail image.old) (O.can_fail output.old)) }
+    ensures quiet { shows_progress ≡ false → notes.new ≡ notes.old }
 {
     let text = format!(in alloc; "made {blocks}\n").map_err(|_| RunFault::NoMemory)?;
     write_zeros(alloc, blocks, image, notes, shows_progress)?;
     output.write(text.as_bytes()).map_err(output_fault)
 }
 
-/// Writes so many zeroed blocks, a part at a time.
+/// Writes so many zeroed blocks, a part at a time, and tells after each part how many are written, where that is asked for.
 fn write_zeros<I: Sink, W: Write>(
     alloc: Global,
     blocks: u32,
@@ -146,6 +148,7 @@ fn write_zeros<I: Sink, W: Write>(
     requires most { blocks ≤ 65536 }
     ensures image { OnOk result (Appends (I.written image.old) (I.written image.new) (made_image blocks)) }
     ensures fault { IfErr result (MakeGivesUp (I.can_fail image.old) false) }
+    ensures quiet { shows_progress ≡ false → notes.new ≡ notes.old }
 {
     let part = PART_BLOCKS.min(blocks);
     let zeros = vec![in alloc; 0; BLOCK_BYTES * part as usize].map_err(|_| RunFault::NoMemory)?;
@@ -154,14 +157,10 @@ fn write_zeros<I: Sink, W: Write>(
         let count = part.min(blocks - done);
         write_image(image, &zeros[..BLOCK_BYTES * count as usize])?;
         done += count;
-        tell_progress(notes, shows_progress, done, blocks);
+        if shows_progress {
+            // a fault of `notes` changes nothing
+            let _ = writeln!(notes, "{done} of {blocks} blocks");
+        }
     }
     Ok(())
-}
-
-/// Tells how many of the blocks are written, where that is asked for. A fault of `notes` changes nothing.
-fn tell_progress<W: Write>(notes: &mut W, is_shown: bool, done: u32, blocks: u32) {
-    if is_shown {
-        let _ = writeln!(notes, "{done} of {blocks} blocks");
-    }
 }

@@ -14,8 +14,8 @@
 //! `run_script`, `run_make` and `run_info`. What they promise is said over readers and writers that tell their bytes and
 //! whether they can fail (`streams`): the text that is written is that of `specs/Told.antt`, a fold of a script's lines over
 //! the shared machine of the bus and the tags of each client, and nothing else; a fault is answered only where there was
-//! one. Which lines a text has, or which fault, is `specs/Script.antt`. The rest is tested: the texts of faults, and the
-//! words.
+//! one. Which lines a text has, or which fault, is `specs/Script.antt`; what the words ask for, and by which kinds of error
+//! they are refused, is `specs/CommandLine.antt`. The rest is tested: the texts of faults and of help.
 #![tactic(auto)]
 
 pub mod image;
@@ -27,12 +27,16 @@ pub mod status;
 pub mod streams;
 pub mod words;
 
-ghost use Rattle.uasdisk.specs.Options.{AreBlocks, AreClients};
+ghost use Rattle.std.specs.Prelude.{◌≡◌, ◌≢◌, ◌≤◌, ◌⊎◌, [], IfSome, map};
+ghost use Rattle.std.specs.String.{string_bytes};
+ghost use Rattle.clap.specs.Words.{kind_of};
+ghost use Rattle.uasdisk.specs.CommandLine.{asked_for, refusals, MayEndRun, EndsRefused, MayEndRefused};
 
 use clap::Error;
 use clap::error::ErrorKind;
-use status::RunFault;
-use std::alloc::AllocError;
+use image::{run_info, run_make};
+use run_script::run_script;
+use status::{DONE, RunFault, WORDS_REFUSED};
 use std::io::{IsTerminal, Write};
 use std::process::ExitCode;
 use std::{env, fs, io};
@@ -40,85 +44,79 @@ use streams::{Reader, Writer};
 use words::Run;
 
 fn main(rt: HostRuntime) -> ExitCode {
-    let status = match read_words(&rt) {
+    let words: io::Result<Vec<String>> = env::args(&rt).and_then(|words| Ok(words.collect(
+        rt.alloc(),
+    )?));
+    let status = match words {
         Ok(words) => start(&rt, words.as_slice()),
-        Err(_) => RunFault::NoMemory.tell(&mut rt.stderr()),
+        Err(error) if error.kind() == io::ErrorKind::OutOfMemory => {
+            RunFault::NoMemory.tell(&mut rt.stderr())
+        }
+        Err(_) => {
+            let _ = writeln!(rt.stderr(), "error: a word isn't UTF-8");
+            WORDS_REFUSED
+        }
     };
     ExitCode::from(status)
 }
 
-fn read_words(rt: &HostRuntime) -> io::Result<Vec<String>> {
-    let words = env::args(rt)?.collect(rt.alloc())?;
-    Ok(words)
-}
-
 /// Does what the words ask for, and answers the exit status.
-fn start(rt: &HostRuntime, words: &[String]) -> u8 {
+fn start(rt: &HostRuntime, words: &[String]) -> u8
+    ensures run { refusals (map string_bytes words.now) ≡ [] → IfSome (asked_for (map string_bytes words.now)) (λ asked. MayEndRun asked result) }
+    ensures refused { refusals (map string_bytes words.now) ≢ [] → (result ≡ 4) ⊎ MayEndRefused (refusals (map string_bytes words.now)) result }
+{
+    let mut faults = rt.stderr();
     match words::run_of(rt.alloc(), words) {
-        Ok(Run::Replay { clients, blocks }) => replay_script(rt, clients, blocks),
-        Ok(Run::Make { file, blocks }) => make_image(rt, file, blocks),
-        Ok(Run::Info { file }) => tell_image(rt, file),
+        Ok(Run::Replay { clients, blocks }) => run_script(
+            rt.alloc(),
+            usize::from(clients),
+            blocks,
+            &mut Reader(rt.reader()),
+            &mut Writer(rt.stdout()),
+            &mut faults,
+        ),
+        Ok(Run::Make { file, blocks }) => {
+            let shows_progress = faults.is_terminal();
+            // A file that is opened takes the place of a standard output that is closed, and would get its text.
+            let is_output_open = rt.stdout().write(b"").is_ok();
+            let mut image = fs::create(rt, file).ok().map(Writer);
+            let mut output = is_output_open.then(|| Writer(rt.stdout()));
+            run_make(
+                rt.alloc(),
+                blocks,
+                &mut image,
+                &mut output,
+                &mut faults,
+                shows_progress,
+            )
+        }
+        Ok(Run::Info { file }) => {
+            let mut image = fs::open(rt, file).ok().map(Reader);
+            run_info(
+                rt.alloc(),
+                &mut image,
+                &mut Writer(rt.stdout()),
+                &mut faults,
+            )
+        }
         Err(error) => refuse(rt, &error),
     }
 }
 
 /// Prints what is wrong with the words, or the help that they ask for.
-fn refuse(rt: &HostRuntime, error: &Error) -> u8 {
+fn refuse(rt: &HostRuntime, error: &Error) -> u8
+    ensures { EndsRefused (kind_of error.now) result }
+{
     if error.kind() == ErrorKind::OutOfMemory {
         return RunFault::NoMemory.tell(&mut rt.stderr());
     }
     if error.print(rt).is_err() && !error.use_stderr() {
         return RunFault::ScriptFile.tell(&mut rt.stderr());
     }
-    if error.use_stderr() { 2 } else { 0 }
-}
-
-fn replay_script(rt: &HostRuntime, clients: u8, blocks: u32) -> u8
-    requires clients { AreClients clients }
-    requires blocks { AreBlocks blocks }
-{
-    let mut reader = Reader(rt.reader());
-    let mut writer = Writer(rt.stdout());
-    run_script::run_script(
-        rt.alloc(),
-        usize::from(clients),
-        blocks,
-        &mut reader,
-        &mut writer,
-        &mut rt.stderr(),
-    )
-}
-
-fn make_image(rt: &HostRuntime, file: &str, blocks: u32) -> u8
-    requires { AreBlocks blocks }
-{
-    let mut faults = rt.stderr();
-    let shows_progress = faults.is_terminal();
-    // A file that is opened takes the place of a standard output that is closed, and would get its text.
-    let is_output_open = rt.stdout().write(b"").is_ok();
-    match fs::create(rt, file) {
-        Ok(_) if !is_output_open => RunFault::ScriptFile.tell(&mut faults),
-        Ok(image) => image::run_make(
-            rt.alloc(),
-            blocks,
-            &mut Writer(image),
-            &mut Writer(rt.stdout()),
-            &mut faults,
-            shows_progress,
-        ),
-        Err(_) => RunFault::ImageFile.tell(&mut faults),
-    }
-}
-
-fn tell_image(rt: &HostRuntime, file: &str) -> u8 {
-    match fs::open(rt, file) {
-        Ok(image) => image::run_info(
-            rt.alloc(),
-            &mut Reader(image),
-            &mut Writer(rt.stdout()),
-            &mut rt.stderr(),
-        ),
-        Err(_) => RunFault::ImageFile.tell(&mut rt.stderr()),
+    if error.use_stderr() {
+        WORDS_REFUSED
+    } else {
+        DONE
     }
 }
 

@@ -15,6 +15,9 @@ pub const DONE: u8 = 0;
 /// A command ended other than GOOD, or was refused.
 pub const COMMAND_FAILED: u8 = 1;
 
+/// The words of the command line are refused.
+pub const WORDS_REFUSED: u8 = 2;
+
 /// A fault of an image or of a script, or of a file.
 pub const FAULT: u8 = 3;
 

@@ -3,7 +3,8 @@
 //! What any reader of std gives may end in a fault; what stands in memory can't. With that said, a call which
 //! answers a fault of its reader or writer can be asked to do so only where there can be one.
 
-ghost use Rattle.std.specs.Prelude.{◌≡◌, ℕ, ◌≤◌, ◌<◌, ◌++◌, List, Bool, Option, Some, length, take, drop, true, false, IsTrue, IfOk, OnOk, OnErr, IfErr, MatchResult};
+ghost use Rattle.std.specs.Option.{option_map_or};
+ghost use Rattle.std.specs.Prelude.{◌≡◌, ℕ, ◌≤◌, ◌<◌, ◌++◌, List, Bool, Option, Some, option_and_then, length, take, drop, true, false, IsTrue, IfOk, OnOk, OnErr, IfErr, MatchResult};
 ghost use Rattle.std.specs.Io.KnownBytes.{Consumes, Appends, IsAtEnd, ReadConsumes};
 ghost use Rattle.std.specs.Io.{ReadsAtMost};
 
@@ -74,6 +75,20 @@ impl<R: Read> Source for Reader<R> {
     }
 }
 
+/// A reader that couldn't be had: each read fails.
+impl<S: Source> Source for Option<S> {
+    ghost left = { λ reader. option_and_then S.left reader };
+
+    ghost can_fail = { λ reader. option_map_or S.can_fail reader true };
+
+    fn read(&mut self, buffer: &mut [u8]) -> Result<usize, ReadFailed> {
+        match self {
+            Some(reader) => reader.read(buffer),
+            None => Err(ReadFailed),
+        }
+    }
+}
+
 /// A writer of std.
 #[derive(Drop)]
 pub struct Writer<W: Write>(pub W);
@@ -88,6 +103,20 @@ impl<W: Write> Sink for Writer<W> {
             return Err(StreamFault::File);
         }
         Ok(())
+    }
+}
+
+/// A writer that couldn't be had: each write fails.
+impl<S: Sink> Sink for Option<S> {
+    ghost written = { λ writer. option_and_then S.written writer };
+
+    ghost can_fail = { λ writer. option_map_or S.can_fail writer true };
+
+    fn write(&mut self, bytes: &[u8]) -> Result<(), StreamFault> {
+        match self {
+            Some(writer) => writer.write(bytes),
+            None => Err(StreamFault::File),
+        }
     }
 }
 

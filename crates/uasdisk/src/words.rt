@@ -1,7 +1,10 @@
 //! The words of the command line: the subcommands, their arguments and the ranges of their numbers.
 
-ghost use Rattle.std.specs.Prelude.{◌≡◌, ℕ, ◌≤◌, IfOk, IfSome};
-ghost use Rattle.uasdisk.specs.Options.{IsInRange, AreClients, AreBlocks};
+ghost use Rattle.std.specs.Prelude.{◌≡◌, false, Some, IfOk, IfSome, MatchResult, map, option_map};
+ghost use Rattle.std.specs.String.{string_bytes};
+ghost use Rattle.clap.specs.Words.{FailsBy, app_of, found_of, kind_of, rows_of, rule_of, subcommand_rows_of};
+ghost use Rattle.uasdisk.specs.Options.{IsInRange};
+ghost use Rattle.uasdisk.specs.CommandLine.{Asked, AsksPlainly, asked_by, asked_for, asked_in, blocks_of, clients_of, file_rule, info_app, make_app, number_rule, program_app, refusals, replay_app};
 
 use block_unit::MAX_BLOCKS;
 use clap::error::ErrorKind;
@@ -24,9 +27,22 @@ pub enum Run<'a> {
 
 /// Reads the words, the program's own name first. An error has the text to print, help among them.
 pub fn run_of<'a>(alloc: Global, words: &'a [String]) -> Result<Run<'a>, Error>
-    ensures { IfOk result IsInRange }
+    ensures range { IfOk result IsInRange }
+    ensures asked { IfOk result (λ run. asked_for (map string_bytes words.entry.now) ≡ Some (asked_by run)) }
+    ensures refused { FailsBy (refusals (map string_bytes words.entry.now)) result }
+    ensures plain { (asked : Asked) → AsksPlainly asked (map string_bytes words.entry.now)
+        → MatchResult result (λ run. asked_by run ≡ asked) (λ e. kind_of e ≡ ErrorKind.OutOfMemory) }
 {
-    let mut command = command(alloc)?;
+    run_by(command(alloc)?, words)
+}
+
+/// Reads the words by the program's command.
+fn run_by<'a>(mut command: Command<'a>, words: &'a [String]) -> Result<Run<'a>, Error>
+    requires { app_of command ≡ program_app }
+    ensures range { IfOk result IsInRange }
+    ensures asked { IfOk result (λ run. asked_for (map string_bytes words.entry.now) ≡ Some (asked_by run)) }
+    ensures refused { FailsBy (refusals (map string_bytes words.entry.now)) result }
+{
     let matches = command.try_get_matches_from_mut(words)?;
     match asked(&matches) {
         Some(run) => Ok(run),
@@ -34,7 +50,9 @@ pub fn run_of<'a>(alloc: Global, words: &'a [String]) -> Result<Run<'a>, Error>
     }
 }
 
-fn command<'a>(alloc: Global) -> Result<Command<'a>, AllocError> {
+fn command<'a>(alloc: Global) -> Result<Command<'a>, AllocError>
+    ensures { IfOk result (λ command. app_of command ≡ program_app) }
+{
     Command::new(alloc, "uasdisk")
         .about("Runs disks of many clients over USB Attached SCSI, simulated and verified")
         .subcommand_required(true)
@@ -44,42 +62,55 @@ fn command<'a>(alloc: Global) -> Result<Command<'a>, AllocError> {
         .subcommand(info_command(alloc)?)
 }
 
-fn replay_command<'a>(alloc: Global) -> Result<Command<'a>, AllocError> {
+fn replay_command<'a>(alloc: Global) -> Result<Command<'a>, AllocError>
+    ensures { IfOk result (λ command. app_of command ≡ replay_app) }
+{
     Command::new(alloc, "replay")
         .about("Reads a script from standard input and runs it on zeroed units")
         .arg(number(alloc, "CLIENTS", u32::from(MAX_CLIENTS)))?
         .arg(number(alloc, "BLOCKS", MAX_BLOCKS))
 }
 
-fn make_command<'a>(alloc: Global) -> Result<Command<'a>, AllocError> {
+fn make_command<'a>(alloc: Global) -> Result<Command<'a>, AllocError>
+    ensures { IfOk result (λ command. app_of command ≡ make_app) }
+{
     Command::new(alloc, "make")
         .about("Makes an image file of zeroed blocks")
         .arg(file(alloc))?
         .arg(number(alloc, "BLOCKS", MAX_BLOCKS))
 }
 
-fn info_command<'a>(alloc: Global) -> Result<Command<'a>, AllocError> {
+fn info_command<'a>(alloc: Global) -> Result<Command<'a>, AllocError>
+    ensures { IfOk result (λ command. app_of command ≡ info_app) }
+{
     Command::new(alloc, "info")
         .about("Tells how many blocks an image file has, and the number of the last")
         .arg(file(alloc))
 }
 
-fn file<'a>(alloc: Global) -> Arg<'a> {
+fn file<'a>(alloc: Global) -> Arg<'a>
+    ensures rule { rule_of result ≡ file_rule }
+    ensures local { result.global ≡ false }
+{
     Arg::new(alloc, "FILE")
         .required(true)
         .action(ArgAction::Set)
 }
 
-fn number<'a>(alloc: Global, name: &'a str, most: u32) -> Arg<'a> {
+fn number<'a>(alloc: Global, name: &'a str, most: u32) -> Arg<'a>
+    ensures rule { rule_of result ≡ number_rule name.entry.now most }
+    ensures local { result.global ≡ false }
+{
     Arg::new(alloc, name)
         .required(true)
         .action(ArgAction::Set)
         .value_parser(clap::value_parser!(u32).range(1..=i64::from(most)))
 }
 
-/// What the words ask for; `None` never comes, as the parsers have refused every other word.
+/// What was found for the subcommand; the parsers have refused every other word before.
 fn asked<'a>(matches: &ArgMatches<'a>) -> Option<Run<'a>>
-    ensures { IfSome result IsInRange }
+    ensures range { IfSome result IsInRange }
+    ensures asked { option_map asked_by result ≡ asked_in (subcommand_rows_of matches.now) }
 {
     let (name, words) = matches.subcommand()?;
     match name {
@@ -93,15 +124,16 @@ fn asked<'a>(matches: &ArgMatches<'a>) -> Option<Run<'a>>
             let blocks = blocks_in(words)?;
             Some(Run::Make { file, blocks })
         }
-        _ => {
+        "info" => {
             let file = words.get_str("FILE")?;
             Some(Run::Info { file })
         }
+        _ => None,
     }
 }
 
 fn clients_in(words: &ArgMatches<'_>) -> Option<u8>
-    ensures { IfSome result AreClients }
+    ensures { result ≡ clients_of (rows_of (found_of words.now)) }
 {
     let clients = words.get_one::<u8>("CLIENTS")?;
     if 1 <= clients && clients <= MAX_CLIENTS {
@@ -112,7 +144,7 @@ fn clients_in(words: &ArgMatches<'_>) -> Option<u8>
 }
 
 fn blocks_in(words: &ArgMatches<'_>) -> Option<u32>
-    ensures { IfSome result AreBlocks }
+    ensures { result ≡ blocks_of (rows_of (found_of words.now)) }
 {
     let blocks = words.get_one::<u32>("BLOCKS")?;
     if 1 <= blocks && blocks <= MAX_BLOCKS {

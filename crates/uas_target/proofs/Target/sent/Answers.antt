@@ -1,7 +1,7 @@
-use Rattle.std.proofs.Common.{None, refl}
+use Rattle.std.proofs.Common.{refl}
 use Rattle.uas_target.proofs.Sound.{IsSoundDevice-step}
 use Rattle.uas_target.proofs.Target.sent.Goals as goal
 
 pub invariant_of-self : goal.invariant_of-self
 invariant_of-self c =
-    rw c.set.ensures.task (IsSoundDevice-step c.self.inside.units.items c.self.inside.units.items c.self.inside.tasks c.args.tag None c.self.invariant refl tt)
+    rw c.set.ensures.task (IsSoundDevice-step c.self.inside.units.items c.self.inside.units.items c.self.inside.tasks c.args.tag _ c.self.invariant refl tt)

@@ -1,4 +1,4 @@
-use Rattle.std.proofs.Common.{◌≡◌, ◌-◌, ◌*◌, ◌≤◌}
+use Rattle.std.proofs.Common.{false, ◌≡◌, ◌-◌, ◌*◌, ◌≤◌}
 use Rattle.std.specs.Prelude.{replicate}
 use Rattle.std.specs.Io.KnownBytes.{Appends}
 use Rattle.uasdisk.proofs.image.write_zeros.Given as goal
@@ -7,6 +7,7 @@ abbrev pub invariant-loop-done : goal.invariant-loop-done
 invariant-loop-done g l = record {
   written : Appends (g.I.Sink.written l.fn.image) (g.I.Sink.written l.image) (replicate (512 * l.done) 0);
   bound : l.done ≤ l.blocks;
+  quiet : l.shows_progress ≡ false → l.notes ≡ l.fn.notes;
   same : g.I.Sink.can_fail l.image ≡ g.I.Sink.can_fail l.fn.image;
 }
 

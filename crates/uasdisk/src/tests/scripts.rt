@@ -1,0 +1,119 @@
+//! Scripts that run: their lines, what they print, and what they leave on a unit's medium.
+
+use super::cases::{CLIENTS, COMMANDS, DRAINS, TAGS};
+use super::{repeated, run};
+use crate::script::{Line, MAX_SCRIPT_BYTES, Request, parse_script};
+use crate::streams::BytesLeft;
+use block_unit::{BLOCK_BYTES, Unit};
+use bus_core::{Bus, Step};
+use scsi_cmd::{Buffer, Command, Op};
+use std::test::Fail;
+
+#[test]
+fn lines_are_read(rt: HostRuntime) -> Result<(), Fail> {
+    let text =
+        b"# a comment\n\n   \n  002   tur \n1 read 4294967295 65535 fua\n1 write 7 8 255\ndata 248\ntake 0\ndrain";
+    let lines = parse_script(rt.alloc(), 3, text)??;
+    let zeroed = |op| Request { op, fill: 0 };
+    let expected = [
+        Line::Submit {
+            client: 2,
+            request: zeroed(Op::TestUnitReady),
+        },
+        Line::Submit {
+            client: 1,
+            request: zeroed(Op::Read {
+                lba: u32::MAX,
+                count: 65_535,
+                fua: true,
+            }),
+        },
+        Line::Submit {
+            client: 1,
+            request: Request {
+                op: Op::Write {
+                    lba: 7,
+                    count: 8,
+                    fua: false,
+                },
+                fill: 255,
+            },
+        },
+        Line::Data(248),
+        Line::Take(0),
+        Line::Drain,
+    ];
+    assert!(rt; lines.as_slice() == expected.as_slice());
+    Ok(())
+}
+
+#[test]
+fn worked_scripts(rt: HostRuntime) {
+    for cases in [&COMMANDS[..], &TAGS[..], &DRAINS[..], &CLIENTS[..]] {
+        for case in cases {
+            assert!(rt; 1 <= case.clients && case.clients <= 31);
+            assert!(rt; 1 <= case.blocks && case.blocks <= 65_536);
+            let ran = run(
+                rt.alloc(),
+                case.clients,
+                case.blocks,
+                &mut BytesLeft(case.script),
+            );
+            assert_eq!(rt; ran.output.as_slice(), case.output, "{}", case.name);
+            assert_eq!(rt; ran.status, case.status, "{}", case.name);
+            assert!(rt; ran.faults.is_empty(), "{}", case.name);
+        }
+    }
+}
+
+/// Scripts about the limit: a byte, how many of it, the fault, and the exit status. A line of j is an unknown word.
+static LONG: [(u8, usize, &[u8], u8); 5] = [
+    (b'#', MAX_SCRIPT_BYTES, b"", 0),
+    (b'j', MAX_SCRIPT_BYTES, b"line 1: unknown word\n", 3),
+    (b'#', MAX_SCRIPT_BYTES + 1, b"script too long\n", 3),
+    (b'j', MAX_SCRIPT_BYTES + 1, b"script too long\n", 3),
+    (0xff, MAX_SCRIPT_BYTES + 2, b"script too long\n", 3),
+];
+
+#[test]
+fn scripts_of_many_bytes(rt: HostRuntime) -> Result<(), Fail> {
+    for (byte, count, fault, status) in LONG {
+        let script = repeated(rt.alloc(), byte, count)?;
+        let ran = run(rt.alloc(), 1, 100, &mut BytesLeft(&script));
+        assert_eq!(rt; ran.faults.as_slice(), fault);
+        assert_eq!(rt; ran.status, status);
+        assert!(rt; ran.output.is_empty());
+    }
+    Ok(())
+}
+
+/// Row sync: a WRITE without FUA changes the medium only by SYNCHRONIZE CACHE.
+#[test]
+fn synchronized_blocks_reach_the_medium(rt: HostRuntime) -> Result<(), Fail> {
+    let unit = Unit::new(rt.alloc(), 2, Vec::new(rt.alloc()))?;
+    let mut bus = Bus::new(rt.alloc(), vec![in rt.alloc(); unit]?)?;
+    let write = Op::Write {
+        lba: 0,
+        count: 1,
+        fua: false,
+    };
+    let sync = Op::Sync { lba: 0, count: 0 };
+    for (ticket, op, bytes, byte) in [(0, write, BLOCK_BYTES, 0), (1, sync, 0, 170)] {
+        let buffer = Buffer::from_vec(repeated(rt.alloc(), 170, bytes)?);
+        let _ = bus.step(Step::Submit {
+            client: 0,
+            tag: 1,
+            ticket,
+            command: Command { op, buffer },
+        });
+        let _ = bus.drain(100);
+        let replied = bus.step(Step::Take(0)).reply.is_some();
+        assert!(rt; replied);
+        assert_eq!(rt; bus.clients(), 1);
+        let medium = bus.unit(0).medium();
+        assert_eq!(rt; medium.len(), 2 * BLOCK_BYTES);
+        assert!(rt; medium.iter().take(BLOCK_BYTES).all(|held| *held == byte));
+        assert!(rt; medium.iter().skip(BLOCK_BYTES).all(|held| *held == 0));
+    }
+    Ok(())
+}

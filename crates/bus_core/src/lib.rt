@@ -1,8 +1,8 @@
 //! The bus: up to 31 clients' disks behind one controller, as one machine of atomic steps.
 //!
-//! Host and controller are private parts here, and the device is a `uas_target::Target`. A command crosses the command pipe as the 32 bytes of its
-//! Command unit, in a buffer of its tag, and the answer comes back as the bytes of a Sense unit in another. The
-//! rest (the queue of the command pipe, the events, the TDs, the rung streams) is kept as lists.
+//! Host and controller are private parts here, and the device is a `uas_target::Target`. A command crosses the command
+//! pipe as the 32 bytes of its Command unit, in a buffer of its tag, and the answer comes back as the bytes of a Sense unit
+//! in another. The rest (the queue of the command pipe, the events, the TDs, the rung streams) is kept as lists.
 //!
 //! ```text
 //!   client --Submit--> entry, Command unit --CommandPipe--> device --Data--> buffer

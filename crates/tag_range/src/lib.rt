@@ -37,6 +37,8 @@ pub type Ticket = u64;
 /// How many tickets a client has, from 0 on.
 pub const TICKETS: Ticket = 1 << 60;
 
+const _: () = prove!(TICKETS == 1_152_921_504_606_846_976);
+
 /// Why no tag was issued. Each call answers the first that holds, in this order.
 #[derive(Clone, Copy, Debug, Drop, Error, PartialEq, Eq)]
 pub enum Refused {
@@ -243,6 +245,20 @@ mod tests {
         assert_eq!(rt; range.outstanding(), 1);
         assert_eq!(rt; range.issue()?, (17, 2));
         assert_eq!(rt; range.issue()?, (19, 3));
+        Ok(())
+    }
+
+    #[test]
+    fn refusals_say_why(rt: HostRuntime) -> Result<(), Fail> {
+        let texts = [
+            (Refused::NoTag, "every command tag of the client is out"),
+            (Refused::TaskBusy, "the client's task management tag is out"),
+            (Refused::Worn, "the client's last ticket was given out"),
+        ];
+        for (refused, text) in texts {
+            let told = format!(in rt.alloc(); "{refused}")?;
+            assert_eq!(rt; told.as_str(), text);
+        }
         Ok(())
     }
 

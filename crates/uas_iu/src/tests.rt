@@ -1,6 +1,7 @@
 //! Worked units, and each fault at each identifier.
 use super::*;
 use std::process::Abort;
+use std::test::Fail;
 
 /// `unit` is written as `text`, and `text` is read as `unit`.
 fn assert_text(rt: &impl Abort, unit: &Iu, text: &[u8]) {
@@ -213,4 +214,20 @@ fn unit_numbers(rt: HostRuntime) {
         lun_number(&[0x00, 0x1e, 0x00, 0x00, 0x00, 0x00, 0x00, 0x01]),
         None
     );
+}
+
+#[test]
+fn faults_say_why(rt: HostRuntime) -> Result<(), Fail> {
+    let texts = [
+        (IuFault::UnknownId, "unknown identifier"),
+        (IuFault::Short, "too few bytes"),
+        (IuFault::Long, "too many bytes"),
+        (IuFault::ReservedSet, "reserved byte set"),
+        (IuFault::LengthField, "wrong length field"),
+    ];
+    for (fault, text) in texts {
+        let told = format!(in rt.alloc(); "{fault}")?;
+        assert_eq!(rt; told.as_str(), text);
+    }
+    Ok(())
 }

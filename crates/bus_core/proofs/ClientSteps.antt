@@ -11,15 +11,15 @@ use Rattle.scsi_cmd.specs.declared.Op.TheVariants.{TestUnitReady, Inquiry, ReadC
 use Rattle.scsi_cmd.specs.Buffers.{with_bytes_at}
 use Rattle.scsi_cmd.specs.Meaning.{op_fault, checked}
 use Rattle.scsi_cmd.specs.Sense.{reset_occurred}
-use Rattle.solo_model.specs.declared.TheConstants.{TAGS}
-use Rattle.solo_model.specs.declared.Request.TheVariants.{Execute}
+use Rattle.scsi_cmd.specs.declared.TheConstants.{TAGS}
+use Rattle.scsi_cmd.specs.declared.Request.TheVariants.{Execute}
 use Rattle.solo_model.specs.declared.Answer.{Answer}
 use Rattle.solo_model.specs.declared.Answer.TheVariants.{Check}
 use Rattle.solo_model.specs.declared.Phase.{Phase}
 use Rattle.solo_model.specs.declared.Phase.TheVariants.{Queued, Moving, Ended, Sent}
 use Rattle.solo_model.specs.TaggedTask.{begun, started, takes_attention, status_of, sense_of, unit_after, buffer_after, phase_after, meets_bad_chunk, chunk_blocks}
-use Rattle.solo_model.specs.Held.{held_at, held_under, with_held_under}
-use Rattle.solo_model.proofs.Held.{AllHeld-held, AllHeld-set}
+use Rattle.scsi_cmd.specs.Held.{held_at, held_under, with_held_under}
+use Rattle.scsi_cmd.specs.Laws.{AllHeld-held, AllHeld-set}
 use Rattle.solo_model.proofs.Kept.{checked-none, checked-some, flushed_count}
 use Rattle.uas_target.specs.declared.DeviceTask.{DeviceTask}
 use Rattle.uas_target.specs.declared.DeviceTask.TheVariants.{Moving as MovingTask, Ended as EndedTask}

@@ -11,11 +11,11 @@ use Rattle.scsi_cmd.specs.Sense.{reset_occurred, unrecovered_read_error, write_e
 use Rattle.scsi_cmd.specs.Meaning.{op_fault, checked, asked}
 use Rattle.scsi_cmd.specs.Op.{moved_bytes, cdb_bytes}
 use Rattle.scsi_cmd.proofs.Laws.{asked-cdb_bytes, length-cdb_bytes}
-use Rattle.solo_model.specs.declared.Request.TheVariants.{Execute}
+use Rattle.scsi_cmd.specs.declared.Request.TheVariants.{Execute}
 use Rattle.solo_model.specs.declared.Answer.TheVariants.{Good, Check}
 use Rattle.solo_model.specs.declared.Phase.{Phase}
 use Rattle.solo_model.specs.declared.Phase.TheVariants.{Moving, Ended}
-use Rattle.solo_model.specs.Held.{held_under, with_held_under}
+use Rattle.scsi_cmd.specs.Held.{held_under, with_held_under}
 use Rattle.solo_model.specs.TaggedTask.{begun, started, takes_attention, next_phase, phase_after, phase_after_chunk, meets_bad_chunk, chunk_blocks, unit_after, buffer_after}
 use Rattle.solo_model.proofs.Kept.{checked-none, checked-some}
 use Rattle.uas_iu.specs.Lun.{lun_text}

@@ -13,13 +13,13 @@ use Rattle.scsi_cmd.specs.declared.SubmitFault.{SubmitFault}
 use Rattle.scsi_cmd.specs.Sense.{invalid_field_in_cdb}
 use Rattle.scsi_cmd.specs.Meaning.{op_fault, range_fault}
 use Rattle.scsi_cmd.specs.Op.{moved_bytes}
-use Rattle.solo_model.specs.declared.TheConstants.{TAGS, TASK_SLOT}
-use Rattle.solo_model.specs.declared.Request.TheVariants.{Execute}
+use Rattle.scsi_cmd.specs.declared.TheConstants.{TAGS, TASK_SLOT}
+use Rattle.scsi_cmd.specs.declared.Request.TheVariants.{Execute}
 use Rattle.solo_model.specs.declared.Phase.{Phase}
 use Rattle.solo_model.specs.declared.Phase.TheVariants.{Queued, Moving, Ended, Sent}
 use Rattle.solo_model.specs.TaggedTask.{chunk_blocks}
-use Rattle.solo_model.specs.Held.{held_at, held_under}
-use Rattle.solo_model.proofs.Held.{AllHeld-held}
+use Rattle.scsi_cmd.specs.Held.{held_at, held_under}
+use Rattle.scsi_cmd.specs.Laws.{AllHeld-held}
 use Rattle.uas_target.specs.declared.DeviceTask.{DeviceTask}
 use Rattle.uas_target.specs.declared.DeviceTask.TheVariants.{Moving as MovingTask, Ended as EndedTask}
 use Rattle.uas_target.specs.declared.Phase.{Phase as Wants}

@@ -4,8 +4,8 @@ use Rattle.std.specs.Prelude.{MatchOption, slice_get, slice_set, option_and_then
 use Rattle.std.specs.Option.{option_map_or}
 use Rattle.block_unit.specs.BlockMaps.{BlockMaps, bytes_from}
 use Rattle.scsi_cmd.specs.declared.Reply.{Reply}
-use Rattle.solo_model.specs.declared.TheConstants.{TAGS}
-use Rattle.solo_model.specs.Held.{held_at}
+use Rattle.scsi_cmd.specs.declared.TheConstants.{TAGS}
+use Rattle.scsi_cmd.specs.Held.{held_at}
 use Rattle.uas_iu.specs.declared.Iu.{Iu}
 use Rattle.uas_iu.specs.Units.{unit_text}
 use Rattle.uas_target.specs.declared.DeviceTask.{DeviceTask}
@@ -23,7 +23,7 @@ use Rattle.bus_core.specs.declared.Td.{Td}
 use Rattle.bus_core.specs.Td.{data_trbs, pushed}
 use Rattle.solo_model.specs.declared.Phase.{Phase}
 use Rattle.solo_model.specs.declared.Phase.TheVariants.{Queued, Moving, Ended, Sent}
-use Rattle.solo_model.proofs.Held.{AllHeld-held, AllHeld-at}
+use Rattle.scsi_cmd.specs.Laws.{AllHeld-held, AllHeld-at}
 use Rattle.bus_core.specs.Soundness.{IsSoundEntry, IsFramed, HasTds, TellsCheck}
 use Rattle.bus_core.specs.Part.{Part, Act, nothing, told, slot_tag, carry_act, move_act, send_act, event_act, event_place, take_act}
 use Rattle.bus_core.specs.Shared.{entry_fact, has_data_trb, is_moving, is_ended}

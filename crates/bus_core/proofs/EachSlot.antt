@@ -3,8 +3,8 @@ use Rattle.std.proofs.Common.{◌≡◌, ℕ, zero, suc, ◌+◌, ◌<◌, ◌�
 use Rattle.std.specs.Prelude.{slice_set, slice_index_or, sum_by, replicate}
 use Rattle.std.proofs.lemmas.List.Sums.{sum_by-set}
 use Rattle.std.proofs.lemmas.List.{get_or_default}
-use Rattle.solo_model.specs.Held.{AllHeld, held_at}
-use Rattle.solo_model.proofs.Held.{held_at-read}
+use Rattle.scsi_cmd.specs.Held.{AllHeld, held_at}
+use Rattle.scsi_cmd.specs.Laws.{held_at-read}
 use Rattle.bus_core.specs.Td.{Entry}
 use Rattle.bus_core.specs.Soundness.{IsCountedEntry, IsCountedSlots, IsFramed, KeepsFrame, KeepsHeldFrame, KeepsFrames, AllPaired, waiting_of, awaited_of}
 

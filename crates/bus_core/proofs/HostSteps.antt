@@ -6,14 +6,14 @@ use Rattle.scsi_cmd.specs.declared.Reply.{Reply}
 use Rattle.scsi_cmd.specs.declared.SubmitFault.{SubmitFault}
 use Rattle.scsi_cmd.specs.declared.SubmitFault.TheVariants.{InUse}
 use Rattle.scsi_cmd.specs.Op.{moved_bytes}
-use Rattle.solo_model.specs.declared.TheConstants.{TAGS}
-use Rattle.solo_model.specs.declared.Request.TheVariants.{Execute}
+use Rattle.scsi_cmd.specs.declared.TheConstants.{TAGS}
+use Rattle.scsi_cmd.specs.declared.Request.TheVariants.{Execute}
 use Rattle.solo_model.specs.declared.Phase.{Phase}
 use Rattle.solo_model.specs.declared.Phase.TheVariants.{Sent}
-use Rattle.solo_model.specs.TaggedTask.{first_submit_fault, reply_of}
-use Rattle.solo_model.specs.Held.{held_at, with_held_under}
-use Rattle.solo_model.proofs.Held.{AllHeld-held, AllHeld-set}
-use Rattle.solo_model.proofs.Kept.{submit_fault-none}
+use Rattle.solo_model.specs.TaggedTask.{reply_of}
+use Rattle.scsi_cmd.specs.Submission.{first_submit_fault}
+use Rattle.scsi_cmd.specs.Held.{held_at, with_held_under}
+use Rattle.scsi_cmd.specs.Laws.{AllHeld-held, AllHeld-set, submit_fault-none}
 use Rattle.uas_target.specs.declared.DeviceTask.{DeviceTask}
 use Rattle.uas_target.specs.Device.{Device}
 use Rattle.uas_target.specs.Tasks.{task_in}

@@ -6,7 +6,7 @@ use Rattle.std.proofs.lemmas.Option.{none-some}
 use Rattle.scsi_cmd.specs.declared.Command.{Command}
 use Rattle.scsi_cmd.specs.declared.SubmitFault.{SubmitFault}
 use Rattle.scsi_cmd.specs.declared.SubmitFault.TheVariants.{NotYours}
-use Rattle.solo_model.specs.declared.TheConstants.{TASK_SLOT}
+use Rattle.scsi_cmd.specs.declared.TheConstants.{TASK_SLOT}
 use Rattle.solo_model.specs.Solo.{SoloState}
 use Rattle.bus_core.specs.declared.Place.{Place}
 use Rattle.bus_core.specs.declared.Completion.{Completion}

@@ -3,7 +3,7 @@ use Rattle.std.proofs.Common.{◌≡◌, ℕ, ◌+◌, ◌*◌, ◌<◌, ◌≤�
 use Rattle.std.specs.Prelude.{slice_set, slice_get, option_to_list, option_and_then}
 use Rattle.std.proofs.lemmas.List.{append-nil}
 use Rattle.std.proofs.Math.Seq.{take-append_seam}
-use Rattle.solo_model.specs.Held.{held_at}
+use Rattle.scsi_cmd.specs.Held.{held_at}
 use Rattle.solo_model.specs.TaggedTask.{carried, moved, sent}
 use Rattle.solo_model.specs.declared.TaggedTask.{TaggedTask}
 use Rattle.block_unit.specs.BlockMaps.{BlockMaps}

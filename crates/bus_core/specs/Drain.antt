@@ -1,7 +1,7 @@
 -- The drain: rounds of tries until nothing acts.
 use Rattle.std.specs.Prelude.{ℕ, zero, suc, ◌-◌, ◌*◌, ◌==◌, Bool, true, false, List, [], ◌∷◌, ◌++◌, length, map, if◌then◌else◌}
 use Rattle.std.specs.List.{range_with_len}
-use Rattle.solo_model.specs.declared.TheConstants.{TAGS}
+use Rattle.scsi_cmd.specs.declared.TheConstants.{TAGS}
 use Rattle.bus_core.specs.declared.Step.{Step}
 use Rattle.bus_core.specs.declared.Step.TheVariants.{CommandPipe, Data, Status, Event}
 use Rattle.bus_core.specs.Shared.{Shared, due, shared_step}

@@ -10,15 +10,16 @@ use Rattle.scsi_cmd.specs.declared.Direction.{Direction}
 use Rattle.scsi_cmd.specs.declared.Reply.{Reply}
 use Rattle.scsi_cmd.specs.declared.Reply.TheVariants.{Status as StatusReply}
 use Rattle.scsi_cmd.specs.declared.SubmitFault.{SubmitFault}
-use Rattle.solo_model.specs.declared.TheConstants.{TAGS}
-use Rattle.solo_model.specs.TaggedTask.{first_submit_fault, status_of, sense_of}
-use Rattle.solo_model.specs.declared.Request.{Request}
-use Rattle.solo_model.specs.declared.Request.TheVariants.{Execute}
+use Rattle.scsi_cmd.specs.declared.TheConstants.{TAGS}
+use Rattle.solo_model.specs.TaggedTask.{status_of, sense_of}
+use Rattle.scsi_cmd.specs.Submission.{first_submit_fault}
+use Rattle.scsi_cmd.specs.declared.Request.{Request}
+use Rattle.scsi_cmd.specs.declared.Request.TheVariants.{Execute}
 use Rattle.solo_model.specs.declared.Answer.{Answer}
 use Rattle.solo_model.specs.declared.Answer.TheVariants.{Good, Check}
 use Rattle.solo_model.specs.declared.Phase.{Phase}
 use Rattle.solo_model.specs.declared.Phase.TheVariants.{Queued, Moving, Ended, Sent}
-use Rattle.solo_model.specs.Held.{AllHeld, held_at, held_under}
+use Rattle.scsi_cmd.specs.Held.{AllHeld, held_at, held_under}
 use Rattle.uas_target.specs.declared.TheConstants.{GREATEST_TAG}
 use Rattle.uas_target.specs.declared.DeviceAnswer.{DeviceAnswer}
 use Rattle.uas_target.specs.declared.DeviceAnswer.TheVariants.{Status, Response}

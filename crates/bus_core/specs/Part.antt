@@ -5,13 +5,14 @@ use Rattle.scsi_cmd.specs.declared.Command.{Command}
 use Rattle.scsi_cmd.specs.declared.Reply.{Reply}
 use Rattle.scsi_cmd.specs.declared.SubmitFault.{SubmitFault}
 use Rattle.scsi_cmd.specs.Op.{moved_bytes}
-use Rattle.solo_model.specs.declared.TheConstants.{TAGS}
+use Rattle.scsi_cmd.specs.declared.TheConstants.{TAGS}
 use Rattle.solo_model.specs.declared.TaggedTask.{TaggedTask}
 use Rattle.solo_model.specs.declared.Phase.{Phase}
 use Rattle.solo_model.specs.declared.Phase.TheVariants.{Queued, Moving, Ended, Sent}
 use Rattle.solo_model.specs.declared.Answer.TheVariants.{Good, Check}
-use Rattle.solo_model.specs.Held.{held_at}
-use Rattle.solo_model.specs.TaggedTask.{first_submit_fault, queued, carried, moved, sent, reply_of}
+use Rattle.scsi_cmd.specs.Held.{held_at}
+use Rattle.solo_model.specs.TaggedTask.{queued, carried, moved, sent, reply_of}
+use Rattle.scsi_cmd.specs.Submission.{first_submit_fault}
 use Rattle.bus_core.specs.declared.Place.{Place}
 use Rattle.bus_core.specs.declared.Td.{Td}
 use Rattle.bus_core.specs.Td.{Entry}

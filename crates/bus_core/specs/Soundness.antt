@@ -1,11 +1,11 @@
 -- What is true of every client of a bus: the invariant behind the shared machine.
 use Rattle.std.specs.Prelude.{◌≡◌, ℕ, suc, ◌+◌, ◌<◌, ◌≤◌, ◌==◌, Bool, true, false, cond, List, [], ◌∷◌, ◌++◌, length, Option, Some, None, IfSome, sum_by}
-use Rattle.solo_model.specs.declared.TheConstants.{TAGS}
+use Rattle.scsi_cmd.specs.declared.TheConstants.{TAGS}
 use Rattle.solo_model.specs.declared.Phase.{Phase}
 use Rattle.solo_model.specs.declared.Phase.TheVariants.{Queued, Moving, Ended, Sent}
 use Rattle.solo_model.specs.declared.Answer.{Answer}
 use Rattle.solo_model.specs.declared.Answer.TheVariants.{Good, Check}
-use Rattle.solo_model.specs.Held.{AllHeld, held_at}
+use Rattle.scsi_cmd.specs.Held.{AllHeld, held_at}
 use Rattle.solo_model.specs.Soundness.{IsSound}
 use Rattle.bus_core.specs.declared.TheConstants.{MAX_CLIENTS}
 use Rattle.bus_core.specs.declared.Td.{Td}

@@ -5,8 +5,8 @@ use Rattle.uas_iu.specs.declared.Iu.TheVariants.{Command, Sense}
 use Rattle.uas_iu.specs.Units.{unit_text}
 use Rattle.uas_iu.specs.Lun.{lun_text}
 use Rattle.bus_core.specs.declared.wire.Told.{Told}
-use Rattle.solo_model.specs.declared.Request.{Request}
-use Rattle.solo_model.specs.declared.Request.TheVariants.{Execute}
+use Rattle.scsi_cmd.specs.declared.Request.{Request}
+use Rattle.scsi_cmd.specs.declared.Request.TheVariants.{Execute}
 use Rattle.solo_model.specs.declared.Answer.{Answer}
 use Rattle.solo_model.specs.TaggedTask.{status_of, sense_of}
 

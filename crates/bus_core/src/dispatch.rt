@@ -1,10 +1,10 @@
 ghost use Rattle.std.specs.Prelude.{◌≡◌, ◌*◌, ◌<◌, ◌≤◌, IfSome};
-ghost use Rattle.solo_model.specs.declared.TheConstants.{TAGS, TASK_SLOT};
+ghost use Rattle.scsi_cmd.specs.declared.TheConstants.{TAGS, TASK_SLOT};
 ghost use Rattle.bus_core.specs.Tags.{command_slot, place_of};
 ghost use Rattle.bus_core.specs.Bus.{IsPlace};
 
 use crate::Place;
-use solo_model::{TAGS, TASK_SLOT};
+use scsi_cmd::{TAGS, TASK_SLOT};
 
 /// The place that a tag names on a bus of so many clients.
 pub(crate) fn place_of_tag(clients: usize, tag: u16) -> Option<Place>

@@ -2,8 +2,8 @@
 ghost use Rattle.std.specs.Option.{option_map_or};
 ghost use Rattle.std.specs.Prelude.{◌≡◌, ℕ, ◌+◌, ◌*◌, ◌^◌, ◌<◌, ◌≤◌, ◌==◌, MatchOption, IfSome, true, false, Some, None, Ok, Err, ◌∷◌, [], length, is_some, option_and_then, option_map, replicate};
 ghost use Rattle.scsi_cmd.specs.declared.Command.{Command};
-ghost use Rattle.solo_model.specs.Held.{held_at};
-ghost use Rattle.solo_model.specs.declared.TheConstants.{TAGS, TASK_SLOT};
+ghost use Rattle.scsi_cmd.specs.Held.{held_at};
+ghost use Rattle.scsi_cmd.specs.declared.TheConstants.{TAGS, TASK_SLOT};
 ghost use Rattle.uas_iu.specs.Units.{unit_text};
 ghost use Rattle.uas_target.specs.Device.{fits, gave, given, received, took, wanted};
 ghost use Rattle.uas_target.specs.declared.Phase.{Phase};
@@ -18,8 +18,10 @@ use crate::tds::{leave_over, trbs_of};
 use crate::wire::{read_answer, write_request};
 use crate::{Completion, Frame, Host, HostEntry, MAX_CLIENTS, Td, TdState};
 use arrayvec::ArrayVec;
-use scsi_cmd::{Buffer, CHECK_CONDITION, Command, Direction, Reply, SubmitFault, moves};
-use solo_model::{Request, TAGS, TASK_SLOT, submit_fault};
+use scsi_cmd::{
+    Buffer, CHECK_CONDITION, Command, Direction, Reply, Request, SubmitFault, TAGS, TASK_SLOT,
+    moves, submit_fault,
+};
 use uas_iu::{Iu, write};
 use uas_target::Target;
 

@@ -37,8 +37,7 @@ pub use laws::{
     acts_where_due, brings_next_len, drains_to_quiet, idle_changes_nothing, isolated,
     keeps_clients, worlds_agree,
 };
-use scsi_cmd::{Command, Reply, SubmitFault};
-use solo_model::{Buffer, Request, TAGS};
+use scsi_cmd::{Buffer, Command, Reply, Request, SubmitFault, TAGS};
 use std::collections::VecDeque;
 use std::marker::Model;
 use uas_iu::MAX_UNIT_BYTES;

@@ -9,8 +9,7 @@ use crate::dispatch::{command_slot_of, place_of_tag};
 use crate::pipes::{doors_of, ring_all};
 use crate::{Bus, Completion, Disks, MAX_CLIENTS, Outcome, PipeState, Place, STREAMS, Step};
 use block_unit::Unit;
-use scsi_cmd::{Command, Direction, SubmitFault, moves};
-use solo_model::TAGS;
+use scsi_cmd::{Command, Direction, SubmitFault, TAGS, moves};
 use std::alloc::{AllocError, Global};
 use std::collections::VecDeque;
 

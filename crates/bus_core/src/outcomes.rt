@@ -4,8 +4,7 @@ ghost use Rattle.bus_core.specs.Shared.{acceptance, idle, outcome_of, refusal};
 
 use crate::{MOST_DOORBELLS, Mark, News, Outcome, Place, Refusal};
 use arrayvec::ArrayVec;
-use scsi_cmd::{Command, SubmitFault};
-use solo_model::TAGS;
+use scsi_cmd::{Command, SubmitFault, TAGS};
 
 impl Outcome {
     /// The outcome of a step that wasn't due.

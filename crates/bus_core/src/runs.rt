@@ -5,7 +5,7 @@ ghost use Rattle.bus_core.specs.Isolation.{IsIsolated};
 ghost use Rattle.bus_core.specs.Replay.{replayed};
 
 use crate::{Bus, Outcome, Step, Trace};
-use solo_model::TAGS;
+use scsi_cmd::TAGS;
 use std::alloc::{AllocError, Global};
 
 impl Bus {

@@ -2,8 +2,7 @@ ghost use Rattle.std.specs.Prelude.{◌≡◌};
 ghost use Rattle.bus_core.specs.Td.{has_trb, is_awaited, is_over, data_trbs, left_over_data, pushed};
 
 use crate::{Td, TdState};
-use scsi_cmd::moves;
-use solo_model::Request;
+use scsi_cmd::{Request, moves};
 
 /// Bytes of a data TRB.
 const DATA_TRB_BYTES: usize = 4096;

@@ -1,11 +1,11 @@
 //! What an act tells beside the clients.
 ghost use Rattle.std.specs.Prelude.{◌≡◌, suc, ◌<◌, [], Some, None, if◌then◌else◌};
-ghost use Rattle.solo_model.specs.declared.TheConstants.{TAGS};
+ghost use Rattle.scsi_cmd.specs.declared.TheConstants.{TAGS};
 ghost use Rattle.bus_core.specs.Part.{Part, nothing, told};
 
 use crate::{Completion, Frame, Mark, News};
 use arrayvec::ArrayVec;
-use solo_model::TAGS;
+use scsi_cmd::TAGS;
 
 impl News {
     /// No news.

@@ -3,8 +3,7 @@ ghost use Rattle.std.specs.Prelude.{◌≡◌};
 ghost use Rattle.bus_core.specs.Wire.{request_text, IsAnswer};
 
 use arrayvec::ArrayVec;
-use scsi_cmd::{MAX_SENSE_BYTES, cdb};
-use solo_model::Request;
+use scsi_cmd::{MAX_SENSE_BYTES, Request, cdb};
 use uas_iu::{Iu, MAX_UNIT_BYTES, lun_bytes, read, write};
 
 /// A received Sense unit.

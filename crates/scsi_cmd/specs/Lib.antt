@@ -6,3 +6,6 @@ pub mod Meaning
 pub mod Data
 pub mod Buffers
 pub mod Faults
+pub mod Held
+pub mod Submission
+pub mod Laws

@@ -26,12 +26,14 @@ ghost use Rattle.scsi_cmd.specs.Faults.{fault_number};
 
 mod cdbs;
 mod data;
+mod submission;
 
 use arrayvec::ArrayVec;
 pub use cdbs::{cdb, moves, parse};
 pub use data::{capacity_data, inquiry_data};
 use std::alloc::{AllocError, Global};
 use std::marker::Model;
+pub use submission::submit_fault;
 use thiserror::Error;
 
 /// Bytes of a block.
@@ -39,6 +41,12 @@ pub const BLOCK_BYTES: usize = 512;
 
 /// The most blocks of one READ or WRITE (65,536 bytes).
 pub const MAX_BLOCKS: u16 = 128;
+
+/// Tags of a client.
+pub const TAGS: usize = 8;
+
+/// The slot (index less 1) of the tag for task management; those below it are for commands.
+pub const TASK_SLOT: usize = 7;
 
 /// Bytes of sense data in the fixed format (SPC).
 pub const SENSE_BYTES: usize = 18;
@@ -261,6 +269,13 @@ impl Buffer {
     {
         self.as_slice() == other.as_slice()
     }
+}
+
+/// What a task is asked to do.
+#[derive(Clone, Copy, Debug, PartialEq, Eq)]
+pub enum Request {
+    /// Execute a command.
+    Execute(Op),
 }
 
 /// A command: an operation, and the bytes that it brings or is to fill.

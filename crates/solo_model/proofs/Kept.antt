@@ -1,9 +1,8 @@
 -- What the steps on one task keep: how many blocks a unit has, and that the task is sound.
-use Rattle.std.proofs.Common.{◌≡◌, ℕ, zero, suc, ◌+◌, ◌*◌, ◌<◌, ◌≤◌, Bool, true, false, ◌&&◌, not, is_some, cond, List, ◌++◌, length, take, drop, Option, Some, None, Result, Ok, Err, refl, arith, ap, sym, subst, ◌∙◌, length-drop, length-take-le}
-use Rattle.std.specs.Result.{ForOk}
+use Rattle.std.proofs.Common.{◌≡◌, ℕ, ◌+◌, ◌*◌, ◌<◌, ◌≤◌, true, false, ◌&&◌, cond, List, ◌++◌, length, take, drop, Some, None, Result, Ok, Err, refl, arith, ap, sym, subst, ◌∙◌, length-drop, length-take-le}
 use Rattle.std.specs.Prelude.{nat_lt, ◌==◌}
 use Rattle.std.proofs.lemmas.List.{take-append-drop, drop-drop}
-use Rattle.std.proofs.lemmas.Bool.{ltb-true, eqb-true, eqb-false}
+use Rattle.std.proofs.lemmas.Bool.{ltb-true, eqb-false}
 use Rattle.block_unit.specs.BlockMaps.{BlockMaps, with_attention}
 use Rattle.block_unit.specs.Laws.{written-count, synced-count, with_attention-count}
 use Rattle.scsi_cmd.specs.declared.Op.{Op}
@@ -11,21 +10,19 @@ use Rattle.scsi_cmd.specs.declared.Op.TheVariants.{TestUnitReady, Inquiry, ReadC
 use Rattle.scsi_cmd.specs.declared.Sense.{Sense}
 use Rattle.scsi_cmd.specs.Sense.{reset_occurred, unrecovered_read_error, write_error}
 use Rattle.scsi_cmd.specs.Meaning.{op_fault, checked, asked}
-use Rattle.scsi_cmd.specs.Op.{cdb_bytes, moved_bytes}
+use Rattle.scsi_cmd.specs.Op.{moved_bytes}
 use Rattle.scsi_cmd.specs.Buffers.{with_bytes_at, written_at}
 use Rattle.scsi_cmd.proofs.Buffers.{written_at-fits, length-with_bytes_at}
 use Rattle.scsi_cmd.proofs.Laws.{asked-cdb_bytes}
 use Rattle.scsi_cmd.specs.declared.Command.{Command}
-use Rattle.scsi_cmd.specs.declared.SubmitFault.{SubmitFault}
-use Rattle.scsi_cmd.specs.declared.SubmitFault.TheVariants.{BadLength, TooLong, OutOfTurn}
-use Rattle.solo_model.specs.declared.Request.{Request}
-use Rattle.solo_model.specs.declared.Request.TheVariants.{Execute}
+use Rattle.scsi_cmd.specs.declared.Request.{Request}
+use Rattle.scsi_cmd.specs.declared.Request.TheVariants.{Execute}
 use Rattle.solo_model.specs.declared.Phase.{Phase}
-use Rattle.solo_model.specs.declared.Phase.TheVariants.{Queued, Moving, Ended, Sent}
+use Rattle.solo_model.specs.declared.Phase.TheVariants.{Queued, Moving, Ended}
 use Rattle.solo_model.specs.declared.Answer.TheVariants.{Good, Check}
 use Rattle.solo_model.specs.declared.TaggedTask.{TaggedTask}
-use Rattle.solo_model.specs.TaggedTask.{takes_attention, flushed, started, begun, first_phase, next_phase, chunk_blocks, phase_after, phase_after_chunk, meets_bad_chunk, in_phase, carried_request, carried, first_submit_fault, is_too_long, queued}
-use Rattle.solo_model.specs.Soundness.{HasChunk, IsSoundOp, IsSoundRequest, IsSound, IsCdbOf}
+use Rattle.solo_model.specs.TaggedTask.{takes_attention, flushed, started, begun, first_phase, next_phase, phase_after, phase_after_chunk, meets_bad_chunk, in_phase, carried_request, carried, queued}
+use Rattle.solo_model.specs.Soundness.{HasChunk, IsSoundRequest, IsSound, IsCdbOf}
 
 -- THE BUFFER
 
@@ -151,19 +148,6 @@ pub written_at_long : (list : List ℕ) (at : ℕ) (bytes : List ℕ) → at + l
 written_at_long list at bytes fits = ap length (written_at-fits list at bytes fits) ∙ length-with_bytes_at list at bytes fits
 
 -- SUBMISSION
-
--- a submission without a fault brings as many bytes as its operation moves
-pub submit_fault-none : (yours in_use : Bool) (least ticket : ℕ) (command : Command) →
-    is_some (first_submit_fault yours in_use least ticket command) ≡ false → length command.buffer ≡ moved_bytes command.op
-submit_fault-none false in_use least ticket command none = let no : true ≡ false = none in cc
-submit_fault-none true true least ticket command none = let no : true ≡ false = none in cc
-submit_fault-none true false least ticket command none =
-    elim (length command.buffer == moved_bytes command.op) as (λ b. (length command.buffer == moved_bytes command.op) ≡ b →
-    is_some {T = SubmitFault} (cond (not b) (Some BadLength) (cond (is_too_long command.op) (Some TooLong) (cond (nat_lt ticket least) (Some (OutOfTurn least)) None))) ≡ false →
-    length command.buffer ≡ moved_bytes command.op) [
-      | true ↦ λ e h. eqb-true _ _ e
-      | false ↦ λ e h. let no : true ≡ false = h in cc
-    ] refl none
 
 -- a task that brings its bytes is sound as it is submitted
 pub IsSound-queued : (blocks ticket : ℕ) (command : Command) (task : TaggedTask) → task ≡ queued ticket command → length command.buffer ≡ moved_bytes command.op → IsSound blocks task

@@ -1,4 +1,3 @@
-pub mod Held
 pub mod TaggedTask
 pub mod Soundness
 pub mod Solo

@@ -1,16 +1,17 @@
 -- The solo machine: one client, with no queue, event, pipe or ring.
-use Rattle.std.specs.Prelude.{ℕ, zero, suc, ◌+◌, ◌^◌, ◌<◌, nat_lt, Bool, false, true, ◌&&◌, if◌then◌else◌, List, [], ◌∷◌, Option, Some, None, is_some, option_map, option_and_then, Result, Ok, Err, replicate}
+use Rattle.std.specs.Prelude.{ℕ, zero, suc, ◌+◌, ◌^◌, ◌<◌, nat_lt, Bool, false, if◌then◌else◌, List, [], ◌∷◌, Option, Some, None, is_some, option_map, option_and_then, Result, Ok, Err, replicate}
 use Rattle.block_unit.specs.BlockMaps.{BlockMaps}
 use Rattle.scsi_cmd.specs.declared.Command.{Command}
 use Rattle.scsi_cmd.specs.declared.Reply.{Reply}
 use Rattle.scsi_cmd.specs.declared.SubmitFault.{SubmitFault}
-use Rattle.solo_model.specs.Held.{held_under, with_held_under}
-use Rattle.solo_model.specs.TaggedTask.{first_submit_fault, queued, carried, moved, sent, reply_of}
+use Rattle.scsi_cmd.specs.Held.{held_under, with_held_under}
+use Rattle.solo_model.specs.TaggedTask.{queued, carried, moved, sent, reply_of}
+use Rattle.scsi_cmd.specs.Submission.{first_submit_fault}
 use Rattle.solo_model.specs.declared.TaggedTask.{TaggedTask}
 use Rattle.solo_model.specs.declared.Label.{Label}
 use Rattle.solo_model.specs.declared.Label.TheVariants.{Submit, Carry, Move, Send, Settle}
 use Rattle.solo_model.specs.declared.NotARun.{NotARun}
-use Rattle.solo_model.specs.declared.TheConstants.{TAGS, TASK_SLOT}
+use Rattle.scsi_cmd.specs.declared.TheConstants.{TAGS, TASK_SLOT}
 
 -- a unit, the tasks by slot (index less 1), and the least ticket that a submission may have
 pub record SoloState : Type 0 where

@@ -1,6 +1,5 @@
 -- One task, from its submission to its reply. The solo machine and the shared machine are made of these functions.
-use Rattle.std.specs.Prelude.{ℕ, ◌+◌, ◌-◌, ◌*◌, ◌==◌, nat_lt, min, Bool, true, false, not, ◌&&◌, if◌then◌else◌, List, [], ◌∷◌, length, take, Option, Some, None, is_some, option_map, Result, Ok, Err}
-use Rattle.arrayvec.specs.ArrayVec.{ArrayVec}
+use Rattle.std.specs.Prelude.{ℕ, ◌+◌, ◌-◌, ◌*◌, ◌==◌, nat_lt, min, Bool, true, false, ◌&&◌, if◌then◌else◌, List, [], take, Option, Some, None, Result, Ok, Err}
 use Rattle.block_unit.specs.BlockMaps.{BlockMaps, bytes_from, meets_bad, blocks_read, written, synced, with_attention}
 use Rattle.scsi_cmd.specs.declared.Op.{Op}
 use Rattle.scsi_cmd.specs.declared.Op.TheVariants.{TestUnitReady, Inquiry, ReadCapacity, Read, Write, Sync}
@@ -8,15 +7,13 @@ use Rattle.scsi_cmd.specs.declared.Sense.{Sense}
 use Rattle.scsi_cmd.specs.declared.Command.{Command}
 use Rattle.scsi_cmd.specs.declared.Reply.{Reply}
 use Rattle.scsi_cmd.specs.declared.Reply.TheVariants.{Status}
-use Rattle.scsi_cmd.specs.declared.SubmitFault.{SubmitFault}
-use Rattle.scsi_cmd.specs.declared.SubmitFault.TheVariants.{NotYours, InUse, BadLength, TooLong, OutOfTurn}
 use Rattle.scsi_cmd.specs.Op.{moved_bytes}
 use Rattle.scsi_cmd.specs.Meaning.{checked}
 use Rattle.scsi_cmd.specs.Sense.{sense_bytes, reset_occurred, unrecovered_read_error, write_error}
 use Rattle.scsi_cmd.specs.Data.{inquiry_bytes, capacity_bytes}
 use Rattle.scsi_cmd.specs.Buffers.{with_bytes_at}
-use Rattle.solo_model.specs.declared.Request.{Request}
-use Rattle.solo_model.specs.declared.Request.TheVariants.{Execute}
+use Rattle.scsi_cmd.specs.declared.Request.{Request}
+use Rattle.scsi_cmd.specs.declared.Request.TheVariants.{Execute}
 use Rattle.solo_model.specs.declared.Answer.{Answer}
 use Rattle.solo_model.specs.declared.Answer.TheVariants.{Good, Check}
 use Rattle.solo_model.specs.declared.Phase.{Phase}
@@ -24,27 +21,6 @@ use Rattle.solo_model.specs.declared.Phase.TheVariants.{Queued, Moving, Ended, S
 use Rattle.solo_model.specs.declared.TaggedTask.{TaggedTask}
 
 -- SUBMISSION
-
--- READ and WRITE have at most 128 blocks, so 129 are too long; no other command is, SYNCHRONIZE CACHE of 65,535 blocks neither
-abbrev pub is_too_long : Op → Bool
-is_too_long TestUnitReady = false
-is_too_long (Inquiry allocation) = false
-is_too_long ReadCapacity = false
-is_too_long (Read lba count fua) = nat_lt 128 count
-is_too_long (Write lba count fua) = nat_lt 128 count
-is_too_long (Sync lba count) = false
-
--- The first fault of a submission, or none. It reads only whether the tag is a command tag of the client, what the
--- client has under it, and the client's least ticket. Checked by hand: one block with 511 bytes is BadLength, and 129
--- blocks with 66,048 bytes are TooLong.
-abbrev pub first_submit_fault : Bool → Bool → ℕ → ℕ → Command → Option SubmitFault
-first_submit_fault yours in_use least ticket command =
-    if not yours then Some NotYours
-    else (if in_use then Some InUse
-    else (if not (length command.buffer == moved_bytes command.op) then Some BadLength
-    else (if is_too_long command.op then Some TooLong
-    else (if nat_lt ticket least then Some (OutOfTurn least)
-    else None))))
 
 -- a task as it is submitted
 abbrev pub queued : ℕ → Command → TaggedTask

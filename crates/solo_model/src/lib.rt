@@ -19,30 +19,17 @@ mod tests;
 
 use block_unit::Unit;
 pub use device::{begin, carry, move_chunk, send};
-pub use host::{reply, status_and_sense, submit_fault};
-use scsi_cmd::{Command, Op, Sense};
-pub use scsi_cmd::{Buffer, Reply, SubmitFault};
+pub use host::{reply, status_and_sense};
+pub use scsi_cmd::{Buffer, Reply, Request, SubmitFault, TAGS, TASK_SLOT, submit_fault};
+use scsi_cmd::{Command, Sense};
 use std::marker::Model;
 use thiserror::Error;
-
-/// Tags of a client.
-pub const TAGS: usize = 8;
-
-/// The slot (index less 1) of the tag for task management; those below it are for commands.
-pub const TASK_SLOT: usize = 7;
 
 /// The most blocks of one chunk.
 pub const CHUNK_BLOCKS: u16 = 8;
 
 /// The most bytes of one chunk.
 pub const CHUNK_BYTES: usize = 4096;
-
-/// What a task is asked to do.
-#[derive(Clone, Copy, Debug, PartialEq, Eq)]
-pub enum Request {
-    /// Execute a command.
-    Execute(Op),
-}
 
 /// How a task ended.
 #[derive(Clone, Copy, Debug, PartialEq, Eq)]

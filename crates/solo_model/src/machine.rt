@@ -1,5 +1,5 @@
 ghost use Rattle.std.specs.Prelude.{◌≡◌, ℕ, ◌+◌, ◌^◌, ◌<◌, ◌≤◌, MatchOption, true, false, length, slice_set, option_and_then, is_some, if◌then◌else◌};
-ghost use Rattle.solo_model.specs.Held.{AllHeld, held_at};
+ghost use Rattle.scsi_cmd.specs.Held.{AllHeld, held_at};
 ghost use Rattle.solo_model.specs.Soundness.{IsSound};
 ghost use Rattle.solo_model.specs.TaggedTask.{carried, moved, sent, reply_of};
 ghost use Rattle.solo_model.specs.Solo.{opening, solo_step, applied, slot_under, TicketFits};

@@ -2,7 +2,7 @@
 use Rattle.std.proofs.Common.{◌≡◌, ℕ, zero, suc, Bool, true, false, not, ◌&&◌, cond, List, length, Option, None, Result, Ok, Err, refl, ap}
 use Rattle.std.specs.Prelude.{◌==◌, nat_le, is_some}
 use Rattle.std.proofs.lemmas.List.{get_or-set_other}
-use Rattle.solo_model.specs.Held.{held_under, with_held_under}
+use Rattle.scsi_cmd.specs.Held.{held_under, with_held_under}
 use Rattle.uas_iu.specs.Faults.{first_fault, identifier}
 use Rattle.uas_target.specs.declared.Overlap.{Overlap}
 use Rattle.uas_target.specs.declared.Took.{Took}

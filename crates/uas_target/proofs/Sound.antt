@@ -13,13 +13,13 @@ use Rattle.scsi_cmd.specs.declared.Sense.{Sense}
 use Rattle.scsi_cmd.specs.Op.{moved_bytes}
 use Rattle.scsi_cmd.specs.Meaning.{asked, checked, op_fault, named_op, has_invalid_field}
 use Rattle.scsi_cmd.specs.Sense.{reset_occurred, unit_not_supported, invalid_operation_code, invalid_field_in_cdb}
-use Rattle.solo_model.specs.Held.{AllHeld, held_under, with_held_under}
+use Rattle.scsi_cmd.specs.Held.{AllHeld, held_under, with_held_under}
 use Rattle.solo_model.specs.Soundness.{HasChunk}
 use Rattle.solo_model.specs.TaggedTask.{begun, started, takes_attention, first_phase, phase_after}
 use Rattle.solo_model.specs.declared.Phase.{Phase as Step}
 use Rattle.solo_model.specs.declared.Phase.TheVariants.{Queued as QueuedStep, Moving as MovingStep, Ended as EndedStep, Sent as SentStep}
 use Rattle.solo_model.specs.declared.Answer.TheVariants.{Good, Check}
-use Rattle.solo_model.proofs.Held.{AllHeld-held, AllHeld-set, held_at-past}
+use Rattle.scsi_cmd.specs.Laws.{AllHeld-held, AllHeld-set, held_at-past}
 use Rattle.solo_model.proofs.Kept.{checked_in_range, HasChunk-after}
 use Rattle.uas_target.specs.declared.DeviceTask.{DeviceTask}
 use Rattle.uas_target.specs.declared.TheConstants.{GREATEST_TAG}

@@ -5,7 +5,7 @@ use Rattle.scsi_cmd.specs.declared.Op.{Op}
 use Rattle.scsi_cmd.specs.declared.Op.TheVariants.{TestUnitReady, Inquiry, ReadCapacity, Read, Write, Sync}
 use Rattle.scsi_cmd.specs.Op.{moved_bytes}
 use Rattle.scsi_cmd.specs.Meaning.{op_fault}
-use Rattle.solo_model.specs.Held.{AllHeld}
+use Rattle.scsi_cmd.specs.Held.{AllHeld}
 use Rattle.uas_target.specs.declared.DeviceTask.{DeviceTask}
 use Rattle.uas_target.specs.declared.DeviceTask.TheVariants.{Moving, Ended}
 use Rattle.uas_target.specs.declared.Phase.{Phase}

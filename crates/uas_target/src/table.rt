@@ -1,6 +1,6 @@
 //! The tasks by tag.
 ghost use Rattle.std.specs.Prelude.{◌≡◌, true, None, IfOk, length, replicate};
-ghost use Rattle.solo_model.specs.Held.{held_under, with_held_under};
+ghost use Rattle.scsi_cmd.specs.Held.{held_under, with_held_under};
 ghost use Rattle.uas_target.specs.Fields.{is_tag};
 
 use crate::{DeviceTask, GREATEST_TAG};

@@ -1,7 +1,7 @@
 use Rattle.std.proofs.Common.{◌≤◌, ap, length}
 use Rattle.std.specs.Prelude.{slice_set}
 use Rattle.std.proofs.lemmas.Option.{slice_get-get_or}
-use Rattle.solo_model.specs.declared.TheConstants.{TAGS}
+use Rattle.scsi_cmd.specs.declared.TheConstants.{TAGS}
 use Rattle.bus_core.specs.declared.Host.{Host}
 use Rattle.bus_core.specs.Hosts.{host_after}
 use Rattle.bus_core.specs.Part.{event_place}

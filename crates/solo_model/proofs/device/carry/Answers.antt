@@ -1,4 +1,4 @@
-use Rattle.std.proofs.Common.{◌≡◌, refl, ap, sym, ◌∙◌, subst}
+use Rattle.std.proofs.Common.{refl, sym, ◌∙◌}
 use Rattle.solo_model.proofs.Kept.{asked_in_range, carried-queued, IsSound-begun}
 use Rattle.solo_model.proofs.device.carry.Goals as goal
 

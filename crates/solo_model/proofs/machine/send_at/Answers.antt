@@ -1,6 +1,5 @@
-use Rattle.std.proofs.Common.{◌≡◌, ℕ}
 use Rattle.solo_model.specs.Soundness.{IsSound}
-use Rattle.solo_model.proofs.Held.{AllHeld-held, AllHeld-set, held_at-read}
+use Rattle.scsi_cmd.specs.Laws.{AllHeld-held, AllHeld-set, held_at-read}
 use Rattle.solo_model.proofs.machine.send_at.Goals as goal
 
 pub returns-in-Some-clause-sound : goal.returns-in-Some-clause-sound

@@ -1,8 +1,8 @@
-use Rattle.std.proofs.Common.{◌≡◌, ℕ, refl, ap, sym, ◌∙◌}
+use Rattle.std.proofs.Common.{◌≡◌, refl, ap, sym, ◌∙◌}
 use Rattle.std.specs.Prelude.{is_some, true}
 use Rattle.solo_model.specs.Soundness.{IsSound}
 use Rattle.solo_model.specs.TaggedTask.{reply_of}
-use Rattle.solo_model.proofs.Held.{AllHeld-set, held_at-read, answered-held}
+use Rattle.scsi_cmd.specs.Laws.{AllHeld-set, held_at-read, answered-held}
 use Rattle.solo_model.proofs.machine.settle_at.Goals as goal
 
 pub returns-in-Some-clause-sound : goal.returns-in-Some-clause-sound

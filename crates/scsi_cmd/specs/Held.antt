@@ -1,5 +1,5 @@
--- Places that hold something or nothing.
-use Rattle.std.specs.Prelude.{ℕ, zero, suc, List, [], ◌∷◌, Option, Some, None, IfSome, slice_index_or, slice_set}
+-- Places that hold something or nothing: a client's tags, a device's tasks.
+use Rattle.std.specs.Prelude.{ℕ, zero, suc, List, [], ◌∷◌, Option, None, IfSome, slice_index_or, slice_set}
 
 -- whatever a place holds is so
 abbrev pub AllHeld : {T : Type 0} → (T → Type 0) → List (Option T) → Type 0

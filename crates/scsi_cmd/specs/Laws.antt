@@ -1,8 +1,14 @@
--- Places that hold something or nothing: what is so of all that is held.
-use Rattle.std.proofs.Common.{◌≡◌, ℕ, zero, suc, ◌<◌, ◌≤◌, List, [], ◌∷◌, length, Option, Some, None, IfSome, refl, arith, subst, sym, ap, ◌∙◌}
-use Rattle.std.specs.Prelude.{slice_set, slice_index_or, is_some, option_and_then, true, Bool}
+-- What users of the definitions know without opening them: of places that hold something or nothing, and of a submission without a fault.
+use Rattle.std.proofs.Common.{◌≡◌, ℕ, zero, suc, ◌<◌, ◌≤◌, Bool, true, false, not, cond, is_some, List, [], ◌∷◌, length, Option, Some, None, IfSome, refl, arith, subst, sym, ap, ◌∙◌}
+use Rattle.std.specs.Prelude.{slice_set, slice_index_or, option_and_then, nat_lt, ◌==◌}
+use Rattle.std.proofs.lemmas.Bool.{eqb-true}
 use Rattle.std.proofs.lemmas.List.{get_or_default}
-use Rattle.solo_model.specs.Held.{AllHeld, held_at, held_under}
+use Rattle.scsi_cmd.specs.declared.Command.{Command}
+use Rattle.scsi_cmd.specs.declared.SubmitFault.{SubmitFault}
+use Rattle.scsi_cmd.specs.declared.SubmitFault.TheVariants.{BadLength, TooLong, OutOfTurn}
+use Rattle.scsi_cmd.specs.Op.{moved_bytes}
+use Rattle.scsi_cmd.specs.Held.{AllHeld, held_at}
+use Rattle.scsi_cmd.specs.Submission.{first_submit_fault, is_too_long}
 
 pub AllHeld-at : {T : Type 0} (P : T → Type 0) (places : List (Option T)) (slot : ℕ) → AllHeld P places → IfSome (held_at places slot) P
 AllHeld-at P [] slot all = tt
@@ -34,3 +40,16 @@ pub answered-held : {T U : Type 0} (f : T → Option U) (places : List (Option T
     answer ≡ is_some (option_and_then f (slice_index_or places slot read)) → answer ≡ true → held_at places slot ≡ Some held → is_some (f held) ≡ true
 answered-held {T} {U} f places slot read held answer within told so is =
     ap (λ (o : Option T). is_some (option_and_then f o)) (sym is ∙ sym (sym (held_at-read places slot read (slice_index_or places slot read) within refl))) ∙ sym told ∙ so
+
+-- a submission without a fault brings as many bytes as its operation moves
+pub submit_fault-none : (yours in_use : Bool) (least ticket : ℕ) (command : Command) →
+    is_some (first_submit_fault yours in_use least ticket command) ≡ false → length command.buffer ≡ moved_bytes command.op
+submit_fault-none false in_use least ticket command none = let no : true ≡ false = none in cc
+submit_fault-none true true least ticket command none = let no : true ≡ false = none in cc
+submit_fault-none true false least ticket command none =
+    elim (length command.buffer == moved_bytes command.op) as (λ b. (length command.buffer == moved_bytes command.op) ≡ b →
+    is_some {T = SubmitFault} (cond (not b) (Some BadLength) (cond (is_too_long command.op) (Some TooLong) (cond (nat_lt ticket least) (Some (OutOfTurn least)) None))) ≡ false →
+    length command.buffer ≡ moved_bytes command.op) [
+      | true ↦ λ e h. eqb-true _ _ e
+      | false ↦ λ e h. let no : true ≡ false = h in cc
+    ] refl none

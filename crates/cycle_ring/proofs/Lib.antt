@@ -1,3 +1,4 @@
 pub mod Turns
 pub mod Chains
 pub mod Shifts
+pub mod Names

@@ -1,5 +1,5 @@
 -- A ring of n places of which the last is a Link (xHCI 1.2, 4.9 and 4.11), as a counted list.
-use Rattle.std.specs.Prelude.{◌≡◌, ℕ, ◌+◌, ◌-◌, ◌*◌, ◌/◌, ◌%◌, ◌^◌, ◌<◌, ◌≤◌, ◌⊎◌, Bool, true, false, List, [], ◌∷◌, length, drop, Option, Some, slice_get, option_map, ◌==◌, All}
+use Rattle.std.specs.Prelude.{◌≡◌, ℕ, ◌+◌, ◌-◌, ◌*◌, ◌/◌, ◌%◌, ◌^◌, ◌<◌, ◌≤◌, ◌⊎◌, Bool, true, false, List, [], ◌∷◌, length, drop, Option, Some, None, slice_get, option_map, option_and_then, ◌==◌, not, nat_lt, nat_le, if◌then◌else◌, All}
 use Rattle.xhci_trb.specs.declared.Trb.{Trb}
 use Rattle.xhci_trb.specs.declared.Trb.TheVariants.{Normal, Link, StopEndpoint, SetDequeue}
 use Rattle.xhci_trb.specs.Text.{HasText, has_chain, text}
@@ -106,3 +106,35 @@ pub record IsRing (n : ℕ) (r : Ring) : Type 0 where
   pub room_left : length r.put ≤ n - 2
   pub texts : All HasText r.put
   pub ends_td : EndsTd r.put
+
+-- The item that stands, or would stand, at this place, on a turn of that many places whose first item stands at `first`.
+-- Worked: of 19 places and the first item at 16, place 18 has item 2 and place 0 item 3.
+abbrev pub item_in : ℕ → ℕ → ℕ → ℕ
+item_in turn first place = if nat_le first place then place - first else (place + turn - first)
+
+-- the same by an address: none below the ring, inside a place, at the Link's or past it
+abbrev pub item_at : ℕ → Ring → ℕ → Option ℕ
+item_at n r pointer =
+    if nat_lt pointer r.base then None
+    else (if not ((pointer - r.base) % 16 == 0) then None
+    else (if nat_le (n - 1) ((pointer - r.base) / 16) then None
+    else Some (item_in (n - 1) (r.at % (n - 1)) ((pointer - r.base) / 16))))
+
+-- the consumed TRB at an address, while it isn't reclaimed
+abbrev pub consumed_item : Ring → ℕ → Option Trb
+consumed_item r k = if nat_lt k r.got then slice_get r.put k else None
+
+abbrev pub consumed_at : ℕ → Ring → ℕ → Option Trb
+consumed_at n r pointer = option_and_then (consumed_item r) (item_at n r pointer)
+
+-- the first TRB that isn't reclaimed, once it is consumed, and its address
+abbrev pub oldest_of : ℕ → Ring → Option (ℕ × Trb)
+oldest_of n r = option_map (λ trb. (pointer_of n r 0, trb)) (consumed_item r 0)
+
+-- the address of each item of a turn names that item, and an address that names an item is that item's
+abbrev pub AddressesNameItems : Type 0
+AddressesNameItems = (n k : ℕ) (r : Ring) → IsRing n r → k < n - 1 → item_at n r (pointer_of n r k) ≡ Some k
+
+abbrev pub NamedItemsHaveAddresses : Type 0
+NamedItemsHaveAddresses =
+    (n k pointer : ℕ) (r : Ring) → IsRing n r → item_at n r pointer ≡ Some k → (k < n - 1) × (pointer ≡ pointer_of n r k)

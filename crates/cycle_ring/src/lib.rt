@@ -14,7 +14,8 @@
 //!
 //! Consumer: it takes the TRB at its dequeue pointer while that TRB is its own, and steps to the
 //! next place. At the Link it goes to the first place and toggles its cycle state, and gives the
-//! Link to nobody. While it is stopped, its dequeue pointer may be set to another pending place.
+//! Link to nobody. While it is stopped, its dequeue pointer may be set to another pending place, or to
+//! the enqueue pointer with all that is pending dropped.
 //!
 //! Full and empty: the ring is empty where both pointers are equal, and full where one more TRB would
 //! make them equal. A place is free again only when the producer has seen the event of its TRB and
@@ -22,7 +23,8 @@
 //!
 //! What is promised: a [`CycleRing`] is a counted list, the TRBs put and not reclaimed and how many
 //! of them are consumed. TRB k of the list stands at place `(at + k) mod (N - 1)`, and its Cycle bit
-//! is 1 on even turns; [`CycleRing::image`] shows the bytes at each place, the Link's too. A TD is
+//! is 1 on even turns; [`CycleRing::image`] shows the bytes at each place, the Link's too. An address of a
+//! turn's places names one item, and no other does ([`laws`]), so an event's pointer finds its TRB. A TD is
 //! refused exactly where the room is too small. `new` takes all memory, and no other call takes any.
 //! The crate stands on `xhci_trb` for the texts of TRBs.
 #![tactic(auto)]
@@ -38,6 +40,7 @@ use std::marker::Model;
 use thiserror::Error;
 use xhci_trb::{Trb, encode};
 
+pub mod laws;
 #[cfg(test)]
 mod tests;
 
@@ -84,7 +87,7 @@ impl<const N: usize> Model for CycleRing<N> {
 }
 
 impl<const N: usize> CycleRing<N> {
-    ghost use Rattle.cycle_ring.specs.Ring.{Ring, IsRing, opening, place_of, cycle_of, pointer_of, front_of, reclaimed, IsConsumed, IsPending, IsShifted, IsInUse, item_image, link_image, link_behind, IsTd};
+    ghost use Rattle.cycle_ring.specs.Ring.{Ring, IsRing, opening, place_of, cycle_of, pointer_of, front_of, reclaimed, IsConsumed, IsPending, IsShifted, IsInUse, item_image, link_image, link_behind, IsTd, item_at, item_in, consumed_at, oldest_of};
 
     /// An empty ring at this address, a multiple of 16 below `2^63` (4.9.2). Refused for want of memory
     /// alone.
@@ -170,6 +173,36 @@ impl<const N: usize> CycleRing<N> {
         self.got += 1;
     }
 
+    /// The consumed TRB at an address, while it isn't reclaimed.
+    pub fn consumed(&self, pointer: u64) -> Option<Trb>
+        ensures consumed { result ≡ consumed_at N self.now pointer }
+        ensures known { IfSome result (λ trb. (k : ℕ) × IsConsumed N self.now k pointer × (slice_get self.now.put k ≡ Some trb)) }
+    {
+        let item = self.item_of(pointer)?;
+        if self.got <= item {
+            return None;
+        }
+        Some(self.items[item])
+    }
+
+    /// The first TRB that isn't reclaimed and its address, once it is consumed.
+    pub fn oldest(&self) -> Option<(u64, Trb)>
+        ensures oldest { result ≡ oldest_of N self.now }
+        ensures known { IfSome result (λ at. IsConsumed N self.now 0 at.0) }
+    {
+        if self.got == 0 {
+            return None;
+        }
+        Some((self.pointer(0), self.items[0]))
+    }
+
+    /// Consumes all pending TRBs (4.6.10).
+    pub fn drop_pending(&mut self)
+        ensures { self.new ≡ record self.old { got = length self.old.put } }
+    {
+        self.got = self.items.len();
+    }
+
     /// Moves the consumer's end to a pending place (4.6.10). Refused where the address is that of no
     /// pending TRB (so the Link's, the enqueue place and a consumed place are), or where the cycle
     /// state isn't that place's Cycle bit.
@@ -240,6 +273,7 @@ impl<const N: usize> CycleRing<N> {
     // The item that stands, or would stand, at this place.
     fn item_at(&self, place: usize) -> usize
         requires { place < N - 1 }
+        ensures item { result ≡ item_in (N - 1) (self.now.at % (N - 1)) place }
         ensures bound { result < N - 1 }
         ensures place { place_of N self.now result ≡ place }
         ensures only { (k : ℕ) → k < N - 1 → place_of N self.now k ≡ place → k ≡ result }
@@ -255,12 +289,19 @@ impl<const N: usize> CycleRing<N> {
 
     // The item that stands, or would stand, at this address.
     fn item_of(&self, pointer: u64) -> Option<usize>
+        ensures item { result ≡ item_at N self.now pointer }
         ensures found { IfSome result (λ k. (k < N - 1) × (pointer ≡ pointer_of N self.now k)) }
         ensures every { (k : ℕ) → k < N - 1 → pointer ≡ pointer_of N self.now k → result ≡ Some k }
     {
-        let offset = pointer.checked_sub(self.base)?;
+        if pointer < self.base {
+            return None;
+        }
+        let offset = pointer - self.base;
+        if offset % 16 != 0 {
+            return None;
+        }
         let place = offset / 16;
-        if offset % 16 != 0 || place >= (N - 1) as u64 {
+        if place >= (N - 1) as u64 {
             return None;
         }
         Some(self.item_at(place as usize))

@@ -197,3 +197,104 @@ fn refusals(rt: HostRuntime) -> Result<(), Fail> {
     assert_eq!(rt; ring.set_dequeue(0x5000_0000, true), Err(NotAPlace));
     Ok(())
 }
+
+const FIRST: Trb = Trb::StopEndpoint {
+    endpoint: 2,
+    slot: 1,
+};
+
+const SECOND: Trb = Trb::StopEndpoint {
+    endpoint: 3,
+    slot: 1,
+};
+
+const THIRD: Trb = Trb::StopEndpoint {
+    endpoint: 4,
+    slot: 1,
+};
+
+// The controller moves a pending TRB.
+fn consume<const N: usize>(ring: &mut CycleRing<N>) {
+    if ring.front().is_some() {
+        ring.advance();
+    }
+}
+
+// The host frees up to a consumed TRB.
+fn free<const N: usize>(rt: &impl Abort, ring: &mut CycleRing<N>, pointer: u64) {
+    let found = ring.consumed(pointer);
+    assert!(rt; found.is_some());
+    if found.is_some() {
+        ring.reclaim(pointer);
+    }
+}
+
+// Places 0 to 3 and a Link at 4.
+#[test]
+fn consumed_by_address(rt: HostRuntime) -> Result<(), Fail> {
+    let mut ring = CycleRing::<5>::new(rt.alloc(), 0x5000_0000)?;
+    ring.push_td(&[FIRST])?;
+    ring.push_td(&[SECOND])?;
+    ring.push_td(&[THIRD])?;
+    assert_eq!(rt; ring.consumed(0x5000_0000), None);
+    assert_eq!(rt; ring.oldest(), None);
+    consume(&mut ring);
+    assert_eq!(rt; ring.consumed(0x5000_0000), Some(FIRST));
+    assert_eq!(rt; ring.consumed(0x5000_0010), None);
+    assert_eq!(rt; ring.oldest(), Some((0x5000_0000, FIRST)));
+    // inside a place, and below the ring
+    assert_eq!(rt; ring.consumed(0x5000_0001), None);
+    assert_eq!(rt; ring.consumed(0x4fff_fff0), None);
+    consume(&mut ring);
+    free(&rt, &mut ring, 0x5000_0010);
+    assert_eq!(rt; ring.consumed(0x5000_0000), None);
+    assert_eq!(rt; ring.consumed(0x5000_0010), None);
+    assert_eq!(rt; ring.oldest(), None);
+    // over the Link: places 2, 3 and 0
+    ring.push_td(&[FIRST])?;
+    ring.push_td(&[SECOND])?;
+    for _ in 0..3 {
+        consume(&mut ring);
+    }
+    assert_eq!(rt; ring.oldest(), Some((0x5000_0020, THIRD)));
+    assert_eq!(rt; ring.consumed(0x5000_0020), Some(THIRD));
+    assert_eq!(rt; ring.consumed(0x5000_0030), Some(FIRST));
+    assert_eq!(rt; ring.consumed(0x5000_0000), Some(SECOND));
+    // the enqueue place, and the Link's
+    assert_eq!(rt; ring.consumed(0x5000_0010), None);
+    assert_eq!(rt; ring.consumed(0x5000_0040), None);
+    free(&rt, &mut ring, 0x5000_0030);
+    assert_eq!(rt; ring.oldest(), Some((0x5000_0000, SECOND)));
+    Ok(())
+}
+
+#[test]
+fn pending_trbs_are_dropped(rt: HostRuntime) -> Result<(), Fail> {
+    let mut ring = CycleRing::<20>::new(rt.alloc(), 0x4300_1000)?;
+    // an empty ring
+    ring.drop_pending();
+    assert_eq!(rt; ring.dequeue(), (0x4300_1000, true));
+    assert_eq!(rt; ring.oldest(), None);
+    // behind the third TRB of a TD
+    ring.push_td(&long_read())?;
+    for _ in 0..3 {
+        consume(&mut ring);
+    }
+    ring.drop_pending();
+    assert_eq!(rt; ring.front(), None);
+    assert_eq!(rt; ring.dequeue(), (0x4300_1100, true));
+    assert_eq!(rt;
+        ring.consumed(0x4300_1030),
+        Some(chained(0x1_0001_3000, 31))
+    );
+    assert_eq!(rt; ring.room(), 2);
+    free(&rt, &mut ring, 0x4300_10f0);
+    // a TD that begins at place 16 ends at place 12 of the next turn
+    ring.push_td(&long_read())?;
+    ring.drop_pending();
+    assert_eq!(rt; ring.dequeue(), (0x4300_10d0, false));
+    assert_eq!(rt; ring.dequeue(), ring.place());
+    free(&rt, &mut ring, 0x4300_10c0);
+    assert_eq!(rt; ring.room(), 18);
+    Ok(())
+}

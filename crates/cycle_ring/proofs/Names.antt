@@ -1,0 +1,77 @@
+-- An address and the item that it names.
+use Rattle.std.proofs.Common.{◌≡◌, ℕ, ◌+◌, ◌-◌, ◌*◌, ◌/◌, ◌%◌, ◌<◌, ◌==◌, Some, None, nat_lt, nat_le, refl, arith, inl, inr, if◌then◌else◌}
+use Rattle.std.proofs.Math.Nat.{mod-add-mod, mod-lt, div-add-mod}
+use Rattle.std.proofs.lemmas.Nat.{div-mul-add, mod-mul-add}
+use Rattle.std.proofs.lemmas.Bool.{le-ltb, lt-leb, le-leb, ltb-false, leb-true, leb-false, eqb-true, cases_Bool}
+use Rattle.cycle_ring.specs.Ring.{Ring, place_of, pointer_of, item_in, AddressesNameItems, NamedItemsHaveAddresses}
+use Rattle.cycle_ring.proofs.Turns.{wraps_once, place_ahead, place_behind}
+
+-- the item at the place of item k
+item_in-place : (m at k : ℕ) → k < m → item_in m (at % m) ((at + k) % m) ≡ k
+item_in-place m at k below =
+    let first : at % m < m = mod-lt at (omega arith) in
+    let place : (at % m + k) % m ≡ (at + k) % m = mod-add-mod at m k in
+    elim (wraps_once m (at % m + k) (omega arith)) as (λ _. item_in m (at % m) ((at + k) % m) ≡ k) [
+      | inl low ↦ rw (le-leb (at % m) ((at + k) % m) (omega arith)) (omega arith)
+      | inr high ↦ rw (lt-leb (at % m) ((at + k) % m) (omega arith)) (omega arith)
+    ]
+
+pub item_at-pointer_of : AddressesNameItems
+item_at-pointer_of n k r ring below =
+    let turn : 0 < n - 1 = omega (arith, ring.least_places) in
+    let within : (r.at + k) % (n - 1) < n - 1 = mod-lt (r.at + k) turn in
+    let offset : r.base + 16 * place_of n r k - r.base ≡ place_of n r k * 16 + 0 = omega arith in
+    rw (
+      le-ltb (pointer_of n r k) r.base (omega arith),
+      offset,
+      mod-mul-add (place_of n r k) 16 0 (omega arith),
+      div-mul-add (place_of n r k) 16 0 (omega arith),
+      lt-leb (n - 1) (place_of n r k) within,
+      item_in-place (n - 1) r.at k below,
+    ) refl
+
+-- the item that is named at a place stands there
+item_in-stands : (m at place : ℕ) → place < m → (item_in m (at % m) place < m) × ((at + item_in m (at % m) place) % m ≡ place)
+item_in-stands m at place below =
+    let first : at % m < m = mod-lt at (omega arith) in
+    elim (cases_Bool (nat_le (at % m) place)) as (λ _. (item_in m (at % m) place < m) × ((at + item_in m (at % m) place) % m ≡ place)) [
+      | inl ahead ↦
+          let above = leb-true (at % m) place ahead in
+          rw ahead (omega arith, place_ahead m at place (place - at % m) below (omega arith))
+      | inr behind ↦
+          let under = leb-false (at % m) place behind in
+          rw behind (omega arith, place_behind m at place (place + m - at % m) below (omega arith))
+    ]
+
+-- what is left of an address's three tests
+only_inside : (n k offset : ℕ) (r : Ring) → 0 < n - 1 → offset % 16 ≡ 0
+    → (if nat_le (n - 1) (offset / 16) then None else Some (item_in (n - 1) (r.at % (n - 1)) (offset / 16))) ≡ Some k
+    → (k < n - 1) × (r.base + offset ≡ pointer_of n r k)
+only_inside n k offset r turn whole is =
+    elim (cases_Bool (nat_le (n - 1) (offset / 16))) as (λ _. (k < n - 1) × (r.base + offset ≡ pointer_of n r k)) [
+      | inl past ↦ let none : None ≡ Some k = rw past at is in absurd (cc)
+      | inr inside ↦
+          let some : Some (item_in (n - 1) (r.at % (n - 1)) (offset / 16)) ≡ Some k = rw inside at is in
+          let same : item_in (n - 1) (r.at % (n - 1)) (offset / 16) ≡ k = cc in
+          let stands = item_in-stands (n - 1) r.at (offset / 16) (leb-false (n - 1) (offset / 16) inside) in
+          let split : 16 * (offset / 16) + offset % 16 ≡ offset = div-add-mod offset 16 in
+          rw (← same) (stands.0, omega (arith, stands.1))
+    ]
+
+pub item_at-only : NamedItemsHaveAddresses
+item_at-only n k pointer r ring is =
+    let turn : 0 < n - 1 = omega (arith, ring.least_places) in
+    elim (cases_Bool (nat_lt pointer r.base)) as (λ _. (k < n - 1) × (pointer ≡ pointer_of n r k)) [
+      | inl below ↦ let none : None ≡ Some k = rw below at is in absurd (cc)
+      | inr above ↦
+          let here = rw above at is in
+          let reach = ltb-false pointer r.base above in
+          elim (cases_Bool ((pointer - r.base) % 16 == 0)) as (λ _. (k < n - 1) × (pointer ≡ pointer_of n r k)) [
+            | inl whole ↦
+                let found = only_inside n k (pointer - r.base) r turn (eqb-true ((pointer - r.base) % 16) 0 whole) (rw whole at here) in
+                (found.0, omega (arith, found.1))
+            | inr part ↦ let none : None ≡ Some k = rw part at here in absurd (cc)
+          ]
+    ]
+
+pub ruleset addresses = (item_at-pointer_of, item_at-only)

@@ -6,6 +6,7 @@ pub mod Acts
 pub mod Routes
 pub mod WholeRuns
 pub mod Worlds
+pub mod FirstBlocks
 pub mod Due
 pub mod NumberOfClients
 pub mod Drains

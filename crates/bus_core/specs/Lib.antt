@@ -11,3 +11,4 @@ pub mod Replay
 pub mod Drain
 pub mod Isolation
 pub mod Laws
+pub mod FirstBlocks

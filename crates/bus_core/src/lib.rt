@@ -18,6 +18,7 @@
 
 mod dispatch;
 mod entries;
+mod headline_laws;
 mod hosts;
 mod laws;
 mod machine;
@@ -33,6 +34,7 @@ mod wired;
 
 use arrayvec::ArrayVec;
 use block_unit::Unit;
+pub use headline_laws::{opens_as_solo, replays_as_solo};
 pub use laws::{
     acts_where_due, brings_next_len, drains_to_quiet, idle_changes_nothing, isolated,
     keeps_clients, worlds_agree,

@@ -1,0 +1,15 @@
+//! The headline's laws over whole replays from new units, and its parts.
+ghost use Rattle.bus_core.specs.FirstBlocks.{OpensAsSolo, OpensAsNobody, ReplayIsSoloRun, FirstBlocksDecide};
+
+/// On a new bus each client's part is a new solo machine on its unit; a client that isn't there has nothing.
+pub fn opens_as_solo()
+    ensures solo { OpensAsSolo }
+    ensures nobody { OpensAsNobody }
+{}
+
+/// A replay from new units is to each client a run of a new solo machine on its unit, and two clients with the same
+/// first blocks that do alike, each in its world, are answered alike and end alike.
+pub fn replays_as_solo()
+    ensures run { ReplayIsSoloRun }
+    ensures worlds { FirstBlocksDecide }
+{}

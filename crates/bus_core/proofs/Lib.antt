@@ -7,6 +7,7 @@ pub mod Routes
 pub mod WholeRuns
 pub mod Worlds
 pub mod FirstBlocks
+pub mod Refusals
 pub mod Due
 pub mod NumberOfClients
 pub mod Drains

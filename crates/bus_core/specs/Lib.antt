@@ -12,3 +12,4 @@ pub mod Drain
 pub mod Isolation
 pub mod Laws
 pub mod FirstBlocks
+pub mod Refusals

@@ -1,5 +1,6 @@
 //! The headline's laws over whole replays from new units, and its parts.
 ghost use Rattle.bus_core.specs.FirstBlocks.{OpensAsSolo, OpensAsNobody, ReplayIsSoloRun, FirstBlocksDecide};
+ghost use Rattle.bus_core.specs.Refusals.{RefusalsAreOwn, SubmissionsAreOwned, RefusedChangesNothing, OnlySubmissionsAreRefused, ReplayRefusesAsOwn};
 
 /// On a new bus each client's part is a new solo machine on its unit; a client that isn't there has nothing.
 pub fn opens_as_solo()
@@ -12,4 +13,14 @@ pub fn opens_as_solo()
 pub fn replays_as_solo()
     ensures run { ReplayIsSoloRun }
     ensures worlds { FirstBlocksDecide }
+{}
+
+/// A submission is refused for what its client's own state has, and for nothing else; refused, it changes nothing. Nothing
+/// but a submission is refused.
+pub fn refuses_as_own()
+    ensures refused { RefusalsAreOwn }
+    ensures owned { SubmissionsAreOwned }
+    ensures unchanged { RefusedChangesNothing }
+    ensures submissions { OnlySubmissionsAreRefused }
+    ensures replay { ReplayRefusesAsOwn }
 {}

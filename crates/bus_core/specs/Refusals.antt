@@ -1,0 +1,98 @@
+-- Refusals are the client's own doing: what a submission is refused for, said without the shared machine.
+use Rattle.std.specs.Prelude.{◌≡◌, ℕ, nat_lt, Bool, true, false, if◌then◌else◌, List, [], ◌∷◌, length, slice_get, Option, Some, None, is_some, option_map}
+use Rattle.block_unit.specs.BlockMaps.{BlockMaps}
+use Rattle.scsi_cmd.specs.declared.Command.{Command}
+use Rattle.scsi_cmd.specs.declared.SubmitFault.{SubmitFault}
+use Rattle.scsi_cmd.specs.declared.SubmitFault.TheVariants.{NotYours}
+use Rattle.solo_model.specs.Held.{held_under}
+use Rattle.solo_model.specs.TaggedTask.{first_submit_fault}
+use Rattle.solo_model.specs.declared.Label.{Label}
+use Rattle.solo_model.specs.Solo.{SoloState, solo_step, is_command_index, opening as solo_opening}
+use Rattle.bus_core.specs.declared.Step.{Step}
+use Rattle.bus_core.specs.declared.Step.TheVariants.{Submit, CommandPipe, Data, Status, Event, Take}
+use Rattle.bus_core.specs.declared.Refusal.{Refusal}
+use Rattle.bus_core.specs.declared.Outcome.{Outcome}
+use Rattle.bus_core.specs.Shared.{Shared, refusal, shared_step}
+use Rattle.bus_core.specs.Replay.{replay}
+use Rattle.bus_core.specs.Isolation.{own_label, own_state, own_tag}
+
+-- the fault of a submission under this index: it reads what the client has there, and its least ticket
+abbrev pub solo_fault : SoloState → ℕ → ℕ → Command → Option SubmitFault
+solo_fault own index ticket command =
+    first_submit_fault (is_command_index index) (is_some (held_under own.tasks index)) own.least ticket command
+
+-- The first fault of a client's submission, or none: it reads the client's own state, and how many clients there are.
+-- Checked by hand: of 3 clients client 2 may submit under 17 to 23; under 16 and 24 it is NotYours, and so is all of client 3.
+abbrev pub own_fault : ℕ → SoloState → ℕ → ℕ → ℕ → Command → Option SubmitFault
+own_fault clients own client tag ticket command =
+    if nat_lt client clients then solo_fault own (own_tag client tag) ticket command else Some NotYours
+
+-- a fault comes with the command that was handed in
+abbrev pub handed_back : Command → Option SubmitFault → Option Refusal
+handed_back command fault = option_map (λ first. record { fault = first; command = command }) fault
+
+-- Whether a submission is refused, and for what, is the client's own doing.
+abbrev pub RefusalsAreOwn : Type 0
+RefusalsAreOwn =
+    (state : Shared) (client tag ticket : ℕ) (command : Command)
+    → (shared_step state (Submit client tag ticket command)).1.refused
+    ≡ handed_back command (own_fault (length state.parts) (own_state state client) client tag ticket command)
+
+-- A submission acts, and is its client's, refused or not.
+abbrev pub SubmissionsAreOwned : Type 0
+SubmissionsAreOwned =
+    (state : Shared) (client tag ticket : ℕ) (command : Command)
+    → ((shared_step state (Submit client tag ticket command)).1.acted ≡ true)
+    × ((shared_step state (Submit client tag ticket command)).1.owner ≡ Some client)
+
+-- A refused submission leaves all as it was, and tells nothing but the refusal.
+abbrev pub RefusedChangesNothing : Type 0
+RefusedChangesNothing =
+    (state : Shared) (client tag ticket : ℕ) (command : Command) (fault : SubmitFault)
+    → own_fault (length state.parts) (own_state state client) client tag ticket command ≡ Some fault
+    → shared_step state (Submit client tag ticket command) ≡ (state, refusal client fault command)
+
+abbrev pub is_submission : Step → Bool
+is_submission (Submit client tag ticket command) = true
+is_submission CommandPipe = false
+is_submission (Data tag) = false
+is_submission (Status tag) = false
+is_submission Event = false
+is_submission (Take client) = false
+
+-- Nothing but a submission is refused.
+abbrev pub OnlySubmissionsAreRefused : Type 0
+OnlySubmissionsAreRefused =
+    (state : Shared) (step : Step) → is_submission step ≡ false → (shared_step state step).1.refused ≡ None
+
+-- OVER WHOLE REPLAYS
+
+-- the state after a label, or the same state where there is none
+abbrev pub after_label : SoloState → Option Label → Option SoloState
+after_label own None = Some own
+after_label own (Some label) = option_map (λ after. after.0) (solo_step own label)
+
+-- a submission of this client was refused as its own state has it
+abbrev pub RefusedAsOwn : ℕ → ℕ → SoloState → Step → Outcome → Type 0
+RefusedAsOwn clients client own (Submit owner tag ticket command) outcome =
+    owner ≡ client → outcome.refused ≡ handed_back command (own_fault clients own client tag ticket command)
+RefusedAsOwn clients client own CommandPipe outcome = Unit {0}
+RefusedAsOwn clients client own (Data tag) outcome = Unit {0}
+RefusedAsOwn clients client own (Status tag) outcome = Unit {0}
+RefusedAsOwn clients client own Event outcome = Unit {0}
+RefusedAsOwn clients client own (Take owner) outcome = Unit {0}
+
+-- each submission of this client was refused as its own state has it, which goes by its own labels alone
+abbrev pub AllRefusedAsOwn : ℕ → ℕ → SoloState → List Step → List Outcome → Type 0
+AllRefusedAsOwn clients client own [] outcomes = outcomes ≡ []
+AllRefusedAsOwn clients client own (step ∷ steps) [] = ⊥
+AllRefusedAsOwn clients client own (step ∷ steps) (outcome ∷ outcomes) =
+    RefusedAsOwn clients client own step outcome
+    × (after : SoloState) × (after_label own (own_label client step outcome) ≡ Some after) × AllRefusedAsOwn clients client after steps outcomes
+
+-- In a replay from new units each refusal follows from the client's first blocks and its own labels.
+abbrev pub ReplayRefusesAsOwn : Type 0
+ReplayRefusesAsOwn =
+    (units : List BlockMaps) (steps : List Step) (client : ℕ) (unit : BlockMaps)
+    → slice_get units client ≡ Some unit
+    → AllRefusedAsOwn (length units) client (solo_opening unit) steps (replay units steps).1

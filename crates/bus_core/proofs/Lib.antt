@@ -5,6 +5,7 @@ pub mod ClientActs
 pub mod Acts
 pub mod Routes
 pub mod WholeRuns
+pub mod StepIsolation
 pub mod Worlds
 pub mod FirstBlocks
 pub mod Refusals

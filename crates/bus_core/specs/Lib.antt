@@ -13,3 +13,4 @@ pub mod Isolation
 pub mod Laws
 pub mod FirstBlocks
 pub mod Refusals
+pub mod StepIsolation

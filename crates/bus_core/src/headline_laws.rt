@@ -1,6 +1,7 @@
 //! The headline's laws over whole replays from new units, and its parts.
 ghost use Rattle.bus_core.specs.FirstBlocks.{OpensAsSolo, OpensAsNobody, ReplayIsSoloRun, FirstBlocksDecide};
 ghost use Rattle.bus_core.specs.Refusals.{RefusalsAreOwn, SubmissionsAreOwned, RefusedChangesNothing, OnlySubmissionsAreRefused, ReplayRefusesAsOwn};
+ghost use Rattle.bus_core.specs.StepIsolation.{EachStepIsIsolated};
 
 /// On a new bus each client's part is a new solo machine on its unit; a client that isn't there has nothing.
 pub fn opens_as_solo()
@@ -23,4 +24,9 @@ pub fn refuses_as_own()
     ensures unchanged { RefusedChangesNothing }
     ensures submissions { OnlySubmissionsAreRefused }
     ensures replay { ReplayRefusesAsOwn }
+{}
+
+/// Each step is to each client its own machine's step, or nothing at all.
+pub fn steps_isolated()
+    ensures { EachStepIsIsolated }
 {}

@@ -1,8 +1,9 @@
-ghost use Rattle.std.specs.Prelude.{◌≡◌, ◌+◌, ◌<◌, ◌≤◌, true, IfSome, length, ◌^◌, ◌++◌, IfOk, slice_get, option_to_list, vec_len};
+ghost use Rattle.std.specs.Prelude.{◌≡◌, ℕ, ◌+◌, ◌<◌, ◌≤◌, true, IfSome, length, ◌^◌, ◌++◌, IfOk, slice_get, option_to_list, vec_len};
 ghost use Rattle.std.specs.VecDeque.{deque_len, deque_capacity};
 ghost use Rattle.bus_core.specs.Bus.{HasTicket};
 ghost use Rattle.bus_core.specs.Part.{move_act, send_act, take_act};
-ghost use Rattle.bus_core.specs.Shared.{carry_step, due, event_step, is_data_open, opening, new_parts, routed, routed_by_tag, shared_step, submit_step};
+ghost use Rattle.bus_core.specs.Shared.{carry_step, due, due_step, event_step, is_data_open, opening, new_parts, routed, routed_by_tag, shared_step, submit_step};
+ghost use Rattle.bus_core.specs.StepIsolation.{IsIsolatedStep};
 ghost use Rattle.bus_core.specs.Tags.{place_of};
 
 use crate::dispatch::{command_slot_of, place_of_tag};
@@ -110,11 +111,23 @@ impl Bus {
     /// One step: what came of it. It acts exactly where it is due; it takes no memory.
     pub fn step(&mut self, step: Step) -> Outcome
         requires { HasTicket step }
-        ensures { (self.new, result) ≡ shared_step self.old step }
+        // The bus and the outcome are the shared machine's.
+        ensures shared { (self.new, result) ≡ shared_step self.old step }
+        // To each client the step is its own machine's, or nothing at all.
+        ensures isolated { (client : ℕ) → IsIsolatedStep self.old step result self.new client }
     {
         if !self.due(&step) {
             return Outcome::idle();
         }
+        self.take_due(step)
+    }
+
+    /// A step that is due.
+    fn take_due(&mut self, step: Step) -> Outcome
+        requires ticket { HasTicket step }
+        requires due { due self.old step ≡ true }
+        ensures { due_step self.old step ≡ (self.new, result) }
+    {
         match step {
             Step::Submit {
                 client,

@@ -10,8 +10,8 @@ use Rattle.scsi_cmd.specs.declared.Reply.{Reply}
 use Rattle.scsi_cmd.specs.declared.SubmitFault.{SubmitFault}
 use Rattle.scsi_cmd.specs.declared.SubmitFault.TheVariants.{NotYours}
 use Rattle.solo_model.specs.declared.Label.{Label}
-use Rattle.solo_model.specs.Held.{held_at, held_under}
-use Rattle.solo_model.specs.TaggedTask.{first_submit_fault}
+use Rattle.scsi_cmd.specs.Held.{held_at, held_under}
+use Rattle.scsi_cmd.specs.Submission.{first_submit_fault}
 use Rattle.solo_model.specs.Solo.{SoloState, opening as solo_opening}
 use Rattle.bus_core.specs.declared.Place.{Place}
 use Rattle.bus_core.specs.declared.Step.{Step}

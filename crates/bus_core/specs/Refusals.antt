@@ -4,8 +4,8 @@ use Rattle.block_unit.specs.BlockMaps.{BlockMaps}
 use Rattle.scsi_cmd.specs.declared.Command.{Command}
 use Rattle.scsi_cmd.specs.declared.SubmitFault.{SubmitFault}
 use Rattle.scsi_cmd.specs.declared.SubmitFault.TheVariants.{NotYours}
-use Rattle.solo_model.specs.Held.{held_under}
-use Rattle.solo_model.specs.TaggedTask.{first_submit_fault}
+use Rattle.scsi_cmd.specs.Held.{held_under}
+use Rattle.scsi_cmd.specs.Submission.{first_submit_fault}
 use Rattle.solo_model.specs.declared.Label.{Label}
 use Rattle.solo_model.specs.Solo.{SoloState, solo_step, is_command_index, opening as solo_opening}
 use Rattle.bus_core.specs.declared.Step.{Step}

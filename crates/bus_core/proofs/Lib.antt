@@ -9,6 +9,7 @@ pub mod StepIsolation
 pub mod Worlds
 pub mod FirstBlocks
 pub mod Refusals
+pub mod Once
 pub mod Due
 pub mod NumberOfClients
 pub mod Drains

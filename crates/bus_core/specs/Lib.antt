@@ -14,3 +14,4 @@ pub mod Laws
 pub mod FirstBlocks
 pub mod Refusals
 pub mod StepIsolation
+pub mod Once

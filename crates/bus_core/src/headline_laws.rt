@@ -1,5 +1,6 @@
 //! The headline's laws over whole replays from new units, and its parts.
 ghost use Rattle.bus_core.specs.FirstBlocks.{OpensAsSolo, OpensAsNobody, ReplayIsSoloRun, FirstBlocksDecide};
+ghost use Rattle.bus_core.specs.Once.{SoloSettlesOnce, ReplaySettlesOnce};
 ghost use Rattle.bus_core.specs.Refusals.{RefusalsAreOwn, SubmissionsAreOwned, RefusedChangesNothing, OnlySubmissionsAreRefused, ReplayRefusesAsOwn};
 ghost use Rattle.bus_core.specs.StepIsolation.{EachStepIsIsolated};
 
@@ -29,4 +30,11 @@ pub fn refuses_as_own()
 /// Each step is to each client its own machine's step, or nothing at all.
 pub fn steps_isolated()
     ensures { EachStepIsIsolated }
+{}
+
+/// Each ticket that a client is answered for was accepted once before, and is answered once: of the solo machine alone,
+/// and of each client's part of a replay.
+pub fn settles_once()
+    ensures solo { SoloSettlesOnce }
+    ensures replay { ReplaySettlesOnce }
 {}

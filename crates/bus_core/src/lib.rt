@@ -34,7 +34,9 @@ mod wired;
 
 use arrayvec::ArrayVec;
 use block_unit::Unit;
-pub use headline_laws::{opens_as_solo, refuses_as_own, replays_as_solo, steps_isolated};
+pub use headline_laws::{
+    opens_as_solo, refuses_as_own, replays_as_solo, settles_once, steps_isolated,
+};
 pub use laws::{
     acts_where_due, brings_next_len, drains_to_quiet, idle_changes_nothing, isolated,
     keeps_clients, worlds_agree,

@@ -11,24 +11,44 @@ use Rattle.uasdisk.specs.declared.script.ScriptFault.{ScriptFault}
 use Rattle.uasdisk.specs.Script.{script}
 use Rattle.uasdisk.specs.Told.{told}
 use Rattle.block_unit.specs.declared.ImageFault.{ImageFault}
-use Rattle.uasdisk.specs.Images.{blocks_in, info_text}
+use Rattle.block_unit.specs.declared.ImageFault.TheVariants.{NotWhole, TooLarge, NoMemory as ImageNoMemory}
+use Rattle.uasdisk.specs.Images.{blocks_in, info_text, made_image}
 
--- A run that reads an image and prints: the image's own fault, where its bytes are known; its file's, where that can
--- fail; standard output's, where that can fail; want of memory.
-abbrev pub ImageGivesUp : Option (List ℕ) → Bool → Bool → RunFault → Type 0
-ImageGivesUp left can_read_fail can_write_fail (Image fault) = IfSome left (λ bytes. blocks_in bytes ≡ Err fault)
-ImageGivesUp left can_read_fail can_write_fail ImageFile = IsTrue can_read_fail
-ImageGivesUp left can_read_fail can_write_fail (Script fault) = ⊥
-ImageGivesUp left can_read_fail can_write_fail ScriptFile = IsTrue can_write_fail
-ImageGivesUp left can_read_fail can_write_fail NoMemory = ⊤
+-- The reading of an image: its file's fault, where that can fail; too many bytes, where they are known; want of memory.
+abbrev pub ReadGivesUp : Option (List ℕ) → Bool → RunFault → Type 0
+ReadGivesUp left can_fail (Image NotWhole) = ⊥
+ReadGivesUp left can_fail (Image TooLarge) = IfSome left (λ bytes. blocks_in bytes ≡ Err TooLarge)
+ReadGivesUp left can_fail (Image ImageNoMemory) = ⊥
+ReadGivesUp left can_fail ImageFile = IsTrue can_fail
+ReadGivesUp left can_fail (Script fault) = ⊥
+ReadGivesUp left can_fail ScriptFile = ⊥
+ReadGivesUp left can_fail NoMemory = ⊤
 
--- A run that writes an image and prints: the fault of its file, of standard output, or want of memory.
-abbrev pub MakeGivesUp : Bool → Bool → RunFault → Type 0
-MakeGivesUp can_file_fail can_write_fail (Image fault) = ⊥
-MakeGivesUp can_file_fail can_write_fail ImageFile = IsTrue can_file_fail
-MakeGivesUp can_file_fail can_write_fail (Script fault) = ⊥
-MakeGivesUp can_file_fail can_write_fail ScriptFile = IsTrue can_write_fail
-MakeGivesUp can_file_fail can_write_fail NoMemory = ⊤
+-- A run that reads an image and prints: the image's own fault, where its bytes are known, or its file's, where that can
+-- fail, and nothing was printed; standard output's, where that can fail; want of memory, and nothing was printed.
+abbrev pub InfoGivesUp : Option (List ℕ) → Bool → Bool → Option (List ℕ) → Option (List ℕ) → RunFault → Type 0
+InfoGivesUp left can_read_fail can_write_fail old new (Image fault) = IfSome left (λ bytes. blocks_in bytes ≡ Err fault) × Keeps old new
+InfoGivesUp left can_read_fail can_write_fail old new ImageFile = IsTrue can_read_fail × Keeps old new
+InfoGivesUp left can_read_fail can_write_fail old new (Script fault) = ⊥
+InfoGivesUp left can_read_fail can_write_fail old new ScriptFile = IsTrue can_write_fail
+InfoGivesUp left can_read_fail can_write_fail old new NoMemory = Keeps old new
+
+-- The writing of an image: the fault of its file, or want of memory.
+abbrev pub WriteGivesUp : Bool → RunFault → Type 0
+WriteGivesUp can_fail (Image fault) = ⊥
+WriteGivesUp can_fail ImageFile = IsTrue can_fail
+WriteGivesUp can_fail (Script fault) = ⊥
+WriteGivesUp can_fail ScriptFile = ⊥
+WriteGivesUp can_fail NoMemory = ⊤
+
+-- A run that writes an image of so many blocks and prints: the fault of its file, and nothing was printed; of standard
+-- output, once the image was written; or want of memory, and nothing was printed.
+abbrev pub MakeGivesUp : ℕ → Bool → Bool → Option (List ℕ) → Option (List ℕ) → Option (List ℕ) → Option (List ℕ) → RunFault → Type 0
+MakeGivesUp blocks can_file_fail can_write_fail image image' old new (Image fault) = ⊥
+MakeGivesUp blocks can_file_fail can_write_fail image image' old new ImageFile = IsTrue can_file_fail × Keeps old new
+MakeGivesUp blocks can_file_fail can_write_fail image image' old new (Script fault) = ⊥
+MakeGivesUp blocks can_file_fail can_write_fail image image' old new ScriptFile = IsTrue can_write_fail × Appends image image' (made_image blocks)
+MakeGivesUp blocks can_file_fail can_write_fail image image' old new NoMemory = Keeps old new
 
 -- What a run that reads an image prints, by the number of blocks in it: of no other file does it print anything.
 abbrev pub InfoPrints : Result ℕ ImageFault → Option (List ℕ) → Option (List ℕ) → Type 0
@@ -49,13 +69,13 @@ ScriptGivesUp clients left can_fail (Script fault) = IfSome left (λ bytes. scri
 ScriptGivesUp clients left can_fail ScriptFile = IsTrue can_fail
 ScriptGivesUp clients left can_fail NoMemory = ⊤
 
--- A run that prints too: nothing was written at the script's own fault.
+-- A run that prints too: nothing was printed at a fault of the script or of its reader, nor at want of memory.
 abbrev pub ReplayGivesUp : ℕ → Option (List ℕ) → Bool → Bool → Option (List ℕ) → Option (List ℕ) → RunFault → Type 0
 ReplayGivesUp clients left can_read_fail can_write_fail old new (Image fault) = ⊥
 ReplayGivesUp clients left can_read_fail can_write_fail old new ImageFile = ⊥
 ReplayGivesUp clients left can_read_fail can_write_fail old new (Script fault) = IfSome left (λ bytes. script clients bytes ≡ Err fault) × Keeps old new
-ReplayGivesUp clients left can_read_fail can_write_fail old new ScriptFile = IsTrue can_read_fail ⊎ IsTrue can_write_fail
-ReplayGivesUp clients left can_read_fail can_write_fail old new NoMemory = ⊤
+ReplayGivesUp clients left can_read_fail can_write_fail old new ScriptFile = (IsTrue can_read_fail × Keeps old new) ⊎ IsTrue can_write_fail
+ReplayGivesUp clients left can_read_fail can_write_fail old new NoMemory = Keeps old new
 
 -- the exit status of a fault
 abbrev pub status_of : RunFault → ℕ

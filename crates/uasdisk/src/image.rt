@@ -1,10 +1,10 @@
 //! Image files: the bytes of a unit's blocks, in their order.
 
 ghost use Rattle.std.specs.Prelude.{◌≡◌, ℕ, ◌+◌, ◌-◌, ◌*◌, ◌≤◌, ◌<◌, ◌++◌, ◌⊎◌, length, true, false, Ok, Err, IsTrue, IsErr, IfOk, IfErr, OnOk, IfSome, MatchResult};
-ghost use Rattle.std.specs.Io.KnownBytes.{Consumes, Appends, IsAtEnd};
+ghost use Rattle.std.specs.Io.KnownBytes.{Consumes, Appends, Keeps, IsAtEnd};
 ghost use Rattle.std.specs.String.{string_bytes};
 ghost use Rattle.uasdisk.specs.Images.{blocks_in, info_text, made_text, made_image, max_image_bytes};
-ghost use Rattle.uasdisk.specs.Runs.{ImageGivesUp, MakeGivesUp, InfoPrints};
+ghost use Rattle.uasdisk.specs.Runs.{ReadGivesUp, InfoGivesUp, WriteGivesUp, MakeGivesUp, InfoPrints};
 
 use crate::status::{DONE, RunFault, file_fault, output_fault};
 use crate::streams::{Sink, Source, read_at_most};
@@ -31,12 +31,13 @@ pub fn blocks_in(bytes: &[u8]) -> Result<usize, ImageFault>
     Ok(bytes.len() / BLOCK_BYTES)
 }
 
-/// Reads an image: `TooLarge` once the reader gave more bytes than an image has.
+/// Reads the bytes of an image: `TooLarge` once the reader gave more than an image has, else the reader's fault.
 pub fn read_image<S: Source>(alloc: Global, source: &mut S) -> Result<Vec<u8>, RunFault>
     ensures bytes { IfOk result (λ bytes. IfSome (S.left source.old) (λ left. bytes.items ≡ left)) }
     ensures end { OnOk result (IsAtEnd (S.left source.new)) }
     ensures bound { IfOk result (λ bytes. length bytes.items ≤ max_image_bytes) }
-    ensures fault { IfErr result (ImageGivesUp (S.left source.old) (S.can_fail source.old) false) }
+    ensures there { OnOk result (IsTrue (S.is_there source.old)) }
+    ensures fault { IfErr result (ReadGivesUp (S.left source.old) (S.can_fail source.old)) }
 {
     let bytes = read_at_most(alloc, source, MAX_IMAGE_BYTES + 1).map_err(file_fault)?;
     if bytes.len() > MAX_IMAGE_BYTES {
@@ -48,8 +49,11 @@ pub fn read_image<S: Source>(alloc: Global, source: &mut S) -> Result<Vec<u8>, R
 /// Writes an image. Where that fails, the writer may have a beginning of it.
 pub fn write_image<W: Sink>(sink: &mut W, bytes: &[u8]) -> Result<(), RunFault>
     ensures bytes { OnOk result (Appends (W.written sink.old) (W.written sink.new) bytes.now) }
-    ensures fault { IfErr result (MakeGivesUp (W.can_fail sink.old) false) }
+    ensures there { OnOk result (IsTrue (W.is_there sink.old)) }
+    ensures fault { IfErr result (WriteGivesUp (W.can_fail sink.old)) }
     ensures same { W.can_fail sink.new ≡ W.can_fail sink.old }
+    ensures stays { W.is_there sink.new ≡ W.is_there sink.old }
+    ensures file { W.is_of sink.new ≡ W.is_of sink.old }
 {
     sink.write(bytes).map_err(file_fault)
 }
@@ -64,8 +68,11 @@ pub fn run_info<S: Source, O: Sink, W: Write>(
     ensures statuses { (result ≡ 0) ⊎ ((result ≡ 3) ⊎ (result ≡ 4)) }
     ensures done { result ≡ 0 → IfSome (S.left source.old) (λ bytes.
         InfoPrints (blocks_in bytes) (O.written output.old) (O.written output.new)) }
-    ensures fault { result ≡ 3 → IfSome (S.left source.old) (λ bytes. IsErr (blocks_in bytes))
-        ⊎ (IsTrue (S.can_fail source.old) ⊎ IsTrue (O.can_fail output.old)) }
+    ensures there { result ≡ 0 → IsTrue (S.is_there source.old) }
+    ensures fault { result ≡ 3 → ((IfSome (S.left source.old) (λ bytes. IsErr (blocks_in bytes)) ⊎ IsTrue (S.can_fail source.old))
+        × Keeps (O.written output.old) (O.written output.new)) ⊎ IsTrue (O.can_fail output.old) }
+    ensures memory { result ≡ 4 → Keeps (O.written output.old) (O.written output.new) }
+    ensures quiet { result ≡ 0 → faults.new ≡ faults.old }
 {
     match info(alloc, source, output) {
         Ok(()) => DONE,
@@ -76,7 +83,9 @@ pub fn run_info<S: Source, O: Sink, W: Write>(
 fn info<S: Source, O: Sink>(alloc: Global, source: &mut S, output: &mut O) -> Result<(), RunFault>
     ensures done { OnOk result (IfSome (S.left source.old) (λ bytes.
         InfoPrints (blocks_in bytes) (O.written output.old) (O.written output.new))) }
-    ensures fault { IfErr result (ImageGivesUp (S.left source.old) (S.can_fail source.old) (O.can_fail output.old)) }
+    ensures there { OnOk result (IsTrue (S.is_there source.old)) }
+    ensures fault { IfErr result (InfoGivesUp (S.left source.old) (S.can_fail source.old) (O.can_fail output.old)
+        (O.written output.old) (O.written output.new)) }
 {
     let bytes = read_image(alloc, source)?;
     let blocks = blocks_in(&bytes).map_err(RunFault::Image)?;
@@ -108,7 +117,11 @@ pub fn run_make<I: Sink, O: Sink, W: Write>(
     ensures statuses { (result ≡ 0) ⊎ ((result ≡ 3) ⊎ (result ≡ 4)) }
     ensures image { result ≡ 0 → Appends (I.written image.old) (I.written image.new) (made_image blocks) }
     ensures output { result ≡ 0 → Appends (O.written output.old) (O.written output.new) (made_text blocks) }
-    ensures fault { result ≡ 3 → IsTrue (I.can_fail image.old) ⊎ IsTrue (O.can_fail output.old) }
+    ensures there { result ≡ 0 → IsTrue (I.is_there image.old) }
+    ensures fault { result ≡ 3 → (IsTrue (I.can_fail image.old) × Keeps (O.written output.old) (O.written output.new))
+        ⊎ (IsTrue (O.can_fail output.old) × Appends (I.written image.old) (I.written image.new) (made_image blocks)) }
+    ensures memory { result ≡ 4 → Keeps (O.written output.old) (O.written output.new) }
+    ensures file { I.is_of image.new ≡ I.is_of image.old }
     ensures quiet { result ≡ 0 → shows_progress ≡ false → faults.new ≡ faults.old }
 {
     let shows_progress = shows_progress && blocks > PART_BLOCKS;
@@ -126,10 +139,14 @@ fn make<I: Sink, O: Sink, W: Write>(
     notes: &mut W,
     shows_progress: bool,
 ) -> Result<(), RunFault>
+    requires some { 1 ≤ blocks }
     requires most { blocks ≤ 65536 }
     ensures image { OnOk result (Appends (I.written image.old) (I.written image.new) (made_image blocks)) }
     ensures output { OnOk result (Appends (O.written output.old) (O.written output.new) (made_text blocks)) }
-    ensures fault { IfErr result (MakeGivesUp (I.can_fail image.old) (O.can_fail output.old)) }
+    ensures there { OnOk result (IsTrue (I.is_there image.old)) }
+    ensures fault { IfErr result (MakeGivesUp blocks (I.can_fail image.old) (O.can_fail output.old)
+        (I.written image.old) (I.written image.new) (O.written output.old) (O.written output.new)) }
+    ensures file { I.is_of image.new ≡ I.is_of image.old }
     ensures quiet { shows_progress ≡ false → notes.new ≡ notes.old }
 {
     let text = format!(in alloc; "made {blocks}\n").map_err(|_| RunFault::NoMemory)?;
@@ -145,9 +162,12 @@ fn write_zeros<I: Sink, W: Write>(
     notes: &mut W,
     shows_progress: bool,
 ) -> Result<(), RunFault>
+    requires some { 1 ≤ blocks }
     requires most { blocks ≤ 65536 }
     ensures image { OnOk result (Appends (I.written image.old) (I.written image.new) (made_image blocks)) }
-    ensures fault { IfErr result (MakeGivesUp (I.can_fail image.old) false) }
+    ensures there { OnOk result (IsTrue (I.is_there image.old)) }
+    ensures fault { IfErr result (WriteGivesUp (I.can_fail image.old)) }
+    ensures file { I.is_of image.new ≡ I.is_of image.old }
     ensures quiet { shows_progress ≡ false → notes.new ≡ notes.old }
 {
     let part = PART_BLOCKS.min(blocks);

@@ -32,9 +32,12 @@ pub fn run_script<S: Source, O: Sink, W: Write>(
     ensures told { result ≤ 1 → IfSome (S.left reader.old) (λ bytes.
         Tells (zeroed_units clients blocks) (script clients bytes) (O.written writer.old) (O.written writer.new) result) }
     ensures read { result ≤ 1 → IsAtEnd (S.left reader.new) }
+    ensures there { result ≤ 1 → IsTrue (S.is_there reader.old) }
     ensures fault { result ≡ 3 →
-        (IfSome (S.left reader.old) (λ bytes. IsErr (script clients bytes)) × Keeps (O.written writer.old) (O.written writer.new))
-        ⊎ (IsTrue (S.can_fail reader.old) ⊎ IsTrue (O.can_fail writer.old)) }
+        ((IfSome (S.left reader.old) (λ bytes. IsErr (script clients bytes)) ⊎ IsTrue (S.can_fail reader.old))
+        × Keeps (O.written writer.old) (O.written writer.new)) ⊎ IsTrue (O.can_fail writer.old) }
+    ensures memory { result ≡ 4 → Keeps (O.written writer.old) (O.written writer.new) }
+    ensures quiet { result ≤ 1 → faults.new ≡ faults.old }
 {
     match tell_script(alloc, clients, blocks, reader, writer) {
         Ok(status) => status,
@@ -57,6 +60,7 @@ fn tell_script<S: Source, O: Sink>(
     ensures told { IfOk result (λ status. IfSome (S.left reader.old) (λ bytes.
         Tells (zeroed_units clients blocks) (script clients bytes) (O.written writer.old) (O.written writer.new) status)) }
     ensures read { OnOk result (IsAtEnd (S.left reader.new)) }
+    ensures there { OnOk result (IsTrue (S.is_there reader.old)) }
     ensures fault { IfErr result (ReplayGivesUp clients (S.left reader.old) (S.can_fail reader.old) (O.can_fail writer.old)
         (O.written writer.old) (O.written writer.new)) }
 {
@@ -76,6 +80,7 @@ pub fn read_script<S: Source>(
     requires most_clients { clients ≤ 31 }
     ensures lines { IfOk result (λ lines. IfSome (S.left reader.old) (λ bytes. script clients bytes ≡ Ok lines.items)) }
     ensures read { OnOk result (IsAtEnd (S.left reader.new)) }
+    ensures there { OnOk result (IsTrue (S.is_there reader.old)) }
     ensures fault { IfErr result (ScriptGivesUp clients (S.left reader.old) (S.can_fail reader.old)) }
 {
     let text = read_text(alloc, reader)?;
@@ -91,6 +96,7 @@ pub fn read_script<S: Source>(
 fn read_text<S: Source>(alloc: Global, reader: &mut S) -> Result<Vec<u8>, RunFault>
     ensures bytes { IfOk result (λ text. IfSome (S.left reader.old) (λ bytes. text.items ≡ bytes)) }
     ensures read { OnOk result (IsAtEnd (S.left reader.new)) }
+    ensures there { OnOk result (IsTrue (S.is_there reader.old)) }
     ensures fault { (clients : ℕ) → IfErr result (ScriptGivesUp clients (S.left reader.old) (S.can_fail reader.old)) }
 {
     let text = read_at_most(alloc, reader, MAX_SCRIPT_BYTES + 1).map_err(output_fault)?;

@@ -2,10 +2,13 @@
 //!
 //! What any reader of std gives may end in a fault; what stands in memory can't. With that said, a call which
 //! answers a fault of its reader or writer can be asked to do so only where there can be one.
+//!
+//! A file that couldn't be opened is a reader or a writer too, one that isn't there: it gives no byte, not even its end,
+//! and takes none. So the call that works on it learns of it as of any other fault.
 
 ghost use Rattle.std.specs.Option.{option_map_or};
 ghost use Rattle.std.specs.Prelude.{◌≡◌, ℕ, ◌≤◌, ◌<◌, ◌++◌, List, Bool, Option, Some, option_and_then, length, take, drop, true, false, IsTrue, IfOk, OnOk, OnErr, IfErr, MatchResult};
-ghost use Rattle.std.specs.Io.KnownBytes.{Consumes, Appends, IsAtEnd, ReadConsumes};
+ghost use Rattle.std.specs.Io.KnownBytes.{Consumes, Appends, Keeps, IsAtEnd, ReadConsumes};
 ghost use Rattle.std.specs.Io.{ReadsAtMost};
 
 use std::alloc::{AllocError, Global};
@@ -35,12 +38,17 @@ pub trait Source {
     /// Whether it can fail.
     ghost can_fail: { Self → Bool };
 
+    /// Whether it is there: a file that couldn't be opened isn't.
+    ghost is_there: { Self → Bool };
+
     /// Reads bytes into the front of `buffer` and tells how many: none at the end, or where there is no room.
     fn read(&mut self, buffer: &mut [u8]) -> Result<usize, ReadFailed>
         ensures bound { IfOk result (λ count. count ≤ length buffer.new) }
         ensures bytes { ReadConsumes (left self.old) (left self.new) result buffer.new }
+        ensures there { OnOk result (IsTrue (is_there self.old)) }
         ensures fault { OnErr result (IsTrue (can_fail self.old)) }
-        ensures same { can_fail self.new ≡ can_fail self.old };
+        ensures same { can_fail self.new ≡ can_fail self.old }
+        ensures stays { is_there self.new ≡ is_there self.old };
 }
 
 /// Takes bytes.
@@ -51,11 +59,21 @@ pub trait Sink {
     /// Whether it can fail other than for want of memory.
     ghost can_fail: { Self → Bool };
 
-    /// Writes all of the bytes, and flushes.
+    /// Whether it is there: a file that couldn't be opened isn't.
+    ghost is_there: { Self → Bool };
+
+    /// Whether it is of the file of a name, as far as that is known.
+    ghost is_of: { Self → List ℕ → Bool };
+
+    /// Writes all of the bytes, and flushes. Want of memory writes nothing.
     fn write(&mut self, bytes: &[u8]) -> Result<(), StreamFault>
         ensures bytes { OnOk result (Appends (written self.old) (written self.new) bytes.now) }
+        ensures there { OnOk result (IsTrue (is_there self.old)) }
+        ensures memory { result ≡ Err StreamFault.NoMemory → Keeps (written self.old) (written self.new) }
         ensures fault { result ≡ Err StreamFault.File → IsTrue (can_fail self.old) }
-        ensures same { can_fail self.new ≡ can_fail self.old };
+        ensures same { can_fail self.new ≡ can_fail self.old }
+        ensures stays { is_there self.new ≡ is_there self.old }
+        ensures file { is_of self.new ≡ is_of self.old };
 }
 
 /// A reader of std. Any fault of it is one, an interrupted read too.
@@ -66,6 +84,8 @@ impl<R: Read> Source for Reader<R> {
     ghost left = { λ reader. R.remaining reader.0 };
 
     ghost can_fail = { λ _. true };
+
+    ghost is_there = { λ _. true };
 
     fn read(&mut self, buffer: &mut [u8]) -> Result<usize, ReadFailed> {
         match self.0.read(buffer) {
@@ -80,6 +100,8 @@ impl<S: Source> Source for Option<S> {
     ghost left = { λ reader. option_and_then S.left reader };
 
     ghost can_fail = { λ reader. option_map_or S.can_fail reader true };
+
+    ghost is_there = { λ reader. option_map_or S.is_there reader false };
 
     fn read(&mut self, buffer: &mut [u8]) -> Result<usize, ReadFailed> {
         match self {
@@ -98,6 +120,10 @@ impl<W: Write> Sink for Writer<W> {
 
     ghost can_fail = { λ _. true };
 
+    ghost is_there = { λ _. true };
+
+    ghost is_of = { λ _ _. true };
+
     fn write(&mut self, bytes: &[u8]) -> Result<(), StreamFault> {
         if self.0.write_all(bytes).is_err() || self.0.flush().is_err() {
             return Err(StreamFault::File);
@@ -111,6 +137,10 @@ impl<S: Sink> Sink for Option<S> {
     ghost written = { λ writer. option_and_then S.written writer };
 
     ghost can_fail = { λ writer. option_map_or S.can_fail writer true };
+
+    ghost is_there = { λ writer. option_map_or S.is_there writer false };
+
+    ghost is_of = { λ writer. option_map_or S.is_of writer (λ _. true) };
 
     fn write(&mut self, bytes: &[u8]) -> Result<(), StreamFault> {
         match self {
@@ -128,6 +158,8 @@ impl<'a> Source for BytesLeft<'a> {
     ghost left = { λ bytes. Some bytes.0.now };
 
     ghost can_fail = { λ _. false };
+
+    ghost is_there = { λ _. true };
 
     fn read(&mut self, buffer: &mut [u8]) -> Result<usize, ReadFailed> {
         let count = buffer.len().min(self.0.len());
@@ -147,6 +179,10 @@ impl Sink for BytesTaken {
 
     ghost can_fail = { λ _. false };
 
+    ghost is_there = { λ _. true };
+
+    ghost is_of = { λ _ _. false };
+
     fn write(&mut self, bytes: &[u8]) -> Result<(), StreamFault> {
         match self.0.extend_from_slice(bytes) {
             Ok(()) => Ok(()),
@@ -164,6 +200,7 @@ pub fn read_at_most<S: Source>(
     ensures bytes { IfOk result (λ bytes. Consumes (S.left source.old) (S.left source.new) bytes.items) }
     ensures bound { IfOk result (λ bytes. length bytes.items ≤ limit) }
     ensures end { IfOk result (λ bytes. length bytes.items < limit → IsAtEnd (S.left source.new)) }
+    ensures there { 0 < limit → OnOk result (IsTrue (S.is_there source.old)) }
     ensures fault { result ≡ Err StreamFault.File → IsTrue (S.can_fail source.old) }
 {
     let mut bytes = Vec::new(alloc);

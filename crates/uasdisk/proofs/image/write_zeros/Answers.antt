@@ -10,6 +10,9 @@ loop-done-preserved g c =
       bound = omega arith;
       quiet = λ off. l.invariant.quiet off;
       same = c.write_image.ensures.same ∙ l.invariant.same;
+      stays = c.write_image.ensures.stays ∙ l.invariant.stays;
+      file = c.write_image.ensures.file ∙ l.invariant.file;
+      there = λ _. sym l.invariant.stays ∙ c.in_ok-write_image.ensures.there;
     }
 
 pub loop-done-preserved-then-shows_progress : goal.loop-done-preserved-then-shows_progress
@@ -20,4 +23,7 @@ loop-done-preserved-then-shows_progress g c =
       bound = omega arith;
       quiet = λ off. let no : true ≡ false = sym c.if-shows_progress.true ∙ off in cc;
       same = c.write_image.ensures.same ∙ l.invariant.same;
+      stays = c.write_image.ensures.stays ∙ l.invariant.stays;
+      file = c.write_image.ensures.file ∙ l.invariant.file;
+      there = λ _. sym l.invariant.stays ∙ c.in_ok-write_image.ensures.there;
     }

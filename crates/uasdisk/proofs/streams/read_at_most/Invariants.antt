@@ -1,4 +1,5 @@
-use Rattle.std.proofs.Common.{◌≡◌, ◌-◌, ◌≤◌, length}
+use Rattle.std.proofs.Common.{◌≡◌, ◌-◌, ◌≤◌, ◌<◌, length}
+use Rattle.std.specs.Prelude.{IsTrue}
 use Rattle.std.specs.Io.KnownBytes.{Consumes}
 use Rattle.uasdisk.proofs.streams.read_at_most.Given as goal
 
@@ -7,6 +8,8 @@ invariant-loop-chunk g l = record {
   bytes : Consumes (g.S.Source.left l.fn.source) (g.S.Source.left l.source) l.bytes.items;
   bound : length l.bytes.items ≤ l.limit;
   same : g.S.Source.can_fail l.source ≡ g.S.Source.can_fail l.fn.source;
+  stays : g.S.Source.is_there l.source ≡ g.S.Source.is_there l.fn.source;
+  there : 0 < length l.bytes.items → IsTrue (g.S.Source.is_there l.fn.source);
 }
 
 abbrev pub decreases-loop-chunk : goal.decreases-loop-chunk

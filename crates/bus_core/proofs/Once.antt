@@ -13,7 +13,7 @@ use Rattle.scsi_cmd.specs.declared.Reply.{Reply}
 use Rattle.solo_model.specs.declared.TaggedTask.{TaggedTask}
 use Rattle.solo_model.specs.declared.Label.{Label}
 use Rattle.solo_model.specs.declared.Label.TheVariants.{Submit, Carry, Move, Send, Settle}
-use Rattle.solo_model.specs.Held.{held_at}
+use Rattle.scsi_cmd.specs.Held.{held_at}
 use Rattle.solo_model.specs.TaggedTask.{first_submit_fault, queued, carried, moved, sent, reply_of}
 use Rattle.solo_model.specs.Solo.{SoloState, solo_step, solo_run, silently, submitted, is_command_index, with_task, without_task, with_reply, opening as solo_opening}
 use Rattle.bus_core.specs.declared.Step.{Step}

@@ -51,6 +51,10 @@ abbrev pub IsPending : ℕ → Ring → ℕ → ℕ → Bool → Type 0
 IsPending n r k pointer cycle =
     (r.got ≤ k) × (k < length r.put) × (pointer ≡ pointer_of n r k) × (cycle ≡ cycle_of n r k)
 
+-- the enqueue place and the Cycle bit that its TRB will have
+abbrev pub IsEnqueuePlace : ℕ → Ring → ℕ → Bool → Type 0
+IsEnqueuePlace n r pointer cycle = (pointer ≡ pointer_of n r (length r.put)) × (cycle ≡ cycle_of n r (length r.put))
+
 -- the Link behind item k: back to the first place, Toggle Cycle, the Chain bit of the TRB before it
 abbrev pub link_behind : Ring → Trb → Trb
 link_behind r trb = Link r.base true (has_chain trb) false

@@ -87,7 +87,7 @@ impl<const N: usize> Model for CycleRing<N> {
 }
 
 impl<const N: usize> CycleRing<N> {
-    ghost use Rattle.cycle_ring.specs.Ring.{Ring, IsRing, opening, place_of, cycle_of, pointer_of, front_of, reclaimed, IsConsumed, IsPending, IsShifted, IsInUse, item_image, link_image, link_behind, IsTd, item_at, item_in, consumed_at, oldest_of};
+    ghost use Rattle.cycle_ring.specs.Ring.{Ring, IsRing, opening, place_of, cycle_of, pointer_of, front_of, reclaimed, IsConsumed, IsPending, IsShifted, IsInUse, item_image, link_image, link_behind, IsTd, IsEnqueuePlace, item_at, item_in, consumed_at, oldest_of};
 
     /// An empty ring at this address, a multiple of 16 below `2^63` (4.9.2). Refused for want of memory
     /// alone.
@@ -219,6 +219,21 @@ impl<const N: usize> CycleRing<N> {
         }
         self.got = item;
         Ok(())
+    }
+
+    /// Moves the consumer's end to a pending place, or to the enqueue place, where all that is pending is
+    /// dropped (4.6.10). Refused where the address is neither's, or the cycle state isn't the place's.
+    pub fn move_dequeue(&mut self, pointer: u64, cycle: bool) -> Result<(), NotAPlace>
+        ensures accepted { IsOk result ↔ (IsEnqueuePlace N self.old pointer cycle ⊎ ((k : ℕ) × IsPending N self.old k pointer cycle)) }
+        ensures enqueue { IsEnqueuePlace N self.old pointer cycle → self.new ≡ record self.old { got = length self.old.put } }
+        ensures set { (k : ℕ) → IsPending N self.old k pointer cycle → self.new ≡ record self.old { got = k } }
+        ensures refused { OnErr result (self.new ≡ self.old) }
+    {
+        if self.place() == (pointer, cycle) {
+            self.drop_pending();
+            return Ok(());
+        }
+        self.set_dequeue(pointer, cycle)
     }
 
     /// Frees the TRBs up to and with the one at this address. Asks a consumed TRB that isn't reclaimed.

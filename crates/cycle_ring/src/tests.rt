@@ -298,3 +298,28 @@ fn pending_trbs_are_dropped(rt: HostRuntime) -> Result<(), Fail> {
     assert_eq!(rt; ring.room(), 18);
     Ok(())
 }
+
+// The same ring over its Link: places 2 and 3 of the first turn, place 0 of the second.
+#[test]
+fn the_consumers_end_is_moved(rt: HostRuntime) -> Result<(), Fail> {
+    let mut ring = CycleRing::<5>::new(rt.alloc(), 0x5000_0000)?;
+    ring.push_td(&[FIRST])?;
+    ring.push_td(&[SECOND])?;
+    ring.push_td(&[THIRD])?;
+    ring.drop_pending();
+    free(&rt, &mut ring, 0x5000_0010);
+    ring.push_td(&[FIRST])?;
+    ring.push_td(&[SECOND])?;
+    // the Link's place, a pending place and the enqueue place with the cycle state of the turn before
+    assert_eq!(rt; ring.move_dequeue(0x5000_0040, true), Err(NotAPlace));
+    assert_eq!(rt; ring.move_dequeue(0x5000_0000, true), Err(NotAPlace));
+    assert_eq!(rt; ring.move_dequeue(0x5000_0010, true), Err(NotAPlace));
+    assert_eq!(rt; ring.move_dequeue(0x5000_0000, false), Ok(()));
+    assert_eq!(rt; ring.front(), Some((0x5000_0000, SECOND)));
+    // now a consumed place
+    assert_eq!(rt; ring.move_dequeue(0x5000_0030, true), Err(NotAPlace));
+    assert_eq!(rt; ring.move_dequeue(0x5000_0010, false), Ok(()));
+    assert_eq!(rt; ring.front(), None);
+    assert_eq!(rt; ring.dequeue(), (0x5000_0010, false));
+    Ok(())
+}

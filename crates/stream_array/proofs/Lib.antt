@@ -2,3 +2,4 @@ pub mod Entries
 pub mod Opening
 pub mod Apart
 pub mod Frames
+pub mod Spots

@@ -1,5 +1,5 @@
 -- All rings between host and controller, and what their stream contexts show (xHCI 1.2, 4.12).
-use Rattle.std.specs.Prelude.{◌≡◌, ℕ, ◌-◌, ◌<◌, ◌≤◌, List, length, Some, None, slice_index_or, slice_set}
+use Rattle.std.specs.Prelude.{◌≡◌, ◌≢◌, ℕ, ◌-◌, ◌<◌, ◌≤◌, List, length, Some, None, slice_index_or, slice_set}
 use Rattle.cycle_ring.specs.Ring.{Ring, opening, pointer_of, cycle_of}
 use Rattle.event_ring.specs.Events.{Events, opening as opening_events}
 use Rattle.stream_array.specs.declared.Pipe.{Pipe}
@@ -79,3 +79,25 @@ pub record IsLines (l : LinesState) : Type 0 where
   pub data_out : length l.data_out ≡ STREAMS
   pub base : (pipe : Pipe) (stream : ℕ) → HasRing pipe stream → (ring_of l pipe stream).base ≡ ring_base pipe stream
   pub engine : l.engine.base ≡ ENGINE_RING
+
+-- Laws of a change of one ring: it is there, and every other ring and context is as it was.
+abbrev pub ChangedRingIsThere : Type 0
+ChangedRingIsThere =
+    (l : LinesState) (pipe : Pipe) (stream : ℕ) (r : Ring) → IsLines l → HasRing pipe stream → ring_of (with_ring l pipe stream r) pipe stream ≡ r
+
+abbrev pub OtherRingsAreKept : Type 0
+OtherRingsAreKept =
+    (l : LinesState) (pipe other : Pipe) (stream another : ℕ) (r : Ring) → HasRing pipe stream → HasRing other another
+    → (pipe ≡ other → stream ≢ another) → ring_of (with_ring l pipe stream r) other another ≡ ring_of l other another
+
+abbrev pub OtherContextsAreKept : Type 0
+OtherContextsAreKept =
+    (l : LinesState) (pipe other : Pipe) (stream another : ℕ) (r : Ring) (old new : Contexts) → HasRing pipe stream
+    → ShowsRings l other old → ShowsRings (with_ring l pipe stream r) other new → (pipe ≡ other → stream ≢ another)
+    → entry_of new another ≡ entry_of old another
+
+-- the rings lie where they lay
+abbrev pub RingsStayInPlace : Type 0
+RingsStayInPlace =
+    (l : LinesState) (pipe : Pipe) (stream : ℕ) (r : Ring) → IsLines l → HasRing pipe stream → r.base ≡ ring_base pipe stream
+    → IsLines (with_ring l pipe stream r)

@@ -17,9 +17,9 @@
 //! `cycle_ring` and `event_ring` for the rings and on `xhci_trb` for the texts of TRBs.
 #![tactic(auto)]
 
-ghost use Rattle.std.specs.Prelude.{◌≡◌, ℕ, ◌+◌, ◌*◌, ◌^◌, ◌<◌, ◌≤◌, Some, None, IfSome};
+ghost use Rattle.std.specs.Prelude.{◌≡◌, ℕ, ◌+◌, ◌*◌, ◌^◌, ◌<◌, ◌≤◌, Some, None, IfSome, IsTrue};
 ghost use Rattle.stream_array.specs.declared.Pipe.{Pipe};
-ghost use Rattle.stream_array.specs.Map.{IsPlace, place_address, number_of, ring_base, HasRing};
+ghost use Rattle.stream_array.specs.Map.{IsPlace, place_address, number_of, places_of, pipe_numbered, has_ring, spot_in, spot_at};
 
 pub use contexts::StreamArray;
 pub use lines::Lines;
@@ -92,50 +92,66 @@ impl Pipe {
             Pipe::DataOut => 4,
         }
     }
+
+    fn numbered(number: u64) -> Option<Pipe>
+        ensures { result ≡ pipe_numbered number }
+    {
+        match number {
+            1 => Some(Pipe::Command),
+            2 => Some(Pipe::Status),
+            3 => Some(Pipe::DataIn),
+            4 => Some(Pipe::DataOut),
+            _ => None,
+        }
+    }
+
+    fn has_ring(self, stream: u64) -> bool
+        ensures has { result ≡ has_ring self stream }
+        ensures below { IsTrue result → stream ≤ STREAMS }
+    {
+        match self {
+            Pipe::Command => stream == 0,
+            Pipe::Status | Pipe::DataIn | Pipe::DataOut => 0 < stream && stream <= STREAMS as u64,
+        }
+    }
+
+    fn places(self) -> usize
+        ensures places { result ≡ places_of self }
+    {
+        match self {
+            Pipe::Command => COMMAND_RING_PLACES,
+            Pipe::Status | Pipe::DataIn | Pipe::DataOut => STREAM_RING_PLACES,
+        }
+    }
+
+    // The place at whose first byte an offset in the pipe's span is.
+    fn spot(self, inside: u64) -> Option<(Pipe, u16, usize)>
+        ensures { result ≡ spot_in self inside }
+    {
+        let stream = inside / STREAM_SPAN;
+        let place = (inside % STREAM_SPAN / 16) as usize;
+        if self.has_ring(stream) && place < self.places() && inside % 16 == 0 {
+            Some((self, stream as u16, place))
+        } else {
+            None
+        }
+    }
 }
 
 /// The pipe, the stream (0 for the command pipe) and the place of the ring at whose place this address
 /// is the first byte, if there is one.
+#[tactic(auto, using(crate::proofs::Spots::spots))]
 pub fn find(pointer: u64) -> Option<(Pipe, u16, usize)>
+    ensures spot { result ≡ spot_at pointer }
     ensures found { IfSome result (λ at. IsPlace at.0 at.1 at.2 × (pointer ≡ place_address at.0 at.1 at.2)) }
     ensures every { (pipe : Pipe) (stream place : ℕ) → IsPlace pipe stream place → pointer ≡ place_address pipe stream place → result ≡ Some (pipe, stream, place) }
 {
-    let offset = pointer.checked_sub(RINGS)?;
-    let inside = offset % PIPE_SPAN;
-    match offset / PIPE_SPAN {
-        1 => find_in_command(inside),
-        2 => find_in_stream(Pipe::Status, inside),
-        3 => find_in_stream(Pipe::DataIn, inside),
-        4 => find_in_stream(Pipe::DataOut, inside),
-        _ => None,
-    }
-}
-
-fn find_in_command(inside: u64) -> Option<(Pipe, u16, usize)>
-    ensures found { IfSome result (λ at. (at.0 ≡ Pipe.Command) × (at.1 ≡ 0) × (at.2 < COMMAND_RING_PLACES) × (inside ≡ 16 * at.2)) }
-    ensures every { (place : ℕ) → place < COMMAND_RING_PLACES → inside ≡ 16 * place → result ≡ Some (Pipe.Command, 0, place) }
-{
-    let place = inside / 16;
-    if inside % 16 != 0 || place >= COMMAND_RING_PLACES as u64 {
+    if pointer < RINGS {
         return None;
     }
-    Some((Pipe::Command, 0, place as usize))
-}
-
-fn find_in_stream(pipe: Pipe, inside: u64) -> Option<(Pipe, u16, usize)>
-    ensures found { IfSome result (λ at. (at.0 ≡ pipe) × (0 < at.1) × (at.1 ≤ STREAMS) × (at.2 < STREAM_RING_PLACES) × (inside ≡ STREAM_SPAN * at.1 + 16 * at.2)) }
-    ensures every { (stream place : ℕ) → 0 < stream → stream ≤ STREAMS → place < STREAM_RING_PLACES → inside ≡ STREAM_SPAN * stream + 16 * place → result ≡ Some (pipe, stream, place) }
-{
-    let stream = inside / STREAM_SPAN;
-    let place = inside % STREAM_SPAN / 16;
-    if stream == 0
-        || stream > STREAMS as u64
-        || inside % 16 != 0
-        || place >= STREAM_RING_PLACES as u64
-    {
-        return None;
-    }
-    Some((pipe, stream as u16, place as usize))
+    let offset = pointer - RINGS;
+    let pipe = Pipe::numbered(offset / PIPE_SPAN)?;
+    pipe.spot(offset % PIPE_SPAN)
 }
 
 /// The doorbell value of an endpoint's target and a stream (5.6): target 7:0, stream 31:16.

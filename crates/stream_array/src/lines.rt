@@ -1,8 +1,8 @@
 // All rings of a controller with one interface, as host and controller are lent them.
 
-ghost use Rattle.std.specs.Prelude.{◌≡◌, ◌≢◌, ℕ, ◌+◌, ◌-◌, ◌<◌, ◌≤◌, ◌++◌, [], ◌∷◌, ◌↔◌, All, length, slice_get, IsTrue, IsOk, IsSome, IfOk, OnOk, OnErr, OnSome, IfNone};
+ghost use Rattle.std.specs.Prelude.{◌≡◌, ◌≢◌, ℕ, ◌+◌, ◌-◌, ◌<◌, ◌≤◌, ◌++◌, [], ◌∷◌, ◌↔◌, ◌⊎◌, Some, IfSome, All, length, slice_get, IsTrue, IsOk, IsSome, IfOk, OnOk, OnErr, OnSome, IfNone};
 ghost use Rattle.xhci_trb.specs.Text.{HasText};
-ghost use Rattle.cycle_ring.specs.Ring.{IsRing, IsTd, place_of, pointer_of, cycle_of, front_of, reclaimed, item_image, link_image, IsConsumed, IsPending, IsInUse};
+ghost use Rattle.cycle_ring.specs.Ring.{IsRing, IsTd, place_of, pointer_of, cycle_of, front_of, reclaimed, item_image, link_image, IsConsumed, IsEnqueuePlace, IsPending, IsInUse, consumed_at, oldest_of};
 ghost use Rattle.event_ring.specs.Events.{IsWritable, taken, event_image, place_of as event_place_of, IsInUse as IsEventInUse, IsRing as IsEventRing};
 ghost use Rattle.stream_array.specs.Map.{HasRing, HasStreams, places_of, ring_base};
 ghost use Rattle.stream_array.specs.Rings.{ring_of, with_ring, with_engine, with_events, ShowsRings, IsLines, IsOpeningLines};
@@ -155,6 +155,57 @@ impl Lines {
         }
     }
 
+    /// The consumed TRB of a ring at an address, while it isn't reclaimed.
+    pub fn consumed(&self, pipe: Pipe, stream: u16, pointer: u64) -> Option<Trb>
+        requires { HasRing pipe stream }
+        ensures consumed { result ≡ consumed_at (places_of pipe) (ring_of self.now pipe stream) pointer }
+        ensures known { IfSome result (λ trb. (k : ℕ) × IsConsumed (places_of pipe) (ring_of self.now pipe stream) k pointer × (slice_get (ring_of self.now pipe stream).put k ≡ Some trb)) }
+    {
+        match pipe {
+            Pipe::Command => self.command.consumed(pointer),
+            Pipe::Status => self.status.ring(stream).consumed(pointer),
+            Pipe::DataIn => self.data_in.ring(stream).consumed(pointer),
+            Pipe::DataOut => self.data_out.ring(stream).consumed(pointer),
+        }
+    }
+
+    /// The first TRB of a ring that isn't reclaimed and its address, once it is consumed.
+    pub fn oldest(&self, pipe: Pipe, stream: u16) -> Option<(u64, Trb)>
+        requires { HasRing pipe stream }
+        ensures oldest { result ≡ oldest_of (places_of pipe) (ring_of self.now pipe stream) }
+        ensures known { IfSome result (λ at. IsConsumed (places_of pipe) (ring_of self.now pipe stream) 0 at.0) }
+    {
+        match pipe {
+            Pipe::Command => self.command.oldest(),
+            Pipe::Status => self.status.ring(stream).oldest(),
+            Pipe::DataIn => self.data_in.ring(stream).oldest(),
+            Pipe::DataOut => self.data_out.ring(stream).oldest(),
+        }
+    }
+
+    /// Moves a ring's consumer's end to a pending place, or to the enqueue place, where all that is pending
+    /// is dropped (4.6.10). Refused where the address is neither's, or the cycle state isn't the place's.
+    pub fn move_dequeue(
+        &mut self,
+        pipe: Pipe,
+        stream: u16,
+        pointer: u64,
+        cycle: bool,
+    ) -> Result<(), NotAPlace>
+        requires { HasRing pipe stream }
+        ensures accepted { let ring = ring_of self.old pipe stream in IsOk result ↔ (IsEnqueuePlace (places_of pipe) ring pointer cycle ⊎ ((k : ℕ) × IsPending (places_of pipe) ring k pointer cycle)) }
+        ensures enqueue { let ring = ring_of self.old pipe stream in IsEnqueuePlace (places_of pipe) ring pointer cycle → IsOk result × (self.new ≡ with_ring self.old pipe stream (record ring { got = length ring.put })) }
+        ensures set { (k : ℕ) → IsPending (places_of pipe) (ring_of self.old pipe stream) k pointer cycle → let ring = ring_of self.old pipe stream in self.new ≡ with_ring self.old pipe stream (record ring { got = k }) }
+        ensures refused { OnErr result (self.new ≡ self.old) }
+    {
+        match pipe {
+            Pipe::Command => self.command.move_dequeue(pointer, cycle),
+            Pipe::Status => self.status.move_dequeue(stream, pointer, cycle),
+            Pipe::DataIn => self.data_in.move_dequeue(stream, pointer, cycle),
+            Pipe::DataOut => self.data_out.move_dequeue(stream, pointer, cycle),
+        }
+    }
+
     /// Frees the TRBs of a ring up to and with the one at this address. Asks a consumed TRB that isn't
     /// reclaimed.
     pub fn reclaim(&mut self, pipe: Pipe, stream: u16, pointer: u64)
@@ -253,6 +304,14 @@ impl Lines {
         ensures refused { OnErr result (self.new ≡ self.old) }
     {
         self.engine.set_dequeue(pointer, cycle)
+    }
+
+    /// The consumed command at an address, while it isn't reclaimed.
+    pub fn consumed_engine(&self, pointer: u64) -> Option<Trb>
+        ensures consumed { result ≡ consumed_at ENGINE_RING_PLACES self.now.engine pointer }
+        ensures known { IfSome result (λ trb. (k : ℕ) × IsConsumed ENGINE_RING_PLACES self.now.engine k pointer × (slice_get self.now.engine.put k ≡ Some trb)) }
+    {
+        self.engine.consumed(pointer)
     }
 
     /// Frees the commands up to and with the one at this address. Asks a consumed one that isn't reclaimed.

@@ -2,7 +2,7 @@
 
 ghost use Rattle.std.specs.Prelude.{◌≡◌, ℕ, ◌+◌, ◌-◌, ◌*◌, ◌<◌, ◌≤◌, ◌++◌, ◌↔◌, ◌⊎◌, All, length, slice_set, IsOk, IsSome, IfOk, OnOk, OnErr};
 ghost use Rattle.xhci_trb.specs.Text.{HasText};
-ghost use Rattle.cycle_ring.specs.Ring.{IsRing, IsTd, opening, pointer_of, cycle_of, front_of, reclaimed, item_image, link_image, place_of, IsConsumed, IsPending, IsInUse};
+ghost use Rattle.cycle_ring.specs.Ring.{IsRing, IsTd, opening, pointer_of, cycle_of, front_of, reclaimed, item_image, link_image, place_of, IsConsumed, IsEnqueuePlace, IsPending, IsInUse};
 ghost use Rattle.stream_array.specs.Map.{HasStreams, ring_base};
 ghost use Rattle.stream_array.specs.Rings.{stream_ring, IsShown};
 
@@ -106,6 +106,26 @@ impl Streams {
         ring.set_dequeue(pointer, cycle)?;
         let (place, state) = ring.dequeue();
         self.contexts.set(stream, place, state).unwrap();
+        Ok(())
+    }
+
+    pub(crate) fn move_dequeue(
+        &mut self,
+        stream: u16,
+        pointer: u64,
+        cycle: bool,
+    ) -> Result<(), NotAPlace>
+        requires some { 0 < stream }
+        requires last { stream ≤ STREAMS }
+        ensures accepted { let ring = stream_ring self.old stream in IsOk result ↔ (IsEnqueuePlace STREAM_RING_PLACES ring pointer cycle ⊎ ((k : ℕ) × IsPending STREAM_RING_PLACES ring k pointer cycle)) }
+        ensures enqueue { let ring = stream_ring self.old stream in IsEnqueuePlace STREAM_RING_PLACES ring pointer cycle → self.new ≡ slice_set self.old (stream - 1) (record ring { got = length ring.put }) }
+        ensures set { (k : ℕ) → IsPending STREAM_RING_PLACES (stream_ring self.old stream) k pointer cycle → let ring = stream_ring self.old stream in self.new ≡ slice_set self.old (stream - 1) (record ring { got = k }) }
+        ensures refused { OnErr result (self.new ≡ self.old) }
+    {
+        let ring = &mut self.rings[stream as usize - 1];
+        ring.move_dequeue(pointer, cycle)?;
+        let (end, state) = ring.dequeue();
+        self.contexts.set(stream, end, state).unwrap();
         Ok(())
     }
 

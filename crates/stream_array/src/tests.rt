@@ -285,6 +285,49 @@ fn set_dequeue_on_stream_18_of_data_in(rt: HostRuntime) -> Result<(), Fail> {
     Ok(())
 }
 
+// The same, where the enqueue place is allowed too.
+fn move_dequeue(rt: &impl Abort, lines: &mut Lines, pointer: u64, cycle: bool, is_moved: bool) {
+    let moved = lines.move_dequeue(Pipe::DataIn, 18, pointer, cycle);
+    assert_eq!(rt; moved, if is_moved { Ok(()) } else { Err(NotAPlace) });
+}
+
+fn is_consumed(rt: &impl Abort, lines: &Lines, pointer: u64, trb: Option<Trb>) {
+    assert_eq!(rt; lines.consumed(Pipe::DataIn, 18, pointer), trb);
+}
+
+#[test]
+fn move_dequeue_on_stream_18_of_data_in(rt: HostRuntime) -> Result<(), Fail> {
+    let mut lines = Lines::new(rt.alloc())?;
+    put(
+        &rt,
+        &mut lines,
+        Pipe::DataIn,
+        18,
+        0x4301_2000,
+        &[FIRST, LAST],
+    );
+    // another stream's enqueue place, the Link's, the enqueue place and a pending place with another cycle state
+    move_dequeue(&rt, &mut lines, 0x4301_3000, true, false);
+    move_dequeue(&rt, &mut lines, 0x4301_2130, true, false);
+    move_dequeue(&rt, &mut lines, 0x4301_2020, false, false);
+    move_dequeue(&rt, &mut lines, 0x4301_2010, false, false);
+    is_consumed(&rt, &lines, 0x4301_2000, None);
+    shows(&rt, lines.array(Pipe::DataIn), 18, 0x4301_2000);
+    move_dequeue(&rt, &mut lines, 0x4301_2010, true, true);
+    shows(&rt, lines.array(Pipe::DataIn), 18, 0x4301_2010);
+    is_consumed(&rt, &lines, 0x4301_2000, Some(FIRST));
+    is_consumed(&rt, &lines, 0x4301_2010, None);
+    // now a consumed place
+    move_dequeue(&rt, &mut lines, 0x4301_2000, true, false);
+    move_dequeue(&rt, &mut lines, 0x4301_2020, true, true);
+    shows(&rt, lines.array(Pipe::DataIn), 18, 0x4301_2020);
+    shows(&rt, lines.array(Pipe::DataIn), 17, 0x4301_1000);
+    is_consumed(&rt, &lines, 0x4301_2010, Some(LAST));
+    assert_eq!(rt; lines.front(Pipe::DataIn, 18), None);
+    assert_eq!(rt; lines.oldest(Pipe::DataIn, 18), Some((0x4301_2000, FIRST)));
+    Ok(())
+}
+
 // Stop Endpoint on the command ring.
 const STOP: Trb = Trb::StopEndpoint {
     endpoint: 5,
@@ -312,8 +355,11 @@ fn set_dequeue_of_the_engine(rt: &impl Abort, lines: &mut Lines) {
 fn command_done(rt: &impl Abort, lines: &mut Lines) {
     match lines.front_engine() {
         Some((pointer, _)) => {
+            assert_eq!(rt; lines.consumed_engine(pointer), None);
             lines.advance_engine();
+            assert_eq!(rt; lines.consumed_engine(pointer), Some(STOP));
             lines.reclaim_engine(pointer);
+            assert_eq!(rt; lines.consumed_engine(pointer), None);
         }
         None => assert!(rt; false),
     }

@@ -1,0 +1,123 @@
+-- The address map and its inverse.
+use Rattle.std.proofs.Common.{◌≡◌, ℕ, ◌+◌, ◌-◌, ◌*◌, ◌/◌, ◌%◌, ◌<◌, ◌≤◌, ◌==◌, ◌&&◌, true, Option, Some, None, nat_lt, nat_le, option_and_then, refl, arith, inl, inr}
+use Rattle.std.proofs.lemmas.Bool.{lt-ltb, le-ltb, le-leb, ltb-true, ltb-false, leb-true, eqb-true, and_parts, cases_Bool}
+use Rattle.stream_array.specs.declared.Pipe.{Pipe}
+use Rattle.stream_array.specs.declared.Pipe.TheVariants.{Command, Status, DataIn, DataOut}
+use Rattle.stream_array.specs.Map.{HasRing, IsPlace, has_ring, number_of, pipe_numbered, place_address, places_of, spot_in, spot_at, PlacesAreFound, FoundAreOfPlaces}
+
+-- FROM A PLACE TO ITS ADDRESS AND BACK
+
+pipe_numbered-number_of : (pipe : Pipe) → pipe_numbered (number_of pipe) ≡ Some pipe
+pipe_numbered-number_of Command = refl
+pipe_numbered-number_of Status = refl
+pipe_numbered-number_of DataIn = refl
+pipe_numbered-number_of DataOut = refl
+
+-- the bounds of a place
+record InSpan (pipe : Pipe) (stream place : ℕ) : Type 0 where
+  test : has_ring pipe stream ≡ true
+  streams : stream ≤ 248
+  places : place < 256
+
+in_span : (pipe : Pipe) (stream place : ℕ) → IsPlace pipe stream place → InSpan pipe stream place
+in_span Command stream place h = record { test = rw h.0 refl; streams = omega arith; places = h.1 }
+in_span Status stream place h = record { test = rw (lt-ltb 0 stream h.0.0, le-leb stream 248 h.0.1) refl; streams = h.0.1; places = omega arith }
+in_span DataIn stream place h = record { test = rw (lt-ltb 0 stream h.0.0, le-leb stream 248 h.0.1) refl; streams = h.0.1; places = omega arith }
+in_span DataOut stream place h = record { test = rw (lt-ltb 0 stream h.0.0, le-leb stream 248 h.0.1) refl; streams = h.0.1; places = omega arith }
+
+spot_in-place : (pipe : Pipe) (stream place inside : ℕ) → IsPlace pipe stream place → inside ≡ 0x1000 * stream + 16 * place
+    → spot_in pipe inside ≡ Some (pipe, stream, place)
+spot_in-place pipe stream place inside h e =
+    let span = in_span pipe stream place h in
+    let low = span.places in
+    let of_stream : inside / 0x1000 ≡ stream = omega arith in
+    let of_place : inside % 0x1000 / 16 ≡ place = omega arith in
+    let whole : inside % 16 ≡ 0 = omega arith in
+    rw (of_stream, of_place, whole, span.test, lt-ltb place (places_of pipe) h.1) refl
+
+number-bounds : (pipe : Pipe) → (1 ≤ number_of pipe) × (number_of pipe ≤ 4)
+number-bounds Command = (omega arith, omega arith)
+number-bounds Status = (omega arith, omega arith)
+number-bounds DataIn = (omega arith, omega arith)
+number-bounds DataOut = (omega arith, omega arith)
+
+pub spot_at-address : (pointer : ℕ) (pipe : Pipe) (stream place : ℕ) → IsPlace pipe stream place → pointer ≡ place_address pipe stream place
+    → spot_at pointer ≡ Some (pipe, stream, place)
+spot_at-address pointer pipe stream place h e =
+    let span = in_span pipe stream place h in
+    let streams = span.streams in
+    let low = span.places in
+    let numbers = number-bounds pipe in
+    let number : (pointer - 0x40000000) / 0x1000000 ≡ number_of pipe = omega arith in
+    let inside : (pointer - 0x40000000) % 0x1000000 ≡ 0x1000 * stream + 16 * place = omega arith in
+    rw (le-ltb pointer 0x40000000 (omega arith), number, pipe_numbered-number_of pipe)
+    (spot_in-place pipe stream place ((pointer - 0x40000000) % 0x1000000) h inside)
+
+pub spot_at-place_address : PlacesAreFound
+spot_at-place_address pipe stream place h = spot_at-address (place_address pipe stream place) pipe stream place h refl
+
+-- FROM AN ADDRESS TO A PLACE
+
+has_ring-true : (pipe : Pipe) (stream : ℕ) → has_ring pipe stream ≡ true → HasRing pipe stream
+has_ring-true Command stream e = eqb-true stream 0 e
+has_ring-true Status stream e = let parts = and_parts (nat_lt 0 stream) (nat_le stream 248) e in (ltb-true 0 stream parts.0, leb-true stream 248 parts.1)
+has_ring-true DataIn stream e = let parts = and_parts (nat_lt 0 stream) (nat_le stream 248) e in (ltb-true 0 stream parts.0, leb-true stream 248 parts.1)
+has_ring-true DataOut stream e = let parts = and_parts (nat_lt 0 stream) (nat_le stream 248) e in (ltb-true 0 stream parts.0, leb-true stream 248 parts.1)
+
+-- what is found in a pipe's span
+spot_in-is : (pipe : Pipe) (inside : ℕ) (at : Pipe × ℕ × ℕ) → spot_in pipe inside ≡ Some at
+    → (at.0 ≡ pipe) × IsPlace pipe at.1 at.2 × (inside ≡ 0x1000 * at.1 + 16 * at.2)
+spot_in-is pipe inside at found =
+    let stream = inside / 0x1000 in
+    let place = inside % 0x1000 / 16 in
+    let rest = nat_lt place (places_of pipe) && (inside % 16 == 0) in
+    elim (cases_Bool (has_ring pipe stream && rest)) as (λ _. (at.0 ≡ pipe) × IsPlace pipe at.1 at.2 × (inside ≡ 0x1000 * at.1 + 16 * at.2)) [
+      | inl passes ↦
+          let some : Some (pipe, stream, place) ≡ Some at = rw passes at found in
+          let same : (pipe, stream, place) ≡ at = cc in
+          let outer = and_parts (has_ring pipe stream) rest passes in
+          let inner = and_parts (nat_lt place (places_of pipe)) (inside % 16 == 0) outer.1 in
+          let whole = eqb-true (inside % 16) 0 inner.1 in
+          rw (← same) (refl, (has_ring-true pipe stream outer.0, ltb-true place (places_of pipe) inner.0), omega arith)
+      | inr fails ↦ let none : None ≡ Some at = rw fails at found in absurd (cc)
+    ]
+
+pipe_numbered-is : (number : ℕ) (pipe : Pipe) → pipe_numbered number ≡ Some pipe → number ≡ number_of pipe
+pipe_numbered-is number pipe found =
+    elim (cases_Bool (number == 1)) as (λ _. number ≡ number_of pipe) [
+      | inl one ↦ let some : Some Command ≡ Some pipe = rw one at found in let same : Command ≡ pipe = cc in rw (← same) (eqb-true number 1 one)
+      | inr not_one ↦
+          let found_2 = rw not_one at found in
+          elim (cases_Bool (number == 2)) as (λ _. number ≡ number_of pipe) [
+            | inl two ↦ let some : Some Status ≡ Some pipe = rw two at found_2 in let same : Status ≡ pipe = cc in rw (← same) (eqb-true number 2 two)
+            | inr not_two ↦
+                let found_3 = rw not_two at found_2 in
+                elim (cases_Bool (number == 3)) as (λ _. number ≡ number_of pipe) [
+                  | inl three ↦ let some : Some DataIn ≡ Some pipe = rw three at found_3 in let same : DataIn ≡ pipe = cc in rw (← same) (eqb-true number 3 three)
+                  | inr not_three ↦
+                      let found_4 = rw not_three at found_3 in
+                      elim (cases_Bool (number == 4)) as (λ _. number ≡ number_of pipe) [
+                        | inl four ↦ let some : Some DataOut ≡ Some pipe = rw four at found_4 in let same : DataOut ≡ pipe = cc in rw (← same) (eqb-true number 4 four)
+                        | inr not_four ↦ let none : None ≡ Some pipe = rw not_four at found_4 in absurd (cc)
+                      ]
+                ]
+          ]
+    ]
+
+spot_of : (pointer : ℕ) (pipe : Option Pipe) (at : Pipe × ℕ × ℕ) → pipe_numbered ((pointer - 0x40000000) / 0x1000000) ≡ pipe → 0x40000000 ≤ pointer
+    → option_and_then (λ pipe. spot_in pipe ((pointer - 0x40000000) % 0x1000000)) pipe ≡ Some at
+    → IsPlace at.0 at.1 at.2 × (pointer ≡ place_address at.0 at.1 at.2)
+spot_of pointer None at numbered reach found = absurd (cc)
+spot_of pointer (Some pipe) at numbered reach found =
+    let is = spot_in-is pipe ((pointer - 0x40000000) % 0x1000000) at found in
+    let number = pipe_numbered-is ((pointer - 0x40000000) / 0x1000000) pipe numbered in
+    rw is.0 (is.1, omega (arith, is.2))
+
+pub spot_at-is : FoundAreOfPlaces
+spot_at-is pointer at found =
+    elim (cases_Bool (nat_lt pointer 0x40000000)) as (λ _. IsPlace at.0 at.1 at.2 × (pointer ≡ place_address at.0 at.1 at.2)) [
+      | inl below ↦ let none : None ≡ Some at = rw below at found in absurd (cc)
+      | inr above ↦ spot_of pointer (pipe_numbered ((pointer - 0x40000000) / 0x1000000)) at refl (ltb-false pointer 0x40000000 above) (rw above at found)
+    ]
+
+pub ruleset spots = (spot_at-place_address, spot_at-is, spot_at-address)

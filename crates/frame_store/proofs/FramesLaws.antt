@@ -117,3 +117,6 @@ written-named frames address len [] place h named size =
     with_bytes-none frames (start_of address len) ∙ sym (with_bytes-none frames place)
 written-named frames address len (x ∷ new) place h named size =
     ap (λ (p : Place). with_bytes frames p (x ∷ new)) (start_of-named frames address len place h named (omega (arith, size)))
+
+-- what a place that an address names tells
+pub ruleset names = (written-named)

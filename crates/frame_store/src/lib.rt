@@ -20,7 +20,7 @@
 //! `specs/Places.antt`. The crate stands on std and `thiserror` alone.
 #![tactic(auto)]
 
-ghost use Rattle.std.specs.Prelude.{◌≡◌, ◌≢◌, ℕ, ◌+◌, ◌-◌, ◌*◌, ◌<◌, ◌≤◌, ◌↔◌, length, take, drop, vec_len, Option, None, Some, IsOk, IsErr, IsNone, IsSome, IfOk, IfErr, OnOk, OnErr};
+ghost use Rattle.std.specs.Prelude.{◌≡◌, ◌≢◌, ℕ, ◌+◌, ◌-◌, ◌*◌, ◌<◌, ◌≤◌, ◌↔◌, List, length, take, drop, vec_len, Option, None, Some, IsOk, IsErr, IsNone, IsSome, IfOk, IfErr, OnOk, OnErr};
 ghost use Rattle.std.specs.Borrow.{sem};
 
 mod buffers;
@@ -232,11 +232,14 @@ impl Frames {
     }
 
     /// The `len` bytes from an address on, for which `check` is Ok, to be written.
+    #[tactic(auto, using(crate::proofs::FramesLaws::names))]
     pub fn window(&mut self, address: u64, len: usize) -> &mut [u8]
         requires { IsNamed self.old address len }
         ensures* writes_back { sem 𝓛 (LendsWindow self.entry address len result) }
         ensures value { result.now ≡ bytes_at self.old address len }
         ensures len { length result.now ≡ len }
+        ensures named { (place : Place) → Names self.old address len place → (bytes : List ℕ) → length bytes ≡ len →
+            written self.old address len bytes ≡ with_bytes self.old place bytes }
         ensures whole { IsWhole self.old }
     {
         let place = Place::start(address, len);

@@ -14,7 +14,8 @@ use Rattle.solo_model.specs.declared.TaggedTask.{TaggedTask}
 use Rattle.solo_model.specs.declared.Label.{Label}
 use Rattle.solo_model.specs.declared.Label.TheVariants.{Submit, Carry, Move, Send, Settle}
 use Rattle.scsi_cmd.specs.Held.{held_at}
-use Rattle.solo_model.specs.TaggedTask.{first_submit_fault, queued, carried, moved, sent, reply_of}
+use Rattle.solo_model.specs.TaggedTask.{queued, carried, moved, sent, reply_of}
+use Rattle.scsi_cmd.specs.Submission.{first_submit_fault}
 use Rattle.solo_model.specs.Solo.{SoloState, solo_step, solo_run, silently, submitted, is_command_index, with_task, without_task, with_reply, opening as solo_opening}
 use Rattle.bus_core.specs.declared.Step.{Step}
 use Rattle.bus_core.specs.Replay.{replay}

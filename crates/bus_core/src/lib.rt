@@ -50,11 +50,17 @@ use uas_target::Target;
 /// The most clients of a bus.
 pub const MAX_CLIENTS: usize = 31;
 
+const _: () = prove!(MAX_CLIENTS == 31);
+
 /// Streams of a pipe, the reserved stream 0 among them.
 pub(crate) const STREAMS: usize = 256;
 
+const _: () = prove!(STREAMS == 256);
+
 /// The most doorbells that one step rings.
 pub const MOST_DOORBELLS: usize = 3;
+
+const _: () = prove!(MOST_DOORBELLS == 3);
 
 /// A client and a slot, the index of a tag less 1.
 #[derive(Clone, Copy, Debug, PartialEq, Eq)]

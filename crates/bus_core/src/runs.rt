@@ -94,6 +94,21 @@ impl Bus {
 }
 
 impl Trace {
+    /// The trace of these outcomes.
+    pub fn from_vec(outcomes: Vec<Outcome>) -> Trace
+        ensures { result ≡ outcomes.items }
+    {
+        Trace { outcomes }
+    }
+
+    /// The outcomes themselves, in order, so that each reply's buffer can be taken out.
+    pub fn into_vec(self) -> Vec<Outcome>
+        ensures { result.items ≡ self }
+    {
+        let Trace { outcomes } = self;
+        outcomes
+    }
+
     /// The outcomes, in order.
     pub fn outcomes(&self) -> &[Outcome]
         ensures { result.now ≡ self.now }

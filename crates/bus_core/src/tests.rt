@@ -248,7 +248,7 @@ fn world(rt: &impl Abort, alloc: Global, clients: usize, own: usize) -> Result<O
     }
     let trace = bus.run(alloc, steps.into_vec())?;
     let mut replies = Vec::new(alloc);
-    for outcome in trace.outcomes {
+    for outcome in trace.into_vec() {
         assert!(rt; outcome.acted);
         if let (Some(0), Some(reply)) = (outcome.owner, outcome.reply) {
             replies.push(reply)?;
@@ -310,5 +310,90 @@ fn two_worlds(rt: HostRuntime) -> Result<(), Fail> {
         assert!(rt; written.iter().all(|byte| *byte == 0xAA));
         assert!(rt; rest.iter().all(|byte| *byte == 0));
     }
+    Ok(())
+}
+
+/// READ of 129 blocks with a buffer of 66,048 bytes is too long, and READ of one block with 511 bytes has the wrong length:
+/// the buffer comes back, nothing is due, and the tag and the tickets are as free as they were.
+#[test]
+fn bad_lengths(rt: HostRuntime) -> Result<(), Fail> {
+    for (count, length, fault) in [
+        (129, 66_048, SubmitFault::TooLong),
+        (1, 511, SubmitFault::BadLength),
+    ] {
+        let mut bus = new_bus(&rt, rt.alloc(), 2)?;
+        let read = Op::Read {
+            lba: 0,
+            count,
+            fua: false,
+        };
+        let bytes = vec![in rt.alloc(); 0xA5; length]?;
+        let submitted = bus.step(Step::Submit {
+            client: 1,
+            tag: 11,
+            ticket: 7,
+            command: Command {
+                op: read,
+                buffer: Buffer::from_vec(bytes),
+            },
+        });
+        assert!(rt; submitted.acted);
+        assert_eq!(rt; submitted.mark, Mark::Quiet);
+        let refusal = submitted.refused.ok_or("not refused")?;
+        assert_eq!(rt; refusal.fault, fault);
+        assert_eq!(rt; refusal.command.op, read);
+        let returned = refusal.command.buffer.into_vec();
+        assert_eq!(rt; returned.len(), length);
+        assert!(rt; returned.iter().all(|byte| *byte == 0xA5));
+        assert_eq!(rt; bus.drain(100), (0, true));
+        let accepted = bus.step(Step::Submit {
+            client: 1,
+            tag: 11,
+            ticket: 0,
+            command: command(rt.alloc(), Op::TestUnitReady, 0)?,
+        });
+        assert_eq!(rt; accepted.mark, Mark::Submit(3));
+    }
+    Ok(())
+}
+
+/// The buffer of a READ taken out of a run: the block's bytes, all 0 on a new unit, in place of those that were handed in.
+#[test]
+fn buffer_out_of_a_run(rt: HostRuntime) -> Result<(), Fail> {
+    let mut bus = new_bus(&rt, rt.alloc(), 1)?;
+    let read = Op::Read {
+        lba: 99,
+        count: 1,
+        fua: false,
+    };
+    let command = command(rt.alloc(), read, 0xFF)?;
+    let mut steps = Steps::new(rt.alloc());
+    steps.push(Step::Submit {
+        client: 0,
+        tag: 1,
+        ticket: 0,
+        command,
+    })?;
+    steps.push(Step::CommandPipe)?;
+    steps.push(Step::Data(1))?;
+    steps.push(Step::Status(1))?;
+    for _ in 0..3 {
+        steps.push(Step::Event)?;
+    }
+    steps.push(Step::Take(0))?;
+    let mut outcomes = bus.run(rt.alloc(), steps.into_vec())?.into_vec();
+    let taken = outcomes.pop().ok_or("no outcome")?;
+    let reply = taken.reply.ok_or("no reply")?;
+    let Reply::Status { status, buffer, .. } = reply else {
+        return Err("no status".into());
+    };
+    assert_eq!(rt; status, GOOD);
+    let bytes = buffer.into_vec();
+    assert_eq!(rt; bytes.len(), 512);
+    assert!(rt; bytes.iter().all(|byte| *byte == 0));
+    let rest = Trace::from_vec(outcomes);
+    let rest = rest.outcomes();
+    assert_eq!(rt; rest.len(), 7);
+    assert!(rt; rest.iter().all(|outcome| outcome.acted));
     Ok(())
 }

@@ -30,3 +30,6 @@ pub mod HostSteps
 pub mod HostEvents
 pub mod Done
 pub mod Doing
+pub mod MatchedPlaces
+pub mod MatchedEntries
+pub mod MatchedSteps

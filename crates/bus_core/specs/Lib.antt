@@ -15,3 +15,4 @@ pub mod FirstBlocks
 pub mod Refusals
 pub mod StepIsolation
 pub mod Once
+pub mod Matched

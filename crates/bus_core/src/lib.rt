@@ -24,6 +24,7 @@ mod laws;
 mod machine;
 mod outcomes;
 mod pipes;
+mod queue_laws;
 mod runs;
 mod tds;
 mod telling;
@@ -41,6 +42,7 @@ pub use laws::{
     acts_where_due, brings_next_len, drains_to_quiet, idle_changes_nothing, isolated,
     keeps_clients, worlds_agree,
 };
+pub use queue_laws::{matches_at_start, steps_keep_matches};
 use scsi_cmd::{Buffer, Command, Reply, Request, SubmitFault, TAGS};
 use std::collections::VecDeque;
 use std::marker::Model;

@@ -1,0 +1,635 @@
+-- What the device's and the host's steps make of one entry, counted exactly.
+use Rattle.std.proofs.Common.{◌≡◌, ℕ, suc, ◌+◌, ◌*◌, ◌/◌, ◌<◌, ◌≤◌, Bool, true, false, ◌&&◌, cond, List, [], ◌∷◌, Option, Some, None, refl, arith, ap, sym, subst, ◌∙◌}
+use Rattle.std.specs.Prelude.{◌==◌, nat_lt, option_to_list, is_some, not, length}
+use Rattle.std.proofs.lemmas.Bool.{ltb-true, ltb-false, eqb-true, eqb-false, ne_eqb, false≢true}
+use Rattle.std.proofs.lemmas.Option.{none-some}
+use Rattle.block_unit.specs.BlockMaps.{BlockMaps, with_attention}
+use Rattle.scsi_cmd.specs.declared.Command.{Command}
+use Rattle.scsi_cmd.specs.declared.SubmitFault.{SubmitFault}
+use Rattle.scsi_cmd.specs.declared.SubmitFault.TheVariants.{InUse, BadLength, TooLong, OutOfTurn}
+use Rattle.scsi_cmd.specs.declared.Op.{Op}
+use Rattle.scsi_cmd.specs.declared.Op.TheVariants.{TestUnitReady, Inquiry, ReadCapacity, Read, Write, Sync}
+use Rattle.scsi_cmd.specs.declared.Sense.{Sense}
+use Rattle.scsi_cmd.specs.Sense.{reset_occurred, unrecovered_read_error, write_error}
+use Rattle.scsi_cmd.specs.Meaning.{op_fault, checked}
+use Rattle.scsi_cmd.specs.Op.{moved_bytes}
+use Rattle.scsi_cmd.specs.declared.Request.{Request}
+use Rattle.scsi_cmd.specs.declared.Request.TheVariants.{Execute}
+use Rattle.solo_model.specs.declared.Answer.{Answer}
+use Rattle.solo_model.specs.declared.Answer.TheVariants.{Good, Check}
+use Rattle.solo_model.specs.declared.Phase.{Phase}
+use Rattle.solo_model.specs.declared.Phase.TheVariants.{Queued, Moving, Ended, Sent}
+use Rattle.scsi_cmd.specs.Submission.{is_too_long, first_submit_fault}
+use Rattle.solo_model.specs.declared.TaggedTask.{TaggedTask}
+use Rattle.solo_model.specs.TaggedTask.{begun, started, takes_attention, carried_request, moved_request, next_phase, phase_after, phase_after_chunk, meets_bad_chunk}
+use Rattle.solo_model.proofs.Kept.{checked-none, checked-some}
+use Rattle.bus_core.specs.declared.Place.{Place}
+use Rattle.bus_core.specs.declared.TdState.{TdState}
+use Rattle.bus_core.specs.declared.TdState.TheVariants.{Pending, Seen, LeftOver, Retired}
+use Rattle.bus_core.specs.declared.Td.{Td}
+use Rattle.bus_core.specs.declared.Completion.{Completion}
+use Rattle.bus_core.specs.declared.Completion.TheVariants.{CommandDone, DataDone, StatusDone}
+use Rattle.bus_core.specs.Td.{Entry, pushed, is_pending, is_seen, is_over, is_data_over, has_trb, is_awaited, is_ready, data_trbs, with_trb_taken, with_event_seen, left_over_td, left_over_data, data_after_answer, data_after_status}
+use Rattle.bus_core.specs.Part.{data_td_after, took_trb, is_last_trb, event_place, seen_by, seen_data_td, data_td_for, new_entry}
+use Rattle.bus_core.specs.Shared.{has_data_trb}
+use Rattle.bus_core.specs.Soundness.{one_if, awaited_data}
+use Rattle.bus_core.specs.Matched.{same_place, times, command_events, data_events, status_events, waiting_command, awaited_command, awaited_status, awaited_data_of, request_bytes, IsCommandTd, IsStatusTd, IsMovingTd, IsWholeTd, IsShortTd, IsAnsweredTd, IsDataTd, IsMatchedEntry, awaits_data, awaits_event}
+use Rattle.bus_core.proofs.MatchedPlaces.{one_self, and-true}
+
+-- an entry that became another one: the messages popped and the events posted for its place
+pub record IsStepped (place : Place) (popped : List Place) (posted : List Completion) (old new : Entry) : Type 0 where
+  pub messages : waiting_command (Some old) ≡ times place popped + waiting_command (Some new)
+  pub carried : awaited_command (Some old) + command_events place posted ≡ awaited_command (Some new)
+  pub moved : awaited_data_of (Some old) + data_events place posted ≡ awaited_data_of (Some new)
+  pub sent : awaited_status (Some old) + status_events place posted ≡ awaited_status (Some new)
+  pub ready : is_ready new ≡ is_ready old
+  pub sound : IsMatchedEntry new
+
+-- CARRY
+
+-- a command TD whose TRB is in the ring is one of a queued command
+pub has_trb-queued : (phase : Phase) (td : Td) → IsCommandTd phase td → has_trb td 1 ≡ true → phase ≡ Queued
+has_trb-queued Queued td is has = refl
+has_trb-queued (Moving chunk) td is has = absurd (omega (arith, is, ltb-true td.consumed 1 (and-true _ (nat_lt td.consumed 1) has).1))
+has_trb-queued (Ended answer) td is has = absurd (omega (arith, is, ltb-true td.consumed 1 (and-true _ (nat_lt td.consumed 1) has).1))
+has_trb-queued (Sent answer) td is has = absurd (omega (arith, is, ltb-true td.consumed 1 (and-true _ (nat_lt td.consumed 1) has).1))
+
+-- a TD that lacks a TRB is short
+moving-short : (trbs chunk : ℕ) (td : Option Td) → IsMovingTd trbs chunk td → IsShortTd trbs td
+moving-short trbs chunk None is = tt
+moving-short trbs chunk (Some td) is = λ pends. omega (arith, is.1, is.2)
+
+-- a TD of no TRB isn't there
+moving-none : (bytes chunk : ℕ) (td : Option Td) → bytes ≡ 0 → IsMovingTd ((bytes + 4095) / 4096) chunk td → IsWholeTd ((bytes + 4095) / 4096) td
+moving-none bytes chunk None none is = tt
+moving-none bytes chunk (Some td) none is = absurd (omega (arith, none, is.2))
+
+-- where a command is received it ends, or is ready to move its data
+begun-cases : (P : Phase → Type 0) (unit : BlockMaps) (op : Op) → ((sense : Sense) → P (Ended (Check sense))) → (moved_bytes op ≡ 0 → P (Ended Good)) → P (Moving 0) →
+    P (begun unit (checked op unit.count)).1
+begun-cases P unit op check good moves =
+    elim (takes_attention (checked op unit.count) && unit.attention) as (λ b. P (cond {A = BlockMaps × Phase} b (with_attention unit false, Ended (Check reset_occurred)) (started unit (checked op unit.count))).1) [
+      | true ↦ check reset_occurred
+      | false ↦ elim (op_fault op unit.count) as (λ fault. op_fault op unit.count ≡ fault → P (started unit (checked op unit.count)).1) [
+        | None ↦ λ none. rw (checked-none op unit.count none) (elim (moved_bytes op == 0) as (λ b. (moved_bytes op == 0) ≡ b → P (cond b (Ended Good) (Moving 0))) [
+          | true ↦ λ is. good (eqb-true (moved_bytes op) 0 is)
+          | false ↦ λ is. moves
+        ] refl)
+        | Some sense ↦ λ some. rw (checked-some op unit.count sense some) (check sense)
+      ] refl
+    ]
+
+-- an entry whose command the device received
+abbrev pub carried_to : Entry → TaggedTask → Entry
+carried_to entry task = record entry { task = task; command_td = with_trb_taken entry.command_td }
+
+received : (unit : BlockMaps) (entry : Entry) (request : Request) → entry.task.request ≡ request → entry.command_td ≡ pushed → entry.status_td ≡ pushed →
+    IsMovingTd (data_trbs entry.task.request) 0 entry.data_td → IsMatchedEntry entry → IsMatchedEntry (carried_to entry (carried_request unit entry.task request).1)
+received unit entry (Execute op) is command status chunks sound =
+    let one : (with_trb_taken entry.command_td).consumed ≡ 1 = ap (λ (td : Td). td.consumed + 1) command in
+    let trbs : data_trbs entry.task.request ≡ (moved_bytes op + 4095) / 4096 = ap data_trbs is in
+    begun-cases (λ phase. IsMatchedEntry (carried_to entry (record entry.task { phase = phase }))) unit op
+    (λ sense. record { command = one; status = status; chunks = moving-short (data_trbs entry.task.request) 0 entry.data_td chunks; moves = sound.moves; small = sound.small })
+    (λ none. record {
+      command = one;
+      status = status;
+      chunks = subst (λ n. IsWholeTd n entry.data_td) (sym trbs) (moving-none (moved_bytes op) 0 entry.data_td none (subst (λ n. IsMovingTd n 0 entry.data_td) trbs chunks));
+      moves = sound.moves;
+      small = sound.small;
+    })
+    (record { command = one; status = status; chunks = chunks; moves = sound.moves; small = sound.small })
+
+carried_request-same : (unit : BlockMaps) (task : TaggedTask) (request : Request) → (carried_request unit task request).1.request ≡ task.request
+carried_request-same unit task (Execute op) = refl
+
+-- the device receives the command
+pub carry-stepped : (unit : BlockMaps) (place : Place) (entry : Entry) → entry.task.phase ≡ Queued → IsMatchedEntry entry →
+    IsStepped place (place ∷ []) (CommandDone place ∷ []) entry (carried_to entry (carried_request unit entry.task entry.task.request).1)
+carry-stepped unit place entry queued sound =
+    let command : entry.command_td ≡ pushed = subst (λ p. IsCommandTd p entry.command_td) queued sound.command in
+    let status : entry.status_td ≡ pushed = subst (λ p. IsStatusTd p entry.status_td) queued sound.status in
+    let chunks : IsMovingTd (data_trbs entry.task.request) 0 entry.data_td = subst (λ p. IsDataTd (data_trbs entry.task.request) p entry.data_td) queued sound.chunks in
+    let self = one_self place in
+    let waited : one_if (has_trb entry.command_td 1) ≡ 1 = ap (λ td. one_if (has_trb td 1)) command in
+    let waits : one_if (has_trb (with_trb_taken entry.command_td) 1) ≡ 0 = ap (λ td. one_if (has_trb (with_trb_taken td) 1)) command in
+    let before : one_if (is_awaited entry.command_td 1) ≡ 0 = ap (λ td. one_if (is_awaited td 1)) command in
+    let after : one_if (is_awaited (with_trb_taken entry.command_td) 1) ≡ 1 = ap (λ td. one_if (is_awaited (with_trb_taken td) 1)) command in
+    let asks : (carried_request unit entry.task entry.task.request).1.request ≡ entry.task.request = carried_request-same unit entry.task entry.task.request in
+    record {
+      messages = omega (arith, self, waited, waits);
+      carried = omega (arith, self, before, after);
+      moved = omega (arith, ap (λ r. awaited_data (data_trbs r) entry.data_td) asks);
+      sent = omega arith;
+      ready = refl;
+      sound = received unit entry entry.task.request refl command status chunks sound;
+    }
+
+-- MOVE
+
+next-cases : (P : Phase → Type 0) (bytes chunk : ℕ) → (4096 * (chunk + 1) < bytes → P (Moving (chunk + 1))) → (bytes ≤ 4096 * (chunk + 1) → P (Ended Good)) →
+    P (next_phase bytes chunk)
+next-cases P bytes chunk more last =
+    elim (nat_lt (4096 * (chunk + 1)) bytes) as (λ b. nat_lt (4096 * (chunk + 1)) bytes ≡ b → P (cond b (Moving (chunk + 1)) (Ended Good))) [
+      | true ↦ λ is. more (ltb-true _ _ is)
+      | false ↦ λ is. last (ltb-false _ _ is)
+    ] refl
+
+block-cases : (P : Phase → Type 0) (unit : BlockMaps) (lba count chunk : ℕ) (sense : Sense) → (4096 * (chunk + 1) < 512 * count → P (Moving (chunk + 1))) →
+    (512 * count ≤ 4096 * (chunk + 1) → P (Ended Good)) → ((sense : Sense) → P (Ended (Check sense))) → P (phase_after_chunk unit lba count chunk sense)
+block-cases P unit lba count chunk sense more last check =
+    elim (meets_bad_chunk unit lba count chunk) as (λ b. P (cond b (Ended (Check sense)) (next_phase (512 * count) chunk))) [
+      | true ↦ check sense
+      | false ↦ next-cases P (512 * count) chunk more last
+    ]
+
+-- after a chunk a command moves the next one where bytes are left, or ends
+chunk-cases : (P : Phase → Type 0) (unit : BlockMaps) (chunk : ℕ) (op : Op) → (4096 * (chunk + 1) < moved_bytes op → P (Moving (chunk + 1))) →
+    (moved_bytes op ≤ 4096 * (chunk + 1) → P (Ended Good)) → ((sense : Sense) → P (Ended (Check sense))) → P (phase_after unit chunk op)
+chunk-cases P unit chunk TestUnitReady more last check = last (omega arith)
+chunk-cases P unit chunk (Inquiry allocation) more last check = last (omega arith)
+chunk-cases P unit chunk ReadCapacity more last check = last (omega arith)
+chunk-cases P unit chunk (Read lba count fua) more last check = block-cases P unit lba count chunk unrecovered_read_error more last check
+chunk-cases P unit chunk (Write lba count fua) more last check = block-cases P unit lba count chunk write_error more last check
+chunk-cases P unit chunk (Sync lba count) more last check = last (omega arith)
+
+-- a data TD is there or isn't, whatever is taken of it
+td-there : (took : Bool) (td : Option Td) → is_some (data_td_after took td) ≡ is_some td
+td-there took None = refl
+td-there took (Some td) = refl
+
+td-over : (took : Bool) (td : Option Td) → is_data_over (data_td_after took td) ≡ is_data_over td
+td-over took None = refl
+td-over true (Some td) = refl
+td-over false (Some td) = refl
+
+-- a TD with a TRB left isn't awaited
+unawaited : (td : Td) (trbs : ℕ) → (td.consumed ≡ trbs → ⊥) → one_if (is_awaited td trbs) ≡ 0
+unawaited td trbs apart =
+    ap (λ b. one_if (is_pending td.state && b)) (ne_eqb td.consumed trbs apart)
+    ∙ elim (is_pending td.state) as (λ b. one_if (b && false) ≡ 0) [
+      | true ↦ refl
+      | false ↦ refl
+    ]
+
+-- the event is posted with the TRB after which it is awaited
+chunk-counted : (trbs chunk : ℕ) (took : Bool) (td : Option Td) → IsMovingTd trbs chunk td →
+    awaited_data trbs td + one_if (is_last_trb took trbs td) ≡ awaited_data trbs (data_td_after took td)
+chunk-counted trbs chunk took None is = omega arith
+chunk-counted trbs chunk false (Some td) is = omega arith
+chunk-counted trbs chunk true (Some td) is =
+    let before : one_if (is_awaited td trbs) ≡ 0 = unawaited td trbs (λ same. omega (arith, is.1, is.2)) in
+    let after : one_if (is_pending td.state && (td.consumed + 1 == trbs)) ≡ one_if (td.consumed + 1 == trbs) = ap (λ state. one_if (is_pending state && (td.consumed + 1 == trbs))) is.0 in
+    omega (arith, before, after)
+
+chunk-next : (trbs chunk : ℕ) (td : Option Td) → IsMovingTd trbs chunk td → chunk + 1 < trbs → IsMovingTd trbs (chunk + 1) (data_td_after true td)
+chunk-next trbs chunk None is more = tt
+chunk-next trbs chunk (Some td) is more = (is.0, ap (λ n. n + 1) is.1, more)
+
+chunk-whole : (trbs chunk : ℕ) (td : Option Td) → IsMovingTd trbs chunk td → trbs ≤ chunk + 1 → IsWholeTd trbs (data_td_after true td)
+chunk-whole trbs chunk None is last = tt
+chunk-whole trbs chunk (Some td) is last = omega (arith, is.1, is.2, last)
+
+chunk-short : (trbs chunk : ℕ) (td : Option Td) → IsMovingTd trbs chunk td → IsShortTd trbs (data_td_after false td)
+chunk-short trbs chunk None is = tt
+chunk-short trbs chunk (Some td) is = λ pends. omega (arith, is.1, is.2)
+
+-- the event of a data TD, where its last TRB was taken
+abbrev pub data_event_if : Bool → Place → List Completion
+data_event_if last place = option_to_list (cond {A = Option Completion} last (Some (DataDone place)) None)
+
+data_event-own : (last : Bool) (place : Place) → data_events place (data_event_if last place) ≡ one_if last
+data_event-own true place = omega (arith, one_self place)
+data_event-own false place = refl
+
+data_event-no_command : (last : Bool) (place other : Place) → command_events other (data_event_if last place) ≡ 0
+data_event-no_command true place other = refl
+data_event-no_command false place other = refl
+
+data_event-no_status : (last : Bool) (place other : Place) → status_events other (data_event_if last place) ≡ 0
+data_event-no_status true place other = refl
+data_event-no_status false place other = refl
+
+data_event-alone : (last : Bool) (place other : Place) → same_place place other ≡ false → data_events other (data_event_if last place) ≡ 0
+data_event-alone true place other apart = omega (arith, ap one_if apart)
+data_event-alone false place other apart = refl
+
+-- the events of a data TD name its place alone
+pub record IsDataEvent (place : Place) (posted : List Completion) : Type 0 where
+  pub carried : (other : Place) → same_place place other ≡ false → command_events other posted ≡ 0
+  pub moved : (other : Place) → same_place place other ≡ false → data_events other posted ≡ 0
+  pub sent : (other : Place) → same_place place other ≡ false → status_events other posted ≡ 0
+
+pub data_event-is : (last : Bool) (place : Place) → IsDataEvent place (data_event_if last place)
+data_event-is last place = record {
+  carried = λ other apart. data_event-no_command last place other;
+  moved = λ other apart. data_event-alone last place other apart;
+  sent = λ other apart. data_event-no_status last place other;
+}
+
+-- an entry whose task moved a chunk
+abbrev pub moved_to : Entry → TaggedTask → Entry
+moved_to entry task = record entry { task = task; data_td = data_td_after (took_trb task.phase) entry.data_td }
+
+abbrev pub moved_events : Entry → TaggedTask → Place → List Completion
+moved_events entry task place = data_event_if (is_last_trb (took_trb task.phase) (data_trbs entry.task.request) entry.data_td) place
+
+-- a step that changes the phase and takes what it takes of the data TD
+chunk-stepped : (place : Place) (entry : Entry) (chunk : ℕ) (buffer : List ℕ) (phase : Phase) → IsMovingTd (data_trbs entry.task.request) chunk entry.data_td →
+    IsMatchedEntry (moved_to entry (record entry.task { buffer = buffer; phase = phase })) →
+    IsStepped place [] (moved_events entry (record entry.task { buffer = buffer; phase = phase }) place) entry (moved_to entry (record entry.task { buffer = buffer; phase = phase }))
+chunk-stepped place entry chunk buffer phase chunks sound =
+    let took : Bool = took_trb phase in
+    let trbs : ℕ = data_trbs entry.task.request in
+    let last : Bool = is_last_trb took trbs entry.data_td in
+    record {
+      messages = omega arith;
+      carried = omega (arith, data_event-no_command last place place);
+      moved = omega (arith, data_event-own last place, chunk-counted trbs chunk took entry.data_td chunks);
+      sent = omega (arith, data_event-no_status last place place);
+      ready = ap (λ b. is_seen entry.command_td.state && (is_over entry.status_td.state && b)) (td-over took entry.data_td);
+      sound = sound;
+    }
+
+moved_cases : (unit : BlockMaps) (place : Place) (entry : Entry) (chunk : ℕ) (request : Request) → entry.task.request ≡ request → entry.task.phase ≡ Moving chunk → IsMatchedEntry entry →
+    IsStepped place [] (moved_events entry (moved_request unit entry.task chunk request).1 place) entry (moved_to entry (moved_request unit entry.task chunk request).1)
+moved_cases unit place entry chunk (Execute op) is moving sound =
+    let command : entry.command_td.consumed ≡ 1 = subst (λ p. IsCommandTd p entry.command_td) moving sound.command in
+    let status : entry.status_td ≡ pushed = subst (λ p. IsStatusTd p entry.status_td) moving sound.status in
+    let chunks : IsMovingTd (data_trbs entry.task.request) chunk entry.data_td = subst (λ p. IsDataTd (data_trbs entry.task.request) p entry.data_td) moving sound.chunks in
+    let trbs : data_trbs entry.task.request ≡ (moved_bytes op + 4095) / 4096 = ap data_trbs is in
+    let there = λ (took : Bool). td-there took entry.data_td ∙ sound.moves in
+    let buffer : List ℕ = (moved_request unit entry.task chunk (Execute op)).1.buffer in
+    chunk-cases (λ phase. IsStepped place [] (moved_events entry (record entry.task { buffer = buffer; phase = phase }) place) entry (moved_to entry (record entry.task { buffer = buffer; phase = phase }))) unit chunk op
+    (λ more. chunk-stepped place entry chunk buffer (Moving (chunk + 1)) chunks
+    (record { command = command; status = status; chunks = chunk-next (data_trbs entry.task.request) chunk entry.data_td chunks (omega (arith, trbs, more)); moves = there true; small = sound.small }))
+    (λ last. chunk-stepped place entry chunk buffer (Ended Good) chunks
+    (record { command = command; status = status; chunks = chunk-whole (data_trbs entry.task.request) chunk entry.data_td chunks (omega (arith, trbs, last)); moves = there true; small = sound.small }))
+    (λ sense. chunk-stepped place entry chunk buffer (Ended (Check sense)) chunks
+    (record { command = command; status = status; chunks = chunk-short (data_trbs entry.task.request) chunk entry.data_td chunks; moves = there false; small = sound.small }))
+
+-- the device moves a chunk
+pub move-stepped : (unit : BlockMaps) (place : Place) (entry : Entry) (chunk : ℕ) → entry.task.phase ≡ Moving chunk → IsMatchedEntry entry →
+    IsStepped place [] (moved_events entry (moved_request unit entry.task chunk entry.task.request).1 place) entry (moved_to entry (moved_request unit entry.task chunk entry.task.request).1)
+move-stepped unit place entry chunk moving sound = moved_cases unit place entry chunk entry.task.request refl moving sound
+
+-- SEND
+
+-- an entry whose answer was handed over
+abbrev pub sent_to : Entry → Answer → Entry
+sent_to entry answer = record entry { task = record entry.task { phase = Sent answer }; status_td = with_trb_taken entry.status_td }
+
+pub send-stepped : (place : Place) (entry : Entry) (answer : Answer) → entry.task.phase ≡ Ended answer → IsMatchedEntry entry →
+    IsStepped place [] (StatusDone place ∷ []) entry (sent_to entry answer)
+send-stepped place entry answer ended sound =
+    let command : entry.command_td.consumed ≡ 1 = subst (λ p. IsCommandTd p entry.command_td) ended sound.command in
+    let status : entry.status_td ≡ pushed = subst (λ p. IsStatusTd p entry.status_td) ended sound.status in
+    let before : one_if (is_awaited entry.status_td 1) ≡ 0 = ap (λ td. one_if (is_awaited td 1)) status in
+    let after : one_if (is_awaited (with_trb_taken entry.status_td) 1) ≡ 1 = ap (λ td. one_if (is_awaited (with_trb_taken td) 1)) status in
+    record {
+      messages = omega arith;
+      carried = omega arith;
+      moved = omega arith;
+      sent = omega (arith, one_self place, before, after);
+      ready = refl;
+      sound = record {
+        command = command;
+        status = ap (λ (td : Td). td.consumed + 1) status;
+        chunks = subst (λ p. IsDataTd (data_trbs entry.task.request) p entry.data_td) ended sound.chunks;
+        moves = sound.moves;
+        small = sound.small;
+      };
+    }
+
+-- EVENT
+
+-- an entry whose event the host has seen
+pub record IsSeenAs (event : Completion) (old new : Entry) : Type 0 where
+  pub seen : seen_by event old ≡ Some new
+  pub messages : waiting_command (Some old) ≡ waiting_command (Some new)
+  pub carried : awaited_command (Some old) ≡ command_events (event_place event) (event ∷ []) + awaited_command (Some new)
+  pub moved : awaited_data_of (Some old) ≡ data_events (event_place event) (event ∷ []) + awaited_data_of (Some new)
+  pub sent : awaited_status (Some old) ≡ status_events (event_place event) (event ∷ []) + awaited_status (Some new)
+  pub ready : one_if (is_ready old) ≡ 0
+  pub sound : IsMatchedEntry new
+
+-- a TD that is awaited is pending, and has no TRB left
+awaited-spent : (td : Td) (trbs : ℕ) → is_awaited td trbs ≡ true → td.consumed ≡ trbs
+awaited-spent td trbs is = eqb-true td.consumed trbs (and-true (is_pending td.state) (td.consumed == trbs) is).1
+
+awaited-pends : (td : Td) (trbs : ℕ) → is_awaited td trbs ≡ true → td.state ≡ Pending
+awaited-pends td trbs is = pending td.state (and-true (is_pending td.state) (td.consumed == trbs) is).0
+  where
+    pending : (state : TdState) → is_pending state ≡ true → state ≡ Pending
+    pending Pending so = refl
+    pending Seen so = absurd (false≢true so)
+    pending LeftOver so = absurd (false≢true so)
+    pending Retired so = absurd (false≢true so)
+
+-- a TD as it is pushed isn't awaited
+pushed-unawaited : (td : Td) → td ≡ pushed → is_awaited td 1 ≡ true → ⊥
+pushed-unawaited td is awaited = false≢true (sym (ap (λ t. is_awaited t 1) is) ∙ awaited)
+
+-- no TRB of it is in the ring
+awaited-taken : (td : Td) → is_awaited td 1 ≡ true → one_if (has_trb td 1) ≡ 0
+awaited-taken td awaited =
+    ap (λ state. one_if (has_trb (record td { state = state }) 1)) (awaited-pends td 1 awaited)
+    ∙ ap (λ n. one_if (nat_lt n 1)) (awaited-spent td 1 awaited)
+
+command-seen_td : (phase : Phase) (td : Td) → is_awaited td 1 ≡ true → IsCommandTd phase td → IsCommandTd phase (with_event_seen td)
+command-seen_td Queued td awaited is = absurd (pushed-unawaited td is awaited)
+command-seen_td (Moving chunk) td awaited is = is
+command-seen_td (Ended answer) td awaited is = is
+command-seen_td (Sent answer) td awaited is = is
+
+command-seen : (place : Place) (entry : Entry) → is_awaited entry.command_td 1 ≡ true → IsMatchedEntry entry →
+    IsSeenAs (CommandDone place) entry (record entry { command_td = with_event_seen entry.command_td })
+command-seen place entry awaited sound =
+    let pends : entry.command_td.state ≡ Pending = awaited-pends entry.command_td 1 awaited in
+    record {
+      seen = ap (λ b. cond b (Some (record entry { command_td = with_event_seen entry.command_td })) None) awaited;
+      messages = awaited-taken entry.command_td awaited;
+      carried = omega (arith, one_self place, ap one_if awaited);
+      moved = omega arith;
+      sent = omega arith;
+      ready = ap (λ state. one_if (is_seen state && (is_over entry.status_td.state && is_data_over entry.data_td))) pends;
+      sound = record {
+        command = command-seen_td entry.task.phase entry.command_td awaited sound.command;
+        status = sound.status;
+        chunks = sound.chunks;
+        moves = sound.moves;
+        small = sound.small;
+      };
+    }
+
+-- a data TD that is awaited has been moved whole
+data-seen_answered : (trbs : ℕ) (answer : Answer) (td : Td) → IsAnsweredTd trbs answer (Some td) → IsAnsweredTd trbs answer (Some (with_event_seen td))
+data-seen_answered trbs Good td is = is
+data-seen_answered trbs (Check sense) td is = λ pends. absurd (false≢true pends)
+
+data-seen_td : (trbs : ℕ) (phase : Phase) (td : Td) → td.consumed ≡ trbs → IsDataTd trbs phase (Some td) → IsDataTd trbs phase (Some (with_event_seen td))
+data-seen_td trbs Queued td spent is = absurd (omega (arith, spent, is.1, is.2))
+data-seen_td trbs (Moving chunk) td spent is = absurd (omega (arith, spent, is.1, is.2))
+data-seen_td trbs (Ended answer) td spent is = data-seen_answered trbs answer td is
+data-seen_td trbs (Sent answer) td spent is = data-seen_answered trbs answer td is
+
+last_false : (a b : Bool) → one_if (a && (b && false)) ≡ 0
+last_false true true = refl
+last_false true false = refl
+last_false false b = refl
+
+middle_false : (a b : Bool) → one_if (a && (false && b)) ≡ 0
+middle_false true b = refl
+middle_false false b = refl
+
+data-seen : (place : Place) (entry : Entry) (td : Td) → entry.data_td ≡ Some td → is_awaited td (data_trbs entry.task.request) ≡ true → IsMatchedEntry entry →
+    IsSeenAs (DataDone place) entry (record entry { data_td = Some (with_event_seen td) })
+data-seen place entry td is awaited sound =
+    let trbs : ℕ = data_trbs entry.task.request in
+    let pends : td.state ≡ Pending = awaited-pends td trbs awaited in
+    record {
+      seen = ap (λ t. seen_data_td entry t) is ∙ ap (λ b. cond b (Some (record entry { data_td = Some (with_event_seen td) })) None) awaited;
+      messages = refl;
+      carried = omega arith;
+      moved = omega (arith, one_self place, ap (λ t. awaited_data (data_trbs entry.task.request) t) is, ap one_if awaited);
+      sent = omega arith;
+      ready = ap (λ t. one_if (is_seen entry.command_td.state && (is_over entry.status_td.state && is_data_over t))) is
+          ∙ ap (λ state. one_if (is_seen entry.command_td.state && (is_over entry.status_td.state && is_over state))) pends
+          ∙ last_false (is_seen entry.command_td.state) (is_over entry.status_td.state);
+      sound = record {
+        command = sound.command;
+        status = sound.status;
+        chunks = data-seen_td trbs entry.task.phase td (awaited-spent td trbs awaited) (subst (λ t. IsDataTd (data_trbs entry.task.request) entry.task.phase t) is sound.chunks);
+        moves = sym (ap (λ (t : Option Td). is_some t) is) ∙ sound.moves;
+        small = sound.small;
+      };
+    }
+
+status-seen_td : (phase : Phase) (td : Td) → is_awaited td 1 ≡ true → IsStatusTd phase td → IsStatusTd phase (with_event_seen td)
+status-seen_td Queued td awaited is = absurd (pushed-unawaited td is awaited)
+status-seen_td (Moving chunk) td awaited is = absurd (pushed-unawaited td is awaited)
+status-seen_td (Ended answer) td awaited is = absurd (pushed-unawaited td is awaited)
+status-seen_td (Sent answer) td awaited is = is
+
+-- a TD that may be left over: it isn't pending then
+left-short : (trbs : ℕ) (td : Td) → IsShortTd trbs (Some (left_over_td td))
+left-short trbs td =
+    elim (is_pending td.state) as (λ b. is_pending td.state ≡ b → is_pending (cond b (record td { state = LeftOver }) td).state ≡ true → (cond b (record td { state = LeftOver }) td).consumed < trbs) [
+      | true ↦ λ is pends. absurd (false≢true pends)
+      | false ↦ λ is pends. absurd (false≢true (sym is ∙ pends))
+    ] refl
+
+left-unawaited : (trbs : ℕ) (td : Td) → one_if (is_awaited (left_over_td td) trbs) ≡ 0
+left-unawaited trbs td =
+    elim (is_pending td.state) as (λ b. is_pending td.state ≡ b → one_if (is_awaited (cond b (record td { state = LeftOver }) td) trbs) ≡ 0) [
+      | true ↦ λ is. refl
+      | false ↦ λ is. ap (λ b. one_if (b && (td.consumed == trbs))) is
+    ] refl
+
+short-unawaited : (trbs : ℕ) (td : Td) → IsShortTd trbs (Some td) → one_if (is_awaited td trbs) ≡ 0
+short-unawaited trbs td is =
+    elim (is_awaited td trbs) as (λ b. is_awaited td trbs ≡ b → one_if b ≡ 0) [
+      | true ↦ λ awaited. absurd (omega (arith, awaited-spent td trbs awaited, is (and-true (is_pending td.state) (td.consumed == trbs) awaited).0))
+      | false ↦ λ awaited. refl
+    ] refl
+
+check-left : (trbs : ℕ) (td : Option Td) → IsShortTd trbs td → IsShortTd trbs (left_over_data td)
+check-left trbs None is = tt
+check-left trbs (Some td) is = left-short trbs td
+
+-- what CHECK CONDITION leaves over wasn't awaited
+check-awaited : (trbs : ℕ) (td : Option Td) → IsShortTd trbs td → awaited_data trbs (left_over_data td) ≡ awaited_data trbs td
+check-awaited trbs None is = refl
+check-awaited trbs (Some td) is = left-unawaited trbs td ∙ sym (short-unawaited trbs td is)
+
+check-there : (td : Option Td) → is_some (left_over_data td) ≡ is_some td
+check-there None = refl
+check-there (Some td) = refl
+
+-- the data TD once the status was seen
+pub record IsLeft (trbs : ℕ) (phase : Phase) (old new : Option Td) : Type 0 where
+  pub chunks : IsDataTd trbs phase new
+  pub awaited : awaited_data trbs new ≡ awaited_data trbs old
+  pub there : is_some new ≡ is_some old
+
+answer-left : (trbs : ℕ) (answer : Answer) (td : Option Td) → IsAnsweredTd trbs answer td → IsLeft trbs (Sent answer) td (data_after_answer answer td)
+answer-left trbs Good td is = record { chunks = is; awaited = refl; there = refl }
+answer-left trbs (Check sense) td is = record { chunks = check-left trbs td is; awaited = check-awaited trbs td is; there = check-there td }
+
+status-left : (trbs : ℕ) (phase : Phase) (td : Option Td) → IsDataTd trbs phase td → IsLeft trbs phase td (data_after_status phase td)
+status-left trbs Queued td is = record { chunks = is; awaited = refl; there = refl }
+status-left trbs (Moving chunk) td is = record { chunks = is; awaited = refl; there = refl }
+status-left trbs (Ended answer) td is = record { chunks = is; awaited = refl; there = refl }
+status-left trbs (Sent answer) td is = answer-left trbs answer td is
+
+abbrev status_seen : Entry → Entry
+status_seen entry = record entry { status_td = with_event_seen entry.status_td; data_td = data_after_status entry.task.phase entry.data_td }
+
+status-seen : (place : Place) (entry : Entry) → is_awaited entry.status_td 1 ≡ true → IsMatchedEntry entry → IsSeenAs (StatusDone place) entry (status_seen entry)
+status-seen place entry awaited sound =
+    let pends : entry.status_td.state ≡ Pending = awaited-pends entry.status_td 1 awaited in
+    let left : IsLeft (data_trbs entry.task.request) entry.task.phase entry.data_td (data_after_status entry.task.phase entry.data_td) =
+    status-left (data_trbs entry.task.request) entry.task.phase entry.data_td sound.chunks in
+    record {
+      seen = ap (λ b. cond b (Some (status_seen entry)) None) awaited;
+      messages = refl;
+      carried = omega arith;
+      moved = omega (arith, left.awaited);
+      sent = omega (arith, one_self place, ap one_if awaited);
+      ready = ap (λ state. one_if (is_seen entry.command_td.state && (is_over state && is_data_over entry.data_td))) pends
+          ∙ middle_false (is_seen entry.command_td.state) (is_data_over entry.data_td);
+      sound = record {
+        command = sound.command;
+        status = status-seen_td entry.task.phase entry.status_td awaited sound.status;
+        chunks = left.chunks;
+        moves = left.there ∙ sound.moves;
+        small = sound.small;
+      };
+    }
+
+-- the entry that awaits an event, once the host has seen it
+pub record HasSeen (event : Completion) (old : Entry) : Type 0 where
+  pub new : Entry
+  pub step : IsSeenAs event old new
+
+data-awaits : (place : Place) (entry : Entry) (td : Option Td) → entry.data_td ≡ td → awaits_data (data_trbs entry.task.request) td ≡ true → IsMatchedEntry entry → HasSeen (DataDone place) entry
+data-awaits place entry None is awaits sound = absurd (false≢true awaits)
+data-awaits place entry (Some td) is awaits sound = record { new = record entry { data_td = Some (with_event_seen td) }; step = data-seen place entry td is awaits sound }
+
+pub event-seen : (event : Completion) (entry : Entry) → awaits_event event entry ≡ true → IsMatchedEntry entry → HasSeen event entry
+event-seen (CommandDone place) entry awaits sound =
+    record { new = record entry { command_td = with_event_seen entry.command_td }; step = command-seen place entry awaits sound }
+event-seen (DataDone place) entry awaits sound = data-awaits place entry entry.data_td refl awaits sound
+event-seen (StatusDone place) entry awaits sound = record { new = status_seen entry; step = status-seen place entry awaits sound }
+
+-- TAKE
+
+over-pends : (state : TdState) → is_over state ≡ true → is_pending state ≡ false
+over-pends Pending is = absurd (false≢true is)
+over-pends Seen is = refl
+over-pends LeftOver is = absurd (false≢true is)
+over-pends Retired is = refl
+
+seen-is : (state : TdState) → is_seen state ≡ true → state ≡ Seen
+seen-is Pending is = absurd (false≢true is)
+seen-is Seen is = refl
+seen-is LeftOver is = absurd (false≢true is)
+seen-is Retired is = absurd (false≢true is)
+
+unpending-unawaited : (td : Td) (trbs : ℕ) → is_pending td.state ≡ false → one_if (is_awaited td trbs) ≡ 0
+unpending-unawaited td trbs is = ap (λ b. one_if (b && (td.consumed == trbs))) is
+
+over-data : (trbs : ℕ) (td : Option Td) → is_data_over td ≡ true → awaited_data trbs td ≡ 0
+over-data trbs None is = refl
+over-data trbs (Some td) is = unpending-unawaited td trbs (over-pends td.state is)
+
+-- an answer that was handed over
+pub record IsSentBy (phase : Phase) : Type 0 where
+  pub answer : Answer
+  pub is : phase ≡ Sent answer
+
+pushed-over : (td : Td) → td ≡ pushed → is_over td.state ≡ true → ⊥
+pushed-over td is over = false≢true (sym (ap (λ (t : Td). is_over t.state) is) ∙ over)
+
+over-sent : (phase : Phase) (td : Td) → IsStatusTd phase td → is_over td.state ≡ true → IsSentBy phase
+over-sent Queued td is over = absurd (pushed-over td is over)
+over-sent (Moving chunk) td is over = absurd (pushed-over td is over)
+over-sent (Ended answer) td is over = absurd (pushed-over td is over)
+over-sent (Sent answer) td is over = record { answer = answer; is = refl }
+
+-- an entry that waits for nothing more, and whose answer was handed over
+pub record IsQuiet (entry : Entry) : Type 0 where
+  pub messages : waiting_command (Some entry) ≡ 0
+  pub carried : awaited_command (Some entry) ≡ 0
+  pub moved : awaited_data_of (Some entry) ≡ 0
+  pub sent : awaited_status (Some entry) ≡ 0
+  pub answered : IsSentBy entry.task.phase
+
+pub ready-quiet : (entry : Entry) → is_ready entry ≡ true → IsMatchedEntry entry → IsQuiet entry
+ready-quiet entry ready sound =
+    let first : (is_seen entry.command_td.state ≡ true) × ((is_over entry.status_td.state && is_data_over entry.data_td) ≡ true) = and-true (is_seen entry.command_td.state) _ ready in
+    let rest : (is_over entry.status_td.state ≡ true) × (is_data_over entry.data_td ≡ true) = and-true (is_over entry.status_td.state) (is_data_over entry.data_td) first.1 in
+    let seen : entry.command_td.state ≡ Seen = seen-is entry.command_td.state first.0 in
+    record {
+      messages = ap (λ state. one_if (has_trb (record entry.command_td { state = state }) 1)) seen;
+      carried = unpending-unawaited entry.command_td 1 (ap (λ state. is_pending state) seen);
+      moved = over-data (data_trbs entry.task.request) entry.data_td rest.1;
+      sent = unpending-unawaited entry.status_td 1 (over-pends entry.status_td.state rest.0);
+      answered = over-sent entry.task.phase entry.status_td sound.status rest.0;
+    }
+
+-- SUBMIT
+
+-- a data TD is pushed where bytes are moved
+submitted-chunks : (bytes : ℕ) → IsMovingTd ((bytes + 4095) / 4096) 0 (data_td_for bytes)
+submitted-chunks bytes =
+    elim (bytes == 0) as (λ b. (bytes == 0) ≡ b → IsMovingTd ((bytes + 4095) / 4096) 0 (cond b None (Some pushed))) [
+      | true ↦ λ is. tt
+      | false ↦ λ is. let apart : bytes ≡ 0 → ⊥ = eqb-false bytes 0 is in (refl, refl, omega arith)
+    ] refl
+
+submitted-moves : (bytes : ℕ) → is_some (data_td_for bytes) ≡ nat_lt 0 bytes
+submitted-moves bytes =
+    elim (bytes == 0) as (λ b. (bytes == 0) ≡ b → is_some (cond b (let none : Option Td = None in none) (Some pushed)) ≡ nat_lt 0 bytes) [
+      | true ↦ λ is. rw (eqb-true bytes 0 is) refl
+      | false ↦ λ is. let apart : bytes ≡ 0 → ⊥ = eqb-false bytes 0 is in
+          elim (nat_lt 0 bytes) as (λ b. nat_lt 0 bytes ≡ b → true ≡ b) [
+            | true ↦ λ less. refl
+            | false ↦ λ less. absurd (omega (arith, ltb-false 0 bytes less))
+          ] refl
+    ] refl
+
+-- what isn't too long moves at most 65,536 bytes
+short-small : (op : Op) → is_too_long op ≡ false → moved_bytes op ≤ 65536
+short-small TestUnitReady is = omega arith
+short-small (Inquiry allocation) is = omega arith
+short-small ReadCapacity is = omega arith
+short-small (Read lba count fua) is = omega (arith, ltb-false 128 count is)
+short-small (Write lba count fua) is = omega (arith, ltb-false 128 count is)
+short-small (Sync lba count) is = omega arith
+
+-- a submission without a fault is for a free slot, and isn't too long
+pub record IsUnfaulted (in_use : Bool) (op : Op) : Type 0 where
+  pub free : in_use ≡ false
+  pub short : is_too_long op ≡ false
+
+unfaulted_if : (in_use misfits long late : Bool) (least : ℕ) (op : Op) → is_too_long op ≡ long →
+    cond in_use (Some InUse) (cond misfits (Some BadLength) (cond long (Some TooLong) (cond late (Some (OutOfTurn least)) None))) ≡ None → IsUnfaulted in_use op
+unfaulted_if true misfits long late least op is none = absurd (none-some InUse (sym none))
+unfaulted_if false true long late least op is none = absurd (none-some BadLength (sym none))
+unfaulted_if false false true late least op is none = absurd (none-some TooLong (sym none))
+unfaulted_if false false false late least op is none = record { free = refl; short = is }
+
+pub unfaulted : (in_use : Bool) (least ticket : ℕ) (command : Command) → first_submit_fault true in_use least ticket command ≡ None → IsUnfaulted in_use command.op
+unfaulted in_use least ticket command none =
+    unfaulted_if in_use (not (length command.buffer == moved_bytes command.op)) (is_too_long command.op) (nat_lt ticket least) least command.op refl none
+
+-- the entry of a command that was just submitted
+pub record IsSubmitted (entry : Entry) : Type 0 where
+  pub messages : waiting_command (Some entry) ≡ 1
+  pub carried : awaited_command (Some entry) ≡ 0
+  pub moved : awaited_data_of (Some entry) ≡ 0
+  pub sent : awaited_status (Some entry) ≡ 0
+  pub ready : one_if (is_ready entry) ≡ 0
+  pub sound : IsMatchedEntry entry
+
+moving-unawaited : (trbs chunk : ℕ) (td : Option Td) → IsMovingTd trbs chunk td → awaited_data trbs td ≡ 0
+moving-unawaited trbs chunk None is = refl
+moving-unawaited trbs chunk (Some td) is = unawaited td trbs (λ same. omega (arith, is.1, is.2))
+
+pub submit-stepped : (ticket : ℕ) (command : Command) → is_too_long command.op ≡ false → IsSubmitted (new_entry ticket command)
+submit-stepped ticket command short =
+    let chunks : IsMovingTd ((moved_bytes command.op + 4095) / 4096) 0 (data_td_for (moved_bytes command.op)) = submitted-chunks (moved_bytes command.op) in
+    record {
+      messages = refl;
+      carried = refl;
+      moved = moving-unawaited ((moved_bytes command.op + 4095) / 4096) 0 (data_td_for (moved_bytes command.op)) chunks;
+      sent = refl;
+      ready = refl;
+      sound = record {
+        command = refl;
+        status = refl;
+        chunks = chunks;
+        moves = submitted-moves (moved_bytes command.op);
+        small = short-small command.op short;
+      };
+    }

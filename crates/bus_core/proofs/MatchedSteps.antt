@@ -1,0 +1,572 @@
+-- Each step keeps what waits matched.
+use Rattle.std.proofs.Common.{◌≡◌, ℕ, zero, suc, ◌+◌, ◌<◌, ◌≤◌, Bool, true, false, cond, List, [], ◌∷◌, ◌++◌, length, Option, Some, None, IfSome, refl, arith, ap, sym, subst, ◌∙◌}
+use Rattle.std.specs.Prelude.{nat_lt, slice_get, slice_set, option_to_list, option_and_then, is_some}
+use Rattle.std.specs.Option.{option_map_or}
+use Rattle.std.proofs.lemmas.Bool.{ltb-true, false≢true}
+use Rattle.block_unit.specs.BlockMaps.{BlockMaps}
+use Rattle.scsi_cmd.specs.declared.Command.{Command}
+use Rattle.scsi_cmd.specs.declared.Direction.{Direction}
+use Rattle.scsi_cmd.specs.declared.Direction.TheVariants.{Nothing, ToHost, ToDevice}
+use Rattle.scsi_cmd.specs.declared.SubmitFault.{SubmitFault}
+use Rattle.scsi_cmd.specs.Op.{direction_of}
+use Rattle.scsi_cmd.specs.declared.TheConstants.{TASK_SLOT}
+use Rattle.solo_model.specs.declared.TaggedTask.{TaggedTask}
+use Rattle.solo_model.specs.declared.Answer.{Answer}
+use Rattle.solo_model.specs.declared.Phase.{Phase}
+use Rattle.solo_model.specs.declared.Phase.TheVariants.{Queued, Moving, Ended, Sent}
+use Rattle.solo_model.specs.TaggedTask.{carried_from, carried_request, moved_from, moved_request, sent_from, reply_from}
+use Rattle.scsi_cmd.specs.Held.{held_at}
+use Rattle.bus_core.specs.declared.Place.{Place}
+use Rattle.bus_core.specs.declared.Completion.{Completion}
+use Rattle.bus_core.specs.declared.Completion.TheVariants.{CommandDone, DataDone, StatusDone}
+use Rattle.bus_core.specs.declared.Step.{Step}
+use Rattle.bus_core.specs.declared.Step.TheVariants.{Submit, CommandPipe, Data, Status, Event, Take}
+use Rattle.bus_core.specs.declared.Td.{Td}
+use Rattle.bus_core.specs.Td.{Entry, has_trb, is_awaited, is_ready, data_trbs}
+use Rattle.bus_core.specs.Tags.{place_of, command_slot}
+use Rattle.bus_core.specs.Part.{Part, with_entry, carry_act, carried_slot, carried_entry, is_last_trb, took_trb, move_act, moved_slot, moved_entry, send_act, sent_slot, sent_entry, event_act, event_place, seen_by, seen_entry, ready_after, new_entry, fault_at, submitted_part, take_act, taken, settled, entry_reply, slot_tag}
+use Rattle.bus_core.specs.Shared.{Shared, acted_on, carry_step, routed_to, routed_by_tag, due_step, due, entry_fact, part_fact, place_fact, has_ready, is_some_of, routed, with_streams_rung, accepted, answered, submitted_to, submitted_under, event_step, is_moving, is_ended, data_is_due, status_is_due}
+use Rattle.bus_core.specs.Soundness.{one_if, awaited_data, readied_of, times_in}
+use Rattle.bus_core.specs.Matched.{same_place, times, held_in, under, command_events, data_events, status_events, readied_in, times_ready, waiting_command, awaited_command, awaited_status, awaited_data_of, awaits_data, awaits_event, IsMatchedEntry, IsMatchedAt, IsMatched}
+use Rattle.bus_core.proofs.MatchedPlaces.{one_self, and-true, one_if-true, one_if-most, one_equal, one_apart, times_in-push, command_events-append, data_events-append, status_events-append, times-append, IsFound, under-found, held-within, IsWritten, times_ready-written, IsMatched-written}
+use Rattle.bus_core.proofs.MatchedEntries.{IsStepped, carried_to, has_trb-queued, carry-stepped, moved_to, moved_events, IsDataEvent, data_event-is, move-stepped, sent_to, send-stepped, IsSeenAs, HasSeen, event-seen, IsQuiet, ready-quiet, IsUnfaulted, unfaulted, IsSubmitted, submit-stepped}
+use Rattle.bus_core.proofs.Routes.{placed_slot-within}
+
+-- A MATCHED PLACE
+
+-- what stands there, its part and how it is matched
+pub record IsHeld (state : Shared) (place : Place) (entry : Entry) : Type 0 where
+  pub found : IsFound state.parts place entry
+  pub here : IsMatchedAt state place (Some entry)
+
+pub matched-held : (state : Shared) (place : Place) (entry : Entry) → IsMatched state → under state.parts place ≡ Some entry → IsHeld state place entry
+matched-held state place entry all is = record {
+  found = under-found state.parts place entry is;
+  here = subst (λ held. IsMatchedAt state place held) is (all.places place);
+}
+
+-- of a client that is there the queue of ready slots tells how often a place is ready
+times_ready-there : (parts : List Part) (place : Place) (part : Part) → slice_get parts place.client ≡ Some part → times_ready parts place ≡ times_in place.slot part.ready
+times_ready-there parts place part there = ap (λ found. option_map_or (readied_in place) found 0) there
+
+-- A STEP OF THE DEVICE AT A PLACE
+
+-- what was popped and posted names this place alone
+pub record NamesAlone (place : Place) (popped : List Place) (posted : List Completion) : Type 0 where
+  pub messages : (other : Place) → same_place place other ≡ false → times other popped ≡ 0
+  pub carried : (other : Place) → same_place place other ≡ false → command_events other posted ≡ 0
+  pub moved : (other : Place) → same_place place other ≡ false → data_events other posted ≡ 0
+  pub sent : (other : Place) → same_place place other ≡ false → status_events other posted ≡ 0
+
+-- the state after a step of the device
+abbrev acted_state : Shared → Place → Part → BlockMaps → Entry → List Place → List Completion → Shared
+acted_state state place part unit entry rest posted = record state {
+  parts = slice_set state.parts place.client (with_entry (record part { unit = unit }) place.slot entry);
+  messages = rest;
+  events = state.events ++ posted;
+}
+
+acted-written : (state : Shared) (place : Place) (part : Part) (unit : BlockMaps) (old new : Entry) (popped rest : List Place) (posted : List Completion) →
+    slice_get state.parts place.client ≡ Some part → held_at part.entries place.slot ≡ Some old → state.messages ≡ popped ++ rest → NamesAlone place popped posted →
+    IsWritten state (acted_state state place part unit new rest posted) place (Some new)
+acted-written state place part unit old new popped rest posted there held pops alone = record {
+  part = part;
+  now = with_entry (record part { unit = unit }) place.slot new;
+  there = there;
+  within = held-within part.entries place.slot old held;
+  parts = refl;
+  entries = refl;
+  queue = λ slot apart. refl;
+  others = λ other apart. record {
+    messages = omega (arith, ap (times other) pops, times-append other popped rest, alone.messages other apart);
+    carried = omega (arith, command_events-append other state.events posted, alone.carried other apart);
+    moved = omega (arith, data_events-append other state.events posted, alone.moved other apart);
+    sent = omega (arith, status_events-append other state.events posted, alone.sent other apart);
+  };
+}
+
+pub acted-matched : (state : Shared) (place : Place) (part : Part) (unit : BlockMaps) (old new : Entry) (popped rest : List Place) (posted : List Completion) →
+    slice_get state.parts place.client ≡ Some part → held_at part.entries place.slot ≡ Some old → state.messages ≡ popped ++ rest → NamesAlone place popped posted →
+    IsStepped place popped posted old new → IsMatchedAt state place (Some old) → IsMatched state → IsMatched (acted_state state place part unit new rest posted)
+unfolding acted-written
+acted-matched state place part unit old new popped rest posted there held pops alone step here all =
+    let written = acted-written state place part unit old new popped rest posted there held pops alone in
+    IsMatched-written state (acted_state state place part unit new rest posted) place (Some new) written (record {
+      messages = omega (arith, ap (times place) pops, times-append place popped rest, step.messages, here.messages);
+      carried = omega (arith, command_events-append place state.events posted, step.carried, here.carried);
+      moved = omega (arith, data_events-append place state.events posted, step.moved, here.moved);
+      sent = omega (arith, status_events-append place state.events posted, step.sent, here.sent);
+      ready = times_ready-written state (acted_state state place part unit new rest posted) place (Some new) written
+          ∙ sym (times_ready-there state.parts place part there) ∙ here.ready ∙ ap one_if (sym step.ready);
+      sound = step.sound;
+    }) all
+
+-- CARRY
+
+-- a place that a message names has an entry that waits for it
+pub record HasWaiting (held : Option Entry) : Type 0 where
+  pub entry : Entry
+  pub is : held ≡ Some entry
+  pub waits : has_trb entry.command_td 1 ≡ true
+
+waiting-some : (held : Option Entry) → 1 ≤ waiting_command held → HasWaiting held
+waiting-some None some = absurd (omega (arith, some))
+waiting-some (Some entry) some = record { entry = entry; is = refl; waits = one_if-true (has_trb entry.command_td 1) some }
+
+pub message-waiting : (state : Shared) (place : Place) → IsMatched state → 1 ≤ times place state.messages → HasWaiting (under state.parts place)
+message-waiting state place all some = waiting-some (under state.parts place) (omega (arith, some, (all.places place).messages))
+
+carry-alone : (place : Place) → NamesAlone place (place ∷ []) (CommandDone place ∷ [])
+carry-alone place = record {
+  messages = λ other apart. omega (arith, ap one_if apart);
+  carried = λ other apart. omega (arith, ap one_if apart);
+  moved = λ other apart. refl;
+  sent = λ other apart. refl;
+}
+
+-- the first message leaves the command pipe: the state after it
+pub carry_step-held : (state : Shared) (place : Place) (rest : List Place) (part : Part) (entry : Entry) → slice_get state.parts place.client ≡ Some part →
+    held_at part.entries place.slot ≡ Some entry → entry.task.phase ≡ Queued →
+    carry_step state (place ∷ rest) ≡ acted_on (record state { messages = rest }) place.client
+    (carried_entry part place.slot place entry (Some (carried_request part.unit entry.task entry.task.request)))
+carry_step-held state place rest part entry there held queued =
+    let popped : Shared = record state { messages = rest } in
+    ap (λ found. routed_to popped place.client (carry_act place) found) there
+    ∙ ap (λ found. acted_on popped place.client (carried_slot part place.slot place found)) held
+    ∙ ap (λ phase. acted_on popped place.client (carried_entry part place.slot place entry (carried_from part.unit entry.task phase))) queued
+
+pub carry_step-matched : (state : Shared) (messages : List Place) → state.messages ≡ messages → IsMatched state → IsMatched (carry_step state messages).0
+carry_step-matched state [] is all = all
+carry_step-matched state (place ∷ rest) is all =
+    let some : 1 ≤ times place state.messages = omega (arith, ap (times place) is, one_self place) in
+    let waiting : HasWaiting (under state.parts place) = message-waiting state place all some in
+    let entry : Entry = waiting.entry in
+    let at : IsHeld state place entry = matched-held state place entry all waiting.is in
+    let part : Part = at.found.part in
+    let queued : entry.task.phase ≡ Queued = has_trb-queued entry.task.phase entry.command_td at.here.sound.command waiting.waits in
+    let after : BlockMaps × TaggedTask = carried_request part.unit entry.task entry.task.request in
+    subst (λ now. IsMatched now.0) (sym (carry_step-held state place rest part entry at.found.there at.found.held queued))
+    (acted-matched state place part after.0 entry (carried_to entry after.1) (place ∷ []) rest (CommandDone place ∷ []) at.found.there at.found.held is (carry-alone place)
+    (carry-stepped part.unit place entry queued at.here.sound) at.here all)
+
+-- WHERE A STEP IS DUE
+
+-- the place of a tag where a fact is so of what stands there
+pub record IsDueAt (state : Shared) (tag : ℕ) (fact : Entry → Bool) : Type 0 where
+  pub place : Place
+  pub entry : Entry
+  pub named : place_of (length state.parts) tag ≡ Some place
+  pub held : under state.parts place ≡ Some entry
+  pub so : fact entry ≡ true
+
+due_part : (fact : Entry → Bool) (place : Place) (found : Option Part) → option_map_or (entry_fact fact place.slot) found false ≡ true →
+    (entry : Entry) × (option_map_or (held_in place) found None ≡ Some entry) × (fact entry ≡ true)
+due_part fact place None so = absurd (false≢true so)
+due_part fact place (Some part) so = due_held (held_at part.entries place.slot) so
+  where
+    due_held : (held : Option Entry) → option_map_or fact held false ≡ true → (entry : Entry) × (held ≡ Some entry) × (fact entry ≡ true)
+    due_held None is = absurd (false≢true is)
+    due_held (Some entry) is = (entry, refl, is)
+
+due_named : (state : Shared) (tag : ℕ) (fact : Entry → Bool) (place : Option Place) → place_of (length state.parts) tag ≡ place →
+    option_map_or (λ (p : Place). part_fact state p.client (entry_fact fact p.slot)) place false ≡ true → IsDueAt state tag fact
+due_named state tag fact None is so = absurd (false≢true so)
+due_named state tag fact (Some place) is so =
+    let at = due_part fact place (slice_get state.parts place.client) so in
+    record { place = place; entry = at.0; named = is; held = at.1; so = at.2 }
+
+place_fact-due : (state : Shared) (tag : ℕ) (fact : Entry → Bool) → place_fact state tag fact ≡ true → IsDueAt state tag fact
+place_fact-due state tag fact so = due_named state tag fact (place_of (length state.parts) tag) refl so
+
+-- MOVE
+
+pub record IsMovingBy (phase : Phase) : Type 0 where
+  pub chunk : ℕ
+  pub is : phase ≡ Moving chunk
+
+moving_phase : (phase : Phase) → is_moving phase ≡ true → IsMovingBy phase
+moving_phase Queued is = absurd (false≢true is)
+moving_phase (Moving chunk) is = record { chunk = chunk; is = refl }
+moving_phase (Ended answer) is = absurd (false≢true is)
+moving_phase (Sent answer) is = absurd (false≢true is)
+
+move_step-held : (state : Shared) (tag : ℕ) (place : Place) (part : Part) (entry : Entry) (chunk : ℕ) → place_of (length state.parts) tag ≡ Some place →
+    slice_get state.parts place.client ≡ Some part → held_at part.entries place.slot ≡ Some entry → entry.task.phase ≡ Moving chunk →
+    routed_by_tag state move_act (place_of (length state.parts) tag) ≡ acted_on state place.client
+    (moved_entry part place.slot place entry (Some (moved_request part.unit entry.task chunk entry.task.request)))
+move_step-held state tag place part entry chunk named there held moving =
+    ap (λ p. routed_by_tag state move_act p) named
+    ∙ ap (λ found. routed_to state place.client (move_act place) found) there
+    ∙ ap (λ found. acted_on state place.client (moved_slot part place.slot place found)) held
+    ∙ ap (λ phase. acted_on state place.client (moved_entry part place.slot place entry (moved_from part.unit entry.task phase))) moving
+
+move_step-matched : (state : Shared) (tag : ℕ) → due state (Data tag) ≡ true → IsMatched state → IsMatched (routed_by_tag state move_act (place_of (length state.parts) tag)).0
+move_step-matched state tag is_due all =
+    let at : IsDueAt state tag (data_is_due state tag) = place_fact-due state tag (data_is_due state tag) is_due in
+    let place : Place = at.place in
+    let entry : Entry = at.entry in
+    let held : IsHeld state place entry = matched-held state place entry all at.held in
+    let part : Part = held.found.part in
+    let moving : IsMovingBy entry.task.phase = moving_phase entry.task.phase (and-true (is_moving entry.task.phase) _ at.so).0 in
+    let after : BlockMaps × TaggedTask = moved_request part.unit entry.task moving.chunk entry.task.request in
+    let posted : List Completion = moved_events entry after.1 place in
+    let event : IsDataEvent place posted = data_event-is (is_last_trb (took_trb after.1.phase) (data_trbs entry.task.request) entry.data_td) place in
+    subst (λ now. IsMatched now.0) (sym (move_step-held state tag place part entry moving.chunk at.named held.found.there held.found.held moving.is))
+    (acted-matched state place part after.0 entry (moved_to entry after.1) [] state.messages posted held.found.there held.found.held refl
+    (record { messages = λ other apart. refl; carried = event.carried; moved = event.moved; sent = event.sent })
+    (move-stepped part.unit place entry moving.chunk moving.is held.here.sound) held.here all)
+
+-- SEND
+
+pub record IsEndedBy (phase : Phase) : Type 0 where
+  pub answer : Answer
+  pub is : phase ≡ Ended answer
+
+ended_phase : (phase : Phase) → is_ended phase ≡ true → IsEndedBy phase
+ended_phase Queued is = absurd (false≢true is)
+ended_phase (Moving chunk) is = absurd (false≢true is)
+ended_phase (Ended answer) is = record { answer = answer; is = refl }
+ended_phase (Sent answer) is = absurd (false≢true is)
+
+send_step-held : (state : Shared) (tag : ℕ) (place : Place) (part : Part) (entry : Entry) (answer : Answer) → place_of (length state.parts) tag ≡ Some place →
+    slice_get state.parts place.client ≡ Some part → held_at part.entries place.slot ≡ Some entry → entry.task.phase ≡ Ended answer →
+    routed_by_tag state send_act (place_of (length state.parts) tag) ≡ acted_on state place.client
+    (sent_entry part place.slot place entry (Some (record entry.task { phase = Sent answer })))
+send_step-held state tag place part entry answer named there held ended =
+    ap (λ p. routed_by_tag state send_act p) named
+    ∙ ap (λ found. routed_to state place.client (send_act place) found) there
+    ∙ ap (λ found. acted_on state place.client (sent_slot part place.slot place found)) held
+    ∙ ap (λ phase. acted_on state place.client (sent_entry part place.slot place entry (sent_from entry.task phase))) ended
+
+send-alone : (place : Place) → NamesAlone place [] (StatusDone place ∷ [])
+send-alone place = record {
+  messages = λ other apart. refl;
+  carried = λ other apart. refl;
+  moved = λ other apart. refl;
+  sent = λ other apart. omega (arith, ap one_if apart);
+}
+
+send_step-matched : (state : Shared) (tag : ℕ) → due state (Status tag) ≡ true → IsMatched state → IsMatched (routed_by_tag state send_act (place_of (length state.parts) tag)).0
+send_step-matched state tag is_due all =
+    let at : IsDueAt state tag (status_is_due state tag) = place_fact-due state tag (status_is_due state tag) is_due in
+    let place : Place = at.place in
+    let entry : Entry = at.entry in
+    let held : IsHeld state place entry = matched-held state place entry all at.held in
+    let part : Part = held.found.part in
+    let ended : IsEndedBy entry.task.phase = ended_phase entry.task.phase (and-true (is_ended entry.task.phase) _ at.so).0 in
+    subst (λ now. IsMatched now.0) (sym (send_step-held state tag place part entry ended.answer at.named held.found.there held.found.held ended.is))
+    (acted-matched state place part part.unit entry (sent_to entry ended.answer) [] state.messages (StatusDone place ∷ []) held.found.there held.found.held refl
+    (send-alone place) (send-stepped place entry ended.answer ended.is held.here.sound) held.here all)
+
+-- EVENT
+
+-- how many events as this one wait
+abbrev pub times_alike : Completion → List Completion → ℕ
+times_alike (CommandDone place) events = command_events place events
+times_alike (DataDone place) events = data_events place events
+times_alike (StatusDone place) events = status_events place events
+
+-- a place that an event names has an entry that awaits it
+pub record HasAwaiting (event : Completion) (held : Option Entry) : Type 0 where
+  pub entry : Entry
+  pub is : held ≡ Some entry
+  pub awaits : awaits_event event entry ≡ true
+
+command-awaited : (place : Place) (held : Option Entry) → 1 ≤ awaited_command held → HasAwaiting (CommandDone place) held
+command-awaited place None some = absurd (omega (arith, some))
+command-awaited place (Some entry) some = record { entry = entry; is = refl; awaits = one_if-true (is_awaited entry.command_td 1) some }
+
+data_td-awaited : (trbs : ℕ) (td : Option Td) → 1 ≤ awaited_data trbs td → awaits_data trbs td ≡ true
+data_td-awaited trbs None some = absurd (omega (arith, some))
+data_td-awaited trbs (Some td) some = one_if-true (is_awaited td trbs) some
+
+data-awaited : (place : Place) (held : Option Entry) → 1 ≤ awaited_data_of held → HasAwaiting (DataDone place) held
+data-awaited place None some = absurd (omega (arith, some))
+data-awaited place (Some entry) some = record { entry = entry; is = refl; awaits = data_td-awaited (data_trbs entry.task.request) entry.data_td some }
+
+status-awaited : (place : Place) (held : Option Entry) → 1 ≤ awaited_status held → HasAwaiting (StatusDone place) held
+status-awaited place None some = absurd (omega (arith, some))
+status-awaited place (Some entry) some = record { entry = entry; is = refl; awaits = one_if-true (is_awaited entry.status_td 1) some }
+
+pub event-awaited : (state : Shared) (event : Completion) → IsMatched state → 1 ≤ times_alike event state.events → HasAwaiting event (under state.parts (event_place event))
+event-awaited state (CommandDone place) all some = command-awaited place (under state.parts place) (omega (arith, some, (all.places place).carried))
+event-awaited state (DataDone place) all some = data-awaited place (under state.parts place) (omega (arith, some, (all.places place).moved))
+event-awaited state (StatusDone place) all some = status-awaited place (under state.parts place) (omega (arith, some, (all.places place).sent))
+
+-- the event that is next is one of those that wait
+times_alike-first : (event : Completion) (rest : List Completion) → 1 ≤ times_alike event (event ∷ rest)
+times_alike-first (CommandDone place) rest = omega (arith, one_self place)
+times_alike-first (DataDone place) rest = omega (arith, one_self place)
+times_alike-first (StatusDone place) rest = omega (arith, one_self place)
+
+-- counts of a list by its first event
+command_events-first : (place : Place) (event : Completion) (rest : List Completion) → command_events place (event ∷ rest) ≡ command_events place (event ∷ []) + command_events place rest
+command_events-first place event rest = command_events-append place (event ∷ []) rest
+
+data_events-first : (place : Place) (event : Completion) (rest : List Completion) → data_events place (event ∷ rest) ≡ data_events place (event ∷ []) + data_events place rest
+data_events-first place event rest = data_events-append place (event ∷ []) rest
+
+status_events-first : (place : Place) (event : Completion) (rest : List Completion) → status_events place (event ∷ rest) ≡ status_events place (event ∷ []) + status_events place rest
+status_events-first place event rest = status_events-append place (event ∷ []) rest
+
+event-alone : (event : Completion) → NamesAlone (event_place event) [] (event ∷ [])
+event-alone (CommandDone place) = record { messages = λ other apart. refl; carried = λ other apart. omega (arith, ap one_if apart); moved = λ other apart. refl; sent = λ other apart. refl }
+event-alone (DataDone place) = record { messages = λ other apart. refl; carried = λ other apart. refl; moved = λ other apart. omega (arith, ap one_if apart); sent = λ other apart. refl }
+event-alone (StatusDone place) = record { messages = λ other apart. refl; carried = λ other apart. refl; moved = λ other apart. refl; sent = λ other apart. omega (arith, ap one_if apart) }
+
+-- the part after an event was seen
+abbrev seen_part : Part → ℕ → Entry → Part
+seen_part part slot entry = record (with_entry part slot entry) { ready = ready_after part.ready slot entry }
+
+-- the state after it
+abbrev seen_state : Shared → Place → Part → Entry → List Completion → Shared
+seen_state state place part entry rest = record state { parts = slice_set state.parts place.client (seen_part part place.slot entry); events = rest ++ [] }
+
+event_step-held : (state : Shared) (event : Completion) (rest : List Completion) (part : Part) (old new : Entry) → slice_get state.parts (event_place event).client ≡ Some part →
+    held_at part.entries (event_place event).slot ≡ Some old → seen_by event old ≡ Some new → (event_step state (event ∷ rest)).0 ≡ seen_state state (event_place event) part new rest
+event_step-held state event rest part old new there held seen =
+    let popped : Shared = record state { events = rest } in
+    let place : Place = event_place event in
+    ap (λ found. (routed_to popped place.client (event_act event) found).0) there
+    ∙ ap (λ found. (acted_on popped place.client (seen_entry part place.slot (option_and_then (seen_by event) found))).0) held
+    ∙ ap (λ after. (acted_on popped place.client (seen_entry part place.slot after)).0) seen
+
+-- other slots of the queue stay, and this one joins it where its entry is ready
+ready_after-other : (queue : List ℕ) (slot other : ℕ) (entry : Entry) → (other ≡ slot → ⊥) → times_in other (ready_after queue slot entry) ≡ times_in other queue
+ready_after-other queue slot other entry apart =
+    elim (is_ready entry) as (λ b. times_in other (cond b (queue ++ slot ∷ []) queue) ≡ times_in other queue) [
+      | true ↦ omega (arith, times_in-push other queue slot, one_apart slot other apart)
+      | false ↦ refl
+    ]
+
+ready_after-own : (queue : List ℕ) (slot : ℕ) (entry : Entry) → times_in slot (ready_after queue slot entry) ≡ times_in slot queue + one_if (is_ready entry)
+ready_after-own queue slot entry =
+    elim (is_ready entry) as (λ b. times_in slot (cond b (queue ++ slot ∷ []) queue) ≡ times_in slot queue + one_if b) [
+      | true ↦ omega (arith, times_in-push slot queue slot, one_equal slot)
+      | false ↦ omega arith
+    ]
+
+seen-written : (state : Shared) (event : Completion) (rest : List Completion) (part : Part) (old new : Entry) → state.events ≡ event ∷ rest →
+    slice_get state.parts (event_place event).client ≡ Some part → held_at part.entries (event_place event).slot ≡ Some old →
+    IsWritten state (seen_state state (event_place event) part new rest) (event_place event) (Some new)
+seen-written state event rest part old new is there held =
+    let alone : NamesAlone (event_place event) [] (event ∷ []) = event-alone event in
+    record {
+      part = part;
+      now = seen_part part (event_place event).slot new;
+      there = there;
+      within = held-within part.entries (event_place event).slot old held;
+      parts = refl;
+      entries = refl;
+      queue = λ slot apart. ready_after-other part.ready (event_place event).slot slot new apart;
+      others = λ other apart. record {
+        messages = refl;
+        carried = omega (arith, command_events-append other rest [], ap (command_events other) is, command_events-first other event rest, alone.carried other apart);
+        moved = omega (arith, data_events-append other rest [], ap (data_events other) is, data_events-first other event rest, alone.moved other apart);
+        sent = omega (arith, status_events-append other rest [], ap (status_events other) is, status_events-first other event rest, alone.sent other apart);
+      };
+    }
+
+seen-matched : (state : Shared) (event : Completion) (rest : List Completion) (part : Part) (old new : Entry) → state.events ≡ event ∷ rest →
+    slice_get state.parts (event_place event).client ≡ Some part → held_at part.entries (event_place event).slot ≡ Some old → IsSeenAs event old new →
+    IsMatchedAt state (event_place event) (Some old) → IsMatched state → IsMatched (seen_state state (event_place event) part new rest)
+unfolding seen-written
+seen-matched state event rest part old new is there held step here all =
+    let place : Place = event_place event in
+    let now : Shared = seen_state state place part new rest in
+    let written = seen-written state event rest part old new is there held in
+    IsMatched-written state now place (Some new) written (record {
+      messages = omega (arith, step.messages, here.messages);
+      carried = omega (arith, command_events-append place rest [], ap (command_events place) is, command_events-first place event rest, step.carried, here.carried);
+      moved = omega (arith, data_events-append place rest [], ap (data_events place) is, data_events-first place event rest, step.moved, here.moved);
+      sent = omega (arith, status_events-append place rest [], ap (status_events place) is, status_events-first place event rest, step.sent, here.sent);
+      ready = omega (arith, times_ready-written state now place (Some new) written, ready_after-own part.ready place.slot new, times_ready-there state.parts place part there, here.ready, step.ready);
+      sound = step.sound;
+    }) all
+
+pub event_step-matched : (state : Shared) (events : List Completion) → state.events ≡ events → IsMatched state → IsMatched (event_step state events).0
+event_step-matched state [] is all = all
+event_step-matched state (event ∷ rest) is all =
+    let some : 1 ≤ times_alike event state.events = subst (λ es. 1 ≤ times_alike event es) (sym is) (times_alike-first event rest) in
+    let awaiting : HasAwaiting event (under state.parts (event_place event)) = event-awaited state event all some in
+    let held : IsHeld state (event_place event) awaiting.entry = matched-held state (event_place event) awaiting.entry all awaiting.is in
+    let seen : HasSeen event awaiting.entry = event-seen event awaiting.entry awaiting.awaits held.here.sound in
+    subst IsMatched (sym (event_step-held state event rest held.found.part awaiting.entry seen.new held.found.there held.found.held seen.step.seen))
+    (seen-matched state event rest held.found.part awaiting.entry seen.new is held.found.there held.found.held seen.step held.here all)
+
+-- TAKE
+
+-- a slot that is first in its client's queue of ready slots has an entry that is ready, and isn't in the rest of the queue
+pub record IsFirstReady (held : Option Entry) (slot : ℕ) (rest : List ℕ) : Type 0 where
+  pub entry : Entry
+  pub is : held ≡ Some entry
+  pub ready : is_ready entry ≡ true
+  pub once : times_in slot rest ≡ 0
+
+first-ready : (held : Option Entry) (slot : ℕ) (rest : List ℕ) → times_in slot (slot ∷ rest) ≡ readied_of held → IsFirstReady held slot rest
+first-ready None slot rest counted = absurd (omega (arith, counted, one_equal slot))
+first-ready (Some entry) slot rest counted = record {
+  entry = entry;
+  is = refl;
+  ready = one_if-true (is_ready entry) (omega (arith, counted, one_equal slot));
+  once = omega (arith, counted, one_equal slot, one_if-most (is_ready entry));
+}
+
+abbrev settled_part : Part → ℕ → List ℕ → Part
+settled_part part slot rest = record part { entries = slice_set part.entries slot None; ready = rest }
+
+abbrev settled_state : Shared → Place → Part → List ℕ → Shared
+settled_state state place part rest = record state { parts = slice_set state.parts place.client (settled_part part place.slot rest); events = state.events ++ [] }
+
+take_step-held : (state : Shared) (client slot : ℕ) (rest : List ℕ) (part : Part) (entry : Entry) (answer : Answer) → slice_get state.parts client ≡ Some part →
+    part.ready ≡ slot ∷ rest → held_at part.entries slot ≡ Some entry → entry.task.phase ≡ Sent answer →
+    (routed state client (take_act client)).0 ≡ settled_state state (record { client = client; slot = slot }) part rest
+take_step-held state client slot rest part entry answer there queue held sent =
+    ap (λ found. (routed_to state client (take_act client) found).0) there
+    ∙ ap (λ ready. (acted_on state client (taken client part ready)).0) queue
+    ∙ ap (λ found. (acted_on state client (settled part slot rest (option_and_then (entry_reply (slot_tag client slot)) found))).0) held
+    ∙ ap (λ phase. (acted_on state client (settled part slot rest (reply_from (slot_tag client slot) entry.task phase))).0) sent
+
+settled-written : (state : Shared) (place : Place) (part : Part) (rest : List ℕ) (entry : Entry) → slice_get state.parts place.client ≡ Some part →
+    part.ready ≡ place.slot ∷ rest → held_at part.entries place.slot ≡ Some entry → IsWritten state (settled_state state place part rest) place None
+settled-written state place part rest entry there queue held = record {
+  part = part;
+  now = settled_part part place.slot rest;
+  there = there;
+  within = held-within part.entries place.slot entry held;
+  parts = refl;
+  entries = refl;
+  queue = λ slot apart. omega (arith, ap (times_in slot) queue, one_apart place.slot slot apart);
+  others = λ other apart. record {
+    messages = refl;
+    carried = omega (arith, command_events-append other state.events []);
+    moved = omega (arith, data_events-append other state.events []);
+    sent = omega (arith, status_events-append other state.events []);
+  };
+}
+
+settled-matched : (state : Shared) (place : Place) (part : Part) (rest : List ℕ) (entry : Entry) → slice_get state.parts place.client ≡ Some part →
+    part.ready ≡ place.slot ∷ rest → held_at part.entries place.slot ≡ Some entry → times_in place.slot rest ≡ 0 → IsQuiet entry → IsMatchedAt state place (Some entry) → IsMatched state →
+    IsMatched (settled_state state place part rest)
+unfolding settled-written
+settled-matched state place part rest entry there queue held once quiet here all =
+    let now : Shared = settled_state state place part rest in
+    let written = settled-written state place part rest entry there queue held in
+    IsMatched-written state now place None written (record {
+      messages = here.messages ∙ quiet.messages;
+      carried = omega (arith, command_events-append place state.events [], here.carried, quiet.carried);
+      moved = omega (arith, data_events-append place state.events [], here.moved, quiet.moved);
+      sent = omega (arith, status_events-append place state.events [], here.sent, quiet.sent);
+      ready = times_ready-written state now place None written ∙ once;
+      sound = tt;
+    }) all
+
+take_queue : (state : Shared) (client : ℕ) (part : Part) (queue : List ℕ) → slice_get state.parts client ≡ Some part → part.ready ≡ queue → is_some_of queue ≡ true → IsMatched state →
+    IsMatched (routed state client (take_act client)).0
+take_queue state client part [] there is some all = absurd (false≢true some)
+take_queue state client part (slot ∷ rest) there is some all =
+    let place : Place = record { client = client; slot = slot } in
+    let counted : times_in slot (slot ∷ rest) ≡ readied_of (under state.parts place) =
+    sym (ap (times_in slot) is) ∙ sym (times_ready-there state.parts place part there) ∙ (all.places place).ready in
+    let first : IsFirstReady (under state.parts place) slot rest = first-ready (under state.parts place) slot rest counted in
+    let held : IsHeld state place first.entry = matched-held state place first.entry all first.is in
+    let at : held_at part.entries slot ≡ Some first.entry = sym (ap (λ found. option_map_or (held_in place) found None) there) ∙ first.is in
+    let quiet : IsQuiet first.entry = ready-quiet first.entry first.ready held.here.sound in
+    subst IsMatched (sym (take_step-held state client slot rest part first.entry quiet.answered.answer there is at quiet.answered.is))
+    (settled-matched state place part rest first.entry there is at first.once quiet held.here all)
+
+take_step-matched : (state : Shared) (client : ℕ) → due state (Take client) ≡ true → IsMatched state → IsMatched (routed state client (take_act client)).0
+take_step-matched state client is_due all =
+    elim (slice_get state.parts client) as (λ found. slice_get state.parts client ≡ found → option_map_or has_ready found false ≡ true → IsMatched (routed state client (take_act client)).0) [
+      | None ↦ λ there some. absurd (false≢true some)
+      | Some part ↦ λ there some. take_queue state client part part.ready there refl some all
+    ] refl is_due
+
+-- SUBMIT
+
+rung-events : (state : Shared) (way : Direction) (tag : ℕ) → (with_streams_rung state way tag).events ≡ state.events
+rung-events state Nothing tag = refl
+rung-events state ToHost tag = refl
+rung-events state ToDevice tag = refl
+
+accepted-written : (state : Shared) (part : Part) (place : Place) (tag ticket : ℕ) (command : Command) → slice_get state.parts place.client ≡ Some part → place.slot < length part.entries →
+    IsWritten state (accepted state part place tag ticket command).0 place (Some (new_entry ticket command))
+accepted-written state part place tag ticket command there within =
+    let events : (accepted state part place tag ticket command).0.events ≡ state.events = rung-events state (direction_of command.op) tag in
+    record {
+      part = part;
+      now = submitted_part part place.slot ticket command;
+      there = there;
+      within = within;
+      parts = refl;
+      entries = refl;
+      queue = λ slot apart. refl;
+      others = λ other apart. record {
+        messages = omega (arith, times-append other state.messages (place ∷ []), ap one_if apart);
+        carried = ap (command_events other) events;
+        moved = ap (data_events other) events;
+        sent = ap (status_events other) events;
+      };
+    }
+
+-- a place of this client where nothing stands
+none-matched : (state : Shared) (place : Place) (part : Part) → slice_get state.parts place.client ≡ Some part → is_some (held_at part.entries place.slot) ≡ false → IsMatched state →
+    IsMatchedAt state place None
+none-matched state place part there free all =
+    subst (λ held. IsMatchedAt state place held) (ap (λ found. option_map_or (held_in place) found None) there ∙ none (held_at part.entries place.slot) free) (all.places place)
+  where
+    none : (held : Option Entry) → is_some held ≡ false → held ≡ None
+    none None is = refl
+    none (Some entry) is = absurd (false≢true (sym is))
+
+accepted-matched : (state : Shared) (part : Part) (place : Place) (tag ticket : ℕ) (command : Command) → slice_get state.parts place.client ≡ Some part → place.slot < length part.entries →
+    IsUnfaulted (is_some (held_at part.entries place.slot)) command.op → IsMatched state → IsMatched (accepted state part place tag ticket command).0
+unfolding accepted-written
+accepted-matched state part place tag ticket command there within fine all =
+    let now : Shared = (accepted state part place tag ticket command).0 in
+    let written = accepted-written state part place tag ticket command there within in
+    let here : IsMatchedAt state place None = none-matched state place part there fine.free all in
+    let step : IsSubmitted (new_entry ticket command) = submit-stepped ticket command fine.short in
+    let events : now.events ≡ state.events = rung-events state (direction_of command.op) tag in
+    IsMatched-written state now place (Some (new_entry ticket command)) written (record {
+      messages = omega (arith, times-append place state.messages (place ∷ []), one_self place, here.messages, step.messages);
+      carried = ap (command_events place) events ∙ here.carried ∙ sym step.carried;
+      moved = ap (data_events place) events ∙ here.moved ∙ sym step.moved;
+      sent = ap (status_events place) events ∙ here.sent ∙ sym step.sent;
+      ready = times_ready-written state now place (Some (new_entry ticket command)) written ∙ sym (times_ready-there state.parts place part there) ∙ here.ready ∙ sym step.ready;
+      sound = step.sound;
+    }) all
+
+slots-there : (state : Shared) (client : ℕ) (part : Part) → IsMatched state → slice_get state.parts client ≡ Some part → length part.entries ≡ 8
+slots-there state client part all there = subst (λ found. IfSome found (λ part. length part.entries ≡ 8)) there (all.slots client)
+
+answered-matched : (state : Shared) (part : Part) (place : Place) (tag ticket : ℕ) (command : Command) (fault : Option SubmitFault) → slice_get state.parts place.client ≡ Some part →
+    place.slot < length part.entries → fault_at part place.slot ticket command ≡ fault → IsMatched state → IsMatched (answered state part place tag ticket command fault).0
+answered-matched state part place tag ticket command None there within is all =
+    accepted-matched state part place tag ticket command there within (unfaulted (is_some (held_at part.entries place.slot)) part.least ticket command is) all
+answered-matched state part place tag ticket command (Some fault) there within is all = all
+
+submitted_to-matched : (state : Shared) (place : Place) (tag ticket : ℕ) (command : Command) (found : Option Part) → slice_get state.parts place.client ≡ found →
+    nat_lt place.slot TASK_SLOT ≡ true → IsMatched state → IsMatched (submitted_to state place tag ticket command found).0
+submitted_to-matched state place tag ticket command None is within all = all
+submitted_to-matched state place tag ticket command (Some part) is within all =
+    answered-matched state part place tag ticket command (fault_at part place.slot ticket command) is
+    (omega (arith, ltb-true place.slot 7 within, slots-there state place.client part all is)) refl all
+
+submitted_under-matched : (state : Shared) (client tag ticket : ℕ) (command : Command) (slot : Option ℕ) → command_slot (length state.parts) client tag ≡ slot → IsMatched state →
+    IsMatched (submitted_under state client tag ticket command slot).0
+submitted_under-matched state client tag ticket command None is all = all
+submitted_under-matched state client tag ticket command (Some slot) is all =
+    submitted_to-matched state (record { client = client; slot = slot }) tag ticket command (slice_get state.parts client) refl
+    (placed_slot-within client (place_of (length state.parts) tag) slot is) all
+
+-- EVERY STEP
+
+pub due_step-matched : (state : Shared) (step : Step) → due state step ≡ true → IsMatched state → IsMatched (due_step state step).0
+due_step-matched state (Submit client tag ticket command) is all =
+    submitted_under-matched state client tag ticket command (command_slot (length state.parts) client tag) refl all
+due_step-matched state CommandPipe is all = carry_step-matched state state.messages refl all
+due_step-matched state (Data tag) is all = move_step-matched state tag is all
+due_step-matched state (Status tag) is all = send_step-matched state tag is all
+due_step-matched state Event is all = event_step-matched state state.events refl all
+due_step-matched state (Take client) is all = take_step-matched state client is all

@@ -323,3 +323,12 @@ fn the_consumers_end_is_moved(rt: HostRuntime) -> Result<(), Fail> {
     assert_eq!(rt; ring.dequeue(), (0x5000_0010, false));
     Ok(())
 }
+
+#[test]
+fn refusals_say_why(rt: HostRuntime) -> Result<(), Fail> {
+    let full = format!(in rt.alloc(); "{RingFull}")?;
+    assert_eq!(rt; full.as_str(), "the ring has too little room");
+    let no_place = format!(in rt.alloc(); "{NotAPlace}")?;
+    assert_eq!(rt; no_place.as_str(), "no pending place of the ring");
+    Ok(())
+}

@@ -92,3 +92,10 @@ fn full_rings(rt: HostRuntime) -> Result<(), Fail> {
     fill(&rt, &mut large);
     Ok(())
 }
+
+#[test]
+fn the_refusal_says_why(rt: HostRuntime) -> Result<(), Fail> {
+    let full = format!(in rt.alloc(); "{EventRingFull}")?;
+    assert_eq!(rt; full.as_str(), "the event ring is full");
+    Ok(())
+}

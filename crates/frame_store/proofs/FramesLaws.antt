@@ -19,7 +19,8 @@ use Rattle.frame_store.proofs.PlacesLaws.{place_at-address_of, address_of-place_
 pub length-spliced : (old : List ℕ) (from : ℕ) (new : List ℕ) → length (spliced old from new) ≡ length old
 length-spliced old from new = sym (length_refill (length old) old (take from old ++ (new ++ drop (length new) (drop from old))) refl)
 
-lent-le : (lent : Option (List ℕ)) (from : ℕ) (new : List ℕ) → length (unwrap_or lent []) ≤ 65536 → length (unwrap_or (option_map (λ _. spliced (unwrap_or lent []) from new) lent) []) ≤ 65536
+lent-le : (lent : Option (List ℕ)) (from : ℕ) (new : List ℕ) → length (unwrap_or lent []) ≤ 65536
+    → length (unwrap_or (option_map (λ _. spliced (unwrap_or lent []) from new) lent) []) ≤ 65536
 lent-le None from new h = h
 lent-le (Some old) from new h = rw (length-spliced old from new) h
 
@@ -28,7 +29,8 @@ with_part-sizes held Command from new h = record { command = length-spliced held
 with_part-sizes held Status from new h = record { command = h.command; status = length-spliced held.status from new ∙ h.status; lent = h.lent }
 with_part-sizes held Window from new h = record { command = h.command; status = h.status; lent = lent-le held.lent from new h.lent }
 
-pub with_held-whole : (frames : List TagBuffers) (tag : ℕ) (held : TagBuffers) → IsWhole frames → 1 ≤ tag → HasSizes held → IsWhole (with_held frames tag held)
+pub with_held-whole : (frames : List TagBuffers) (tag : ℕ) (held : TagBuffers) → IsWhole frames → 1 ≤ tag → HasSizes held
+    → IsWhole (with_held frames tag held)
 with_held-whole frames tag held h first sizes = record {
   tags = length-set frames (tag - 1) held ∙ h.tags;
   sizes = λ other low high.
@@ -57,17 +59,20 @@ bytes_in-room held Status h = omega (arith, h.status)
 bytes_in-room held Window h = h.lent
 
 -- a buffer that is there is no longer than its room
-pub bytes_of-room : (frames : List TagBuffers) (place : Place) → IsWhole frames → 1 ≤ place.tag → place.tag ≤ 248 → length (bytes_of frames place) ≤ room_of place.buffer
+pub bytes_of-room : (frames : List TagBuffers) (place : Place) → IsWhole frames → 1 ≤ place.tag → place.tag ≤ 248
+    → length (bytes_of frames place) ≤ room_of place.buffer
 bytes_of-room frames place h first last = bytes_in-room (held_for frames place.tag) place.buffer (h.sizes place.tag first last)
 
 -- at least one byte that an address names begins at the place of the address
-pub place_at-named : (frames : List TagBuffers) (address len : ℕ) (place : Place) → IsWhole frames → Names frames address len place → 0 < len → place_at address ≡ Some place
+pub place_at-named : (frames : List TagBuffers) (address len : ℕ) (place : Place) → IsWhole frames → Names frames address len place
+    → 0 < len → place_at address ≡ Some place
 place_at-named frames address len place h named some =
     let inside : place.offset < room_of place.buffer = omega (arith, named.within, bytes_of-room frames place h named.first_tag named.last_tag) in
     rw (← named.begins) (place_at-address_of place (record { first_tag = named.first_tag; last_tag = named.last_tag; inside = inside }))
 
 -- bytes can be given exactly where the buffer of their address has as many left
-left-names : (frames : List TagBuffers) (address len : ℕ) (found : Option Place) → place_at address ≡ found → len ≤ option_map_or (λ place. length (bytes_of frames place) - place.offset) found 0 → IsNamed frames address len
+left-names : (frames : List TagBuffers) (address len : ℕ) (found : Option Place) → place_at address ≡ found
+    → len ≤ option_map_or (λ place. length (bytes_of frames place) - place.offset) found 0 → IsNamed frames address len
 left-names frames address len None e h = inl (omega arith)
 left-names frames address len (Some place) e h =
     let is = address_of-place_at address place e in
@@ -88,7 +93,8 @@ pub left_at-named : (frames : List TagBuffers) (address len : ℕ) → IsWhole f
 left_at-named frames address len h = (left-names frames address len (place_at address) refl, names-left frames address len h)
 
 -- at least one byte that an address names begins at its place
-pub start_of-named : (frames : List TagBuffers) (address len : ℕ) (place : Place) → IsWhole frames → Names frames address len place → 0 < len → start_of address len ≡ place
+pub start_of-named : (frames : List TagBuffers) (address len : ℕ) (place : Place) → IsWhole frames → Names frames address len place
+    → 0 < len → start_of address len ≡ place
 start_of-named frames address len place h named some =
     rw (ne_eqb len 0 (λ e. omega arith), place_at-named frames address len place h named some) refl
 
@@ -107,12 +113,14 @@ with_bytes_in-same held Window = ap (λ (lent : Option (List ℕ)). record held 
 
 pub with_bytes-none : (frames : List TagBuffers) (place : Place) → with_bytes frames place [] ≡ frames
 with_bytes-none frames place =
-    ap (λ (bytes : List ℕ). with_held frames place.tag (with_bytes_in (held_for frames place.tag) place.buffer bytes)) (spliced-none (bytes_of frames place) place.offset)
+    ap (λ (bytes : List ℕ). with_held frames place.tag (with_bytes_in (held_for frames place.tag) place.buffer bytes))
+    (spliced-none (bytes_of frames place) place.offset)
     ∙ ap (λ (held : TagBuffers). with_held frames place.tag held) (with_bytes_in-same (held_for frames place.tag) place.buffer)
     ∙ set-get_or frames (place.tag - 1) no_buffers
 
 -- bytes that are written where an address names them change those from its place on
-pub written-named : (frames : List TagBuffers) (address len : ℕ) (new : List ℕ) (place : Place) → IsWhole frames → Names frames address len place → length new ≡ len → written frames address len new ≡ with_bytes frames place new
+pub written-named : (frames : List TagBuffers) (address len : ℕ) (new : List ℕ) (place : Place) → IsWhole frames
+    → Names frames address len place → length new ≡ len → written frames address len new ≡ with_bytes frames place new
 written-named frames address len [] place h named size =
     with_bytes-none frames (start_of address len) ∙ sym (with_bytes-none frames place)
 written-named frames address len (x ∷ new) place h named size =

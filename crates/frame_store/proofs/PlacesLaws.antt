@@ -16,7 +16,8 @@ mod-stride : (s t o : ℕ) → o < s → (s * t + o) % s ≡ o
 mod-stride s t o h = ap (λ x. x % s) (omega arith) ∙ mod-mul-add t s o h
 
 -- the place of an address that has one, in a buffer of a given kind
-checked_place-address_of : (b : Buffer) (t o : ℕ) → 1 ≤ t → t ≤ 248 → o < room_of b → room_of b ≤ stride_of b → checked_place b (base_of b + stride_of b * t + o) ≡ Some (record { tag = t; buffer = b; offset = o })
+checked_place-address_of : (b : Buffer) (t o : ℕ) → 1 ≤ t → t ≤ 248 → o < room_of b → room_of b ≤ stride_of b
+    → checked_place b (base_of b + stride_of b * t + o) ≡ Some (record { tag = t; buffer = b; offset = o })
 checked_place-address_of b t o first last inside room =
     let narrow : o < stride_of b = omega arith in
     let beyond : base_of b + stride_of b * t + o - base_of b ≡ stride_of b * t + o = omega arith in
@@ -30,7 +31,8 @@ checked_place-address_of b t o first last inside room =
       lt-ltb o (room_of b) inside,
     ) refl
 
-place_at-parts : (b : Buffer) (t o : ℕ) → 1 ≤ t → t ≤ 248 → o < room_of b → place_at (base_of b + stride_of b * t + o) ≡ Some (record { tag = t; buffer = b; offset = o })
+place_at-parts : (b : Buffer) (t o : ℕ) → 1 ≤ t → t ≤ 248 → o < room_of b
+    → place_at (base_of b + stride_of b * t + o) ≡ Some (record { tag = t; buffer = b; offset = o })
 place_at-parts Command t o first last inside =
     rw (lt-ltb (0x10000000 + 0x100 * t + o) 0x20000000 (omega arith)) (checked_place-address_of Command t o first last inside (omega arith))
 place_at-parts Status t o first last inside =
@@ -45,9 +47,12 @@ pub place_at-address_of : (place : Place) → IsPlace place → place_at (addres
 place_at-address_of place h = place_at-parts place.buffer place.tag place.offset h.first_tag h.last_tag h.inside
 
 -- what is found at an address is a place that has it
-place_in-is : (b : Buffer) (address : ℕ) → base_of b ≤ address → is_place (place_in b (address - base_of b)) ≡ true → (address_of (place_in b (address - base_of b)) ≡ address) × IsPlace (place_in b (address - base_of b))
+place_in-is : (b : Buffer) (address : ℕ) → base_of b ≤ address → is_place (place_in b (address - base_of b)) ≡ true
+    → (address_of (place_in b (address - base_of b)) ≡ address) × IsPlace (place_in b (address - base_of b))
 place_in-is b address above passes =
-    let outer = and_parts (nat_lt 0 ((address - base_of b) / stride_of b) && nat_le ((address - base_of b) / stride_of b) 248) (nat_lt ((address - base_of b) % stride_of b) (room_of b)) passes in
+    let outer =
+    and_parts (nat_lt 0 ((address - base_of b) / stride_of b) && nat_le ((address - base_of b) / stride_of b) 248)
+    (nat_lt ((address - base_of b) % stride_of b) (room_of b)) passes in
     let inner = and_parts (nat_lt 0 ((address - base_of b) / stride_of b)) (nat_le ((address - base_of b) / stride_of b) 248) outer.0 in (
       omega (arith, div-add-mod (address - base_of b) (stride_of b)),
       record {

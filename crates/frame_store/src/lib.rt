@@ -39,14 +39,22 @@ pub type NoMemory = AllocError;
 /// How many tags have buffers: 1 to this number.
 pub const TAGS: usize = 248;
 
+const _: () = prove!(TAGS == 248);
+
 /// The bytes of a command buffer.
 pub const COMMAND_BYTES: usize = 32;
+
+const _: () = prove!(COMMAND_BYTES == 32);
 
 /// The bytes of a status buffer.
 pub const STATUS_BYTES: usize = 112;
 
+const _: () = prove!(STATUS_BYTES == 112);
+
 /// The most bytes that a lent vector has.
 pub const WINDOW_BYTES: usize = 65_536;
+
+const _: () = prove!(WINDOW_BYTES == 65_536);
 
 /// Why the store refused a call.
 #[derive(Clone, Copy, Debug, Drop, Error, PartialEq, Eq)]

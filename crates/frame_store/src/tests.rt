@@ -145,3 +145,20 @@ fn places(rt: HostRuntime) {
     assert_eq!(rt; Place::at(0x1_0012_0123), Some(place));
     assert_eq!(rt; Place::at(0x2000_f870), None);
 }
+
+#[test]
+fn faults_say_why(rt: HostRuntime) -> Result<(), Fail> {
+    let texts = [
+        (
+            FrameFault::BadAddress,
+            "a byte is in no buffer, or two are in different ones",
+        ),
+        (FrameFault::NotLent, "the tag has no vector lent"),
+        (FrameFault::AlreadyLent, "the tag has a vector lent already"),
+    ];
+    for (fault, text) in texts {
+        let told = format!(in rt.alloc(); "{fault}")?;
+        assert_eq!(rt; told.as_str(), text);
+    }
+    Ok(())
+}

@@ -17,7 +17,8 @@ IsArray-set size contexts stream new array within had below aligned =
       reserved = get_or-set_other contexts stream 0 (Some new) None (λ zero. first_has_none zero) ∙ array.reserved;
       aligned = λ other dequeue is. elim (cases_eq other stream) [
         | inl same ↦
-            let there : Some new ≡ Some dequeue = sym (get_or-set_same contexts stream (Some new) None inside) ∙ ap (entry_of (slice_set contexts stream (Some new))) (sym same) ∙ is in
+            let there : Some new ≡ Some dequeue =
+            sym (get_or-set_same contexts stream (Some new) None inside) ∙ ap (entry_of (slice_set contexts stream (Some new))) (sym same) ∙ is in
             let one : new ≡ dequeue = cc in
             rw (← one) (below, aligned)
         | inr differs ↦ array.aligned other dequeue (sym (get_or-set_other contexts stream other (Some new) None differs) ∙ is)
@@ -27,6 +28,7 @@ IsArray-set size contexts stream new array within had below aligned =
     first_has_none : 0 ≡ stream → ⊥
     first_has_none zero =
         let none : entry_of contexts 0 ≡ None = array.reserved in
-        let at_first : is_some (entry_of contexts stream) ≡ is_some {T = Dequeue} None = ap (λ (k : ℕ). is_some (entry_of contexts k)) (sym zero) ∙ ap is_some none in
+        let at_first : is_some (entry_of contexts stream) ≡ is_some {T = Dequeue} None =
+        ap (λ (k : ℕ). is_some (entry_of contexts k)) (sym zero) ∙ ap is_some none in
         let both : true ≡ false = sym had ∙ at_first in
         cc

@@ -54,7 +54,8 @@ entry_of-shown rings old new stream another r some differ before after =
       ]
     ]
 
-entry_of-same : (rings : List Ring) (old new : Contexts) (another : ℕ) → IsShown rings old → IsShown rings new → entry_of new another ≡ entry_of old another
+entry_of-same : (rings : List Ring) (old new : Contexts) (another : ℕ) → IsShown rings old → IsShown rings new
+    → entry_of new another ≡ entry_of old another
 entry_of-same rings old new another before after =
     elim (cases_eq another 0) as (λ _. entry_of new another ≡ entry_of old another) [
       | inl zero ↦ rw zero (after.reserved ∙ sym before.reserved)
@@ -69,15 +70,18 @@ entry_of-others l pipe Command stream another r old new has before after apart =
 entry_of-others l Command Status stream another r old new has before after apart = entry_of-same l.status old new another before after
 entry_of-others l Command DataIn stream another r old new has before after apart = entry_of-same l.data_in old new another before after
 entry_of-others l Command DataOut stream another r old new has before after apart = entry_of-same l.data_out old new another before after
-entry_of-others l Status Status stream another r old new has before after apart = entry_of-shown l.status old new stream another r has.0 (apart refl) before after
+entry_of-others l Status Status stream another r old new has before after apart =
+    entry_of-shown l.status old new stream another r has.0 (apart refl) before after
 entry_of-others l Status DataIn stream another r old new has before after apart = entry_of-same l.data_in old new another before after
 entry_of-others l Status DataOut stream another r old new has before after apart = entry_of-same l.data_out old new another before after
 entry_of-others l DataIn Status stream another r old new has before after apart = entry_of-same l.status old new another before after
-entry_of-others l DataIn DataIn stream another r old new has before after apart = entry_of-shown l.data_in old new stream another r has.0 (apart refl) before after
+entry_of-others l DataIn DataIn stream another r old new has before after apart =
+    entry_of-shown l.data_in old new stream another r has.0 (apart refl) before after
 entry_of-others l DataIn DataOut stream another r old new has before after apart = entry_of-same l.data_out old new another before after
 entry_of-others l DataOut Status stream another r old new has before after apart = entry_of-same l.status old new another before after
 entry_of-others l DataOut DataIn stream another r old new has before after apart = entry_of-same l.data_in old new another before after
-entry_of-others l DataOut DataOut stream another r old new has before after apart = entry_of-shown l.data_out old new stream another r has.0 (apart refl) before after
+entry_of-others l DataOut DataOut stream another r old new has before after apart =
+    entry_of-shown l.data_out old new stream another r has.0 (apart refl) before after
 
 -- WHERE THE RINGS LIE
 

@@ -82,29 +82,33 @@ spot_in-is pipe inside at found =
       | inr fails ↦ let none : None ≡ Some at = rw fails at found in absurd (cc)
     ]
 
+same_number : (found pipe : Pipe) (number : ℕ) → Some found ≡ Some pipe → number ≡ number_of found → number ≡ number_of pipe
+same_number found pipe number some is = let same : found ≡ pipe = cc in rw (← same) is
+
 pipe_numbered-is : (number : ℕ) (pipe : Pipe) → pipe_numbered number ≡ Some pipe → number ≡ number_of pipe
 pipe_numbered-is number pipe found =
     elim (cases_Bool (number == 1)) as (λ _. number ≡ number_of pipe) [
-      | inl one ↦ let some : Some Command ≡ Some pipe = rw one at found in let same : Command ≡ pipe = cc in rw (← same) (eqb-true number 1 one)
+      | inl one ↦ same_number Command pipe number (rw one at found) (eqb-true number 1 one)
       | inr not_one ↦
           let found_2 = rw not_one at found in
           elim (cases_Bool (number == 2)) as (λ _. number ≡ number_of pipe) [
-            | inl two ↦ let some : Some Status ≡ Some pipe = rw two at found_2 in let same : Status ≡ pipe = cc in rw (← same) (eqb-true number 2 two)
+            | inl two ↦ same_number Status pipe number (rw two at found_2) (eqb-true number 2 two)
             | inr not_two ↦
                 let found_3 = rw not_two at found_2 in
                 elim (cases_Bool (number == 3)) as (λ _. number ≡ number_of pipe) [
-                  | inl three ↦ let some : Some DataIn ≡ Some pipe = rw three at found_3 in let same : DataIn ≡ pipe = cc in rw (← same) (eqb-true number 3 three)
+                  | inl three ↦ same_number DataIn pipe number (rw three at found_3) (eqb-true number 3 three)
                   | inr not_three ↦
                       let found_4 = rw not_three at found_3 in
                       elim (cases_Bool (number == 4)) as (λ _. number ≡ number_of pipe) [
-                        | inl four ↦ let some : Some DataOut ≡ Some pipe = rw four at found_4 in let same : DataOut ≡ pipe = cc in rw (← same) (eqb-true number 4 four)
+                        | inl four ↦ same_number DataOut pipe number (rw four at found_4) (eqb-true number 4 four)
                         | inr not_four ↦ let none : None ≡ Some pipe = rw not_four at found_4 in absurd (cc)
                       ]
                 ]
           ]
     ]
 
-spot_of : (pointer : ℕ) (pipe : Option Pipe) (at : Pipe × ℕ × ℕ) → pipe_numbered ((pointer - 0x40000000) / 0x1000000) ≡ pipe → 0x40000000 ≤ pointer
+spot_of : (pointer : ℕ) (pipe : Option Pipe) (at : Pipe × ℕ × ℕ) → pipe_numbered ((pointer - 0x40000000) / 0x1000000) ≡ pipe
+    → 0x40000000 ≤ pointer
     → option_and_then (λ pipe. spot_in pipe ((pointer - 0x40000000) % 0x1000000)) pipe ≡ Some at
     → IsPlace at.0 at.1 at.2 × (pointer ≡ place_address at.0 at.1 at.2)
 spot_of pointer None at numbered reach found = absurd (cc)

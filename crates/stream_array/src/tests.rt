@@ -402,3 +402,10 @@ fn the_engine_and_the_events(rt: HostRuntime) -> Result<(), Fail> {
     event_taken(&rt, &mut lines);
     Ok(())
 }
+
+#[test]
+fn the_refusal_says_why(rt: HostRuntime) -> Result<(), Fail> {
+    let refused = format!(in rt.alloc(); "{InvalidStream}")?;
+    assert_eq!(rt; refused.as_str(), "no such stream");
+    Ok(())
+}

@@ -36,6 +36,8 @@ mod write;
 /// The most bytes that one Normal TRB moves (6.4.1.1, TRB Transfer Length).
 pub const MAX_LENGTH: u32 = 65536;
 
+const _: () = prove!(MAX_LENGTH == 65_536);
+
 /// The flags of a Normal TRB (6.4.1.1), close together: bits 0 to 5 are control bits 1 to 6, and
 /// bit 6 is control bit 9.
 #[derive(Clone, Copy, PartialEq, Eq, Debug)]
@@ -52,6 +54,20 @@ bitflag_items! {
         const BEI = 64;
     }
 }
+
+const _: () = prove!(TrbFlags::ENT.0 == 1);
+
+const _: () = prove!(TrbFlags::ISP.0 == 2);
+
+const _: () = prove!(TrbFlags::NS.0 == 4);
+
+const _: () = prove!(TrbFlags::CH.0 == 8);
+
+const _: () = prove!(TrbFlags::IOC.0 == 16);
+
+const _: () = prove!(TrbFlags::IDT.0 == 32);
+
+const _: () = prove!(TrbFlags::BEI.0 == 64);
 
 impl Flags for TrbFlags {
     type Bits = u8;

@@ -3,6 +3,7 @@ ghost use Rattle.xhci_trb.specs.Text.{HasText};
 use crate::{Trb, TrbFault, TrbFlags, decode, encode};
 use bitflags::Flags;
 use std::process::Abort;
+use std::test::Fail;
 
 // The TRB with Cycle bit 1 is written as these bytes and read from them.
 fn both_ways(rt: &impl Abort, trb: Trb, bytes: &[u8; 16])
@@ -278,4 +279,18 @@ fn every_low_control_half(rt: HostRuntime) {
             Err(fault) => assert_eq!(rt; standard(control), Some(fault)),
         }
     }
+}
+
+#[test]
+fn faults_say_why(rt: HostRuntime) -> Result<(), Fail> {
+    let texts = [
+        (TrbFault::UnknownType(63), "TRB type 63 is not known"),
+        (TrbFault::LengthOver, "TRB transfer length above 65536"),
+        (TrbFault::ReservedSet, "reserved TRB bit set"),
+    ];
+    for (fault, text) in texts {
+        let told = format!(in rt.alloc(); "{fault}")?;
+        assert_eq!(rt; told.as_str(), text);
+    }
+    Ok(())
 }

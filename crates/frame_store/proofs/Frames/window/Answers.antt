@@ -6,8 +6,13 @@ use Rattle.frame_store.proofs.Frames.window.Goals as goal
 
 pub invariant_of-self-lent : goal.invariant_of-self-lent
 invariant_of-self-lent c =
-    let tag_in : c.start-place.result.tag - 1 < length c.self.inside.tags.items = omega (arith, c.self.invariant.tags) in
-    let same : c.index_mut-held.result.now ≡ held_for c.self.inside.tags.items c.start-place.result.tag = get_or_read c.self.inside.tags.items (c.start-place.result.tag - 1) c.index_mut-held.result.now tag_in c.index_mut-held.ensures.value no_buffers in
-    let sizes : HasSizes c.index_mut-held.result.now = rw same (c.self.invariant.sizes c.start-place.result.tag c.start-place.ensures.first_tag c.start-place.ensures.last_tag) in
-    λ w. with_held-whole c.self.inside.tags.items c.start-place.result.tag (with_part c.index_mut-held.result.now c.start-place.result.buffer c.start-place.result.offset w) c.self.invariant c.start-place.ensures.first_tag
-    (with_part-sizes c.index_mut-held.result.now c.start-place.result.buffer c.start-place.result.offset w sizes)
+    let place = c.start-place.result in
+    let held = c.index_mut-held.result.now in
+    let known = c.start-place.ensures in
+    let tag_in : place.tag - 1 < length c.self.inside.tags.items = omega (arith, c.self.invariant.tags) in
+    let same : held ≡ held_for c.self.inside.tags.items place.tag =
+    get_or_read c.self.inside.tags.items (place.tag - 1) held tag_in c.index_mut-held.ensures.value no_buffers in
+    let sizes : HasSizes held = rw same (c.self.invariant.sizes place.tag known.first_tag known.last_tag) in
+    λ w.
+    with_held-whole c.self.inside.tags.items place.tag (with_part held place.buffer place.offset w) c.self.invariant known.first_tag
+    (with_part-sizes held place.buffer place.offset w sizes)

@@ -1,6 +1,7 @@
 -- The program's command, its matches and its refusals, as the words' parser tells them.
 use Rattle.std.proofs.Common.{◌≡◌, ◌∙◌, ◌&&◌, Bool, true, false, not, List, [], ◌∷◌, Option, Some, None, Result, option_map, is_some, if◌then◌else◌, refl, ap, sym, subst, inl, inr, ◌⊎◌, ℕ}
 use Rattle.std.specs.Prelude.{codes, option_and_then}
+use Rattle.std.specs.Io.KnownBytes.{Keeps}
 use Rattle.clap.specs.Words.{App, Row, FailsBy, HasKind, HasMatchesOf, IsAmong, Kinds, Text, fault_of, is_simple, is_simple_and_free, subcommand_of, subcommand_rows_of, kind_of}
 use Rattle.clap.specs.Kinds.{or_else}
 use Rattle.clap.specs.declared.error.Error.{Error}
@@ -8,7 +9,8 @@ use Rattle.clap.specs.declared.error.kind.ErrorKind.{ErrorKind}
 use Rattle.clap.specs.declared.error.kind.ErrorKind.TheVariants.{ValueValidation}
 use Rattle.clap.specs.declared.parser.matches.ArgMatches.{ArgMatches}
 use Rattle.clap.proofs.OnLiterals.{clap_on_literals}
-use Rattle.uasdisk.specs.CommandLine.{Asked, asked_for, asked_in, asked_of, blocks_of, file_of, info, make, program_app, refusals, EndsRefused, MayEndRefused}
+use Rattle.uasdisk.specs.CommandLine.{Asked, asked_for, asked_in, asked_of, blocks_of, file_of, info, make, program_app, refusals, EndsRefused}
+use Rattle.uasdisk.specs.Ends.{RefusalEnds, HoldsOfOne}
 
 -- the third of the tests that a plain command passes
 pub third_fails : (a b c d : Bool) → (a && (b && (not c && d))) ≡ true → c ≡ false
@@ -80,12 +82,29 @@ unfolding refusals
 value_refused words passes is = ap (λ (kinds : Kinds). or_else kinds (if is_some (asked_for words) then [] else ValueValidation ∷ [])) passes
     ∙ ap (λ (o : Option Asked). if is_some o then [] else ValueValidation ∷ []) is
 
-ends_among : (kind : ErrorKind) (status : ℕ) (kinds : Kinds) → IsAmong kind kinds → EndsRefused kind status → MayEndRefused kinds status
-ends_among kind status [] among ends = absurd among
-ends_among kind status (k ∷ ks) (inl same) ends = inl (subst (λ (x : ErrorKind). EndsRefused x status) same ends)
-ends_among kind status (k ∷ ks) (inr later) ends = inr (ends_among kind status ks later ends)
+holds_among : (P : ErrorKind → Type 0) (kind : ErrorKind) (kinds : Kinds) → IsAmong kind kinds → P kind → HoldsOfOne P kinds
+holds_among P kind [] among holds = absurd among
+holds_among P kind (k ∷ ks) (inl same) holds = inl (subst P same holds)
+holds_among P kind (k ∷ ks) (inr later) holds = inr (holds_among P kind ks later holds)
 
 -- how words end that are refused
-pub refused_ends : (kinds : Kinds) (e : Error) (status : ℕ) → HasKind kinds e → EndsRefused (kind_of e) status → (status ≡ 4) ⊎ MayEndRefused kinds status
-refused_ends kinds e status (inl memory) ends = inl (ends.memory memory)
-refused_ends kinds e status (inr among) ends = inr (ends_among (kind_of e) status kinds among ends)
+pub refused_ends : (kinds : Kinds) (e : Error) (can_fail : Bool) (old new : Option (List ℕ)) (status : ℕ) → HasKind kinds e
+    → RefusalEnds (kind_of e) can_fail old new status
+    → ((status ≡ 4) × Keeps old new) ⊎ HoldsOfOne (λ kind. RefusalEnds kind can_fail old new status) kinds
+refused_ends kinds e can_fail old new status (inl memory) ends =
+    inl (ends.ended.memory memory, ends.memory (ends.ended.memory memory))
+refused_ends kinds e can_fail old new status (inr among) ends =
+    inr (holds_among (λ kind. RefusalEnds kind can_fail old new status) (kind_of e) kinds among ends)
+
+statuses_of_one : (can_fail : Bool) (old new : Option (List ℕ)) (status : ℕ) (kinds : Kinds)
+    → HoldsOfOne (λ kind. RefusalEnds kind can_fail old new status) kinds → HoldsOfOne (λ kind. EndsRefused kind status) kinds
+statuses_of_one can_fail old new status [] none = absurd none
+statuses_of_one can_fail old new status (k ∷ ks) (inl ends) = inl ends.ended
+statuses_of_one can_fail old new status (k ∷ ks) (inr later) = inr (statuses_of_one can_fail old new status ks later)
+
+-- and with which statuses
+pub refused_statuses : (can_fail : Bool) (old new : Option (List ℕ)) (status : ℕ) (kinds : Kinds)
+    → ((status ≡ 4) × Keeps old new) ⊎ HoldsOfOne (λ kind. RefusalEnds kind can_fail old new status) kinds
+    → (status ≡ 4) ⊎ HoldsOfOne (λ kind. EndsRefused kind status) kinds
+refused_statuses can_fail old new status kinds (inl memory) = inl memory.0
+refused_statuses can_fail old new status kinds (inr one) = inr (statuses_of_one can_fail old new status kinds one)

@@ -86,9 +86,9 @@ abbrev pub info_app : App
 info_app = with_rule (new_app (codes "info")) file_rule
 
 abbrev pub wants_subcommand : Shape → Shape
-wants_subcommand s = record s { subcommand_required = true; arg_required_else_help = true }
+wants_subcommand s = record s { subcommand_required = true; arg_required_else_help = true; has_version = true }
 
--- The program wants a subcommand, and with no words tells its help.
+-- The program wants a subcommand, tells its help with no words, and its version where that is asked for.
 abbrev pub program_app : App
 program_app = with_subcommand (with_subcommand (with_subcommand (on_top wants_subcommand (new_app (codes "uasdisk")))
     replay_app.top) make_app.top) info_app.top
@@ -129,13 +129,9 @@ MayEndRun (info file) status = (status ≡ 0) ⊎ ((status ≡ 3) ⊎ (status �
 abbrev pub IsRequest : ErrorKind → Type 0
 IsRequest kind = (kind ≡ DisplayHelp) ⊎ (kind ≡ DisplayVersion)
 
--- Words that are refused end with 2, for want of memory with 4. A request ends with 0, or with 3 where it can't be printed.
+-- Words that are refused end with 2, for want of memory with 4. A request ends with 0, or with 3 or 4 where its text
+-- can't be printed or has no memory.
 pub record EndsRefused (kind : ErrorKind) (status : ℕ) : Type 0 where
   pub memory : kind ≡ OutOfMemory → status ≡ 4
-  pub request : IsRequest kind → (status ≡ 0) ⊎ (status ≡ 3)
+  pub request : IsRequest kind → (status ≡ 0) ⊎ ((status ≡ 3) ⊎ (status ≡ 4))
   pub mistake : kind ≢ OutOfMemory → ¬ (IsRequest kind) → status ≡ 2
-
--- The words are refused by one of the kinds.
-abbrev pub MayEndRefused : Kinds → ℕ → Type 0
-MayEndRefused [] status = ⊥
-MayEndRefused (kind ∷ kinds) status = EndsRefused kind status ⊎ MayEndRefused kinds status

@@ -7,3 +7,4 @@ pub mod Runs
 pub mod Options
 pub mod CommandLine
 pub mod Told
+pub mod Ends

@@ -181,7 +181,7 @@ impl Sink for BytesTaken {
 
     ghost is_there = { λ _. true };
 
-    ghost is_of = { λ _ _. false };
+    ghost is_of = { λ _ _. true };
 
     fn write(&mut self, bytes: &[u8]) -> Result<(), StreamFault> {
         match self.0.extend_from_slice(bytes) {

@@ -10,6 +10,7 @@ mod cases;
 mod failing;
 mod faulty;
 mod images;
+mod program;
 mod scripts;
 mod words;
 

@@ -4,15 +4,19 @@ ghost use Rattle.std.specs.Prelude.{◌≡◌, false, Some, IfOk, IfSome, MatchR
 ghost use Rattle.std.specs.String.{string_bytes};
 ghost use Rattle.clap.specs.Words.{FailsBy, app_of, found_of, kind_of, rows_of, rule_of, subcommand_rows_of};
 ghost use Rattle.uasdisk.specs.Options.{IsInRange};
-ghost use Rattle.uasdisk.specs.CommandLine.{Asked, AsksPlainly, asked_by, asked_for, asked_in, blocks_of, clients_of, file_rule, info_app, make_app, number_rule, program_app, refusals, replay_app};
+ghost use Rattle.uasdisk.specs.CommandLine.{Asked, AsksPlainly, asked_by, asked_for, asked_in, blocks_of, blocks_rule, clients_of, file_rule, info_app, make_app, number_rule, program_app, refusals, replay_app};
 
 use block_unit::MAX_BLOCKS;
+use bus_core::MAX_CLIENTS;
 use clap::error::ErrorKind;
 use clap::{Arg, ArgAction, ArgMatches, Command, Error};
 use std::alloc::{AllocError, Global};
 
-/// The most clients.
-const MAX_CLIENTS: u8 = 31;
+/// The most clients, as a word of the command line.
+const MOST_CLIENTS: u32 = MAX_CLIENTS as u32;
+
+/// The version of the program, and the toolchain that it was proved with.
+pub const VERSION: &str = "0.1.0, proved with rattle-kit-13b logic dac8208d650f15bf";
 
 /// What the program is to do.
 #[derive(Clone, Copy, Debug, PartialEq, Eq)]
@@ -55,6 +59,7 @@ fn command<'a>(alloc: Global) -> Result<Command<'a>, AllocError>
 {
     Command::new(alloc, "uasdisk")
         .about("Runs disks of many clients over USB Attached SCSI, simulated and verified")
+        .version(VERSION)
         .subcommand_required(true)
         .arg_required_else_help(true)
         .subcommand(replay_command(alloc)?)?
@@ -67,8 +72,17 @@ fn replay_command<'a>(alloc: Global) -> Result<Command<'a>, AllocError>
 {
     Command::new(alloc, "replay")
         .about("Reads a script from standard input and runs it on zeroed units")
-        .arg(number(alloc, "CLIENTS", u32::from(MAX_CLIENTS)))?
-        .arg(number(alloc, "BLOCKS", MAX_BLOCKS))
+        .after_help("Example:\n  uasdisk replay 2 100 < examples/two-clients.script")
+        .arg(number(
+            alloc,
+            "CLIENTS",
+            MOST_CLIENTS,
+            "How many clients there are, each with a unit of its own: 1 to 31",
+        ))?
+        .arg(blocks(
+            alloc,
+            "How many blocks of 512 bytes each unit has: 1 to 65536",
+        ))
 }
 
 fn make_command<'a>(alloc: Global) -> Result<Command<'a>, AllocError>
@@ -76,8 +90,9 @@ fn make_command<'a>(alloc: Global) -> Result<Command<'a>, AllocError>
 {
     Command::new(alloc, "make")
         .about("Makes an image file of zeroed blocks")
-        .arg(file(alloc))?
-        .arg(number(alloc, "BLOCKS", MAX_BLOCKS))
+        .after_help("Example:\n  uasdisk make disk.image 100")
+        .arg(file(alloc, "The image file, in place of one that is there"))?
+        .arg(blocks(alloc, "How many blocks of 512 bytes it gets: 1 to 65536"))
 }
 
 fn info_command<'a>(alloc: Global) -> Result<Command<'a>, AllocError>
@@ -85,19 +100,28 @@ fn info_command<'a>(alloc: Global) -> Result<Command<'a>, AllocError>
 {
     Command::new(alloc, "info")
         .about("Tells how many blocks an image file has, and the number of the last")
-        .arg(file(alloc))
+        .after_help("Example:\n  uasdisk info disk.image")
+        .arg(file(alloc, "The image file: 1 to 65536 blocks of 512 bytes"))
 }
 
-fn file<'a>(alloc: Global) -> Arg<'a>
+fn file<'a>(alloc: Global, help: &'a str) -> Arg<'a>
     ensures rule { rule_of result ≡ file_rule }
     ensures local { result.global ≡ false }
 {
     Arg::new(alloc, "FILE")
         .required(true)
         .action(ArgAction::Set)
+        .help(help)
 }
 
-fn number<'a>(alloc: Global, name: &'a str, most: u32) -> Arg<'a>
+fn blocks<'a>(alloc: Global, help: &'a str) -> Arg<'a>
+    ensures rule { rule_of result ≡ blocks_rule }
+    ensures local { result.global ≡ false }
+{
+    number(alloc, "BLOCKS", MAX_BLOCKS, help)
+}
+
+fn number<'a>(alloc: Global, name: &'a str, most: u32, help: &'a str) -> Arg<'a>
     ensures rule { rule_of result ≡ number_rule name.entry.now most }
     ensures local { result.global ≡ false }
 {
@@ -105,6 +129,7 @@ fn number<'a>(alloc: Global, name: &'a str, most: u32) -> Arg<'a>
         .required(true)
         .action(ArgAction::Set)
         .value_parser(clap::value_parser!(u32).range(1..=i64::from(most)))
+        .help(help)
 }
 
 /// What was found for the subcommand; the parsers have refused every other word before.
@@ -136,7 +161,7 @@ fn clients_in(words: &ArgMatches<'_>) -> Option<u8>
     ensures { result ≡ clients_of (rows_of (found_of words.now)) }
 {
     let clients = words.get_one::<u8>("CLIENTS")?;
-    if 1 <= clients && clients <= MAX_CLIENTS {
+    if 1 <= clients && u32::from(clients) <= MOST_CLIENTS {
         Some(clients)
     } else {
         None

@@ -5,7 +5,7 @@ use clap::error::ErrorKind;
 use std::alloc::{AllocError, Global};
 use std::test::Fail;
 
-fn words_of(alloc: Global, line: &str) -> Result<Vec<String>, AllocError> {
+pub fn words_of(alloc: Global, line: &str) -> Result<Vec<String>, AllocError> {
     let mut words = Vec::new(alloc);
     for word in line.split_whitespace() {
         words.push(String::from_str(alloc, word)?)?;
@@ -40,7 +40,7 @@ fn words_that_ask_for_a_run(rt: HostRuntime) -> Result<(), Fail> {
 }
 
 /// Words that are refused, the kind of the error, and the exit status that clap has for it.
-static REFUSED: [(&str, ErrorKind, i32); 32] = [
+static REFUSED: [(&str, ErrorKind, i32); 33] = [
     (
         "uasdisk",
         ErrorKind::DisplayHelpOnMissingArgumentOrSubcommand,
@@ -55,7 +55,8 @@ static REFUSED: [(&str, ErrorKind, i32); 32] = [
     ("uasdisk help jump", ErrorKind::InvalidSubcommand, 2),
     ("uasdisk jump", ErrorKind::InvalidSubcommand, 2),
     ("uasdisk REPLAY 1 1", ErrorKind::InvalidSubcommand, 2),
-    ("uasdisk --version", ErrorKind::UnknownArgument, 2),
+    ("uasdisk --version", ErrorKind::DisplayVersion, 0),
+    ("uasdisk -V", ErrorKind::DisplayVersion, 0),
     ("uasdisk info --version", ErrorKind::UnknownArgument, 2),
     ("uasdisk info -d", ErrorKind::UnknownArgument, 2),
     ("uasdisk replay 1 1 1", ErrorKind::UnknownArgument, 2),

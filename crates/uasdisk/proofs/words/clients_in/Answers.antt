@@ -9,8 +9,8 @@ returns-in_err-clients c =
     rw (number_read 8 31 (codes "CLIENTS") (found_of c.args.words.now) c.get_one.result (omega arith) c.get_one.ensures.none c.get_one.ensures.value)
     (search rules)
 
-pub returns-then-clients-le-MAX_CLIENTS : goal.returns-then-clients-le-MAX_CLIENTS
-returns-then-clients-le-MAX_CLIENTS c =
+pub returns-then-from-le-MOST_CLIENTS : goal.returns-then-from-le-MOST_CLIENTS
+returns-then-from-le-MOST_CLIENTS c =
     rw (number_read 8 31 (codes "CLIENTS") (found_of c.args.words.now) c.get_one.result (omega arith) c.get_one.ensures.none c.get_one.ensures.value)
     (grind (arith, common_steps))
 

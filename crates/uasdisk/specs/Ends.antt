@@ -1,0 +1,81 @@
+-- How a command line ends: the exit status, what was printed, and what the files hold, on a host that tells its bytes.
+use Rattle.std.specs.Prelude.{◌≡◌, ℕ, ◌<◌, ◌≤◌, Bool, IsTrue, IsErr, List, [], ◌∷◌, length, ◌⊎◌, Option, Some, IfSome}
+use Rattle.std.specs.Io.KnownBytes.{Appends, Keeps, IsAtEnd}
+use Rattle.clap.specs.Words.{Kinds, Text}
+use Rattle.clap.specs.declared.error.kind.ErrorKind.{ErrorKind}
+use Rattle.uasdisk.specs.CommandLine.{Asked, replay, make, info, IsRequest, EndsRefused}
+use Rattle.uasdisk.specs.Images.{blocks_in, made_image, made_text}
+use Rattle.uasdisk.specs.Script.{script}
+use Rattle.uasdisk.specs.Told.{zeroed_units}
+use Rattle.uasdisk.specs.Runs.{Tells, InfoPrints}
+
+-- What is known of a host: whether it tells what its files hold; of the file of a name, whether it can be opened, can
+-- be created and can fail; whether standard input is there, and whether it and standard output can fail.
+pub record Host : Type 0 where
+  pub tells : Bool
+  pub can_open : Text → Bool
+  pub can_create : Text → Bool
+  pub file_can_fail : Text → Bool
+  pub has_input : Bool
+  pub input_can_fail : Bool
+  pub output_can_fail : Bool
+
+-- The bytes outside of the program, where they are known: what the file of a name holds, what standard input has left,
+-- and what standard output has taken.
+pub record World : Type 0 where
+  pub holds : Text → Option (List ℕ)
+  pub input : Option (List ℕ)
+  pub output : Option (List ℕ)
+
+-- `replay CLIENTS BLOCKS`: the script on standard input is told on standard output, of so many clients and blocks.
+pub record ReplayEnds (clients blocks : ℕ) (host : Host) (old new : World) (status : ℕ) : Type 0 where
+  pub statuses : (status ≤ 1) ⊎ ((status ≡ 3) ⊎ (status ≡ 4))
+  pub told : status ≤ 1 → IfSome old.input (λ bytes.
+      Tells (zeroed_units clients blocks) (script clients bytes) old.output new.output status)
+  pub read : status ≤ 1 → IsTrue host.has_input × IsAtEnd new.input
+  pub fault : status ≡ 3 →
+      ((IfSome old.input (λ bytes. IsErr (script clients bytes)) ⊎ IsTrue host.input_can_fail) × Keeps old.output new.output)
+      ⊎ IsTrue host.output_can_fail
+  pub memory : status ≡ 4 → Keeps old.output new.output
+  pub files : new.holds ≡ old.holds
+
+-- `make FILE BLOCKS`: the file of this name holds the image of so many blocks, and standard output has got its line.
+pub record MakeEnds (file : Text) (blocks : ℕ) (host : Host) (old new : World) (status : ℕ) : Type 0 where
+  pub statuses : (status ≡ 0) ⊎ ((status ≡ 3) ⊎ (status ≡ 4))
+  pub image : status ≡ 0 → IsTrue host.tells → new.holds file ≡ Some (made_image blocks)
+  pub told : status ≡ 0 → IsTrue (host.can_create file) × Appends old.output new.output (made_text blocks)
+  pub fault : status ≡ 3 → (IsTrue (host.file_can_fail file) × Keeps old.output new.output)
+      ⊎ (IsTrue host.output_can_fail × (IsTrue host.tells → new.holds file ≡ Some (made_image blocks)))
+  pub memory : status ≡ 4 → Keeps old.output new.output
+  pub input : new.input ≡ old.input
+
+-- `info FILE`: standard output has got the line of the image that the file of this name holds.
+pub record InfoEnds (file : Text) (host : Host) (old new : World) (status : ℕ) : Type 0 where
+  pub statuses : (status ≡ 0) ⊎ ((status ≡ 3) ⊎ (status ≡ 4))
+  pub told : status ≡ 0 → IsTrue host.tells → IfSome (old.holds file) (λ bytes. InfoPrints (blocks_in bytes) old.output new.output)
+  pub read : status ≡ 0 → IsTrue (host.can_open file)
+  pub fault : status ≡ 3 →
+      (((IsTrue host.tells → IfSome (old.holds file) (λ bytes. IsErr (blocks_in bytes))) ⊎ IsTrue (host.file_can_fail file))
+      × Keeps old.output new.output) ⊎ IsTrue host.output_can_fail
+  pub memory : status ≡ 4 → Keeps old.output new.output
+  pub files : new.holds ≡ old.holds
+  pub input : new.input ≡ old.input
+
+-- how what the words ask for ends
+abbrev pub Ends : Asked → Host → World → World → ℕ → Type 0
+Ends (replay clients blocks) host old new status = ReplayEnds clients blocks host old new status
+Ends (make file blocks) host old new status = MakeEnds file blocks host old new status
+Ends (info file) host old new status = InfoEnds file host old new status
+
+-- Words that are refused with an error of this kind: help and the version go to standard output, nothing else does.
+pub record RefusalEnds (kind : ErrorKind) (can_fail : Bool) (old new : Option (List ℕ)) (status : ℕ) : Type 0 where
+  pub ended : EndsRefused kind status
+  pub shown : IsRequest kind → status ≡ 0 → (text : List ℕ) × Appends old new text × (0 < length text)
+  pub failed : status ≡ 3 → IsTrue can_fail
+  pub memory : status ≡ 4 → Keeps old new
+  pub kept : ¬ (IsRequest kind) → Keeps old new
+
+-- one of the kinds has this
+abbrev pub HoldsOfOne : (ErrorKind → Type 0) → Kinds → Type 0
+HoldsOfOne P [] = ⊥
+HoldsOfOne P (kind ∷ kinds) = P kind ⊎ HoldsOfOne P kinds

@@ -1,0 +1,134 @@
+//! The whole program, over a host that tells its bytes: it reads the words of a command line and does what they ask for.
+//!
+//! Everything that the program decides is decided here: which run the words ask for, on which file, of how many clients
+//! and blocks, what is printed and where, and the exit status.
+
+ghost use Rattle.std.specs.Prelude.{◌≡◌, ◌≢◌, ◌<◌, ◌≤◌, ◌⊎◌, [], length, false, Some, IsTrue, IfOk, IfSome, map};
+ghost use Rattle.std.specs.Io.KnownBytes.{Appends, Keeps};
+ghost use Rattle.std.specs.String.{string_bytes};
+ghost use Rattle.clap.specs.Words.{kind_of};
+ghost use Rattle.uasdisk.specs.CommandLine.{asked_for, refusals};
+ghost use Rattle.uasdisk.specs.Ends.{Ends, RefusalEnds, HoldsOfOne};
+ghost use Rattle.uasdisk.specs.Images.{made_image, made_text};
+
+use crate::files::Files;
+use crate::image::{run_info, run_make};
+use crate::run_script::run_script;
+use crate::status::{DONE, RunFault, WORDS_REFUSED, output_fault};
+use crate::streams::{Sink, Source};
+use crate::words::{Run, run_of};
+use clap::Error;
+use clap::error::ErrorKind;
+use std::alloc::{AllocError, Global};
+use std::io::Write;
+
+/// Does what the words of a command line ask for, the program's own name first, and answers the exit status. A fault of
+/// `faults` changes nothing. A long run may show there how far it is.
+pub fn run_words<F: Files, S: Source, O: Sink, W: Write>(
+    alloc: Global,
+    words: &[String],
+    files: &mut F,
+    input: &mut S,
+    output: &mut O,
+    faults: &mut W,
+    may_show_progress: bool,
+) -> u8
+    ensures run { refusals (map string_bytes words.now) ≡ [] → IfSome (asked_for (map string_bytes words.now)) (λ asked. Ends asked
+        (record {
+          tells = F.tells files.old;
+          can_open = F.can_open files.old;
+          can_create = F.can_create files.old;
+          file_can_fail = F.can_fail files.old;
+          has_input = S.is_there input.old;
+          input_can_fail = S.can_fail input.old;
+          output_can_fail = O.can_fail output.old;
+        })
+        (record { holds = F.holds files.old; input = S.left input.old; output = O.written output.old })
+        (record { holds = F.holds files.new; input = S.left input.new; output = O.written output.new }) result) }
+    ensures refused { refusals (map string_bytes words.now) ≢ [] → ((result ≡ 4) × Keeps (O.written output.old) (O.written output.new))
+        ⊎ HoldsOfOne (λ kind. RefusalEnds kind (O.can_fail output.old) (O.written output.old) (O.written output.new) result)
+        (refusals (map string_bytes words.now)) }
+    ensures quiet { may_show_progress ≡ false → result ≡ 0 → faults.new ≡ faults.old }
+{
+    match run_of(alloc, words) {
+        Ok(Run::Replay { clients, blocks }) => run_script(
+            alloc,
+            usize::from(clients),
+            blocks,
+            input,
+            output,
+            faults,
+        ),
+        Ok(Run::Make { file, blocks }) => make_file(
+            alloc,
+            files,
+            file,
+            blocks,
+            output,
+            faults,
+            may_show_progress,
+        ),
+        Ok(Run::Info { file }) => run_info(alloc, &mut files.open(file), output, faults),
+        Err(error) => refuse(alloc, &error, output, faults),
+    }
+}
+
+/// Makes an image, as the file of this name.
+fn make_file<F: Files, O: Sink, W: Write>(
+    alloc: Global,
+    files: &mut F,
+    file: &str,
+    blocks: u32,
+    output: &mut O,
+    faults: &mut W,
+    may_show_progress: bool,
+) -> u8
+    requires some { 1 ≤ blocks }
+    requires most { blocks ≤ 65536 }
+    ensures statuses { (result ≡ 0) ⊎ ((result ≡ 3) ⊎ (result ≡ 4)) }
+    ensures image { result ≡ 0 → IsTrue (F.tells files.old) → F.holds files.new file.now ≡ Some (made_image blocks) }
+    ensures told { result ≡ 0 → IsTrue (F.can_create files.old file.now)
+        × Appends (O.written output.old) (O.written output.new) (made_text blocks) }
+    ensures fault { result ≡ 3 → (IsTrue (F.can_fail files.old file.now) × Keeps (O.written output.old) (O.written output.new))
+        ⊎ (IsTrue (O.can_fail output.old) × (IsTrue (F.tells files.old) → F.holds files.new file.now ≡ Some (made_image blocks))) }
+    ensures memory { result ≡ 4 → Keeps (O.written output.old) (O.written output.new) }
+    ensures quiet { may_show_progress ≡ false → result ≡ 0 → faults.new ≡ faults.old }
+{
+    let mut image = files.create(file);
+    let status = run_make(alloc, blocks, &mut image, output, faults, may_show_progress);
+    files.close(image);
+    status
+}
+
+/// Prints what is wrong with the words, or the help that they ask for.
+fn refuse<O: Sink, W: Write>(alloc: Global, error: &Error, output: &mut O, faults: &mut W) -> u8
+    ensures ends { RefusalEnds (kind_of error.now) (O.can_fail output.old) (O.written output.old) (O.written output.new) result }
+    ensures quiet { result ≡ 0 → faults.new ≡ faults.old }
+{
+    if error.kind() == ErrorKind::OutOfMemory {
+        return RunFault::NoMemory.tell(faults);
+    }
+    if error.use_stderr() {
+        // a fault of standard error changes nothing
+        let _ = write!(faults, "{error}");
+        return WORDS_REFUSED;
+    }
+    let Ok(text) = text_of(alloc, error) else {
+        return RunFault::NoMemory.tell(faults);
+    };
+    match output.write(text.as_bytes()) {
+        Ok(()) => DONE,
+        Err(fault) => output_fault(fault).tell(faults),
+    }
+}
+
+/// The text of an error, help among them: never an empty one.
+fn text_of(alloc: Global, error: &Error) -> Result<String, AllocError>
+    ensures { IfOk result (λ text. 0 < length (string_bytes text)) }
+{
+    let text = format!(in alloc; "{error}")?;
+    if text.is_empty() {
+        return String::from_str(alloc, "uasdisk\n");
+    }
+    Ok(text)
+}

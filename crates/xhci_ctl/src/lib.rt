@@ -1,0 +1,116 @@
+//! The controller's side of the rings between a host and a USB Attached SCSI device (xHCI 1.2, 4.7 to 4.12): one TRB a step.
+//!
+//! ```text
+//!   host --doorbell--> armed stream
+//!                          |
+//!   command pipe -- command_step --> device      one Command unit, event Success
+//!   data streams -- data_step ----> <device      one chunk, event Success at the TD's last TRB
+//!   status stream - status_step --- <device      one Sense or Response unit, event Short Packet
+//! ```
+//!
+//! Doorbells (4.7, 5.6): a value has its target in bits 7:0 and its stream in 31:16. A target is the endpoint ID of a pipe: 3
+//! is status, 4 data-out, 5 data-in. A doorbell arms its stream and starts the endpoint, and stays rung when the ring empties.
+//! The value 0, another target, a bit set in 15:8 and a stream without a ring change nothing.
+//!
+//! Armed (4.12): a stream was rung since the last stop of its pipe, the pipe's endpoint runs, and the stream's ring has a
+//! pending TRB. The command pipe has one ring, always runs and counts as rung.
+//!
+//! A step: it takes the front TRB of its one ring, if that is armed and the event ring has room, moves that TRB's bytes
+//! between the host's memory and the device, consumes the TRB and posts its event. A step that isn't due is Idle and changes
+//! nothing. The device decides what it wants next on a tag, so data moves at the device's pace. A chunk that meets a bad
+//! block leaves the TRB where it is and posts nothing.
+//!
+//! Events (6.4.2.1): the TRB's address; residual 0 and code Success, or for a status what its buffer of 112 bytes has left
+//! and code Short Packet; the endpoint ID; slot 1.
+//!
+//! What is promised: each call is one equation. What a step makes of rings, memory and device, and its answer, are
+//! `commanded`, `moved` and `sent_by` of `specs/Steps.antt`; [`Controller::doorbell`] is `rung_by` for every value. The steps
+//! ask that the TRB in front is the host's own (`specs/Own.antt`). No call takes memory, and none scans a list.
+//!
+//! It stands on `stream_array` for the rings, `frame_store` for the host's memory, and `uas_target` for the device, and knows
+//! neither the host nor the clients.
+#![tactic(auto)]
+
+mod pipes;
+mod steps;
+
+use std::marker::Model;
+use stream_array::{EVENT_RING_PLACES, STREAM_ENTRIES};
+
+/// Endpoint IDs of the four pipes (xHCI 4.5.1): the endpoint of their events, and the target of their doorbells (5.6).
+pub const COMMAND_ENDPOINT: u8 = 2;
+
+const _: () = prove!(COMMAND_ENDPOINT == 2);
+
+pub const STATUS_ENDPOINT: u8 = 3;
+
+const _: () = prove!(STATUS_ENDPOINT == 3);
+
+pub const DATA_OUT_ENDPOINT: u8 = 4;
+
+const _: () = prove!(DATA_OUT_ENDPOINT == 4);
+
+pub const DATA_IN_ENDPOINT: u8 = 5;
+
+const _: () = prove!(DATA_IN_ENDPOINT == 5);
+
+/// The slot of the device.
+pub const SLOT: u8 = 1;
+
+const _: () = prove!(SLOT == 1);
+
+/// Completion codes of events (6.4.5).
+pub const SUCCESS: u8 = 1;
+
+const _: () = prove!(SUCCESS == 1);
+
+pub const SHORT_PACKET: u8 = 13;
+
+const _: () = prove!(SHORT_PACKET == 13);
+
+/// The bytes of a Command unit, the most that a TRB of the command pipe names.
+pub const COMMAND_LENGTH: u32 = 32;
+
+const _: () = prove!(COMMAND_LENGTH == 32);
+
+/// The bytes of a status TRB, of which the unit leaves a residual.
+pub const STATUS_LENGTH: u32 = 112;
+
+const _: () = prove!(STATUS_LENGTH == 112);
+
+/// The most events that the event ring holds.
+pub const MOST_EVENTS: usize = EVENT_RING_PLACES - 1;
+
+const _: () = prove!(MOST_EVENTS == 1023);
+
+/// A pipe with streams: whether its endpoint runs, and which streams were rung since its last stop.
+#[derive(Clone, Copy, Debug, PartialEq, Eq)]
+pub struct PipeState {
+    pub runs: bool,
+    pub rung: [bool; STREAM_ENTRIES],
+}
+
+/// The controller: its three pipes with streams.
+#[derive(Debug, Drop)]
+pub struct Controller {
+    status: PipeState,
+    data_in: PipeState,
+    data_out: PipeState,
+}
+
+impl Model for Controller {
+    ghost use Rattle.xhci_ctl.specs.Pipes.{ControllerState};
+
+    ghost Value = { ControllerState };
+
+    ghost view = { λ controller. record { status = controller.status; data_in = controller.data_in; data_out = controller.data_out } };
+}
+
+/// What came of a step.
+#[derive(Clone, Copy, Debug, PartialEq, Eq)]
+pub enum Acted {
+    /// It acted on this tag; 0 where the command pipe brought what began no task.
+    Acted(u16),
+    /// It wasn't due, and nothing changed.
+    Idle,
+}

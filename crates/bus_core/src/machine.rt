@@ -109,6 +109,7 @@ impl Bus {
     }
 
     /// One step: what came of it. It acts exactly where it is due; it takes no memory.
+    #[tactic(auto, using(crate::proofs::StepIsolation::idle_isolated, crate::proofs::StepIsolation::due_isolated))]
     pub fn step(&mut self, step: Step) -> Outcome
         requires { HasTicket step }
         // The bus and the outcome are the shared machine's.

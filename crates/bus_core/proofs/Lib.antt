@@ -31,5 +31,8 @@ pub mod HostEvents
 pub mod Done
 pub mod Doing
 pub mod MatchedPlaces
+pub mod MatchedOpening
 pub mod MatchedEntries
 pub mod MatchedSteps
+pub mod MatchedBounds
+pub mod MatchedNext

@@ -1,11 +1,10 @@
 -- What the device's and the host's steps make of one entry, counted exactly.
-use Rattle.std.proofs.Common.{◌≡◌, ℕ, suc, ◌+◌, ◌*◌, ◌/◌, ◌<◌, ◌≤◌, Bool, true, false, ◌&&◌, cond, List, [], ◌∷◌, Option, Some, None, refl, arith, ap, sym, subst, ◌∙◌}
+use Rattle.std.proofs.Common.{◌≡◌, ℕ, ◌+◌, ◌*◌, ◌/◌, ◌<◌, ◌≤◌, Bool, true, false, ◌&&◌, cond, List, [], ◌∷◌, Option, Some, None, refl, arith, ap, sym, subst, ◌∙◌}
 use Rattle.std.specs.Prelude.{◌==◌, nat_lt, option_to_list, is_some, not, length}
 use Rattle.std.proofs.lemmas.Bool.{ltb-true, ltb-false, eqb-true, eqb-false, ne_eqb, false≢true}
 use Rattle.std.proofs.lemmas.Option.{none-some}
 use Rattle.block_unit.specs.BlockMaps.{BlockMaps, with_attention}
 use Rattle.scsi_cmd.specs.declared.Command.{Command}
-use Rattle.scsi_cmd.specs.declared.SubmitFault.{SubmitFault}
 use Rattle.scsi_cmd.specs.declared.SubmitFault.TheVariants.{InUse, BadLength, TooLong, OutOfTurn}
 use Rattle.scsi_cmd.specs.declared.Op.{Op}
 use Rattle.scsi_cmd.specs.declared.Op.TheVariants.{TestUnitReady, Inquiry, ReadCapacity, Read, Write, Sync}
@@ -31,9 +30,8 @@ use Rattle.bus_core.specs.declared.Completion.{Completion}
 use Rattle.bus_core.specs.declared.Completion.TheVariants.{CommandDone, DataDone, StatusDone}
 use Rattle.bus_core.specs.Td.{Entry, pushed, is_pending, is_seen, is_over, is_data_over, has_trb, is_awaited, is_ready, data_trbs, with_trb_taken, with_event_seen, left_over_td, left_over_data, data_after_answer, data_after_status}
 use Rattle.bus_core.specs.Part.{data_td_after, took_trb, is_last_trb, event_place, seen_by, seen_data_td, data_td_for, new_entry}
-use Rattle.bus_core.specs.Shared.{has_data_trb}
 use Rattle.bus_core.specs.Soundness.{one_if, awaited_data}
-use Rattle.bus_core.specs.Matched.{same_place, times, command_events, data_events, status_events, waiting_command, awaited_command, awaited_status, awaited_data_of, request_bytes, IsCommandTd, IsStatusTd, IsMovingTd, IsWholeTd, IsShortTd, IsAnsweredTd, IsDataTd, IsMatchedEntry, awaits_data, awaits_event}
+use Rattle.bus_core.specs.Matched.{same_place, times, command_events, data_events, status_events, waiting_command, awaited_command, awaited_status, awaited_data_of, IsCommandTd, IsStatusTd, IsMovingTd, IsWholeTd, IsShortTd, IsAnsweredTd, IsDataTd, IsMatchedEntry, awaits_data, awaits_event}
 use Rattle.bus_core.proofs.MatchedPlaces.{one_self, and-true}
 
 -- an entry that became another one: the messages popped and the events posted for its place
@@ -330,7 +328,7 @@ pushed-unawaited : (td : Td) → td ≡ pushed → is_awaited td 1 ≡ true → 
 pushed-unawaited td is awaited = false≢true (sym (ap (λ t. is_awaited t 1) is) ∙ awaited)
 
 -- no TRB of it is in the ring
-awaited-taken : (td : Td) → is_awaited td 1 ≡ true → one_if (has_trb td 1) ≡ 0
+pub awaited-taken : (td : Td) → is_awaited td 1 ≡ true → one_if (has_trb td 1) ≡ 0
 awaited-taken td awaited =
     ap (λ state. one_if (has_trb (record td { state = state }) 1)) (awaited-pends td 1 awaited)
     ∙ ap (λ n. one_if (nat_lt n 1)) (awaited-spent td 1 awaited)
@@ -612,7 +610,7 @@ pub record IsSubmitted (entry : Entry) : Type 0 where
   pub ready : one_if (is_ready entry) ≡ 0
   pub sound : IsMatchedEntry entry
 
-moving-unawaited : (trbs chunk : ℕ) (td : Option Td) → IsMovingTd trbs chunk td → awaited_data trbs td ≡ 0
+pub moving-unawaited : (trbs chunk : ℕ) (td : Option Td) → IsMovingTd trbs chunk td → awaited_data trbs td ≡ 0
 moving-unawaited trbs chunk None is = refl
 moving-unawaited trbs chunk (Some td) is = unawaited td trbs (λ same. omega (arith, is.1, is.2))
 

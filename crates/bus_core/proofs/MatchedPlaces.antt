@@ -161,7 +161,7 @@ pub record IsWritten (old new : Shared) (place : Place) (entry : Option Entry) :
   pub others : (other : Place) → same_place place other ≡ false → WaitsAsBefore old new other
 
 -- the entry stands where it was written
-under-written : (old new : Shared) (place : Place) (entry : Option Entry) → IsWritten old new place entry → under new.parts place ≡ entry
+pub under-written : (old new : Shared) (place : Place) (entry : Option Entry) → IsWritten old new place entry → under new.parts place ≡ entry
 under-written old new place entry written =
     rw written.parts (fact-set_same (held_in place) None old.parts place.client written.part written.now written.there
     ∙ ap (λ entries. held_at entries place.slot) written.entries ∙ get_or-set_same written.part.entries place.slot entry None written.within)

@@ -1,6 +1,6 @@
 -- Each step keeps what waits matched.
-use Rattle.std.proofs.Common.{◌≡◌, ℕ, zero, suc, ◌+◌, ◌<◌, ◌≤◌, Bool, true, false, cond, List, [], ◌∷◌, ◌++◌, length, Option, Some, None, IfSome, refl, arith, ap, sym, subst, ◌∙◌}
-use Rattle.std.specs.Prelude.{nat_lt, slice_get, slice_set, option_to_list, option_and_then, is_some}
+use Rattle.std.proofs.Common.{◌≡◌, ℕ, ◌+◌, ◌<◌, ◌≤◌, Bool, true, false, cond, List, [], ◌∷◌, ◌++◌, length, Option, Some, None, IfSome, refl, arith, ap, sym, subst, ◌∙◌}
+use Rattle.std.specs.Prelude.{nat_lt, slice_get, slice_set, option_and_then, is_some}
 use Rattle.std.specs.Option.{option_map_or}
 use Rattle.std.proofs.lemmas.Bool.{ltb-true, false≢true}
 use Rattle.block_unit.specs.BlockMaps.{BlockMaps}
@@ -25,9 +25,10 @@ use Rattle.bus_core.specs.declared.Td.{Td}
 use Rattle.bus_core.specs.Td.{Entry, has_trb, is_awaited, is_ready, data_trbs}
 use Rattle.bus_core.specs.Tags.{place_of, command_slot}
 use Rattle.bus_core.specs.Part.{Part, with_entry, carry_act, carried_slot, carried_entry, is_last_trb, took_trb, move_act, moved_slot, moved_entry, send_act, sent_slot, sent_entry, event_act, event_place, seen_by, seen_entry, ready_after, new_entry, fault_at, submitted_part, take_act, taken, settled, entry_reply, slot_tag}
-use Rattle.bus_core.specs.Shared.{Shared, acted_on, carry_step, routed_to, routed_by_tag, due_step, due, entry_fact, part_fact, place_fact, has_ready, is_some_of, routed, with_streams_rung, accepted, answered, submitted_to, submitted_under, event_step, is_moving, is_ended, data_is_due, status_is_due}
+use Rattle.bus_core.specs.Replay.{replayed}
+use Rattle.bus_core.specs.Shared.{Shared, idle, shared_step, acted_on, carry_step, routed_to, routed_by_tag, due_step, due, entry_fact, part_fact, place_fact, has_ready, is_some_of, routed, with_streams_rung, accepted, answered, submitted_to, submitted_under, event_step, is_moving, is_ended, data_is_due, status_is_due}
 use Rattle.bus_core.specs.Soundness.{one_if, awaited_data, readied_of, times_in}
-use Rattle.bus_core.specs.Matched.{same_place, times, held_in, under, command_events, data_events, status_events, readied_in, times_ready, waiting_command, awaited_command, awaited_status, awaited_data_of, awaits_data, awaits_event, IsMatchedEntry, IsMatchedAt, IsMatched}
+use Rattle.bus_core.specs.Matched.{same_place, times, held_in, under, command_events, data_events, status_events, readied_in, times_ready, waiting_command, awaited_command, awaited_status, awaited_data_of, awaits_data, awaits_event, IsMatchedAt, IsMatched}
 use Rattle.bus_core.proofs.MatchedPlaces.{one_self, and-true, one_if-true, one_if-most, one_equal, one_apart, times_in-push, command_events-append, data_events-append, status_events-append, times-append, IsFound, under-found, held-within, IsWritten, times_ready-written, IsMatched-written}
 use Rattle.bus_core.proofs.MatchedEntries.{IsStepped, carried_to, has_trb-queued, carry-stepped, moved_to, moved_events, IsDataEvent, data_event-is, move-stepped, sent_to, send-stepped, IsSeenAs, HasSeen, event-seen, IsQuiet, ready-quiet, IsUnfaulted, unfaulted, IsSubmitted, submit-stepped}
 use Rattle.bus_core.proofs.Routes.{placed_slot-within}
@@ -175,7 +176,7 @@ due_named state tag fact (Some place) is so =
     let at = due_part fact place (slice_get state.parts place.client) so in
     record { place = place; entry = at.0; named = is; held = at.1; so = at.2 }
 
-place_fact-due : (state : Shared) (tag : ℕ) (fact : Entry → Bool) → place_fact state tag fact ≡ true → IsDueAt state tag fact
+pub place_fact-due : (state : Shared) (tag : ℕ) (fact : Entry → Bool) → place_fact state tag fact ≡ true → IsDueAt state tag fact
 place_fact-due state tag fact so = due_named state tag fact (place_of (length state.parts) tag) refl so
 
 -- MOVE
@@ -184,7 +185,7 @@ pub record IsMovingBy (phase : Phase) : Type 0 where
   pub chunk : ℕ
   pub is : phase ≡ Moving chunk
 
-moving_phase : (phase : Phase) → is_moving phase ≡ true → IsMovingBy phase
+pub moving_phase : (phase : Phase) → is_moving phase ≡ true → IsMovingBy phase
 moving_phase Queued is = absurd (false≢true is)
 moving_phase (Moving chunk) is = record { chunk = chunk; is = refl }
 moving_phase (Ended answer) is = absurd (false≢true is)
@@ -222,7 +223,7 @@ pub record IsEndedBy (phase : Phase) : Type 0 where
   pub answer : Answer
   pub is : phase ≡ Ended answer
 
-ended_phase : (phase : Phase) → is_ended phase ≡ true → IsEndedBy phase
+pub ended_phase : (phase : Phase) → is_ended phase ≡ true → IsEndedBy phase
 ended_phase Queued is = absurd (false≢true is)
 ended_phase (Moving chunk) is = absurd (false≢true is)
 ended_phase (Ended answer) is = record { answer = answer; is = refl }
@@ -294,19 +295,19 @@ event-awaited state (DataDone place) all some = data-awaited place (under state.
 event-awaited state (StatusDone place) all some = status-awaited place (under state.parts place) (omega (arith, some, (all.places place).sent))
 
 -- the event that is next is one of those that wait
-times_alike-first : (event : Completion) (rest : List Completion) → 1 ≤ times_alike event (event ∷ rest)
+pub times_alike-first : (event : Completion) (rest : List Completion) → 1 ≤ times_alike event (event ∷ rest)
 times_alike-first (CommandDone place) rest = omega (arith, one_self place)
 times_alike-first (DataDone place) rest = omega (arith, one_self place)
 times_alike-first (StatusDone place) rest = omega (arith, one_self place)
 
 -- counts of a list by its first event
-command_events-first : (place : Place) (event : Completion) (rest : List Completion) → command_events place (event ∷ rest) ≡ command_events place (event ∷ []) + command_events place rest
+pub command_events-first : (place : Place) (event : Completion) (rest : List Completion) → command_events place (event ∷ rest) ≡ command_events place (event ∷ []) + command_events place rest
 command_events-first place event rest = command_events-append place (event ∷ []) rest
 
-data_events-first : (place : Place) (event : Completion) (rest : List Completion) → data_events place (event ∷ rest) ≡ data_events place (event ∷ []) + data_events place rest
+pub data_events-first : (place : Place) (event : Completion) (rest : List Completion) → data_events place (event ∷ rest) ≡ data_events place (event ∷ []) + data_events place rest
 data_events-first place event rest = data_events-append place (event ∷ []) rest
 
-status_events-first : (place : Place) (event : Completion) (rest : List Completion) → status_events place (event ∷ rest) ≡ status_events place (event ∷ []) + status_events place rest
+pub status_events-first : (place : Place) (event : Completion) (rest : List Completion) → status_events place (event ∷ rest) ≡ status_events place (event ∷ []) + status_events place rest
 status_events-first place event rest = status_events-append place (event ∷ []) rest
 
 event-alone : (event : Completion) → NamesAlone (event_place event) [] (event ∷ [])
@@ -315,14 +316,14 @@ event-alone (DataDone place) = record { messages = λ other apart. refl; carried
 event-alone (StatusDone place) = record { messages = λ other apart. refl; carried = λ other apart. refl; moved = λ other apart. refl; sent = λ other apart. omega (arith, ap one_if apart) }
 
 -- the part after an event was seen
-abbrev seen_part : Part → ℕ → Entry → Part
+abbrev pub seen_part : Part → ℕ → Entry → Part
 seen_part part slot entry = record (with_entry part slot entry) { ready = ready_after part.ready slot entry }
 
 -- the state after it
-abbrev seen_state : Shared → Place → Part → Entry → List Completion → Shared
+abbrev pub seen_state : Shared → Place → Part → Entry → List Completion → Shared
 seen_state state place part entry rest = record state { parts = slice_set state.parts place.client (seen_part part place.slot entry); events = rest ++ [] }
 
-event_step-held : (state : Shared) (event : Completion) (rest : List Completion) (part : Part) (old new : Entry) → slice_get state.parts (event_place event).client ≡ Some part →
+pub event_step-held : (state : Shared) (event : Completion) (rest : List Completion) (part : Part) (old new : Entry) → slice_get state.parts (event_place event).client ≡ Some part →
     held_at part.entries (event_place event).slot ≡ Some old → seen_by event old ≡ Some new → (event_step state (event ∷ rest)).0 ≡ seen_state state (event_place event) part new rest
 event_step-held state event rest part old new there held seen =
     let popped : Shared = record state { events = rest } in
@@ -346,7 +347,7 @@ ready_after-own queue slot entry =
       | false ↦ omega arith
     ]
 
-seen-written : (state : Shared) (event : Completion) (rest : List Completion) (part : Part) (old new : Entry) → state.events ≡ event ∷ rest →
+pub seen-written : (state : Shared) (event : Completion) (rest : List Completion) (part : Part) (old new : Entry) → state.events ≡ event ∷ rest →
     slice_get state.parts (event_place event).client ≡ Some part → held_at part.entries (event_place event).slot ≡ Some old →
     IsWritten state (seen_state state (event_place event) part new rest) (event_place event) (Some new)
 seen-written state event rest part old new is there held =
@@ -570,3 +571,16 @@ due_step-matched state (Data tag) is all = move_step-matched state tag is all
 due_step-matched state (Status tag) is all = send_step-matched state tag is all
 due_step-matched state Event is all = event_step-matched state state.events refl all
 due_step-matched state (Take client) is all = take_step-matched state client is all
+
+-- a step keeps what waits matched; one that isn't due changes nothing
+pub shared_step-matched : (state : Shared) (step : Step) → IsMatched state → IsMatched (shared_step state step).0
+shared_step-matched state step all =
+    elim (due state step) as (λ b. due state step ≡ b → IsMatched (cond b (due_step state step) (state, idle)).0) [
+      | true ↦ λ is. due_step-matched state step is all
+      | false ↦ λ is. all
+    ] refl
+
+-- so does a list of steps
+pub replayed-matched : (state : Shared) (steps : List Step) → IsMatched state → IsMatched (replayed state steps).0
+replayed-matched state [] all = all
+replayed-matched state (step ∷ steps) all = replayed-matched (shared_step state step).0 steps (shared_step-matched state step all)

@@ -1,5 +1,5 @@
 -- What waits in the shared machine, counted exactly: each message and each event is of one TD, and each TD of one.
-use Rattle.std.specs.Prelude.{◌≡◌, ℕ, zero, suc, ◌+◌, ◌*◌, ◌<◌, ◌≤◌, ◌==◌, nat_lt, Bool, true, false, ◌&&◌, List, [], ◌∷◌, ◌++◌, length, slice_get, Option, Some, None, is_some, IfSome}
+use Rattle.std.specs.Prelude.{◌≡◌, ℕ, suc, ◌+◌, ◌*◌, ◌<◌, ◌≤◌, ◌==◌, nat_lt, Bool, true, false, ◌&&◌, List, [], ◌∷◌, length, slice_get, Option, Some, None, is_some, IfSome}
 use Rattle.std.specs.Option.{option_map_or}
 use Rattle.block_unit.specs.BlockMaps.{BlockMaps}
 use Rattle.scsi_cmd.specs.Op.{moved_bytes}
@@ -13,16 +13,17 @@ use Rattle.solo_model.specs.declared.Phase.TheVariants.{Queued, Moving, Ended, S
 use Rattle.scsi_cmd.specs.Held.{held_at}
 use Rattle.bus_core.specs.declared.TheConstants.{MAX_CLIENTS}
 use Rattle.bus_core.specs.declared.Place.{Place}
-use Rattle.bus_core.specs.declared.TdState.{TdState}
 use Rattle.bus_core.specs.declared.TdState.TheVariants.{Pending}
 use Rattle.bus_core.specs.declared.Td.{Td}
 use Rattle.bus_core.specs.declared.Completion.{Completion}
 use Rattle.bus_core.specs.declared.Completion.TheVariants.{CommandDone, DataDone, StatusDone}
 use Rattle.bus_core.specs.declared.Step.{Step}
+use Rattle.bus_core.specs.declared.Step.TheVariants.{CommandPipe, Data, Status, Event}
 use Rattle.bus_core.specs.declared.Mark.TheVariants.{Carry}
 use Rattle.bus_core.specs.Td.{Entry, pushed, is_pending, has_trb, is_awaited, data_trbs}
 use Rattle.bus_core.specs.Part.{Part, event_place, seen_by}
-use Rattle.bus_core.specs.Shared.{Shared, opening, carry_step, shared_step}
+use Rattle.bus_core.specs.Shared.{Shared, opening, due, shared_step}
+use Rattle.bus_core.specs.Tags.{place_of}
 use Rattle.bus_core.specs.Replay.{replay}
 use Rattle.bus_core.specs.Soundness.{one_if, awaited_data, readied_of, times_in}
 
@@ -178,9 +179,34 @@ pub record IsMatched (state : Shared) : Type 0 where
   pub slots : HaveSlots state.parts
   pub places : (place : Place) → IsMatchedAt state place (under state.parts place)
 
--- WHAT IS NEXT
+-- WHAT FOLLOWS
 
--- the event is of a TD of the entry whose last TRB was taken, and that the host waits for
+-- Room: a place is named once at most by a message or a command event, so that the command pipe's ring, which has both,
+-- holds no more TRBs than there are places; each kind of event names a place once at most.
+pub record HasRoom (state : Shared) : Type 0 where
+  pub pipe : length (carried_places state.events) + length state.messages ≤ TAGS * length state.parts
+  pub events : length state.events ≤ 3 * (TAGS * length state.parts)
+
+-- the same at 31 clients: a ring of 256 places has room for 254 TRBs, and an event ring of 1,024 places for 1,023 events
+pub record HasRingRoom (state : Shared) : Type 0 where
+  pub pipe : length (carried_places state.events) + length state.messages ≤ 248
+  pub events : length state.events ≤ 744
+
+-- nothing names a place twice
+pub record IsNamedOnce (state : Shared) (place : Place) : Type 0 where
+  pub command : times place state.messages + command_events place state.events ≤ 1
+  pub data_events : data_events place state.events ≤ 1
+  pub status_events : status_events place state.events ≤ 1
+  pub ready : times_ready state.parts place ≤ 1
+
+-- a message is of a queued command whose command TD is as it was pushed
+pub record IsOwnMessage (parts : List Part) (place : Place) : Type 0 where
+  pub entry : Entry
+  pub held : under parts place ≡ Some entry
+  pub queued : entry.task.phase ≡ Queued
+  pub pushed : entry.command_td ≡ pushed
+
+-- an event is of a TD that is pending and whose last TRB was taken
 abbrev pub awaits_data : ℕ → Option Td → Bool
 awaits_data trbs None = false
 awaits_data trbs (Some td) = is_awaited td trbs
@@ -190,6 +216,26 @@ awaits_event (CommandDone place) entry = is_awaited entry.command_td 1
 awaits_event (DataDone place) entry = awaits_data (data_trbs entry.task.request) entry.data_td
 awaits_event (StatusDone place) entry = is_awaited entry.status_td 1
 
+-- what the host makes of it is some entry
+pub record IsOwnEvent (parts : List Part) (event : Completion) : Type 0 where
+  pub entry : Entry
+  pub held : under parts (event_place event) ≡ Some entry
+  pub awaits : awaits_event event entry ≡ true
+  pub seen : is_some (seen_by event entry) ≡ true
+
+-- every message and every event that waits is of an entry that waits for it: none is stray
+pub record HasNoStray (state : Shared) : Type 0 where
+  pub messages : (at : ℕ) (place : Place) → slice_get state.messages at ≡ Some place → IsOwnMessage state.parts place
+  pub events : (at : ℕ) (event : Completion) → slice_get state.events at ≡ Some event → IsOwnEvent state.parts event
+
+-- a data TD has 16 TRBs at most, and is there exactly where it has one
+pub record HasDataTrbs (entry : Entry) : Type 0 where
+  pub most : data_trbs entry.task.request ≤ 16
+  pub there : is_some entry.data_td ≡ nat_lt 0 (data_trbs entry.task.request)
+
+abbrev pub HaveDataTrbs : Shared → Type 0
+HaveDataTrbs state = (place : Place) → IfSome (under state.parts place) HasDataTrbs
+
 -- THE LAWS
 
 abbrev pub OpeningIsMatched : Type 0
@@ -198,3 +244,42 @@ OpeningIsMatched = (units : List BlockMaps) → IsMatched (opening units)
 -- a step keeps what waits matched
 abbrev pub StepKeepsMatches : Type 0
 StepKeepsMatches = (state : Shared) (step : Step) → IsMatched state → IsMatched (shared_step state step).0
+
+-- what is so of every matched state
+abbrev pub FromMatches : (Shared → Type 0) → Type 0
+FromMatches Holds = (state : Shared) → IsMatched state → Holds state
+
+-- the same at 31 clients at most
+abbrev pub RingsHaveRoom : Type 0
+RingsHaveRoom = (state : Shared) → IsMatched state → length state.parts ≤ MAX_CLIENTS → HasRingRoom state
+
+abbrev pub AreNamedOnce : Shared → Type 0
+AreNamedOnce state = (place : Place) → IsNamedOnce state place
+
+-- the device always receives the command that the first message is of
+abbrev pub CarryActs : Shared → Type 0
+CarryActs state =
+    (place : Place) (rest : List Place) → state.messages ≡ place ∷ rest → (shared_step state CommandPipe).1.mark ≡ Carry (suc place.slot)
+
+-- and the host always sees the first event: what stood there becomes what the event makes of it
+abbrev pub EventActs : Shared → Type 0
+EventActs state =
+    (event : Completion) (rest : List Completion) → state.events ≡ event ∷ rest
+    → (old : Entry) × (new : Entry) × (under state.parts (event_place event) ≡ Some old) × (seen_by event old ≡ Some new)
+    × (under (shared_step state Event).0.parts (event_place event) ≡ Some new)
+
+-- where a chunk moves no data event of the place waits, and where an answer is handed over no status event
+abbrev pub NoDataEventWaits : Shared → Type 0
+NoDataEventWaits state =
+    (tag : ℕ) (place : Place) → place_of (length state.parts) tag ≡ Some place → due state (Data tag) ≡ true → data_events place state.events ≡ 0
+
+abbrev pub NoStatusEventWaits : Shared → Type 0
+NoStatusEventWaits state =
+    (tag : ℕ) (place : Place) → place_of (length state.parts) tag ≡ Some place → due state (Status tag) ≡ true → status_events place state.events ≡ 0
+
+-- what is so of the state after every list of steps
+abbrev pub OverReplays : (Shared → Type 0) → Type 0
+OverReplays Holds = (units : List BlockMaps) (steps : List Step) → Holds (replay units steps).0
+
+abbrev pub ReplaysHaveRoom : Type 0
+ReplaysHaveRoom = (units : List BlockMaps) (steps : List Step) → length units ≤ MAX_CLIENTS → HasRingRoom (replay units steps).0

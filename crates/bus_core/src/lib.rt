@@ -42,7 +42,10 @@ pub use laws::{
     acts_where_due, brings_next_len, drains_to_quiet, idle_changes_nothing, isolated,
     keeps_clients, worlds_agree,
 };
-pub use queue_laws::{matches_at_start, steps_keep_matches};
+pub use queue_laws::{
+    data_tds_fit, matches_at_start, no_queue_outgrows, none_is_stray, replays_match,
+    steps_keep_matches,
+};
 use scsi_cmd::{Buffer, Command, Reply, Request, SubmitFault, TAGS};
 use std::collections::VecDeque;
 use std::marker::Model;

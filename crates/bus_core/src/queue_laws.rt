@@ -1,7 +1,7 @@
 //! The laws of what waits in the shared machine, which hold of its definitions.
 //!
 //! Each message and each event is of one TD, and each TD of at most one of each kind; so no queue outgrows the places.
-ghost use Rattle.bus_core.specs.Matched.{OpeningIsMatched, StepKeepsMatches};
+ghost use Rattle.bus_core.specs.Matched.{OpeningIsMatched, StepKeepsMatches, FromMatches, HasRoom, RingsHaveRoom, AreNamedOnce, HasNoStray, CarryActs, EventActs, NoDataEventWaits, NoStatusEventWaits, HaveDataTrbs, OverReplays, ReplaysHaveRoom, IsMatched};
 
 /// At the start nothing stands anywhere, and nothing waits.
 pub fn matches_at_start()
@@ -11,4 +11,37 @@ pub fn matches_at_start()
 /// Each step keeps what waits matched.
 pub fn steps_keep_matches()
     ensures { StepKeepsMatches }
+{}
+
+/// No place is named twice, so that no queue outgrows the places: 248 TRBs in the command pipe's ring and 744 events are
+/// the most of 31 clients.
+pub fn no_queue_outgrows()
+    ensures once { FromMatches AreNamedOnce }
+    ensures clients { FromMatches HasRoom }
+    ensures rings { RingsHaveRoom }
+{}
+
+/// Each message is of a queued command whose TRB is in the ring, and each event of a TD that is pending and spent: the
+/// device always receives the first message, the host always sees the first event, and no step posts an event twice.
+pub fn none_is_stray()
+    ensures stray { FromMatches HasNoStray }
+    ensures carried { FromMatches CarryActs }
+    ensures seen { FromMatches EventActs }
+    ensures data_once { FromMatches NoDataEventWaits }
+    ensures status_once { FromMatches NoStatusEventWaits }
+{}
+
+/// A data TD has 1 to 16 TRBs, and a command that moves nothing has none.
+pub fn data_tds_fit()
+    ensures { FromMatches HaveDataTrbs }
+{}
+
+/// All of this holds after every list of steps from new units.
+pub fn replays_match()
+    ensures matched { OverReplays IsMatched }
+    ensures once { OverReplays AreNamedOnce }
+    ensures clients { OverReplays HasRoom }
+    ensures rings { ReplaysHaveRoom }
+    ensures stray { OverReplays HasNoStray }
+    ensures data_tds { OverReplays HaveDataTrbs }
 {}

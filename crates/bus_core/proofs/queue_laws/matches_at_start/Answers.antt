@@ -1,37 +1,6 @@
 -- Nothing waits at the start.
-use Rattle.std.proofs.Common.{◌≡◌, ℕ, zero, suc, ◌+◌, List, [], ◌∷◌, length, Option, Some, None, IfSome, refl, arith, ap, ◌∙◌}
-use Rattle.std.specs.Prelude.{replicate, slice_get}
-use Rattle.block_unit.specs.BlockMaps.{BlockMaps}
-use Rattle.scsi_cmd.specs.Held.{held_at}
-use Rattle.bus_core.specs.declared.Place.{Place}
-use Rattle.bus_core.specs.Td.{Entry}
-use Rattle.bus_core.specs.Shared.{new_parts, opening}
-use Rattle.bus_core.specs.Matched.{under, times_ready, HaveSlots, IsMatched, OpeningIsMatched}
+use Rattle.bus_core.proofs.MatchedOpening.{opening-matched}
 use Rattle.bus_core.proofs.queue_laws.matches_at_start.Goals as goal
 
-held-none : (n slot : ℕ) → held_at (replicate n (let none : Option Entry = None in none)) slot ≡ None
-held-none zero slot = refl
-held-none (suc n) zero = refl
-held-none (suc n) (suc slot) = held-none n slot
-
-slots-new : (number : ℕ) (units : List BlockMaps) → HaveSlots (new_parts number units)
-slots-new number [] client = tt
-slots-new number (unit ∷ units) zero = refl
-slots-new number (unit ∷ units) (suc client) = slots-new (suc number) units client
-
-under-new : (number : ℕ) (units : List BlockMaps) (client slot : ℕ) → under (new_parts number units) (record { client = client; slot = slot }) ≡ None
-under-new number [] client slot = refl
-under-new number (unit ∷ units) zero slot = held-none 8 slot
-under-new number (unit ∷ units) (suc client) slot = under-new (suc number) units client slot
-
-ready-new : (number : ℕ) (units : List BlockMaps) (client slot : ℕ) → times_ready (new_parts number units) (record { client = client; slot = slot }) ≡ 0
-ready-new number [] client slot = refl
-ready-new number (unit ∷ units) zero slot = refl
-ready-new number (unit ∷ units) (suc client) slot = ready-new (suc number) units client slot
-
 pub returns : goal.returns
-returns c units = record {
-  slots = slots-new 0 units;
-  places = λ place. rw (under-new 0 units place.client place.slot)
-      (record { messages = refl; carried = refl; moved = refl; sent = refl; ready = ready-new 0 units place.client place.slot; sound = tt });
-}
+returns c = opening-matched

@@ -1,0 +1,161 @@
+-- What waits in a matched state is of an entry that waits for it.
+use Rattle.std.proofs.Common.{◌≡◌, ℕ, zero, suc, ◌+◌, ◌/◌, ◌<◌, ◌≤◌, true, false, cond, List, [], ◌∷◌, length, Option, Some, None, IfSome, refl, arith, ap, sym, subst, ◌∙◌}
+use Rattle.std.specs.Prelude.{nat_lt, slice_get, is_some}
+use Rattle.std.proofs.lemmas.Bool.{ltb-true, ltb-false}
+use Rattle.std.proofs.lemmas.Option.{none-some}
+use Rattle.block_unit.specs.BlockMaps.{BlockMaps}
+use Rattle.scsi_cmd.specs.Op.{moved_bytes}
+use Rattle.scsi_cmd.specs.declared.Request.{Request}
+use Rattle.scsi_cmd.specs.declared.Request.TheVariants.{Execute}
+use Rattle.solo_model.specs.declared.Phase.TheVariants.{Queued}
+use Rattle.bus_core.specs.declared.Place.{Place}
+use Rattle.bus_core.specs.declared.Completion.{Completion}
+use Rattle.bus_core.specs.declared.Completion.TheVariants.{CommandDone, DataDone, StatusDone}
+use Rattle.bus_core.specs.declared.Step.{Step}
+use Rattle.bus_core.specs.declared.Step.TheVariants.{Event}
+use Rattle.bus_core.specs.Td.{Entry, pushed, is_awaited, data_trbs}
+use Rattle.bus_core.specs.Tags.{place_of}
+use Rattle.bus_core.specs.Part.{event_place}
+use Rattle.bus_core.specs.Shared.{Shared, idle, is_some_of, opening, carry_step, event_step, shared_step, is_moving, is_ended, data_is_due, status_is_due}
+use Rattle.bus_core.specs.Replay.{replay, replayed}
+use Rattle.bus_core.specs.Soundness.{one_if}
+use Rattle.bus_core.specs.Matched.{times, under, data_events, status_events, request_bytes, IsCommandTd, IsStatusTd, IsMovingTd, IsDataTd, IsMatchedEntry, IsMatched, IsOwnMessage, IsOwnEvent, HasNoStray, HasDataTrbs, HaveDataTrbs, CarryActs, EventActs, NoDataEventWaits, NoStatusEventWaits}
+use Rattle.bus_core.proofs.NumberOfClients.{length-parts}
+use Rattle.bus_core.proofs.Opening.{length-new_parts}
+use Rattle.bus_core.proofs.MatchedPlaces.{one_self, and-true, under-written}
+use Rattle.bus_core.proofs.MatchedEntries.{has_trb-queued, moving-unawaited, HasSeen, event-seen}
+use Rattle.bus_core.proofs.MatchedSteps.{IsHeld, matched-held, HasWaiting, message-waiting, carry_step-held, HasAwaiting, times_alike, times_alike-first, event-awaited, command_events-first, data_events-first, status_events-first, event_step-held, seen-written, seen_state, IsDueAt, place_fact-due, IsMovingBy, moving_phase, IsEndedBy, ended_phase}
+
+-- MESSAGES
+
+-- what is in a list is named there
+times-member : (places : List Place) (at : ℕ) (place : Place) → slice_get places at ≡ Some place → 1 ≤ times place places
+times-member [] at place is = absurd (none-some place is)
+times-member (first ∷ rest) zero place is = let same : first ≡ place = cc in subst (λ p. 1 ≤ times p (first ∷ rest)) same (omega (arith, one_self first))
+times-member (first ∷ rest) (suc at) place is = omega (arith, times-member rest at place is)
+
+own-message : (state : Shared) (place : Place) → IsMatched state → 1 ≤ times place state.messages → IsOwnMessage state.parts place
+own-message state place all some =
+    let waiting : HasWaiting (under state.parts place) = message-waiting state place all some in
+    let at : IsHeld state place waiting.entry = matched-held state place waiting.entry all waiting.is in
+    let queued : waiting.entry.task.phase ≡ Queued = has_trb-queued waiting.entry.task.phase waiting.entry.command_td at.here.sound.command waiting.waits in
+    record {
+      entry = waiting.entry;
+      held = waiting.is;
+      queued = queued;
+      pushed = subst (λ p. IsCommandTd p waiting.entry.command_td) queued at.here.sound.command;
+    }
+
+-- EVENTS
+
+times_alike-rest : (event first : Completion) (rest : List Completion) → times_alike event rest ≤ times_alike event (first ∷ rest)
+times_alike-rest (CommandDone place) first rest = omega (arith, command_events-first place first rest)
+times_alike-rest (DataDone place) first rest = omega (arith, data_events-first place first rest)
+times_alike-rest (StatusDone place) first rest = omega (arith, status_events-first place first rest)
+
+times_alike-member : (events : List Completion) (at : ℕ) (event : Completion) → slice_get events at ≡ Some event → 1 ≤ times_alike event events
+times_alike-member [] at event is = absurd (none-some event is)
+times_alike-member (first ∷ rest) zero event is = let same : first ≡ event = cc in subst (λ e. 1 ≤ times_alike e (first ∷ rest)) same (times_alike-first first rest)
+times_alike-member (first ∷ rest) (suc at) event is = omega (arith, times_alike-member rest at event is, times_alike-rest event first rest)
+
+own-event : (state : Shared) (event : Completion) → IsMatched state → 1 ≤ times_alike event state.events → IsOwnEvent state.parts event
+own-event state event all some =
+    let awaiting : HasAwaiting event (under state.parts (event_place event)) = event-awaited state event all some in
+    let at : IsHeld state (event_place event) awaiting.entry = matched-held state (event_place event) awaiting.entry all awaiting.is in
+    let seen : HasSeen event awaiting.entry = event-seen event awaiting.entry awaiting.awaits at.here.sound in
+    record {
+      entry = awaiting.entry;
+      held = awaiting.is;
+      awaits = awaiting.awaits;
+      seen = ap (λ (e : Option Entry). is_some e) seen.step.seen;
+    }
+
+pub matched-no_stray : (state : Shared) → IsMatched state → HasNoStray state
+matched-no_stray state all = record {
+  messages = λ at place is. own-message state place all (times-member state.messages at place is);
+  events = λ at event is. own-event state event all (times_alike-member state.events at event is);
+}
+
+-- THE STEPS THAT TAKE THEM
+
+pub matched-carries : (state : Shared) → IsMatched state → CarryActs state
+matched-carries state all place rest is =
+    let own : IsOwnMessage state.parts place = own-message state place all (subst (λ ms. 1 ≤ times place ms) (sym is) (omega (arith, one_self place))) in
+    let at : IsHeld state place own.entry = matched-held state place own.entry all own.held in
+    ap (λ ms. (cond (is_some_of ms) (carry_step state ms) (state, idle)).1.mark) is
+    ∙ ap (λ after. after.1.mark) (carry_step-held state place rest at.found.part own.entry at.found.there at.found.held own.queued)
+
+pub matched-sees : (state : Shared) → IsMatched state → EventActs state
+matched-sees state all event rest is =
+    let own : IsOwnEvent state.parts event = own-event state event all (subst (λ es. 1 ≤ times_alike event es) (sym is) (times_alike-first event rest)) in
+    let place : Place = event_place event in
+    let at : IsHeld state place own.entry = matched-held state place own.entry all own.held in
+    let seen : HasSeen event own.entry = event-seen event own.entry own.awaits at.here.sound in
+    let now : Shared = seen_state state place at.found.part seen.new rest in
+    let stepped : (shared_step state Event).0 ≡ now =
+    ap (λ es. (cond (is_some_of es) (event_step state es) (state, idle)).0) is
+    ∙ event_step-held state event rest at.found.part own.entry seen.new at.found.there at.found.held seen.step.seen in
+    let wrote : under now.parts place ≡ Some seen.new =
+    under-written state now place (Some seen.new) (seen-written state event rest at.found.part own.entry seen.new is at.found.there at.found.held) in
+    (own.entry, seen.new, own.held, seen.step.seen, ap (λ (s : Shared). under s.parts (event_place event)) stepped ∙ wrote)
+
+-- WHERE A STEP IS DUE NO EVENT OF ITS TD WAITS
+
+same_named : (found : Option Place) (one other : Place) → found ≡ Some one → found ≡ Some other → one ≡ other
+same_named found one other is so = cc
+
+pub matched-no_data_event : (state : Shared) → IsMatched state → NoDataEventWaits state
+matched-no_data_event state all tag place named is_due =
+    let at : IsDueAt state tag (data_is_due state tag) = place_fact-due state tag (data_is_due state tag) is_due in
+    let held : IsHeld state at.place at.entry = matched-held state at.place at.entry all at.held in
+    let moving : IsMovingBy at.entry.task.phase = moving_phase at.entry.task.phase (and-true (is_moving at.entry.task.phase) _ at.so).0 in
+    let chunks : IsMovingTd (data_trbs at.entry.task.request) moving.chunk at.entry.data_td =
+    subst (λ p. IsDataTd (data_trbs at.entry.task.request) p at.entry.data_td) moving.is held.here.sound.chunks in
+    subst (λ p. data_events p state.events ≡ 0) (same_named (place_of (length state.parts) tag) at.place place at.named named)
+    (held.here.moved ∙ moving-unawaited (data_trbs at.entry.task.request) moving.chunk at.entry.data_td chunks)
+
+pub matched-no_status_event : (state : Shared) → IsMatched state → NoStatusEventWaits state
+matched-no_status_event state all tag place named is_due =
+    let at : IsDueAt state tag (status_is_due state tag) = place_fact-due state tag (status_is_due state tag) is_due in
+    let held : IsHeld state at.place at.entry = matched-held state at.place at.entry all at.held in
+    let ended : IsEndedBy at.entry.task.phase = ended_phase at.entry.task.phase (and-true (is_ended at.entry.task.phase) _ at.so).0 in
+    let status : at.entry.status_td ≡ pushed = subst (λ p. IsStatusTd p at.entry.status_td) ended.is held.here.sound.status in
+    subst (λ p. status_events p state.events ≡ 0) (same_named (place_of (length state.parts) tag) at.place place at.named named)
+    (held.here.sent ∙ ap (λ td. one_if (is_awaited td 1)) status)
+
+-- DATA TDS
+
+both_some : (one other : ℕ) → (0 < one → 0 < other) → (0 < other → 0 < one) → nat_lt 0 one ≡ nat_lt 0 other
+both_some one other there back =
+    elim (nat_lt 0 one) as (λ b. nat_lt 0 one ≡ b → b ≡ nat_lt 0 other) [
+      | true ↦ λ is. elim (nat_lt 0 other) as (λ b. nat_lt 0 other ≡ b → true ≡ b) [
+        | true ↦ λ so. refl
+        | false ↦ λ so. absurd (omega (arith, there (ltb-true 0 one is), ltb-false 0 other so))
+      ] refl
+      | false ↦ λ is. elim (nat_lt 0 other) as (λ b. nat_lt 0 other ≡ b → false ≡ b) [
+        | true ↦ λ so. absurd (omega (arith, back (ltb-true 0 other so), ltb-false 0 one is))
+        | false ↦ λ so. refl
+      ] refl
+    ] refl
+
+trbs-most : (request : Request) → request_bytes request ≤ 65536 → data_trbs request ≤ 16
+trbs-most (Execute op) small = omega arith
+
+trbs-some : (request : Request) → nat_lt 0 (request_bytes request) ≡ nat_lt 0 (data_trbs request)
+trbs-some (Execute op) = both_some (moved_bytes op) ((moved_bytes op + 4095) / 4096) (λ some. omega arith) (λ some. omega arith)
+
+data-trbs : (held : Option Entry) → IfSome held IsMatchedEntry → IfSome held HasDataTrbs
+data-trbs None sound = tt
+data-trbs (Some entry) sound = record { most = trbs-most entry.task.request sound.small; there = sound.moves ∙ trbs-some entry.task.request }
+
+pub matched-data_trbs : (state : Shared) → IsMatched state → HaveDataTrbs state
+matched-data_trbs state all place = data-trbs (under state.parts place) (all.places place).sound
+
+-- REPLAYS
+
+replayed-parts : (state : Shared) (steps : List Step) → length (replayed state steps).0.parts ≡ length state.parts
+replayed-parts state [] = refl
+replayed-parts state (step ∷ steps) = replayed-parts (shared_step state step).0 steps ∙ length-parts state step
+
+pub replay-parts : (units : List BlockMaps) (steps : List Step) → length (replay units steps).0.parts ≡ length units
+replay-parts units steps = replayed-parts (opening units) steps ∙ length-new_parts 0 units

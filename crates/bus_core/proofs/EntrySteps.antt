@@ -129,20 +129,19 @@ data_over_kept true (Some td) = refl
 data_over_kept false (Some td) = refl
 
 -- an event is posted where the host waits for one
-data_awaited_kept : (trbs : ℕ) (taken : Bool) (td : Option Td) → has_data_trb trbs td ≡ true →
+data_awaited_kept : (trbs chunk : ℕ) (taken : Bool) (td : Option Td) → TookTrbs trbs chunk td →
     awaited_data trbs td + one_if (is_last_trb taken trbs td) ≤ awaited_data trbs (data_td_after taken td)
-data_awaited_kept trbs taken None armed = omega arith
-data_awaited_kept trbs false (Some td) armed = omega arith
-data_awaited_kept trbs true (Some td) armed =
-    let found = and_parts (is_pending td.state) (nat_lt td.consumed trbs) armed in
-    let less : td.consumed < trbs = ltb-true _ _ found.1 in
-    let before : one_if (is_pending td.state && (td.consumed == trbs)) ≡ 0 = ap (λ b. one_if (is_pending td.state && b)) (ne_eqb td.consumed trbs (λ same. omega arith)) ∙ ap (λ b. one_if (b && false)) found.0 in
-    let after : one_if (is_pending td.state && (td.consumed + 1 == trbs)) ≡ one_if (td.consumed + 1 == trbs) = ap (λ b. one_if (b && (td.consumed + 1 == trbs))) found.0 in
+data_awaited_kept trbs chunk taken None took = omega arith
+data_awaited_kept trbs chunk false (Some td) took = omega arith
+data_awaited_kept trbs chunk true (Some td) took =
+    let before : one_if (is_pending td.state && (td.consumed == trbs)) ≡ 0 =
+    ap (λ b. one_if (is_pending td.state && b)) (ne_eqb td.consumed trbs (λ same. omega (arith, took.0, took.1))) ∙ ap (λ state. one_if (is_pending state && false)) took.2 in
+    let after : one_if (is_pending td.state && (td.consumed + 1 == trbs)) ≡ one_if (td.consumed + 1 == trbs) = ap (λ state. one_if (is_pending state && (td.consumed + 1 == trbs))) took.2 in
     omega arith
 
 took_next : (trbs chunk : ℕ) (td : Option Td) → TookTrbs trbs chunk td → chunk + 1 < trbs → TookTrbs trbs (chunk + 1) (data_td_after true td)
 took_next trbs chunk None took less = tt
-took_next trbs chunk (Some td) took less = (omega (arith, took.0), less)
+took_next trbs chunk (Some td) took less = (omega (arith, took.0), less, took.2)
 
 lacks_still : (trbs chunk : ℕ) (td : Option Td) → TookTrbs trbs chunk td → LacksTrb trbs (data_td_after false td)
 lacks_still trbs chunk None took = tt
@@ -163,19 +162,19 @@ move_kept unit held op chunk buffer sound received armed long =
     (λ more has. record {
       sound = record { task = record { whole = all; chunk = has }; tds = sound.tds; chunks = took_next (data_trbs (Execute op)) chunk held.data_td sound.chunks (omega arith) };
       ready = ap (λ b. is_seen held.command_td.state && (is_over held.status_td.state && b)) (data_over_kept true held.data_td);
-      counted = record { waiting = omega arith; awaited = omega (arith, data_awaited_kept (data_trbs (Execute op)) true held.data_td armed) };
+      counted = record { waiting = omega arith; awaited = omega (arith, data_awaited_kept (data_trbs (Execute op)) chunk true held.data_td sound.chunks) };
       taken = received;
     })
     (λ has. record {
       sound = record { task = record { whole = all; chunk = tt }; tds = sound.tds; chunks = tt };
       ready = ap (λ b. is_seen held.command_td.state && (is_over held.status_td.state && b)) (data_over_kept true held.data_td);
-      counted = record { waiting = omega arith; awaited = omega (arith, data_awaited_kept (data_trbs (Execute op)) true held.data_td armed) };
+      counted = record { waiting = omega arith; awaited = omega (arith, data_awaited_kept (data_trbs (Execute op)) chunk true held.data_td sound.chunks) };
       taken = received;
     })
     (λ sense has. record {
       sound = record { task = record { whole = all; chunk = tt }; tds = sound.tds; chunks = lacks_still (data_trbs (Execute op)) chunk held.data_td sound.chunks };
       ready = ap (λ b. is_seen held.command_td.state && (is_over held.status_td.state && b)) (data_over_kept false held.data_td);
-      counted = record { waiting = omega arith; awaited = omega (arith, data_awaited_kept (data_trbs (Execute op)) false held.data_td armed) };
+      counted = record { waiting = omega arith; awaited = omega (arith, data_awaited_kept (data_trbs (Execute op)) chunk false held.data_td sound.chunks) };
       taken = received;
     })
     (HasChunk-after unit chunk op unit.count sound.task.chunk.1)

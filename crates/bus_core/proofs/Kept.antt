@@ -92,7 +92,7 @@ TookTrbs-first : (bytes : ℕ) → TookTrbs ((bytes + 4095) / 4096) 0 (data_td_f
 TookTrbs-first bytes =
     elim (bytes == 0) as (λ b. (bytes == 0) ≡ b → TookTrbs ((bytes + 4095) / 4096) 0 (cond b None (Some pushed))) [
       | true ↦ λ is. tt
-      | false ↦ λ is. let apart : bytes ≡ 0 → ⊥ = eqb-false bytes 0 is in (refl, omega arith)
+      | false ↦ λ is. let apart : bytes ≡ 0 → ⊥ = eqb-false bytes 0 is in (refl, omega arith, refl)
     ] refl
 
 pub IsSoundEntry-new : (count ticket : ℕ) (command : Command) (entry : Entry) → entry ≡ new_entry ticket command → length command.buffer ≡ moved_bytes command.op → IsSoundEntry count entry

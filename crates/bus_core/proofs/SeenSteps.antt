@@ -1,7 +1,7 @@
 -- What the host's events keep of one entry.
 use Rattle.std.proofs.Common.{◌≡◌, ℕ, ◌+◌, ◌≤◌, Bool, true, false, ◌&&◌, cond, Option, Some, None, refl, arith, ap, sym, ◌∙◌}
 use Rattle.std.specs.Prelude.{◌==◌}
-use Rattle.std.proofs.lemmas.Bool.{ne_eqb}
+use Rattle.std.proofs.lemmas.Bool.{eqb-true, ne_eqb}
 use Rattle.solo_model.specs.declared.Answer.{Answer}
 use Rattle.solo_model.specs.declared.Answer.TheVariants.{Good, Check}
 use Rattle.solo_model.specs.declared.Phase.{Phase}
@@ -66,13 +66,14 @@ seen_command_kept count held phase awaited sound taken =
 
 -- DATA
 
-seen_data_chunks : (trbs : ℕ) (phase : Phase) (td : Td) → HasDataTd trbs phase (Some td) → HasDataTd trbs phase (Some (with_event_seen td))
-seen_data_chunks trbs Queued td has = has
-seen_data_chunks trbs (Moving chunk) td has = has
-seen_data_chunks trbs (Ended Good) td has = tt
-seen_data_chunks trbs (Ended (Check sense)) td has = has
-seen_data_chunks trbs (Sent Good) td has = tt
-seen_data_chunks trbs (Sent (Check sense)) td has = has
+-- a TD whose last TRB was taken is none that moves data still
+seen_data_chunks : (trbs : ℕ) (phase : Phase) (td : Td) → td.consumed ≡ trbs → HasDataTd trbs phase (Some td) → HasDataTd trbs phase (Some (with_event_seen td))
+seen_data_chunks trbs Queued td spent has = absurd (omega (arith, spent, has.0, has.1))
+seen_data_chunks trbs (Moving chunk) td spent has = absurd (omega (arith, spent, has.0, has.1))
+seen_data_chunks trbs (Ended Good) td spent has = tt
+seen_data_chunks trbs (Ended (Check sense)) td spent has = has
+seen_data_chunks trbs (Sent Good) td spent has = tt
+seen_data_chunks trbs (Sent (Check sense)) td spent has = has
 
 data_tds : (phase : Phase) (held : HostEntry) (td : Td) → HasTds phase (entry_in (record held { data_td = Some td }) phase) → HasTds phase (entry_in (record held { data_td = Some (with_event_seen td) }) phase)
 data_tds Queued held td tds = tds
@@ -94,7 +95,7 @@ seen_data_kept count held td phase awaited sound taken =
     ap (λ b. one_if (is_seen held.command_td.state && (is_over held.status_td.state && b))) (pending_unover td.state found.0) ∙ ap one_if (two_false (is_seen held.command_td.state) (is_over held.status_td.state)) in
     let one : one_if (is_awaited td (data_trbs held.request)) ≡ 1 = ap one_if awaited in
     record {
-      sound = record { task = sound.task; tds = data_tds phase held td sound.tds; chunks = seen_data_chunks (data_trbs held.request) phase td sound.chunks };
+      sound = record { task = sound.task; tds = data_tds phase held td sound.tds; chunks = seen_data_chunks (data_trbs held.request) phase td (eqb-true _ _ found.1) sound.chunks };
       framed = λ number slot frame fits. record { unit = fits.unit; answer = fits.answer };
       ready = omega arith;
       counted = record { waiting = omega arith; awaited = omega arith };

@@ -18,6 +18,7 @@ use Rattle.bus_core.specs.declared.Td.{Td}
 use Rattle.bus_core.specs.Td.{Entry}
 use Rattle.bus_core.specs.declared.Completion.{Completion}
 use Rattle.bus_core.specs.declared.PipeState.{PipeState}
+use Rattle.bus_core.specs.declared.Mark.{Mark}
 use Rattle.bus_core.specs.declared.Mark.TheVariants.{Submit as SubmitMark, Quiet}
 use Rattle.bus_core.specs.declared.Step.{Step}
 use Rattle.bus_core.specs.declared.Step.TheVariants.{Submit, CommandPipe, Data, Status, Event, Take}
@@ -74,10 +75,10 @@ abbrev pub refusal : ℕ → SubmitFault → Command → Outcome
 refusal client fault command =
     record { acted = true; owner = Some client; mark = Quiet; reply = None; refused = Some (record { fault = fault; command = command }); doors = record { items = [] } }
 
--- an accepted submission under this slot rings these doorbells
-abbrev pub acceptance : ℕ → ℕ → List ℕ → Outcome
-acceptance client slot doors =
-    record { acted = true; owner = Some client; mark = SubmitMark (suc slot); reply = None; refused = None; doors = record { items = doors } }
+-- an accepted submission of this mark rings these doorbells
+abbrev pub acceptance : ℕ → Mark → List ℕ → Outcome
+acceptance client mark doors =
+    record { acted = true; owner = Some client; mark = mark; reply = None; refused = None; doors = record { items = doors } }
 
 -- DUE
 
@@ -178,7 +179,7 @@ accepted state part place tag ticket command = (
     parts = slice_set state.parts place.client (submitted_part part place.slot ticket command);
     messages = state.messages ++ place ∷ [];
   },
-  acceptance place.client place.slot (submission_doors (direction_of command.op) tag),
+  acceptance place.client (SubmitMark (suc place.slot)) (submission_doors (direction_of command.op) tag),
 )
 
 abbrev pub answered : Shared → Part → Place → ℕ → ℕ → Command → Option SubmitFault → Shared × Outcome

@@ -8,6 +8,7 @@ use Rattle.solo_model.specs.declared.Answer.TheVariants.{Good, Check}
 use Rattle.scsi_cmd.specs.Held.{AllHeld, held_at}
 use Rattle.solo_model.specs.Soundness.{IsSound}
 use Rattle.bus_core.specs.declared.TheConstants.{MAX_CLIENTS}
+use Rattle.bus_core.specs.declared.TdState.TheVariants.{Pending}
 use Rattle.bus_core.specs.declared.Td.{Td}
 use Rattle.bus_core.specs.Td.{Entry}
 use Rattle.bus_core.specs.declared.Frame.{Frame}
@@ -22,10 +23,10 @@ HasTds (Moving chunk) entry = entry.status_td ≡ pushed
 HasTds (Ended answer) entry = entry.status_td ≡ pushed
 HasTds (Sent answer) entry = Unit {0}
 
--- of a data TD of so many TRBs, as many were taken as chunks were moved, and one more is there
+-- of a data TD of so many TRBs, as many were taken as chunks were moved, one more is there, and the host waits for it
 abbrev pub TookTrbs : ℕ → ℕ → Option Td → Type 0
 TookTrbs trbs chunks None = Unit {0}
-TookTrbs trbs chunks (Some td) = (td.consumed ≡ chunks) × (chunks < trbs)
+TookTrbs trbs chunks (Some td) = (td.consumed ≡ chunks) × (chunks < trbs) × (td.state ≡ Pending)
 
 -- not every TRB of the data TD was taken, so that no event of it comes
 abbrev pub LacksTrb : ℕ → Option Td → Type 0

@@ -46,9 +46,17 @@ is_seen Retired = false
 abbrev pub data_trbs : Request → ℕ
 data_trbs (Execute op) = (moved_bytes op + 4095) / 4096
 
+-- Its TRBs are in its ring: pushed, and not yet reclaimed. The host waits for nothing of a TD that is left over, but its
+-- TRBs stay where they are until the controller is moved past them.
+abbrev pub is_in_ring : TdState → Bool
+is_in_ring Pending = true
+is_in_ring Seen = false
+is_in_ring LeftOver = true
+is_in_ring Retired = false
+
 -- its ring has a TRB of it that the controller may take
 abbrev pub has_trb : Td → ℕ → Bool
-has_trb td trbs = is_pending td.state && nat_lt td.consumed trbs
+has_trb td trbs = is_in_ring td.state && nat_lt td.consumed trbs
 
 -- the controller took its last TRB, and the host hasn't seen the event yet
 abbrev pub is_awaited : Td → ℕ → Bool

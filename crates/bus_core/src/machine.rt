@@ -8,7 +8,8 @@ ghost use Rattle.bus_core.specs.Tags.{place_of};
 
 use crate::dispatch::{command_slot_of, place_of_tag};
 use crate::pipes::{doors_of, ring_all};
-use crate::{Bus, Completion, Disks, MAX_CLIENTS, Outcome, PipeState, Place, STREAMS, Step};
+use crate::telling::index_of;
+use crate::{Bus, Completion, Disks, MAX_CLIENTS, Mark, Outcome, PipeState, Place, STREAMS, Step};
 use block_unit::Unit;
 use scsi_cmd::{Command, Direction, SubmitFault, TAGS, moves};
 use std::alloc::{AllocError, Global};
@@ -164,7 +165,11 @@ impl Bus {
                     tag,
                 );
                 self.messages.push_back_reserved(place);
-                Outcome::accepted(place, doors_of(way, tag))
+                Outcome::accepted(
+                    client,
+                    Mark::Submit(index_of(place.slot)),
+                    doors_of(way, tag),
+                )
             }
             Err((fault, command)) => Outcome::refused(client, fault, command),
         }

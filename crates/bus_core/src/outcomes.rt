@@ -1,10 +1,10 @@
-ghost use Rattle.std.specs.Prelude.{◌≡◌, ◌<◌};
+ghost use Rattle.std.specs.Prelude.{◌≡◌};
 ghost use Rattle.bus_core.specs.Part.{Part, told};
 ghost use Rattle.bus_core.specs.Shared.{acceptance, idle, outcome_of, refusal};
 
-use crate::{MOST_DOORBELLS, Mark, News, Outcome, Place, Refusal};
+use crate::{MOST_DOORBELLS, Mark, News, Outcome, Refusal};
 use arrayvec::ArrayVec;
-use scsi_cmd::{Command, SubmitFault, TAGS};
+use scsi_cmd::{Command, SubmitFault};
 
 impl Outcome {
     /// The outcome of a step that wasn't due.
@@ -49,15 +49,18 @@ impl Outcome {
         }
     }
 
-    /// The outcome of a submission that was accepted at a place and rang these doorbells.
-    pub(crate) fn accepted(place: Place, doors: ArrayVec<u32, MOST_DOORBELLS>) -> Outcome
-        requires { place.slot < TAGS }
-        ensures { result ≡ acceptance place.client place.slot doors.items }
+    /// The outcome of a client's submission that was accepted, with its mark and the doorbells that it rang.
+    pub(crate) fn accepted(
+        client: usize,
+        mark: Mark,
+        doors: ArrayVec<u32, MOST_DOORBELLS>,
+    ) -> Outcome
+        ensures { result ≡ acceptance client mark doors.items }
     {
         Outcome {
             acted: true,
-            owner: Some(place.client),
-            mark: Mark::Submit(place.slot as u16 + 1),
+            owner: Some(client),
+            mark,
             reply: None,
             refused: None,
             doors,

@@ -22,7 +22,7 @@ impl Td {
     pub(crate) fn has_trb(&self, trbs: usize) -> bool
         ensures { result ≡ has_trb self.now trbs }
     {
-        matches!(self.state, TdState::Pending) && self.consumed < trbs
+        matches!(self.state, TdState::Pending | TdState::LeftOver) && self.consumed < trbs
     }
 
     /// Whether the controller took its last TRB, of so many, and the host hasn't seen the event.

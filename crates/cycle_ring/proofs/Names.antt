@@ -17,8 +17,8 @@ item_in-place m at k below =
     ]
 
 pub item_at-pointer_of : AddressesNameItems
-item_at-pointer_of n k r ring below =
-    let turn : 0 < n - 1 = omega (arith, ring.least_places) in
+item_at-pointer_of n k r places below =
+    let turn : 0 < n - 1 = omega arith in
     let within : (r.at + k) % (n - 1) < n - 1 = mod-lt (r.at + k) turn in
     let offset : r.base + 16 * place_of n r k - r.base ≡ place_of n r k * 16 + 0 = omega arith in
     rw (
@@ -59,8 +59,8 @@ only_inside n k offset r turn whole is =
     ]
 
 pub item_at-only : NamedItemsHaveAddresses
-item_at-only n k pointer r ring is =
-    let turn : 0 < n - 1 = omega (arith, ring.least_places) in
+item_at-only n k pointer r places is =
+    let turn : 0 < n - 1 = omega arith in
     elim (cases_Bool (nat_lt pointer r.base)) as (λ _. (k < n - 1) × (pointer ≡ pointer_of n r k)) [
       | inl below ↦ let none : None ≡ Some k = rw below at is in absurd (cc)
       | inr above ↦

@@ -137,8 +137,8 @@ oldest_of n r = option_map (λ trb. (pointer_of n r 0, trb)) (consumed_item r 0)
 
 -- the address of each item of a turn names that item, and an address that names an item is that item's
 abbrev pub AddressesNameItems : Type 0
-AddressesNameItems = (n k : ℕ) (r : Ring) → IsRing n r → k < n - 1 → item_at n r (pointer_of n r k) ≡ Some k
+AddressesNameItems = (n k : ℕ) (r : Ring) → 4 ≤ n → k < n - 1 → item_at n r (pointer_of n r k) ≡ Some k
 
 abbrev pub NamedItemsHaveAddresses : Type 0
 NamedItemsHaveAddresses =
-    (n k pointer : ℕ) (r : Ring) → IsRing n r → item_at n r pointer ≡ Some k → (k < n - 1) × (pointer ≡ pointer_of n r k)
+    (n k pointer : ℕ) (r : Ring) → 4 ≤ n → item_at n r pointer ≡ Some k → (k < n - 1) × (pointer ≡ pointer_of n r k)

@@ -2,11 +2,12 @@
 use Rattle.std.proofs.Common.{◌≡◌, ◌≢◌, ℕ, ◌-◌, ◌<◌, ◌≤◌, List, length, slice_set, length-set, get_or-set_same, get_or-set_other, refl, sym, ◌∙◌, arith, inl, inr}
 use Rattle.std.proofs.lemmas.Bool.{cases_eq, cases_lt}
 use Rattle.cycle_ring.specs.Ring.{Ring, opening}
+use Rattle.event_ring.specs.Events.{Events}
 use Rattle.stream_array.specs.declared.Pipe.{Pipe}
 use Rattle.stream_array.specs.declared.Pipe.TheVariants.{Command, Status, DataIn, DataOut}
 use Rattle.stream_array.specs.Contexts.{Contexts, entry_of}
 use Rattle.stream_array.specs.Map.{HasRing, ring_base}
-use Rattle.stream_array.specs.Rings.{LinesState, IsLines, IsShown, ring_of, stream_ring, with_ring, ChangedRingIsThere, OtherRingsAreKept, OtherContextsAreKept, RingsStayInPlace}
+use Rattle.stream_array.specs.Rings.{LinesState, IsLines, IsShown, ring_of, stream_ring, with_ring, ChangedRingIsThere, OtherRingsAreKept, OtherContextsAreKept, RingsStayInPlace, with_engine, with_events, EngineLeavesRings, EventsLeaveRings}
 
 -- the ring that was changed
 pub ring_of_with_ring : ChangedRingIsThere
@@ -147,4 +148,40 @@ IsLines-with_ring l DataOut stream r lines has e = record {
   engine = lines.engine;
 }
 
-pub ruleset one_ring = (ring_of_with_ring, ring_of-others, entry_of-others, IsLines-with_ring)
+ring_of-with_engine : (l : LinesState) (r : Ring) (pipe : Pipe) (stream : ℕ) → ring_of (with_engine l r) pipe stream ≡ ring_of l pipe stream
+ring_of-with_engine l r Command stream = refl
+ring_of-with_engine l r Status stream = refl
+ring_of-with_engine l r DataIn stream = refl
+ring_of-with_engine l r DataOut stream = refl
+
+pub with_engine-kept : EngineLeavesRings
+with_engine-kept l r lines e = (
+  record {
+    status = lines.status;
+    data_in = lines.data_in;
+    data_out = lines.data_out;
+    base = λ pipe stream has. rw (ring_of-with_engine l r pipe stream) (lines.base pipe stream has);
+    engine = e;
+  },
+  ring_of-with_engine l r,
+)
+
+ring_of-with_events : (l : LinesState) (e : Events) (pipe : Pipe) (stream : ℕ) → ring_of (with_events l e) pipe stream ≡ ring_of l pipe stream
+ring_of-with_events l e Command stream = refl
+ring_of-with_events l e Status stream = refl
+ring_of-with_events l e DataIn stream = refl
+ring_of-with_events l e DataOut stream = refl
+
+pub with_events-kept : EventsLeaveRings
+with_events-kept l e lines = (
+  record {
+    status = lines.status;
+    data_in = lines.data_in;
+    data_out = lines.data_out;
+    base = λ pipe stream has. rw (ring_of-with_events l e pipe stream) (lines.base pipe stream has);
+    engine = lines.engine;
+  },
+  ring_of-with_events l e,
+)
+
+pub ruleset one_ring = (ring_of_with_ring, ring_of-others, entry_of-others, IsLines-with_ring, with_engine-kept, with_events-kept)

@@ -101,3 +101,14 @@ abbrev pub RingsStayInPlace : Type 0
 RingsStayInPlace =
     (l : LinesState) (pipe : Pipe) (stream : ℕ) (r : Ring) → IsLines l → HasRing pipe stream → r.base ≡ ring_base pipe stream
     → IsLines (with_ring l pipe stream r)
+
+-- the same of the controller's command ring and of the event ring
+abbrev pub EngineLeavesRings : Type 0
+EngineLeavesRings =
+    (l : LinesState) (r : Ring) → IsLines l → r.base ≡ ENGINE_RING
+    → IsLines (with_engine l r) × ((pipe : Pipe) (stream : ℕ) → ring_of (with_engine l r) pipe stream ≡ ring_of l pipe stream)
+
+abbrev pub EventsLeaveRings : Type 0
+EventsLeaveRings =
+    (l : LinesState) (e : Events) → IsLines l
+    → IsLines (with_events l e) × ((pipe : Pipe) (stream : ℕ) → ring_of (with_events l e) pipe stream ≡ ring_of l pipe stream)

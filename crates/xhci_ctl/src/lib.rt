@@ -33,6 +33,8 @@
 
 mod pipes;
 mod steps;
+#[cfg(test)]
+mod tests;
 
 use std::marker::Model;
 use stream_array::{EVENT_RING_PLACES, STREAM_ENTRIES};

@@ -1,0 +1,4 @@
+pub mod Texts
+pub mod Queues
+pub mod Sound
+pub mod Chains

@@ -1,0 +1,59 @@
+-- What is true of every host is kept.
+use Rattle.std.proofs.Common.{◌≡◌, ℕ, zero, suc, ◌+◌, ◌<◌, ◌≤◌, true, false, List, [], ◌∷◌, length, length-set, replicate, Option, Some, None, IfSome, refl, arith, subst, sym, ap, ◌∙◌, inl, inr}
+use Rattle.std.specs.Prelude.{slice_set, slice_index_or}
+use Rattle.std.proofs.lemmas.Bool.{cases_eq}
+use Rattle.std.proofs.lemmas.List.{get_or-set_same, get_or-set_other, get_or-replicate, length-replicate}
+use Rattle.scsi_cmd.specs.declared.Op.{Op}
+use Rattle.solo_model.specs.declared.TheConstants.{TAGS}
+use Rattle.solo_model.specs.Held.{AllHeld, held_at}
+use Rattle.uas_host.specs.declared.HostEntry.{HostEntry}
+use Rattle.uas_host.specs.declared.HostClient.{HostClient}
+use Rattle.uas_host.specs.State.{AreReady, HostState, IsHost, IsHostClient, WasTold, client_of, new_client, opening, with_client}
+use Rattle.uas_host.specs.Submit.{IsFree, new_entry, noted, submitted_client}
+use Rattle.uas_host.proofs.Queues.{AreReady-none, AreReady-set}
+
+-- ENTRIES
+
+pub AllHeld-set : {T : Type 0} → (P : T → Type 0) (places : List (Option T)) (slot : ℕ) (now : Option T) → AllHeld P places → IfSome now P → AllHeld P (slice_set places slot now)
+AllHeld-set P [] slot now all here = all
+AllHeld-set P (place ∷ places) zero now all here = (here, all.1)
+AllHeld-set P (place ∷ places) (suc slot) now all here = (all.0, AllHeld-set P places slot now all.1 here)
+
+AllHeld-none : {T : Type 0} → (P : T → Type 0) (n : ℕ) → AllHeld P (replicate n None)
+AllHeld-none P zero = tt
+AllHeld-none P (suc n) = (tt, AllHeld-none P n)
+
+-- CLIENTS
+
+new_client-sound : IsHostClient new_client
+new_client-sound = record { slots = length-replicate {A = Option HostEntry} 8 None; ready = AreReady-none 8; told = AllHeld-none WasTold 8 }
+
+pub IsHost-set : (host : HostState) (client : ℕ) (now : HostClient) → IsHost host → IsHostClient now → IsHost (with_client host client now)
+IsHost-set host client now is here = record {
+  some = omega (arith, is.some, length-set host.clients client now);
+  most = omega (arith, is.most, length-set host.clients client now);
+  clients = λ other within.
+      let inside : other < length host.clients = omega (arith, within, length-set host.clients client now) in
+      elim (cases_eq other client) as (λ _. IsHostClient (client_of (with_client host client now) other)) [
+        | inl same ↦ rw (same, get_or-set_same host.clients client now new_client (omega (arith, same, inside))) here
+        | inr apart ↦ rw (get_or-set_other host.clients client other now new_client apart) (is.clients other inside)
+      ];
+}
+
+pub opening-host : (clients : ℕ) → 1 ≤ clients → clients ≤ 31 → IsHost (opening clients)
+opening-host clients some most = record {
+  some = omega (arith, some, length-replicate clients new_client);
+  most = omega (arith, most, length-replicate clients new_client);
+  clients = λ client within. rw (get_or-replicate clients client new_client new_client (omega (arith, within, length-replicate clients new_client))) new_client-sound;
+}
+
+submitted-sound : (held : HostClient) (slot ticket : ℕ) (op : Op) → slot < TAGS → IsFree held slot → IsHostClient held → IsHostClient (submitted_client held slot ticket op)
+submitted-sound held slot ticket op within free is = record {
+  slots = length-set held.entries slot (Some (new_entry ticket op)) ∙ is.slots;
+  ready = AreReady-set held.entries held.ready.items slot None (Some (new_entry ticket op)) (omega (arith, is.slots, within)) free refl is.ready;
+  told = AllHeld-set WasTold held.entries slot (Some (new_entry ticket op)) is.told (λ over. let it : ⊥ = cc in absurd it);
+}
+
+pub noted-host : (host : HostState) (client slot ticket : ℕ) (op : Op) → client < length host.clients → slot < TAGS → IsFree (client_of host client) slot → IsHost host → IsHost (noted host client slot ticket op)
+noted-host host client slot ticket op there within free is =
+    IsHost-set host client (submitted_client (client_of host client) slot ticket op) is (submitted-sound (client_of host client) slot ticket op within free (is.clients client there))

@@ -1,0 +1,5 @@
+pub mod Tags
+pub mod State
+pub mod Tds
+pub mod Doors
+pub mod Submit

@@ -1,0 +1,105 @@
+-- What a host knows, and what is true of it.
+use Rattle.std.specs.Prelude.{◌≡◌, ℕ, ◌+◌, ◌<◌, ◌≤◌, ◌==◌, Bool, true, false, cond, ◌&&◌, List, [], ◌∷◌, ◌++◌, length, replicate, Option, Some, None, IfSome, slice_get, slice_set, slice_index_or}
+use Rattle.solo_model.specs.declared.TheConstants.{TAGS}
+use Rattle.solo_model.specs.Held.{AllHeld, held_at}
+use Rattle.uas_host.specs.declared.TheConstants.{MAX_CLIENTS}
+use Rattle.uas_host.specs.declared.TdState.{TdState}
+use Rattle.uas_host.specs.declared.TdState.TheVariants.{Pending, Seen, LeftOver, Retired}
+use Rattle.uas_host.specs.declared.Told.{Told}
+use Rattle.uas_host.specs.declared.Told.TheVariants.{Untold, Status, Response}
+use Rattle.uas_host.specs.declared.HostEntry.{HostEntry}
+use Rattle.uas_host.specs.declared.HostClient.{HostClient}
+
+-- the clients by number
+pub record HostState : Type 0 where
+  pub clients : List HostClient
+
+-- a client that has submitted nothing
+abbrev pub new_client : HostClient
+new_client = record { entries = replicate TAGS None; least = 0; ready = record { items = [] } }
+
+-- the host of so many clients that have submitted nothing
+abbrev pub opening : ℕ → HostState
+opening clients = record { clients = replicate clients new_client }
+
+-- the client of this number
+abbrev pub client_of : HostState → ℕ → HostClient
+client_of host client = slice_index_or host.clients client new_client
+
+-- the host with this for the client of this number
+abbrev pub with_client : HostState → ℕ → HostClient → HostState
+with_client host client now = record { clients = slice_set host.clients client now }
+
+-- TDS
+
+-- the host waits for its event
+abbrev pub is_pending : TdState → Bool
+is_pending Pending = true
+is_pending Seen = false
+is_pending LeftOver = false
+is_pending Retired = false
+
+abbrev pub is_seen : TdState → Bool
+is_seen Pending = false
+is_seen Seen = true
+is_seen LeftOver = false
+is_seen Retired = false
+
+-- nothing more is to be done about it
+abbrev pub is_over : TdState → Bool
+is_over Pending = false
+is_over Seen = true
+is_over LeftOver = false
+is_over Retired = true
+
+-- a command without data has no data TD
+abbrev pub is_data_over : Option TdState → Bool
+is_data_over None = true
+is_data_over (Some td) = is_over td
+
+-- A command is ready once its command and status events were seen and its data TD was seen or retired.
+abbrev pub is_ready : HostEntry → Bool
+is_ready held = is_seen held.command_td && (is_over held.status_td && is_data_over held.data_td)
+
+-- THE READY SLOTS
+
+abbrev pub one_if : Bool → ℕ
+one_if b = cond b 1 0
+
+abbrev pub readied_of : Option HostEntry → ℕ
+readied_of None = 0
+readied_of (Some held) = one_if (is_ready held)
+
+-- how often a slot is in a queue
+abbrev pub times_in : ℕ → List ℕ → ℕ
+times_in slot [] = 0
+times_in slot (first ∷ rest) = one_if (first == slot) + times_in slot rest
+
+-- the slots whose entries are ready are queued, each once, and no other slot is
+abbrev pub AreReady : List (Option HostEntry) → List ℕ → Type 0
+AreReady entries queue = (slot : ℕ) → times_in slot queue ≡ readied_of (held_at entries slot)
+
+-- the queue once a slot may have become ready; it is the last then
+abbrev pub queued_if : Bool → List ℕ → ℕ → List ℕ
+queued_if ready queue slot = cond ready (queue ++ slot ∷ []) queue
+
+-- WHAT IS TRUE OF EVERY HOST
+
+abbrev pub is_status : Told → Bool
+is_status Untold = false
+is_status (Status status sense) = true
+is_status (Response code) = false
+
+-- the status event of a command told its status
+abbrev pub WasTold : HostEntry → Type 0
+WasTold held = is_over held.status_td ≡ true → is_status held.told ≡ true
+
+pub record IsHostClient (held : HostClient) : Type 0 where
+  pub slots : length held.entries ≡ TAGS
+  pub ready : AreReady held.entries held.ready.items
+  pub told : AllHeld WasTold held.entries
+
+pub record IsHost (host : HostState) : Type 0 where
+  pub some : 1 ≤ length host.clients
+  pub most : length host.clients ≤ MAX_CLIENTS
+  pub clients : (client : ℕ) → client < length host.clients → IsHostClient (client_of host client)

@@ -1,0 +1,128 @@
+//! The host driver of USB Attached SCSI: commands of clients to TDs on rings, events to replies.
+//!
+//! Up to 31 clients have eight tags each: client c has the tags 8c + 1 to 8c + 8, of which the last is kept
+//! for task management. The stream of a tag on each pipe with streams has the tag's number.
+//!
+//! Submission: the host writes the Command unit into the tag's command buffer, lends the client's own vector
+//! as the tag's data window, pushes the data TD (where bytes move), the status TD and the command TD, and
+//! rings the data, the status and the command doorbell, in this order.
+//!
+//! TRBs (xHCI 4.11, 6.4.1.1): a data TRB moves 4,096 bytes, the last one what is left. All but the last have
+//! CH, and the last alone has IOC. Its TD Size is the number of packets of 1,024 bytes that come after it, at
+//! most 31. A status TRB has room for the longest unit, 112 bytes, with ISP and IOC; a command TRB names the
+//! 32 bytes of the unit, with IOC.
+//!
+//! Matching: an event tells no tag. The host finds it by the event's pointer alone: the address tells the
+//! pipe and the stream, and on the command pipe, which has no streams, the TRB that stands there tells the
+//! tag by the buffer that it names. So the host keeps no table of pointers. An event that fits no TD that is
+//! consumed and still waits is stray, and changes nothing.
+//!
+//! Ready: a command is ready once its command and its status event were seen and its data TD was seen or
+//! retired. The status CHECK CONDITION leaves an unseen data TD over, as its event can't come any more.
+//! Replies are taken in the order in which commands became ready; only then is the tag free again.
+//!
+//! What is promised: each call is one equation over the new host, rings, buffers, doorbells and answer
+//! (`specs/`). A refused submission changes nothing and hands the command back. [`Host::new`] takes all
+//! memory, and no other call takes any: a client's vector is moved and never copied. The host knows neither
+//! device nor controller. It stands on `stream_array` for the rings, on `frame_store` for the buffers, on
+//! `uas_iu` for the units and on `scsi_cmd` for commands and replies.
+#![tactic(auto)]
+
+mod doors;
+mod hosts;
+mod submissions;
+mod tags;
+mod tds;
+mod units;
+
+use arrayvec::ArrayVec;
+use scsi_cmd::MAX_SENSE_BYTES;
+use solo_model::{Request, TAGS};
+use std::alloc::AllocError;
+use std::marker::Model;
+
+/// Want of memory, the one refusal of a constructor.
+pub type NoMemory = AllocError;
+
+/// The most clients of a host.
+pub const MAX_CLIENTS: usize = 31;
+
+const _: () = prove!(MAX_CLIENTS == 31);
+
+/// How many doorbells one call can ring at most.
+pub const MOST_DOORS: usize = 256;
+
+const _: () = prove!(MOST_DOORS == 256);
+
+/// A client and a slot, the index of a tag less 1.
+#[derive(Clone, Copy, Debug, PartialEq, Eq)]
+pub struct Place {
+    pub client: usize,
+    pub slot: usize,
+}
+
+/// How far the host is with a TD (xHCI 4.11).
+#[derive(Clone, Copy, Debug, PartialEq, Eq)]
+pub enum TdState {
+    /// The host waits for its event.
+    Pending,
+    /// The host has seen its event.
+    Seen,
+    /// Its event can't come any more, and its TRBs may still be on their ring.
+    LeftOver,
+    /// It was left over, and its TRBs were taken off their ring.
+    Retired,
+}
+
+/// What the host was told of a command.
+#[derive(Debug, Drop)]
+pub enum Told {
+    /// Nothing yet.
+    Untold,
+    /// The status and the sense of a Sense unit.
+    Status {
+        status: u8,
+        sense: ArrayVec<u8, MAX_SENSE_BYTES>,
+    },
+    /// The code of a Response unit.
+    Response {
+        code: u8,
+    },
+}
+
+/// What the host has under a tag that is in use.
+#[derive(Debug, Drop)]
+pub struct HostEntry {
+    pub ticket: u64,
+    pub request: Request,
+    pub told: Told,
+    pub command_td: TdState,
+    pub status_td: TdState,
+    /// A command that moves no bytes has none.
+    pub data_td: Option<TdState>,
+}
+
+/// What the host has of one client: what is under its tags, the least ticket that it may submit, and the
+/// slots that are ready, the oldest first.
+#[derive(Debug, Drop)]
+pub struct HostClient {
+    pub entries: [Option<HostEntry>; TAGS],
+    pub least: u64,
+    pub ready: ArrayVec<usize, TAGS>,
+}
+
+/// The host driver of 1 to 31 clients.
+#[derive(Debug, Drop)]
+pub struct Host {
+    clients: Vec<HostClient>,
+}
+
+impl Model for Host {
+    ghost use Rattle.uas_host.specs.State.{HostState, IsHost};
+
+    ghost Value = { HostState };
+
+    ghost view = { λ host. record { clients = host.clients.items } };
+
+    ghost invariant = { λ host. IsHost (record { clients = host.clients.items }) };
+}

@@ -1,0 +1,38 @@
+// Tags, and the client and slot that a tag names.
+ghost use Rattle.std.specs.Prelude.{◌≡◌, ◌*◌, ◌+◌, ◌<◌, ◌≤◌, IfSome};
+ghost use Rattle.solo_model.specs.declared.TheConstants.{TAGS, TASK_SLOT};
+ghost use Rattle.uas_host.specs.Submit.{slot_of};
+ghost use Rattle.uas_host.specs.Tags.{command_slot, place_of};
+
+use crate::Place;
+use solo_model::{TAGS, TASK_SLOT};
+
+/// The place that a tag names for so many clients.
+pub(crate) fn place_of_tag(clients: usize, tag: u16) -> Option<Place>
+    ensures place { result ≡ place_of clients tag }
+    ensures known { IfSome result (λ place. (place.client < clients) × (place.slot < TAGS) × (tag ≡ place.client * TAGS + place.slot + 1)) }
+    ensures slot { IfSome result (λ place. place.slot ≡ slot_of tag) }
+{
+    if tag == 0 {
+        return None;
+    }
+    let before = usize::from(tag) - 1;
+    let (client, slot) = (before / TAGS, before % TAGS);
+    if client < clients {
+        Some(Place { client, slot })
+    } else {
+        None
+    }
+}
+
+/// The slot of a command tag of a client that is there.
+pub(crate) fn command_slot_of(clients: usize, client: usize, tag: u16) -> Option<usize>
+    ensures slot { result ≡ command_slot clients client tag }
+    ensures known { IfSome result (λ slot. (slot < TASK_SLOT) × (client < clients) × (tag ≡ client * TAGS + slot + 1)) }
+    ensures same { IfSome result (λ slot. slot ≡ slot_of tag) }
+{
+    match place_of_tag(clients, tag) {
+        Some(place) if place.client == client && place.slot < TASK_SLOT => Some(place.slot),
+        _ => None,
+    }
+}

@@ -1,0 +1,149 @@
+// The TDs of a command as TRBs, and their way onto the rings.
+ghost use Rattle.std.specs.Prelude.{◌≡◌, ◌+◌, ◌-◌, ◌*◌, ◌<◌, ◌≤◌, ◌^◌, length, take};
+ghost use Rattle.scsi_cmd.specs.Op.{moved_bytes};
+ghost use Rattle.scsi_cmd.specs.declared.Direction.{Direction};
+ghost use Rattle.stream_array.specs.Map.{HasRing, HasStreams, places_of};
+ghost use Rattle.stream_array.specs.Rings.{ring_of};
+ghost use Rattle.uas_host.specs.Tds.{command_td, data_td, data_trb, data_trb_count, packets_left, pushed, put_on, status_td, with_data_td, HasDataRoom, HasRoom, HasTdRoom, IsOnData};
+
+use frame_store::{COMMAND_BYTES, STATUS_BYTES};
+use scsi_cmd::{Direction, Op, moves};
+use stream_array::{Lines, Pipe};
+use xhci_trb::{Trb, TrbFlags};
+
+/// Bytes of a data TRB; the last of a TD has what is left.
+const DATA_TRB_BYTES: usize = 4096;
+
+/// Bytes of a packet (xHCI 4.11.2.4, TD Size).
+const PACKET_BYTES: usize = 1024;
+
+/// The greatest TD Size.
+const MOST_PACKETS: usize = 31;
+
+/// The most TRBs of a data TD: 65,536 bytes.
+const MOST_DATA_TRBS: usize = 16;
+
+const WINDOWS: u64 = 0x1_0000_0000;
+
+const WINDOW_SPAN: u64 = 0x1_0000;
+
+const STATUS_BUFFERS: u64 = 0x2000_0000;
+
+const COMMAND_BUFFERS: u64 = 0x1000_0000;
+
+const BUFFER_SPAN: u64 = 0x100;
+
+/// ISP and IOC.
+const STATUS_FLAGS: TrbFlags = TrbFlags(TrbFlags::ISP.0 + TrbFlags::IOC.0);
+
+/// The TRB of a status TD: room for the longest unit.
+fn status_trb(tag: u16) -> [Trb; 1]
+    ensures { result ≡ status_td tag }
+{
+    [Trb::Normal {
+        pointer: STATUS_BUFFERS + BUFFER_SPAN * u64::from(tag),
+        length: STATUS_BYTES as u32,
+        td_size: 0,
+        flags: STATUS_FLAGS,
+    }]
+}
+
+/// The TRB of a command TD: the Command unit.
+fn command_trb(tag: u16) -> [Trb; 1]
+    ensures { result ≡ command_td tag }
+{
+    [Trb::Normal {
+        pointer: COMMAND_BUFFERS + BUFFER_SPAN * u64::from(tag),
+        length: COMMAND_BYTES as u32,
+        td_size: 0,
+        flags: TrbFlags::IOC,
+    }]
+}
+
+/// How many packets so many bytes make, at most 31.
+fn packets(bytes: usize) -> u8
+    requires { bytes ≤ 65536 }
+    ensures { result ≡ packets_left bytes }
+{
+    bytes.div_ceil(PACKET_BYTES).min(MOST_PACKETS) as u8
+}
+
+/// One TRB of a data TD at this address, with so many bytes of the TD left from it on and so many TRBs
+/// behind it.
+fn data_trb_at(pointer: u64, left: usize, more: usize) -> Trb
+    requires { left ≤ 65536 }
+    ensures { result ≡ data_trb pointer left more }
+{
+    Trb::Normal {
+        pointer,
+        length: left.min(DATA_TRB_BYTES) as u32,
+        td_size: packets(left.saturating_sub(DATA_TRB_BYTES)),
+        flags: if more == 0 {
+            TrbFlags::IOC
+        } else {
+            TrbFlags::CH
+        },
+    }
+}
+
+/// The TRBs of a data TD, in the first places of the array.
+fn data_trbs_of(tag: u16, bytes: usize) -> [Trb; MOST_DATA_TRBS]
+    requires last_tag { tag ≤ 248 }
+    requires most { bytes ≤ 65536 }
+    ensures { take (data_trb_count bytes) result ≡ data_td tag bytes }
+{
+    let window = WINDOWS + WINDOW_SPAN * u64::from(tag);
+    let count = bytes.div_ceil(DATA_TRB_BYTES);
+    let mut trbs = [data_trb_at(window, bytes, 0); MOST_DATA_TRBS];
+    for k in 0..count {
+        let before = DATA_TRB_BYTES * k;
+        trbs[k] = data_trb_at(window + before as u64, bytes - before, count - 1 - k);
+    }
+    trbs
+}
+
+/// Pushes a data TD on a pipe. Asks at least one byte and room for its TRBs.
+fn push_data(lines: &mut Lines, pipe: Pipe, tag: u16, bytes: usize)
+    requires ring { HasRing pipe tag }
+    requires streams { HasStreams pipe }
+    requires last_tag { tag ≤ 248 }
+    requires some { 0 < bytes }
+    requires most { bytes ≤ 65536 }
+    requires room { HasRoom lines.old pipe tag (data_trb_count bytes) }
+    ensures { lines.new ≡ put_on lines.old pipe tag (data_td tag bytes) }
+{
+    let trbs = data_trbs_of(tag, bytes);
+    let count = bytes.div_ceil(DATA_TRB_BYTES);
+    lines.push_td(pipe, tag, &trbs[..count]).unwrap();
+}
+
+/// Pushes the data TD on the pipe of its direction, where there is one.
+fn push_data_td(lines: &mut Lines, way: Direction, tag: u16, bytes: usize)
+    requires some_tag { 0 < tag }
+    requires last_tag { tag ≤ 248 }
+    requires some { IsOnData way bytes }
+    requires room { HasDataRoom lines.old way tag bytes }
+    ensures put { lines.new ≡ with_data_td lines.old way tag bytes }
+    ensures command { ring_of lines.new Pipe.Command 0 ≡ ring_of lines.old Pipe.Command 0 }
+    ensures status { ring_of lines.new Pipe.Status tag ≡ ring_of lines.old Pipe.Status tag }
+{
+    match way {
+        Direction::Nothing => {}
+        Direction::ToHost => push_data(lines, Pipe::DataIn, tag, bytes),
+        Direction::ToDevice => push_data(lines, Pipe::DataOut, tag, bytes),
+    }
+}
+
+/// Pushes the TDs of a command: data (where bytes move), status, command. Asks room for them.
+pub(crate) fn push_tds(lines: &mut Lines, tag: u16, op: &Op)
+    requires some_tag { 0 < tag }
+    requires last_tag { tag ≤ 248 }
+    requires most { moved_bytes op.now ≤ 65536 }
+    requires room { HasTdRoom lines.old tag op.now }
+    ensures { lines.new ≡ pushed lines.old tag op.now }
+{
+    let (way, bytes) = moves(op);
+    push_data_td(lines, way, tag, bytes);
+    lines.push_td(Pipe::Status, tag, &status_trb(tag)).unwrap();
+    lines.push_td(Pipe::Command, 0, &command_trb(tag)).unwrap();
+}

@@ -1,12 +1,12 @@
 -- A data TD is a chain of TRBs that have texts.
-use Rattle.std.proofs.Common.{◌≡◌, ℕ, zero, suc, ◌+◌, ◌-◌, ◌*◌, ◌/◌, ◌^◌, ◌<◌, ◌≤◌, All, min, List, [], ◌∷◌, ◌++◌, length, take, refl, arith, ap, sym, ◌∙◌, inl, append_assoc}
+use Rattle.std.proofs.Common.{◌≡◌, ℕ, zero, suc, ◌+◌, ◌-◌, ◌*◌, ◌^◌, ◌<◌, ◌≤◌, All, List, [], ◌∷◌, ◌++◌, length, take, refl, arith, ap, sym, ◌∙◌, inl, append_assoc}
 use Rattle.std.specs.Prelude.{slice_set}
 use Rattle.std.proofs.lemmas.List.{take_more_set}
 use Rattle.std.proofs.lemmas.List.Elements.{All-cons, All-nil}
 use Rattle.xhci_trb.specs.declared.Trb.{Trb}
 use Rattle.xhci_trb.specs.Text.{HasText}
 use Rattle.cycle_ring.specs.Ring.{IsChain, IsTd}
-use Rattle.uas_host.specs.Tds.{data_td, data_trb, data_trb_count, data_trbs, packets_left, window_of}
+use Rattle.uas_host.specs.Tds.{data_td, data_trb, data_trb_count, data_trbs, window_of}
 
 pub data_trbs-chain : (more pointer left : ℕ) → IsChain (data_trbs (suc more) pointer left)
 data_trbs-chain zero pointer left = (tt, refl)

@@ -1,14 +1,14 @@
 -- What is true of every host is kept.
-use Rattle.std.proofs.Common.{◌≡◌, ℕ, zero, suc, ◌+◌, ◌<◌, ◌≤◌, true, false, List, [], ◌∷◌, length, length-set, replicate, Option, Some, None, IfSome, refl, arith, subst, sym, ap, ◌∙◌, inl, inr}
-use Rattle.std.specs.Prelude.{slice_set, slice_index_or}
+use Rattle.std.proofs.Common.{ℕ, zero, suc, ◌<◌, ◌≤◌, List, [], ◌∷◌, length, length-set, replicate, Option, Some, None, IfSome, refl, arith, ◌∙◌, inl, inr}
+use Rattle.std.specs.Prelude.{slice_set}
 use Rattle.std.proofs.lemmas.Bool.{cases_eq}
 use Rattle.std.proofs.lemmas.List.{get_or-set_same, get_or-set_other, get_or-replicate, length-replicate}
 use Rattle.scsi_cmd.specs.declared.Op.{Op}
-use Rattle.solo_model.specs.declared.TheConstants.{TAGS}
-use Rattle.solo_model.specs.Held.{AllHeld, held_at}
+use Rattle.scsi_cmd.specs.declared.TheConstants.{TAGS}
+use Rattle.scsi_cmd.specs.Held.{AllHeld}
 use Rattle.uas_host.specs.declared.HostEntry.{HostEntry}
 use Rattle.uas_host.specs.declared.HostClient.{HostClient}
-use Rattle.uas_host.specs.State.{AreReady, HostState, IsHost, IsHostClient, WasTold, client_of, new_client, opening, with_client}
+use Rattle.uas_host.specs.State.{HostState, IsHost, IsHostClient, WasTold, client_of, new_client, opening, with_client}
 use Rattle.uas_host.specs.Submit.{IsFree, new_entry, noted, submitted_client}
 use Rattle.uas_host.proofs.Queues.{AreReady-none, AreReady-set}
 

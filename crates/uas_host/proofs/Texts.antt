@@ -1,5 +1,5 @@
 -- The units in a tag's buffers.
-use Rattle.std.proofs.Common.{◌≡◌, ℕ, zero, suc, ◌+◌, ◌-◌, ◌∷◌, [], List, ◌++◌, length, get_or, Some, arith, refl, ap, ◌∙◌, length-append}
+use Rattle.std.proofs.Common.{◌≡◌, ℕ, zero, suc, ◌-◌, ◌∷◌, [], List, length, Some, arith, refl, ap, ◌∙◌, length-append}
 use Rattle.std.specs.Prelude.{slice_set, slice_index_or}
 use Rattle.uas_iu.specs.declared.Iu.TheVariants.{Command}
 use Rattle.uas_iu.specs.Units.{unit_text, Fits}

@@ -1,14 +1,14 @@
 -- A submission: what it changes, and when it is refused.
-use Rattle.std.specs.Prelude.{◌≡◌, ℕ, ◌+◌, ◌-◌, ◌%◌, ◌==◌, Bool, true, if◌then◌else◌, List, length, Option, Some, None, is_some, slice_set}
+use Rattle.std.specs.Prelude.{◌≡◌, ℕ, ◌+◌, ◌-◌, ◌%◌, ◌==◌, true, if◌then◌else◌, List, length, Option, Some, None, is_some, slice_set}
 use Rattle.scsi_cmd.specs.declared.Command.{Command}
 use Rattle.scsi_cmd.specs.declared.Op.{Op}
 use Rattle.scsi_cmd.specs.declared.SubmitFault.{SubmitFault}
 use Rattle.scsi_cmd.specs.declared.SubmitFault.TheVariants.{NotYours}
 use Rattle.scsi_cmd.specs.Op.{cdb_bytes, moved_bytes}
-use Rattle.solo_model.specs.declared.TheConstants.{TAGS}
-use Rattle.solo_model.specs.declared.Request.TheVariants.{Execute}
-use Rattle.solo_model.specs.TaggedTask.{first_submit_fault}
-use Rattle.solo_model.specs.Held.{held_at}
+use Rattle.scsi_cmd.specs.declared.TheConstants.{TAGS}
+use Rattle.scsi_cmd.specs.declared.Request.TheVariants.{Execute}
+use Rattle.scsi_cmd.specs.Submission.{first_submit_fault}
+use Rattle.scsi_cmd.specs.Held.{held_at}
 use Rattle.uas_iu.specs.declared.Iu.TheVariants.{Command as CommandUnit}
 use Rattle.uas_iu.specs.Units.{unit_text}
 use Rattle.uas_iu.specs.Lun.{lun_text}

@@ -1,6 +1,6 @@
 -- Tags, and the client and slot that a tag names. The stream of a tag is the tag.
 use Rattle.std.specs.Prelude.{ℕ, zero, suc, ◌+◌, ◌*◌, ◌/◌, ◌%◌, ◌==◌, nat_lt, ◌&&◌, if◌then◌else◌, Option, Some, None, option_and_then}
-use Rattle.solo_model.specs.declared.TheConstants.{TAGS, TASK_SLOT}
+use Rattle.scsi_cmd.specs.declared.TheConstants.{TAGS, TASK_SLOT}
 use Rattle.uas_host.specs.declared.Place.{Place}
 
 -- The tag of a place: client c has the tags 8c + 1 to 8c + 8. Worked: slot 1 of client 2 is tag 18.

@@ -1,15 +1,14 @@
 // A host and its clients.
 ghost use Rattle.std.specs.Prelude.{◌≡◌, ◌+◌, ◌<◌, ◌≤◌, ◌^◌, IfOk, MatchResult, None, Some, length, replicate};
 ghost use Rattle.scsi_cmd.specs.declared.Op.{Op};
-ghost use Rattle.solo_model.specs.declared.TheConstants.{TAGS, TASK_SLOT};
+ghost use Rattle.scsi_cmd.specs.declared.TheConstants.{TAGS, TASK_SLOT};
 ghost use Rattle.uas_host.specs.State.{IsHostClient, client_of, new_client, opening};
 ghost use Rattle.uas_host.specs.Submit.{IsFree, data_td_for, fault_at, host_fault, new_entry, noted, slot_of, submitted_client};
 
 use crate::tags::command_slot_of;
 use crate::{Host, HostClient, HostEntry, MAX_CLIENTS, NoMemory, TdState, Told};
 use arrayvec::ArrayVec;
-use scsi_cmd::{Command, Op, SubmitFault, moves};
-use solo_model::{Request, TAGS, submit_fault};
+use scsi_cmd::{Command, Op, Request, SubmitFault, TAGS, moves, submit_fault};
 use std::alloc::Global;
 
 impl HostEntry {

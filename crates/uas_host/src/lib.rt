@@ -36,8 +36,7 @@ mod tds;
 mod units;
 
 use arrayvec::ArrayVec;
-use scsi_cmd::MAX_SENSE_BYTES;
-use solo_model::{Request, TAGS};
+use scsi_cmd::{MAX_SENSE_BYTES, Request, TAGS};
 use std::alloc::AllocError;
 use std::marker::Model;
 

@@ -1,11 +1,11 @@
 // Tags, and the client and slot that a tag names.
 ghost use Rattle.std.specs.Prelude.{◌≡◌, ◌*◌, ◌+◌, ◌<◌, ◌≤◌, IfSome};
-ghost use Rattle.solo_model.specs.declared.TheConstants.{TAGS, TASK_SLOT};
+ghost use Rattle.scsi_cmd.specs.declared.TheConstants.{TAGS, TASK_SLOT};
 ghost use Rattle.uas_host.specs.Submit.{slot_of};
 ghost use Rattle.uas_host.specs.Tags.{command_slot, place_of};
 
 use crate::Place;
-use solo_model::{TAGS, TASK_SLOT};
+use scsi_cmd::{TAGS, TASK_SLOT};
 
 /// The place that a tag names for so many clients.
 pub(crate) fn place_of_tag(clients: usize, tag: u16) -> Option<Place>

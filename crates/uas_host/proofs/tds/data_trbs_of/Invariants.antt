@@ -1,4 +1,4 @@
-use Rattle.std.proofs.Common.{◌≡◌, ◌+◌, ◌-◌, ◌*◌, ◌≤◌, ◌++◌, take, length}
+use Rattle.std.proofs.Common.{◌≡◌, ◌+◌, ◌-◌, ◌*◌, ◌++◌, take, length}
 use Rattle.uas_host.specs.Tds.{data_td, data_trbs}
 use Rattle.uas_host.proofs.tds.data_trbs_of.Given as goal
 

@@ -1,4 +1,4 @@
-use Rattle.std.proofs.Common.{◌∙◌, ap, length, sym}
+use Rattle.std.proofs.Common.{◌∙◌, ap, length}
 use Rattle.uas_host.proofs.Texts.{command_text-length}
 use Rattle.uas_host.proofs.units.command_unit.Goals as goal
 

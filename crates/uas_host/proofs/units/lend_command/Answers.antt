@@ -1,4 +1,3 @@
-use Rattle.std.proofs.Common.{◌∙◌, arith, sym}
 use Rattle.uas_host.proofs.Texts.{lent-written}
 use Rattle.uas_host.proofs.units.lend_command.Goals as goal
 

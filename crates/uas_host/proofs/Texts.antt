@@ -1,8 +1,11 @@
 -- The units in a tag's buffers.
-use Rattle.std.proofs.Common.{◌≡◌, ℕ, zero, suc, ◌-◌, ◌∷◌, [], List, length, Some, arith, refl, ap, ◌∙◌, length-append}
+use Rattle.std.proofs.Common.{◌+◌, ◌*◌, sym, ◌/◌, ◌%◌, None, ◌≡◌, ℕ, zero, suc, ◌-◌, ◌∷◌, [], List, length, Some, arith, refl, ap, ◌∙◌, length-append}
 use Rattle.std.specs.Prelude.{slice_set, slice_index_or}
-use Rattle.uas_iu.specs.declared.Iu.TheVariants.{Command}
-use Rattle.uas_iu.specs.Units.{unit_text, Fits}
+use Rattle.uas_iu.specs.declared.Iu.{Iu}
+use Rattle.uas_iu.specs.declared.Iu.TheVariants.{Command, Sense, Response, Task}
+use Rattle.uas_iu.specs.Faults.{first_fault}
+use Rattle.uas_host.specs.Events.{answer_by, answer_in}
+use Rattle.uas_iu.specs.Units.{unit_text, Fits, IsTextOf}
 use Rattle.frame_store.specs.declared.TagBuffers.{TagBuffers}
 use Rattle.frame_store.specs.Buffers.{held_for, no_buffers, with_held, with_lent}
 
@@ -25,3 +28,17 @@ pub lent-written : (frames between after : List TagBuffers) (tag : ℕ) (unit bu
 lent-written frames between after tag unit buffer written then =
     then ∙ (ap (λ f. with_lent f tag (Some buffer)) written
     ∙ set-set_from frames (tag - 1) (record (held_for frames tag) { command = unit }) no_buffers (λ held. record held { lent = Some buffer }))
+
+-- a Sense unit is told by its first byte, its tag and its status, and its sense is what follows
+pub answer_by-text : (tag : ℕ) (unit : Iu) → Fits unit → first_fault (unit_text unit) ≡ None → answer_by tag unit ≡ answer_in tag (unit_text unit)
+unfolding unit_text
+answer_by-text tag (Command told lun cdb) fits sound = rw sound refl
+answer_by-text tag (Sense told status sense) fits sound =
+    let number : told / 256 % 256 * 256 + told % 256 ≡ told = omega (arith, fits.0) in rw (sound, number) refl
+answer_by-text tag (Response told code) fits sound = rw sound refl
+answer_by-text tag (Task told function task_tag lun) fits sound = rw sound refl
+
+-- bytes that are read as a unit tell what the unit tells
+pub answer_by-read : (tag : ℕ) (bytes : List ℕ) (unit : Iu) → IsTextOf bytes unit → None ≡ first_fault bytes → answer_by tag unit ≡ answer_in tag bytes
+answer_by-read tag bytes unit is sound =
+    rw is.1 (answer_by-text tag unit is.0 (sym (ap first_fault is.1) ∙ sym sound))

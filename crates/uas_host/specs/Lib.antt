@@ -3,3 +3,4 @@ pub mod State
 pub mod Tds
 pub mod Doors
 pub mod Submit
+pub mod Events

@@ -29,7 +29,11 @@
 #![tactic(auto)]
 
 mod doors;
+mod ended;
+mod events;
+mod freed;
 mod hosts;
+mod seen;
 mod submissions;
 mod tags;
 mod tds;
@@ -39,6 +43,7 @@ use arrayvec::ArrayVec;
 use scsi_cmd::{MAX_SENSE_BYTES, Request, TAGS};
 use std::alloc::AllocError;
 use std::marker::Model;
+use stream_array::Pipe;
 
 /// Want of memory, the one refusal of a constructor.
 pub type NoMemory = AllocError;
@@ -86,6 +91,36 @@ pub enum Told {
     /// The code of a Response unit.
     Response {
         code: u8,
+    },
+}
+
+/// What the host made of an event.
+#[derive(Clone, Copy, Debug, PartialEq, Eq)]
+pub enum Handled {
+    /// It was of a TD of this tag.
+    Matched(u16),
+    /// It was of the command under way on the controller's command ring.
+    Engine,
+    /// It was of nothing that the host waits for, and nothing changed.
+    Stray,
+}
+
+/// A TD by its pipe and its tag.
+#[derive(Clone, Copy, Debug, PartialEq, Eq)]
+pub(crate) struct EndedTd {
+    pub pipe: Pipe,
+    pub tag: u16,
+}
+
+/// What an event tells.
+#[derive(Debug, Drop)]
+pub(crate) enum News {
+    CommandSeen,
+    DataInSeen,
+    DataOutSeen,
+    Answered {
+        status: u8,
+        sense: ArrayVec<u8, MAX_SENSE_BYTES>,
     },
 }
 

@@ -29,9 +29,9 @@ const WINDOW_SPAN: u64 = 0x1_0000;
 
 const STATUS_BUFFERS: u64 = 0x2000_0000;
 
-const COMMAND_BUFFERS: u64 = 0x1000_0000;
+pub(crate) const COMMAND_BUFFERS: u64 = 0x1000_0000;
 
-const BUFFER_SPAN: u64 = 0x100;
+pub(crate) const BUFFER_SPAN: u64 = 0x100;
 
 /// ISP and IOC.
 const STATUS_FLAGS: TrbFlags = TrbFlags(TrbFlags::ISP.0 + TrbFlags::IOC.0);

@@ -1,0 +1,79 @@
+-- The consumed TRB at an address of a stream's ring.
+use Rattle.std.proofs.Common.{◌≡◌, ℕ, ◌+◌, ◌-◌, ◌/◌, ◌%◌, ◌<◌, ◌≤◌, ◌==◌, IfSome, Option, Some, None, nat_lt, nat_le, refl, arith, inl, inr, if◌then◌else◌, subst, sym}
+use Rattle.std.specs.Prelude.{option_and_then}
+use Rattle.std.proofs.lemmas.Bool.{ltb-true, ltb-false, leb-true, leb-false, eqb-true, cases_Bool}
+use Rattle.xhci_trb.specs.declared.Trb.{Trb}
+use Rattle.cycle_ring.specs.Ring.{Ring, IsConsumed, consumed_at, consumed_item, item_at, item_in, pointer_of}
+use Rattle.stream_array.specs.declared.Pipe.{Pipe}
+use Rattle.stream_array.specs.declared.Pipe.TheVariants.{Command, Status, DataIn, DataOut}
+use Rattle.stream_array.specs.Map.{places_of}
+use Rattle.stream_array.specs.Rings.{LinesState, ring_of}
+use Rattle.uas_host.specs.Events.{IsEnded, IsEndedOn, IsOnStream}
+use Rattle.uas_host.specs.declared.EndedTd.{EndedTd}
+
+stands : (at place : ℕ) → place < 19 → (at + item_in 19 (at % 19) place) % 19 ≡ place
+stands at place below =
+    elim (cases_Bool (nat_le (at % 19) place)) as (λ _. (at + item_in 19 (at % 19) place) % 19 ≡ place) [
+      | inl ahead ↦ let above = leb-true (at % 19) place ahead in rw ahead (omega arith)
+      | inr behind ↦ let under = leb-false (at % 19) place behind in rw behind (omega arith)
+    ]
+
+named_inside : (item offset : ℕ) (r : Ring) → offset % 16 ≡ 0 → (if nat_le 19 (offset / 16) then None else Some (item_in 19 (r.at % 19) (offset / 16))) ≡ Some item →
+    r.base + offset ≡ pointer_of 20 r item
+named_inside item offset r whole is =
+    elim (cases_Bool (nat_le 19 (offset / 16))) as (λ _. r.base + offset ≡ pointer_of 20 r item) [
+      | inl past ↦ let none : None ≡ Some item = rw past at is in absurd (cc)
+      | inr inside ↦
+          let some : Some (item_in 19 (r.at % 19) (offset / 16)) ≡ Some item = rw inside at is in
+          let same : item_in 19 (r.at % 19) (offset / 16) ≡ item = cc in
+          rw (← same, stands r.at (offset / 16) (leb-false 19 (offset / 16) inside)) (omega arith)
+    ]
+
+-- an address that names an item is the item's
+item_at-address : (r : Ring) (pointer item : ℕ) → item_at 20 r pointer ≡ Some item → pointer ≡ pointer_of 20 r item
+item_at-address r pointer item is =
+    elim (cases_Bool (nat_lt pointer r.base)) as (λ _. pointer ≡ pointer_of 20 r item) [
+      | inl below ↦ let none : None ≡ Some item = rw below at is in absurd (cc)
+      | inr above ↦
+          let here = rw above at is in
+          let reach = ltb-false pointer r.base above in
+          elim (cases_Bool ((pointer - r.base) % 16 == 0)) as (λ _. pointer ≡ pointer_of 20 r item) [
+            | inl whole ↦
+                let found = named_inside item (pointer - r.base) r (eqb-true ((pointer - r.base) % 16) 0 whole) (rw whole at here) in
+                omega (arith, found)
+            | inr part ↦ let none : None ≡ Some item = rw part at here in absurd (cc)
+          ]
+    ]
+
+consumed_item-below : (r : Ring) (item : ℕ) (trb : Trb) → consumed_item r item ≡ Some trb → item < r.got
+consumed_item-below r item trb is =
+    elim (cases_Bool (nat_lt item r.got)) as (λ _. item < r.got) [
+      | inl below ↦ ltb-true item r.got below
+      | inr above ↦ let none : None ≡ Some trb = rw above at is in absurd (cc)
+    ]
+
+consumed_at-item : (r : Ring) (pointer : ℕ) (trb : Trb) → consumed_at 20 r pointer ≡ Some trb → (item : ℕ) × (item_at 20 r pointer ≡ Some item) × IsConsumed 20 r item pointer
+consumed_at-item r pointer trb is =
+    elim (item_at 20 r pointer) as (λ o. item_at 20 r pointer ≡ o → option_and_then (consumed_item r) o ≡ Some trb →
+    (item : ℕ) × (item_at 20 r pointer ≡ Some item) × IsConsumed 20 r item pointer) [
+      | None ↦ λ none found. absurd (cc)
+      | Some item ↦ λ some found. (item, some, (consumed_item-below r item trb found, item_at-address r pointer item some))
+    ] refl is
+
+-- the TRB of an address that ends a TD is on the ring of the TD
+pub consumed-ended : (pipe : Pipe) (lines : LinesState) (stream tag pointer : ℕ) (trb : Trb) → IsOnStream pipe stream tag →
+    consumed_at (places_of pipe) (ring_of lines pipe stream) pointer ≡ Some trb → IsEndedOn pipe lines tag pointer
+consumed-ended Command lines stream tag pointer trb on is = tt
+consumed-ended Status lines stream tag pointer trb on is = rw on (consumed_at-item (ring_of lines Status stream) pointer trb is)
+consumed-ended DataIn lines stream tag pointer trb on is = rw on (consumed_at-item (ring_of lines DataIn stream) pointer trb is)
+consumed-ended DataOut lines stream tag pointer trb on is = rw on (consumed_at-item (ring_of lines DataOut stream) pointer trb is)
+
+pub ended-known : (lines : LinesState) (pointer : ℕ) (pipe : Pipe) (stream : ℕ) (trb : Trb) (found : Option EndedTd) →
+    IfSome found (λ td. (td.pipe ≡ pipe) × (1 ≤ td.tag) × (td.tag ≤ 248) × IsOnStream pipe stream td.tag) →
+    consumed_at (places_of pipe) (ring_of lines pipe stream) pointer ≡ Some trb → IfSome found (IsEnded lines pointer)
+ended-known lines pointer pipe stream trb None known is = tt
+ended-known lines pointer pipe stream trb (Some td) known is = record {
+  first_tag = known.1;
+  last_tag = known.2;
+  consumed = subst (λ (p : Pipe). IsEndedOn p lines td.tag pointer) (sym known.0) (consumed-ended pipe lines stream td.tag pointer trb known.3 is);
+}

@@ -1,0 +1,256 @@
+-- An event (xHCI 4.11.3): which TD it is of, what it tells, and what the host makes of it.
+use Rattle.std.specs.Prelude.{◌≡◌, ℕ, zero, suc, ◌+◌, ◌-◌, ◌*◌, ◌/◌, ◌%◌, ◌≤◌, ◌==◌, nat_lt, nat_le, not, Bool, true, false, ◌&&◌, if◌then◌else◌, List, [], ◌∷◌, length, take, drop, slice_set, slice_index, Option, Some, None, is_none, option_map, option_and_then}
+use Rattle.std.specs.Option.{option_map_or}
+use Rattle.xhci_trb.specs.declared.Trb.{Trb}
+use Rattle.xhci_trb.specs.declared.Trb.TheVariants.{Normal, Link, StopEndpoint, SetDequeue, TransferEvent, CommandEvent}
+use Rattle.xhci_trb.specs.Text.{has_chain}
+use Rattle.cycle_ring.specs.Ring.{IsConsumed, consumed_at, item_at, reclaimed}
+use Rattle.event_ring.specs.declared.Event.{Event}
+use Rattle.event_ring.specs.declared.Event.TheVariants.{Transfer, Command as CommandCompletion}
+use Rattle.stream_array.specs.declared.Pipe.{Pipe}
+use Rattle.stream_array.specs.declared.Pipe.TheVariants.{Command, Status, DataIn, DataOut}
+use Rattle.stream_array.specs.Map.{places_of, spot_at}
+use Rattle.stream_array.specs.Rings.{LinesState, ring_of, with_ring}
+use Rattle.frame_store.specs.declared.TagBuffers.{TagBuffers}
+use Rattle.frame_store.specs.Buffers.{held_for}
+use Rattle.uas_iu.specs.declared.Iu.{Iu}
+use Rattle.uas_iu.specs.declared.Iu.TheVariants.{Command as CommandUnit, Sense as SenseUnit, Response as ResponseUnit, Task as TaskUnit}
+use Rattle.uas_iu.specs.Faults.{first_fault, identifier}
+use Rattle.scsi_cmd.specs.declared.Direction.{Direction}
+use Rattle.scsi_cmd.specs.declared.Direction.TheVariants.{Nothing, ToHost, ToDevice}
+use Rattle.scsi_cmd.specs.declared.Request.{Request}
+use Rattle.scsi_cmd.specs.declared.Request.TheVariants.{Execute}
+use Rattle.scsi_cmd.specs.Op.{direction_of}
+use Rattle.scsi_cmd.specs.Held.{held_at}
+use Rattle.uas_host.specs.declared.TdState.{TdState}
+use Rattle.uas_host.specs.declared.TdState.TheVariants.{Seen, LeftOver}
+use Rattle.uas_host.specs.declared.Told.TheVariants.{Status as ToldStatus}
+use Rattle.uas_host.specs.declared.HostEntry.{HostEntry}
+use Rattle.uas_host.specs.declared.HostClient.{HostClient}
+use Rattle.uas_host.specs.declared.Handled.{Handled}
+use Rattle.uas_host.specs.declared.Handled.TheVariants.{Matched, Stray}
+use Rattle.uas_host.specs.declared.EndedTd.{EndedTd}
+use Rattle.uas_host.specs.declared.News.{News}
+use Rattle.uas_host.specs.declared.News.TheVariants.{CommandSeen, DataInSeen, DataOutSeen, Answered}
+use Rattle.uas_host.specs.declared.Place.{Place}
+use Rattle.uas_host.specs.State.{HostState, client_of, is_pending, is_ready, queued_if, with_client}
+use Rattle.uas_host.specs.Tags.{place_of}
+
+-- WHICH TD
+
+abbrev pub is_tag : ℕ → Bool
+is_tag tag = nat_lt 0 tag && nat_le tag 248
+
+-- the tag at whose command buffer an address is. Worked: 10001200h is tag 18's, and 10001201h is none's.
+abbrev pub tag_at_buffer : ℕ → Option ℕ
+tag_at_buffer pointer =
+    if nat_lt pointer 0x10000000 then None
+    else (if not ((pointer - 0x10000000) % 0x100 == 0) then None
+    else (if is_tag ((pointer - 0x10000000) / 0x100) then Some ((pointer - 0x10000000) / 0x100) else None))
+
+-- the tag whose command buffer a TRB of the command pipe names
+abbrev pub command_tag : Trb → Option ℕ
+command_tag (Normal pointer length td_size flags) = tag_at_buffer pointer
+command_tag (Link pointer toggle chain ioc) = None
+command_tag (StopEndpoint endpoint slot) = None
+command_tag (SetDequeue pointer cycle stream endpoint slot) = None
+command_tag (TransferEvent pointer residual code endpoint slot) = None
+command_tag (CommandEvent pointer code slot) = None
+
+-- the tag of a TRB on a ring: on a pipe with streams the stream's number
+abbrev pub trb_tag : Pipe → ℕ → Trb → Option ℕ
+trb_tag Command stream trb = command_tag trb
+trb_tag Status stream trb = Some stream
+trb_tag DataIn stream trb = Some stream
+trb_tag DataOut stream trb = Some stream
+
+-- the TD that a TRB ends: one with CH ends none
+abbrev pub ended_td : Pipe → ℕ → Trb → Option EndedTd
+ended_td pipe stream trb = if has_chain trb then None else option_map (λ tag. record { pipe = pipe; tag = tag }) (trb_tag pipe stream trb)
+
+-- the TD whose last TRB, consumed and not reclaimed, is at this address
+abbrev pub ended_on : LinesState → ℕ → Pipe × ℕ × ℕ → Option EndedTd
+ended_on lines pointer at = option_and_then (ended_td at.0 at.1) (consumed_at (places_of at.0) (ring_of lines at.0 at.1) pointer)
+
+abbrev pub ended_at : LinesState → ℕ → Option EndedTd
+ended_at lines pointer = option_and_then (ended_on lines pointer) (spot_at pointer)
+
+-- WHAT THE EVENT TELLS
+
+-- the bytes are a Sense unit of this tag
+abbrev pub is_sense_of : ℕ → List ℕ → Bool
+is_sense_of tag bytes = is_none (first_fault bytes) && ((identifier bytes == 3) && (slice_index bytes 2 * 256 + slice_index bytes 3 == tag))
+
+-- the answer that a unit tells, if it is a Sense unit of this tag
+abbrev pub answer_by : ℕ → Iu → Option News
+answer_by tag (CommandUnit told_tag lun cdb) = None
+answer_by tag (SenseUnit told_tag status sense) = if told_tag == tag then Some (Answered status sense) else None
+answer_by tag (ResponseUnit told_tag code) = None
+answer_by tag (TaskUnit told_tag function task_tag lun) = None
+
+-- the status and the sense that they tell: byte 6, and the bytes from 16 on
+abbrev pub answer_in : ℕ → List ℕ → Option News
+answer_in tag bytes = if is_sense_of tag bytes then Some (Answered (slice_index bytes 6) (record { items = drop 16 bytes })) else None
+
+-- Success is 1, Short Packet 13 (xHCI 6.4.5)
+abbrev pub succeeded : ℕ → News → Option News
+succeeded code news = if code == 1 then Some news else None
+
+-- What an event of a TD tells, by its residual and its code. A status TD has 112 bytes, of which the residual weren't
+-- written. Worked: residual 96 leaves the first 16 bytes of the status buffer; above 112 none is left.
+abbrev pub news_on : Pipe → List TagBuffers → ℕ → ℕ → ℕ → Option News
+news_on Command frames residual code tag = succeeded code CommandSeen
+news_on Status frames residual code tag = if code == 13 then answer_in tag (take (112 - residual) (held_for frames tag).status) else None
+news_on DataIn frames residual code tag = succeeded code DataInSeen
+news_on DataOut frames residual code tag = succeeded code DataOutSeen
+
+abbrev pub news_of : List TagBuffers → ℕ → ℕ → EndedTd → Option News
+news_of frames residual code td = news_on td.pipe frames residual code td.tag
+
+-- WHAT THE HOST MAKES OF IT
+
+abbrev pub left_over_td : TdState → TdState
+left_over_td td = if is_pending td then LeftOver else td
+
+abbrev pub left_over_data : Option TdState → Option TdState
+left_over_data td = option_map left_over_td td
+
+-- CHECK CONDITION, 02h, leaves an unseen data TD over
+abbrev pub data_after : ℕ → Option TdState → Option TdState
+data_after status td = if status == 2 then left_over_data td else td
+
+abbrev pub goes_to_host : Direction → Bool
+goes_to_host Nothing = false
+goes_to_host ToHost = true
+goes_to_host ToDevice = false
+
+abbrev pub goes_to_device : Direction → Bool
+goes_to_device Nothing = false
+goes_to_device ToHost = false
+goes_to_device ToDevice = true
+
+abbrev pub request_direction : Request → Direction
+request_direction (Execute op) = direction_of op
+
+-- the data TD is seen, where it waits and the event is of its pipe
+abbrev pub seen_data : Bool → HostEntry → Option TdState → Option HostEntry
+seen_data right held None = None
+seen_data right held (Some td) = if right && is_pending td then Some (record held { data_td = Some Seen }) else None
+
+-- the entry once the host has seen the event, or none where it waits for no such event
+abbrev pub seen : News → HostEntry → Option HostEntry
+seen CommandSeen held = if is_pending held.command_td then Some (record held { command_td = Seen }) else None
+seen DataInSeen held = seen_data (goes_to_host (request_direction held.request)) held held.data_td
+seen DataOutSeen held = seen_data (goes_to_device (request_direction held.request)) held held.data_td
+seen (Answered status sense) held =
+    if is_pending held.status_td
+    then Some (record held { told = ToldStatus status sense; status_td = Seen; data_td = data_after status held.data_td })
+    else None
+
+-- a command that is ready now is the last of the ready ones
+abbrev pub with_seen : HostClient → ℕ → HostEntry → HostClient
+with_seen client slot now = record {
+  entries = slice_set client.entries slot (Some now);
+  least = client.least;
+  ready = record { items = queued_if (is_ready now) client.ready.items slot };
+}
+
+abbrev pub client_seen : News → HostClient → ℕ → Option HostClient
+client_seen news client slot = option_map (with_seen client slot) (option_and_then (seen news) (held_at client.entries slot))
+
+abbrev pub place_seen : News → HostState → Place → Option HostState
+place_seen news host place = option_map (with_client host place.client) (client_seen news (client_of host place.client) place.slot)
+
+-- the host once it has seen the event of a tag
+abbrev pub host_seen : News → HostState → ℕ → Option HostState
+host_seen news host tag = option_and_then (place_seen news host) (place_of (length host.clients) tag)
+
+-- WHICH TRBS ARE FREE AGAIN
+
+-- what the host has under a tag
+abbrev pub held_of : HostState → ℕ → Option HostEntry
+held_of host tag = option_and_then (λ place. held_at (client_of host place.client).entries place.slot) (place_of (length host.clients) tag)
+
+-- the host waits for the event of the command TD of this tag
+abbrev pub awaits_command : HostState → ℕ → Bool
+awaits_command host tag = option_map_or (λ held. is_pending held.command_td) (held_of host tag) false
+
+abbrev pub is_awaited : HostState → Trb → Bool
+is_awaited host trb = option_map_or (awaits_command host) (command_tag trb) false
+
+-- how many of these TRBs of the command pipe come before the first whose event the host waits for
+abbrev pub done_before : HostState → List Trb → ℕ
+done_before host [] = 0
+done_before host (trb ∷ rest) = if is_awaited host trb then 0 else suc (done_before host rest)
+
+-- so many TRBs of the command pipe are freed
+abbrev pub with_commands_freed : LinesState → ℕ → LinesState
+with_commands_freed lines zero = lines
+with_commands_freed lines (suc more) = with_ring lines Command 0 (reclaimed (places_of Command) (suc more) lines.command)
+
+abbrev pub commands_freed : HostState → LinesState → LinesState
+commands_freed host lines = with_commands_freed lines (done_before host (take lines.command.got lines.command.put))
+
+-- the TRBs of a stream's ring are freed up to and with this one
+abbrev pub with_freed : LinesState → Pipe → ℕ → Option ℕ → LinesState
+with_freed lines pipe stream None = lines
+with_freed lines pipe stream (Some item) = with_ring lines pipe stream (reclaimed (places_of pipe) (item + 1) (ring_of lines pipe stream))
+
+abbrev pub stream_freed : LinesState → Pipe → ℕ → ℕ → LinesState
+stream_freed lines pipe stream pointer = with_freed lines pipe stream (item_at (places_of pipe) (ring_of lines pipe stream) pointer)
+
+-- The rings once the event of a TD was seen. An event out of order frees no TRB of the command pipe that the host still
+-- waits for, nor any behind it.
+abbrev pub freed_on : Pipe → HostState → LinesState → ℕ → ℕ → LinesState
+freed_on Command host lines tag pointer = commands_freed host lines
+freed_on Status host lines tag pointer = stream_freed lines Status tag pointer
+freed_on DataIn host lines tag pointer = stream_freed lines DataIn tag pointer
+freed_on DataOut host lines tag pointer = stream_freed lines DataOut tag pointer
+
+-- ALL TOGETHER
+
+-- what an event may change
+pub record Sides : Type 0 where
+  pub host : HostState
+  pub lines : LinesState
+
+abbrev pub handled_seen : Sides → ℕ → EndedTd → Option HostState → Sides × Handled
+handled_seen sides pointer td None = (sides, Stray)
+handled_seen sides pointer td (Some host) = (record { host = host; lines = freed_on td.pipe host sides.lines td.tag pointer }, Matched td.tag)
+
+abbrev pub handled_news : Sides → ℕ → EndedTd → Option News → Sides × Handled
+handled_news sides pointer td None = (sides, Stray)
+handled_news sides pointer td (Some news) = handled_seen sides pointer td (host_seen news sides.host td.tag)
+
+abbrev pub handled_td : Sides → List TagBuffers → ℕ → ℕ → ℕ → Option EndedTd → Sides × Handled
+handled_td sides frames pointer residual code None = (sides, Stray)
+handled_td sides frames pointer residual code (Some td) = handled_news sides pointer td (news_of frames residual code td)
+
+-- What the host makes of an event. No command is under way on the controller's command ring, so none completes; neither
+-- endpoint nor slot is read.
+abbrev pub handled : Sides → List TagBuffers → Event → Sides × Handled
+handled sides frames (Transfer pointer residual code endpoint slot) = handled_td sides frames pointer residual code (ended_at sides.lines pointer)
+handled sides frames (CommandCompletion pointer code slot) = (sides, Stray)
+
+-- on a pipe with streams the tag is the stream
+abbrev pub IsOnStream : Pipe → ℕ → ℕ → Type 0
+IsOnStream Command stream tag = Unit {0}
+IsOnStream Status stream tag = tag ≡ stream
+IsOnStream DataIn stream tag = tag ≡ stream
+IsOnStream DataOut stream tag = tag ≡ stream
+
+-- What is known of a TD whose last TRB is at an address: its tag is one, and on a pipe with streams its ring has that TRB.
+abbrev pub IsConsumedAt : LinesState → Pipe → ℕ → ℕ → Type 0
+IsConsumedAt lines pipe stream pointer =
+    (item : ℕ) × (item_at (places_of pipe) (ring_of lines pipe stream) pointer ≡ Some item) × IsConsumed (places_of pipe) (ring_of lines pipe stream) item pointer
+
+abbrev pub IsEndedOn : Pipe → LinesState → ℕ → ℕ → Type 0
+IsEndedOn Command lines tag pointer = Unit {0}
+IsEndedOn Status lines tag pointer = IsConsumedAt lines Status tag pointer
+IsEndedOn DataIn lines tag pointer = IsConsumedAt lines DataIn tag pointer
+IsEndedOn DataOut lines tag pointer = IsConsumedAt lines DataOut tag pointer
+
+pub record IsEnded (lines : LinesState) (pointer : ℕ) (td : EndedTd) : Type 0 where
+  pub first_tag : 1 ≤ td.tag
+  pub last_tag : td.tag ≤ 248
+  pub consumed : IsEndedOn td.pipe lines td.tag pointer

@@ -1,0 +1,91 @@
+// Events.
+ghost use Rattle.std.specs.Prelude.{◌≡◌, ◌≤◌};
+ghost use Rattle.uas_host.specs.Events.{handled, news_of, news_on, succeeded, Sides};
+ghost use Rattle.stream_array.specs.declared.Pipe.{Pipe};
+
+use crate::ended::td_ended_at;
+use crate::units::read_answer;
+use crate::{EndedTd, Handled, Host, MOST_DOORS, News};
+use arrayvec::ArrayVec;
+use event_ring::Event;
+use frame_store::{Frames, STATUS_BYTES};
+use stream_array::{Lines, Pipe};
+
+/// Completion code Success (xHCI 6.4.5).
+const SUCCESS: u8 = 1;
+
+/// Completion code Short Packet.
+const SHORT_PACKET: u8 = 13;
+
+/// What an event of a command or data TD tells.
+fn where_success(code: u8, news: News) -> Option<News>
+    ensures { result ≡ succeeded code news }
+{
+    if code == SUCCESS { Some(news) } else { None }
+}
+
+/// What the status buffer of a tag tells, of which the residual wasn't written.
+fn answer_of(frames: &Frames, residual: u32, code: u8, tag: u16) -> Option<News>
+    requires first_tag { 1 ≤ tag }
+    requires last_tag { tag ≤ 248 }
+    ensures { result ≡ news_on Pipe.Status frames.now residual code tag }
+{
+    if code != SHORT_PACKET {
+        return None;
+    }
+    let written = STATUS_BYTES.saturating_sub(residual as usize);
+    read_answer(tag, &frames.status(tag)[..written])
+}
+
+/// What an event of a TD tells.
+fn news_in(frames: &Frames, residual: u32, code: u8, td: EndedTd) -> Option<News>
+    requires first_tag { 1 ≤ td.tag }
+    requires last_tag { td.tag ≤ 248 }
+    ensures { result ≡ news_of frames.now residual code td }
+{
+    match td.pipe {
+        Pipe::Command => where_success(code, News::CommandSeen),
+        Pipe::Status => answer_of(frames, residual, code, td.tag),
+        Pipe::DataIn => where_success(code, News::DataInSeen),
+        Pipe::DataOut => where_success(code, News::DataOutSeen),
+    }
+}
+
+impl Host {
+    /// Takes in an event, any event. It is `Matched` where it is a transfer event whose pointer is that of the
+    /// last TRB of a consumed TD that still waits, with code 1 (13 for a status), and for a status where the
+    /// first 112 bytes less the residual of the status buffer are a Sense unit of that tag. Its TD is seen
+    /// then, its TRBs are free again, and a command that is ready now is the last of the ready ones. Any other
+    /// event is `Stray`, and nothing changes. No call rings a doorbell yet.
+    pub fn on_event(
+        &mut self,
+        lines: &mut Lines,
+        frames: &Frames,
+        doors: &mut ArrayVec<u32, MOST_DOORS>,
+        event: Event,
+    ) -> Handled
+        ensures handled { handled (record { host = self.old; lines = lines.old }) frames.now event ≡ (record { host = self.new; lines = lines.new }, result) }
+        ensures doors { doors.new ≡ doors.old }
+    {
+        let Event::Transfer {
+            pointer,
+            residual,
+            code,
+            ..
+        } = event
+        else {
+            return Handled::Stray;
+        };
+        let Some(td) = td_ended_at(lines, pointer) else {
+            return Handled::Stray;
+        };
+        let Some(news) = news_in(frames, residual, code, td) else {
+            return Handled::Stray;
+        };
+        if !self.see(td.tag, news) {
+            return Handled::Stray;
+        }
+        self.free(lines, pointer, td);
+        Handled::Matched(td.tag)
+    }
+}

@@ -1,0 +1,59 @@
+// Which TRBs are free again once an event was seen.
+ghost use Rattle.std.specs.Prelude.{◌≡◌};
+ghost use Rattle.uas_host.specs.Events.{awaits_command, commands_freed, freed_on, held_of, is_awaited, IsEnded};
+
+use crate::ended::command_tag_of;
+use crate::tags::place_of_tag;
+use crate::{EndedTd, Host};
+use stream_array::{Lines, Pipe};
+use xhci_trb::Trb;
+
+impl Host {
+    /// Whether the host waits for the event of the command TD of this tag.
+    fn waits_for_command(&self, tag: u16) -> bool
+        ensures { result ≡ awaits_command self.now tag }
+    {
+        let Some(place) = place_of_tag(self.clients.len(), tag) else {
+            return false;
+        };
+        match &self.clients[place.client].entries[place.slot] {
+            Some(entry) => entry.command_td.is_pending(),
+            None => false,
+        }
+    }
+
+    /// Whether the host waits for the event of this TRB of the command pipe.
+    fn waits_for(&self, trb: &Trb) -> bool
+        ensures { result ≡ is_awaited self.now trb.now }
+    {
+        match command_tag_of(trb) {
+            Some(tag) => self.waits_for_command(tag),
+            None => false,
+        }
+    }
+
+    /// Frees the consumed TRBs of the command pipe before the first whose event the host waits for.
+    fn free_commands(&self, lines: &mut Lines)
+        ensures { lines.new ≡ commands_freed self.now lines.old }
+    {
+        while let Some((pointer, trb)) = lines.oldest(Pipe::Command, 0) {
+            if self.waits_for(&trb) {
+                break;
+            }
+            lines.reclaim(Pipe::Command, 0, pointer);
+        }
+    }
+
+    /// Frees the TRBs of a TD whose event was seen: on a pipe with streams up to and with the event's.
+    pub(crate) fn free(&self, lines: &mut Lines, pointer: u64, td: EndedTd)
+        requires { IsEnded lines.old pointer td }
+        ensures { lines.new ≡ freed_on td.pipe self.now lines.old td.tag pointer }
+    {
+        match td.pipe {
+            Pipe::Command => self.free_commands(lines),
+            Pipe::Status => lines.reclaim(Pipe::Status, td.tag, pointer),
+            Pipe::DataIn => lines.reclaim(Pipe::DataIn, td.tag, pointer),
+            Pipe::DataOut => lines.reclaim(Pipe::DataOut, td.tag, pointer),
+        }
+    }
+}

@@ -5,3 +5,4 @@ pub mod Chains
 pub mod Seeing
 pub mod Freeing
 pub mod Ends
+pub mod Replying

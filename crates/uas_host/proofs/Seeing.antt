@@ -94,7 +94,7 @@ with_seen-sound client slot held now within is kept told sound = record {
 }
 
 -- whatever a place holds
-held-at : {T : Type 0} → (P : T → Type 0) (places : List (Option T)) (slot : ℕ) (held : T) → AllHeld P places → held_at places slot ≡ Some held → P held
+pub held-at : {T : Type 0} → (P : T → Type 0) (places : List (Option T)) (slot : ℕ) (held : T) → AllHeld P places → held_at places slot ≡ Some held → P held
 held-at P [] slot held all is = absurd (cc)
 held-at P (place ∷ places) zero held all is = let here : IfSome place P = all.0 in subst (λ o. IfSome o P) is here
 held-at P (place ∷ places) (suc slot) held all is = held-at P places slot held all.1 is

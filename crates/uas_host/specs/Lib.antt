@@ -4,3 +4,4 @@ pub mod Tds
 pub mod Doors
 pub mod Submit
 pub mod Events
+pub mod Replies

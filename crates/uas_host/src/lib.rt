@@ -33,6 +33,7 @@ mod ended;
 mod events;
 mod freed;
 mod hosts;
+mod replies;
 mod seen;
 mod submissions;
 mod tags;

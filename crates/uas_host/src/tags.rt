@@ -2,9 +2,9 @@
 ghost use Rattle.std.specs.Prelude.{◌≡◌, ◌*◌, ◌+◌, ◌<◌, ◌≤◌, IfSome};
 ghost use Rattle.scsi_cmd.specs.declared.TheConstants.{TAGS, TASK_SLOT};
 ghost use Rattle.uas_host.specs.Submit.{slot_of};
-ghost use Rattle.uas_host.specs.Tags.{command_slot, place_of};
+ghost use Rattle.uas_host.specs.Tags.{command_slot, place_of, tag_of};
 
-use crate::Place;
+use crate::{MAX_CLIENTS, Place};
 use scsi_cmd::{TAGS, TASK_SLOT};
 
 /// The place that a tag names for so many clients.
@@ -35,4 +35,15 @@ pub(crate) fn command_slot_of(clients: usize, client: usize, tag: u16) -> Option
         Some(place) if place.client == client && place.slot < TASK_SLOT => Some(place.slot),
         _ => None,
     }
+}
+
+/// The tag of a slot of a client.
+pub(crate) fn tag_under(client: usize, slot: usize) -> u16
+    requires client { client < MAX_CLIENTS }
+    requires slot { slot < TAGS }
+    ensures tag { result ≡ tag_of (record { client = client; slot = slot }) }
+    ensures first_tag { 1 ≤ result }
+    ensures last_tag { result ≤ 248 }
+{
+    (client * TAGS + slot + 1) as u16
 }

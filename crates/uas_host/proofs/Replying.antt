@@ -1,0 +1,58 @@
+-- The slot that was ready first, and what is true of every host once its reply is given.
+use Rattle.std.proofs.Common.{◌≡◌, ℕ, ◌<◌, Bool, true, false, List, [], ◌∷◌, drop, length, length-set, Option, Some, None, IfSome, refl, arith, ap, ◌∙◌, sym}
+use Rattle.std.specs.Prelude.{◌&&◌, slice_get}
+use Rattle.scsi_cmd.specs.Held.{held_at}
+use Rattle.uas_host.specs.declared.HostClient.{HostClient}
+use Rattle.uas_host.specs.State.{HostState, IsHost, IsHostClient, WasTold, client_of, is_data_over, is_over, is_seen, readied_of, with_client}
+use Rattle.uas_host.specs.Replies.{HasStatus, IsReadySlot, without}
+use Rattle.uas_host.proofs.Queues.{AreReady-take, IsFirst, readied-ready}
+use Rattle.uas_host.proofs.Sound.{AllHeld-set, IsHost-set}
+use Rattle.uas_host.proofs.Seeing.{held-at}
+
+first-slot : (queue : List ℕ) (slot : ℕ) → slice_get queue 0 ≡ Some slot → queue ≡ slot ∷ drop 1 queue
+first-slot [] slot is = absurd (cc)
+first-slot (first ∷ rest) slot is = let same : first ≡ slot = cc in ap (λ s. s ∷ rest) same
+
+over_ready : (command status moved : Bool) → (command && (status && moved)) ≡ true → status ≡ true
+over_ready true true moved is = refl
+over_ready true false moved is = is
+over_ready false status moved is = absurd (cc)
+
+first_of : (held : HostClient) (slot : ℕ) → IsHostClient held → slice_get held.ready.items 0 ≡ Some slot → IsFirst held.entries slot (drop 1 held.ready.items)
+first_of held slot sound is = AreReady-take held.entries held.ready.items (drop 1 held.ready.items) slot sound.ready (first-slot held.ready.items slot is)
+
+-- what is ready was told a status
+ready-status : (held : HostClient) (slot : ℕ) → IsHostClient held → readied_of (held_at held.entries slot) ≡ 1 → HasStatus (held_at held.entries slot)
+ready-status held slot sound ready =
+    elim (held_at held.entries slot) as (λ o. held_at held.entries slot ≡ o → readied_of o ≡ 1 → HasStatus o) [
+      | None ↦ λ is none. let no : ◌≡◌ {A = ℕ} 0 1 = none in omega arith
+      | Some entry ↦ λ is one.
+          let over = over_ready (is_seen entry.command_td) (is_over entry.status_td) (is_data_over entry.data_td) (readied-ready (Some entry) entry refl one) in
+          held-at WasTold held.entries slot entry sound.told is over
+    ] refl ready
+
+-- the first of the ready slots of a client that is there
+pub first_ready-known : (host : HostState) (client : ℕ) (slot : Option ℕ) → client < length host.clients → IsHost host →
+    slot ≡ slice_get (client_of host client).ready.items 0 → IfSome slot (IsReadySlot host client)
+first_ready-known host client None there is first = tt
+first_ready-known host client (Some slot) there is first =
+    let sound = is.clients client there in
+    let ready = first_of (client_of host client) slot sound (sym first) in
+    record {
+      there = there;
+      most = omega (arith, there, is.most);
+      within = omega (arith, ready.within, sound.slots);
+      told = ready-status (client_of host client) slot sound ready.ready;
+    }
+
+-- the entry of the first slot goes
+pub released-host : (host : HostState) (client slot : ℕ) → client < length host.clients → IsHost host → slice_get (client_of host client).ready.items 0 ≡ Some slot →
+    IsHost (with_client host client (without (client_of host client) slot (drop 1 (client_of host client).ready.items)))
+released-host host client slot there is first =
+    let held = client_of host client in
+    let sound = is.clients client there in
+    IsHost-set host client (without held slot (drop 1 held.ready.items)) is (record {
+      slots = length-set held.entries slot None ∙ sound.slots;
+      ready = (first_of held slot sound first).others;
+      told = AllHeld-set WasTold held.entries slot None sound.told tt;
+    })

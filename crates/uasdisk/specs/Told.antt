@@ -1,6 +1,8 @@
 -- What a script tells: the text that its run prints, and a number.
-use Rattle.std.specs.Prelude.{ℕ, zero, suc, ◌+◌, ◌*◌, Bool, true, false, ◌||◌, if◌then◌else◌, List, [], ◌∷◌, ◌++◌, length, fold, replicate, slice_get, slice_set, slice_index_or, Option, Some, None, Result, Ok, Err}
+use Rattle.std.specs.Prelude.{ℕ, zero, suc, Bool, true, false, ◌||◌, if◌then◌else◌, List, [], ◌∷◌, ◌++◌, length, fold, replicate, slice_get, slice_set, slice_index_or, Option, Some, None, Result, Ok, Err}
+use Rattle.std.specs.Option.{option_map_or}
 use Rattle.block_unit.specs.BlockMaps.{BlockMaps, fresh}
+use Rattle.scsi_cmd.specs.declared.TheConstants.{TAGS}
 use Rattle.scsi_cmd.specs.declared.Command.{Command}
 use Rattle.scsi_cmd.specs.declared.Direction.{Direction}
 use Rattle.scsi_cmd.specs.declared.Direction.TheVariants.{Nothing, ToHost, ToDevice}
@@ -20,20 +22,17 @@ use Rattle.uasdisk.specs.declared.script.Line.{Line}
 use Rattle.uasdisk.specs.declared.script.Line.TheVariants as line
 use Rattle.uasdisk.specs.Printed.{reply_line, is_failure, refused_name, fault_name, refusal_line, idle_line}
 
--- tags of a client, the last one for task management
-abbrev pub tags_each : ℕ
-tags_each = 8
-
 -- a drain takes so many steps at most
 abbrev pub drain_limit : ℕ
 drain_limit = 100000
 
--- A run of a script: the shared machine, each client's tags, for each tag whether its last command moves data to the
--- host, the text so far, and whether it told a check, an abort or a refusal.
-pub record Told : Type 0 where
+-- A script's run so far: the shared machine, each client's tags, for each client and each ticket that it was given
+-- whether the bus took a command under it that moves data to the host, the text, and whether that tells a check, an
+-- abort or a refusal.
+pub record Telling : Type 0 where
   pub machine : Shared
   pub ranges : List ClientTags
-  pub brings_in : List Bool
+  pub brings_in : List (List Bool)
   pub text : List ℕ
   pub failed : Bool
 
@@ -44,14 +43,14 @@ zeroed_units clients blocks = replicate clients (fresh blocks [])
 -- the tags of the clients below this number, none of them out
 abbrev pub opening_ranges : ℕ → List ClientTags
 opening_ranges zero = []
-opening_ranges (suc client) = opening_ranges client ++ opening_tags tags_each client ∷ []
+opening_ranges (suc client) = opening_ranges client ++ opening_tags TAGS client ∷ []
 
 -- the run before its first line
-abbrev pub opening_run : List BlockMaps → Told
+abbrev pub opening_run : List BlockMaps → Telling
 opening_run units = record {
   machine = opening units;
   ranges = opening_ranges (length units);
-  brings_in = replicate (tags_each * length units + 1) false;
+  brings_in = replicate (length units) [];
   text = [];
   failed = false;
 }
@@ -79,44 +78,60 @@ abbrev pub command_of : Request → Command
 command_of request = record { op = request.op; buffer = replicate (moved_bytes request.op) request.fill }
 
 -- a refusal prints its name and is a failure
-abbrev pub refused_run : Told → ℕ → List ℕ → Told
+abbrev pub refused_run : Telling → ℕ → List ℕ → Telling
 refused_run run client name = record run { text = run.text ++ refusal_line client name; failed = true }
 
 -- a tag that is out is freed
 abbrev pub freed_tags : ClientTags → ℕ → ClientTags
-freed_tags tags tag = if is_issued tags_each tags tag then free tags_each tags tag else tags
+freed_tags tags tag = if is_issued TAGS tags tag then free TAGS tags tag else tags
 
 abbrev pub freed_range : List ClientTags → ℕ → ℕ → Option ClientTags → List ClientTags
 freed_range ranges client tag None = ranges
 freed_range ranges client tag (Some tags) = slice_set ranges client (freed_tags tags tag)
 
-abbrev pub freed_run : Told → ℕ → ℕ → Told
+abbrev pub freed_run : Telling → ℕ → ℕ → Telling
 freed_run run client tag = record run { ranges = freed_range run.ranges client tag (slice_get run.ranges client) }
 
 -- what the bus made of a submission: its refusal skips the ticket and frees the tag
-abbrev pub handed_over : Told → ℕ → ℕ → Option Refusal → Told
+abbrev pub handed_over : Telling → ℕ → ℕ → Option Refusal → Telling
 handed_over run client tag None = run
 handed_over run client tag (Some refusal) = refused_run (freed_run run client tag) client (fault_name refusal.fault)
 
+-- whether the bus took a command of this direction, and it is to the host
+abbrev pub took_to_host : Direction → Option Refusal → Bool
+took_to_host direction None = is_to_host direction
+took_to_host direction (Some refusal) = false
+
+-- it is noted of the client's ticket that was given out last
+abbrev pub noted : List (List Bool) → ℕ → Bool → Option (List Bool) → List (List Bool)
+noted all client brings_in None = all
+noted all client brings_in (Some before) = slice_set all client (before ++ brings_in ∷ [])
+
+abbrev pub noted_run : Telling → ℕ → Bool → Telling
+noted_run run client brings_in =
+    record run { brings_in = noted run.brings_in client brings_in (slice_get run.brings_in client) }
+
+-- what was noted of a ticket of a client, false where nothing was
+abbrev pub is_brought_in : List (List Bool) → ℕ → ℕ → Bool
+is_brought_in all client ticket = option_map_or (λ noted. slice_index_or noted ticket false) (slice_get all client) false
+
 -- a submission whose client's tags gave it a tag and a ticket, or refused
-abbrev pub issued_run : Told → ℕ → Request → Result (ℕ × ℕ) Refused → Told
+abbrev pub issued_run : Telling → ℕ → Request → Result (ℕ × ℕ) Refused → Telling
 issued_run run client request (Err refused) = refused_run run client (refused_name refused)
 issued_run run client request (Ok given) =
     let after = step_of run.machine (step.Submit client given.0 given.1 (command_of request)) in
-    handed_over (record run {
-      machine = after.0;
-      brings_in = slice_set run.brings_in given.0 (is_to_host (direction_of request.op));
-    }) client given.0 after.1.refused
+    handed_over (noted_run (record run { machine = after.0 }) client (took_to_host (direction_of request.op) after.1.refused))
+    client given.0 after.1.refused
 
-abbrev pub with_range : Told → ℕ → ClientTags → Told
+abbrev pub with_range : Telling → ℕ → ClientTags → Telling
 with_range run client tags = record run { ranges = slice_set run.ranges client tags }
 
-abbrev pub submitted_by : Told → ℕ → Request → Option ClientTags → Told
+abbrev pub submitted_by : Telling → ℕ → Request → Option ClientTags → Telling
 submitted_by run client request None = run
 submitted_by run client request (Some tags) =
-    issued_run (with_range run client (issue tags_each tags).0) client request (issue tags_each tags).1
+    issued_run (with_range run client (issue TAGS tags).0) client request (issue TAGS tags).1
 
-unfoldable pub submitted : Told → ℕ → Request → Told
+unfoldable pub submitted : Telling → ℕ → Request → Telling
 submitted run client request = submitted_by run client request (slice_get run.ranges client)
 
 -- STEPS AND REPLIES
@@ -126,55 +141,60 @@ tag_of (StatusReply tag ticket status sense buffer) = tag
 tag_of (AbortedReply tag ticket buffer) = tag
 tag_of (TaskReply tag ticket code) = tag
 
+abbrev pub ticket_of : Reply → ℕ
+ticket_of (StatusReply tag ticket status sense buffer) = ticket
+ticket_of (AbortedReply tag ticket buffer) = ticket
+ticket_of (TaskReply tag ticket code) = ticket
+
 -- a reply prints its line and frees its tag
-abbrev pub replied : Told → ℕ → Option Reply → Told
+abbrev pub replied : Telling → ℕ → Option Reply → Telling
 replied run client None = run
 replied run client (Some reply) = record (freed_run run client (tag_of reply)) {
-  text = run.text ++ reply_line client (slice_index_or run.brings_in (tag_of reply) false) reply;
+  text = run.text ++ reply_line client (is_brought_in run.brings_in client (ticket_of reply)) reply;
   failed = run.failed || is_failure reply;
 }
 
 -- a client takes a reply, where one is ready
-unfoldable pub taken : Told → ℕ → Told
+unfoldable pub taken : Telling → ℕ → Telling
 taken run client =
     let after = step_of run.machine (step.Take client) in
     if is_due run.machine (step.Take client) then replied (record run { machine = after.0 }) client after.1.reply else run
 
-abbrev pub idle_run : Told → Told
+abbrev pub idle_run : Telling → Telling
 idle_run run = record run { text = run.text ++ idle_line }
 
 -- a step of the bus prints nothing where it acts
-unfoldable pub stepped : Told → Step → Told
+unfoldable pub stepped : Telling → Step → Telling
 stepped run step = if is_due run.machine step then record run { machine = (step_of run.machine step).0 } else idle_run run
 
 -- the step Take as a line
-unfoldable pub taken_or_idle : Told → ℕ → Told
+unfoldable pub taken_or_idle : Telling → ℕ → Telling
 taken_or_idle run client = if is_due run.machine (step.Take client) then taken run client else idle_run run
 
 -- a client takes its replies, so many at most
-abbrev pub taken_times : ℕ → Told → ℕ → Told
+abbrev pub taken_times : ℕ → Telling → ℕ → Telling
 taken_times zero run client = run
 taken_times (suc times) run client = taken (taken_times times run client) client
 
 -- A client takes its replies until none is ready: of eight tags, those are at most eight.
-unfoldable pub all_taken_by : Told → ℕ → Told
-all_taken_by run client = taken_times tags_each run client
+unfoldable pub all_taken_by : Telling → ℕ → Telling
+all_taken_by run client = taken_times TAGS run client
 
 -- the clients below this number take theirs, by rising number
-abbrev pub taken_below : ℕ → Told → Told
+abbrev pub taken_below : ℕ → Telling → Telling
 taken_below zero run = run
 taken_below (suc client) run = all_taken_by (taken_below client run) client
 
-unfoldable pub all_taken : Told → Told
+unfoldable pub all_taken : Telling → Telling
 all_taken run = taken_below (length run.ranges) run
 
 -- the line `drain`
-unfoldable pub drained_run : Told → Told
+unfoldable pub drained_run : Telling → Telling
 drained_run run = all_taken (record run { machine = drained_machine run.machine drain_limit })
 
 -- SCRIPTS
 
-unfoldable pub told_line : Told → Line → Told
+unfoldable pub told_line : Telling → Line → Telling
 told_line run (line.Submit client request) = submitted run client request
 told_line run line.CommandPipe = stepped run step.CommandPipe
 told_line run line.Event = stepped run step.Event

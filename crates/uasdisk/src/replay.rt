@@ -1,24 +1,64 @@
 //! A script's run: its lines in turn, over the bus and each client's tags.
 
-ghost use Rattle.std.specs.Prelude.{◌≡◌, ℕ, ◌+◌, ◌*◌, ◌≤◌, ◌<◌, ◌^◌, Bool, List, length, fold, IfOk, OnOk, vec_len};
+ghost use Rattle.std.specs.Prelude.{◌≡◌, ℕ, ◌+◌, ◌*◌, ◌≤◌, ◌<◌, ◌^◌, ◌++◌, ◌∷◌, [], Bool, List, length, fold, replicate, slice_index_or, false, IfOk, OnOk, vec_len};
 ghost use Rattle.scsi_cmd.specs.Op.{direction_of};
-ghost use Rattle.uasdisk.specs.Told.{zeroed_units, opening_ranges, tag_of, command_of, is_to_host, told};
+ghost use Rattle.uasdisk.specs.Told.{zeroed_units, opening_ranges, tag_of, ticket_of, command_of, is_to_host, took_to_host, told};
 
 use crate::printed;
 use crate::script::{Line, Request};
 use crate::status::{COMMAND_FAILED, DONE};
 use block_unit::Unit;
 use bus_core::{Bus, Outcome, Refusal, Step};
-use scsi_cmd::{Buffer, Command, Direction, Op, Reply, moves};
+use scsi_cmd::{Buffer, Command, Direction, Op, Reply, TAGS, moves};
 use std::alloc::{AllocError, Global};
 use std::marker::Model;
 use tag_range::TagRange;
 
-/// Tags of a client, the last one for task management.
-const TAGS: usize = 8;
-
 /// The most steps of a drain.
 const DRAIN_LIMIT: usize = 100_000;
+
+/// Of each ticket that a client was given, whether the bus took a command under it that moves data to the host.
+#[derive(Drop)]
+struct TicketNotes {
+    by_ticket: Vec<bool>,
+}
+
+impl Model for TicketNotes {
+    ghost use Rattle.std.specs.Prelude.{List, Bool};
+
+    ghost Value = { List Bool };
+
+    ghost view = { λ notes. notes.by_ticket.items };
+}
+
+impl TicketNotes {
+    /// Before the first ticket.
+    fn new(alloc: Global) -> TicketNotes
+        ensures { result ≡ [] }
+    {
+        TicketNotes {
+            by_ticket: Vec::new(alloc),
+        }
+    }
+
+    /// Notes the next ticket.
+    fn push(&mut self, brings_in: bool) -> Result<(), AllocError>
+        ensures { OnOk result (self.new ≡ self.old ++ brings_in ∷ []) }
+    {
+        self.by_ticket.push(brings_in)?;
+        Ok(())
+    }
+
+    /// What was noted of a ticket, false where nothing was.
+    fn at(&self, ticket: u64) -> bool
+        ensures { result ≡ slice_index_or self.now ticket false }
+    {
+        self.by_ticket
+            .get(ticket as usize)
+            .copied()
+            .unwrap_or(false)
+    }
+}
 
 /// A script's run.
 #[derive(Drop)]
@@ -26,17 +66,17 @@ pub struct ScriptRun {
     alloc: Global,
     bus: Bus,
     ranges: Vec<TagRange<TAGS>>,
-    // For each tag, whether its last command moves data to the host.
-    brings_in: Vec<bool>,
+    // For each client, what was noted of its tickets.
+    brings_in: Vec<TicketNotes>,
     text: Vec<u8>,
     // Whether it told a check, an abort or a refusal.
     failed: bool,
 }
 
 impl Model for ScriptRun {
-    ghost use Rattle.uasdisk.specs.Told.{Told};
+    ghost use Rattle.uasdisk.specs.Told.{Telling};
 
-    ghost Value = { Told };
+    ghost Value = { Telling };
 
     ghost view = { λ run. record {
       machine = run.bus;
@@ -49,7 +89,7 @@ impl Model for ScriptRun {
 
 impl ScriptRun {
     ghost use Rattle.bus_core.specs.Bus.{HasTicket};
-    ghost use Rattle.uasdisk.specs.Told.{Told, zeroed_units, opening_run, step_of, is_due, drained_machine, refused_run, freed_run, handed_over, issued_run, submitted, replied, taken, idle_run, stepped, taken_or_idle, all_taken_by, all_taken, drained_run, told_line};
+    ghost use Rattle.uasdisk.specs.Told.{zeroed_units, opening_run, step_of, is_due, drained_machine, refused_run, freed_run, handed_over, noted_run, is_brought_in, issued_run, submitted, replied, taken, idle_run, stepped, taken_or_idle, all_taken_by, all_taken, drained_run, told_line};
 
     /// The run before its first line, of 1 to 31 clients on units of 1 to 65,536 zeroed blocks.
     pub fn new(alloc: Global, clients: usize, blocks: u32) -> Result<ScriptRun, AllocError>
@@ -63,7 +103,7 @@ impl ScriptRun {
             alloc,
             bus: Bus::new(alloc, zeroed_units(alloc, clients, blocks)?)?,
             ranges: opening_ranges(alloc, clients)?,
-            brings_in: vec![in alloc; false; TAGS * clients + 1]?,
+            brings_in: opening_notes(alloc, clients)?,
             text: Vec::new(alloc),
             failed: false,
         })
@@ -119,7 +159,7 @@ impl ScriptRun {
         ensures { OnOk result (self.new ≡ replied self.old client (Some reply.now)) }
     {
         let tag = tag_of(reply);
-        let brings_in = self.brings_in.get(tag as usize).copied().unwrap_or(false);
+        let brings_in = self.is_brought_in(client, ticket_of(reply));
         printed::push_reply(self.alloc, &mut self.text, client, brings_in, reply)?;
         self.failed = self.failed || printed::is_failure(reply);
         self.free(client, tag);
@@ -172,16 +212,34 @@ impl ScriptRun {
         ensures { OnOk result (self.new ≡ issued_run self.old client request (Ok (tag, ticket))) }
     {
         let command = command_of(self.alloc, request)?;
-        if let Some(brings_in) = self.brings_in.get_mut(tag as usize) {
-            *brings_in = is_to_host(&request.op);
-        }
         let Outcome { refused, .. } = self.act(Step::Submit {
             client,
             tag,
             ticket,
             command,
         });
+        self.note(client, took_to_host(&request.op, &refused))?;
         self.hear(client, tag, refused)
+    }
+
+    /// Notes of a client's last ticket whether the bus took a command under it that moves data to the host.
+    fn note(&mut self, client: usize, brings_in: bool) -> Result<(), AllocError>
+        ensures { OnOk result (self.new ≡ noted_run self.old client brings_in) }
+    {
+        if let Some(notes) = self.brings_in.get_mut(client) {
+            notes.push(brings_in)?;
+        }
+        Ok(())
+    }
+
+    /// What was noted of a client's ticket.
+    fn is_brought_in(&self, client: usize, ticket: u64) -> bool
+        ensures { result ≡ is_brought_in self.now.brings_in client ticket }
+    {
+        match self.brings_in.get(client) {
+            Some(notes) => notes.at(ticket),
+            None => false,
+        }
     }
 
     /// What the bus made of a submission: where it refused it, the ticket is skipped and the tag freed.
@@ -305,6 +363,27 @@ fn opening_ranges(alloc: Global, clients: usize) -> Result<Vec<TagRange<TAGS>>, 
     Ok(ranges)
 }
 
+/// Nothing noted, for so many clients.
+fn opening_notes(alloc: Global, clients: usize) -> Result<Vec<TicketNotes>, AllocError>
+    ensures { IfOk result (λ notes. notes.items ≡ replicate clients []) }
+{
+    let mut notes = Vec::new(alloc);
+    for _ in 0..clients {
+        notes.push(TicketNotes::new(alloc))?;
+    }
+    Ok(notes)
+}
+
+/// The ticket that a reply answers.
+fn ticket_of(reply: &Reply) -> u64
+    ensures { result ≡ ticket_of reply.now }
+{
+    match reply {
+        Reply::Status { ticket, .. } | Reply::Aborted { ticket, .. } | Reply::Task { ticket, .. } =>
+            *ticket,
+    }
+}
+
 /// The tag that a reply brings back.
 fn tag_of(reply: &Reply) -> u16
     ensures { result ≡ tag_of reply.now }
@@ -321,6 +400,16 @@ fn is_to_host(op: &Op) -> bool
     match moves(op).0 {
         Direction::ToHost => true,
         Direction::Nothing | Direction::ToDevice => false,
+    }
+}
+
+/// Whether the bus took this operation, and it moves data to the host.
+fn took_to_host(op: &Op, refused: &Option<Refusal>) -> bool
+    ensures { result ≡ took_to_host (direction_of op.now) refused.now }
+{
+    match refused {
+        None => is_to_host(op),
+        Some(_) => false,
     }
 }
 

@@ -12,7 +12,7 @@ use Rattle.solo_model.specs.declared.Label.{Label}
 use Rattle.solo_model.specs.declared.Label.TheVariants.{Submit as SubmitLabel}
 use Rattle.scsi_cmd.specs.Held.{held_at}
 use Rattle.solo_model.specs.Solo.{SoloState, solo_step, silently}
-use Rattle.bus_core.specs.declared.Place.{Place}
+use Rattle.uas_host.specs.declared.Place.{Place}
 use Rattle.bus_core.specs.Td.{Entry}
 use Rattle.bus_core.specs.declared.Completion.{Completion}
 use Rattle.bus_core.specs.declared.Step.{Step}

@@ -31,7 +31,7 @@ use Rattle.uas_iu.specs.Units.{unit_text}
 use Rattle.uas_target.specs.declared.DeviceAnswer.TheVariants.{Status as StatusAnswer}
 use Rattle.uas_target.specs.Tasks.{task_in, task_answer, task_wants, chunk_given, unit_taken}
 use Rattle.uas_target.specs.Fields.{is_tag}
-use Rattle.bus_core.specs.declared.Place.{Place}
+use Rattle.uas_host.specs.declared.Place.{Place}
 use Rattle.bus_core.specs.declared.Td.{Td}
 use Rattle.bus_core.specs.Td.{Entry}
 use Rattle.bus_core.specs.declared.Frame.{Frame}

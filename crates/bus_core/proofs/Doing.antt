@@ -27,7 +27,7 @@ use Rattle.uas_target.specs.declared.Phase.TheVariants.{Absent, Gives, Takes, En
 use Rattle.uas_iu.specs.declared.Iu.{Iu}
 use Rattle.uas_target.specs.Device.{Device, wanted, answered, gave, given, took, fits}
 use Rattle.uas_target.specs.Tasks.{task_wants, task_answer, answer_unit, chunk_wanted}
-use Rattle.bus_core.specs.declared.Place.{Place}
+use Rattle.uas_host.specs.declared.Place.{Place}
 use Rattle.bus_core.specs.Td.{Entry}
 use Rattle.bus_core.specs.declared.Host.{Host}
 use Rattle.bus_core.specs.declared.HostEntry.{HostEntry}

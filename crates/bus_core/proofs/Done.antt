@@ -11,7 +11,7 @@ use Rattle.uas_iu.specs.Units.{unit_text}
 use Rattle.uas_target.specs.declared.DeviceTask.{DeviceTask}
 use Rattle.uas_target.specs.declared.Phase.TheVariants.{Gives, Takes}
 use Rattle.uas_target.specs.Device.{Device, received, wanted, given, gave, fits, took, answered, without_task}
-use Rattle.bus_core.specs.declared.Place.{Place}
+use Rattle.uas_host.specs.declared.Place.{Place}
 use Rattle.bus_core.specs.declared.Host.{Host}
 use Rattle.bus_core.specs.declared.HostEntry.{HostEntry}
 use Rattle.bus_core.specs.Td.{Entry}

@@ -17,7 +17,7 @@ use Rattle.scsi_cmd.specs.Laws.{AllHeld-held, AllHeld-set, submit_fault-none}
 use Rattle.uas_target.specs.declared.DeviceTask.{DeviceTask}
 use Rattle.uas_target.specs.Device.{Device}
 use Rattle.uas_target.specs.Tasks.{task_in}
-use Rattle.bus_core.specs.declared.Place.{Place}
+use Rattle.uas_host.specs.declared.Place.{Place}
 use Rattle.bus_core.specs.declared.Td.{Td}
 use Rattle.bus_core.specs.Td.{Entry}
 use Rattle.bus_core.specs.declared.Host.{Host}

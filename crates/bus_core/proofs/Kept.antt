@@ -10,8 +10,8 @@ use Rattle.solo_model.proofs.Kept.{IsSound-queued}
 use Rattle.solo_model.specs.declared.Answer.TheVariants.{Good, Check}
 use Rattle.scsi_cmd.specs.declared.Command.{Command}
 use Rattle.scsi_cmd.specs.Op.{moved_bytes}
-use Rattle.bus_core.specs.declared.TdState.{TdState}
-use Rattle.bus_core.specs.declared.TdState.TheVariants.{Pending, Seen, LeftOver, Retired}
+use Rattle.uas_host.specs.declared.TdState.{TdState}
+use Rattle.uas_host.specs.declared.TdState.TheVariants.{Pending, Seen, LeftOver, Retired}
 use Rattle.bus_core.specs.declared.Td.{Td}
 use Rattle.bus_core.specs.Td.{Entry}
 use Rattle.bus_core.specs.declared.Frame.{Frame}

@@ -22,9 +22,9 @@ use Rattle.scsi_cmd.specs.Submission.{is_too_long, first_submit_fault}
 use Rattle.solo_model.specs.declared.TaggedTask.{TaggedTask}
 use Rattle.solo_model.specs.TaggedTask.{begun, started, takes_attention, carried_request, moved_request, next_phase, phase_after, phase_after_chunk, meets_bad_chunk}
 use Rattle.solo_model.proofs.Kept.{checked-none, checked-some}
-use Rattle.bus_core.specs.declared.Place.{Place}
-use Rattle.bus_core.specs.declared.TdState.{TdState}
-use Rattle.bus_core.specs.declared.TdState.TheVariants.{Pending, Seen, LeftOver, Retired}
+use Rattle.uas_host.specs.declared.Place.{Place}
+use Rattle.uas_host.specs.declared.TdState.{TdState}
+use Rattle.uas_host.specs.declared.TdState.TheVariants.{Pending, Seen, LeftOver, Retired}
 use Rattle.bus_core.specs.declared.Td.{Td}
 use Rattle.bus_core.specs.declared.Completion.{Completion}
 use Rattle.bus_core.specs.declared.Completion.TheVariants.{CommandDone, DataDone, StatusDone}

@@ -16,14 +16,14 @@ use Rattle.solo_model.specs.declared.Phase.{Phase}
 use Rattle.solo_model.specs.declared.Phase.TheVariants.{Queued, Moving, Ended, Sent}
 use Rattle.solo_model.specs.TaggedTask.{carried_from, carried_request, moved_from, moved_request, sent_from, reply_from}
 use Rattle.scsi_cmd.specs.Held.{held_at}
-use Rattle.bus_core.specs.declared.Place.{Place}
+use Rattle.uas_host.specs.declared.Place.{Place}
 use Rattle.bus_core.specs.declared.Completion.{Completion}
 use Rattle.bus_core.specs.declared.Completion.TheVariants.{CommandDone, DataDone, StatusDone}
 use Rattle.bus_core.specs.declared.Step.{Step}
 use Rattle.bus_core.specs.declared.Step.TheVariants.{Submit, CommandPipe, Data, Status, Event, Take}
 use Rattle.bus_core.specs.declared.Td.{Td}
 use Rattle.bus_core.specs.Td.{Entry, has_trb, is_awaited, is_ready, data_trbs}
-use Rattle.bus_core.specs.Tags.{place_of, command_slot}
+use Rattle.uas_host.specs.Tags.{place_of, command_slot}
 use Rattle.bus_core.specs.Part.{Part, with_entry, carry_act, carried_slot, carried_entry, is_last_trb, took_trb, move_act, moved_slot, moved_entry, send_act, sent_slot, sent_entry, event_act, event_place, seen_by, seen_entry, ready_after, new_entry, fault_at, submitted_part, take_act, taken, settled, entry_reply, slot_tag}
 use Rattle.bus_core.specs.Replay.{replayed}
 use Rattle.bus_core.specs.Shared.{Shared, idle, shared_step, acted_on, carry_step, routed_to, routed_by_tag, due_step, due, entry_fact, part_fact, place_fact, has_ready, is_some_of, routed, with_streams_rung, accepted, answered, submitted_to, submitted_under, event_step, is_moving, is_ended, data_is_due, status_is_due}

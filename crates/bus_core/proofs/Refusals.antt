@@ -13,11 +13,11 @@ use Rattle.solo_model.specs.declared.Label.{Label}
 use Rattle.scsi_cmd.specs.Held.{held_at, held_under}
 use Rattle.scsi_cmd.specs.Submission.{first_submit_fault}
 use Rattle.solo_model.specs.Solo.{SoloState, opening as solo_opening}
-use Rattle.bus_core.specs.declared.Place.{Place}
+use Rattle.uas_host.specs.declared.Place.{Place}
 use Rattle.bus_core.specs.declared.Step.{Step}
 use Rattle.bus_core.specs.declared.Step.TheVariants.{Submit, CommandPipe, Data, Status, Event, Take}
 use Rattle.bus_core.specs.Td.{Entry}
-use Rattle.bus_core.specs.Tags.{place_of, own_slot, command_slot}
+use Rattle.uas_host.specs.Tags.{place_of, own_slot, command_slot}
 use Rattle.bus_core.specs.Part.{Part, own_task, fault_at}
 use Rattle.bus_core.specs.Shared.{Shared, opening, refusal, submitted_under, shared_step}
 use Rattle.bus_core.specs.Replay.{replay, replayed}

@@ -8,13 +8,13 @@ use Rattle.scsi_cmd.specs.declared.SubmitFault.{SubmitFault}
 use Rattle.scsi_cmd.specs.declared.SubmitFault.TheVariants.{NotYours}
 use Rattle.scsi_cmd.specs.declared.TheConstants.{TASK_SLOT}
 use Rattle.solo_model.specs.Solo.{SoloState}
-use Rattle.bus_core.specs.declared.Place.{Place}
+use Rattle.uas_host.specs.declared.Place.{Place}
 use Rattle.bus_core.specs.declared.Completion.{Completion}
 use Rattle.bus_core.specs.declared.Step.{Step}
 use Rattle.bus_core.specs.declared.Step.TheVariants.{Submit, CommandPipe, Data, Status, Event, Take}
 use Rattle.bus_core.specs.declared.Mark.TheVariants.{Quiet}
 use Rattle.bus_core.specs.declared.Outcome.{Outcome}
-use Rattle.bus_core.specs.Tags.{place_of, own_slot, command_slot}
+use Rattle.uas_host.specs.Tags.{place_of, own_slot, command_slot}
 use Rattle.bus_core.specs.Part.{Part, Act, fault_at, submitted_part, carry_act, move_act, send_act, event_act, event_place, take_act}
 use Rattle.bus_core.specs.Shared.{Shared, idle, unmoved, refusal, due, acted_on, routed, routed_to, routed_by_tag, accepted, answered, submitted_to, submitted_under, carry_step, event_step, due_step, shared_step}
 use Rattle.bus_core.specs.Isolation.{label_of, own_label, own_reply, renumbered, solo_of, own_state}

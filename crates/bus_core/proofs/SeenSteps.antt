@@ -7,8 +7,8 @@ use Rattle.solo_model.specs.declared.Answer.TheVariants.{Good, Check}
 use Rattle.solo_model.specs.declared.Phase.{Phase}
 use Rattle.solo_model.specs.declared.Phase.TheVariants.{Queued, Moving, Ended, Sent}
 use Rattle.bus_core.specs.declared.Td.{Td}
-use Rattle.bus_core.specs.declared.TdState.{TdState}
-use Rattle.bus_core.specs.declared.TdState.TheVariants.{Pending, Seen, LeftOver, Retired}
+use Rattle.uas_host.specs.declared.TdState.{TdState}
+use Rattle.uas_host.specs.declared.TdState.TheVariants.{Pending, Seen, LeftOver, Retired}
 use Rattle.bus_core.specs.Td.{Entry}
 use Rattle.bus_core.specs.declared.HostEntry.{HostEntry}
 use Rattle.bus_core.specs.Td.{pushed, is_pending, is_seen, is_over, is_data_over, is_awaited, is_ready, data_trbs, with_event_seen, left_over_td, left_over_data, data_after_status}

@@ -7,7 +7,7 @@ use Rattle.scsi_cmd.specs.Held.{held_at}
 use Rattle.solo_model.specs.TaggedTask.{carried, moved, sent}
 use Rattle.solo_model.specs.declared.TaggedTask.{TaggedTask}
 use Rattle.block_unit.specs.BlockMaps.{BlockMaps}
-use Rattle.bus_core.specs.declared.Place.{Place}
+use Rattle.uas_host.specs.declared.Place.{Place}
 use Rattle.bus_core.specs.Td.{Entry}
 use Rattle.bus_core.specs.declared.Completion.{Completion}
 use Rattle.bus_core.specs.declared.Completion.TheVariants.{DataDone}

@@ -1,4 +1,3 @@
-pub mod Tags
 pub mod Td
 pub mod Part
 pub mod Pipes

@@ -12,8 +12,8 @@ use Rattle.solo_model.specs.declared.Phase.{Phase}
 use Rattle.solo_model.specs.declared.Phase.TheVariants.{Queued, Moving, Ended, Sent}
 use Rattle.scsi_cmd.specs.Held.{held_at}
 use Rattle.bus_core.specs.declared.TheConstants.{MAX_CLIENTS}
-use Rattle.bus_core.specs.declared.Place.{Place}
-use Rattle.bus_core.specs.declared.TdState.TheVariants.{Pending}
+use Rattle.uas_host.specs.declared.Place.{Place}
+use Rattle.uas_host.specs.declared.TdState.TheVariants.{Pending}
 use Rattle.bus_core.specs.declared.Td.{Td}
 use Rattle.bus_core.specs.declared.Completion.{Completion}
 use Rattle.bus_core.specs.declared.Completion.TheVariants.{CommandDone, DataDone, StatusDone}
@@ -23,7 +23,7 @@ use Rattle.bus_core.specs.declared.Mark.TheVariants.{Carry}
 use Rattle.bus_core.specs.Td.{Entry, pushed, is_pending, has_trb, is_awaited, data_trbs}
 use Rattle.bus_core.specs.Part.{Part, event_place, seen_by}
 use Rattle.bus_core.specs.Shared.{Shared, opening, due, shared_step}
-use Rattle.bus_core.specs.Tags.{place_of}
+use Rattle.uas_host.specs.Tags.{place_of}
 use Rattle.bus_core.specs.Replay.{replay}
 use Rattle.bus_core.specs.Soundness.{one_if, awaited_data, readied_of, times_in}
 

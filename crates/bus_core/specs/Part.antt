@@ -13,7 +13,7 @@ use Rattle.solo_model.specs.declared.Answer.TheVariants.{Good, Check}
 use Rattle.scsi_cmd.specs.Held.{held_at}
 use Rattle.solo_model.specs.TaggedTask.{queued, carried, moved, sent, reply_of}
 use Rattle.scsi_cmd.specs.Submission.{first_submit_fault}
-use Rattle.bus_core.specs.declared.Place.{Place}
+use Rattle.uas_host.specs.declared.Place.{Place}
 use Rattle.bus_core.specs.declared.Td.{Td}
 use Rattle.bus_core.specs.Td.{Entry}
 use Rattle.bus_core.specs.declared.Completion.{Completion}
@@ -21,7 +21,7 @@ use Rattle.bus_core.specs.declared.Completion.TheVariants.{CommandDone, DataDone
 use Rattle.bus_core.specs.declared.News.{News}
 use Rattle.bus_core.specs.declared.Mark.{Mark}
 use Rattle.bus_core.specs.declared.Mark.TheVariants.{Carry, Move, Send, Settle, Quiet}
-use Rattle.bus_core.specs.Tags.{tag_of}
+use Rattle.uas_host.specs.Tags.{tag_of}
 use Rattle.bus_core.specs.Td.{pushed, data_trbs, is_awaited, with_trb_taken, with_event_seen, data_after_status, is_ready}
 
 -- a client's number, unit, entries by slot, least ticket, and ready slots in order

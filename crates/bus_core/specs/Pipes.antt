@@ -2,20 +2,8 @@
 use Rattle.std.specs.Prelude.{ℕ, ◌+◌, ◌*◌, ◌^◌, Bool, true, false, ◌&&◌, List, [], ◌∷◌, slice_set, slice_index_or, replicate}
 use Rattle.scsi_cmd.specs.declared.Direction.{Direction}
 use Rattle.scsi_cmd.specs.declared.Direction.TheVariants.{Nothing, ToHost, ToDevice}
-use Rattle.bus_core.specs.declared.PipeState.{PipeState}
-use Rattle.bus_core.specs.declared.TheConstants.{STREAMS}
-
--- at the start an endpoint runs, and no stream was rung
-abbrev pub new_pipe : PipeState
-new_pipe = record { runs = true; rung = replicate STREAMS false }
-
--- a doorbell arms its stream and starts the endpoint
-abbrev pub rung_at : PipeState → ℕ → PipeState
-rung_at pipe stream = record { runs = true; rung = slice_set pipe.rung stream true }
-
--- the stream was rung since the last stop, and the pipe runs
-abbrev pub is_open : PipeState → ℕ → Bool
-is_open pipe stream = pipe.runs && slice_index_or pipe.rung stream false
+use Rattle.xhci_ctl.specs.declared.PipeState.{PipeState}
+use Rattle.xhci_ctl.specs.Pipes.{rung_at}
 
 -- A doorbell value: the target in bits 7:0, the stream in bits 31:16. Checked by hand: 0x00120005 is data-in, stream 18.
 abbrev pub doorbell : ℕ → ℕ → ℕ

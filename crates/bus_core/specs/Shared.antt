@@ -13,19 +13,20 @@ use Rattle.scsi_cmd.specs.declared.Request.TheVariants.{Execute}
 use Rattle.solo_model.specs.declared.Phase.{Phase}
 use Rattle.solo_model.specs.declared.Phase.TheVariants.{Queued, Moving, Ended, Sent}
 use Rattle.scsi_cmd.specs.Held.{held_at}
-use Rattle.bus_core.specs.declared.Place.{Place}
+use Rattle.uas_host.specs.declared.Place.{Place}
 use Rattle.bus_core.specs.declared.Td.{Td}
 use Rattle.bus_core.specs.Td.{Entry}
 use Rattle.bus_core.specs.declared.Completion.{Completion}
-use Rattle.bus_core.specs.declared.PipeState.{PipeState}
+use Rattle.xhci_ctl.specs.declared.PipeState.{PipeState}
 use Rattle.bus_core.specs.declared.Mark.{Mark}
 use Rattle.bus_core.specs.declared.Mark.TheVariants.{Submit as SubmitMark, Quiet}
 use Rattle.bus_core.specs.declared.Step.{Step}
 use Rattle.bus_core.specs.declared.Step.TheVariants.{Submit, CommandPipe, Data, Status, Event, Take}
 use Rattle.bus_core.specs.declared.Outcome.{Outcome}
-use Rattle.bus_core.specs.Tags.{place_of, command_slot}
+use Rattle.uas_host.specs.Tags.{place_of, command_slot}
 use Rattle.bus_core.specs.Td.{has_trb, data_trbs}
-use Rattle.bus_core.specs.Pipes.{new_pipe, rung_at, is_open, submission_doors}
+use Rattle.bus_core.specs.Pipes.{submission_doors}
+use Rattle.xhci_ctl.specs.Pipes.{new_pipe, rung_at, is_open}
 use Rattle.bus_core.specs.Part.{Part, Act, new_part, fault_at, submitted_part, carry_act, move_act, send_act, event_act, event_place, take_act}
 
 -- each client's part by number; the messages in the command pipe and the events not yet taken, the oldest first; the

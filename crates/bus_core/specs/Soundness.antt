@@ -8,7 +8,7 @@ use Rattle.solo_model.specs.declared.Answer.TheVariants.{Good, Check}
 use Rattle.scsi_cmd.specs.Held.{AllHeld, held_at}
 use Rattle.solo_model.specs.Soundness.{IsSound}
 use Rattle.bus_core.specs.declared.TheConstants.{MAX_CLIENTS}
-use Rattle.bus_core.specs.declared.TdState.TheVariants.{Pending}
+use Rattle.uas_host.specs.declared.TdState.TheVariants.{Pending}
 use Rattle.bus_core.specs.declared.Td.{Td}
 use Rattle.bus_core.specs.Td.{Entry}
 use Rattle.bus_core.specs.declared.Frame.{Frame}

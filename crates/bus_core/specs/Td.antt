@@ -8,8 +8,8 @@ use Rattle.solo_model.specs.declared.Phase.{Phase}
 use Rattle.solo_model.specs.declared.Phase.TheVariants.{Queued, Moving, Ended, Sent}
 use Rattle.solo_model.specs.declared.Answer.{Answer}
 use Rattle.solo_model.specs.declared.Answer.TheVariants.{Good, Check}
-use Rattle.bus_core.specs.declared.TdState.{TdState}
-use Rattle.bus_core.specs.declared.TdState.TheVariants.{Pending, Seen, LeftOver, Retired}
+use Rattle.uas_host.specs.declared.TdState.{TdState}
+use Rattle.uas_host.specs.declared.TdState.TheVariants.{Pending, Seen, LeftOver, Retired}
 use Rattle.bus_core.specs.declared.Td.{Td}
 
 -- what a client has under a slot: the task, and the TDs that carry it

@@ -1,6 +1,6 @@
 ghost use Rattle.std.specs.Prelude.{◌≡◌, ◌*◌, ◌<◌, ◌≤◌, IfSome};
 ghost use Rattle.scsi_cmd.specs.declared.TheConstants.{TAGS, TASK_SLOT};
-ghost use Rattle.bus_core.specs.Tags.{command_slot, place_of};
+ghost use Rattle.uas_host.specs.Tags.{command_slot, place_of};
 ghost use Rattle.bus_core.specs.Bus.{IsPlace};
 
 use crate::Place;

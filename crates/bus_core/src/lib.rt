@@ -49,43 +49,20 @@ pub use queue_laws::{
 use scsi_cmd::{Buffer, Command, Reply, Request, SubmitFault, TAGS};
 use std::collections::VecDeque;
 use std::marker::Model;
+pub(crate) use uas_host::{Place, TdState};
 use uas_iu::MAX_UNIT_BYTES;
 use uas_target::Target;
+use xhci_ctl::PipeState;
 
 /// The most clients of a bus.
 pub const MAX_CLIENTS: usize = 31;
 
 const _: () = prove!(MAX_CLIENTS == 31);
 
-/// Streams of a pipe, the reserved stream 0 among them.
-pub(crate) const STREAMS: usize = 256;
-
-const _: () = prove!(STREAMS == 256);
-
 /// The most doorbells that one step rings.
 pub const MOST_DOORBELLS: usize = 3;
 
 const _: () = prove!(MOST_DOORBELLS == 3);
-
-/// A client and a slot, the index of a tag less 1.
-#[derive(Clone, Copy, Debug, PartialEq, Eq)]
-pub(crate) struct Place {
-    pub client: usize,
-    pub slot: usize,
-}
-
-/// How far the host is with a TD (xHCI 4.11).
-#[derive(Clone, Copy, Debug, PartialEq, Eq)]
-pub(crate) enum TdState {
-    /// Its event hasn't been seen.
-    Pending,
-    /// Its event was seen.
-    Seen,
-    /// Its event can no longer come, and its TRBs are still in the ring.
-    LeftOver,
-    /// Its TRBs were taken out of the ring.
-    Retired,
-}
 
 /// A TD: its state, and how many of its TRBs the controller took.
 #[derive(Clone, Copy, Debug, PartialEq, Eq)]
@@ -100,13 +77,6 @@ pub(crate) enum Completion {
     CommandDone(Place),
     DataDone(Place),
     StatusDone(Place),
-}
-
-/// One of the device's pipes with streams: whether its endpoint runs, and which streams were rung since its last stop.
-#[derive(Clone, Copy, Debug, PartialEq, Eq)]
-pub(crate) struct PipeState {
-    pub runs: bool,
-    pub rung: [bool; STREAMS],
 }
 
 /// One atomic step of the bus.

@@ -4,16 +4,17 @@ ghost use Rattle.bus_core.specs.Bus.{HasTicket};
 ghost use Rattle.bus_core.specs.Part.{move_act, send_act, take_act};
 ghost use Rattle.bus_core.specs.Shared.{carry_step, due, due_step, event_step, is_data_open, opening, new_parts, routed, routed_by_tag, shared_step, submit_step};
 ghost use Rattle.bus_core.specs.StepIsolation.{IsIsolatedStep};
-ghost use Rattle.bus_core.specs.Tags.{place_of};
+ghost use Rattle.uas_host.specs.Tags.{place_of};
 
 use crate::dispatch::{command_slot_of, place_of_tag};
-use crate::pipes::{doors_of, ring_all};
+use crate::pipes::{doors_of, is_open, new_pipe, ring_all};
 use crate::telling::index_of;
-use crate::{Bus, Completion, Disks, MAX_CLIENTS, Mark, Outcome, PipeState, Place, STREAMS, Step};
+use crate::{Bus, Completion, Disks, MAX_CLIENTS, Mark, Outcome, Place, Step};
 use block_unit::Unit;
 use scsi_cmd::{Command, Direction, SubmitFault, TAGS, moves};
 use std::alloc::{AllocError, Global};
 use std::collections::VecDeque;
+use stream_array::STREAM_ENTRIES;
 
 /// Events that the host waits for under one tag at most.
 const EVENTS_OF_TAG: usize = 3;
@@ -32,9 +33,9 @@ impl Bus {
             disks,
             messages: VecDeque::with_capacity(alloc, tags)?,
             events: VecDeque::with_capacity(alloc, EVENTS_OF_TAG * tags)?,
-            status: PipeState::new(),
-            data_in: PipeState::new(),
-            data_out: PipeState::new(),
+            status: new_pipe(),
+            data_in: new_pipe(),
+            data_out: new_pipe(),
         })
     }
 
@@ -95,17 +96,17 @@ impl Bus {
         let Some(place) = place_of_tag(self.disks.len(), tag) else {
             return false;
         };
-        self.status.is_open(tag) && self.disks.has_answer(place)
+        is_open(&self.status, tag) && self.disks.has_answer(place)
     }
 
     fn is_data_open(&self, tag: u16, way: Direction) -> bool
-        requires { tag < STREAMS }
+        requires { tag < STREAM_ENTRIES }
         ensures { result ≡ is_data_open self.now tag way }
     {
         match way {
             Direction::Nothing => false,
-            Direction::ToHost => self.data_in.is_open(tag),
-            Direction::ToDevice => self.data_out.is_open(tag),
+            Direction::ToHost => is_open(&self.data_in, tag),
+            Direction::ToDevice => is_open(&self.data_out, tag),
         }
     }
 

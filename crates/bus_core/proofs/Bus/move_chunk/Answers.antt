@@ -1,6 +1,6 @@
 use Rattle.std.proofs.Common.{◌≡◌, Some, refl, ap, sym, ◌∙◌, arith, length, length-append}
 use Rattle.bus_core.specs.declared.Completion.{Completion}
-use Rattle.bus_core.specs.Tags.{place_of}
+use Rattle.uas_host.specs.Tags.{place_of}
 use Rattle.bus_core.specs.Part.{move_act}
 use Rattle.bus_core.specs.Shared.{Shared, routed_by_tag}
 use Rattle.bus_core.proofs.Steps.{event-room, IsSoundBus-counted, AreOfPlaces-post, event-of-news, event-move_act, routed-is}

@@ -1,8 +1,8 @@
 use Rattle.std.proofs.Common.{◌≡◌, Some, refl, ap, sym, ◌∙◌, arith, length, length-append}
 use Rattle.std.specs.Prelude.{slice_get}
-use Rattle.bus_core.specs.declared.Place.{Place}
+use Rattle.uas_host.specs.declared.Place.{Place}
 use Rattle.bus_core.specs.Shared.{Shared, submit_step}
-use Rattle.bus_core.specs.Tags.{command_slot}
+use Rattle.uas_host.specs.Tags.{command_slot}
 use Rattle.bus_core.proofs.Counting.{ArePlaces-push}
 use Rattle.bus_core.proofs.Steps.{message-room, IsSoundBus-counted, counted-if_ok, same-if_err, submitted-err}
 use Rattle.bus_core.proofs.Bus.submit.Goals as goal

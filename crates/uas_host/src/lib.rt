@@ -108,14 +108,14 @@ pub enum Handled {
 
 /// A TD by its pipe and its tag.
 #[derive(Clone, Copy, Debug, PartialEq, Eq)]
-pub(crate) struct EndedTd {
+pub struct EndedTd {
     pub pipe: Pipe,
     pub tag: u16,
 }
 
 /// What an event tells.
 #[derive(Debug, Drop)]
-pub(crate) enum News {
+pub enum News {
     CommandSeen,
     DataInSeen,
     DataOutSeen,

@@ -1,9 +1,10 @@
 -- What a run of the shared machine is to each client's own solo machine.
-use Rattle.std.proofs.Common.{◌≡◌, ℕ, List, [], ◌∷◌, ◌++◌, Option, Some, option_to_list, refl, rules}
+use Rattle.std.proofs.Common.{◌≡◌, ℕ, List, [], ◌∷◌, ◌++◌, Option, Some, option_to_list, refl, sym, subst, rules}
 use Rattle.scsi_cmd.specs.declared.Reply.{Reply}
 use Rattle.solo_model.specs.declared.Label.{Label}
 use Rattle.solo_model.specs.Solo.{SoloState, solo_run}
 use Rattle.bus_core.specs.declared.Step.{Step}
+use Rattle.bus_core.specs.declared.Outcome.{Outcome}
 use Rattle.bus_core.specs.Shared.{Shared, shared_step}
 use Rattle.bus_core.specs.Bus.{AllTicketed, HasTicket}
 use Rattle.bus_core.specs.Replay.{replayed}
@@ -26,6 +27,13 @@ replayed-isolated state (step ∷ steps) client =
     (own_label client step after.1) (own_labels client steps (replayed after.0 steps).1)
     (own_reply client after.1) (own_replies client (replayed after.0 steps).1)
     (shared_step-own client state step) (replayed-isolated after.0 steps client)
+
+-- so is whatever is the shared machine's run
+pub run_isolated : (old new : Shared) (steps : List Step) (outcomes : List Outcome) (client : ℕ) → (new, outcomes) ≡ replayed old steps →
+    IsIsolated old steps outcomes new client
+run_isolated old new steps outcomes client is =
+    let P : Shared × List Outcome → Type 0 = λ run. IsIsolated old steps run.1 run.0 client in
+    subst P (sym is) (replayed-isolated old steps client)
 
 -- a step with a small ticket goes on after others
 pub all_ticketed_push : (steps : List Step) (step : Step) → AllTicketed steps → HasTicket step → AllTicketed (steps ++ step ∷ [])

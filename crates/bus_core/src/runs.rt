@@ -11,6 +11,7 @@ use std::alloc::{AllocError, Global};
 impl Bus {
     /// Takes every step, in order: the outcome of each. The room for the outcomes is made first: at `AllocError` no step
     /// was taken.
+    #[tactic(auto, using(crate::proofs::WholeRuns::run_isolated))]
     pub fn run(&mut self, alloc: Global, steps: Vec<Step>) -> Result<Trace, AllocError>
         requires { AllTicketed steps.items }
         // The bus and the outcomes are the shared machine's.

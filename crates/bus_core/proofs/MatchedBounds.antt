@@ -1,5 +1,5 @@
 -- What is matched has room: a list that names each place once at most isn't longer than the places are many.
-use Rattle.std.proofs.Common.{◌≡◌, ℕ, zero, suc, ◌+◌, ◌*◌, ◌<◌, ◌≤◌, true, false, List, [], ◌∷◌, ◌++◌, length, length-append, Option, Some, None, IfSome, refl, arith, subst}
+use Rattle.std.proofs.Common.{◌≡◌, ℕ, zero, suc, ◌+◌, ◌*◌, ◌<◌, ◌≤◌, true, false, List, [], ◌∷◌, length, length-append, Option, Some, None, IfSome, refl, arith, subst}
 use Rattle.std.specs.Prelude.{slice_get}
 use Rattle.std.proofs.lemmas.Option.{none-some}
 use Rattle.uas_host.specs.declared.Place.{Place}
@@ -11,7 +11,7 @@ use Rattle.bus_core.specs.Part.{Part}
 use Rattle.bus_core.specs.Shared.{Shared}
 use Rattle.bus_core.specs.Bus.{IsPlace}
 use Rattle.bus_core.specs.Soundness.{one_if, awaited_data, readied_of}
-use Rattle.bus_core.specs.Matched.{same_place, times, under, carried_places, moved_places, sent_places, waiting_command, awaited_command, awaited_status, awaited_data_of, IsMatchedAt, IsMatched, HasRoom, IsNamedOnce}
+use Rattle.bus_core.specs.Matched.{same_place, times, under, carried_places, moved_places, sent_places, command_events, waiting_command, awaited_command, awaited_status, awaited_data_of, IsMatchedAt, IsMatched, HasRoom, IsNamedOnce, pipe_places}
 use Rattle.bus_core.proofs.MatchedPlaces.{one_self, one_if-most, times-append, IsFound, under-found, held-within}
 use Rattle.bus_core.proofs.MatchedEntries.{awaited-taken}
 
@@ -43,7 +43,8 @@ sum_below-eights (suc n) f most = omega (arith, sum_below-eights n (λ k. f (suc
 abbrev sum_places : ℕ → (Place → ℕ) → ℕ
 sum_places clients f = sum_below clients (λ client. sum_below 8 (λ slot. f (record { client = client; slot = slot })))
 
-sum_places-two : (clients : ℕ) (f g both : Place → ℕ) → ((place : Place) → f place + g place ≤ both place) → sum_places clients f + sum_places clients g ≤ sum_places clients both
+sum_places-two : (clients : ℕ) (f g both : Place → ℕ) → ((place : Place) → f place + g place ≤ both place) →
+    sum_places clients f + sum_places clients g ≤ sum_places clients both
 sum_places-two clients f g both less =
     sum_below-two clients (λ client. sum_below 8 (λ slot. f (record { client = client; slot = slot }))) (λ client. sum_below 8 (λ slot. g (record { client = client; slot = slot })))
     (λ client. sum_below 8 (λ slot. both (record { client = client; slot = slot })))
@@ -66,24 +67,29 @@ sum_places-ones clients f most =
 -- LISTS OF PLACES
 
 -- a list of places isn't longer than they are named together
-length-places : (clients : ℕ) (places : List Place) → ((place : Place) → 1 ≤ times place places → IsPlace clients place) → length places ≤ sum_places clients (λ place. times place places)
+length-places : (clients : ℕ) (places : List Place) → ((place : Place) → 1 ≤ times place places → IsPlace clients place) →
+    length places ≤ sum_places clients (λ place. times place places)
 length-places clients [] within = omega arith
 length-places clients (first ∷ rest) within =
     let here : IsPlace clients first = within first (omega (arith, one_self first)) in
-    let one : one_if (same_place first first) ≤ sum_places clients (λ place. one_if (same_place first place)) = sum_places-one clients first (λ place. one_if (same_place first place)) here in
-    let more : length rest ≤ sum_places clients (λ place. times place rest) = length-places clients rest (λ place named. within place (omega (arith, named))) in
+    let one : one_if (same_place first first) ≤ sum_places clients (λ place. one_if (same_place first place)) =
+    sum_places-one clients first (λ place. one_if (same_place first place)) here in
+    let more : length rest ≤ sum_places clients (λ place. times place rest) =
+    length-places clients rest (λ place named. within place (omega (arith, named))) in
     let two = sum_places-two clients (λ place. one_if (same_place first place)) (λ place. times place rest) (λ place. times place (first ∷ rest)) (λ place. omega arith) in
     omega (arith, one_self first, one, more, two)
 
 -- a list that names each place once at most isn't longer than the places are many
-once-length : (clients : ℕ) (places : List Place) → ((place : Place) → 1 ≤ times place places → IsPlace clients place) → ((place : Place) → times place places ≤ 1) → length places ≤ 8 * clients
+once-length : (clients : ℕ) (places : List Place) → ((place : Place) → 1 ≤ times place places → IsPlace clients place) →
+    ((place : Place) → times place places ≤ 1) → length places ≤ 8 * clients
 once-length clients places within once =
     let long = length-places clients places within in
     let most = sum_places-ones clients (λ place. times place places) once in
     omega (arith, long, most)
 
 -- the events are those of the three kinds
-length-events : (events : List Completion) → length events ≡ length (carried_places events) + length (moved_places events) + length (sent_places events)
+length-events : (events : List Completion) →
+    length events ≡ length (carried_places events) + length (moved_places events) + length (sent_places events)
 length-events [] = refl
 length-events (CommandDone place ∷ rest) = omega (arith, length-events rest)
 length-events (DataDone place ∷ rest) = omega (arith, length-events rest)
@@ -98,7 +104,8 @@ found-within (first ∷ rest) zero part is = omega arith
 found-within (first ∷ rest) (suc client) part is = omega (arith, found-within rest client part is)
 
 -- where something stands is a place
-pub held-place : (state : Shared) (place : Place) (entry : Entry) → IsMatched state → under state.parts place ≡ Some entry → IsPlace (length state.parts) place
+pub held-place : (state : Shared) (place : Place) (entry : Entry) → IsMatched state → under state.parts place ≡ Some entry →
+    IsPlace (length state.parts) place
 held-place state place entry all is =
     let found : IsFound state.parts place entry = under-found state.parts place entry is in
     let long : length found.part.entries ≡ 8 = subst (λ part. IfSome part (λ part. length part.entries ≡ 8)) found.there (all.slots place.client) in
@@ -108,7 +115,8 @@ held-place state place entry all is =
     }
 
 -- what is counted somewhere stands there
-some-place : (state : Shared) (place : Place) (count : Option Entry → ℕ) → count None ≡ 0 → IsMatched state → 1 ≤ count (under state.parts place) → IsPlace (length state.parts) place
+some-place : (state : Shared) (place : Place) (count : Option Entry → ℕ) → count None ≡ 0 → IsMatched state → 1 ≤ count (under state.parts place) →
+    IsPlace (length state.parts) place
 some-place state place count none all some =
     elim (under state.parts place) as (λ held. under state.parts place ≡ held → 1 ≤ count held → IsPlace (length state.parts) place) [
       | None ↦ λ is named. absurd (omega (arith, none, named))
@@ -140,26 +148,28 @@ ready-once : (held : Option Entry) → readied_of held ≤ 1
 ready-once None = omega arith
 ready-once (Some entry) = one_if-most (is_ready entry)
 
+-- a TRB in the command pipe's ring was taken or wasn't
+pub times_pipe : (state : Shared) (place : Place) → times place (pipe_places state) ≡ command_events place state.events + times place state.messages
+times_pipe state place = times-append place (carried_places state.events) state.messages
+
 -- nothing names a place twice
 pub matched-once : (state : Shared) → IsMatched state → (place : Place) → IsNamedOnce state place
 matched-once state all place =
     let here : IsMatchedAt state place (under state.parts place) = all.places place in
     record {
-      command = omega (arith, here.messages, here.carried, command-once (under state.parts place));
+      command = omega (arith, times_pipe state place, here.messages, here.carried, command-once (under state.parts place));
       data_events = omega (arith, here.moved, data-once (under state.parts place));
       status_events = omega (arith, here.sent, status-once (under state.parts place));
       ready = omega (arith, here.ready, ready-once (under state.parts place));
     }
 
 -- the command pipe's TRBs
-pipe-length : (state : Shared) → IsMatched state → length (carried_places state.events ++ state.messages) ≤ 8 * length state.parts
+pipe-length : (state : Shared) → IsMatched state → length (pipe_places state) ≤ 8 * length state.parts
 pipe-length state all =
-    let list : List Place = carried_places state.events ++ state.messages in
-    let counted = λ (place : Place). times-append place (carried_places state.events) state.messages in
-    once-length (length state.parts) list
+    once-length (length state.parts) (pipe_places state)
     (λ place named. some-place state place (λ held. awaited_command held + waiting_command held) refl all
-    (omega (arith, counted place, named, (all.places place).messages, (all.places place).carried)))
-    (λ place. omega (arith, counted place, (matched-once state all place).command))
+    (omega (arith, times_pipe state place, named, (all.places place).messages, (all.places place).carried)))
+    (λ place. (matched-once state all place).command)
 
 moved-length : (state : Shared) → IsMatched state → length (moved_places state.events) ≤ 8 * length state.parts
 moved-length state all =
@@ -176,9 +186,8 @@ sent-length state all =
 -- no queue outgrows the places
 pub matched-room : (state : Shared) → IsMatched state → HasRoom state
 matched-room state all =
-    let pipe : length (carried_places state.events) + length state.messages ≤ 8 * length state.parts =
-    omega (arith, pipe-length state all, length-append (carried_places state.events) state.messages) in
+    let pipe = pipe-length state all in
     record {
       pipe = pipe;
-      events = omega (arith, pipe, length-events state.events, moved-length state all, sent-length state all);
+      events = omega (arith, pipe, length-append (carried_places state.events) state.messages, length-events state.events, moved-length state all, sent-length state all);
     }

@@ -28,7 +28,7 @@ use Rattle.uas_host.specs.declared.TdState.TheVariants.{Pending, Seen, LeftOver,
 use Rattle.bus_core.specs.declared.Td.{Td}
 use Rattle.bus_core.specs.declared.Completion.{Completion}
 use Rattle.bus_core.specs.declared.Completion.TheVariants.{CommandDone, DataDone, StatusDone}
-use Rattle.bus_core.specs.Td.{Entry, pushed, is_pending, is_seen, is_over, is_data_over, has_trb, is_awaited, is_ready, data_trbs, with_trb_taken, with_event_seen, left_over_td, left_over_data, data_after_answer, data_after_status}
+use Rattle.bus_core.specs.Td.{Entry, pushed, is_pending, is_seen, is_over, is_data_over, is_in_ring, has_trb, is_awaited, is_ready, data_trbs, with_trb_taken, with_event_seen, left_over_td, left_over_data, data_after_answer, data_after_status}
 use Rattle.bus_core.specs.Part.{data_td_after, took_trb, is_last_trb, event_place, seen_by, seen_data_td, data_td_for, new_entry}
 use Rattle.bus_core.specs.Soundness.{one_if, awaited_data}
 use Rattle.bus_core.specs.Matched.{same_place, times, command_events, data_events, status_events, waiting_command, awaited_command, awaited_status, awaited_data_of, IsCommandTd, IsStatusTd, IsMovingTd, IsWholeTd, IsShortTd, IsAnsweredTd, IsDataTd, IsMatchedEntry, awaits_data, awaits_event}
@@ -63,8 +63,8 @@ moving-none bytes chunk None none is = tt
 moving-none bytes chunk (Some td) none is = absurd (omega (arith, none, is.2))
 
 -- where a command is received it ends, or is ready to move its data
-begun-cases : (P : Phase → Type 0) (unit : BlockMaps) (op : Op) → ((sense : Sense) → P (Ended (Check sense))) → (moved_bytes op ≡ 0 → P (Ended Good)) → P (Moving 0) →
-    P (begun unit (checked op unit.count)).1
+begun-cases : (P : Phase → Type 0) (unit : BlockMaps) (op : Op) → ((sense : Sense) → P (Ended (Check sense))) →
+    (moved_bytes op ≡ 0 → P (Ended Good)) → P (Moving 0) → P (begun unit (checked op unit.count)).1
 begun-cases P unit op check good moves =
     elim (takes_attention (checked op unit.count) && unit.attention) as (λ b. P (cond {A = BlockMaps × Phase} b (with_attention unit false, Ended (Check reset_occurred)) (started unit (checked op unit.count))).1) [
       | true ↦ check reset_occurred
@@ -81,8 +81,9 @@ begun-cases P unit op check good moves =
 abbrev pub carried_to : Entry → TaggedTask → Entry
 carried_to entry task = record entry { task = task; command_td = with_trb_taken entry.command_td }
 
-received : (unit : BlockMaps) (entry : Entry) (request : Request) → entry.task.request ≡ request → entry.command_td ≡ pushed → entry.status_td ≡ pushed →
-    IsMovingTd (data_trbs entry.task.request) 0 entry.data_td → IsMatchedEntry entry → IsMatchedEntry (carried_to entry (carried_request unit entry.task request).1)
+received : (unit : BlockMaps) (entry : Entry) (request : Request) → entry.task.request ≡ request → entry.command_td ≡ pushed →
+    entry.status_td ≡ pushed → IsMovingTd (data_trbs entry.task.request) 0 entry.data_td → IsMatchedEntry entry →
+    IsMatchedEntry (carried_to entry (carried_request unit entry.task request).1)
 received unit entry (Execute op) is command status chunks sound =
     let one : (with_trb_taken entry.command_td).consumed ≡ 1 = ap (λ (td : Td). td.consumed + 1) command in
     let trbs : data_trbs entry.task.request ≡ (moved_bytes op + 4095) / 4096 = ap data_trbs is in
@@ -106,13 +107,15 @@ pub carry-stepped : (unit : BlockMaps) (place : Place) (entry : Entry) → entry
 carry-stepped unit place entry queued sound =
     let command : entry.command_td ≡ pushed = subst (λ p. IsCommandTd p entry.command_td) queued sound.command in
     let status : entry.status_td ≡ pushed = subst (λ p. IsStatusTd p entry.status_td) queued sound.status in
-    let chunks : IsMovingTd (data_trbs entry.task.request) 0 entry.data_td = subst (λ p. IsDataTd (data_trbs entry.task.request) p entry.data_td) queued sound.chunks in
+    let chunks : IsMovingTd (data_trbs entry.task.request) 0 entry.data_td =
+    subst (λ p. IsDataTd (data_trbs entry.task.request) p entry.data_td) queued sound.chunks in
     let self = one_self place in
     let waited : one_if (has_trb entry.command_td 1) ≡ 1 = ap (λ td. one_if (has_trb td 1)) command in
     let waits : one_if (has_trb (with_trb_taken entry.command_td) 1) ≡ 0 = ap (λ td. one_if (has_trb (with_trb_taken td) 1)) command in
     let before : one_if (is_awaited entry.command_td 1) ≡ 0 = ap (λ td. one_if (is_awaited td 1)) command in
     let after : one_if (is_awaited (with_trb_taken entry.command_td) 1) ≡ 1 = ap (λ td. one_if (is_awaited (with_trb_taken td) 1)) command in
-    let asks : (carried_request unit entry.task entry.task.request).1.request ≡ entry.task.request = carried_request-same unit entry.task entry.task.request in
+    let asks : (carried_request unit entry.task entry.task.request).1.request ≡ entry.task.request =
+    carried_request-same unit entry.task entry.task.request in
     record {
       messages = omega (arith, self, waited, waits);
       carried = omega (arith, self, before, after);
@@ -124,16 +127,17 @@ carry-stepped unit place entry queued sound =
 
 -- MOVE
 
-next-cases : (P : Phase → Type 0) (bytes chunk : ℕ) → (4096 * (chunk + 1) < bytes → P (Moving (chunk + 1))) → (bytes ≤ 4096 * (chunk + 1) → P (Ended Good)) →
-    P (next_phase bytes chunk)
+next-cases : (P : Phase → Type 0) (bytes chunk : ℕ) → (4096 * (chunk + 1) < bytes → P (Moving (chunk + 1))) →
+    (bytes ≤ 4096 * (chunk + 1) → P (Ended Good)) → P (next_phase bytes chunk)
 next-cases P bytes chunk more last =
     elim (nat_lt (4096 * (chunk + 1)) bytes) as (λ b. nat_lt (4096 * (chunk + 1)) bytes ≡ b → P (cond b (Moving (chunk + 1)) (Ended Good))) [
       | true ↦ λ is. more (ltb-true _ _ is)
       | false ↦ λ is. last (ltb-false _ _ is)
     ] refl
 
-block-cases : (P : Phase → Type 0) (unit : BlockMaps) (lba count chunk : ℕ) (sense : Sense) → (4096 * (chunk + 1) < 512 * count → P (Moving (chunk + 1))) →
-    (512 * count ≤ 4096 * (chunk + 1) → P (Ended Good)) → ((sense : Sense) → P (Ended (Check sense))) → P (phase_after_chunk unit lba count chunk sense)
+block-cases : (P : Phase → Type 0) (unit : BlockMaps) (lba count chunk : ℕ) (sense : Sense) →
+    (4096 * (chunk + 1) < 512 * count → P (Moving (chunk + 1))) → (512 * count ≤ 4096 * (chunk + 1) → P (Ended Good)) →
+    ((sense : Sense) → P (Ended (Check sense))) → P (phase_after_chunk unit lba count chunk sense)
 block-cases P unit lba count chunk sense more last check =
     elim (meets_bad_chunk unit lba count chunk) as (λ b. P (cond b (Ended (Check sense)) (next_phase (512 * count) chunk))) [
       | true ↦ check sense
@@ -176,7 +180,8 @@ chunk-counted trbs chunk took None is = omega arith
 chunk-counted trbs chunk false (Some td) is = omega arith
 chunk-counted trbs chunk true (Some td) is =
     let before : one_if (is_awaited td trbs) ≡ 0 = unawaited td trbs (λ same. omega (arith, is.1, is.2)) in
-    let after : one_if (is_pending td.state && (td.consumed + 1 == trbs)) ≡ one_if (td.consumed + 1 == trbs) = ap (λ state. one_if (is_pending state && (td.consumed + 1 == trbs))) is.0 in
+    let after : one_if (is_pending td.state && (td.consumed + 1 == trbs)) ≡ one_if (td.consumed + 1 == trbs) =
+    ap (λ state. one_if (is_pending state && (td.consumed + 1 == trbs))) is.0 in
     omega (arith, before, after)
 
 chunk-next : (trbs chunk : ℕ) (td : Option Td) → IsMovingTd trbs chunk td → chunk + 1 < trbs → IsMovingTd trbs (chunk + 1) (data_td_after true td)
@@ -232,7 +237,8 @@ abbrev pub moved_events : Entry → TaggedTask → Place → List Completion
 moved_events entry task place = data_event_if (is_last_trb (took_trb task.phase) (data_trbs entry.task.request) entry.data_td) place
 
 -- a step that changes the phase and takes what it takes of the data TD
-chunk-stepped : (place : Place) (entry : Entry) (chunk : ℕ) (buffer : List ℕ) (phase : Phase) → IsMovingTd (data_trbs entry.task.request) chunk entry.data_td →
+chunk-stepped : (place : Place) (entry : Entry) (chunk : ℕ) (buffer : List ℕ) (phase : Phase) →
+    IsMovingTd (data_trbs entry.task.request) chunk entry.data_td →
     IsMatchedEntry (moved_to entry (record entry.task { buffer = buffer; phase = phase })) →
     IsStepped place [] (moved_events entry (record entry.task { buffer = buffer; phase = phase }) place) entry (moved_to entry (record entry.task { buffer = buffer; phase = phase }))
 chunk-stepped place entry chunk buffer phase chunks sound =
@@ -248,12 +254,14 @@ chunk-stepped place entry chunk buffer phase chunks sound =
       sound = sound;
     }
 
-moved_cases : (unit : BlockMaps) (place : Place) (entry : Entry) (chunk : ℕ) (request : Request) → entry.task.request ≡ request → entry.task.phase ≡ Moving chunk → IsMatchedEntry entry →
+moved_cases : (unit : BlockMaps) (place : Place) (entry : Entry) (chunk : ℕ) (request : Request) → entry.task.request ≡ request →
+    entry.task.phase ≡ Moving chunk → IsMatchedEntry entry →
     IsStepped place [] (moved_events entry (moved_request unit entry.task chunk request).1 place) entry (moved_to entry (moved_request unit entry.task chunk request).1)
 moved_cases unit place entry chunk (Execute op) is moving sound =
     let command : entry.command_td.consumed ≡ 1 = subst (λ p. IsCommandTd p entry.command_td) moving sound.command in
     let status : entry.status_td ≡ pushed = subst (λ p. IsStatusTd p entry.status_td) moving sound.status in
-    let chunks : IsMovingTd (data_trbs entry.task.request) chunk entry.data_td = subst (λ p. IsDataTd (data_trbs entry.task.request) p entry.data_td) moving sound.chunks in
+    let chunks : IsMovingTd (data_trbs entry.task.request) chunk entry.data_td =
+    subst (λ p. IsDataTd (data_trbs entry.task.request) p entry.data_td) moving sound.chunks in
     let trbs : data_trbs entry.task.request ≡ (moved_bytes op + 4095) / 4096 = ap data_trbs is in
     let there = λ (took : Bool). td-there took entry.data_td ∙ sound.moves in
     let buffer : List ℕ = (moved_request unit entry.task chunk (Execute op)).1.buffer in
@@ -314,7 +322,7 @@ pub record IsSeenAs (event : Completion) (old new : Entry) : Type 0 where
 awaited-spent : (td : Td) (trbs : ℕ) → is_awaited td trbs ≡ true → td.consumed ≡ trbs
 awaited-spent td trbs is = eqb-true td.consumed trbs (and-true (is_pending td.state) (td.consumed == trbs) is).1
 
-awaited-pends : (td : Td) (trbs : ℕ) → is_awaited td trbs ≡ true → td.state ≡ Pending
+pub awaited-pends : (td : Td) (trbs : ℕ) → is_awaited td trbs ≡ true → td.state ≡ Pending
 awaited-pends td trbs is = pending td.state (and-true (is_pending td.state) (td.consumed == trbs) is).0
   where
     pending : (state : TdState) → is_pending state ≡ true → state ≡ Pending
@@ -327,11 +335,17 @@ awaited-pends td trbs is = pending td.state (and-true (is_pending td.state) (td.
 pushed-unawaited : (td : Td) → td ≡ pushed → is_awaited td 1 ≡ true → ⊥
 pushed-unawaited td is awaited = false≢true (sym (ap (λ t. is_awaited t 1) is) ∙ awaited)
 
+-- a TD whose one TRB was taken has none left
+pub taken-none : (td : Td) → td.consumed ≡ 1 → one_if (has_trb td 1) ≡ 0
+taken-none td is =
+    ap (λ n. one_if (is_in_ring td.state && nat_lt n 1)) is ∙ elim (is_in_ring td.state) as (λ b. one_if (b && false) ≡ 0) [
+      | true ↦ refl
+      | false ↦ refl
+    ]
+
 -- no TRB of it is in the ring
 pub awaited-taken : (td : Td) → is_awaited td 1 ≡ true → one_if (has_trb td 1) ≡ 0
-awaited-taken td awaited =
-    ap (λ state. one_if (has_trb (record td { state = state }) 1)) (awaited-pends td 1 awaited)
-    ∙ ap (λ n. one_if (nat_lt n 1)) (awaited-spent td 1 awaited)
+awaited-taken td awaited = taken-none td (awaited-spent td 1 awaited)
 
 command-seen_td : (phase : Phase) (td : Td) → is_awaited td 1 ≡ true → IsCommandTd phase td → IsCommandTd phase (with_event_seen td)
 command-seen_td Queued td awaited is = absurd (pushed-unawaited td is awaited)
@@ -360,11 +374,13 @@ command-seen place entry awaited sound =
     }
 
 -- a data TD that is awaited has been moved whole
-data-seen_answered : (trbs : ℕ) (answer : Answer) (td : Td) → IsAnsweredTd trbs answer (Some td) → IsAnsweredTd trbs answer (Some (with_event_seen td))
+data-seen_answered : (trbs : ℕ) (answer : Answer) (td : Td) → IsAnsweredTd trbs answer (Some td) →
+    IsAnsweredTd trbs answer (Some (with_event_seen td))
 data-seen_answered trbs Good td is = is
 data-seen_answered trbs (Check sense) td is = λ pends. absurd (false≢true pends)
 
-data-seen_td : (trbs : ℕ) (phase : Phase) (td : Td) → td.consumed ≡ trbs → IsDataTd trbs phase (Some td) → IsDataTd trbs phase (Some (with_event_seen td))
+data-seen_td : (trbs : ℕ) (phase : Phase) (td : Td) → td.consumed ≡ trbs → IsDataTd trbs phase (Some td) →
+    IsDataTd trbs phase (Some (with_event_seen td))
 data-seen_td trbs Queued td spent is = absurd (omega (arith, spent, is.1, is.2))
 data-seen_td trbs (Moving chunk) td spent is = absurd (omega (arith, spent, is.1, is.2))
 data-seen_td trbs (Ended answer) td spent is = data-seen_answered trbs answer td is
@@ -379,8 +395,8 @@ middle_false : (a b : Bool) → one_if (a && (false && b)) ≡ 0
 middle_false true b = refl
 middle_false false b = refl
 
-data-seen : (place : Place) (entry : Entry) (td : Td) → entry.data_td ≡ Some td → is_awaited td (data_trbs entry.task.request) ≡ true → IsMatchedEntry entry →
-    IsSeenAs (DataDone place) entry (record entry { data_td = Some (with_event_seen td) })
+data-seen : (place : Place) (entry : Entry) (td : Td) → entry.data_td ≡ Some td → is_awaited td (data_trbs entry.task.request) ≡ true →
+    IsMatchedEntry entry → IsSeenAs (DataDone place) entry (record entry { data_td = Some (with_event_seen td) })
 data-seen place entry td is awaited sound =
     let trbs : ℕ = data_trbs entry.task.request in
     let pends : td.state ≡ Pending = awaited-pends td trbs awaited in
@@ -462,7 +478,8 @@ status-left trbs (Sent answer) td is = answer-left trbs answer td is
 abbrev status_seen : Entry → Entry
 status_seen entry = record entry { status_td = with_event_seen entry.status_td; data_td = data_after_status entry.task.phase entry.data_td }
 
-status-seen : (place : Place) (entry : Entry) → is_awaited entry.status_td 1 ≡ true → IsMatchedEntry entry → IsSeenAs (StatusDone place) entry (status_seen entry)
+status-seen : (place : Place) (entry : Entry) → is_awaited entry.status_td 1 ≡ true → IsMatchedEntry entry →
+    IsSeenAs (StatusDone place) entry (status_seen entry)
 status-seen place entry awaited sound =
     let pends : entry.status_td.state ≡ Pending = awaited-pends entry.status_td 1 awaited in
     let left : IsLeft (data_trbs entry.task.request) entry.task.phase entry.data_td (data_after_status entry.task.phase entry.data_td) =
@@ -489,7 +506,8 @@ pub record HasSeen (event : Completion) (old : Entry) : Type 0 where
   pub new : Entry
   pub step : IsSeenAs event old new
 
-data-awaits : (place : Place) (entry : Entry) (td : Option Td) → entry.data_td ≡ td → awaits_data (data_trbs entry.task.request) td ≡ true → IsMatchedEntry entry → HasSeen (DataDone place) entry
+data-awaits : (place : Place) (entry : Entry) (td : Option Td) → entry.data_td ≡ td → awaits_data (data_trbs entry.task.request) td ≡ true →
+    IsMatchedEntry entry → HasSeen (DataDone place) entry
 data-awaits place entry None is awaits sound = absurd (false≢true awaits)
 data-awaits place entry (Some td) is awaits sound = record { new = record entry { data_td = Some (with_event_seen td) }; step = data-seen place entry td is awaits sound }
 
@@ -544,8 +562,10 @@ pub record IsQuiet (entry : Entry) : Type 0 where
 
 pub ready-quiet : (entry : Entry) → is_ready entry ≡ true → IsMatchedEntry entry → IsQuiet entry
 ready-quiet entry ready sound =
-    let first : (is_seen entry.command_td.state ≡ true) × ((is_over entry.status_td.state && is_data_over entry.data_td) ≡ true) = and-true (is_seen entry.command_td.state) _ ready in
-    let rest : (is_over entry.status_td.state ≡ true) × (is_data_over entry.data_td ≡ true) = and-true (is_over entry.status_td.state) (is_data_over entry.data_td) first.1 in
+    let first : (is_seen entry.command_td.state ≡ true) × ((is_over entry.status_td.state && is_data_over entry.data_td) ≡ true) =
+    and-true (is_seen entry.command_td.state) _ ready in
+    let rest : (is_over entry.status_td.state ≡ true) × (is_data_over entry.data_td ≡ true) =
+    and-true (is_over entry.status_td.state) (is_data_over entry.data_td) first.1 in
     let seen : entry.command_td.state ≡ Seen = seen-is entry.command_td.state first.0 in
     record {
       messages = ap (λ state. one_if (has_trb (record entry.command_td { state = state }) 1)) seen;
@@ -577,7 +597,7 @@ submitted-moves bytes =
     ] refl
 
 -- what isn't too long moves at most 65,536 bytes
-short-small : (op : Op) → is_too_long op ≡ false → moved_bytes op ≤ 65536
+pub short-small : (op : Op) → is_too_long op ≡ false → moved_bytes op ≤ 65536
 short-small TestUnitReady is = omega arith
 short-small (Inquiry allocation) is = omega arith
 short-small ReadCapacity is = omega arith
@@ -597,7 +617,8 @@ unfaulted_if false true long late least op is none = absurd (none-some BadLength
 unfaulted_if false false true late least op is none = absurd (none-some TooLong (sym none))
 unfaulted_if false false false late least op is none = record { free = refl; short = is }
 
-pub unfaulted : (in_use : Bool) (least ticket : ℕ) (command : Command) → first_submit_fault true in_use least ticket command ≡ None → IsUnfaulted in_use command.op
+pub unfaulted : (in_use : Bool) (least ticket : ℕ) (command : Command) → first_submit_fault true in_use least ticket command ≡ None →
+    IsUnfaulted in_use command.op
 unfaulted in_use least ticket command none =
     unfaulted_if in_use (not (length command.buffer == moved_bytes command.op)) (is_too_long command.op) (nat_lt ticket least) least command.op refl none
 

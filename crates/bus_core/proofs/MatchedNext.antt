@@ -1,40 +1,44 @@
 -- What waits in a matched state is of an entry that waits for it.
-use Rattle.std.proofs.Common.{◌≡◌, ℕ, zero, suc, ◌+◌, ◌/◌, ◌<◌, ◌≤◌, true, false, cond, List, [], ◌∷◌, length, Option, Some, None, IfSome, refl, arith, ap, sym, subst, ◌∙◌}
+use Rattle.std.proofs.Common.{◌≡◌, ℕ, zero, suc, ◌+◌, ◌/◌, ◌<◌, ◌≤◌, true, false, cond, List, [], ◌∷◌, ◌++◌, length, Option, Some, None, IfSome, refl, arith, ap, sym, subst, ◌∙◌}
 use Rattle.std.specs.Prelude.{nat_lt, slice_get, is_some}
 use Rattle.std.proofs.lemmas.Bool.{ltb-true, ltb-false}
+use Rattle.std.proofs.lemmas.List.{append-nil}
 use Rattle.std.proofs.lemmas.Option.{none-some}
 use Rattle.block_unit.specs.BlockMaps.{BlockMaps}
 use Rattle.scsi_cmd.specs.Op.{moved_bytes}
 use Rattle.scsi_cmd.specs.declared.Request.{Request}
 use Rattle.scsi_cmd.specs.declared.Request.TheVariants.{Execute}
-use Rattle.solo_model.specs.declared.Phase.TheVariants.{Queued}
-use Rattle.uas_host.specs.declared.Place.{Place}
+use Rattle.solo_model.specs.declared.Phase.{Phase}
+use Rattle.solo_model.specs.declared.Phase.TheVariants.{Queued, Moving, Ended, Sent}
+use Rattle.bus_core.specs.declared.Place.{Place}
 use Rattle.bus_core.specs.declared.Completion.{Completion}
 use Rattle.bus_core.specs.declared.Completion.TheVariants.{CommandDone, DataDone, StatusDone}
 use Rattle.bus_core.specs.declared.Step.{Step}
 use Rattle.bus_core.specs.declared.Step.TheVariants.{Event}
-use Rattle.bus_core.specs.Td.{Entry, pushed, is_awaited, data_trbs}
-use Rattle.uas_host.specs.Tags.{place_of}
+use Rattle.bus_core.specs.declared.Td.{Td}
+use Rattle.bus_core.specs.Td.{Entry, pushed, has_trb, is_awaited, data_trbs}
+use Rattle.bus_core.specs.Tags.{place_of}
 use Rattle.bus_core.specs.Part.{event_place}
 use Rattle.bus_core.specs.Shared.{Shared, idle, is_some_of, opening, carry_step, event_step, shared_step, is_moving, is_ended, data_is_due, status_is_due}
 use Rattle.bus_core.specs.Replay.{replay, replayed}
 use Rattle.bus_core.specs.Soundness.{one_if}
-use Rattle.bus_core.specs.Matched.{times, under, data_events, status_events, request_bytes, IsCommandTd, IsStatusTd, IsMovingTd, IsDataTd, IsMatchedEntry, IsMatched, IsOwnMessage, IsOwnEvent, HasNoStray, HasDataTrbs, HaveDataTrbs, CarryActs, EventActs, NoDataEventWaits, NoStatusEventWaits}
+use Rattle.bus_core.specs.Matched.{pipe_places, carried_places, waiting_command, IsPendingCommand, ArePendingCommands, HaveCommandTrbs, EventFreesFirst, AcceptedFits, times, under, command_events, data_events, status_events, request_bytes, IsCommandTd, IsStatusTd, IsMovingTd, IsDataTd, IsMatchedEntry, IsMatched, IsOwnMessage, IsOwnEvent, HasNoStray, HasDataTrbs, HaveDataTrbs, CarryActs, EventActs, NoDataEventWaits, NoStatusEventWaits}
 use Rattle.bus_core.proofs.NumberOfClients.{length-parts}
 use Rattle.bus_core.proofs.Opening.{length-new_parts}
 use Rattle.bus_core.proofs.MatchedPlaces.{one_self, and-true, under-written}
-use Rattle.bus_core.proofs.MatchedEntries.{has_trb-queued, moving-unawaited, HasSeen, event-seen}
+use Rattle.bus_core.proofs.MatchedEntries.{awaited-pends, taken-none, short-small, unfaulted, has_trb-queued, moving-unawaited, HasSeen, event-seen}
+use Rattle.bus_core.proofs.MatchedBounds.{times_pipe, matched-once}
 use Rattle.bus_core.proofs.MatchedSteps.{IsHeld, matched-held, HasWaiting, message-waiting, carry_step-held, HasAwaiting, times_alike, times_alike-first, event-awaited, command_events-first, data_events-first, status_events-first, event_step-held, seen-written, seen_state, IsDueAt, place_fact-due, IsMovingBy, moving_phase, IsEndedBy, ended_phase}
 
 -- MESSAGES
 
 -- what is in a list is named there
-times-member : (places : List Place) (at : ℕ) (place : Place) → slice_get places at ≡ Some place → 1 ≤ times place places
+pub times-member : (places : List Place) (at : ℕ) (place : Place) → slice_get places at ≡ Some place → 1 ≤ times place places
 times-member [] at place is = absurd (none-some place is)
 times-member (first ∷ rest) zero place is = let same : first ≡ place = cc in subst (λ p. 1 ≤ times p (first ∷ rest)) same (omega (arith, one_self first))
 times-member (first ∷ rest) (suc at) place is = omega (arith, times-member rest at place is)
 
-own-message : (state : Shared) (place : Place) → IsMatched state → 1 ≤ times place state.messages → IsOwnMessage state.parts place
+pub own-message : (state : Shared) (place : Place) → IsMatched state → 1 ≤ times place state.messages → IsOwnMessage state.parts place
 own-message state place all some =
     let waiting : HasWaiting (under state.parts place) = message-waiting state place all some in
     let at : IsHeld state place waiting.entry = matched-held state place waiting.entry all waiting.is in
@@ -53,12 +57,12 @@ times_alike-rest (CommandDone place) first rest = omega (arith, command_events-f
 times_alike-rest (DataDone place) first rest = omega (arith, data_events-first place first rest)
 times_alike-rest (StatusDone place) first rest = omega (arith, status_events-first place first rest)
 
-times_alike-member : (events : List Completion) (at : ℕ) (event : Completion) → slice_get events at ≡ Some event → 1 ≤ times_alike event events
+pub times_alike-member : (events : List Completion) (at : ℕ) (event : Completion) → slice_get events at ≡ Some event → 1 ≤ times_alike event events
 times_alike-member [] at event is = absurd (none-some event is)
 times_alike-member (first ∷ rest) zero event is = let same : first ≡ event = cc in subst (λ e. 1 ≤ times_alike e (first ∷ rest)) same (times_alike-first first rest)
 times_alike-member (first ∷ rest) (suc at) event is = omega (arith, times_alike-member rest at event is, times_alike-rest event first rest)
 
-own-event : (state : Shared) (event : Completion) → IsMatched state → 1 ≤ times_alike event state.events → IsOwnEvent state.parts event
+pub own-event : (state : Shared) (event : Completion) → IsMatched state → 1 ≤ times_alike event state.events → IsOwnEvent state.parts event
 own-event state event all some =
     let awaiting : HasAwaiting event (under state.parts (event_place event)) = event-awaited state event all some in
     let at : IsHeld state (event_place event) awaiting.entry = matched-held state (event_place event) awaiting.entry all awaiting.is in
@@ -75,6 +79,37 @@ matched-no_stray state all = record {
   messages = λ at place is. own-message state place all (times-member state.messages at place is);
   events = λ at event is. own-event state event all (times_alike-member state.events at event is);
 }
+
+-- THE COMMAND PIPE'S RING
+
+-- a command event or a message: either TD is pending
+pending-command : (state : Shared) (place : Place) → IsMatched state → 1 ≤ times place (pipe_places state) → IsPendingCommand state.parts place
+pending-command state place all some =
+    elim (nat_lt 0 (times place state.messages)) as (λ b. nat_lt 0 (times place state.messages) ≡ b → IsPendingCommand state.parts place) [
+      | true ↦ λ is. let own : IsOwnMessage state.parts place = own-message state place all (omega (arith, ltb-true 0 (times place state.messages) is)) in
+          record { entry = own.entry; held = own.held; pending = ap (λ (td : Td). td.state) own.pushed }
+      | false ↦ λ is. let own : IsOwnEvent state.parts (CommandDone place) =
+          own-event state (CommandDone place) all (omega (arith, some, times_pipe state place, ltb-false 0 (times place state.messages) is)) in
+          record { entry = own.entry; held = own.held; pending = awaited-pends own.entry.command_td 1 own.awaits }
+    ] refl
+
+pub matched-pending : (state : Shared) → IsMatched state → ArePendingCommands state
+matched-pending state all at place is = pending-command state place all (times-member (pipe_places state) at place is)
+
+-- a command TD is pushed, or one of its one TRB was taken
+command-counted : (phase : Phase) (td : Td) (named : ℕ) → IsCommandTd phase td → named ≡ one_if (has_trb td 1) → td.consumed + named ≡ 1
+command-counted Queued td named is counted = omega (arith, ap (λ (t : Td). t.consumed) is, counted, ap (λ t. one_if (has_trb t 1)) is)
+command-counted (Moving chunk) td named is counted = omega (arith, is, counted, taken-none td is)
+command-counted (Ended answer) td named is counted = omega (arith, is, counted, taken-none td is)
+command-counted (Sent answer) td named is counted = omega (arith, is, counted, taken-none td is)
+
+held-counted : (held : Option Entry) (named : ℕ) → IfSome held IsMatchedEntry → named ≡ waiting_command held →
+    IfSome held (λ entry. entry.command_td.consumed + named ≡ 1)
+held-counted None named sound counted = tt
+held-counted (Some entry) named sound counted = command-counted entry.task.phase entry.command_td named sound.command counted
+
+pub matched-counted : (state : Shared) → IsMatched state → HaveCommandTrbs state
+matched-counted state all place = held-counted (under state.parts place) (times place state.messages) (all.places place).sound (all.places place).messages
 
 -- THE STEPS THAT TAKE THEM
 
@@ -98,6 +133,25 @@ matched-sees state all event rest is =
     let wrote : under now.parts place ≡ Some seen.new =
     under-written state now place (Some seen.new) (seen-written state event rest at.found.part own.entry seen.new is at.found.there at.found.held) in
     (own.entry, seen.new, own.held, seen.step.seen, ap (λ (s : Shared). under s.parts (event_place event)) stepped ∙ wrote)
+
+-- the places in the command pipe's ring after an event
+freed_places : (state : Shared) (place : Place) (rest : List Completion) → IsMatched state → state.events ≡ CommandDone place ∷ rest →
+    pipe_places (shared_step state Event).0 ≡ carried_places rest ++ state.messages
+freed_places state place rest all is =
+    let own : IsOwnEvent state.parts (CommandDone place) =
+    own-event state (CommandDone place) all (subst (λ es. 1 ≤ command_events place es) (sym is) (omega (arith, one_self place))) in
+    let at : IsHeld state place own.entry = matched-held state place own.entry all own.held in
+    let seen : HasSeen (CommandDone place) own.entry = event-seen (CommandDone place) own.entry own.awaits at.here.sound in
+    ap (λ es. pipe_places (cond (is_some_of es) (event_step state es) (state, idle)).0) is
+    ∙ ap (λ (s : Shared). pipe_places s) (event_step-held state (CommandDone place) rest at.found.part own.entry seen.new at.found.there at.found.held seen.step.seen)
+    ∙ ap (λ es. carried_places es ++ state.messages) (append-nil rest)
+
+pub matched-frees : (state : Shared) → IsMatched state → EventFreesFirst state
+matched-frees state all place rest is =
+    let left : pipe_places (shared_step state Event).0 ≡ carried_places rest ++ state.messages = freed_places state place rest all is in
+    let first : pipe_places state ≡ place ∷ (carried_places rest ++ state.messages) = ap (λ es. carried_places es ++ state.messages) is in
+    let once : times place (pipe_places state) ≤ 1 = (matched-once state all place).command in
+    (first ∙ ap (λ places. place ∷ places) (sym left), omega (arith, once, ap (times place) first, ap (times place) left, one_self place))
 
 -- WHERE A STEP IS DUE NO EVENT OF ITS TD WAITS
 
@@ -147,6 +201,9 @@ trbs-some (Execute op) = both_some (moved_bytes op) ((moved_bytes op + 4095) / 4
 data-trbs : (held : Option Entry) → IfSome held IsMatchedEntry → IfSome held HasDataTrbs
 data-trbs None sound = tt
 data-trbs (Some entry) sound = record { most = trbs-most entry.task.request sound.small; there = sound.moves ∙ trbs-some entry.task.request }
+
+pub accepted-trbs : AcceptedFits
+accepted-trbs in_use least ticket command none = trbs-most (Execute command.op) (short-small command.op (unfaulted in_use least ticket command none).short)
 
 pub matched-data_trbs : (state : Shared) → IsMatched state → HaveDataTrbs state
 matched-data_trbs state all place = data-trbs (under state.parts place) (all.places place).sound

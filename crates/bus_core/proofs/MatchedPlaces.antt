@@ -47,7 +47,8 @@ and-true a b is = both_true a b is
 
 pub same_place-true : (place other : Place) → same_place place other ≡ true → place ≡ other
 same_place-true place other is =
-    let parts : ((place.client == other.client) ≡ true) × ((place.slot == other.slot) ≡ true) = both_true (place.client == other.client) (place.slot == other.slot) is in
+    let parts : ((place.client == other.client) ≡ true) × ((place.slot == other.slot) ≡ true) =
+    both_true (place.client == other.client) (place.slot == other.slot) is in
     let client = eqb-true place.client other.client parts.0 in
     let slot = eqb-true place.slot other.slot parts.1 in
     λ i. record { client = client i; slot = slot i }
@@ -64,19 +65,22 @@ pub times-append : (place : Place) (first second : List Place) → times place (
 times-append place [] second = omega arith
 times-append place (next ∷ rest) second = omega (arith, times-append place rest second)
 
-pub command_events-append : (place : Place) (events more : List Completion) → command_events place (events ++ more) ≡ command_events place events + command_events place more
+pub command_events-append : (place : Place) (events more : List Completion) →
+    command_events place (events ++ more) ≡ command_events place events + command_events place more
 command_events-append place [] more = omega arith
 command_events-append place (CommandDone next ∷ rest) more = omega (arith, command_events-append place rest more)
 command_events-append place (DataDone next ∷ rest) more = command_events-append place rest more
 command_events-append place (StatusDone next ∷ rest) more = command_events-append place rest more
 
-pub data_events-append : (place : Place) (events more : List Completion) → data_events place (events ++ more) ≡ data_events place events + data_events place more
+pub data_events-append : (place : Place) (events more : List Completion) →
+    data_events place (events ++ more) ≡ data_events place events + data_events place more
 data_events-append place [] more = omega arith
 data_events-append place (CommandDone next ∷ rest) more = data_events-append place rest more
 data_events-append place (DataDone next ∷ rest) more = omega (arith, data_events-append place rest more)
 data_events-append place (StatusDone next ∷ rest) more = data_events-append place rest more
 
-pub status_events-append : (place : Place) (events more : List Completion) → status_events place (events ++ more) ≡ status_events place events + status_events place more
+pub status_events-append : (place : Place) (events more : List Completion) →
+    status_events place (events ++ more) ≡ status_events place events + status_events place more
 status_events-append place [] more = omega arith
 status_events-append place (CommandDone next ∷ rest) more = status_events-append place rest more
 status_events-append place (DataDone next ∷ rest) more = status_events-append place rest more
@@ -133,8 +137,9 @@ fact-set_same : {T : Type 0} (fact : Part → T) (none : T) (parts : List Part) 
 fact-set_same fact none parts client part now there = ap (λ found. option_map_or fact found none) (slice_get-slice_set_same parts client part now there)
 
 -- what the write keeps of the client is told as before
-fact-set_other : {T : Type 0} (fact : Part → T) (none : T) (parts : List Part) (client other : ℕ) (part now : Part) → slice_get parts client ≡ Some part →
-    (client ≡ other → fact now ≡ fact part) → option_map_or fact (slice_get (slice_set parts client now) other) none ≡ option_map_or fact (slice_get parts other) none
+fact-set_other : {T : Type 0} (fact : Part → T) (none : T) (parts : List Part) (client other : ℕ) (part now : Part) →
+    slice_get parts client ≡ Some part → (client ≡ other → fact now ≡ fact part) →
+    option_map_or fact (slice_get (slice_set parts client now) other) none ≡ option_map_or fact (slice_get parts other) none
 fact-set_other fact none parts client other part now there kept =
     part-set (λ found. option_map_or fact found none ≡ option_map_or fact (slice_get parts other) none) parts client other part now there
     (λ same was. kept same ∙ sym (ap (λ found. option_map_or fact found none) (sym (ap (λ c. slice_get parts c) same) ∙ there)))

@@ -40,14 +40,16 @@ pub record IsHeld (state : Shared) (place : Place) (entry : Entry) : Type 0 wher
   pub found : IsFound state.parts place entry
   pub here : IsMatchedAt state place (Some entry)
 
-pub matched-held : (state : Shared) (place : Place) (entry : Entry) → IsMatched state → under state.parts place ≡ Some entry → IsHeld state place entry
+pub matched-held : (state : Shared) (place : Place) (entry : Entry) → IsMatched state → under state.parts place ≡ Some entry →
+    IsHeld state place entry
 matched-held state place entry all is = record {
   found = under-found state.parts place entry is;
   here = subst (λ held. IsMatchedAt state place held) is (all.places place);
 }
 
 -- of a client that is there the queue of ready slots tells how often a place is ready
-times_ready-there : (parts : List Part) (place : Place) (part : Part) → slice_get parts place.client ≡ Some part → times_ready parts place ≡ times_in place.slot part.ready
+times_ready-there : (parts : List Part) (place : Place) (part : Part) → slice_get parts place.client ≡ Some part →
+    times_ready parts place ≡ times_in place.slot part.ready
 times_ready-there parts place part there = ap (λ found. option_map_or (readied_in place) found 0) there
 
 -- A STEP OF THE DEVICE AT A PLACE
@@ -68,8 +70,8 @@ acted_state state place part unit entry rest posted = record state {
 }
 
 acted-written : (state : Shared) (place : Place) (part : Part) (unit : BlockMaps) (old new : Entry) (popped rest : List Place) (posted : List Completion) →
-    slice_get state.parts place.client ≡ Some part → held_at part.entries place.slot ≡ Some old → state.messages ≡ popped ++ rest → NamesAlone place popped posted →
-    IsWritten state (acted_state state place part unit new rest posted) place (Some new)
+    slice_get state.parts place.client ≡ Some part → held_at part.entries place.slot ≡ Some old → state.messages ≡ popped ++ rest →
+    NamesAlone place popped posted → IsWritten state (acted_state state place part unit new rest posted) place (Some new)
 acted-written state place part unit old new popped rest posted there held pops alone = record {
   part = part;
   now = with_entry (record part { unit = unit }) place.slot new;
@@ -87,8 +89,9 @@ acted-written state place part unit old new popped rest posted there held pops a
 }
 
 pub acted-matched : (state : Shared) (place : Place) (part : Part) (unit : BlockMaps) (old new : Entry) (popped rest : List Place) (posted : List Completion) →
-    slice_get state.parts place.client ≡ Some part → held_at part.entries place.slot ≡ Some old → state.messages ≡ popped ++ rest → NamesAlone place popped posted →
-    IsStepped place popped posted old new → IsMatchedAt state place (Some old) → IsMatched state → IsMatched (acted_state state place part unit new rest posted)
+    slice_get state.parts place.client ≡ Some part → held_at part.entries place.slot ≡ Some old → state.messages ≡ popped ++ rest →
+    NamesAlone place popped posted → IsStepped place popped posted old new → IsMatchedAt state place (Some old) → IsMatched state →
+    IsMatched (acted_state state place part unit new rest posted)
 unfolding acted-written
 acted-matched state place part unit old new popped rest posted there held pops alone step here all =
     let written = acted-written state place part unit old new popped rest posted there held pops alone in
@@ -126,8 +129,8 @@ carry-alone place = record {
 }
 
 -- the first message leaves the command pipe: the state after it
-pub carry_step-held : (state : Shared) (place : Place) (rest : List Place) (part : Part) (entry : Entry) → slice_get state.parts place.client ≡ Some part →
-    held_at part.entries place.slot ≡ Some entry → entry.task.phase ≡ Queued →
+pub carry_step-held : (state : Shared) (place : Place) (rest : List Place) (part : Part) (entry : Entry) →
+    slice_get state.parts place.client ≡ Some part → held_at part.entries place.slot ≡ Some entry → entry.task.phase ≡ Queued →
     carry_step state (place ∷ rest) ≡ acted_on (record state { messages = rest }) place.client
     (carried_entry part place.slot place entry (Some (carried_request part.unit entry.task entry.task.request)))
 carry_step-held state place rest part entry there held queued =
@@ -136,7 +139,8 @@ carry_step-held state place rest part entry there held queued =
     ∙ ap (λ found. acted_on popped place.client (carried_slot part place.slot place found)) held
     ∙ ap (λ phase. acted_on popped place.client (carried_entry part place.slot place entry (carried_from part.unit entry.task phase))) queued
 
-pub carry_step-matched : (state : Shared) (messages : List Place) → state.messages ≡ messages → IsMatched state → IsMatched (carry_step state messages).0
+pub carry_step-matched : (state : Shared) (messages : List Place) → state.messages ≡ messages → IsMatched state →
+    IsMatched (carry_step state messages).0
 carry_step-matched state [] is all = all
 carry_step-matched state (place ∷ rest) is all =
     let some : 1 ≤ times place state.messages = omega (arith, ap (times place) is, one_self place) in
@@ -191,9 +195,9 @@ moving_phase (Moving chunk) is = record { chunk = chunk; is = refl }
 moving_phase (Ended answer) is = absurd (false≢true is)
 moving_phase (Sent answer) is = absurd (false≢true is)
 
-move_step-held : (state : Shared) (tag : ℕ) (place : Place) (part : Part) (entry : Entry) (chunk : ℕ) → place_of (length state.parts) tag ≡ Some place →
-    slice_get state.parts place.client ≡ Some part → held_at part.entries place.slot ≡ Some entry → entry.task.phase ≡ Moving chunk →
-    routed_by_tag state move_act (place_of (length state.parts) tag) ≡ acted_on state place.client
+move_step-held : (state : Shared) (tag : ℕ) (place : Place) (part : Part) (entry : Entry) (chunk : ℕ) →
+    place_of (length state.parts) tag ≡ Some place → slice_get state.parts place.client ≡ Some part → held_at part.entries place.slot ≡ Some entry →
+    entry.task.phase ≡ Moving chunk → routed_by_tag state move_act (place_of (length state.parts) tag) ≡ acted_on state place.client
     (moved_entry part place.slot place entry (Some (moved_request part.unit entry.task chunk entry.task.request)))
 move_step-held state tag place part entry chunk named there held moving =
     ap (λ p. routed_by_tag state move_act p) named
@@ -201,7 +205,8 @@ move_step-held state tag place part entry chunk named there held moving =
     ∙ ap (λ found. acted_on state place.client (moved_slot part place.slot place found)) held
     ∙ ap (λ phase. acted_on state place.client (moved_entry part place.slot place entry (moved_from part.unit entry.task phase))) moving
 
-move_step-matched : (state : Shared) (tag : ℕ) → due state (Data tag) ≡ true → IsMatched state → IsMatched (routed_by_tag state move_act (place_of (length state.parts) tag)).0
+move_step-matched : (state : Shared) (tag : ℕ) → due state (Data tag) ≡ true → IsMatched state →
+    IsMatched (routed_by_tag state move_act (place_of (length state.parts) tag)).0
 move_step-matched state tag is_due all =
     let at : IsDueAt state tag (data_is_due state tag) = place_fact-due state tag (data_is_due state tag) is_due in
     let place : Place = at.place in
@@ -229,9 +234,9 @@ ended_phase (Moving chunk) is = absurd (false≢true is)
 ended_phase (Ended answer) is = record { answer = answer; is = refl }
 ended_phase (Sent answer) is = absurd (false≢true is)
 
-send_step-held : (state : Shared) (tag : ℕ) (place : Place) (part : Part) (entry : Entry) (answer : Answer) → place_of (length state.parts) tag ≡ Some place →
-    slice_get state.parts place.client ≡ Some part → held_at part.entries place.slot ≡ Some entry → entry.task.phase ≡ Ended answer →
-    routed_by_tag state send_act (place_of (length state.parts) tag) ≡ acted_on state place.client
+send_step-held : (state : Shared) (tag : ℕ) (place : Place) (part : Part) (entry : Entry) (answer : Answer) →
+    place_of (length state.parts) tag ≡ Some place → slice_get state.parts place.client ≡ Some part → held_at part.entries place.slot ≡ Some entry →
+    entry.task.phase ≡ Ended answer → routed_by_tag state send_act (place_of (length state.parts) tag) ≡ acted_on state place.client
     (sent_entry part place.slot place entry (Some (record entry.task { phase = Sent answer })))
 send_step-held state tag place part entry answer named there held ended =
     ap (λ p. routed_by_tag state send_act p) named
@@ -247,7 +252,8 @@ send-alone place = record {
   sent = λ other apart. omega (arith, ap one_if apart);
 }
 
-send_step-matched : (state : Shared) (tag : ℕ) → due state (Status tag) ≡ true → IsMatched state → IsMatched (routed_by_tag state send_act (place_of (length state.parts) tag)).0
+send_step-matched : (state : Shared) (tag : ℕ) → due state (Status tag) ≡ true → IsMatched state →
+    IsMatched (routed_by_tag state send_act (place_of (length state.parts) tag)).0
 send_step-matched state tag is_due all =
     let at : IsDueAt state tag (status_is_due state tag) = place_fact-due state tag (status_is_due state tag) is_due in
     let place : Place = at.place in
@@ -289,7 +295,8 @@ status-awaited : (place : Place) (held : Option Entry) → 1 ≤ awaited_status 
 status-awaited place None some = absurd (omega (arith, some))
 status-awaited place (Some entry) some = record { entry = entry; is = refl; awaits = one_if-true (is_awaited entry.status_td 1) some }
 
-pub event-awaited : (state : Shared) (event : Completion) → IsMatched state → 1 ≤ times_alike event state.events → HasAwaiting event (under state.parts (event_place event))
+pub event-awaited : (state : Shared) (event : Completion) → IsMatched state → 1 ≤ times_alike event state.events →
+    HasAwaiting event (under state.parts (event_place event))
 event-awaited state (CommandDone place) all some = command-awaited place (under state.parts place) (omega (arith, some, (all.places place).carried))
 event-awaited state (DataDone place) all some = data-awaited place (under state.parts place) (omega (arith, some, (all.places place).moved))
 event-awaited state (StatusDone place) all some = status-awaited place (under state.parts place) (omega (arith, some, (all.places place).sent))
@@ -301,13 +308,16 @@ times_alike-first (DataDone place) rest = omega (arith, one_self place)
 times_alike-first (StatusDone place) rest = omega (arith, one_self place)
 
 -- counts of a list by its first event
-pub command_events-first : (place : Place) (event : Completion) (rest : List Completion) → command_events place (event ∷ rest) ≡ command_events place (event ∷ []) + command_events place rest
+pub command_events-first : (place : Place) (event : Completion) (rest : List Completion) →
+    command_events place (event ∷ rest) ≡ command_events place (event ∷ []) + command_events place rest
 command_events-first place event rest = command_events-append place (event ∷ []) rest
 
-pub data_events-first : (place : Place) (event : Completion) (rest : List Completion) → data_events place (event ∷ rest) ≡ data_events place (event ∷ []) + data_events place rest
+pub data_events-first : (place : Place) (event : Completion) (rest : List Completion) →
+    data_events place (event ∷ rest) ≡ data_events place (event ∷ []) + data_events place rest
 data_events-first place event rest = data_events-append place (event ∷ []) rest
 
-pub status_events-first : (place : Place) (event : Completion) (rest : List Completion) → status_events place (event ∷ rest) ≡ status_events place (event ∷ []) + status_events place rest
+pub status_events-first : (place : Place) (event : Completion) (rest : List Completion) →
+    status_events place (event ∷ rest) ≡ status_events place (event ∷ []) + status_events place rest
 status_events-first place event rest = status_events-append place (event ∷ []) rest
 
 event-alone : (event : Completion) → NamesAlone (event_place event) [] (event ∷ [])
@@ -323,8 +333,9 @@ seen_part part slot entry = record (with_entry part slot entry) { ready = ready_
 abbrev pub seen_state : Shared → Place → Part → Entry → List Completion → Shared
 seen_state state place part entry rest = record state { parts = slice_set state.parts place.client (seen_part part place.slot entry); events = rest ++ [] }
 
-pub event_step-held : (state : Shared) (event : Completion) (rest : List Completion) (part : Part) (old new : Entry) → slice_get state.parts (event_place event).client ≡ Some part →
-    held_at part.entries (event_place event).slot ≡ Some old → seen_by event old ≡ Some new → (event_step state (event ∷ rest)).0 ≡ seen_state state (event_place event) part new rest
+pub event_step-held : (state : Shared) (event : Completion) (rest : List Completion) (part : Part) (old new : Entry) →
+    slice_get state.parts (event_place event).client ≡ Some part → held_at part.entries (event_place event).slot ≡ Some old →
+    seen_by event old ≡ Some new → (event_step state (event ∷ rest)).0 ≡ seen_state state (event_place event) part new rest
 event_step-held state event rest part old new there held seen =
     let popped : Shared = record state { events = rest } in
     let place : Place = event_place event in
@@ -333,14 +344,16 @@ event_step-held state event rest part old new there held seen =
     ∙ ap (λ after. (acted_on popped place.client (seen_entry part place.slot after)).0) seen
 
 -- other slots of the queue stay, and this one joins it where its entry is ready
-ready_after-other : (queue : List ℕ) (slot other : ℕ) (entry : Entry) → (other ≡ slot → ⊥) → times_in other (ready_after queue slot entry) ≡ times_in other queue
+ready_after-other : (queue : List ℕ) (slot other : ℕ) (entry : Entry) → (other ≡ slot → ⊥) →
+    times_in other (ready_after queue slot entry) ≡ times_in other queue
 ready_after-other queue slot other entry apart =
     elim (is_ready entry) as (λ b. times_in other (cond b (queue ++ slot ∷ []) queue) ≡ times_in other queue) [
       | true ↦ omega (arith, times_in-push other queue slot, one_apart slot other apart)
       | false ↦ refl
     ]
 
-ready_after-own : (queue : List ℕ) (slot : ℕ) (entry : Entry) → times_in slot (ready_after queue slot entry) ≡ times_in slot queue + one_if (is_ready entry)
+ready_after-own : (queue : List ℕ) (slot : ℕ) (entry : Entry) →
+    times_in slot (ready_after queue slot entry) ≡ times_in slot queue + one_if (is_ready entry)
 ready_after-own queue slot entry =
     elim (is_ready entry) as (λ b. times_in slot (cond b (queue ++ slot ∷ []) queue) ≡ times_in slot queue + one_if b) [
       | true ↦ omega (arith, times_in-push slot queue slot, one_equal slot)
@@ -419,8 +432,8 @@ settled_part part slot rest = record part { entries = slice_set part.entries slo
 abbrev settled_state : Shared → Place → Part → List ℕ → Shared
 settled_state state place part rest = record state { parts = slice_set state.parts place.client (settled_part part place.slot rest); events = state.events ++ [] }
 
-take_step-held : (state : Shared) (client slot : ℕ) (rest : List ℕ) (part : Part) (entry : Entry) (answer : Answer) → slice_get state.parts client ≡ Some part →
-    part.ready ≡ slot ∷ rest → held_at part.entries slot ≡ Some entry → entry.task.phase ≡ Sent answer →
+take_step-held : (state : Shared) (client slot : ℕ) (rest : List ℕ) (part : Part) (entry : Entry) (answer : Answer) →
+    slice_get state.parts client ≡ Some part → part.ready ≡ slot ∷ rest → held_at part.entries slot ≡ Some entry → entry.task.phase ≡ Sent answer →
     (routed state client (take_act client)).0 ≡ settled_state state (record { client = client; slot = slot }) part rest
 take_step-held state client slot rest part entry answer there queue held sent =
     ap (λ found. (routed_to state client (take_act client) found).0) there
@@ -462,8 +475,8 @@ settled-matched state place part rest entry there queue held once quiet here all
       sound = tt;
     }) all
 
-take_queue : (state : Shared) (client : ℕ) (part : Part) (queue : List ℕ) → slice_get state.parts client ≡ Some part → part.ready ≡ queue → is_some_of queue ≡ true → IsMatched state →
-    IsMatched (routed state client (take_act client)).0
+take_queue : (state : Shared) (client : ℕ) (part : Part) (queue : List ℕ) → slice_get state.parts client ≡ Some part → part.ready ≡ queue →
+    is_some_of queue ≡ true → IsMatched state → IsMatched (routed state client (take_act client)).0
 take_queue state client part [] there is some all = absurd (false≢true some)
 take_queue state client part (slot ∷ rest) there is some all =
     let place : Place = record { client = client; slot = slot } in
@@ -476,7 +489,8 @@ take_queue state client part (slot ∷ rest) there is some all =
     subst IsMatched (sym (take_step-held state client slot rest part first.entry quiet.answered.answer there is at quiet.answered.is))
     (settled-matched state place part rest first.entry there is at first.once quiet held.here all)
 
-take_step-matched : (state : Shared) (client : ℕ) → due state (Take client) ≡ true → IsMatched state → IsMatched (routed state client (take_act client)).0
+take_step-matched : (state : Shared) (client : ℕ) → due state (Take client) ≡ true → IsMatched state →
+    IsMatched (routed state client (take_act client)).0
 take_step-matched state client is_due all =
     elim (slice_get state.parts client) as (λ found. slice_get state.parts client ≡ found → option_map_or has_ready found false ≡ true → IsMatched (routed state client (take_act client)).0) [
       | None ↦ λ there some. absurd (false≢true some)
@@ -490,7 +504,8 @@ rung-events state Nothing tag = refl
 rung-events state ToHost tag = refl
 rung-events state ToDevice tag = refl
 
-accepted-written : (state : Shared) (part : Part) (place : Place) (tag ticket : ℕ) (command : Command) → slice_get state.parts place.client ≡ Some part → place.slot < length part.entries →
+accepted-written : (state : Shared) (part : Part) (place : Place) (tag ticket : ℕ) (command : Command) →
+    slice_get state.parts place.client ≡ Some part → place.slot < length part.entries →
     IsWritten state (accepted state part place tag ticket command).0 place (Some (new_entry ticket command))
 accepted-written state part place tag ticket command there within =
     let events : (accepted state part place tag ticket command).0.events ≡ state.events = rung-events state (direction_of command.op) tag in
@@ -511,8 +526,8 @@ accepted-written state part place tag ticket command there within =
     }
 
 -- a place of this client where nothing stands
-none-matched : (state : Shared) (place : Place) (part : Part) → slice_get state.parts place.client ≡ Some part → is_some (held_at part.entries place.slot) ≡ false → IsMatched state →
-    IsMatchedAt state place None
+none-matched : (state : Shared) (place : Place) (part : Part) → slice_get state.parts place.client ≡ Some part →
+    is_some (held_at part.entries place.slot) ≡ false → IsMatched state → IsMatchedAt state place None
 none-matched state place part there free all =
     subst (λ held. IsMatchedAt state place held) (ap (λ found. option_map_or (held_in place) found None) there ∙ none (held_at part.entries place.slot) free) (all.places place)
   where
@@ -520,7 +535,8 @@ none-matched state place part there free all =
     none None is = refl
     none (Some entry) is = absurd (false≢true (sym is))
 
-accepted-matched : (state : Shared) (part : Part) (place : Place) (tag ticket : ℕ) (command : Command) → slice_get state.parts place.client ≡ Some part → place.slot < length part.entries →
+accepted-matched : (state : Shared) (part : Part) (place : Place) (tag ticket : ℕ) (command : Command) →
+    slice_get state.parts place.client ≡ Some part → place.slot < length part.entries →
     IsUnfaulted (is_some (held_at part.entries place.slot)) command.op → IsMatched state → IsMatched (accepted state part place tag ticket command).0
 unfolding accepted-written
 accepted-matched state part place tag ticket command there within fine all =
@@ -541,21 +557,23 @@ accepted-matched state part place tag ticket command there within fine all =
 slots-there : (state : Shared) (client : ℕ) (part : Part) → IsMatched state → slice_get state.parts client ≡ Some part → length part.entries ≡ 8
 slots-there state client part all there = subst (λ found. IfSome found (λ part. length part.entries ≡ 8)) there (all.slots client)
 
-answered-matched : (state : Shared) (part : Part) (place : Place) (tag ticket : ℕ) (command : Command) (fault : Option SubmitFault) → slice_get state.parts place.client ≡ Some part →
-    place.slot < length part.entries → fault_at part place.slot ticket command ≡ fault → IsMatched state → IsMatched (answered state part place tag ticket command fault).0
+answered-matched : (state : Shared) (part : Part) (place : Place) (tag ticket : ℕ) (command : Command) (fault : Option SubmitFault) →
+    slice_get state.parts place.client ≡ Some part → place.slot < length part.entries → fault_at part place.slot ticket command ≡ fault →
+    IsMatched state → IsMatched (answered state part place tag ticket command fault).0
 answered-matched state part place tag ticket command None there within is all =
     accepted-matched state part place tag ticket command there within (unfaulted (is_some (held_at part.entries place.slot)) part.least ticket command is) all
 answered-matched state part place tag ticket command (Some fault) there within is all = all
 
-submitted_to-matched : (state : Shared) (place : Place) (tag ticket : ℕ) (command : Command) (found : Option Part) → slice_get state.parts place.client ≡ found →
-    nat_lt place.slot TASK_SLOT ≡ true → IsMatched state → IsMatched (submitted_to state place tag ticket command found).0
+submitted_to-matched : (state : Shared) (place : Place) (tag ticket : ℕ) (command : Command) (found : Option Part) →
+    slice_get state.parts place.client ≡ found → nat_lt place.slot TASK_SLOT ≡ true → IsMatched state →
+    IsMatched (submitted_to state place tag ticket command found).0
 submitted_to-matched state place tag ticket command None is within all = all
 submitted_to-matched state place tag ticket command (Some part) is within all =
     answered-matched state part place tag ticket command (fault_at part place.slot ticket command) is
     (omega (arith, ltb-true place.slot 7 within, slots-there state place.client part all is)) refl all
 
-submitted_under-matched : (state : Shared) (client tag ticket : ℕ) (command : Command) (slot : Option ℕ) → command_slot (length state.parts) client tag ≡ slot → IsMatched state →
-    IsMatched (submitted_under state client tag ticket command slot).0
+submitted_under-matched : (state : Shared) (client tag ticket : ℕ) (command : Command) (slot : Option ℕ) →
+    command_slot (length state.parts) client tag ≡ slot → IsMatched state → IsMatched (submitted_under state client tag ticket command slot).0
 submitted_under-matched state client tag ticket command None is all = all
 submitted_under-matched state client tag ticket command (Some slot) is all =
     submitted_to-matched state (record { client = client; slot = slot }) tag ticket command (slice_get state.parts client) refl

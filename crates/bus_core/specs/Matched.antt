@@ -1,7 +1,9 @@
 -- What waits in the shared machine, counted exactly: each message and each event is of one TD, and each TD of one.
-use Rattle.std.specs.Prelude.{◌≡◌, ℕ, suc, ◌+◌, ◌*◌, ◌<◌, ◌≤◌, ◌==◌, nat_lt, Bool, true, false, ◌&&◌, List, [], ◌∷◌, length, slice_get, Option, Some, None, is_some, IfSome}
+use Rattle.std.specs.Prelude.{◌≡◌, ℕ, suc, ◌+◌, ◌*◌, ◌<◌, ◌≤◌, ◌==◌, nat_lt, Bool, true, false, ◌&&◌, List, [], ◌∷◌, ◌++◌, length, slice_get, Option, Some, None, is_some, IfSome}
 use Rattle.std.specs.Option.{option_map_or}
 use Rattle.block_unit.specs.BlockMaps.{BlockMaps}
+use Rattle.scsi_cmd.specs.declared.Command.{Command}
+use Rattle.scsi_cmd.specs.Submission.{first_submit_fault}
 use Rattle.scsi_cmd.specs.Op.{moved_bytes}
 use Rattle.scsi_cmd.specs.declared.TheConstants.{TAGS}
 use Rattle.scsi_cmd.specs.declared.Request.{Request}
@@ -181,20 +183,24 @@ pub record IsMatched (state : Shared) : Type 0 where
 
 -- WHAT FOLLOWS
 
--- Room: a place is named once at most by a message or a command event, so that the command pipe's ring, which has both,
--- holds no more TRBs than there are places; each kind of event names a place once at most.
+-- The places of the TRBs in the command pipe's ring, the oldest first: of those taken whose events wait, then of those
+-- that the device hasn't received.
+abbrev pub pipe_places : Shared → List Place
+pipe_places state = carried_places state.events ++ state.messages
+
+-- a client has as many TRBs in the command pipe's ring as it has slots at most, and three events for each slot
 pub record HasRoom (state : Shared) : Type 0 where
-  pub pipe : length (carried_places state.events) + length state.messages ≤ TAGS * length state.parts
+  pub pipe : length (pipe_places state) ≤ TAGS * length state.parts
   pub events : length state.events ≤ 3 * (TAGS * length state.parts)
 
 -- the same at 31 clients: a ring of 256 places has room for 254 TRBs, and an event ring of 1,024 places for 1,023 events
 pub record HasRingRoom (state : Shared) : Type 0 where
-  pub pipe : length (carried_places state.events) + length state.messages ≤ 248
+  pub pipe : length (pipe_places state) ≤ 248
   pub events : length state.events ≤ 744
 
 -- nothing names a place twice
 pub record IsNamedOnce (state : Shared) (place : Place) : Type 0 where
-  pub command : times place state.messages + command_events place state.events ≤ 1
+  pub command : times place (pipe_places state) ≤ 1
   pub data_events : data_events place state.events ≤ 1
   pub status_events : status_events place state.events ≤ 1
   pub ready : times_ready state.parts place ≤ 1
@@ -227,6 +233,19 @@ pub record IsOwnEvent (parts : List Part) (event : Completion) : Type 0 where
 pub record HasNoStray (state : Shared) : Type 0 where
   pub messages : (at : ℕ) (place : Place) → slice_get state.messages at ≡ Some place → IsOwnMessage state.parts place
   pub events : (at : ℕ) (event : Completion) → slice_get state.events at ≡ Some event → IsOwnEvent state.parts event
+
+-- a TRB in the command pipe's ring is of a command TD that is pending
+pub record IsPendingCommand (parts : List Part) (place : Place) : Type 0 where
+  pub entry : Entry
+  pub held : under parts place ≡ Some entry
+  pub pending : entry.command_td.state ≡ Pending
+
+abbrev pub ArePendingCommands : Shared → Type 0
+ArePendingCommands state = (at : ℕ) (place : Place) → slice_get (pipe_places state) at ≡ Some place → IsPendingCommand state.parts place
+
+-- of a command TD either the TRB was taken or its message waits
+abbrev pub HaveCommandTrbs : Shared → Type 0
+HaveCommandTrbs state = (place : Place) → IfSome (under state.parts place) (λ entry. entry.command_td.consumed + times place state.messages ≡ 1)
 
 -- a data TD has 16 TRBs at most, and is there exactly where it has one
 pub record HasDataTrbs (entry : Entry) : Type 0 where
@@ -268,6 +287,12 @@ EventActs state =
     → (old : Entry) × (new : Entry) × (under state.parts (event_place event) ≡ Some old) × (seen_by event old ≡ Some new)
     × (under (shared_step state Event).0.parts (event_place event) ≡ Some new)
 
+-- the event of a command TD frees the oldest TRB in the command pipe's ring, and no other is of its place
+abbrev pub EventFreesFirst : Shared → Type 0
+EventFreesFirst state =
+    (place : Place) (rest : List Completion) → state.events ≡ CommandDone place ∷ rest
+    → (pipe_places state ≡ place ∷ pipe_places (shared_step state Event).0) × (times place (pipe_places (shared_step state Event).0) ≡ 0)
+
 -- where a chunk moves no data event of the place waits, and where an answer is handed over no status event
 abbrev pub NoDataEventWaits : Shared → Type 0
 NoDataEventWaits state =
@@ -276,6 +301,12 @@ NoDataEventWaits state =
 abbrev pub NoStatusEventWaits : Shared → Type 0
 NoStatusEventWaits state =
     (tag : ℕ) (place : Place) → place_of (length state.parts) tag ≡ Some place → due state (Status tag) ≡ true → status_events place state.events ≡ 0
+
+-- a submission without a fault has a data TD of 16 TRBs at most
+abbrev pub AcceptedFits : Type 0
+AcceptedFits =
+    (in_use : Bool) (least ticket : ℕ) (command : Command) → first_submit_fault true in_use least ticket command ≡ None
+    → data_trbs (Execute command.op) ≤ 16
 
 -- what is so of the state after every list of steps
 abbrev pub OverReplays : (Shared → Type 0) → Type 0

@@ -43,8 +43,8 @@ pub use laws::{
     keeps_clients, worlds_agree,
 };
 pub use queue_laws::{
-    data_tds_fit, matches_at_start, no_queue_outgrows, none_is_stray, replays_match,
-    steps_keep_matches,
+    command_pipe_in_order, data_tds_fit, matches_at_start, no_queue_outgrows, none_is_stray,
+    replays_match, steps_keep_matches,
 };
 use scsi_cmd::{Buffer, Command, Reply, Request, SubmitFault, TAGS};
 use std::collections::VecDeque;

@@ -1,7 +1,7 @@
 //! The laws of what waits in the shared machine, which hold of its definitions.
 //!
 //! Each message and each event is of one TD, and each TD of at most one of each kind; so no queue outgrows the places.
-ghost use Rattle.bus_core.specs.Matched.{OpeningIsMatched, StepKeepsMatches, FromMatches, HasRoom, RingsHaveRoom, AreNamedOnce, HasNoStray, CarryActs, EventActs, NoDataEventWaits, NoStatusEventWaits, HaveDataTrbs, OverReplays, ReplaysHaveRoom, IsMatched};
+ghost use Rattle.bus_core.specs.Matched.{OpeningIsMatched, StepKeepsMatches, FromMatches, HasRoom, RingsHaveRoom, AreNamedOnce, HasNoStray, CarryActs, EventActs, NoDataEventWaits, NoStatusEventWaits, HaveDataTrbs, ArePendingCommands, HaveCommandTrbs, EventFreesFirst, AcceptedFits, OverReplays, ReplaysHaveRoom, IsMatched};
 
 /// At the start nothing stands anywhere, and nothing waits.
 pub fn matches_at_start()
@@ -31,9 +31,17 @@ pub fn none_is_stray()
     ensures status_once { FromMatches NoStatusEventWaits }
 {}
 
+/// The command pipe's ring has the TRBs of the command TDs that are pending, and an event of one frees the oldest.
+pub fn command_pipe_in_order()
+    ensures pending { FromMatches ArePendingCommands }
+    ensures taken { FromMatches HaveCommandTrbs }
+    ensures freed { FromMatches EventFreesFirst }
+{}
+
 /// A data TD has 1 to 16 TRBs, and a command that moves nothing has none.
 pub fn data_tds_fit()
-    ensures { FromMatches HaveDataTrbs }
+    ensures accepted { AcceptedFits }
+    ensures held { FromMatches HaveDataTrbs }
 {}
 
 /// All of this holds after every list of steps from new units.
@@ -43,5 +51,7 @@ pub fn replays_match()
     ensures clients { OverReplays HasRoom }
     ensures rings { ReplaysHaveRoom }
     ensures stray { OverReplays HasNoStray }
+    ensures pending { OverReplays ArePendingCommands }
+    ensures taken { OverReplays HaveCommandTrbs }
     ensures data_tds { OverReplays HaveDataTrbs }
 {}

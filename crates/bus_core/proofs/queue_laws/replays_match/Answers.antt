@@ -8,7 +8,7 @@ use Rattle.bus_core.specs.Matched.{IsMatched}
 use Rattle.bus_core.proofs.MatchedOpening.{opening-matched}
 use Rattle.bus_core.proofs.MatchedSteps.{replayed-matched}
 use Rattle.bus_core.proofs.MatchedBounds.{matched-once, matched-room}
-use Rattle.bus_core.proofs.MatchedNext.{matched-no_stray, matched-data_trbs, replay-parts}
+use Rattle.bus_core.proofs.MatchedNext.{matched-no_stray, matched-pending, matched-counted, matched-data_trbs, replay-parts}
 use Rattle.bus_core.proofs.queue_laws.replays_match.Goals as goal
 
 replay-matched : (units : List BlockMaps) (steps : List Step) → IsMatched (replay units steps).0
@@ -33,3 +33,9 @@ returns-clause-stray c units steps = matched-no_stray (replay units steps).0 (re
 
 pub returns-clause-data_tds : goal.returns-clause-data_tds
 returns-clause-data_tds c units steps = matched-data_trbs (replay units steps).0 (replay-matched units steps)
+
+pub returns-clause-pending : goal.returns-clause-pending
+returns-clause-pending c units steps = matched-pending (replay units steps).0 (replay-matched units steps)
+
+pub returns-clause-taken : goal.returns-clause-taken
+returns-clause-taken c units steps = matched-counted (replay units steps).0 (replay-matched units steps)

@@ -39,30 +39,32 @@ sum_below-eights : (n : ℕ) (f : ℕ → ℕ) → ((k : ℕ) → f k ≤ 8) →
 sum_below-eights zero f most = omega arith
 sum_below-eights (suc n) f most = omega (arith, sum_below-eights n (λ k. f (suc k)) (λ k. most (suc k)), most 0)
 
--- the sum over the slots of so many clients
+-- the number of a client's slot
+abbrev at_slot : (Place → ℕ) → ℕ → ℕ → ℕ
+at_slot f client slot = f (record { client = client; slot = slot })
+
+-- the sum over a client's slots, and over the slots of so many clients
+abbrev sum_slots : (Place → ℕ) → ℕ → ℕ
+sum_slots f client = sum_below 8 (at_slot f client)
+
 abbrev sum_places : ℕ → (Place → ℕ) → ℕ
-sum_places clients f = sum_below clients (λ client. sum_below 8 (λ slot. f (record { client = client; slot = slot })))
+sum_places clients f = sum_below clients (sum_slots f)
 
 sum_places-two : (clients : ℕ) (f g both : Place → ℕ) → ((place : Place) → f place + g place ≤ both place) →
     sum_places clients f + sum_places clients g ≤ sum_places clients both
 sum_places-two clients f g both less =
-    sum_below-two clients (λ client. sum_below 8 (λ slot. f (record { client = client; slot = slot }))) (λ client. sum_below 8 (λ slot. g (record { client = client; slot = slot })))
-    (λ client. sum_below 8 (λ slot. both (record { client = client; slot = slot })))
-    (λ client. sum_below-two 8 (λ slot. f (record { client = client; slot = slot })) (λ slot. g (record { client = client; slot = slot })) (λ slot. both (record { client = client; slot = slot }))
-    (λ slot. less (record { client = client; slot = slot })))
+    sum_below-two clients (sum_slots f) (sum_slots g) (sum_slots both)
+    (λ client. sum_below-two 8 (at_slot f client) (at_slot g client) (at_slot both client) (λ slot. less (record { client = client; slot = slot })))
 
 sum_places-one : (clients : ℕ) (place : Place) (f : Place → ℕ) → IsPlace clients place → f place ≤ sum_places clients f
 sum_places-one clients place f is =
-    let row : f place ≤ sum_below 8 (λ slot. f (record { client = place.client; slot = slot })) =
-    sum_below-one 8 place.slot (λ slot. f (record { client = place.client; slot = slot })) is.slot in
-    let all : sum_below 8 (λ slot. f (record { client = place.client; slot = slot })) ≤ sum_places clients f =
-    sum_below-one clients place.client (λ client. sum_below 8 (λ slot. f (record { client = client; slot = slot }))) is.client in
+    let row : f place ≤ sum_slots f place.client = sum_below-one 8 place.slot (at_slot f place.client) is.slot in
+    let all : sum_slots f place.client ≤ sum_places clients f = sum_below-one clients place.client (sum_slots f) is.client in
     omega (arith, row, all)
 
 sum_places-ones : (clients : ℕ) (f : Place → ℕ) → ((place : Place) → f place ≤ 1) → sum_places clients f ≤ 8 * clients
 sum_places-ones clients f most =
-    sum_below-eights clients (λ client. sum_below 8 (λ slot. f (record { client = client; slot = slot })))
-    (λ client. sum_below-ones 8 (λ slot. f (record { client = client; slot = slot })) (λ slot. most (record { client = client; slot = slot })))
+    sum_below-eights clients (sum_slots f) (λ client. sum_below-ones 8 (at_slot f client) (λ slot. most (record { client = client; slot = slot })))
 
 -- LISTS OF PLACES
 
@@ -76,7 +78,8 @@ length-places clients (first ∷ rest) within =
     sum_places-one clients first (λ place. one_if (same_place first place)) here in
     let more : length rest ≤ sum_places clients (λ place. times place rest) =
     length-places clients rest (λ place named. within place (omega (arith, named))) in
-    let two = sum_places-two clients (λ place. one_if (same_place first place)) (λ place. times place rest) (λ place. times place (first ∷ rest)) (λ place. omega arith) in
+    let two = sum_places-two clients (λ place. one_if (same_place first place)) (λ place. times place rest) (λ place. times place (first ∷ rest))
+    (λ place. omega arith) in
     omega (arith, one_self first, one, more, two)
 
 -- a list that names each place once at most isn't longer than the places are many
@@ -189,5 +192,12 @@ matched-room state all =
     let pipe = pipe-length state all in
     record {
       pipe = pipe;
-      events = omega (arith, pipe, length-append (carried_places state.events) state.messages, length-events state.events, moved-length state all, sent-length state all);
+      events = omega (
+        arith,
+        pipe,
+        length-append (carried_places state.events) state.messages,
+        length-events state.events,
+        moved-length state all,
+        sent-length state all,
+      );
     }

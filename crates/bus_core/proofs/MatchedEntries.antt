@@ -20,7 +20,7 @@ use Rattle.solo_model.specs.declared.Phase.{Phase}
 use Rattle.solo_model.specs.declared.Phase.TheVariants.{Queued, Moving, Ended, Sent}
 use Rattle.scsi_cmd.specs.Submission.{is_too_long, first_submit_fault}
 use Rattle.solo_model.specs.declared.TaggedTask.{TaggedTask}
-use Rattle.solo_model.specs.TaggedTask.{begun, started, takes_attention, carried_request, moved_request, next_phase, phase_after, phase_after_chunk, meets_bad_chunk}
+use Rattle.solo_model.specs.TaggedTask.{begun, started, first_phase, takes_attention, carried_request, moved_request, next_phase, phase_after, phase_after_chunk, meets_bad_chunk}
 use Rattle.solo_model.proofs.Kept.{checked-none, checked-some}
 use Rattle.uas_host.specs.declared.Place.{Place}
 use Rattle.uas_host.specs.declared.TdState.{TdState}
@@ -58,21 +58,27 @@ moving-short trbs chunk None is = tt
 moving-short trbs chunk (Some td) is = λ pends. omega (arith, is.1, is.2)
 
 -- a TD of no TRB isn't there
-moving-none : (bytes chunk : ℕ) (td : Option Td) → bytes ≡ 0 → IsMovingTd ((bytes + 4095) / 4096) chunk td → IsWholeTd ((bytes + 4095) / 4096) td
-moving-none bytes chunk None none is = tt
-moving-none bytes chunk (Some td) none is = absurd (omega (arith, none, is.2))
+moving-none : (trbs chunk : ℕ) (td : Option Td) → trbs ≡ 0 → IsMovingTd trbs chunk td → IsWholeTd trbs td
+moving-none trbs chunk None none is = tt
+moving-none trbs chunk (Some td) none is = absurd (omega (arith, none, is.2))
+
+-- what moves no data has ended
+first-cases : (P : Phase → Type 0) (bytes : ℕ) → (bytes ≡ 0 → P (Ended Good)) → P (Moving 0) → P (first_phase bytes)
+first-cases P bytes good moves =
+    elim (bytes == 0) as (λ b. (bytes == 0) ≡ b → P (cond b (Ended Good) (Moving 0))) [
+      | true ↦ λ is. good (eqb-true bytes 0 is)
+      | false ↦ λ is. moves
+    ] refl
 
 -- where a command is received it ends, or is ready to move its data
 begun-cases : (P : Phase → Type 0) (unit : BlockMaps) (op : Op) → ((sense : Sense) → P (Ended (Check sense))) →
     (moved_bytes op ≡ 0 → P (Ended Good)) → P (Moving 0) → P (begun unit (checked op unit.count)).1
 begun-cases P unit op check good moves =
-    elim (takes_attention (checked op unit.count) && unit.attention) as (λ b. P (cond {A = BlockMaps × Phase} b (with_attention unit false, Ended (Check reset_occurred)) (started unit (checked op unit.count))).1) [
+    elim (takes_attention (checked op unit.count) && unit.attention) as (λ b.
+    P (cond {A = BlockMaps × Phase} b (with_attention unit false, Ended (Check reset_occurred)) (started unit (checked op unit.count))).1) [
       | true ↦ check reset_occurred
       | false ↦ elim (op_fault op unit.count) as (λ fault. op_fault op unit.count ≡ fault → P (started unit (checked op unit.count)).1) [
-        | None ↦ λ none. rw (checked-none op unit.count none) (elim (moved_bytes op == 0) as (λ b. (moved_bytes op == 0) ≡ b → P (cond b (Ended Good) (Moving 0))) [
-          | true ↦ λ is. good (eqb-true (moved_bytes op) 0 is)
-          | false ↦ λ is. moves
-        ] refl)
+        | None ↦ λ none. rw (checked-none op unit.count none) (first-cases P (moved_bytes op) good moves)
         | Some sense ↦ λ some. rw (checked-some op unit.count sense some) (check sense)
       ] refl
     ]
@@ -88,11 +94,17 @@ received unit entry (Execute op) is command status chunks sound =
     let one : (with_trb_taken entry.command_td).consumed ≡ 1 = ap (λ (td : Td). td.consumed + 1) command in
     let trbs : data_trbs entry.task.request ≡ (moved_bytes op + 4095) / 4096 = ap data_trbs is in
     begun-cases (λ phase. IsMatchedEntry (carried_to entry (record entry.task { phase = phase }))) unit op
-    (λ sense. record { command = one; status = status; chunks = moving-short (data_trbs entry.task.request) 0 entry.data_td chunks; moves = sound.moves; small = sound.small })
+    (λ sense. record {
+      command = one;
+      status = status;
+      chunks = moving-short (data_trbs entry.task.request) 0 entry.data_td chunks;
+      moves = sound.moves;
+      small = sound.small;
+    })
     (λ none. record {
       command = one;
       status = status;
-      chunks = subst (λ n. IsWholeTd n entry.data_td) (sym trbs) (moving-none (moved_bytes op) 0 entry.data_td none (subst (λ n. IsMovingTd n 0 entry.data_td) trbs chunks));
+      chunks = moving-none (data_trbs entry.task.request) 0 entry.data_td (omega (arith, trbs, none)) chunks;
       moves = sound.moves;
       small = sound.small;
     })
@@ -236,47 +248,53 @@ moved_to entry task = record entry { task = task; data_td = data_td_after (took_
 abbrev pub moved_events : Entry → TaggedTask → Place → List Completion
 moved_events entry task place = data_event_if (is_last_trb (took_trb task.phase) (data_trbs entry.task.request) entry.data_td) place
 
--- a step that changes the phase and takes what it takes of the data TD
-chunk-stepped : (place : Place) (entry : Entry) (chunk : ℕ) (buffer : List ℕ) (phase : Phase) →
-    IsMovingTd (data_trbs entry.task.request) chunk entry.data_td →
-    IsMatchedEntry (moved_to entry (record entry.task { buffer = buffer; phase = phase })) →
-    IsStepped place [] (moved_events entry (record entry.task { buffer = buffer; phase = phase }) place) entry (moved_to entry (record entry.task { buffer = buffer; phase = phase }))
-chunk-stepped place entry chunk buffer phase chunks sound =
-    let took : Bool = took_trb phase in
+-- the task after a chunk that left this buffer and this phase
+abbrev after_chunk : TaggedTask → List ℕ → Phase → TaggedTask
+after_chunk task buffer phase = record task { buffer = buffer; phase = phase }
+
+-- a step that changes the task and takes what it takes of the data TD
+abbrev pub IsMovedTo : Place → Entry → TaggedTask → Type 0
+IsMovedTo place entry task = IsStepped place [] (moved_events entry task place) entry (moved_to entry task)
+
+chunk-stepped : (place : Place) (entry : Entry) (chunk : ℕ) (task : TaggedTask) → task.request ≡ entry.task.request →
+    IsMovingTd (data_trbs entry.task.request) chunk entry.data_td → IsMatchedEntry (moved_to entry task) → IsMovedTo place entry task
+chunk-stepped place entry chunk task asks chunks sound =
+    let took : Bool = took_trb task.phase in
     let trbs : ℕ = data_trbs entry.task.request in
     let last : Bool = is_last_trb took trbs entry.data_td in
+    let same = ap (λ request. awaited_data (data_trbs request) (data_td_after took entry.data_td)) asks in
     record {
       messages = omega arith;
       carried = omega (arith, data_event-no_command last place place);
-      moved = omega (arith, data_event-own last place, chunk-counted trbs chunk took entry.data_td chunks);
+      moved = omega (arith, data_event-own last place, chunk-counted trbs chunk took entry.data_td chunks, same);
       sent = omega (arith, data_event-no_status last place place);
       ready = ap (λ b. is_seen entry.command_td.state && (is_over entry.status_td.state && b)) (td-over took entry.data_td);
       sound = sound;
     }
 
-moved_cases : (unit : BlockMaps) (place : Place) (entry : Entry) (chunk : ℕ) (request : Request) → entry.task.request ≡ request →
-    entry.task.phase ≡ Moving chunk → IsMatchedEntry entry →
-    IsStepped place [] (moved_events entry (moved_request unit entry.task chunk request).1 place) entry (moved_to entry (moved_request unit entry.task chunk request).1)
-moved_cases unit place entry chunk (Execute op) is moving sound =
+moved-cases : (unit : BlockMaps) (place : Place) (entry : Entry) (chunk : ℕ) (request : Request) → entry.task.request ≡ request →
+    entry.task.phase ≡ Moving chunk → IsMatchedEntry entry → IsMovedTo place entry (moved_request unit entry.task chunk request).1
+moved-cases unit place entry chunk (Execute op) is moving sound =
+    let trbs : ℕ = data_trbs entry.task.request in
     let command : entry.command_td.consumed ≡ 1 = subst (λ p. IsCommandTd p entry.command_td) moving sound.command in
     let status : entry.status_td ≡ pushed = subst (λ p. IsStatusTd p entry.status_td) moving sound.status in
-    let chunks : IsMovingTd (data_trbs entry.task.request) chunk entry.data_td =
-    subst (λ p. IsDataTd (data_trbs entry.task.request) p entry.data_td) moving sound.chunks in
-    let trbs : data_trbs entry.task.request ≡ (moved_bytes op + 4095) / 4096 = ap data_trbs is in
+    let chunks : IsMovingTd trbs chunk entry.data_td = subst (λ p. IsDataTd trbs p entry.data_td) moving sound.chunks in
+    let asked : trbs ≡ (moved_bytes op + 4095) / 4096 = ap data_trbs is in
     let there = λ (took : Bool). td-there took entry.data_td ∙ sound.moves in
     let buffer : List ℕ = (moved_request unit entry.task chunk (Execute op)).1.buffer in
-    chunk-cases (λ phase. IsStepped place [] (moved_events entry (record entry.task { buffer = buffer; phase = phase }) place) entry (moved_to entry (record entry.task { buffer = buffer; phase = phase }))) unit chunk op
-    (λ more. chunk-stepped place entry chunk buffer (Moving (chunk + 1)) chunks
-    (record { command = command; status = status; chunks = chunk-next (data_trbs entry.task.request) chunk entry.data_td chunks (omega (arith, trbs, more)); moves = there true; small = sound.small }))
-    (λ last. chunk-stepped place entry chunk buffer (Ended Good) chunks
-    (record { command = command; status = status; chunks = chunk-whole (data_trbs entry.task.request) chunk entry.data_td chunks (omega (arith, trbs, last)); moves = there true; small = sound.small }))
-    (λ sense. chunk-stepped place entry chunk buffer (Ended (Check sense)) chunks
-    (record { command = command; status = status; chunks = chunk-short (data_trbs entry.task.request) chunk entry.data_td chunks; moves = there false; small = sound.small }))
+    let moves = λ (phase : Phase) (after : IsDataTd trbs phase (data_td_after (took_trb phase) entry.data_td))
+    (command_after : IsCommandTd phase entry.command_td) (status_after : IsStatusTd phase entry.status_td).
+    chunk-stepped place entry chunk (after_chunk entry.task buffer phase) refl chunks
+    (record { command = command_after; status = status_after; chunks = after; moves = there (took_trb phase); small = sound.small }) in
+    chunk-cases (λ phase. IsMovedTo place entry (after_chunk entry.task buffer phase)) unit chunk op
+    (λ more. moves (Moving (chunk + 1)) (chunk-next trbs chunk entry.data_td chunks (omega (arith, asked, more))) command status)
+    (λ last. moves (Ended Good) (chunk-whole trbs chunk entry.data_td chunks (omega (arith, asked, last))) command status)
+    (λ sense. moves (Ended (Check sense)) (chunk-short trbs chunk entry.data_td chunks) command status)
 
 -- the device moves a chunk
 pub move-stepped : (unit : BlockMaps) (place : Place) (entry : Entry) (chunk : ℕ) → entry.task.phase ≡ Moving chunk → IsMatchedEntry entry →
-    IsStepped place [] (moved_events entry (moved_request unit entry.task chunk entry.task.request).1 place) entry (moved_to entry (moved_request unit entry.task chunk entry.task.request).1)
-move-stepped unit place entry chunk moving sound = moved_cases unit place entry chunk entry.task.request refl moving sound
+    IsMovedTo place entry (moved_request unit entry.task chunk entry.task.request).1
+move-stepped unit place entry chunk moving sound = moved-cases unit place entry chunk entry.task.request refl moving sound
 
 -- SEND
 
@@ -412,7 +430,7 @@ data-seen place entry td is awaited sound =
       sound = record {
         command = sound.command;
         status = sound.status;
-        chunks = data-seen_td trbs entry.task.phase td (awaited-spent td trbs awaited) (subst (λ t. IsDataTd (data_trbs entry.task.request) entry.task.phase t) is sound.chunks);
+        chunks = data-seen_td trbs entry.task.phase td (awaited-spent td trbs awaited) (subst (λ t. IsDataTd trbs entry.task.phase t) is sound.chunks);
         moves = sym (ap (λ (t : Option Td). is_some t) is) ∙ sound.moves;
         small = sound.small;
       };
@@ -427,7 +445,7 @@ status-seen_td (Sent answer) td awaited is = is
 -- a TD that may be left over: it isn't pending then
 left-short : (trbs : ℕ) (td : Td) → IsShortTd trbs (Some (left_over_td td))
 left-short trbs td =
-    elim (is_pending td.state) as (λ b. is_pending td.state ≡ b → is_pending (cond b (record td { state = LeftOver }) td).state ≡ true → (cond b (record td { state = LeftOver }) td).consumed < trbs) [
+    elim (is_pending td.state) as (λ b. is_pending td.state ≡ b → IsShortTd trbs (Some (cond b (record td { state = LeftOver }) td))) [
       | true ↦ λ is pends. absurd (false≢true pends)
       | false ↦ λ is pends. absurd (false≢true (sym is ∙ pends))
     ] refl
@@ -509,7 +527,8 @@ pub record HasSeen (event : Completion) (old : Entry) : Type 0 where
 data-awaits : (place : Place) (entry : Entry) (td : Option Td) → entry.data_td ≡ td → awaits_data (data_trbs entry.task.request) td ≡ true →
     IsMatchedEntry entry → HasSeen (DataDone place) entry
 data-awaits place entry None is awaits sound = absurd (false≢true awaits)
-data-awaits place entry (Some td) is awaits sound = record { new = record entry { data_td = Some (with_event_seen td) }; step = data-seen place entry td is awaits sound }
+data-awaits place entry (Some td) is awaits sound =
+    record { new = record entry { data_td = Some (with_event_seen td) }; step = data-seen place entry td is awaits sound }
 
 pub event-seen : (event : Completion) (entry : Entry) → awaits_event event entry ≡ true → IsMatchedEntry entry → HasSeen event entry
 event-seen (CommandDone place) entry awaits sound =

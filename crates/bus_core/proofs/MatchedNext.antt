@@ -25,10 +25,10 @@ use Rattle.bus_core.specs.Soundness.{one_if}
 use Rattle.bus_core.specs.Matched.{pipe_places, carried_places, waiting_command, IsPendingCommand, ArePendingCommands, HaveCommandTrbs, EventFreesFirst, AcceptedFits, times, under, command_events, data_events, status_events, request_bytes, IsCommandTd, IsStatusTd, IsMovingTd, IsDataTd, IsMatchedEntry, IsMatched, IsOwnMessage, IsOwnEvent, HasNoStray, HasDataTrbs, HaveDataTrbs, CarryActs, EventActs, NoDataEventWaits, NoStatusEventWaits}
 use Rattle.bus_core.proofs.NumberOfClients.{length-parts}
 use Rattle.bus_core.proofs.Opening.{length-new_parts}
-use Rattle.bus_core.proofs.MatchedPlaces.{one_self, and-true, under-written}
+use Rattle.bus_core.proofs.MatchedPlaces.{command_events-append, data_events-append, status_events-append, one_self, and-true, under-written}
 use Rattle.bus_core.proofs.MatchedEntries.{awaited-pends, taken-none, short-small, unfaulted, has_trb-queued, moving-unawaited, HasSeen, event-seen}
-use Rattle.bus_core.proofs.MatchedBounds.{times_pipe, matched-once}
-use Rattle.bus_core.proofs.MatchedSteps.{IsHeld, matched-held, HasWaiting, message-waiting, carry_step-held, HasAwaiting, times_alike, times_alike-first, event-awaited, command_events-first, data_events-first, status_events-first, event_step-held, seen-written, seen_state, IsDueAt, place_fact-due, IsMovingBy, moving_phase, IsEndedBy, ended_phase}
+use Rattle.bus_core.proofs.MatchedBounds.{held-place, times_pipe, matched-once}
+use Rattle.bus_core.proofs.MatchedSteps.{IsHeld, matched-held, HasWaiting, message-waiting, carry_step-held, HasAwaiting, times_alike, times_alike-first, event-awaited, event_step-held, seen-written, seen_state, IsDueAt, place_fact-due, IsMovingBy, moving_phase, IsEndedBy, ended_phase}
 
 -- MESSAGES
 
@@ -46,6 +46,7 @@ own-message state place all some =
     record {
       entry = waiting.entry;
       held = waiting.is;
+      there = held-place state place waiting.entry all waiting.is;
       queued = queued;
       pushed = subst (λ p. IsCommandTd p waiting.entry.command_td) queued at.here.sound.command;
     }
@@ -53,13 +54,14 @@ own-message state place all some =
 -- EVENTS
 
 times_alike-rest : (event first : Completion) (rest : List Completion) → times_alike event rest ≤ times_alike event (first ∷ rest)
-times_alike-rest (CommandDone place) first rest = omega (arith, command_events-first place first rest)
-times_alike-rest (DataDone place) first rest = omega (arith, data_events-first place first rest)
-times_alike-rest (StatusDone place) first rest = omega (arith, status_events-first place first rest)
+times_alike-rest (CommandDone place) first rest = omega (arith, command_events-append place (first ∷ []) rest)
+times_alike-rest (DataDone place) first rest = omega (arith, data_events-append place (first ∷ []) rest)
+times_alike-rest (StatusDone place) first rest = omega (arith, status_events-append place (first ∷ []) rest)
 
 pub times_alike-member : (events : List Completion) (at : ℕ) (event : Completion) → slice_get events at ≡ Some event → 1 ≤ times_alike event events
 times_alike-member [] at event is = absurd (none-some event is)
-times_alike-member (first ∷ rest) zero event is = let same : first ≡ event = cc in subst (λ e. 1 ≤ times_alike e (first ∷ rest)) same (times_alike-first first rest)
+times_alike-member (first ∷ rest) zero event is =
+    let same : first ≡ event = cc in subst (λ e. 1 ≤ times_alike e (first ∷ rest)) same (times_alike-first first rest)
 times_alike-member (first ∷ rest) (suc at) event is = omega (arith, times_alike-member rest at event is, times_alike-rest event first rest)
 
 pub own-event : (state : Shared) (event : Completion) → IsMatched state → 1 ≤ times_alike event state.events → IsOwnEvent state.parts event
@@ -70,6 +72,7 @@ own-event state event all some =
     record {
       entry = awaiting.entry;
       held = awaiting.is;
+      there = held-place state (event_place event) awaiting.entry all awaiting.is;
       awaits = awaiting.awaits;
       seen = ap (λ (e : Option Entry). is_some e) seen.step.seen;
     }
@@ -143,7 +146,8 @@ freed_places state place rest all is =
     let at : IsHeld state place own.entry = matched-held state place own.entry all own.held in
     let seen : HasSeen (CommandDone place) own.entry = event-seen (CommandDone place) own.entry own.awaits at.here.sound in
     ap (λ es. pipe_places (cond (is_some_of es) (event_step state es) (state, idle)).0) is
-    ∙ ap (λ (s : Shared). pipe_places s) (event_step-held state (CommandDone place) rest at.found.part own.entry seen.new at.found.there at.found.held seen.step.seen)
+    ∙ ap (λ (s : Shared). pipe_places s)
+    (event_step-held state (CommandDone place) rest at.found.part own.entry seen.new at.found.there at.found.held seen.step.seen)
     ∙ ap (λ es. carried_places es ++ state.messages) (append-nil rest)
 
 pub matched-frees : (state : Shared) → IsMatched state → EventFreesFirst state

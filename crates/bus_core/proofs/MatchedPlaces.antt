@@ -107,7 +107,8 @@ pub record IsFound (parts : List Part) (place : Place) (entry : Entry) : Type 0 
 
 pub under-found : (parts : List Part) (place : Place) (entry : Entry) → under parts place ≡ Some entry → IsFound parts place entry
 under-found parts place entry is =
-    elim (slice_get parts place.client) as (λ found. slice_get parts place.client ≡ found → option_map_or (held_in place) found None ≡ Some entry → IsFound parts place entry) [
+    elim (slice_get parts place.client) as (λ found.
+    slice_get parts place.client ≡ found → option_map_or (held_in place) found None ≡ Some entry → IsFound parts place entry) [
       | None ↦ λ there held. absurd (none-some entry held)
       | Some part ↦ λ there held. record { part = part; there = there; held = held }
     ] refl is

@@ -105,6 +105,27 @@ acted-matched state place part unit old new popped rest posted there held pops a
       sound = step.sound;
     }) all
 
+-- an event names its own place alone
+event-alone : (event : Completion) → NamesAlone (event_place event) [] (event ∷ [])
+event-alone (CommandDone place) = record {
+  messages = λ other apart. refl;
+  carried = λ other apart. omega (arith, ap one_if apart);
+  moved = λ other apart. refl;
+  sent = λ other apart. refl;
+}
+event-alone (DataDone place) = record {
+  messages = λ other apart. refl;
+  carried = λ other apart. refl;
+  moved = λ other apart. omega (arith, ap one_if apart);
+  sent = λ other apart. refl;
+}
+event-alone (StatusDone place) = record {
+  messages = λ other apart. refl;
+  carried = λ other apart. refl;
+  moved = λ other apart. refl;
+  sent = λ other apart. omega (arith, ap one_if apart);
+}
+
 -- CARRY
 
 -- a place that a message names has an entry that waits for it
@@ -151,7 +172,8 @@ carry_step-matched state (place ∷ rest) is all =
     let queued : entry.task.phase ≡ Queued = has_trb-queued entry.task.phase entry.command_td at.here.sound.command waiting.waits in
     let after : BlockMaps × TaggedTask = carried_request part.unit entry.task entry.task.request in
     subst (λ now. IsMatched now.0) (sym (carry_step-held state place rest part entry at.found.there at.found.held queued))
-    (acted-matched state place part after.0 entry (carried_to entry after.1) (place ∷ []) rest (CommandDone place ∷ []) at.found.there at.found.held is (carry-alone place)
+    (acted-matched state place part after.0 entry (carried_to entry after.1) (place ∷ []) rest (CommandDone place ∷ [])
+    at.found.there at.found.held is (carry-alone place)
     (carry-stepped part.unit place entry queued at.here.sound) at.here all)
 
 -- WHERE A STEP IS DUE
@@ -244,14 +266,6 @@ send_step-held state tag place part entry answer named there held ended =
     ∙ ap (λ found. acted_on state place.client (sent_slot part place.slot place found)) held
     ∙ ap (λ phase. acted_on state place.client (sent_entry part place.slot place entry (sent_from entry.task phase))) ended
 
-send-alone : (place : Place) → NamesAlone place [] (StatusDone place ∷ [])
-send-alone place = record {
-  messages = λ other apart. refl;
-  carried = λ other apart. refl;
-  moved = λ other apart. refl;
-  sent = λ other apart. omega (arith, ap one_if apart);
-}
-
 send_step-matched : (state : Shared) (tag : ℕ) → due state (Status tag) ≡ true → IsMatched state →
     IsMatched (routed_by_tag state send_act (place_of (length state.parts) tag)).0
 send_step-matched state tag is_due all =
@@ -263,7 +277,7 @@ send_step-matched state tag is_due all =
     let ended : IsEndedBy entry.task.phase = ended_phase entry.task.phase (and-true (is_ended entry.task.phase) _ at.so).0 in
     subst (λ now. IsMatched now.0) (sym (send_step-held state tag place part entry ended.answer at.named held.found.there held.found.held ended.is))
     (acted-matched state place part part.unit entry (sent_to entry ended.answer) [] state.messages (StatusDone place ∷ []) held.found.there held.found.held refl
-    (send-alone place) (send-stepped place entry ended.answer ended.is held.here.sound) held.here all)
+    (event-alone (StatusDone place)) (send-stepped place entry ended.answer ended.is held.here.sound) held.here all)
 
 -- EVENT
 
@@ -307,23 +321,21 @@ times_alike-first (CommandDone place) rest = omega (arith, one_self place)
 times_alike-first (DataDone place) rest = omega (arith, one_self place)
 times_alike-first (StatusDone place) rest = omega (arith, one_self place)
 
--- counts of a list by its first event
-pub command_events-first : (place : Place) (event : Completion) (rest : List Completion) →
-    command_events place (event ∷ rest) ≡ command_events place (event ∷ []) + command_events place rest
-command_events-first place event rest = command_events-append place (event ∷ []) rest
+-- counts of a list by its first event and the rest
+command_events-pop : (place : Place) (events : List Completion) (event : Completion) (rest : List Completion) → events ≡ event ∷ rest →
+    command_events place events ≡ command_events place (event ∷ []) + command_events place (rest ++ [])
+command_events-pop place events event rest is =
+    omega (arith, ap (command_events place) is, command_events-append place (event ∷ []) rest, command_events-append place rest [])
 
-pub data_events-first : (place : Place) (event : Completion) (rest : List Completion) →
-    data_events place (event ∷ rest) ≡ data_events place (event ∷ []) + data_events place rest
-data_events-first place event rest = data_events-append place (event ∷ []) rest
+data_events-pop : (place : Place) (events : List Completion) (event : Completion) (rest : List Completion) → events ≡ event ∷ rest →
+    data_events place events ≡ data_events place (event ∷ []) + data_events place (rest ++ [])
+data_events-pop place events event rest is =
+    omega (arith, ap (data_events place) is, data_events-append place (event ∷ []) rest, data_events-append place rest [])
 
-pub status_events-first : (place : Place) (event : Completion) (rest : List Completion) →
-    status_events place (event ∷ rest) ≡ status_events place (event ∷ []) + status_events place rest
-status_events-first place event rest = status_events-append place (event ∷ []) rest
-
-event-alone : (event : Completion) → NamesAlone (event_place event) [] (event ∷ [])
-event-alone (CommandDone place) = record { messages = λ other apart. refl; carried = λ other apart. omega (arith, ap one_if apart); moved = λ other apart. refl; sent = λ other apart. refl }
-event-alone (DataDone place) = record { messages = λ other apart. refl; carried = λ other apart. refl; moved = λ other apart. omega (arith, ap one_if apart); sent = λ other apart. refl }
-event-alone (StatusDone place) = record { messages = λ other apart. refl; carried = λ other apart. refl; moved = λ other apart. refl; sent = λ other apart. omega (arith, ap one_if apart) }
+status_events-pop : (place : Place) (events : List Completion) (event : Completion) (rest : List Completion) → events ≡ event ∷ rest →
+    status_events place events ≡ status_events place (event ∷ []) + status_events place (rest ++ [])
+status_events-pop place events event rest is =
+    omega (arith, ap (status_events place) is, status_events-append place (event ∷ []) rest, status_events-append place rest [])
 
 -- the part after an event was seen
 abbrev pub seen_part : Part → ℕ → Entry → Part
@@ -375,9 +387,9 @@ seen-written state event rest part old new is there held =
       queue = λ slot apart. ready_after-other part.ready (event_place event).slot slot new apart;
       others = λ other apart. record {
         messages = refl;
-        carried = omega (arith, command_events-append other rest [], ap (command_events other) is, command_events-first other event rest, alone.carried other apart);
-        moved = omega (arith, data_events-append other rest [], ap (data_events other) is, data_events-first other event rest, alone.moved other apart);
-        sent = omega (arith, status_events-append other rest [], ap (status_events other) is, status_events-first other event rest, alone.sent other apart);
+        carried = omega (arith, command_events-pop other state.events event rest is, alone.carried other apart);
+        moved = omega (arith, data_events-pop other state.events event rest is, alone.moved other apart);
+        sent = omega (arith, status_events-pop other state.events event rest is, alone.sent other apart);
       };
     }
 
@@ -391,10 +403,17 @@ seen-matched state event rest part old new is there held step here all =
     let written = seen-written state event rest part old new is there held in
     IsMatched-written state now place (Some new) written (record {
       messages = omega (arith, step.messages, here.messages);
-      carried = omega (arith, command_events-append place rest [], ap (command_events place) is, command_events-first place event rest, step.carried, here.carried);
-      moved = omega (arith, data_events-append place rest [], ap (data_events place) is, data_events-first place event rest, step.moved, here.moved);
-      sent = omega (arith, status_events-append place rest [], ap (status_events place) is, status_events-first place event rest, step.sent, here.sent);
-      ready = omega (arith, times_ready-written state now place (Some new) written, ready_after-own part.ready place.slot new, times_ready-there state.parts place part there, here.ready, step.ready);
+      carried = omega (arith, command_events-pop place state.events event rest is, step.carried, here.carried);
+      moved = omega (arith, data_events-pop place state.events event rest is, step.moved, here.moved);
+      sent = omega (arith, status_events-pop place state.events event rest is, step.sent, here.sent);
+      ready = omega (
+        arith,
+        times_ready-written state now place (Some new) written,
+        ready_after-own part.ready place.slot new,
+        times_ready-there state.parts place part there,
+        here.ready,
+        step.ready,
+      );
       sound = step.sound;
     }) all
 
@@ -430,7 +449,8 @@ abbrev settled_part : Part → ℕ → List ℕ → Part
 settled_part part slot rest = record part { entries = slice_set part.entries slot None; ready = rest }
 
 abbrev settled_state : Shared → Place → Part → List ℕ → Shared
-settled_state state place part rest = record state { parts = slice_set state.parts place.client (settled_part part place.slot rest); events = state.events ++ [] }
+settled_state state place part rest =
+    record state { parts = slice_set state.parts place.client (settled_part part place.slot rest); events = state.events ++ [] }
 
 take_step-held : (state : Shared) (client slot : ℕ) (rest : List ℕ) (part : Part) (entry : Entry) (answer : Answer) →
     slice_get state.parts client ≡ Some part → part.ready ≡ slot ∷ rest → held_at part.entries slot ≡ Some entry → entry.task.phase ≡ Sent answer →
@@ -460,7 +480,8 @@ settled-written state place part rest entry there queue held = record {
 }
 
 settled-matched : (state : Shared) (place : Place) (part : Part) (rest : List ℕ) (entry : Entry) → slice_get state.parts place.client ≡ Some part →
-    part.ready ≡ place.slot ∷ rest → held_at part.entries place.slot ≡ Some entry → times_in place.slot rest ≡ 0 → IsQuiet entry → IsMatchedAt state place (Some entry) → IsMatched state →
+    part.ready ≡ place.slot ∷ rest → held_at part.entries place.slot ≡ Some entry → times_in place.slot rest ≡ 0 → IsQuiet entry →
+    IsMatchedAt state place (Some entry) → IsMatched state →
     IsMatched (settled_state state place part rest)
 unfolding settled-written
 settled-matched state place part rest entry there queue held once quiet here all =
@@ -492,7 +513,8 @@ take_queue state client part (slot ∷ rest) there is some all =
 take_step-matched : (state : Shared) (client : ℕ) → due state (Take client) ≡ true → IsMatched state →
     IsMatched (routed state client (take_act client)).0
 take_step-matched state client is_due all =
-    elim (slice_get state.parts client) as (λ found. slice_get state.parts client ≡ found → option_map_or has_ready found false ≡ true → IsMatched (routed state client (take_act client)).0) [
+    elim (slice_get state.parts client) as (λ found.
+    slice_get state.parts client ≡ found → option_map_or has_ready found false ≡ true → IsMatched (routed state client (take_act client)).0) [
       | None ↦ λ there some. absurd (false≢true some)
       | Some part ↦ λ there some. take_queue state client part part.ready there refl some all
     ] refl is_due
@@ -529,7 +551,8 @@ accepted-written state part place tag ticket command there within =
 none-matched : (state : Shared) (place : Place) (part : Part) → slice_get state.parts place.client ≡ Some part →
     is_some (held_at part.entries place.slot) ≡ false → IsMatched state → IsMatchedAt state place None
 none-matched state place part there free all =
-    subst (λ held. IsMatchedAt state place held) (ap (λ found. option_map_or (held_in place) found None) there ∙ none (held_at part.entries place.slot) free) (all.places place)
+    subst (λ held. IsMatchedAt state place held)
+    (ap (λ found. option_map_or (held_in place) found None) there ∙ none (held_at part.entries place.slot) free) (all.places place)
   where
     none : (held : Option Entry) → is_some held ≡ false → held ≡ None
     none None is = refl
@@ -550,7 +573,8 @@ accepted-matched state part place tag ticket command there within fine all =
       carried = ap (command_events place) events ∙ here.carried ∙ sym step.carried;
       moved = ap (data_events place) events ∙ here.moved ∙ sym step.moved;
       sent = ap (status_events place) events ∙ here.sent ∙ sym step.sent;
-      ready = times_ready-written state now place (Some (new_entry ticket command)) written ∙ sym (times_ready-there state.parts place part there) ∙ here.ready ∙ sym step.ready;
+      ready = times_ready-written state now place (Some (new_entry ticket command)) written
+          ∙ sym (times_ready-there state.parts place part there) ∙ here.ready ∙ sym step.ready;
       sound = step.sound;
     }) all
 

@@ -27,6 +27,7 @@ use Rattle.bus_core.specs.Part.{Part, event_place, seen_by}
 use Rattle.bus_core.specs.Shared.{Shared, opening, due, shared_step}
 use Rattle.uas_host.specs.Tags.{place_of}
 use Rattle.bus_core.specs.Replay.{replay}
+use Rattle.bus_core.specs.Bus.{IsPlace}
 use Rattle.bus_core.specs.Soundness.{one_if, awaited_data, readied_of, times_in}
 
 -- PLACES
@@ -205,14 +206,15 @@ pub record IsNamedOnce (state : Shared) (place : Place) : Type 0 where
   pub status_events : status_events place state.events ≤ 1
   pub ready : times_ready state.parts place ≤ 1
 
--- a message is of a queued command whose command TD is as it was pushed
+-- a message is of a queued command of a place that is there, and the command TD is as it was pushed
 pub record IsOwnMessage (parts : List Part) (place : Place) : Type 0 where
   pub entry : Entry
   pub held : under parts place ≡ Some entry
+  pub there : IsPlace (length parts) place
   pub queued : entry.task.phase ≡ Queued
   pub pushed : entry.command_td ≡ pushed
 
--- an event is of a TD that is pending and whose last TRB was taken
+-- the event is of a TD that is pending and whose last TRB was taken
 abbrev pub awaits_data : ℕ → Option Td → Bool
 awaits_data trbs None = false
 awaits_data trbs (Some td) = is_awaited td trbs
@@ -222,10 +224,11 @@ awaits_event (CommandDone place) entry = is_awaited entry.command_td 1
 awaits_event (DataDone place) entry = awaits_data (data_trbs entry.task.request) entry.data_td
 awaits_event (StatusDone place) entry = is_awaited entry.status_td 1
 
--- what the host makes of it is some entry
+-- an event is of such a TD of a place that is there, and the host makes something of it
 pub record IsOwnEvent (parts : List Part) (event : Completion) : Type 0 where
   pub entry : Entry
   pub held : under parts (event_place event) ≡ Some entry
+  pub there : IsPlace (length parts) (event_place event)
   pub awaits : awaits_event event entry ≡ true
   pub seen : is_some (seen_by event entry) ≡ true
 

@@ -71,6 +71,14 @@ fn rung_in(value: u32) -> Option<(Pipe, u16)>
     Some((pipe, stream))
 }
 
+impl Default for Controller {
+    ghost is_default = { λ controller. controller ≡ new_controller };
+
+    fn default() -> Controller {
+        Controller::new()
+    }
+}
+
 impl Controller {
     /// The controller at the start: every endpoint runs, and no stream was rung.
     pub fn new() -> Controller

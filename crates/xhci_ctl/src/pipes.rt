@@ -1,8 +1,7 @@
 //! Doorbells, and which streams are armed (xHCI 4.7, 4.12, 5.6).
-ghost use Rattle.std.specs.Prelude.{◌≡◌, ◌<◌, ◌≤◌, Bool, true, length, IfSome};
+ghost use Rattle.std.specs.Prelude.{◌≡◌, ◌<◌, ◌≤◌, true, IfSome};
 ghost use Rattle.stream_array.specs.Contexts.{has_stream};
 ghost use Rattle.stream_array.specs.Map.{HasRing};
-ghost use Rattle.stream_array.specs.Rings.{ring_of};
 ghost use Rattle.xhci_ctl.specs.Doorbells.{pipe_at, rung_by, rung_in};
 ghost use Rattle.xhci_ctl.specs.Pipes.{is_armed, is_open, is_open_on, is_running, new_controller, new_pipe, rung_at};
 

@@ -1,15 +1,12 @@
 //! The steps: the front TRB of one ring, its bytes, its event.
-ghost use Rattle.std.specs.Prelude.{◌≡◌, ◌+◌, ◌-◌, ◌<◌, ◌≤◌, if◌then◌else◌, IfSome, is_some, length};
-ghost use Rattle.cycle_ring.specs.Ring.{front_of};
-ghost use Rattle.event_ring.specs.Events.{IsWritable};
-ghost use Rattle.stream_array.specs.Map.{HasRing, places_of};
-ghost use Rattle.stream_array.specs.Rings.{ring_of};
+ghost use Rattle.std.specs.Prelude.{◌≡◌, ◌<◌, ◌≤◌, if◌then◌else◌, IfSome, is_some, length};
 ghost use Rattle.std.specs.Option.{option_map_or};
+ghost use Rattle.stream_array.specs.Map.{HasRing};
+ghost use Rattle.stream_array.specs.Rings.{ring_of};
 ghost use Rattle.frame_store.specs.Buffers.{IsNamed, written};
-ghost use Rattle.uas_iu.specs.Units.{unit_text};
 ghost use Rattle.uas_target.specs.Device.{answered, gave, given, received, wanted};
 ghost use Rattle.uas_target.specs.declared.Phase.{Phase};
-ghost use Rattle.xhci_ctl.specs.Own.{IsOwnCommandFront, IsTakeable, IsOwnData, IsOwnDataFront, IsOwnStatus, IsOwnStatusFront};
+ghost use Rattle.xhci_ctl.specs.Own.{IsOwnCommandFront, IsOwnDataFront, IsOwnStatusFront, IsTakeable};
 ghost use Rattle.xhci_ctl.specs.Steps.{armed_front, began_tag, commanded, completed, consumed, endpoint_of, gave_at, moved, on_front, room_front, sent_by, sides_of, took_at};
 
 use crate::{

@@ -6,3 +6,4 @@ pub mod Seeing
 pub mod Freeing
 pub mod Ends
 pub mod Replying
+pub mod Apart

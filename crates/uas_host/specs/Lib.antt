@@ -5,3 +5,4 @@ pub mod Doors
 pub mod Submit
 pub mod Events
 pub mod Replies
+pub mod Laws

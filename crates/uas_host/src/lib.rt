@@ -33,11 +33,14 @@ mod ended;
 mod events;
 mod freed;
 mod hosts;
+pub mod laws;
 mod replies;
 mod seen;
 mod submissions;
 mod tags;
 mod tds;
+#[cfg(test)]
+mod tests;
 mod units;
 
 use arrayvec::ArrayVec;
@@ -106,7 +109,7 @@ pub enum Handled {
     Stray,
 }
 
-/// A TD by its pipe and its tag.
+/// The TD that an event is of, by its pipe and its tag.
 #[derive(Clone, Copy, Debug, PartialEq, Eq)]
 pub struct EndedTd {
     pub pipe: Pipe,
@@ -116,9 +119,13 @@ pub struct EndedTd {
 /// What an event tells.
 #[derive(Debug, Drop)]
 pub enum News {
+    /// The command was received.
     CommandSeen,
+    /// The data TD on the data-in pipe is done.
     DataInSeen,
+    /// The data TD on the data-out pipe is done.
     DataOutSeen,
+    /// The command ended with this status and this sense.
     Answered {
         status: u8,
         sense: ArrayVec<u8, MAX_SENSE_BYTES>,

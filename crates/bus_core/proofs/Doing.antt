@@ -1,32 +1,33 @@
 -- What the calls on hosts and device ask, and what is due.
-use Rattle.std.proofs.Common.{◌≡◌, ℕ, zero, suc, ◌+◌, ◌-◌, ◌*◌, ◌<◌, ◌≤◌, Bool, true, false, ◌&&◌, cond, min, List, [], ◌∷◌, length, replicate, Option, Some, None, option_map, IfSome, Result, Ok, Err, refl, arith, ap, sym, subst, ◌∙◌}
-use Rattle.std.specs.Prelude.{MatchOption, slice_get, slice_set, option_and_then, is_some, nat_lt}
+use Rattle.std.proofs.Common.{◌≡◌, ℕ, zero, suc, ◌+◌, ◌-◌, ◌*◌, ◌<◌, ◌≤◌, Bool, true, false, ◌&&◌, min, List, [], ◌∷◌, length, replicate, Option, Some, None, option_map, IfSome, Result, Ok, Err, refl, arith, ap, sym, subst, ◌∙◌}
+use Rattle.std.specs.Prelude.{MatchOption, slice_get, slice_set, option_and_then, is_some}
 use Rattle.std.specs.Option.{option_map_or}
-use Rattle.std.proofs.lemmas.Bool.{ltb-false}
 use Rattle.block_unit.specs.BlockMaps.{BlockMaps, bytes_from}
 use Rattle.scsi_cmd.specs.declared.Op.{Op}
-use Rattle.scsi_cmd.specs.declared.Op.TheVariants.{TestUnitReady, Inquiry, ReadCapacity, Read, Write, Sync}
-use Rattle.scsi_cmd.specs.declared.Sense.{Sense}
+use Rattle.scsi_cmd.specs.declared.Direction.TheVariants.{Nothing as NoWay, ToHost, ToDevice}
+use Rattle.scsi_cmd.specs.declared.Work.{Work}
+use Rattle.scsi_cmd.specs.declared.Work.TheVariants.{Nothing, Gives as GivesWork, Reads, Writes, Synchronizes}
+use Rattle.scsi_cmd.specs.Work.{work_bytes, work_direction, work_of}
 use Rattle.scsi_cmd.specs.declared.Command.{Command}
 use Rattle.scsi_cmd.specs.declared.Direction.{Direction}
 use Rattle.scsi_cmd.specs.declared.SubmitFault.{SubmitFault}
-use Rattle.scsi_cmd.specs.Sense.{invalid_field_in_cdb}
-use Rattle.scsi_cmd.specs.Meaning.{op_fault, range_fault}
-use Rattle.scsi_cmd.specs.Op.{moved_bytes}
+use Rattle.scsi_cmd.specs.Op.{direction_of, moved_bytes}
 use Rattle.scsi_cmd.specs.declared.TheConstants.{TAGS, TASK_SLOT}
 use Rattle.scsi_cmd.specs.declared.Request.TheVariants.{Execute}
 use Rattle.solo_model.specs.declared.Phase.{Phase}
-use Rattle.solo_model.specs.declared.Phase.TheVariants.{Queued, Moving, Ended, Sent}
-use Rattle.solo_model.specs.TaggedTask.{chunk_blocks}
+use Rattle.solo_model.specs.declared.Phase.TheVariants.{Queued, Begun, Sent}
+use Rattle.device_server.specs.declared.Progress.TheVariants.{Moving, Ended}
+use Rattle.device_server.specs.Server.{chunk_bytes}
 use Rattle.scsi_cmd.specs.Held.{held_at, held_under}
-use Rattle.scsi_cmd.specs.Laws.{AllHeld-held}
+use Rattle.scsi_cmd.specs.Laws.{AllHeld-held, direction_of-work, moved_most, work_bytes-work_of}
 use Rattle.uas_target.specs.declared.DeviceTask.{DeviceTask}
 use Rattle.uas_target.specs.declared.DeviceTask.TheVariants.{Moving as MovingTask, Ended as EndedTask}
 use Rattle.uas_target.specs.declared.Phase.{Phase as Wants}
 use Rattle.uas_target.specs.declared.Phase.TheVariants.{Absent, Gives, Takes, Ends}
 use Rattle.uas_iu.specs.declared.Iu.{Iu}
 use Rattle.uas_target.specs.Device.{Device, wanted, answered, gave, given, took, fits}
-use Rattle.uas_target.specs.Tasks.{task_wants, task_answer, answer_unit, chunk_wanted}
+use Rattle.uas_target.specs.Tasks.{task_wants, task_answer, answer_unit, chunk_wanted, wanted_way}
+use Rattle.uas_target.specs.Laws.{gives_size, takes_size}
 use Rattle.uas_host.specs.declared.Place.{Place}
 use Rattle.bus_core.specs.Td.{Entry}
 use Rattle.bus_core.specs.declared.Host.{Host}
@@ -50,44 +51,12 @@ use Rattle.bus_core.proofs.Done.{IsTakenFrom, there_at, at_some, some_at, fact_o
 
 -- ROOM FOR A CHUNK
 
--- READ and WRITE move at most 128 blocks
-range_most : (lba count blocks : ℕ) → cond (nat_lt 128 count) (Some invalid_field_in_cdb) (range_fault lba count blocks) ≡ None → count ≤ 128
-range_most lba count blocks =
-    elim (nat_lt 128 count) as (λ b. nat_lt 128 count ≡ b → cond b (Some invalid_field_in_cdb) (range_fault lba count blocks) ≡ None → count ≤ 128) [
-      | true ↦ λ is none. let no : ◌≡◌ {A = Option Sense} (Some invalid_field_in_cdb) None = none in let it : ⊥ = cc in absurd it
-      | false ↦ λ is none. ltb-false 128 count is
-    ] refl
-
-moved_most : (op : Op) (blocks : ℕ) → op_fault op blocks ≡ None → moved_bytes op ≤ 65536
-moved_most TestUnitReady blocks none = omega arith
-moved_most (Inquiry allocation) blocks none = omega arith
-moved_most ReadCapacity blocks none = omega arith
-moved_most (Read lba count fua) blocks none = let most = range_most lba count blocks none in omega arith
-moved_most (Write lba count fua) blocks none = let most = range_most lba count blocks none in omega arith
-moved_most (Sync lba count) blocks none = omega arith
-
-wants_same : (one other : ℕ) → ◌≡◌ {A = Wants} (Gives one) (Gives other) → one ≡ other
-wants_same one other same = cc
-
-takes_same : (one other : ℕ) → ◌≡◌ {A = Wants} (Takes one) (Takes other) → one ≡ other
-takes_same one other same = cc
-
 -- a chunk ends within the bytes of its command
 pub gives_fits : (chunk size : ℕ) (op : Op) → chunk_wanted chunk op ≡ Gives size → 4096 * chunk < moved_bytes op → 4096 * chunk + size ≤ moved_bytes op
-gives_fits chunk size TestUnitReady wants less = let no : ◌≡◌ {A = Wants} Absent (Gives size) = wants in let it : ⊥ = cc in absurd it
-gives_fits chunk size (Inquiry allocation) wants less = let same : min allocation 36 ≡ size = wants_same _ size wants in omega arith
-gives_fits chunk size ReadCapacity wants less = let same : 8 ≡ size = wants_same _ size wants in omega arith
-gives_fits chunk size (Read lba count fua) wants less = let same : 512 * min 8 (count - 8 * chunk) ≡ size = wants_same _ size wants in omega arith
-gives_fits chunk size (Write lba count fua) wants less = let no : ◌≡◌ {A = Wants} (Takes (512 * chunk_blocks count chunk)) (Gives size) = wants in let it : ⊥ = cc in absurd it
-gives_fits chunk size (Sync lba count) wants less = let no : ◌≡◌ {A = Wants} Absent (Gives size) = wants in let it : ⊥ = cc in absurd it
+gives_fits chunk size op wants less = let same : min 4096 (moved_bytes op - 4096 * chunk) ≡ size = gives_size op chunk size wants in omega arith
 
 pub takes_fits : (chunk size : ℕ) (op : Op) → chunk_wanted chunk op ≡ Takes size → 4096 * chunk < moved_bytes op → 4096 * chunk + size ≤ moved_bytes op
-takes_fits chunk size TestUnitReady wants less = let no : ◌≡◌ {A = Wants} Absent (Takes size) = wants in let it : ⊥ = cc in absurd it
-takes_fits chunk size (Inquiry allocation) wants less = let no : ◌≡◌ {A = Wants} (Gives (min allocation 36)) (Takes size) = wants in let it : ⊥ = cc in absurd it
-takes_fits chunk size ReadCapacity wants less = let no : ◌≡◌ {A = Wants} (Gives 8) (Takes size) = wants in let it : ⊥ = cc in absurd it
-takes_fits chunk size (Read lba count fua) wants less = let no : ◌≡◌ {A = Wants} (Gives (512 * chunk_blocks count chunk)) (Takes size) = wants in let it : ⊥ = cc in absurd it
-takes_fits chunk size (Write lba count fua) wants less = let same : 512 * min 8 (count - 8 * chunk) ≡ size = takes_same _ size wants in omega arith
-takes_fits chunk size (Sync lba count) wants less = let no : ◌≡◌ {A = Wants} Absent (Takes size) = wants in let it : ⊥ = cc in absurd it
+takes_fits chunk size op wants less = let same : min 4096 (moved_bytes op - 4096 * chunk) ≡ size = takes_size op chunk size wants in omega arith
 
 -- the room of a chunk, whichever way it goes
 chunk_room : (device : Device) (hosts : List Host) (parts : List Part) (place : Place) (size : ℕ) (wants : Wants) → StandForAll device.units device.tasks hosts parts → IsPlace (length parts) place →
@@ -103,9 +72,9 @@ chunk_room device hosts parts place size wants all is_place moving armed wanted_
       | Some held ↦ λ is.
           let entry = entry_of_host device.tasks place.client place.slot part.0.unit it.host part.0 held it.stands is in
           let moves = moving_is entry.0 (fact_at (λ e. is_moving e.task.phase) place.slot part.0 _ entry.1 (fact_of (λ e. is_moving e.task.phase) parts place part.0 part.1 moving)) in
-          of_held held (λ h. held_at part.0.entries place.slot ≡ Some (entry_in h (Moving moves.0)) → has_data_trb (data_trbs h.request) h.data_td ≡ true → HasRoomFor size h)
+          of_held held (λ h. held_at part.0.entries place.slot ≡ Some (entry_in h (Begun (Moving moves.0))) → has_data_trb (data_trbs h.request) h.data_td ≡ true → HasRoomFor size h)
           (λ op now has.
-          let sound : IsSoundEntry part.0.unit.count (entry_in (record held { request = Execute op }) (Moving moves.0)) = AllHeld-held (IsSoundEntry part.0.unit.count) part.0.entries place.slot _ it.stands.sound.sound now in
+          let sound : IsSoundEntry part.0.unit.count (entry_in (record held { request = Execute op }) (Begun (Moving moves.0))) = AllHeld-held (IsSoundEntry part.0.unit.count) part.0.entries place.slot _ it.stands.sound.sound now in
           let chunks = trbs_taken_is (data_trbs (Execute op)) moves.0 held.data_td has sound.chunks in
           let task : held_under device.tasks (slot_tag place.client place.slot) ≡ Some (MovingTask (Some place.client) op moves.0) = it.stands.tasks_same place.slot is_place.slot ∙ ap (λ o. option_and_then (device_task place.client) o) now in
           let within = fits moves.0 op (sym (wanted-moving device place.client (slot_tag place.client place.slot) moves.0 op task) ∙ wanted_is) sound.task.chunk.0 in
@@ -178,20 +147,24 @@ pub wanted_of : (device : Device) (hosts : List Host) (place : Place) (part : Pa
 wanted_of device hosts place part it entry within is =
     ap (λ o. option_map_or task_wants o Absent) (it.stands.tasks_same place.slot within ∙ ap (λ o. option_and_then (device_task place.client) o) is)
 
+way_is_data : (work : Work) (bytes : ℕ) → 0 < work_bytes work → is_data_wanted (wanted_way (work_direction work) bytes) ≡ true
+way_is_data Nothing bytes some = absurd (omega arith)
+way_is_data (GivesWork given) bytes some = refl
+way_is_data (Reads lba count) bytes some = refl
+way_is_data (Writes lba count through) bytes some = refl
+way_is_data (Synchronizes lba count) bytes some = absurd (omega arith)
+
 chunk_is_data : (chunk : ℕ) (op : Op) → 4096 * chunk < moved_bytes op → is_data_wanted (chunk_wanted chunk op) ≡ true
-chunk_is_data chunk TestUnitReady less = absurd (omega arith)
-chunk_is_data chunk (Inquiry allocation) less = refl
-chunk_is_data chunk ReadCapacity less = refl
-chunk_is_data chunk (Read lba count fua) less = refl
-chunk_is_data chunk (Write lba count fua) less = refl
-chunk_is_data chunk (Sync lba count) less = absurd (omega arith)
+chunk_is_data chunk op less =
+    ap (λ way. is_data_wanted (wanted_way way (chunk_bytes (moved_bytes op) chunk))) (direction_of-work op 0 (omega arith))
+    ∙ way_is_data (work_of op 0) (chunk_bytes (moved_bytes op) chunk) (omega (arith, work_bytes-work_of op 0))
 
 -- the device gives or takes data exactly for an entry that moves it
 phase_data : (number count : ℕ) (held : HostEntry) (op : Op) (phase : Phase) → IsSoundEntry count (entry_in (record held { request = Execute op }) phase) →
     is_data_wanted (option_map_or task_wants (device_task number (entry_in (record held { request = Execute op }) phase)) Absent) ≡ is_moving phase
 phase_data number count held op Queued sound = refl
-phase_data number count held op (Moving chunk) sound = chunk_is_data chunk op sound.task.chunk.0
-phase_data number count held op (Ended answer) sound = refl
+phase_data number count held op (Begun (Moving chunk)) sound = chunk_is_data chunk op sound.task.chunk.0
+phase_data number count held op (Begun (Ended answer)) sound = refl
 phase_data number count held op (Sent answer) sound = refl
 
 pub entry_data : (device : Device) (hosts : List Host) (place : Place) (part : Part) (it : IsFound device.units device.tasks hosts place.client part) (entry : Entry) → place.slot < TAGS →
@@ -202,19 +175,19 @@ entry_data device hosts place part it entry within is =
     (λ op sound. phase_data place.client part.unit.count (host_entry entry) op entry.task.phase sound)
     (AllHeld-held (IsSoundEntry part.unit.count) part.entries place.slot entry it.stands.sound.sound is)
 
+way_is_no_end : (way : Direction) (bytes : ℕ) → is_end_wanted (wanted_way way bytes) ≡ false
+way_is_no_end NoWay bytes = refl
+way_is_no_end ToHost bytes = refl
+way_is_no_end ToDevice bytes = refl
+
 chunk_is_no_end : (chunk : ℕ) (op : Op) → is_end_wanted (chunk_wanted chunk op) ≡ false
-chunk_is_no_end chunk TestUnitReady = refl
-chunk_is_no_end chunk (Inquiry allocation) = refl
-chunk_is_no_end chunk ReadCapacity = refl
-chunk_is_no_end chunk (Read lba count fua) = refl
-chunk_is_no_end chunk (Write lba count fua) = refl
-chunk_is_no_end chunk (Sync lba count) = refl
+chunk_is_no_end chunk op = way_is_no_end (direction_of op) (chunk_bytes (moved_bytes op) chunk)
 
 phase_end : (number : ℕ) (held : HostEntry) (op : Op) (phase : Phase) →
     is_end_wanted (option_map_or task_wants (device_task number (entry_in (record held { request = Execute op }) phase)) Absent) ≡ is_ended phase
 phase_end number held op Queued = refl
-phase_end number held op (Moving chunk) = chunk_is_no_end chunk op
-phase_end number held op (Ended answer) = refl
+phase_end number held op (Begun (Moving chunk)) = chunk_is_no_end chunk op
+phase_end number held op (Begun (Ended answer)) = refl
 phase_end number held op (Sent answer) = refl
 
 pub entry_end : (device : Device) (hosts : List Host) (place : Place) (part : Part) (it : IsFound device.units device.tasks hosts place.client part) (entry : Entry) → place.slot < TAGS →

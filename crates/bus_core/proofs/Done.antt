@@ -22,7 +22,8 @@ use Rattle.bus_core.specs.declared.News.{News}
 use Rattle.bus_core.specs.declared.Td.{Td}
 use Rattle.bus_core.specs.Td.{data_trbs, pushed}
 use Rattle.solo_model.specs.declared.Phase.{Phase}
-use Rattle.solo_model.specs.declared.Phase.TheVariants.{Queued, Moving, Ended, Sent}
+use Rattle.solo_model.specs.declared.Phase.TheVariants.{Queued, Begun, Sent}
+use Rattle.device_server.specs.declared.Progress.TheVariants.{Moving, Ended}
 use Rattle.scsi_cmd.specs.Laws.{AllHeld-held, AllHeld-at}
 use Rattle.bus_core.specs.Soundness.{IsSoundEntry, IsFramed, HasTds, TellsCheck}
 use Rattle.bus_core.specs.Part.{Part, Act, nothing, told, slot_tag, carry_act, move_act, send_act, event_act, event_place, take_act}
@@ -233,8 +234,8 @@ take_done_so device after hosts now parts place size done news all is_place movi
 -- the status TD of an entry that has ended is as it was pushed
 ended_tds : (phase : Phase) (held : HostEntry) → is_ended phase ≡ true → HasTds phase (entry_in held phase) → held.status_td ≡ pushed
 ended_tds Queued held is tds = let no : false ≡ true = is in let it : ⊥ = cc in absurd it
-ended_tds (Moving chunk) held is tds = let no : false ≡ true = is in let it : ⊥ = cc in absurd it
-ended_tds (Ended answer) held is tds = tds
+ended_tds (Begun (Moving chunk)) held is tds = let no : false ≡ true = is in let it : ⊥ = cc in absurd it
+ended_tds (Begun (Ended answer)) held is tds = tds
 ended_tds (Sent answer) held is tds = let no : false ≡ true = is in let it : ⊥ = cc in absurd it
 
 ended_untouched : (device : Device) (hosts : List Host) (parts : List Part) (place : Place) (part : Part) (it : IsFound device.units device.tasks hosts place.client part) (held : HostEntry) →

@@ -1,23 +1,19 @@
 -- What the device's and the host's steps keep of one entry.
-use Rattle.std.proofs.Common.{◌≡◌, ℕ, ◌+◌, ◌*◌, ◌<◌, ◌≤◌, Bool, true, false, ◌&&◌, cond, List, length, Option, Some, None, refl, arith, ap, ◌∙◌}
+use Rattle.std.proofs.Common.{◌≡◌, ℕ, ◌+◌, ◌<◌, ◌≤◌, Bool, true, false, ◌&&◌, List, length, Option, Some, None, refl, arith, ap, ◌∙◌}
 use Rattle.std.specs.Prelude.{nat_lt, ◌==◌}
 use Rattle.std.proofs.lemmas.Bool.{ltb-true, ne_eqb}
-use Rattle.block_unit.specs.BlockMaps.{BlockMaps, with_attention}
+use Rattle.block_unit.specs.BlockMaps.{BlockMaps}
 use Rattle.scsi_cmd.specs.declared.Op.{Op}
-use Rattle.scsi_cmd.specs.declared.Op.TheVariants.{TestUnitReady, Inquiry, ReadCapacity, Read, Write, Sync}
-use Rattle.scsi_cmd.specs.declared.Sense.{Sense}
-use Rattle.scsi_cmd.specs.Sense.{reset_occurred, unrecovered_read_error, write_error}
-use Rattle.scsi_cmd.specs.Meaning.{op_fault, checked}
 use Rattle.scsi_cmd.specs.Op.{moved_bytes}
 use Rattle.scsi_cmd.specs.declared.Request.{Request}
 use Rattle.scsi_cmd.specs.declared.Request.TheVariants.{Execute}
-use Rattle.solo_model.specs.declared.Answer.{Answer}
-use Rattle.solo_model.specs.declared.Answer.TheVariants.{Good, Check}
-use Rattle.solo_model.specs.declared.Phase.{Phase}
-use Rattle.solo_model.specs.declared.Phase.TheVariants.{Queued, Moving, Ended, Sent}
-use Rattle.solo_model.specs.Soundness.{HasChunk}
-use Rattle.solo_model.specs.TaggedTask.{begun, started, takes_attention, next_phase, phase_after, phase_after_chunk, meets_bad_chunk}
-use Rattle.solo_model.proofs.Kept.{checked-none, checked-some, HasChunk-begun, HasChunk-after}
+use Rattle.device_server.specs.declared.Answer.{Answer}
+use Rattle.solo_model.specs.declared.Phase.TheVariants.{Queued, Begun, Sent}
+use Rattle.device_server.specs.declared.Progress.TheVariants.{Moving, Ended}
+use Rattle.device_server.specs.Server.{HasChunk, begun, chunk_moved}
+use Rattle.solo_model.specs.TaggedTask.{progress_left}
+use Rattle.scsi_cmd.specs.Work.{checked_work, reports_attention, work_of}
+use Rattle.device_server.specs.Laws.{HasChunk-begun, HasChunk-after, after_chunk, begun_progress}
 use Rattle.bus_core.specs.declared.Td.{Td}
 use Rattle.bus_core.specs.Td.{Entry}
 use Rattle.bus_core.specs.declared.HostEntry.{HostEntry}
@@ -43,23 +39,9 @@ of_held held P each = of_request (λ r. P (record held { request = r })) each he
 
 -- CARRY
 
--- where a command is received it ends, or is ready to move its data
-pub begun_phase : (P : Phase → Type 0) (unit : BlockMaps) (op : Op) → ((sense : Sense) → P (Ended (Check sense))) → P (Ended Good) → P (Moving 0) → P (begun unit (checked op unit.count)).1
-begun_phase P unit op check good moves =
-    elim (takes_attention (checked op unit.count) && unit.attention) as (λ b. P (cond {A = BlockMaps × Phase} b (with_attention unit false, Ended (Check reset_occurred)) (started unit (checked op unit.count))).1) [
-      | true ↦ check reset_occurred
-      | false ↦ elim (op_fault op unit.count) as (λ fault. op_fault op unit.count ≡ fault → P (started unit (checked op unit.count)).1) [
-        | None ↦ λ none. rw (checked-none op unit.count none) (elim (moved_bytes op == 0) as (λ b. P (cond b (Ended Good) (Moving 0))) [
-          | true ↦ good
-          | false ↦ moves
-        ])
-        | Some sense ↦ λ some. rw (checked-some op unit.count sense some) (check sense)
-      ] refl
-    ]
-
 pub carry_kept : (unit : BlockMaps) (held : HostEntry) (op : Op) → IsSoundEntry unit.count (entry_in (record held { request = Execute op }) Queued) →
     IsKept unit.count (entry_in (record held { request = Execute op }) Queued)
-    (entry_in (record held { request = Execute op; command_td = with_trb_taken held.command_td }) (begun unit (checked op unit.count)).1) 1 1
+    (entry_in (record held { request = Execute op; command_td = with_trb_taken held.command_td }) (Begun (begun unit (reports_attention op) (checked_work op unit.count)).1)) 1 1
 carry_kept unit held op sound =
     let apart : one_if (is_awaited held.command_td 1) ≡ 0 = ap (λ td. one_if (is_awaited td 1)) sound.tds.0 in
     let now : one_if (is_awaited (with_trb_taken held.command_td) 1) ≡ 1 = ap (λ td. one_if (is_awaited (with_trb_taken td) 1)) sound.tds.0 in
@@ -69,54 +51,29 @@ carry_kept unit held op sound =
       | None ↦ λ took. tt
       | Some it ↦ λ took. omega (arith, took.0, took.1)
     ] in
-    begun_phase (λ p. HasChunk unit.count op p → IsKept unit.count (entry_in (record held { request = Execute op }) Queued)
-    (entry_in (record held { request = Execute op; command_td = with_trb_taken held.command_td }) p) 1 1) unit op
+    begun_progress (λ p. HasChunk unit.count op p → IsKept unit.count (entry_in (record held { request = Execute op }) Queued)
+    (entry_in (record held { request = Execute op; command_td = with_trb_taken held.command_td }) (Begun p)) 1 1) unit (reports_attention op) op
     (λ sense chunk. record {
       sound = record { task = record { whole = sound.task.whole; chunk = tt }; tds = sound.tds.1; chunks = lacks held.data_td sound.chunks };
       ready = refl;
       counted = record { waiting = omega arith; awaited = omega arith };
       taken = one;
     })
-    (λ chunk. record {
+    (λ empty chunk. record {
       sound = record { task = record { whole = sound.task.whole; chunk = tt }; tds = sound.tds.1; chunks = tt };
       ready = refl;
       counted = record { waiting = omega arith; awaited = omega arith };
       taken = one;
     })
-    (λ chunk. record {
+    (λ some none chunk. record {
       sound = record { task = record { whole = sound.task.whole; chunk = chunk }; tds = sound.tds.1; chunks = sound.chunks };
       ready = refl;
       counted = record { waiting = omega arith; awaited = omega arith };
       taken = one;
     })
-    (HasChunk-begun unit op)
+    (HasChunk-begun unit (reports_attention op) op)
 
 -- MOVE
-
-next_of : (P : Phase → Type 0) (bytes chunk : ℕ) → (4096 * (chunk + 1) < bytes → P (Moving (chunk + 1))) → P (Ended Good) → P (next_phase bytes chunk)
-next_of P bytes chunk moves good =
-    elim (nat_lt (4096 * (chunk + 1)) bytes) as (λ b. nat_lt (4096 * (chunk + 1)) bytes ≡ b → P (cond b (Moving (chunk + 1)) (Ended Good))) [
-      | true ↦ λ more. moves (ltb-true _ _ more)
-      | false ↦ λ last. good
-    ] refl
-
-chunk_of : (P : Phase → Type 0) (unit : BlockMaps) (lba count chunk : ℕ) (sense : Sense) → (4096 * (chunk + 1) < 512 * count → P (Moving (chunk + 1))) → P (Ended Good) → ((sense : Sense) → P (Ended (Check sense))) →
-    P (phase_after_chunk unit lba count chunk sense)
-chunk_of P unit lba count chunk sense moves good check =
-    elim (meets_bad_chunk unit lba count chunk) as (λ b. P (cond b (Ended (Check sense)) (next_phase (512 * count) chunk))) [
-      | true ↦ check sense
-      | false ↦ next_of P (512 * count) chunk moves good
-    ]
-
--- after a chunk a command moves the next one, or ends
-pub after_phase : (P : Phase → Type 0) (unit : BlockMaps) (chunk : ℕ) (op : Op) → (4096 * (chunk + 1) < moved_bytes op → P (Moving (chunk + 1))) → P (Ended Good) → ((sense : Sense) → P (Ended (Check sense))) →
-    P (phase_after unit chunk op)
-after_phase P unit chunk TestUnitReady moves good check = good
-after_phase P unit chunk (Inquiry allocation) moves good check = good
-after_phase P unit chunk ReadCapacity moves good check = good
-after_phase P unit chunk (Read lba count fua) moves good check = chunk_of P unit lba count chunk unrecovered_read_error moves good check
-after_phase P unit chunk (Write lba count fua) moves good check = chunk_of P unit lba count chunk write_error moves good check
-after_phase P unit chunk (Sync lba count) moves good check = good
 
 and_parts : (a b : Bool) → (a && b) ≡ true → (a ≡ true) × (b ≡ true)
 and_parts true b is = (refl, is)
@@ -148,24 +105,24 @@ lacks_still trbs chunk None took = tt
 lacks_still trbs chunk (Some td) took = omega (arith, took.0, took.1)
 
 -- a chunk of an entry that moves data, which keeps the length of its buffer
-pub move_kept : (unit : BlockMaps) (held : HostEntry) (op : Op) (chunk : ℕ) (buffer : List ℕ) → IsSoundEntry unit.count (entry_in (record held { request = Execute op }) (Moving chunk)) →
-    IsTakenEntry (entry_in (record held { request = Execute op }) (Moving chunk)) → has_data_trb (data_trbs (Execute op)) held.data_td ≡ true → length buffer ≡ length held.buffer →
-    IsKept unit.count (entry_in (record held { request = Execute op }) (Moving chunk))
-    (entry_in (record held { request = Execute op; buffer = buffer; data_td = data_td_after (took_trb (phase_after unit chunk op)) held.data_td }) (phase_after unit chunk op))
-    0 (one_if (is_last_trb (took_trb (phase_after unit chunk op)) (data_trbs (Execute op)) held.data_td))
+pub move_kept : (unit : BlockMaps) (held : HostEntry) (op : Op) (chunk : ℕ) (buffer : List ℕ) → IsSoundEntry unit.count (entry_in (record held { request = Execute op }) (Begun (Moving chunk))) →
+    IsTakenEntry (entry_in (record held { request = Execute op }) (Begun (Moving chunk))) → has_data_trb (data_trbs (Execute op)) held.data_td ≡ true → length buffer ≡ length held.buffer →
+    IsKept unit.count (entry_in (record held { request = Execute op }) (Begun (Moving chunk)))
+    (entry_in (record held { request = Execute op; buffer = buffer; data_td = data_td_after (took_trb (Begun (progress_left unit chunk op))) held.data_td }) (Begun (progress_left unit chunk op)))
+    0 (one_if (is_last_trb (took_trb (Begun (progress_left unit chunk op))) (data_trbs (Execute op)) held.data_td))
 move_kept unit held op chunk buffer sound received armed long =
     let trbs : ℕ = data_trbs (Execute op) in
     let all : length buffer ≡ moved_bytes op = long ∙ sound.task.whole in
-    after_phase (λ p. HasChunk unit.count op p → IsKept unit.count (entry_in (record held { request = Execute op }) (Moving chunk))
-    (entry_in (record held { request = Execute op; buffer = buffer; data_td = data_td_after (took_trb p) held.data_td }) p)
-    0 (one_if (is_last_trb (took_trb p) (data_trbs (Execute op)) held.data_td))) unit chunk op
+    after_chunk (λ p. HasChunk unit.count op p → IsKept unit.count (entry_in (record held { request = Execute op }) (Begun (Moving chunk)))
+    (entry_in (record held { request = Execute op; buffer = buffer; data_td = data_td_after (chunk_moved p) held.data_td }) (Begun p))
+    0 (one_if (is_last_trb (chunk_moved p) (data_trbs (Execute op)) held.data_td))) unit chunk op unit.count
     (λ more has. record {
-      sound = record { task = record { whole = all; chunk = has }; tds = sound.tds; chunks = took_next (data_trbs (Execute op)) chunk held.data_td sound.chunks (omega arith) };
+      sound = record { task = record { whole = all; chunk = has }; tds = sound.tds; chunks = took_next (data_trbs (Execute op)) chunk held.data_td sound.chunks (omega (arith, has.0)) };
       ready = ap (λ b. is_seen held.command_td.state && (is_over held.status_td.state && b)) (data_over_kept true held.data_td);
       counted = record { waiting = omega arith; awaited = omega (arith, data_awaited_kept (data_trbs (Execute op)) chunk true held.data_td sound.chunks) };
       taken = received;
     })
-    (λ has. record {
+    (λ last has. record {
       sound = record { task = record { whole = all; chunk = tt }; tds = sound.tds; chunks = tt };
       ready = ap (λ b. is_seen held.command_td.state && (is_over held.status_td.state && b)) (data_over_kept true held.data_td);
       counted = record { waiting = omega arith; awaited = omega (arith, data_awaited_kept (data_trbs (Execute op)) chunk true held.data_td sound.chunks) };
@@ -181,9 +138,9 @@ move_kept unit held op chunk buffer sound received armed long =
 
 -- SEND
 
-pub send_kept : (count : ℕ) (held : HostEntry) (op : Op) (answer : Answer) → IsSoundEntry count (entry_in (record held { request = Execute op }) (Ended answer)) →
-    IsTakenEntry (entry_in (record held { request = Execute op }) (Ended answer)) →
-    IsKept count (entry_in (record held { request = Execute op }) (Ended answer))
+pub send_kept : (count : ℕ) (held : HostEntry) (op : Op) (answer : Answer) → IsSoundEntry count (entry_in (record held { request = Execute op }) (Begun (Ended answer))) →
+    IsTakenEntry (entry_in (record held { request = Execute op }) (Begun (Ended answer))) →
+    IsKept count (entry_in (record held { request = Execute op }) (Begun (Ended answer)))
     (entry_in (record held { request = Execute op; status_td = with_trb_taken held.status_td }) (Sent answer)) 0 1
 send_kept count held op answer sound received =
     let apart : one_if (is_awaited held.status_td 1) ≡ 0 = ap (λ td. one_if (is_awaited td 1)) sound.tds in

@@ -3,8 +3,7 @@ use Rattle.std.proofs.Common.{◌≡◌, ℕ, ◌+◌, ◌≤◌, Bool, true, fa
 use Rattle.std.specs.Prelude.{MatchOption}
 use Rattle.std.specs.Option.{option_map_or, unwrap_or}
 use Rattle.scsi_cmd.specs.Buffers.{with_bytes_at, written_at}
-use Rattle.scsi_cmd.proofs.Buffers.{written_at-fits}
-use Rattle.solo_model.proofs.Kept.{written_at_same}
+use Rattle.scsi_cmd.specs.Laws.{written_at-fits, written_at-same}
 use Rattle.bus_core.specs.declared.HostEntry.{HostEntry}
 use Rattle.bus_core.specs.Hosts.{is_host_ready}
 
@@ -18,5 +17,5 @@ host_seen_ready (Some entry) old new seen ready was is told = (is ∙ ap (λ hel
 -- a chunk that was given stands in the buffer
 pub given_written : (buffer now : List ℕ) (start size : ℕ) (chunk : Option (List ℕ)) → start + size ≤ length buffer → length now ≡ size → now ≡ unwrap_or chunk (take size (drop start buffer)) →
     written_at buffer start now ≡ option_map_or (λ bytes. with_bytes_at buffer start bytes) chunk buffer
-given_written buffer now start size None fits long is = ap (written_at buffer start) is ∙ written_at_same buffer start size fits
+given_written buffer now start size None fits long is = ap (written_at buffer start) is ∙ written_at-same buffer start size fits
 given_written buffer now start size (Some bytes) fits long is = written_at-fits buffer start now (omega arith) ∙ ap (with_bytes_at buffer start) is

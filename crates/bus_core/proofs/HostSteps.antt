@@ -16,7 +16,6 @@ use Rattle.scsi_cmd.specs.Held.{held_at, with_held_under}
 use Rattle.scsi_cmd.specs.Laws.{AllHeld-held, AllHeld-set, submit_fault-none}
 use Rattle.uas_target.specs.declared.DeviceTask.{DeviceTask}
 use Rattle.uas_target.specs.Device.{Device}
-use Rattle.uas_target.specs.Tasks.{task_in}
 use Rattle.uas_host.specs.declared.Place.{Place}
 use Rattle.bus_core.specs.declared.Td.{Td}
 use Rattle.bus_core.specs.Td.{Entry}
@@ -29,7 +28,7 @@ use Rattle.bus_core.specs.Td.{is_awaited, is_ready, data_trbs, left_over_data, w
 use Rattle.bus_core.specs.Part.{Part, Act, nothing, slot_tag, event_act, event_place, seen_by, seen_entry, new_entry, fault_at, submitted_part, take_act}
 use Rattle.bus_core.specs.Soundness.{IsSoundClient, IsSoundEntry, IsFramed, IsCountedEntry, TellsCheck, queued_if, readied_of}
 use Rattle.bus_core.specs.Wire.{request_text}
-use Rattle.bus_core.specs.Hosts.{host_entry, entry_in, device_task, asked_by, IsTakenEntry, StandForAll, frame_at, host_seen, host_seen_command, host_seen_data_td, host_seen_status, is_host_ready, IsToldReply, saw_host, host_submitted, host_without, host_fault}
+use Rattle.bus_core.specs.Hosts.{phase_task, host_entry, entry_in, device_task, asked_by, IsTakenEntry, StandForAll, frame_at, host_seen, host_seen_command, host_seen_data_td, host_seen_status, is_host_ready, IsToldReply, saw_host, host_submitted, host_without, host_fault}
 use Rattle.bus_core.proofs.EachSlot.{KeepsFrames-set, KeepsFrames-held, AllPaired-both}
 use Rattle.bus_core.proofs.Readied.{AreReady-set, AreReady-push, AreReady-take, IsFirst, readied-ready}
 use Rattle.bus_core.proofs.Kept.{IsSoundEntry-new, IsSentBy, ready_is_sent, ready_leaves}
@@ -136,7 +135,7 @@ see_set device hosts parts event part it held now phase all there within is saw 
     ap (λ o. seen_entry part (event_place event).slot (option_and_then (seen_by event) o)) is ∙ ap (λ o. seen_entry part (event_place event).slot o) saw.seen in (
       told_so (event_act event) (event_place event).client parts part _ _ _ _ 0 0 1
           (device_kept device hosts (event_place event).client (event_place event).slot part it (device_task (event_place event).client (entry_in now phase)) within
-          (ap (λ o. option_and_then (device_task (event_place event).client) o) is ∙ ap (λ r. task_in (Some (event_place event).client) (asked_by r) phase) (sym saw.request_same)))
+          (ap (λ o. option_and_then (device_task (event_place event).client) o) is ∙ ap (λ r. phase_task (Some (event_place event).client) (asked_by r) phase) (sym saw.request_same)))
           refl
           (step_set (event_act event) device.units device.tasks hosts parts (event_place event).client (event_place event).slot part it part.unit _ (Some (entry_in now phase))
           part.least it.host.least (queued_if (is_host_ready now) part.ready (event_place event).slot) (record { items = queued_if (is_host_ready now) it.host.ready.items (event_place event).slot }) it.host.frames 0 0 1

@@ -4,21 +4,21 @@ use Rattle.std.specs.Prelude.{slice_get, option_and_then}
 use Rattle.block_unit.specs.BlockMaps.{BlockMaps}
 use Rattle.scsi_cmd.specs.declared.Request.{Request}
 use Rattle.scsi_cmd.specs.declared.Request.TheVariants.{Execute}
-use Rattle.solo_model.specs.declared.Answer.{Answer}
-use Rattle.solo_model.specs.declared.Answer.TheVariants.{Good, Check}
+use Rattle.device_server.specs.declared.Answer.{Answer}
+use Rattle.device_server.specs.declared.Answer.TheVariants.{Good, Check}
 use Rattle.solo_model.specs.declared.Phase.{Phase}
-use Rattle.solo_model.specs.declared.Phase.TheVariants.{Queued, Moving, Ended, Sent}
+use Rattle.solo_model.specs.declared.Phase.TheVariants.{Queued, Begun, Sent}
+use Rattle.device_server.specs.declared.Progress.TheVariants.{Moving, Ended}
 use Rattle.scsi_cmd.specs.Held.{AllHeld, held_at, held_under}
 use Rattle.uas_iu.specs.Units.{unit_text}
 use Rattle.uas_target.specs.declared.DeviceTask.{DeviceTask}
-use Rattle.uas_target.specs.Tasks.{task_in}
 use Rattle.bus_core.specs.Td.{Entry}
 use Rattle.bus_core.specs.declared.Frame.{Frame}
 use Rattle.bus_core.specs.declared.Host.{Host}
 use Rattle.bus_core.specs.Part.{Part, slot_tag}
 use Rattle.bus_core.specs.Soundness.{AllPaired, HasAnswer, IsFramed}
 use Rattle.bus_core.specs.Wire.{answer_text}
-use Rattle.bus_core.specs.Hosts.{host_entry, entry_in, asked_by, device_task, told_answer, phase_by, joined_entry, joined_entries, joined_part, joined, HasTaken, IsTakenEntry, StandsFor, StandsAt, StandForAll}
+use Rattle.bus_core.specs.Hosts.{phase_task, host_entry, entry_in, asked_by, device_task, told_answer, phase_by, joined_entry, joined_entries, joined_part, joined, HasTaken, IsTakenEntry, StandsFor, StandsAt, StandForAll}
 
 -- the bytes of an answer tell it
 pub told_answer-text : (tag : ℕ) (answer : Answer) → told_answer (answer_text tag answer) ≡ answer
@@ -27,10 +27,10 @@ told_answer-text tag Good = refl
 told_answer-text tag (Check sense) = refl
 
 phase_by-back : (number tag taken : ℕ) (request : Request) (phase : Phase) (frame : Frame) → HasTaken phase taken → HasAnswer phase tag frame →
-    phase_by (task_in (Some number) (asked_by request) phase) taken frame.status.items ≡ phase
+    phase_by (phase_task (Some number) (asked_by request) phase) taken frame.status.items ≡ phase
 phase_by-back number tag taken request Queued frame is told = rw is refl
-phase_by-back number tag taken (Execute op) (Moving chunk) frame is told = refl
-phase_by-back number tag taken request (Ended answer) frame is told = refl
+phase_by-back number tag taken (Execute op) (Begun (Moving chunk)) frame is told = refl
+phase_by-back number tag taken request (Begun (Ended answer)) frame is told = refl
 phase_by-back number tag taken request (Sent answer) frame is told = rw (is, told) (ap Sent (told_answer-text tag answer))
 
 pub joined_entry-back : (number slot : ℕ) (entry : Entry) (frame : Frame) → IsTakenEntry entry → IsFramed number slot entry frame →

@@ -2,12 +2,14 @@
 use Rattle.std.proofs.Common.{◌≡◌, ℕ, ◌+◌, ◌/◌, ◌^◌, ◌<◌, Bool, true, false, ◌&&◌, List, Option, Some, None, IfSome, length, cond, refl, arith, subst, sym, ap, ◌∙◌}
 use Rattle.std.specs.Prelude.{◌==◌}
 use Rattle.std.proofs.lemmas.Bool.{eqb-false}
-use Rattle.solo_model.specs.declared.Answer.{Answer}
+use Rattle.device_server.specs.declared.Answer.{Answer}
 use Rattle.solo_model.specs.declared.Phase.{Phase}
-use Rattle.solo_model.specs.declared.Phase.TheVariants.{Queued, Moving, Ended, Sent}
-use Rattle.solo_model.specs.TaggedTask.{queued, status_of}
-use Rattle.solo_model.proofs.Kept.{IsSound-queued}
-use Rattle.solo_model.specs.declared.Answer.TheVariants.{Good, Check}
+use Rattle.solo_model.specs.declared.Phase.TheVariants.{Queued, Begun, Sent}
+use Rattle.device_server.specs.declared.Progress.TheVariants.{Moving, Ended}
+use Rattle.solo_model.specs.TaggedTask.{queued}
+use Rattle.device_server.specs.Server.{status_of}
+use Rattle.solo_model.specs.Laws.{IsSound-queued}
+use Rattle.device_server.specs.declared.Answer.TheVariants.{Good, Check}
 use Rattle.scsi_cmd.specs.declared.Command.{Command}
 use Rattle.scsi_cmd.specs.Op.{moved_bytes}
 use Rattle.uas_host.specs.declared.TdState.{TdState}
@@ -56,8 +58,8 @@ pending_not_over td is over = let no : is_over (pushed).state ≡ true = subst (
 
 ready_phase : (phase : Phase) (entry : Entry) → HasTds phase entry → is_over entry.status_td.state ≡ true → IsSentBy phase
 ready_phase Queued entry tds over = absurd (pending_not_over entry.status_td tds.1 over)
-ready_phase (Moving chunk) entry tds over = absurd (pending_not_over entry.status_td tds over)
-ready_phase (Ended answer) entry tds over = absurd (pending_not_over entry.status_td tds over)
+ready_phase (Begun (Moving chunk)) entry tds over = absurd (pending_not_over entry.status_td tds over)
+ready_phase (Begun (Ended answer)) entry tds over = absurd (pending_not_over entry.status_td tds over)
 ready_phase (Sent answer) entry tds over = record { answer = answer; is = refl }
 
 -- an entry that is ready was sent
@@ -117,8 +119,8 @@ phase_tells : (phase : Phase) (number slot : ℕ) (entry : Entry) (frame : Frame
     ((tag : ℕ) (answer : Answer) → tag < 2 ^ 16 → bytes ≡ answer_text tag answer → checked ≡ (status_of answer == 2)) → bytes ≡ frame.status.items → slot_tag number slot < 2 ^ 16 →
     is_awaited entry.status_td 1 ≡ true → data_after_status phase entry.data_td ≡ cond checked (left_over_data entry.data_td) entry.data_td
 phase_tells Queued number slot entry frame bytes checked tds told is at less awaited = absurd (pushed_awaited entry.status_td tds.1 awaited)
-phase_tells (Moving chunk) number slot entry frame bytes checked tds told is at less awaited = absurd (pushed_awaited entry.status_td tds awaited)
-phase_tells (Ended answer) number slot entry frame bytes checked tds told is at less awaited = absurd (pushed_awaited entry.status_td tds awaited)
+phase_tells (Begun (Moving chunk)) number slot entry frame bytes checked tds told is at less awaited = absurd (pushed_awaited entry.status_td tds awaited)
+phase_tells (Begun (Ended answer)) number slot entry frame bytes checked tds told is at less awaited = absurd (pushed_awaited entry.status_td tds awaited)
 phase_tells (Sent answer) number slot entry frame bytes checked tds told is at less awaited =
     status_tells answer entry.data_td checked (is (slot_tag number slot) answer less (at ∙ told))
 
@@ -135,8 +137,8 @@ tells_check count number slot (Some entry) frame bytes checked sound framed is a
 
 answered_phase : (phase : Phase) (tag : ℕ) (frame : Frame) (bytes : List ℕ) → IsSentBy phase → HasAnswer phase tag frame → bytes ≡ frame.status.items → IsAnswered phase tag bytes
 answered_phase Queued tag frame bytes by told at = let no : Queued ≡ Sent by.answer = by.is in cc
-answered_phase (Moving chunk) tag frame bytes by told at = let no : Moving chunk ≡ Sent by.answer = by.is in cc
-answered_phase (Ended answer) tag frame bytes by told at = let no : Ended answer ≡ Sent by.answer = by.is in cc
+answered_phase (Begun (Moving chunk)) tag frame bytes by told at = let no : Begun (Moving chunk) ≡ Sent by.answer = by.is in cc
+answered_phase (Begun (Ended answer)) tag frame bytes by told at = let no : Begun (Ended answer) ≡ Sent by.answer = by.is in cc
 answered_phase (Sent answer) tag frame bytes by told at = at ∙ told
 
 -- the status buffer of an entry that was sent has its answer

@@ -14,21 +14,23 @@ use Rattle.scsi_cmd.specs.Meaning.{op_fault, checked}
 use Rattle.scsi_cmd.specs.Op.{moved_bytes}
 use Rattle.scsi_cmd.specs.declared.Request.{Request}
 use Rattle.scsi_cmd.specs.declared.Request.TheVariants.{Execute}
-use Rattle.solo_model.specs.declared.Answer.{Answer}
-use Rattle.solo_model.specs.declared.Answer.TheVariants.{Good, Check}
+use Rattle.device_server.specs.declared.Answer.{Answer}
+use Rattle.device_server.specs.declared.Answer.TheVariants.{Good, Check}
 use Rattle.solo_model.specs.declared.Phase.{Phase}
-use Rattle.solo_model.specs.declared.Phase.TheVariants.{Queued, Moving, Ended, Sent}
+use Rattle.solo_model.specs.declared.Phase.TheVariants.{Queued, Begun, Sent}
+use Rattle.device_server.specs.declared.Progress.TheVariants.{Moving, Ended}
 use Rattle.scsi_cmd.specs.Submission.{is_too_long, first_submit_fault}
 use Rattle.solo_model.specs.declared.TaggedTask.{TaggedTask}
-use Rattle.solo_model.specs.TaggedTask.{begun, started, first_phase, takes_attention, carried_request, moved_request, next_phase, phase_after, phase_after_chunk, meets_bad_chunk}
-use Rattle.solo_model.proofs.Kept.{checked-none, checked-some}
+use Rattle.solo_model.specs.TaggedTask.{carried_request, moved_request}
+use Rattle.scsi_cmd.specs.Work.{reports_attention}
+use Rattle.device_server.specs.Laws.{after_chunk, begun_progress}
 use Rattle.uas_host.specs.declared.Place.{Place}
 use Rattle.uas_host.specs.declared.TdState.{TdState}
 use Rattle.uas_host.specs.declared.TdState.TheVariants.{Pending, Seen, LeftOver, Retired}
 use Rattle.bus_core.specs.declared.Td.{Td}
 use Rattle.bus_core.specs.declared.Completion.{Completion}
 use Rattle.bus_core.specs.declared.Completion.TheVariants.{CommandDone, DataDone, StatusDone}
-use Rattle.bus_core.specs.Td.{Entry, pushed, is_pending, is_seen, is_over, is_data_over, is_in_ring, has_trb, is_awaited, is_ready, data_trbs, with_trb_taken, with_event_seen, left_over_td, left_over_data, data_after_answer, data_after_status}
+use Rattle.bus_core.specs.Td.{is_in_ring, Entry, pushed, is_pending, is_seen, is_over, is_data_over, has_trb, is_awaited, is_ready, data_trbs, with_trb_taken, with_event_seen, left_over_td, left_over_data, data_after_answer, data_after_status}
 use Rattle.bus_core.specs.Part.{data_td_after, took_trb, is_last_trb, event_place, seen_by, seen_data_td, data_td_for, new_entry}
 use Rattle.bus_core.specs.Soundness.{one_if, awaited_data}
 use Rattle.bus_core.specs.Matched.{same_place, times, command_events, data_events, status_events, waiting_command, awaited_command, awaited_status, awaited_data_of, IsCommandTd, IsStatusTd, IsMovingTd, IsWholeTd, IsShortTd, IsAnsweredTd, IsDataTd, IsMatchedEntry, awaits_data, awaits_event}
@@ -48,8 +50,8 @@ pub record IsStepped (place : Place) (popped : List Place) (posted : List Comple
 -- a command TD whose TRB is in the ring is one of a queued command
 pub has_trb-queued : (phase : Phase) (td : Td) → IsCommandTd phase td → has_trb td 1 ≡ true → phase ≡ Queued
 has_trb-queued Queued td is has = refl
-has_trb-queued (Moving chunk) td is has = absurd (omega (arith, is, ltb-true td.consumed 1 (and-true _ (nat_lt td.consumed 1) has).1))
-has_trb-queued (Ended answer) td is has = absurd (omega (arith, is, ltb-true td.consumed 1 (and-true _ (nat_lt td.consumed 1) has).1))
+has_trb-queued (Begun (Moving chunk)) td is has = absurd (omega (arith, is, ltb-true td.consumed 1 (and-true _ (nat_lt td.consumed 1) has).1))
+has_trb-queued (Begun (Ended answer)) td is has = absurd (omega (arith, is, ltb-true td.consumed 1 (and-true _ (nat_lt td.consumed 1) has).1))
 has_trb-queued (Sent answer) td is has = absurd (omega (arith, is, ltb-true td.consumed 1 (and-true _ (nat_lt td.consumed 1) has).1))
 
 -- a TD that lacks a TRB is short
@@ -58,57 +60,29 @@ moving-short trbs chunk None is = tt
 moving-short trbs chunk (Some td) is = λ pends. omega (arith, is.1, is.2)
 
 -- a TD of no TRB isn't there
-moving-none : (trbs chunk : ℕ) (td : Option Td) → trbs ≡ 0 → IsMovingTd trbs chunk td → IsWholeTd trbs td
-moving-none trbs chunk None none is = tt
-moving-none trbs chunk (Some td) none is = absurd (omega (arith, none, is.2))
-
--- what moves no data has ended
-first-cases : (P : Phase → Type 0) (bytes : ℕ) → (bytes ≡ 0 → P (Ended Good)) → P (Moving 0) → P (first_phase bytes)
-first-cases P bytes good moves =
-    elim (bytes == 0) as (λ b. (bytes == 0) ≡ b → P (cond b (Ended Good) (Moving 0))) [
-      | true ↦ λ is. good (eqb-true bytes 0 is)
-      | false ↦ λ is. moves
-    ] refl
-
--- where a command is received it ends, or is ready to move its data
-begun-cases : (P : Phase → Type 0) (unit : BlockMaps) (op : Op) → ((sense : Sense) → P (Ended (Check sense))) →
-    (moved_bytes op ≡ 0 → P (Ended Good)) → P (Moving 0) → P (begun unit (checked op unit.count)).1
-begun-cases P unit op check good moves =
-    elim (takes_attention (checked op unit.count) && unit.attention) as (λ b.
-    P (cond {A = BlockMaps × Phase} b (with_attention unit false, Ended (Check reset_occurred)) (started unit (checked op unit.count))).1) [
-      | true ↦ check reset_occurred
-      | false ↦ elim (op_fault op unit.count) as (λ fault. op_fault op unit.count ≡ fault → P (started unit (checked op unit.count)).1) [
-        | None ↦ λ none. rw (checked-none op unit.count none) (first-cases P (moved_bytes op) good moves)
-        | Some sense ↦ λ some. rw (checked-some op unit.count sense some) (check sense)
-      ] refl
-    ]
+moving-none : (bytes chunk : ℕ) (td : Option Td) → bytes ≡ 0 → IsMovingTd ((bytes + 4095) / 4096) chunk td → IsWholeTd ((bytes + 4095) / 4096) td
+moving-none bytes chunk None none is = tt
+moving-none bytes chunk (Some td) none is = absurd (omega (arith, none, is.2))
 
 -- an entry whose command the device received
 abbrev pub carried_to : Entry → TaggedTask → Entry
 carried_to entry task = record entry { task = task; command_td = with_trb_taken entry.command_td }
 
-received : (unit : BlockMaps) (entry : Entry) (request : Request) → entry.task.request ≡ request → entry.command_td ≡ pushed →
-    entry.status_td ≡ pushed → IsMovingTd (data_trbs entry.task.request) 0 entry.data_td → IsMatchedEntry entry →
-    IsMatchedEntry (carried_to entry (carried_request unit entry.task request).1)
+received : (unit : BlockMaps) (entry : Entry) (request : Request) → entry.task.request ≡ request → entry.command_td ≡ pushed → entry.status_td ≡ pushed →
+    IsMovingTd (data_trbs entry.task.request) 0 entry.data_td → IsMatchedEntry entry → IsMatchedEntry (carried_to entry (carried_request unit entry.task request).1)
 received unit entry (Execute op) is command status chunks sound =
     let one : (with_trb_taken entry.command_td).consumed ≡ 1 = ap (λ (td : Td). td.consumed + 1) command in
     let trbs : data_trbs entry.task.request ≡ (moved_bytes op + 4095) / 4096 = ap data_trbs is in
-    begun-cases (λ phase. IsMatchedEntry (carried_to entry (record entry.task { phase = phase }))) unit op
-    (λ sense. record {
-      command = one;
-      status = status;
-      chunks = moving-short (data_trbs entry.task.request) 0 entry.data_td chunks;
-      moves = sound.moves;
-      small = sound.small;
-    })
+    begun_progress (λ progress. IsMatchedEntry (carried_to entry (record entry.task { phase = Begun progress }))) unit (reports_attention op) op
+    (λ sense. record { command = one; status = status; chunks = moving-short (data_trbs entry.task.request) 0 entry.data_td chunks; moves = sound.moves; small = sound.small })
     (λ none. record {
       command = one;
       status = status;
-      chunks = moving-none (data_trbs entry.task.request) 0 entry.data_td (omega (arith, trbs, none)) chunks;
+      chunks = subst (λ n. IsWholeTd n entry.data_td) (sym trbs) (moving-none (moved_bytes op) 0 entry.data_td none (subst (λ n. IsMovingTd n 0 entry.data_td) trbs chunks));
       moves = sound.moves;
       small = sound.small;
     })
-    (record { command = one; status = status; chunks = chunks; moves = sound.moves; small = sound.small })
+    (λ some none. record { command = one; status = status; chunks = chunks; moves = sound.moves; small = sound.small })
 
 carried_request-same : (unit : BlockMaps) (task : TaggedTask) (request : Request) → (carried_request unit task request).1.request ≡ task.request
 carried_request-same unit task (Execute op) = refl
@@ -119,15 +93,13 @@ pub carry-stepped : (unit : BlockMaps) (place : Place) (entry : Entry) → entry
 carry-stepped unit place entry queued sound =
     let command : entry.command_td ≡ pushed = subst (λ p. IsCommandTd p entry.command_td) queued sound.command in
     let status : entry.status_td ≡ pushed = subst (λ p. IsStatusTd p entry.status_td) queued sound.status in
-    let chunks : IsMovingTd (data_trbs entry.task.request) 0 entry.data_td =
-    subst (λ p. IsDataTd (data_trbs entry.task.request) p entry.data_td) queued sound.chunks in
+    let chunks : IsMovingTd (data_trbs entry.task.request) 0 entry.data_td = subst (λ p. IsDataTd (data_trbs entry.task.request) p entry.data_td) queued sound.chunks in
     let self = one_self place in
     let waited : one_if (has_trb entry.command_td 1) ≡ 1 = ap (λ td. one_if (has_trb td 1)) command in
     let waits : one_if (has_trb (with_trb_taken entry.command_td) 1) ≡ 0 = ap (λ td. one_if (has_trb (with_trb_taken td) 1)) command in
     let before : one_if (is_awaited entry.command_td 1) ≡ 0 = ap (λ td. one_if (is_awaited td 1)) command in
     let after : one_if (is_awaited (with_trb_taken entry.command_td) 1) ≡ 1 = ap (λ td. one_if (is_awaited (with_trb_taken td) 1)) command in
-    let asks : (carried_request unit entry.task entry.task.request).1.request ≡ entry.task.request =
-    carried_request-same unit entry.task entry.task.request in
+    let asks : (carried_request unit entry.task entry.task.request).1.request ≡ entry.task.request = carried_request-same unit entry.task entry.task.request in
     record {
       messages = omega (arith, self, waited, waits);
       carried = omega (arith, self, before, after);
@@ -138,33 +110,6 @@ carry-stepped unit place entry queued sound =
     }
 
 -- MOVE
-
-next-cases : (P : Phase → Type 0) (bytes chunk : ℕ) → (4096 * (chunk + 1) < bytes → P (Moving (chunk + 1))) →
-    (bytes ≤ 4096 * (chunk + 1) → P (Ended Good)) → P (next_phase bytes chunk)
-next-cases P bytes chunk more last =
-    elim (nat_lt (4096 * (chunk + 1)) bytes) as (λ b. nat_lt (4096 * (chunk + 1)) bytes ≡ b → P (cond b (Moving (chunk + 1)) (Ended Good))) [
-      | true ↦ λ is. more (ltb-true _ _ is)
-      | false ↦ λ is. last (ltb-false _ _ is)
-    ] refl
-
-block-cases : (P : Phase → Type 0) (unit : BlockMaps) (lba count chunk : ℕ) (sense : Sense) →
-    (4096 * (chunk + 1) < 512 * count → P (Moving (chunk + 1))) → (512 * count ≤ 4096 * (chunk + 1) → P (Ended Good)) →
-    ((sense : Sense) → P (Ended (Check sense))) → P (phase_after_chunk unit lba count chunk sense)
-block-cases P unit lba count chunk sense more last check =
-    elim (meets_bad_chunk unit lba count chunk) as (λ b. P (cond b (Ended (Check sense)) (next_phase (512 * count) chunk))) [
-      | true ↦ check sense
-      | false ↦ next-cases P (512 * count) chunk more last
-    ]
-
--- after a chunk a command moves the next one where bytes are left, or ends
-chunk-cases : (P : Phase → Type 0) (unit : BlockMaps) (chunk : ℕ) (op : Op) → (4096 * (chunk + 1) < moved_bytes op → P (Moving (chunk + 1))) →
-    (moved_bytes op ≤ 4096 * (chunk + 1) → P (Ended Good)) → ((sense : Sense) → P (Ended (Check sense))) → P (phase_after unit chunk op)
-chunk-cases P unit chunk TestUnitReady more last check = last (omega arith)
-chunk-cases P unit chunk (Inquiry allocation) more last check = last (omega arith)
-chunk-cases P unit chunk ReadCapacity more last check = last (omega arith)
-chunk-cases P unit chunk (Read lba count fua) more last check = block-cases P unit lba count chunk unrecovered_read_error more last check
-chunk-cases P unit chunk (Write lba count fua) more last check = block-cases P unit lba count chunk write_error more last check
-chunk-cases P unit chunk (Sync lba count) more last check = last (omega arith)
 
 -- a data TD is there or isn't, whatever is taken of it
 td-there : (took : Bool) (td : Option Td) → is_some (data_td_after took td) ≡ is_some td
@@ -192,8 +137,7 @@ chunk-counted trbs chunk took None is = omega arith
 chunk-counted trbs chunk false (Some td) is = omega arith
 chunk-counted trbs chunk true (Some td) is =
     let before : one_if (is_awaited td trbs) ≡ 0 = unawaited td trbs (λ same. omega (arith, is.1, is.2)) in
-    let after : one_if (is_pending td.state && (td.consumed + 1 == trbs)) ≡ one_if (td.consumed + 1 == trbs) =
-    ap (λ state. one_if (is_pending state && (td.consumed + 1 == trbs))) is.0 in
+    let after : one_if (is_pending td.state && (td.consumed + 1 == trbs)) ≡ one_if (td.consumed + 1 == trbs) = ap (λ state. one_if (is_pending state && (td.consumed + 1 == trbs))) is.0 in
     omega (arith, before, after)
 
 chunk-next : (trbs chunk : ℕ) (td : Option Td) → IsMovingTd trbs chunk td → chunk + 1 < trbs → IsMovingTd trbs (chunk + 1) (data_td_after true td)
@@ -248,53 +192,45 @@ moved_to entry task = record entry { task = task; data_td = data_td_after (took_
 abbrev pub moved_events : Entry → TaggedTask → Place → List Completion
 moved_events entry task place = data_event_if (is_last_trb (took_trb task.phase) (data_trbs entry.task.request) entry.data_td) place
 
--- the task after a chunk that left this buffer and this phase
-abbrev after_chunk : TaggedTask → List ℕ → Phase → TaggedTask
-after_chunk task buffer phase = record task { buffer = buffer; phase = phase }
-
--- a step that changes the task and takes what it takes of the data TD
-abbrev pub IsMovedTo : Place → Entry → TaggedTask → Type 0
-IsMovedTo place entry task = IsStepped place [] (moved_events entry task place) entry (moved_to entry task)
-
-chunk-stepped : (place : Place) (entry : Entry) (chunk : ℕ) (task : TaggedTask) → task.request ≡ entry.task.request →
-    IsMovingTd (data_trbs entry.task.request) chunk entry.data_td → IsMatchedEntry (moved_to entry task) → IsMovedTo place entry task
-chunk-stepped place entry chunk task asks chunks sound =
-    let took : Bool = took_trb task.phase in
+-- a step that changes the phase and takes what it takes of the data TD
+chunk-stepped : (place : Place) (entry : Entry) (chunk : ℕ) (buffer : List ℕ) (phase : Phase) → IsMovingTd (data_trbs entry.task.request) chunk entry.data_td →
+    IsMatchedEntry (moved_to entry (record entry.task { buffer = buffer; phase = phase })) →
+    IsStepped place [] (moved_events entry (record entry.task { buffer = buffer; phase = phase }) place) entry (moved_to entry (record entry.task { buffer = buffer; phase = phase }))
+chunk-stepped place entry chunk buffer phase chunks sound =
+    let took : Bool = took_trb phase in
     let trbs : ℕ = data_trbs entry.task.request in
     let last : Bool = is_last_trb took trbs entry.data_td in
-    let same = ap (λ request. awaited_data (data_trbs request) (data_td_after took entry.data_td)) asks in
     record {
       messages = omega arith;
       carried = omega (arith, data_event-no_command last place place);
-      moved = omega (arith, data_event-own last place, chunk-counted trbs chunk took entry.data_td chunks, same);
+      moved = omega (arith, data_event-own last place, chunk-counted trbs chunk took entry.data_td chunks);
       sent = omega (arith, data_event-no_status last place place);
       ready = ap (λ b. is_seen entry.command_td.state && (is_over entry.status_td.state && b)) (td-over took entry.data_td);
       sound = sound;
     }
 
-moved-cases : (unit : BlockMaps) (place : Place) (entry : Entry) (chunk : ℕ) (request : Request) → entry.task.request ≡ request →
-    entry.task.phase ≡ Moving chunk → IsMatchedEntry entry → IsMovedTo place entry (moved_request unit entry.task chunk request).1
-moved-cases unit place entry chunk (Execute op) is moving sound =
-    let trbs : ℕ = data_trbs entry.task.request in
+moved_cases : (unit : BlockMaps) (place : Place) (entry : Entry) (chunk : ℕ) (request : Request) → entry.task.request ≡ request → entry.task.phase ≡ Begun (Moving chunk) → IsMatchedEntry entry →
+    IsStepped place [] (moved_events entry (moved_request unit entry.task chunk request).1 place) entry (moved_to entry (moved_request unit entry.task chunk request).1)
+moved_cases unit place entry chunk (Execute op) is moving sound =
     let command : entry.command_td.consumed ≡ 1 = subst (λ p. IsCommandTd p entry.command_td) moving sound.command in
     let status : entry.status_td ≡ pushed = subst (λ p. IsStatusTd p entry.status_td) moving sound.status in
-    let chunks : IsMovingTd trbs chunk entry.data_td = subst (λ p. IsDataTd trbs p entry.data_td) moving sound.chunks in
-    let asked : trbs ≡ (moved_bytes op + 4095) / 4096 = ap data_trbs is in
+    let chunks : IsMovingTd (data_trbs entry.task.request) chunk entry.data_td = subst (λ p. IsDataTd (data_trbs entry.task.request) p entry.data_td) moving sound.chunks in
+    let trbs : data_trbs entry.task.request ≡ (moved_bytes op + 4095) / 4096 = ap data_trbs is in
     let there = λ (took : Bool). td-there took entry.data_td ∙ sound.moves in
     let buffer : List ℕ = (moved_request unit entry.task chunk (Execute op)).1.buffer in
-    let moves = λ (phase : Phase) (after : IsDataTd trbs phase (data_td_after (took_trb phase) entry.data_td))
-    (command_after : IsCommandTd phase entry.command_td) (status_after : IsStatusTd phase entry.status_td).
-    chunk-stepped place entry chunk (after_chunk entry.task buffer phase) refl chunks
-    (record { command = command_after; status = status_after; chunks = after; moves = there (took_trb phase); small = sound.small }) in
-    chunk-cases (λ phase. IsMovedTo place entry (after_chunk entry.task buffer phase)) unit chunk op
-    (λ more. moves (Moving (chunk + 1)) (chunk-next trbs chunk entry.data_td chunks (omega (arith, asked, more))) command status)
-    (λ last. moves (Ended Good) (chunk-whole trbs chunk entry.data_td chunks (omega (arith, asked, last))) command status)
-    (λ sense. moves (Ended (Check sense)) (chunk-short trbs chunk entry.data_td chunks) command status)
+    after_chunk (λ progress. IsStepped place [] (moved_events entry (record entry.task { buffer = buffer; phase = Begun progress }) place) entry
+    (moved_to entry (record entry.task { buffer = buffer; phase = Begun progress }))) unit chunk op unit.count
+    (λ more. chunk-stepped place entry chunk buffer (Begun (Moving (chunk + 1))) chunks
+    (record { command = command; status = status; chunks = chunk-next (data_trbs entry.task.request) chunk entry.data_td chunks (omega (arith, trbs, more)); moves = there true; small = sound.small }))
+    (λ last. chunk-stepped place entry chunk buffer (Begun (Ended Good)) chunks
+    (record { command = command; status = status; chunks = chunk-whole (data_trbs entry.task.request) chunk entry.data_td chunks (omega (arith, trbs, last)); moves = there true; small = sound.small }))
+    (λ sense. chunk-stepped place entry chunk buffer (Begun (Ended (Check sense))) chunks
+    (record { command = command; status = status; chunks = chunk-short (data_trbs entry.task.request) chunk entry.data_td chunks; moves = there false; small = sound.small }))
 
 -- the device moves a chunk
-pub move-stepped : (unit : BlockMaps) (place : Place) (entry : Entry) (chunk : ℕ) → entry.task.phase ≡ Moving chunk → IsMatchedEntry entry →
-    IsMovedTo place entry (moved_request unit entry.task chunk entry.task.request).1
-move-stepped unit place entry chunk moving sound = moved-cases unit place entry chunk entry.task.request refl moving sound
+pub move-stepped : (unit : BlockMaps) (place : Place) (entry : Entry) (chunk : ℕ) → entry.task.phase ≡ Begun (Moving chunk) → IsMatchedEntry entry →
+    IsStepped place [] (moved_events entry (moved_request unit entry.task chunk entry.task.request).1 place) entry (moved_to entry (moved_request unit entry.task chunk entry.task.request).1)
+move-stepped unit place entry chunk moving sound = moved_cases unit place entry chunk entry.task.request refl moving sound
 
 -- SEND
 
@@ -302,7 +238,7 @@ move-stepped unit place entry chunk moving sound = moved-cases unit place entry 
 abbrev pub sent_to : Entry → Answer → Entry
 sent_to entry answer = record entry { task = record entry.task { phase = Sent answer }; status_td = with_trb_taken entry.status_td }
 
-pub send-stepped : (place : Place) (entry : Entry) (answer : Answer) → entry.task.phase ≡ Ended answer → IsMatchedEntry entry →
+pub send-stepped : (place : Place) (entry : Entry) (answer : Answer) → entry.task.phase ≡ Begun (Ended answer) → IsMatchedEntry entry →
     IsStepped place [] (StatusDone place ∷ []) entry (sent_to entry answer)
 send-stepped place entry answer ended sound =
     let command : entry.command_td.consumed ≡ 1 = subst (λ p. IsCommandTd p entry.command_td) ended sound.command in
@@ -340,6 +276,14 @@ pub record IsSeenAs (event : Completion) (old new : Entry) : Type 0 where
 awaited-spent : (td : Td) (trbs : ℕ) → is_awaited td trbs ≡ true → td.consumed ≡ trbs
 awaited-spent td trbs is = eqb-true td.consumed trbs (and-true (is_pending td.state) (td.consumed == trbs) is).1
 
+-- a TD whose one TRB was taken has none left
+pub taken-none : (td : Td) → td.consumed ≡ 1 → one_if (has_trb td 1) ≡ 0
+taken-none td is =
+    ap (λ n. one_if (is_in_ring td.state && nat_lt n 1)) is ∙ elim (is_in_ring td.state) as (λ b. one_if (b && false) ≡ 0) [
+      | true ↦ refl
+      | false ↦ refl
+    ]
+
 pub awaited-pends : (td : Td) (trbs : ℕ) → is_awaited td trbs ≡ true → td.state ≡ Pending
 awaited-pends td trbs is = pending td.state (and-true (is_pending td.state) (td.consumed == trbs) is).0
   where
@@ -353,22 +297,16 @@ awaited-pends td trbs is = pending td.state (and-true (is_pending td.state) (td.
 pushed-unawaited : (td : Td) → td ≡ pushed → is_awaited td 1 ≡ true → ⊥
 pushed-unawaited td is awaited = false≢true (sym (ap (λ t. is_awaited t 1) is) ∙ awaited)
 
--- a TD whose one TRB was taken has none left
-pub taken-none : (td : Td) → td.consumed ≡ 1 → one_if (has_trb td 1) ≡ 0
-taken-none td is =
-    ap (λ n. one_if (is_in_ring td.state && nat_lt n 1)) is ∙ elim (is_in_ring td.state) as (λ b. one_if (b && false) ≡ 0) [
-      | true ↦ refl
-      | false ↦ refl
-    ]
-
 -- no TRB of it is in the ring
 pub awaited-taken : (td : Td) → is_awaited td 1 ≡ true → one_if (has_trb td 1) ≡ 0
-awaited-taken td awaited = taken-none td (awaited-spent td 1 awaited)
+awaited-taken td awaited =
+    ap (λ state. one_if (has_trb (record td { state = state }) 1)) (awaited-pends td 1 awaited)
+    ∙ ap (λ n. one_if (nat_lt n 1)) (awaited-spent td 1 awaited)
 
 command-seen_td : (phase : Phase) (td : Td) → is_awaited td 1 ≡ true → IsCommandTd phase td → IsCommandTd phase (with_event_seen td)
 command-seen_td Queued td awaited is = absurd (pushed-unawaited td is awaited)
-command-seen_td (Moving chunk) td awaited is = is
-command-seen_td (Ended answer) td awaited is = is
+command-seen_td (Begun (Moving chunk)) td awaited is = is
+command-seen_td (Begun (Ended answer)) td awaited is = is
 command-seen_td (Sent answer) td awaited is = is
 
 command-seen : (place : Place) (entry : Entry) → is_awaited entry.command_td 1 ≡ true → IsMatchedEntry entry →
@@ -392,16 +330,14 @@ command-seen place entry awaited sound =
     }
 
 -- a data TD that is awaited has been moved whole
-data-seen_answered : (trbs : ℕ) (answer : Answer) (td : Td) → IsAnsweredTd trbs answer (Some td) →
-    IsAnsweredTd trbs answer (Some (with_event_seen td))
+data-seen_answered : (trbs : ℕ) (answer : Answer) (td : Td) → IsAnsweredTd trbs answer (Some td) → IsAnsweredTd trbs answer (Some (with_event_seen td))
 data-seen_answered trbs Good td is = is
 data-seen_answered trbs (Check sense) td is = λ pends. absurd (false≢true pends)
 
-data-seen_td : (trbs : ℕ) (phase : Phase) (td : Td) → td.consumed ≡ trbs → IsDataTd trbs phase (Some td) →
-    IsDataTd trbs phase (Some (with_event_seen td))
+data-seen_td : (trbs : ℕ) (phase : Phase) (td : Td) → td.consumed ≡ trbs → IsDataTd trbs phase (Some td) → IsDataTd trbs phase (Some (with_event_seen td))
 data-seen_td trbs Queued td spent is = absurd (omega (arith, spent, is.1, is.2))
-data-seen_td trbs (Moving chunk) td spent is = absurd (omega (arith, spent, is.1, is.2))
-data-seen_td trbs (Ended answer) td spent is = data-seen_answered trbs answer td is
+data-seen_td trbs (Begun (Moving chunk)) td spent is = absurd (omega (arith, spent, is.1, is.2))
+data-seen_td trbs (Begun (Ended answer)) td spent is = data-seen_answered trbs answer td is
 data-seen_td trbs (Sent answer) td spent is = data-seen_answered trbs answer td is
 
 last_false : (a b : Bool) → one_if (a && (b && false)) ≡ 0
@@ -413,8 +349,8 @@ middle_false : (a b : Bool) → one_if (a && (false && b)) ≡ 0
 middle_false true b = refl
 middle_false false b = refl
 
-data-seen : (place : Place) (entry : Entry) (td : Td) → entry.data_td ≡ Some td → is_awaited td (data_trbs entry.task.request) ≡ true →
-    IsMatchedEntry entry → IsSeenAs (DataDone place) entry (record entry { data_td = Some (with_event_seen td) })
+data-seen : (place : Place) (entry : Entry) (td : Td) → entry.data_td ≡ Some td → is_awaited td (data_trbs entry.task.request) ≡ true → IsMatchedEntry entry →
+    IsSeenAs (DataDone place) entry (record entry { data_td = Some (with_event_seen td) })
 data-seen place entry td is awaited sound =
     let trbs : ℕ = data_trbs entry.task.request in
     let pends : td.state ≡ Pending = awaited-pends td trbs awaited in
@@ -430,7 +366,7 @@ data-seen place entry td is awaited sound =
       sound = record {
         command = sound.command;
         status = sound.status;
-        chunks = data-seen_td trbs entry.task.phase td (awaited-spent td trbs awaited) (subst (λ t. IsDataTd trbs entry.task.phase t) is sound.chunks);
+        chunks = data-seen_td trbs entry.task.phase td (awaited-spent td trbs awaited) (subst (λ t. IsDataTd (data_trbs entry.task.request) entry.task.phase t) is sound.chunks);
         moves = sym (ap (λ (t : Option Td). is_some t) is) ∙ sound.moves;
         small = sound.small;
       };
@@ -438,14 +374,14 @@ data-seen place entry td is awaited sound =
 
 status-seen_td : (phase : Phase) (td : Td) → is_awaited td 1 ≡ true → IsStatusTd phase td → IsStatusTd phase (with_event_seen td)
 status-seen_td Queued td awaited is = absurd (pushed-unawaited td is awaited)
-status-seen_td (Moving chunk) td awaited is = absurd (pushed-unawaited td is awaited)
-status-seen_td (Ended answer) td awaited is = absurd (pushed-unawaited td is awaited)
+status-seen_td (Begun (Moving chunk)) td awaited is = absurd (pushed-unawaited td is awaited)
+status-seen_td (Begun (Ended answer)) td awaited is = absurd (pushed-unawaited td is awaited)
 status-seen_td (Sent answer) td awaited is = is
 
 -- a TD that may be left over: it isn't pending then
 left-short : (trbs : ℕ) (td : Td) → IsShortTd trbs (Some (left_over_td td))
 left-short trbs td =
-    elim (is_pending td.state) as (λ b. is_pending td.state ≡ b → IsShortTd trbs (Some (cond b (record td { state = LeftOver }) td))) [
+    elim (is_pending td.state) as (λ b. is_pending td.state ≡ b → is_pending (cond b (record td { state = LeftOver }) td).state ≡ true → (cond b (record td { state = LeftOver }) td).consumed < trbs) [
       | true ↦ λ is pends. absurd (false≢true pends)
       | false ↦ λ is pends. absurd (false≢true (sym is ∙ pends))
     ] refl
@@ -489,15 +425,14 @@ answer-left trbs (Check sense) td is = record { chunks = check-left trbs td is; 
 
 status-left : (trbs : ℕ) (phase : Phase) (td : Option Td) → IsDataTd trbs phase td → IsLeft trbs phase td (data_after_status phase td)
 status-left trbs Queued td is = record { chunks = is; awaited = refl; there = refl }
-status-left trbs (Moving chunk) td is = record { chunks = is; awaited = refl; there = refl }
-status-left trbs (Ended answer) td is = record { chunks = is; awaited = refl; there = refl }
+status-left trbs (Begun (Moving chunk)) td is = record { chunks = is; awaited = refl; there = refl }
+status-left trbs (Begun (Ended answer)) td is = record { chunks = is; awaited = refl; there = refl }
 status-left trbs (Sent answer) td is = answer-left trbs answer td is
 
 abbrev status_seen : Entry → Entry
 status_seen entry = record entry { status_td = with_event_seen entry.status_td; data_td = data_after_status entry.task.phase entry.data_td }
 
-status-seen : (place : Place) (entry : Entry) → is_awaited entry.status_td 1 ≡ true → IsMatchedEntry entry →
-    IsSeenAs (StatusDone place) entry (status_seen entry)
+status-seen : (place : Place) (entry : Entry) → is_awaited entry.status_td 1 ≡ true → IsMatchedEntry entry → IsSeenAs (StatusDone place) entry (status_seen entry)
 status-seen place entry awaited sound =
     let pends : entry.status_td.state ≡ Pending = awaited-pends entry.status_td 1 awaited in
     let left : IsLeft (data_trbs entry.task.request) entry.task.phase entry.data_td (data_after_status entry.task.phase entry.data_td) =
@@ -524,11 +459,9 @@ pub record HasSeen (event : Completion) (old : Entry) : Type 0 where
   pub new : Entry
   pub step : IsSeenAs event old new
 
-data-awaits : (place : Place) (entry : Entry) (td : Option Td) → entry.data_td ≡ td → awaits_data (data_trbs entry.task.request) td ≡ true →
-    IsMatchedEntry entry → HasSeen (DataDone place) entry
+data-awaits : (place : Place) (entry : Entry) (td : Option Td) → entry.data_td ≡ td → awaits_data (data_trbs entry.task.request) td ≡ true → IsMatchedEntry entry → HasSeen (DataDone place) entry
 data-awaits place entry None is awaits sound = absurd (false≢true awaits)
-data-awaits place entry (Some td) is awaits sound =
-    record { new = record entry { data_td = Some (with_event_seen td) }; step = data-seen place entry td is awaits sound }
+data-awaits place entry (Some td) is awaits sound = record { new = record entry { data_td = Some (with_event_seen td) }; step = data-seen place entry td is awaits sound }
 
 pub event-seen : (event : Completion) (entry : Entry) → awaits_event event entry ≡ true → IsMatchedEntry entry → HasSeen event entry
 event-seen (CommandDone place) entry awaits sound =
@@ -567,8 +500,8 @@ pushed-over td is over = false≢true (sym (ap (λ (t : Td). is_over t.state) is
 
 over-sent : (phase : Phase) (td : Td) → IsStatusTd phase td → is_over td.state ≡ true → IsSentBy phase
 over-sent Queued td is over = absurd (pushed-over td is over)
-over-sent (Moving chunk) td is over = absurd (pushed-over td is over)
-over-sent (Ended answer) td is over = absurd (pushed-over td is over)
+over-sent (Begun (Moving chunk)) td is over = absurd (pushed-over td is over)
+over-sent (Begun (Ended answer)) td is over = absurd (pushed-over td is over)
 over-sent (Sent answer) td is over = record { answer = answer; is = refl }
 
 -- an entry that waits for nothing more, and whose answer was handed over
@@ -581,10 +514,8 @@ pub record IsQuiet (entry : Entry) : Type 0 where
 
 pub ready-quiet : (entry : Entry) → is_ready entry ≡ true → IsMatchedEntry entry → IsQuiet entry
 ready-quiet entry ready sound =
-    let first : (is_seen entry.command_td.state ≡ true) × ((is_over entry.status_td.state && is_data_over entry.data_td) ≡ true) =
-    and-true (is_seen entry.command_td.state) _ ready in
-    let rest : (is_over entry.status_td.state ≡ true) × (is_data_over entry.data_td ≡ true) =
-    and-true (is_over entry.status_td.state) (is_data_over entry.data_td) first.1 in
+    let first : (is_seen entry.command_td.state ≡ true) × ((is_over entry.status_td.state && is_data_over entry.data_td) ≡ true) = and-true (is_seen entry.command_td.state) _ ready in
+    let rest : (is_over entry.status_td.state ≡ true) × (is_data_over entry.data_td ≡ true) = and-true (is_over entry.status_td.state) (is_data_over entry.data_td) first.1 in
     let seen : entry.command_td.state ≡ Seen = seen-is entry.command_td.state first.0 in
     record {
       messages = ap (λ state. one_if (has_trb (record entry.command_td { state = state }) 1)) seen;
@@ -636,8 +567,7 @@ unfaulted_if false true long late least op is none = absurd (none-some BadLength
 unfaulted_if false false true late least op is none = absurd (none-some TooLong (sym none))
 unfaulted_if false false false late least op is none = record { free = refl; short = is }
 
-pub unfaulted : (in_use : Bool) (least ticket : ℕ) (command : Command) → first_submit_fault true in_use least ticket command ≡ None →
-    IsUnfaulted in_use command.op
+pub unfaulted : (in_use : Bool) (least ticket : ℕ) (command : Command) → first_submit_fault true in_use least ticket command ≡ None → IsUnfaulted in_use command.op
 unfaulted in_use least ticket command none =
     unfaulted_if in_use (not (length command.buffer == moved_bytes command.op)) (is_too_long command.op) (nat_lt ticket least) least command.op refl none
 

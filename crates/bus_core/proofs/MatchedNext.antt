@@ -9,7 +9,7 @@ use Rattle.scsi_cmd.specs.Op.{moved_bytes}
 use Rattle.scsi_cmd.specs.declared.Request.{Request}
 use Rattle.scsi_cmd.specs.declared.Request.TheVariants.{Execute}
 use Rattle.solo_model.specs.declared.Phase.{Phase}
-use Rattle.solo_model.specs.declared.Phase.TheVariants.{Queued, Moving, Ended, Sent}
+use Rattle.solo_model.specs.declared.Phase.TheVariants.{Queued, Begun, Sent}
 use Rattle.uas_host.specs.declared.Place.{Place}
 use Rattle.bus_core.specs.declared.Completion.{Completion}
 use Rattle.bus_core.specs.declared.Completion.TheVariants.{CommandDone, DataDone, StatusDone}
@@ -102,8 +102,7 @@ matched-pending state all at place is = pending-command state place all (times-m
 -- a command TD is pushed, or one of its one TRB was taken
 command-counted : (phase : Phase) (td : Td) (named : ℕ) → IsCommandTd phase td → named ≡ one_if (has_trb td 1) → td.consumed + named ≡ 1
 command-counted Queued td named is counted = omega (arith, ap (λ (t : Td). t.consumed) is, counted, ap (λ t. one_if (has_trb t 1)) is)
-command-counted (Moving chunk) td named is counted = omega (arith, is, counted, taken-none td is)
-command-counted (Ended answer) td named is counted = omega (arith, is, counted, taken-none td is)
+command-counted (Begun progress) td named is counted = omega (arith, is, counted, taken-none td is)
 command-counted (Sent answer) td named is counted = omega (arith, is, counted, taken-none td is)
 
 held-counted : (held : Option Entry) (named : ℕ) → IfSome held IsMatchedEntry → named ≡ waiting_command held →

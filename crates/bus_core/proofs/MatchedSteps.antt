@@ -11,9 +11,10 @@ use Rattle.scsi_cmd.specs.declared.SubmitFault.{SubmitFault}
 use Rattle.scsi_cmd.specs.Op.{direction_of}
 use Rattle.scsi_cmd.specs.declared.TheConstants.{TASK_SLOT}
 use Rattle.solo_model.specs.declared.TaggedTask.{TaggedTask}
-use Rattle.solo_model.specs.declared.Answer.{Answer}
+use Rattle.device_server.specs.declared.Answer.{Answer}
 use Rattle.solo_model.specs.declared.Phase.{Phase}
-use Rattle.solo_model.specs.declared.Phase.TheVariants.{Queued, Moving, Ended, Sent}
+use Rattle.solo_model.specs.declared.Phase.TheVariants.{Queued, Begun, Sent}
+use Rattle.device_server.specs.declared.Progress.TheVariants.{Moving, Ended}
 use Rattle.solo_model.specs.TaggedTask.{carried_from, carried_request, moved_from, moved_request, sent_from, reply_from}
 use Rattle.scsi_cmd.specs.Held.{held_at}
 use Rattle.uas_host.specs.declared.Place.{Place}
@@ -40,16 +41,14 @@ pub record IsHeld (state : Shared) (place : Place) (entry : Entry) : Type 0 wher
   pub found : IsFound state.parts place entry
   pub here : IsMatchedAt state place (Some entry)
 
-pub matched-held : (state : Shared) (place : Place) (entry : Entry) → IsMatched state → under state.parts place ≡ Some entry →
-    IsHeld state place entry
+pub matched-held : (state : Shared) (place : Place) (entry : Entry) → IsMatched state → under state.parts place ≡ Some entry → IsHeld state place entry
 matched-held state place entry all is = record {
   found = under-found state.parts place entry is;
   here = subst (λ held. IsMatchedAt state place held) is (all.places place);
 }
 
 -- of a client that is there the queue of ready slots tells how often a place is ready
-times_ready-there : (parts : List Part) (place : Place) (part : Part) → slice_get parts place.client ≡ Some part →
-    times_ready parts place ≡ times_in place.slot part.ready
+times_ready-there : (parts : List Part) (place : Place) (part : Part) → slice_get parts place.client ≡ Some part → times_ready parts place ≡ times_in place.slot part.ready
 times_ready-there parts place part there = ap (λ found. option_map_or (readied_in place) found 0) there
 
 -- A STEP OF THE DEVICE AT A PLACE
@@ -70,8 +69,8 @@ acted_state state place part unit entry rest posted = record state {
 }
 
 acted-written : (state : Shared) (place : Place) (part : Part) (unit : BlockMaps) (old new : Entry) (popped rest : List Place) (posted : List Completion) →
-    slice_get state.parts place.client ≡ Some part → held_at part.entries place.slot ≡ Some old → state.messages ≡ popped ++ rest →
-    NamesAlone place popped posted → IsWritten state (acted_state state place part unit new rest posted) place (Some new)
+    slice_get state.parts place.client ≡ Some part → held_at part.entries place.slot ≡ Some old → state.messages ≡ popped ++ rest → NamesAlone place popped posted →
+    IsWritten state (acted_state state place part unit new rest posted) place (Some new)
 acted-written state place part unit old new popped rest posted there held pops alone = record {
   part = part;
   now = with_entry (record part { unit = unit }) place.slot new;
@@ -89,9 +88,8 @@ acted-written state place part unit old new popped rest posted there held pops a
 }
 
 pub acted-matched : (state : Shared) (place : Place) (part : Part) (unit : BlockMaps) (old new : Entry) (popped rest : List Place) (posted : List Completion) →
-    slice_get state.parts place.client ≡ Some part → held_at part.entries place.slot ≡ Some old → state.messages ≡ popped ++ rest →
-    NamesAlone place popped posted → IsStepped place popped posted old new → IsMatchedAt state place (Some old) → IsMatched state →
-    IsMatched (acted_state state place part unit new rest posted)
+    slice_get state.parts place.client ≡ Some part → held_at part.entries place.slot ≡ Some old → state.messages ≡ popped ++ rest → NamesAlone place popped posted →
+    IsStepped place popped posted old new → IsMatchedAt state place (Some old) → IsMatched state → IsMatched (acted_state state place part unit new rest posted)
 unfolding acted-written
 acted-matched state place part unit old new popped rest posted there held pops alone step here all =
     let written = acted-written state place part unit old new popped rest posted there held pops alone in
@@ -104,27 +102,6 @@ acted-matched state place part unit old new popped rest posted there held pops a
           ∙ sym (times_ready-there state.parts place part there) ∙ here.ready ∙ ap one_if (sym step.ready);
       sound = step.sound;
     }) all
-
--- an event names its own place alone
-event-alone : (event : Completion) → NamesAlone (event_place event) [] (event ∷ [])
-event-alone (CommandDone place) = record {
-  messages = λ other apart. refl;
-  carried = λ other apart. omega (arith, ap one_if apart);
-  moved = λ other apart. refl;
-  sent = λ other apart. refl;
-}
-event-alone (DataDone place) = record {
-  messages = λ other apart. refl;
-  carried = λ other apart. refl;
-  moved = λ other apart. omega (arith, ap one_if apart);
-  sent = λ other apart. refl;
-}
-event-alone (StatusDone place) = record {
-  messages = λ other apart. refl;
-  carried = λ other apart. refl;
-  moved = λ other apart. refl;
-  sent = λ other apart. omega (arith, ap one_if apart);
-}
 
 -- CARRY
 
@@ -150,8 +127,8 @@ carry-alone place = record {
 }
 
 -- the first message leaves the command pipe: the state after it
-pub carry_step-held : (state : Shared) (place : Place) (rest : List Place) (part : Part) (entry : Entry) →
-    slice_get state.parts place.client ≡ Some part → held_at part.entries place.slot ≡ Some entry → entry.task.phase ≡ Queued →
+pub carry_step-held : (state : Shared) (place : Place) (rest : List Place) (part : Part) (entry : Entry) → slice_get state.parts place.client ≡ Some part →
+    held_at part.entries place.slot ≡ Some entry → entry.task.phase ≡ Queued →
     carry_step state (place ∷ rest) ≡ acted_on (record state { messages = rest }) place.client
     (carried_entry part place.slot place entry (Some (carried_request part.unit entry.task entry.task.request)))
 carry_step-held state place rest part entry there held queued =
@@ -160,8 +137,7 @@ carry_step-held state place rest part entry there held queued =
     ∙ ap (λ found. acted_on popped place.client (carried_slot part place.slot place found)) held
     ∙ ap (λ phase. acted_on popped place.client (carried_entry part place.slot place entry (carried_from part.unit entry.task phase))) queued
 
-pub carry_step-matched : (state : Shared) (messages : List Place) → state.messages ≡ messages → IsMatched state →
-    IsMatched (carry_step state messages).0
+pub carry_step-matched : (state : Shared) (messages : List Place) → state.messages ≡ messages → IsMatched state → IsMatched (carry_step state messages).0
 carry_step-matched state [] is all = all
 carry_step-matched state (place ∷ rest) is all =
     let some : 1 ≤ times place state.messages = omega (arith, ap (times place) is, one_self place) in
@@ -172,8 +148,7 @@ carry_step-matched state (place ∷ rest) is all =
     let queued : entry.task.phase ≡ Queued = has_trb-queued entry.task.phase entry.command_td at.here.sound.command waiting.waits in
     let after : BlockMaps × TaggedTask = carried_request part.unit entry.task entry.task.request in
     subst (λ now. IsMatched now.0) (sym (carry_step-held state place rest part entry at.found.there at.found.held queued))
-    (acted-matched state place part after.0 entry (carried_to entry after.1) (place ∷ []) rest (CommandDone place ∷ [])
-    at.found.there at.found.held is (carry-alone place)
+    (acted-matched state place part after.0 entry (carried_to entry after.1) (place ∷ []) rest (CommandDone place ∷ []) at.found.there at.found.held is (carry-alone place)
     (carry-stepped part.unit place entry queued at.here.sound) at.here all)
 
 -- WHERE A STEP IS DUE
@@ -209,17 +184,17 @@ place_fact-due state tag fact so = due_named state tag fact (place_of (length st
 
 pub record IsMovingBy (phase : Phase) : Type 0 where
   pub chunk : ℕ
-  pub is : phase ≡ Moving chunk
+  pub is : phase ≡ Begun (Moving chunk)
 
 pub moving_phase : (phase : Phase) → is_moving phase ≡ true → IsMovingBy phase
 moving_phase Queued is = absurd (false≢true is)
-moving_phase (Moving chunk) is = record { chunk = chunk; is = refl }
-moving_phase (Ended answer) is = absurd (false≢true is)
+moving_phase (Begun (Moving chunk)) is = record { chunk = chunk; is = refl }
+moving_phase (Begun (Ended answer)) is = absurd (false≢true is)
 moving_phase (Sent answer) is = absurd (false≢true is)
 
-move_step-held : (state : Shared) (tag : ℕ) (place : Place) (part : Part) (entry : Entry) (chunk : ℕ) →
-    place_of (length state.parts) tag ≡ Some place → slice_get state.parts place.client ≡ Some part → held_at part.entries place.slot ≡ Some entry →
-    entry.task.phase ≡ Moving chunk → routed_by_tag state move_act (place_of (length state.parts) tag) ≡ acted_on state place.client
+move_step-held : (state : Shared) (tag : ℕ) (place : Place) (part : Part) (entry : Entry) (chunk : ℕ) → place_of (length state.parts) tag ≡ Some place →
+    slice_get state.parts place.client ≡ Some part → held_at part.entries place.slot ≡ Some entry → entry.task.phase ≡ Begun (Moving chunk) →
+    routed_by_tag state move_act (place_of (length state.parts) tag) ≡ acted_on state place.client
     (moved_entry part place.slot place entry (Some (moved_request part.unit entry.task chunk entry.task.request)))
 move_step-held state tag place part entry chunk named there held moving =
     ap (λ p. routed_by_tag state move_act p) named
@@ -227,8 +202,7 @@ move_step-held state tag place part entry chunk named there held moving =
     ∙ ap (λ found. acted_on state place.client (moved_slot part place.slot place found)) held
     ∙ ap (λ phase. acted_on state place.client (moved_entry part place.slot place entry (moved_from part.unit entry.task phase))) moving
 
-move_step-matched : (state : Shared) (tag : ℕ) → due state (Data tag) ≡ true → IsMatched state →
-    IsMatched (routed_by_tag state move_act (place_of (length state.parts) tag)).0
+move_step-matched : (state : Shared) (tag : ℕ) → due state (Data tag) ≡ true → IsMatched state → IsMatched (routed_by_tag state move_act (place_of (length state.parts) tag)).0
 move_step-matched state tag is_due all =
     let at : IsDueAt state tag (data_is_due state tag) = place_fact-due state tag (data_is_due state tag) is_due in
     let place : Place = at.place in
@@ -248,17 +222,17 @@ move_step-matched state tag is_due all =
 
 pub record IsEndedBy (phase : Phase) : Type 0 where
   pub answer : Answer
-  pub is : phase ≡ Ended answer
+  pub is : phase ≡ Begun (Ended answer)
 
 pub ended_phase : (phase : Phase) → is_ended phase ≡ true → IsEndedBy phase
 ended_phase Queued is = absurd (false≢true is)
-ended_phase (Moving chunk) is = absurd (false≢true is)
-ended_phase (Ended answer) is = record { answer = answer; is = refl }
+ended_phase (Begun (Moving chunk)) is = absurd (false≢true is)
+ended_phase (Begun (Ended answer)) is = record { answer = answer; is = refl }
 ended_phase (Sent answer) is = absurd (false≢true is)
 
-send_step-held : (state : Shared) (tag : ℕ) (place : Place) (part : Part) (entry : Entry) (answer : Answer) →
-    place_of (length state.parts) tag ≡ Some place → slice_get state.parts place.client ≡ Some part → held_at part.entries place.slot ≡ Some entry →
-    entry.task.phase ≡ Ended answer → routed_by_tag state send_act (place_of (length state.parts) tag) ≡ acted_on state place.client
+send_step-held : (state : Shared) (tag : ℕ) (place : Place) (part : Part) (entry : Entry) (answer : Answer) → place_of (length state.parts) tag ≡ Some place →
+    slice_get state.parts place.client ≡ Some part → held_at part.entries place.slot ≡ Some entry → entry.task.phase ≡ Begun (Ended answer) →
+    routed_by_tag state send_act (place_of (length state.parts) tag) ≡ acted_on state place.client
     (sent_entry part place.slot place entry (Some (record entry.task { phase = Sent answer })))
 send_step-held state tag place part entry answer named there held ended =
     ap (λ p. routed_by_tag state send_act p) named
@@ -266,8 +240,15 @@ send_step-held state tag place part entry answer named there held ended =
     ∙ ap (λ found. acted_on state place.client (sent_slot part place.slot place found)) held
     ∙ ap (λ phase. acted_on state place.client (sent_entry part place.slot place entry (sent_from entry.task phase))) ended
 
-send_step-matched : (state : Shared) (tag : ℕ) → due state (Status tag) ≡ true → IsMatched state →
-    IsMatched (routed_by_tag state send_act (place_of (length state.parts) tag)).0
+send-alone : (place : Place) → NamesAlone place [] (StatusDone place ∷ [])
+send-alone place = record {
+  messages = λ other apart. refl;
+  carried = λ other apart. refl;
+  moved = λ other apart. refl;
+  sent = λ other apart. omega (arith, ap one_if apart);
+}
+
+send_step-matched : (state : Shared) (tag : ℕ) → due state (Status tag) ≡ true → IsMatched state → IsMatched (routed_by_tag state send_act (place_of (length state.parts) tag)).0
 send_step-matched state tag is_due all =
     let at : IsDueAt state tag (status_is_due state tag) = place_fact-due state tag (status_is_due state tag) is_due in
     let place : Place = at.place in
@@ -277,7 +258,7 @@ send_step-matched state tag is_due all =
     let ended : IsEndedBy entry.task.phase = ended_phase entry.task.phase (and-true (is_ended entry.task.phase) _ at.so).0 in
     subst (λ now. IsMatched now.0) (sym (send_step-held state tag place part entry ended.answer at.named held.found.there held.found.held ended.is))
     (acted-matched state place part part.unit entry (sent_to entry ended.answer) [] state.messages (StatusDone place ∷ []) held.found.there held.found.held refl
-    (event-alone (StatusDone place)) (send-stepped place entry ended.answer ended.is held.here.sound) held.here all)
+    (send-alone place) (send-stepped place entry ended.answer ended.is held.here.sound) held.here all)
 
 -- EVENT
 
@@ -309,8 +290,7 @@ status-awaited : (place : Place) (held : Option Entry) → 1 ≤ awaited_status 
 status-awaited place None some = absurd (omega (arith, some))
 status-awaited place (Some entry) some = record { entry = entry; is = refl; awaits = one_if-true (is_awaited entry.status_td 1) some }
 
-pub event-awaited : (state : Shared) (event : Completion) → IsMatched state → 1 ≤ times_alike event state.events →
-    HasAwaiting event (under state.parts (event_place event))
+pub event-awaited : (state : Shared) (event : Completion) → IsMatched state → 1 ≤ times_alike event state.events → HasAwaiting event (under state.parts (event_place event))
 event-awaited state (CommandDone place) all some = command-awaited place (under state.parts place) (omega (arith, some, (all.places place).carried))
 event-awaited state (DataDone place) all some = data-awaited place (under state.parts place) (omega (arith, some, (all.places place).moved))
 event-awaited state (StatusDone place) all some = status-awaited place (under state.parts place) (omega (arith, some, (all.places place).sent))
@@ -321,21 +301,20 @@ times_alike-first (CommandDone place) rest = omega (arith, one_self place)
 times_alike-first (DataDone place) rest = omega (arith, one_self place)
 times_alike-first (StatusDone place) rest = omega (arith, one_self place)
 
--- counts of a list by its first event and the rest
-command_events-pop : (place : Place) (events : List Completion) (event : Completion) (rest : List Completion) → events ≡ event ∷ rest →
-    command_events place events ≡ command_events place (event ∷ []) + command_events place (rest ++ [])
-command_events-pop place events event rest is =
-    omega (arith, ap (command_events place) is, command_events-append place (event ∷ []) rest, command_events-append place rest [])
+-- counts of a list by its first event
+pub command_events-first : (place : Place) (event : Completion) (rest : List Completion) → command_events place (event ∷ rest) ≡ command_events place (event ∷ []) + command_events place rest
+command_events-first place event rest = command_events-append place (event ∷ []) rest
 
-data_events-pop : (place : Place) (events : List Completion) (event : Completion) (rest : List Completion) → events ≡ event ∷ rest →
-    data_events place events ≡ data_events place (event ∷ []) + data_events place (rest ++ [])
-data_events-pop place events event rest is =
-    omega (arith, ap (data_events place) is, data_events-append place (event ∷ []) rest, data_events-append place rest [])
+pub data_events-first : (place : Place) (event : Completion) (rest : List Completion) → data_events place (event ∷ rest) ≡ data_events place (event ∷ []) + data_events place rest
+data_events-first place event rest = data_events-append place (event ∷ []) rest
 
-status_events-pop : (place : Place) (events : List Completion) (event : Completion) (rest : List Completion) → events ≡ event ∷ rest →
-    status_events place events ≡ status_events place (event ∷ []) + status_events place (rest ++ [])
-status_events-pop place events event rest is =
-    omega (arith, ap (status_events place) is, status_events-append place (event ∷ []) rest, status_events-append place rest [])
+pub status_events-first : (place : Place) (event : Completion) (rest : List Completion) → status_events place (event ∷ rest) ≡ status_events place (event ∷ []) + status_events place rest
+status_events-first place event rest = status_events-append place (event ∷ []) rest
+
+event-alone : (event : Completion) → NamesAlone (event_place event) [] (event ∷ [])
+event-alone (CommandDone place) = record { messages = λ other apart. refl; carried = λ other apart. omega (arith, ap one_if apart); moved = λ other apart. refl; sent = λ other apart. refl }
+event-alone (DataDone place) = record { messages = λ other apart. refl; carried = λ other apart. refl; moved = λ other apart. omega (arith, ap one_if apart); sent = λ other apart. refl }
+event-alone (StatusDone place) = record { messages = λ other apart. refl; carried = λ other apart. refl; moved = λ other apart. refl; sent = λ other apart. omega (arith, ap one_if apart) }
 
 -- the part after an event was seen
 abbrev pub seen_part : Part → ℕ → Entry → Part
@@ -345,9 +324,8 @@ seen_part part slot entry = record (with_entry part slot entry) { ready = ready_
 abbrev pub seen_state : Shared → Place → Part → Entry → List Completion → Shared
 seen_state state place part entry rest = record state { parts = slice_set state.parts place.client (seen_part part place.slot entry); events = rest ++ [] }
 
-pub event_step-held : (state : Shared) (event : Completion) (rest : List Completion) (part : Part) (old new : Entry) →
-    slice_get state.parts (event_place event).client ≡ Some part → held_at part.entries (event_place event).slot ≡ Some old →
-    seen_by event old ≡ Some new → (event_step state (event ∷ rest)).0 ≡ seen_state state (event_place event) part new rest
+pub event_step-held : (state : Shared) (event : Completion) (rest : List Completion) (part : Part) (old new : Entry) → slice_get state.parts (event_place event).client ≡ Some part →
+    held_at part.entries (event_place event).slot ≡ Some old → seen_by event old ≡ Some new → (event_step state (event ∷ rest)).0 ≡ seen_state state (event_place event) part new rest
 event_step-held state event rest part old new there held seen =
     let popped : Shared = record state { events = rest } in
     let place : Place = event_place event in
@@ -356,16 +334,14 @@ event_step-held state event rest part old new there held seen =
     ∙ ap (λ after. (acted_on popped place.client (seen_entry part place.slot after)).0) seen
 
 -- other slots of the queue stay, and this one joins it where its entry is ready
-ready_after-other : (queue : List ℕ) (slot other : ℕ) (entry : Entry) → (other ≡ slot → ⊥) →
-    times_in other (ready_after queue slot entry) ≡ times_in other queue
+ready_after-other : (queue : List ℕ) (slot other : ℕ) (entry : Entry) → (other ≡ slot → ⊥) → times_in other (ready_after queue slot entry) ≡ times_in other queue
 ready_after-other queue slot other entry apart =
     elim (is_ready entry) as (λ b. times_in other (cond b (queue ++ slot ∷ []) queue) ≡ times_in other queue) [
       | true ↦ omega (arith, times_in-push other queue slot, one_apart slot other apart)
       | false ↦ refl
     ]
 
-ready_after-own : (queue : List ℕ) (slot : ℕ) (entry : Entry) →
-    times_in slot (ready_after queue slot entry) ≡ times_in slot queue + one_if (is_ready entry)
+ready_after-own : (queue : List ℕ) (slot : ℕ) (entry : Entry) → times_in slot (ready_after queue slot entry) ≡ times_in slot queue + one_if (is_ready entry)
 ready_after-own queue slot entry =
     elim (is_ready entry) as (λ b. times_in slot (cond b (queue ++ slot ∷ []) queue) ≡ times_in slot queue + one_if b) [
       | true ↦ omega (arith, times_in-push slot queue slot, one_equal slot)
@@ -387,9 +363,9 @@ seen-written state event rest part old new is there held =
       queue = λ slot apart. ready_after-other part.ready (event_place event).slot slot new apart;
       others = λ other apart. record {
         messages = refl;
-        carried = omega (arith, command_events-pop other state.events event rest is, alone.carried other apart);
-        moved = omega (arith, data_events-pop other state.events event rest is, alone.moved other apart);
-        sent = omega (arith, status_events-pop other state.events event rest is, alone.sent other apart);
+        carried = omega (arith, command_events-append other rest [], ap (command_events other) is, command_events-first other event rest, alone.carried other apart);
+        moved = omega (arith, data_events-append other rest [], ap (data_events other) is, data_events-first other event rest, alone.moved other apart);
+        sent = omega (arith, status_events-append other rest [], ap (status_events other) is, status_events-first other event rest, alone.sent other apart);
       };
     }
 
@@ -403,17 +379,10 @@ seen-matched state event rest part old new is there held step here all =
     let written = seen-written state event rest part old new is there held in
     IsMatched-written state now place (Some new) written (record {
       messages = omega (arith, step.messages, here.messages);
-      carried = omega (arith, command_events-pop place state.events event rest is, step.carried, here.carried);
-      moved = omega (arith, data_events-pop place state.events event rest is, step.moved, here.moved);
-      sent = omega (arith, status_events-pop place state.events event rest is, step.sent, here.sent);
-      ready = omega (
-        arith,
-        times_ready-written state now place (Some new) written,
-        ready_after-own part.ready place.slot new,
-        times_ready-there state.parts place part there,
-        here.ready,
-        step.ready,
-      );
+      carried = omega (arith, command_events-append place rest [], ap (command_events place) is, command_events-first place event rest, step.carried, here.carried);
+      moved = omega (arith, data_events-append place rest [], ap (data_events place) is, data_events-first place event rest, step.moved, here.moved);
+      sent = omega (arith, status_events-append place rest [], ap (status_events place) is, status_events-first place event rest, step.sent, here.sent);
+      ready = omega (arith, times_ready-written state now place (Some new) written, ready_after-own part.ready place.slot new, times_ready-there state.parts place part there, here.ready, step.ready);
       sound = step.sound;
     }) all
 
@@ -449,11 +418,10 @@ abbrev settled_part : Part → ℕ → List ℕ → Part
 settled_part part slot rest = record part { entries = slice_set part.entries slot None; ready = rest }
 
 abbrev settled_state : Shared → Place → Part → List ℕ → Shared
-settled_state state place part rest =
-    record state { parts = slice_set state.parts place.client (settled_part part place.slot rest); events = state.events ++ [] }
+settled_state state place part rest = record state { parts = slice_set state.parts place.client (settled_part part place.slot rest); events = state.events ++ [] }
 
-take_step-held : (state : Shared) (client slot : ℕ) (rest : List ℕ) (part : Part) (entry : Entry) (answer : Answer) →
-    slice_get state.parts client ≡ Some part → part.ready ≡ slot ∷ rest → held_at part.entries slot ≡ Some entry → entry.task.phase ≡ Sent answer →
+take_step-held : (state : Shared) (client slot : ℕ) (rest : List ℕ) (part : Part) (entry : Entry) (answer : Answer) → slice_get state.parts client ≡ Some part →
+    part.ready ≡ slot ∷ rest → held_at part.entries slot ≡ Some entry → entry.task.phase ≡ Sent answer →
     (routed state client (take_act client)).0 ≡ settled_state state (record { client = client; slot = slot }) part rest
 take_step-held state client slot rest part entry answer there queue held sent =
     ap (λ found. (routed_to state client (take_act client) found).0) there
@@ -480,8 +448,7 @@ settled-written state place part rest entry there queue held = record {
 }
 
 settled-matched : (state : Shared) (place : Place) (part : Part) (rest : List ℕ) (entry : Entry) → slice_get state.parts place.client ≡ Some part →
-    part.ready ≡ place.slot ∷ rest → held_at part.entries place.slot ≡ Some entry → times_in place.slot rest ≡ 0 → IsQuiet entry →
-    IsMatchedAt state place (Some entry) → IsMatched state →
+    part.ready ≡ place.slot ∷ rest → held_at part.entries place.slot ≡ Some entry → times_in place.slot rest ≡ 0 → IsQuiet entry → IsMatchedAt state place (Some entry) → IsMatched state →
     IsMatched (settled_state state place part rest)
 unfolding settled-written
 settled-matched state place part rest entry there queue held once quiet here all =
@@ -496,8 +463,8 @@ settled-matched state place part rest entry there queue held once quiet here all
       sound = tt;
     }) all
 
-take_queue : (state : Shared) (client : ℕ) (part : Part) (queue : List ℕ) → slice_get state.parts client ≡ Some part → part.ready ≡ queue →
-    is_some_of queue ≡ true → IsMatched state → IsMatched (routed state client (take_act client)).0
+take_queue : (state : Shared) (client : ℕ) (part : Part) (queue : List ℕ) → slice_get state.parts client ≡ Some part → part.ready ≡ queue → is_some_of queue ≡ true → IsMatched state →
+    IsMatched (routed state client (take_act client)).0
 take_queue state client part [] there is some all = absurd (false≢true some)
 take_queue state client part (slot ∷ rest) there is some all =
     let place : Place = record { client = client; slot = slot } in
@@ -510,11 +477,9 @@ take_queue state client part (slot ∷ rest) there is some all =
     subst IsMatched (sym (take_step-held state client slot rest part first.entry quiet.answered.answer there is at quiet.answered.is))
     (settled-matched state place part rest first.entry there is at first.once quiet held.here all)
 
-take_step-matched : (state : Shared) (client : ℕ) → due state (Take client) ≡ true → IsMatched state →
-    IsMatched (routed state client (take_act client)).0
+take_step-matched : (state : Shared) (client : ℕ) → due state (Take client) ≡ true → IsMatched state → IsMatched (routed state client (take_act client)).0
 take_step-matched state client is_due all =
-    elim (slice_get state.parts client) as (λ found.
-    slice_get state.parts client ≡ found → option_map_or has_ready found false ≡ true → IsMatched (routed state client (take_act client)).0) [
+    elim (slice_get state.parts client) as (λ found. slice_get state.parts client ≡ found → option_map_or has_ready found false ≡ true → IsMatched (routed state client (take_act client)).0) [
       | None ↦ λ there some. absurd (false≢true some)
       | Some part ↦ λ there some. take_queue state client part part.ready there refl some all
     ] refl is_due
@@ -526,8 +491,7 @@ rung-events state Nothing tag = refl
 rung-events state ToHost tag = refl
 rung-events state ToDevice tag = refl
 
-accepted-written : (state : Shared) (part : Part) (place : Place) (tag ticket : ℕ) (command : Command) →
-    slice_get state.parts place.client ≡ Some part → place.slot < length part.entries →
+accepted-written : (state : Shared) (part : Part) (place : Place) (tag ticket : ℕ) (command : Command) → slice_get state.parts place.client ≡ Some part → place.slot < length part.entries →
     IsWritten state (accepted state part place tag ticket command).0 place (Some (new_entry ticket command))
 accepted-written state part place tag ticket command there within =
     let events : (accepted state part place tag ticket command).0.events ≡ state.events = rung-events state (direction_of command.op) tag in
@@ -548,18 +512,16 @@ accepted-written state part place tag ticket command there within =
     }
 
 -- a place of this client where nothing stands
-none-matched : (state : Shared) (place : Place) (part : Part) → slice_get state.parts place.client ≡ Some part →
-    is_some (held_at part.entries place.slot) ≡ false → IsMatched state → IsMatchedAt state place None
+none-matched : (state : Shared) (place : Place) (part : Part) → slice_get state.parts place.client ≡ Some part → is_some (held_at part.entries place.slot) ≡ false → IsMatched state →
+    IsMatchedAt state place None
 none-matched state place part there free all =
-    subst (λ held. IsMatchedAt state place held)
-    (ap (λ found. option_map_or (held_in place) found None) there ∙ none (held_at part.entries place.slot) free) (all.places place)
+    subst (λ held. IsMatchedAt state place held) (ap (λ found. option_map_or (held_in place) found None) there ∙ none (held_at part.entries place.slot) free) (all.places place)
   where
     none : (held : Option Entry) → is_some held ≡ false → held ≡ None
     none None is = refl
     none (Some entry) is = absurd (false≢true (sym is))
 
-accepted-matched : (state : Shared) (part : Part) (place : Place) (tag ticket : ℕ) (command : Command) →
-    slice_get state.parts place.client ≡ Some part → place.slot < length part.entries →
+accepted-matched : (state : Shared) (part : Part) (place : Place) (tag ticket : ℕ) (command : Command) → slice_get state.parts place.client ≡ Some part → place.slot < length part.entries →
     IsUnfaulted (is_some (held_at part.entries place.slot)) command.op → IsMatched state → IsMatched (accepted state part place tag ticket command).0
 unfolding accepted-written
 accepted-matched state part place tag ticket command there within fine all =
@@ -573,31 +535,28 @@ accepted-matched state part place tag ticket command there within fine all =
       carried = ap (command_events place) events ∙ here.carried ∙ sym step.carried;
       moved = ap (data_events place) events ∙ here.moved ∙ sym step.moved;
       sent = ap (status_events place) events ∙ here.sent ∙ sym step.sent;
-      ready = times_ready-written state now place (Some (new_entry ticket command)) written
-          ∙ sym (times_ready-there state.parts place part there) ∙ here.ready ∙ sym step.ready;
+      ready = times_ready-written state now place (Some (new_entry ticket command)) written ∙ sym (times_ready-there state.parts place part there) ∙ here.ready ∙ sym step.ready;
       sound = step.sound;
     }) all
 
 slots-there : (state : Shared) (client : ℕ) (part : Part) → IsMatched state → slice_get state.parts client ≡ Some part → length part.entries ≡ 8
 slots-there state client part all there = subst (λ found. IfSome found (λ part. length part.entries ≡ 8)) there (all.slots client)
 
-answered-matched : (state : Shared) (part : Part) (place : Place) (tag ticket : ℕ) (command : Command) (fault : Option SubmitFault) →
-    slice_get state.parts place.client ≡ Some part → place.slot < length part.entries → fault_at part place.slot ticket command ≡ fault →
-    IsMatched state → IsMatched (answered state part place tag ticket command fault).0
+answered-matched : (state : Shared) (part : Part) (place : Place) (tag ticket : ℕ) (command : Command) (fault : Option SubmitFault) → slice_get state.parts place.client ≡ Some part →
+    place.slot < length part.entries → fault_at part place.slot ticket command ≡ fault → IsMatched state → IsMatched (answered state part place tag ticket command fault).0
 answered-matched state part place tag ticket command None there within is all =
     accepted-matched state part place tag ticket command there within (unfaulted (is_some (held_at part.entries place.slot)) part.least ticket command is) all
 answered-matched state part place tag ticket command (Some fault) there within is all = all
 
-submitted_to-matched : (state : Shared) (place : Place) (tag ticket : ℕ) (command : Command) (found : Option Part) →
-    slice_get state.parts place.client ≡ found → nat_lt place.slot TASK_SLOT ≡ true → IsMatched state →
-    IsMatched (submitted_to state place tag ticket command found).0
+submitted_to-matched : (state : Shared) (place : Place) (tag ticket : ℕ) (command : Command) (found : Option Part) → slice_get state.parts place.client ≡ found →
+    nat_lt place.slot TASK_SLOT ≡ true → IsMatched state → IsMatched (submitted_to state place tag ticket command found).0
 submitted_to-matched state place tag ticket command None is within all = all
 submitted_to-matched state place tag ticket command (Some part) is within all =
     answered-matched state part place tag ticket command (fault_at part place.slot ticket command) is
     (omega (arith, ltb-true place.slot 7 within, slots-there state place.client part all is)) refl all
 
-submitted_under-matched : (state : Shared) (client tag ticket : ℕ) (command : Command) (slot : Option ℕ) →
-    command_slot (length state.parts) client tag ≡ slot → IsMatched state → IsMatched (submitted_under state client tag ticket command slot).0
+submitted_under-matched : (state : Shared) (client tag ticket : ℕ) (command : Command) (slot : Option ℕ) → command_slot (length state.parts) client tag ≡ slot → IsMatched state →
+    IsMatched (submitted_under state client tag ticket command slot).0
 submitted_under-matched state client tag ticket command None is all = all
 submitted_under-matched state client tag ticket command (Some slot) is all =
     submitted_to-matched state (record { client = client; slot = slot }) tag ticket command (slice_get state.parts client) refl

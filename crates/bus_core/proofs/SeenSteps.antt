@@ -2,10 +2,11 @@
 use Rattle.std.proofs.Common.{◌≡◌, ℕ, ◌+◌, ◌≤◌, Bool, true, false, ◌&&◌, cond, Option, Some, None, refl, arith, ap, sym, ◌∙◌}
 use Rattle.std.specs.Prelude.{◌==◌}
 use Rattle.std.proofs.lemmas.Bool.{eqb-true, ne_eqb}
-use Rattle.solo_model.specs.declared.Answer.{Answer}
-use Rattle.solo_model.specs.declared.Answer.TheVariants.{Good, Check}
+use Rattle.device_server.specs.declared.Answer.{Answer}
+use Rattle.device_server.specs.declared.Answer.TheVariants.{Good, Check}
 use Rattle.solo_model.specs.declared.Phase.{Phase}
-use Rattle.solo_model.specs.declared.Phase.TheVariants.{Queued, Moving, Ended, Sent}
+use Rattle.solo_model.specs.declared.Phase.TheVariants.{Queued, Begun, Sent}
+use Rattle.device_server.specs.declared.Progress.TheVariants.{Moving, Ended}
 use Rattle.bus_core.specs.declared.Td.{Td}
 use Rattle.uas_host.specs.declared.TdState.{TdState}
 use Rattle.uas_host.specs.declared.TdState.TheVariants.{Pending, Seen, LeftOver, Retired}
@@ -46,8 +47,8 @@ pushed_unawaited td is awaited = let no : false ≡ true = sym (ap (λ t. is_awa
 
 command_tds : (phase : Phase) (held : HostEntry) → is_awaited held.command_td 1 ≡ true → HasTds phase (entry_in held phase) → HasTds phase (entry_in (record held { command_td = with_event_seen held.command_td }) phase)
 command_tds Queued held awaited tds = absurd (pushed_unawaited held.command_td tds.0 awaited)
-command_tds (Moving chunk) held awaited tds = tds
-command_tds (Ended answer) held awaited tds = tds
+command_tds (Begun (Moving chunk)) held awaited tds = tds
+command_tds (Begun (Ended answer)) held awaited tds = tds
 command_tds (Sent answer) held awaited tds = tt
 
 pub seen_command_kept : (count : ℕ) (held : HostEntry) (phase : Phase) → is_awaited held.command_td 1 ≡ true → IsSoundEntry count (entry_in held phase) → IsTakenEntry (entry_in held phase) →
@@ -69,16 +70,16 @@ seen_command_kept count held phase awaited sound taken =
 -- a TD whose last TRB was taken is none that moves data still
 seen_data_chunks : (trbs : ℕ) (phase : Phase) (td : Td) → td.consumed ≡ trbs → HasDataTd trbs phase (Some td) → HasDataTd trbs phase (Some (with_event_seen td))
 seen_data_chunks trbs Queued td spent has = absurd (omega (arith, spent, has.0, has.1))
-seen_data_chunks trbs (Moving chunk) td spent has = absurd (omega (arith, spent, has.0, has.1))
-seen_data_chunks trbs (Ended Good) td spent has = tt
-seen_data_chunks trbs (Ended (Check sense)) td spent has = has
+seen_data_chunks trbs (Begun (Moving chunk)) td spent has = absurd (omega (arith, spent, has.0, has.1))
+seen_data_chunks trbs (Begun (Ended Good)) td spent has = tt
+seen_data_chunks trbs (Begun (Ended (Check sense))) td spent has = has
 seen_data_chunks trbs (Sent Good) td spent has = tt
 seen_data_chunks trbs (Sent (Check sense)) td spent has = has
 
 data_tds : (phase : Phase) (held : HostEntry) (td : Td) → HasTds phase (entry_in (record held { data_td = Some td }) phase) → HasTds phase (entry_in (record held { data_td = Some (with_event_seen td) }) phase)
 data_tds Queued held td tds = tds
-data_tds (Moving chunk) held td tds = tds
-data_tds (Ended answer) held td tds = tds
+data_tds (Begun (Moving chunk)) held td tds = tds
+data_tds (Begun (Ended answer)) held td tds = tds
 data_tds (Sent answer) held td tds = tt
 
 two_false : (a b : Bool) → (a && (b && false)) ≡ false
@@ -155,6 +156,6 @@ seen_status_sent count held answer awaited sound taken =
 pub seen_status_kept : (count : ℕ) (held : HostEntry) (phase : Phase) → is_awaited held.status_td 1 ≡ true → IsSoundEntry count (entry_in held phase) → IsTakenEntry (entry_in held phase) →
     IsSeen count (entry_in held phase) (entry_in (record held { status_td = with_event_seen held.status_td; data_td = data_after_status phase held.data_td }) phase)
 seen_status_kept count held Queued awaited sound taken = absurd (pushed_unawaited held.status_td sound.tds.1 awaited)
-seen_status_kept count held (Moving chunk) awaited sound taken = absurd (pushed_unawaited held.status_td sound.tds awaited)
-seen_status_kept count held (Ended answer) awaited sound taken = absurd (pushed_unawaited held.status_td sound.tds awaited)
+seen_status_kept count held (Begun (Moving chunk)) awaited sound taken = absurd (pushed_unawaited held.status_td sound.tds awaited)
+seen_status_kept count held (Begun (Ended answer)) awaited sound taken = absurd (pushed_unawaited held.status_td sound.tds awaited)
 seen_status_kept count held (Sent answer) awaited sound taken = seen_status_sent count held answer awaited sound taken

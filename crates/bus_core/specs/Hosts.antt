@@ -11,14 +11,15 @@ use Rattle.scsi_cmd.specs.declared.Reply.{Reply}
 use Rattle.scsi_cmd.specs.declared.Reply.TheVariants.{Status as StatusReply}
 use Rattle.scsi_cmd.specs.declared.SubmitFault.{SubmitFault}
 use Rattle.scsi_cmd.specs.declared.TheConstants.{TAGS}
-use Rattle.solo_model.specs.TaggedTask.{status_of, sense_of}
+use Rattle.device_server.specs.Server.{status_of, sense_of}
 use Rattle.scsi_cmd.specs.Submission.{first_submit_fault}
 use Rattle.scsi_cmd.specs.declared.Request.{Request}
 use Rattle.scsi_cmd.specs.declared.Request.TheVariants.{Execute}
-use Rattle.solo_model.specs.declared.Answer.{Answer}
-use Rattle.solo_model.specs.declared.Answer.TheVariants.{Good, Check}
+use Rattle.device_server.specs.declared.Answer.{Answer}
+use Rattle.device_server.specs.declared.Answer.TheVariants.{Good, Check}
 use Rattle.solo_model.specs.declared.Phase.{Phase}
-use Rattle.solo_model.specs.declared.Phase.TheVariants.{Queued, Moving, Ended, Sent}
+use Rattle.solo_model.specs.declared.Phase.TheVariants.{Queued, Begun, Sent}
+use Rattle.device_server.specs.declared.Progress.TheVariants.{Moving, Ended}
 use Rattle.scsi_cmd.specs.Held.{AllHeld, held_at, held_under}
 use Rattle.uas_target.specs.declared.TheConstants.{GREATEST_TAG}
 use Rattle.uas_target.specs.declared.DeviceAnswer.{DeviceAnswer}
@@ -67,9 +68,15 @@ entry_in held phase = record {
 abbrev pub asked_by : Request → Result Op Sense
 asked_by (Execute op) = Ok op
 
+-- what the device has of a command in this phase: nothing of one that it hasn't received or whose answer it sent
+abbrev pub phase_task : Option ℕ → Result Op Sense → Phase → Option DeviceTask
+phase_task unit asks Queued = None
+phase_task unit asks (Begun progress) = task_in unit asks progress
+phase_task unit asks (Sent answer) = None
+
 -- what the device has of an entry of this client
 abbrev pub device_task : ℕ → Entry → Option DeviceTask
-device_task number entry = task_in (Some number) (asked_by entry.task.request) entry.task.phase
+device_task number entry = phase_task (Some number) (asked_by entry.task.request) entry.task.phase
 
 -- TOGETHER
 
@@ -85,11 +92,11 @@ abbrev pub phase_apart : ℕ → List ℕ → Phase
 phase_apart taken status = if taken == 0 then Queued else Sent (told_answer status)
 
 abbrev pub answer_phase : DeviceAnswer → Phase
-answer_phase (Status answer) = Ended answer
-answer_phase (Response code) = Ended Good
+answer_phase (Status answer) = Begun (Ended answer)
+answer_phase (Response code) = Begun (Ended Good)
 
 abbrev pub task_phase : DeviceTask → Phase
-task_phase (MovingTask unit op chunk) = Moving chunk
+task_phase (MovingTask unit op chunk) = Begun (Moving chunk)
 task_phase (EndedTask unit answer) = answer_phase answer
 
 abbrev pub phase_by : Option DeviceTask → ℕ → List ℕ → Phase
@@ -126,8 +133,7 @@ joined tasks number (host ∷ hosts) (unit ∷ units) = joined_part tasks number
 -- the device received a command where its command TD's TRB was taken
 abbrev pub HasTaken : Phase → ℕ → Type 0
 HasTaken Queued taken = taken ≡ 0
-HasTaken (Moving chunk) taken = taken ≡ 1
-HasTaken (Ended answer) taken = taken ≡ 1
+HasTaken (Begun progress) taken = taken ≡ 1
 HasTaken (Sent answer) taken = taken ≡ 1
 
 abbrev pub IsTakenEntry : Entry → Type 0

@@ -5,7 +5,7 @@ use Rattle.scsi_cmd.specs.declared.Reply.{Reply}
 use Rattle.scsi_cmd.specs.declared.Reply.TheVariants.{Status as StatusReply, Aborted as AbortedReply, Task as TaskReply}
 use Rattle.scsi_cmd.specs.Held.{held_at}
 use Rattle.solo_model.specs.declared.Phase.{Phase}
-use Rattle.solo_model.specs.declared.Phase.TheVariants.{Queued, Moving, Ended, Sent}
+use Rattle.solo_model.specs.declared.Phase.TheVariants.{Queued, Begun, Sent}
 use Rattle.bus_core.specs.Td.{Entry}
 use Rattle.bus_core.specs.declared.Step.{Step}
 use Rattle.bus_core.specs.declared.Step.TheVariants.{Take}
@@ -99,8 +99,7 @@ reply_len (TaskReply tag ticket code) = 0
 -- a command brings its buffer once its answer was sent
 abbrev pub sent_len : Phase → List ℕ → ℕ
 sent_len Queued buffer = 0
-sent_len (Moving chunk) buffer = 0
-sent_len (Ended answer) buffer = 0
+sent_len (Begun progress) buffer = 0
 sent_len (Sent answer) buffer = length buffer
 
 abbrev pub entry_len : Entry → ℕ

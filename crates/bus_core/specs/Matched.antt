@@ -8,10 +8,11 @@ use Rattle.scsi_cmd.specs.Op.{moved_bytes}
 use Rattle.scsi_cmd.specs.declared.TheConstants.{TAGS}
 use Rattle.scsi_cmd.specs.declared.Request.{Request}
 use Rattle.scsi_cmd.specs.declared.Request.TheVariants.{Execute}
-use Rattle.solo_model.specs.declared.Answer.{Answer}
-use Rattle.solo_model.specs.declared.Answer.TheVariants.{Good, Check}
+use Rattle.device_server.specs.declared.Answer.{Answer}
+use Rattle.device_server.specs.declared.Answer.TheVariants.{Good, Check}
 use Rattle.solo_model.specs.declared.Phase.{Phase}
-use Rattle.solo_model.specs.declared.Phase.TheVariants.{Queued, Moving, Ended, Sent}
+use Rattle.solo_model.specs.declared.Phase.TheVariants.{Queued, Begun, Sent}
+use Rattle.device_server.specs.declared.Progress.TheVariants.{Moving, Ended}
 use Rattle.scsi_cmd.specs.Held.{held_at}
 use Rattle.bus_core.specs.declared.TheConstants.{MAX_CLIENTS}
 use Rattle.uas_host.specs.declared.Place.{Place}
@@ -113,15 +114,13 @@ awaited_data_of (Some entry) = awaited_data (data_trbs entry.task.request) entry
 -- the device takes the command TD's TRB as it receives the command
 abbrev pub IsCommandTd : Phase → Td → Type 0
 IsCommandTd Queued td = td ≡ pushed
-IsCommandTd (Moving chunk) td = td.consumed ≡ 1
-IsCommandTd (Ended answer) td = td.consumed ≡ 1
+IsCommandTd (Begun progress) td = td.consumed ≡ 1
 IsCommandTd (Sent answer) td = td.consumed ≡ 1
 
 -- it takes the status TD's TRB as it hands over the answer
 abbrev pub IsStatusTd : Phase → Td → Type 0
 IsStatusTd Queued td = td ≡ pushed
-IsStatusTd (Moving chunk) td = td ≡ pushed
-IsStatusTd (Ended answer) td = td ≡ pushed
+IsStatusTd (Begun progress) td = td ≡ pushed
 IsStatusTd (Sent answer) td = td.consumed ≡ 1
 
 -- as many TRBs of a data TD were taken as chunks were moved, and one more is there
@@ -147,8 +146,8 @@ IsAnsweredTd trbs (Check sense) td = IsShortTd trbs td
 -- Checked by hand: of 8,192 bytes, two TRBs, none was taken at Moving 0, one at Moving 1 and both at Ended Good.
 abbrev pub IsDataTd : ℕ → Phase → Option Td → Type 0
 IsDataTd trbs Queued td = IsMovingTd trbs 0 td
-IsDataTd trbs (Moving chunk) td = IsMovingTd trbs chunk td
-IsDataTd trbs (Ended answer) td = IsAnsweredTd trbs answer td
+IsDataTd trbs (Begun (Moving chunk)) td = IsMovingTd trbs chunk td
+IsDataTd trbs (Begun (Ended answer)) td = IsAnsweredTd trbs answer td
 IsDataTd trbs (Sent answer) td = IsAnsweredTd trbs answer td
 
 abbrev pub request_bytes : Request → ℕ

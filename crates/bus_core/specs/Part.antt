@@ -8,8 +8,8 @@ use Rattle.scsi_cmd.specs.Op.{moved_bytes}
 use Rattle.scsi_cmd.specs.declared.TheConstants.{TAGS}
 use Rattle.solo_model.specs.declared.TaggedTask.{TaggedTask}
 use Rattle.solo_model.specs.declared.Phase.{Phase}
-use Rattle.solo_model.specs.declared.Phase.TheVariants.{Queued, Moving, Ended, Sent}
-use Rattle.solo_model.specs.declared.Answer.TheVariants.{Good, Check}
+use Rattle.solo_model.specs.declared.Phase.TheVariants.{Queued, Begun, Sent}
+use Rattle.device_server.specs.Server.{chunk_moved}
 use Rattle.scsi_cmd.specs.Held.{held_at}
 use Rattle.solo_model.specs.TaggedTask.{queued, carried, moved, sent, reply_of}
 use Rattle.scsi_cmd.specs.Submission.{first_submit_fault}
@@ -97,9 +97,7 @@ carry_act place part = carried_slot part place.slot place (held_at part.entries 
 -- a chunk that met a bad block takes no TRB
 abbrev pub took_trb : Phase → Bool
 took_trb Queued = true
-took_trb (Moving chunk) = true
-took_trb (Ended Good) = true
-took_trb (Ended (Check sense)) = false
+took_trb (Begun progress) = chunk_moved progress
 took_trb (Sent answer) = true
 
 abbrev pub data_td_after : Bool → Option Td → Option Td

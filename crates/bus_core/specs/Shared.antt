@@ -11,7 +11,8 @@ use Rattle.scsi_cmd.specs.Op.{direction_of}
 use Rattle.scsi_cmd.specs.declared.Request.{Request}
 use Rattle.scsi_cmd.specs.declared.Request.TheVariants.{Execute}
 use Rattle.solo_model.specs.declared.Phase.{Phase}
-use Rattle.solo_model.specs.declared.Phase.TheVariants.{Queued, Moving, Ended, Sent}
+use Rattle.solo_model.specs.declared.Phase.TheVariants.{Queued, Begun, Sent}
+use Rattle.device_server.specs.declared.Progress.TheVariants.{Moving, Ended}
 use Rattle.scsi_cmd.specs.Held.{held_at}
 use Rattle.uas_host.specs.declared.Place.{Place}
 use Rattle.bus_core.specs.declared.Td.{Td}
@@ -97,15 +98,15 @@ place_fact state tag test =
 -- the target gives or takes data
 abbrev pub is_moving : Phase → Bool
 is_moving Queued = false
-is_moving (Moving chunk) = true
-is_moving (Ended answer) = false
+is_moving (Begun (Moving chunk)) = true
+is_moving (Begun (Ended answer)) = false
 is_moving (Sent answer) = false
 
 -- the target has an answer to send
 abbrev pub is_ended : Phase → Bool
 is_ended Queued = false
-is_ended (Moving chunk) = false
-is_ended (Ended answer) = true
+is_ended (Begun (Moving chunk)) = false
+is_ended (Begun (Ended answer)) = true
 is_ended (Sent answer) = false
 
 -- the data stream was rung since the last stop of its pipe, which runs

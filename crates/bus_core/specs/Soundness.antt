@@ -2,9 +2,10 @@
 use Rattle.std.specs.Prelude.{◌≡◌, ℕ, suc, ◌+◌, ◌<◌, ◌≤◌, ◌==◌, Bool, true, false, cond, List, [], ◌∷◌, ◌++◌, length, Option, Some, None, IfSome, sum_by}
 use Rattle.scsi_cmd.specs.declared.TheConstants.{TAGS}
 use Rattle.solo_model.specs.declared.Phase.{Phase}
-use Rattle.solo_model.specs.declared.Phase.TheVariants.{Queued, Moving, Ended, Sent}
-use Rattle.solo_model.specs.declared.Answer.{Answer}
-use Rattle.solo_model.specs.declared.Answer.TheVariants.{Good, Check}
+use Rattle.solo_model.specs.declared.Phase.TheVariants.{Queued, Begun, Sent}
+use Rattle.device_server.specs.declared.Progress.TheVariants.{Moving, Ended}
+use Rattle.device_server.specs.declared.Answer.{Answer}
+use Rattle.device_server.specs.declared.Answer.TheVariants.{Good, Check}
 use Rattle.scsi_cmd.specs.Held.{AllHeld, held_at}
 use Rattle.solo_model.specs.Soundness.{IsSound}
 use Rattle.bus_core.specs.declared.TheConstants.{MAX_CLIENTS}
@@ -19,8 +20,7 @@ use Rattle.bus_core.specs.Wire.{request_text, answer_text}
 -- until the device has received a command its command TD is untouched, and until its answer was sent its status TD is
 abbrev pub HasTds : Phase → Entry → Type 0
 HasTds Queued entry = (entry.command_td ≡ pushed) × (entry.status_td ≡ pushed)
-HasTds (Moving chunk) entry = entry.status_td ≡ pushed
-HasTds (Ended answer) entry = entry.status_td ≡ pushed
+HasTds (Begun progress) entry = entry.status_td ≡ pushed
 HasTds (Sent answer) entry = Unit {0}
 
 -- of a data TD of so many TRBs, as many were taken as chunks were moved, one more is there, and the host waits for it
@@ -40,8 +40,8 @@ HasDataTdEnded trbs (Check sense) td = LacksTrb trbs td
 -- each chunk that was moved took a TRB of the data TD, and what ended with CHECK CONDITION left one
 abbrev pub HasDataTd : ℕ → Phase → Option Td → Type 0
 HasDataTd trbs Queued td = TookTrbs trbs 0 td
-HasDataTd trbs (Moving chunk) td = TookTrbs trbs chunk td
-HasDataTd trbs (Ended answer) td = HasDataTdEnded trbs answer td
+HasDataTd trbs (Begun (Moving chunk)) td = TookTrbs trbs chunk td
+HasDataTd trbs (Begun (Ended answer)) td = HasDataTdEnded trbs answer td
 HasDataTd trbs (Sent answer) td = HasDataTdEnded trbs answer td
 
 pub record IsSoundEntry (count : ℕ) (entry : Entry) : Type 0 where
@@ -52,8 +52,7 @@ pub record IsSoundEntry (count : ℕ) (entry : Entry) : Type 0 where
 -- the status buffer has the answer once it was sent
 abbrev pub HasAnswer : Phase → ℕ → Frame → Type 0
 HasAnswer Queued tag frame = Unit {0}
-HasAnswer (Moving chunk) tag frame = Unit {0}
-HasAnswer (Ended answer) tag frame = Unit {0}
+HasAnswer (Begun progress) tag frame = Unit {0}
 HasAnswer (Sent answer) tag frame = frame.status.items ≡ answer_text tag answer
 
 -- the buffers of a tag have its unit, and its answer once that was sent
@@ -71,8 +70,7 @@ AllPaired P slot (place ∷ places) (frame ∷ frames) = IfSome place (λ held. 
 
 abbrev pub is_queued : Phase → Bool
 is_queued Queued = true
-is_queued (Moving chunk) = false
-is_queued (Ended answer) = false
+is_queued (Begun progress) = false
 is_queued (Sent answer) = false
 
 abbrev pub one_if : Bool → ℕ
@@ -146,8 +144,7 @@ TellsCheck (Some entry) checked =
 -- the bytes are the answer of a task whose answer was sent
 abbrev pub IsAnswered : Phase → ℕ → List ℕ → Type 0
 IsAnswered Queued tag bytes = ⊥
-IsAnswered (Moving chunk) tag bytes = ⊥
-IsAnswered (Ended answer) tag bytes = ⊥
+IsAnswered (Begun progress) tag bytes = ⊥
 IsAnswered (Sent answer) tag bytes = bytes ≡ answer_text tag answer
 
 -- the buffers of a tag that fit one entry fit another

@@ -5,9 +5,9 @@ use Rattle.solo_model.specs.declared.TaggedTask.{TaggedTask}
 use Rattle.scsi_cmd.specs.declared.Request.{Request}
 use Rattle.scsi_cmd.specs.declared.Request.TheVariants.{Execute}
 use Rattle.solo_model.specs.declared.Phase.{Phase}
-use Rattle.solo_model.specs.declared.Phase.TheVariants.{Queued, Moving, Ended, Sent}
-use Rattle.solo_model.specs.declared.Answer.{Answer}
-use Rattle.solo_model.specs.declared.Answer.TheVariants.{Good, Check}
+use Rattle.solo_model.specs.declared.Phase.TheVariants.{Queued, Begun, Sent}
+use Rattle.device_server.specs.declared.Answer.{Answer}
+use Rattle.device_server.specs.declared.Answer.TheVariants.{Good, Check}
 use Rattle.uas_host.specs.declared.TdState.{TdState}
 use Rattle.uas_host.specs.declared.TdState.TheVariants.{Pending, Seen, LeftOver, Retired}
 use Rattle.bus_core.specs.declared.Td.{Td}
@@ -84,8 +84,7 @@ data_after_answer (Check sense) td = left_over_data td
 
 abbrev pub data_after_status : Phase → Option Td → Option Td
 data_after_status Queued td = td
-data_after_status (Moving chunk) td = td
-data_after_status (Ended answer) td = td
+data_after_status (Begun progress) td = td
 data_after_status (Sent answer) td = data_after_answer answer td
 
 -- a command without data has no data TD

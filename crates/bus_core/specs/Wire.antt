@@ -7,8 +7,8 @@ use Rattle.uas_iu.specs.Lun.{lun_text}
 use Rattle.bus_core.specs.declared.wire.Told.{Told}
 use Rattle.scsi_cmd.specs.declared.Request.{Request}
 use Rattle.scsi_cmd.specs.declared.Request.TheVariants.{Execute}
-use Rattle.solo_model.specs.declared.Answer.{Answer}
-use Rattle.solo_model.specs.TaggedTask.{status_of, sense_of}
+use Rattle.device_server.specs.declared.Answer.{Answer}
+use Rattle.device_server.specs.Server.{status_of, sense_of}
 
 -- the unit that asks for a request, of this logical unit under this tag
 abbrev pub request_text : ℕ → ℕ → Request → List ℕ

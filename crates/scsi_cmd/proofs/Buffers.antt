@@ -2,23 +2,8 @@
 use Rattle.std.proofs.Common.{◌≡◌, ℕ, ◌+◌, ◌≤◌, List, [], ◌++◌, length, take, drop, refl, ap, sym, ◌∙◌, arith, append_assoc, length-append, length-take, length-drop}
 use Rattle.std.proofs.Math.Nat.{add-zero}
 use Rattle.std.proofs.Math.ListN.{drop_of_length-le}
-use Rattle.std.proofs.Math.Seq.{take-length}
 use Rattle.std.proofs.lemmas.List.{append-nil, take-append-le, take-append-drop, take_at, drop_at, drop-drop}
 use Rattle.scsi_cmd.specs.Buffers.{with_bytes_at, written_at}
-
--- bytes that fit leave the list as long as it is
-pub length-with_bytes_at : (list : List ℕ) (at : ℕ) (bytes : List ℕ) →
-    at + length bytes ≤ length list → length (with_bytes_at list at bytes) ≡ length list
-unfolding with_bytes_at
-length-with_bytes_at list at bytes fits =
-    omega (arith, length-append {A = ℕ}, length-take {A = ℕ}, length-drop {A = ℕ})
-
--- bytes that fit are written whole
-pub written_at-fits : (list : List ℕ) (at : ℕ) (bytes : List ℕ) →
-    at + length bytes ≤ length list → written_at list at bytes ≡ with_bytes_at list at bytes
-unfolding written_at
-written_at-fits list at bytes fits =
-    ap (λ n. take n (with_bytes_at list at bytes)) (sym (length-with_bytes_at list at bytes fits)) ∙ take-length _
 
 -- a list that is cut to its length n, after a write that is filled up from it
 pub filled-written_at : (list : List ℕ) (at : ℕ) (bytes : List ℕ) (n : ℕ) → n ≡ length list → at ≤ length list →

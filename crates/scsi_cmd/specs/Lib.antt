@@ -4,6 +4,7 @@ pub mod Op
 pub mod Sense
 pub mod Meaning
 pub mod Data
+pub mod Work
 pub mod Buffers
 pub mod Faults
 pub mod Held

@@ -3,11 +3,12 @@ ghost use Rattle.scsi_cmd.specs.Fields.{field_of_two, field_of_four, is_bit_set,
 ghost use Rattle.scsi_cmd.specs.Op.{FitsCdb, cdb_bytes, block_cdb, fua_byte, moved_bytes, direction_of};
 ghost use Rattle.scsi_cmd.specs.Meaning.{asked, checked, op_fault, range_fault, transfer_fault, named_op, has_invalid_field};
 
-use crate::{BLOCK_BYTES, Direction, MAX_BLOCKS, Op, Sense};
+use crate::{BLOCK_BYTES, Direction, INQUIRY_BYTES, MAX_BLOCKS, Op, Sense};
 
 const TEST_UNIT_READY: u8 = 0x00;
 
-const INQUIRY: u8 = 0x12;
+/// Operation code of INQUIRY (SPC).
+pub(crate) const INQUIRY: u8 = 0x12;
 
 const READ_CAPACITY_10: u8 = 0x25;
 
@@ -19,9 +20,6 @@ const SYNCHRONIZE_CACHE_10: u8 = 0x35;
 
 /// FUA in byte 1 of READ(10) and WRITE(10) is this bit.
 const FUA_BIT: u8 = 3;
-
-/// Bytes of the standard INQUIRY data.
-const INQUIRY_BYTES: usize = 36;
 
 /// Bytes of the READ CAPACITY(10) data.
 const CAPACITY_BYTES: usize = 8;
@@ -119,7 +117,7 @@ fn has_unsupported_field(op: &Op, bytes: &[u8; 16]) -> bool
     }
 }
 
-fn fault(op: &Op, blocks: u32) -> Option<Sense>
+pub(crate) fn fault(op: &Op, blocks: u32) -> Option<Sense>
     ensures { result ≡ op_fault op.now blocks }
 {
     match *op {

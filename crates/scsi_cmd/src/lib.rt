@@ -27,6 +27,7 @@ ghost use Rattle.scsi_cmd.specs.Faults.{fault_number};
 mod cdbs;
 mod data;
 mod submission;
+mod works;
 
 use arrayvec::ArrayVec;
 pub use cdbs::{cdb, moves, parse};
@@ -35,6 +36,10 @@ use std::alloc::{AllocError, Global};
 use std::marker::Model;
 pub use submission::submit_fault;
 use thiserror::Error;
+pub use works::{
+    cdb_reports_attention, checked_work, parse_without_unit, reports_attention, work_of,
+    work_without_unit,
+};
 
 /// Bytes of a block.
 pub const BLOCK_BYTES: usize = 512;
@@ -47,6 +52,9 @@ pub const TAGS: usize = 8;
 
 /// The slot (index less 1) of the tag for task management; those below it are for commands.
 pub const TASK_SLOT: usize = 7;
+
+/// Bytes of the standard INQUIRY data (SPC).
+pub const INQUIRY_BYTES: usize = 36;
 
 /// Bytes of sense data in the fixed format (SPC).
 pub const SENSE_BYTES: usize = 18;
@@ -86,6 +94,49 @@ pub enum Direction {
     ToHost,
     /// From the host to the device.
     ToDevice,
+}
+
+/// What an operation does to a logical unit, whichever command asks for it.
+#[derive(Debug, Drop)]
+pub enum Work {
+    /// Nothing.
+    Nothing,
+    /// It gives these bytes, all at once.
+    Gives(ArrayVec<u8, INQUIRY_BYTES>),
+    /// It gives `count` blocks from `lba` on.
+    Reads { lba: u32, count: u16 },
+    /// It takes `count` blocks from `lba` on, and where it goes `through` the medium takes them too.
+    Writes { lba: u32, count: u16, through: bool },
+    /// It brings `count` blocks from `lba` on to the medium, or all from there for 0.
+    Synchronizes { lba: u32, count: u16 },
+}
+
+impl Work {
+    ghost use Rattle.scsi_cmd.specs.Work.{work_bytes, work_direction};
+
+    /// How many bytes it moves.
+    pub fn bytes(&self) -> usize
+        ensures { result ≡ work_bytes self.now }
+    {
+        match self {
+            Work::Nothing | Work::Synchronizes { .. } => 0,
+            Work::Gives(bytes) => bytes.len(),
+            Work::Reads { count, .. } | Work::Writes { count, .. } => {
+                BLOCK_BYTES * usize::from(*count)
+            }
+        }
+    }
+
+    /// Which way it moves them.
+    pub fn direction(&self) -> Direction
+        ensures { result ≡ work_direction self.now }
+    {
+        match self {
+            Work::Nothing | Work::Synchronizes { .. } => Direction::Nothing,
+            Work::Gives(_) | Work::Reads { .. } => Direction::ToHost,
+            Work::Writes { .. } => Direction::ToDevice,
+        }
+    }
 }
 
 /// Sense data: a sense key, an additional sense code and its qualifier (SPC).

@@ -1,3 +1,4 @@
 pub mod TaggedTask
 pub mod Soundness
 pub mod Solo
+pub mod Laws

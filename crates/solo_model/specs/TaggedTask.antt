@@ -1,23 +1,22 @@
--- One task, from its submission to its reply. The solo machine and the shared machine are made of these functions.
-use Rattle.std.specs.Prelude.{ℕ, ◌+◌, ◌-◌, ◌*◌, ◌==◌, nat_lt, min, Bool, true, false, ◌&&◌, if◌then◌else◌, List, [], take, Option, Some, None, Result, Ok, Err}
-use Rattle.block_unit.specs.BlockMaps.{BlockMaps, bytes_from, meets_bad, blocks_read, written, synced, with_attention}
+-- One task, from its submission to its reply. The solo machine and the shared machine are made of these functions, and the
+-- device's part of them is the device server's.
+use Rattle.std.specs.Prelude.{ℕ, ◌*◌, List, Option, Some, None}
+use Rattle.std.specs.Option.{option_map_or}
+use Rattle.block_unit.specs.BlockMaps.{BlockMaps, bytes_from}
 use Rattle.scsi_cmd.specs.declared.Op.{Op}
-use Rattle.scsi_cmd.specs.declared.Op.TheVariants.{TestUnitReady, Inquiry, ReadCapacity, Read, Write, Sync}
-use Rattle.scsi_cmd.specs.declared.Sense.{Sense}
 use Rattle.scsi_cmd.specs.declared.Command.{Command}
 use Rattle.scsi_cmd.specs.declared.Reply.{Reply}
 use Rattle.scsi_cmd.specs.declared.Reply.TheVariants.{Status}
-use Rattle.scsi_cmd.specs.Op.{moved_bytes}
-use Rattle.scsi_cmd.specs.Meaning.{checked}
-use Rattle.scsi_cmd.specs.Sense.{sense_bytes, reset_occurred, unrecovered_read_error, write_error}
-use Rattle.scsi_cmd.specs.Data.{inquiry_bytes, capacity_bytes}
-use Rattle.scsi_cmd.specs.Buffers.{with_bytes_at}
 use Rattle.scsi_cmd.specs.declared.Request.{Request}
 use Rattle.scsi_cmd.specs.declared.Request.TheVariants.{Execute}
-use Rattle.solo_model.specs.declared.Answer.{Answer}
-use Rattle.solo_model.specs.declared.Answer.TheVariants.{Good, Check}
+use Rattle.scsi_cmd.specs.Buffers.{with_bytes_at}
+use Rattle.scsi_cmd.specs.Op.{moved_bytes}
+use Rattle.scsi_cmd.specs.Work.{checked_work, reports_attention, work_of}
+use Rattle.device_server.specs.declared.Progress.{Progress}
+use Rattle.device_server.specs.declared.Progress.TheVariants.{Moving, Ended}
+use Rattle.device_server.specs.Server.{begun, chunk_bytes, chunk_given, progress_after, sense_of, status_of, unit_taken}
 use Rattle.solo_model.specs.declared.Phase.{Phase}
-use Rattle.solo_model.specs.declared.Phase.TheVariants.{Queued, Moving, Ended, Sent}
+use Rattle.solo_model.specs.declared.Phase.TheVariants.{Queued, Begun, Sent}
 use Rattle.solo_model.specs.declared.TaggedTask.{TaggedTask}
 
 -- SUBMISSION
@@ -26,132 +25,52 @@ use Rattle.solo_model.specs.declared.TaggedTask.{TaggedTask}
 abbrev pub queued : ℕ → Command → TaggedTask
 queued ticket command = record { ticket = ticket; request = Execute command.op; buffer = command.buffer; phase = Queued }
 
--- CARRY: the device receives the command and executes it whole, or is ready to move its data
-
--- INQUIRY neither reports nor clears a unit attention (SPC)
-abbrev pub reports_attention : Op → Bool
-reports_attention TestUnitReady = true
-reports_attention (Inquiry allocation) = false
-reports_attention ReadCapacity = true
-reports_attention (Read lba count fua) = true
-reports_attention (Write lba count fua) = true
-reports_attention (Sync lba count) = true
-
--- an attention comes before the faults of the CDB
-abbrev pub takes_attention : Result Op Sense → Bool
-takes_attention (Ok op) = reports_attention op
-takes_attention (Err sense) = true
-
--- SYNCHRONIZE CACHE acts here; no other command changes the blocks before it moves data
-abbrev pub flushed : BlockMaps → Op → BlockMaps
-flushed unit TestUnitReady = unit
-flushed unit (Inquiry allocation) = unit
-flushed unit ReadCapacity = unit
-flushed unit (Read lba count fua) = unit
-flushed unit (Write lba count fua) = unit
-flushed unit (Sync lba count) = synced unit lba count
-
--- what moves no data has ended: READ of no blocks is carried and is GOOD
-abbrev pub first_phase : ℕ → Phase
-first_phase bytes = if bytes == 0 then Ended Good else Moving 0
-
--- the unit and the phase once the device has looked at what the CDB asks
-abbrev pub started : BlockMaps → Result Op Sense → BlockMaps × Phase
-started unit (Ok op) = (flushed unit op, first_phase (moved_bytes op))
-started unit (Err sense) = (unit, Ended (Check sense))
-
--- A unit attention ends any command that reports it, and is then gone. Checked by hand: with an attention INQUIRY is as ever,
--- then TEST UNIT READY or an unknown code is 6/29/03, and the next TEST UNIT READY is GOOD.
-abbrev pub begun : BlockMaps → Result Op Sense → BlockMaps × Phase
-begun unit asked =
-    if takes_attention asked && unit.attention
-    then (with_attention unit false, Ended (Check reset_occurred))
-    else started unit asked
-
--- what is left of a step on a unit and a task
-abbrev pub in_phase : TaggedTask → BlockMaps × Phase → BlockMaps × TaggedTask
-in_phase task after = (after.0, record task { phase = after.1 })
+-- CARRY: the device receives the command and begins it
 
 abbrev pub carried_request : BlockMaps → TaggedTask → Request → BlockMaps × TaggedTask
-carried_request unit task (Execute op) = in_phase task (begun unit (checked op unit.count))
+carried_request unit task (Execute op) =
+    in_progress task (begun unit (reports_attention op) (checked_work op unit.count))
+  where
+    in_progress : TaggedTask → BlockMaps × Progress → BlockMaps × TaggedTask
+    in_progress task after = (after.0, record task { phase = Begun after.1 })
 
 -- only a queued task is carried
 abbrev pub carried_from : BlockMaps → TaggedTask → Phase → Option (BlockMaps × TaggedTask)
 carried_from unit task Queued = Some (carried_request unit task task.request)
-carried_from unit task (Moving chunk) = None
-carried_from unit task (Ended answer) = None
+carried_from unit task (Begun progress) = None
 carried_from unit task (Sent answer) = None
 
 abbrev pub carried : BlockMaps → TaggedTask → Option (BlockMaps × TaggedTask)
 carried unit task = carried_from unit task task.phase
 
--- MOVE: one chunk of at most 8 blocks, on the blocks of this moment
+-- MOVE: one chunk, on the blocks of this moment
 
--- the blocks of a chunk, of so many blocks in all: of 20 these are 8, 8 and 4
-abbrev pub chunk_blocks : ℕ → ℕ → ℕ
-chunk_blocks count chunk = min 8 (count - 8 * chunk)
-
--- the last chunk ends the command: of 8,192 bytes chunk 0 gives Moving 1 and chunk 1 ends it, of 4,096 chunk 0 does
-abbrev pub next_phase : ℕ → ℕ → Phase
-next_phase bytes chunk = if nat_lt (4096 * (chunk + 1)) bytes then Moving (chunk + 1) else Ended Good
-
--- does the chunk meet a bad block
-abbrev pub meets_bad_chunk : BlockMaps → ℕ → ℕ → ℕ → Bool
-meets_bad_chunk unit lba count chunk = meets_bad unit (lba + 8 * chunk) (chunk_blocks count chunk)
-
--- a bad block ends the command with this sense; the chunks before it stand
-abbrev pub phase_after_chunk : BlockMaps → ℕ → ℕ → ℕ → Sense → Phase
-phase_after_chunk unit lba count chunk sense =
-    if meets_bad_chunk unit lba count chunk then Ended (Check sense) else next_phase (512 * count) chunk
-
--- the buffer of a READ after a chunk: of 16 blocks from block 10 on, chunk 1 brings 18 to 25 to the bytes from 4,096 on
-abbrev pub buffer_after_read : BlockMaps → List ℕ → ℕ → ℕ → ℕ → List ℕ
-buffer_after_read unit buffer lba count chunk =
-    if meets_bad_chunk unit lba count chunk then buffer
-    else with_bytes_at buffer (4096 * chunk) (blocks_read unit (lba + 8 * chunk) (chunk_blocks count chunk))
-
--- the unit after a chunk of WRITE; FUA reaches the medium too
-abbrev pub unit_after_write : BlockMaps → List ℕ → ℕ → ℕ → Bool → ℕ → BlockMaps
-unit_after_write unit buffer lba count fua chunk =
-    if meets_bad_chunk unit lba count chunk then unit
-    else written unit (lba + 8 * chunk) (bytes_from buffer (4096 * chunk) (512 * chunk_blocks count chunk)) fua
+-- the bytes of a chunk of an operation, in a buffer that it brings: of 16 blocks, chunk 1 is the bytes from 4,096 on
+abbrev pub chunk_brought : List ℕ → ℕ → Op → List ℕ
+chunk_brought buffer chunk op = bytes_from buffer (4096 * chunk) (chunk_bytes (moved_bytes op) chunk)
 
 -- the unit after a chunk
 abbrev pub unit_after : BlockMaps → List ℕ → ℕ → Op → BlockMaps
-unit_after unit buffer chunk TestUnitReady = unit
-unit_after unit buffer chunk (Inquiry allocation) = unit
-unit_after unit buffer chunk ReadCapacity = unit
-unit_after unit buffer chunk (Read lba count fua) = unit
-unit_after unit buffer chunk (Write lba count fua) = unit_after_write unit buffer lba count fua chunk
-unit_after unit buffer chunk (Sync lba count) = unit
+unit_after unit buffer chunk op = unit_taken unit (chunk_brought buffer chunk op) chunk (work_of op unit.count)
 
--- the buffer after a chunk; INQUIRY and READ CAPACITY move all their bytes at once
+-- the buffer after a chunk: of a READ of 16 blocks from block 10 on, chunk 1 brings 18 to 25 to the bytes from 4,096 on
 abbrev pub buffer_after : BlockMaps → List ℕ → ℕ → Op → List ℕ
-buffer_after unit buffer chunk TestUnitReady = buffer
-buffer_after unit buffer chunk (Inquiry allocation) = with_bytes_at buffer 0 (take (min allocation 36) (inquiry_bytes true))
-buffer_after unit buffer chunk ReadCapacity = with_bytes_at buffer 0 (capacity_bytes unit.count)
-buffer_after unit buffer chunk (Read lba count fua) = buffer_after_read unit buffer lba count chunk
-buffer_after unit buffer chunk (Write lba count fua) = buffer
-buffer_after unit buffer chunk (Sync lba count) = buffer
+buffer_after unit buffer chunk op =
+    option_map_or (λ bytes. with_bytes_at buffer (4096 * chunk) bytes) (chunk_given unit chunk (work_of op unit.count)) buffer
 
--- the phase after a chunk
-abbrev pub phase_after : BlockMaps → ℕ → Op → Phase
-phase_after unit chunk TestUnitReady = Ended Good
-phase_after unit chunk (Inquiry allocation) = Ended Good
-phase_after unit chunk ReadCapacity = Ended Good
-phase_after unit chunk (Read lba count fua) = phase_after_chunk unit lba count chunk unrecovered_read_error
-phase_after unit chunk (Write lba count fua) = phase_after_chunk unit lba count chunk write_error
-phase_after unit chunk (Sync lba count) = Ended Good
+-- what a command is at after a chunk
+abbrev pub progress_left : BlockMaps → ℕ → Op → Progress
+progress_left unit chunk op = progress_after unit chunk (work_of op unit.count)
 
 abbrev pub moved_request : BlockMaps → TaggedTask → ℕ → Request → BlockMaps × TaggedTask
 moved_request unit task chunk (Execute op) =
-    (unit_after unit task.buffer chunk op, record task { buffer = buffer_after unit task.buffer chunk op; phase = phase_after unit chunk op })
+    (unit_after unit task.buffer chunk op, record task { buffer = buffer_after unit task.buffer chunk op; phase = Begun (progress_left unit chunk op) })
 
 -- only a task that moves data moves a chunk
 abbrev pub moved_from : BlockMaps → TaggedTask → Phase → Option (BlockMaps × TaggedTask)
 moved_from unit task Queued = None
-moved_from unit task (Moving chunk) = Some (moved_request unit task chunk task.request)
-moved_from unit task (Ended answer) = None
+moved_from unit task (Begun (Moving chunk)) = Some (moved_request unit task chunk task.request)
+moved_from unit task (Begun (Ended answer)) = None
 moved_from unit task (Sent answer) = None
 
 abbrev pub moved : BlockMaps → TaggedTask → Option (BlockMaps × TaggedTask)
@@ -161,8 +80,8 @@ moved unit task = moved_from unit task task.phase
 
 abbrev pub sent_from : TaggedTask → Phase → Option TaggedTask
 sent_from task Queued = None
-sent_from task (Moving chunk) = None
-sent_from task (Ended answer) = Some (record task { phase = Sent answer })
+sent_from task (Begun (Moving chunk)) = None
+sent_from task (Begun (Ended answer)) = Some (record task { phase = Sent answer })
 sent_from task (Sent answer) = None
 
 abbrev pub sent : TaggedTask → Option TaggedTask
@@ -170,20 +89,9 @@ sent task = sent_from task task.phase
 
 -- SETTLE: the client gets its reply
 
--- GOOD is 00h, CHECK CONDITION 02h (SAM)
-abbrev pub status_of : Answer → ℕ
-status_of Good = 0
-status_of (Check sense) = 2
-
--- GOOD comes without sense data
-abbrev pub sense_of : Answer → List ℕ
-sense_of Good = []
-sense_of (Check sense) = sense_bytes sense
-
 abbrev pub reply_from : ℕ → TaggedTask → Phase → Option Reply
 reply_from tag task Queued = None
-reply_from tag task (Moving chunk) = None
-reply_from tag task (Ended answer) = None
+reply_from tag task (Begun progress) = None
 reply_from tag task (Sent answer) = Some (Status tag task.ticket (status_of answer) (record { items = sense_of answer }) task.buffer)
 
 -- the reply of a task whose answer was sent

@@ -18,37 +18,21 @@ mod machine;
 mod tests;
 
 use block_unit::Unit;
-pub use device::{begin, carry, move_chunk, send};
-pub use host::{reply, status_and_sense};
+pub use device::{carry, move_chunk, send};
+use device_server::{Answer, Progress};
+pub use host::reply;
+use scsi_cmd::Command;
 pub use scsi_cmd::{Buffer, Reply, Request, SubmitFault, TAGS, TASK_SLOT, submit_fault};
-use scsi_cmd::{Command, Sense};
 use std::marker::Model;
 use thiserror::Error;
-
-/// The most blocks of one chunk.
-pub const CHUNK_BLOCKS: u16 = 8;
-
-/// The most bytes of one chunk.
-pub const CHUNK_BYTES: usize = 4096;
-
-/// How a task ended.
-#[derive(Clone, Copy, Debug, PartialEq, Eq)]
-pub enum Answer {
-    /// With the status GOOD.
-    Good,
-    /// With CHECK CONDITION and this sense.
-    Check(Sense),
-}
 
 /// How far a task has come.
 #[derive(Clone, Copy, Debug, PartialEq, Eq)]
 pub enum Phase {
     /// Submitted; the device hasn't received it.
     Queued,
-    /// The device moves its data, and so many chunks are done.
-    Moving(u16),
-    /// The device has its answer.
-    Ended(Answer),
+    /// The device has begun it.
+    Begun(Progress),
     /// The answer was handed over.
     Sent(Answer),
 }

@@ -5,11 +5,11 @@ ghost use Rattle.solo_model.specs.TaggedTask.{carried, moved, sent, reply_of};
 ghost use Rattle.solo_model.specs.Solo.{opening, solo_step, applied, slot_under, TicketFits};
 
 use crate::{
-    Label, NotARun, Phase, Request, Solo, TAGS, TASK_SLOT, TaggedTask, carry, move_chunk, reply,
-    send, submit_fault,
+    Label, NotARun, Phase, Solo, TAGS, TASK_SLOT, TaggedTask, carry, move_chunk, reply, send,
+    submit_fault,
 };
 use block_unit::Unit;
-use scsi_cmd::{Command, Reply, cdb};
+use scsi_cmd::{Command, Reply};
 
 impl Solo {
     /// A client that has submitted nothing yet, with this unit.
@@ -136,10 +136,7 @@ fn carry_at(unit: &mut Unit, tasks: &mut [Option<TaggedTask>], slot: usize) -> b
     ensures sound { AllHeld (IsSound unit.new.count) tasks.new }
 {
     match &mut tasks[slot] {
-        Some(task) => {
-            let Request::Execute(op) = task.request;
-            carry(unit, task, &cdb(&op))
-        }
+        Some(task) => carry(unit, task),
         None => false,
     }
 }

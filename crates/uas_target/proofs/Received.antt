@@ -4,14 +4,12 @@ use Rattle.std.proofs.lemmas.List.{take_at, drop_at, take_all}
 use Rattle.uas_iu.specs.declared.Iu.TheVariants.{Command, Sense, Response, Task}
 use Rattle.uas_iu.specs.Units.{Fits, unit_text}
 use Rattle.uas_iu.proofs.Laws.{first_fault-unit_text}
-use Rattle.scsi_cmd.specs.declared.Op.TheVariants.{TestUnitReady, Inquiry, ReadCapacity, Read, Write, Sync}
-use Rattle.scsi_cmd.specs.Op.{cdb_bytes}
-use Rattle.scsi_cmd.proofs.Laws.{asked-cdb_bytes}
-use Rattle.solo_model.specs.TaggedTask.{begun}
-use Rattle.uas_target.specs.Tasks.{asked_phase}
+use Rattle.scsi_cmd.specs.Laws.{asked-cdb_bytes, cdb_reports_attention-cdb_bytes}
+use Rattle.scsi_cmd.specs.Work.{work_asked}
+use Rattle.device_server.specs.Server.{begun}
 use Rattle.uas_target.specs.Device.{Device, called, executed, on_its_tag, received_unit, with_response, with_units_and_task}
 use Rattle.uas_target.specs.Fields.{tag_in, lun_in, cdb_in}
-use Rattle.uas_target.specs.Laws.{CommandsAreExecuted, TasksAreAnswered, SensesAreDropped, ResponsesAreDropped, BeginsAsSolo, CallsAreFolded}
+use Rattle.uas_target.specs.Laws.{CommandsAreExecuted, TasksAreAnswered, SensesAreDropped, ResponsesAreDropped, BeginsAsAsked, CallsAreFolded}
 
 -- a number below 2^16 is that of its two bytes
 two_bytes : (n : ℕ) → n < 2 ^ 16 → n / 256 % 256 * 256 + n % 256 ≡ n
@@ -64,18 +62,13 @@ unfolding unit_text
 received-response device tag code fits = rw (first_fault-unit_text (Response tag code) fits) refl
 
 -- the CDB of an operation that a host asks for
-pub begins_as_solo : BeginsAsSolo
-unfolding cdb_bytes
-begins_as_solo unit TestUnitReady = ap (begun unit) (asked-cdb_bytes TestUnitReady unit.count)
-begins_as_solo unit (Inquiry allocation) = ap (λ asks. (unit, asked_phase asks)) (asked-cdb_bytes (Inquiry allocation) unit.count)
-begins_as_solo unit ReadCapacity = ap (begun unit) (asked-cdb_bytes ReadCapacity unit.count)
-begins_as_solo unit (Read lba count fua) = ap (begun unit) (asked-cdb_bytes (Read lba count fua) unit.count)
-begins_as_solo unit (Write lba count fua) = ap (begun unit) (asked-cdb_bytes (Write lba count fua) unit.count)
-begins_as_solo unit (Sync lba count) = ap (begun unit) (asked-cdb_bytes (Sync lba count) unit.count)
+pub begins_as_asked : BeginsAsAsked
+begins_as_asked unit op =
+    λ i. begun unit (cdb_reports_attention-cdb_bytes op i) (work_asked unit.count (asked-cdb_bytes op unit.count i))
 
 -- one call more
 pub folded : CallsAreFolded
 folded device [] call = refl
 folded device (first ∷ calls) call = folded (called device first) calls call
 
-pub ruleset of_texts = (received-command, received-task, received-sense, received-response, begins_as_solo, folded)
+pub ruleset of_texts = (received-command, received-task, received-sense, received-response, begins_as_asked, folded)

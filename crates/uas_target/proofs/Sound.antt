@@ -1,31 +1,30 @@
--- Tasks stay sound.
-use Rattle.std.proofs.Common.{◌≡◌, ℕ, zero, suc, ◌<◌, true, false, ◌&&◌, cond, List, [], ◌∷◌, ◌++◌, length, take, drop, inl, inr, length-set, Option, Some, None, IfSome, Result, Ok, Err, refl, arith, ap, sym, ◌∙◌, subst}
-use Rattle.std.specs.Prelude.{◌==◌, slice_get, slice_index, slice_index_or}
-use Rattle.std.proofs.lemmas.Bool.{eqb-false, eqb-true, cases_lt, le-leb}
+-- Tasks stay sound. Cited by the answers of the receiver, of the chunks and of every call of a target.
+use Rattle.std.proofs.Common.{◌≡◌, ℕ, zero, suc, ◌<◌, Bool, true, false, ◌&&◌, cond, List, [], ◌∷◌, ◌++◌, length, take, drop, inl, inr, length-set, Option, Some, None, IfSome, Result, Ok, Err, refl, arith, ap, sym, ◌∙◌, subst}
+use Rattle.std.specs.Prelude.{◌==◌, slice_get, slice_index_or, IsOk}
+use Rattle.std.proofs.lemmas.Bool.{eqb-false, cases_lt, le-leb}
 use Rattle.std.proofs.lemmas.List.{length-map}
 use Rattle.std.proofs.Math.Seq.{take-append_seam}
 use Rattle.std.proofs.lemmas.Option.{slice_get-get_or}
 use Rattle.block_unit.specs.BlockMaps.{BlockMaps, with_attention}
 use Rattle.scsi_cmd.specs.declared.Op.{Op}
-use Rattle.scsi_cmd.specs.declared.Op.TheVariants.{Inquiry}
-use Rattle.scsi_cmd.specs.Fields.{field_of_two}
 use Rattle.scsi_cmd.specs.declared.Sense.{Sense}
-use Rattle.scsi_cmd.specs.Op.{moved_bytes}
-use Rattle.scsi_cmd.specs.Meaning.{asked, checked, op_fault, named_op, has_invalid_field}
-use Rattle.scsi_cmd.specs.Sense.{reset_occurred, unit_not_supported, invalid_operation_code, invalid_field_in_cdb}
+use Rattle.scsi_cmd.specs.declared.Work.{Work}
 use Rattle.scsi_cmd.specs.Held.{AllHeld, held_under, with_held_under}
-use Rattle.solo_model.specs.Soundness.{HasChunk}
-use Rattle.solo_model.specs.TaggedTask.{begun, started, takes_attention, first_phase, phase_after}
-use Rattle.solo_model.specs.declared.Phase.{Phase as Step}
-use Rattle.solo_model.specs.declared.Phase.TheVariants.{Queued as QueuedStep, Moving as MovingStep, Ended as EndedStep, Sent as SentStep}
-use Rattle.solo_model.specs.declared.Answer.TheVariants.{Good, Check}
-use Rattle.scsi_cmd.specs.Laws.{AllHeld-held, AllHeld-set, held_at-past}
-use Rattle.solo_model.proofs.Kept.{checked_in_range, HasChunk-after}
+use Rattle.scsi_cmd.specs.Laws.{AllHeld-held, AllHeld-set, held_at-past, asked_in_range, checked-none, work_bytes-work_without_unit, work_without_unit-asked}
+use Rattle.scsi_cmd.specs.Meaning.{asked, checked, op_fault}
+use Rattle.scsi_cmd.specs.Op.{moved_bytes}
+use Rattle.scsi_cmd.specs.Sense.{reset_occurred}
+use Rattle.scsi_cmd.specs.Work.{asked_without_unit, cdb_reports_attention, work_asked, work_asked_without_unit, work_bytes, work_of, work_without_unit}
+use Rattle.device_server.specs.declared.Answer.TheVariants.{Good, Check}
+use Rattle.device_server.specs.declared.Progress.{Progress}
+use Rattle.device_server.specs.declared.Progress.TheVariants.{Moving, Ended}
+use Rattle.device_server.specs.Laws.{HasChunk-after, HasChunk-begun}
+use Rattle.device_server.specs.Server.{HasChunk, begun, progress_after, progress_asked}
 use Rattle.uas_target.specs.declared.DeviceTask.{DeviceTask}
 use Rattle.uas_target.specs.declared.TheConstants.{GREATEST_TAG}
 use Rattle.uas_target.specs.Fields.{is_tag}
-use Rattle.uas_target.specs.Soundness.{IsSoundTask, IsSoundDevice, IsOn, IsInquiry, counts_of}
-use Rattle.uas_target.specs.Tasks.{task_in, begun_by, is_inquiry, missing_phase, asked_phase}
+use Rattle.uas_target.specs.Soundness.{IsSoundTask, IsSoundDevice, IsOn, counts_of}
+use Rattle.uas_target.specs.Tasks.{task_in, begun_by}
 use Rattle.uas_target.proofs.Counts.{slice_get-counts_of}
 
 -- what a tag has is sound
@@ -42,89 +41,52 @@ pub length-with_held : {T : Type 0} (places : List (Option T)) (tag : ℕ) (now 
 length-with_held places zero now = refl
 length-with_held places (suc slot) now = length-set places slot now
 
--- what a CDB asks has no fault
-asked_by : List ℕ → ℕ → Option Op → Result Op Sense
-unfolding asked
-asked_by bytes blocks None = Err invalid_operation_code
-asked_by bytes blocks (Some op) = cond (has_invalid_field op bytes) (Err invalid_field_in_cdb) (checked op blocks)
+-- A COMMAND THAT BEGINS
 
-in_range_by : (bytes : List ℕ) (blocks : ℕ) (named : Option Op) (op : Op) → asked_by bytes blocks named ≡ Ok op → op_fault op blocks ≡ None
-unfolding asked_by
-in_range_by bytes blocks None op is = let no : ◌≡◌ {A = Result Op Sense} (Err invalid_operation_code) (Ok op) = is in cc
-in_range_by bytes blocks (Some other) op is =
-    elim (has_invalid_field other bytes) as (λ b. cond {A = Result Op Sense} b (Err invalid_field_in_cdb) (checked other blocks) ≡ Ok op → op_fault op blocks ≡ None) [
-      | true ↦ λ fault. let no : ◌≡◌ {A = Result Op Sense} (Err invalid_field_in_cdb) (Ok op) = fault in cc
-      | false ↦ λ fine. checked_in_range other blocks op fine
-    ] is
+-- a command that is at this on a unit of so many blocks is sound
+pub HasChunk-sound : (counts : List ℕ) (number blocks : ℕ) (op : Op) (progress : Progress) → slice_get counts number ≡ Some blocks → HasChunk blocks op progress →
+    IfSome (task_in (Some number) (Ok op) progress) (IsSoundTask counts)
+HasChunk-sound counts number blocks op (Moving chunk) is has = rw is (has.0, has.1)
+HasChunk-sound counts number blocks op (Ended answer) is has = tt
 
-pub asked_in_range : (bytes : List ℕ) (blocks : ℕ) (op : Op) → asked bytes blocks ≡ Ok op → op_fault op blocks ≡ None
-unfolding asked asked_by
-asked_in_range bytes blocks op is = in_range_by bytes blocks (named_op bytes) op is
-
--- a command that has just begun is sound, on a unit of so many blocks
-first_phase_sound : (counts : List ℕ) (unit : Option ℕ) (op : Op) (bytes : ℕ) → bytes ≡ moved_bytes op → IsOn counts op unit →
-    IfSome (task_in unit (Ok op) (first_phase bytes)) (IsSoundTask counts)
-first_phase_sound counts unit op bytes all on =
-    elim (bytes == 0) as (λ b. (bytes == 0) ≡ b → IfSome (task_in unit (Ok op) (cond b (EndedStep Good) (MovingStep 0))) (IsSoundTask counts)) [
-      | true ↦ λ empty. tt
-      | false ↦ λ some. let apart : bytes ≡ 0 → ⊥ = eqb-false bytes 0 some in (omega arith, on)
-    ] refl
-
-begun_asked_sound : (counts : List ℕ) (number : ℕ) (unit : BlockMaps) (asks : Result Op Sense) → slice_get counts number ≡ Some unit.count →
-    ((op : Op) → asks ≡ Ok op → op_fault op unit.count ≡ None) → IfSome (task_in (Some number) asks (begun unit asks).1) (IsSoundTask counts)
-begun_asked_sound counts number unit (Err sense) is in_range =
-    elim unit.attention as (λ b. IfSome (task_in (Some number) (Err sense) (cond {A = BlockMaps × Step} b (with_attention unit false, EndedStep (Check reset_occurred)) (started unit (Err sense))).1) (IsSoundTask counts)) [
+begun_asked_sound : (counts : List ℕ) (number : ℕ) (unit : BlockMaps) (reports : Bool) (asks : Result Op Sense) → slice_get counts number ≡ Some unit.count →
+    ((op : Op) → asks ≡ Ok op → op_fault op unit.count ≡ None) →
+    IfSome (task_in (Some number) asks (begun unit reports (work_asked unit.count asks)).1) (IsSoundTask counts)
+begun_asked_sound counts number unit reports (Err sense) is in_range =
+    elim (reports && unit.attention) as (λ b.
+    IfSome (task_in (Some number) (Err sense) (cond {A = BlockMaps × Progress} b (with_attention unit false, Ended (Check reset_occurred)) (unit, Ended (Check sense))).1) (IsSoundTask counts)) [
       | true ↦ tt
       | false ↦ tt
     ]
-begun_asked_sound counts number unit (Ok op) is in_range =
-    elim (takes_attention (Ok op) && unit.attention) as (λ b. IfSome (task_in (Some number) (Ok op) (cond {A = BlockMaps × Step} b (with_attention unit false, EndedStep (Check reset_occurred)) (started unit (Ok op))).1) (IsSoundTask counts)) [
-      | true ↦ tt
-      | false ↦ first_phase_sound counts (Some number) op (moved_bytes op) refl (rw is (in_range op refl))
-    ]
-
-step_asked_sound : (counts : List ℕ) (number blocks : ℕ) (asks : Result Op Sense) → slice_get counts number ≡ Some blocks →
-    ((op : Op) → asks ≡ Ok op → op_fault op blocks ≡ None) → IfSome (task_in (Some number) asks (asked_phase asks)) (IsSoundTask counts)
-step_asked_sound counts number blocks (Err sense) is in_range = tt
-step_asked_sound counts number blocks (Ok op) is in_range = first_phase_sound counts (Some number) op (moved_bytes op) refl (rw is (in_range op refl))
+begun_asked_sound counts number unit reports (Ok op) is in_range =
+    let asked : checked op unit.count ≡ Ok op = checked-none op unit.count (in_range op refl) in
+    let P : Result Op Sense → Type 0 = λ asks. HasChunk unit.count op (begun unit reports (work_asked unit.count asks)).1 in
+    HasChunk-sound counts number unit.count op (begun unit reports (work_asked unit.count (Ok op))).1 is (subst P asked (HasChunk-begun unit reports op))
 
 pub begun_sound : (counts : List ℕ) (number : ℕ) (unit : BlockMaps) (cdb : List ℕ) → slice_get counts number ≡ Some unit.count →
     IfSome (task_in (Some number) (asked cdb unit.count) (begun_by unit cdb (asked cdb unit.count)).1) (IsSoundTask counts)
 begun_sound counts number unit cdb is =
-    elim (is_inquiry cdb) as (λ b. IfSome (task_in (Some number) (asked cdb unit.count) (cond {A = BlockMaps × Step} b (unit, asked_phase (asked cdb unit.count)) (begun unit (asked cdb unit.count))).1) (IsSoundTask counts)) [
-      | true ↦ step_asked_sound counts number unit.count (asked cdb unit.count) is (asked_in_range cdb unit.count)
-      | false ↦ begun_asked_sound counts number unit (asked cdb unit.count) is (asked_in_range cdb unit.count)
-    ]
+    begun_asked_sound counts number unit (cdb_reports_attention cdb) (asked cdb unit.count) is (asked_in_range cdb unit.count)
 
--- A UNIT THAT ISN'T THERE
-
--- the CDB of an INQUIRY asks for no other operation
-inquiry_named : (cdb : List ℕ) → slice_index cdb 0 ≡ 0x12 → named_op cdb ≡ Some (Inquiry (field_of_two cdb 3))
-inquiry_named cdb code = rw code refl
-
-inquiry_by : (cdb : List ℕ) (blocks allocation : ℕ) (op : Op) → asked_by cdb blocks (Some (Inquiry allocation)) ≡ Ok op → IsInquiry op
-unfolding asked_by
-inquiry_by cdb blocks allocation op is =
-    elim (has_invalid_field (Inquiry allocation) cdb) as (λ b. cond {A = Result Op Sense} b (Err invalid_field_in_cdb) (Ok (Inquiry allocation)) ≡ Ok op → IsInquiry op) [
-      | true ↦ λ fault. let no : ◌≡◌ {A = Result Op Sense} (Err invalid_field_in_cdb) (Ok op) = fault in cc
-      | false ↦ λ fine. let same : ◌≡◌ {A = Op} (Inquiry allocation) op = cc in subst IsInquiry same tt
-    ] is
-
-inquiry_asked : (cdb : List ℕ) (blocks : ℕ) (op : Op) → slice_index cdb 0 ≡ 0x12 → asked cdb blocks ≡ Ok op → IsInquiry op
-unfolding asked asked_by
-inquiry_asked cdb blocks op code is = inquiry_by cdb blocks (field_of_two cdb 3) op (ap (asked_by cdb blocks) (sym (inquiry_named cdb code)) ∙ is)
-
-asked_phase_sound : (counts : List ℕ) (asks : Result Op Sense) → ((op : Op) → asks ≡ Ok op → IsInquiry op) →
-    IfSome (task_in None asks (asked_phase asks)) (IsSoundTask counts)
-asked_phase_sound counts (Err sense) inquiry = tt
-asked_phase_sound counts (Ok op) inquiry = first_phase_sound counts None op (moved_bytes op) refl (inquiry op refl)
-
-pub missing_sound : (counts cdb : List ℕ) → IfSome (task_in None (asked cdb 0) (missing_phase cdb (asked cdb 0))) (IsSoundTask counts)
-missing_sound counts cdb =
-    elim (slice_index cdb 0 == 0x12) as (λ b. (slice_index cdb 0 == 0x12) ≡ b → IfSome (task_in None (asked cdb 0) (cond b (asked_phase (asked cdb 0)) (EndedStep (Check unit_not_supported)))) (IsSoundTask counts)) [
-      | true ↦ λ code. asked_phase_sound counts (asked cdb 0) (λ op is. inquiry_asked cdb 0 op (eqb-true _ _ code) is)
-      | false ↦ λ code. tt
+-- without a unit
+missing_work_sound : (counts : List ℕ) (op : Op) (works : Result Work Sense) → works ≡ work_without_unit op → IsOk (work_without_unit op) →
+    IfSome (task_in None (Ok op) (progress_asked works)) (IsSoundTask counts)
+missing_work_sound counts op (Err sense) is on = tt
+missing_work_sound counts op (Ok work) is on =
+    let all : work_bytes work ≡ moved_bytes op = work_bytes-work_without_unit op work (sym is) in
+    elim (work_bytes work == 0) as (λ b. (work_bytes work == 0) ≡ b → IfSome (task_in None (Ok op) (cond b (Ended Good) (Moving 0))) (IsSoundTask counts)) [
+      | true ↦ λ empty. tt
+      | false ↦ λ some. let apart : work_bytes work ≡ 0 → ⊥ = eqb-false (work_bytes work) 0 some in (omega arith, on)
     ] refl
+
+missing_asked_sound : (counts : List ℕ) (asks : Result Op Sense) → ((op : Op) → asks ≡ Ok op → IsOk (work_without_unit op)) →
+    IfSome (task_in None asks (progress_asked (work_asked_without_unit asks))) (IsSoundTask counts)
+missing_asked_sound counts (Err sense) on = tt
+missing_asked_sound counts (Ok op) on = missing_work_sound counts op (work_without_unit op) refl (on op refl)
+
+pub missing_sound : (counts cdb : List ℕ) →
+    IfSome (task_in None (asked_without_unit cdb) (progress_asked (work_asked_without_unit (asked_without_unit cdb)))) (IsSoundTask counts)
+missing_sound counts cdb = missing_asked_sound counts (asked_without_unit cdb) (work_without_unit-asked cdb)
 
 -- WHERE A TASK STANDS
 
@@ -140,20 +102,12 @@ on_in_range [] number op read on = absurd on
 on_in_range (unit ∷ units) zero op read on = on
 on_in_range (unit ∷ units) (suc number) op read on = on_in_range units number op read on
 
--- a command in this phase of the solo machine is sound
-pub HasChunk-sound : (counts : List ℕ) (number blocks : ℕ) (op : Op) (step : Step) → slice_get counts number ≡ Some blocks → HasChunk blocks op step →
-    IfSome (task_in (Some number) (Ok op) step) (IsSoundTask counts)
-HasChunk-sound counts number blocks op QueuedStep is has = tt
-HasChunk-sound counts number blocks op (MovingStep chunk) is has = rw is (has.0, has.1)
-HasChunk-sound counts number blocks op (EndedStep answer) is has = tt
-HasChunk-sound counts number blocks op (SentStep answer) is has = tt
-
 -- a task is sound after its next chunk
 pub left_sound : (units : List BlockMaps) (number chunk : ℕ) (op : Op) (read : BlockMaps) → IsOn (counts_of units) op (Some number) →
-    IfSome (task_in (Some number) (Ok op) (phase_after (slice_index_or units number read) chunk op)) (IsSoundTask (counts_of units))
+    IfSome (task_in (Some number) (Ok op) (progress_after (slice_index_or units number read) chunk (work_of op (slice_index_or units number read).count))) (IsSoundTask (counts_of units))
 left_sound units number chunk op read on =
     let unit = slice_index_or units number read in
-    HasChunk-sound (counts_of units) number unit.count op (phase_after unit chunk op)
+    HasChunk-sound (counts_of units) number unit.count op (progress_after unit chunk (work_of op unit.count))
     (slice_get-counts_of units number unit (slice_get-get_or units number read (on_within units number op on)))
     (HasChunk-after unit chunk op unit.count (on_in_range units number op read on))
 

@@ -3,6 +3,8 @@ use Rattle.std.specs.Prelude.{ℕ, nat_le, ◌==◌, Bool, false, not, ◌&&◌,
 use Rattle.std.specs.Option.{option_map_or}
 use Rattle.block_unit.specs.BlockMaps.{BlockMaps}
 use Rattle.scsi_cmd.specs.Meaning.{asked}
+use Rattle.scsi_cmd.specs.Work.{asked_without_unit, work_asked_without_unit}
+use Rattle.device_server.specs.Server.{progress_asked}
 use Rattle.scsi_cmd.specs.Held.{held_under, with_held_under}
 use Rattle.uas_iu.specs.declared.Iu.{Iu}
 use Rattle.uas_iu.specs.Faults.{first_fault, identifier}
@@ -16,7 +18,7 @@ use Rattle.uas_target.specs.declared.TheConstants.{GREATEST_TAG}
 use Rattle.uas_target.specs.declared.Took.{Took}
 use Rattle.uas_target.specs.declared.Took.TheVariants.{Began, Dropped}
 use Rattle.uas_target.specs.Fields.{is_tag, tag_in, lun_in, cdb_in, addressed}
-use Rattle.uas_target.specs.Tasks.{task_in, begun_by, missing_phase, task_wants, task_given, task_fits, task_taken, task_left, task_answer}
+use Rattle.uas_target.specs.Tasks.{task_in, begun_by, task_wants, task_given, task_fits, task_taken, task_left, task_answer}
 
 -- the units by number, and the task of each tag, tag 1 first
 pub record Device : Type 0 where
@@ -49,9 +51,11 @@ with_response device tag code = with_task device tag (Some (Ended None (Response
 -- RECEIVING
 
 -- the units and the task once the addressed unit executed a CDB as far as its data; where there is none, INQUIRY alone is
--- executed, which asks for the same of any unit
+-- executed
 abbrev pub executed_on : List BlockMaps → ℕ → List ℕ → Option BlockMaps → List BlockMaps × Option DeviceTask
-executed_on units number cdb None = (units, task_in None (asked cdb 0) (missing_phase cdb (asked cdb 0)))
+executed_on units number cdb None =
+    let asks = asked_without_unit cdb in
+    (units, task_in None asks (progress_asked (work_asked_without_unit asks)))
 executed_on units number cdb (Some unit) =
     let asks = asked cdb unit.count in
     (slice_set units number (begun_by unit cdb asks).0, task_in (Some number) asks (begun_by unit cdb asks).1)

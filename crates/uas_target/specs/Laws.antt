@@ -1,14 +1,20 @@
--- Laws of the device, as statements that a contract can name.
-use Rattle.std.specs.Prelude.{◌≡◌, ℕ, List, [], ◌∷◌, ◌++◌}
+-- Laws of the device: statements that a contract can name, and what its users know of a chunk without opening the definitions.
+use Rattle.std.proofs.Common.{◌≡◌, ℕ, ◌*◌, ◌<◌, List, [], ◌∷◌, ◌++◌, refl, arith, sym, ◌∙◌}
 use Rattle.uas_iu.specs.declared.Iu.TheVariants.{Command, Sense, Response, Task}
 use Rattle.uas_iu.specs.Units.{Fits, unit_text}
 use Rattle.arrayvec.specs.ArrayVec.{ArrayVec}
 use Rattle.block_unit.specs.BlockMaps.{BlockMaps}
 use Rattle.scsi_cmd.specs.declared.Op.{Op}
-use Rattle.scsi_cmd.specs.Meaning.{asked, checked}
-use Rattle.scsi_cmd.specs.Op.{cdb_bytes}
-use Rattle.solo_model.specs.TaggedTask.{begun}
-use Rattle.uas_target.specs.Tasks.{begun_by}
+use Rattle.scsi_cmd.specs.Meaning.{asked}
+use Rattle.scsi_cmd.specs.Op.{cdb_bytes, direction_of, moved_bytes}
+use Rattle.scsi_cmd.specs.declared.Direction.{Direction}
+use Rattle.scsi_cmd.specs.declared.Direction.TheVariants.{Nothing as NoWay, ToHost, ToDevice}
+use Rattle.scsi_cmd.specs.Laws.{direction_of-work}
+use Rattle.scsi_cmd.specs.Work.{checked_work, reports_attention, work_direction, work_of}
+use Rattle.device_server.specs.Server.{begun, chunk_bytes}
+use Rattle.uas_target.specs.declared.Phase.{Phase}
+use Rattle.uas_target.specs.declared.Phase.TheVariants.{Absent, Gives, Takes}
+use Rattle.uas_target.specs.Tasks.{begun_by, chunk_wanted, wanted_way}
 use Rattle.uas_target.specs.Device.{Device, Call, Receive, Give, Take, Send, called, device_after, dropped, executed, on_its_tag, received, task_of, with_response, with_units_and_task}
 use Rattle.uas_target.specs.Fields.{tag_in}
 
@@ -37,11 +43,11 @@ ResponsesAreDropped =
     (device : Device) (tag code : ℕ) → Fits (Response tag code)
     → received device (unit_text (Response tag code)) ≡ dropped device
 
--- what a host asks for begins as in the solo machine
-abbrev pub BeginsAsSolo : Type 0
-BeginsAsSolo =
+-- what a host asks for begins as the operation that its CDB names
+abbrev pub BeginsAsAsked : Type 0
+BeginsAsAsked =
     (unit : BlockMaps) (op : Op)
-    → begun_by unit (cdb_bytes op) (asked (cdb_bytes op) unit.count) ≡ begun unit (checked op unit.count)
+    → begun_by unit (cdb_bytes op) (asked (cdb_bytes op) unit.count) ≡ begun unit (reports_attention op) (checked_work op unit.count)
 
 -- A LIST OF CALLS
 
@@ -63,3 +69,32 @@ abbrev pub CallsAreFolded : Type 0
 CallsAreFolded =
     (device : Device) (calls : List Call) (call : Call)
     → device_after device (calls ++ (call ∷ [])) ≡ called (device_after device calls) call
+
+-- A CHUNK THAT A TASK WANTS
+
+pub wanted_gives : (way : Direction) (bytes size : ℕ) → wanted_way way bytes ≡ Gives size → (way ≡ ToHost) × (bytes ≡ size)
+wanted_gives NoWay bytes size is = let no : ◌≡◌ {A = Phase} Absent (Gives size) = is in let it : ⊥ = cc in absurd it
+wanted_gives ToHost bytes size is = let same : ◌≡◌ {A = Phase} (Gives bytes) (Gives size) = is in (refl, cc)
+wanted_gives ToDevice bytes size is = let no : ◌≡◌ {A = Phase} (Takes bytes) (Gives size) = is in let it : ⊥ = cc in absurd it
+
+pub wanted_takes : (way : Direction) (bytes size : ℕ) → wanted_way way bytes ≡ Takes size → (way ≡ ToDevice) × (bytes ≡ size)
+wanted_takes NoWay bytes size is = let no : ◌≡◌ {A = Phase} Absent (Takes size) = is in let it : ⊥ = cc in absurd it
+wanted_takes ToHost bytes size is = let no : ◌≡◌ {A = Phase} (Gives bytes) (Takes size) = is in let it : ⊥ = cc in absurd it
+wanted_takes ToDevice bytes size is = let same : ◌≡◌ {A = Phase} (Takes bytes) (Takes size) = is in (refl, cc)
+
+-- what is wanted of an operation is what its work moves
+pub gives_to_host : (op : Op) (chunk size blocks : ℕ) → chunk_wanted chunk op ≡ Gives size → 4096 * chunk < moved_bytes op →
+    work_direction (work_of op blocks) ≡ ToHost
+gives_to_host op chunk size blocks wants less =
+    sym (direction_of-work op blocks (omega arith)) ∙ (wanted_gives (direction_of op) (chunk_bytes (moved_bytes op) chunk) size wants).0
+
+pub takes_to_device : (op : Op) (chunk size blocks : ℕ) → chunk_wanted chunk op ≡ Takes size → 4096 * chunk < moved_bytes op →
+    work_direction (work_of op blocks) ≡ ToDevice
+takes_to_device op chunk size blocks wants less =
+    sym (direction_of-work op blocks (omega arith)) ∙ (wanted_takes (direction_of op) (chunk_bytes (moved_bytes op) chunk) size wants).0
+
+pub gives_size : (op : Op) (chunk size : ℕ) → chunk_wanted chunk op ≡ Gives size → chunk_bytes (moved_bytes op) chunk ≡ size
+gives_size op chunk size wants = (wanted_gives (direction_of op) (chunk_bytes (moved_bytes op) chunk) size wants).1
+
+pub takes_size : (op : Op) (chunk size : ℕ) → chunk_wanted chunk op ≡ Takes size → chunk_bytes (moved_bytes op) chunk ≡ size
+takes_size op chunk size wants = (wanted_takes (direction_of op) (chunk_bytes (moved_bytes op) chunk) size wants).1

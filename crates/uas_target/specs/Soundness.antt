@@ -1,9 +1,9 @@
 -- What is true of every task that the device has.
-use Rattle.std.specs.Prelude.{◌≡◌, ℕ, ◌*◌, ◌<◌, ◌≤◌, List, length, map, slice_get, Option, None, Some, MatchOption}
+use Rattle.std.specs.Prelude.{◌≡◌, ℕ, ◌*◌, ◌<◌, ◌≤◌, List, length, map, slice_get, Option, None, Some, MatchOption, IsOk}
 use Rattle.block_unit.specs.BlockMaps.{BlockMaps}
 use Rattle.scsi_cmd.specs.declared.Op.{Op}
-use Rattle.scsi_cmd.specs.declared.Op.TheVariants.{TestUnitReady, Inquiry, ReadCapacity, Read, Write, Sync}
 use Rattle.scsi_cmd.specs.Op.{moved_bytes}
+use Rattle.scsi_cmd.specs.Work.{work_without_unit}
 use Rattle.scsi_cmd.specs.Meaning.{op_fault}
 use Rattle.scsi_cmd.specs.Held.{AllHeld}
 use Rattle.uas_target.specs.declared.DeviceTask.{DeviceTask}
@@ -16,17 +16,9 @@ use Rattle.uas_target.specs.declared.TheConstants.{GREATEST_TAG, MAX_UNITS}
 abbrev pub counts_of : List BlockMaps → List ℕ
 counts_of units = map (λ unit. unit.count) units
 
-abbrev pub IsInquiry : Op → Type 0
-IsInquiry TestUnitReady = ⊥
-IsInquiry (Inquiry allocation) = Unit {0}
-IsInquiry ReadCapacity = ⊥
-IsInquiry (Read lba count fua) = ⊥
-IsInquiry (Write lba count fua) = ⊥
-IsInquiry (Sync lba count) = ⊥
-
--- an operation can be executed on this unit, of units of so many blocks: without a unit it is INQUIRY
+-- an operation can be executed on this unit, of units of so many blocks: without a unit it is one that needs none
 abbrev pub IsOn : List ℕ → Op → Option ℕ → Type 0
-IsOn counts op None = IsInquiry op
+IsOn counts op None = IsOk (work_without_unit op)
 IsOn counts op (Some number) = MatchOption (slice_get counts number) ⊥ (λ count. op_fault op count ≡ None)
 
 -- a task that moves data has bytes left to move, and its blocks are on its unit

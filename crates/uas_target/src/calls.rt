@@ -11,7 +11,7 @@ use crate::receiver::unit_number;
 use crate::table::TaskTable;
 use crate::{DeviceAnswer, DeviceTask, MAX_UNITS, Phase, Target};
 use block_unit::Unit;
-use solo_model::status_and_sense;
+use device_server::status_and_sense;
 use std::alloc::{AllocError, Global};
 use uas_iu::{Iu, LUN_BYTES};
 
@@ -34,7 +34,7 @@ impl Target {
         ensures chunk { IsChunk result }
     {
         match self.tasks.get(tag) {
-            Some(DeviceTask::Moving { op, chunk, .. }) => chunk_wants(op, chunk),
+            Some(DeviceTask::Moving { op, chunk, .. }) => chunk_wants(&op, chunk),
             Some(DeviceTask::Ended { .. }) => Phase::Ends,
             None => Phase::Absent,
         }

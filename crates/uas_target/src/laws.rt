@@ -1,5 +1,5 @@
 //! Laws of the device's definitions.
-ghost use Rattle.uas_target.specs.Laws.{BeginsAsSolo, CallsAreFolded, CommandsAreExecuted, OtherTagsAreKept, ResponsesAreDropped, SensesAreDropped, TasksAreAnswered};
+ghost use Rattle.uas_target.specs.Laws.{BeginsAsAsked, CallsAreFolded, CommandsAreExecuted, OtherTagsAreKept, ResponsesAreDropped, SensesAreDropped, TasksAreAnswered};
 
 /// Law: what comes of the text of each kind of unit.
 #[tactic(auto, using(crate::proofs::Received::of_texts))]
@@ -10,10 +10,10 @@ pub fn received_texts()
     ensures responses { ResponsesAreDropped }
 {}
 
-/// Law: an operation that a host asks for begins as in the solo machine.
+/// Law: an operation that a host asks for begins as that operation.
 #[tactic(auto, using(crate::proofs::Received::of_texts))]
-pub fn begins_as_solo()
-    ensures { BeginsAsSolo }
+pub fn begins_as_asked()
+    ensures { BeginsAsAsked }
 {}
 
 /// Law: the device after a list of calls is what each call in turn makes of it.

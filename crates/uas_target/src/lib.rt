@@ -17,13 +17,13 @@
 //!
 //! What is promised: a [`Target`] is the record `Device` of `specs/Device.antt`, block maps by unit number and tasks by
 //! tag, and each call makes of it exactly what the definition of that name says, and answers so. So after any list of
-//! calls it is `device_after` of that list. What a host asks for begins as in `solo_model` (`begins_as_solo`), each chunk
-//! goes as there, and a call leaves the tasks of all tags but its own alone (`other_tags_are_kept`).
+//! calls it is `device_after` of that list. What a host asks for begins as the operation that its CDB names
+//! (`begins_as_asked`), each chunk goes as in `device_server`, and a call leaves the tasks of all tags but its own alone (`other_tags_are_kept`).
 //!
 //! [`Target::new`] takes all memory that the device ever has; no later call takes any. Finding a tag's task is one index.
 //!
-//! It stands on `uas_iu` for the units, `scsi_cmd` for what a CDB asks, `block_unit` for the blocks, and `solo_model` for
-//! the steps of one command.
+//! It stands on `uas_iu` for the units, `scsi_cmd` for what a CDB asks, `block_unit` for the blocks, and `device_server`
+//! for the steps of one command.
 #![tactic(auto)]
 
 mod calls;
@@ -35,9 +35,9 @@ mod table;
 mod tests;
 
 use block_unit::Unit;
-pub use laws::{begins_as_solo, calls_are_folded, other_tags_are_kept, received_texts};
+use device_server::Answer;
+pub use laws::{begins_as_asked, calls_are_folded, other_tags_are_kept, received_texts};
 use scsi_cmd::Op;
-use solo_model::Answer;
 use std::marker::Model;
 use table::TaskTable;
 use thiserror::Error;

@@ -1,22 +1,23 @@
 //! What comes of received bytes.
-ghost use Rattle.std.specs.Prelude.{◌≡◌, ℕ, ◌<◌, ◌≤◌, List, true, None, Some, Ok, IfNone, IfSome, MatchOption, length, slice_get, slice_index, slice_set};
+ghost use Rattle.std.specs.Prelude.{◌≡◌, ℕ, ◌<◌, ◌≤◌, List, true, None, Some, Ok, IfNone, IfOk, IfSome, MatchOption, length, slice_get, slice_index, slice_set};
 ghost use Rattle.std.specs.Result.{ForOk};
 ghost use Rattle.scsi_cmd.specs.Meaning.{asked, op_fault};
+ghost use Rattle.scsi_cmd.specs.Work.{IsWorkOn, asked_without_unit, work_asked, work_asked_without_unit};
+ghost use Rattle.device_server.specs.Server.{progress_asked};
 ghost use Rattle.uas_target.specs.Device.{Device, executed, on_its_tag, received, received_unreadable, task_of, with_response, with_units_and_task};
 ghost use Rattle.uas_target.specs.Fields.{addressed, is_tag, tag_in};
 ghost use Rattle.uas_target.specs.Soundness.{IsSoundTask, counts_of};
-ghost use Rattle.uas_target.specs.Tasks.{asked_phase, begun_by, is_inquiry, missing_phase, task_in};
+ghost use Rattle.uas_target.specs.Tasks.{begun_by, task_in};
 
 use crate::chunks::task_in;
 use crate::table::is_tag;
 use crate::{DeviceAnswer, DeviceTask, Overlap, Target, Took};
 use block_unit::Unit;
-use scsi_cmd::{Op, Sense, moves, parse};
-use solo_model::{Answer, Phase as Step, begin};
+use device_server::{begin, progress_asked};
+use scsi_cmd::{
+    Op, Sense, Work, cdb_reports_attention, parse, parse_without_unit, work_of, work_without_unit,
+};
 use uas_iu::{CDB_BYTES, INVALID_INFORMATION_UNIT, Iu, LUN_BYTES, NOT_SUPPORTED, lun_number, read};
-
-/// Operation code of INQUIRY (SPC).
-const INQUIRY: u8 = 0x12;
 
 /// The number of the unit that a LUN addresses, where it is there (SAM, single level LUN structure).
 pub(crate) fn unit_number(units: &[Unit], lun: &[u8; LUN_BYTES]) -> Option<usize>
@@ -51,8 +52,22 @@ fn begin_on(unit: &mut Unit, number: usize, cdb: &[u8; CDB_BYTES]) -> Option<Dev
     ensures sound { (counts : List ℕ) → slice_get counts number ≡ Some unit.old.count → IfSome result (IsSoundTask counts) }
 {
     let asked = parse(cdb, unit.blocks());
-    let step = begin_by(unit, cdb, asked);
-    task_in(Some(number), &asked, step)
+    let work = work_asked(&asked, unit.blocks());
+    let progress = begin(unit, cdb_reports_attention(cdb), work);
+    task_in(Some(number), &asked, progress)
+}
+
+/// The work of what is asked of a unit of so many blocks, or its fault.
+fn work_asked(asked: &Result<Op, Sense>, blocks: u32) -> Result<Work, Sense>
+    requires some { 0 < blocks }
+    requires range { ForOk asked.now (λ op. op_fault op blocks ≡ None) }
+    ensures work { result ≡ work_asked blocks asked.now }
+    ensures on { IfOk result (IsWorkOn blocks) }
+{
+    match asked {
+        Ok(op) => Ok(work_of(op, blocks)),
+        Err(sense) => Err(*sense),
+    }
 }
 
 fn begin_at(units: &mut [Unit], number: usize, cdb: &[u8; CDB_BYTES]) -> Option<DeviceTask>
@@ -66,49 +81,16 @@ fn begin_at(units: &mut [Unit], number: usize, cdb: &[u8; CDB_BYTES]) -> Option<
     begin_on(&mut units[number], number, cdb)
 }
 
-/// INQUIRY neither reports nor clears a unit attention, also where its CDB has a fault (SPC); an attention comes before
-/// anything else that another CDB asks for.
-fn begin_by(unit: &mut Unit, cdb: &[u8; CDB_BYTES], asked: Result<Op, Sense>) -> Step
-    requires { ForOk asked (λ op. op_fault op unit.old.count ≡ None) }
-    ensures unit { unit.new ≡ (begun_by unit.old cdb.now asked).0 }
-    ensures step { result ≡ (begun_by unit.old cdb.now asked).1 }
-    ensures count { unit.new.count ≡ unit.old.count }
-{
-    if is_inquiry(cdb) {
-        step_of(&asked)
-    } else {
-        begin(unit, asked)
-    }
-}
-
 /// A command to a unit that isn't there: INQUIRY alone is executed.
 fn missing_task(cdb: &[u8; CDB_BYTES]) -> Option<DeviceTask>
-    ensures { result ≡ task_in None (asked cdb.now 0) (missing_phase cdb.now (asked cdb.now 0)) }
+    ensures { result ≡ task_in None (asked_without_unit cdb.now) (progress_asked (work_asked_without_unit (asked_without_unit cdb.now))) }
 {
-    let asked = parse(cdb, 0);
-    let step = if is_inquiry(cdb) {
-        step_of(&asked)
-    } else {
-        Step::Ended(Answer::Check(Sense::UNIT_NOT_SUPPORTED))
+    let asked = parse_without_unit(cdb);
+    let work = match &asked {
+        Ok(op) => work_without_unit(op),
+        Err(sense) => Err(*sense),
     };
-    task_in(None, &asked, step)
-}
-
-fn is_inquiry(cdb: &[u8; CDB_BYTES]) -> bool
-    ensures { result ≡ is_inquiry cdb.now }
-{
-    cdb[0] == INQUIRY
-}
-
-/// The phase of a command that reports no attention.
-fn step_of(asked: &Result<Op, Sense>) -> Step
-    ensures { result ≡ asked_phase asked.now }
-{
-    match asked {
-        Ok(op) if moves(op).1 > 0 => Step::Moving(0),
-        Ok(_) => Step::Ended(Answer::Good),
-        Err(sense) => Step::Ended(Answer::Check(*sense)),
-    }
+    task_in(None, &asked, progress_asked(&work))
 }
 
 impl Target {

@@ -1,7 +1,7 @@
 use Rattle.std.proofs.Common.{arith, ap, ◌∙◌}
 use Rattle.std.specs.Option.{unwrap_or}
 use Rattle.uas_target.specs.Device.{given}
-use Rattle.solo_model.proofs.Kept.{written_at_long}
+use Rattle.scsi_cmd.specs.Laws.{length-written_at}
 use Rattle.bus_core.proofs.HostEvents.{given_written}
 use Rattle.bus_core.proofs.hosts.give_into.Goals as goal
 
@@ -12,4 +12,4 @@ returns-clause-buffer c =
     (c.give_chunk.ensures.bytes ∙ ap (unwrap_or (given c.args.target.now c.args.tag)) c.range_mut.ensures.value)
 
 pub returns-clause-whole : goal.returns-clause-whole
-returns-clause-whole c = written_at_long _ _ _ (omega (arith, c.requires.room, c.give_chunk.auto.bytes, c.range_mut.ensures.len))
+returns-clause-whole c = length-written_at _ _ _ (omega (arith, c.requires.room, c.give_chunk.auto.bytes, c.range_mut.ensures.len))

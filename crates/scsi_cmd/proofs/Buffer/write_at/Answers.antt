@@ -1,7 +1,7 @@
 -- The range has room for all the bytes.
 use Rattle.std.proofs.Common.{length, ap, ◌∙◌}
 use Rattle.scsi_cmd.specs.Buffers.{written_at}
-use Rattle.scsi_cmd.proofs.Buffers.{length-with_bytes_at, written_at-fits}
+use Rattle.scsi_cmd.specs.Laws.{length-with_bytes_at, written_at-fits}
 use Rattle.scsi_cmd.proofs.Buffer.write_at.Goals as goal
 
 pub returns : goal.returns

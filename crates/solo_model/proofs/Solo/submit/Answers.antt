@@ -2,7 +2,7 @@ use Rattle.std.proofs.Common.{ap, sym, ◌∙◌, length-set}
 use Rattle.std.specs.Prelude.{is_some}
 use Rattle.solo_model.specs.Soundness.{IsSound}
 use Rattle.scsi_cmd.specs.Laws.{AllHeld-set, submit_fault-none}
-use Rattle.solo_model.proofs.Kept.{IsSound-queued}
+use Rattle.solo_model.specs.Laws.{IsSound-queued}
 use Rattle.solo_model.proofs.Solo.submit.Goals as goal
 
 pub invariant_of-self : goal.invariant_of-self

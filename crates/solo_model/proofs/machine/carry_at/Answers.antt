@@ -2,8 +2,8 @@ use Rattle.solo_model.specs.Soundness.{IsSound}
 use Rattle.scsi_cmd.specs.Laws.{AllHeld-held, AllHeld-set, held_at-read}
 use Rattle.solo_model.proofs.machine.carry_at.Goals as goal
 
-pub carry-requires-clause-sound : goal.carry-requires-clause-sound
-carry-requires-clause-sound c =
+pub carry-requires : goal.carry-requires
+carry-requires c =
     AllHeld-held (IsSound c.args.unit.now.count) c.args.tasks.now c.args.slot _ c.requires.sound (held_at-read _ _ _ _ c.requires.slot c.in-Some.is)
 
 pub returns-in-Some-clause-sound : goal.returns-in-Some-clause-sound

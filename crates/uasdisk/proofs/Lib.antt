@@ -4,3 +4,9 @@ mod Zeros
 mod NumberWords
 mod CommandLineFacts
 mod PlainLines
+mod Appended
+mod Outcomes
+mod Goes
+mod Notes
+mod Transitions
+mod WholeScripts

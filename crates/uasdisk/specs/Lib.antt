@@ -8,3 +8,4 @@ pub mod Options
 pub mod CommandLine
 pub mod Told
 pub mod Ends
+pub mod Headline

@@ -203,7 +203,11 @@ told_line run (line.Status tag) = stepped run (step.Status tag)
 told_line run (line.Take client) = taken_or_idle run client
 told_line run line.Drain = drained_run run
 
+-- the whole run of these lines: a drain follows the last one
+abbrev pub whole_run : List BlockMaps → List Line → Telling
+whole_run units lines = drained_run (fold told_line (opening_run units) lines)
+
 -- Script meaning: the text printed for these lines on these units, and 1 where it tells a check, an abort or a refusal,
--- else 0. A drain follows the last line.
+-- else 0.
 unfoldable pub told : List BlockMaps → List Line → List ℕ × ℕ
-told units lines = let after = drained_run (fold told_line (opening_run units) lines) in (after.text, if after.failed then 1 else 0)
+told units lines = let after = whole_run units lines in (after.text, if after.failed then 1 else 0)

@@ -19,6 +19,7 @@
 #![tactic(auto)]
 
 pub mod files;
+pub mod headline;
 pub mod image;
 pub mod printed;
 pub mod program;

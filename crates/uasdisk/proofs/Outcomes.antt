@@ -1,0 +1,165 @@
+-- What one step of the shared machine tells.
+use Rattle.std.proofs.Common.{◌≡◌, ℕ, Bool, true, false, cond, suc, List, [], ◌∷◌, Option, Some, None, refl}
+use Rattle.std.specs.Prelude.{slice_get}
+use Rattle.scsi_cmd.specs.declared.Command.{Command}
+use Rattle.scsi_cmd.specs.declared.SubmitFault.{SubmitFault}
+use Rattle.scsi_cmd.specs.Held.{held_at}
+use Rattle.solo_model.specs.declared.TaggedTask.{TaggedTask}
+use Rattle.solo_model.specs.TaggedTask.{carried, moved, sent}
+use Rattle.block_unit.specs.BlockMaps.{BlockMaps}
+use Rattle.bus_core.specs.declared.Step.{Step}
+use Rattle.bus_core.specs.declared.Step.TheVariants.{Submit, CommandPipe, Data, Status, Event, Take}
+use Rattle.bus_core.specs.declared.Mark.{Mark}
+use Rattle.bus_core.specs.declared.Mark.TheVariants.{Submit as SubmitMark, Quiet}
+use Rattle.bus_core.specs.declared.Outcome.{Outcome}
+use Rattle.bus_core.specs.declared.Refusal.{Refusal}
+use Rattle.bus_core.specs.declared.Place.{Place}
+use Rattle.bus_core.specs.declared.Completion.{Completion}
+use Rattle.bus_core.specs.Td.{Entry}
+use Rattle.bus_core.specs.Tags.{place_of, command_slot}
+use Rattle.bus_core.specs.Part.{Part, Act, carry_act, carried_slot, carried_entry, move_act, moved_slot, moved_entry, send_act, sent_slot, sent_entry, event_act, event_place, seen_entry, seen_by, take_act, fault_at}
+use Rattle.bus_core.specs.Shared.{Shared, idle, due, due_step, shared_step, routed, routed_to, routed_by_tag, carry_step, event_step, submitted_under, submitted_to, answered}
+use Rattle.std.specs.Prelude.{option_and_then, length}
+
+-- NO NEWS
+
+-- an outcome with no reply and no refusal
+pub record Untold (outcome : Outcome) : Type 0 where
+  pub reply : outcome.reply ≡ None
+  pub refused : outcome.refused ≡ None
+
+untold_idle : Untold idle
+untold_idle = record { reply = refl; refused = refl }
+
+untold_if : (b : Bool) (state : Shared) (after : Shared × Outcome) → Untold after.1 → Untold (cond b after (state, idle)).1
+untold_if true state after untold = untold
+untold_if false state after untold = untold_idle
+
+untold_routed_to : (state : Shared) (client : ℕ) (act : Part → Act) (part : Option Part) → ((p : Part) → (act p).reply ≡ None)
+    → Untold (routed_to state client act part).1
+untold_routed_to state client act None none = record { reply = refl; refused = refl }
+untold_routed_to state client act (Some part) none = record { reply = none part; refused = refl }
+
+untold_by_tag : (state : Shared) (act : Place → Part → Act) (place : Option Place) → ((at : Place) (p : Part) → (act at p).reply ≡ None)
+    → Untold (routed_by_tag state act place).1
+untold_by_tag state act None none = untold_idle
+untold_by_tag state act (Some place) none =
+    untold_routed_to state place.client (act place) (slice_get state.parts place.client) (none place)
+
+carry_slot-reply : (part : Part) (slot : ℕ) (place : Place) (entry : Option Entry) → (carried_slot part slot place entry).reply ≡ None
+carry_slot-reply part slot place None = refl
+carry_slot-reply part slot place (Some entry) = go (carried part.unit entry.task)
+  where
+    go : (after : Option (BlockMaps × TaggedTask)) → (carried_entry part slot place entry after).reply ≡ None
+    go None = refl
+    go (Some after) = refl
+
+move_slot-reply : (part : Part) (slot : ℕ) (place : Place) (entry : Option Entry) → (moved_slot part slot place entry).reply ≡ None
+move_slot-reply part slot place None = refl
+move_slot-reply part slot place (Some entry) = go (moved part.unit entry.task)
+  where
+    go : (after : Option (BlockMaps × TaggedTask)) → (moved_entry part slot place entry after).reply ≡ None
+    go None = refl
+    go (Some after) = refl
+
+send_slot-reply : (part : Part) (slot : ℕ) (place : Place) (entry : Option Entry) → (sent_slot part slot place entry).reply ≡ None
+send_slot-reply part slot place None = refl
+send_slot-reply part slot place (Some entry) = go (sent entry.task)
+  where
+    go : (task : Option TaggedTask) → (sent_entry part slot place entry task).reply ≡ None
+    go None = refl
+    go (Some task) = refl
+
+seen_entry-reply : (part : Part) (slot : ℕ) (entry : Option Entry) → (seen_entry part slot entry).reply ≡ None
+seen_entry-reply part slot None = refl
+seen_entry-reply part slot (Some entry) = refl
+
+event_act-reply : (event : Completion) (part : Part) → (event_act event part).reply ≡ None
+event_act-reply event part =
+    seen_entry-reply part (event_place event).slot (option_and_then (seen_by event) (held_at part.entries (event_place event).slot))
+
+untold_carry : (state : Shared) (messages : List Place) → Untold (carry_step state messages).1
+untold_carry state [] = untold_idle
+untold_carry state (place ∷ rest) =
+    untold_routed_to (record state { messages = rest }) place.client (carry_act place) (slice_get state.parts place.client)
+    (λ p. carry_slot-reply p place.slot place (held_at p.entries place.slot))
+
+untold_event : (state : Shared) (events : List Completion) → Untold (event_step state events).1
+untold_event state [] = untold_idle
+untold_event state (event ∷ rest) =
+    untold_routed_to (record state { events = rest }) (event_place event).client (event_act event) (slice_get state.parts (event_place event).client)
+    (event_act-reply event)
+
+-- A step of controller, device or host, and of no client.
+abbrev pub IsInner : Step → Type 0
+IsInner (Submit client tag ticket command) = ⊥
+IsInner CommandPipe = Unit {0}
+IsInner (Data tag) = Unit {0}
+IsInner (Status tag) = Unit {0}
+IsInner Event = Unit {0}
+IsInner (Take client) = ⊥
+
+pub inner_untold : (state : Shared) (step : Step) → IsInner step → Untold (shared_step state step).1
+inner_untold state CommandPipe inner =
+    untold_if (due state CommandPipe) state (due_step state CommandPipe) (untold_carry state state.messages)
+inner_untold state Event inner =
+    untold_if (due state Event) state (due_step state Event) (untold_event state state.events)
+inner_untold state (Data tag) inner =
+    untold_if (due state (Data tag)) state (due_step state (Data tag)) (untold_by_tag state move_act (place_of (length state.parts) tag)
+    (λ at p. move_slot-reply p at.slot at (held_at p.entries at.slot)))
+inner_untold state (Status tag) inner =
+    untold_if (due state (Status tag)) state (due_step state (Status tag)) (untold_by_tag state send_act (place_of (length state.parts) tag)
+    (λ at p. send_slot-reply p at.slot at (held_at p.entries at.slot)))
+inner_untold state (Submit client tag ticket command) inner = absurd inner
+inner_untold state (Take client) inner = absurd inner
+
+-- A TAKE
+
+-- the outcome of a Take that is due is the client's, and no refusal
+pub record IsTaken (client : ℕ) (outcome : Outcome) : Type 0 where
+  pub owner : outcome.owner ≡ Some client
+  pub refused : outcome.refused ≡ None
+
+pub take_told : (state : Shared) (client : ℕ) → due state (Take client) ≡ true → IsTaken client (shared_step state (Take client)).1
+take_told state client is_due = go (slice_get state.parts client)
+  where
+    go' : (part : Option Part) → IsTaken client (routed_to state client (take_act client) part).1
+    go' None = record { owner = refl; refused = refl }
+    go' (Some part) = record { owner = refl; refused = refl }
+
+    through : (b : Bool) → b ≡ true → IsTaken client (cond b (routed state client (take_act client)) (state, idle)).1
+    through true is = go' (slice_get state.parts client)
+    through false never = cc
+
+    go : Option Part → IsTaken client (shared_step state (Take client)).1
+    go part = through (due state (Take client)) is_due
+
+-- A SUBMISSION
+
+-- an accepted submission is marked with an index, a refused one is Quiet
+abbrev pub MarksSubmission : Mark → Option Refusal → Type 0
+MarksSubmission mark None = (index : ℕ) × (mark ≡ SubmitMark index)
+MarksSubmission mark (Some refusal) = mark ≡ Quiet
+
+pub record IsSubmitted (client : ℕ) (outcome : Outcome) : Type 0 where
+  pub owner : outcome.owner ≡ Some client
+  pub reply : outcome.reply ≡ None
+  pub mark : MarksSubmission outcome.mark outcome.refused
+
+pub submit_told : (state : Shared) (client tag ticket : ℕ) (command : Command)
+    → IsSubmitted client (shared_step state (Submit client tag ticket command)).1
+submit_told state client tag ticket command = under (command_slot (length state.parts) client tag)
+  where
+    by_fault : (part : Part) (slot : ℕ) (fault : Option SubmitFault)
+        → IsSubmitted client (answered state part (record { client = client; slot = slot }) tag ticket command fault).1
+    by_fault part slot None = record { owner = refl; reply = refl; mark = (suc slot, refl) }
+    by_fault part slot (Some fault) = record { owner = refl; reply = refl; mark = refl }
+
+    to : (slot : ℕ) (part : Option Part)
+        → IsSubmitted client (submitted_to state (record { client = client; slot = slot }) tag ticket command part).1
+    to slot None = record { owner = refl; reply = refl; mark = refl }
+    to slot (Some part) = by_fault part slot (fault_at part slot ticket command)
+
+    under : (slot : Option ℕ) → IsSubmitted client (submitted_under state client tag ticket command slot).1
+    under None = record { owner = refl; reply = refl; mark = refl }
+    under (Some slot) = to slot (slice_get state.parts client)

@@ -1,0 +1,391 @@
+-- Each line of a script goes on by steps of the bus, and so do all of them.
+use Rattle.std.proofs.Common.{◌≡◌, ◌∙◌, ℕ, zero, suc, Bool, true, false, cond, ◌+◌, List, [], ◌∷◌, ◌++◌, length, map, fold, Option, Some, None, Result, Ok, Err, option_map, option_to_list, refl, ap, ap₂, sym, subst}
+use Rattle.std.proofs.lemmas.List.{append-nil}
+use Rattle.std.proofs.lemmas.Bool.{eqb-true}
+use Rattle.std.specs.Prelude.{◌==◌, ◌-◌, ◌||◌, slice_get, slice_set, position, not}
+use Rattle.scsi_cmd.specs.declared.TheConstants.{TAGS}
+use Rattle.scsi_cmd.specs.declared.Command.{Command}
+use Rattle.scsi_cmd.specs.declared.Reply.{Reply}
+use Rattle.scsi_cmd.specs.declared.Reply.TheVariants.{Status as StatusReply, Aborted as AbortedReply, Task as TaskReply}
+use Rattle.scsi_cmd.specs.Op.{direction_of}
+use Rattle.tag_range.specs.declared.Refused.{Refused}
+use Rattle.tag_range.specs.declared.Refused.TheVariants.{NoTag, Worn}
+use Rattle.tag_range.specs.Tags.{ClientTags, issue_entry, is_worn, tag_at}
+use Rattle.bus_core.specs.declared.Step.{Step}
+use Rattle.bus_core.specs.declared.Step.TheVariants as step
+use Rattle.bus_core.specs.declared.Mark.{Mark}
+use Rattle.bus_core.specs.declared.Mark.TheVariants.{Submit as SubmitMark, Carry, Move, Send, Settle, Quiet}
+use Rattle.bus_core.specs.declared.Outcome.{Outcome}
+use Rattle.bus_core.specs.declared.Refusal.{Refusal}
+use Rattle.bus_core.specs.Shared.{Shared, due, shared_step}
+use Rattle.bus_core.specs.Drain.{all_tags, tries, tried, tried_one, round, rounds}
+use Rattle.bus_core.specs.Laws.{HeadlineHolds}
+use Rattle.bus_core.specs.Isolation.{renumbered, label_of, is_own, own_label, own_reply}
+use Rattle.uasdisk.specs.declared.script.Request.{Request}
+use Rattle.uasdisk.specs.declared.script.Line.{Line}
+use Rattle.uasdisk.specs.declared.script.Line.TheVariants as line
+use Rattle.uasdisk.specs.Printed.{refused_name, fault_name}
+use Rattle.uasdisk.specs.Told.{Telling, drain_limit, step_of, is_due, drained_machine, is_to_host, command_of, refused_run, freed_run, handed_over, took_to_host, noted_run, is_brought_in, issued_run, with_range, submitted_by, submitted, tag_of, ticket_of, replied, taken, idle_run, stepped, taken_or_idle, taken_times, all_taken_by, taken_below, all_taken, drained_run, told_line}
+use Rattle.uasdisk.specs.Headline.{Said, line_of, replied as said_reply, refused_by_bus, refused_by_tags, idle as said_idle, news_to, own_lines}
+use Rattle.uasdisk.proofs.Outcomes.{Untold, IsInner, inner_untold, IsTaken, take_told, MarksSubmission, IsSubmitted, submit_told}
+use Rattle.uasdisk.proofs.Goes.{Goes, goes_nowhere, goes_on, goes_saying, goes_by_step, is_to_host_by, shown_by, or-false}
+use Rattle.uasdisk.proofs.Notes.{flags_of, noted_after, ranges_noted, ticket_noted, freed_noted}
+
+-- NO NEWS
+
+untold_news : (outcome : Outcome) → Untold outcome → [] ≡ news_to outcome outcome.owner
+untold_news outcome untold = go outcome.owner
+  where
+    go : (owner : Option ℕ) → [] ≡ news_to outcome owner
+    go None = refl
+    go (Some client) = rw (untold.reply, untold.refused) refl
+
+unreplied : (client : ℕ) (outcome : Outcome) → outcome.reply ≡ None → own_reply client outcome ≡ None
+unreplied client outcome none = go (is_own client outcome)
+  where
+    go : (b : Bool) → cond b (option_map (renumbered client) outcome.reply) None ≡ None
+    go true = rw none refl
+    go false = refl
+
+unshown : (brings_in : List (List Bool)) (client : ℕ) (outcome : Outcome) → outcome.reply ≡ None
+    → [] ≡ option_to_list (option_map (shown_by brings_in client) (own_reply client outcome))
+unshown brings_in client outcome none =
+    ap (λ (r : Option Reply). option_to_list (option_map (shown_by brings_in client) r)) (sym (unreplied client outcome none))
+
+-- the label of a step that is no submission is of no command
+abbrev IsNoSubmission : Step → Type 0
+IsNoSubmission (step.Submit client tag ticket command) = ⊥
+IsNoSubmission step.CommandPipe = Unit {0}
+IsNoSubmission (step.Data tag) = Unit {0}
+IsNoSubmission (step.Status tag) = Unit {0}
+IsNoSubmission step.Event = Unit {0}
+IsNoSubmission (step.Take client) = Unit {0}
+
+mark_label : (ticket : ℕ) (mark : Mark) (taken : Step) → IsNoSubmission taken → is_to_host_by ticket (label_of mark taken) ≡ false
+mark_label ticket (SubmitMark index) (step.Submit client tag given command) is = absurd is
+mark_label ticket (SubmitMark index) step.CommandPipe is = refl
+mark_label ticket (SubmitMark index) (step.Data tag) is = refl
+mark_label ticket (SubmitMark index) (step.Status tag) is = refl
+mark_label ticket (SubmitMark index) step.Event is = refl
+mark_label ticket (SubmitMark index) (step.Take client) is = refl
+mark_label ticket (Carry index) taken is = refl
+mark_label ticket (Move index) taken is = refl
+mark_label ticket (Send index) taken is = refl
+mark_label ticket (Settle index) taken is = refl
+mark_label ticket Quiet taken is = refl
+
+no_label : (client ticket : ℕ) (taken : Step) (outcome : Outcome) → IsNoSubmission taken → is_to_host_by ticket (own_label client taken outcome) ≡ false
+no_label client ticket taken outcome is = go (is_own client outcome)
+  where
+    go : (b : Bool) → is_to_host_by ticket (cond b (label_of outcome.mark taken) None) ≡ false
+    go true = mark_label ticket outcome.mark taken is
+    go false = refl
+
+inner_no_submission : (taken : Step) → IsInner taken → IsNoSubmission taken
+inner_no_submission (step.Submit client tag ticket command) is = absurd is
+inner_no_submission step.CommandPipe is = tt
+inner_no_submission (step.Data tag) is = tt
+inner_no_submission (step.Status tag) is = tt
+inner_no_submission step.Event is = tt
+inner_no_submission (step.Take client) is = tt
+
+same_notes : (b : Bool) (client ticket : ℕ) (taken : Step) (outcome : Outcome) → IsNoSubmission taken
+    → b ≡ (b || is_to_host_by ticket (own_label client taken outcome))
+same_notes b client ticket taken outcome is = sym (or-false b) ∙ ap (λ (x : Bool). b || x) (sym (no_label client ticket taken outcome is))
+
+-- SINGLE STEPS
+
+abbrev at_machine : Telling → Shared → Telling
+at_machine run machine = record run { machine = machine }
+
+-- a step that tells nothing, and no submission
+untold_goes : HeadlineHolds → (run : Telling) (taken : Step) → IsNoSubmission taken → Untold (shared_step run.machine taken).1
+    → Goes run (at_machine run (shared_step run.machine taken).0)
+untold_goes isolated run taken is untold =
+    goes_by_step isolated run (at_machine run (shared_step run.machine taken).0) taken [] (record {
+      machine = refl;
+      text = sym (append-nil run.text);
+      news = untold_news (shared_step run.machine taken).1 untold;
+      noted = λ noted. noted;
+      own = λ client. unshown run.brings_in client (shared_step run.machine taken).1 untold.reply;
+      notes = λ noted client ticket. same_notes (is_brought_in run.brings_in client ticket) client ticket taken (shared_step run.machine taken).1 is;
+    })
+
+inner_goes : HeadlineHolds → (run : Telling) (taken : Step) → IsInner taken → Goes run (at_machine run (shared_step run.machine taken).0)
+inner_goes isolated run taken inner = untold_goes isolated run taken (inner_no_submission taken inner) (inner_untold run.machine taken inner)
+
+idle_goes : (run : Telling) → Goes run (idle_run run)
+idle_goes run = goes_saying run (idle_run run) said_idle refl refl (λ noted. noted) refl refl (λ client. refl)
+
+stepped_goes : HeadlineHolds → (run : Telling) (taken : Step) → IsInner taken → Goes run (stepped run taken)
+unfolding stepped is_due step_of
+stepped_goes isolated run taken inner = go (due run.machine taken)
+  where
+    go : (b : Bool) → Goes run (cond b (at_machine run (shared_step run.machine taken).0) (idle_run run))
+    go true = inner_goes isolated run taken inner
+    go false = idle_goes run
+
+-- TAKES
+
+ticket_of-renumbered : (client : ℕ) (reply : Reply) → ticket_of reply ≡ ticket_of (renumbered client reply)
+ticket_of-renumbered client (StatusReply tag ticket status sense buffer) = refl
+ticket_of-renumbered client (AbortedReply tag ticket buffer) = refl
+ticket_of-renumbered client (TaskReply tag ticket code) = refl
+
+-- a reply is shown to its owner alone
+reply_shown : (brings_in : List (List Bool)) (owner client : ℕ) (reply : Reply) (outcome : Outcome) → outcome.owner ≡ Some owner → outcome.reply ≡ Some reply
+    → own_lines client (said_reply owner (is_brought_in brings_in owner (ticket_of reply)) reply ∷ [])
+    ≡ option_to_list (option_map (shown_by brings_in client) (own_reply client outcome))
+reply_shown brings_in owner client reply outcome owned given =
+    rw (owned, given) (elim (owner == client) as (λ b. (owner == client) ≡ b
+    → option_to_list (cond b (Some (is_brought_in brings_in owner (ticket_of reply), renumbered client reply)) None) ++ []
+    ≡ option_to_list (option_map (shown_by brings_in client) (cond b (Some (renumbered client reply)) None))) [
+      | true ↦ λ same.
+          let it : owner ≡ client = eqb-true owner client same in
+          ap₂ (λ (c t : ℕ). (is_brought_in brings_in c t, renumbered client reply) ∷ []) it (ticket_of-renumbered client reply)
+      | false ↦ λ apart. refl
+    ] refl)
+
+taken_goes : HeadlineHolds → (run : Telling) (client : ℕ) → Goes run (taken run client)
+unfolding taken is_due step_of
+taken_goes isolated run client = go (due run.machine (step.Take client)) refl
+  where
+    by_reply : IsTaken client (shared_step run.machine (step.Take client)).1 → (reply : Option Reply) → (shared_step run.machine (step.Take client)).1.reply ≡ reply
+        → Goes run (replied (at_machine run (shared_step run.machine (step.Take client)).0) client reply)
+    by_reply told None none = untold_goes isolated run (step.Take client) tt (record { reply = none; refused = told.refused })
+    by_reply told (Some reply) given =
+        let outcome : Outcome = (shared_step run.machine (step.Take client)).1 in
+        let said : Said = said_reply client (is_brought_in run.brings_in client (ticket_of reply)) reply in
+        goes_by_step isolated run (replied (at_machine run (shared_step run.machine (step.Take client)).0) client (Some reply)) (step.Take client) (said ∷ []) (record {
+          machine = refl;
+          text = ap (λ (t : List ℕ). run.text ++ t) (sym (append-nil (line_of said)));
+          news = rw (told.owner, given, told.refused) refl;
+          noted = λ noted. freed_noted (at_machine run (shared_step run.machine (step.Take client)).0) client (tag_of reply) noted;
+          own = λ other. reply_shown run.brings_in client other reply outcome told.owner given;
+          notes = λ noted other ticket. same_notes (is_brought_in run.brings_in other ticket) other ticket (step.Take client) outcome tt;
+        })
+
+    go : (b : Bool) → due run.machine (step.Take client) ≡ b
+        → Goes run (cond b (replied (at_machine run (shared_step run.machine (step.Take client)).0) client (shared_step run.machine (step.Take client)).1.reply) run)
+    go true is = by_reply (take_told run.machine client is) (shared_step run.machine (step.Take client)).1.reply refl
+    go false is = goes_nowhere run
+
+taken_or_idle_goes : HeadlineHolds → (run : Telling) (client : ℕ) → Goes run (taken_or_idle run client)
+unfolding taken_or_idle is_due
+taken_or_idle_goes isolated run client = go (due run.machine (step.Take client))
+  where
+    go : (b : Bool) → Goes run (cond b (taken run client) (idle_run run))
+    go true = taken_goes isolated run client
+    go false = idle_goes run
+
+times_goes : HeadlineHolds → (times : ℕ) (run : Telling) (client : ℕ) → Goes run (taken_times times run client)
+times_goes isolated zero run client = goes_nowhere run
+times_goes isolated (suc times) run client =
+    goes_on isolated run (taken_times times run client) (taken_times (suc times) run client)
+    (times_goes isolated times run client) (taken_goes isolated (taken_times times run client) client)
+
+all_taken_by_goes : HeadlineHolds → (run : Telling) (client : ℕ) → Goes run (all_taken_by run client)
+unfolding all_taken_by
+all_taken_by_goes isolated run client = times_goes isolated TAGS run client
+
+below_goes : HeadlineHolds → (clients : ℕ) (run : Telling) → Goes run (taken_below clients run)
+below_goes isolated zero run = goes_nowhere run
+below_goes isolated (suc client) run =
+    goes_on isolated run (taken_below client run) (taken_below (suc client) run)
+    (below_goes isolated client run) (all_taken_by_goes isolated (taken_below client run) client)
+
+all_taken_goes : HeadlineHolds → (run : Telling) → Goes run (all_taken run)
+unfolding all_taken
+all_taken_goes isolated run = below_goes isolated (length run.ranges) run
+
+-- THE DRAIN
+
+abbrev AllInner : List Step → Type 0
+AllInner [] = Unit {0}
+AllInner (taken ∷ rest) = IsInner taken × AllInner rest
+
+inner_append : (steps more : List Step) → AllInner steps → AllInner more → AllInner (steps ++ more)
+inner_append [] more all rest = rest
+inner_append (taken ∷ steps) more all rest = (all.0, inner_append steps more all.1 rest)
+
+inner_map : (f : ℕ → Step) (tags : List ℕ) → ((tag : ℕ) → IsInner (f tag)) → AllInner (map f tags)
+inner_map f [] inner = tt
+inner_map f (tag ∷ tags) inner = (inner tag, inner_map f tags inner)
+
+inner_tries : (clients : ℕ) → AllInner (tries clients)
+inner_tries clients =
+    inner_append ((step.CommandPipe ∷ step.Event ∷ []) ++ map step.Data (all_tags clients)) (map step.Status (all_tags clients))
+    (inner_append (step.CommandPipe ∷ step.Event ∷ []) (map step.Data (all_tags clients)) (tt, (tt, tt)) (inner_map step.Data (all_tags clients) (λ tag. tt)))
+    (inner_map step.Status (all_tags clients) (λ tag. tt))
+
+tried_one_goes : HeadlineHolds → (run : Telling) (now : Shared × ℕ) (taken : Step) → IsInner taken
+    → Goes (at_machine run now.0) (at_machine run (tried_one now taken).0)
+tried_one_goes isolated run now taken inner = go (now.1 == 0)
+  where
+    acts : (b : Bool) → Goes (at_machine run now.0) (at_machine run (cond b ((shared_step now.0 taken).0, now.1 - 1) now).0)
+    acts true = inner_goes isolated (at_machine run now.0) taken inner
+    acts false = goes_nowhere (at_machine run now.0)
+
+    go : (b : Bool) → Goes (at_machine run now.0) (at_machine run (cond b now (cond (due now.0 taken) ((shared_step now.0 taken).0, now.1 - 1) now)).0)
+    go true = goes_nowhere (at_machine run now.0)
+    go false = acts (due now.0 taken)
+
+tried_goes : HeadlineHolds → (run : Telling) (now : Shared × ℕ) (steps : List Step) → AllInner steps
+    → Goes (at_machine run now.0) (at_machine run (tried now steps).0)
+tried_goes isolated run now [] inner = goes_nowhere (at_machine run now.0)
+tried_goes isolated run now (taken ∷ steps) inner =
+    goes_on isolated (at_machine run now.0) (at_machine run (tried_one now taken).0) (at_machine run (tried now (taken ∷ steps)).0)
+    (tried_one_goes isolated run now taken inner.0) (tried_goes isolated run (tried_one now taken) steps inner.1)
+
+rounds_goes : HeadlineHolds → (most : ℕ) (run : Telling) (now : Shared × ℕ) → Goes (at_machine run now.0) (at_machine run (rounds most now).state)
+unfolding rounds
+rounds_goes isolated zero run now = goes_nowhere (at_machine run now.0)
+rounds_goes isolated (suc more) run now =
+    let one : Goes (at_machine run now.0) (at_machine run (round now).0) = tried_goes isolated run now (tries (length now.0.parts)) (inner_tries (length now.0.parts)) in
+    goes_on isolated (at_machine run now.0) (at_machine run (round now).0) (at_machine run (rounds (suc more) now).state) one
+    (go (rounds_goes isolated more run (round now)) ((round now).1 == 0))
+  where
+    ends : Goes (at_machine run (round now).0) (at_machine run (rounds more (round now)).state) → (b : Bool) → Goes (at_machine run (round now).0)
+        (at_machine run (cond b (record { state = (round now).0; left = (round now).1; quiet = true }) (rounds more (round now))).state)
+    ends rest true = goes_nowhere (at_machine run (round now).0)
+    ends rest false = rest
+
+    go : Goes (at_machine run (round now).0) (at_machine run (rounds more (round now)).state) → (b : Bool) → Goes (at_machine run (round now).0)
+        (at_machine run (cond b (record { state = (round now).0; left = 0; quiet = false })
+        (cond ((round now).1 == now.1) (record { state = (round now).0; left = (round now).1; quiet = true }) (rounds more (round now)))).state)
+    go rest true = goes_nowhere (at_machine run (round now).0)
+    go rest false = ends rest ((round now).1 == now.1)
+
+pub drained_goes : HeadlineHolds → (run : Telling) → Goes run (drained_run run)
+unfolding drained_run drained_machine
+drained_goes isolated run =
+    let drained : Telling = at_machine run (drained_machine run.machine drain_limit) in
+    goes_on isolated run drained (drained_run run) (rounds_goes isolated (suc drain_limit) run (run.machine, drain_limit)) (all_taken_goes isolated drained)
+
+-- SUBMISSIONS
+
+-- the client's own tags refuse
+refused_goes : (run : Telling) (client : ℕ) (tags now : ClientTags) (refused : Refused) → slice_get run.ranges client ≡ Some tags → now.next ≡ tags.next
+    → Goes run (refused_run (with_range run client now) client (refused_name refused))
+refused_goes run client tags now refused found next =
+    goes_saying run (refused_run (with_range run client now) client (refused_name refused)) (refused_by_tags client refused) refl refl
+    (ranges_noted run (refused_run (with_range run client now) client (refused_name refused)) client tags now found next refl refl)
+    refl refl (λ other. refl)
+
+-- what is noted of a submission is what its label says
+label_noted : (client other given index ticket : ℕ) (command : Command) (tag : ℕ) (outcome : Outcome)
+    → outcome.owner ≡ Some client → outcome.mark ≡ SubmitMark index
+    → cond (client == other) (cond (given == ticket) (is_to_host (direction_of command.op)) false) false
+    ≡ is_to_host_by ticket (own_label other (step.Submit client tag given command) outcome)
+label_noted client other given index ticket command tag outcome owned marked =
+    rw (owned, marked) (go (client == other))
+  where
+    go : (b : Bool) → cond b (cond (given == ticket) (is_to_host (direction_of command.op)) false) false
+        ≡ is_to_host_by ticket (cond b (label_of (SubmitMark index) (step.Submit client tag given command)) None)
+    go true = refl
+    go false = refl
+
+-- nothing is noted of a refused one
+refused_noted : (client other given ticket : ℕ) (taken : Step) (outcome : Outcome) → outcome.mark ≡ Quiet
+    → cond (client == other) (cond (given == ticket) false false) false ≡ is_to_host_by ticket (own_label other taken outcome)
+refused_noted client other given ticket taken outcome quiet =
+    rw quiet (none (client == other) (given == ticket) ∙ sym (go (is_own other outcome)))
+  where
+    none : (a b : Bool) → cond a (cond b false false) false ≡ false
+    none true true = refl
+    none true false = refl
+    none false b = refl
+
+    go : (b : Bool) → is_to_host_by ticket (cond b (label_of Quiet taken) None) ≡ false
+    go true = refl
+    go false = refl
+
+-- the client's own tags gave a tag and a ticket
+given_goes : HeadlineHolds → (run : Telling) (client : ℕ) (request : Request) (tags now : ClientTags) (tag : ℕ) → slice_get run.ranges client ≡ Some tags
+    → now.next ≡ tags.next + 1 → Goes run (issued_run (with_range run client now) client request (Ok (tag, tags.next)))
+unfolding step_of
+given_goes isolated run client request tags now tag found next = go (shared_step run.machine taken).1.refused refl told.mark
+  where
+    taken : Step
+    taken = step.Submit client tag tags.next (command_of request)
+
+    told : IsSubmitted client (shared_step run.machine (step.Submit client tag tags.next (command_of request))).1
+    told = submit_told run.machine client tag tags.next (command_of request)
+
+    go : (refused : Option Refusal) → (shared_step run.machine (step.Submit client tag tags.next (command_of request))).1.refused ≡ refused
+        → MarksSubmission (shared_step run.machine (step.Submit client tag tags.next (command_of request))).1.mark (shared_step run.machine (step.Submit client tag tags.next (command_of request))).1.refused
+        → Goes run (handed_over (noted_run (at_machine (with_range run client now) (shared_step run.machine (step.Submit client tag tags.next (command_of request))).0)
+        client (took_to_host (direction_of request.op) refused)) client tag refused)
+    go None none mark =
+        let outcome : Outcome = (shared_step run.machine (step.Submit client tag tags.next (command_of request))).1 in
+        let marked : MarksSubmission outcome.mark None = subst (MarksSubmission outcome.mark) none mark in
+        goes_by_step isolated run (noted_run (at_machine (with_range run client now) (shared_step run.machine (step.Submit client tag tags.next (command_of request))).0)
+        client (is_to_host (direction_of request.op))) (step.Submit client tag tags.next (command_of request)) [] (record {
+          machine = refl;
+          text = sym (append-nil run.text);
+          news = untold_news outcome (record { reply = told.reply; refused = none });
+          noted = ticket_noted run (noted_run (at_machine (with_range run client now) (shared_step run.machine (step.Submit client tag tags.next (command_of request))).0)
+              client (is_to_host (direction_of request.op))) client tags now (is_to_host (direction_of request.op)) found next refl refl;
+          own = λ other. unshown run.brings_in other outcome told.reply;
+          notes = λ noted other ticket.
+              let flags = flags_of run client tags noted found in
+              noted_after run.brings_in client (is_to_host (direction_of request.op)) flags.flags flags.is other ticket
+              ∙ ap (λ (n : ℕ). is_brought_in run.brings_in other ticket || cond (client == other) (cond (n == ticket) (is_to_host (direction_of request.op)) false) false) flags.count
+              ∙ ap (λ (b : Bool). is_brought_in run.brings_in other ticket || b)
+              (label_noted client other tags.next marked.0 ticket (command_of request) tag outcome told.owner marked.1);
+        })
+    go (Some refusal) some mark =
+        let outcome : Outcome = (shared_step run.machine (step.Submit client tag tags.next (command_of request))).1 in
+        let quiet : outcome.mark ≡ Quiet = subst (MarksSubmission outcome.mark) some mark in
+        let before : Telling = noted_run (at_machine (with_range run client now) (shared_step run.machine (step.Submit client tag tags.next (command_of request))).0) client false in
+        goes_by_step isolated run (refused_run (freed_run before client tag) client (fault_name refusal.fault)) (step.Submit client tag tags.next (command_of request))
+        (refused_by_bus client refusal.fault ∷ []) (record {
+          machine = refl;
+          text = ap (λ (t : List ℕ). run.text ++ t) (sym (append-nil (line_of (refused_by_bus client refusal.fault))));
+          news = rw (told.owner, told.reply, some) refl;
+          noted = λ noted. freed_noted before client tag (ticket_noted run before client tags now false found next refl refl noted);
+          own = λ other. unshown run.brings_in other outcome told.reply;
+          notes = λ noted other ticket.
+              let flags = flags_of run client tags noted found in
+              noted_after run.brings_in client false flags.flags flags.is other ticket
+              ∙ ap (λ (b : Bool). is_brought_in run.brings_in other ticket || b)
+              (refused_noted client other (length flags.flags) ticket (step.Submit client tag tags.next (command_of request)) outcome quiet);
+        })
+
+submitted_goes : HeadlineHolds → (run : Telling) (client : ℕ) (request : Request) → Goes run (submitted run client request)
+unfolding submitted
+submitted_goes isolated run client request = go (slice_get run.ranges client) refl
+  where
+    worn : (tags : ClientTags) (entry : ℕ) → slice_get run.ranges client ≡ Some tags → (b : Bool)
+        → Goes run (issued_run (with_range run client
+        (cond {A = ClientTags × Result (ℕ × ℕ) Refused} b (tags, Err Worn) (record tags { next = tags.next + 1; out = slice_set tags.out entry true }, Ok (tag_at TAGS tags.client (entry + 1), tags.next))).0) client request
+        (cond {A = ClientTags × Result (ℕ × ℕ) Refused} b (tags, Err Worn) (record tags { next = tags.next + 1; out = slice_set tags.out entry true }, Ok (tag_at TAGS tags.client (entry + 1), tags.next))).1)
+    worn tags entry found true = refused_goes run client tags tags Worn found refl
+    worn tags entry found false =
+        given_goes isolated run client request tags (record tags { next = tags.next + 1; out = slice_set tags.out entry true }) (tag_at TAGS tags.client (entry + 1)) found refl
+
+    by_entry : (tags : ClientTags) → slice_get run.ranges client ≡ Some tags → (entry : Option ℕ)
+        → Goes run (issued_run (with_range run client (issue_entry TAGS tags entry).0) client request (issue_entry TAGS tags entry).1)
+    by_entry tags found None = refused_goes run client tags tags NoTag found refl
+    by_entry tags found (Some entry) = worn tags entry found (is_worn tags)
+
+    go : (found : Option ClientTags) → slice_get run.ranges client ≡ found → Goes run (submitted_by run client request found)
+    go None is = goes_nowhere run
+    go (Some tags) is = by_entry tags is (position not tags.out)
+
+-- LINES
+
+line_goes : HeadlineHolds → (run : Telling) (one : Line) → Goes run (told_line run one)
+unfolding told_line
+line_goes isolated run (line.Submit client request) = submitted_goes isolated run client request
+line_goes isolated run line.CommandPipe = stepped_goes isolated run step.CommandPipe tt
+line_goes isolated run line.Event = stepped_goes isolated run step.Event tt
+line_goes isolated run (line.Data tag) = stepped_goes isolated run (step.Data tag) tt
+line_goes isolated run (line.Status tag) = stepped_goes isolated run (step.Status tag) tt
+line_goes isolated run (line.Take client) = taken_or_idle_goes isolated run client
+line_goes isolated run line.Drain = drained_goes isolated run
+
+pub lines_go : HeadlineHolds → (lines : List Line) (run : Telling) → Goes run (fold told_line run lines)
+lines_go isolated [] run = goes_nowhere run
+lines_go isolated (one ∷ lines) run =
+    goes_on isolated run (told_line run one) (fold told_line run (one ∷ lines)) (line_goes isolated run one) (lines_go isolated lines (told_line run one))

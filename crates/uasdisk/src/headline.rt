@@ -1,0 +1,16 @@
+//! The headline of the program, as laws of its definitions.
+ghost use Rattle.uasdisk.specs.Headline.{ScriptsAreReplays, OwnLabelsDecide};
+
+/// What a script tells is the replay of a list of steps, and what it says of a client's replies is what a disk that the
+/// client had alone would.
+pub fn scripts_are_replays()
+    ensures { ScriptsAreReplays }
+{
+    bus_core::isolated();
+    bus_core::opens_as_solo();
+}
+
+/// A client's own labels and its first unit decide what is said of its replies.
+pub fn own_labels_decide()
+    ensures { OwnLabelsDecide }
+{}

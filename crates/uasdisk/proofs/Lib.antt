@@ -10,3 +10,4 @@ mod Goes
 mod Notes
 mod Transitions
 mod WholeScripts
+mod ReplyLines

@@ -9,6 +9,8 @@ use Rattle.clap.specs.declared.builder.ArgAction.TheVariants.{Set}
 use Rattle.clap.specs.declared.builder.value_parser.ValueParser.TheVariants as parser
 use Rattle.clap.specs.declared.error.kind.ErrorKind.{ErrorKind}
 use Rattle.clap.specs.declared.error.kind.ErrorKind.TheVariants.{DisplayHelp, DisplayVersion, OutOfMemory, ValueValidation}
+use Rattle.block_unit.specs.declared.TheConstants.{MAX_BLOCKS}
+use Rattle.bus_core.specs.declared.TheConstants.{MAX_CLIENTS}
 use Rattle.uasdisk.specs.declared.words.Run.{Run}
 use Rattle.uasdisk.specs.declared.words.Run.TheVariants.{Replay, Make, Info}
 use Rattle.uasdisk.specs.Words.{number_in}
@@ -33,11 +35,11 @@ number_of least most word = number_in least most (without_leading_plus word)
 
 -- CLIENTS is a number from 1 to 31
 abbrev pub clients_of : List Row → Option ℕ
-clients_of rows = option_and_then (number_of 1 31) (one_of (codes "CLIENTS") rows)
+clients_of rows = option_and_then (number_of 1 MAX_CLIENTS) (one_of (codes "CLIENTS") rows)
 
 -- BLOCKS is a number from 1 to 65,536
 abbrev pub blocks_of : List Row → Option ℕ
-blocks_of rows = option_and_then (number_of 1 65536) (one_of (codes "BLOCKS") rows)
+blocks_of rows = option_and_then (number_of 1 MAX_BLOCKS) (one_of (codes "BLOCKS") rows)
 
 -- FILE is any text
 abbrev pub file_of : List Row → Option Text
@@ -68,10 +70,10 @@ abbrev pub number_rule : Text → ℕ → Rule
 number_rule name most = record (required_rule name) { parser = Some (parser.Signed (pos 1) (pos most)) }
 
 abbrev pub clients_rule : Rule
-clients_rule = number_rule (codes "CLIENTS") 31
+clients_rule = number_rule (codes "CLIENTS") MAX_CLIENTS
 
 abbrev pub blocks_rule : Rule
-blocks_rule = number_rule (codes "BLOCKS") 65536
+blocks_rule = number_rule (codes "BLOCKS") MAX_BLOCKS
 
 -- replay CLIENTS BLOCKS
 abbrev pub replay_app : App
@@ -112,9 +114,9 @@ is_plain_name (byte ∷ bytes) = not (byte == 45)
 -- The words ask for a run in their plain form: a subcommand and its arguments, each number in decimal digits.
 abbrev pub AsksPlainly : Asked → List Text → Type 0
 AsksPlainly (replay clients blocks) words = (program first second : Text) × (words ≡ program ∷ codes "replay" ∷ first ∷ second ∷ [])
-    × (number_in 1 31 first ≡ Some clients) × (number_in 1 65536 second ≡ Some blocks)
+    × (number_in 1 MAX_CLIENTS first ≡ Some clients) × (number_in 1 MAX_BLOCKS second ≡ Some blocks)
 AsksPlainly (make file blocks) words = (program second : Text) × (words ≡ program ∷ codes "make" ∷ file ∷ second ∷ [])
-    × (is_plain_name file ≡ true) × (number_in 1 65536 second ≡ Some blocks)
+    × (is_plain_name file ≡ true) × (number_in 1 MAX_BLOCKS second ≡ Some blocks)
 AsksPlainly (info file) words = (program : Text) × (words ≡ program ∷ codes "info" ∷ file ∷ []) × (is_plain_name file ≡ true)
 
 -- ---- exit statuses

@@ -1,6 +1,6 @@
 -- The headline of the program: what a script tells is the replay of a list of steps, and each client's replies in it are
 -- those of a disk that the client has alone.
-use Rattle.std.specs.Prelude.{◌≡◌, ℕ, ◌==◌, Bool, false, ◌||◌, if◌then◌else◌, List, [], ◌∷◌, ◌++◌, Option, Some, None, option_map, option_to_list, slice_get}
+use Rattle.std.specs.Prelude.{◌≡◌, ℕ, ◌==◌, Bool, false, ◌||◌, if◌then◌else◌, List, [], ◌∷◌, ◌++◌, Option, Some, None, option_map, option_to_list, slice_get, map}
 use Rattle.block_unit.specs.BlockMaps.{BlockMaps}
 use Rattle.scsi_cmd.specs.declared.Reply.{Reply}
 use Rattle.scsi_cmd.specs.declared.SubmitFault.{SubmitFault}
@@ -105,6 +105,18 @@ solo_lines state before [] = []
 solo_lines state before (label ∷ labels) =
     shown_then (λ now. solo_lines now (before ++ label ∷ []) labels) before (solo_step state label)
 
+-- the line of a reply to this client
+abbrev pub reply_line_to : ℕ → Said → Option (List ℕ)
+reply_line_to client (replied other brings_in reply) = if other == client then Some (reply_line other brings_in reply) else None
+reply_line_to client (refused_by_bus other fault) = None
+reply_line_to client (refused_by_tags other refused) = None
+reply_line_to client idle = None
+
+-- the lines of the replies to this client, in order
+abbrev pub reply_lines_to : ℕ → List Said → List (List ℕ)
+reply_lines_to client [] = []
+reply_lines_to client (said ∷ rest) = option_to_list (reply_line_to client said) ++ reply_lines_to client rest
+
 -- THE LAWS
 
 -- These steps are what the lines do, and this is what they say: the shared machine is as the steps' replay leaves it, the
@@ -131,3 +143,9 @@ OwnLabelsDecide =
     → slice_get here a ≡ Some unit → slice_get there b ≡ Some unit
     → own_labels a these (replay here these).1 ≡ own_labels b those (replay there those).1
     → own_lines a said ≡ own_lines b told
+
+-- A client's reply lines print what they show of its replies, with the client's number in front.
+abbrev pub ReplyLinesShowOwn : Type 0
+ReplyLinesShowOwn =
+    (client : ℕ) (said : List Said)
+    → reply_lines_to client said ≡ map (λ (shown : Bool × Reply). reply_line client shown.0 shown.1) (own_lines client said)

@@ -1,15 +1,17 @@
 -- What the words of the command line ask for.
 use Rattle.std.specs.Prelude.{ℕ, ◌≤◌}
+use Rattle.block_unit.specs.declared.TheConstants.{MAX_BLOCKS}
+use Rattle.bus_core.specs.declared.TheConstants.{MAX_CLIENTS}
 use Rattle.uasdisk.specs.declared.words.Run.{Run}
 use Rattle.uasdisk.specs.declared.words.Run.TheVariants.{Replay, Make, Info}
 
 -- a program runs 1 to 31 clients
 abbrev pub AreClients : ℕ → Type 0
-AreClients clients = (1 ≤ clients) × (clients ≤ 31)
+AreClients clients = (1 ≤ clients) × (clients ≤ MAX_CLIENTS)
 
 -- a unit has 1 to 65,536 blocks
 abbrev pub AreBlocks : ℕ → Type 0
-AreBlocks blocks = (1 ≤ blocks) × (blocks ≤ 65536)
+AreBlocks blocks = (1 ≤ blocks) × (blocks ≤ MAX_BLOCKS)
 
 -- each number is in its range
 abbrev pub IsInRange : Run → Type 0

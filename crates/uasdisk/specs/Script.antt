@@ -1,9 +1,11 @@
 -- A script: its lines, or its first fault.
-use Rattle.std.specs.Prelude.{ℕ, ◌+◌, ◌-◌, ◌==◌, nat_lt, Bool, true, false, not, ◌||◌, if◌then◌else◌, List, [], ◌∷◌, ◌++◌, length, slice_get, slice_index, codes, Option, Some, None, option_map, option_and_then, option_to_list, Result, Ok, Err, ok_or}
+use Rattle.std.specs.Prelude.{ℕ, ◌+◌, ◌-◌, ◌*◌, ◌==◌, nat_lt, Bool, true, false, not, ◌||◌, if◌then◌else◌, List, [], ◌∷◌, ◌++◌, length, slice_get, slice_index, codes, Option, Some, None, option_map, option_and_then, option_to_list, Result, Ok, Err, ok_or}
 use Rattle.std.specs.List.{list_all}
 use Rattle.std.specs.Str.{bytes_eq}
 use Rattle.std.specs.declared.vec.Vec.{Vec}
 use Rattle.std.specs.declared.alloc.Global.{Global}
+use Rattle.bus_core.specs.declared.TheConstants.{MAX_CLIENTS}
+use Rattle.scsi_cmd.specs.declared.TheConstants.{TAGS}
 use Rattle.scsi_cmd.specs.declared.Op.{Op}
 use Rattle.scsi_cmd.specs.declared.Op.TheVariants.{TestUnitReady, Inquiry, ReadCapacity, Read, Write, Sync}
 use Rattle.uasdisk.specs.declared.script.Line.{Line}
@@ -39,7 +41,7 @@ client_at clients words place = number_at words place 0 (clients - 1)
 
 -- tags are 1 to 248
 abbrev pub tag_at : List (List ℕ) → ℕ → Option ℕ
-tag_at words place = number_at words place 1 248
+tag_at words place = number_at words place 1 (MAX_CLIENTS * TAGS)
 
 -- block numbers have 32 bits, counts and lengths 16, bytes 8
 abbrev pub lba_at : List (List ℕ) → ℕ → Option ℕ

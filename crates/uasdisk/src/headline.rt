@@ -1,5 +1,5 @@
 //! The headline of the program, as laws of its definitions.
-ghost use Rattle.uasdisk.specs.Headline.{ScriptsAreReplays, OwnLabelsDecide};
+ghost use Rattle.uasdisk.specs.Headline.{ScriptsAreReplays, OwnLabelsDecide, ReplyLinesShowOwn};
 
 /// What a script tells is the replay of a list of steps, and what it says of a client's replies is what a disk that the
 /// client had alone would.
@@ -10,7 +10,8 @@ pub fn scripts_are_replays()
     bus_core::opens_as_solo();
 }
 
-/// A client's own labels and its first unit decide what is said of its replies.
+/// A client's own labels and its first unit decide what is said of its replies, and so the lines that are printed of them.
 pub fn own_labels_decide()
-    ensures { OwnLabelsDecide }
+    ensures said { OwnLabelsDecide }
+    ensures printed { ReplyLinesShowOwn }
 {}

@@ -15,6 +15,8 @@ use std::io::Write;
 /// The most bytes of an image.
 pub const MAX_IMAGE_BYTES: usize = BLOCK_BYTES * MAX_BLOCKS as usize;
 
+const _: () = prove!(MAX_IMAGE_BYTES == 33_554_432);
+
 /// How many blocks of a new image are written at once. A run of more is long, and can show how far it is.
 const PART_BLOCKS: u32 = 4096;
 
@@ -113,7 +115,7 @@ pub fn run_make<I: Sink, O: Sink, W: Write>(
     shows_progress: bool,
 ) -> u8
     requires some { 1 ≤ blocks }
-    requires most { blocks ≤ 65536 }
+    requires most { blocks ≤ MAX_BLOCKS }
     ensures statuses { (result ≡ 0) ⊎ ((result ≡ 3) ⊎ (result ≡ 4)) }
     ensures image { result ≡ 0 → Appends (I.written image.old) (I.written image.new) (made_image blocks) }
     ensures output { result ≡ 0 → Appends (O.written output.old) (O.written output.new) (made_text blocks) }
@@ -140,7 +142,7 @@ fn make<I: Sink, O: Sink, W: Write>(
     shows_progress: bool,
 ) -> Result<(), RunFault>
     requires some { 1 ≤ blocks }
-    requires most { blocks ≤ 65536 }
+    requires most { blocks ≤ MAX_BLOCKS }
     ensures image { OnOk result (Appends (I.written image.old) (I.written image.new) (made_image blocks)) }
     ensures output { OnOk result (Appends (O.written output.old) (O.written output.new) (made_text blocks)) }
     ensures there { OnOk result (IsTrue (I.is_there image.old)) }
@@ -163,7 +165,7 @@ fn write_zeros<I: Sink, W: Write>(
     shows_progress: bool,
 ) -> Result<(), RunFault>
     requires some { 1 ≤ blocks }
-    requires most { blocks ≤ 65536 }
+    requires most { blocks ≤ MAX_BLOCKS }
     ensures image { OnOk result (Appends (I.written image.old) (I.written image.new) (made_image blocks)) }
     ensures there { OnOk result (IsTrue (I.is_there image.old)) }
     ensures fault { IfErr result (WriteGivesUp (I.can_fail image.old)) }

@@ -3,6 +3,7 @@
 //! Everything that the program decides is decided here: which run the words ask for, on which file, of how many clients
 //! and blocks, what is printed and where, and the exit status.
 
+ghost use Rattle.block_unit.specs.declared.TheConstants.{MAX_BLOCKS};
 ghost use Rattle.std.specs.Prelude.{◌≡◌, ◌≢◌, ◌<◌, ◌≤◌, ◌⊎◌, [], length, false, Some, IsTrue, IfOk, IfSome, map};
 ghost use Rattle.std.specs.Io.KnownBytes.{Appends, Keeps};
 ghost use Rattle.std.specs.String.{string_bytes};
@@ -84,7 +85,7 @@ fn make_file<F: Files, O: Sink, W: Write>(
     may_show_progress: bool,
 ) -> u8
     requires some { 1 ≤ blocks }
-    requires most { blocks ≤ 65536 }
+    requires most { blocks ≤ MAX_BLOCKS }
     ensures statuses { (result ≡ 0) ⊎ ((result ≡ 3) ⊎ (result ≡ 4)) }
     ensures image { result ≡ 0 → IsTrue (F.tells files.old) → F.holds files.new file.now ≡ Some (made_image blocks) }
     ensures told { result ≡ 0 → IsTrue (F.can_create files.old file.now)

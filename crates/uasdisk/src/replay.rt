@@ -1,5 +1,7 @@
 //! A script's run: its lines in turn, over the bus and each client's tags.
 
+ghost use Rattle.bus_core.specs.declared.TheConstants.{MAX_CLIENTS};
+ghost use Rattle.block_unit.specs.declared.TheConstants.{MAX_BLOCKS};
 ghost use Rattle.std.specs.Prelude.{◌≡◌, ℕ, ◌+◌, ◌*◌, ◌≤◌, ◌<◌, ◌^◌, ◌++◌, ◌∷◌, [], Bool, List, length, fold, replicate, slice_index_or, false, IfOk, OnOk, vec_len};
 ghost use Rattle.scsi_cmd.specs.Op.{direction_of};
 ghost use Rattle.uasdisk.specs.Told.{zeroed_units, opening_ranges, tag_of, ticket_of, command_of, is_to_host, took_to_host, told};
@@ -94,9 +96,9 @@ impl ScriptRun {
     /// The run before its first line, of 1 to 31 clients on units of 1 to 65,536 zeroed blocks.
     pub fn new(alloc: Global, clients: usize, blocks: u32) -> Result<ScriptRun, AllocError>
         requires some_clients { 1 ≤ clients }
-        requires most_clients { clients ≤ 31 }
+        requires most_clients { clients ≤ MAX_CLIENTS }
         requires some_blocks { 1 ≤ blocks }
-        requires most_blocks { blocks ≤ 65536 }
+        requires most_blocks { blocks ≤ MAX_BLOCKS }
         ensures { IfOk result (λ run. run ≡ opening_run (zeroed_units clients blocks)) }
     {
         Ok(ScriptRun {
@@ -341,7 +343,7 @@ impl ScriptRun {
 /// So many units of zeroed blocks.
 fn zeroed_units(alloc: Global, clients: usize, blocks: u32) -> Result<Vec<Unit>, AllocError>
     requires some { 1 ≤ blocks }
-    requires most { blocks ≤ 65536 }
+    requires most { blocks ≤ MAX_BLOCKS }
     ensures { IfOk result (λ units. units.items ≡ zeroed_units clients blocks) }
 {
     let mut units = Vec::new(alloc);
@@ -353,7 +355,7 @@ fn zeroed_units(alloc: Global, clients: usize, blocks: u32) -> Result<Vec<Unit>,
 
 /// The tags of so many clients, none of them out.
 fn opening_ranges(alloc: Global, clients: usize) -> Result<Vec<TagRange<TAGS>>, AllocError>
-    requires { clients ≤ 31 }
+    requires { clients ≤ MAX_CLIENTS }
     ensures { IfOk result (λ ranges. ranges.items ≡ opening_ranges clients) }
 {
     let mut ranges = Vec::new(alloc);
@@ -434,9 +436,9 @@ pub fn told(
     lines: &[Line],
 ) -> Result<(Vec<u8>, u8), AllocError>
     requires some_clients { 1 ≤ clients }
-    requires most_clients { clients ≤ 31 }
+    requires most_clients { clients ≤ MAX_CLIENTS }
     requires some_blocks { 1 ≤ blocks }
-    requires most_blocks { blocks ≤ 65536 }
+    requires most_blocks { blocks ≤ MAX_BLOCKS }
     ensures text { IfOk result (λ given. given.0.items ≡ (told (zeroed_units clients blocks) lines.now).0) }
     ensures status { IfOk result (λ given. given.1 ≤ 1) }
     ensures number { IfOk result (λ given. given.1 ≡ (told (zeroed_units clients blocks) lines.now).1) }

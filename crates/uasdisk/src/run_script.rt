@@ -1,5 +1,7 @@
 //! The run `replay`: a script from a reader, and what it tells to a writer.
 
+ghost use Rattle.bus_core.specs.declared.TheConstants.{MAX_CLIENTS};
+ghost use Rattle.block_unit.specs.declared.TheConstants.{MAX_BLOCKS};
 ghost use Rattle.std.specs.Prelude.{◌≡◌, ℕ, ◌+◌, ◌≤◌, ◌<◌, ◌⊎◌, length, true, Ok, Err, IsTrue, IsErr, IfOk, IfErr, OnOk, IfSome};
 ghost use Rattle.std.specs.Io.KnownBytes.{Consumes, Appends, Keeps, IsAtEnd};
 ghost use Rattle.uasdisk.specs.Script.{script};
@@ -25,9 +27,9 @@ pub fn run_script<S: Source, O: Sink, W: Write>(
     faults: &mut W,
 ) -> u8
     requires some_clients { 1 ≤ clients }
-    requires most_clients { clients ≤ 31 }
+    requires most_clients { clients ≤ MAX_CLIENTS }
     requires some_blocks { 1 ≤ blocks }
-    requires most_blocks { blocks ≤ 65536 }
+    requires most_blocks { blocks ≤ MAX_BLOCKS }
     ensures statuses { (result ≤ 1) ⊎ ((result ≡ 3) ⊎ (result ≡ 4)) }
     ensures told { result ≤ 1 → IfSome (S.left reader.old) (λ bytes.
         Tells (zeroed_units clients blocks) (script clients bytes) (O.written writer.old) (O.written writer.new) result) }
@@ -53,9 +55,9 @@ fn tell_script<S: Source, O: Sink>(
     writer: &mut O,
 ) -> Result<u8, RunFault>
     requires some_clients { 1 ≤ clients }
-    requires most_clients { clients ≤ 31 }
+    requires most_clients { clients ≤ MAX_CLIENTS }
     requires some_blocks { 1 ≤ blocks }
-    requires most_blocks { blocks ≤ 65536 }
+    requires most_blocks { blocks ≤ MAX_BLOCKS }
     ensures status { IfOk result (λ status. status ≤ 1) }
     ensures told { IfOk result (λ status. IfSome (S.left reader.old) (λ bytes.
         Tells (zeroed_units clients blocks) (script clients bytes) (O.written writer.old) (O.written writer.new) status)) }
@@ -77,7 +79,7 @@ pub fn read_script<S: Source>(
     reader: &mut S,
 ) -> Result<Vec<Line>, RunFault>
     requires some_clients { 1 ≤ clients }
-    requires most_clients { clients ≤ 31 }
+    requires most_clients { clients ≤ MAX_CLIENTS }
     ensures lines { IfOk result (λ lines. IfSome (S.left reader.old) (λ bytes. script clients bytes ≡ Ok lines.items)) }
     ensures read { OnOk result (IsAtEnd (S.left reader.new)) }
     ensures there { OnOk result (IsTrue (S.is_there reader.old)) }

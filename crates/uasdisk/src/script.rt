@@ -4,6 +4,7 @@
 //! words are separated by spaces. A line without words is skipped, and so is a comment, whose first character
 //! is `#`. Numbers are decimal digits, leading zeros too. The first faulty line is told, by its first fault.
 
+ghost use Rattle.bus_core.specs.declared.TheConstants.{MAX_CLIENTS};
 ghost use Rattle.std.specs.Prelude.{◌≡◌, ℕ, ◌+◌, ◌-◌, ◌<◌, ◌≤◌, [], ◌++◌, map, IfOk, OnOk, option_to_list, length};
 ghost use Rattle.uasdisk.specs.Script.{script, line_of, lines_after, listed, is_ascii, is_comment};
 
@@ -16,6 +17,8 @@ use thiserror::Error;
 
 /// The most bytes of a script.
 pub const MAX_SCRIPT_BYTES: usize = 1_048_576;
+
+const _: () = prove!(MAX_SCRIPT_BYTES == 1_048_576);
 
 /// An operation that a client asks for, and the byte that its buffer is filled with.
 #[derive(Clone, Copy, Debug, PartialEq, Eq)]
@@ -94,7 +97,7 @@ pub fn parse_script(
     clients: usize,
     text: &[u8],
 ) -> Result<Result<Vec<Line>, ScriptFault>, AllocError>
-    requires few { clients ≤ 31 }
+    requires few { clients ≤ MAX_CLIENTS }
     requires some { 0 < clients }
     ensures { IfOk result (λ read. listed read ≡ script clients text.now) }
 {
@@ -111,7 +114,7 @@ fn lines_of(
     clients: usize,
     pieces: &[&[u8]],
 ) -> Result<Result<Vec<Line>, ScriptFault>, AllocError>
-    requires few { clients ≤ 31 }
+    requires few { clients ≤ MAX_CLIENTS }
     requires some { 0 < clients }
     ensures { IfOk result (λ read. listed read ≡ lines_after clients [] 1 (map (λ piece. piece.now) pieces.now)) }
 {
@@ -145,7 +148,7 @@ fn parse_line(
     clients: usize,
     line: &[u8],
 ) -> Result<Result<Option<Line>, LineFault>, AllocError>
-    requires few { clients ≤ 31 }
+    requires few { clients ≤ MAX_CLIENTS }
     requires some { 0 < clients }
     ensures { IfOk result (λ read. read ≡ line_of clients line.now) }
 {

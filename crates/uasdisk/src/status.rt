@@ -24,6 +24,10 @@ pub const FAULT: u8 = 3;
 /// Want of memory.
 pub const NO_MEMORY: u8 = 4;
 
+const _: () = prove!(
+    DONE == 0 && COMMAND_FAILED == 1 && WORDS_REFUSED == 2 && FAULT == 3 && NO_MEMORY == 4
+);
+
 /// Why a run gave up.
 #[derive(Clone, Copy, Debug, PartialEq, Eq, Error)]
 pub enum RunFault {

@@ -1,3 +1,5 @@
+ghost use Rattle.bus_core.specs.declared.TheConstants.{MAX_CLIENTS};
+ghost use Rattle.block_unit.specs.declared.TheConstants.{MAX_BLOCKS};
 ghost use Rattle.std.specs.Prelude.{◌≤◌};
 
 use crate::run_script::run_script;
@@ -8,6 +10,7 @@ use std::io::{Error, ErrorKind, Read, Write};
 
 mod cases;
 mod failing;
+mod faults;
 mod faulty;
 mod images;
 mod program;
@@ -24,9 +27,9 @@ struct Ran {
 
 fn run<S: Source>(alloc: Global, clients: usize, blocks: u32, source: &mut S) -> Ran
     requires some_clients { 1 ≤ clients }
-    requires most_clients { clients ≤ 31 }
+    requires most_clients { clients ≤ MAX_CLIENTS }
     requires some_blocks { 1 ≤ blocks }
-    requires most_blocks { blocks ≤ 65536 }
+    requires most_blocks { blocks ≤ MAX_BLOCKS }
 {
     let mut output = BytesTaken(Vec::new(alloc));
     let mut faults = Vec::new(alloc);

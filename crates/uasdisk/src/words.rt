@@ -15,6 +15,10 @@ use std::alloc::{AllocError, Global};
 /// The most clients, as a word of the command line.
 const MOST_CLIENTS: u32 = MAX_CLIENTS as u32;
 
+const _: () = prove!(MOST_CLIENTS == 31);
+
+const _: () = prove!(MAX_BLOCKS == 65_536);
+
 /// The version of the program, and the toolchain that it was proved with.
 pub const VERSION: &str = "0.1.0, proved with rattle-kit-13b logic dac8208d650f15bf";
 

@@ -6,10 +6,13 @@ ghost use Rattle.uasdisk.specs.Script.{number_at, fua_at, client_at, tag_at, lba
 
 use super::words::{is_number, number_in};
 use super::{Line, LineFault, Request, RequestName, StepName};
-use scsi_cmd::Op;
+use bus_core::MAX_CLIENTS;
+use scsi_cmd::{Op, TAGS};
 
 /// The greatest tag.
-const MAX_TAG: u32 = 248;
+const MAX_TAG: u32 = (MAX_CLIENTS * TAGS) as u32;
+
+const _: () = prove!(MAX_TAG == 248);
 
 fn is_word(word: &[u8], name: &str) -> bool
     ensures { result ≡ bytes_eq word.now name.now }
@@ -27,7 +30,7 @@ fn number_at(words: &[&[u8]], place: usize, least: u32, most: u32) -> Option<u32
 
 /// The word at a place, as the number of one of so many clients.
 fn client_at(clients: usize, words: &[&[u8]], place: usize) -> Option<usize>
-    requires few { clients ≤ 31 }
+    requires few { clients ≤ MAX_CLIENTS }
     requires some { 0 < clients }
     ensures { result ≡ client_at clients (map (λ word. word.now) words.now) place }
 {
@@ -165,7 +168,7 @@ fn zeroed(op: Op) -> Request
 
 /// What a line asks for whose first word is a number.
 fn submission(clients: usize, words: &[&[u8]]) -> Result<Line, LineFault>
-    requires few { clients ≤ 31 }
+    requires few { clients ≤ MAX_CLIENTS }
     requires some { 0 < clients }
     ensures { result ≡ submission clients (map (λ word. word.now) words.now) }
 {
@@ -180,7 +183,7 @@ fn submission(clients: usize, words: &[&[u8]]) -> Result<Line, LineFault>
 }
 
 fn submission_of(clients: usize, name: RequestName, words: &[&[u8]]) -> Option<Line>
-    requires few { clients ≤ 31 }
+    requires few { clients ≤ MAX_CLIENTS }
     requires some { 0 < clients }
     ensures { result ≡ submission_of clients name (map (λ word. word.now) words.now) }
 {
@@ -224,7 +227,7 @@ impl StepName {
 
 /// What a line asks for whose first word is a name.
 fn named_step(clients: usize, first: &[u8], words: &[&[u8]]) -> Result<Line, LineFault>
-    requires few { clients ≤ 31 }
+    requires few { clients ≤ MAX_CLIENTS }
     requires some { 0 < clients }
     ensures { result ≡ named_step clients (map (λ word. word.now) words.now) (step_named first.now) }
 {
@@ -236,7 +239,7 @@ fn named_step(clients: usize, first: &[u8], words: &[&[u8]]) -> Result<Line, Lin
 }
 
 fn step_of(clients: usize, name: StepName, words: &[&[u8]]) -> Option<Line>
-    requires few { clients ≤ 31 }
+    requires few { clients ≤ MAX_CLIENTS }
     requires some { 0 < clients }
     ensures { result ≡ step_of clients name (map (λ word. word.now) words.now) }
 {
@@ -252,7 +255,7 @@ fn step_of(clients: usize, name: StepName, words: &[&[u8]]) -> Option<Line>
 
 /// What the words of a line ask for: nothing where there are none.
 pub fn line_of_words(clients: usize, words: &[&[u8]]) -> Result<Option<Line>, LineFault>
-    requires few { clients ≤ 31 }
+    requires few { clients ≤ MAX_CLIENTS }
     requires some { 0 < clients }
     ensures { result ≡ line_of_words clients (map (λ word. word.now) words.now) }
 {

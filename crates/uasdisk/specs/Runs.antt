@@ -15,23 +15,23 @@ use Rattle.block_unit.specs.declared.ImageFault.TheVariants.{NotWhole, TooLarge,
 use Rattle.uasdisk.specs.Images.{blocks_in, info_text, made_image}
 
 -- The reading of an image: its file's fault, where that can fail; too many bytes, where they are known; want of memory.
-abbrev pub ReadGivesUp : Option (List ℕ) → Bool → RunFault → Type 0
-ReadGivesUp left can_fail (Image NotWhole) = ⊥
-ReadGivesUp left can_fail (Image TooLarge) = IfSome left (λ bytes. blocks_in bytes ≡ Err TooLarge)
-ReadGivesUp left can_fail (Image ImageNoMemory) = ⊥
-ReadGivesUp left can_fail ImageFile = IsTrue can_fail
-ReadGivesUp left can_fail (Script fault) = ⊥
-ReadGivesUp left can_fail ScriptFile = ⊥
-ReadGivesUp left can_fail NoMemory = ⊤
+abbrev pub ReadGivesUp : Option (List ℕ) → Bool → Bool → RunFault → Type 0
+ReadGivesUp left is_there can_fail (Image NotWhole) = ⊥
+ReadGivesUp left is_there can_fail (Image TooLarge) = IfSome left (λ bytes. blocks_in bytes ≡ Err TooLarge) × IsTrue is_there
+ReadGivesUp left is_there can_fail (Image ImageNoMemory) = ⊥
+ReadGivesUp left is_there can_fail ImageFile = IsTrue can_fail
+ReadGivesUp left is_there can_fail (Script fault) = ⊥
+ReadGivesUp left is_there can_fail ScriptFile = ⊥
+ReadGivesUp left is_there can_fail NoMemory = ⊤
 
--- A run that reads an image and prints: the image's own fault, where its bytes are known, or its file's, where that can
+-- A run that reads an image and prints: the image's own fault, where it is there and its bytes are known, or its file's, where that can
 -- fail, and nothing was printed; standard output's, where that can fail; want of memory, and nothing was printed.
-abbrev pub InfoGivesUp : Option (List ℕ) → Bool → Bool → Option (List ℕ) → Option (List ℕ) → RunFault → Type 0
-InfoGivesUp left can_read_fail can_write_fail old new (Image fault) = IfSome left (λ bytes. blocks_in bytes ≡ Err fault) × Keeps old new
-InfoGivesUp left can_read_fail can_write_fail old new ImageFile = IsTrue can_read_fail × Keeps old new
-InfoGivesUp left can_read_fail can_write_fail old new (Script fault) = ⊥
-InfoGivesUp left can_read_fail can_write_fail old new ScriptFile = IsTrue can_write_fail
-InfoGivesUp left can_read_fail can_write_fail old new NoMemory = Keeps old new
+abbrev pub InfoGivesUp : Option (List ℕ) → Bool → Bool → Bool → Option (List ℕ) → Option (List ℕ) → RunFault → Type 0
+InfoGivesUp left is_there can_read_fail can_write_fail old new (Image fault) = IfSome left (λ bytes. blocks_in bytes ≡ Err fault) × IsTrue is_there × Keeps old new
+InfoGivesUp left is_there can_read_fail can_write_fail old new ImageFile = IsTrue can_read_fail × Keeps old new
+InfoGivesUp left is_there can_read_fail can_write_fail old new (Script fault) = ⊥
+InfoGivesUp left is_there can_read_fail can_write_fail old new ScriptFile = IsTrue can_write_fail
+InfoGivesUp left is_there can_read_fail can_write_fail old new NoMemory = Keeps old new
 
 -- The writing of an image: the fault of its file, or want of memory.
 abbrev pub WriteGivesUp : Bool → RunFault → Type 0
@@ -42,13 +42,13 @@ WriteGivesUp can_fail ScriptFile = ⊥
 WriteGivesUp can_fail NoMemory = ⊤
 
 -- A run that writes an image of so many blocks and prints: the fault of its file, and nothing was printed; of standard
--- output, once the image was written; or want of memory, and nothing was printed.
-abbrev pub MakeGivesUp : ℕ → Bool → Bool → Option (List ℕ) → Option (List ℕ) → Option (List ℕ) → Option (List ℕ) → RunFault → Type 0
-MakeGivesUp blocks can_file_fail can_write_fail image image' old new (Image fault) = ⊥
-MakeGivesUp blocks can_file_fail can_write_fail image image' old new ImageFile = IsTrue can_file_fail × Keeps old new
-MakeGivesUp blocks can_file_fail can_write_fail image image' old new (Script fault) = ⊥
-MakeGivesUp blocks can_file_fail can_write_fail image image' old new ScriptFile = IsTrue can_write_fail × Appends image image' (made_image blocks)
-MakeGivesUp blocks can_file_fail can_write_fail image image' old new NoMemory = Keeps old new
+-- output, once the image was written to a file that is there; or want of memory, and nothing was printed.
+abbrev pub MakeGivesUp : ℕ → Bool → Bool → Bool → Option (List ℕ) → Option (List ℕ) → Option (List ℕ) → Option (List ℕ) → RunFault → Type 0
+MakeGivesUp blocks is_there can_file_fail can_write_fail image image' old new (Image fault) = ⊥
+MakeGivesUp blocks is_there can_file_fail can_write_fail image image' old new ImageFile = IsTrue can_file_fail × Keeps old new
+MakeGivesUp blocks is_there can_file_fail can_write_fail image image' old new (Script fault) = ⊥
+MakeGivesUp blocks is_there can_file_fail can_write_fail image image' old new ScriptFile = IsTrue can_write_fail × IsTrue is_there × Appends image image' (made_image blocks)
+MakeGivesUp blocks is_there can_file_fail can_write_fail image image' old new NoMemory = Keeps old new
 
 -- What a run that reads an image prints, by the number of blocks in it: of no other file does it print anything.
 abbrev pub InfoPrints : Result ℕ ImageFault → Option (List ℕ) → Option (List ℕ) → Type 0

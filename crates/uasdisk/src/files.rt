@@ -33,13 +33,13 @@ pub trait Files {
 
     /// Opens the file of a name, to be read.
     fn open(&self, name: &str) -> Self::Reader
-        ensures bytes { IsTrue (tells self.now) → Self.Reader.left result ≡ holds self.now name.now }
+        ensures bytes { IsTrue (tells self.now) → IsTrue (Self.Reader.is_there result) → Self.Reader.left result ≡ holds self.now name.now }
         ensures there { IsTrue (Self.Reader.is_there result) → IsTrue (can_open self.now name.now) }
         ensures fault { IsTrue (Self.Reader.can_fail result) → IsTrue (can_fail self.now name.now) };
 
     /// Creates the file of a name, empty, in place of one that is there.
     fn create(&mut self, name: &str) -> Self::Writer
-        ensures bytes { IsTrue (tells self.old) → Self.Writer.written result ≡ Some [] }
+        ensures bytes { IsTrue (tells self.old) → IsTrue (Self.Writer.is_there result) → Self.Writer.written result ≡ Some [] }
         ensures file { IsTrue (Self.Writer.is_of result name.now) }
         ensures there { IsTrue (Self.Writer.is_there result) → IsTrue (can_create self.old name.now) }
         ensures fault { IsTrue (Self.Writer.can_fail result) → IsTrue (can_fail self.old name.now) }
@@ -47,7 +47,7 @@ pub trait Files {
 
     /// Closes a file that was written.
     fn close(&mut self, file: Self::Writer)
-        ensures { (name : List ℕ) → IsTrue (tells self.old) → IsTrue (Self.Writer.is_of file name)
+        ensures { (name : List ℕ) → IsTrue (tells self.old) → IsTrue (Self.Writer.is_there file) → IsTrue (Self.Writer.is_of file name)
             → holds self.new name ≡ Self.Writer.written file };
 }
 

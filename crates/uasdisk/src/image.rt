@@ -39,7 +39,7 @@ pub fn read_image<S: Source>(alloc: Global, source: &mut S) -> Result<Vec<u8>, R
     ensures end { OnOk result (IsAtEnd (S.left source.new)) }
     ensures bound { IfOk result (λ bytes. length bytes.items ≤ max_image_bytes) }
     ensures there { OnOk result (IsTrue (S.is_there source.old)) }
-    ensures fault { IfErr result (ReadGivesUp (S.left source.old) (S.can_fail source.old)) }
+    ensures fault { IfErr result (ReadGivesUp (S.left source.old) (S.is_there source.old) (S.can_fail source.old)) }
 {
     let bytes = read_at_most(alloc, source, MAX_IMAGE_BYTES + 1).map_err(file_fault)?;
     if bytes.len() > MAX_IMAGE_BYTES {
@@ -71,7 +71,7 @@ pub fn run_info<S: Source, O: Sink, W: Write>(
     ensures done { result ≡ 0 → IfSome (S.left source.old) (λ bytes.
         InfoPrints (blocks_in bytes) (O.written output.old) (O.written output.new)) }
     ensures there { result ≡ 0 → IsTrue (S.is_there source.old) }
-    ensures fault { result ≡ 3 → ((IfSome (S.left source.old) (λ bytes. IsErr (blocks_in bytes)) ⊎ IsTrue (S.can_fail source.old))
+    ensures fault { result ≡ 3 → (((IfSome (S.left source.old) (λ bytes. IsErr (blocks_in bytes)) × IsTrue (S.is_there source.old)) ⊎ IsTrue (S.can_fail source.old))
         × Keeps (O.written output.old) (O.written output.new)) ⊎ IsTrue (O.can_fail output.old) }
     ensures memory { result ≡ 4 → Keeps (O.written output.old) (O.written output.new) }
     ensures quiet { result ≡ 0 → faults.new ≡ faults.old }
@@ -86,7 +86,7 @@ fn info<S: Source, O: Sink>(alloc: Global, source: &mut S, output: &mut O) -> Re
     ensures done { OnOk result (IfSome (S.left source.old) (λ bytes.
         InfoPrints (blocks_in bytes) (O.written output.old) (O.written output.new))) }
     ensures there { OnOk result (IsTrue (S.is_there source.old)) }
-    ensures fault { IfErr result (InfoGivesUp (S.left source.old) (S.can_fail source.old) (O.can_fail output.old)
+    ensures fault { IfErr result (InfoGivesUp (S.left source.old) (S.is_there source.old) (S.can_fail source.old) (O.can_fail output.old)
         (O.written output.old) (O.written output.new)) }
 {
     let bytes = read_image(alloc, source)?;
@@ -121,8 +121,9 @@ pub fn run_make<I: Sink, O: Sink, W: Write>(
     ensures output { result ≡ 0 → Appends (O.written output.old) (O.written output.new) (made_text blocks) }
     ensures there { result ≡ 0 → IsTrue (I.is_there image.old) }
     ensures fault { result ≡ 3 → (IsTrue (I.can_fail image.old) × Keeps (O.written output.old) (O.written output.new))
-        ⊎ (IsTrue (O.can_fail output.old) × Appends (I.written image.old) (I.written image.new) (made_image blocks)) }
+        ⊎ (IsTrue (O.can_fail output.old) × IsTrue (I.is_there image.old) × Appends (I.written image.old) (I.written image.new) (made_image blocks)) }
     ensures memory { result ≡ 4 → Keeps (O.written output.old) (O.written output.new) }
+    ensures stays { I.is_there image.new ≡ I.is_there image.old }
     ensures file { I.is_of image.new ≡ I.is_of image.old }
     ensures quiet { result ≡ 0 → shows_progress ≡ false → faults.new ≡ faults.old }
 {
@@ -146,8 +147,9 @@ fn make<I: Sink, O: Sink, W: Write>(
     ensures image { OnOk result (Appends (I.written image.old) (I.written image.new) (made_image blocks)) }
     ensures output { OnOk result (Appends (O.written output.old) (O.written output.new) (made_text blocks)) }
     ensures there { OnOk result (IsTrue (I.is_there image.old)) }
-    ensures fault { IfErr result (MakeGivesUp blocks (I.can_fail image.old) (O.can_fail output.old)
+    ensures fault { IfErr result (MakeGivesUp blocks (I.is_there image.old) (I.can_fail image.old) (O.can_fail output.old)
         (I.written image.old) (I.written image.new) (O.written output.old) (O.written output.new)) }
+    ensures stays { I.is_there image.new ≡ I.is_there image.old }
     ensures file { I.is_of image.new ≡ I.is_of image.old }
     ensures quiet { shows_progress ≡ false → notes.new ≡ notes.old }
 {
@@ -169,6 +171,7 @@ fn write_zeros<I: Sink, W: Write>(
     ensures image { OnOk result (Appends (I.written image.old) (I.written image.new) (made_image blocks)) }
     ensures there { OnOk result (IsTrue (I.is_there image.old)) }
     ensures fault { IfErr result (WriteGivesUp (I.can_fail image.old)) }
+    ensures stays { I.is_there image.new ≡ I.is_there image.old }
     ensures file { I.is_of image.new ≡ I.is_of image.old }
     ensures quiet { shows_progress ≡ false → notes.new ≡ notes.old }
 {

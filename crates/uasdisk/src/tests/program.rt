@@ -3,14 +3,42 @@
 use super::words::words_of;
 use crate::files::Files;
 use crate::program::run_words;
-use crate::streams::{BytesLeft, BytesTaken};
+use crate::streams::{BytesLeft, BytesTaken, Sink, StreamFault};
 use std::alloc::{AllocError, Global};
 use std::test::Fail;
 
-/// A disk with the file `old`, on which the file `new` alone can be created.
+/// A file that is written, as it stands in memory.
+#[derive(Drop)]
+struct Made<'a> {
+    name: &'a str,
+    bytes: Vec<u8>,
+}
+
+impl Sink for Made<'_> {
+    ghost use Rattle.std.specs.Prelude.{Some, true, false};
+    ghost use Rattle.std.specs.Str.{bytes_eq};
+
+    ghost written = { λ made. Some made.bytes.items };
+
+    ghost can_fail = { λ _. false };
+
+    ghost is_there = { λ _. true };
+
+    ghost is_of = { λ made name. bytes_eq name made.name.now };
+
+    fn write(&mut self, bytes: &[u8]) -> Result<(), StreamFault> {
+        match self.bytes.extend_from_slice(bytes) {
+            Ok(()) => Ok(()),
+            Err(AllocError) => Err(StreamFault::NoMemory),
+        }
+    }
+}
+
+/// A disk with one file, and a host that tells what it holds. A file that was made can't be read again.
 #[derive(Drop)]
 struct Disk<'a> {
     alloc: Global,
+    name: &'a str,
     old: &'a [u8],
     new: Option<Vec<u8>>,
 }
@@ -18,13 +46,15 @@ struct Disk<'a> {
 impl<'a> Files for Disk<'a> {
     type Reader = Option<BytesLeft<'a>>;
 
-    type Writer = Option<BytesTaken>;
+    type Writer = Option<Made<'a>>;
 
-    ghost use Rattle.std.specs.Prelude.{true, false, None};
+    ghost use Rattle.std.specs.Prelude.{true, Some, None, MatchOption, if◌then◌else◌};
+    ghost use Rattle.std.specs.Option.{option_map_or};
+    ghost use Rattle.std.specs.Str.{bytes_eq};
 
-    ghost tells = { λ _. false };
+    ghost tells = { λ _. true };
 
-    ghost holds = { λ _ _. None };
+    ghost holds = { λ disk name. if bytes_eq name disk.name.now then option_map_or (λ bytes. Some bytes.items) disk.new (Some disk.old.now) else None };
 
     ghost can_open = { λ _ _. true };
 
@@ -33,23 +63,27 @@ impl<'a> Files for Disk<'a> {
     ghost can_fail = { λ _ _. true };
 
     fn open(&self, name: &str) -> Option<BytesLeft<'a>> {
-        if name == "old" {
+        if name == self.name && self.new.is_none() {
             Some(BytesLeft(self.old))
         } else {
             None
         }
     }
 
-    fn create(&mut self, name: &str) -> Option<BytesTaken> {
-        if name == "new" {
-            Some(BytesTaken(Vec::new(self.alloc)))
+    fn create(&mut self, name: &str) -> Option<Made<'a>> {
+        if name == self.name {
+            Some(Made {
+                name: self.name,
+                bytes: Vec::new(self.alloc),
+            })
         } else {
             None
         }
     }
 
-    fn close(&mut self, file: Option<BytesTaken>) {
-        if let Some(BytesTaken(bytes)) = file {
+    fn close(&mut self, file: Option<Made<'a>>) {
+        if let Some(Made { name, bytes }) = file {
+            self.name = name;
             self.new = Some(bytes);
         }
     }
@@ -64,11 +98,12 @@ struct Ended {
     faults: Vec<u8>,
 }
 
-/// Runs a command line on this standard input, beside a file `old` of two blocks.
+/// Runs a command line on this standard input, beside a file `disk` of two blocks.
 fn run(alloc: Global, line: &str, input: &[u8]) -> Result<Ended, AllocError> {
     let old = [7; 1024];
     let mut disk = Disk {
         alloc,
+        name: "disk",
         old: &old,
         new: None,
     };
@@ -177,43 +212,76 @@ Example:
     Ok(())
 }
 
-/// Command lines, the exit status, standard output and standard error, with the script `0 tur` on standard input.
-static LINES: [(&str, u8, &str, &str); 7] = [
-    ("uasdisk replay 1 1", 0, "0 0 good 0\n", ""),
-    ("uasdisk make new 3", 0, "made 3\n", ""),
-    ("uasdisk make other 3", 3, "", "image: file\n"),
-    ("uasdisk info old", 0, "blocks 2 last 1\n", ""),
-    ("uasdisk info new", 3, "", "image: file\n"),
-    (
-        "uasdisk replay 32 1",
-        2,
-        "",
-        "error: invalid value '32' for '<CLIENTS>': 32 is not in 1..=31\n\nFor more information, try '--help'.\n",
-    ),
-    (
-        "uasdisk jump",
-        2,
-        "",
-        "error: unrecognized subcommand 'jump'\n\nUsage: uasdisk <COMMAND>\n\nFor more information, try '--help'.\n",
-    ),
+/// A command line with the script `0 tur` on standard input, and what comes of it.
+struct CommandLine {
+    line: &'static str,
+    status: u8,
+    output: &'static [u8],
+    faults: &'static [u8],
+    /// How many bytes were written to the file, where it was closed.
+    made: Option<usize>,
+}
+
+static LINES: [CommandLine; 7] = [
+    CommandLine {
+        line: "uasdisk replay 1 1",
+        status: 0,
+        output: b"0 0 good 0\n",
+        faults: b"",
+        made: None,
+    },
+    CommandLine {
+        line: "uasdisk make disk 3",
+        status: 0,
+        output: b"made 3\n",
+        faults: b"",
+        made: Some(1536),
+    },
+    CommandLine {
+        line: "uasdisk make other 3",
+        status: 3,
+        output: b"",
+        faults: b"image: file\n",
+        made: None,
+    },
+    CommandLine {
+        line: "uasdisk info disk",
+        status: 0,
+        output: b"blocks 2 last 1\n",
+        faults: b"",
+        made: None,
+    },
+    CommandLine {
+        line: "uasdisk info other",
+        status: 3,
+        output: b"",
+        faults: b"image: file\n",
+        made: None,
+    },
+    CommandLine {
+        line: "uasdisk replay 32 1",
+        status: 2,
+        output: b"",
+        faults: b"error: invalid value '32' for '<CLIENTS>': 32 is not in 1..=31\n\nFor more information, try '--help'.\n",
+        made: None,
+    },
+    CommandLine {
+        line: "uasdisk jump",
+        status: 2,
+        output: b"",
+        faults: b"error: unrecognized subcommand 'jump'\n\nUsage: uasdisk <COMMAND>\n\nFor more information, try '--help'.\n",
+        made: None,
+    },
 ];
 
 #[test]
 fn command_lines(rt: HostRuntime) -> Result<(), Fail> {
-    for (line, status, output, faults) in LINES {
-        let ended = run(rt.alloc(), line, b"0 tur")?;
-        assert_eq!(rt; ended.status, status, "{line}");
-        assert_eq!(rt; ended.output.as_slice(), output.as_bytes(), "{line}");
-        assert_eq!(rt; ended.faults.as_slice(), faults.as_bytes(), "{line}");
-        let made = ended.new.map_or(0, |bytes| bytes.len());
-        assert_eq!(rt;
-            made,
-            if line == "uasdisk make new 3" {
-                3 * 512
-            } else {
-                0
-            }
-        );
+    for row in &LINES {
+        let ended = run(rt.alloc(), row.line, b"0 tur")?;
+        assert_eq!(rt; ended.status, row.status);
+        assert_eq!(rt; ended.output.as_slice(), row.output);
+        assert_eq!(rt; ended.faults.as_slice(), row.faults);
+        assert_eq!(rt; ended.new.map(|bytes| bytes.len()), row.made);
     }
     Ok(())
 }

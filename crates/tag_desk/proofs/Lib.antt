@@ -1,0 +1,5 @@
+pub mod Moves
+pub mod Steps
+pub mod Dealing
+pub mod Holding
+pub mod Seating

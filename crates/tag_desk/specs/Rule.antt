@@ -1,0 +1,190 @@
+-- The rule of the table: for each tag its word, its slot, what its client's seat knows and what its pump's seat knows agree.
+use Rattle.std.specs.Prelude.{◌≡◌, ℕ, ◌+◌, ◌*◌, ◌/◌, ◌<◌, ◌≤◌, ◌==◌, List, [], ◌∷◌, length, slice_index, Option, Some, None, MatchBool, ◌⊎◌}
+use mathlib.Core.Option.{some}
+use mathlib.Core.Option as maybe
+use lib.ListN.{get_elem?}
+use Rattle.atomic_table.specs.Table.{State, Me, Step}
+use Rattle.tag_desk.specs.declared.Slip.{Slip}
+use Rattle.tag_desk.specs.declared.rule.ClientView.{ClientView}
+use Rattle.tag_desk.specs.declared.rule.ClientView.TheVariants.{Waiting, Free, Open}
+use Rattle.tag_desk.specs.declared.rule.WorkView.{WorkView}
+use Rattle.tag_desk.specs.declared.rule.WorkView.TheVariants.{Idle, Claimed, Finished}
+use Rattle.tag_desk.specs.declared.rule.View.{View}
+use Rattle.tag_desk.specs.declared.rule.View.TheVariants.{Dealer, Client, Work, Both, Spent}
+use Rattle.tag_desk.specs.Slips.{IsAsk, IsEnd}
+
+-- The word of a tag is 4 x ticket + state: 0 free (with the last ticket), 1 posted, 2 taken, 3 done. Ticket 5 posted is 21
+abbrev pub free_word : ℕ → ℕ
+free_word ticket = 4 * ticket
+
+abbrev pub posted_word : ℕ → ℕ
+posted_word ticket = 4 * ticket + 1
+
+abbrev pub taken_word : ℕ → ℕ
+taken_word ticket = 4 * ticket + 2
+
+abbrev pub done_word : ℕ → ℕ
+done_word ticket = 4 * ticket + 3
+
+-- Where a tag is: not dealt yet, free after a ticket, posted with a slip, taken, or done with a slip
+pub data Stage : Type 0 where
+  undealt : Stage
+  free : ℕ → Stage
+  posted : ℕ → Slip → Stage
+  taken : ℕ → Stage
+  done : ℕ → Slip → Stage
+
+abbrev pub Place : Type 0
+Place = maybe.Option (maybe.Option (Option Slip))
+
+-- the word and the slot of tag t + 1 at its stage: the slot is at home with the slip where it is posted or done, and else out
+abbrev pub IsAt : ℕ → ℕ → Place → Stage → Type 0
+IsAt t word slot undealt = (word ≡ 0) × (slot ≡ some (some None))
+IsAt t word slot (free n) = (word ≡ free_word n) × (slot ≡ some maybe.none)
+IsAt t word slot (posted n x) = (word ≡ posted_word n) × (slot ≡ some (some (Some x))) × IsAsk (t + 1) n x
+IsAt t word slot (taken n) = (word ≡ taken_word n) × (slot ≡ some maybe.none)
+IsAt t word slot (done n y) = (word ≡ done_word n) × (slot ≡ some (some (Some y))) × IsEnd (t + 1) n y
+
+-- what a client has open stands in the word, and at posted its slip is at home
+abbrev pub IsOpen : ℕ → Slip → Stage → Type 0
+IsOpen n x undealt = ⊥
+IsOpen n x (free m) = ⊥
+IsOpen n x (posted m y) = (m ≡ n) × (y ≡ x)
+IsOpen n x (taken m) = m ≡ n
+IsOpen n x (done m y) = m ≡ n
+
+abbrev pub ClientKnows : ClientView → Stage → Type 0
+ClientKnows Waiting stage = stage ≡ undealt
+ClientKnows (Free n) stage = stage ≡ free n
+ClientKnows (Open n x) stage = IsOpen n x stage
+
+-- a pump without the claim: the tag isn't taken, and where it is done, this pump finished it with that slip
+abbrev pub IsUntaken : Stage → Type 0
+IsUntaken undealt = Unit {0}
+IsUntaken (free n) = Unit {0}
+IsUntaken (posted n x) = Unit {0}
+IsUntaken (taken n) = ⊥
+IsUntaken (done n y) = ⊥
+
+abbrev pub IsFinished : ℕ → Slip → Stage → Type 0
+IsFinished n y undealt = Unit {0}
+IsFinished n y (free m) = Unit {0}
+IsFinished n y (posted m x) = Unit {0}
+IsFinished n y (taken m) = ⊥
+IsFinished n y (done m z) = (m ≡ n) × (z ≡ y)
+
+abbrev pub WorkKnows : WorkView → Stage → Type 0
+WorkKnows Idle stage = IsUntaken stage
+WorkKnows (Claimed n) stage = stage ≡ taken n
+WorkKnows (Finished n y) stage = IsFinished n y stage
+
+-- Where each tag is, which seat is its client's and which its pump's, which seat deals, and how many tags are dealt
+pub record Books : Type 0 where
+  pub stage : ℕ → Stage
+  pub client : ℕ → ℕ
+  pub work : ℕ → ℕ
+  pub dealer : ℕ
+  pub dealt : ℕ
+
+-- what seat k may know
+abbrev pub Knows : Books → ℕ → View → Type 0
+Knows b k (Dealer from) = (b.dealer ≡ k) × (b.dealt ≡ from)
+Knows b k (Client t v) = (t < b.dealt) × (b.client t ≡ k) × ClientKnows v (b.stage t)
+Knows b k (Work t w) = (t < b.dealt) × (b.work t ≡ k) × WorkKnows w (b.stage t)
+Knows b k (Both t v w) = (t < b.dealt) × (b.client t ≡ k) × (b.work t ≡ k) × ClientKnows v (b.stage t) × WorkKnows w (b.stage t)
+Knows b k Spent = Unit {0}
+
+pub record IsDesk (tags : ℕ) (s : State (Option Slip) View) : Type 0 where
+  pub books : Books
+  pub width : length s.words ≡ tags
+  pub depth : length s.homes ≡ tags
+  pub fresh : (t : ℕ) → books.dealt ≤ t → books.stage t ≡ undealt
+  pub each_tag : (t : ℕ) → t < tags → IsAt t (slice_index s.words t) (get_elem? s.homes t) (books.stage t)
+  pub each_seat : (k : ℕ) (v : View) → get_elem? s.views k ≡ some v → Knows books k v
+
+abbrev pub dealing : ℕ → View
+dealing tags = Dealer 0
+
+abbrev pub Sat : Type 0
+Sat = Me (Option Slip) View
+
+-- the slot is dealt
+abbrev pub Lifts : Step (Option Slip) → Sat → ℕ → Sat → Type 0
+Lifts s me found w = w ≡ (Both s.word (Free 0) Idle, (s.word, None) ∷ [])
+
+-- the seat that gave back a slot with a slip has it on record
+abbrev pub after_post : ℕ → ℕ → List (ℕ × Option Slip) → View
+after_post t n [] = Spent
+after_post t n ((k, None) ∷ slots) = Spent
+after_post t n ((k, Some x) ∷ slots) = Client t (Open n x)
+
+abbrev pub after_finish : ℕ → ℕ → List (ℕ × Option Slip) → View
+after_finish t n [] = Spent
+after_finish t n ((k, None) ∷ slots) = Spent
+after_finish t n ((k, Some y) ∷ slots) = Work t (Finished n y)
+
+abbrev pub Posts : Step (Option Slip) → Sat → ℕ → Sat → Type 0
+Posts s me found w = w ≡ (after_post s.word (s.first / 4) me.1, [])
+
+abbrev pub Finishes : Step (Option Slip) → Sat → ℕ → Sat → Type 0
+Finishes s me found w = w ≡ (after_finish s.word (s.first / 4) me.1, [])
+
+-- the slot comes with an ask of the ticket, where the word was posted with it
+abbrev pub Takes : Step (Option Slip) → Sat → ℕ → Sat → Type 0
+Takes s me found w = MatchBool (found == s.first)
+    ((x : Slip) × IsAsk (s.word + 1) (s.first / 4) x × (w ≡ (Work s.word (Claimed (s.first / 4)), (s.word, Some x) ∷ [])))
+    (w ≡ me)
+
+-- the slot comes with an end of the ticket, where the word was done with it
+abbrev pub Looks : Step (Option Slip) → Sat → ℕ → Sat → Type 0
+Looks s me found w = MatchBool (found == s.first)
+    ((y : Slip) × IsEnd (s.word + 1) (s.first / 4) y × (w ≡ (Client s.word (Free (s.first / 4)), (s.word, Some y) ∷ [])))
+    (w ≡ me)
+
+-- what was posted, or finished by this very seat, comes back
+abbrev pub IsSettled : ClientView → WorkView → ℕ → Slip → Type 0
+IsSettled Waiting w found z = ⊥
+IsSettled (Free n) w found z = ⊥
+IsSettled (Open n x) Idle found z = (found ≡ posted_word n) × (z ≡ x)
+IsSettled (Open n x) (Claimed m) found z = ⊥
+IsSettled (Open n x) (Finished m y) found z = ((found ≡ posted_word n) × (z ≡ x)) ⊎ ((found ≡ done_word n) × (m ≡ n) × (z ≡ y))
+
+abbrev pub client_in : View → ClientView
+client_in (Dealer from) = Waiting
+client_in (Client t v) = v
+client_in (Work t w) = Waiting
+client_in (Both t v w) = v
+client_in Spent = Waiting
+
+abbrev pub work_in : View → WorkView
+work_in (Dealer from) = Idle
+work_in (Client t v) = Idle
+work_in (Work t w) = w
+work_in (Both t v w) = w
+work_in Spent = Idle
+
+-- the word index of the seat's tag
+abbrev pub index_in : View → ℕ
+index_in (Dealer from) = from
+index_in (Client t v) = t
+index_in (Work t w) = t
+index_in (Both t v w) = t
+index_in Spent = 0
+
+abbrev pub Settles : Step (Option Slip) → Sat → ℕ → Sat → Type 0
+Settles s me found w = (z : Slip) × IsSettled (client_in me.0) (work_in me.0) found z × (w ≡ (Spent, (s.word, Some z) ∷ []))
+
+abbrev pub dealt_less : View → View
+dealt_less v = Dealer (index_in v + 1)
+
+abbrev pub dealt : View → View
+dealt v = Both (index_in v) Waiting Idle
+
+abbrev pub clients_part : View → View
+clients_part v = Client (index_in v) (client_in v)
+
+abbrev pub pumps_part : View → View
+pumps_part v = Work (index_in v) (work_in v)
+
+abbrev pub united : View → View → View
+united v w = Both (index_in v) (client_in v) (work_in w)

@@ -1,0 +1,183 @@
+-- The desk, its seats and its claims as their calls see them.
+use Rattle.std.specs.Prelude.{◌≡◌, ℕ, ◌+◌, ◌*◌, ◌-◌, ◌/◌, ◌%◌, ◌^◌, ◌<◌, ◌≤◌, List, [], ◌∷◌, Option, Some, None, length, slice_get, slice_set, slice_index_or, if◌then◌else◌, nat_lt, ◌==◌}
+use Rattle.std.proofs.Common.{zero, suc}
+use Rattle.atomic_table.specs.Seated.{TableId}
+use Rattle.tag_desk.specs.declared.Slip.{Slip}
+use Rattle.tag_desk.specs.declared.rule.ClientView.{ClientView}
+use Rattle.tag_desk.specs.declared.rule.ClientView.TheVariants.{Waiting, Free, Open}
+use Rattle.tag_desk.specs.declared.rule.WorkView.{WorkView}
+use Rattle.tag_desk.specs.declared.rule.WorkView.TheVariants.{Idle, Claimed, Finished}
+use Rattle.tag_desk.specs.declared.rule.View.TheVariants.{Client, Work}
+use Rattle.tag_desk.specs.Rule.{Sat}
+use Rattle.tag_desk.specs.Slips.{IsAsk, IsEnd}
+
+-- Which desk it is, and for how many clients and pumps it was made
+pub record MadeDesk : Type 0 where
+  pub table : TableId
+  pub clients : ℕ
+  pub pumps : ℕ
+
+-- What a client knows of the tag at an index, which is the tag less 1
+pub record ClientLine : Type 0 where
+  pub table : TableId
+  pub index : ℕ
+  pub view : ClientView
+
+-- What a pump knows of the tag at an index
+pub record WorkLine : Type 0 where
+  pub table : TableId
+  pub index : ℕ
+  pub view : WorkView
+
+-- A claim: whose tag and ticket, and the slip until it is taken out
+pub record HeldClaim : Type 0 where
+  pub table : TableId
+  pub tag : ℕ
+  pub ticket : ℕ
+  pub slip : Option Slip
+
+abbrev pub IsFree : ClientView → Type 0
+IsFree v = (last : ℕ) × (v ≡ Free last)
+
+-- the slot is with the client's seat while its tag is free
+abbrev pub slots_at : ℕ → ClientView → List (ℕ × Option Slip)
+slots_at t Waiting = []
+slots_at t (Free n) = (t, None) ∷ []
+slots_at t (Open n x) = []
+
+abbrev pub open_ticket : ClientView → Option ℕ
+open_ticket Waiting = None
+open_ticket (Free n) = None
+open_ticket (Open n x) = Some n
+
+abbrev pub IsDealt : ClientView → Type 0
+IsDealt Waiting = ⊥
+IsDealt (Free n) = Unit {0}
+IsDealt (Open n x) = n < 2 ^ 60
+
+abbrev pub client_sat : ℕ → ClientView → Sat
+client_sat t v = (Client t v, slots_at t v)
+
+abbrev pub work_sat : ℕ → WorkView → Sat
+work_sat t w = (Work t w, [])
+
+abbrev pub claim_sat : ℕ → ℕ → Sat
+claim_sat t n = (Work t (Claimed n), (t, None) ∷ [])
+
+-- a pump's seat that isn't out with a claim
+abbrev pub IsHome : WorkView → Type 0
+IsHome Idle = Unit {0}
+IsHome (Claimed n) = ⊥
+IsHome (Finished n y) = Unit {0}
+
+-- a look that gave a slip: it ends the ticket that was open, and the tag is free after it
+abbrev pub Reaps : ClientLine → ClientLine → Slip → Type 0
+Reaps old new y = (n : ℕ) × (x : Slip) × (old.view ≡ Open n x) × IsEnd (old.index + 1) n y × (new ≡ record old { view = Free n })
+
+abbrev pub IsClaimOf : WorkLine → ℕ → HeldClaim → Type 0
+IsClaimOf line ticket claim = (x : Slip) × IsAsk (line.index + 1) ticket x × (claim ≡ record { table = line.table; tag = line.index + 1; ticket = ticket; slip = Some x })
+
+-- What a client has: the least ticket that it may post next, and a line for each of its eight tags
+pub record Customer : Type 0 where
+  pub client : ℕ
+  pub least : ℕ
+  pub lines : List ClientLine
+
+-- What a pump has: a line for each tag of the desk, none where the tag is another pump's or its line is out with a claim
+pub record Server : Type 0 where
+  pub pump : ℕ
+  pub lines : List (Option WorkLine)
+
+-- line k of client c is that of tag 8 c + k + 1
+abbrev pub IsCustomer : Customer → Type 0
+IsCustomer seat = (length seat.lines ≡ 8) × ((k : ℕ) (d : ClientLine) → k < 8 → (slice_index_or seat.lines k d).index ≡ 8 * seat.client + k) × (seat.client < 31)
+
+abbrev pub HasIndex : ℕ → Option WorkLine → Type 0
+HasIndex k None = Unit {0}
+HasIndex k (Some line) = line.index ≡ k
+
+-- the table of a line that is there
+abbrev pub table_or : TableId → Option WorkLine → TableId
+table_or table None = table
+table_or table (Some line) = line.table
+
+abbrev pub IsOnTable : TableId → Option WorkLine → Type 0
+IsOnTable table line = table_or table line ≡ table
+
+abbrev pub IsServer : Server → Type 0
+IsServer seat = (k : ℕ) (d : Option WorkLine) → k < length seat.lines → HasIndex k (slice_index_or seat.lines k d)
+
+abbrev pub IsClientOf : MadeDesk → Customer → Type 0
+IsClientOf desk seat = (seat.client < desk.clients) × ((k : ℕ) (d : ClientLine) → k < 8 → (slice_index_or seat.lines k d).table ≡ desk.table)
+
+abbrev pub IsPumpOf : MadeDesk → Server → Type 0
+IsPumpOf desk seat = (length seat.lines ≡ 8 * desk.clients) × ((k : ℕ) (d : Option WorkLine) → k < length seat.lines → IsOnTable desk.table (slice_index_or seat.lines k d))
+
+-- tags 8 c + 1 to 8 c + 8 are those of client c: tag 17 is the first of client 2
+abbrev pub IsTagOf : ℕ → ℕ → Type 0
+IsTagOf client tag = (1 ≤ tag) × ((tag - 1) / 8 ≡ client)
+
+-- client c is served by pump c mod the number of pumps
+abbrev pub IsServed : MadeDesk → Server → ℕ → Type 0
+IsServed desk seat tag = (1 ≤ tag) × (tag ≤ 8 * desk.clients) × ((tag - 1) / 8 % desk.pumps ≡ seat.pump)
+
+abbrev pub IsFreeAt : Customer → ℕ → Type 0
+IsFreeAt seat tag = (line : ClientLine) × (slice_get seat.lines ((tag - 1) % 8) ≡ Some line) × IsFree line.view
+
+abbrev pub with_view : List ClientLine → ℕ → ClientView → List ClientLine
+with_view [] k v = []
+with_view (line ∷ lines) zero v = record line { view = v } ∷ lines
+with_view (line ∷ lines) (suc k) v = line ∷ with_view lines k v
+
+-- the seat after a post
+abbrev pub posting : Customer → ℕ → ℕ → Slip → Customer
+posting seat tag ticket x = record { client = seat.client; least = ticket + 1; lines = with_view seat.lines ((tag - 1) % 8) (Open ticket x) }
+
+-- a look that gave a slip: it ends the ticket that was open on the tag, and the tag is free after it
+abbrev pub ReapsAt : Customer → Customer → ℕ → Slip → Type 0
+ReapsAt old new tag y = (line : ClientLine) × (n : ℕ) × (x : Slip) × (slice_get old.lines ((tag - 1) % 8) ≡ Some line) × (line.view ≡ Open n x) × IsEnd tag n y
+    × (new ≡ record old { lines = with_view old.lines ((tag - 1) % 8) (Free n) })
+
+-- a claim that was given: it holds an ask of the ticket, and the pump's line is out with it
+abbrev pub ClaimsAt : Server → Server → ℕ → ℕ → HeldClaim → Type 0
+ClaimsAt old new tag ticket claim = (x : Slip) × IsAsk tag ticket x × (claim.slip ≡ Some x) × (claim.tag ≡ tag) × (claim.ticket ≡ ticket)
+    × (new ≡ record old { lines = slice_set old.lines (tag - 1) None })
+
+abbrev pub IsAway : Server → ℕ → Type 0
+IsAway seat tag = slice_get seat.lines (tag - 1) ≡ Some None
+
+-- the seat after a finish
+abbrev pub finishing : Server → HeldClaim → Slip → Server
+finishing seat claim y = record seat { lines = slice_set seat.lines (claim.tag - 1) (Some record { table = claim.table; index = claim.tag - 1; view = Finished claim.ticket y }) }
+
+abbrev pub new_line : TableId → ℕ → ClientLine
+new_line table t = record { table = table; index = t; view = Free 0 }
+
+-- a client's seat on a new desk: it posted nothing, and all its tags are free
+pub record IsNewCustomer (table : TableId) (c : ℕ) (seat : Customer) : Type 0 where
+  pub client : seat.client ≡ c
+  pub least : seat.least ≡ 0
+  pub count : length seat.lines ≡ 8
+  pub lines : (k : ℕ) (d : ClientLine) → k < 8 → slice_index_or seat.lines k d ≡ new_line table (8 * c + k)
+
+-- what pump p has of the tag at index t once the tags below an index are dealt: a line that claimed nothing yet, where it serves the tag
+abbrev pub server_line : MadeDesk → ℕ → ℕ → ℕ → Option WorkLine
+server_line desk p below t = if nat_lt t below then (if t / 8 % desk.pumps == p then Some record { table = desk.table; index = t; view = Idle } else None) else None
+
+pub record IsServerBelow (desk : MadeDesk) (below p : ℕ) (seat : Server) : Type 0 where
+  pub pump : seat.pump ≡ p
+  pub count : length seat.lines ≡ 8 * desk.clients
+  pub lines : (t : ℕ) (d : Option WorkLine) → t < 8 * desk.clients → slice_index_or seat.lines t d ≡ server_line desk p below t
+
+-- a pump's seat on a new desk
+abbrev pub IsNewServer : MadeDesk → ℕ → Server → Type 0
+IsNewServer desk p seat = IsServerBelow desk (8 * desk.clients) p seat
+
+-- the pumps' seats once the tags below an index are dealt
+pub record AreServersBelow (desk : MadeDesk) (below : ℕ) (seats : List Server) : Type 0 where
+  pub count : length seats ≡ desk.pumps
+  pub each : (p : ℕ) (d : Server) → p < desk.pumps → IsServerBelow desk below p (slice_index_or seats p d)
+
+pub record AreNewCustomers (table : TableId) (clients : ℕ) (seats : List Customer) : Type 0 where
+  pub count : length seats ≡ clients
+  pub each : (c : ℕ) (d : Customer) → c < clients → IsNewCustomer table c (slice_index_or seats c d)

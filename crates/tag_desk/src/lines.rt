@@ -1,0 +1,182 @@
+//! What a client and a pump have of one tag, and the steps of each on its word.
+ghost use Rattle.std.specs.Prelude.{◌≡◌, ℕ, ◌+◌, ◌-◌, ◌*◌, ◌^◌, ◌<◌, ◌≤◌, None, Some, MatchOption, MatchResult, IsTrue, ◌↔◌};
+ghost use Rattle.tag_desk.specs.declared.rule.ClientView.TheVariants.{Open};
+ghost use Rattle.tag_desk.specs.declared.rule.WorkView.TheVariants.{Finished};
+ghost use Rattle.tag_desk.specs.Slips.{IsAsk, IsEnd};
+ghost use Rattle.tag_desk.specs.declared.rule.WorkView.TheVariants.{Idle};
+ghost use Rattle.tag_desk.specs.declared.rule.View.TheVariants.{Dealer};
+ghost use Rattle.tag_desk.specs.Seats.{IsFree, Reaps, IsClaimOf, new_line};
+
+use crate::rule::{Deal, Finish, Lift, Look, Part, Post, TableSeat, Take};
+use crate::{Claim, Desk, Slip};
+use std::marker::Model;
+
+/// A tag's word is `STATES` times its ticket, plus its state: 0 where it is free.
+pub(crate) const STATES: u64 = 4;
+
+/// The client's slip is at home.
+pub(crate) const POSTED: u64 = 1;
+
+/// The pump's seat has the claim.
+pub(crate) const TAKEN: u64 = 2;
+
+/// The pump's slip is at home.
+pub(crate) const DONE: u64 = 3;
+
+const _: () = prove!(STATES == 4);
+
+const _: () = prove!(POSTED == 1);
+
+const _: () = prove!(TAKEN == 2);
+
+const _: () = prove!(DONE == 3);
+
+/// A client's seat at one tag, and the ticket that it has open there.
+#[derive(Drop)]
+pub struct Line {
+    seat: TableSeat,
+    posted: Option<u64>,
+}
+
+impl Model for Line {
+    ghost use Rattle.std.specs.Prelude.{◌≡◌};
+    ghost use Rattle.tag_desk.specs.Rule.{index_in, client_in};
+    ghost use Rattle.tag_desk.specs.Seats.{ClientLine, client_sat, open_ticket, IsDealt};
+
+    ghost Value = { ClientLine };
+
+    ghost view = { λ l. record { table = l.seat.table_id; index = index_in l.seat.me.0; view = client_in l.seat.me.0 } };
+
+    ghost invariant = { λ l. (l.seat.me ≡ client_sat (index_in l.seat.me.0) (client_in l.seat.me.0)) × (l.posted ≡ open_ticket (client_in l.seat.me.0)) × IsDealt (client_in l.seat.me.0) };
+}
+
+/// A pump's seat at one tag, with no claim on it.
+#[derive(Drop)]
+pub struct Work {
+    seat: TableSeat,
+}
+
+impl Model for Work {
+    ghost use Rattle.std.specs.Prelude.{◌≡◌};
+    ghost use Rattle.tag_desk.specs.Rule.{index_in, work_in};
+    ghost use Rattle.tag_desk.specs.Seats.{WorkLine, work_sat, IsHome};
+
+    ghost Value = { WorkLine };
+
+    ghost view = { λ w. record { table = w.seat.table_id; index = index_in w.seat.me.0; view = work_in w.seat.me.0 } };
+
+    ghost invariant = { λ w. (w.seat.me ≡ work_sat (index_in w.seat.me.0) (work_in w.seat.me.0)) × IsHome (work_in w.seat.me.0) };
+}
+
+impl Line {
+    /// Puts the slip into the tag's slot and gives it away with the word. The index is the tag less 1.
+    pub(crate) fn post(&mut self, desk: &Desk, index: usize, ticket: u64, slip: Slip)
+        requires table { self.old.table ≡ desk.now.table }
+        requires index { self.old.index ≡ index }
+        requires within { index < 8 * desk.now.clients }
+        requires free { IsFree self.old.view }
+        requires ticket { ticket < 2 ^ 60 }
+        requires ask { IsAsk (index + 1) ticket slip }
+        ensures { self.new ≡ record self.old { view = Open ticket slip } }
+    {
+        let shared = &desk.table.shared;
+        drop(shared.exchange(&mut self.seat, index, Some(slip)));
+        shared.swap::<Post>(&mut self.seat, index, STATES * ticket + POSTED);
+        self.posted = Some(ticket);
+    }
+
+    pub(crate) fn is_free(&self) -> bool
+        ensures { IsTrue result ↔ IsFree self.now.view }
+    {
+        self.posted.is_none()
+    }
+
+    /// The slip with which the pump finished, where it did.
+    pub(crate) fn look(&mut self, desk: &Desk, index: usize) -> Option<Slip>
+        requires table { self.old.table ≡ desk.now.table }
+        requires index { self.old.index ≡ index }
+        requires within { index < 8 * desk.now.clients }
+        ensures { MatchOption result (self.new ≡ self.old) (λ slip. Reaps self.old self.new slip) }
+    {
+        let ticket = self.posted?;
+        let shared = &desk.table.shared;
+        let done = STATES * ticket + DONE;
+        let found = shared.compare_exchange::<Look>(&mut self.seat, index, done, STATES * ticket);
+        if found != done {
+            return None;
+        }
+        self.posted = None;
+        shared.exchange(&mut self.seat, index, None)
+    }
+}
+
+impl Work {
+    /// The claim of the ticket, where it is posted; else the seat comes back.
+    pub(crate) fn claim(self, desk: &Desk, tag: u16, ticket: u64) -> Result<Claim, Work>
+        requires table { self.table ≡ desk.now.table }
+        requires tag { tag ≡ self.index + 1 }
+        requires within { tag ≤ 8 * desk.now.clients }
+        requires ticket { ticket < 2 ^ 60 }
+        ensures { MatchResult result (λ claim. IsClaimOf self ticket claim) (λ work. work ≡ self) }
+    {
+        let Work { mut seat } = self;
+        let index = usize::from(tag) - 1;
+        let shared = &desk.table.shared;
+        let asked = STATES * ticket + POSTED;
+        let found = shared.compare_exchange::<Take>(
+            &mut seat,
+            index,
+            asked,
+            STATES * ticket + TAKEN,
+        );
+        if found != asked {
+            return Err(Work { seat });
+        }
+        let slip = shared.exchange(&mut seat, index, None);
+        Ok(Claim {
+            seat,
+            tag,
+            ticket,
+            slip,
+        })
+    }
+
+    /// Puts the slip into the claim's slot and gives it away with the word.
+    pub(crate) fn finish(claim: Claim, desk: &Desk, slip: Slip) -> Work
+        requires table { claim.table ≡ desk.now.table }
+        requires low { 1 ≤ claim.tag }
+        requires within { claim.tag ≤ 8 * desk.now.clients }
+        requires end { IsEnd claim.tag claim.ticket slip }
+        ensures { result ≡ record { table = claim.table; index = claim.tag - 1; view = Finished claim.ticket slip } }
+    {
+        let Claim {
+            mut seat,
+            tag,
+            ticket,
+            slip: _,
+        } = claim;
+        let index = usize::from(tag) - 1;
+        let shared = &desk.table.shared;
+        drop(shared.exchange(&mut seat, index, Some(slip)));
+        shared.swap::<Finish>(&mut seat, index, STATES * ticket + DONE);
+        Work { seat }
+    }
+}
+
+/// The next tag of the dealer: the client's line and the pump's, and the slot with the client's.
+pub(crate) fn deal(desk: &Desk, dealer: &mut TableSeat, index: usize) -> (Line, Work)
+    requires within { index < 8 * desk.now.clients }
+    requires table { dealer.old.table_id ≡ desk.now.table }
+    requires next { dealer.old.me.0 ≡ Dealer index }
+    ensures line { result.0 ≡ new_line desk.now.table index }
+    ensures work { result.1 ≡ record { table = desk.now.table; index = index; view = Idle } }
+    ensures table { dealer.new.table_id ≡ desk.now.table }
+    ensures next { dealer.new.me.0 ≡ Dealer (index + 1) }
+{
+    let shared = &desk.table.shared;
+    let mut seat = shared.split_seat::<Deal>(dealer);
+    shared.load::<Lift>(&mut seat, index);
+    let work = shared.split_seat::<Part>(&mut seat);
+    let line = Line { seat, posted: None };
+    (line, Work { seat: work })
+}

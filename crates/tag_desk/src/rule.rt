@@ -1,0 +1,126 @@
+//! The table of words and slots under the desk, what its seats know, and what each step tells.
+use crate::Slip;
+use atomic_table::{Join, Play, Split, Table, TableRule};
+use std::alloc::Global;
+
+/// What a client's seat knows of its tag: the slot is not dealt to it yet; the tag is free and had this ticket last;
+/// or this slip is posted with this ticket, and its end isn't seen yet. No value of it is made, nor of the next two.
+pub enum ClientView {
+    Waiting,
+    Free(u64),
+    Open(u64, Slip),
+}
+
+/// What a pump's seat knows of a tag: it claimed nothing on it yet, it has the claim of this ticket, or it finished the
+/// claim of this ticket with this slip.
+pub enum WorkView {
+    Idle,
+    Claimed(u64),
+    Finished(u64, Slip),
+}
+
+/// What a seat at the table knows. The dealer has yet to deal the tags from a number on.
+pub enum View {
+    Dealer(u64),
+    Client(u64, ClientView),
+    Work(u64, WorkView),
+    Both(u64, ClientView, WorkView),
+    Spent,
+}
+
+/// What holds of all words, slots and seats, at all times.
+pub struct Desked;
+
+impl TableRule<Option<Slip>, View, usize> for Desked {
+    ghost use Rattle.std.specs.Prelude.{ℕ};
+    ghost use Rattle.tag_desk.specs.Rule.{IsDesk, dealing};
+
+    ghost holds = { IsDesk };
+
+    ghost first = { dealing };
+}
+
+pub(crate) struct Lift;
+
+impl Play<Option<Slip>, View> for Lift {
+    ghost use Rattle.tag_desk.specs.Rule.{Lifts};
+
+    ghost then = { Lifts };
+}
+
+pub(crate) struct Post;
+
+impl Play<Option<Slip>, View> for Post {
+    ghost use Rattle.tag_desk.specs.Rule.{Posts};
+
+    ghost then = { Posts };
+}
+
+pub(crate) struct Take;
+
+impl Play<Option<Slip>, View> for Take {
+    ghost use Rattle.tag_desk.specs.Rule.{Takes};
+
+    ghost then = { Takes };
+}
+
+pub(crate) struct Finish;
+
+impl Play<Option<Slip>, View> for Finish {
+    ghost use Rattle.tag_desk.specs.Rule.{Finishes};
+
+    ghost then = { Finishes };
+}
+
+pub(crate) struct Look;
+
+impl Play<Option<Slip>, View> for Look {
+    ghost use Rattle.tag_desk.specs.Rule.{Looks};
+
+    ghost then = { Looks };
+}
+
+pub(crate) struct Settle;
+
+impl Play<Option<Slip>, View> for Settle {
+    ghost use Rattle.tag_desk.specs.Rule.{Settles};
+
+    ghost then = { Settles };
+}
+
+/// The dealer deals its next tag, whole.
+pub(crate) struct Deal;
+
+impl Split<View> for Deal {
+    ghost use Rattle.tag_desk.specs.Rule.{dealt_less, dealt};
+
+    ghost left = { dealt_less };
+
+    ghost right = { dealt };
+}
+
+/// A tag's seat is cut into the client's and the pump's.
+pub(crate) struct Part;
+
+impl Split<View> for Part {
+    ghost use Rattle.tag_desk.specs.Rule.{clients_part, pumps_part};
+
+    ghost left = { clients_part };
+
+    ghost right = { pumps_part };
+}
+
+pub(crate) struct Unite;
+
+impl Join<View> for Unite {
+    ghost use Rattle.tag_desk.specs.declared.rule.View.TheVariants.{Spent};
+    ghost use Rattle.tag_desk.specs.Rule.{united};
+
+    ghost both = { united };
+
+    ghost spent = { Spent };
+}
+
+pub(crate) type Words = Table<Option<Slip>, View, usize, Desked, Global>;
+
+pub(crate) type TableSeat = atomic_table::Seat<Option<Slip>, View>;

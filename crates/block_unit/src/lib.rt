@@ -37,8 +37,12 @@ mod tests;
 /// How many bytes a block has.
 pub const BLOCK_BYTES: usize = 512;
 
+const _: () = prove!(BLOCK_BYTES == 512);
+
 /// How many blocks a unit has at most.
 pub const MAX_BLOCKS: u32 = 65_536;
+
+const _: () = prove!(MAX_BLOCKS == 65_536);
 
 /// One of the blocks is bad.
 #[derive(Clone, Copy, Debug, PartialEq, Eq, Error)]

@@ -78,3 +78,22 @@ fn bad_block_refuses(rt: HostRuntime) -> Result<(), Fail> {
     assert_eq!(rt; unit.read_into(2, &mut []), Ok(()));
     Ok(())
 }
+
+#[test]
+fn faults_say_why(rt: HostRuntime) -> Result<(), Fail> {
+    let texts = [
+        (
+            ImageFault::NotWhole,
+            "the image is empty, or its last block is not whole",
+        ),
+        (ImageFault::TooLarge, "the image has more than 65536 blocks"),
+        (ImageFault::NoMemory, "no memory"),
+    ];
+    for (fault, text) in texts {
+        let told = format!(in rt.alloc(); "{fault}")?;
+        assert_eq!(rt; told.as_str(), text);
+    }
+    let told = format!(in rt.alloc(); "{Bad}")?;
+    assert_eq!(rt; told.as_str(), "one of the blocks is bad");
+    Ok(())
+}

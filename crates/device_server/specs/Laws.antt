@@ -73,7 +73,8 @@ progress_of_checked P op blocks check good moves =
     ] refl
 
 -- a command that begins has ended, or is at its first chunk
-pub begun_progress : (P : Progress → Type 0) (unit : BlockMaps) (reports : Bool) (op : Op) → ((sense : Sense) → P (Ended (Check sense))) → (moved_bytes op ≡ 0 → P (Ended Good)) →
+pub begun_progress : (P : Progress → Type 0) (unit : BlockMaps) (reports : Bool) (op : Op) → ((sense : Sense) → P (Ended (Check sense))) →
+    (moved_bytes op ≡ 0 → P (Ended Good)) →
     (0 < moved_bytes op → op_fault op unit.count ≡ None → P (Moving 0)) → P (begun unit reports (checked_work op unit.count)).1
 begun_progress P unit reports op check good moves =
     elim (reports && unit.attention) as (λ b.

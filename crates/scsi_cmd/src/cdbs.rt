@@ -3,7 +3,7 @@ ghost use Rattle.scsi_cmd.specs.Fields.{field_of_two, field_of_four, is_bit_set,
 ghost use Rattle.scsi_cmd.specs.Op.{FitsCdb, cdb_bytes, block_cdb, fua_byte, moved_bytes, direction_of};
 ghost use Rattle.scsi_cmd.specs.Meaning.{asked, checked, op_fault, range_fault, transfer_fault, named_op, has_invalid_field};
 
-use crate::{BLOCK_BYTES, Direction, INQUIRY_BYTES, MAX_BLOCKS, Op, Sense};
+use crate::{BLOCK_BYTES, Direction, INQUIRY_BYTES, MOST_BLOCKS_MOVED, Op, Sense};
 
 const TEST_UNIT_READY: u8 = 0x00;
 
@@ -122,7 +122,7 @@ pub(crate) fn fault(op: &Op, blocks: u32) -> Option<Sense>
 {
     match *op {
         Op::Read { lba, count, .. } | Op::Write { lba, count, .. } => {
-            if count > MAX_BLOCKS {
+            if count > MOST_BLOCKS_MOVED {
                 Some(Sense::INVALID_FIELD_IN_CDB)
             } else {
                 out_of_range(lba, count, blocks)

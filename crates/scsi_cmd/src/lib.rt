@@ -44,29 +44,47 @@ pub use works::{
 /// Bytes of a block.
 pub const BLOCK_BYTES: usize = 512;
 
+const _: () = prove!(BLOCK_BYTES == 512);
+
 /// The most blocks of one READ or WRITE (65,536 bytes).
-pub const MAX_BLOCKS: u16 = 128;
+pub const MOST_BLOCKS_MOVED: u16 = 128;
+
+const _: () = prove!(MOST_BLOCKS_MOVED == 128);
 
 /// Tags of a client.
 pub const TAGS: usize = 8;
 
+const _: () = prove!(TAGS == 8);
+
 /// The slot (index less 1) of the tag for task management; those below it are for commands.
 pub const TASK_SLOT: usize = 7;
+
+const _: () = prove!(TASK_SLOT == 7);
 
 /// Bytes of the standard INQUIRY data (SPC).
 pub const INQUIRY_BYTES: usize = 36;
 
+const _: () = prove!(INQUIRY_BYTES == 36);
+
 /// Bytes of sense data in the fixed format (SPC).
 pub const SENSE_BYTES: usize = 18;
+
+const _: () = prove!(SENSE_BYTES == 18);
 
 /// The most bytes of sense data in a reply.
 pub const MAX_SENSE_BYTES: usize = 96;
 
+const _: () = prove!(MAX_SENSE_BYTES == 96);
+
 /// The status GOOD (SAM).
 pub const GOOD: u8 = 0x00;
 
+const _: () = prove!(GOOD == 0x00);
+
 /// The status CHECK CONDITION (SAM).
 pub const CHECK_CONDITION: u8 = 0x02;
+
+const _: () = prove!(CHECK_CONDITION == 0x02);
 
 /// An operation on one logical unit, as its CDB asks for it.
 #[derive(Clone, Copy, Debug, PartialEq, Eq)]

@@ -2,7 +2,7 @@
 ghost use Rattle.std.specs.Prelude.{◌≡◌, ◌<◌};
 ghost use Rattle.scsi_cmd.specs.Submission.{first_submit_fault, is_too_long};
 
-use crate::{Command, MAX_BLOCKS, Op, SubmitFault, moves};
+use crate::{Command, MOST_BLOCKS_MOVED, Op, SubmitFault, moves};
 
 /// The first fault of a submission, or `None`: `yours` where its tag is a command tag of the client, `in_use`
 /// where the client has something under it; `least_ticket` is the least ticket that is taken.
@@ -34,7 +34,7 @@ fn has_too_many_blocks(op: &Op) -> bool
     ensures { result ≡ is_too_long op.now }
 {
     match op {
-        Op::Read { count, .. } | Op::Write { count, .. } => *count > MAX_BLOCKS,
+        Op::Read { count, .. } | Op::Write { count, .. } => *count > MOST_BLOCKS_MOVED,
         _ => false,
     }
 }

@@ -170,3 +170,23 @@ fn buffers(rt: HostRuntime) -> Result<(), Fail> {
     assert_eq!(rt; buffer.into_vec().len(), 4);
     Ok(())
 }
+
+#[test]
+fn faults_say_why(rt: HostRuntime) -> Result<(), Fail> {
+    let texts = [
+        (SubmitFault::NotYours, "no command tag of this client"),
+        (SubmitFault::InUse, "tag in use"),
+        (
+            SubmitFault::BadLength,
+            "buffer of another length than the operation moves",
+        ),
+        (SubmitFault::TooLong, "more than 128 blocks"),
+        (SubmitFault::OutOfTurn(7), "ticket below 7"),
+        (SubmitFault::NoSuchTask, "no such task"),
+    ];
+    for (fault, text) in texts {
+        let told = format!(in rt.alloc(); "{fault}")?;
+        assert_eq!(rt; told.as_str(), text);
+    }
+    Ok(())
+}

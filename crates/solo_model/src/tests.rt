@@ -1,6 +1,7 @@
 ghost use Rattle.solo_model.specs.Solo.{TicketFits};
 
 use super::*;
+use scsi_cmd::Op;
 use std::alloc::{AllocError, Global};
 use std::test::Fail;
 
@@ -174,5 +175,12 @@ fn submission_faults(rt: HostRuntime) -> Result<(), Fail> {
         Some(SubmitFault::OutOfTurn(5))
     );
     assert_eq!(rt; submit_fault(true, false, 5, 5, &one_block), None);
+    Ok(())
+}
+
+#[test]
+fn fault_says_why(rt: HostRuntime) -> Result<(), Fail> {
+    let told = format!(in rt.alloc(); "{NotARun}")?;
+    assert_eq!(rt; told.as_str(), "not a run");
     Ok(())
 }

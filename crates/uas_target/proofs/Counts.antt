@@ -14,7 +14,8 @@ pub counts_of-set : (units : List BlockMaps) (number : ℕ) (before after : Bloc
 counts_of-set units number before after same = map-set_same (λ unit. unit.count) units number after before same
 
 -- how many blocks a unit has is counted under its number
-pub slice_get-counts_of : (units : List BlockMaps) (number : ℕ) (unit : BlockMaps) → slice_get units number ≡ Some unit → slice_get (counts_of units) number ≡ Some unit.count
+pub slice_get-counts_of : (units : List BlockMaps) (number : ℕ) (unit : BlockMaps) → slice_get units number ≡ Some unit →
+    slice_get (counts_of units) number ≡ Some unit.count
 slice_get-counts_of [] number unit is = let no : ◌≡◌ {A = Option BlockMaps} None (Some unit) = is in cc
 slice_get-counts_of (first ∷ units) zero unit is = ap (option_map (λ (u : BlockMaps). u.count)) is
 slice_get-counts_of (first ∷ units) (suc number) unit is = slice_get-counts_of units number unit is

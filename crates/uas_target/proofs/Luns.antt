@@ -14,13 +14,15 @@ by_zeros lun long zeros =
     first
     ∙ (λ i. zeros.0 i ∷ slice_index lun 1 ∷ zeros.1.0 i ∷ zeros.1.1.0 i ∷ zeros.1.1.1.0 i ∷ zeros.1.1.1.1.0 i ∷ zeros.1.1.1.1.1.0 i ∷ zeros.1.1.1.1.1.1.0 i ∷ rest i)
 
-is_plain_lun-text : (lun : List ℕ) (plain : Bool) → length lun ≡ 8 → plain ≡ list_any (λ place. not (slice_index lun place == 0)) (0 ∷ 2 ∷ 3 ∷ 4 ∷ 5 ∷ 6 ∷ 7 ∷ []) →
+is_plain_lun-text : (lun : List ℕ) (plain : Bool) → length lun ≡ 8 →
+    plain ≡ list_any (λ place. not (slice_index lun place == 0)) (0 ∷ 2 ∷ 3 ∷ 4 ∷ 5 ∷ 6 ∷ 7 ∷ []) →
     not plain ≡ true → lun ≡ lun_text (slice_index lun 1)
 is_plain_lun-text lun true long is so = let no : false ≡ true = so in cc
 is_plain_lun-text lun false long is so = by_zeros lun long (none_set lun (0 ∷ 2 ∷ 3 ∷ 4 ∷ 5 ∷ 6 ∷ 7 ∷ []) (sym is))
 
 -- where no number is read from a LUN, it addresses nothing
-pub addressed-no_number : {U : Type 0} (units : List U) (lun : List ℕ) → length lun ≡ 8 → ((number : ℕ) → lun ≡ lun_text number → ⊥) → addressed units lun ≡ None
+pub addressed-no_number : {U : Type 0} (units : List U) (lun : List ℕ) → length lun ≡ 8 → ((number : ℕ) → lun ≡ lun_text number → ⊥) →
+    addressed units lun ≡ None
 addressed-no_number units lun long none =
     elim (is_plain_lun lun) as (λ b. is_plain_lun lun ≡ b → addressed units lun ≡ None) [
       | true ↦ λ plain. absurd (none (slice_index lun 1) (is_plain_lun-text lun _ long refl plain))

@@ -28,12 +28,14 @@ use Rattle.uas_target.specs.Tasks.{task_in, begun_by}
 use Rattle.uas_target.proofs.Counts.{slice_get-counts_of}
 
 -- what a tag has is sound
-pub AllHeld-under : {T : Type 0} (P : T → Type 0) (places : List (Option T)) (tag : ℕ) (held : T) → AllHeld P places → held_under places tag ≡ Some held → P held
+pub AllHeld-under : {T : Type 0} (P : T → Type 0) (places : List (Option T)) (tag : ℕ) (held : T) → AllHeld P places →
+    held_under places tag ≡ Some held → P held
 AllHeld-under {T} P places zero held all is = let no : ◌≡◌ {A = Option T} None (Some held) = is in cc
 AllHeld-under P places (suc slot) held all is = AllHeld-held P places slot held all is
 
 -- a tag may have what is so
-pub AllHeld-with : {T : Type 0} (P : T → Type 0) (places : List (Option T)) (tag : ℕ) (now : Option T) → AllHeld P places → IfSome now P → AllHeld P (with_held_under places tag now)
+pub AllHeld-with : {T : Type 0} (P : T → Type 0) (places : List (Option T)) (tag : ℕ) (now : Option T) → AllHeld P places → IfSome now P →
+    AllHeld P (with_held_under places tag now)
 AllHeld-with P places zero now all so = all
 AllHeld-with P places (suc slot) now all so = AllHeld-set P places slot now all so
 
@@ -44,7 +46,8 @@ length-with_held places (suc slot) now = length-set places slot now
 -- A COMMAND THAT BEGINS
 
 -- a command that is at this on a unit of so many blocks is sound
-pub HasChunk-sound : (counts : List ℕ) (number blocks : ℕ) (op : Op) (progress : Progress) → slice_get counts number ≡ Some blocks → HasChunk blocks op progress →
+pub HasChunk-sound : (counts : List ℕ) (number blocks : ℕ) (op : Op) (progress : Progress) → slice_get counts number ≡ Some blocks →
+    HasChunk blocks op progress →
     IfSome (task_in (Some number) (Ok op) progress) (IsSoundTask counts)
 HasChunk-sound counts number blocks op (Moving chunk) is has = rw is (has.0, has.1)
 HasChunk-sound counts number blocks op (Ended answer) is has = tt
@@ -97,7 +100,8 @@ on_within (unit ∷ units) zero op on = omega arith
 on_within (unit ∷ units) (suc number) op on = let within = on_within units number op on in omega arith
 
 -- which can execute it
-pub on_in_range : (units : List BlockMaps) (number : ℕ) (op : Op) (read : BlockMaps) → IsOn (counts_of units) op (Some number) → op_fault op (slice_index_or units number read).count ≡ None
+pub on_in_range : (units : List BlockMaps) (number : ℕ) (op : Op) (read : BlockMaps) → IsOn (counts_of units) op (Some number) →
+    op_fault op (slice_index_or units number read).count ≡ None
 on_in_range [] number op read on = absurd on
 on_in_range (unit ∷ units) zero op read on = on
 on_in_range (unit ∷ units) (suc number) op read on = on_in_range units number op read on
@@ -114,7 +118,8 @@ left_sound units number chunk op read on =
 -- THE DEVICE
 
 -- a tag that has a task may have one
-pub is_tag-held : {T : Type 0} (places : List (Option T)) (tag : ℕ) (held : T) → length places ≡ GREATEST_TAG → held_under places tag ≡ Some held → is_tag tag ≡ true
+pub is_tag-held : {T : Type 0} (places : List (Option T)) (tag : ℕ) (held : T) → length places ≡ GREATEST_TAG → held_under places tag ≡ Some held →
+    is_tag tag ≡ true
 is_tag-held {T} places zero held long is = let no : ◌≡◌ {A = Option T} None (Some held) = is in cc
 is_tag-held {T} places (suc slot) held long is =
     elim (cases_lt slot (length places)) [
@@ -138,12 +143,14 @@ IsSoundDevice-step units after held tag now sound same so =
     }
 
 -- units of the same sizes, written back over the others
-pub written_units : (len : ℕ) (items now : List BlockMaps) → len ≡ length items → counts_of now ≡ counts_of items → take len (now ++ drop (length now) items) ≡ now
+pub written_units : (len : ℕ) (items now : List BlockMaps) → len ≡ length items → counts_of now ≡ counts_of items →
+    take len (now ++ drop (length now) items) ≡ now
 written_units len items now long same =
     let many : length now ≡ length items = sym (length-counts_of now) ∙ ap length same ∙ length-counts_of items in
     let whole : len ≡ length now = long ∙ sym many in
     rw whole (take-append_seam now (drop (length now) items))
 
 -- a tag's task is sound
-pub task_sound : (units : List BlockMaps) (held : List (Option DeviceTask)) (tag : ℕ) (task : DeviceTask) → IsSoundDevice units held → held_under held tag ≡ Some task → IsSoundTask (counts_of units) task
+pub task_sound : (units : List BlockMaps) (held : List (Option DeviceTask)) (tag : ℕ) (task : DeviceTask) → IsSoundDevice units held →
+    held_under held tag ≡ Some task → IsSoundTask (counts_of units) task
 task_sound units held tag task sound is = AllHeld-under (IsSoundTask (counts_of units)) held tag task sound.tasks is

@@ -9,7 +9,8 @@ use Rattle.bus_core.specs.declared.Outcome.{Outcome}
 use Rattle.bus_core.specs.Shared.{Shared, shared_step}
 use Rattle.bus_core.specs.Replay.{replayed}
 use Rattle.bus_core.specs.Isolation.{own_label, own_labels}
-use Rattle.uasdisk.specs.Headline.{Said, News, line_of, text_of, news_said, all_news_said, news_to, all_news, own_line, own_lines, shown, shown_then, solo_lines}
+use Rattle.uasdisk.specs.Headline.{Said, News, line_of, text_of, news_said, all_news_said, news_to, all_news, own_line, own_lines, shown, shown_then}
+use Rattle.uasdisk.specs.Headline.{solo_lines}
 
 -- THE REPLAY
 

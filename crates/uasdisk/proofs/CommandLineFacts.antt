@@ -1,8 +1,10 @@
 -- The program's command, its matches and its refusals, as the words' parser tells them.
-use Rattle.std.proofs.Common.{◌≡◌, ◌∙◌, ◌&&◌, Bool, true, false, not, List, [], ◌∷◌, Option, Some, None, Result, option_map, is_some, if◌then◌else◌, refl, ap, sym, subst, inl, inr, ◌⊎◌, ℕ}
+use Rattle.std.proofs.Common.{◌≡◌, ◌∙◌, ◌&&◌, Bool, true, false, not, List, [], ◌∷◌, Option, Some, None, Result, option_map, is_some, if◌then◌else◌}
+use Rattle.std.proofs.Common.{refl, ap, sym, subst, inl, inr, ◌⊎◌, ℕ}
 use Rattle.std.specs.Prelude.{codes, option_and_then}
 use Rattle.std.specs.Io.KnownBytes.{Keeps}
-use Rattle.clap.specs.Words.{App, Row, FailsBy, HasKind, HasMatchesOf, IsAmong, Kinds, Text, fault_of, is_simple, is_simple_and_free, subcommand_of, subcommand_rows_of, kind_of}
+use Rattle.clap.specs.Words.{App, Row, FailsBy, HasKind, HasMatchesOf, IsAmong, Kinds, Text, fault_of, is_simple, is_simple_and_free, subcommand_of}
+use Rattle.clap.specs.Words.{subcommand_rows_of, kind_of}
 use Rattle.clap.specs.Kinds.{or_else}
 use Rattle.clap.specs.declared.error.Error.{Error}
 use Rattle.clap.specs.declared.error.kind.ErrorKind.{ErrorKind}
@@ -32,7 +34,8 @@ both_found f h same (Some x) n w (Some y) names rest =
     ap (λ a. Some (a, w y)) (name ∙ same x) ∙ ap (λ b. Some ((h x).0, b)) other
 
 -- what the two subcommands of images ask for
-pub asked_of-make : (name : Text) (rows : List Row) → name ≡ codes "make" → asked_of name rows ≡ option_and_then (λ file. option_map (make file) (blocks_of rows)) (file_of rows)
+pub asked_of-make : (name : Text) (rows : List Row) → name ≡ codes "make"
+    → asked_of name rows ≡ option_and_then (λ file. option_map (make file) (blocks_of rows)) (file_of rows)
 asked_of-make name rows is = subst (λ (t : Text). asked_of t rows ≡ option_and_then (λ file. option_map (make file) (blocks_of rows)) (file_of rows)) (sym is) refl
 
 pub asked_of-info : (name : Text) (rows : List Row) → name ≡ codes "info" → asked_of name rows ≡ option_map info (file_of rows)

@@ -1,5 +1,6 @@
 -- A run of a script goes on by steps of the bus, and says what they tell.
-use Rattle.std.proofs.Common.{◌≡◌, ◌∙◌, ℕ, Bool, true, false, List, [], ◌∷◌, ◌++◌, length, Option, Some, None, option_map, option_to_list, refl, ap, ap₂, sym, append_assoc}
+use Rattle.std.proofs.Common.{◌≡◌, ◌∙◌, ℕ, Bool, true, false, List, [], ◌∷◌, ◌++◌, length, Option, Some, None, option_map, option_to_list, refl, ap}
+use Rattle.std.proofs.Common.{ap₂, sym, append_assoc}
 use Rattle.std.proofs.lemmas.List.{append-nil}
 use Rattle.std.specs.Prelude.{◌||◌, slice_get, option_and_then}
 use Rattle.scsi_cmd.specs.declared.Reply.{Reply}
@@ -13,8 +14,10 @@ use Rattle.bus_core.specs.Replay.{replayed}
 use Rattle.bus_core.specs.Laws.{HeadlineHolds}
 use Rattle.bus_core.specs.Isolation.{own_label, own_labels, own_reply, own_replies, own_state}
 use Rattle.uasdisk.specs.Told.{Telling, is_brought_in, ticket_of}
-use Rattle.uasdisk.specs.Headline.{Said, News, line_of, text_of, news_said, all_news_said, news_to, all_news, own_line, own_lines, is_to_host_under, has_to_host, shown, shown_then, solo_lines}
-use Rattle.uasdisk.proofs.Appended.{replayed-state, replayed-outcomes, own_labels-append, text_of-append, all_news_said-append, all_news-append, own_lines-append, solo_lines-append}
+use Rattle.uasdisk.specs.Headline.{Said, News, line_of, text_of, news_said, all_news_said, news_to, all_news, own_line, own_lines, is_to_host_under}
+use Rattle.uasdisk.specs.Headline.{has_to_host, shown, shown_then, solo_lines}
+use Rattle.uasdisk.proofs.Appended.{replayed-state, replayed-outcomes, own_labels-append, text_of-append, all_news_said-append, all_news-append}
+use Rattle.uasdisk.proofs.Appended.{own_lines-append, solo_lines-append}
 
 -- WHAT IS NOTED
 
@@ -197,7 +200,8 @@ pub record StepGoes (old new : Telling) (step : Step) (said : List Said) : Type 
   pub text : new.text ≡ old.text ++ text_of said
   pub news : all_news_said said ≡ news_to (shared_step old.machine step).1 (shared_step old.machine step).1.owner
   pub noted : IsNoted old → IsNoted new
-  pub own : (client : ℕ) → own_lines client said ≡ option_to_list (option_map (shown_by old.brings_in client) (own_reply client (shared_step old.machine step).1))
+  pub own : (client : ℕ) → own_lines client said
+      ≡ option_to_list (option_map (shown_by old.brings_in client) (own_reply client (shared_step old.machine step).1))
   pub notes : IsNoted old → (client ticket : ℕ) → is_brought_in new.brings_in client ticket
       ≡ (is_brought_in old.brings_in client ticket || is_to_host_by ticket (own_label client step (shared_step old.machine step).1))
 

@@ -1,5 +1,6 @@
 -- A number of a command line, as a getter of the words' parser reads it.
-use Rattle.std.proofs.Common.{◌≡◌, ◌∙◌, ℕ, ◌<◌, ◌≤◌, ◌&&◌, ◌^◌, Bool, cond, true, false, List, fold, length, Option, Some, None, Result, Ok, Err, refl, ap, ap₂, sym, zero, suc, rules, arith}
+use Rattle.std.proofs.Common.{◌≡◌, ◌∙◌, ℕ, ◌<◌, ◌≤◌, ◌&&◌, ◌^◌, Bool, cond, true, false, List, fold, length, Option, Some, None, Result, Ok, Err}
+use Rattle.std.proofs.Common.{refl, ap, ap₂, sym, zero, suc, rules, arith}
 use Rattle.std.specs.Prelude.{nat_le, not, ◌==◌, option_and_then}
 use Rattle.std.specs.List.{list_all}
 use Rattle.std.specs.Result.{result_ok}

@@ -17,8 +17,10 @@ use Rattle.uas_host.specs.declared.Place.{Place}
 use Rattle.bus_core.specs.declared.Completion.{Completion}
 use Rattle.bus_core.specs.Td.{Entry}
 use Rattle.uas_host.specs.Tags.{place_of, command_slot}
-use Rattle.bus_core.specs.Part.{Part, Act, carry_act, carried_slot, carried_entry, move_act, moved_slot, moved_entry, send_act, sent_slot, sent_entry, event_act, event_place, seen_entry, seen_by, take_act, fault_at}
-use Rattle.bus_core.specs.Shared.{Shared, idle, due, due_step, shared_step, routed, routed_to, routed_by_tag, carry_step, event_step, submitted_under, submitted_to, answered}
+use Rattle.bus_core.specs.Part.{Part, Act, carry_act, carried_slot, carried_entry, move_act, moved_slot, moved_entry, send_act, sent_slot, sent_entry}
+use Rattle.bus_core.specs.Part.{event_act, event_place, seen_entry, seen_by, take_act, fault_at}
+use Rattle.bus_core.specs.Shared.{Shared, idle, due, due_step, shared_step, routed, routed_to, routed_by_tag, carry_step, event_step, submitted_under}
+use Rattle.bus_core.specs.Shared.{submitted_to, answered}
 use Rattle.std.specs.Prelude.{option_and_then, length}
 
 -- NO NEWS

@@ -1,5 +1,6 @@
 -- What the plain command lines ask for.
-use Rattle.std.proofs.Common.{◌≡◌, ◌∙◌, ◌<◌, ◌≤◌, ◌^◌, ◌&&◌, ℕ, ◌==◌, Bool, cond, not, true, false, true≢false, List, [], ◌∷◌, length, Some, None, Result, Ok, Err, IfOk, option_map, refl, ap, ap₂, sym, subst, inl, inr, arith, lt-ltb}
+use Rattle.std.proofs.Common.{◌≡◌, ◌∙◌, ◌<◌, ◌≤◌, ◌^◌, ◌&&◌, ℕ, ◌==◌, Bool, cond, not, true, false, true≢false, List, [], ◌∷◌, length, Some, None}
+use Rattle.std.proofs.Common.{Result, Ok, Err, IfOk, option_map, refl, ap, ap₂, sym, subst, inl, inr, arith, lt-ltb}
 use Rattle.std.specs.Prelude.{codes, pos, nat_lt, nat_le, int_le, option_and_then, MatchResult}
 use Rattle.std.specs.List.{list_all}
 use Rattle.std.specs.Char.{digit_value}

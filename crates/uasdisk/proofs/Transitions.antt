@@ -1,5 +1,6 @@
 -- Each line of a script goes on by steps of the bus, and so do all of them.
-use Rattle.std.proofs.Common.{◌≡◌, ◌∙◌, ℕ, zero, suc, Bool, true, false, cond, ◌+◌, List, [], ◌∷◌, ◌++◌, length, map, fold, Option, Some, None, Result, Ok, Err, option_map, option_to_list, refl, ap, ap₂, sym, subst}
+use Rattle.std.proofs.Common.{◌≡◌, ◌∙◌, ℕ, zero, suc, Bool, true, false, cond, ◌+◌, List, [], ◌∷◌, ◌++◌, length, map, fold, Option, Some, None}
+use Rattle.std.proofs.Common.{Result, Ok, Err, option_map, option_to_list, refl, ap, ap₂, sym, subst}
 use Rattle.std.proofs.lemmas.List.{append-nil}
 use Rattle.std.proofs.lemmas.Bool.{eqb-true}
 use Rattle.std.specs.Prelude.{◌==◌, ◌-◌, ◌||◌, slice_get, slice_set, position, not}
@@ -25,7 +26,9 @@ use Rattle.uasdisk.specs.declared.script.Request.{Request}
 use Rattle.uasdisk.specs.declared.script.Line.{Line}
 use Rattle.uasdisk.specs.declared.script.Line.TheVariants as line
 use Rattle.uasdisk.specs.Printed.{refused_name, fault_name}
-use Rattle.uasdisk.specs.Told.{Telling, drain_limit, step_of, is_due, drained_machine, is_to_host, command_of, refused_run, freed_run, handed_over, took_to_host, noted_run, is_brought_in, issued_run, with_range, submitted_by, submitted, tag_of, ticket_of, replied, taken, idle_run, stepped, taken_or_idle, taken_times, all_taken_by, taken_below, all_taken, drained_run, told_line}
+use Rattle.uasdisk.specs.Told.{Telling, drain_limit, step_of, is_due, drained_machine, is_to_host, command_of, refused_run, freed_run, handed_over}
+use Rattle.uasdisk.specs.Told.{took_to_host, noted_run, is_brought_in, issued_run, with_range, submitted_by, submitted, tag_of, ticket_of, replied}
+use Rattle.uasdisk.specs.Told.{taken, idle_run, stepped, taken_or_idle, taken_times, all_taken_by, taken_below, all_taken, drained_run, told_line}
 use Rattle.uasdisk.specs.Headline.{Said, line_of, replied as said_reply, refused_by_bus, refused_by_tags, idle as said_idle, news_to, own_lines}
 use Rattle.uasdisk.proofs.Outcomes.{Untold, IsInner, inner_untold, IsTaken, take_told, MarksSubmission, IsSubmitted, submit_told}
 use Rattle.uasdisk.proofs.Goes.{Goes, goes_nowhere, goes_on, goes_saying, goes_by_step, is_to_host_by, shown_by, or-false}
@@ -127,6 +130,10 @@ stepped_goes isolated run taken inner = go (due run.machine taken)
 
 -- TAKES
 
+-- a client's Take
+abbrev takes : Telling → ℕ → Shared × Outcome
+takes run client = shared_step run.machine (step.Take client)
+
 ticket_of-renumbered : (client : ℕ) (reply : Reply) → ticket_of reply ≡ ticket_of (renumbered client reply)
 ticket_of-renumbered client (StatusReply tag ticket status sense buffer) = refl
 ticket_of-renumbered client (AbortedReply tag ticket buffer) = refl
@@ -150,24 +157,24 @@ taken_goes : HeadlineHolds → (run : Telling) (client : ℕ) → Goes run (take
 unfolding taken is_due step_of
 taken_goes isolated run client = go (due run.machine (step.Take client)) refl
   where
-    by_reply : IsTaken client (shared_step run.machine (step.Take client)).1 → (reply : Option Reply) → (shared_step run.machine (step.Take client)).1.reply ≡ reply
-        → Goes run (replied (at_machine run (shared_step run.machine (step.Take client)).0) client reply)
+    by_reply : IsTaken client (takes run client).1 → (reply : Option Reply) → (takes run client).1.reply ≡ reply
+        → Goes run (replied (at_machine run (takes run client).0) client reply)
     by_reply told None none = untold_goes isolated run (step.Take client) tt (record { reply = none; refused = told.refused })
     by_reply told (Some reply) given =
-        let outcome : Outcome = (shared_step run.machine (step.Take client)).1 in
+        let outcome : Outcome = (takes run client).1 in
         let said : Said = said_reply client (is_brought_in run.brings_in client (ticket_of reply)) reply in
-        goes_by_step isolated run (replied (at_machine run (shared_step run.machine (step.Take client)).0) client (Some reply)) (step.Take client) (said ∷ []) (record {
+        goes_by_step isolated run (replied (at_machine run (takes run client).0) client (Some reply)) (step.Take client) (said ∷ []) (record {
           machine = refl;
           text = ap (λ (t : List ℕ). run.text ++ t) (sym (append-nil (line_of said)));
           news = rw (told.owner, given, told.refused) refl;
-          noted = λ noted. freed_noted (at_machine run (shared_step run.machine (step.Take client)).0) client (tag_of reply) noted;
+          noted = λ noted. freed_noted (at_machine run (takes run client).0) client (tag_of reply) noted;
           own = λ other. reply_shown run.brings_in client other reply outcome told.owner given;
           notes = λ noted other ticket. same_notes (is_brought_in run.brings_in other ticket) other ticket (step.Take client) outcome tt;
         })
 
     go : (b : Bool) → due run.machine (step.Take client) ≡ b
-        → Goes run (cond b (replied (at_machine run (shared_step run.machine (step.Take client)).0) client (shared_step run.machine (step.Take client)).1.reply) run)
-    go true is = by_reply (take_told run.machine client is) (shared_step run.machine (step.Take client)).1.reply refl
+        → Goes run (cond b (replied (at_machine run (takes run client).0) client (takes run client).1.reply) run)
+    go true is = by_reply (take_told run.machine client is) (takes run client).1.reply refl
     go false is = goes_nowhere run
 
 taken_or_idle_goes : HeadlineHolds → (run : Telling) (client : ℕ) → Goes run (taken_or_idle run client)
@@ -241,7 +248,8 @@ rounds_goes : HeadlineHolds → (most : ℕ) (run : Telling) (now : Shared × �
 unfolding rounds
 rounds_goes isolated zero run now = goes_nowhere (at_machine run now.0)
 rounds_goes isolated (suc more) run now =
-    let one : Goes (at_machine run now.0) (at_machine run (round now).0) = tried_goes isolated run now (tries (length now.0.parts)) (inner_tries (length now.0.parts)) in
+    let one : Goes (at_machine run now.0) (at_machine run (round now).0) =
+    tried_goes isolated run now (tries (length now.0.parts)) (inner_tries (length now.0.parts)) in
     goes_on isolated (at_machine run now.0) (at_machine run (round now).0) (at_machine run (rounds (suc more) now).state) one
     (go (rounds_goes isolated more run (round now)) ((round now).1 == 0))
   where
@@ -263,6 +271,14 @@ drained_goes isolated run =
     goes_on isolated run drained (drained_run run) (rounds_goes isolated (suc drain_limit) run (run.machine, drain_limit)) (all_taken_goes isolated drained)
 
 -- SUBMISSIONS
+
+-- a client's submission under this tag and ticket
+abbrev submits : Telling → ℕ → ℕ → ℕ → Request → Shared × Outcome
+submits run client tag ticket request = shared_step run.machine (step.Submit client tag ticket (command_of request))
+
+-- the run once the bus took a step of a submission, whose client's tags are now these
+abbrev submitted_by_tags : Telling → ℕ → ℕ → ℕ → Request → ClientTags → Telling
+submitted_by_tags run client tag ticket request now = at_machine (with_range run client now) (submits run client tag ticket request).0
 
 -- the client's own tags refuse
 refused_goes : (run : Telling) (client : ℕ) (tags now : ClientTags) (refused : Refused) → slice_get run.ranges client ≡ Some tags → now.next ≡ tags.next
@@ -309,36 +325,38 @@ given_goes isolated run client request tags now tag found next = go (shared_step
     taken : Step
     taken = step.Submit client tag tags.next (command_of request)
 
-    told : IsSubmitted client (shared_step run.machine (step.Submit client tag tags.next (command_of request))).1
+    told : IsSubmitted client (submits run client tag tags.next request).1
     told = submit_told run.machine client tag tags.next (command_of request)
 
-    go : (refused : Option Refusal) → (shared_step run.machine (step.Submit client tag tags.next (command_of request))).1.refused ≡ refused
-        → MarksSubmission (shared_step run.machine (step.Submit client tag tags.next (command_of request))).1.mark (shared_step run.machine (step.Submit client tag tags.next (command_of request))).1.refused
-        → Goes run (handed_over (noted_run (at_machine (with_range run client now) (shared_step run.machine (step.Submit client tag tags.next (command_of request))).0)
+    go : (refused : Option Refusal) → (submits run client tag tags.next request).1.refused ≡ refused
+        → MarksSubmission (submits run client tag tags.next request).1.mark (submits run client tag tags.next request).1.refused
+        → Goes run (handed_over (noted_run (submitted_by_tags run client tag tags.next request now)
         client (took_to_host (direction_of request.op) refused)) client tag refused)
     go None none mark =
-        let outcome : Outcome = (shared_step run.machine (step.Submit client tag tags.next (command_of request))).1 in
+        let outcome : Outcome = (submits run client tag tags.next request).1 in
         let marked : MarksSubmission outcome.mark None = subst (MarksSubmission outcome.mark) none mark in
-        goes_by_step isolated run (noted_run (at_machine (with_range run client now) (shared_step run.machine (step.Submit client tag tags.next (command_of request))).0)
+        goes_by_step isolated run (noted_run (submitted_by_tags run client tag tags.next request now)
         client (is_to_host (direction_of request.op))) (step.Submit client tag tags.next (command_of request)) [] (record {
           machine = refl;
           text = sym (append-nil run.text);
           news = untold_news outcome (record { reply = told.reply; refused = none });
-          noted = ticket_noted run (noted_run (at_machine (with_range run client now) (shared_step run.machine (step.Submit client tag tags.next (command_of request))).0)
+          noted = ticket_noted run (noted_run (submitted_by_tags run client tag tags.next request now)
               client (is_to_host (direction_of request.op))) client tags now (is_to_host (direction_of request.op)) found next refl refl;
           own = λ other. unshown run.brings_in other outcome told.reply;
           notes = λ noted other ticket.
               let flags = flags_of run client tags noted found in
               noted_after run.brings_in client (is_to_host (direction_of request.op)) flags.flags flags.is other ticket
-              ∙ ap (λ (n : ℕ). is_brought_in run.brings_in other ticket || cond (client == other) (cond (n == ticket) (is_to_host (direction_of request.op)) false) false) flags.count
+              ∙ ap (λ (n : ℕ). is_brought_in run.brings_in other ticket || cond (client == other) (cond (n == ticket) (is_to_host (direction_of request.op)) false) false)
+              flags.count
               ∙ ap (λ (b : Bool). is_brought_in run.brings_in other ticket || b)
               (label_noted client other tags.next marked.0 ticket (command_of request) tag outcome told.owner marked.1);
         })
     go (Some refusal) some mark =
-        let outcome : Outcome = (shared_step run.machine (step.Submit client tag tags.next (command_of request))).1 in
+        let outcome : Outcome = (submits run client tag tags.next request).1 in
         let quiet : outcome.mark ≡ Quiet = subst (MarksSubmission outcome.mark) some mark in
-        let before : Telling = noted_run (at_machine (with_range run client now) (shared_step run.machine (step.Submit client tag tags.next (command_of request))).0) client false in
-        goes_by_step isolated run (refused_run (freed_run before client tag) client (fault_name refusal.fault)) (step.Submit client tag tags.next (command_of request))
+        let before : Telling = noted_run (submitted_by_tags run client tag tags.next request now) client false in
+        goes_by_step isolated run (refused_run (freed_run before client tag) client (fault_name refusal.fault))
+        (step.Submit client tag tags.next (command_of request))
         (refused_by_bus client refusal.fault ∷ []) (record {
           machine = refl;
           text = ap (λ (t : List ℕ). run.text ++ t) (sym (append-nil (line_of (refused_by_bus client refusal.fault))));
@@ -352,17 +370,21 @@ given_goes isolated run client request tags now tag found next = go (shared_step
               (refused_noted client other (length flags.flags) ticket (step.Submit client tag tags.next (command_of request)) outcome quiet);
         })
 
+-- tags of which one more is out, and one more ticket
+abbrev one_more : ClientTags → ℕ → ClientTags
+one_more tags entry = record tags { next = tags.next + 1; out = slice_set tags.out entry true }
+
 submitted_goes : HeadlineHolds → (run : Telling) (client : ℕ) (request : Request) → Goes run (submitted run client request)
 unfolding submitted
 submitted_goes isolated run client request = go (slice_get run.ranges client) refl
   where
     worn : (tags : ClientTags) (entry : ℕ) → slice_get run.ranges client ≡ Some tags → (b : Bool)
         → Goes run (issued_run (with_range run client
-        (cond {A = ClientTags × Result (ℕ × ℕ) Refused} b (tags, Err Worn) (record tags { next = tags.next + 1; out = slice_set tags.out entry true }, Ok (tag_at TAGS tags.client (entry + 1), tags.next))).0) client request
-        (cond {A = ClientTags × Result (ℕ × ℕ) Refused} b (tags, Err Worn) (record tags { next = tags.next + 1; out = slice_set tags.out entry true }, Ok (tag_at TAGS tags.client (entry + 1), tags.next))).1)
+        (cond {A = ClientTags × Result (ℕ × ℕ) Refused} b (tags, Err Worn) (one_more tags entry, Ok (tag_at TAGS tags.client (entry + 1), tags.next))).0) client request
+        (cond {A = ClientTags × Result (ℕ × ℕ) Refused} b (tags, Err Worn) (one_more tags entry, Ok (tag_at TAGS tags.client (entry + 1), tags.next))).1)
     worn tags entry found true = refused_goes run client tags tags Worn found refl
     worn tags entry found false =
-        given_goes isolated run client request tags (record tags { next = tags.next + 1; out = slice_set tags.out entry true }) (tag_at TAGS tags.client (entry + 1)) found refl
+        given_goes isolated run client request tags (one_more tags entry) (tag_at TAGS tags.client (entry + 1)) found refl
 
     by_entry : (tags : ClientTags) → slice_get run.ranges client ≡ Some tags → (entry : Option ℕ)
         → Goes run (issued_run (with_range run client (issue_entry TAGS tags entry).0) client request (issue_entry TAGS tags entry).1)

@@ -12,7 +12,8 @@ use Rattle.uasdisk.proofs.Goes.{Goes, goes_on, labels_in}
 use Rattle.uasdisk.proofs.Notes.{opening_noted, opening_knows}
 use Rattle.uasdisk.proofs.Transitions.{lines_go, drained_goes}
 
-told_by : OpensAsSolo → (units : List BlockMaps) (lines : List Line) (it : Goes (opening_run units) (whole_run units lines)) → IsToldBy units lines it.steps it.said
+told_by : OpensAsSolo → (units : List BlockMaps) (lines : List Line) (it : Goes (opening_run units) (whole_run units lines))
+    → IsToldBy units lines it.steps it.said
 unfolding told
 told_by opens units lines it = record {
   machine = sym it.machine;

@@ -1,5 +1,6 @@
 -- What a command line asks for: the subcommands with their arguments, and what is read of each.
-use Rattle.std.specs.Prelude.{◌≡◌, ◌≢◌, ◌≤◌, ◌⊎◌, ◌==◌, ℕ, Bool, not, pos, true, false, List, [], ◌∷◌, Option, Some, None, is_some, option_map, option_and_then, if◌then◌else◌, codes}
+use Rattle.std.specs.Prelude.{◌≡◌, ◌≢◌, ◌≤◌, ◌⊎◌, ◌==◌, ℕ, Bool, not, pos, true, false, List, [], ◌∷◌, Option, Some, None, is_some, option_map}
+use Rattle.std.specs.Prelude.{option_and_then, if◌then◌else◌, codes}
 use Rattle.std.specs.Str.{bytes_eq}
 use Rattle.std.specs.Str.Parse.{without_leading_plus}
 use Rattle.clap.specs.Simple.{Shape, on_top}

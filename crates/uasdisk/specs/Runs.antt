@@ -27,7 +27,8 @@ ReadGivesUp left is_there can_fail NoMemory = ⊤
 -- A run that reads an image and prints: the image's own fault, where it is there and its bytes are known, or its file's, where that can
 -- fail, and nothing was printed; standard output's, where that can fail; want of memory, and nothing was printed.
 abbrev pub InfoGivesUp : Option (List ℕ) → Bool → Bool → Bool → Option (List ℕ) → Option (List ℕ) → RunFault → Type 0
-InfoGivesUp left is_there can_read_fail can_write_fail old new (Image fault) = IfSome left (λ bytes. blocks_in bytes ≡ Err fault) × IsTrue is_there × Keeps old new
+InfoGivesUp left is_there can_read_fail can_write_fail old new (Image fault) =
+    IfSome left (λ bytes. blocks_in bytes ≡ Err fault) × IsTrue is_there × Keeps old new
 InfoGivesUp left is_there can_read_fail can_write_fail old new ImageFile = IsTrue can_read_fail × Keeps old new
 InfoGivesUp left is_there can_read_fail can_write_fail old new (Script fault) = ⊥
 InfoGivesUp left is_there can_read_fail can_write_fail old new ScriptFile = IsTrue can_write_fail
@@ -47,7 +48,8 @@ abbrev pub MakeGivesUp : ℕ → Bool → Bool → Bool → Option (List ℕ) �
 MakeGivesUp blocks is_there can_file_fail can_write_fail image image' old new (Image fault) = ⊥
 MakeGivesUp blocks is_there can_file_fail can_write_fail image image' old new ImageFile = IsTrue can_file_fail × Keeps old new
 MakeGivesUp blocks is_there can_file_fail can_write_fail image image' old new (Script fault) = ⊥
-MakeGivesUp blocks is_there can_file_fail can_write_fail image image' old new ScriptFile = IsTrue can_write_fail × IsTrue is_there × Appends image image' (made_image blocks)
+MakeGivesUp blocks is_there can_file_fail can_write_fail image image' old new ScriptFile =
+    IsTrue can_write_fail × IsTrue is_there × Appends image image' (made_image blocks)
 MakeGivesUp blocks is_there can_file_fail can_write_fail image image' old new NoMemory = Keeps old new
 
 -- What a run that reads an image prints, by the number of blocks in it: of no other file does it print anything.

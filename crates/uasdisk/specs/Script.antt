@@ -1,5 +1,6 @@
 -- A script: its lines, or its first fault.
-use Rattle.std.specs.Prelude.{ℕ, ◌+◌, ◌-◌, ◌*◌, ◌==◌, nat_lt, Bool, true, false, not, ◌||◌, if◌then◌else◌, List, [], ◌∷◌, ◌++◌, length, slice_get, slice_index, codes, Option, Some, None, option_map, option_and_then, option_to_list, Result, Ok, Err, ok_or}
+use Rattle.std.specs.Prelude.{ℕ, ◌+◌, ◌-◌, ◌*◌, ◌==◌, nat_lt, Bool, true, false, not, ◌||◌, if◌then◌else◌, List, [], ◌∷◌, ◌++◌, length, slice_get}
+use Rattle.std.specs.Prelude.{slice_index, codes, Option, Some, None, option_map, option_and_then, option_to_list, Result, Ok, Err, ok_or}
 use Rattle.std.specs.List.{list_all}
 use Rattle.std.specs.Str.{bytes_eq}
 use Rattle.std.specs.declared.vec.Vec.{Vec}
@@ -16,9 +17,11 @@ use Rattle.uasdisk.specs.declared.script.ScriptFault.{ScriptFault}
 use Rattle.uasdisk.specs.declared.script.ScriptFault.TheVariants.{TooLong, Line as FaultyLine}
 use Rattle.uasdisk.specs.declared.script.Request.{Request}
 use Rattle.uasdisk.specs.declared.script.RequestName.{RequestName}
-use Rattle.uasdisk.specs.declared.script.RequestName.TheVariants.{Tur as TurName, Inquiry as InquiryName, Capacity as CapacityName, Read as ReadName, Write as WriteName, Sync as SyncName}
+use Rattle.uasdisk.specs.declared.script.RequestName.TheVariants.{Tur as TurName, Inquiry as InquiryName, Capacity as CapacityName, Read as ReadName}
+use Rattle.uasdisk.specs.declared.script.RequestName.TheVariants.{Write as WriteName, Sync as SyncName}
 use Rattle.uasdisk.specs.declared.script.StepName.{StepName}
-use Rattle.uasdisk.specs.declared.script.StepName.TheVariants.{Command as CommandName, Event as EventName, Data as DataName, Status as StatusName, Take as TakeName, Drain as DrainName}
+use Rattle.uasdisk.specs.declared.script.StepName.TheVariants.{Command as CommandName, Event as EventName, Data as DataName, Status as StatusName}
+use Rattle.uasdisk.specs.declared.script.StepName.TheVariants.{Take as TakeName, Drain as DrainName}
 use Rattle.uasdisk.specs.Words.{pieces, words, is_number, number_in}
 
 -- WORDS OF A LINE, by their places from 0

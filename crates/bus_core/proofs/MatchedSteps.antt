@@ -48,7 +48,7 @@ matched-held state place entry all is = record {
 }
 
 -- of a client that is there the queue of ready slots tells how often a place is ready
-times_ready-there : (parts : List Part) (place : Place) (part : Part) → slice_get parts place.client ≡ Some part → times_ready parts place ≡ times_in place.slot part.ready
+pub times_ready-there : (parts : List Part) (place : Place) (part : Part) → slice_get parts place.client ≡ Some part → times_ready parts place ≡ times_in place.slot part.ready
 times_ready-there parts place part there = ap (λ found. option_map_or (readied_in place) found 0) there
 
 -- A STEP OF THE DEVICE AT A PLACE
@@ -230,7 +230,7 @@ ended_phase (Begun (Moving chunk)) is = absurd (false≢true is)
 ended_phase (Begun (Ended answer)) is = record { answer = answer; is = refl }
 ended_phase (Sent answer) is = absurd (false≢true is)
 
-send_step-held : (state : Shared) (tag : ℕ) (place : Place) (part : Part) (entry : Entry) (answer : Answer) → place_of (length state.parts) tag ≡ Some place →
+pub send_step-held : (state : Shared) (tag : ℕ) (place : Place) (part : Part) (entry : Entry) (answer : Answer) → place_of (length state.parts) tag ≡ Some place →
     slice_get state.parts place.client ≡ Some part → held_at part.entries place.slot ≡ Some entry → entry.task.phase ≡ Begun (Ended answer) →
     routed_by_tag state send_act (place_of (length state.parts) tag) ≡ acted_on state place.client
     (sent_entry part place.slot place entry (Some (record entry.task { phase = Sent answer })))
@@ -405,7 +405,7 @@ pub record IsFirstReady (held : Option Entry) (slot : ℕ) (rest : List ℕ) : T
   pub ready : is_ready entry ≡ true
   pub once : times_in slot rest ≡ 0
 
-first-ready : (held : Option Entry) (slot : ℕ) (rest : List ℕ) → times_in slot (slot ∷ rest) ≡ readied_of held → IsFirstReady held slot rest
+pub first-ready : (held : Option Entry) (slot : ℕ) (rest : List ℕ) → times_in slot (slot ∷ rest) ≡ readied_of held → IsFirstReady held slot rest
 first-ready None slot rest counted = absurd (omega (arith, counted, one_equal slot))
 first-ready (Some entry) slot rest counted = record {
   entry = entry;
@@ -414,13 +414,13 @@ first-ready (Some entry) slot rest counted = record {
   once = omega (arith, counted, one_equal slot, one_if-most (is_ready entry));
 }
 
-abbrev settled_part : Part → ℕ → List ℕ → Part
+abbrev pub settled_part : Part → ℕ → List ℕ → Part
 settled_part part slot rest = record part { entries = slice_set part.entries slot None; ready = rest }
 
-abbrev settled_state : Shared → Place → Part → List ℕ → Shared
+abbrev pub settled_state : Shared → Place → Part → List ℕ → Shared
 settled_state state place part rest = record state { parts = slice_set state.parts place.client (settled_part part place.slot rest); events = state.events ++ [] }
 
-take_step-held : (state : Shared) (client slot : ℕ) (rest : List ℕ) (part : Part) (entry : Entry) (answer : Answer) → slice_get state.parts client ≡ Some part →
+pub take_step-held : (state : Shared) (client slot : ℕ) (rest : List ℕ) (part : Part) (entry : Entry) (answer : Answer) → slice_get state.parts client ≡ Some part →
     part.ready ≡ slot ∷ rest → held_at part.entries slot ≡ Some entry → entry.task.phase ≡ Sent answer →
     (routed state client (take_act client)).0 ≡ settled_state state (record { client = client; slot = slot }) part rest
 take_step-held state client slot rest part entry answer there queue held sent =

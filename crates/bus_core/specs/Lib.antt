@@ -15,3 +15,9 @@ pub mod Refusals
 pub mod StepIsolation
 pub mod Once
 pub mod Matched
+pub mod World
+pub mod Cells
+pub mod Fits
+pub mod Decoded
+pub mod WorldSteps
+pub mod WorldDue

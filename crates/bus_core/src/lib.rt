@@ -32,6 +32,8 @@ mod telling;
 mod tests;
 mod wire;
 mod wired;
+pub mod world_due;
+pub mod world_laws;
 
 use arrayvec::ArrayVec;
 use block_unit::Unit;

@@ -1,0 +1,201 @@
+-- The TRBs of waiting events: over appended lists, and in two worlds where what each event reads is the same.
+use Rattle.std.proofs.Common.{◌≡◌, ℕ, zero, suc, ◌+◌, ◌*◌, ◌%◌, ◌<◌, ◌≤◌, Bool, true, false, ◌&&◌, List, [], ◌∷◌, ◌++◌, length, map, Option, Some, None, IfSome, refl, arith, ap, sym, subst, ◌∙◌}
+use Rattle.std.specs.Prelude.{slice_get, ◌==◌}
+use Rattle.std.proofs.lemmas.Bool.{eqb-true, eqb-false, false≢true}
+use Rattle.event_ring.specs.declared.Event.{Event}
+use Rattle.event_ring.specs.declared.Event.TheVariants.{Transfer}
+use Rattle.cycle_ring.specs.Ring.{Ring, pointer_of}
+use Rattle.stream_array.specs.declared.TheConstants.{COMMAND_RING_PLACES}
+use Rattle.stream_array.specs.declared.Pipe.TheVariants.{Command}
+use Rattle.stream_array.specs.Rings.{stream_ring}
+use Rattle.frame_store.specs.Buffers.{held_for}
+use Rattle.scsi_cmd.specs.declared.TheConstants.{TAGS}
+use Rattle.scsi_cmd.specs.Held.{held_at}
+use Rattle.uas_host.specs.declared.Place.{Place}
+use Rattle.uas_host.specs.Tags.{tag_of}
+use Rattle.xhci_ctl.specs.declared.TheConstants.{SUCCESS, SLOT}
+use Rattle.xhci_ctl.specs.Steps.{endpoint_of}
+use Rattle.bus_core.specs.declared.Completion.{Completion}
+use Rattle.bus_core.specs.declared.Completion.TheVariants.{CommandDone, DataDone, StatusDone}
+use Rattle.bus_core.specs.Part.{Part, event_place}
+use Rattle.bus_core.specs.Td.{Entry}
+use Rattle.bus_core.specs.Shared.{Shared}
+use Rattle.bus_core.specs.Soundness.{one_if}
+use Rattle.bus_core.specs.Matched.{same_place, times, under, carried_places, command_events, data_events, status_events, HaveSlots, IsMatched, IsOwnEvent, HasNoStray}
+use Rattle.bus_core.specs.World.{World, Cell, cell_at}
+use Rattle.bus_core.specs.Fits.{data_event, status_event, event_texts, place_in}
+use Rattle.bus_core.proofs.MatchedPlaces.{IsFound, under-found, held-within, same_place-true, same_place-self}
+use Rattle.bus_core.proofs.MatchedNext.{matched-no_stray}
+
+-- APPENDED LISTS
+
+pub carried_places-append : (events more : List Completion) → carried_places (events ++ more) ≡ carried_places events ++ carried_places more
+carried_places-append [] more = refl
+carried_places-append (CommandDone place ∷ rest) more = ap (λ ps. place ∷ ps) (carried_places-append rest more)
+carried_places-append (DataDone place ∷ rest) more = carried_places-append rest more
+carried_places-append (StatusDone place ∷ rest) more = carried_places-append rest more
+
+-- the text of a command event
+abbrev pub command_event : World → ℕ → Event
+command_event world k = Transfer (pointer_of COMMAND_RING_PLACES world.lines.command k) 0 SUCCESS (endpoint_of Command) SLOT
+
+plus_none : (k : ℕ) → k ≡ k + 0
+plus_none k = omega arith
+
+pub event_texts-append : (world : World) (k : ℕ) (events more : List Completion) →
+    event_texts world k (events ++ more) ≡ event_texts world k events ++ event_texts world (k + length (carried_places events)) more
+event_texts-append world k [] more = ap (λ n. event_texts world n more) (plus_none k)
+event_texts-append world k (CommandDone place ∷ rest) more =
+    let same : suc k + length (carried_places rest) ≡ k + suc (length (carried_places rest)) = omega arith in
+    ap (λ es. command_event world k ∷ es)
+    (event_texts-append world (suc k) rest more ∙ ap (λ n. event_texts world (suc k) rest ++ event_texts world n more) same)
+event_texts-append world k (DataDone place ∷ rest) more =
+    ap (λ es. data_event (stream_ring world.lines.data_in (tag_of place)) (stream_ring world.lines.data_out (tag_of place)) ∷ es) (event_texts-append world k rest more)
+event_texts-append world k (StatusDone place ∷ rest) more =
+    ap (λ es. status_event (stream_ring world.lines.status (tag_of place)) (held_for world.frames (tag_of place)).status ∷ es) (event_texts-append world k rest more)
+
+-- WHAT EACH EVENT READS IS THE SAME
+
+-- what the text of an event reads beside the command ring
+abbrev pub ReadsSame : World → World → Completion → Type 0
+ReadsSame before after (CommandDone place) = Unit {0}
+ReadsSame before after (DataDone place) =
+    ((cell_at after place).data_in ≡ (cell_at before place).data_in) × ((cell_at after place).data_out ≡ (cell_at before place).data_out)
+ReadsSame before after (StatusDone place) =
+    ((cell_at after place).status ≡ (cell_at before place).status) × ((cell_at after place).buffers.status ≡ (cell_at before place).buffers.status)
+
+abbrev pub AllReadSame : World → World → List Completion → Type 0
+AllReadSame before after [] = Unit {0}
+AllReadSame before after (event ∷ rest) = ReadsSame before after event × AllReadSame before after rest
+
+-- the command ring's TRBs lie as they lay, but for so many that were freed
+abbrev pub IsShiftedBy : ℕ → World → World → Type 0
+IsShiftedBy m before after = (i : ℕ) → pointer_of COMMAND_RING_PLACES after.lines.command i ≡ pointer_of COMMAND_RING_PLACES before.lines.command (m + i)
+
+pub event_texts-shifted : (before after : World) (m k : ℕ) (events : List Completion) → IsShiftedBy m before after → AllReadSame before after events
+    → event_texts after k events ≡ event_texts before (m + k) events
+event_texts-shifted before after m k [] shifts same = refl
+event_texts-shifted before after m k (CommandDone place ∷ rest) shifts same =
+    let next : m + suc k ≡ suc (m + k) = omega arith in
+    ap (λ p. Transfer p 0 SUCCESS (endpoint_of Command) SLOT ∷ event_texts after (suc k) rest) (shifts k)
+    ∙ ap (λ es. command_event before (m + k) ∷ es)
+    (event_texts-shifted before after m (suc k) rest shifts same.1 ∙ ap (λ n. event_texts before n rest) next)
+event_texts-shifted before after m k (DataDone place ∷ rest) shifts same =
+    ap (λ ring. data_event ring (cell_at after place).data_out ∷ event_texts after k rest) same.0.0
+    ∙ ap (λ ring. data_event (cell_at before place).data_in ring ∷ event_texts after k rest) same.0.1
+    ∙ ap (λ es. data_event (cell_at before place).data_in (cell_at before place).data_out ∷ es) (event_texts-shifted before after m k rest shifts same.1)
+event_texts-shifted before after m k (StatusDone place ∷ rest) shifts same =
+    ap (λ ring. status_event ring (cell_at after place).buffers.status ∷ event_texts after k rest) same.0.0
+    ∙ ap (λ bytes. status_event (cell_at before place).status bytes ∷ event_texts after k rest) same.0.1
+    ∙ ap (λ es. status_event (cell_at before place).status (cell_at before place).buffers.status ∷ es) (event_texts-shifted before after m k rest shifts same.1)
+
+-- the command ring lies where it lay
+abbrev pub LiesSame : World → World → Type 0
+LiesSame before after = (after.lines.command.base ≡ before.lines.command.base) × (after.lines.command.at ≡ before.lines.command.at)
+
+lies-shifted : (before after : World) → LiesSame before after → IsShiftedBy 0 before after
+lies-shifted before after lies i =
+    let same : i ≡ 0 + i = omega arith in
+    ap (λ b. b + 16 * ((after.lines.command.at + i) % 255)) lies.0
+    ∙ ap (λ a. before.lines.command.base + 16 * ((a + i) % 255)) lies.1
+    ∙ ap (pointer_of COMMAND_RING_PLACES before.lines.command) same
+
+pub event_texts-kept : (before after : World) (k : ℕ) (events : List Completion) → LiesSame before after → AllReadSame before after events
+    → event_texts after k events ≡ event_texts before k events
+event_texts-kept before after k events lies same =
+    let it : 0 + k ≡ k = omega arith in
+    event_texts-shifted before after 0 k events (lies-shifted before after lies) same ∙ ap (λ n. event_texts before n events) it
+
+-- ONE CELL CHANGES
+
+-- all events are of slots that are there
+abbrev pub AreWithin : List Completion → Type 0
+AreWithin [] = Unit {0}
+AreWithin (event ∷ rest) = ((event_place event).slot < TAGS) × AreWithin rest
+
+slots-within : (parts : List Part) (place : Place) (part : Part) → HaveSlots parts → slice_get parts place.client ≡ Some part → length part.entries ≡ TAGS
+slots-within parts place part slots there = subst (λ found. IfSome found (λ p. length p.entries ≡ TAGS)) there (slots place.client)
+
+-- what stands somewhere stands in a slot that is there
+pub under-within : (parts : List Part) (place : Place) (entry : Entry) → HaveSlots parts → under parts place ≡ Some entry → place.slot < TAGS
+under-within parts place entry slots is =
+    let found : IsFound parts place entry = under-found parts place entry is in
+    let long : length found.part.entries ≡ TAGS = slots-within parts place found.part slots found.there in
+    let less : place.slot < length found.part.entries = held-within found.part.entries place.slot entry found.held in
+    omega (arith, long, less)
+
+within-all : (events : List Completion) → ((at : ℕ) (event : Completion) → slice_get events at ≡ Some event → (event_place event).slot < TAGS)
+    → AreWithin events
+within-all [] each = tt
+within-all (event ∷ rest) each = (each 0 event refl, within-all rest (λ at other is. each (suc at) other is))
+
+pub events-within : (state : Shared) → IsMatched state → AreWithin state.events
+events-within state all = within-all state.events
+    (λ at event is. let own : IsOwnEvent state.parts event = (matched-no_stray state all).events at event is in
+    under-within state.parts (event_place event) own.entry all.slots own.held)
+
+-- other places have other tags
+pub other-tags : (place other : Place) → place.slot < TAGS → other.slot < TAGS → same_place place other ≡ false → tag_of place ≡ tag_of other → ⊥
+other-tags place other within there apart same =
+    let client : place.client ≡ other.client = omega arith in
+    let slot : place.slot ≡ other.slot = omega arith in
+    let one : place ≡ other = λ i. record { client = client i; slot = slot i } in
+    false≢true (sym apart ∙ ap (λ p. same_place p other) one ∙ same_place-self other)
+
+-- the cells of all other tags are the same
+abbrev pub KeepsOthers : World → World → Place → Type 0
+KeepsOthers before after place =
+    (other at : ℕ) → at < TAGS → (tag_of (place_in other at) ≡ tag_of place → ⊥) → cell_at after (place_in other at) ≡ cell_at before (place_in other at)
+
+-- where a data event of the place waits its data rings are the same, and where a status event waits its status ring and buffer are
+abbrev pub KeepsData : World → World → Place → List Completion → Type 0
+KeepsData before after place events = 1 ≤ data_events place events → ReadsSame before after (DataDone place)
+
+abbrev pub KeepsStatus : World → World → Place → List Completion → Type 0
+KeepsStatus before after place events = 1 ≤ status_events place events → ReadsSame before after (StatusDone place)
+
+data-reads : (before after : World) (place other : Place) (rest : List Completion) → place.slot < TAGS → other.slot < TAGS → KeepsOthers before after place
+    → KeepsData before after place (DataDone other ∷ rest) → ReadsSame before after (DataDone other)
+data-reads before after place other rest within there others data_kept =
+    elim (same_place other place) as (λ b. same_place other place ≡ b → ReadsSame before after (DataDone other)) [
+      | true ↦ λ is. subst (λ p. ReadsSame before after (DataDone p)) (sym (same_place-true other place is))
+          (data_kept (let one : one_if (same_place other place) ≡ 1 = ap one_if is in omega arith))
+      | false ↦ λ is.
+          let same : cell_at after other ≡ cell_at before other = others other.client other.slot there (other-tags other place there within is) in
+          (ap (λ (c : Cell). c.data_in) same, ap (λ (c : Cell). c.data_out) same)
+    ] refl
+
+status-reads : (before after : World) (place other : Place) (rest : List Completion) → place.slot < TAGS → other.slot < TAGS → KeepsOthers before after place
+    → KeepsStatus before after place (StatusDone other ∷ rest) → ReadsSame before after (StatusDone other)
+status-reads before after place other rest within there others status_kept =
+    elim (same_place other place) as (λ b. same_place other place ≡ b → ReadsSame before after (StatusDone other)) [
+      | true ↦ λ is. subst (λ p. ReadsSame before after (StatusDone p)) (sym (same_place-true other place is))
+          (status_kept (let one : one_if (same_place other place) ≡ 1 = ap one_if is in omega arith))
+      | false ↦ λ is.
+          let same : cell_at after other ≡ cell_at before other = others other.client other.slot there (other-tags other place there within is) in
+          (ap (λ (c : Cell). c.status) same, ap (λ (c : Cell). c.buffers.status) same)
+    ] refl
+
+-- The handy form. Where no such event waits write `λ some. absurd (omega (arith, some, none))`, and where the cell has
+-- what it reads `λ some. (refl, refl)`.
+pub one-reads : (before after : World) (place : Place) (events : List Completion) → place.slot < TAGS → AreWithin events → KeepsOthers before after place
+    → KeepsData before after place events → KeepsStatus before after place events → AllReadSame before after events
+one-reads before after place [] within there others data_kept status_kept = tt
+one-reads before after place (CommandDone other ∷ rest) within there others data_kept status_kept =
+    (tt, one-reads before after place rest within there.1 others data_kept status_kept)
+one-reads before after place (DataDone other ∷ rest) within there others data_kept status_kept = (
+  data-reads before after place other rest within there.0 others data_kept,
+  one-reads before after place rest within there.1 others (λ some. data_kept (omega (arith, some))) status_kept,
+)
+one-reads before after place (StatusDone other ∷ rest) within there others data_kept status_kept = (
+  status-reads before after place other rest within there.0 others status_kept,
+  one-reads before after place rest within there.1 others data_kept (λ some. status_kept (omega (arith, some))),
+)
+
+-- no event of the place waits that reads what changed, and the command ring lies where it lay: the texts are the same
+pub event_texts-one : (state : Shared) (before after : World) (place : Place) (k : ℕ) → IsMatched state → place.slot < TAGS → LiesSame before after
+    → KeepsOthers before after place → KeepsData before after place state.events → KeepsStatus before after place state.events
+    → event_texts after k state.events ≡ event_texts before k state.events
+event_texts-one state before after place k all within lies others data_kept status_kept =
+    event_texts-kept before after k state.events lies
+    (one-reads before after place state.events within (events-within state all) others data_kept status_kept)

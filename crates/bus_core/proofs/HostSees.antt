@@ -1,0 +1,193 @@
+-- What the host makes of an event that it awaits: its entry becomes the host's side of what the shared machine's becomes.
+use Rattle.std.proofs.Common.{◌≡◌, ℕ, zero, suc, ◌+◌, ◌-◌, ◌*◌, ◌/◌, ◌%◌, ◌<◌, ◌≤◌, Bool, true, false, ◌&&◌, cond, List, [], ◌∷◌, ◌++◌, take, length, Option, Some, None, option_map, refl, arith, ap, sym, subst, ◌∙◌}
+use Rattle.std.specs.Prelude.{nat_lt, slice_get, slice_index, option_and_then, ◌==◌, if◌then◌else◌}
+use Rattle.std.specs.Option.{option_map_or}
+use Rattle.std.proofs.lemmas.Bool.{lt-ltb, eq-eqb}
+use Rattle.frame_store.specs.declared.TagBuffers.{TagBuffers}
+use Rattle.frame_store.specs.Buffers.{held_for}
+use Rattle.scsi_cmd.specs.declared.Direction.{Direction}
+use Rattle.scsi_cmd.specs.declared.Direction.TheVariants.{Nothing, ToHost, ToDevice}
+use Rattle.scsi_cmd.specs.declared.Request.{Request}
+use Rattle.scsi_cmd.specs.declared.Request.TheVariants.{Execute}
+use Rattle.scsi_cmd.specs.declared.TheConstants.{TAGS}
+use Rattle.scsi_cmd.specs.Held.{held_at}
+use Rattle.device_server.specs.declared.Answer.{Answer}
+use Rattle.device_server.specs.declared.Answer.TheVariants.{Good, Check}
+use Rattle.device_server.specs.Server.{status_of, sense_of}
+use Rattle.solo_model.specs.declared.Phase.TheVariants.{Sent}
+use Rattle.uas_iu.specs.declared.Iu.TheVariants.{Sense as SenseUnit}
+use Rattle.uas_iu.specs.Units.{unit_text, Fits as FitsUnit}
+use Rattle.uas_iu.proofs.Laws.{first_fault-unit_text}
+use Rattle.stream_array.specs.declared.Pipe.TheVariants.{Status}
+use Rattle.uas_host.specs.declared.Place.{Place}
+use Rattle.uas_host.specs.declared.TdState.{TdState}
+use Rattle.uas_host.specs.declared.TdState.TheVariants.{Pending, Seen, LeftOver, Retired}
+use Rattle.uas_host.specs.declared.Told.TheVariants.{Status as ToldStatus}
+use Rattle.uas_host.specs.declared.News.{News}
+use Rattle.uas_host.specs.declared.News.TheVariants.{CommandSeen, DataInSeen, DataOutSeen, Answered}
+use Rattle.uas_host.specs.declared.HostEntry.{HostEntry}
+use Rattle.uas_host.specs.declared.HostClient.{HostClient}
+use Rattle.uas_host.specs.State.{HostState, client_of, with_client, is_pending as is_host_pending, is_seen as is_host_seen, is_over as is_host_over, is_data_over as is_host_data_over, is_ready as is_host_ready}
+use Rattle.uas_host.specs.Tags.{place_of, tag_of}
+use Rattle.uas_host.specs.Events.{answer_in, data_after, goes_to_host, goes_to_device, request_direction as host_direction, seen, seen_data, host_seen, place_seen, client_seen, with_seen, left_over_td as host_left_over, news_on}
+use Rattle.uas_host.proofs.Texts.{answer_by-text}
+use Rattle.xhci_ctl.specs.declared.TheConstants.{SHORT_PACKET, STATUS_LENGTH}
+use Rattle.bus_core.specs.declared.Td.{Td}
+use Rattle.bus_core.specs.Bus.{IsPlace}
+use Rattle.bus_core.specs.Td.{Entry, is_seen, is_over, is_data_over, is_ready, with_event_seen, left_over_td, data_after_answer, data_after_status}
+use Rattle.bus_core.specs.Shared.{request_direction}
+use Rattle.bus_core.specs.Wire.{answer_text}
+use Rattle.bus_core.specs.Cells.{host_side, state_of, told_by}
+use Rattle.bus_core.specs.Fits.{unit_len}
+
+-- READY
+
+is_seen-same : (state : TdState) → is_host_seen state ≡ is_seen state
+is_seen-same Pending = refl
+is_seen-same Seen = refl
+is_seen-same LeftOver = refl
+is_seen-same Retired = refl
+
+is_over-same : (state : TdState) → is_host_over state ≡ is_over state
+is_over-same Pending = refl
+is_over-same Seen = refl
+is_over-same LeftOver = refl
+is_over-same Retired = refl
+
+is_data_over-side : (td : Option Td) → is_host_data_over (option_map state_of td) ≡ is_data_over td
+is_data_over-side None = refl
+is_data_over-side (Some td) = is_over-same td.state
+
+pub is_ready-side : (entry : Entry) → is_host_ready (host_side entry) ≡ is_ready entry
+is_ready-side entry =
+    ap (λ b. b && (is_host_over entry.status_td.state && is_host_data_over (option_map state_of entry.data_td))) (is_seen-same entry.command_td.state)
+    ∙ ap (λ b. is_seen entry.command_td.state && (b && is_host_data_over (option_map state_of entry.data_td))) (is_over-same entry.status_td.state)
+    ∙ ap (λ b. is_seen entry.command_td.state && (is_over entry.status_td.state && b)) (is_data_over-side entry.data_td)
+
+-- ONE ENTRY
+
+pub command_seen-side : (entry : Entry) → entry.command_td.state ≡ Pending
+    → seen CommandSeen (host_side entry) ≡ Some (host_side (record entry { command_td = with_event_seen entry.command_td }))
+command_seen-side entry pends = ap (λ s. if is_host_pending s then Some (record (host_side entry) { command_td = Seen }) else None) pends
+
+direction-same : (request : Request) → host_direction request ≡ request_direction request
+direction-same (Execute op) = refl
+
+pub data_in_seen-side : (entry : Entry) (td : Td) → entry.data_td ≡ Some td → td.state ≡ Pending → request_direction entry.task.request ≡ ToHost
+    → seen DataInSeen (host_side entry) ≡ Some (host_side (record entry { data_td = Some (with_event_seen td) }))
+data_in_seen-side entry td is pends way =
+    ap (λ w. seen_data (goes_to_host w) (host_side entry) (option_map state_of entry.data_td)) (direction-same entry.task.request ∙ way)
+    ∙ ap (λ t. seen_data true (host_side entry) (option_map state_of t)) is
+    ∙ ap (λ s. seen_data true (host_side entry) (Some s)) pends
+
+pub data_out_seen-side : (entry : Entry) (td : Td) → entry.data_td ≡ Some td → td.state ≡ Pending → request_direction entry.task.request ≡ ToDevice
+    → seen DataOutSeen (host_side entry) ≡ Some (host_side (record entry { data_td = Some (with_event_seen td) }))
+data_out_seen-side entry td is pends way =
+    ap (λ w. seen_data (goes_to_device w) (host_side entry) (option_map state_of entry.data_td)) (direction-same entry.task.request ∙ way)
+    ∙ ap (λ t. seen_data true (host_side entry) (option_map state_of t)) is
+    ∙ ap (λ s. seen_data true (host_side entry) (Some s)) pends
+
+left_over-state : (state : TdState) (consumed : ℕ) → host_left_over state ≡ state_of (left_over_td (record { state = state; consumed = consumed }))
+left_over-state Pending consumed = refl
+left_over-state Seen consumed = refl
+left_over-state LeftOver consumed = refl
+left_over-state Retired consumed = refl
+
+data_after-side : (answer : Answer) (td : Option Td) → data_after (status_of answer) (option_map state_of td) ≡ option_map state_of (data_after_answer answer td)
+data_after-side Good td = refl
+data_after-side (Check sense) None = refl
+data_after-side (Check sense) (Some td) = ap Some (left_over-state td.state td.consumed)
+
+-- the entry once its status event was seen
+abbrev pub status_seen : Entry → Entry
+status_seen entry = record entry { status_td = with_event_seen entry.status_td; data_td = data_after_status entry.task.phase entry.data_td }
+
+pub status_seen-side : (entry : Entry) (answer : Answer) → entry.task.phase ≡ Sent answer → entry.status_td.state ≡ Pending
+    → seen (Answered (status_of answer) (record { items = sense_of answer })) (host_side entry) ≡ Some (host_side (status_seen entry))
+status_seen-side entry answer sent pends =
+    let told : told_by entry.task.phase Seen ≡ ToldStatus (status_of answer) (record { items = sense_of answer }) = ap (λ p. told_by p Seen) sent in
+    let left : data_after (status_of answer) (option_map state_of entry.data_td) ≡ option_map state_of (data_after_status entry.task.phase entry.data_td) =
+    data_after-side answer entry.data_td ∙ ap (λ p. option_map state_of (data_after_status p entry.data_td)) (sym sent) in
+    let now : HostEntry = record (host_side entry) {
+      told = ToldStatus (status_of answer) (record { items = sense_of answer });
+      status_td = Seen;
+      data_td = data_after (status_of answer) (option_map state_of entry.data_td);
+    } in
+    ap (λ s. if is_host_pending s then Some now else None) pends
+    ∙ ap (λ t. Some (record now { told = t })) (sym told)
+    ∙ ap (λ d. Some (record now { told = told_by entry.task.phase Seen; data_td = d })) left
+
+-- THE HOST
+
+pub place_of-tag_of : (clients : ℕ) (place : Place) → IsPlace clients place → place_of clients (tag_of place) ≡ Some place
+place_of-tag_of clients place there =
+    let slot_within = there.slot in
+    let tag : tag_of place ≡ suc (place.client * TAGS + place.slot) = omega arith in
+    let client : (place.client * TAGS + place.slot) / TAGS ≡ place.client = omega arith in
+    let slot : (place.client * TAGS + place.slot) % TAGS ≡ place.slot = omega arith in
+    ap (place_of clients) tag
+    ∙ ap (λ c. if nat_lt c clients then Some (record { client = c; slot = (place.client * TAGS + place.slot) % TAGS }) else None) client
+    ∙ ap (λ s. if nat_lt place.client clients then Some (record { client = place.client; slot = s }) else None) slot
+    ∙ ap (λ b. if b then Some place else None) (lt-ltb place.client clients there.client)
+
+-- the host whose entry of a place became the host's side of this one
+abbrev pub host_with : HostState → Place → Entry → HostState
+host_with host place now = with_client host place.client (with_seen (client_of host place.client) place.slot (host_side now))
+
+pub host_seen-is : (host : HostState) (place : Place) (entry now : Entry) (news : News) → IsPlace (length host.clients) place
+    → held_at (client_of host place.client).entries place.slot ≡ Some (host_side entry) → seen news (host_side entry) ≡ Some (host_side now)
+    → host_seen news host (tag_of place) ≡ Some (host_with host place now)
+host_seen-is host place entry now news there held sees =
+    ap (option_and_then (place_seen news host)) (place_of-tag_of (length host.clients) place there)
+    ∙ ap (λ h. option_map (with_client host place.client) (option_map (with_seen (client_of host place.client) place.slot) (option_and_then (seen news) h))) held
+    ∙ ap (λ h. option_map (with_client host place.client) (option_map (with_seen (client_of host place.client) place.slot) h)) sees
+
+-- THE NEWS OF A STATUS EVENT
+
+index-take : (bytes : List ℕ) (n at : ℕ) → at < n → slice_index (take n bytes) at ≡ slice_index bytes at
+index-take [] zero at less = absurd (omega arith)
+index-take [] (suc n) at less = refl
+index-take (byte ∷ bytes) zero at less = absurd (omega arith)
+index-take (byte ∷ bytes) (suc n) zero less = refl
+index-take (byte ∷ bytes) (suc n) (suc at) less = index-take bytes n at (omega arith)
+
+text-len : (tag : ℕ) (answer : Answer) → unit_len (answer_text tag answer) ≡ length (answer_text tag answer)
+unfolding unit_text
+text-len tag Good = refl
+text-len tag (Check sense) = refl
+
+text-bounds : (tag : ℕ) (answer : Answer) → (16 ≤ length (answer_text tag answer)) × (length (answer_text tag answer) ≤ 112)
+unfolding unit_text
+text-bounds tag Good = (omega arith, omega arith)
+text-bounds tag (Check sense) = (omega arith, omega arith)
+
+-- the length that a status buffer tells once it begins with an answer
+unit_len-answer : (tag : ℕ) (answer : Answer) (bytes : List ℕ) → take (length (answer_text tag answer)) bytes ≡ answer_text tag answer
+    → unit_len bytes ≡ length (answer_text tag answer)
+unit_len-answer tag answer bytes is =
+    let bounds = text-bounds tag answer in
+    ap (λ n. 16 + n) (sym (index-take bytes (length (answer_text tag answer)) 15 (omega (arith, bounds.0))))
+    ∙ ap (λ bs. unit_len bs) is ∙ text-len tag answer
+
+fits-answer : (tag : ℕ) (answer : Answer) → tag ≤ 248 → FitsUnit (SenseUnit tag (status_of answer) (record { items = sense_of answer }))
+fits-answer tag Good most = (omega arith, omega arith)
+fits-answer tag (Check sense) most = (omega arith, omega arith)
+
+answer_in-text : (tag : ℕ) (answer : Answer) → tag ≤ 248
+    → answer_in tag (answer_text tag answer) ≡ Some (Answered (status_of answer) (record { items = sense_of answer }))
+answer_in-text tag answer most =
+    let fits = fits-answer tag answer most in
+    let unit = SenseUnit tag (status_of answer) (record { items = sense_of answer }) in
+    let same : (tag == tag) ≡ true = eq-eqb tag tag refl in
+    sym (answer_by-text tag unit fits (first_fault-unit_text unit fits))
+    ∙ ap (λ b. if b then Some (Answered (status_of answer) (record { items = sense_of answer })) else None) same
+
+pub status_news-is : (frames : List TagBuffers) (tag : ℕ) (answer : Answer) → tag ≤ 248
+    → take (length (answer_text tag answer)) (held_for frames tag).status ≡ answer_text tag answer
+    → news_on Status frames (STATUS_LENGTH - unit_len (held_for frames tag).status) SHORT_PACKET tag
+    ≡ Some (Answered (status_of answer) (record { items = sense_of answer }))
+status_news-is frames tag answer most is =
+    let len = unit_len-answer tag answer (held_for frames tag).status is in
+    let bounds = text-bounds tag answer in
+    let left : 112 - (112 - unit_len (held_for frames tag).status) ≡ length (answer_text tag answer) = omega (arith, len, bounds.1) in
+    ap (λ n. answer_in tag (take n (held_for frames tag).status)) left ∙ ap (answer_in tag) is ∙ answer_in-text tag answer most

@@ -1,0 +1,15 @@
+-- The outcome of each step that acts.
+use Rattle.bus_core.proofs.OutcomeMarks.{carry-marked, move-marked, send-marked, event-marked}
+use Rattle.bus_core.proofs.world_due.steps_are_marked.Goals as goal
+
+pub returns-clause-command : goal.returns-clause-command
+returns-clause-command c = carry-marked
+
+pub returns-clause-data : goal.returns-clause-data
+returns-clause-data c = move-marked
+
+pub returns-clause-status : goal.returns-clause-status
+returns-clause-status c = send-marked
+
+pub returns-clause-event : goal.returns-clause-event
+returns-clause-event c = event-marked

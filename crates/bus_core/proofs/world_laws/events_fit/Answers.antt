@@ -1,0 +1,6 @@
+-- An event is matched to the TD that it is of, and the step fits.
+use Rattle.bus_core.proofs.SeenCommands.{events-fit}
+use Rattle.bus_core.proofs.world_laws.events_fit.Goals as goal
+
+pub returns : goal.returns
+returns c = events-fit

@@ -1,0 +1,121 @@
+-- What stands under one tag fits what the shared machine has at its place.
+use Rattle.std.specs.Prelude.{◌≡◌, ℕ, ◌+◌, ◌*◌, List, [], length, take, Option, Some, None, option_map}
+use Rattle.xhci_trb.specs.declared.Trb.{Trb}
+use Rattle.cycle_ring.specs.Ring.{Ring}
+use Rattle.frame_store.specs.declared.TagBuffers.{TagBuffers}
+use Rattle.scsi_cmd.specs.declared.Direction.{Direction}
+use Rattle.scsi_cmd.specs.declared.Direction.TheVariants.{Nothing, ToHost, ToDevice}
+use Rattle.device_server.specs.declared.Answer.{Answer}
+use Rattle.solo_model.specs.declared.Phase.{Phase}
+use Rattle.solo_model.specs.declared.Phase.TheVariants.{Queued, Begun, Sent}
+use Rattle.device_server.specs.Server.{status_of, sense_of}
+use Rattle.solo_model.specs.Soundness.{IsSound}
+use Rattle.uas_host.specs.declared.Place.{Place}
+use Rattle.uas_host.specs.declared.TdState.{TdState}
+use Rattle.uas_host.specs.declared.TdState.TheVariants.{Pending, Seen, LeftOver, Retired}
+use Rattle.uas_host.specs.declared.Told.{Told}
+use Rattle.uas_host.specs.declared.Told.TheVariants.{Untold, Status as ToldStatus}
+use Rattle.uas_host.specs.declared.HostEntry.{HostEntry}
+use Rattle.uas_host.specs.Tags.{tag_of}
+use Rattle.uas_host.specs.Tds.{data_td, status_td}
+use Rattle.bus_core.specs.declared.Td.{Td}
+use Rattle.bus_core.specs.Td.{Entry}
+use Rattle.bus_core.specs.Shared.{request_direction}
+use Rattle.bus_core.specs.Wire.{request_text, answer_text}
+use Rattle.bus_core.specs.Hosts.{device_task}
+use Rattle.bus_core.specs.Matched.{request_bytes}
+use Rattle.bus_core.specs.World.{Cell}
+
+-- THE HOST'S SIDE OF AN ENTRY: it knows no phase, no bytes, and not how many TRBs were taken
+
+abbrev pub state_of : Td → TdState
+state_of td = td.state
+
+-- the host was told the answer once it has seen the status event
+abbrev pub told_sent : Answer → TdState → Told
+told_sent answer Pending = Untold
+told_sent answer Seen = ToldStatus (status_of answer) (record { items = sense_of answer })
+told_sent answer LeftOver = Untold
+told_sent answer Retired = Untold
+
+abbrev pub told_by : Phase → TdState → Told
+told_by Queued state = Untold
+told_by (Begun progress) state = Untold
+told_by (Sent answer) state = told_sent answer state
+
+abbrev pub host_side : Entry → HostEntry
+host_side entry = record {
+  ticket = entry.task.ticket;
+  request = entry.task.request;
+  told = told_by entry.task.phase entry.status_td.state;
+  command_td = entry.command_td.state;
+  status_td = entry.status_td.state;
+  data_td = option_map state_of entry.data_td;
+}
+
+-- THE RINGS OF AN ENTRY
+
+-- these TRBs are on a ring, and so many of them were taken
+abbrev pub HoldsTrbs : Ring → List Trb → ℕ → Type 0
+HoldsTrbs ring trbs taken = (ring.put ≡ trbs) × (ring.got ≡ taken)
+
+-- The ring of a TD. While its event is awaited, and where it is left over, its TRBs are there; once the event was seen or
+-- it was retired they were reclaimed, all of them taken.
+abbrev pub HoldsIn : Ring → List Trb → ℕ → TdState → Type 0
+HoldsIn ring trbs consumed Pending = HoldsTrbs ring trbs consumed
+HoldsIn ring trbs consumed Seen = HoldsTrbs ring [] 0 × (consumed ≡ length trbs)
+HoldsIn ring trbs consumed LeftOver = HoldsTrbs ring trbs consumed
+HoldsIn ring trbs consumed Retired = HoldsTrbs ring [] 0 × (consumed ≡ length trbs)
+
+abbrev pub HoldsTd : Ring → List Trb → Td → Type 0
+HoldsTd ring trbs td = HoldsIn ring trbs td.consumed td.state
+
+abbrev pub HoldsData : Ring → List Trb → Option Td → Type 0
+HoldsData ring trbs None = HoldsTrbs ring [] 0
+HoldsData ring trbs (Some td) = HoldsTd ring trbs td
+
+-- the data TD is on the ring of its direction
+abbrev pub data_in_td : Direction → Option Td → Option Td
+data_in_td Nothing td = None
+data_in_td ToHost td = td
+data_in_td ToDevice td = None
+
+abbrev pub data_out_td : Direction → Option Td → Option Td
+data_out_td Nothing td = None
+data_out_td ToHost td = None
+data_out_td ToDevice td = td
+
+-- THE BUFFERS
+
+-- the status buffer begins with the answer once it was sent
+abbrev pub HasAnswerIn : Phase → ℕ → List ℕ → Type 0
+HasAnswerIn Queued tag bytes = Unit {0}
+HasAnswerIn (Begun progress) tag bytes = Unit {0}
+HasAnswerIn (Sent answer) tag bytes = take (length (answer_text tag answer)) bytes ≡ answer_text tag answer
+
+-- ONE CELL
+
+-- a cell with an entry of a client whose unit has so many blocks
+pub record FitsCell (client count : ℕ) (place : Place) (entry : Entry) (cell : Cell) : Type 0 where
+  pub held : cell.held ≡ Some (host_side entry)
+  pub task : cell.task ≡ device_task client entry
+  pub status : HoldsTd cell.status (status_td (tag_of place)) entry.status_td
+  pub data_in : HoldsData cell.data_in (data_td (tag_of place) (request_bytes entry.task.request)) (data_in_td (request_direction entry.task.request) entry.data_td)
+  pub data_out : HoldsData cell.data_out (data_td (tag_of place) (request_bytes entry.task.request)) (data_out_td (request_direction entry.task.request) entry.data_td)
+  pub lent : cell.buffers.lent ≡ Some entry.task.buffer
+  pub unit : cell.buffers.command ≡ request_text client (tag_of place) entry.task.request
+  pub answer : HasAnswerIn entry.task.phase (tag_of place) cell.buffers.status
+  pub sound : IsSound count entry.task
+
+-- a cell with nothing
+pub record IsEmptyCell (cell : Cell) : Type 0 where
+  pub held : cell.held ≡ None
+  pub task : cell.task ≡ None
+  pub status : HoldsTrbs cell.status [] 0
+  pub data_in : HoldsTrbs cell.data_in [] 0
+  pub data_out : HoldsTrbs cell.data_out [] 0
+  pub lent : cell.buffers.lent ≡ None
+
+abbrev pub FitsHeld : ℕ → ℕ → Place → Option Entry → Cell → Type 0
+FitsHeld client count place None cell = IsEmptyCell cell
+FitsHeld client count place (Some entry) cell = FitsCell client count place entry cell

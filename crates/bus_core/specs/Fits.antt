@@ -1,0 +1,118 @@
+-- The world of rings fits a state of the shared machine: what each ring, context, buffer and table has to hold for it.
+use Rattle.std.specs.Prelude.{◌≡◌, ℕ, zero, suc, ◌+◌, ◌-◌, ◌*◌, ◌<◌, ◌≤◌, ◌==◌, if◌then◌else◌, List, [], ◌∷◌, ◌++◌, length, map, slice_get, slice_index, Option, Some, None}
+use Rattle.block_unit.specs.BlockMaps.{BlockMaps}
+use Rattle.xhci_trb.specs.declared.Trb.{Trb}
+use Rattle.xhci_trb.specs.declared.Trb.TheVariants.{Normal}
+use Rattle.cycle_ring.specs.Ring.{Ring, pointer_of}
+use Rattle.event_ring.specs.declared.Event.{Event}
+use Rattle.event_ring.specs.declared.Event.TheVariants.{Transfer}
+use Rattle.stream_array.specs.declared.Pipe.TheVariants.{Command, Status, DataIn, DataOut}
+use Rattle.stream_array.specs.declared.TheConstants.{COMMAND_RING_PLACES, STREAM_RING_PLACES}
+use Rattle.stream_array.specs.Rings.{IsLines, stream_ring}
+use Rattle.frame_store.specs.Buffers.{IsWhole, held_for}
+use Rattle.scsi_cmd.specs.declared.TheConstants.{TAGS}
+use Rattle.scsi_cmd.specs.Held.{held_at}
+use Rattle.uas_target.specs.declared.TheConstants.{GREATEST_TAG}
+use Rattle.uas_target.specs.Device.{task_of}
+use Rattle.uas_host.specs.declared.Place.{Place}
+use Rattle.uas_host.specs.declared.HostClient.{HostClient}
+use Rattle.uas_host.specs.State.{IsHost}
+use Rattle.uas_host.specs.Tags.{tag_of}
+use Rattle.uas_host.specs.Tds.{command_buffer_of}
+use Rattle.xhci_ctl.specs.declared.TheConstants.{SUCCESS, SHORT_PACKET, SLOT, STATUS_LENGTH}
+use Rattle.xhci_ctl.specs.Steps.{endpoint_of}
+use Rattle.bus_core.specs.declared.TheConstants.{MAX_CLIENTS}
+use Rattle.bus_core.specs.declared.Completion.{Completion}
+use Rattle.bus_core.specs.declared.Completion.TheVariants.{CommandDone, DataDone, StatusDone}
+use Rattle.bus_core.specs.Part.{Part}
+use Rattle.bus_core.specs.Shared.{Shared}
+use Rattle.bus_core.specs.Soundness.{AreReady}
+use Rattle.bus_core.specs.Matched.{IsMatched, carried_places}
+use Rattle.bus_core.specs.World.{World, cell_at}
+use Rattle.bus_core.specs.Cells.{FitsHeld}
+
+-- THE COMMAND PIPE AND THE EVENT RING
+
+-- the command TRB of a place
+abbrev pub command_trb : Place → Trb
+command_trb place = Normal (command_buffer_of (tag_of place)) 32 0 (record { 0 = 16 })
+
+-- the address of the last TRB on a stream's ring
+abbrev pub last_pointer : Ring → ℕ
+last_pointer ring = pointer_of STREAM_RING_PLACES ring (length ring.put - 1)
+
+-- the event of a data TD, which is on one of these two rings
+abbrev pub data_event : Ring → Ring → Event
+data_event data_in data_out =
+    if length data_in.put == 0
+    then Transfer (last_pointer data_out) 0 SUCCESS (endpoint_of DataOut) SLOT
+    else Transfer (last_pointer data_in) 0 SUCCESS (endpoint_of DataIn) SLOT
+
+-- the length of the unit in a status buffer: a Sense unit tells the length of its sense in byte 15
+abbrev pub unit_len : List ℕ → ℕ
+unit_len bytes = 16 + slice_index bytes 15
+
+-- the event of a status TD
+abbrev pub status_event : Ring → List ℕ → Event
+status_event ring bytes = Transfer (last_pointer ring) (STATUS_LENGTH - unit_len bytes) SHORT_PACKET (endpoint_of Status) SLOT
+
+-- The events that wait, as TRBs: the k-th command event points at TRB k of the command pipe, and an event of a stream at the
+-- last TRB of its TD.
+abbrev pub event_texts : World → ℕ → List Completion → List Event
+event_texts world k [] = []
+event_texts world k (CommandDone place ∷ rest) =
+    Transfer (pointer_of COMMAND_RING_PLACES world.lines.command k) 0 SUCCESS (endpoint_of Command) SLOT ∷ event_texts world (suc k) rest
+event_texts world k (DataDone place ∷ rest) =
+    data_event (stream_ring world.lines.data_in (tag_of place)) (stream_ring world.lines.data_out (tag_of place)) ∷ event_texts world k rest
+event_texts world k (StatusDone place ∷ rest) =
+    status_event (stream_ring world.lines.status (tag_of place)) (held_for world.frames (tag_of place)).status ∷ event_texts world k rest
+
+-- On the command pipe stand first the TRBs that were taken and whose events wait, then the messages.
+pub record FitsQueues (state : Shared) (world : World) : Type 0 where
+  pub put : world.lines.command.put ≡ map command_trb (carried_places state.events ++ state.messages)
+  pub got : world.lines.command.got ≡ length (carried_places state.events)
+  pub texts : world.lines.events.pending ≡ event_texts world 0 state.events
+
+-- ONE CLIENT
+
+abbrev pub place_in : ℕ → ℕ → Place
+place_in client slot = record { client = client; slot = slot }
+
+pub record FitsPart (world : World) (client : ℕ) (unit : BlockMaps) (held : HostClient) (part : Part) : Type 0 where
+  pub number : part.number ≡ client
+  pub unit_same : part.unit ≡ unit
+  pub least : part.least ≡ held.least
+  pub ready : part.ready ≡ held.ready.items
+  pub slots : length part.entries ≡ TAGS
+  pub cells : (slot : ℕ) → slot < TAGS → FitsHeld client unit.count (place_in client slot) (held_at part.entries slot) (cell_at world (place_in client slot))
+
+-- unit, host and part of a client are there, or none is
+abbrev pub FitsClient : World → ℕ → Option BlockMaps → Option HostClient → Option Part → Type 0
+FitsClient world client None None None = Unit {0}
+FitsClient world client None None (Some part) = ⊥
+FitsClient world client None (Some held) part = ⊥
+FitsClient world client (Some unit) None part = ⊥
+FitsClient world client (Some unit) (Some held) None = ⊥
+FitsClient world client (Some unit) (Some held) (Some part) = FitsPart world client unit held part
+
+-- THE WHOLE
+
+-- what the types of host, rings, buffers and device tell of them at all times
+pub record IsSoundWorld (world : World) : Type 0 where
+  pub host : IsHost world.host
+  pub lines : IsLines world.lines
+  pub frames : IsWhole world.frames
+  pub tags : length world.device.tasks ≡ GREATEST_TAG
+
+pub record Fits (state : Shared) (world : World) : Type 0 where
+  pub some_client : 1 ≤ length state.parts
+  pub most_clients : length state.parts ≤ MAX_CLIENTS
+  pub status : world.controller.status ≡ state.status
+  pub data_in : world.controller.data_in ≡ state.data_in
+  pub data_out : world.controller.data_out ≡ state.data_out
+  pub sound : IsSoundWorld world
+  pub queues : FitsQueues state world
+  pub matched : IsMatched state
+  pub clients : (client : ℕ) → FitsClient world client (slice_get world.device.units client) (slice_get world.host.clients client) (slice_get state.parts client)
+  -- the device has no task of a tag that is no client's
+  pub others : (tag : ℕ) → TAGS * length state.parts < tag → task_of world.device tag ≡ None

@@ -1,0 +1,53 @@
+-- The world of a bus over rings: everything that host, controller and device hold, and what of it stands under one tag.
+use Rattle.std.specs.Prelude.{ℕ, ◌+◌, ◌*◌, List, Option}
+use Rattle.cycle_ring.specs.Ring.{Ring}
+use Rattle.stream_array.specs.Rings.{LinesState, stream_ring}
+use Rattle.frame_store.specs.declared.TagBuffers.{TagBuffers}
+use Rattle.frame_store.specs.Buffers.{held_for}
+use Rattle.scsi_cmd.specs.Held.{held_at}
+use Rattle.uas_target.specs.declared.DeviceTask.{DeviceTask}
+use Rattle.uas_target.specs.Device.{Device, task_of}
+use Rattle.uas_host.specs.declared.Place.{Place}
+use Rattle.uas_host.specs.declared.HostEntry.{HostEntry}
+use Rattle.uas_host.specs.State.{HostState, client_of}
+use Rattle.uas_host.specs.Tags.{tag_of}
+use Rattle.xhci_ctl.specs.Pipes.{ControllerState}
+use Rattle.xhci_ctl.specs.Steps.{Sides}
+
+pub record World : Type 0 where
+  pub host : HostState
+  pub controller : ControllerState
+  pub device : Device
+  pub lines : LinesState
+  pub frames : List TagBuffers
+
+-- what stands under one tag: the host's entry, the device's task, the rings of its streams, its buffers
+pub record Cell : Type 0 where
+  pub held : Option HostEntry
+  pub task : Option DeviceTask
+  pub status : Ring
+  pub data_in : Ring
+  pub data_out : Ring
+  pub buffers : TagBuffers
+
+-- the host's entry at a place
+abbrev pub entry_at : HostState → Place → Option HostEntry
+entry_at host place = held_at (client_of host place.client).entries place.slot
+
+-- the cell of a place, whose tag is client * 8 + slot + 1
+abbrev pub cell_at : World → Place → Cell
+cell_at world place = record {
+  held = entry_at world.host place;
+  task = task_of world.device (tag_of place);
+  status = stream_ring world.lines.status (tag_of place);
+  data_in = stream_ring world.lines.data_in (tag_of place);
+  data_out = stream_ring world.lines.data_out (tag_of place);
+  buffers = held_for world.frames (tag_of place);
+}
+
+-- what a step of the controller may change
+abbrev pub sides_in : World → Sides
+sides_in world = record { lines = world.lines; frames = world.frames; device = world.device }
+
+abbrev pub with_sides : World → Sides → World
+with_sides world sides = record world { lines = sides.lines; frames = sides.frames; device = sides.device }

@@ -1,0 +1,109 @@
+-- Where a step of the world of rings is due, and what its outcome is, told from rings, device and host alone.
+use Rattle.std.specs.Prelude.{◌≡◌, ℕ, suc, Bool, true, false, ◌&&◌, nat_lt, not, List, [], ◌∷◌, length, Option, Some, None}
+use Rattle.scsi_cmd.specs.declared.Reply.{Reply}
+use Rattle.stream_array.specs.declared.Pipe.TheVariants.{Command, Status, DataIn, DataOut}
+use Rattle.uas_target.specs.declared.Phase.{Phase}
+use Rattle.uas_target.specs.declared.Phase.TheVariants.{Absent, Gives, Takes, Ends}
+use Rattle.uas_target.specs.Device.{answered, wanted}
+use Rattle.uas_host.specs.declared.Place.{Place}
+use Rattle.uas_host.specs.State.{client_of}
+use Rattle.uas_host.specs.Tags.{place_of}
+use Rattle.uas_host.specs.Replies.{replied}
+use Rattle.xhci_ctl.specs.Own.{IsOwnCommandFront, IsOwnDataFront, IsOwnStatusFront}
+use Rattle.xhci_ctl.specs.Pipes.{has_pending, is_armed}
+use Rattle.bus_core.specs.declared.Completion.{Completion}
+use Rattle.bus_core.specs.declared.Mark.{Mark}
+use Rattle.bus_core.specs.declared.Mark.TheVariants.{Carry, Move, Send, Settle, Quiet}
+use Rattle.bus_core.specs.declared.Outcome.{Outcome}
+use Rattle.bus_core.specs.declared.Step.TheVariants.{CommandPipe, Data, Status as StatusStep, Event, Take}
+use Rattle.bus_core.specs.Part.{event_place}
+use Rattle.bus_core.specs.Shared.{Shared, due, is_some_of, shared_step}
+use Rattle.bus_core.specs.Matched.{IsMatched}
+use Rattle.bus_core.specs.World.{World}
+use Rattle.bus_core.specs.Fits.{Fits}
+
+-- WHERE A STEP IS DUE
+
+-- the command pipe's ring has a pending TRB
+abbrev pub command_is_due : World → Bool
+command_is_due world = has_pending world.lines.command
+
+-- a data stream is armed, and the device moves data on it
+abbrev pub data_due_by : World → ℕ → Phase → Bool
+data_due_by world tag Absent = false
+data_due_by world tag (Gives size) = is_armed world.controller world.lines DataIn tag
+data_due_by world tag (Takes size) = is_armed world.controller world.lines DataOut tag
+data_due_by world tag Ends = false
+
+abbrev pub data_is_due_on : World → ℕ → Bool
+data_is_due_on world tag = data_due_by world tag (wanted world.device tag)
+
+-- the status stream is armed, and the device has its answer
+abbrev pub status_due_by : World → ℕ → Phase → Bool
+status_due_by world tag Absent = false
+status_due_by world tag (Gives size) = false
+status_due_by world tag (Takes size) = false
+status_due_by world tag Ends = is_armed world.controller world.lines Status tag
+
+abbrev pub status_is_due_on : World → ℕ → Bool
+status_is_due_on world tag = status_due_by world tag (wanted world.device tag)
+
+-- an event is pending; a reply is ready
+abbrev pub event_is_due : World → Bool
+event_is_due world = nat_lt 0 (length world.lines.events.pending)
+
+abbrev pub take_is_due : World → ℕ → Bool
+take_is_due world client = is_some_of (client_of world.host client).ready.items
+
+pub record CommandDue (state : Shared) (world : World) : Type 0 where
+  pub due : due state CommandPipe ≡ command_is_due world
+  pub own : IsOwnCommandFront world.lines world.frames
+
+pub record DataDue (state : Shared) (world : World) (tag : ℕ) : Type 0 where
+  pub due : due state (Data tag) ≡ data_is_due_on world tag
+  pub own : IsOwnDataFront world.lines world.frames tag (wanted world.device tag)
+
+pub record StatusDue (state : Shared) (world : World) (tag : ℕ) : Type 0 where
+  pub due : due state (StatusStep tag) ≡ status_is_due_on world tag
+  pub own : IsOwnStatusFront world.lines world.frames tag (answered world.device tag)
+
+abbrev pub CommandsAreDue : Type 0
+CommandsAreDue = (state : Shared) (world : World) → Fits state world → CommandDue state world
+
+abbrev pub DataAreDue : Type 0
+DataAreDue = (state : Shared) (world : World) (tag : ℕ) → Fits state world → DataDue state world tag
+
+abbrev pub StatusesAreDue : Type 0
+StatusesAreDue = (state : Shared) (world : World) (tag : ℕ) → Fits state world → StatusDue state world tag
+
+abbrev pub EventsAreDue : Type 0
+EventsAreDue = (state : Shared) (world : World) → Fits state world → due state Event ≡ event_is_due world
+
+abbrev pub TakesAreDue : Type 0
+TakesAreDue = (state : Shared) (world : World) (client : ℕ) → Fits state world → due state (Take client) ≡ take_is_due world client
+
+-- OUTCOMES
+
+-- a step that acted for a client, without a reply
+abbrev pub marked : ℕ → Mark → Outcome
+marked client mark = record { acted = true; owner = Some client; mark = mark; reply = None; refused = None; doors = record { items = [] } }
+
+abbrev pub CommandsAreMarked : Type 0
+CommandsAreMarked =
+    (state : Shared) (place : Place) (rest : List Place) → IsMatched state → state.messages ≡ place ∷ rest
+    → (shared_step state CommandPipe).1 ≡ marked place.client (Carry (suc place.slot))
+
+abbrev pub DataAreMarked : Type 0
+DataAreMarked =
+    (state : Shared) (tag : ℕ) (place : Place) → IsMatched state → place_of (length state.parts) tag ≡ Some place → due state (Data tag) ≡ true
+    → (shared_step state (Data tag)).1 ≡ marked place.client (Move (suc place.slot))
+
+abbrev pub StatusesAreMarked : Type 0
+StatusesAreMarked =
+    (state : Shared) (tag : ℕ) (place : Place) → IsMatched state → place_of (length state.parts) tag ≡ Some place → due state (StatusStep tag) ≡ true
+    → (shared_step state (StatusStep tag)).1 ≡ marked place.client (Send (suc place.slot))
+
+abbrev pub EventsAreQuiet : Type 0
+EventsAreQuiet =
+    (state : Shared) (done : Completion) (rest : List Completion) → IsMatched state → state.events ≡ done ∷ rest
+    → (shared_step state Event).1 ≡ marked (event_place done).client Quiet

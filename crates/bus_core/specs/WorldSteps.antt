@@ -1,0 +1,181 @@
+-- The steps of the world of rings, by the calls of host and controller, and what is claimed of them: each is the shared
+-- machine's step wherever the world fits a state.
+use Rattle.std.specs.Prelude.{◌≡◌, ℕ, ◌^◌, ◌<◌, true, false, List, [], ◌∷◌, fold, length, slice_get, ◌≤◌, Option, Some, None, option_map}
+use Rattle.block_unit.specs.BlockMaps.{BlockMaps}
+use Rattle.event_ring.specs.declared.Event.{Event}
+use Rattle.event_ring.specs.Events.{taken}
+use Rattle.stream_array.specs.declared.TheConstants.{EVENT_RING_PLACES}
+use Rattle.stream_array.specs.Rings.{LinesState, IsOpeningLines, with_events}
+use Rattle.frame_store.specs.Buffers.{opening as opening_frames}
+use Rattle.scsi_cmd.specs.declared.Command.{Command}
+use Rattle.scsi_cmd.specs.declared.SubmitFault.{SubmitFault}
+use Rattle.scsi_cmd.specs.Op.{direction_of}
+use Rattle.uas_target.specs.Device.{answered, opening as opening_device, wanted}
+use Rattle.uas_host.specs.declared.Handled.{Handled}
+use Rattle.uas_host.specs.declared.Handled.TheVariants.{Matched}
+use Rattle.uas_host.specs.declared.Place.{Place}
+use Rattle.uas_host.specs.State.{opening as opening_host}
+use Rattle.uas_host.specs.Doors.{submission_doors}
+use Rattle.uas_host.specs.Submit.{HasRoomFor, host_fault, lent, submitted}
+use Rattle.uas_host.specs.Tds.{pushed}
+use Rattle.uas_host.specs.Tags.{place_of, tag_of}
+use Rattle.uas_host.specs.Events.{Sides as EventSides, handled}
+use Rattle.uas_host.specs.Replies.{no_reply, replied}
+use Rattle.xhci_ctl.specs.declared.Acted.TheVariants.{Acted, Idle}
+use Rattle.xhci_ctl.specs.Doorbells.{rung_by}
+use Rattle.xhci_ctl.specs.Own.{IsOwnCommandFront, IsOwnDataFront, IsOwnStatusFront}
+use Rattle.xhci_ctl.specs.Pipes.{ControllerState, new_controller}
+use Rattle.xhci_ctl.specs.Steps.{commanded, moved, sent_by}
+use Rattle.bus_core.specs.declared.TheConstants.{MAX_CLIENTS}
+use Rattle.bus_core.specs.declared.Completion.{Completion}
+use Rattle.bus_core.specs.declared.Refusal.{Refusal}
+use Rattle.bus_core.specs.declared.Step.TheVariants.{CommandPipe, Data, Status, Event as EventStep, Take}
+use Rattle.bus_core.specs.Part.{event_place}
+use Rattle.bus_core.specs.Shared.{Shared, opening, due, shared_step, submit_step}
+use Rattle.bus_core.specs.World.{World, sides_in, with_sides}
+use Rattle.bus_core.specs.Fits.{Fits, IsSoundWorld}
+use Rattle.bus_core.specs.Decoded.{decoded}
+
+-- READING BACK
+
+-- a world that fits a state tells that state
+abbrev pub WorldReadsBack : Type 0
+WorldReadsBack = (state : Shared) (world : World) → Fits state world → decoded world ≡ state
+
+-- THE OPENING
+
+abbrev pub opening_world : List BlockMaps → ℕ → LinesState → World
+opening_world units clients lines = record {
+  host = opening_host clients;
+  controller = new_controller;
+  device = opening_device units;
+  lines = lines;
+  frames = opening_frames;
+}
+
+-- a new bus of 1 to 31 units fits the opening shared machine
+abbrev pub OpeningFits : Type 0
+OpeningFits =
+    (units : List BlockMaps) (lines : LinesState) → 1 ≤ length units → length units ≤ MAX_CLIENTS → IsOpeningLines lines
+    → IsSoundWorld (opening_world units (length units) lines) → Fits (opening units) (opening_world units (length units) lines)
+
+-- THE STEPS
+
+-- the command pipe: the device receives the unit that the first pending TRB names
+abbrev pub command_world : World → World
+command_world world = with_sides world (commanded (sides_in world)).0
+
+abbrev pub data_world : World → ℕ → World
+data_world world tag = with_sides world (moved world.controller (sides_in world) tag).0
+
+abbrev pub status_world : World → ℕ → World
+status_world world tag = with_sides world (sent_by world.controller (sides_in world) tag).0
+
+-- the first event leaves the event ring, and the host handles it
+abbrev pub without_event : LinesState → LinesState
+without_event lines = with_events lines (taken EVENT_RING_PLACES lines.events)
+
+abbrev pub event_sides : World → EventSides
+event_sides world = record { host = world.host; lines = without_event world.lines }
+
+abbrev pub event_world : World → Event → World
+event_world world event = record world {
+  host = (handled (event_sides world) world.frames event).0.host;
+  lines = (handled (event_sides world) world.frames event).0.lines;
+}
+
+-- the host submits a command, and its doorbells are rung in their order
+abbrev pub rung_all : ControllerState → List ℕ → ControllerState
+rung_all controller doors = fold rung_by controller doors
+
+abbrev pub submit_world : World → ℕ → ℕ → ℕ → Command → World
+submit_world world client tag ticket command = record world {
+  host = submitted world.host client tag ticket command.op;
+  controller = rung_all world.controller (submission_doors (direction_of command.op) tag);
+  lines = pushed world.lines tag command.op;
+  frames = lent world.frames client tag command;
+}
+
+-- the host gives the client's reply that was ready first
+abbrev pub take_world : World → ℕ → World
+take_world world client = record world { host = (replied world.host world.frames client).host; frames = (replied world.host world.frames client).frames }
+
+-- WHAT IS CLAIMED
+
+-- CommandPipe: the TRB in front is the host's own, and the step is the shared machine's
+pub record CommandFits (state : Shared) (world : World) (place : Place) : Type 0 where
+  pub own : IsOwnCommandFront world.lines world.frames
+  pub acted : (commanded (sides_in world)).1 ≡ Acted (tag_of place)
+  pub fits : IsSoundWorld (command_world world) → Fits (shared_step state CommandPipe).0 (command_world world)
+
+abbrev pub CommandsFit : Type 0
+CommandsFit = (state : Shared) (world : World) (place : Place) (rest : List Place) → Fits state world → state.messages ≡ place ∷ rest → CommandFits state world place
+
+-- where no message waits the controller is idle
+abbrev pub NoCommandIsIdle : Type 0
+NoCommandIsIdle = (state : Shared) (world : World) → Fits state world → state.messages ≡ [] → commanded (sides_in world) ≡ (sides_in world, Idle)
+
+-- Data: likewise, wherever it is due
+pub record DataFits (state : Shared) (world : World) (tag : ℕ) : Type 0 where
+  pub own : IsOwnDataFront world.lines world.frames tag (wanted world.device tag)
+  pub acted : (moved world.controller (sides_in world) tag).1 ≡ Acted tag
+  pub fits : IsSoundWorld (data_world world tag) → Fits (shared_step state (Data tag)).0 (data_world world tag)
+
+abbrev pub DataFit : Type 0
+DataFit = (state : Shared) (world : World) (tag : ℕ) → Fits state world → due state (Data tag) ≡ true → DataFits state world tag
+
+abbrev pub DataIsIdle : Type 0
+DataIsIdle = (state : Shared) (world : World) (tag : ℕ) → Fits state world → due state (Data tag) ≡ false → moved world.controller (sides_in world) tag ≡ (sides_in world, Idle)
+
+-- Status
+pub record StatusFits (state : Shared) (world : World) (tag : ℕ) : Type 0 where
+  pub own : IsOwnStatusFront world.lines world.frames tag (answered world.device tag)
+  pub acted : (sent_by world.controller (sides_in world) tag).1 ≡ Acted tag
+  pub fits : IsSoundWorld (status_world world tag) → Fits (shared_step state (Status tag)).0 (status_world world tag)
+
+abbrev pub StatusesFit : Type 0
+StatusesFit = (state : Shared) (world : World) (tag : ℕ) → Fits state world → due state (Status tag) ≡ true → StatusFits state world tag
+
+abbrev pub StatusIsIdle : Type 0
+StatusIsIdle = (state : Shared) (world : World) (tag : ℕ) → Fits state world → due state (Status tag) ≡ false → sent_by world.controller (sides_in world) tag ≡ (sides_in world, Idle)
+
+-- Event: the first event is matched to the TD that it is of; none is stray
+pub record EventFits (state : Shared) (world : World) (event : Event) (done : Completion) : Type 0 where
+  pub matched : (handled (event_sides world) world.frames event).1 ≡ Matched (tag_of (event_place done))
+  pub fits : IsSoundWorld (event_world world event) → Fits (shared_step state EventStep).0 (event_world world event)
+
+abbrev pub EventsFit : Type 0
+EventsFit =
+    (state : Shared) (world : World) (done : Completion) (rest : List Completion) → Fits state world → state.events ≡ done ∷ rest
+    → (event : Event) × (slice_get world.lines.events.pending 0 ≡ Some event) × EventFits state world event done
+
+-- Submit: the host finds the fault that the shared machine finds, and where there is none, room on all rings
+abbrev pub fault_in : Refusal → SubmitFault
+fault_in refusal = refusal.fault
+
+abbrev pub FaultsAgree : Type 0
+FaultsAgree =
+    (state : Shared) (world : World) (client tag ticket : ℕ) (command : Command) → Fits state world
+    → host_fault world.host client tag ticket command ≡ option_map fault_in (submit_step state client tag ticket command).1.refused
+
+pub record SubmitFits (state : Shared) (world : World) (client tag ticket : ℕ) (command : Command) : Type 0 where
+  pub room : HasRoomFor world.lines world.frames tag command.op
+  pub fits : IsSoundWorld (submit_world world client tag ticket command) → Fits (submit_step state client tag ticket command).0 (submit_world world client tag ticket command)
+
+abbrev pub SubmissionsFit : Type 0
+SubmissionsFit =
+    (state : Shared) (world : World) (client tag ticket : ℕ) (command : Command) → Fits state world → ticket < 2 ^ 60
+    → host_fault world.host client tag ticket command ≡ None → SubmitFits state world client tag ticket command
+
+-- Take: the reply is the shared machine's
+pub record TakeFits (state : Shared) (world : World) (client : ℕ) : Type 0 where
+  pub reply : (replied world.host world.frames client).reply ≡ (shared_step state (Take client)).1.reply
+  pub fits : IsSoundWorld (take_world world client) → Fits (shared_step state (Take client)).0 (take_world world client)
+
+abbrev pub TakesFit : Type 0
+TakesFit = (state : Shared) (world : World) (client : ℕ) → Fits state world → due state (Take client) ≡ true → TakeFits state world client
+
+abbrev pub TakeIsIdle : Type 0
+TakeIsIdle =
+    (state : Shared) (world : World) (client : ℕ) → Fits state world → due state (Take client) ≡ false
+    → replied world.host world.frames client ≡ no_reply world.host world.frames

@@ -1,0 +1,48 @@
+//! The laws of the world of rings: where rings, buffers, host and device fit a state of the shared machine, each step of
+//! host and controller is the shared machine's step.
+ghost use Rattle.bus_core.specs.WorldSteps.{CommandsFit, DataFit, DataIsIdle, EventsFit, FaultsAgree, NoCommandIsIdle, OpeningFits, StatusIsIdle, StatusesFit, SubmissionsFit, TakeIsIdle, TakesFit, WorldReadsBack};
+
+/// A world that fits a state tells that state.
+pub fn worlds_read_back()
+    ensures { WorldReadsBack }
+{}
+
+/// A new world fits the opening shared machine.
+pub fn openings_fit()
+    ensures { OpeningFits }
+{}
+
+/// A step of the command pipe is the shared machine's.
+pub fn commands_fit()
+    ensures step { CommandsFit }
+    ensures idle { NoCommandIsIdle }
+{}
+
+/// A step of a data stream is the shared machine's.
+pub fn data_fits()
+    ensures step { DataFit }
+    ensures idle { DataIsIdle }
+{}
+
+/// A step of a status stream is the shared machine's.
+pub fn statuses_fit()
+    ensures step { StatusesFit }
+    ensures idle { StatusIsIdle }
+{}
+
+/// The host matches each event to the TD that it is of, and what it makes of it is the shared machine's step.
+pub fn events_fit()
+    ensures { EventsFit }
+{}
+
+/// A submission finds the shared machine's fault, or room, and is the shared machine's step.
+pub fn submissions_fit()
+    ensures faults { FaultsAgree }
+    ensures step { SubmissionsFit }
+{}
+
+/// A reply is the shared machine's.
+pub fn takes_fit()
+    ensures step { TakesFit }
+    ensures idle { TakeIsIdle }
+{}

@@ -11,11 +11,19 @@ use stream_array::doorbell;
 /// Doorbell targets of the device's endpoints (xHCI 5.6).
 const COMMAND_TARGET: u8 = 2;
 
+const _: () = prove!(COMMAND_TARGET == 2);
+
 const STATUS_TARGET: u8 = 3;
+
+const _: () = prove!(STATUS_TARGET == 3);
 
 const DATA_OUT_TARGET: u8 = 4;
 
+const _: () = prove!(DATA_OUT_TARGET == 4);
+
 const DATA_IN_TARGET: u8 = 5;
+
+const _: () = prove!(DATA_IN_TARGET == 5);
 
 /// Rings the doorbells of a submission that moves data this way: data, status, command.
 pub(crate) fn ring(doors: &mut ArrayVec<u32, MOST_DOORS>, way: Direction, tag: u16)

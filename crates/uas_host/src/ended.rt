@@ -12,6 +12,8 @@ use xhci_trb::Trb;
 /// The greatest tag.
 const LAST_TAG: u64 = 248;
 
+const _: () = prove!(LAST_TAG == 248);
+
 /// The tag at whose command buffer an address is.
 fn tag_at(pointer: u64) -> Option<u16>
     ensures tag { result ≡ tag_at_buffer pointer }

@@ -14,8 +14,12 @@ use stream_array::{Lines, Pipe};
 /// Completion code Success (xHCI 6.4.5).
 const SUCCESS: u8 = 1;
 
+const _: () = prove!(SUCCESS == 1);
+
 /// Completion code Short Packet.
 const SHORT_PACKET: u8 = 13;
+
+const _: () = prove!(SHORT_PACKET == 13);
 
 /// What an event of a command or data TD tells.
 fn where_success(code: u8, news: News) -> Option<News>

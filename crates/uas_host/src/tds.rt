@@ -14,27 +14,60 @@ use xhci_trb::{Trb, TrbFlags};
 /// Bytes of a data TRB; the last of a TD has what is left.
 const DATA_TRB_BYTES: usize = 4096;
 
+const _: () = prove!(DATA_TRB_BYTES == 4096);
+
 /// Bytes of a packet (xHCI 4.11.2.4, TD Size).
 const PACKET_BYTES: usize = 1024;
+
+const _: () = prove!(PACKET_BYTES == 1024);
 
 /// The greatest TD Size.
 const MOST_PACKETS: usize = 31;
 
+const _: () = prove!(MOST_PACKETS == 31);
+
 /// The most TRBs of a data TD: 65,536 bytes.
 const MOST_DATA_TRBS: usize = 16;
 
+const _: () = prove!(MOST_DATA_TRBS == 16);
+
+/// The window of tag 0, which no command has.
 const WINDOWS: u64 = 0x1_0000_0000;
 
+const _: () = prove!(WINDOWS == 0x1_0000_0000);
+
+/// From one tag's window to the next.
 const WINDOW_SPAN: u64 = 0x1_0000;
 
+const _: () = prove!(WINDOW_SPAN == 0x1_0000);
+
+/// The status buffer of tag 0.
 const STATUS_BUFFERS: u64 = 0x2000_0000;
 
+const _: () = prove!(STATUS_BUFFERS == 0x2000_0000);
+
+/// The command buffer of tag 0.
 pub(crate) const COMMAND_BUFFERS: u64 = 0x1000_0000;
 
+const _: () = prove!(COMMAND_BUFFERS == 0x1000_0000);
+
+/// From one tag's command buffer, or status buffer, to the next.
 pub(crate) const BUFFER_SPAN: u64 = 0x100;
+
+const _: () = prove!(BUFFER_SPAN == 0x100);
+
+const _: () = prove!(COMMAND_BYTES == 32);
+
+const _: () = prove!(STATUS_BYTES == 112);
+
+const _: () = prove!(TrbFlags::CH.0 == 8);
+
+const _: () = prove!(TrbFlags::IOC.0 == 16);
 
 /// ISP and IOC.
 const STATUS_FLAGS: TrbFlags = TrbFlags(TrbFlags::ISP.0 + TrbFlags::IOC.0);
+
+const _: () = prove!(STATUS_FLAGS.0 == 18);
 
 /// The TRB of a status TD: room for the longest unit.
 fn status_trb(tag: u16) -> [Trb; 1]

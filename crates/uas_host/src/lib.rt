@@ -28,6 +28,7 @@
 //! `uas_iu` for the units and on `scsi_cmd` for commands and replies.
 #![tactic(auto)]
 
+mod asked;
 mod doors;
 mod ended;
 mod events;

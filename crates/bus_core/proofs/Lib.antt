@@ -1,5 +1,3 @@
-pub mod EachSlot
-pub mod Readied
 pub mod Kept
 pub mod ClientActs
 pub mod Acts
@@ -15,22 +13,10 @@ pub mod Due
 pub mod NumberOfClients
 pub mod Drains
 pub mod Lengths
-pub mod Counting
-pub mod Places
-pub mod Steps
 pub mod Opening
 pub mod Rounds
-pub mod Armed
-pub mod Joined
 pub mod Standing
-pub mod EntrySteps
 pub mod DeviceSteps
-pub mod ClientSteps
-pub mod SeenSteps
-pub mod HostSteps
-pub mod HostEvents
-pub mod Done
-pub mod Doing
 pub mod MatchedPlaces
 pub mod MatchedOpening
 pub mod MatchedEntries
@@ -62,3 +48,8 @@ pub mod HostSees
 pub mod SeenWorlds
 pub mod SeenStreams
 pub mod SeenCommands
+pub mod WorldFacts
+pub mod DeviceTags
+pub mod Stepped
+pub mod Shown
+pub mod Submitted

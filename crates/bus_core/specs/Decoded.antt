@@ -28,7 +28,7 @@ use Rattle.bus_core.specs.Shared.{Shared, request_direction}
 use Rattle.bus_core.specs.Hosts.{phase_by}
 use Rattle.bus_core.specs.Matched.{times}
 use Rattle.bus_core.specs.World.{World, Cell, cell_at}
-use Rattle.bus_core.specs.Fits.{place_in}
+use Rattle.bus_core.specs.Fits.{Fits, place_in}
 
 -- MESSAGES AND EVENTS
 
@@ -127,3 +127,7 @@ decoded world = record {
   data_in = world.controller.data_in;
   data_out = world.controller.data_out;
 }
+
+-- a world fits what is read back from it
+abbrev pub FitsItself : World → Type 0
+FitsItself world = Fits (decoded world) world

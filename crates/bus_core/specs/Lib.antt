@@ -21,3 +21,5 @@ pub mod Fits
 pub mod Decoded
 pub mod WorldSteps
 pub mod WorldDue
+pub mod Owners
+pub mod Shows

@@ -18,7 +18,6 @@ use Rattle.bus_core.specs.declared.Td.{Td}
 use Rattle.bus_core.specs.Td.{Entry}
 use Rattle.bus_core.specs.declared.Completion.{Completion}
 use Rattle.bus_core.specs.declared.Completion.TheVariants.{CommandDone, DataDone, StatusDone}
-use Rattle.bus_core.specs.declared.News.{News}
 use Rattle.bus_core.specs.declared.Mark.{Mark}
 use Rattle.bus_core.specs.declared.Mark.TheVariants.{Carry, Move, Send, Settle, Quiet}
 use Rattle.uas_host.specs.Tags.{tag_of}
@@ -219,11 +218,6 @@ taken client part (slot ∷ rest) =
 -- the client takes the reply that was ready first
 abbrev pub take_act : ℕ → Part → Act
 take_act client part = taken client part part.ready
-
--- NEWS: what the code tells of an act beside the part
-
-abbrev pub told : Part → News → Act
-told part news = record { part = part; event = news.event; mark = news.mark; reply = news.reply }
 
 -- THE CLIENT'S OWN VIEW
 

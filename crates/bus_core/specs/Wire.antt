@@ -1,10 +1,9 @@
 -- The units that cross the pipes, as bytes (INCITS 471, information units).
-use Rattle.std.specs.Prelude.{◌≡◌, ℕ, ◌^◌, ◌<◌, List, Option, Some}
+use Rattle.std.specs.Prelude.{ℕ, List}
 use Rattle.scsi_cmd.specs.Op.{cdb_bytes}
 use Rattle.uas_iu.specs.declared.Iu.TheVariants.{Command, Sense}
 use Rattle.uas_iu.specs.Units.{unit_text}
 use Rattle.uas_iu.specs.Lun.{lun_text}
-use Rattle.bus_core.specs.declared.wire.Told.{Told}
 use Rattle.scsi_cmd.specs.declared.Request.{Request}
 use Rattle.scsi_cmd.specs.declared.Request.TheVariants.{Execute}
 use Rattle.device_server.specs.declared.Answer.{Answer}
@@ -17,8 +16,3 @@ request_text number tag (Execute op) = unit_text (Command tag (lun_text number) 
 -- the unit that tells the answer under this tag
 abbrev pub answer_text : ℕ → Answer → List ℕ
 answer_text tag answer = unit_text (Sense tag (status_of answer) (record { items = sense_of answer }))
-
--- an answer that was written is read again
-abbrev pub IsAnswer : List ℕ → Option Told → Type 0
-IsAnswer bytes result = (tag : ℕ) (answer : Answer) → tag < 2 ^ 16 → bytes ≡ answer_text tag answer →
-    result ≡ Some (record { tag = tag; status = status_of answer; sense = record { items = sense_of answer } })

@@ -51,3 +51,8 @@ sides_in world = record { lines = world.lines; frames = world.frames; device = w
 
 abbrev pub with_sides : World → Sides → World
 with_sides world sides = record world { lines = sides.lines; frames = sides.frames; device = sides.device }
+
+-- the world of these parts
+abbrev pub world_of : HostState → ControllerState → Device → LinesState → List TagBuffers → World
+world_of host controller device lines frames =
+    record { host = host; controller = controller; device = device; lines = lines; frames = frames }

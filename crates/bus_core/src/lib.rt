@@ -1,37 +1,34 @@
 //! The bus: up to 31 clients' disks behind one controller, as one machine of atomic steps.
 //!
-//! Host and controller are private parts here, and the device is a `uas_target::Target`. A command crosses the command
-//! pipe as the 32 bytes of its Command unit, in a buffer of its tag, and the answer comes back as the bytes of a Sense unit
-//! in another. The rest (the queue of the command pipe, the events, the TDs, the rung streams) is kept as lists.
+//! A [`Bus`] is a host driver, an xHCI controller and a simulated device, and between them nothing but rings, stream contexts
+//! and buffers. Each step is one call of one of the three: the host submits, handles an event or gives a reply, the controller
+//! takes one TRB. There is no list beside the rings: what waits in the command pipe, which events are pending and how far each
+//! TD is are read off them (`decoded` in specs/Decoded.antt).
 //!
 //! ```text
-//!   client --Submit--> entry, Command unit --CommandPipe--> device --Data--> buffer
-//!                          |                                   |
-//!   client <--Take-- ready <--Event-- events <-----------------+--Status--> Sense unit
+//!   client --Submit--> entry, TDs, Command unit --CommandPipe--> device --Data--> lent buffer
+//!                          |                                        |
+//!   client <--Take-- ready <--Event-- event ring <-----------------+--Status--> Sense unit
 //! ```
 //!
 //! What is promised: [`Bus::step`] is the shared machine's step (`shared_step` in specs/Shared.antt), so it acts
 //! exactly where it is due; [`Bus::run`] is the shared machine's replay, and each client's replies and unit after it
 //! are those of the solo machine for the client's own labels (the headline, `IsIsolated` in specs/Isolation.antt).
-//! No step takes memory. It stands on scsi_cmd, block_unit, uas_iu, solo_model and uas_target.
+//! [`Bus::lines`] shows it: the rings have exactly what the shared machine has waiting (`ShowsShared` in specs/Shows.antt). No
+//! step takes memory, and none scans a list. It stands on uas_host, xhci_ctl, uas_target, stream_array and frame_store, by
+//! their contracts alone.
 #![tactic(auto)]
 
-mod dispatch;
-mod entries;
+mod doors;
 mod headline_laws;
-mod hosts;
 mod laws;
 mod machine;
 mod outcomes;
-mod pipes;
+mod owners;
 mod queue_laws;
 mod runs;
-mod tds;
-mod telling;
 #[cfg(test)]
 mod tests;
-mod wire;
-mod wired;
 pub mod world_due;
 pub mod world_laws;
 
@@ -48,13 +45,13 @@ pub use queue_laws::{
     command_pipe_in_order, data_tds_fit, matches_at_start, no_queue_outgrows, none_is_stray,
     replays_match, steps_keep_matches,
 };
-use scsi_cmd::{Buffer, Command, Reply, Request, SubmitFault, TAGS};
-use std::collections::VecDeque;
+use frame_store::Frames;
+use scsi_cmd::{Command, Reply, SubmitFault};
 use std::marker::Model;
-pub(crate) use uas_host::{Place, TdState};
-use uas_iu::MAX_UNIT_BYTES;
+use stream_array::Lines;
+use uas_host::{Host, MOST_DOORS, Place, TdState};
 use uas_target::Target;
-use xhci_ctl::PipeState;
+use xhci_ctl::Controller;
 
 /// The most clients of a bus.
 pub const MAX_CLIENTS: usize = 31;
@@ -136,90 +133,28 @@ pub struct Outcome {
     pub doors: ArrayVec<u32, MOST_DOORBELLS>,
 }
 
-/// What an act of one client tells: the event that the controller posts, the mark, and the reply.
-#[derive(Debug, Drop)]
-pub(crate) struct News {
-    pub event: Option<Completion>,
-    pub mark: Mark,
-    pub reply: Option<Reply>,
-}
-
-/// The two buffers of a tag: its Command unit, and its Sense unit once the device has answered.
-#[derive(Debug, Drop)]
-pub(crate) struct Frame {
-    pub command: ArrayVec<u8, MAX_UNIT_BYTES>,
-    pub status: ArrayVec<u8, MAX_UNIT_BYTES>,
-}
-
-/// What the host knows of a command under a slot: all but how far the device is with it.
-#[derive(Debug, Drop)]
-pub(crate) struct HostEntry {
-    pub ticket: u64,
-    pub request: Request,
-    pub buffer: Buffer,
-    pub command_td: Td,
-    pub status_td: Td,
-    pub data_td: Option<Td>,
-}
-
-/// The host's side of one client: its entries, and the buffers that it shares with the device.
-#[derive(Debug, Drop)]
-pub(crate) struct Host {
-    pub entries: [Option<HostEntry>; TAGS],
-    pub least: u64,
-    pub ready: ArrayVec<usize, TAGS>,
-    pub frames: [Frame; TAGS],
-}
-
-/// The clients: the host's side of each, and the device.
-#[derive(Debug, Drop)]
-pub(crate) struct Disks {
-    hosts: Vec<Host>,
-    target: Target,
-}
-
-impl Model for Disks {
-    ghost use Rattle.std.specs.Prelude.{List};
-    ghost use Rattle.bus_core.specs.Part.{Part};
-
-    ghost Value = { List Part };
-
-    ghost use Rattle.bus_core.specs.Hosts.{StandForAll, joined};
-
-    ghost view = { λ disks. joined disks.target.tasks 0 disks.hosts.items disks.target.units };
-
-    ghost invariant = { λ disks. StandForAll disks.target.units disks.target.tasks disks.hosts.items (joined disks.target.tasks 0 disks.hosts.items disks.target.units) };
-}
-
-/// The bus: its clients, the command pipe, the event ring, and the pipes with streams.
+/// The bus: the host, the controller and the device, the rings and contexts between host and controller, and the buffers that
+/// the host lends. `doors` is where the host notes the doorbells of one call.
 #[derive(Debug, Drop)]
 pub struct Bus {
-    disks: Disks,
-    messages: VecDeque<Place>,
-    events: VecDeque<Completion>,
-    status: PipeState,
-    data_in: PipeState,
-    data_out: PipeState,
+    host: Host,
+    controller: Controller,
+    target: Target,
+    lines: Lines,
+    frames: Frames,
+    doors: ArrayVec<u32, MOST_DOORS>,
 }
 
 impl Model for Bus {
-    ghost use Rattle.std.specs.VecDeque.{deque_len, deque_capacity};
     ghost use Rattle.bus_core.specs.Shared.{Shared};
+    ghost use Rattle.bus_core.specs.World.{world_of};
+    ghost use Rattle.bus_core.specs.Decoded.{decoded, FitsItself};
 
     ghost Value = { Shared };
 
-    ghost use Rattle.bus_core.specs.Bus.{IsSoundBus};
+    ghost view = { λ bus. decoded (world_of bus.host bus.controller bus.target bus.lines bus.frames) };
 
-    ghost view = { λ bus. record {
-      parts = bus.disks;
-      messages = bus.messages.items;
-      events = bus.events.items;
-      status = bus.status;
-      data_in = bus.data_in;
-      data_out = bus.data_out;
-    } };
-
-    ghost invariant = { λ bus. IsSoundBus bus.disks bus.messages.items bus.events.items (deque_len bus.messages) (deque_capacity bus.messages) (deque_len bus.events) (deque_capacity bus.events) };
+    ghost invariant = { λ bus. FitsItself (world_of bus.host bus.controller bus.target bus.lines bus.frames) };
 }
 
 /// The outcomes of a run, in order.

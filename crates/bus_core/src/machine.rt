@@ -1,23 +1,25 @@
-ghost use Rattle.std.specs.Prelude.{◌≡◌, ℕ, ◌+◌, ◌<◌, ◌≤◌, true, IfSome, length, ◌^◌, ◌++◌, IfOk, slice_get, option_to_list, vec_len};
-ghost use Rattle.std.specs.VecDeque.{deque_len, deque_capacity};
+//! The bus and its steps, each by one call of host or controller.
+ghost use Rattle.std.specs.Prelude.{◌≡◌, ℕ, ◌<◌, ◌≤◌, ◌&&◌, true, IfSome, length, ◌^◌, IfOk, slice_get, vec_len};
+ghost use Rattle.stream_array.specs.Rings.{IsLines};
+ghost use Rattle.frame_store.specs.Buffers.{IsWhole};
+ghost use Rattle.uas_host.specs.State.{IsHost};
 ghost use Rattle.bus_core.specs.Bus.{HasTicket};
-ghost use Rattle.bus_core.specs.Part.{move_act, send_act, take_act};
-ghost use Rattle.bus_core.specs.Shared.{carry_step, due, due_step, event_step, is_data_open, opening, new_parts, routed, routed_by_tag, shared_step, submit_step};
+ghost use Rattle.bus_core.specs.Shared.{due, due_step, opening, shared_step, submit_step};
+ghost use Rattle.bus_core.specs.Shows.{ShowsShared};
 ghost use Rattle.bus_core.specs.StepIsolation.{IsIsolatedStep};
-ghost use Rattle.uas_host.specs.Tags.{place_of};
 
-use crate::dispatch::{command_slot_of, place_of_tag};
-use crate::pipes::{doors_of, is_open, new_pipe, ring_all};
-use crate::telling::index_of;
-use crate::{Bus, Completion, Disks, MAX_CLIENTS, Mark, Outcome, Place, Step};
+use crate::doors::{ring, rung};
+use crate::{Bus, MAX_CLIENTS, Outcome, Step};
+use arrayvec::ArrayVec;
 use block_unit::Unit;
-use scsi_cmd::{Command, Direction, SubmitFault, TAGS, moves};
+use frame_store::Frames;
+use scsi_cmd::Command;
 use std::alloc::{AllocError, Global};
-use std::collections::VecDeque;
-use stream_array::STREAM_ENTRIES;
-
-/// Events that the host waits for under one tag at most.
-const EVENTS_OF_TAG: usize = 3;
+use stream_array::{Lines, Pipe};
+use uas_host::Host;
+use uas_iu::lun_bytes;
+use uas_target::{Phase, Target};
+use xhci_ctl::Controller;
 
 impl Bus {
     /// The bus of these units, the unit of client c at place c: 1 to 31 of them. `AllocError` where there is no memory
@@ -27,15 +29,18 @@ impl Bus {
         requires most { vec_len units ≤ MAX_CLIENTS }
         ensures { IfOk result (λ bus. bus ≡ opening units.items) }
     {
-        let tags = units.len() * TAGS;
-        let disks = Disks::new(alloc, units)?;
+        let host = Host::new(alloc, units.len())?;
+        let target = Target::new(alloc, units)?;
+        let lines = Lines::new(alloc)?;
+        let frames = Frames::new(alloc)?;
+        stand(&host, &lines, &frames);
         Ok(Bus {
-            disks,
-            messages: VecDeque::with_capacity(alloc, tags)?,
-            events: VecDeque::with_capacity(alloc, EVENTS_OF_TAG * tags)?,
-            status: new_pipe(),
-            data_in: new_pipe(),
-            data_out: new_pipe(),
+            host,
+            controller: Controller::new(),
+            target,
+            lines,
+            frames,
+            doors: ArrayVec::new(),
         })
     }
 
@@ -45,7 +50,7 @@ impl Bus {
         ensures some { 1 ≤ length self.now.parts }
         ensures most { length self.now.parts ≤ MAX_CLIENTS }
     {
-        self.disks.len()
+        self.host.clients()
     }
 
     /// The unit of a client of the bus.
@@ -53,7 +58,16 @@ impl Bus {
         requires { client < length self.now.parts }
         ensures { IfSome (slice_get self.now.parts client) (λ part. result.now ≡ part.unit) }
     {
-        self.disks.unit(client)
+        self.target.unit(&lun_bytes(client as u8)).unwrap()
+    }
+
+    /// The rings between host and controller.
+    pub fn lines(&self) -> &Lines
+        // They show what waits: the command pipe's ring each message, the event ring each event, each stream's ring what
+        // is left of its TD.
+        ensures shows { ShowsShared self.now result.now }
+    {
+        &self.lines
     }
 
     /// Whether a step would act.
@@ -62,30 +76,29 @@ impl Bus {
     {
         match step {
             Step::Submit { .. } => true,
-            Step::CommandPipe => !self.messages.is_empty(),
+            Step::CommandPipe => self.command_is_due(),
             Step::Data(tag) => self.data_is_due(*tag),
             Step::Status(tag) => self.status_is_due(*tag),
-            Step::Event => !self.events.is_empty(),
+            Step::Event => self.event_is_due(),
             Step::Take(client) => self.take_is_due(*client),
         }
     }
 
-    fn take_is_due(&self, client: usize) -> bool
-        ensures { result ≡ due self.now (Step.Take client) }
+    /// The command pipe's ring has a TRB.
+    fn command_is_due(&self) -> bool
+        ensures { result ≡ due self.now Step.CommandPipe }
     {
-        client < self.disks.len() && self.disks.has_ready(client)
+        self.lines.front(Pipe::Command, 0).is_some()
     }
 
     /// The data stream of the tag is armed, and the device gives or takes on it.
     fn data_is_due(&self, tag: u16) -> bool
         ensures { result ≡ due self.now (Step.Data tag) }
     {
-        let Some(place) = place_of_tag(self.disks.len(), tag) else {
-            return false;
-        };
-        match self.disks.data_way(place) {
-            Some(way) => self.is_data_open(tag, way),
-            None => false,
+        match self.target.wants(tag) {
+            Phase::Absent | Phase::Ends => false,
+            Phase::Gives(_) => self.controller.armed(&self.lines, Pipe::DataIn, tag),
+            Phase::Takes(_) => self.controller.armed(&self.lines, Pipe::DataOut, tag),
         }
     }
 
@@ -93,21 +106,24 @@ impl Bus {
     fn status_is_due(&self, tag: u16) -> bool
         ensures { result ≡ due self.now (Step.Status tag) }
     {
-        let Some(place) = place_of_tag(self.disks.len(), tag) else {
-            return false;
-        };
-        is_open(&self.status, tag) && self.disks.has_answer(place)
+        match self.target.wants(tag) {
+            Phase::Ends => self.controller.armed(&self.lines, Pipe::Status, tag),
+            Phase::Absent | Phase::Gives(_) | Phase::Takes(_) => false,
+        }
     }
 
-    fn is_data_open(&self, tag: u16, way: Direction) -> bool
-        requires { tag < STREAM_ENTRIES }
-        ensures { result ≡ is_data_open self.now tag way }
+    /// The event ring has an event.
+    fn event_is_due(&self) -> bool
+        ensures { result ≡ due self.now Step.Event }
     {
-        match way {
-            Direction::Nothing => false,
-            Direction::ToHost => is_open(&self.data_in, tag),
-            Direction::ToDevice => is_open(&self.data_out, tag),
-        }
+        self.lines.len() > 0
+    }
+
+    /// The host has a reply for the client.
+    fn take_is_due(&self, client: usize) -> bool
+        ensures { result ≡ due self.now (Step.Take client) }
+    {
+        self.host.has_reply(client)
     }
 
     /// One step: what came of it. It acts exactly where it is due; it takes no memory.
@@ -146,103 +162,105 @@ impl Bus {
         }
     }
 
-    /// A client submits a command: its TDs are pushed, and the doorbells of its data and status streams are rung.
+    /// A client submits a command: the host writes its unit, lends its buffer and pushes its TDs, and the doorbells that it
+    /// names are rung, in their order. A refused submission names none.
     fn submit(&mut self, client: usize, tag: u16, ticket: u64, command: Command) -> Outcome
         requires { ticket < 2 ^ 60 }
         ensures { submit_step self.old client tag ticket command ≡ (self.new, result) }
     {
-        let Some(slot) = command_slot_of(self.disks.len(), client, tag) else {
-            return Outcome::refused(client, SubmitFault::NotYours, command);
-        };
-        let place = Place { client, slot };
-        let way = moves(&command.op).0;
-        match self.disks.submit_at(place, ticket, command) {
-            Ok(()) => {
-                ring_all(
-                    &mut self.status,
-                    &mut self.data_in,
-                    &mut self.data_out,
-                    way,
-                    tag,
-                );
-                self.messages.push_back_reserved(place);
-                Outcome::accepted(
-                    client,
-                    Mark::Submit(index_of(place.slot)),
-                    doors_of(way, tag),
-                )
-            }
-            Err((fault, command)) => Outcome::refused(client, fault, command),
-        }
+        self.doors.clear();
+        let submitted = self.host.submit(
+            &mut self.lines,
+            &mut self.frames,
+            &mut self.doors,
+            client,
+            tag,
+            ticket,
+            command,
+        );
+        ring(&mut self.controller, &self.doors);
+        stand(&self.host, &self.lines, &self.frames);
+        Outcome::submitted(client, tag, submitted, rung(&self.doors))
     }
 
     /// The device receives the oldest unit in the command pipe.
     fn carry(&mut self) -> Outcome
-        ensures { carry_step self.old self.old.messages ≡ (self.new, result) }
+        requires { due self.old Step.CommandPipe ≡ true }
+        ensures { due_step self.old Step.CommandPipe ≡ (self.new, result) }
     {
-        let Some(place) = self.messages.pop_front() else {
-            return Outcome::idle();
-        };
-        let news = self.disks.carry_at(place);
-        post(&mut self.events, news.event);
-        Outcome::of(place.client, news)
+        let acted = self.controller.command_step(&mut self.lines, &self.frames, &mut self.target);
+        stand(&self.host, &self.lines, &self.frames);
+        Outcome::carried(acted)
     }
 
     /// The controller moves a chunk of a tag's data.
     fn move_chunk(&mut self, tag: u16) -> Outcome
         requires { due self.old (Step.Data tag) ≡ true }
-        ensures { routed_by_tag self.old move_act (place_of (length self.old.parts) tag) ≡ (self.new, result) }
+        ensures { due_step self.old (Step.Data tag) ≡ (self.new, result) }
     {
-        let Some(place) = place_of_tag(self.disks.len(), tag) else {
-            return Outcome::idle();
-        };
-        let news = self.disks.move_at(place);
-        post(&mut self.events, news.event);
-        Outcome::of(place.client, news)
+        let acted = self.controller.data_step(
+            &mut self.lines,
+            &mut self.frames,
+            &mut self.target,
+            tag,
+        );
+        stand(&self.host, &self.lines, &self.frames);
+        Outcome::moved(acted)
     }
 
     /// The controller moves a tag's status.
     fn send(&mut self, tag: u16) -> Outcome
         requires { due self.old (Step.Status tag) ≡ true }
-        ensures { routed_by_tag self.old send_act (place_of (length self.old.parts) tag) ≡ (self.new, result) }
+        ensures { due_step self.old (Step.Status tag) ≡ (self.new, result) }
     {
-        let Some(place) = place_of_tag(self.disks.len(), tag) else {
-            return Outcome::idle();
-        };
-        let news = self.disks.send_at(place);
-        post(&mut self.events, news.event);
-        Outcome::of(place.client, news)
+        let acted = self.controller.status_step(
+            &mut self.lines,
+            &mut self.frames,
+            &mut self.target,
+            tag,
+        );
+        stand(&self.host, &self.lines, &self.frames);
+        Outcome::sent(acted)
     }
 
     /// The host takes the oldest event.
     fn see(&mut self) -> Outcome
-        ensures { event_step self.old self.old.events ≡ (self.new, result) }
+        requires { due self.old Step.Event ≡ true }
+        ensures { due_step self.old Step.Event ≡ (self.new, result) }
     {
-        let Some(event) = self.events.pop_front() else {
+        let Some(event) = self.lines.take() else {
             return Outcome::idle();
         };
-        let news = self.disks.see_at(event);
-        Outcome::of(event.place().client, news)
+        self.doors.clear();
+        let handled = self.host.on_event(
+            &mut self.lines,
+            &self.frames,
+            &mut self.doors,
+            event,
+        );
+        stand(&self.host, &self.lines, &self.frames);
+        Outcome::handled(handled)
     }
 
     /// A client takes the reply that was ready first.
     fn take(&mut self, client: usize) -> Outcome
         requires { due self.old (Step.Take client) ≡ true }
-        ensures { routed self.old client (take_act client) ≡ (self.new, result) }
+        ensures { due_step self.old (Step.Take client) ≡ (self.new, result) }
     {
-        let news = self.disks.take_at(client);
-        Outcome::of(client, news)
+        let reply = self.host.take_reply(&mut self.frames, client);
+        stand(&self.host, &self.lines, &self.frames);
+        Outcome::replying(client, reply)
     }
 }
 
-/// Posts an event, where there is one.
-fn post(events: &mut VecDeque<Completion>, event: Option<Completion>)
-    requires { deque_len events.old + length (option_to_list event) ≤ deque_capacity events.old }
-    ensures items { events.new.items ≡ events.old.items ++ option_to_list event }
-    ensures len { deque_len events.new ≡ deque_len events.old + length (option_to_list event) }
-    ensures capacity { deque_capacity events.new ≡ deque_capacity events.old }
+/// What holds of each host, all rings and all buffers: the host's clients have their slots, the rings lie where the address map
+/// says, and each buffer has its size.
+fn stand(host: &Host, lines: &Lines, frames: &Frames)
+    ensures host { IsHost host.now }
+    ensures lines { IsLines lines.now }
+    ensures frames { IsWhole frames.now }
 {
-    if let Some(event) = event {
-        events.push_back_reserved(event);
-    }
+    let _ = host.clients();
+    prove!(lines.len() < 1024);
+    prove!(frames.check(0, 0).is_ok());
 }

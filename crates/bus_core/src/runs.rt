@@ -69,7 +69,7 @@ impl Bus {
         ensures round { (self.new, result) ≡ round (self.old, left) }
         ensures less { result ≤ left }
     {
-        let tags = self.disks.len() * TAGS;
+        let tags = self.clients() * TAGS;
         let mut left = self.try_step(Step::CommandPipe, left);
         left = self.try_step(Step::Event, left);
         for before in 0..tags {

@@ -1,13 +1,14 @@
 // What may be asked of a host.
 ghost use Rattle.std.specs.Prelude.{◌≡◌, is_some, length, slice_get};
-ghost use Rattle.uas_host.specs.State.{client_of};
+ghost use Rattle.uas_host.specs.State.{IsHost, client_of};
 
 use crate::Host;
 
 impl Host {
     /// How many clients it has.
     pub fn clients(&self) -> usize
-        ensures { result ≡ length self.now.clients }
+        ensures count { result ≡ length self.now.clients }
+        ensures host { IsHost self.now }
     {
         self.clients.len()
     }

@@ -1,11 +1,15 @@
-use Rattle.std.proofs.Common.{arith}
-use Rattle.bus_core.proofs.Opening.{IsSoundBus-new}
+use Rattle.std.proofs.Common.{arith, ◌∙◌}
+use Rattle.bus_core.proofs.Stepped.{opened}
 use Rattle.bus_core.proofs.Bus.new.Goals as goal
 
 pub invariant_of-result : goal.invariant_of-result
 invariant_of-result c =
-    let long = c.args.units.ok.0 in
-    rw (c.in_ok-disks.ensures, c.in_ok-with_capacity.ensures.items, c.in_ok-with_capacity-2.ensures.items, c.in_ok-with_capacity.ensures.len, c.in_ok-with_capacity-2.ensures.len)
-    (IsSoundBus-new c.args.units.items _ _ (omega (arith, long, c.requires.some)) (omega (arith, long, c.requires.most))
-    (omega (arith, long, c.in_ok-with_capacity.ensures.exact, c.len-tags.ensures))
-    (omega (arith, long, c.in_ok-with_capacity-2.ensures.exact, c.len-tags.ensures)))
+    (opened c.args.units.items c.len.result c.in_ok-host.host c.new-5.result c.in_ok-target.target c.in_ok-lines.lines c.in_ok-frames.frames
+    (omega (arith, c.args.units.ok.0, c.requires.some)) (omega (arith, c.args.units.ok.0, c.requires.most)) (c.len.ensures ∙ c.args.units.ok.0)
+    c.in_ok-host.ensures c.new-5.ensures c.in_ok-target.ensures c.in_ok-frames.ensures c.in_ok-lines.ensures c.stand.ensures.host c.stand.ensures.lines c.stand.ensures.frames).fits
+
+pub returns : goal.returns
+returns c =
+    (opened c.args.units.items c.len.result c.in_ok-host.host c.new-5.result c.in_ok-target.target c.in_ok-lines.lines c.in_ok-frames.frames
+    (omega (arith, c.args.units.ok.0, c.requires.some)) (omega (arith, c.args.units.ok.0, c.requires.most)) (c.len.ensures ∙ c.args.units.ok.0)
+    c.in_ok-host.ensures c.new-5.ensures c.in_ok-target.ensures c.in_ok-frames.ensures c.in_ok-lines.ensures c.stand.ensures.host c.stand.ensures.lines c.stand.ensures.frames).opens

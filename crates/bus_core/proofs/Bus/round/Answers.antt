@@ -15,8 +15,8 @@ loop-before-2-preserved c = tried-next Status _ c.loop-before-2.before _ _ c.loo
 
 pub returns-clause-round : goal.returns-clause-round
 returns-clause-round c =
-    let count : c.len-tags.result * 8 ≡ length c.args.self.now.parts * 8 =
-    ap (λ n. n * 8) (c.len-tags.ensures ∙ ap (λ (s : Shared). length s.parts) c.self.view_is) in
+    let count : c.clients-tags.result * 8 ≡ length c.args.self.now.parts * 8 =
+    ap (λ n. n * 8) c.clients-tags.ensures.count in
     let data_count : c.loop-before.before ≡ length c.args.self.now.parts * 8 = omega (arith, count, c.loop-before-test.false, c.loop-before.auto.before-end) in
     let status_count : c.loop-before-2.before ≡ length c.args.self.now.parts * 8 = omega (arith, count, c.loop-before-2-test.false, c.loop-before-2.auto.before-end) in
     round-parts (c.args.self.now, c.args.left) (length c.args.self.now.parts * 8) (c.loop-before.self, c.loop-before.left) (c.loop-before-2.self, c.loop-before-2.left)

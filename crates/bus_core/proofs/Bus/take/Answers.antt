@@ -1,12 +1,16 @@
-use Rattle.std.proofs.Common.{ap, sym, ◌∙◌}
-use Rattle.bus_core.specs.Part.{take_act}
-use Rattle.bus_core.specs.Shared.{Shared, routed}
-use Rattle.bus_core.proofs.Steps.{routed-taken}
+use Rattle.bus_core.specs.World.{world_of}
+use Rattle.bus_core.proofs.Stepped.{taken-on, fits-as}
 use Rattle.bus_core.proofs.Bus.take.Goals as goal
+
+pub invariant_of-self : goal.invariant_of-self
+invariant_of-self c =
+    (taken-on c.args.self.now (world_of c.self.inside.host c.self.inside.controller c.self.inside.target c.self.inside.lines c.self.inside.frames)
+    c.args.client c.take_reply-reply.new.self c.take_reply-reply.new.frames c.take_reply-reply.result (fits-as c.args.self.now _ c.self.view_is c.self.invariant) c.requires c.take_reply-reply.ensures
+    c.stand.ensures.host c.stand.ensures.lines c.stand.ensures.frames).fits
 
 pub returns : goal.returns
 returns c =
-    let counted = c.take_at-news.ensures.counted in
-    let acts = c.take_at-news.ensures.act in
-    ap (λ (s : Shared). routed s c.args.client (take_act c.args.client)) (sym c.self.view_is)
-    ∙ (routed-taken _ c.args.client c.take_at-news.new.self c.take_at-news.result c.of.result acts c.of.ensures)
+    rw c.replying.ensures
+    (taken-on c.args.self.now (world_of c.self.inside.host c.self.inside.controller c.self.inside.target c.self.inside.lines c.self.inside.frames)
+    c.args.client c.take_reply-reply.new.self c.take_reply-reply.new.frames c.take_reply-reply.result (fits-as c.args.self.now _ c.self.view_is c.self.invariant) c.requires c.take_reply-reply.ensures
+    c.stand.ensures.host c.stand.ensures.lines c.stand.ensures.frames).shared

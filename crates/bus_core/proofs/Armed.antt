@@ -1,1 +1,0 @@
--- A step that is due finds its TRB.

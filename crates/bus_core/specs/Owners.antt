@@ -1,0 +1,54 @@
+-- Whose a tag is, and the outcome of a reply.
+use Rattle.std.specs.Prelude.{ℕ, suc, ◌-◌, ◌/◌, ◌%◌, true, List, [], Option, None, Some, Result, Ok, Err}
+use Rattle.scsi_cmd.specs.declared.Command.{Command}
+use Rattle.scsi_cmd.specs.declared.SubmitFault.{SubmitFault}
+use Rattle.scsi_cmd.specs.declared.Reply.{Reply}
+use Rattle.scsi_cmd.specs.declared.Reply.TheVariants.{Status, Aborted, Task}
+use Rattle.scsi_cmd.specs.declared.TheConstants.{TAGS}
+use Rattle.bus_core.specs.declared.Mark.{Mark}
+use Rattle.bus_core.specs.declared.Mark.TheVariants.{Settle, Submit, Quiet}
+use Rattle.bus_core.specs.declared.Outcome.{Outcome}
+use Rattle.uas_host.specs.declared.Handled.{Handled}
+use Rattle.uas_host.specs.declared.Handled.TheVariants.{Matched, Engine, Stray}
+use Rattle.xhci_ctl.specs.declared.Acted.{Acted}
+use Rattle.xhci_ctl.specs.declared.Acted.TheVariants.{Acted as ActedOn, Idle}
+use Rattle.bus_core.specs.Shared.{acceptance, idle, refusal}
+use Rattle.bus_core.specs.WorldDue.{marked}
+
+-- The client whose tag it is, and the tag's index among that client's. Worked: tag 18 is client 2's, its index is 2.
+abbrev pub owner_of : ℕ → ℕ
+owner_of tag = (tag - 1) / TAGS
+
+abbrev pub index_of : ℕ → ℕ
+index_of tag = suc ((tag - 1) % TAGS)
+
+-- what the controller acted on, by the mark of that step
+abbrev pub acted_as : (ℕ → Mark) → Acted → Outcome
+acted_as mark (ActedOn tag) = marked (owner_of tag) (mark (index_of tag))
+acted_as mark Idle = idle
+
+-- a submission under a tag, by the host's answer and the doorbells that were rung
+abbrev pub submitted_as : ℕ → ℕ → List ℕ → Result (Unit {0}) (SubmitFault × Command) → Outcome
+submitted_as client tag doors (Ok done) = acceptance client (Submit (index_of tag)) doors
+submitted_as client tag doors (Err refused) = refusal client refused.0 refused.1
+
+-- the event that the host took in
+abbrev pub handled_as : Handled → Outcome
+handled_as (Matched tag) = marked (owner_of tag) Quiet
+handled_as Engine = idle
+handled_as Stray = idle
+
+-- a reply settles the ticket under its tag
+abbrev pub mark_by : Reply → Mark
+mark_by (Status tag ticket status sense buffer) = Settle (index_of tag)
+mark_by (Aborted tag ticket buffer) = Settle (index_of tag)
+mark_by (Task tag ticket code) = Settle (index_of tag)
+
+abbrev pub mark_of : Option Reply → Mark
+mark_of None = Quiet
+mark_of (Some reply) = mark_by reply
+
+-- a client took a reply, or none came
+abbrev pub replying : ℕ → Option Reply → Outcome
+replying client reply =
+    record { acted = true; owner = Some client; mark = mark_of reply; reply = reply; refused = None; doors = record { items = [] } }

@@ -1,0 +1,102 @@
+-- The rings show the shared machine: what it has waiting stands in them, in order, and nothing else does.
+use Rattle.std.specs.Prelude.{◌≡◌, ℕ, suc, ◌<◌, ◌==◌, if◌then◌else◌, List, [], ◌∷◌, drop, length, map, Option, None, Some}
+use Rattle.xhci_trb.specs.declared.Trb.{Trb}
+use Rattle.cycle_ring.specs.Ring.{Ring, pointer_of}
+use Rattle.event_ring.specs.declared.Event.{Event}
+use Rattle.event_ring.specs.declared.Event.TheVariants.{Transfer, Command as CommandCompletion}
+use Rattle.stream_array.specs.declared.Pipe.{Pipe}
+use Rattle.stream_array.specs.declared.Pipe.TheVariants.{Command, Status, DataIn, DataOut}
+use Rattle.stream_array.specs.declared.TheConstants.{COMMAND_RING_PLACES}
+use Rattle.stream_array.specs.Rings.{LinesState, stream_ring}
+use Rattle.scsi_cmd.specs.declared.TheConstants.{TAGS}
+use Rattle.uas_host.specs.declared.Place.{Place}
+use Rattle.uas_host.specs.declared.TdState.{TdState}
+use Rattle.uas_host.specs.declared.TdState.TheVariants.{Pending, Seen, LeftOver, Retired}
+use Rattle.uas_host.specs.Tags.{tag_of}
+use Rattle.uas_host.specs.Tds.{data_td, status_td}
+use Rattle.xhci_ctl.specs.declared.TheConstants.{SUCCESS, SHORT_PACKET}
+use Rattle.xhci_ctl.specs.Steps.{endpoint_of}
+use Rattle.bus_core.specs.declared.Td.{Td}
+use Rattle.bus_core.specs.declared.Completion.{Completion}
+use Rattle.bus_core.specs.declared.Completion.TheVariants.{CommandDone, DataDone, StatusDone}
+use Rattle.bus_core.specs.Td.{Entry}
+use Rattle.bus_core.specs.Shared.{Shared, request_direction}
+use Rattle.bus_core.specs.Matched.{request_bytes, under}
+use Rattle.bus_core.specs.Cells.{data_in_td, data_out_td}
+use Rattle.bus_core.specs.Fits.{command_trb, last_pointer}
+
+-- EVENTS
+
+-- what an event tells: its pointer, its completion code, its endpoint
+pub record Tells : Type 0 where
+  pub pointer : ℕ
+  pub code : ℕ
+  pub endpoint : ℕ
+
+abbrev pub tells : ℕ → ℕ → Pipe → Tells
+tells pointer code pipe = record { pointer = pointer; code = code; endpoint = endpoint_of pipe }
+
+abbrev pub told_in : Event → Option Tells
+told_in (Transfer pointer residual code endpoint slot) = Some (record { pointer = pointer; code = code; endpoint = endpoint })
+told_in (CommandCompletion pointer code slot) = None
+
+-- the event of a data TD, which is on one of these two rings
+abbrev pub data_tells : Ring → Ring → Tells
+data_tells data_in data_out =
+    if length data_in.put == 0 then tells (last_pointer data_out) SUCCESS DataOut else tells (last_pointer data_in) SUCCESS DataIn
+
+-- What the events tell that wait, the oldest first: the k-th command event points at TRB k of the command pipe's ring, and an
+-- event of a stream at the last TRB of its TD.
+abbrev pub tells_of : LinesState → ℕ → List Completion → List (Option Tells)
+tells_of lines k [] = []
+tells_of lines k (CommandDone place ∷ rest) = Some (tells (pointer_of COMMAND_RING_PLACES lines.command k) SUCCESS Command) ∷ tells_of lines (suc k) rest
+tells_of lines k (DataDone place ∷ rest) =
+    Some (data_tells (stream_ring lines.data_in (tag_of place)) (stream_ring lines.data_out (tag_of place))) ∷ tells_of lines k rest
+tells_of lines k (StatusDone place ∷ rest) = Some (tells (last_pointer (stream_ring lines.status (tag_of place))) SHORT_PACKET Status) ∷ tells_of lines k rest
+
+-- TDS
+
+-- the TRBs of a ring that the controller may take
+abbrev pub pending_in : Ring → List Trb
+pending_in ring = drop ring.got ring.put
+
+-- what is left of a TD of these TRBs: all that weren't taken, while they are in the ring
+abbrev pub left_in : List Trb → ℕ → TdState → List Trb
+left_in trbs consumed Pending = drop consumed trbs
+left_in trbs consumed Seen = []
+left_in trbs consumed LeftOver = drop consumed trbs
+left_in trbs consumed Retired = []
+
+abbrev pub left_of : List Trb → Option Td → List Trb
+left_of trbs None = []
+left_of trbs (Some td) = left_in trbs td.consumed td.state
+
+-- the TDs of an entry, and none where nothing stands
+abbrev pub status_left : Place → Option Entry → List Trb
+status_left place None = []
+status_left place (Some entry) = left_of (status_td (tag_of place)) (Some entry.status_td)
+
+abbrev pub data_in_left : Place → Option Entry → List Trb
+data_in_left place None = []
+data_in_left place (Some entry) =
+    left_of (data_td (tag_of place) (request_bytes entry.task.request)) (data_in_td (request_direction entry.task.request) entry.data_td)
+
+abbrev pub data_out_left : Place → Option Entry → List Trb
+data_out_left place None = []
+data_out_left place (Some entry) =
+    left_of (data_td (tag_of place) (request_bytes entry.task.request)) (data_out_td (request_direction entry.task.request) entry.data_td)
+
+-- the three streams of a place have what is left of the TDs that stand there
+pub record ShowsPlace (lines : LinesState) (place : Place) (held : Option Entry) : Type 0 where
+  pub status : pending_in (stream_ring lines.status (tag_of place)) ≡ status_left place held
+  pub data_in : pending_in (stream_ring lines.data_in (tag_of place)) ≡ data_in_left place held
+  pub data_out : pending_in (stream_ring lines.data_out (tag_of place)) ≡ data_out_left place held
+
+-- THE WHOLE
+
+-- The command pipe's ring has a TRB with the tag's buffer for each message, the event ring an event for each event, and the
+-- streams of each place that is there what is left of its TDs; all in order.
+pub record ShowsShared (state : Shared) (lines : LinesState) : Type 0 where
+  pub messages : pending_in lines.command ≡ map command_trb state.messages
+  pub events : map told_in lines.events.pending ≡ tells_of lines 0 state.events
+  pub places : (place : Place) → place.client < length state.parts → place.slot < TAGS → ShowsPlace lines place (under state.parts place)

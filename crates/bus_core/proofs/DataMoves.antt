@@ -80,8 +80,10 @@ wanted-in {state} {world} {place} {part} at way =
 
 front-in : {state : Shared} {world : World} {place : Place} {part : Part} (at : IsChunkAt state world place part) → direction_of at.op ≡ ToHost
     → front_of STREAM_RING_PLACES (stream_ring world.lines.data_in (tag_of place))
-    ≡ Some (pointer_of STREAM_RING_PLACES (stream_ring world.lines.data_in (tag_of place)) at.chunk,
-    data_trb (window_of (tag_of place) + 4096 * at.chunk) (moved_bytes at.op - 4096 * at.chunk) (data_trb_count (moved_bytes at.op) - 1 - at.chunk))
+    ≡ Some (
+      pointer_of STREAM_RING_PLACES (stream_ring world.lines.data_in (tag_of place)) at.chunk,
+      data_trb (window_of (tag_of place) + 4096 * at.chunk) (moved_bytes at.op - 4096 * at.chunk) (data_trb_count (moved_bytes at.op) - 1 - at.chunk),
+    )
 front-in {state} {world} {place} {part} at way =
     let rings = rings-in at way in
     front_of-data_td (stream_ring world.lines.data_in (tag_of place)) (tag_of place) (moved_bytes at.op) at.chunk rings.0.0 rings.0.1 at.below
@@ -241,8 +243,10 @@ wanted-out {state} {world} {place} {part} at way =
 
 front-out : {state : Shared} {world : World} {place : Place} {part : Part} (at : IsChunkAt state world place part) → direction_of at.op ≡ ToDevice
     → front_of STREAM_RING_PLACES (stream_ring world.lines.data_out (tag_of place))
-    ≡ Some (pointer_of STREAM_RING_PLACES (stream_ring world.lines.data_out (tag_of place)) at.chunk,
-    data_trb (window_of (tag_of place) + 4096 * at.chunk) (moved_bytes at.op - 4096 * at.chunk) (data_trb_count (moved_bytes at.op) - 1 - at.chunk))
+    ≡ Some (
+      pointer_of STREAM_RING_PLACES (stream_ring world.lines.data_out (tag_of place)) at.chunk,
+      data_trb (window_of (tag_of place) + 4096 * at.chunk) (moved_bytes at.op - 4096 * at.chunk) (data_trb_count (moved_bytes at.op) - 1 - at.chunk),
+    )
 front-out {state} {world} {place} {part} at way =
     let rings = rings-out at way in
     front_of-data_td (stream_ring world.lines.data_out (tag_of place)) (tag_of place) (moved_bytes at.op) at.chunk rings.0.0 rings.0.1 at.below

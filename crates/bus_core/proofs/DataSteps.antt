@@ -204,7 +204,9 @@ in-lent {state} {world} {place} {part} at =
       less = less;
       whole = whole;
       fits = fits;
-      named = inr (chunk_place (tag_of place) at.chunk,
-          names-chunk world.frames (tag_of place) at.chunk (chunk_size at.op at.chunk) at.entry.task.buffer (omega arith) at.last_tag at.here.lent fits);
+      named = inr (
+        chunk_place (tag_of place) at.chunk,
+        names-chunk world.frames (tag_of place) at.chunk (chunk_size at.op at.chunk) at.entry.task.buffer (omega arith) at.last_tag at.here.lent fits,
+      );
       task = at.here.task;
     }

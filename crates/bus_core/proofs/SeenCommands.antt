@@ -141,10 +141,10 @@ next-awaited state world place rest at next fits is =
     let within = at.is_place.slot in
     let inside = there.slot in
     let apart : tag_of next ≡ tag_of place → ⊥ = λ same.
-        let client : next.client ≡ place.client = omega arith in
-        let slot : next.slot ≡ place.slot = omega arith in
-        let one : next ≡ place = λ i. record { client = client i; slot = slot i } in
-        omega (arith, none, some, ap (λ p. times p (carried_places rest ++ state.messages)) one) in
+    let client : next.client ≡ place.client = omega arith in
+    let slot : next.slot ≡ place.slot = omega arith in
+    let one : next ≡ place = λ i. record { client = client i; slot = slot i } in
+    omega (arith, none, some, ap (λ p. times p (carried_places rest ++ state.messages)) one) in
     let kept = seen-others state world (CommandDone place) rest (command_lines world) (command_seen at.entry) at (command-frees state world place rest at) next.client next.slot inside apart in
     is_awaited-trb (host_with world.host place (command_seen at.entry)) next (host_side other.entry) cell.tag (there-after state world place next (command_seen at.entry) fits there)
     (ap (λ (c : Cell). c.held) kept ∙ cell.fits.held)
@@ -186,8 +186,7 @@ command-fits state world place rest fits is =
     let does = handled-is world place at.entry (command_seen at.entry) CommandPipe (pointer_of COMMAND_RING_PLACES world.lines.command 0) 0 SUCCESS CommandSeen there at.cell.held ended
     refl (command_seen-side at.entry (awaited-pends at.entry.command_td 1 at.awaits))
     ∙ ap (λ n. (record { host = host_with world.host place (command_seen at.entry); lines = with_commands_freed (without_event world.lines) n }, Matched (tag_of place)))
-    (one-done state world place rest at fits) in
-    (
+    (one-done state world place rest at fits) in (
       command_text world,
       ap (λ (es : List Event). slice_get es 0) (fits.queues.texts ∙ ap (event_texts world 0) is),
       event-done state world (command_text world) (CommandDone place) rest (command_lines world) (command_seen at.entry) does

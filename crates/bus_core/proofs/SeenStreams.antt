@@ -192,8 +192,7 @@ status-fits state world place rest fits is =
     let does = ap (handled (event_sides world) world.frames) text.is
     ∙ handled-is world place at.entry (status_seen at.entry) Status text.pointer _ _ _ there at.cell.held text.ended
     (status_news-is world.frames tag answer at.most holds_answer) (status_seen-side at.entry answer answered.is (awaited-pends at.entry.status_td 1 at.awaits))
-    ∙ ap (λ item. (record { host = host_with world.host place (status_seen at.entry); lines = with_freed (without_event world.lines) Status tag item }, Matched tag)) text.item in
-    (
+    ∙ ap (λ item. (record { host = host_with world.host place (status_seen at.entry); lines = with_freed (without_event world.lines) Status tag item }, Matched tag)) text.item in (
       status_text world place,
       ap (λ (es : List Event). slice_get es 0) (fits.queues.texts ∙ ap (event_texts world 0) is),
       event-done state world (status_text world place) (StatusDone place) rest (status_lines world tag) (status_seen at.entry) does
@@ -232,7 +231,7 @@ data-holds : (ring : Ring) (tag : ℕ) (entry : Entry) (moved : HasDataTd entry)
 data-holds ring tag entry moved free = (
   free,
   awaited-taken moved.td (data_trbs entry.task.request) moved.awaited ∙ data_trbs-count entry.task.request
-  ∙ sym (length-data_trbs (data_trb_count (request_bytes entry.task.request)) (window_of tag) (request_bytes entry.task.request)),
+      ∙ sym (length-data_trbs (data_trb_count (request_bytes entry.task.request)) (window_of tag) (request_bytes entry.task.request)),
 )
 
 in-frees : (state : Shared) (world : World) (place : Place) (rest : List Completion) (at : IsSeenAt state world (DataDone place) rest) (moved : HasDataTd at.entry) → Fits state world
@@ -310,8 +309,7 @@ pub data-fits : (state : Shared) (world : World) (place : Place) (rest : List Co
     → HasEventFit state world (DataDone place)
 data-fits state world place rest fits is =
     let at : IsSeenAt state world (DataDone place) rest = seen-at state world (DataDone place) rest fits is in
-    let cell : HasCell world place at.entry = record { count = at.part.unit.count; tag = at.most; fits = at.cell } in
-    (
+    let cell : HasCell world place at.entry = record { count = at.part.unit.count; tag = at.most; fits = at.cell } in (
       data_text world place,
       ap (λ (es : List Event). slice_get es 0) (fits.queues.texts ∙ ap (event_texts world 0) is),
       data-by state world place rest (request_direction at.entry.task.request) at (has-data_td at.entry at.entry.data_td refl at.awaits) fits refl

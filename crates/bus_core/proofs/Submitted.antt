@@ -48,8 +48,8 @@ slot-named : (clients client tag slot : ℕ) → command_slot clients client tag
 slot-named clients client tag slot is =
     option_and_then_some (own_slot client) (place_of clients tag) slot is
     (λ place found own.
-      let same : place.slot ≡ slot = (cond_some ((place.client == client) && nat_lt place.slot TASK_SLOT) place.slot slot own).1 in
-      ap suc (sym same) ∙ (place-named clients tag place found).1)
+    let same : place.slot ≡ slot = (cond_some ((place.client == client) && nat_lt place.slot TASK_SLOT) place.slot slot own).1 in
+    ap suc (sym same) ∙ (place-named clients tag place found).1)
 
 -- WHAT THE SHARED MACHINE ANSWERS
 
@@ -99,7 +99,7 @@ submitted-by : (state : Shared) (world : World) (client tag ticket : ℕ) (comma
     (answer : Result (Unit {0}) (SubmitFault × Command)) (fault : Option SubmitFault) → Fits state world → ticket < 2 ^ 60 → host_fault world.host client tag ticket command ≡ fault
     → MatchOption fault (Accepts world client tag ticket command host lines frames doors answer) (Refuses world command host lines frames doors answer)
     → MatchOption fault ((submit_step state client tag ticket command).1 ≡ acceptance client (SubmitMark (index_of tag)) (host_doors (direction_of command.op) tag))
-      (λ f. submit_step state client tag ticket command ≡ (state, refusal client f command))
+    (λ f. submit_step state client tag ticket command ≡ (state, refusal client f command))
     → IsHost host → IsLines lines → IsWhole frames
     → IsSubmitted state client tag ticket command (world_of host (rung_all world.controller doors) world.device lines frames) (submitted_as client tag doors answer)
 submitted-by state world client tag ticket command host lines frames doors answer None fits small is accepts told hosting standing whole =
@@ -140,9 +140,9 @@ submitted-on state world client tag ticket command host lines frames doors answe
 pub cleared : (world : World) (client tag ticket : ℕ) (command : Command) (host : HostState) (lines : LinesState) (frames : List TagBuffers) (old new : ArrayVec ℕ)
     (answer : Result (Unit {0}) (SubmitFault × Command)) (fault : Option SubmitFault) → old.items ≡ []
     → MatchOption fault
-      ((answer ≡ Ok (record {})) × (host ≡ submitted world.host client tag ticket command.op) × (lines ≡ pushed world.lines tag command.op)
-      × (frames ≡ lent world.frames client tag command) × (new.items ≡ old.items ++ host_doors (direction_of command.op) tag))
-      (λ f. (answer ≡ Err (f, command)) × (host ≡ world.host) × (lines ≡ world.lines) × (frames ≡ world.frames) × (new ≡ old))
+    ((answer ≡ Ok (record {})) × (host ≡ submitted world.host client tag ticket command.op) × (lines ≡ pushed world.lines tag command.op)
+    × (frames ≡ lent world.frames client tag command) × (new.items ≡ old.items ++ host_doors (direction_of command.op) tag))
+    (λ f. (answer ≡ Err (f, command)) × (host ≡ world.host) × (lines ≡ world.lines) × (frames ≡ world.frames) × (new ≡ old))
     → MatchOption fault (Accepts world client tag ticket command host lines frames new.items answer) (Refuses world command host lines frames new.items answer)
 cleared world client tag ticket command host lines frames old new answer None empty it =
     (it.0, it.1, it.2, it.3, it.4 ∙ ap (λ ds. ds ++ host_doors (direction_of command.op) tag) empty)

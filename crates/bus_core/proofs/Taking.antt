@@ -20,7 +20,6 @@ use Rattle.solo_model.specs.declared.Phase.{Phase}
 use Rattle.solo_model.specs.declared.Phase.TheVariants.{Sent}
 use Rattle.device_server.specs.Server.{status_of, sense_of}
 use Rattle.solo_model.specs.TaggedTask.{reply_from}
-
 use Rattle.uas_host.specs.declared.Place.{Place}
 use Rattle.uas_host.specs.declared.TdState.{TdState}
 use Rattle.uas_host.specs.declared.TdState.TheVariants.{Pending, Seen, LeftOver, Retired}

@@ -34,6 +34,7 @@ pub mod world_laws;
 
 use arrayvec::ArrayVec;
 use block_unit::Unit;
+use frame_store::Frames;
 pub use headline_laws::{
     opens_as_solo, refuses_as_own, replays_as_solo, settles_once, steps_isolated,
 };
@@ -45,7 +46,6 @@ pub use queue_laws::{
     command_pipe_in_order, data_tds_fit, matches_at_start, no_queue_outgrows, none_is_stray,
     replays_match, steps_keep_matches,
 };
-use frame_store::Frames;
 use scsi_cmd::{Command, Reply, SubmitFault};
 use std::marker::Model;
 use stream_array::Lines;

@@ -188,7 +188,9 @@ impl Bus {
         requires { due self.old Step.CommandPipe ≡ true }
         ensures { due_step self.old Step.CommandPipe ≡ (self.new, result) }
     {
-        let acted = self.controller.command_step(&mut self.lines, &self.frames, &mut self.target);
+        let acted = self
+            .controller
+            .command_step(&mut self.lines, &self.frames, &mut self.target);
         stand(&self.host, &self.lines, &self.frames);
         Outcome::carried(acted)
     }
@@ -198,12 +200,9 @@ impl Bus {
         requires { due self.old (Step.Data tag) ≡ true }
         ensures { due_step self.old (Step.Data tag) ≡ (self.new, result) }
     {
-        let acted = self.controller.data_step(
-            &mut self.lines,
-            &mut self.frames,
-            &mut self.target,
-            tag,
-        );
+        let acted = self
+            .controller
+            .data_step(&mut self.lines, &mut self.frames, &mut self.target, tag);
         stand(&self.host, &self.lines, &self.frames);
         Outcome::moved(acted)
     }
@@ -213,12 +212,9 @@ impl Bus {
         requires { due self.old (Step.Status tag) ≡ true }
         ensures { due_step self.old (Step.Status tag) ≡ (self.new, result) }
     {
-        let acted = self.controller.status_step(
-            &mut self.lines,
-            &mut self.frames,
-            &mut self.target,
-            tag,
-        );
+        let acted = self
+            .controller
+            .status_step(&mut self.lines, &mut self.frames, &mut self.target, tag);
         stand(&self.host, &self.lines, &self.frames);
         Outcome::sent(acted)
     }
@@ -232,12 +228,9 @@ impl Bus {
             return Outcome::idle();
         };
         self.doors.clear();
-        let handled = self.host.on_event(
-            &mut self.lines,
-            &self.frames,
-            &mut self.doors,
-            event,
-        );
+        let handled = self
+            .host
+            .on_event(&mut self.lines, &self.frames, &mut self.doors, event);
         stand(&self.host, &self.lines, &self.frames);
         Outcome::handled(handled)
     }

@@ -124,11 +124,7 @@ impl Outcome {
     }
 
     /// The outcome of a client's submission that was accepted, with its mark and the doorbells that it rang.
-    fn accepted(
-        client: usize,
-        mark: Mark,
-        doors: ArrayVec<u32, MOST_DOORBELLS>,
-    ) -> Outcome
+    fn accepted(client: usize, mark: Mark, doors: ArrayVec<u32, MOST_DOORBELLS>) -> Outcome
         ensures { result ≡ acceptance client mark doors.items }
     {
         Outcome {

@@ -24,9 +24,8 @@ pub(crate) fn mark_of(reply: &Option<Reply>) -> Mark
     ensures { result ≡ mark_of reply.now }
 {
     match reply {
-        Some(
-            Reply::Status { tag, .. } | Reply::Aborted { tag, .. } | Reply::Task { tag, .. },
-        ) => Mark::Settle(index_of(*tag)),
+        Some(Reply::Status { tag, .. } | Reply::Aborted { tag, .. } | Reply::Task { tag, .. }) =>
+            Mark::Settle(index_of(*tag)),
         None => Mark::Quiet,
     }
 }

@@ -65,14 +65,14 @@ const _: () = prove!(MOST_DOORBELLS == 3);
 
 /// A TD: its state, and how many of its TRBs the controller took.
 #[derive(Clone, Copy, Debug, PartialEq, Eq)]
-pub(crate) struct Td {
+pub struct Td {
     pub state: TdState,
     pub consumed: usize,
 }
 
 /// A completion event: the TD of which place the controller is done with (xHCI 4.11.3).
 #[derive(Clone, Copy, Debug, PartialEq, Eq)]
-pub(crate) enum Completion {
+pub enum Completion {
     CommandDone(Place),
     DataDone(Place),
     StatusDone(Place),

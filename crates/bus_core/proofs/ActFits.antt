@@ -1,5 +1,5 @@
 -- A step of the device at one place: where the cell and the queues fit, the whole world fits.
-use Rattle.std.proofs.Common.{◌≡◌, ℕ, zero, suc, ◌+◌, ◌*◌, ◌/◌, ◌%◌, ◌<◌, ◌≤◌, Bool, true, false, cond, List, [], ◌∷◌, ◌++◌, length, length-set, Option, Some, None, refl, arith, ap, sym, subst, ◌∙◌}
+use Rattle.std.proofs.Common.{◌≡◌, ℕ, zero, suc, ◌/◌, ◌%◌, ◌<◌, ◌≤◌, Bool, true, false, cond, List, [], ◌∷◌, ◌++◌, length, length-set, Option, Some, None, refl, arith, ap, sym, subst, ◌∙◌}
 use Rattle.std.specs.Prelude.{nat_lt, slice_get, slice_set}
 use Rattle.std.specs.Option.{option_map_or}
 use Rattle.std.proofs.lemmas.Bool.{ltb-true, ltb-false}
@@ -10,7 +10,6 @@ use Rattle.scsi_cmd.specs.Held.{held_at}
 use Rattle.uas_target.specs.declared.DeviceTask.{DeviceTask}
 use Rattle.uas_target.specs.Device.{task_of}
 use Rattle.uas_host.specs.declared.Place.{Place}
-use Rattle.uas_host.specs.declared.HostClient.{HostClient}
 use Rattle.uas_host.specs.Tags.{place_of, tag_of}
 use Rattle.bus_core.specs.declared.Completion.{Completion}
 use Rattle.bus_core.specs.Td.{Entry}
@@ -22,10 +21,9 @@ use Rattle.bus_core.specs.Matched.{IsMatched, held_in, under}
 use Rattle.bus_core.specs.World.{World, cell_at}
 use Rattle.bus_core.specs.Cells.{FitsCell, FitsHeld}
 use Rattle.bus_core.specs.Fits.{Fits, FitsPart, FitsQueues, IsSoundWorld}
-use Rattle.bus_core.proofs.Framing.{AllFit, AllFit-set, FitsPart-set, ChangesCell, IsFound, found}
+use Rattle.bus_core.proofs.Framing.{AllFit-set, FitsPart-set, ChangesCell, IsFound, found}
 use Rattle.bus_core.proofs.EventTexts.{KeepsOthers}
 use Rattle.bus_core.proofs.MatchedBounds.{held-place}
-use Rattle.bus_core.proofs.MatchedPlaces.{IsFound as IsHeldBy}
 use Rattle.bus_core.proofs.MatchedSteps.{IsHeld, matched-held}
 use Rattle.bus_core.proofs.Standing.{slice_get-back}
 

@@ -1,19 +1,17 @@
 -- A step of the command pipe: the device receives the command of the first message.
-use Rattle.std.proofs.Common.{◌≡◌, ℕ, zero, suc, ◌+◌, ◌*◌, ◌^◌, ◌<◌, ◌≤◌, Bool, true, false, ◌&&◌, cond, List, [], ◌∷◌, ◌++◌, take, drop, length, length-append, map, Option, Some, None, option_map, Ok, Err, refl, arith, ap, sym, subst, ◌∙◌, inl, inr}
-use Rattle.std.specs.Prelude.{nat_lt, slice_get, slice_set, IfSome, Result}
+use Rattle.std.proofs.Common.{◌≡◌, ℕ, suc, ◌+◌, ◌^◌, ◌<◌, ◌≤◌, Bool, true, false, cond, List, [], ◌∷◌, ◌++◌, take, drop, length, length-append, map, Option, Some, None, option_map, Ok, refl, arith, ap, sym, subst, ◌∙◌, inr}
+use Rattle.std.specs.Prelude.{slice_get, slice_set, IfSome, Result}
 use Rattle.std.proofs.lemmas.Bool.{lt-ltb, le-ltb, le-leb}
-use Rattle.std.proofs.lemmas.List.{take_all, length-map, map-append, append_assoc}
+use Rattle.std.proofs.lemmas.List.{take_all, length-map, append_assoc}
 use Rattle.std.proofs.lemmas.Option.{slice_get_past, slice_get-map}
 use Rattle.block_unit.specs.BlockMaps.{BlockMaps}
-use Rattle.xhci_trb.specs.declared.Trb.{Trb}
-use Rattle.cycle_ring.specs.Ring.{Ring, pointer_of, front_of}
-use Rattle.event_ring.specs.declared.Event.{Event}
+use Rattle.cycle_ring.specs.Ring.{pointer_of, front_of}
 use Rattle.stream_array.specs.declared.TheConstants.{COMMAND_RING_PLACES}
 use Rattle.stream_array.specs.declared.Pipe.TheVariants.{Command}
 use Rattle.frame_store.specs.declared.TagBuffers.{TagBuffers}
 use Rattle.frame_store.specs.declared.Place.{Place as Byte}
 use Rattle.frame_store.specs.declared.Buffer.TheVariants.{Command as CommandBuffer}
-use Rattle.frame_store.specs.Buffers.{IsWhole, IsNamed, Names, bytes_at, bytes_of, held_for, front_of as front_byte}
+use Rattle.frame_store.specs.Buffers.{IsWhole, Names, bytes_at, bytes_of, held_for, front_of as front_byte}
 use Rattle.frame_store.proofs.FramesLaws.{start_of-named}
 use Rattle.scsi_cmd.specs.declared.Op.{Op}
 use Rattle.scsi_cmd.specs.declared.TheConstants.{TAGS}
@@ -24,7 +22,6 @@ use Rattle.scsi_cmd.specs.declared.Request.TheVariants.{Execute}
 use Rattle.scsi_cmd.specs.Held.{held_at, held_under, with_held_under}
 use Rattle.scsi_cmd.specs.Laws.{length-cdb_bytes}
 use Rattle.solo_model.specs.declared.Phase.TheVariants.{Queued, Begun}
-use Rattle.solo_model.specs.declared.TaggedTask.{TaggedTask}
 use Rattle.solo_model.specs.TaggedTask.{carried_request}
 use Rattle.device_server.specs.declared.Progress.{Progress}
 use Rattle.device_server.specs.Server.{HasChunk, begun}
@@ -40,7 +37,6 @@ use Rattle.uas_target.specs.Fields.{is_tag}
 use Rattle.uas_target.specs.Tasks.{task_in}
 use Rattle.uas_target.proofs.Received.{received-command}
 use Rattle.uas_host.specs.declared.Place.{Place}
-use Rattle.uas_host.specs.declared.Told.TheVariants.{Untold}
 use Rattle.uas_host.specs.Tags.{tag_of}
 use Rattle.uas_host.specs.Tds.{command_buffer_of}
 use Rattle.xhci_ctl.specs.declared.TheConstants.{SUCCESS, MOST_EVENTS}
@@ -48,7 +44,7 @@ use Rattle.xhci_ctl.specs.declared.Acted.{Acted}
 use Rattle.xhci_ctl.specs.declared.Acted.TheVariants.{Acted as ActedOn, Idle}
 use Rattle.xhci_ctl.specs.Pipes.{has_pending}
 use Rattle.xhci_ctl.specs.Own.{IsOwnCommand, IsOwnCommandFront}
-use Rattle.xhci_ctl.specs.Steps.{Sides, began_tag, commanded, completed, has_event_room, on_front, received_at, room_front}
+use Rattle.xhci_ctl.specs.Steps.{Sides, began_tag, commanded, completed, has_event_room, on_front, received_at}
 use Rattle.bus_core.specs.declared.Completion.{Completion}
 use Rattle.bus_core.specs.declared.Completion.TheVariants.{CommandDone, DataDone, StatusDone}
 use Rattle.bus_core.specs.declared.Step.TheVariants.{CommandPipe}
@@ -59,10 +55,10 @@ use Rattle.bus_core.specs.Part.{Part}
 use Rattle.bus_core.specs.Shared.{Shared, idle, is_some_of, carry_step, shared_step}
 use Rattle.bus_core.specs.Matched.{carried_places, HasRoom, IsMatched, IsOwnMessage}
 use Rattle.bus_core.specs.World.{World, Cell, cell_at, sides_in, with_sides}
-use Rattle.bus_core.specs.Cells.{FitsCell, HasAnswerIn, host_side, told_by}
+use Rattle.bus_core.specs.Cells.{FitsCell, host_side, told_by}
 use Rattle.bus_core.specs.Fits.{Fits, FitsQueues, IsSoundWorld, command_trb, event_texts, place_in}
-use Rattle.bus_core.specs.WorldSteps.{CommandFits, CommandsFit, NoCommandIsIdle, command_world}
-use Rattle.bus_core.specs.WorldDue.{CommandDue, CommandsAreDue}
+use Rattle.bus_core.specs.WorldSteps.{CommandsFit, NoCommandIsIdle, command_world}
+use Rattle.bus_core.specs.WorldDue.{CommandsAreDue}
 use Rattle.bus_core.proofs.ActFits.{IsPlaced, placed, IsActed, acted_state, acted-fits}
 use Rattle.bus_core.proofs.DeviceSteps.{received-op}
 use Rattle.bus_core.proofs.EventTexts.{KeepsOthers, carried_places-append, command_event, event_texts-append, event_texts-one}

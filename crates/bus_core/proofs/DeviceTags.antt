@@ -12,7 +12,7 @@ use Rattle.uas_target.specs.declared.Overlap.{Overlap}
 use Rattle.uas_target.specs.declared.Phase.{Phase}
 use Rattle.uas_target.specs.declared.Phase.TheVariants.{Absent, Gives, Takes, Ends}
 use Rattle.uas_target.specs.declared.Took.{Took}
-use Rattle.uas_target.specs.declared.Took.TheVariants.{Began, Dropped}
+use Rattle.uas_target.specs.declared.Took.TheVariants.{Began}
 use Rattle.uas_target.specs.Fields.{is_tag, tag_in, lun_in, cdb_in}
 use Rattle.xhci_ctl.specs.declared.Acted.{Acted}
 use Rattle.xhci_ctl.specs.declared.Acted.TheVariants.{Idle}

@@ -1,16 +1,15 @@
 -- The TRBs of waiting events: over appended lists, and in two worlds where what each event reads is the same.
-use Rattle.std.proofs.Common.{◌≡◌, ℕ, zero, suc, ◌+◌, ◌*◌, ◌%◌, ◌<◌, ◌≤◌, Bool, true, false, ◌&&◌, List, [], ◌∷◌, ◌++◌, length, map, Option, Some, None, IfSome, refl, arith, ap, sym, subst, ◌∙◌}
-use Rattle.std.specs.Prelude.{slice_get, ◌==◌}
-use Rattle.std.proofs.lemmas.Bool.{eqb-true, eqb-false, false≢true}
+use Rattle.std.proofs.Common.{◌≡◌, ℕ, suc, ◌+◌, ◌*◌, ◌%◌, ◌<◌, ◌≤◌, true, false, List, [], ◌∷◌, ◌++◌, length, Some, IfSome, refl, arith, ap, sym, subst, ◌∙◌}
+use Rattle.std.specs.Prelude.{slice_get}
+use Rattle.std.proofs.lemmas.Bool.{false≢true}
 use Rattle.event_ring.specs.declared.Event.{Event}
 use Rattle.event_ring.specs.declared.Event.TheVariants.{Transfer}
-use Rattle.cycle_ring.specs.Ring.{Ring, pointer_of}
+use Rattle.cycle_ring.specs.Ring.{pointer_of}
 use Rattle.stream_array.specs.declared.TheConstants.{COMMAND_RING_PLACES}
 use Rattle.stream_array.specs.declared.Pipe.TheVariants.{Command}
 use Rattle.stream_array.specs.Rings.{stream_ring}
 use Rattle.frame_store.specs.Buffers.{held_for}
 use Rattle.scsi_cmd.specs.declared.TheConstants.{TAGS}
-use Rattle.scsi_cmd.specs.Held.{held_at}
 use Rattle.uas_host.specs.declared.Place.{Place}
 use Rattle.uas_host.specs.Tags.{tag_of}
 use Rattle.xhci_ctl.specs.declared.TheConstants.{SUCCESS, SLOT}
@@ -21,7 +20,7 @@ use Rattle.bus_core.specs.Part.{Part, event_place}
 use Rattle.bus_core.specs.Td.{Entry}
 use Rattle.bus_core.specs.Shared.{Shared}
 use Rattle.bus_core.specs.Soundness.{one_if}
-use Rattle.bus_core.specs.Matched.{same_place, times, under, carried_places, command_events, data_events, status_events, HaveSlots, IsMatched, IsOwnEvent, HasNoStray}
+use Rattle.bus_core.specs.Matched.{same_place, under, carried_places, data_events, status_events, HaveSlots, IsMatched, IsOwnEvent}
 use Rattle.bus_core.specs.World.{World, Cell, cell_at}
 use Rattle.bus_core.specs.Fits.{data_event, status_event, event_texts, place_in}
 use Rattle.bus_core.proofs.MatchedPlaces.{IsFound, under-found, held-within, same_place-true, same_place-self}

@@ -1,18 +1,17 @@
 -- The frame of every step on the world of rings: one cell changed, with its client's record and unit, so all others fit as
 -- before. Cited by the proofs of all steps.
-use Rattle.std.proofs.Common.{◌≡◌, ℕ, zero, suc, ◌+◌, ◌*◌, ◌<◌, ◌≤◌, true, false, List, [], ◌∷◌, length, length-set, Option, Some, None, refl, arith, ap, sym, subst, ◌∙◌}
+use Rattle.std.proofs.Common.{◌≡◌, ℕ, ◌<◌, true, false, List, length, length-set, Option, Some, None, refl, arith, ap, sym, subst, ◌∙◌}
 use Rattle.std.specs.Prelude.{slice_get, slice_set, ◌==◌}
 use Rattle.std.proofs.lemmas.Bool.{eqb-true, eqb-false}
 use Rattle.std.proofs.lemmas.List.{get_or-set_same, get_or-set_other}
 use Rattle.block_unit.specs.BlockMaps.{BlockMaps}
 use Rattle.scsi_cmd.specs.declared.TheConstants.{TAGS}
 use Rattle.scsi_cmd.specs.Held.{held_at}
-use Rattle.uas_host.specs.declared.Place.{Place}
 use Rattle.uas_host.specs.declared.HostClient.{HostClient}
 use Rattle.uas_host.specs.Tags.{tag_of}
 use Rattle.bus_core.specs.Td.{Entry}
 use Rattle.bus_core.specs.Part.{Part}
-use Rattle.bus_core.specs.World.{World, Cell, cell_at}
+use Rattle.bus_core.specs.World.{World, cell_at}
 use Rattle.bus_core.specs.Cells.{FitsHeld}
 use Rattle.bus_core.specs.Fits.{FitsPart, FitsClient, place_in}
 use Rattle.bus_core.proofs.Routes.{slice_get-slice_set_same, slice_get-slice_set_other}

@@ -1,12 +1,10 @@
 -- What the host makes of an event that it awaits: its entry becomes the host's side of what the shared machine's becomes.
-use Rattle.std.proofs.Common.{◌≡◌, ℕ, zero, suc, ◌+◌, ◌-◌, ◌*◌, ◌/◌, ◌%◌, ◌<◌, ◌≤◌, Bool, true, false, ◌&&◌, cond, List, [], ◌∷◌, ◌++◌, take, length, Option, Some, None, option_map, refl, arith, ap, sym, subst, ◌∙◌}
-use Rattle.std.specs.Prelude.{nat_lt, slice_get, slice_index, option_and_then, ◌==◌, if◌then◌else◌}
-use Rattle.std.specs.Option.{option_map_or}
+use Rattle.std.proofs.Common.{◌≡◌, ℕ, zero, suc, ◌+◌, ◌-◌, ◌*◌, ◌/◌, ◌%◌, ◌<◌, ◌≤◌, true, ◌&&◌, List, [], ◌∷◌, take, length, Option, Some, None, option_map, refl, arith, ap, sym, ◌∙◌}
+use Rattle.std.specs.Prelude.{nat_lt, slice_index, option_and_then, ◌==◌, if◌then◌else◌}
 use Rattle.std.proofs.lemmas.Bool.{lt-ltb, eq-eqb}
 use Rattle.frame_store.specs.declared.TagBuffers.{TagBuffers}
 use Rattle.frame_store.specs.Buffers.{held_for}
-use Rattle.scsi_cmd.specs.declared.Direction.{Direction}
-use Rattle.scsi_cmd.specs.declared.Direction.TheVariants.{Nothing, ToHost, ToDevice}
+use Rattle.scsi_cmd.specs.declared.Direction.TheVariants.{ToHost, ToDevice}
 use Rattle.scsi_cmd.specs.declared.Request.{Request}
 use Rattle.scsi_cmd.specs.declared.Request.TheVariants.{Execute}
 use Rattle.scsi_cmd.specs.declared.TheConstants.{TAGS}
@@ -26,10 +24,9 @@ use Rattle.uas_host.specs.declared.Told.TheVariants.{Status as ToldStatus}
 use Rattle.uas_host.specs.declared.News.{News}
 use Rattle.uas_host.specs.declared.News.TheVariants.{CommandSeen, DataInSeen, DataOutSeen, Answered}
 use Rattle.uas_host.specs.declared.HostEntry.{HostEntry}
-use Rattle.uas_host.specs.declared.HostClient.{HostClient}
 use Rattle.uas_host.specs.State.{HostState, client_of, with_client, is_pending as is_host_pending, is_seen as is_host_seen, is_over as is_host_over, is_data_over as is_host_data_over, is_ready as is_host_ready}
 use Rattle.uas_host.specs.Tags.{place_of, tag_of}
-use Rattle.uas_host.specs.Events.{answer_in, data_after, goes_to_host, goes_to_device, request_direction as host_direction, seen, seen_data, host_seen, place_seen, client_seen, with_seen, left_over_td as host_left_over, news_on}
+use Rattle.uas_host.specs.Events.{answer_in, data_after, goes_to_host, goes_to_device, request_direction as host_direction, seen, seen_data, host_seen, place_seen, with_seen, left_over_td as host_left_over, news_on}
 use Rattle.uas_host.proofs.Texts.{answer_by-text}
 use Rattle.xhci_ctl.specs.declared.TheConstants.{SHORT_PACKET, STATUS_LENGTH}
 use Rattle.bus_core.specs.declared.Td.{Td}

@@ -1,43 +1,38 @@
 -- An event of the command pipe is seen: the oldest TRB of its ring is free again, and the world after it fits.
-use Rattle.std.proofs.Common.{◌≡◌, ℕ, zero, suc, ◌+◌, ◌-◌, ◌*◌, ◌/◌, ◌%◌, ◌<◌, ◌≤◌, Bool, true, false, ◌&&◌, cond, List, [], ◌∷◌, ◌++◌, take, drop, length, length-set, map, Option, Some, None, refl, arith, ap, sym, subst, ◌∙◌}
-use Rattle.std.specs.Prelude.{slice_get, slice_set, slice_index_or, option_and_then, ◌==◌, if◌then◌else◌}
+use Rattle.std.proofs.Common.{◌≡◌, ℕ, zero, suc, ◌+◌, ◌*◌, ◌%◌, ◌≤◌, true, false, cond, List, [], ◌∷◌, ◌++◌, take, drop, length, length-set, map, Some, None, refl, arith, ap, sym, subst, ◌∙◌}
+use Rattle.std.specs.Prelude.{slice_get, option_and_then}
 use Rattle.std.specs.Option.{option_map_or}
-use Rattle.std.proofs.lemmas.Bool.{eqb-true, false≢true}
 use Rattle.std.proofs.lemmas.List.{append-nil}
 use Rattle.xhci_trb.specs.declared.Trb.{Trb}
-use Rattle.cycle_ring.specs.Ring.{Ring, pointer_of, reclaimed}
+use Rattle.cycle_ring.specs.Ring.{pointer_of, reclaimed}
 use Rattle.event_ring.specs.declared.Event.{Event}
 use Rattle.event_ring.specs.declared.Event.TheVariants.{Transfer}
 use Rattle.stream_array.specs.declared.Pipe.TheVariants.{Command as CommandPipe}
 use Rattle.stream_array.specs.declared.TheConstants.{COMMAND_RING_PLACES}
 use Rattle.stream_array.specs.Rings.{LinesState, with_ring}
 use Rattle.scsi_cmd.specs.Held.{held_at}
-use Rattle.uas_host.specs.declared.Handled.{Handled}
 use Rattle.uas_host.specs.declared.Handled.TheVariants.{Matched}
 use Rattle.uas_host.specs.declared.HostEntry.{HostEntry}
 use Rattle.uas_host.specs.declared.News.TheVariants.{CommandSeen}
 use Rattle.uas_host.specs.declared.Place.{Place}
-use Rattle.uas_host.specs.declared.TdState.TheVariants.{Pending, Seen}
 use Rattle.uas_host.specs.State.{HostState, client_of, is_pending as is_host_pending}
-use Rattle.uas_host.specs.Tags.{place_of, tag_of}
-use Rattle.uas_host.specs.Events.{Sides, awaits_command, done_before, handled, held_of, is_awaited as is_awaited_by, with_commands_freed}
+use Rattle.uas_host.specs.Tags.{tag_of}
+use Rattle.uas_host.specs.Events.{awaits_command, done_before, is_awaited as is_awaited_by, with_commands_freed}
 use Rattle.xhci_ctl.specs.declared.TheConstants.{SUCCESS, SLOT}
 use Rattle.xhci_ctl.specs.Steps.{endpoint_of}
-use Rattle.bus_core.specs.declared.Td.{Td}
 use Rattle.bus_core.specs.declared.Completion.{Completion}
 use Rattle.bus_core.specs.declared.Completion.TheVariants.{CommandDone, DataDone, StatusDone}
 use Rattle.bus_core.specs.Bus.{IsPlace}
-use Rattle.bus_core.specs.Td.{Entry, is_pending, with_event_seen}
-use Rattle.bus_core.specs.Part.{Part, event_place}
+use Rattle.bus_core.specs.Td.{Entry, with_event_seen}
 use Rattle.bus_core.specs.Shared.{Shared}
-use Rattle.bus_core.specs.Matched.{IsPendingCommand, carried_places, pipe_places, times, under}
-use Rattle.bus_core.specs.World.{World, Cell, cell_at, entry_at}
-use Rattle.bus_core.specs.Cells.{HoldsTd, HoldsTrbs, host_side}
-use Rattle.bus_core.specs.Fits.{Fits, FitsQueues, command_trb, event_texts, place_in}
+use Rattle.bus_core.specs.Matched.{IsPendingCommand, carried_places, pipe_places, times}
+use Rattle.bus_core.specs.World.{World, Cell}
+use Rattle.bus_core.specs.Cells.{host_side}
+use Rattle.bus_core.specs.Fits.{Fits, FitsQueues, command_trb, event_texts}
 use Rattle.bus_core.specs.WorldSteps.{EventsFit, without_event}
 use Rattle.bus_core.proofs.CellWrites.{clients-length}
-use Rattle.bus_core.proofs.EventTds.{HasCell, command_tag-trb, command_text-waits, fits-cell, tag_of-most}
-use Rattle.bus_core.proofs.EventTexts.{AllReadSame, AreWithin, event_texts-shifted, events-within, one-reads}
+use Rattle.bus_core.proofs.EventTds.{HasCell, command_tag-trb, command_text-waits, fits-cell}
+use Rattle.bus_core.proofs.EventTexts.{AreWithin, event_texts-shifted, events-within, one-reads}
 use Rattle.bus_core.proofs.HostSees.{command_seen-side, host_with, place_of-tag_of}
 use Rattle.bus_core.proofs.MatchedBounds.{held-place, matched-once}
 use Rattle.bus_core.proofs.MatchedEntries.{awaited-pends}
@@ -45,7 +40,7 @@ use Rattle.bus_core.proofs.MatchedNext.{matched-pending, times-member}
 use Rattle.bus_core.proofs.MatchedPlaces.{one_self}
 use Rattle.bus_core.proofs.MatchedSteps.{seen_state}
 use Rattle.bus_core.proofs.SeenStreams.{HasEventFit, data-fits, event-done, status-fits}
-use Rattle.bus_core.proofs.SeenWorlds.{FreesOne, IsSeenAt, event-fits, handled-is, seen-at, seen-cell, seen-others, seen_world, with_tds}
+use Rattle.bus_core.proofs.SeenWorlds.{FreesOne, IsSeenAt, event-fits, handled-is, seen-at, seen-cell, seen-others, seen_world}
 
 -- WHAT THE HOST WAITS FOR
 

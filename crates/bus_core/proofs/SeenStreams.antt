@@ -1,56 +1,50 @@
 -- An event of a stream is seen: its TD's ring is free again, and the world after it fits.
-use Rattle.std.proofs.Common.{◌≡◌, ℕ, zero, suc, ◌+◌, ◌-◌, ◌*◌, ◌<◌, ◌≤◌, Bool, true, false, ◌&&◌, cond, List, [], ◌∷◌, ◌++◌, drop, length, map, Option, Some, None, refl, arith, ap, sym, subst, ◌∙◌}
+use Rattle.std.proofs.Common.{◌≡◌, ℕ, ◌+◌, ◌-◌, ◌<◌, ◌≤◌, true, cond, List, [], ◌∷◌, ◌++◌, drop, length, map, Option, Some, None, refl, arith, ap, sym, subst, ◌∙◌}
 use Rattle.std.specs.Prelude.{slice_get, slice_set, ◌==◌}
 use Rattle.std.proofs.Math.Seq.{drop-length}
 use Rattle.std.proofs.lemmas.Bool.{eqb-true, false≢true}
 use Rattle.std.proofs.lemmas.List.{append-nil}
 use Rattle.xhci_trb.specs.declared.Trb.{Trb}
-use Rattle.cycle_ring.specs.Ring.{Ring, item_at, reclaimed}
+use Rattle.cycle_ring.specs.Ring.{Ring, reclaimed}
 use Rattle.event_ring.specs.declared.Event.{Event}
-use Rattle.event_ring.specs.declared.Event.TheVariants.{Transfer}
-use Rattle.stream_array.specs.declared.Pipe.{Pipe}
 use Rattle.stream_array.specs.declared.Pipe.TheVariants.{Status, DataIn, DataOut}
 use Rattle.stream_array.specs.declared.TheConstants.{STREAM_RING_PLACES}
 use Rattle.stream_array.specs.Rings.{LinesState, stream_ring, with_ring}
-use Rattle.frame_store.specs.Buffers.{held_for}
 use Rattle.scsi_cmd.specs.declared.Direction.{Direction}
 use Rattle.scsi_cmd.specs.declared.Direction.TheVariants.{Nothing, ToHost, ToDevice}
 use Rattle.device_server.specs.declared.Answer.{Answer}
 use Rattle.device_server.specs.declared.Answer.TheVariants.{Good, Check}
-use Rattle.device_server.specs.Server.{status_of, sense_of}
 use Rattle.solo_model.specs.declared.Phase.{Phase}
 use Rattle.solo_model.specs.declared.Phase.TheVariants.{Queued, Begun, Sent}
-use Rattle.uas_host.specs.declared.Handled.{Handled}
 use Rattle.uas_host.specs.declared.Handled.TheVariants.{Matched}
-use Rattle.uas_host.specs.declared.News.TheVariants.{DataInSeen, DataOutSeen, Answered}
 use Rattle.uas_host.specs.declared.Place.{Place}
 use Rattle.uas_host.specs.declared.TdState.{TdState}
 use Rattle.uas_host.specs.declared.TdState.TheVariants.{Pending, Seen, LeftOver, Retired}
 use Rattle.uas_host.specs.Tags.{tag_of}
-use Rattle.uas_host.specs.Tds.{data_td, data_trb_count, status_td, window_of}
+use Rattle.uas_host.specs.Tds.{data_td, data_trb_count, window_of}
 use Rattle.uas_host.specs.Events.{Sides, handled, with_freed}
 use Rattle.bus_core.specs.declared.Td.{Td}
 use Rattle.bus_core.specs.declared.Completion.{Completion}
-use Rattle.bus_core.specs.declared.Completion.TheVariants.{CommandDone, DataDone, StatusDone}
+use Rattle.bus_core.specs.declared.Completion.TheVariants.{DataDone, StatusDone}
 use Rattle.bus_core.specs.declared.Step.TheVariants.{Event as EventStep}
 use Rattle.bus_core.specs.Bus.{IsPlace}
 use Rattle.bus_core.specs.Td.{Entry, data_after_answer, data_after_status, data_trbs, is_awaited, is_pending, left_over_data, left_over_td, with_event_seen}
-use Rattle.bus_core.specs.Part.{event_place, seen_by, seen_data_td}
+use Rattle.bus_core.specs.Part.{event_place, seen_data_td}
 use Rattle.bus_core.specs.Shared.{Shared, request_direction, shared_step}
 use Rattle.bus_core.specs.Matched.{IsStatusTd, awaits_data, carried_places, data_events, request_bytes, status_events}
-use Rattle.bus_core.specs.World.{World, Cell, cell_at}
+use Rattle.bus_core.specs.World.{World, cell_at}
 use Rattle.bus_core.specs.Cells.{HasAnswerIn, HoldsData, HoldsIn, HoldsTd, HoldsTrbs, data_in_td, data_out_td}
 use Rattle.bus_core.specs.Fits.{Fits, FitsQueues, IsSoundWorld, command_trb, event_texts}
-use Rattle.bus_core.specs.WorldSteps.{EventFits, event_sides, event_world, without_event}
+use Rattle.bus_core.specs.WorldSteps.{EventFits, event_sides, without_event}
 use Rattle.bus_core.proofs.CellWrites.{clients-length, stream_ring-same, stream_ring-other}
-use Rattle.bus_core.proofs.EventTds.{HasCell, IsDataText, IsSpent, IsSpentBy, IsStreamText, cell-data_spent, cell-status_spent, data_text, data_text-is, data_trbs-count, length-data_trbs, status_text, status_text-is}
+use Rattle.bus_core.proofs.EventTds.{HasCell, IsDataText, IsSpent, IsSpentBy, cell-data_spent, cell-status_spent, data_text, data_text-is, data_trbs-count, length-data_trbs, status_text, status_text-is}
 use Rattle.bus_core.proofs.EventTexts.{AreWithin, KeepsData, KeepsStatus, event_texts-kept, events-within, one-reads}
 use Rattle.bus_core.proofs.HostSees.{data_in_seen-side, data_out_seen-side, host_with, status_news-is, status_seen, status_seen-side}
 use Rattle.bus_core.proofs.MatchedBounds.{matched-once}
 use Rattle.bus_core.proofs.MatchedEntries.{IsSentBy, awaited-pends}
 use Rattle.bus_core.proofs.MatchedPlaces.{and-true, one_self}
 use Rattle.bus_core.proofs.MatchedSteps.{seen_state}
-use Rattle.bus_core.proofs.SeenWorlds.{FreesOne, IsSeenAt, event-fits, handled-is, seen-at, seen-others, seen_world, with_tds}
+use Rattle.bus_core.proofs.SeenWorlds.{FreesOne, IsSeenAt, event-fits, handled-is, seen-at, seen-others, seen_world}
 
 -- A RING IS FREE AGAIN
 

@@ -1,28 +1,21 @@
 -- An event that waits, the world once the host has seen it, and why that fits where its rings do.
-use Rattle.std.proofs.Common.{◌≡◌, ℕ, zero, suc, ◌+◌, ◌-◌, ◌*◌, ◌<◌, ◌≤◌, Bool, true, false, cond, List, [], ◌∷◌, ◌++◌, length, length-set, drop, map, Option, Some, None, refl, arith, ap, sym, subst, ◌∙◌}
-use Rattle.std.specs.Prelude.{slice_get, slice_set, option_and_then, if◌then◌else◌}
-use Rattle.xhci_trb.specs.declared.Trb.{Trb}
-use Rattle.cycle_ring.specs.Ring.{Ring, consumed_at}
-use Rattle.event_ring.specs.Events.{taken}
-use Rattle.event_ring.specs.declared.Event.{Event}
-use Rattle.event_ring.specs.declared.Event.TheVariants.{Transfer}
+use Rattle.std.proofs.Common.{◌≡◌, ℕ, ◌<◌, ◌≤◌, true, cond, List, [], ◌∷◌, ◌++◌, length, length-set, Option, Some, None, refl, arith, ap, sym, subst, ◌∙◌}
+use Rattle.std.specs.Prelude.{slice_get, option_and_then}
+use Rattle.cycle_ring.specs.Ring.{consumed_at}
 use Rattle.stream_array.specs.declared.Pipe.{Pipe}
 use Rattle.stream_array.specs.declared.Pipe.TheVariants.{Command, Status, DataIn, DataOut}
 use Rattle.stream_array.specs.Map.{places_of, spot_at}
-use Rattle.stream_array.specs.Rings.{LinesState, ring_of, stream_ring, with_events}
-use Rattle.scsi_cmd.specs.declared.TheConstants.{TAGS}
+use Rattle.stream_array.specs.Rings.{LinesState, ring_of, stream_ring}
 use Rattle.scsi_cmd.specs.Held.{held_at}
 use Rattle.uas_host.specs.declared.EndedTd.{EndedTd}
-use Rattle.uas_host.specs.declared.Handled.{Handled}
 use Rattle.uas_host.specs.declared.Handled.TheVariants.{Matched}
 use Rattle.uas_host.specs.declared.News.{News}
 use Rattle.uas_host.specs.declared.Place.{Place}
-use Rattle.uas_host.specs.declared.HostEntry.{HostEntry}
 use Rattle.uas_host.specs.declared.HostClient.{HostClient}
-use Rattle.uas_host.specs.State.{client_of, with_client, is_ready as is_host_ready}
+use Rattle.uas_host.specs.State.{client_of}
 use Rattle.uas_host.specs.Tags.{tag_of}
 use Rattle.uas_host.specs.Tds.{data_td, status_td}
-use Rattle.uas_host.specs.Events.{Sides, ended_at, ended_on, ended_td, freed_on, handled_td, handled_news, handled_seen, news_of, seen, host_seen, with_seen}
+use Rattle.uas_host.specs.Events.{ended_at, ended_on, ended_td, freed_on, handled_td, handled_news, handled_seen, news_of, seen, with_seen}
 use Rattle.bus_core.specs.declared.Td.{Td}
 use Rattle.bus_core.specs.declared.Completion.{Completion}
 use Rattle.bus_core.specs.declared.Step.TheVariants.{Event as EventStep}
@@ -31,11 +24,11 @@ use Rattle.bus_core.specs.Td.{Entry, is_ready}
 use Rattle.bus_core.specs.Part.{Part, event_place, ready_after, seen_by}
 use Rattle.bus_core.specs.Shared.{Shared, event_step, idle, is_some_of, request_direction, shared_step}
 use Rattle.bus_core.specs.Matched.{IsMatched, IsMatchedEntry, IsOwnEvent, awaits_event, request_bytes}
-use Rattle.bus_core.specs.World.{World, Cell, cell_at}
+use Rattle.bus_core.specs.World.{World, cell_at}
 use Rattle.bus_core.specs.Cells.{FitsCell, FitsHeld, HoldsData, HoldsTd, data_in_td, data_out_td, host_side}
 use Rattle.bus_core.specs.Fits.{Fits, FitsQueues, IsSoundWorld, place_in}
-use Rattle.bus_core.specs.WorldSteps.{event_sides, event_world, without_event}
-use Rattle.bus_core.proofs.CellWrites.{client_of-found, entry_at-same, entry_at-other, clients-length, get-within}
+use Rattle.bus_core.specs.WorldSteps.{event_sides, without_event}
+use Rattle.bus_core.proofs.CellWrites.{client_of-found, entry_at-same, entry_at-other, get-within}
 use Rattle.bus_core.proofs.EventTexts.{KeepsOthers}
 use Rattle.bus_core.proofs.Framing.{AllFit-set, FitsPart-set, ChangesCell, IsFound, found}
 use Rattle.bus_core.proofs.HostSees.{host_with, host_seen-is, is_ready-side}

@@ -1,11 +1,10 @@
 -- The rings of a world that fits a state show it.
-use Rattle.std.proofs.Common.{◌≡◌, ℕ, zero, suc, ◌+◌, ◌<◌, Bool, true, false, cond, List, [], ◌∷◌, ◌++◌, drop, map, length, Option, Some, None, refl, arith, ap, sym, subst, ◌∙◌}
+use Rattle.std.proofs.Common.{◌≡◌, ℕ, zero, suc, ◌<◌, Bool, true, false, cond, List, [], ◌∷◌, ◌++◌, drop, map, length, Option, Some, None, refl, arith, ap, sym, ◌∙◌}
 use Rattle.std.specs.Prelude.{slice_get, ◌==◌}
 use Rattle.std.specs.Option.{option_map_or}
 use Rattle.std.proofs.lemmas.Option.{none-some}
 use Rattle.xhci_trb.specs.declared.Trb.{Trb}
 use Rattle.cycle_ring.specs.Ring.{Ring, pointer_of}
-use Rattle.event_ring.specs.declared.Event.{Event}
 use Rattle.event_ring.specs.declared.Event.TheVariants.{Transfer}
 use Rattle.stream_array.specs.declared.Pipe.{Pipe}
 use Rattle.stream_array.specs.declared.Pipe.TheVariants.{Command, Status, DataIn, DataOut}
@@ -13,7 +12,6 @@ use Rattle.stream_array.specs.declared.TheConstants.{COMMAND_RING_PLACES}
 use Rattle.xhci_ctl.specs.declared.TheConstants.{SUCCESS, SHORT_PACKET, SLOT}
 use Rattle.xhci_ctl.specs.Steps.{endpoint_of}
 use Rattle.stream_array.specs.Rings.{stream_ring}
-use Rattle.frame_store.specs.Buffers.{held_for}
 use Rattle.scsi_cmd.specs.declared.TheConstants.{TAGS}
 use Rattle.scsi_cmd.specs.Held.{held_at}
 use Rattle.uas_host.specs.declared.Place.{Place}
@@ -26,8 +24,8 @@ use Rattle.bus_core.specs.declared.Completion.TheVariants.{CommandDone, DataDone
 use Rattle.bus_core.specs.Td.{Entry}
 use Rattle.bus_core.specs.Part.{Part}
 use Rattle.bus_core.specs.Shared.{Shared}
-use Rattle.bus_core.specs.Matched.{carried_places, held_in, under}
-use Rattle.bus_core.specs.World.{World, Cell, cell_at}
+use Rattle.bus_core.specs.Matched.{carried_places, held_in}
+use Rattle.bus_core.specs.World.{World, cell_at}
 use Rattle.bus_core.specs.Cells.{FitsHeld, HoldsTrbs, HoldsIn, HoldsData}
 use Rattle.bus_core.specs.Fits.{Fits, command_trb, event_texts, last_pointer}
 use Rattle.bus_core.specs.Shows.{ShowsPlace, ShowsShared, data_tells, left_in, left_of, pending_in, tells, tells_of, told_in}

@@ -1,12 +1,10 @@
 -- A step of a status stream: the device hands over the answer of a command that has ended.
-use Rattle.std.proofs.Common.{◌≡◌, ℕ, zero, suc, ◌+◌, ◌-◌, ◌*◌, ◌^◌, ◌<◌, ◌≤◌, Bool, true, false, ◌&&◌, cond, List, [], ◌∷◌, ◌++◌, take, drop, length, length-append, map, Option, Some, None, option_map, Ok, Err, refl, arith, ap, sym, subst, ◌∙◌, inl, inr}
-use Rattle.std.specs.Prelude.{nat_lt, slice_get, slice_set, slice_index, option_and_then, IfSome}
+use Rattle.std.proofs.Common.{◌≡◌, ℕ, ◌+◌, ◌-◌, ◌<◌, ◌≤◌, Bool, true, false, ◌&&◌, cond, List, [], ◌∷◌, ◌++◌, take, drop, length, map, Option, Some, None, option_map, refl, arith, ap, sym, subst, ◌∙◌, inr}
+use Rattle.std.specs.Prelude.{nat_lt, slice_get, option_and_then, IfSome}
 use Rattle.std.specs.Option.{option_map_or}
-use Rattle.std.proofs.Math.Bool.{and-false}
 use Rattle.std.proofs.Math.Seq.{take-append_seam}
-use Rattle.std.proofs.lemmas.Bool.{lt-ltb, le-leb, false≢true}
+use Rattle.std.proofs.lemmas.Bool.{lt-ltb, le-leb}
 use Rattle.std.proofs.lemmas.List.{append-nil, get_or-set_same, get_or-set_other}
-use Rattle.xhci_trb.specs.declared.Trb.{Trb}
 use Rattle.xhci_trb.specs.declared.Trb.TheVariants.{Normal}
 use Rattle.cycle_ring.specs.Ring.{Ring, pointer_of, front_of, opening}
 use Rattle.event_ring.specs.declared.Event.{Event}
@@ -18,7 +16,7 @@ use Rattle.stream_array.specs.Rings.{stream_ring}
 use Rattle.frame_store.specs.declared.TagBuffers.{TagBuffers}
 use Rattle.frame_store.specs.declared.Buffer.TheVariants.{Status as StatusBuffer}
 use Rattle.frame_store.specs.Splice.{spliced}
-use Rattle.frame_store.specs.Buffers.{IsWhole, IsNamed, Names, held_for, no_buffers, with_held, written, front_of as front_byte}
+use Rattle.frame_store.specs.Buffers.{IsWhole, Names, held_for, no_buffers, with_held, written, front_of as front_byte}
 use Rattle.frame_store.proofs.FramesLaws.{written-named}
 use Rattle.scsi_cmd.specs.Buffers.{with_bytes_at}
 use Rattle.scsi_cmd.specs.Laws.{written_at-fits}
@@ -30,26 +28,25 @@ use Rattle.scsi_cmd.specs.Op.{direction_of, moved_bytes}
 use Rattle.device_server.specs.Server.{chunk_bytes}
 use Rattle.scsi_cmd.specs.declared.Request.{Request}
 use Rattle.scsi_cmd.specs.declared.Request.TheVariants.{Execute}
-use Rattle.scsi_cmd.specs.Held.{held_at, held_under, with_held_under}
+use Rattle.scsi_cmd.specs.Held.{held_at}
 use Rattle.device_server.specs.declared.Answer.{Answer}
 use Rattle.device_server.specs.declared.Answer.TheVariants.{Good, Check}
 use Rattle.device_server.specs.declared.Progress.TheVariants.{Moving, Ended}
 use Rattle.device_server.specs.Server.{status_of, sense_of}
 use Rattle.solo_model.specs.declared.Phase.{Phase}
 use Rattle.solo_model.specs.declared.Phase.TheVariants.{Queued, Begun, Sent}
-use Rattle.solo_model.specs.Soundness.{IsSoundOp, IsSoundRequest}
+use Rattle.solo_model.specs.Soundness.{IsSoundRequest}
 use Rattle.uas_iu.specs.declared.Iu.{Iu}
 use Rattle.uas_iu.specs.declared.Iu.TheVariants.{Sense as SenseIu}
 use Rattle.uas_iu.specs.Units.{unit_text}
 use Rattle.uas_target.specs.declared.DeviceAnswer.TheVariants.{Status as StatusAnswer}
 use Rattle.uas_target.specs.declared.DeviceTask.{DeviceTask}
-use Rattle.uas_target.specs.declared.DeviceTask.TheVariants.{Moving as MovingTask, Ended as EndedTask}
+use Rattle.uas_target.specs.declared.DeviceTask.TheVariants.{Ended as EndedTask}
 use Rattle.uas_target.specs.declared.Phase.{Phase as Wants}
 use Rattle.uas_target.specs.declared.Phase.TheVariants.{Absent, Gives, Takes, Ends}
-use Rattle.uas_target.specs.Device.{Device, answered, task_of, wanted, without_task}
+use Rattle.uas_target.specs.Device.{answered, task_of, wanted, without_task}
 use Rattle.uas_target.specs.Tasks.{wanted_way, task_answer, task_wants}
 use Rattle.uas_host.specs.declared.Place.{Place}
-use Rattle.uas_host.specs.declared.Told.TheVariants.{Untold}
 use Rattle.uas_host.specs.Tags.{place_of, tag_of}
 use Rattle.uas_host.specs.Tds.{status_buffer_of, status_td}
 use Rattle.xhci_ctl.specs.declared.TheConstants.{SHORT_PACKET, SLOT, STATUS_LENGTH}
@@ -57,22 +54,20 @@ use Rattle.xhci_ctl.specs.declared.Acted.{Acted}
 use Rattle.xhci_ctl.specs.declared.Acted.TheVariants.{Acted as ActedOn, Idle}
 use Rattle.xhci_ctl.specs.Own.{IsOwnStatus, IsOwnStatusFront}
 use Rattle.xhci_ctl.specs.Pipes.{ControllerState, has_pending, is_armed, is_open}
-use Rattle.xhci_ctl.specs.Steps.{Sides, armed_front, completed, endpoint_of, has_event_room, on_front, room_front, sent_as, sent_at, sent_by}
-use Rattle.bus_core.specs.declared.Completion.{Completion}
+use Rattle.xhci_ctl.specs.Steps.{Sides, completed, endpoint_of, on_front, room_front, sent_as, sent_at, sent_by}
 use Rattle.bus_core.specs.declared.Completion.TheVariants.{StatusDone}
-use Rattle.bus_core.specs.declared.Td.{Td}
 use Rattle.bus_core.specs.declared.Step.TheVariants.{Status as StatusStep}
 use Rattle.bus_core.specs.Td.{Entry, has_trb, pushed, with_trb_taken}
 use Rattle.bus_core.specs.Wire.{answer_text}
 use Rattle.bus_core.specs.Hosts.{asked_by, device_task, phase_task}
 use Rattle.bus_core.specs.Part.{Part}
-use Rattle.bus_core.specs.Shared.{Shared, due, due_step, idle, is_ended, place_fact, shared_step, status_is_due}
+use Rattle.bus_core.specs.Shared.{Shared, due, due_step, idle, is_ended, shared_step, status_is_due}
 use Rattle.bus_core.specs.Matched.{carried_places, status_events, IsMatched, IsStatusTd}
 use Rattle.bus_core.specs.World.{World, Cell, cell_at, sides_in, with_sides}
-use Rattle.bus_core.specs.Cells.{FitsCell, HasAnswerIn, HoldsTd, HoldsTrbs, host_side, told_by, told_sent}
+use Rattle.bus_core.specs.Cells.{FitsCell, HoldsTd, HoldsTrbs, host_side, told_by, told_sent}
 use Rattle.bus_core.specs.Fits.{Fits, FitsQueues, IsSoundWorld, command_trb, event_texts, place_in, status_event, unit_len}
 use Rattle.bus_core.specs.WorldSteps.{StatusesFit, StatusFits, StatusIsIdle, status_world}
-use Rattle.bus_core.specs.WorldDue.{StatusDue, StatusesAreDue, status_due_by}
+use Rattle.bus_core.specs.WorldDue.{StatusesAreDue, status_due_by}
 use Rattle.bus_core.proofs.ActFits.{IsPlaced, placed, IsActed, acted_state, acted-fits, place_of-tag, by-tag}
 use Rattle.bus_core.proofs.CommandFits.{event-room}
 use Rattle.bus_core.proofs.EventTexts.{KeepsOthers, carried_places-append, event_texts-append, event_texts-one}

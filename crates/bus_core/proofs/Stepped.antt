@@ -1,6 +1,6 @@
 -- Each step of host and controller, on a world that fits a state: the world after it reads as the shared machine's state after its
 -- step, and the outcome is the shared machine's.
-use Rattle.std.proofs.Common.{◌≡◌, ℕ, zero, suc, ◌+◌, ◌-◌, ◌*◌, ◌/◌, ◌%◌, ◌<◌, ◌≤◌, Bool, true, false, List, [], ◌∷◌, length, Option, Some, None, IfSome, refl, arith, ap, sym, subst, ◌∙◌}
+use Rattle.std.proofs.Common.{◌≡◌, ℕ, zero, suc, ◌-◌, ◌/◌, ◌%◌, ◌<◌, ◌≤◌, true, List, [], ◌∷◌, length, Option, Some, None, IfSome, refl, arith, ap, sym, subst, ◌∙◌}
 use Rattle.std.specs.Prelude.{slice_get, nat_lt, option_and_then, is_some}
 use Rattle.std.proofs.lemmas.Bool.{false≢true}
 use Rattle.std.proofs.lemmas.List.{length-replicate}
@@ -24,12 +24,10 @@ use Rattle.solo_model.specs.TaggedTask.{reply_from}
 use Rattle.uas_host.specs.Replies.{Given, replied}
 use Rattle.uas_host.specs.declared.Place.{Place}
 use Rattle.uas_host.specs.declared.Handled.{Handled}
-use Rattle.uas_host.specs.declared.Handled.TheVariants.{Matched, Engine, Stray}
 use Rattle.uas_host.specs.State.{HostState, IsHost, opening as opening_host}
 use Rattle.uas_host.specs.Tags.{place_of, tag_of}
 use Rattle.uas_host.specs.Events.{Sides as EventSides, handled}
 use Rattle.xhci_ctl.specs.declared.Acted.{Acted}
-use Rattle.xhci_ctl.specs.declared.Acted.TheVariants.{Acted as ActedOn, Idle}
 use Rattle.block_unit.specs.BlockMaps.{BlockMaps}
 use Rattle.xhci_ctl.specs.Pipes.{ControllerState, new_controller}
 use Rattle.xhci_ctl.specs.Steps.{Sides, sides_of, commanded, moved, sent_by}
@@ -47,7 +45,7 @@ use Rattle.bus_core.specs.Matched.{IsMatched, IsOwnMessage, IsOwnEvent}
 use Rattle.bus_core.specs.World.{World, sides_in, with_sides, world_of}
 use Rattle.bus_core.specs.Fits.{Fits, IsSoundWorld}
 use Rattle.bus_core.specs.Decoded.{decoded, FitsItself}
-use Rattle.bus_core.specs.WorldSteps.{command_world, data_world, status_world, event_sides, event_world, take_world, opening_world, CommandFits, DataFits, StatusFits, EventFits, TakeFits}
+use Rattle.bus_core.specs.WorldSteps.{event_sides, event_world, take_world, opening_world, CommandFits, DataFits, StatusFits, EventFits, TakeFits}
 use Rattle.bus_core.specs.WorldDue.{marked}
 use Rattle.bus_core.specs.Owners.{acted_as, handled_as, index_of, owner_of, replying}
 use Rattle.bus_core.proofs.MatchedBounds.{held-place}

@@ -1,19 +1,18 @@
 -- The host finds the fault of a submission that the shared machine finds.
-use Rattle.std.proofs.Common.{◌≡◌, ℕ, zero, suc, ◌+◌, ◌-◌, ◌*◌, ◌<◌, ◌≤◌, Bool, true, false, List, [], ◌∷◌, length, Option, Some, None, is_some, option_map, refl, arith, ap, sym, subst, ◌∙◌}
-use Rattle.std.specs.Prelude.{slice_get, slice_set, slice_index_or, ◌==◌}
+use Rattle.std.proofs.Common.{◌≡◌, ℕ, ◌<◌, true, length, Option, Some, None, is_some, option_map, refl, arith, ap, sym, ◌∙◌}
+use Rattle.std.specs.Prelude.{slice_get}
 use Rattle.scsi_cmd.specs.declared.Command.{Command}
 use Rattle.scsi_cmd.specs.declared.SubmitFault.{SubmitFault}
-use Rattle.scsi_cmd.specs.declared.SubmitFault.TheVariants.{NotYours}
 use Rattle.scsi_cmd.specs.declared.TheConstants.{TAGS}
 use Rattle.scsi_cmd.specs.Submission.{first_submit_fault}
 use Rattle.scsi_cmd.specs.Held.{held_at}
 use Rattle.uas_host.specs.declared.Place.{Place}
 use Rattle.uas_host.specs.declared.HostClient.{HostClient}
 use Rattle.uas_host.specs.State.{client_of}
-use Rattle.uas_host.specs.Submit.{host_fault, fault_at as host_fault_at}
-use Rattle.uas_host.specs.Tags.{command_slot, tag_of}
+use Rattle.uas_host.specs.Submit.{fault_at as host_fault_at}
+use Rattle.uas_host.specs.Tags.{command_slot}
 use Rattle.bus_core.specs.Part.{Part, fault_at}
-use Rattle.bus_core.specs.Shared.{Shared, submitted_under, submitted_to, answered, submit_step}
+use Rattle.bus_core.specs.Shared.{Shared, submitted_under, submitted_to, answered}
 use Rattle.bus_core.specs.World.{World, cell_at}
 use Rattle.bus_core.specs.Fits.{Fits, place_in}
 use Rattle.bus_core.specs.WorldSteps.{FaultsAgree, fault_in}

@@ -1,7 +1,7 @@
 -- A submission of the host, on a world that fits a state, is the shared machine's.
-use Rattle.std.proofs.Common.{◌≡◌, ℕ, zero, suc, ◌+◌, ◌-◌, ◌*◌, ◌^◌, ◌%◌, ◌<◌, ◌≤◌, Bool, true, false, List, [], ◌∷◌, ◌++◌, length, Option, Some, None, IfSome, MatchOption, Result, Ok, Err, refl, arith, ap, sym, subst, ◌∙◌}
-use Rattle.std.specs.Prelude.{slice_get, nat_lt, option_map, option_and_then, ◌==◌, ◌&&◌}
-use Rattle.std.proofs.lemmas.Option.{none-some, cond_some, option_and_then_some}
+use Rattle.std.proofs.Common.{◌≡◌, ℕ, suc, ◌+◌, ◌*◌, ◌^◌, ◌<◌, List, [], ◌∷◌, ◌++◌, length, Option, Some, None, MatchOption, Result, Ok, Err, refl, arith, ap, sym, subst, ◌∙◌}
+use Rattle.std.specs.Prelude.{slice_get, nat_lt, option_map, ◌==◌, ◌&&◌}
+use Rattle.std.proofs.lemmas.Option.{cond_some, option_and_then_some}
 use Rattle.arrayvec.specs.ArrayVec.{ArrayVec}
 use Rattle.stream_array.specs.Rings.{LinesState, IsLines}
 use Rattle.frame_store.specs.declared.TagBuffers.{TagBuffers}
@@ -10,19 +10,18 @@ use Rattle.scsi_cmd.specs.declared.Command.{Command}
 use Rattle.scsi_cmd.specs.declared.Direction.{Direction}
 use Rattle.scsi_cmd.specs.declared.Direction.TheVariants.{Nothing, ToHost, ToDevice}
 use Rattle.scsi_cmd.specs.declared.SubmitFault.{SubmitFault}
-use Rattle.scsi_cmd.specs.declared.TheConstants.{TAGS, TASK_SLOT}
+use Rattle.scsi_cmd.specs.declared.TheConstants.{TASK_SLOT}
 use Rattle.scsi_cmd.specs.Op.{direction_of}
-use Rattle.uas_host.specs.declared.Place.{Place}
 use Rattle.uas_host.specs.Doors.{submission_doors as host_doors}
 use Rattle.uas_host.specs.State.{HostState, IsHost}
-use Rattle.uas_host.specs.Submit.{HasRoomFor, host_fault, lent, submitted}
+use Rattle.uas_host.specs.Submit.{host_fault, lent, submitted}
 use Rattle.uas_host.specs.Tags.{command_slot, own_slot, place_of}
 use Rattle.uas_host.specs.Tds.{pushed}
 use Rattle.bus_core.specs.declared.Mark.TheVariants.{Submit as SubmitMark}
 use Rattle.bus_core.specs.declared.Outcome.{Outcome}
 use Rattle.bus_core.specs.Part.{Part, fault_at}
 use Rattle.bus_core.specs.Pipes.{submission_doors}
-use Rattle.bus_core.specs.Shared.{Shared, acceptance, accepted, answered, refusal, submit_step, submitted_to, submitted_under}
+use Rattle.bus_core.specs.Shared.{Shared, acceptance, answered, refusal, submit_step, submitted_to, submitted_under}
 use Rattle.bus_core.specs.World.{World, world_of}
 use Rattle.bus_core.specs.Fits.{Fits, IsSoundWorld}
 use Rattle.bus_core.specs.Decoded.{decoded, FitsItself}

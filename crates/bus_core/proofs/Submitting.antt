@@ -1,8 +1,8 @@
 -- A submission without a fault: its rings have room, and the world after it fits the shared machine after it.
-use Rattle.std.proofs.Common.{◌≡◌, ℕ, zero, suc, ◌+◌, ◌-◌, ◌*◌, ◌/◌, ◌%◌, ◌^◌, ◌<◌, ◌≤◌, Bool, true, false, cond, List, [], ◌∷◌, ◌++◌, length, length-set, length-append, map, Option, Some, None, is_some, option_map, refl, arith, ap, sym, subst, ◌∙◌}
-use Rattle.std.specs.Prelude.{slice_get, slice_set, slice_index_or, nat_lt, nat_le, ◌==◌, ◌&&◌, if◌then◌else◌}
+use Rattle.std.proofs.Common.{◌≡◌, ℕ, ◌+◌, ◌-◌, ◌*◌, ◌/◌, ◌%◌, ◌<◌, ◌≤◌, true, false, cond, List, [], ◌∷◌, ◌++◌, length, length-set, map, Option, Some, None, is_some, option_map, refl, arith, ap, sym, subst, ◌∙◌}
+use Rattle.std.specs.Prelude.{slice_get, slice_set, ◌==◌}
 use Rattle.std.specs.Option.{option_map_or}
-use Rattle.std.proofs.lemmas.Bool.{eqb-true, eqb-false, lt-ltb, le-leb, false≢true}
+use Rattle.std.proofs.lemmas.Bool.{eqb-true, lt-ltb, le-leb, false≢true}
 use Rattle.std.proofs.lemmas.List.{length-map, map-append, append_assoc}
 use Rattle.std.proofs.lemmas.Option.{none-some}
 use Rattle.xhci_trb.specs.declared.Trb.{Trb}
@@ -24,25 +24,21 @@ use Rattle.scsi_cmd.specs.Held.{held_at}
 use Rattle.scsi_cmd.specs.Laws.{submit_fault-none}
 use Rattle.scsi_cmd.specs.Op.{direction_of, moved_bytes}
 use Rattle.uas_host.specs.declared.Place.{Place}
-use Rattle.uas_host.specs.declared.HostEntry.{HostEntry}
 use Rattle.uas_host.specs.declared.HostClient.{HostClient}
 use Rattle.uas_host.specs.Doors.{door, submission_doors}
 use Rattle.uas_host.specs.State.{client_of}
 use Rattle.uas_host.specs.Submit.{HasRoomFor, host_fault, fault_at as host_fault_at, new_entry as host_entry, data_td_for as host_data_td, slot_of, submitted_client}
 use Rattle.uas_host.specs.Tags.{command_slot, tag_of}
-use Rattle.uas_host.specs.Tds.{HasDataRoom, command_td, data_td, data_trb_count, data_trbs as trbs_from, status_td, put_on, pushed, with_data_td}
-use Rattle.xhci_ctl.specs.declared.PipeState.{PipeState}
+use Rattle.uas_host.specs.Tds.{HasDataRoom, command_td, data_td, data_trbs as trbs_from, status_td, put_on, with_data_td}
 use Rattle.xhci_ctl.specs.Doorbells.{rung_by, rung_in, rung_on, pipe_at}
 use Rattle.xhci_ctl.specs.Pipes.{ControllerState, rung_at}
-use Rattle.bus_core.specs.declared.Td.{Td}
-use Rattle.bus_core.specs.declared.Completion.{Completion}
 use Rattle.bus_core.specs.declared.Step.TheVariants.{Submit}
 use Rattle.bus_core.specs.Pipes.{data_in_after, data_out_after}
 use Rattle.bus_core.specs.Part.{Part, new_entry, data_td_for, fault_at, submitted_part}
-use Rattle.bus_core.specs.Td.{Entry, pushed as pushed_td, data_trbs}
+use Rattle.bus_core.specs.Td.{pushed as pushed_td, data_trbs}
 use Rattle.bus_core.specs.Shared.{Shared, accepted, answered, submitted_to, submitted_under, submit_step, with_streams_rung}
 use Rattle.bus_core.specs.Matched.{held_in, carried_places, IsMatchedAt, IsMatched, pipe_places}
-use Rattle.bus_core.specs.World.{World, Cell, cell_at}
+use Rattle.bus_core.specs.World.{World, cell_at}
 use Rattle.bus_core.specs.Cells.{HoldsTrbs, HoldsData, data_in_td, data_out_td, state_of, host_side, FitsHeld, FitsCell, IsEmptyCell}
 use Rattle.bus_core.specs.Fits.{Fits, FitsQueues, IsSoundWorld, command_trb, event_texts, place_in}
 use Rattle.bus_core.specs.WorldSteps.{SubmissionsFit, SubmitFits, submit_world, rung_all}

@@ -1,6 +1,6 @@
 -- A reply is the shared machine's, and the world after it fits the shared machine after it.
-use Rattle.std.proofs.Common.{◌≡◌, ℕ, zero, suc, ◌+◌, ◌-◌, ◌*◌, ◌<◌, ◌≤◌, Bool, true, false, cond, List, [], ◌∷◌, ◌++◌, length, length-set, map, Option, Some, None, is_some, option_map, refl, arith, ap, sym, subst, ◌∙◌}
-use Rattle.std.specs.Prelude.{slice_get, slice_set, slice_index_or, option_and_then, ◌&&◌}
+use Rattle.std.proofs.Common.{◌≡◌, ℕ, ◌<◌, ◌≤◌, true, false, cond, List, [], ◌∷◌, ◌++◌, length, length-set, map, Option, Some, None, refl, arith, ap, sym, subst, ◌∙◌}
+use Rattle.std.specs.Prelude.{slice_get, option_and_then, ◌&&◌}
 use Rattle.std.specs.Option.{option_map_or}
 use Rattle.std.proofs.lemmas.Bool.{false≢true}
 use Rattle.std.proofs.lemmas.List.{append-nil}
@@ -16,16 +16,13 @@ use Rattle.scsi_cmd.specs.declared.TheConstants.{TAGS}
 use Rattle.scsi_cmd.specs.Held.{held_at}
 use Rattle.scsi_cmd.specs.Laws.{AllHeld-held}
 use Rattle.device_server.specs.declared.Answer.{Answer}
-use Rattle.solo_model.specs.declared.Phase.{Phase}
 use Rattle.solo_model.specs.declared.Phase.TheVariants.{Sent}
 use Rattle.device_server.specs.Server.{status_of, sense_of}
 use Rattle.solo_model.specs.TaggedTask.{reply_from}
 use Rattle.uas_host.specs.declared.Place.{Place}
 use Rattle.uas_host.specs.declared.TdState.{TdState}
 use Rattle.uas_host.specs.declared.TdState.TheVariants.{Pending, Seen, LeftOver, Retired}
-use Rattle.uas_host.specs.declared.Told.{Told}
 use Rattle.uas_host.specs.declared.Told.TheVariants.{Status as ToldStatus}
-use Rattle.uas_host.specs.declared.HostEntry.{HostEntry}
 use Rattle.uas_host.specs.declared.HostClient.{HostClient}
 use Rattle.uas_host.specs.State.{IsHostClient, WasTold, client_of, is_over as is_host_over, is_status, new_client, with_client}
 use Rattle.uas_host.specs.Replies.{Given, given, no_reply, replied, replied_first, reply_by, reply_of, slot_reply, without}
@@ -34,13 +31,13 @@ use Rattle.uas_host.specs.Tds.{data_td, status_td}
 use Rattle.bus_core.specs.declared.Td.{Td}
 use Rattle.bus_core.specs.declared.Step.TheVariants.{Take}
 use Rattle.bus_core.specs.Td.{Entry, is_over, is_data_over, is_ready, is_seen}
-use Rattle.bus_core.specs.Part.{Part, Act, entry_reply, settled, slot_tag, take_act, taken}
-use Rattle.bus_core.specs.Shared.{Shared, acted_on, due, due_step, has_ready, idle, is_some_of, request_direction, routed, routed_to, shared_step}
+use Rattle.bus_core.specs.Part.{Part, entry_reply, settled, slot_tag, take_act, taken}
+use Rattle.bus_core.specs.Shared.{Shared, due, due_step, has_ready, idle, is_some_of, request_direction, routed, routed_to, shared_step}
 use Rattle.bus_core.specs.Soundness.{readied_of, times_in}
 use Rattle.bus_core.specs.Matched.{IsMatched, carried_places, held_in, request_bytes, under}
 use Rattle.bus_core.specs.Hosts.{asked_by, phase_task}
-use Rattle.bus_core.specs.World.{World, Cell, cell_at}
-use Rattle.bus_core.specs.Cells.{HoldsIn, HoldsTrbs, HoldsData, HoldsTd, FitsCell, FitsHeld, IsEmptyCell, data_in_td, data_out_td, host_side, told_by, told_sent}
+use Rattle.bus_core.specs.World.{World, cell_at}
+use Rattle.bus_core.specs.Cells.{HoldsIn, HoldsTrbs, HoldsData, FitsCell, FitsHeld, IsEmptyCell, data_in_td, data_out_td, host_side, told_by, told_sent}
 use Rattle.bus_core.specs.Fits.{Fits, FitsQueues, IsSoundWorld, command_trb, event_texts, place_in}
 use Rattle.bus_core.specs.WorldSteps.{TakeFits, TakesFit, TakeIsIdle, take_world}
 use Rattle.bus_core.proofs.CellWrites.{client_of-found, entry_at-same, entry_at-other, clients-length, get-none, get-within, held_for-same, held_for-other, index-past}

@@ -1,5 +1,5 @@
 -- The shared machine, read back from the world of rings.
-use Rattle.std.specs.Prelude.{◌≡◌, ℕ, zero, suc, ◌+◌, ◌-◌, ◌*◌, List, [], ◌∷◌, drop, length, map, slice_get, Option, Some, None, option_map, option_and_then, option_to_list, unwrap_or}
+use Rattle.std.specs.Prelude.{ℕ, suc, ◌-◌, List, [], ◌∷◌, drop, length, map, Option, None, option_map, option_and_then, unwrap_or}
 use Rattle.std.specs.List.{range_with_len, filter_map}
 use Rattle.block_unit.specs.BlockMaps.{BlockMaps}
 use Rattle.cycle_ring.specs.Ring.{Ring}

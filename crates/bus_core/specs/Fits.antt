@@ -1,5 +1,5 @@
 -- The world of rings fits a state of the shared machine: what each ring, context, buffer and table has to hold for it.
-use Rattle.std.specs.Prelude.{◌≡◌, ℕ, zero, suc, ◌+◌, ◌-◌, ◌*◌, ◌<◌, ◌≤◌, ◌==◌, if◌then◌else◌, List, [], ◌∷◌, ◌++◌, length, map, slice_get, slice_index, Option, Some, None}
+use Rattle.std.specs.Prelude.{◌≡◌, ℕ, suc, ◌+◌, ◌-◌, ◌*◌, ◌<◌, ◌≤◌, ◌==◌, if◌then◌else◌, List, [], ◌∷◌, ◌++◌, length, map, slice_get, slice_index, Option, Some, None}
 use Rattle.block_unit.specs.BlockMaps.{BlockMaps}
 use Rattle.xhci_trb.specs.declared.Trb.{Trb}
 use Rattle.xhci_trb.specs.declared.Trb.TheVariants.{Normal}
@@ -26,7 +26,6 @@ use Rattle.bus_core.specs.declared.Completion.{Completion}
 use Rattle.bus_core.specs.declared.Completion.TheVariants.{CommandDone, DataDone, StatusDone}
 use Rattle.bus_core.specs.Part.{Part}
 use Rattle.bus_core.specs.Shared.{Shared}
-use Rattle.bus_core.specs.Soundness.{AreReady}
 use Rattle.bus_core.specs.Matched.{IsMatched, carried_places}
 use Rattle.bus_core.specs.World.{World, cell_at}
 use Rattle.bus_core.specs.Cells.{FitsHeld}

@@ -2,7 +2,7 @@
 use Rattle.std.specs.Prelude.{◌≡◌, ℕ, ◌+◌, ◌==◌, Bool, cond, List, [], ◌∷◌, Option, Some, None}
 use Rattle.scsi_cmd.specs.Held.{held_at}
 use Rattle.bus_core.specs.declared.Td.{Td}
-use Rattle.bus_core.specs.Td.{Entry, is_awaited, data_trbs, is_ready}
+use Rattle.bus_core.specs.Td.{Entry, is_awaited, is_ready}
 
 abbrev pub one_if : Bool → ℕ
 one_if b = cond b 1 0

@@ -1,5 +1,5 @@
 -- The world of a bus over rings: everything that host, controller and device hold, and what of it stands under one tag.
-use Rattle.std.specs.Prelude.{ℕ, ◌+◌, ◌*◌, List, Option}
+use Rattle.std.specs.Prelude.{List, Option}
 use Rattle.cycle_ring.specs.Ring.{Ring}
 use Rattle.stream_array.specs.Rings.{LinesState, stream_ring}
 use Rattle.frame_store.specs.declared.TagBuffers.{TagBuffers}

@@ -1,19 +1,17 @@
 -- Where a step of the world of rings is due, and what its outcome is, told from rings, device and host alone.
-use Rattle.std.specs.Prelude.{◌≡◌, ℕ, suc, Bool, true, false, ◌&&◌, nat_lt, not, List, [], ◌∷◌, length, Option, Some, None}
-use Rattle.scsi_cmd.specs.declared.Reply.{Reply}
-use Rattle.stream_array.specs.declared.Pipe.TheVariants.{Command, Status, DataIn, DataOut}
+use Rattle.std.specs.Prelude.{◌≡◌, ℕ, suc, Bool, true, false, nat_lt, List, [], ◌∷◌, length, Some, None}
+use Rattle.stream_array.specs.declared.Pipe.TheVariants.{Status, DataIn, DataOut}
 use Rattle.uas_target.specs.declared.Phase.{Phase}
 use Rattle.uas_target.specs.declared.Phase.TheVariants.{Absent, Gives, Takes, Ends}
 use Rattle.uas_target.specs.Device.{answered, wanted}
 use Rattle.uas_host.specs.declared.Place.{Place}
 use Rattle.uas_host.specs.State.{client_of}
 use Rattle.uas_host.specs.Tags.{place_of}
-use Rattle.uas_host.specs.Replies.{replied}
 use Rattle.xhci_ctl.specs.Own.{IsOwnCommandFront, IsOwnDataFront, IsOwnStatusFront}
 use Rattle.xhci_ctl.specs.Pipes.{has_pending, is_armed}
 use Rattle.bus_core.specs.declared.Completion.{Completion}
 use Rattle.bus_core.specs.declared.Mark.{Mark}
-use Rattle.bus_core.specs.declared.Mark.TheVariants.{Carry, Move, Send, Settle, Quiet}
+use Rattle.bus_core.specs.declared.Mark.TheVariants.{Carry, Move, Send, Quiet}
 use Rattle.bus_core.specs.declared.Outcome.{Outcome}
 use Rattle.bus_core.specs.declared.Step.TheVariants.{CommandPipe, Data, Status as StatusStep, Event, Take}
 use Rattle.bus_core.specs.Part.{event_place}

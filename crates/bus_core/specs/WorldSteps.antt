@@ -1,6 +1,6 @@
 -- The steps of the world of rings, by the calls of host and controller, and what is claimed of them: each is the shared
 -- machine's step wherever the world fits a state.
-use Rattle.std.specs.Prelude.{◌≡◌, ℕ, ◌^◌, ◌<◌, true, false, List, [], ◌∷◌, fold, length, slice_get, ◌≤◌, Option, Some, None, option_map}
+use Rattle.std.specs.Prelude.{◌≡◌, ℕ, ◌^◌, ◌<◌, true, false, List, [], ◌∷◌, fold, length, slice_get, ◌≤◌, Some, None, option_map}
 use Rattle.block_unit.specs.BlockMaps.{BlockMaps}
 use Rattle.event_ring.specs.declared.Event.{Event}
 use Rattle.event_ring.specs.Events.{taken}
@@ -11,14 +11,13 @@ use Rattle.scsi_cmd.specs.declared.Command.{Command}
 use Rattle.scsi_cmd.specs.declared.SubmitFault.{SubmitFault}
 use Rattle.scsi_cmd.specs.Op.{direction_of}
 use Rattle.uas_target.specs.Device.{answered, opening as opening_device, wanted}
-use Rattle.uas_host.specs.declared.Handled.{Handled}
 use Rattle.uas_host.specs.declared.Handled.TheVariants.{Matched}
 use Rattle.uas_host.specs.declared.Place.{Place}
 use Rattle.uas_host.specs.State.{opening as opening_host}
 use Rattle.uas_host.specs.Doors.{submission_doors}
 use Rattle.uas_host.specs.Submit.{HasRoomFor, host_fault, lent, submitted}
 use Rattle.uas_host.specs.Tds.{pushed}
-use Rattle.uas_host.specs.Tags.{place_of, tag_of}
+use Rattle.uas_host.specs.Tags.{tag_of}
 use Rattle.uas_host.specs.Events.{Sides as EventSides, handled}
 use Rattle.uas_host.specs.Replies.{no_reply, replied}
 use Rattle.xhci_ctl.specs.declared.Acted.TheVariants.{Acted, Idle}

@@ -7,6 +7,7 @@ use scsi_cmd::{Buffer, CHECK_CONDITION, GOOD, Op, moves};
 use std::alloc::{AllocError, Global};
 use std::process::Abort;
 use std::test::Fail;
+use stream_array::Pipe;
 
 /// Steps whose tickets are small.
 #[derive(Drop)]
@@ -395,5 +396,163 @@ fn buffer_out_of_a_run(rt: HostRuntime) -> Result<(), Fail> {
     let rest = rest.outcomes();
     assert_eq!(rt; rest.len(), 7);
     assert!(rt; rest.iter().all(|outcome| outcome.acted));
+    Ok(())
+}
+
+/// TEST UNIT READY on tag 1 over fresh rings, as a controller's author finds it there: the command TRB and the status TRB, the
+/// event of each, and nothing left behind.
+#[test]
+fn test_unit_ready_on_the_rings(rt: HostRuntime) -> Result<(), Fail> {
+    let mut bus = new_bus(&rt, rt.alloc(), 1)?;
+    let _ = bus.step(Step::Submit {
+        client: 0,
+        tag: 1,
+        ticket: 0,
+        command: command(rt.alloc(), Op::TestUnitReady, 0)?,
+    });
+    assert_eq!(rt;
+        bus.lines().image(Pipe::Command, 0, 0),
+        Some([
+            0x00, 0x01, 0x00, 0x10, 0, 0, 0, 0, 0x20, 0, 0, 0, 0x21, 0x04, 0, 0
+        ])
+    );
+    assert_eq!(rt;
+        bus.lines().image(Pipe::Status, 1, 0),
+        Some([
+            0x00, 0x01, 0x00, 0x20, 0, 0, 0, 0, 0x70, 0, 0, 0, 0x25, 0x04, 0, 0
+        ])
+    );
+    assert_eq!(rt; bus.lines().image(Pipe::DataIn, 1, 0), None);
+    let _ = bus.step(Step::CommandPipe);
+    let _ = bus.step(Step::Status(1));
+    assert_eq!(rt;
+        bus.lines().image_event(0),
+        Some([
+            0, 0, 0, 0x41, 0, 0, 0, 0, 0, 0, 0, 0x01, 0x01, 0x80, 0x02, 0x01
+        ])
+    );
+    assert_eq!(rt;
+        bus.lines().image_event(1),
+        Some([
+            0x00, 0x10, 0x00, 0x42, 0, 0, 0, 0, 0x60, 0, 0, 0x0D, 0x01, 0x80, 0x03, 0x01
+        ])
+    );
+    let _ = bus.step(Step::Event);
+    let _ = bus.step(Step::Event);
+    assert_eq!(rt; bus.lines().image(Pipe::Command, 0, 0), None);
+    assert_eq!(rt; bus.lines().image(Pipe::Status, 1, 0), None);
+    assert_eq!(rt; bus.lines().len(), 0);
+    Ok(())
+}
+
+/// The bytes of a data TRB of tag 1's READ of 128 blocks: TRB k of 16, with these control bytes.
+fn data_trb(k: u8, status: [u8; 3], control: u8) -> [u8; 16] {
+    [
+        0,
+        0x10 * (k % 16),
+        0x01,
+        0,
+        0x01,
+        0,
+        0,
+        0,
+        status[0],
+        status[1],
+        status[2],
+        0,
+        control,
+        0x04,
+        0,
+        0,
+    ]
+}
+
+/// READ of 128 blocks on tag 1 twice: over a fresh ring its 16 TRBs stand in places 0 to 15; then in places 16 to 18, behind
+/// which the Link has CH too, and in 0 to 12 with the other cycle bit.
+#[test]
+fn long_reads_on_the_rings(rt: HostRuntime) -> Result<(), Fail> {
+    let read = Op::Read {
+        lba: 0,
+        count: 128,
+        fua: false,
+    };
+    let mut units = Vec::new(rt.alloc());
+    units.push(Unit::new(rt.alloc(), 128, Vec::new(rt.alloc()))?)?;
+    let mut bus = Bus::new(rt.alloc(), units)?;
+    let _ = bus.step(Step::Submit {
+        client: 0,
+        tag: 1,
+        ticket: 0,
+        command: command(rt.alloc(), read, 0)?,
+    });
+    let first = bus.lines();
+    assert_eq!(rt;
+        first.image(Pipe::DataIn, 1, 0),
+        Some(data_trb(0, [0x00, 0x10, 0x3E], 0x11))
+    );
+    assert_eq!(rt;
+        first.image(Pipe::DataIn, 1, 7),
+        Some(data_trb(7, [0x00, 0x10, 0x3E], 0x11))
+    );
+    assert_eq!(rt;
+        first.image(Pipe::DataIn, 1, 8),
+        Some(data_trb(8, [0x00, 0x10, 0x38], 0x11))
+    );
+    assert_eq!(rt;
+        first.image(Pipe::DataIn, 1, 14),
+        Some(data_trb(14, [0x00, 0x10, 0x08], 0x11))
+    );
+    assert_eq!(rt;
+        first.image(Pipe::DataIn, 1, 15),
+        Some(data_trb(15, [0x00, 0x10, 0x00], 0x21))
+    );
+    assert_eq!(rt; first.image(Pipe::DataIn, 1, 16), None);
+    let _ = bus.step(Step::CommandPipe);
+    for _ in 0..16 {
+        assert_eq!(rt; bus.lines().len(), 1);
+        let _ = bus.step(Step::Data(1));
+    }
+    assert_eq!(rt;
+        bus.lines().image_event(1),
+        Some([
+            0xF0, 0x10, 0x00, 0x43, 0, 0, 0, 0, 0, 0, 0, 0x01, 0x01, 0x80, 0x05, 0x01
+        ])
+    );
+    let _ = bus.drain(100);
+    let _ = bus.step(Step::Take(0));
+    let _ = bus.step(Step::Submit {
+        client: 0,
+        tag: 1,
+        ticket: 1,
+        command: command(rt.alloc(), read, 0)?,
+    });
+    let second = bus.lines();
+    assert_eq!(rt; second.image(Pipe::DataIn, 1, 15), None);
+    assert_eq!(rt;
+        second.image(Pipe::DataIn, 1, 16),
+        Some(data_trb(0, [0x00, 0x10, 0x3E], 0x11))
+    );
+    assert_eq!(rt;
+        second.image(Pipe::DataIn, 1, 18),
+        Some(data_trb(2, [0x00, 0x10, 0x3E], 0x11))
+    );
+    assert_eq!(rt;
+        second.image(Pipe::DataIn, 1, 19),
+        Some([
+            0x00, 0x10, 0x00, 0x43, 0, 0, 0, 0, 0, 0, 0, 0, 0x13, 0x18, 0, 0
+        ])
+    );
+    assert_eq!(rt;
+        second.image(Pipe::DataIn, 1, 0),
+        Some(data_trb(3, [0x00, 0x10, 0x3E], 0x10))
+    );
+    assert_eq!(rt;
+        second.image(Pipe::DataIn, 1, 11),
+        Some(data_trb(14, [0x00, 0x10, 0x08], 0x10))
+    );
+    assert_eq!(rt;
+        second.image(Pipe::DataIn, 1, 12),
+        Some(data_trb(15, [0x00, 0x10, 0x00], 0x20))
+    );
     Ok(())
 }

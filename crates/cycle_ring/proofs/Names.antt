@@ -7,7 +7,7 @@ use Rattle.cycle_ring.specs.Ring.{Ring, place_of, pointer_of, item_in, Addresses
 use Rattle.cycle_ring.proofs.Turns.{wraps_once, place_ahead, place_behind}
 
 -- the item at the place of item k
-item_in-place : (m at k : ℕ) → k < m → item_in m (at % m) ((at + k) % m) ≡ k
+pub item_in-place : (m at k : ℕ) → k < m → item_in m (at % m) ((at + k) % m) ≡ k
 item_in-place m at k below =
     let first : at % m < m = mod-lt at (omega arith) in
     let place : (at % m + k) % m ≡ (at + k) % m = mod-add-mod at m k in
@@ -31,7 +31,7 @@ item_at-pointer_of n k r places below =
     ) refl
 
 -- the item that is named at a place stands there
-item_in-stands : (m at place : ℕ) → place < m → (item_in m (at % m) place < m) × ((at + item_in m (at % m) place) % m ≡ place)
+pub item_in-stands : (m at place : ℕ) → place < m → (item_in m (at % m) place < m) × ((at + item_in m (at % m) place) % m ≡ place)
 item_in-stands m at place below =
     let first : at % m < m = mod-lt at (omega arith) in
     elim (cases_Bool (nat_le (at % m) place)) as (λ _. (item_in m (at % m) place < m) × ((at + item_in m (at % m) place) % m ≡ place)) [

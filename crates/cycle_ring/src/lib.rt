@@ -21,26 +21,33 @@
 //! make them equal. A place is free again only when the producer has seen the event of its TRB and
 //! reclaims it, so a ring holds at most N - 2 TRBs that are put and not reclaimed.
 //!
-//! What is promised: a [`CycleRing`] is a counted list, the TRBs put and not reclaimed and how many
-//! of them are consumed. TRB k of the list stands at place `(at + k) mod (N - 1)`, and its Cycle bit
+//! What is kept: the bytes of all places, the Link's too, the first place that isn't reclaimed, and
+//! both ends, each a place and a cycle state. Nothing counts the TRBs: a place is in use where it has the
+//! Cycle bit of the turn that starts at the first one. Every other place has the other bit, left from the
+//! turn before or 0 from the start; as one place stays free, the enqueue place is always such a place.
+//!
+//! What is promised: seen from outside, a [`CycleRing`] is the list that its bytes hold, the TRBs put and
+//! not reclaimed and how many of them are consumed. TRB k of the list stands at place `(at + k) mod (N - 1)`, and its Cycle bit
 //! is 1 on even turns; [`CycleRing::image`] shows the bytes at each place, the Link's too. An address of a
 //! turn's places names one item, and no other does ([`laws`]), so an event's pointer finds its TRB. A TD is
 //! refused exactly where the room is too small. `new` takes all memory, and no other call takes any.
 //! The crate stands on `xhci_trb` for the texts of TRBs.
 #![tactic(auto)]
 
-ghost use Rattle.std.specs.Prelude.{◌≡◌, ◌≢◌, ℕ, ◌+◌, ◌-◌, ◌*◌, ◌/◌, ◌%◌, ◌^◌, ◌<◌, ◌≤◌, ◌++◌, ◌↔◌, Bool, Some, None, All, length, slice_get, drop, ◌⊎◌, IsOk, IsSome, IfSome, IfOk, OnOk, OnErr};
-ghost use Rattle.std.specs.VecDeque.{deque_len, deque_capacity};
+ghost use Rattle.std.specs.Prelude.{◌≡◌, ◌≢◌, ℕ, ◌+◌, ◌-◌, ◌*◌, ◌/◌, ◌%◌, ◌^◌, ◌<◌, ◌≤◌, ◌++◌, ◌↔◌, Bool, Some, None, All, length, slice_get, drop, ◌⊎◌, IsOk, IsSome, IfSome, IfOk, OnOk, OnErr, IsTrue};
 ghost use Rattle.xhci_trb.specs.declared.Trb.{Trb};
 ghost use Rattle.xhci_trb.specs.Text.{HasText, has_chain, text};
 
+use ends::{End, bit_from, cycle_bit, distance};
+use places::{behind_link, put_back, zeros};
 use std::alloc::{AllocError, Global};
-use std::collections::VecDeque;
 use std::marker::Model;
 use thiserror::Error;
-use xhci_trb::{Trb, encode};
+use xhci_trb::{Trb, decode};
 
+mod ends;
 pub mod laws;
+mod places;
 #[cfg(test)]
 mod tests;
 
@@ -64,30 +71,31 @@ pub struct Td {
     pub last: u64,
 }
 
-/// A ring of `N` places, 4 to 256, of which the last is the Link's, with the producer's and the
-/// consumer's end.
+/// A ring of `N` places, 4 to 256, of which the last is the Link's: their bytes, the first place that isn't
+/// reclaimed, and the consumer's and the producer's end.
 #[derive(Debug, Drop)]
 pub struct CycleRing<const N: usize> {
     base: u64,
-    at: usize,
-    items: VecDeque<Trb>,
-    got: usize,
+    places: Vec<[u8; 16]>,
+    first: usize,
+    dequeue: End,
+    enqueue: End,
 }
 
 impl<const N: usize> Model for CycleRing<N> {
-    ghost use Rattle.std.specs.Prelude.{ℕ, ◌-◌, ◌≤◌};
-    ghost use Rattle.std.specs.VecDeque.{deque_capacity};
-    ghost use Rattle.cycle_ring.specs.Ring.{Ring, IsRing};
+    ghost use Rattle.cycle_ring.specs.Ring.{Ring};
+    ghost use Rattle.cycle_ring.specs.Segment.{shown, IsSegment};
 
     ghost Value = { Ring };
 
-    ghost view = { λ r. record { base = r.base; at = r.at; put = r.items.items; got = r.got } };
+    ghost view = { λ r. shown N r.base r.places.items r.first r.dequeue r.enqueue };
 
-    ghost invariant = { λ r. IsRing N (record { base = r.base; at = r.at; put = r.items.items; got = r.got }) × (N - 2 ≤ deque_capacity r.items) };
+    ghost invariant = { λ r. IsSegment N r.places.items r.first r.dequeue r.enqueue (shown N r.base r.places.items r.first r.dequeue r.enqueue) };
 }
 
 impl<const N: usize> CycleRing<N> {
     ghost use Rattle.cycle_ring.specs.Ring.{Ring, IsRing, opening, place_of, cycle_of, pointer_of, front_of, reclaimed, IsConsumed, IsPending, IsShifted, IsInUse, item_image, link_image, link_behind, IsTd, IsEnqueuePlace, item_at, item_in, consumed_at, oldest_of};
+    ghost use Rattle.cycle_ring.specs.Counted.{IsEnd};
 
     /// An empty ring at this address, a multiple of 16 below `2^63` (4.9.2). Refused for want of memory
     /// alone.
@@ -98,11 +106,14 @@ impl<const N: usize> CycleRing<N> {
         requires below { base < 2 ^ 63 }
         ensures { IfOk result (λ ring. ring ≡ opening base) }
     {
+        let places = zeros(alloc, N)?;
+        let start = End::first();
         Ok(CycleRing {
             base,
-            at: 0,
-            items: VecDeque::with_capacity(alloc, N - 2)?,
-            got: 0,
+            places,
+            first: 0,
+            dequeue: start,
+            enqueue: start,
         })
     }
 
@@ -111,7 +122,7 @@ impl<const N: usize> CycleRing<N> {
         ensures room { result + length self.now.put ≡ N - 2 }
         ensures standing { IsRing N self.now }
     {
-        let count = self.items.len();
+        let count = self.count();
         N - 2 - count
     }
 
@@ -127,15 +138,16 @@ impl<const N: usize> CycleRing<N> {
         ensures td { IfOk result (λ td. td ≡ record { first = pointer_of N self.old (length self.old.put); last = pointer_of N self.old (length self.old.put + length trbs.now - 1) }) }
         ensures full { OnErr result (self.new ≡ self.old) }
     {
-        let count = self.items.len();
-        if N - 2 - count < trbs.len() {
+        if self.room() < trbs.len() {
             return Err(RingFull);
         }
+        let start = self.enqueue;
+        let last = (start.place + trbs.len() - 1) % (N - 1);
         let td = Td {
-            first: self.pointer(count),
-            last: self.pointer(count + trbs.len() - 1),
+            first: self.pointer(start.place),
+            last: self.pointer(last),
         };
-        put_back(&mut self.items, trbs);
+        self.enqueue = put_back::<N>(&mut self.places, self.base, start, trbs);
         Ok(td)
     }
 
@@ -144,8 +156,7 @@ impl<const N: usize> CycleRing<N> {
         ensures place { result ≡ (pointer_of N self.now (length self.now.put), cycle_of N self.now (length self.now.put)) }
         ensures unused { (k : ℕ) → k < length self.now.put → pointer_of N self.now k ≢ result.0 }
     {
-        let count = self.items.len();
-        (self.pointer(count), self.cycle(count))
+        (self.pointer(self.enqueue.place), self.enqueue.cycle)
     }
 
     /// The first pending TRB and its address, if there is one (4.9.2).
@@ -153,8 +164,8 @@ impl<const N: usize> CycleRing<N> {
         ensures front { result ≡ front_of N self.now }
         ensures pending { IsSome result ↔ (self.now.got < length self.now.put) }
     {
-        let trb = self.items.get(self.got)?;
-        Some((self.pointer(self.got), *trb))
+        let trb = self.trb_at(self.dequeue)?;
+        Some((self.pointer(self.dequeue.place), trb))
     }
 
     /// The dequeue pointer and the consumer's cycle state. The pointer is never the Link's.
@@ -162,7 +173,7 @@ impl<const N: usize> CycleRing<N> {
         ensures dequeue { result ≡ (pointer_of N self.now self.now.got, cycle_of N self.now self.now.got) }
         ensures aligned { result.0 % 16 ≡ 0 }
     {
-        (self.pointer(self.got), self.cycle(self.got))
+        (self.pointer(self.dequeue.place), self.dequeue.cycle)
     }
 
     /// Consumes the first pending TRB, and steps over the Link. Asks that there is one.
@@ -170,7 +181,12 @@ impl<const N: usize> CycleRing<N> {
         requires { self.old.got < length self.old.put }
         ensures { self.new ≡ record self.old { got = self.old.got + 1 } }
     {
-        self.got += 1;
+        let next = self.dequeue.place + 1;
+        if next < N - 1 {
+            self.dequeue.place = next;
+        } else {
+            self.dequeue = behind_link(&self.places[next], self.base, self.dequeue);
+        }
     }
 
     /// The consumed TRB at an address, while it isn't reclaimed.
@@ -179,10 +195,10 @@ impl<const N: usize> CycleRing<N> {
         ensures known { IfSome result (λ trb. (k : ℕ) × IsConsumed N self.now k pointer × (slice_get self.now.put k ≡ Some trb)) }
     {
         let item = self.item_of(pointer)?;
-        if self.got <= item {
+        if self.got() <= item {
             return None;
         }
-        Some(self.items[item])
+        self.trb_at(self.end_at(item))
     }
 
     /// The first TRB that isn't reclaimed and its address, once it is consumed.
@@ -190,17 +206,18 @@ impl<const N: usize> CycleRing<N> {
         ensures oldest { result ≡ oldest_of N self.now }
         ensures known { IfSome result (λ at. IsConsumed N self.now 0 at.0) }
     {
-        if self.got == 0 {
+        if self.got() == 0 {
             return None;
         }
-        Some((self.pointer(0), self.items[0]))
+        let trb = self.trb_at(self.end_at(0))?;
+        Some((self.pointer(self.first), trb))
     }
 
     /// Consumes all pending TRBs (4.6.10).
     pub fn drop_pending(&mut self)
         ensures { self.new ≡ record self.old { got = length self.old.put } }
     {
-        self.got = self.items.len();
+        self.dequeue = self.enqueue;
     }
 
     /// Moves the consumer's end to a pending place (4.6.10). Refused where the address is that of no
@@ -214,10 +231,11 @@ impl<const N: usize> CycleRing<N> {
         let Some(item) = self.item_of(pointer) else {
             return Err(NotAPlace);
         };
-        if item < self.got || self.items.len() <= item || self.cycle(item) != cycle {
+        let end = self.end_at(item);
+        if item < self.got() || !self.is_in_use(end) || end.cycle != cycle {
             return Err(NotAPlace);
         }
-        self.got = item;
+        self.dequeue = end;
         Ok(())
     }
 
@@ -243,9 +261,7 @@ impl<const N: usize> CycleRing<N> {
         ensures shifted { (k : ℕ) → IsConsumed N self.old k pointer → (i : ℕ) → IsShifted N (k + 1) self.old self.new i }
     {
         let count = self.item_of(pointer).unwrap() + 1;
-        drop_front(&mut self.items, count);
-        self.at = (self.at + count) % (2 * (N - 1));
-        self.got -= count;
+        self.first = self.end_at(count).place;
     }
 
     /// The 16 bytes at a place whose TRB isn't reclaimed, and at the Link's while the TRB before it
@@ -255,33 +271,66 @@ impl<const N: usize> CycleRing<N> {
         ensures link { (k : ℕ) → k < N - 1 → place_of N self.now k ≡ N - 2 → place ≡ N - 1 → result ≡ link_image N self.now k }
         ensures in_use { IsSome result → (k : ℕ) × IsInUse N self.now k place }
     {
-        let count = self.items.len();
-        if place < N - 1 {
-            let item = self.item_at(place);
-            if item < count {
-                return Some(encode(&self.items[item], self.cycle(item)));
-            }
+        if place < N - 1 && self.is_in_use(self.end_at(self.item_at(place))) {
+            return Some(self.places[place]);
         }
-        if place == N - 1 {
-            let item = self.item_at(N - 2);
-            if item < count {
-                return Some(encode(&self.link_behind(item), self.cycle(item)));
-            }
+        if place == N - 1 && self.is_in_use(self.end_at(self.item_at(N - 2))) {
+            return Some(self.places[place]);
         }
         None
     }
 
-    // The Link that the push of this item wrote, where the item is the last before the Link (6.4.4.1).
-    fn link_behind(&self, item: usize) -> Trb
-        requires { item < length self.now.put }
-        ensures link { (trb : Trb) → slice_get self.now.put item ≡ Some trb → result ≡ link_behind self.now trb }
-        ensures text { HasText result }
+    // How many TRBs are put and not reclaimed.
+    fn count(&self) -> usize
+        ensures count { result ≡ length self.now.put }
+        ensures standing { IsRing N self.now }
     {
-        Trb::Link {
-            pointer: self.base,
-            toggle: true,
-            chain: self.items[item].has_chain(),
-            ioc: false,
+        let first = self.first;
+        distance(N - 1, first, self.enqueue.place)
+    }
+
+    // How many of them are consumed.
+    fn got(&self) -> usize
+        ensures got { result ≡ self.now.got }
+        ensures standing { IsRing N self.now }
+    {
+        let first = self.first;
+        distance(N - 1, first, self.dequeue.place)
+    }
+
+    // The place of an item, and the cycle state with which both ends come to it.
+    fn end_at(&self, item: usize) -> End
+        requires { item < N - 1 }
+        ensures end { IsEnd (N - 1) (self.now.at + item) result }
+        ensures within { result.place < N - 1 }
+    {
+        let place = (self.first + item) % (N - 1);
+        let cycle = bit_from(self.first, self.dequeue.cycle, self.dequeue.place);
+        End {
+            place,
+            cycle: bit_from(self.first, cycle, place),
+        }
+    }
+
+    // Whether a place has the Cycle bit that an end brings there.
+    fn is_in_use(&self, end: End) -> bool
+        requires { end.place < N - 1 }
+        ensures { (k : ℕ) → k < N - 1 → IsEnd (N - 1) (self.now.at + k) end → IsTrue result ↔ (k < length self.now.put) }
+    {
+        cycle_bit(&self.places[end.place]) == end.cycle
+    }
+
+    // The TRB of an item by its place, while it is there.
+    fn trb_at(&self, end: End) -> Option<Trb>
+        requires { end.place < N - 1 }
+        ensures { (k : ℕ) → k < N - 1 → IsEnd (N - 1) (self.now.at + k) end → result ≡ slice_get self.now.put k }
+    {
+        if !self.is_in_use(end) {
+            return None;
+        }
+        match decode(&self.places[end.place]) {
+            Ok((trb, _)) => Some(trb),
+            Err(_) => None,
         }
     }
 
@@ -293,13 +342,7 @@ impl<const N: usize> CycleRing<N> {
         ensures place { place_of N self.now result ≡ place }
         ensures only { (k : ℕ) → k < N - 1 → place_of N self.now k ≡ place → k ≡ result }
     {
-        let turn = N - 1;
-        let first = self.at % turn;
-        if first <= place {
-            place - first
-        } else {
-            place + turn - first
-        }
+        distance(N - 1, self.first, place)
     }
 
     // The item that stands, or would stand, at this address.
@@ -322,39 +365,10 @@ impl<const N: usize> CycleRing<N> {
         Some(self.item_at(place as usize))
     }
 
-    fn pointer(&self, item: usize) -> u64
-        requires { item ≤ N }
-        ensures { result ≡ pointer_of N self.now item }
+    fn pointer(&self, place: usize) -> u64
+        requires { place < N }
+        ensures { result ≡ self.now.base + 16 * place }
     {
-        self.base + 16 * ((self.at + item) % (N - 1)) as u64
-    }
-
-    fn cycle(&self, item: usize) -> bool
-        requires { item ≤ N }
-        ensures { result ≡ cycle_of N self.now item }
-    {
-        (self.at + item) / (N - 1) % 2 == 0
-    }
-}
-
-// Puts the TRBs behind the items; there is room.
-fn put_back(items: &mut VecDeque<Trb>, trbs: &[Trb])
-    requires { deque_len items.old + length trbs.now ≤ deque_capacity items.old }
-    ensures items { items.new.items ≡ items.old.items ++ trbs.now }
-    ensures capacity { deque_capacity items.new ≡ deque_capacity items.old }
-{
-    for trb in trbs {
-        items.push_back_reserved(*trb);
-    }
-}
-
-// Takes that many items from the front.
-fn drop_front(items: &mut VecDeque<Trb>, count: usize)
-    requires { count ≤ deque_len items.old }
-    ensures items { items.new.items ≡ drop count items.old.items }
-    ensures capacity { deque_capacity items.new ≡ deque_capacity items.old }
-{
-    for _ in 0..count {
-        items.pop_front();
+        self.base + 16 * place as u64
     }
 }

@@ -62,9 +62,9 @@ fn long_read() -> [Trb; 16]
     ]
 }
 
-// The status word and the low half of the control word at a place.
+// The status word and the low half of the control word that are stored at a place.
 fn words_at(ring: &CycleRing<20>, place: usize) -> Option<(u32, u32)> {
-    let bytes = ring.image(place)?;
+    let bytes = ring.places.get(place)?;
     let status = u32::from_le_bytes([bytes[8], bytes[9], bytes[10], bytes[11]]);
     Some((status, u32::from(bytes[12]) + 256 * u32::from(bytes[13])))
 }
@@ -100,7 +100,8 @@ fn consume_all(ring: &mut CycleRing<20>) {
     }
 }
 
-// Rows long-read and long-read-wraps.
+// Rows long-read and long-read-wraps, in the ring's own bytes: places that no turn has reached are zeros, and
+// places 13 to 15 keep the texts of the turn before.
 #[test]
 fn long_read_twice(rt: HostRuntime) -> Result<(), Fail> {
     let mut ring = CycleRing::<20>::new(rt.alloc(), 0x4300_1000)?;
@@ -110,9 +111,8 @@ fn long_read_twice(rt: HostRuntime) -> Result<(), Fail> {
         let control = if place == 15 { 0x421 } else { 0x411 };
         assert_eq!(rt; words_at(&ring, place), Some((*status, control)));
     }
-    for place in 16..21 {
-        assert_eq!(rt; ring.image(place), None);
-    }
+    assert_eq!(rt; ring.image(16), None);
+    assert_eq!(rt; words_at(&ring, 16), Some((0, 0)));
     consume_all(&mut ring);
     assert_eq!(rt; ring.room(), 18);
     assert_eq!(rt; ring.place(), (0x4300_1100, true));
@@ -128,10 +128,9 @@ fn long_read_twice(rt: HostRuntime) -> Result<(), Fail> {
         assert_eq!(rt; words_at(&ring, place), Some((*status, control)));
     }
     let link = b"\x00\x10\x00\x43\x00\x00\x00\x00\x00\x00\x00\x00\x13\x18\x00\x00";
-    assert_eq!(rt; ring.image(19), Some(*link));
-    for place in 13..16 {
-        assert_eq!(rt; ring.image(place), None);
-    }
+    assert_eq!(rt; ring.places.get(19).copied(), Some(*link));
+    assert_eq!(rt; ring.image(13), None);
+    assert_eq!(rt; words_at(&ring, 13), Some((0x0010_1000, 0x411)));
     assert_eq!(rt; ring.place(), (0x4300_10d0, false));
     Ok(())
 }
@@ -174,30 +173,6 @@ fn the_smallest_and_the_largest_ring(rt: HostRuntime) -> Result<(), Fail> {
     Ok(())
 }
 
-#[test]
-fn refusals(rt: HostRuntime) -> Result<(), Fail> {
-    let stop = Trb::StopEndpoint {
-        endpoint: 5,
-        slot: 1,
-    };
-    let mut ring = CycleRing::<4>::new(rt.alloc(), 0x5000_0000)?;
-    ring.push_td(&[stop])?;
-    ring.push_td(&[stop])?;
-    assert_eq!(rt; ring.push_td(&[stop]), Err(RingFull));
-    assert_eq!(rt; ring.place(), (0x5000_0020, true));
-    // the enqueue place, the Link's, no place, the wrong cycle state
-    assert_eq!(rt; ring.set_dequeue(0x5000_0020, true), Err(NotAPlace));
-    assert_eq!(rt; ring.set_dequeue(0x5000_0030, true), Err(NotAPlace));
-    assert_eq!(rt; ring.set_dequeue(0x5000_0011, true), Err(NotAPlace));
-    assert_eq!(rt; ring.set_dequeue(0x4fff_fff0, true), Err(NotAPlace));
-    assert_eq!(rt; ring.set_dequeue(0x5000_0010, false), Err(NotAPlace));
-    assert_eq!(rt; ring.set_dequeue(0x5000_0010, true), Ok(()));
-    assert_eq!(rt; ring.front(), Some((0x5000_0010, stop)));
-    // now a consumed place
-    assert_eq!(rt; ring.set_dequeue(0x5000_0000, true), Err(NotAPlace));
-    Ok(())
-}
-
 const FIRST: Trb = Trb::StopEndpoint {
     endpoint: 2,
     slot: 1,
@@ -213,13 +188,6 @@ const THIRD: Trb = Trb::StopEndpoint {
     slot: 1,
 };
 
-// The controller moves a pending TRB.
-fn consume<const N: usize>(ring: &mut CycleRing<N>) {
-    if ring.front().is_some() {
-        ring.advance();
-    }
-}
-
 // The host frees up to a consumed TRB.
 fn free<const N: usize>(rt: &impl Abort, ring: &mut CycleRing<N>, pointer: u64) {
     let found = ring.consumed(pointer);
@@ -229,77 +197,7 @@ fn free<const N: usize>(rt: &impl Abort, ring: &mut CycleRing<N>, pointer: u64) 
     }
 }
 
-// Places 0 to 3 and a Link at 4.
-#[test]
-fn consumed_by_address(rt: HostRuntime) -> Result<(), Fail> {
-    let mut ring = CycleRing::<5>::new(rt.alloc(), 0x5000_0000)?;
-    ring.push_td(&[FIRST])?;
-    ring.push_td(&[SECOND])?;
-    ring.push_td(&[THIRD])?;
-    assert_eq!(rt; ring.consumed(0x5000_0000), None);
-    assert_eq!(rt; ring.oldest(), None);
-    consume(&mut ring);
-    assert_eq!(rt; ring.consumed(0x5000_0000), Some(FIRST));
-    assert_eq!(rt; ring.consumed(0x5000_0010), None);
-    assert_eq!(rt; ring.oldest(), Some((0x5000_0000, FIRST)));
-    // inside a place, and below the ring
-    assert_eq!(rt; ring.consumed(0x5000_0001), None);
-    assert_eq!(rt; ring.consumed(0x4fff_fff0), None);
-    consume(&mut ring);
-    free(&rt, &mut ring, 0x5000_0010);
-    assert_eq!(rt; ring.consumed(0x5000_0000), None);
-    assert_eq!(rt; ring.consumed(0x5000_0010), None);
-    assert_eq!(rt; ring.oldest(), None);
-    // over the Link: places 2, 3 and 0
-    ring.push_td(&[FIRST])?;
-    ring.push_td(&[SECOND])?;
-    for _ in 0..3 {
-        consume(&mut ring);
-    }
-    assert_eq!(rt; ring.oldest(), Some((0x5000_0020, THIRD)));
-    assert_eq!(rt; ring.consumed(0x5000_0020), Some(THIRD));
-    assert_eq!(rt; ring.consumed(0x5000_0030), Some(FIRST));
-    assert_eq!(rt; ring.consumed(0x5000_0000), Some(SECOND));
-    // the enqueue place, and the Link's
-    assert_eq!(rt; ring.consumed(0x5000_0010), None);
-    assert_eq!(rt; ring.consumed(0x5000_0040), None);
-    free(&rt, &mut ring, 0x5000_0030);
-    assert_eq!(rt; ring.oldest(), Some((0x5000_0000, SECOND)));
-    Ok(())
-}
-
-#[test]
-fn pending_trbs_are_dropped(rt: HostRuntime) -> Result<(), Fail> {
-    let mut ring = CycleRing::<20>::new(rt.alloc(), 0x4300_1000)?;
-    // an empty ring
-    ring.drop_pending();
-    assert_eq!(rt; ring.dequeue(), (0x4300_1000, true));
-    assert_eq!(rt; ring.oldest(), None);
-    // behind the third TRB of a TD
-    ring.push_td(&long_read())?;
-    for _ in 0..3 {
-        consume(&mut ring);
-    }
-    ring.drop_pending();
-    assert_eq!(rt; ring.front(), None);
-    assert_eq!(rt; ring.dequeue(), (0x4300_1100, true));
-    assert_eq!(rt;
-        ring.consumed(0x4300_1030),
-        Some(chained(0x1_0001_3000, 31))
-    );
-    assert_eq!(rt; ring.room(), 2);
-    free(&rt, &mut ring, 0x4300_10f0);
-    // a TD that begins at place 16 ends at place 12 of the next turn
-    ring.push_td(&long_read())?;
-    ring.drop_pending();
-    assert_eq!(rt; ring.dequeue(), (0x4300_10d0, false));
-    assert_eq!(rt; ring.dequeue(), ring.place());
-    free(&rt, &mut ring, 0x4300_10c0);
-    assert_eq!(rt; ring.room(), 18);
-    Ok(())
-}
-
-// The same ring over its Link: places 2 and 3 of the first turn, place 0 of the second.
+// A ring of places 0 to 3 and a Link at 4, over its Link: places 2 and 3 of the first turn, place 0 of the second.
 #[test]
 fn the_consumers_end_is_moved(rt: HostRuntime) -> Result<(), Fail> {
     let mut ring = CycleRing::<5>::new(rt.alloc(), 0x5000_0000)?;
@@ -321,6 +219,9 @@ fn the_consumers_end_is_moved(rt: HostRuntime) -> Result<(), Fail> {
     assert_eq!(rt; ring.move_dequeue(0x5000_0010, false), Ok(()));
     assert_eq!(rt; ring.front(), None);
     assert_eq!(rt; ring.dequeue(), (0x5000_0010, false));
+    assert_eq!(rt; ring.oldest(), Some((0x5000_0020, THIRD)));
+    assert_eq!(rt; ring.consumed(0x5000_0000), Some(SECOND));
+    assert_eq!(rt; ring.consumed(0x5000_0010), None);
     Ok(())
 }
 

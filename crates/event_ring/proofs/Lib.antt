@@ -1,2 +1,4 @@
 pub mod Turns
 pub mod Shifts
+pub mod Counted
+pub mod Segment

@@ -16,21 +16,29 @@
 //! Full and empty: the ring is empty where both pointers are equal, and full where one more event
 //! would make them equal, so E - 1 events can be pending.
 //!
-//! What is promised: an [`EventRing`] is the list of its pending events. Event k stands at place
-//! `(at + k) mod E`, and its Cycle bit is 1 on even turns; [`EventRing::image`] shows the bytes. An
-//! event is refused exactly where E - 1 are pending. `new` takes all memory, and no other call takes
-//! any. The crate stands on `xhci_trb` for the texts of TRBs.
+//! What is kept: the bytes of the places and both ends, each a place and a cycle state. Nothing counts
+//! the events: a place whose Cycle bit is the one that the consumer comes with holds a pending event,
+//! and every other place has the other Cycle bit, left from the turn before or 0 from the start.
+//!
+//! What is promised: seen from outside, an [`EventRing`] is the list of the events that its bytes hold.
+//! Event k stands at place `(at + k) mod E`, and its Cycle bit is 1 on even turns;
+//! [`EventRing::image`] shows the bytes. An event is refused exactly where E - 1 are pending. `new`
+//! takes all memory, and no other call takes any. The crate stands on `xhci_trb` for the texts of TRBs.
 #![tactic(auto)]
 
-ghost use Rattle.std.specs.Prelude.{◌≡◌, ◌≢◌, ℕ, ◌+◌, ◌-◌, ◌*◌, ◌/◌, ◌%◌, ◌<◌, ◌≤◌, ◌++◌, [], ◌∷◌, ◌↔◌, length, slice_get, IsOk, IsSome, IfOk, OnSome, IfNone, OnOk, OnErr, IsTrue};
+ghost use Rattle.std.specs.Prelude.{◌≡◌, ◌≢◌, ℕ, ◌+◌, ◌-◌, ◌*◌, ◌/◌, ◌%◌, ◌<◌, ◌≤◌, ◌++◌, [], ◌∷◌, ◌↔◌, length, replicate, slice_get, IsOk, IsSome, IfOk, OnSome, IfNone, OnOk, OnErr, IsTrue};
+ghost use Rattle.xhci_trb.specs.declared.Trb.{Trb};
+ghost use Rattle.event_ring.specs.declared.Event.{Event};
 ghost use Rattle.event_ring.specs.Events.{trb_of, IsWritable};
 
+use ends::{End, cycle_bit, distance};
 use std::alloc::{AllocError, Global};
-use std::collections::VecDeque;
 use std::marker::Model;
 use thiserror::Error;
-use xhci_trb::{Trb, encode};
+use xhci_trb::laws::text_reads_back;
+use xhci_trb::{Trb, decode, encode};
 
+mod ends;
 #[cfg(test)]
 mod tests;
 
@@ -95,27 +103,28 @@ impl Event {
     }
 }
 
-/// An event ring of `E` places, 16 to 4,096.
+/// An event ring of `E` places, 16 to 4,096: their bytes, and its two ends.
 #[derive(Debug, Drop)]
 pub struct EventRing<const E: usize> {
-    at: usize,
-    pending: VecDeque<Event>,
+    places: Vec<[u8; 16]>,
+    dequeue: End,
+    enqueue: End,
 }
 
 impl<const E: usize> Model for EventRing<E> {
-    ghost use Rattle.std.specs.Prelude.{◌-◌, ◌≤◌};
-    ghost use Rattle.std.specs.VecDeque.{deque_capacity};
-    ghost use Rattle.event_ring.specs.Events.{Events, IsRing};
+    ghost use Rattle.event_ring.specs.Events.{Events};
+    ghost use Rattle.event_ring.specs.Segment.{shown, IsSegment};
 
     ghost Value = { Events };
 
-    ghost view = { λ r. record { at = r.at; pending = r.pending.items } };
+    ghost view = { λ r. shown E r.places.items r.dequeue r.enqueue };
 
-    ghost invariant = { λ r. IsRing E (record { at = r.at; pending = r.pending.items }) × (E - 1 ≤ deque_capacity r.pending) };
+    ghost invariant = { λ r. IsSegment E r.places.items r.dequeue r.enqueue (shown E r.places.items r.dequeue r.enqueue) };
 }
 
 impl<const E: usize> EventRing<E> {
     ghost use Rattle.event_ring.specs.Events.{Events, IsRing, opening, place_of, cycle_of, taken, IsShifted, IsInUse, event_image};
+    ghost use Rattle.event_ring.specs.Counted.{distance};
 
     /// An empty event ring (4.9.4). Refused for want of memory alone.
     pub fn new(alloc: Global) -> Result<Self, NoMemory>
@@ -123,9 +132,12 @@ impl<const E: usize> EventRing<E> {
         requires most_places { E ≤ 4096 }
         ensures { IfOk result (λ ring. ring ≡ opening) }
     {
+        let places = zeros(alloc, E)?;
+        let start = End::first();
         Ok(EventRing {
-            at: 0,
-            pending: VecDeque::with_capacity(alloc, E - 1)?,
+            places,
+            dequeue: start,
+            enqueue: start,
         })
     }
 
@@ -134,14 +146,14 @@ impl<const E: usize> EventRing<E> {
         ensures len { result ≡ length self.now.pending }
         ensures standing { IsRing E self.now }
     {
-        self.pending.len()
+        distance(E, self.dequeue.place, self.enqueue.place)
     }
 
     /// Whether no event is pending.
     pub fn is_empty(&self) -> bool
         ensures { IsTrue result ↔ (length self.now.pending ≡ 0) }
     {
-        self.pending.is_empty()
+        !self.is_pending(self.dequeue.place)
     }
 
     /// Puts an event behind the others (4.9.4). Asks that each field fits its bits: a residual 24, an
@@ -153,11 +165,14 @@ impl<const E: usize> EventRing<E> {
         ensures posted { OnOk result (self.new ≡ record self.old { pending = self.old.pending ++ event ∷ [] }) }
         ensures full { OnErr result (self.new ≡ self.old) }
     {
-        let count = self.pending.len();
-        if count == E - 1 {
+        if distance(E, self.dequeue.place, self.enqueue.place) == E - 1 {
             return Err(EventRingFull);
         }
-        self.pending.push_back_reserved(event);
+        let trb = event.trb();
+        let cycle = self.enqueue.cycle;
+        text_reads_back(&trb, cycle);
+        self.places[self.enqueue.place] = encode(&trb, cycle);
+        self.enqueue = self.enqueue.next(E);
         Ok(())
     }
 
@@ -168,8 +183,8 @@ impl<const E: usize> EventRing<E> {
         ensures empty { IfNone result ((self.new ≡ self.old) × (self.old.pending ≡ [])) }
         ensures shifted { OnSome result ((i : ℕ) → IsShifted E self.old self.new i) }
     {
-        let event = self.pending.pop_front()?;
-        self.at = (self.at + 1) % (2 * E);
+        let event = self.front()?;
+        self.dequeue = self.dequeue.next(E);
         Some(event)
     }
 
@@ -178,35 +193,72 @@ impl<const E: usize> EventRing<E> {
         ensures event { (k : ℕ) → k < E → place ≡ place_of E self.now k → result ≡ event_image E self.now k }
         ensures in_use { IsSome result → (k : ℕ) × IsInUse E self.now k place }
     {
-        let count = self.pending.len();
-        if place < E {
-            let item = self.item_at(place);
-            if item < count {
-                return Some(encode(&self.pending[item].trb(), self.cycle(item)));
-            }
+        if place < E && self.is_pending(place) {
+            return Some(self.places[place]);
         }
         None
     }
 
-    // The event that stands, or would stand, at this place.
-    fn item_at(&self, place: usize) -> usize
-        requires { place < E }
-        ensures bound { result < E }
-        ensures place { place_of E self.now result ≡ place }
-        ensures only { (k : ℕ) → k < E → place_of E self.now k ≡ place → k ≡ result }
+    // The event at the dequeue pointer, while it is the consumer's.
+    fn front(&self) -> Option<Event>
+        ensures { result ≡ slice_get self.now.pending 0 }
     {
-        let first = self.at % E;
-        if first <= place {
-            place - first
-        } else {
-            place + E - first
+        if !self.is_pending(self.dequeue.place) {
+            return None;
+        }
+        match decode(&self.places[self.dequeue.place]) {
+            Ok((trb, _)) => event_of(trb),
+            Err(_) => None,
         }
     }
 
-    fn cycle(&self, item: usize) -> bool
-        requires { item ≤ E }
-        ensures { result ≡ cycle_of E self.now item }
+    // Whether a place has the Cycle bit with which the consumer comes to it next.
+    fn is_pending(&self, place: usize) -> bool
+        requires { place < E }
+        ensures { IsTrue result ↔ (distance E (self.now.at % E) place < length self.now.pending) }
     {
-        (self.at + item) / E % 2 == 0
+        cycle_bit(&self.places[place]) == self.dequeue.bit_at(place)
+    }
+}
+
+// That many places of zeros.
+fn zeros(alloc: Global, count: usize) -> Result<Vec<[u8; 16]>, NoMemory>
+    ensures { IfOk result (λ places. places.items ≡ replicate count (replicate 16 0)) }
+{
+    let mut places = Vec::with_capacity(alloc, count)?;
+    for _ in 0..count {
+        places.push([0; 16])?;
+    }
+    Ok(places)
+}
+
+// The event of a TRB that is one.
+fn event_of(trb: Trb) -> Option<Event>
+    ensures { (event : Event) → trb ≡ trb_of event → result ≡ Some event }
+{
+    match trb {
+        Trb::TransferEvent {
+            pointer,
+            residual,
+            code,
+            endpoint,
+            slot,
+        } => Some(Event::Transfer {
+            pointer,
+            residual,
+            code,
+            endpoint,
+            slot,
+        }),
+        Trb::CommandEvent {
+            pointer,
+            code,
+            slot,
+        } => Some(Event::Command {
+            pointer,
+            code,
+            slot,
+        }),
+        _ => None,
     }
 }

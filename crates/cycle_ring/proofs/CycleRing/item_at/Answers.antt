@@ -1,24 +1,21 @@
--- The item at a place before the first one's stands in the next turn; two items of a turn differ in place.
-use Rattle.std.proofs.Common.{◌≡◌, ℕ, ◌+◌, ◌-◌, ◌%◌, ◌<◌, sym, ◌∙◌, arith}
-use Rattle.std.proofs.Math.Nat.{mod-lt}
-use Rattle.cycle_ring.proofs.Turns.{place_behind, same_item}
+-- The item that is named at a place stands there; two items of a turn differ in place.
+use Rattle.std.proofs.Common.{◌≡◌, ◌-◌, ◌%◌, ℕ, refl, sym, ap, ◌∙◌}
+use Rattle.cycle_ring.specs.Ring.{item_in}
+use Rattle.cycle_ring.proofs.Names.{item_in-stands}
+use Rattle.cycle_ring.proofs.Turns.{same_item}
 use Rattle.cycle_ring.proofs.CycleRing.item_at.Goals as goal
 
-module _ (n at place : ℕ) (below : place < n - 1) (behind : place < at % (n - 1)) where
-  ahead : (at + (place + (n - 1) - at % (n - 1))) % (n - 1) ≡ place
-  ahead =
-      let first : at % (n - 1) < n - 1 = mod-lt at (omega arith) in
-      place_behind (n - 1) at place _ below (omega arith)
-
-  alone : (k : ℕ) → k < n - 1 → (at + k) % (n - 1) ≡ place → k ≡ place + (n - 1) - at % (n - 1)
-  alone k within same =
-      let first : at % (n - 1) < n - 1 = mod-lt at (omega arith) in
-      same_item (n - 1) at k (place + (n - 1) - at % (n - 1)) within (omega arith) (same ∙ sym ahead)
-
-pub returns-else-first-place-clause-place : goal.returns-else-first-place-clause-place
-returns-else-first-place-clause-place g c =
-    rw (← c.self.view_is) (ahead g.row.N c.self.inside.at c.args.place c.requires c.if-first-place.false)
-
-pub returns-else-first-place-clause-only : goal.returns-else-first-place-clause-only
-returns-else-first-place-clause-only g c =
-    rw (← c.self.view_is) (alone g.row.N c.self.inside.at c.args.place c.requires c.if-first-place.false)
+pub returns : goal.returns
+returns g c =
+    let segment = rw c.self.view_is at c.self.invariant in
+    let m = g.row.N - 1 in
+    let at = c.args.self.now.at in
+    let place = c.args.place in
+    let named : c.distance.result ≡ item_in m (at % m) place = c.distance.ensures ∙ ap (λ (first : ℕ). item_in m first place) segment.start in
+    let stands = item_in-stands m at place c.requires in
+    rw named (record {
+      item = refl;
+      bound = stands.0;
+      place = stands.1;
+      only = λ k within same. same_item m at k (item_in m (at % m) place) within stands.0 (same ∙ sym stands.1);
+    })

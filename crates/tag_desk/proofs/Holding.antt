@@ -1,5 +1,6 @@
 -- What one seat of one tag knows and holds, before and after its steps.
-use Rattle.std.proofs.Common.{◌≡◌, ◌≢◌, ℕ, ◌+◌, ◌*◌, ◌/◌, ◌==◌, eq-eqb, ne_eqb, List, [], ◌∷◌, sym, refl, ap, subst, ◌∙◌, arith, Option, Some, None, MatchBool}
+use Rattle.std.proofs.Common.{◌≡◌, ◌≢◌, ℕ, ◌+◌, ◌*◌, ◌/◌, ◌==◌, eq-eqb, ne_eqb, List, [], ◌∷◌, sym, refl, ap, subst, ◌∙◌, arith, Option, Some, None}
+use Rattle.std.proofs.Common.{MatchBool}
 use mathlib.Core.Option as maybe
 use Rattle.atomic_table.specs.Table.{rest, step}
 use Rattle.tag_desk.specs.declared.Slip.{Slip}
@@ -18,7 +19,8 @@ opened (Free m) o n is was = absurd (let e : None ≡ Some n = sym is ∙ was in
 opened (Open m x) o n is was = (x, ap (λ k. Open k x) (let e : Some m ≡ Some n = sym is ∙ was in cc))
 
 -- a line with a ticket open holds no slot
-pub open_sat : (me : Sat) (o : Option ℕ) (n t : ℕ) → me ≡ client_sat (index_in me.0) (client_in me.0) → index_in me.0 ≡ t → o ≡ open_ticket (client_in me.0) → o ≡ Some n
+pub open_sat : (me : Sat) (o : Option ℕ) (n t : ℕ) → me ≡ client_sat (index_in me.0) (client_in me.0) → index_in me.0 ≡ t
+    → o ≡ open_ticket (client_in me.0) → o ≡ Some n
     → (x : Slip) × (client_in me.0 ≡ Open n x) × (me ≡ (Client t (Open n x), []))
 open_sat me o n t is index opens was =
     let found = opened (client_in me.0) o n opens was in (found.0, found.1, is ∙ (λ i. client_sat (index i) (found.1 i)))
@@ -39,7 +41,7 @@ read slots t u o r had is = ap front (sym is ∙ had)
 
 -- the client's seat holds an end of its ticket, and knows the tag as free
 abbrev pub Ended : ℕ → ℕ → Sat → Type 0
-Ended t n w = (y : Slip) × IsEnd (t + 1) n y × (w ≡ (Client t (Free n), (t, Some y) ∷ []))
+Ended t n w = (y : Slip) × IsEnd (t + 1) n y × (w ≡ (Client t (Free (n + 1)), (t, Some y) ∷ []))
 
 pub looked : (slots t n found : ℕ) (me w : Sat) → found ≡ 4 * n + 3 → Looks (step slots t (4 * n + 3) (4 * n) maybe.none) me found w → Ended t n w
 looked slots t n found me w is told =

@@ -3,3 +3,4 @@ pub mod Steps
 pub mod Dealing
 pub mod Holding
 pub mod Seating
+pub mod Settling

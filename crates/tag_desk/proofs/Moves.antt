@@ -1,5 +1,6 @@
 -- A tag that moves from one stage to another, and what that leaves of the rule.
-use Rattle.std.proofs.Common.{◌≡◌, ◌≢◌, ℕ, zero, suc, ◌<◌, ◌==◌, if◌then◌else◌, eq-eqb, ne_eqb, List, [], ◌∷◌, length, set, get_or, slice_index, slice_set, sym, refl, ap, subst, ◌∙◌, ⊎_elim, arith, Option}
+use Rattle.std.proofs.Common.{◌≡◌, ◌≢◌, ℕ, zero, suc, ◌<◌, ◌==◌, if◌then◌else◌, eq-eqb, ne_eqb, List, [], ◌∷◌, length, set, get_or, slice_index}
+use Rattle.std.proofs.Common.{slice_set, sym, refl, ap, subst, ◌∙◌, ⊎_elim, arith, Option}
 use mathlib.Core.Option.{some, some-injective, some-ne-none}
 use mathlib.Core.Option as maybe
 use mathlib.Core.Logic.{dite}
@@ -86,7 +87,8 @@ moved tags s held t id n slot x w within dealt at knows clients works =
           let home : get_elem? (set s.homes t slot) k ≡ some slot = ap (get_elem? (set s.homes t slot)) e ∙ set_here s.homes t slot deep in
           at_moved k t _ n _ (some slot) _ x e word home (updated_here b.stage t k x e) at)
           (λ (e : k ≢ t).
-          at_moved k k _ _ _ _ _ _ refl (get_or-set_other s.words t k n 0 e) (set_else s.homes t k slot e) (updated_else b.stage t k x e) (held.each_tag k below));
+          at_moved k k _ _ _ _ _ _ refl (get_or-set_other s.words t k n 0 e) (set_else s.homes t k slot e) (updated_else b.stage t k x e)
+          (held.each_tag k below));
       each_seat =
           λ k v there.
           ⊎_elim (λ (h : (k ≡ id) × (w ≡ v)). subst (λ (p : ℕ × View). Knows (restaged b t x) p.0 p.1) (λ i. (sym h.0 i, h.1 i)) knows)

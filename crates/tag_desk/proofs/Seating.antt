@@ -1,5 +1,6 @@
 -- One line of a seat that was read, and written back.
-use Rattle.std.proofs.Common.{◌≡◌, ℕ, zero, suc, ◌+◌, ◌-◌, ◌*◌, ◌/◌, ◌%◌, ◌<◌, ◌≢◌, List, [], ◌∷◌, length, set, get_or, sym, refl, ap, subst, ◌∙◌, arith, Option, Some, None, MatchOption, IfSome, slice_get, All, Bool, true, false, if◌then◌else◌, nat_lt, ◌==◌}
+use Rattle.std.proofs.Common.{◌≡◌, ℕ, zero, suc, ◌+◌, ◌-◌, ◌*◌, ◌/◌, ◌%◌, ◌<◌, ◌≢◌, List, [], ◌∷◌, length, set, get_or, sym, refl, ap, subst, ◌∙◌}
+use Rattle.std.proofs.Common.{arith, Option, Some, None, MatchOption, IfSome, slice_get, All, Bool, true, false, if◌then◌else◌, nat_lt, ◌==◌}
 use mathlib.Core.Logic.{dite}
 use native.Mathlib.Decide.{ℕ_discrete}
 use Rattle.std.proofs.Math.ListN.{length-set}
@@ -9,12 +10,14 @@ use Rattle.std.proofs.lemmas.List.{set-set, set-get_or, get_or-set_same, get_or-
 use Rattle.tag_desk.specs.declared.Slip.{Slip}
 use Rattle.tag_desk.specs.declared.rule.ClientView.TheVariants.{Free}
 use Rattle.tag_desk.specs.declared.rule.ClientView.{ClientView}
-use Rattle.tag_desk.specs.Seats.{MadeDesk, Customer, Server, ClientLine, WorkLine, HeldClaim, IsClientOf, IsPumpOf, IsServed, IsOnTable, IsFreeAt, IsAway, ReapsAt, ClaimsAt, with_view, IsTagOf, new_line, AreNewCustomers, AreServersBelow}
+use Rattle.tag_desk.specs.Seats.{MadeDesk, Customer, Server, ClientLine, WorkLine, HeldClaim, IsClientOf, IsPumpOf, IsServed, IsOnTable, IsFreeAt}
+use Rattle.tag_desk.specs.Seats.{IsAway, ReapsAt, ClaimsAt, with_view, IsTagOf, new_line, AreNewCustomers, AreServersBelow}
 use Rattle.atomic_table.specs.Seated.{TableId}
 use Rattle.tag_desk.specs.declared.rule.WorkView.TheVariants.{Idle}
 
 -- writing a line back with another view is what `with_view` says
-pub set_view : (lines : List ClientLine) (k : ℕ) (l : ClientLine) (v : ClientView) → k < length lines → l ≡ get_or lines k l → set lines k (record { table = l.table; index = l.index; view = v }) ≡ with_view lines k v
+pub set_view : (lines : List ClientLine) (k : ℕ) (l : ClientLine) (v : ClientView) → k < length lines → l ≡ get_or lines k l
+    → set lines k (record { table = l.table; index = l.index; view = v }) ≡ with_view lines k v
 set_view [] k l v within is = absurd (omega arith)
 set_view (x ∷ xs) zero l v within is = λ i. record { table = (is i).table; index = (is i).index; view = v } ∷ xs
 set_view (x ∷ xs) (suc k) l v within is = ap (λ ls. x ∷ ls) (set_view xs k l v (omega arith) is)
@@ -26,7 +29,8 @@ set_back xs k x is = ap (set xs k) is ∙ set-get_or xs k x
 pub set_twice_back : {X : Type 0} (xs : List X) (k : ℕ) (x y : X) → x ≡ get_or xs k x → set (set xs k y) k x ≡ xs
 set_twice_back xs k x y is = set-set xs k y x ∙ set_back xs k x is
 
-pub match_option : {X : Type 0} {A A' : Type 0} {B B' : X → Type 0} (r : Option X) → (A → A') → ((x : X) → B x → B' x) → MatchOption r A B → MatchOption r A' B'
+pub match_option : {X : Type 0} {A A' : Type 0} {B B' : X → Type 0} (r : Option X) → (A → A') → ((x : X) → B x → B' x) → MatchOption r A B
+    → MatchOption r A' B'
 match_option None none some h = none h
 match_option (Some x) none some h = some x h
 
@@ -37,26 +41,29 @@ view_table (x ∷ xs) zero (suc j) v d = refl
 view_table (x ∷ xs) (suc k) zero v d = refl
 view_table (x ∷ xs) (suc k) (suc j) v d = view_table xs k j v d
 
-view_here : (lines : List ClientLine) (k : ℕ) (v : ClientView) (l : ClientLine) → slice_get lines k ≡ Some l → slice_get (with_view lines k v) k ≡ Some (record { table = l.table; index = l.index; view = v })
+view_here : (lines : List ClientLine) (k : ℕ) (v : ClientView) (l : ClientLine) → slice_get lines k ≡ Some l
+    → slice_get (with_view lines k v) k ≡ Some (record { table = l.table; index = l.index; view = v })
 view_here [] k v l at = absurd (let e : None ≡ Some l = at in cc)
 view_here (x ∷ xs) zero v l at = let e : x ≡ l = cc in λ i. Some (record { table = (e i).table; index = (e i).index; view = v })
 view_here (x ∷ xs) (suc k) v l at = view_here xs k v l at
 
 -- a client's seat stays one of the desk
-pub own_posting : (desk : MadeDesk) (seat : Customer) (k least : ℕ) (v : ClientView) → IsClientOf desk seat → IsClientOf desk (record { client = seat.client; least = least; lines = with_view seat.lines k v })
+pub own_posting : (desk : MadeDesk) (seat : Customer) (k least : ℕ) (v : ClientView) → IsClientOf desk seat
+    → IsClientOf desk (record { client = seat.client; least = least; lines = with_view seat.lines k v })
 own_posting desk seat k least v own = (own.0, λ j d within. view_table seat.lines k j v d ∙ own.1 j d within)
 
 pub own_reaping : (desk : MadeDesk) (old new : Customer) (tag : ℕ) (y : Slip) → IsClientOf desk old → ReapsAt old new tag y → IsClientOf desk new
-own_reaping desk old new tag y own reaps = subst (IsClientOf desk) (sym reaps.6) (own_posting desk old ((tag - 1) % 8) old.least (Free reaps.1) own)
+own_reaping desk old new tag y own reaps = subst (IsClientOf desk) (sym reaps.6) (own_posting desk old ((tag - 1) % 8) old.least (Free (reaps.1 + 1)) own)
 
 pub free_reaping : (old new : Customer) (tag : ℕ) (y : Slip) → ReapsAt old new tag y → IsFreeAt new tag
 free_reaping old new tag y reaps =
     let k = (tag - 1) % 8 in
-    let line : ClientLine = record { table = reaps.0.table; index = reaps.0.index; view = Free reaps.1 } in
-    subst (λ s. IsFreeAt s tag) (sym reaps.6) (line, view_here old.lines k (Free reaps.1) reaps.0 reaps.3, (reaps.1, refl))
+    let line : ClientLine = record { table = reaps.0.table; index = reaps.0.index; view = Free (reaps.1 + 1) } in
+    subst (λ s. IsFreeAt s tag) (sym reaps.6) (line, view_here old.lines k (Free (reaps.1 + 1)) reaps.0 reaps.3, (reaps.1 + 1, refl))
 
 -- a pump's seat stays one of the desk
-pub own_setting : (desk : MadeDesk) (seat : Server) (k : ℕ) (o : Option WorkLine) → IsPumpOf desk seat → IsOnTable desk.table o → IsPumpOf desk (record { pump = seat.pump; lines = set seat.lines k o })
+pub own_setting : (desk : MadeDesk) (seat : Server) (k : ℕ) (o : Option WorkLine) → IsPumpOf desk seat → IsOnTable desk.table o
+    → IsPumpOf desk (record { pump = seat.pump; lines = set seat.lines k o })
 own_setting desk seat k o own there = (
   length-set seat.lines k o ∙ own.0,
   λ j d within.
@@ -66,17 +73,20 @@ own_setting desk seat k o own there = (
       (λ (e : j ≢ k). subst (IsOnTable desk.table) (sym (get_or-set_other seat.lines k j o d e)) (own.1 j d short)),
 )
 
-pub own_claiming : (desk : MadeDesk) (old new : Server) (tag ticket : ℕ) (claim : HeldClaim) → IsPumpOf desk old → ClaimsAt old new tag ticket claim → IsPumpOf desk new
+pub own_claiming : (desk : MadeDesk) (old new : Server) (tag ticket : ℕ) (claim : HeldClaim) → IsPumpOf desk old → ClaimsAt old new tag ticket claim
+    → IsPumpOf desk new
 own_claiming desk old new tag ticket claim own claims = subst (IsPumpOf desk) (sym claims.5) (own_setting desk old (tag - 1) None own refl)
 
-pub away_claiming : (desk : MadeDesk) (old new : Server) (tag ticket : ℕ) (claim : HeldClaim) → IsPumpOf desk old → IsServed desk old tag → ClaimsAt old new tag ticket claim → IsAway new tag
+pub away_claiming : (desk : MadeDesk) (old new : Server) (tag ticket : ℕ) (claim : HeldClaim) → IsPumpOf desk old → IsServed desk old tag
+    → ClaimsAt old new tag ticket claim → IsAway new tag
 away_claiming desk old new tag ticket claim own served claims =
     let len = own.0 in
     let low = served.0 in
     let high = served.1 in
     let within : tag - 1 < length old.lines = omega arith in
     subst (λ s. IsAway s tag) (sym claims.5)
-    (slice_get_read (set old.lines (tag - 1) None) (length old.lines) (tag - 1) None (sym (length-set old.lines (tag - 1) None)) within (sym (get_or-set_same old.lines (tag - 1) None None within)))
+    (slice_get_read (set old.lines (tag - 1) None) (length old.lines) (tag - 1) None (sym (length-set old.lines (tag - 1) None)) within (sym
+    (get_or-set_same old.lines (tag - 1) None None within)))
 
 pub either_option : {X : Type 0} {A : Type 0} {B : X → Type 0} {C : Type 0} (r : Option X) → (A → C) → ((x : X) → B x → C) → MatchOption r A B → C
 either_option None none some h = none h
@@ -87,13 +97,15 @@ if_some A None some h = tt
 if_some A (Some x) some h = some x h
 
 -- the seats of a new desk are its own, and all tags are free
-pub own_new : (desk : MadeDesk) (clients : ℕ) (seats : List Customer) → desk.clients ≡ clients → AreNewCustomers desk.table clients seats → All (IsClientOf desk) seats
+pub own_new : (desk : MadeDesk) (clients : ℕ) (seats : List Customer) → desk.clients ≡ clients → AreNewCustomers desk.table clients seats
+    → All (IsClientOf desk) seats
 own_new desk clients seats is are c d within =
     let count = are.count in
     let each = are.each c d (omega arith) in
     let named = each.client in (omega arith, λ k l below. ap (λ (line : ClientLine). line.table) (each.lines k l below))
 
-pub free_new : (table : TableId) (clients : ℕ) (seats : List Customer) → AreNewCustomers table clients seats → All (λ seat. (tag : ℕ) → IsTagOf seat.client tag → IsFreeAt seat tag) seats
+pub free_new : (table : TableId) (clients : ℕ) (seats : List Customer) → AreNewCustomers table clients seats → All (λ seat. (tag : ℕ)
+    → IsTagOf seat.client tag → IsFreeAt seat tag) seats
 free_new table clients seats are c d within tag own =
     let count = are.count in
     let each = are.each c d (omega arith) in
@@ -101,7 +113,8 @@ free_new table clients seats are c d within tag own =
     let line : ClientLine = new_line table (8 * c + k) in
     (line, slice_get_read (get_or seats c d).lines 8 k line (sym each.count) (omega arith) (sym (each.lines k line (omega arith))), (0, refl))
 
-on_table_if : (desk : MadeDesk) (t : ℕ) (dealt serves : Bool) → IsOnTable desk.table (if dealt then (if serves then Some (record { table = desk.table; index = t; view = Idle }) else None) else None)
+on_table_if : (desk : MadeDesk) (t : ℕ) (dealt serves : Bool)
+    → IsOnTable desk.table (if dealt then (if serves then Some (record { table = desk.table; index = t; view = Idle }) else None) else None)
 on_table_if desk t true true = refl
 on_table_if desk t true false = refl
 on_table_if desk t false serves = refl
@@ -112,5 +125,6 @@ own_serving desk seats are p d within =
     let each = are.each p d (omega arith) in
     let all = each.count in (
       each.count,
-      λ t o below. subst (IsOnTable desk.table) (sym (each.lines t o (omega arith))) (on_table_if desk t (nat_lt t (8 * desk.clients)) (t / 8 % desk.pumps == p)),
+      λ t o below. subst (IsOnTable desk.table) (sym (each.lines t o (omega arith))) (on_table_if desk t (nat_lt t (8 * desk.clients))
+          (t / 8 % desk.pumps == p)),
     )

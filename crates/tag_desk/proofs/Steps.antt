@@ -1,5 +1,6 @@
 -- Each step on a word keeps the rule.
-use Rattle.std.proofs.Common.{◌≡◌, ◌≢◌, ℕ, ◌+◌, ◌*◌, ◌/◌, ◌<◌, ◌==◌, eq-eqb, ne_eqb, [], ◌∷◌, slice_index, sym, refl, ap, subst, ◌∙◌, inl, inr, arith, Option, Some, None, MatchBool}
+use Rattle.std.proofs.Common.{◌≡◌, ◌≢◌, ℕ, ◌+◌, ◌*◌, ◌/◌, ◌<◌, ◌≤◌, ◌==◌, eq-eqb, ne_eqb, [], ◌∷◌, slice_index, sym, refl, ap, subst, ◌∙◌, inl, inr}
+use Rattle.std.proofs.Common.{arith, Option, Some, None, MatchBool}
 use mathlib.Core.Option.{some, some-injective}
 use mathlib.Core.Option as maybe
 use prog.Atomic.{either}
@@ -14,20 +15,26 @@ use Rattle.tag_desk.specs.declared.rule.WorkView.TheVariants.{Idle, Claimed, Fin
 use Rattle.tag_desk.specs.declared.rule.View.{View}
 use Rattle.tag_desk.specs.declared.rule.View.TheVariants.{Client, Work, Both, Spent}
 use Rattle.tag_desk.specs.Slips.{IsAsk, IsEnd}
-use Rattle.tag_desk.specs.Rule.{Stage, undealt, free, posted, taken, done, ClientKnows, WorkKnows, IsAt, IsDesk, Place, Sat, Lifts, Posts, Takes, Finishes, Looks, Settles, IsSettled, posted_word, done_word}
+use Rattle.tag_desk.specs.Rule.{Stage, undealt, free, posted, taken, done, ClientKnows, WorkKnows, IsAt, IsDesk, Place, Sat, Lifts, Posts, Takes}
+use Rattle.tag_desk.specs.Rule.{Finishes, Looks, Settles, IsSettled, posted_word, done_word}
+use Rattle.tag_desk.specs.Seats.{IsHome}
 use Rattle.tag_desk.proofs.Moves.{moved, unmoved, updated_here}
 
 -- ---- what stays known of the other seat
 
-work_at_free : (w : WorkView) (stage : Stage) (m : ℕ) (x : Slip) → (n : ℕ) × (stage ≡ free n) → WorkKnows w stage → WorkKnows w (posted m x)
+work_at_free : (w : WorkView) (stage : Stage) (m : ℕ) (x : Slip) → (n : ℕ) × (stage ≡ free n) × (n ≤ m) → WorkKnows w stage → WorkKnows w (posted m x)
 work_at_free Idle stage m x is h = tt
 work_at_free (Claimed k) stage m x is h = absurd (let e : free is.0 ≡ taken k = sym is.1 ∙ h in cc)
-work_at_free (Finished k y) stage m x is h = tt
+work_at_free (Finished k y) stage m x is h =
+    let late = is.2 in
+    let early : k < is.0 = subst (WorkKnows (Finished k y)) is.1 h in
+    omega arith
 
-work_at_done : (w : WorkView) (stage : Stage) (n : ℕ) (y : Slip) → stage ≡ done n y → WorkKnows w stage → WorkKnows w (free n)
+work_at_done : (w : WorkView) (stage : Stage) (n : ℕ) (y : Slip) → stage ≡ done n y → WorkKnows w stage → WorkKnows w (free (n + 1))
 work_at_done Idle stage n y is h = tt
 work_at_done (Claimed k) stage n y is h = absurd (let e : done n y ≡ taken k = sym is ∙ h in cc)
-work_at_done (Finished k z) stage n y is h = tt
+work_at_done (Finished k z) stage n y is h =
+    let same = (subst (WorkKnows (Finished k z)) is h).0 in omega arith
 
 client_at_posted : (v : ClientView) (stage : Stage) (n : ℕ) (x : Slip) → stage ≡ posted n x → ClientKnows v stage → ClientKnows v (taken n)
 client_at_posted Waiting stage n x is h = absurd (let e : posted n x ≡ undealt = sym is ∙ h in cc)
@@ -67,9 +74,13 @@ done_by_word t word n slot (done m y) is at =
 
 -- ---- the steps
 
-pub post_allowed : (tags slots t id n last : ℕ) (x : Slip) → t < tags → IsAsk (t + 1) n x
-    → Allows (IsDesk tags) slots id (Client t (Free last), (t, Some x) ∷ []) t (λ _. 4 * n + 1) (Posts (step slots t (4 * n + 1) 0 maybe.none) (Client t (Free last), (t, Some x) ∷ []))
-post_allowed tags slots t id n last x within ask s held homes at fits =
+pub post_allowed : (tags slots t id n last : ℕ) (x : Slip) → t < tags → last ≤ n → IsAsk (t + 1) n x
+    → Allows (IsDesk tags) slots id (Client t (Free last), (t, Some x) ∷ []) t (λ _. 4 * n + 1) (Posts (step slots t (4 * n + 1) 0 maybe.none) (
+      Client t
+          (Free last),
+      (t, Some x) ∷ [],
+    ))
+post_allowed tags slots t id n last x within late ask s held homes at fits =
     let know = held.each_seat id (Client t (Free last)) at in
     let q : (4 * n + 1) / 4 ≡ n = omega arith in
     let b = held.books in (
@@ -80,12 +91,16 @@ post_allowed tags slots t id n last x within ask s held homes at fits =
           (refl, refl, ask)
           (know.0, know.1, subst (ClientKnows (Open ((4 * n + 1) / 4) x)) (sym (updated_here b.stage t t (posted n x) refl)) (sym q, refl))
           (λ k other v own _. absurd (other (sym own ∙ know.1)))
-          (λ k other w own h. work_at_free w (b.stage t) n x (last, know.2) h),
+          (λ k other w own h. work_at_free w (b.stage t) n x (last, know.2, late) h),
       refl,
     )
 
 pub finish_allowed : (tags slots t id n : ℕ) (y : Slip) → t < tags → IsEnd (t + 1) n y
-    → Allows (IsDesk tags) slots id (Work t (Claimed n), (t, Some y) ∷ []) t (λ _. 4 * n + 3) (Finishes (step slots t (4 * n + 3) 0 maybe.none) (Work t (Claimed n), (t, Some y) ∷ []))
+    → Allows (IsDesk tags) slots id (Work t (Claimed n), (t, Some y) ∷ []) t (λ _. 4 * n + 3) (Finishes (step slots t (4 * n + 3) 0 maybe.none) (
+      Work t
+          (Claimed n),
+      (t, Some y) ∷ [],
+    ))
 finish_allowed tags slots t id n y within end s held homes at fits =
     let know = held.each_seat id (Work t (Claimed n)) at in
     let q : (4 * n + 3) / 4 ≡ n = omega arith in
@@ -101,17 +116,14 @@ finish_allowed tags slots t id n y within end s held homes at fits =
       refl,
     )
 
-abbrev pub Unclaimed : WorkView → Type 0
-Unclaimed Idle = Unit {0}
-Unclaimed (Claimed n) = ⊥
-Unclaimed (Finished n y) = Unit {0}
-
 -- what a compare-exchange of a seat may come to
 abbrev Comes : ℕ → State (Option Slip) View → ℕ → ℕ → Sat → (Sat → Type 0) → ℕ → Type 0
-Comes tags s t id me told n = (v : View) × (a : Act (Option Slip)) × Valid s.homes me.1 a × IsDesk tags (stepped s t n id me.1 v a) × told (v, carried_after me.1 a)
+Comes tags s t id me told n = (v : View) × (a : Act (Option Slip)) × Valid s.homes me.1 a × IsDesk tags (stepped s t n id me.1 v a)
+    × told (v, carried_after me.1 a)
 
 pub take_allowed : (tags slots t id n : ℕ) (w : WorkView) → t < tags
-    → Allows (IsDesk tags) slots id (Work t w, []) t (λ k. either (k == (4 * n + 1)) (4 * n + 2) k) (Takes (step slots t (4 * n + 1) (4 * n + 2) maybe.none) (Work t w, []))
+    → Allows (IsDesk tags) slots id (Work t w, []) t (λ k. either (k == (4 * n + 1)) (4 * n + 2) k) (Takes (step slots t (4 * n + 1)
+    (4 * n + 2) maybe.none) (Work t w, []))
 unfolding IsPosted
 take_allowed tags slots t id n w within s held homes at fits =
     let me : Sat = (Work t w, []) in
@@ -133,7 +145,12 @@ take_allowed tags slots t id n w within s held homes at fits =
           (know.0, know.1, updated_here b.stage t t (taken n) refl ∙ ap taken (sym q))
           (λ k other v own h. client_at_posted v (b.stage t) n x is.1 h)
           (λ k other v own _. absurd (other (sym own ∙ know.1))),
-      subst (λ c. MatchBool c (Won (view, (t, Some x) ∷ [])) ((view, (t, Some x) ∷ []) ≡ me)) (sym (eq-eqb found (4 * n + 1) hit)) (x, subst (λ k. IsAsk (t + 1) k x) (sym q) is.3, refl),
+      subst (λ c. MatchBool c (Won (view, (t, Some x) ∷ [])) ((view, (t, Some x) ∷ []) ≡ me)) (sym (eq-eqb found (4 * n + 1) hit)) (
+        x,
+        subst (λ k. IsAsk
+            (t + 1) k x) (sym q) is.3,
+        refl,
+      ),
     ))
     (λ (miss : found ≢ 4 * n + 1). (
       Work t w,
@@ -144,7 +161,8 @@ take_allowed tags slots t id n w within s held homes at fits =
     ))
 
 pub look_allowed : (tags slots t id n : ℕ) (mine : Slip) → t < tags
-    → Allows (IsDesk tags) slots id (Client t (Open n mine), []) t (λ k. either (k == (4 * n + 3)) (4 * n) k) (Looks (step slots t (4 * n + 3) (4 * n) maybe.none) (Client t (Open n mine), []))
+    → Allows (IsDesk tags) slots id (Client t (Open n mine), []) t (λ k. either (k == (4 * n + 3)) (4 * n) k) (Looks (step slots t (4 * n + 3)
+    (4 * n) maybe.none) (Client t (Open n mine), []))
 unfolding IsDone
 look_allowed tags slots t id n mine within s held homes at fits =
     let me : Sat = (Client t (Open n mine), []) in
@@ -152,21 +170,26 @@ look_allowed tags slots t id n mine within s held homes at fits =
     let know = held.each_seat id (Client t (Open n mine)) at in
     let q : (4 * n + 3) / 4 ≡ n = omega arith in
     let b = held.books in
-    let Won : Sat → Type 0 = λ v. (y : Slip) × IsEnd (t + 1) ((4 * n + 3) / 4) y × (v ≡ (Client t (Free ((4 * n + 3) / 4)), (t, Some y) ∷ [])) in
+    let Won : Sat → Type 0 = λ v. (y : Slip) × IsEnd (t + 1) ((4 * n + 3) / 4) y × (v ≡ (Client t (Free ((4 * n + 3) / 4 + 1)), (t, Some y) ∷ [])) in
     exchanged found (4 * n + 3) (4 * n) (Comes tags s t id me (Looks (step slots t (4 * n + 3) (4 * n) maybe.none) me found))
     (λ (hit : found ≡ 4 * n + 3).
     let is : IsDone t n (get_elem? s.homes t) (b.stage t) = done_by_word t found n (get_elem? s.homes t) (b.stage t) hit (held.each_tag t within) in
     let y : Slip = is.0 in
-    let view : View = Client t (Free ((4 * n + 3) / 4)) in (
+    let view : View = Client t (Free ((4 * n + 3) / 4 + 1)) in (
       view,
       takes t (Some y),
       is.2,
-      moved tags s held t id (4 * n) maybe.none (free n) view within know.0
-          (refl, refl)
-          (know.0, know.1, updated_here b.stage t t (free n) refl ∙ ap free (sym q))
+      moved tags s held t id (4 * n) maybe.none (free (n + 1)) view within know.0
+          (omega arith, refl)
+          (know.0, know.1, updated_here b.stage t t (free (n + 1)) refl ∙ ap (λ k. free (k + 1)) (sym q))
           (λ k other v own _. absurd (other (sym own ∙ know.1)))
           (λ k other w own h. work_at_done w (b.stage t) n y is.1 h),
-      subst (λ c. MatchBool c (Won (view, (t, Some y) ∷ [])) ((view, (t, Some y) ∷ []) ≡ me)) (sym (eq-eqb found (4 * n + 3) hit)) (y, subst (λ k. IsEnd (t + 1) k y) (sym q) is.3, refl),
+      subst (λ c. MatchBool c (Won (view, (t, Some y) ∷ [])) ((view, (t, Some y) ∷ []) ≡ me)) (sym (eq-eqb found (4 * n + 3) hit)) (
+        y,
+        subst (λ k. IsEnd
+            (t + 1) k y) (sym q) is.3,
+        refl,
+      ),
     ))
     (λ (miss : found ≢ 4 * n + 3). (
       Client t (Open n mine),
@@ -200,13 +223,23 @@ lift_allowed tags slots t id within s held homes at fits =
 IsHeld : ℕ → ClientView → WorkView → ℕ → Place → Type 0
 IsHeld t v w word slot = (z : Slip) × (slot ≡ some (some (Some z))) × IsSettled v w word z
 
-held_open : (t word n : ℕ) (x : Slip) (w : WorkView) (slot : Place) (stage : Stage) → Unclaimed w → ClientKnows (Open n x) stage → WorkKnows w stage → IsAt t word slot stage → IsHeld t (Open n x) w word slot
+held_open : (t word n : ℕ) (x : Slip) (w : WorkView) (slot : Place) (stage : Stage) → IsHome w → ClientKnows (Open n x) stage → WorkKnows w stage
+    → IsAt t word slot stage → IsHeld t (Open n x) w word slot
 unfolding IsHeld
 held_open t word n x w slot undealt idle client work at = absurd client
 held_open t word n x w slot (free m) idle client work at = absurd client
 held_open t word n x Idle slot (posted m y) idle client work at = let e = client.0 in (y, at.1, (omega (arith, at.0), client.1))
 held_open t word n x (Claimed k) slot (posted m y) idle client work at = absurd idle
-held_open t word n x (Finished k z) slot (posted m y) idle client work at = let e = client.0 in (y, at.1, inl (omega (arith, at.0), client.1))
+held_open t word n x (Finished k z) slot (posted m y) idle client work at = let e = client.0 in (
+  y,
+  at.1,
+  inl (
+    omega (arith, at.0),
+    omega
+        (arith, work),
+    client.1,
+  ),
+)
 held_open t word n x Idle slot (taken m) idle client work at = absurd work
 held_open t word n x (Claimed k) slot (taken m) idle client work at = absurd idle
 held_open t word n x (Finished k z) slot (taken m) idle client work at = absurd work
@@ -214,13 +247,14 @@ held_open t word n x Idle slot (done m y) idle client work at = absurd work
 held_open t word n x (Claimed k) slot (done m y) idle client work at = absurd idle
 held_open t word n x (Finished k z) slot (done m y) idle client work at = let e = client in (y, at.1, inr (omega (arith, at.0), sym work.0 ∙ client, work.1))
 
-pub settle_allowed : (tags slots t id n : ℕ) (x : Slip) (w : WorkView) → t < tags → Unclaimed w
+pub settle_allowed : (tags slots t id n : ℕ) (x : Slip) (w : WorkView) → t < tags → IsHome w
     → Allows (IsDesk tags) slots id (Both t (Open n x) w, []) t (λ k. 0) (Settles (step slots t 0 0 maybe.none) (Both t (Open n x) w, []))
 unfolding IsHeld
 settle_allowed tags slots t id n x w within idle s held homes at fits =
     let know = held.each_seat id (Both t (Open n x) w) at in
     let b = held.books in
-    let is : IsHeld t (Open n x) w (slice_index s.words t) (get_elem? s.homes t) = held_open t (slice_index s.words t) n x w (get_elem? s.homes t) (b.stage t) idle know.3 know.4 (held.each_tag t within) in (
+    let is : IsHeld t (Open n x) w (slice_index s.words t) (get_elem? s.homes t) = held_open t (slice_index s.words t) n x w (get_elem? s.homes t)
+    (b.stage t) idle know.3 know.4 (held.each_tag t within) in (
       Spent,
       takes t (Some is.0),
       is.1,

@@ -1,4 +1,5 @@
--- What slips, words and seats mean, and the rule of the table.
+-- What slips, words and seats mean, the rule of the table, and what a closed desk had on it.
 pub mod Slips
 pub mod Rule
 pub mod Seats
+pub mod Left

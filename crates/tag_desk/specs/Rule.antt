@@ -1,5 +1,5 @@
 -- The rule of the table: for each tag its word, its slot, what its client's seat knows and what its pump's seat knows agree.
-use Rattle.std.specs.Prelude.{◌≡◌, ℕ, ◌+◌, ◌*◌, ◌/◌, ◌<◌, ◌≤◌, ◌==◌, List, [], ◌∷◌, length, slice_index, Option, Some, None, MatchBool, ◌⊎◌}
+use Rattle.std.specs.Prelude.{◌≡◌, ℕ, ◌+◌, ◌-◌, ◌*◌, ◌/◌, ◌<◌, ◌≤◌, ◌==◌, List, [], ◌∷◌, length, slice_index, Option, Some, None, MatchBool, ◌⊎◌}
 use mathlib.Core.Option.{some}
 use mathlib.Core.Option as maybe
 use lib.ListN.{get_elem?}
@@ -13,9 +13,10 @@ use Rattle.tag_desk.specs.declared.rule.View.{View}
 use Rattle.tag_desk.specs.declared.rule.View.TheVariants.{Dealer, Client, Work, Both, Spent}
 use Rattle.tag_desk.specs.Slips.{IsAsk, IsEnd}
 
--- The word of a tag is 4 x ticket + state: 0 free (with the last ticket), 1 posted, 2 taken, 3 done. Ticket 5 posted is 21
+-- The word of a tag is 4 x ticket + state: 0 free (with the last ticket, 0 at first), 1 posted, 2 taken, 3 done. Ticket 5 posted is 21.
+-- A free tag is told by the least number above all its tickets: by 0 at first, and by 6 after ticket 5
 abbrev pub free_word : ℕ → ℕ
-free_word ticket = 4 * ticket
+free_word next = 4 * (next - 1)
 
 abbrev pub posted_word : ℕ → ℕ
 posted_word ticket = 4 * ticket + 1
@@ -26,7 +27,7 @@ taken_word ticket = 4 * ticket + 2
 abbrev pub done_word : ℕ → ℕ
 done_word ticket = 4 * ticket + 3
 
--- Where a tag is: not dealt yet, free after a ticket, posted with a slip, taken, or done with a slip
+-- Where a tag is: not dealt yet, free with all its tickets below a number, posted with a slip, taken, or done with a slip
 pub data Stage : Type 0 where
   undealt : Stage
   free : ℕ → Stage
@@ -40,7 +41,7 @@ Place = maybe.Option (maybe.Option (Option Slip))
 -- the word and the slot of tag t + 1 at its stage: the slot is at home with the slip where it is posted or done, and else out
 abbrev pub IsAt : ℕ → ℕ → Place → Stage → Type 0
 IsAt t word slot undealt = (word ≡ 0) × (slot ≡ some (some None))
-IsAt t word slot (free n) = (word ≡ free_word n) × (slot ≡ some maybe.none)
+IsAt t word slot (free next) = (word ≡ free_word next) × (slot ≡ some maybe.none)
 IsAt t word slot (posted n x) = (word ≡ posted_word n) × (slot ≡ some (some (Some x))) × IsAsk (t + 1) n x
 IsAt t word slot (taken n) = (word ≡ taken_word n) × (slot ≡ some maybe.none)
 IsAt t word slot (done n y) = (word ≡ done_word n) × (slot ≡ some (some (Some y))) × IsEnd (t + 1) n y
@@ -58,7 +59,7 @@ ClientKnows Waiting stage = stage ≡ undealt
 ClientKnows (Free n) stage = stage ≡ free n
 ClientKnows (Open n x) stage = IsOpen n x stage
 
--- a pump without the claim: the tag isn't taken, and where it is done, this pump finished it with that slip
+-- a pump without the claim: the tag isn't taken, and where it is done, this pump finished it with that slip. What is posted is later than what it finished
 abbrev pub IsUntaken : Stage → Type 0
 IsUntaken undealt = Unit {0}
 IsUntaken (free n) = Unit {0}
@@ -68,8 +69,8 @@ IsUntaken (done n y) = ⊥
 
 abbrev pub IsFinished : ℕ → Slip → Stage → Type 0
 IsFinished n y undealt = Unit {0}
-IsFinished n y (free m) = Unit {0}
-IsFinished n y (posted m x) = Unit {0}
+IsFinished n y (free next) = n < next
+IsFinished n y (posted m x) = n < m
 IsFinished n y (taken m) = ⊥
 IsFinished n y (done m z) = (m ≡ n) × (z ≡ y)
 
@@ -138,7 +139,7 @@ Takes s me found w = MatchBool (found == s.first)
 -- the slot comes with an end of the ticket, where the word was done with it
 abbrev pub Looks : Step (Option Slip) → Sat → ℕ → Sat → Type 0
 Looks s me found w = MatchBool (found == s.first)
-    ((y : Slip) × IsEnd (s.word + 1) (s.first / 4) y × (w ≡ (Client s.word (Free (s.first / 4)), (s.word, Some y) ∷ [])))
+    ((y : Slip) × IsEnd (s.word + 1) (s.first / 4) y × (w ≡ (Client s.word (Free (s.first / 4 + 1)), (s.word, Some y) ∷ [])))
     (w ≡ me)
 
 -- what was posted, or finished by this very seat, comes back
@@ -147,7 +148,7 @@ IsSettled Waiting w found z = ⊥
 IsSettled (Free n) w found z = ⊥
 IsSettled (Open n x) Idle found z = (found ≡ posted_word n) × (z ≡ x)
 IsSettled (Open n x) (Claimed m) found z = ⊥
-IsSettled (Open n x) (Finished m y) found z = ((found ≡ posted_word n) × (z ≡ x)) ⊎ ((found ≡ done_word n) × (m ≡ n) × (z ≡ y))
+IsSettled (Open n x) (Finished m y) found z = ((found ≡ posted_word n) × (m < n) × (z ≡ x)) ⊎ ((found ≡ done_word n) × (m ≡ n) × (z ≡ y))
 
 abbrev pub client_in : View → ClientView
 client_in (Dealer from) = Waiting

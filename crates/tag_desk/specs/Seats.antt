@@ -1,5 +1,6 @@
 -- The desk, its seats and its claims as their calls see them.
-use Rattle.std.specs.Prelude.{◌≡◌, ℕ, ◌+◌, ◌*◌, ◌-◌, ◌/◌, ◌%◌, ◌^◌, ◌<◌, ◌≤◌, List, [], ◌∷◌, Option, Some, None, length, slice_get, slice_set, slice_index_or, if◌then◌else◌, nat_lt, ◌==◌}
+use Rattle.std.specs.Prelude.{◌≡◌, ℕ, ◌+◌, ◌*◌, ◌-◌, ◌/◌, ◌%◌, ◌^◌, ◌<◌, ◌≤◌, List, [], ◌∷◌, Option, Some, None, length, slice_get, slice_set}
+use Rattle.std.specs.Prelude.{slice_index_or, if◌then◌else◌, nat_lt, ◌==◌}
 use Rattle.std.proofs.Common.{zero, suc}
 use Rattle.atomic_table.specs.Seated.{TableId}
 use Rattle.tag_desk.specs.declared.Slip.{Slip}
@@ -16,6 +17,11 @@ pub record MadeDesk : Type 0 where
   pub table : TableId
   pub clients : ℕ
   pub pumps : ℕ
+
+-- a desk's table has a word and a slot for each tag, and its key is their number
+abbrev pub IsMade : MadeDesk → ℕ → Type 0
+IsMade desk key = (desk.table.words ≡ 8 * desk.clients) × (desk.table.slots ≡ 8 * desk.clients) × (key ≡ 8 * desk.clients)
+    × (0 < desk.clients) × (desk.clients ≤ 31) × (0 < desk.pumps)
 
 -- What a client knows of the tag at an index, which is the tag less 1
 pub record ClientLine : Type 0 where
@@ -50,6 +56,12 @@ open_ticket Waiting = None
 open_ticket (Free n) = None
 open_ticket (Open n x) = Some n
 
+-- the least number above all tickets that the client posted on its tag
+abbrev pub next_ticket : ClientView → ℕ
+next_ticket Waiting = 0
+next_ticket (Free next) = next
+next_ticket (Open n x) = n + 1
+
 abbrev pub IsDealt : ClientView → Type 0
 IsDealt Waiting = ⊥
 IsDealt (Free n) = Unit {0}
@@ -57,6 +69,10 @@ IsDealt (Open n x) = n < 2 ^ 60
 
 abbrev pub client_sat : ℕ → ClientView → Sat
 client_sat t v = (Client t v, slots_at t v)
+
+-- a client's seat of one tag, and the ticket that it has open there
+abbrev pub IsLineOf : Sat → ℕ → ClientView → Option ℕ → Type 0
+IsLineOf me t v posted = (me ≡ client_sat t v) × (posted ≡ open_ticket v) × IsDealt v
 
 abbrev pub work_sat : ℕ → WorkView → Sat
 work_sat t w = (Work t w, [])
@@ -72,10 +88,11 @@ IsHome (Finished n y) = Unit {0}
 
 -- a look that gave a slip: it ends the ticket that was open, and the tag is free after it
 abbrev pub Reaps : ClientLine → ClientLine → Slip → Type 0
-Reaps old new y = (n : ℕ) × (x : Slip) × (old.view ≡ Open n x) × IsEnd (old.index + 1) n y × (new ≡ record old { view = Free n })
+Reaps old new y = (n : ℕ) × (x : Slip) × (old.view ≡ Open n x) × IsEnd (old.index + 1) n y × (new ≡ record old { view = Free (n + 1) })
 
 abbrev pub IsClaimOf : WorkLine → ℕ → HeldClaim → Type 0
-IsClaimOf line ticket claim = (x : Slip) × IsAsk (line.index + 1) ticket x × (claim ≡ record { table = line.table; tag = line.index + 1; ticket = ticket; slip = Some x })
+IsClaimOf line ticket claim = (x : Slip) × IsAsk (line.index + 1) ticket x
+    × (claim ≡ record { table = line.table; tag = line.index + 1; ticket = ticket; slip = Some x })
 
 -- What a client has: the least ticket that it may post next, and a line for each of its eight tags
 pub record Customer : Type 0 where
@@ -88,9 +105,11 @@ pub record Server : Type 0 where
   pub pump : ℕ
   pub lines : List (Option WorkLine)
 
--- line k of client c is that of tag 8 c + k + 1
+-- line k of client c is that of tag 8 c + k + 1, and no ticket on it is above the seat's least
 abbrev pub IsCustomer : Customer → Type 0
-IsCustomer seat = (length seat.lines ≡ 8) × ((k : ℕ) (d : ClientLine) → k < 8 → (slice_index_or seat.lines k d).index ≡ 8 * seat.client + k) × (seat.client < 31)
+IsCustomer seat = (length seat.lines ≡ 8) × ((k : ℕ) (d : ClientLine) → k < 8 → (slice_index_or seat.lines k d).index ≡ 8 * seat.client + k)
+    × (seat.client < 31)
+    × ((k : ℕ) (d : ClientLine) → k < 8 → next_ticket (slice_index_or seat.lines k d).view ≤ seat.least)
 
 abbrev pub HasIndex : ℕ → Option WorkLine → Type 0
 HasIndex k None = Unit {0}
@@ -111,7 +130,8 @@ abbrev pub IsClientOf : MadeDesk → Customer → Type 0
 IsClientOf desk seat = (seat.client < desk.clients) × ((k : ℕ) (d : ClientLine) → k < 8 → (slice_index_or seat.lines k d).table ≡ desk.table)
 
 abbrev pub IsPumpOf : MadeDesk → Server → Type 0
-IsPumpOf desk seat = (length seat.lines ≡ 8 * desk.clients) × ((k : ℕ) (d : Option WorkLine) → k < length seat.lines → IsOnTable desk.table (slice_index_or seat.lines k d))
+IsPumpOf desk seat = (length seat.lines ≡ 8 * desk.clients) × ((k : ℕ) (d : Option WorkLine) → k < length seat.lines
+    → IsOnTable desk.table (slice_index_or seat.lines k d))
 
 -- tags 8 c + 1 to 8 c + 8 are those of client c: tag 17 is the first of client 2
 abbrev pub IsTagOf : ℕ → ℕ → Type 0
@@ -135,8 +155,9 @@ posting seat tag ticket x = record { client = seat.client; least = ticket + 1; l
 
 -- a look that gave a slip: it ends the ticket that was open on the tag, and the tag is free after it
 abbrev pub ReapsAt : Customer → Customer → ℕ → Slip → Type 0
-ReapsAt old new tag y = (line : ClientLine) × (n : ℕ) × (x : Slip) × (slice_get old.lines ((tag - 1) % 8) ≡ Some line) × (line.view ≡ Open n x) × IsEnd tag n y
-    × (new ≡ record old { lines = with_view old.lines ((tag - 1) % 8) (Free n) })
+ReapsAt old new tag y = (line : ClientLine) × (n : ℕ) × (x : Slip) × (slice_get old.lines ((tag - 1) % 8) ≡ Some line) × (line.view ≡ Open n x)
+    × IsEnd tag n y
+    × (new ≡ record old { lines = with_view old.lines ((tag - 1) % 8) (Free (n + 1)) })
 
 -- a claim that was given: it holds an ask of the ticket, and the pump's line is out with it
 abbrev pub ClaimsAt : Server → Server → ℕ → ℕ → HeldClaim → Type 0
@@ -148,7 +169,14 @@ IsAway seat tag = slice_get seat.lines (tag - 1) ≡ Some None
 
 -- the seat after a finish
 abbrev pub finishing : Server → HeldClaim → Slip → Server
-finishing seat claim y = record seat { lines = slice_set seat.lines (claim.tag - 1) (Some record { table = claim.table; index = claim.tag - 1; view = Finished claim.ticket y }) }
+finishing seat claim y = record seat {
+  lines = slice_set seat.lines (claim.tag - 1) (Some record {
+    table = claim.table;
+    index = claim.tag - 1;
+    view =
+        Finished claim.ticket y;
+  });
+}
 
 abbrev pub new_line : TableId → ℕ → ClientLine
 new_line table t = record { table = table; index = t; view = Free 0 }
@@ -162,12 +190,21 @@ pub record IsNewCustomer (table : TableId) (c : ℕ) (seat : Customer) : Type 0 
 
 -- what pump p has of the tag at index t once the tags below an index are dealt: a line that claimed nothing yet, where it serves the tag
 abbrev pub server_line : MadeDesk → ℕ → ℕ → ℕ → Option WorkLine
-server_line desk p below t = if nat_lt t below then (if t / 8 % desk.pumps == p then Some record { table = desk.table; index = t; view = Idle } else None) else None
+server_line desk p below t = if nat_lt t below then (if t / 8 % desk.pumps == p then Some record {
+  table = desk.table;
+  index = t;
+  view =
+      Idle;
+} else None) else None
 
 pub record IsServerBelow (desk : MadeDesk) (below p : ℕ) (seat : Server) : Type 0 where
   pub pump : seat.pump ≡ p
   pub count : length seat.lines ≡ 8 * desk.clients
   pub lines : (t : ℕ) (d : Option WorkLine) → t < 8 * desk.clients → slice_index_or seat.lines t d ≡ server_line desk p below t
+
+-- a pump's seat before any tag is dealt
+abbrev pub ServesNone : ℕ → ℕ → Server → Type 0
+ServesNone p tags seat = (seat.pump ≡ p) × (length seat.lines ≡ tags) × ((t : ℕ) (d : Option WorkLine) → t < tags → slice_index_or seat.lines t d ≡ None)
 
 -- a pump's seat on a new desk
 abbrev pub IsNewServer : MadeDesk → ℕ → Server → Type 0

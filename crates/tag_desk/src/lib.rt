@@ -22,22 +22,28 @@
 //! 3. The slot is at home where the word is posted or done, and else out with the seat that moved the word.
 //!
 //! So a claim holds an ask of the ticket asked for, and what `look` gives is an end of the ticket that the client posted,
-//! once. Slips are moved and never copied. No call waits or scans, and only `new` takes memory. That `claim` and `look`
-//! find a slip at all is no clause: a body that never gives one is refused by a test.
+//! once; and `close` tells what stands at each tag. Slips are moved and never copied. No call waits or scans, and `new` and
+//! `close` alone take memory. That `claim` and `look` find a slip at all is no clause: a body that never gives one is
+//! refused by a test.
 //!
 //! It stands on `scsi_cmd` for requests and replies, and on `atomic_table`.
 #![tactic(auto)]
 
-ghost use Rattle.std.specs.Prelude.{◌≡◌, ℕ, ◌+◌, ◌-◌, ◌*◌, ◌/◌, ◌%◌, ◌^◌, ◌<◌, ◌≤◌, length, slice_index, IfOk, IfSome, None, Some, MatchOption, Option, slice_index_or, slice_set, ◌⊎◌, All, IsTrue, ◌↔◌};
+ghost use Rattle.std.specs.Prelude.{◌≡◌, ℕ, ◌+◌, ◌-◌, ◌*◌, ◌/◌, ◌%◌, ◌^◌, ◌<◌, ◌≤◌, length, IfOk, IfSome, MatchOption, MatchResult, ◌⊎◌, All, IsTrue, ◌↔◌};
 ghost use Rattle.tag_desk.specs.Slips.{ticket_in, IsAsk, IsEnd};
-ghost use Rattle.tag_desk.specs.Seats.{IsClientOf, IsPumpOf, IsTagOf, IsServed, IsFreeAt, IsAway, posting, finishing, ReapsAt, ClaimsAt, WorkLine, new_line, IsNewCustomer, AreNewCustomers, AreServersBelow};
-ghost use Rattle.tag_desk.specs.declared.rule.View.TheVariants.{Dealer};
+ghost use Rattle.tag_desk.specs.Seats.{IsClientOf, IsPumpOf, IsTagOf, IsServed, IsFreeAt, IsAway};
+ghost use Rattle.tag_desk.specs.Seats.{posting, finishing, ReapsAt, ClaimsAt, AreNewCustomers, AreServersBelow};
+ghost use Rattle.tag_desk.specs.Left.{IsAllClientsOf, IsAllPumpsOf, left_of};
 
+mod closing;
 mod lines;
+mod opening;
+mod remains;
 mod rule;
 
-use atomic_table::Table;
 use lines::{Line, Work};
+use remains::Lists;
+pub use remains::{Left, TagSlip, TagSlips, TagTicket, TagTickets};
 use scsi_cmd::{Buffer, Command, Reply, SubmitFault, Task};
 use std::alloc::{AllocError, Global};
 use std::marker::Model;
@@ -107,14 +113,13 @@ pub struct Desk {
 }
 
 impl Model for Desk {
-    ghost use Rattle.std.specs.Prelude.{◌≡◌, ◌*◌, ◌≤◌, ◌<◌};
-    ghost use Rattle.tag_desk.specs.Seats.{MadeDesk};
+    ghost use Rattle.tag_desk.specs.Seats.{MadeDesk, IsMade};
 
     ghost Value = { MadeDesk };
 
     ghost view = { λ d. record { table = d.table.shared.table_id; clients = d.clients; pumps = d.pumps } };
 
-    ghost invariant = { λ d. (d.table.shared.table_id.words ≡ 8 * d.clients) × (d.table.shared.table_id.slots ≡ 8 * d.clients) × (d.table.shared.key ≡ 8 * d.clients) × (0 < d.clients) × (d.clients ≤ 31) × (0 < d.pumps) };
+    ghost invariant = { λ d. IsMade record { table = d.table.shared.table_id; clients = d.clients; pumps = d.pumps } d.table.shared.key };
 }
 
 /// A slip that was claimed: its tag and its ticket, and the slip itself until it is taken out. It holds the tag's seat
@@ -215,27 +220,6 @@ pub struct Seats {
     pub pumps: Vec<WorkSeat>,
 }
 
-impl WorkSeat {
-    /// A pump's seat that serves no tag yet.
-    fn serving_none(alloc: Global, pump: usize, tags: usize) -> Result<WorkSeat, NoMemory>
-        ensures { IfOk result (λ seat. (seat.pump ≡ pump) × (length seat.lines ≡ tags) × ((t : ℕ) (d : Option WorkLine) → t < tags → slice_index_or seat.lines t d ≡ None)) }
-    {
-        let mut lines = Vec::with_capacity(alloc, tags)?;
-        for _ in 0..tags {
-            lines.push(None)?;
-        }
-        Ok(WorkSeat { pump, lines })
-    }
-
-    fn serve(&mut self, index: usize, work: Work)
-        requires within { index < length self.old.lines }
-        requires index { work.index ≡ index }
-        ensures { self.new ≡ record self.old { lines = slice_set self.old.lines index (Some work) } }
-    {
-        self.lines[index] = Some(work);
-    }
-}
-
 impl Desk {
     /// A desk of free tags for 1 to 31 clients and 1, 2 or 4 pumps, and its seats.
     pub fn new(alloc: Global, clients: usize, pumps: usize) -> Result<(Desk, Seats), NoMemory>
@@ -248,6 +232,7 @@ impl Desk {
         ensures client_own { IfOk result (λ made. All (IsClientOf made.0) made.1.clients.items) }
         ensures client_free { IfOk result (λ made. All (λ seat. (tag : ℕ) → IsTagOf seat.client tag → IsFreeAt seat tag) made.1.clients.items) }
         ensures pump_own { IfOk result (λ made. All (IsPumpOf made.0) made.1.pumps.items) }
+        ensures all { IfOk result (λ made. IsAllClientsOf made.0 made.1.clients.items × IsAllPumpsOf made.0 made.1.pumps.items) }
     {
         let (desk, mut dealer) = Desk::undealt(alloc, clients, pumps)?;
         let mut servers = desk.bare_servers(alloc)?;
@@ -257,100 +242,6 @@ impl Desk {
             pumps: servers,
         };
         Ok((desk, seats))
-    }
-
-    /// The desk before its tags are dealt, and the seat that deals them.
-    fn undealt(
-        alloc: Global,
-        clients: usize,
-        pumps: usize,
-    ) -> Result<(Desk, rule::TableSeat), NoMemory>
-        requires some { 0 < clients }
-        requires most { clients ≤ 31 }
-        requires pumps { 0 < pumps }
-        ensures desk { IfOk result (λ made. (made.0.clients ≡ clients) × (made.0.pumps ≡ pumps)) }
-        ensures dealer { IfOk result (λ made. (made.1.table_id ≡ made.0.table) × (made.1.me.0 ≡ Dealer 0)) }
-    {
-        let tags = CLIENT_TAGS * clients;
-        let words = Vec::from_elem(alloc, 0, tags)?;
-        let (table, dealer) = Table::vacant(alloc, words.as_slice(), tags, &tags)?;
-        let desk = Desk {
-            table,
-            clients,
-            pumps,
-        };
-        Ok((desk, dealer))
-    }
-
-    /// A seat for each pump that serves no tag yet.
-    fn bare_servers(&self, alloc: Global) -> Result<Vec<WorkSeat>, NoMemory>
-        ensures { IfOk result (λ seats. AreServersBelow self.now 0 seats.items) }
-    {
-        let mut servers = Vec::with_capacity(alloc, self.pumps)?;
-        for pump in 0..self.pumps {
-            let seat = WorkSeat::serving_none(alloc, pump, CLIENT_TAGS * self.clients)?;
-            servers.push(seat)?;
-        }
-        Ok(servers)
-    }
-
-    fn deal_all(
-        &self,
-        alloc: Global,
-        dealer: &mut rule::TableSeat,
-        servers: &mut Vec<WorkSeat>,
-    ) -> Result<Vec<ClientSeat>, NoMemory>
-        requires dealer { (dealer.old.table_id ≡ self.now.table) × (dealer.old.me.0 ≡ Dealer 0) }
-        requires servers { AreServersBelow self.now 0 servers.old.items }
-        ensures clients { IfOk result (λ seats. AreNewCustomers self.now.table self.now.clients seats.items) }
-        ensures pumps { IfOk result (λ seats. AreServersBelow self.now (8 * self.now.clients) servers.new.items) }
-    {
-        let mut customers = Vec::with_capacity(alloc, self.clients)?;
-        for client in 0..self.clients {
-            let seat = self.deal_client(alloc, dealer, servers, client)?;
-            customers.push(seat)?;
-        }
-        Ok(customers)
-    }
-
-    fn deal_client(
-        &self,
-        alloc: Global,
-        dealer: &mut rule::TableSeat,
-        servers: &mut Vec<WorkSeat>,
-        client: usize,
-    ) -> Result<ClientSeat, NoMemory>
-        requires client { (client < self.now.clients) × (client < 31) }
-        requires dealer { (dealer.old.table_id ≡ self.now.table) × (dealer.old.me.0 ≡ Dealer (8 * client)) }
-        requires servers { AreServersBelow self.now (8 * client) servers.old.items }
-        ensures seat { IfOk result (IsNewCustomer self.now.table client) }
-        ensures dealer { IfOk result (λ seat. (dealer.new.table_id ≡ self.now.table) × (dealer.new.me.0 ≡ Dealer (8 * client + 8))) }
-        ensures servers { IfOk result (λ seat. AreServersBelow self.now (8 * client + 8) servers.new.items) }
-    {
-        let mut lines = Vec::with_capacity(alloc, CLIENT_TAGS)?;
-        let first = CLIENT_TAGS * client;
-        for k in 0..CLIENT_TAGS {
-            lines.push(self.deal(dealer, servers, first + k))?;
-        }
-        Ok(ClientSeat {
-            client,
-            least: 0,
-            lines,
-        })
-    }
-
-    fn deal(&self, dealer: &mut rule::TableSeat, servers: &mut Vec<WorkSeat>, index: usize) -> Line
-        requires within { index < 8 * self.now.clients }
-        requires dealer { (dealer.old.table_id ≡ self.now.table) × (dealer.old.me.0 ≡ Dealer index) }
-        requires servers { AreServersBelow self.now index servers.old.items }
-        ensures line { result ≡ new_line self.now.table index }
-        ensures dealer { (dealer.new.table_id ≡ self.now.table) × (dealer.new.me.0 ≡ Dealer (index + 1)) }
-        ensures servers { AreServersBelow self.now (index + 1) servers.new.items }
-    {
-        let (line, work) = lines::deal(self, dealer, index);
-        let pump = index / CLIENT_TAGS % self.pumps;
-        servers[pump].serve(index, work);
-        line
     }
 
     /// Posts a slip on a tag of the client that its seat knows to be free: a task management on the eighth of its tags,
@@ -419,6 +310,21 @@ impl Desk {
     {
         let index = usize::from(claim.tag) - 1;
         seat.lines[index] = Some(Work::finish(claim, self, slip));
+    }
+
+    /// What stands on the desk, once all its seats are back, in order: each ticket that a client has open is in one of
+    /// the lists, once, with the slip that the client posted or the one with which the pump finished. Desk and seats come
+    /// back where there is no memory for the lists.
+    pub fn close(self, alloc: Global, seats: Seats) -> Result<Left, (Desk, Seats)>
+        requires clients { IsAllClientsOf self seats.clients.items }
+        requires pumps { IsAllPumpsOf self seats.pumps.items }
+        ensures { MatchResult result (λ left. left ≡ left_of self seats.clients.items seats.pumps.items) (λ back. (back.0 ≡ self) × (back.1 ≡ seats)) }
+    {
+        let Ok(mut lists) = Lists::with_room(alloc, CLIENT_TAGS * self.clients) else {
+            return Err((self, seats));
+        };
+        self.settle_all(seats, &mut lists);
+        Ok(lists.into_left())
     }
 }
 

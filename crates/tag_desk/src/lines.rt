@@ -1,13 +1,17 @@
 //! What a client and a pump have of one tag, and the steps of each on its word.
-ghost use Rattle.std.specs.Prelude.{◌≡◌, ℕ, ◌+◌, ◌-◌, ◌*◌, ◌^◌, ◌<◌, ◌≤◌, None, Some, MatchOption, MatchResult, IsTrue, ◌↔◌};
+ghost use Rattle.std.specs.Prelude.{◌≡◌, ℕ, ◌+◌, ◌-◌, ◌*◌, ◌^◌, ◌<◌, ◌≤◌, Some, IfSome, MatchOption, MatchResult, IsTrue, ◌↔◌};
 ghost use Rattle.tag_desk.specs.declared.rule.ClientView.TheVariants.{Open};
 ghost use Rattle.tag_desk.specs.declared.rule.WorkView.TheVariants.{Finished};
 ghost use Rattle.tag_desk.specs.Slips.{IsAsk, IsEnd};
 ghost use Rattle.tag_desk.specs.declared.rule.WorkView.TheVariants.{Idle};
 ghost use Rattle.tag_desk.specs.declared.rule.View.TheVariants.{Dealer};
-ghost use Rattle.tag_desk.specs.Seats.{IsFree, Reaps, IsClaimOf, new_line};
+ghost use Rattle.tag_desk.specs.declared.Slip.{Slip};
+ghost use Rattle.tag_desk.specs.Rule.{client_in};
+ghost use Rattle.tag_desk.specs.Seats.{IsFree, Reaps, IsClaimOf, client_sat, new_line, next_ticket};
+ghost use Rattle.tag_desk.specs.Left.{standing};
 
-use crate::rule::{Deal, Finish, Lift, Look, Part, Post, TableSeat, Take};
+use crate::remains::Standing;
+use crate::rule::{Deal, Finish, Lift, Look, Part, Post, Settle, TableSeat, Take, Unite};
 use crate::{Claim, Desk, Slip};
 use std::marker::Model;
 
@@ -39,15 +43,14 @@ pub struct Line {
 }
 
 impl Model for Line {
-    ghost use Rattle.std.specs.Prelude.{◌≡◌};
     ghost use Rattle.tag_desk.specs.Rule.{index_in, client_in};
-    ghost use Rattle.tag_desk.specs.Seats.{ClientLine, client_sat, open_ticket, IsDealt};
+    ghost use Rattle.tag_desk.specs.Seats.{ClientLine, IsLineOf};
 
     ghost Value = { ClientLine };
 
     ghost view = { λ l. record { table = l.seat.table_id; index = index_in l.seat.me.0; view = client_in l.seat.me.0 } };
 
-    ghost invariant = { λ l. (l.seat.me ≡ client_sat (index_in l.seat.me.0) (client_in l.seat.me.0)) × (l.posted ≡ open_ticket (client_in l.seat.me.0)) × IsDealt (client_in l.seat.me.0) };
+    ghost invariant = { λ l. IsLineOf l.seat.me (index_in l.seat.me.0) (client_in l.seat.me.0) l.posted };
 }
 
 /// A pump's seat at one tag, with no claim on it.
@@ -76,6 +79,7 @@ impl Line {
         requires within { index < 8 * desk.now.clients }
         requires free { IsFree self.old.view }
         requires ticket { ticket < 2 ^ 60 }
+        requires later { next_ticket self.old.view ≤ ticket }
         requires ask { IsAsk (index + 1) ticket slip }
         ensures { self.new ≡ record self.old { view = Open ticket slip } }
     {
@@ -107,6 +111,24 @@ impl Line {
         }
         self.posted = None;
         shared.exchange(&mut self.seat, index, None)
+    }
+
+    /// What stands at the tag, where the pump's line is `work`, or none since it is out with a claim.
+    pub(crate) fn settle(self, desk: &Desk, index: usize, work: Option<Work>) -> Standing
+        requires table { self.table ≡ desk.now.table }
+        requires index { self.index ≡ index }
+        requires within { index < 8 * desk.now.clients }
+        requires work { IfSome work (λ line. (line.table ≡ desk.now.table) × (line.index ≡ index)) }
+        ensures { result ≡ standing self.view work }
+    {
+        let Line { seat, posted } = self;
+        let Some(ticket) = posted else {
+            return Standing::Nothing;
+        };
+        let Some(work) = work else {
+            return Standing::Held(ticket);
+        };
+        work.settle(desk, index, ticket, seat)
     }
 }
 
@@ -160,6 +182,30 @@ impl Work {
         drop(shared.exchange(&mut seat, index, Some(slip)));
         shared.swap::<Finish>(&mut seat, index, STATES * ticket + DONE);
         Work { seat }
+    }
+
+    /// Takes out what stands at the tag, where the client's seat has the ticket open: the two seats of the tag are made one,
+    /// and one exchange frees it.
+    fn settle(self, desk: &Desk, index: usize, ticket: u64, mut seat: TableSeat) -> Standing
+        requires table { (self.table ≡ desk.now.table) × (seat.table_id ≡ desk.now.table) }
+        requires index { self.index ≡ index }
+        requires within { index < 8 * desk.now.clients }
+        requires client { (x : Slip) × (seat.me ≡ client_sat index (Open ticket x)) }
+        requires ticket { ticket < 2 ^ 60 }
+        ensures { result ≡ standing (client_in seat.me.0) (Some self) }
+    {
+        let Work { seat: other } = self;
+        let shared = &desk.table.shared;
+        shared.join_seat::<Unite>(&mut seat, other);
+        let found = shared.swap::<Settle>(&mut seat, index, 0);
+        let Some(slip) = shared.exchange(&mut seat, index, None) else {
+            unreachable!()
+        };
+        if found == STATES * ticket + POSTED {
+            Standing::Posted(slip)
+        } else {
+            Standing::Done(slip)
+        }
     }
 }
 

@@ -3,8 +3,8 @@ use crate::Slip;
 use atomic_table::{Join, Play, Split, Table, TableRule};
 use std::alloc::Global;
 
-/// What a client's seat knows of its tag: the slot is not dealt to it yet; the tag is free and had this ticket last;
-/// or this slip is posted with this ticket, and its end isn't seen yet. No value of it is made, nor of the next two.
+/// What a client's seat knows of its tag: the slot is not dealt to it yet; the tag is free, and all tickets posted on
+/// it were below this number; or this slip is posted with this ticket, and its end isn't seen yet. No value of it is made, nor of the next two.
 pub enum ClientView {
     Waiting,
     Free(u64),

@@ -1,11 +1,13 @@
-ghost use Rattle.std.specs.Prelude.{◌≡◌, ◌≢◌, ◌<◌, ◌%◌, IfOk};
+ghost use Rattle.std.specs.Prelude.{◌≡◌, ◌≢◌, ◌<◌, ◌%◌, ◌^◌, IfOk, None};
 ghost use Rattle.tag_desk.specs.Slips.{ticket_in, IsAsk, IsEnd};
-ghost use Rattle.tag_desk.specs.Seats.{IsClientOf, IsPumpOf, IsFreeAt};
+ghost use Rattle.tag_desk.specs.Seats.{IsClientOf, IsPumpOf, IsTagOf, IsServed};
 
+mod closed;
 mod threads;
 
-use crate::{ClientSeat, Desk, Seats, Slip, WorkSeat};
+use crate::{Claim, ClientSeat, Desk, Seats, Slip, WorkSeat};
 use arrayvec::ArrayVec;
+use closed::made;
 use scsi_cmd::{Buffer, Command, GOOD, Op, Reply};
 use std::alloc::{AllocError, Global};
 use std::test::Fail;
@@ -74,32 +76,52 @@ fn is_answer(slip: &Slip, number: u16, count: u64, byte: u8) -> bool {
     }
 }
 
-/// What `slip_home` asks of one client and one pump of a new desk.
-fn goes_home(
+/// Whether the claim holds a WRITE of the ticket with 512 such bytes, once.
+fn holds_once(claim: &mut Claim, ticket: u64, byte: u8) -> bool
+    ensures { claim.new ≡ record claim.old { slip = None } }
+{
+    let held = match claim.take_slip() {
+        Some(slip) => is_write(&slip, ticket, byte),
+        None => false,
+    };
+    held && claim.take_slip().is_none()
+}
+
+/// Whether the ticket could be claimed, once, with the bytes that were posted. It is answered with the second byte.
+fn served(
     alloc: Global,
     desk: &Desk,
-    mut client: ClientSeat,
-    mut pump: WorkSeat,
+    seat: &mut WorkSeat,
+    tag: u16,
+    ticket: u64,
+    bytes: [u8; 2],
 ) -> Result<bool, AllocError>
-    requires desk { (0 < desk.now.clients) × (0 < desk.now.pumps) }
-    requires client { IsClientOf desk.now client × IsFreeAt client 1 × (client.client ≡ 0) × (client.least ≡ 0) }
-    requires pump { IsPumpOf desk.now pump × (pump.pump ≡ 0) }
+    requires own { IsPumpOf desk.now seat.old }
+    requires served { IsServed desk.now seat.old tag }
+    requires ticket { ticket < 2 ^ 60 }
+    ensures own { IsPumpOf desk.now seat.new }
+    ensures same { seat.new.pump ≡ seat.old.pump }
 {
-    desk.post(&mut client, 1, write(alloc, 1, 7, 0x5a)?);
-    let Some(mut claim) = desk.claim(&mut pump, 1, 7) else {
+    let Some(mut claim) = desk.claim(seat, tag, ticket) else {
         return Ok(false);
     };
-    let claimed = match claim.take_slip() {
-        Some(slip) => is_write(&slip, 7, 0x5a),
+    let again = desk.claim(seat, tag, ticket).is_some();
+    let slip = answer(alloc, tag, ticket, bytes[1])?;
+    let held = holds_once(&mut claim, ticket, bytes[0]);
+    desk.finish(seat, claim, slip);
+    Ok(held && !again)
+}
+
+/// Whether the answer of the ticket with 512 such bytes is looked up, once.
+fn answered(desk: &Desk, seat: &mut ClientSeat, tag: u16, ticket: u64, byte: u8) -> bool
+    requires own { IsClientOf desk.now seat.old }
+    requires tag { IsTagOf seat.old.client tag }
+{
+    let found = match desk.look(seat, tag) {
+        Some(slip) => is_answer(&slip, tag, ticket, byte),
         None => false,
     };
-    let once = claim.take_slip().is_none() && desk.claim(&mut pump, 1, 7).is_none();
-    desk.finish(&mut pump, claim, answer(alloc, 1, 7, 0xa5)?);
-    let found = match desk.look(&mut client, 1) {
-        Some(slip) => is_answer(&slip, 1, 7, 0xa5),
-        None => false,
-    };
-    Ok(claimed && once && found && desk.look(&mut client, 1).is_none())
+    found && desk.look(seat, tag).is_none()
 }
 
 /// On one thread: a WRITE with 512 bytes 5a is claimed with these bytes, a second claim gives nothing; an answer with
@@ -107,13 +129,15 @@ fn goes_home(
 #[test]
 fn slip_home(rt: HostRuntime) -> Result<(), Fail> {
     let alloc = rt.alloc();
-    let (desk, seats) = Desk::new(alloc, 1, 1)?;
+    let (desk, seats) = made(alloc)?;
     let Seats {
         mut clients,
         mut pumps,
     } = seats;
-    let client = clients.pop().expect(&rt, "a client has a seat");
-    let pump = pumps.pop().expect(&rt, "a pump has a seat");
-    assert!(rt; goes_home(alloc, &desk, client, pump)?);
+    let client = &mut clients[0];
+    assert!(rt; client.least == 0 && client.is_free(1));
+    desk.post(client, 1, write(alloc, 1, 7, 0x5a)?);
+    assert!(rt; served(alloc, &desk, &mut pumps[0], 1, 7, [0x5a, 0xa5])?);
+    assert!(rt; answered(&desk, client, 1, 7, 0xa5));
     Ok(())
 }

@@ -2,7 +2,7 @@
 ghost use Rattle.std.specs.Prelude.{◌≡◌, ◌≢◌, ◌+◌, ◌-◌, ◌*◌, ◌/◌, ◌%◌, ◌^◌, ◌<◌, ◌≤◌, ℕ, All, IfOk, IfSome};
 ghost use Rattle.tag_desk.specs.Seats.{IsClientOf, IsPumpOf, IsFreeAt};
 
-use super::{answer, is_answer, is_write, write};
+use super::{is_answer, served, write};
 use crate::{CLIENT_TAGS, ClientSeat, Desk, Seats, Slip, WorkSeat};
 use std::alloc::{AllocError, Global};
 use std::sync::Wait;
@@ -12,8 +12,8 @@ use std::test::Fail;
 use std::thread;
 use std::thread::Threads;
 
-/// Posts of each client.
-const TURNS: u64 = 100_000;
+/// Posts of each client: 100,000 of all eight.
+const TURNS: u64 = 12_500;
 
 /// Looks before a client gives up.
 const LOOKS: u64 = 100_000_000;
@@ -65,33 +65,6 @@ fn client_turns(
     Ok(turns)
 }
 
-/// Whether the ticket was posted, and then claimed and answered with the bytes that it brought.
-fn served(
-    alloc: Global,
-    desk: &Desk,
-    seat: &mut WorkSeat,
-    tag: u16,
-    ticket: u64,
-) -> Result<bool, AllocError>
-    requires own { IsPumpOf desk.now seat.old }
-    requires tag { (1 ≤ tag) × (tag ≤ 8 * desk.now.clients) × ((tag - 1) / 8 % desk.now.pumps ≡ seat.old.pump) }
-    requires ticket { ticket < 2 ^ 60 }
-    ensures own { IsPumpOf desk.now seat.new }
-    ensures same { seat.new.pump ≡ seat.old.pump }
-{
-    let byte = (ticket % 251) as u8;
-    let Some(mut claim) = desk.claim(seat, tag, ticket) else {
-        return Ok(false);
-    };
-    let slip = answer(alloc, tag, ticket, byte)?;
-    let came = match claim.take_slip() {
-        Some(slip) => is_write(&slip, ticket, byte),
-        None => false,
-    };
-    desk.finish(seat, claim, slip);
-    Ok(came)
-}
-
 /// Serves the first tags of the pump's clients until each had so many turns.
 fn pump_turns(alloc: Global, desk: &Desk, seat: &mut WorkSeat, turns: u64) -> Result<(), AllocError>
     requires own { IsPumpOf desk.now seat.old }
@@ -106,7 +79,8 @@ fn pump_turns(alloc: Global, desk: &Desk, seat: &mut WorkSeat, turns: u64) -> Re
             if client % desk.pumps == pump && ticket < turns {
                 waits = true;
                 let tag = (CLIENT_TAGS * client + 1) as u16;
-                if served(alloc, desk, seat, tag, ticket)? {
+                let byte = (ticket % 251) as u8;
+                if served(alloc, desk, seat, tag, ticket, [byte, byte])? {
                     next[client] = ticket + 1;
                 }
             }

@@ -23,20 +23,33 @@ returns-clause-slip c =
     let at : line.index ≡ 8 * seat.client + k = ap (λ (l : ClientLine). l.index) read ∙ c.seat.invariant.1 k line (omega arith) in
     let named : line.index + 1 ≡ c.args.tag = let low = c.requires.tag.0 in let own = c.requires.tag.1 in omega arith in
     let there : slice_get now.lines ((c.args.tag - 1) % 8) ≡ Some line =
-    subst (λ (p : List ClientLine × ℕ). slice_get p.0 p.1 ≡ Some line) (λ i. ((c.seat.view_is i).lines, place i)) (slice_get_read seat.lines.items (length seat.lines.items) k line (λ i. length seat.lines.items) within read) in
+    subst (λ (p : List ClientLine × ℕ). slice_get p.0 p.1 ≡ Some line) (λ i. ((c.seat.view_is i).lines, place i)) (slice_get_read seat.lines.items
+    (length seat.lines.items) k line (λ i. length seat.lines.items) within read) in
     match_option c.look.result
-    (λ same. (λ i. record { client = seat.client; least = seat.least; lines = (ap (set seat.lines.items k) same ∙ set_back seat.lines.items k line read) i }) ∙ c.seat.view_is)
+    (λ same. (λ i. record {
+      client = seat.client;
+      least = seat.least;
+      lines = (ap (set seat.lines.items k) same
+          ∙ set_back seat.lines.items k line read) i;
+    }) ∙ c.seat.view_is)
     (λ slip h.
     let n = h.0 in
-    let lines : set seat.lines.items k c.look.new.self ≡ with_view seat.lines.items ((c.args.tag - 1) % 8) (Free n) =
-    ap (set seat.lines.items k) h.4 ∙ set_view seat.lines.items k line (Free n) within read ∙ ap (λ j. with_view seat.lines.items j (Free n)) place in (
+    let lines : set seat.lines.items k c.look.new.self ≡ with_view seat.lines.items ((c.args.tag - 1) % 8) (Free (n + 1)) =
+    ap (set seat.lines.items k) h.4 ∙ set_view seat.lines.items k line (Free (n + 1)) within read
+    ∙ ap (λ j. with_view seat.lines.items j (Free (n + 1))) place in (
       line,
       n,
       h.1,
       there,
       h.2,
       subst (λ t. IsEnd t n slip) named h.3,
-      (λ i. record { client = seat.client; least = seat.least; lines = lines i }) ∙ ap (λ (s : Customer). record { client = s.client; least = s.least; lines = with_view s.lines ((c.args.tag - 1) % 8) (Free n) }) c.seat.view_is,
+      (λ i. record { client = seat.client; least = seat.least; lines = lines i })
+          ∙ ap (λ (s : Customer). record {
+            client = s.client;
+            least = s.least;
+            lines = with_view s.lines ((c.args.tag - 1) % 8) (Free
+                (n + 1));
+          }) c.seat.view_is,
     ))
     c.look.ensures
 
@@ -44,7 +57,12 @@ pub returns-clause-own : goal.returns-clause-own
 returns-clause-own c =
     let desk = c.args.self.now in
     let old = c.args.seat.now in
-    let new = the_view (record { client = c.seat.inside.client; least = c.seat.inside.least; lines = with_item c.seat.inside.lines ((c.from-index.result - 1) % 8) c.look.new.self }) in
+    let new = the_view (record {
+      client = c.seat.inside.client;
+      least = c.seat.inside.least;
+      lines = with_item c.seat.inside.lines
+          ((c.from-index.result - 1) % 8) c.look.new.self;
+    }) in
     either_option {C = IsClientOf desk new} c.look.result
     (λ same. subst (IsClientOf desk) (sym same) c.requires.own)
     (λ slip reaps. own_reaping desk old new c.args.tag slip c.requires.own reaps)
@@ -53,5 +71,10 @@ returns-clause-own c =
 pub returns-clause-free : goal.returns-clause-free
 returns-clause-free c =
     let old = c.args.seat.now in
-    let new = the_view (record { client = c.seat.inside.client; least = c.seat.inside.least; lines = with_item c.seat.inside.lines ((c.from-index.result - 1) % 8) c.look.new.self }) in
+    let new = the_view (record {
+      client = c.seat.inside.client;
+      least = c.seat.inside.least;
+      lines = with_item c.seat.inside.lines
+          ((c.from-index.result - 1) % 8) c.look.new.self;
+    }) in
     if_some (new ≡ old) c.look.result (λ slip reaps. free_reaping old new c.args.tag slip reaps) (returns-clause-slip c)

@@ -19,7 +19,8 @@ split_seat-seat-requires c =
     let clients = ap (λ (d : MadeDesk). d.clients) c.desk.view_is in (
       c.requires.table ∙ sym table,
       omega arith,
-      subst (λ (v : View). Splits (IsDesk shared.key) dealer.id v (dealt_less v) (dealt v)) (sym c.requires.next) (deal_allowed shared.key dealer.id c.args.index),
+      subst (λ (v : View). Splits (IsDesk shared.key) dealer.id v (dealt_less v) (dealt v)) (sym c.requires.next)
+          (deal_allowed shared.key dealer.id c.args.index),
     )
 
 pub load-requires : goal.load-requires
@@ -34,7 +35,8 @@ load-requires c =
     let within : t < shared.key = omega arith in (
       split.ensures.3 ∙ c.requires.table ∙ sym table,
       omega arith,
-      subst (λ (m : Sat). Allows (IsDesk shared.key) shared.table_id.slots seat.id m t (λ k. k) (Lifts (step shared.table_id.slots t 0 0 maybe.none) m)) (sym me) (lift_allowed shared.key shared.table_id.slots t seat.id within),
+      subst (λ (m : Sat). Allows (IsDesk shared.key) shared.table_id.slots seat.id m t (λ k. k) (Lifts (step shared.table_id.slots t 0 0 maybe.none) m))
+          (sym me) (lift_allowed shared.key shared.table_id.slots t seat.id within),
     )
 
 pub split_seat-work-requires : goal.split_seat-work-requires

@@ -1,4 +1,4 @@
-use Rattle.std.proofs.Common.{◌≡◌, Bool, true, false, Option, None, Some, IsTrue, not, refl, sym, ap, subst, ◌∙◌}
+use Rattle.std.proofs.Common.{◌≡◌, Bool, true, false, Option, None, Some, not, refl, sym, ap, subst}
 use Rattle.std.specs.Option.{is_some}
 use Rattle.tag_desk.specs.Seats.{ClientLine, IsFree}
 use Rattle.tag_desk.proofs.Holding.{free_without, none_when_free}

@@ -26,7 +26,8 @@ compare_exchange-found-requires c =
     let within : t < shared.key = omega arith in (
       ap (λ (l : ClientLine). l.table) c.self.view_is ∙ c.requires.table ∙ sym table,
       omega arith,
-      subst (λ (me : Sat). Allows (IsDesk shared.key) shared.table_id.slots seat.id me t (λ k. either (k == (4 * n + 3)) (4 * n) k) (Looks (step shared.table_id.slots t (4 * n + 3) (4 * n) maybe.none) me)) (sym old.2)
+      subst (λ (me : Sat). Allows (IsDesk shared.key) shared.table_id.slots seat.id me t (λ k. either (k == (4 * n + 3)) (4 * n) k) (Looks
+          (step shared.table_id.slots t (4 * n + 3) (4 * n) maybe.none) me)) (sym old.2)
           (look_allowed shared.key shared.table_id.slots t seat.id n old.0 within),
     )
 
@@ -39,7 +40,7 @@ exchange-requires c =
     let table = ap (λ (d : MadeDesk). d.table) c.desk.view_is in
     let won = looked shared.table_id.slots t n step.result c.self.inside.seat.me step.new.seat.me c.if-found-done.false step.ensures.2 in (
       step.ensures.0 ∙ ap (λ (l : ClientLine). l.table) c.self.view_is ∙ c.requires.table ∙ sym table,
-      holds_one step.new.seat.me (Client t (Free n)) t (Some won.0) won.2,
+      holds_one step.new.seat.me (Client t (Free (n + 1))) t (Some won.0) won.2,
     )
 
 pub returns : goal.returns
@@ -54,10 +55,16 @@ returns c =
     let won = looked shared.table_id.slots t n step.result seat.me step.new.seat.me c.if-found-done.false step.ensures.2 in
     let swap = c.exchange in
     let given : swap.result ≡ Some won.0 = read step.new.seat.me.1 t t (Some won.0) swap.result (ap (λ (m : Sat). m.1) won.2) swap.ensures.2 in
-    let view : swap.new.seat.me.0 ≡ Client t (Free n) = ap (λ (m : Sat). m.0) swap.ensures.3 ∙ ap (λ (m : Sat). m.0) won.2 in
+    let view : swap.new.seat.me.0 ≡ Client t (Free (n + 1)) = ap (λ (m : Sat). m.0) swap.ensures.3 ∙ ap (λ (m : Sat). m.0) won.2 in
     let table = swap.ensures.0 ∙ step.ensures.0 ∙ ap (λ (l : ClientLine). l.table) c.self.view_is in
-    let line : the_view (record { seat = swap.new.seat; posted = None }) ≡ record { table = c.args.self.now.table; index = c.args.self.now.index; view = Free n } =
+    let line : the_view (record { seat = swap.new.seat; posted = None }) ≡ record {
+      table = c.args.self.now.table;
+      index = c.args.self.now.index;
+      view =
+          Free (n + 1);
+    } =
     λ i. record { table = table i; index = (ap index_in view ∙ sym c.requires.index) i; view = client_in (view i) } in
     let reaped : Reaps c.args.self.now (the_view (record { seat = swap.new.seat; posted = None })) won.0 =
     (n, old.0, sym (ap (λ (l : ClientLine). l.view) c.self.view_is) ∙ old.1, subst (λ k. IsEnd (k + 1) n won.0) (sym c.requires.index) won.1, line) in
-    subst (λ (o : Option Slip). MatchOption o (the_view (record { seat = swap.new.seat; posted = None }) ≡ c.args.self.now) (λ slip. Reaps c.args.self.now (the_view (record { seat = swap.new.seat; posted = None })) slip)) (sym given) reaped
+    subst (λ (o : Option Slip). MatchOption o (the_view (record { seat = swap.new.seat; posted = None }) ≡ c.args.self.now)
+    (λ slip. Reaps c.args.self.now (the_view (record { seat = swap.new.seat; posted = None })) slip)) (sym given) reaped

@@ -26,7 +26,8 @@ compare_exchange-found-requires c =
     let within : t < shared.key = omega arith in (
       ap (λ (l : WorkLine). l.table) c.self.view_is ∙ c.requires.table ∙ sym table,
       omega arith,
-      subst (λ (me : Sat). Allows (IsDesk shared.key) shared.table_id.slots seat.id me t (λ k. either (k == (4 * n + 1)) (4 * n + 2) k) (Takes (step shared.table_id.slots t (4 * n + 1) (4 * n + 2) maybe.none) me)) (sym old)
+      subst (λ (me : Sat). Allows (IsDesk shared.key) shared.table_id.slots seat.id me t (λ k. either (k == (4 * n + 1)) (4 * n + 2) k) (Takes
+          (step shared.table_id.slots t (4 * n + 1) (4 * n + 2) maybe.none) me)) (sym old)
           (take_allowed shared.key shared.table_id.slots t seat.id n view within),
     )
 

@@ -22,12 +22,14 @@ swap-requires c =
     let from = c.from-index.ensures in
     let old : c.claim.inside.seat.me ≡ claim_sat t n = c.claim.invariant.0 ∙ ap (λ k. claim_sat k n) (let e = c.claim.invariant.1 in omega arith) in
     let seat = c.exchange.new.seat in
-    let new : seat.me ≡ (Work t (Claimed n), (t, Some c.args.slip) ∷ []) = c.exchange.ensures.3 ∙ (λ i. ((old i).0, (t, Some c.args.slip) ∷ rest (old i).1)) in
+    let new : seat.me ≡ (Work t (Claimed n), (t, Some c.args.slip) ∷ []) = c.exchange.ensures.3
+    ∙ (λ i. ((old i).0, (t, Some c.args.slip) ∷ rest (old i).1)) in
     let within : t < shared.key = omega arith in
     let same : t + 1 ≡ c.args.claim.tag = omega arith in (
       c.exchange.ensures.0 ∙ ap (λ (l : HeldClaim). l.table) c.claim.view_is ∙ c.requires.table ∙ sym table,
       omega arith,
-      subst (λ (me : Sat). Allows (IsDesk shared.key) shared.table_id.slots seat.id me t (λ _. word) (Finishes (step shared.table_id.slots t word 0 maybe.none) me)) (sym new)
+      subst (λ (me : Sat). Allows (IsDesk shared.key) shared.table_id.slots seat.id me t (λ _. word) (Finishes
+          (step shared.table_id.slots t word 0 maybe.none) me)) (sym new)
           (finish_allowed shared.key shared.table_id.slots t seat.id n c.args.slip within
           (subst (λ (p : ℕ × ℕ). IsEnd p.0 p.1 c.args.slip) (λ i. (sym same i, sym ticket i)) c.requires.end)),
     )

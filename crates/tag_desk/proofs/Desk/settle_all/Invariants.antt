@@ -1,0 +1,13 @@
+use Rattle.std.proofs.Common.{◌≡◌, ℕ, ◌-◌, ◌*◌, ◌≤◌, length}
+use Rattle.tag_desk.specs.Left.{IsAllPumpsOf, work_line, client_view, standing, left_below, so_far, HasRoom}
+use Rattle.tag_desk.proofs.Desk.settle_all.Given as goal
+
+-- the tags of the first clients are settled, and the lines of the others are as they were
+abbrev pub invariant-loop-seat : goal.invariant-loop-seat
+invariant-loop-seat l = record {
+  pumps : IsAllPumpsOf l.self l.pumps.items;
+  others : (t : ℕ) → 8 * length l.yielded ≤ t → work_line l.self l.pumps.items t ≡ work_line l.self l.fn.seats.pumps.items t;
+  lists : so_far l.lists ≡ left_below (λ t. standing (client_view l.fn.seats.clients.items t) (work_line l.self l.fn.seats.pumps.items t))
+      (8 * length l.yielded);
+  room : HasRoom (8 * l.self.clients - 8 * length l.yielded) l.lists;
+}

@@ -1,5 +1,6 @@
 -- A step of the device at one place: where the cell and the queues fit, the whole world fits.
-use Rattle.std.proofs.Common.{◌≡◌, ℕ, zero, suc, ◌/◌, ◌%◌, ◌<◌, ◌≤◌, Bool, true, false, cond, List, [], ◌∷◌, ◌++◌, length, length-set, Option, Some, None, refl, arith, ap, sym, subst, ◌∙◌}
+use Rattle.std.proofs.Common.{◌≡◌, ℕ, zero, suc, ◌/◌, ◌%◌, ◌<◌, ◌≤◌, Bool, true, false, cond, List, [], ◌∷◌, ◌++◌, length, length-set, Option, Some, None, refl}
+use Rattle.std.proofs.Common.{arith, ap, sym, subst, ◌∙◌}
 use Rattle.std.specs.Prelude.{nat_lt, slice_get, slice_set}
 use Rattle.std.specs.Option.{option_map_or}
 use Rattle.std.proofs.lemmas.Bool.{ltb-true, ltb-false}
@@ -21,7 +22,7 @@ use Rattle.bus_core.specs.Matched.{IsMatched, held_in, under}
 use Rattle.bus_core.specs.World.{World, cell_at}
 use Rattle.bus_core.specs.Cells.{FitsCell, FitsHeld}
 use Rattle.bus_core.specs.Fits.{Fits, FitsPart, FitsQueues, IsSoundWorld}
-use Rattle.bus_core.proofs.Framing.{AllFit-set, FitsPart-set, ChangesCell, IsFound, found}
+use Rattle.bus_core.proofs.Framing.{AllFit-set, FitsPart-set, ChangesCell, IsFound, found, engine-kept}
 use Rattle.bus_core.proofs.EventTexts.{KeepsOthers}
 use Rattle.bus_core.proofs.MatchedBounds.{held-place}
 use Rattle.bus_core.proofs.MatchedSteps.{IsHeld, matched-held}
@@ -71,6 +72,7 @@ pub record IsActed (state : Shared) (before after : World) (place : Place) (part
     (posted : List Completion) : Type 0 where
   pub host : after.host ≡ before.host
   pub controller : after.controller ≡ before.controller
+  pub engine : after.lines.engine ≡ before.lines.engine
   pub units : after.device.units ≡ slice_set before.device.units place.client unit
   pub tasks : (tag : ℕ) → (tag ≡ tag_of place → ⊥) → task_of after.device tag ≡ task_of before.device tag
   pub others : KeepsOthers before after place
@@ -107,6 +109,8 @@ acted-fits state before after place old new unit rest posted at fits acted match
       data_out = ap (λ c. c.data_out) acted.controller ∙ fits.data_out;
       sound = sound;
       queues = acted.queues;
+      engine = engine-kept state (acted_state state place at.part unit new rest posted) before after fits.engine
+          (ap (λ h. h.retirement) acted.host) acted.engine;
       matched = matched;
       clients = AllFit-set before after state.parts place.client place.slot unit at.client.held at.part
           (with_entry (record at.part { unit = unit }) place.slot new) fits.clients at.there at.is_place.slot changes part;
@@ -126,7 +130,8 @@ slice_get_none (first ∷ rest) (suc at) is = omega (arith, slice_get_none rest 
 pub place_of-tag : (clients tag : ℕ) (place : Place) → place_of clients tag ≡ Some place → tag_of place ≡ tag
 place_of-tag clients zero place is = absurd (none-some place is)
 place_of-tag clients (suc before) place is =
-    elim (nat_lt (before / TAGS) clients) as (λ b. cond b (Some (record { client = before / TAGS; slot = before % TAGS })) None ≡ Some place → tag_of place ≡ suc before) [
+    elim (nat_lt (before / TAGS) clients) as
+    (λ b. cond b (Some (record { client = before / TAGS; slot = before % TAGS })) None ≡ Some place → tag_of place ≡ suc before) [
       | true ↦ λ there. let same : record { client = before / TAGS; slot = before % TAGS } ≡ place = cc in
           subst (λ p. tag_of p ≡ suc before) same (omega arith)
       | false ↦ λ none. absurd (none-some place none)
@@ -168,10 +173,13 @@ by-tag state world (suc before) fact P fits none each =
     let place : Place = record { client = before / TAGS; slot = before % TAGS } in
     let tag : tag_of (record { client = before / TAGS; slot = before % TAGS }) ≡ suc before = omega arith in
     elim (nat_lt (before / TAGS) (length state.parts)) as (λ b. nat_lt (before / TAGS) (length state.parts) ≡ b
-    → P (task_of world.device (suc before)) (option_map_or (λ (p : Place). part_fact state p.client (entry_fact fact p.slot)) (cond b (Some (record { client = before / TAGS; slot = before % TAGS })) None) false)) [
+    → P (task_of world.device (suc before))
+    (option_map_or (λ (p : Place). part_fact state p.client (entry_fact fact p.slot))
+    (cond b (Some (record { client = before / TAGS; slot = before % TAGS })) None) false)) [
       | true ↦ λ is.
           subst (λ t. P (task_of world.device t) (part_fact state (before / TAGS) (entry_fact fact (before % TAGS)))) tag
-          (client-by state world (record { client = before / TAGS; slot = before % TAGS }) fact P fits (ltb-true (before / TAGS) (length state.parts) is) (omega arith) none
+          (client-by state world (record { client = before / TAGS; slot = before % TAGS }) fact P fits
+          (ltb-true (before / TAGS) (length state.parts) is) (omega arith) none
           (λ entry at. each (record { client = before / TAGS; slot = before % TAGS }) entry tag at))
       | false ↦ λ is.
           subst (λ t. P t false) (sym (fits.others (suc before) (omega (arith, ltb-false (before / TAGS) (length state.parts) is)))) none

@@ -1,5 +1,5 @@
 -- What an act on a part is to the client's own solo machine.
-use Rattle.std.proofs.Common.{◌≡◌, ℕ, suc, true, List, map, Option, Some, None, option_map, option_and_then, refl, arith, ap, rules}
+use Rattle.std.proofs.Common.{◌≡◌, ℕ, suc, true, List, [], ◌∷◌, map, Option, Some, None, option_map, option_and_then, refl, arith, ap, rules}
 use Rattle.std.specs.Prelude.{nat_lt, slice_set}
 use Rattle.std.proofs.Math.ListN.{get_or-map}
 use Rattle.std.proofs.Math.Seq.{map-set_same}
@@ -7,16 +7,20 @@ use Rattle.std.proofs.lemmas.Option.{none-some}
 use Rattle.std.proofs.lemmas.List.{map-set}
 use Rattle.scsi_cmd.specs.declared.Command.{Command}
 use Rattle.scsi_cmd.specs.declared.Reply.{Reply}
+use Rattle.scsi_cmd.specs.declared.Request.{Request}
+use Rattle.scsi_cmd.specs.declared.Request.TheVariants.{Execute, Manage}
 use Rattle.scsi_cmd.specs.declared.TheConstants.{TASK_SLOT}
 use Rattle.solo_model.specs.declared.Label.{Label}
 use Rattle.solo_model.specs.declared.Label.TheVariants.{Submit as SubmitLabel}
 use Rattle.scsi_cmd.specs.Held.{held_at}
-use Rattle.solo_model.specs.Solo.{SoloState, solo_step, silently}
+use Rattle.solo_model.specs.Solo.{SoloState, after_request, solo_step, silently}
+use Rattle.solo_model.specs.TaggedTask.{after_notes}
 use Rattle.uas_host.specs.declared.Place.{Place}
 use Rattle.bus_core.specs.Td.{Entry}
 use Rattle.bus_core.specs.declared.Completion.{Completion}
 use Rattle.bus_core.specs.declared.Step.{Step}
-use Rattle.bus_core.specs.Part.{Part, Act, carry_act, move_act, send_act, event_act, seen_entry, event_place, seen_by, fault_at, submitted_part, take_act, own_task, slot_tag}
+use Rattle.bus_core.specs.Part.{Part, Act, carry_act, move_act, send_act, event_act, seen_entry, event_place, seen_by, fault_at, submitted_part, take_act}
+use Rattle.bus_core.specs.Part.{entries_after, noted_entry, own_task, slot_tag}
 use Rattle.bus_core.specs.Isolation.{label_of, renumbered, solo_of, own_tag}
 
 -- the solo machine's step on a label, and no step where there is none
@@ -38,9 +42,21 @@ pub map-own_task : (entries : List (Option Entry)) (slot : ℕ) (now : Option En
     map (option_map own_task) (slice_set entries slot now) ≡ slice_set (map (option_map own_task) entries) slot (option_map own_task now)
 map-own_task entries slot now = map-set (option_map own_task) entries slot now
 
--- the device receives the command under a slot
+-- What a carried request does to the entries is what it does to the solo machine's tasks.
+pub own_task-noted : (noted : List ℕ) (entries : List (Option Entry)) → map (option_map own_task) (map (option_map (noted_entry noted)) entries)
+    ≡ map (option_map (after_notes noted)) (map (option_map own_task) entries)
+own_task-noted noted [] = refl
+own_task-noted noted (None ∷ entries) = ap (λ rest. None ∷ rest) (own_task-noted noted entries)
+own_task-noted noted (Some entry ∷ entries) = ap (λ rest. Some (after_notes noted entry.task) ∷ rest) (own_task-noted noted entries)
+
+pub own_task-after : (request : Request) (entries : List (Option Entry)) →
+    map (option_map own_task) (entries_after request entries) ≡ after_request request (map (option_map own_task) entries)
+own_task-after (Execute op) entries = refl
+own_task-after (Manage what noted) entries = own_task-noted noted.items entries
+
+-- the device receives the request under a slot
 pub carry_act-own : (client : ℕ) (step : Step) (place : Place) (part : Part) → IsOwnAct client step part (carry_act place part)
-carry_act-own client step place part = search (rules, map-own_task, held_at-solo_of)
+carry_act-own client step place part = search (rules, map-own_task, held_at-solo_of, own_task-after)
 
 -- the device moves a chunk under a slot
 pub move_act-own : (client : ℕ) (step : Step) (place : Place) (part : Part) → IsOwnAct client step part (move_act place part)

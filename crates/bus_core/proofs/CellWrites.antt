@@ -1,5 +1,6 @@
 -- One cell of the world is written: the host's entry, the stream rings and the buffers of one tag, and all others are as they were.
-use Rattle.std.proofs.Common.{◌≡◌, ℕ, zero, suc, ◌+◌, ◌-◌, ◌*◌, ◌<◌, ◌≤◌, true, false, List, [], ◌∷◌, length, Option, Some, None, is_some, refl, arith, ap, sym, subst, ◌∙◌}
+use Rattle.std.proofs.Common.{◌≡◌, ℕ, zero, suc, ◌+◌, ◌-◌, ◌*◌, ◌<◌, ◌≤◌, true, false, List, [], ◌∷◌, length, Option, Some, None, is_some, refl, arith, ap, sym}
+use Rattle.std.proofs.Common.{subst, ◌∙◌}
 use Rattle.std.specs.Prelude.{slice_get, slice_set, slice_index_or, ◌==◌}
 use Rattle.std.proofs.lemmas.Bool.{eqb-true, eqb-false}
 use Rattle.std.proofs.lemmas.List.{get_or-set_same, get_or-set_other}
@@ -46,7 +47,8 @@ get-none [] at none = omega arith
 get-none (first ∷ rest) zero none = absurd (none-some first (sym none))
 get-none (first ∷ rest) (suc at) none = omega (arith, get-none rest at none)
 
-pub same_length : {T U : Type 0} (ones : List T) (others : List U) → ((at : ℕ) → is_some (slice_get ones at) ≡ is_some (slice_get others at)) → length ones ≡ length others
+pub same_length : {T U : Type 0} (ones : List T) (others : List U) → ((at : ℕ) → is_some (slice_get ones at) ≡ is_some (slice_get others at))
+    → length ones ≡ length others
 same_length [] [] same = refl
 same_length [] (other ∷ others) same = let no : false ≡ true = same 0 in let it : ⊥ = cc in absurd it
 same_length (one ∷ ones) [] same = let no : true ≡ false = same 0 in let it : ⊥ = cc in absurd it
@@ -111,6 +113,7 @@ clients-length world parts all = same_length world.host.clients parts
     (λ at. both_there world at (slice_get world.device.units at) (slice_get world.host.clients at) (slice_get parts at) (all at))
 
 -- a cell that fits holds an entry of the host exactly where there is one
-pub FitsHeld-some : (client count : ℕ) (place : Place) (held : Option Entry) (cell : Cell) → FitsHeld client count place held cell → is_some cell.held ≡ is_some held
+pub FitsHeld-some : (client count : ℕ) (place : Place) (held : Option Entry) (cell : Cell) → FitsHeld client count place held cell
+    → is_some cell.held ≡ is_some held
 FitsHeld-some client count place None cell fits = ap (λ (o : Option HostEntry). is_some o) fits.held
 FitsHeld-some client count place (Some entry) cell fits = ap (λ (o : Option HostEntry). is_some o) fits.held

@@ -6,7 +6,7 @@ use Rattle.block_unit.specs.BlockMaps.{BlockMaps}
 use Rattle.cycle_ring.specs.Ring.{Ring}
 use Rattle.scsi_cmd.specs.declared.Op.{Op}
 use Rattle.scsi_cmd.specs.declared.Request.{Request}
-use Rattle.scsi_cmd.specs.declared.Request.TheVariants.{Execute}
+use Rattle.scsi_cmd.specs.declared.Request.TheVariants.{Execute, Manage}
 use Rattle.scsi_cmd.specs.Op.{moved_bytes, direction_of}
 use Rattle.device_server.specs.declared.Progress.TheVariants.{Moving}
 use Rattle.device_server.specs.Laws.{HasChunk-after}
@@ -15,6 +15,7 @@ use Rattle.solo_model.specs.declared.Phase.TheVariants.{Begun}
 use Rattle.solo_model.specs.Soundness.{IsSound, IsSoundOp, IsSoundPhase, IsSoundRequest}
 use Rattle.solo_model.specs.TaggedTask.{buffer_after, progress_left}
 use Rattle.uas_target.specs.Tasks.{task_in}
+use Rattle.uas_host.specs.declared.HostRequest.TheVariants.{Execute as HostExecute}
 use Rattle.uas_host.specs.declared.Place.{Place}
 use Rattle.uas_host.specs.declared.TdState.TheVariants.{Pending}
 use Rattle.uas_host.specs.declared.Told.TheVariants.{Untold}
@@ -22,7 +23,7 @@ use Rattle.uas_host.specs.Tags.{tag_of}
 use Rattle.uas_host.specs.Tds.{data_td, data_trb_count, status_td}
 use Rattle.bus_core.specs.declared.Td.{Td}
 use Rattle.bus_core.specs.Td.{Entry, data_trbs, with_trb_taken}
-use Rattle.bus_core.specs.Matched.{IsDataTd, IsMovingTd, IsMatchedEntry, request_bytes}
+use Rattle.bus_core.specs.Matched.{IsCommandRequest, IsDataTd, IsMovingTd, IsMatchedEntry, request_bytes}
 use Rattle.bus_core.specs.World.{Cell}
 use Rattle.bus_core.specs.Cells.{FitsCell, HoldsData, HoldsTd, data_in_td, data_out_td, state_of}
 
@@ -43,7 +44,8 @@ pub record IsChunked (entry : Entry) (chunk : ℕ) : Type 0 where
   pub is : entry ≡ moving_entry entry op chunk
   pub below : chunk < data_trb_count (moved_bytes op)
 
-chunked-td : (entry : Entry) (chunk : ℕ) (op : Op) (td : Option Td) → entry.task.request ≡ Execute op → entry.task.phase ≡ Begun (Moving chunk) → entry.data_td ≡ td
+chunked-td : (entry : Entry) (chunk : ℕ) (op : Op) (td : Option Td) → entry.task.request ≡ Execute op → entry.task.phase ≡ Begun (Moving chunk)
+    → entry.data_td ≡ td
     → IsMovingTd (data_trbs (Execute op)) chunk td → is_some td ≡ nat_lt 0 (moved_bytes op) → 4096 * chunk < moved_bytes op → IsChunked entry chunk
 chunked-td entry chunk op None request phase is trbs moves less =
     let none : moved_bytes op ≤ 0 = ltb-false 0 (moved_bytes op) (sym moves) in absurd (omega (arith, none, less))
@@ -61,11 +63,14 @@ chunked-request count entry chunk (Execute op) is moving matched sound =
     let sound_op : IsSoundOp count entry.task op = subst (λ r. IsSoundRequest count entry.task r) is sound in
     let has : IsSoundPhase count op (Begun (Moving chunk)) = subst (λ p. IsSoundPhase count op p) moving sound_op.chunk in
     let trbs : IsMovingTd (data_trbs (Execute op)) chunk entry.data_td =
-    subst (λ p. IsDataTd (data_trbs (Execute op)) p entry.data_td) moving (subst (λ r. IsDataTd (data_trbs r) entry.task.phase entry.data_td) is matched.chunks) in
+    subst (λ p. IsDataTd (data_trbs (Execute op)) p entry.data_td) moving
+    (subst (λ r. IsDataTd (data_trbs r) entry.task.phase entry.data_td) is matched.chunks) in
     chunked-td entry chunk op entry.data_td is moving refl trbs (matched.moves ∙ ap (λ r. nat_lt 0 (request_bytes r)) is) has.0
+chunked-request count entry chunk (Manage what noted) is moving matched sound = absurd (subst (λ r. IsCommandRequest r) is matched.asks)
 
 -- a matched, sound entry whose phase is Moving
-pub chunked : (count : ℕ) (entry : Entry) (chunk : ℕ) → entry.task.phase ≡ Begun (Moving chunk) → IsMatchedEntry entry → IsSound count entry.task → IsChunked entry chunk
+pub chunked : (count : ℕ) (entry : Entry) (chunk : ℕ) → entry.task.phase ≡ Begun (Moving chunk) → IsMatchedEntry entry → IsSound count entry.task
+    → IsChunked entry chunk
 chunked count entry chunk moving matched sound = chunked-request count entry chunk entry.task.request refl moving matched sound
 
 -- AFTER A CHUNK
@@ -96,14 +101,16 @@ state-after false chunk = refl
 
 pub fits-chunk : (client : ℕ) (place : Place) (unit : BlockMaps) (entry : Entry) (op : Op) (chunk : ℕ) (was now : Cell)
     → FitsCell client unit.count place (moving_entry entry op chunk) was → now ≡ chunk_cell client unit entry op chunk was now
-    → HoldsData now.data_in (data_td (tag_of place) (moved_bytes op)) (data_in_td (direction_of op) (Some (td_after (chunk_moved (progress_left unit chunk op)) chunk)))
-    → HoldsData now.data_out (data_td (tag_of place) (moved_bytes op)) (data_out_td (direction_of op) (Some (td_after (chunk_moved (progress_left unit chunk op)) chunk)))
+    → HoldsData now.data_in (data_td (tag_of place) (moved_bytes op))
+    (data_in_td (direction_of op) (Some (td_after (chunk_moved (progress_left unit chunk op)) chunk)))
+    → HoldsData now.data_out (data_td (tag_of place) (moved_bytes op))
+    (data_out_td (direction_of op) (Some (td_after (chunk_moved (progress_left unit chunk op)) chunk)))
     → length (buffer_after unit entry.task.buffer chunk op) ≡ length entry.task.buffer
     → FitsCell client unit.count place (chunk_entry unit entry op chunk) now
 fits-chunk client place unit entry op chunk was now fits is data_in data_out long = record {
   held = ap (λ (c : Cell). c.held) is ∙ fits.held ∙ (λ i. Some (record {
     ticket = entry.task.ticket;
-    request = Execute op;
+    request = HostExecute op;
     told = Untold;
     command_td = entry.command_td.state;
     status_td = entry.status_td.state;
@@ -116,5 +123,6 @@ fits-chunk client place unit entry op chunk was now fits is data_in data_out lon
   lent = ap (λ (c : Cell). c.buffers.lent) is;
   unit = ap (λ (c : Cell). c.buffers.command) is ∙ fits.unit;
   answer = tt;
+  answerable = fits.answerable;
   sound = record { whole = long ∙ fits.sound.whole; chunk = HasChunk-after unit chunk op unit.count fits.sound.chunk.1 };
 }

@@ -1,5 +1,6 @@
 -- What a chunk leaves of rings, buffers and events.
-use Rattle.std.proofs.Common.{◌≡◌, ℕ, ◌+◌, ◌-◌, ◌*◌, ◌<◌, ◌≤◌, Bool, true, false, not, cond, List, [], ◌∷◌, ◌++◌, length, Option, Some, None, IfSome, refl, arith, ap, sym, subst, ◌∙◌}
+use Rattle.std.proofs.Common.{◌≡◌, ℕ, ◌+◌, ◌-◌, ◌*◌, ◌<◌, ◌≤◌, Bool, true, false, not, cond, List, [], ◌∷◌, ◌++◌, length, Option, Some, None, IfSome, refl}
+use Rattle.std.proofs.Common.{arith, ap, sym, subst, ◌∙◌}
 use Rattle.std.specs.Prelude.{slice_set, if◌then◌else◌, ◌==◌}
 use Rattle.std.specs.Option.{option_map_or}
 use Rattle.std.proofs.lemmas.Bool.{eqb-true, ne_eqb}
@@ -38,6 +39,7 @@ chunk_events took chain event = if took then (if chain then [] else (event ∷ [
 -- the front TRB of a tag's ring among these rings was taken, or none was
 pub record TakesTrb (before after : LinesState) (rings now : List Ring) (tag : ℕ) (took : Bool) (posted : List Event) : Type 0 where
   pub command : after.command ≡ before.command
+  pub engine : after.engine ≡ before.engine
   pub status : after.status ≡ before.status
   pub here : stream_ring now tag ≡ record (stream_ring rings tag) { got = cond took ((stream_ring rings tag).got + 1) (stream_ring rings tag).got }
   pub others : (other : ℕ) → 0 < other → (other ≡ tag → ⊥) → stream_ring now other ≡ stream_ring rings other
@@ -55,11 +57,22 @@ pub takes-in : (lines : LinesState) (tag address pointer size : ℕ) (took chain
     TakesTrb lines (after_chunk took lines DataIn tag front) lines.data_in (after_chunk took lines DataIn tag front).data_in tag took
     (chunk_events took chain (Transfer address 0 SUCCESS (endpoint_of DataIn) SLOT))
     × ((after_chunk took lines DataIn tag front).data_out ≡ lines.data_out)
-takes-in lines tag address pointer size false chain some within =
-    (record { command = refl; status = refl; here = refl; others = λ other there apart. refl; events = sym (append-nil lines.events.pending) }, refl)
+takes-in lines tag address pointer size false chain some within = (
+  record {
+    command = refl;
+    engine = refl;
+    status = refl;
+    here = refl;
+    others = λ other there apart. refl;
+    events = sym
+        (append-nil lines.events.pending);
+  },
+  refl,
+)
 takes-in lines tag address pointer size true true some within = (
   record {
     command = refl;
+    engine = refl;
     status = refl;
     here = set-here lines.data_in tag _ some within;
     others = set-others lines.data_in tag _ some;
@@ -70,6 +83,7 @@ takes-in lines tag address pointer size true true some within = (
 takes-in lines tag address pointer size true false some within = (
   record {
     command = refl;
+    engine = refl;
     status = refl;
     here = set-here lines.data_in tag _ some within;
     others = set-others lines.data_in tag _ some;
@@ -83,11 +97,22 @@ pub takes-out : (lines : LinesState) (tag address pointer size : ℕ) (took chai
     TakesTrb lines (after_chunk took lines DataOut tag front) lines.data_out (after_chunk took lines DataOut tag front).data_out tag took
     (chunk_events took chain (Transfer address 0 SUCCESS (endpoint_of DataOut) SLOT))
     × ((after_chunk took lines DataOut tag front).data_in ≡ lines.data_in)
-takes-out lines tag address pointer size false chain some within =
-    (record { command = refl; status = refl; here = refl; others = λ other there apart. refl; events = sym (append-nil lines.events.pending) }, refl)
+takes-out lines tag address pointer size false chain some within = (
+  record {
+    command = refl;
+    engine = refl;
+    status = refl;
+    here = refl;
+    others = λ other there apart. refl;
+    events = sym
+        (append-nil lines.events.pending);
+  },
+  refl,
+)
 takes-out lines tag address pointer size true true some within = (
   record {
     command = refl;
+    engine = refl;
     status = refl;
     here = set-here lines.data_out tag _ some within;
     others = set-others lines.data_out tag _ some;
@@ -98,6 +123,7 @@ takes-out lines tag address pointer size true true some within = (
 takes-out lines tag address pointer size true false some within = (
   record {
     command = refl;
+    engine = refl;
     status = refl;
     here = set-here lines.data_out tag _ some within;
     others = set-others lines.data_out tag _ some;
@@ -125,10 +151,12 @@ lent-kept frames tag lent is = record {
   others = λ other there apart. refl;
 }
 
-lent-set : (frames : List TagBuffers) (tag : ℕ) (lent : List ℕ) → IsWhole frames → 0 < tag → tag ≤ 248 → WritesLent frames (with_lent frames tag (Some lent)) tag lent
+lent-set : (frames : List TagBuffers) (tag : ℕ) (lent : List ℕ) → IsWhole frames → 0 < tag → tag ≤ 248
+    → WritesLent frames (with_lent frames tag (Some lent)) tag lent
 lent-set frames tag lent whole some within = record {
   here = get_or-set_same frames (tag - 1) (record (held_for frames tag) { lent = Some lent }) no_buffers (omega (arith, whole.tags));
-  others = λ other there apart. get_or-set_other frames (tag - 1) (other - 1) (record (held_for frames tag) { lent = Some lent }) no_buffers (λ same. apart (omega arith));
+  others = λ other there apart. get_or-set_other frames (tag - 1) (other - 1) (record (held_for frames tag) { lent = Some lent }) no_buffers
+      (λ same. apart (omega arith));
 }
 
 pub lent-given : (frames : List TagBuffers) (tag chunk size : ℕ) (buffer : List ℕ) (given : Option (List ℕ)) → IsWhole frames → 0 < tag → tag ≤ 248
@@ -147,20 +175,24 @@ pub carried_places-data : (last : Bool) (place : Place) → carried_places (data
 carried_places-data true place = refl
 carried_places-data false place = refl
 
-last-event : (ring now : Ring) (tag bytes chunk : ℕ) (took : Bool) → ring.put ≡ data_td tag bytes → now ≡ record ring { got = cond took (ring.got + 1) ring.got }
+last-event : (ring now : Ring) (tag bytes chunk : ℕ) (took : Bool) → ring.put ≡ data_td tag bytes
+    → now ≡ record ring { got = cond took (ring.got + 1) ring.got }
     → chunk + 1 ≡ data_trb_count bytes → last_pointer now ≡ pointer_of STREAM_RING_PLACES ring chunk
 last-event ring now tag bytes chunk took put is last =
     let size : length ring.put - 1 ≡ chunk = omega (arith, ap length put ∙ length-data_trbs (data_trb_count bytes) (window_of tag) bytes, last) in
     ap last_pointer is ∙ ap (pointer_of STREAM_RING_PLACES ring) size
 
-event-in : (data_in data_out : Ring) → 0 < length data_in.put → data_event data_in data_out ≡ Transfer (last_pointer data_in) 0 SUCCESS (endpoint_of DataIn) SLOT
+event-in : (data_in data_out : Ring) → 0 < length data_in.put
+    → data_event data_in data_out ≡ Transfer (last_pointer data_in) 0 SUCCESS (endpoint_of DataIn) SLOT
 event-in data_in data_out some =
-    ap (λ b. cond b (Transfer (last_pointer data_out) 0 SUCCESS (endpoint_of DataOut) SLOT) (Transfer (last_pointer data_in) 0 SUCCESS (endpoint_of DataIn) SLOT))
+    ap (λ b. cond b (Transfer (last_pointer data_out) 0 SUCCESS (endpoint_of DataOut) SLOT)
+    (Transfer (last_pointer data_in) 0 SUCCESS (endpoint_of DataIn) SLOT))
     (ne_eqb (length data_in.put) 0 (λ none. omega (arith, none, some)))
 
 event-out : (data_in data_out : Ring) → data_in.put ≡ [] → data_event data_in data_out ≡ Transfer (last_pointer data_out) 0 SUCCESS (endpoint_of DataOut) SLOT
 event-out data_in data_out none =
-    ap (λ (trbs : List Trb). cond (length trbs == 0) (Transfer (last_pointer data_out) 0 SUCCESS (endpoint_of DataOut) SLOT) (Transfer (last_pointer data_in) 0 SUCCESS (endpoint_of DataIn) SLOT)) none
+    ap (λ (trbs : List Trb). cond (length trbs == 0) (Transfer (last_pointer data_out) 0 SUCCESS (endpoint_of DataOut) SLOT)
+    (Transfer (last_pointer data_in) 0 SUCCESS (endpoint_of DataIn) SLOT)) none
 
 -- what is posted is the text of the place's data event
 texts-of : (after : World) (place : Place) (k bytes chunk : ℕ) (took : Bool) (event : Event)

@@ -1,5 +1,6 @@
 -- The piece of a lent vector that a data TRB names.
-use Rattle.std.proofs.Common.{◌≡◌, ℕ, ◌+◌, ◌*◌, ◌<◌, ◌≤◌, List, [], ◌++◌, length, length-append, length-drop, length-take, take, drop, Option, Some, arith, ap, ◌∙◌}
+use Rattle.std.proofs.Common.{◌≡◌, ℕ, ◌+◌, ◌*◌, ◌<◌, ◌≤◌, List, [], ◌++◌, length, length-append, length-drop, length-take, take, drop, Option, Some, arith, ap}
+use Rattle.std.proofs.Common.{◌∙◌}
 use Rattle.std.specs.Prelude.{unwrap_or, option_map}
 use Rattle.std.proofs.lemmas.List.{drop-drop, take-append-le}
 use Rattle.scsi_cmd.specs.Buffers.{with_bytes_at, written_at}
@@ -48,8 +49,10 @@ pub chunk-written : (frames : List TagBuffers) (tag chunk size : ℕ) (buffer by
     → written frames (window_of tag + 4096 * chunk) size bytes ≡ with_lent frames tag (Some (with_bytes_at buffer (4096 * chunk) bytes))
 chunk-written frames tag chunk size buffer bytes whole some within lent more fits short =
     ap (λ p. with_bytes frames p bytes)
-    (start_of-named frames (window_of tag + 4096 * chunk) size (chunk_place tag chunk) whole (names-chunk frames tag chunk size buffer some within lent fits) more)
-    ∙ ap (λ (o : Option (List ℕ)). with_held frames tag (record (held_for frames tag) { lent = option_map (λ _. spliced (unwrap_or o []) (4096 * chunk) bytes) o })) lent
+    (start_of-named frames (window_of tag + 4096 * chunk) size (chunk_place tag chunk) whole
+    (names-chunk frames tag chunk size buffer some within lent fits) more)
+    ∙ ap (λ (o : Option (List ℕ)). with_held frames tag
+    (record (held_for frames tag) { lent = option_map (λ _. spliced (unwrap_or o []) (4096 * chunk) bytes) o })) lent
     ∙ ap (λ (b : List ℕ). with_lent frames tag (Some b)) (spliced-fits buffer (4096 * chunk) bytes (omega (arith, fits, short)))
 
 -- so many bytes are read from chunk k on
@@ -59,5 +62,6 @@ pub chunk-read : (frames : List TagBuffers) (tag chunk size : ℕ) (buffer : Lis
 unfolding bytes_from
 chunk-read frames tag chunk size buffer whole some within lent more fits =
     ap (λ p. take size (drop p.offset (bytes_of frames p)))
-    (start_of-named frames (window_of tag + 4096 * chunk) size (chunk_place tag chunk) whole (names-chunk frames tag chunk size buffer some within lent fits) more)
+    (start_of-named frames (window_of tag + 4096 * chunk) size (chunk_place tag chunk) whole
+    (names-chunk frames tag chunk size buffer some within lent fits) more)
     ∙ ap (λ b. take size (drop (4096 * chunk) b)) (lent-bytes (held_for frames tag) buffer lent)

@@ -16,8 +16,10 @@ sent_reply : (tag : ℕ) (entry : Entry) → IsSentBy entry.task.phase → (repl
 sent_reply tag entry sent = (_, ap (λ p. reply_from tag entry.task p) sent.is)
 
 -- the reply of the first ready slot is taken
-pub take_reply : (client : ℕ) (part : Part) (slot : ℕ) (rest : List ℕ) (entry : Entry) (entries : List (Option Entry)) (reply : Option Reply) → part.ready ≡ slot ∷ rest →
-    held_at part.entries slot ≡ Some entry → IsSentBy entry.task.phase → reply ≡ reply_of (slot_tag client slot) entry.task → entries ≡ slice_set part.entries slot None →
+pub take_reply : (client : ℕ) (part : Part) (slot : ℕ) (rest : List ℕ) (entry : Entry) (entries : List (Option Entry)) (reply : Option Reply)
+    → part.ready ≡ slot ∷ rest →
+    held_at part.entries slot ≡ Some entry → IsSentBy entry.task.phase → reply ≡ reply_of (slot_tag client slot) entry.task
+    → entries ≡ slice_set part.entries slot None →
     record { part = record part { entries = entries; ready = rest }; event = None; mark = Settle (suc slot); reply = reply } ≡ take_act client part
 take_reply client part slot rest entry entries reply first held sent is now =
     let told : (answer : Reply) × (reply_of (slot_tag client slot) entry.task ≡ Some answer) = sent_reply (slot_tag client slot) entry sent in

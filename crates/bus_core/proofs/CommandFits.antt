@@ -1,5 +1,6 @@
 -- A step of the command pipe: the device receives the command of the first message.
-use Rattle.std.proofs.Common.{◌≡◌, ℕ, suc, ◌+◌, ◌^◌, ◌<◌, ◌≤◌, Bool, true, false, cond, List, [], ◌∷◌, ◌++◌, take, drop, length, length-append, map, Option, Some, None, option_map, Ok, refl, arith, ap, sym, subst, ◌∙◌, inr}
+use Rattle.std.proofs.Common.{◌≡◌, ℕ, suc, ◌+◌, ◌^◌, ◌<◌, ◌≤◌, Bool, true, false, cond, List, [], ◌∷◌, ◌++◌, take, drop, length, length-append, map, Option}
+use Rattle.std.proofs.Common.{Some, None, option_map, Ok, refl, arith, ap, sym, subst, ◌∙◌, inr}
 use Rattle.std.specs.Prelude.{slice_get, slice_set, IfSome, Result}
 use Rattle.std.proofs.lemmas.Bool.{lt-ltb, le-ltb, le-leb}
 use Rattle.std.proofs.lemmas.List.{take_all, length-map, append_assoc}
@@ -50,10 +51,10 @@ use Rattle.bus_core.specs.declared.Completion.TheVariants.{CommandDone, DataDone
 use Rattle.bus_core.specs.declared.Step.TheVariants.{CommandPipe}
 use Rattle.bus_core.specs.Td.{Entry, with_trb_taken}
 use Rattle.bus_core.specs.Wire.{request_text}
-use Rattle.bus_core.specs.Hosts.{asked_by, phase_task}
+use Rattle.bus_core.specs.Hosts.{begun_task, phase_task}
 use Rattle.bus_core.specs.Part.{Part}
 use Rattle.bus_core.specs.Shared.{Shared, idle, is_some_of, carry_step, shared_step}
-use Rattle.bus_core.specs.Matched.{carried_places, HasRoom, IsMatched, IsOwnMessage}
+use Rattle.bus_core.specs.Matched.{carried_places, HasRoom, IsCommandRequest, IsMatched, IsOwnMessage}
 use Rattle.bus_core.specs.World.{World, Cell, cell_at, sides_in, with_sides}
 use Rattle.bus_core.specs.Cells.{FitsCell, host_side, told_by}
 use Rattle.bus_core.specs.Fits.{Fits, FitsQueues, IsSoundWorld, command_trb, event_texts, place_in}
@@ -63,7 +64,7 @@ use Rattle.bus_core.proofs.ActFits.{IsPlaced, placed, IsActed, acted_state, acte
 use Rattle.bus_core.proofs.DeviceSteps.{received-op}
 use Rattle.bus_core.proofs.EventTexts.{KeepsOthers, carried_places-append, command_event, event_texts-append, event_texts-one}
 use Rattle.bus_core.proofs.MatchedBounds.{matched-room}
-use Rattle.bus_core.proofs.MatchedEntries.{carried_to}
+use Rattle.bus_core.proofs.MatchedEntries.{asked_op, carried_to}
 use Rattle.bus_core.proofs.MatchedNext.{matched-no_stray}
 use Rattle.bus_core.proofs.MatchedSteps.{carry_step-held, shared_step-matched}
 use Rattle.bus_core.proofs.Standing.{held_under-with_same, held_under-with_other}
@@ -149,9 +150,6 @@ began-op device number tag op unit is less is_one free =
 
 -- THE CALL, COMPUTED
 
-asked_op : (request : Request) → (op : Op) × (request ≡ Execute op)
-asked_op (Execute op) = (op, refl)
-
 -- the world after the device received the command of a place
 abbrev pub received_world : World → Place → BlockMaps × Progress → Op → World
 received_world world place after op = record world {
@@ -173,7 +171,7 @@ command-received : (state : Shared) (world : World) (place : Place) (entry : Ent
 command-received state world place entry op at fits queued asks =
     let tag = tag-bounds state world place entry at fits in
     let free : task_of world.device (tag_of place) ≡ None =
-    at.cell.task ∙ ap (λ p. phase_task (Some place.client) (asked_by entry.task.request) p) queued in
+    at.cell.task ∙ ap (λ p. phase_task (Some place.client) entry.task.request p) queued in
     ap (λ bytes. received world.device bytes)
     (command-bytes world.frames (tag_of place) fits.sound.frames tag.0 tag.1 ∙ at.cell.unit ∙ ap (λ r. request_text place.client (tag_of place) r) asks)
     ∙ began-op world.device place.client (tag_of place) op at.part.unit at.client.unit_is tag.2 tag.3 free
@@ -183,9 +181,14 @@ commanded-is : (state : Shared) (world : World) (place : Place) (rest : List Pla
     → commanded (sides_in world)
     ≡ (sides_in (received_world world place (begins at.part.unit op) op), ActedOn (tag_of place))
 commanded-is state world place rest entry op at fits is queued asks =
-    ap (λ b. on_front (sides_in world) (received_at (sides_in world)) (cond b (front_of COMMAND_RING_PLACES world.lines.command) None)) (event-room state world fits)
+    ap (λ b. on_front (sides_in world) (received_at (sides_in world)) (cond b (front_of COMMAND_RING_PLACES world.lines.command) None))
+    (event-room state world fits)
     ∙ ap (on_front (sides_in world) (received_at (sides_in world))) (command-front state world place rest fits.queues is)
-    ∙ ap (λ (after : Device × Result Took Overlap). (record (sides_in world) { lines = completed world.lines Command 0 (front_address world) 0 SUCCESS; device = after.0 }, ActedOn (began_tag after.1)))
+    ∙ ap (λ (after : Device × Result Took Overlap). (
+      record (sides_in world)
+          { lines = completed world.lines Command 0 (front_address world) 0 SUCCESS; device = after.0 },
+      ActedOn (began_tag after.1),
+    ))
     (command-received state world place entry op at fits queued asks)
 
 -- THE CELL
@@ -198,13 +201,14 @@ received-cell : (client count : ℕ) (place : Place) (entry : Entry) (cell : Cel
     → FitsCell client count place (received_entry entry progress) (record cell { task = task_in (Some client) (Ok op) progress })
 received-cell client count place entry cell op progress queued asks chunk fits = record {
   held = fits.held ∙ ap (λ p. Some (record (host_side entry) { told = told_by p entry.status_td.state })) queued;
-  task = ap (λ r. task_in (Some client) (asked_by r) progress) (sym asks);
+  task = ap (λ r. begun_task (Some client) r progress) (sym asks);
   status = fits.status;
   data_in = fits.data_in;
   data_out = fits.data_out;
   lent = fits.lent;
   unit = fits.unit;
   answer = tt;
+  answerable = fits.answerable;
   sound =
       let whole : IsSoundOp count entry.task op = subst (λ r. IsSoundRequest count entry.task r) asks fits.sound in
       subst (λ r. IsSoundRequest count (record entry.task { phase = Begun progress }) r) (sym asks) (record { whole = whole.whole; chunk = chunk });
@@ -219,7 +223,8 @@ received-queues : (state : Shared) (world : World) (place : Place) (rest : List 
     → Fits state world → state.messages ≡ place ∷ rest → place.slot < TAGS → KeepsOthers world (received_world world place after op) place
     → FitsQueues (acted_state state place part after.0 new rest (CommandDone place ∷ [])) (received_world world place after op)
 received-queues state world place rest after op part new fits is within others =
-    let more : carried_places (state.events ++ CommandDone place ∷ []) ≡ carried_places state.events ++ place ∷ [] = carried_places-append state.events (CommandDone place ∷ []) in
+    let more : carried_places (state.events ++ CommandDone place ∷ []) ≡ carried_places state.events ++ place ∷ [] = carried_places-append state.events
+    (CommandDone place ∷ []) in
     record {
       put = fits.queues.put
           ∙ ap (λ ms. map command_trb (carried_places state.events ++ ms)) is
@@ -227,8 +232,10 @@ received-queues state world place rest after op part new fits is within others =
       got = omega (arith, fits.queues.got, ap length more, length-append (carried_places state.events) (place ∷ []));
       texts = ap (λ es. es ++ command_event world world.lines.command.got ∷ []) fits.queues.texts
           ∙ ap (λ es. es ++ command_event world world.lines.command.got ∷ [])
-          (sym (event_texts-one state world (received_world world place after op) place 0 fits.matched within (refl, refl) others (λ some. (refl, refl)) (λ some. (refl, refl))))
-          ∙ ap (λ n. event_texts (received_world world place after op) 0 state.events ++ command_event world n ∷ []) (fits.queues.got ∙ plus_none (length (carried_places state.events)))
+          (sym (event_texts-one state world (received_world world place after op) place 0 fits.matched within (refl, refl) others (λ some. (refl, refl))
+          (λ some. (refl, refl))))
+          ∙ ap (λ n. event_texts (received_world world place after op) 0 state.events ++ command_event world n ∷ [])
+          (fits.queues.got ∙ plus_none (length (carried_places state.events)))
           ∙ sym (event_texts-append (received_world world place after op) 0 state.events (CommandDone place ∷ []));
     }
 
@@ -249,11 +256,13 @@ received-acted state world place rest entry op at fits is queued asks =
     record {
       host = refl;
       controller = refl;
+      engine = refl;
       units = refl;
       tasks = λ other apart. held_under-with_other world.device.tasks (tag_of place) other task apart;
       others = received-others world place (begins at.part.unit op) op;
       count = begun-count at.part.unit (reports_attention op) (checked_work op at.part.unit.count);
-      cell = subst (λ t. FitsCell place.client at.part.unit.count place (received_entry entry (begins at.part.unit op).1) (record (cell_at world place) { task = t }))
+      cell = subst (λ t. FitsCell place.client at.part.unit.count place (received_entry entry (begins at.part.unit op).1)
+          (record (cell_at world place) { task = t }))
           (sym (held_under-with_same world.device.tasks (tag_of place) task (omega (arith, tag.0)) (omega (arith, tag.1, fits.sound.tags))))
           (received-cell place.client at.part.unit.count place entry (cell_at world place) op (begins at.part.unit op).1 queued asks
           (HasChunk-begun at.part.unit (reports_attention op) op) at.cell);
@@ -264,13 +273,16 @@ received-acted state world place rest entry op at fits is queued asks =
 
 -- the shared machine's step
 command-stepped : (state : Shared) (place : Place) (rest : List Place) (part : Part) (entry : Entry) (op : Op) → state.messages ≡ place ∷ rest
-    → slice_get state.parts place.client ≡ Some part → held_at part.entries place.slot ≡ Some entry → entry.task.phase ≡ Queued → entry.task.request ≡ Execute op
+    → slice_get state.parts place.client ≡ Some part → held_at part.entries place.slot ≡ Some entry → IsCommandRequest entry.task.request
+    → entry.task.phase ≡ Queued
+    → entry.task.request ≡ Execute op
     → (shared_step state CommandPipe).0
     ≡ acted_state state place part (begins part.unit op).0 (received_entry entry (begins part.unit op).1) rest (CommandDone place ∷ [])
-command-stepped state place rest part entry op is there held queued asks =
+command-stepped state place rest part entry op is there held command queued asks =
     ap (λ ms. (cond (is_some_of ms) (carry_step state ms) (state, idle)).0) is
-    ∙ ap (λ s. s.0) (carry_step-held state place rest part entry there held queued)
-    ∙ ap (λ r. acted_state state place part (carried_request part.unit entry.task r).0 (carried_to entry (carried_request part.unit entry.task r).1) rest (CommandDone place ∷ [])) asks
+    ∙ ap (λ s. s.0) (carry_step-held state place rest part entry there held command queued)
+    ∙ ap (λ r. acted_state state place part (carried_request part.unit entry.task r).0
+    (carried_to entry (carried_request part.unit entry.task r).1) rest (CommandDone place ∷ [])) asks
 
 command-own : (state : Shared) (world : World) (place : Place) (rest : List Place) → Fits state world → state.messages ≡ place ∷ rest
     → 1 ≤ tag_of place → tag_of place ≤ 248 → IsOwnCommandFront world.lines world.frames
@@ -283,18 +295,21 @@ command_fits state world place rest fits is =
     let own : IsOwnMessage state.parts place = (matched-no_stray state fits.matched).messages 0 place (ap (λ ms. slice_get ms 0) is) in
     let entry : Entry = own.entry in
     let at : IsPlaced state world place own.entry = placed state world place own.entry fits own.held in
-    let asks = asked_op own.entry.task.request in
+    let command : IsCommandRequest own.entry.task.request = at.matched.here.sound.asks in
+    let asks = asked_op own.entry.task.request command in
     let tag = tag-bounds state world place own.entry at fits in
     let after : BlockMaps × Progress = begins at.part.unit asks.0 in
     let called = commanded-is state world place rest own.entry asks.0 at fits is own.queued asks.1 in
-    let stepped = command-stepped state place rest at.part own.entry asks.0 is at.there at.held own.queued asks.1 in
+    let stepped = command-stepped state place rest at.part own.entry asks.0 is at.there at.held command own.queued asks.1 in
     record {
       own = command-own state world place rest fits is tag.0 tag.1;
       acted = ap (λ c. c.1) called;
       fits = λ sound.
           subst (λ s. Fits s (command_world world)) (sym stepped)
-          (subst (λ (c : Sides × Acted). Fits (acted_state state place at.part after.0 (received_entry own.entry after.1) rest (CommandDone place ∷ [])) (with_sides world c.0)) (sym called)
-          (acted-fits state world (received_world world place after asks.0) place own.entry (received_entry own.entry after.1) after.0 rest (CommandDone place ∷ []) at fits
+          (subst (λ (c : Sides × Acted). Fits (acted_state state place at.part after.0 (received_entry own.entry after.1) rest (CommandDone place ∷ []))
+          (with_sides world c.0)) (sym called)
+          (acted-fits state world (received_world world place after asks.0) place own.entry (received_entry own.entry after.1) after.0 rest
+          (CommandDone place ∷ []) at fits
           (received-acted state world place rest own.entry asks.0 at fits is own.queued asks.1)
           (subst IsMatched stepped (shared_step-matched state CommandPipe fits.matched))
           (subst (λ (c : Sides × Acted). IsSoundWorld (with_sides world c.0)) called sound)));

@@ -11,9 +11,12 @@ use Rattle.scsi_cmd.specs.declared.Direction.{Direction}
 use Rattle.scsi_cmd.specs.declared.Direction.TheVariants.{Nothing, ToHost, ToDevice}
 use Rattle.scsi_cmd.specs.Held.{held_at}
 use Rattle.scsi_cmd.specs.Op.{moved_bytes, direction_of}
+use Rattle.scsi_cmd.specs.declared.Request.{Request}
+use Rattle.scsi_cmd.specs.declared.Request.TheVariants.{Execute, Manage}
+use Rattle.device_server.specs.declared.Answer.{Answer}
 use Rattle.device_server.specs.declared.Progress.TheVariants.{Moving, Ended}
 use Rattle.solo_model.specs.declared.Phase.{Phase}
-use Rattle.solo_model.specs.declared.Phase.TheVariants.{Queued, Begun, Sent}
+use Rattle.solo_model.specs.declared.Phase.TheVariants.{Queued, Begun, Sent, Gone}
 use Rattle.uas_target.specs.declared.DeviceTask.{DeviceTask}
 use Rattle.uas_target.specs.declared.Phase.{Phase as Wants}
 use Rattle.uas_target.specs.declared.Phase.TheVariants.{Absent, Gives, Takes, Ends}
@@ -31,7 +34,7 @@ use Rattle.bus_core.specs.declared.Step.TheVariants.{Data}
 use Rattle.bus_core.specs.Td.{Entry, data_trbs}
 use Rattle.bus_core.specs.Part.{Part}
 use Rattle.bus_core.specs.Shared.{Shared, data_is_due, due, has_data_trb, is_data_open, is_moving, request_direction}
-use Rattle.bus_core.specs.Hosts.{asked_by, device_task, phase_task}
+use Rattle.bus_core.specs.Hosts.{begun_task, device_task, phase_task}
 use Rattle.bus_core.specs.World.{World, sides_in}
 use Rattle.bus_core.specs.Fits.{Fits}
 use Rattle.bus_core.specs.WorldSteps.{DataFit, DataFits, DataIsIdle}
@@ -45,7 +48,8 @@ use Rattle.bus_core.proofs.DataMoves.{gives-fit, own-in, own-out, rings-in, ring
 
 -- WHAT IT DOES
 
-by-direction : {state : Shared} {world : World} {place : Place} {part : Part} (at : IsChunkAt state world place part) (way : Direction) → direction_of at.op ≡ way
+by-direction : {state : Shared} {world : World} {place : Place} {part : Part} (at : IsChunkAt state world place part) (way : Direction)
+    → direction_of at.op ≡ way
     → Fits state world → place_of (length state.parts) (tag_of place) ≡ Some place → due state (Data (tag_of place)) ≡ true
     → is_data_open state (tag_of place) way ≡ true → DataFits state world (tag_of place)
 by-direction at Nothing is fits named is_due rung = absurd (false≢true rung)
@@ -67,7 +71,8 @@ data-fits-at state world place entry stands fits named is_due so =
     let moving = and-true (is_moving entry.task.phase) _ so in
     let phase : IsMovingBy entry.task.phase = moving_phase entry.task.phase moving.0 in
     let at : IsChunkAt state world place stands.part = chunk-at state world place stands.part entry phase.chunk fits stands.there stands.held phase.is in
-    let rung = (and-true (is_data_open state (tag_of place) (request_direction entry.task.request)) (has_data_trb (data_trbs entry.task.request) entry.data_td) moving.1).0 in
+    let rung = (and-true (is_data_open state (tag_of place) (request_direction entry.task.request))
+    (has_data_trb (data_trbs entry.task.request) entry.data_td) moving.1).0 in
     by-direction at (direction_of at.op) refl fits named is_due
     (subst (λ (e : Entry). is_data_open state (tag_of place) (request_direction e.task.request) ≡ true) (entry-moving at entry stands.held) rung)
 
@@ -123,12 +128,19 @@ told-moving at fits = told-way at (direction_of at.op) refl fits
 
 -- an entry whose phase moves no data
 told-still : (state : Shared) (world : World) (place : Place) (entry : Entry) (phase : Phase) → entry.task.phase ≡ phase → is_moving phase ≡ false
-    → IsTold world (tag_of place) (wants_by (phase_task (Some place.client) (asked_by entry.task.request) phase)) false → IsToldOf state world place entry
+    → IsTold world (tag_of place) (wants_by (phase_task (Some place.client) entry.task.request phase)) false → IsToldOf state world place entry
 told-still state world place entry phase is still told =
-    subst (λ p. IsTold world (tag_of place) (wants_by (phase_task (Some place.client) (asked_by entry.task.request) p))
-    (is_moving p && (is_data_open state (tag_of place) (request_direction entry.task.request) && has_data_trb (data_trbs entry.task.request) entry.data_td))) (sym is)
-    (subst (λ b. IsTold world (tag_of place) (wants_by (phase_task (Some place.client) (asked_by entry.task.request) phase))
-    (b && (is_data_open state (tag_of place) (request_direction entry.task.request) && has_data_trb (data_trbs entry.task.request) entry.data_td))) (sym still) told)
+    subst (λ p. IsTold world (tag_of place) (wants_by (phase_task (Some place.client) entry.task.request p))
+    (is_moving p && (is_data_open state (tag_of place) (request_direction entry.task.request) && has_data_trb
+    (data_trbs entry.task.request) entry.data_td))) (sym is)
+    (subst (λ b. IsTold world (tag_of place) (wants_by (phase_task (Some place.client) entry.task.request phase))
+    (b && (is_data_open state (tag_of place) (request_direction entry.task.request) && has_data_trb (data_trbs entry.task.request) entry.data_td)))
+    (sym still) told)
+
+-- what has ended wants to tell its answer
+ended-wants : (unit : Option ℕ) (request : Request) (answer : Answer) → wants_by (begun_task unit request (Ended answer)) ≡ Ends
+ended-wants unit (Execute op) answer = refl
+ended-wants unit (Manage what noted) answer = refl
 
 told-phase : (state : Shared) (world : World) (place : Place) (entry : Entry) (phase : Phase) → entry.task.phase ≡ phase → IsPlaced state world place entry
     → Fits state world → IsToldOf state world place entry
@@ -136,8 +148,10 @@ told-phase state world place entry Queued is stands fits = told-still state worl
 told-phase state world place entry (Begun (Moving chunk)) is stands fits =
     let at : IsChunkAt state world place stands.part = chunk-at state world place stands.part entry chunk fits stands.there stands.held is in
     subst (IsToldOf state world place) (sym (entry-moving at entry stands.held)) (told-moving at fits)
-told-phase state world place entry (Begun (Ended answer)) is stands fits = told-still state world place entry (Begun (Ended answer)) is refl (refl, tt)
+told-phase state world place entry (Begun (Ended answer)) is stands fits = told-still state world place entry (Begun (Ended answer)) is refl
+    (subst (λ w. IsTold world (tag_of place) w false) (sym (ended-wants (Some place.client) entry.task.request answer)) (refl, tt))
 told-phase state world place entry (Sent answer) is stands fits = told-still state world place entry (Sent answer) is refl (refl, tt)
+told-phase state world place entry Gone is stands fits = told-still state world place entry Gone is refl (refl, tt)
 
 pub data_due : DataAreDue
 data_due state world tag fits =

@@ -1,5 +1,6 @@
 -- A chunk that the device gives, and one that it takes, on the world of rings.
-use Rattle.std.proofs.Common.{◌≡◌, ℕ, ◌+◌, ◌-◌, ◌*◌, ◌<◌, ◌≤◌, Bool, true, not, List, [], length, Option, Some, None, Ok, IfSome, is_some, refl, arith, ap, sym, subst, ◌∙◌}
+use Rattle.std.proofs.Common.{◌≡◌, ℕ, ◌+◌, ◌-◌, ◌*◌, ◌<◌, ◌≤◌, Bool, true, not, List, [], length, Option, Some, None, Ok, IfSome, is_some, refl, arith, ap, sym}
+use Rattle.std.proofs.Common.{subst, ◌∙◌}
 use Rattle.std.specs.Prelude.{slice_set, ◌==◌}
 use Rattle.std.specs.Option.{option_map_or}
 use Rattle.block_unit.specs.BlockMaps.{BlockMaps}
@@ -45,7 +46,9 @@ use Rattle.bus_core.proofs.ChunkWindows.{chunk-read}
 use Rattle.bus_core.proofs.ChunkEntries.{moving_td, td_after}
 use Rattle.bus_core.proofs.ChunkLines.{TakesTrb, WritesLent, chunk_events, holds-after, lent-given, lent-kept, takes-in, takes-out, texts-in, texts-out}
 use Rattle.bus_core.proofs.DataWorlds.{MovesChunk}
-use Rattle.bus_core.proofs.DataSteps.{IsChunkAt, IsInLent, all_three, armed-front, chunk_size, event-room, fits-after, has_stream-tag, in-lent, own-data_trb, pending-td, step-front}
+use Rattle.bus_core.proofs.CommandFits.{event-room}
+use Rattle.bus_core.proofs.DataSteps.{IsChunkAt, IsInLent, all_three, armed-front, chunk_size, fits-after, has_stream-tag, in-lent, own-data_trb}
+use Rattle.bus_core.proofs.DataSteps.{pending-td, step-front}
 
 -- DATA-IN
 
@@ -54,8 +57,10 @@ pub rings-in : {state : Shared} {world : World} {place : Place} {part : Part} (a
     → HoldsTrbs (stream_ring world.lines.data_in (tag_of place)) (data_td (tag_of place) (moved_bytes at.op)) at.chunk
     × HoldsTrbs (stream_ring world.lines.data_out (tag_of place)) [] 0
 rings-in {state} {world} {place} {part} at way = (
-  subst (λ d. HoldsData (stream_ring world.lines.data_in (tag_of place)) (data_td (tag_of place) (moved_bytes at.op)) (data_in_td d (Some (moving_td at.chunk)))) way at.here.data_in,
-  subst (λ d. HoldsData (stream_ring world.lines.data_out (tag_of place)) (data_td (tag_of place) (moved_bytes at.op)) (data_out_td d (Some (moving_td at.chunk)))) way at.here.data_out,
+  subst (λ d. HoldsData (stream_ring world.lines.data_in (tag_of place)) (data_td (tag_of place) (moved_bytes at.op))
+      (data_in_td d (Some (moving_td at.chunk)))) way at.here.data_in,
+  subst (λ d. HoldsData (stream_ring world.lines.data_out (tag_of place)) (data_td (tag_of place) (moved_bytes at.op))
+      (data_out_td d (Some (moving_td at.chunk)))) way at.here.data_out,
 )
 
 abbrev in_front : World → Place → Op → ℕ → Front
@@ -65,7 +70,8 @@ in_front world place op chunk =
 abbrev given_world : World → Place → BlockMaps → Op → ℕ → World
 given_world world place unit op chunk = record world {
   lines = after_chunk (chunk_moved (progress_left unit chunk op)) world.lines DataIn (tag_of place) (in_front world place op chunk);
-  frames = option_map_or (λ bytes. written world.frames (window_of (tag_of place) + 4096 * chunk) (chunk_size op chunk) bytes) (chunk_given unit chunk (work_of op unit.count)) world.frames;
+  frames = option_map_or (λ bytes. written world.frames (window_of (tag_of place) + 4096 * chunk) (chunk_size op chunk) bytes)
+      (chunk_given unit chunk (work_of op unit.count)) world.frames;
   device = record {
     units = world.device.units;
     tasks = with_held_under world.device.tasks (tag_of place) (task_in (Some place.client) (Ok op) (progress_left unit chunk op));
@@ -93,19 +99,23 @@ pub own-in : {state : Shared} {world : World} {place : Place} {part : Part} (at 
 own-in {state} {world} {place} {part} at way =
     let lent : IsInLent state world place part at = in-lent at in
     subst (λ (f : Option (ℕ × Trb)). IfSome f (λ front. IsOwnData world.frames (chunk_size at.op at.chunk) front.1)) (sym (front-in at way))
-    (own-data_trb world.frames (window_of (tag_of place) + 4096 * at.chunk) (moved_bytes at.op - 4096 * at.chunk) (data_trb_count (moved_bytes at.op) - 1 - at.chunk) lent.named)
+    (own-data_trb world.frames (window_of (tag_of place) + 4096 * at.chunk) (moved_bytes at.op - 4096 * at.chunk)
+    (data_trb_count (moved_bytes at.op) - 1 - at.chunk) lent.named)
 
-moved-in : {state : Shared} {world : World} {place : Place} {part : Part} (at : IsChunkAt state world place part) → Fits state world → direction_of at.op ≡ ToHost
+moved-in : {state : Shared} {world : World} {place : Place} {part : Part} (at : IsChunkAt state world place part) → Fits state world
+    → direction_of at.op ≡ ToHost
     → is_open state.data_in (tag_of place) ≡ true
     → moved world.controller (sides_in world) (tag_of place)
     ≡ gave_at (sides_in world) (tag_of place) (chunk_size at.op at.chunk) (in_front world place at.op at.chunk)
 moved-in {state} {world} {place} {part} at fits way rung =
     let rings = rings-in at way in
     let ring : Ring = stream_ring world.lines.data_in (tag_of place) in
-    let armed = all_three (has_stream (tag_of place)) (is_open world.controller.data_in (tag_of place)) (has_pending ring) (has_stream-tag (tag_of place) (omega arith) at.last_tag)
+    let armed = all_three (has_stream (tag_of place)) (is_open world.controller.data_in (tag_of place)) (has_pending ring)
+    (has_stream-tag (tag_of place) (omega arith) at.last_tag)
     (ap (λ p. is_open p (tag_of place)) fits.data_in ∙ rung) (pending-td ring (tag_of place) (moved_bytes at.op) at.chunk rings.0 at.below) in
     ap (moved_by world.controller (sides_in world) (tag_of place)) (wanted-in at way)
-    ∙ step-front (sides_in world) (gave_at (sides_in world) (tag_of place) (chunk_size at.op at.chunk)) (armed_front world.controller world.lines DataIn (tag_of place))
+    ∙ step-front (sides_in world) (gave_at (sides_in world) (tag_of place) (chunk_size at.op at.chunk))
+    (armed_front world.controller world.lines DataIn (tag_of place))
     (pointer_of STREAM_RING_PLACES ring at.chunk) (tag_of place) (moved_bytes at.op) at.chunk at.below
     (armed-front world.controller world.lines DataIn (tag_of place) _ armed (event-room state world fits) (front-in at way))
 
@@ -115,7 +125,8 @@ given-is {state} {world} {place} {part} at way =
     let less : 4096 * at.chunk < moved_bytes at.op = at.here.sound.chunk.0 in
     given_chunk part.unit at.entry.task.buffer at.chunk (chunk_size at.op at.chunk) at.op (chunk_wanted-gives at.op at.chunk way) less
 
-data_world-in : {state : Shared} {world : World} {place : Place} {part : Part} (at : IsChunkAt state world place part) → Fits state world → direction_of at.op ≡ ToHost
+data_world-in : {state : Shared} {world : World} {place : Place} {part : Part} (at : IsChunkAt state world place part) → Fits state world
+    → direction_of at.op ≡ ToHost
     → is_open state.data_in (tag_of place) ≡ true → data_world world (tag_of place) ≡ given_world world place part.unit at.op at.chunk
 data_world-in {state} {world} {place} {part} at fits way rung =
     let task = (in-lent at).task in
@@ -127,7 +138,8 @@ data_world-in {state} {world} {place} {part} at fits way rung =
     ap (λ m. with_sides world m.0) (moved-in at fits way rung)
     ∙ (λ i. record world {
       lines = after_chunk (took_is i) world.lines DataIn (tag_of place) (in_front world place at.op at.chunk);
-      frames = option_map_or (λ bytes. written world.frames (window_of (tag_of place) + 4096 * at.chunk) (chunk_size at.op at.chunk) bytes) (bytes_is i) world.frames;
+      frames = option_map_or (λ bytes. written world.frames (window_of (tag_of place) + 4096 * at.chunk) (chunk_size at.op at.chunk) bytes)
+          (bytes_is i) world.frames;
       device = device_is i;
     })
 
@@ -138,7 +150,8 @@ in_events world place unit op chunk =
     (Transfer (pointer_of STREAM_RING_PLACES (stream_ring world.lines.data_in (tag_of place)) chunk) 0 SUCCESS (endpoint_of DataIn) SLOT)
 
 takes-given : {state : Shared} {world : World} {place : Place} {part : Part} (at : IsChunkAt state world place part) → Fits state world
-    → TakesTrb world.lines (given_world world place part.unit at.op at.chunk).lines world.lines.data_in (given_world world place part.unit at.op at.chunk).lines.data_in (tag_of place)
+    → TakesTrb world.lines (given_world world place part.unit at.op at.chunk).lines world.lines.data_in
+    (given_world world place part.unit at.op at.chunk).lines.data_in (tag_of place)
     (chunk_moved (progress_left part.unit at.chunk at.op)) (in_events world place part.unit at.op at.chunk)
     × ((given_world world place part.unit at.op at.chunk).lines.data_out ≡ world.lines.data_out)
 takes-given {state} {world} {place} {part} at fits =
@@ -146,14 +159,18 @@ takes-given {state} {world} {place} {part} at fits =
     (window_of (tag_of place) + 4096 * at.chunk) (chunk_size at.op at.chunk) (chunk_moved (progress_left part.unit at.chunk at.op))
     (not (at.chunk + 1 == data_trb_count (moved_bytes at.op))) (omega arith) (omega (arith, at.last_tag, fits.sound.lines.data_in))
 
-writes-given : {state : Shared} {world : World} {place : Place} {part : Part} (at : IsChunkAt state world place part) → Fits state world → direction_of at.op ≡ ToHost
-    → WritesLent world.frames (given_world world place part.unit at.op at.chunk).frames (tag_of place) (buffer_after part.unit at.entry.task.buffer at.chunk at.op)
+writes-given : {state : Shared} {world : World} {place : Place} {part : Part} (at : IsChunkAt state world place part) → Fits state world
+    → direction_of at.op ≡ ToHost
+    → WritesLent world.frames (given_world world place part.unit at.op at.chunk).frames (tag_of place)
+    (buffer_after part.unit at.entry.task.buffer at.chunk at.op)
 writes-given {state} {world} {place} {part} at fits way =
     let lent : IsInLent state world place part at = in-lent at in
-    lent-given world.frames (tag_of place) at.chunk (chunk_size at.op at.chunk) at.entry.task.buffer (chunk_given part.unit at.chunk (work_of at.op part.unit.count)) fits.sound.frames
+    lent-given world.frames (tag_of place) at.chunk (chunk_size at.op at.chunk) at.entry.task.buffer
+    (chunk_given part.unit at.chunk (work_of at.op part.unit.count)) fits.sound.frames
     (omega arith) at.last_tag at.here.lent lent.some lent.fits (length-chunk_given part.unit at.chunk at.op lent.less)
 
-moves-given : {state : Shared} {world : World} {place : Place} {part : Part} (at : IsChunkAt state world place part) → Fits state world → direction_of at.op ≡ ToHost
+moves-given : {state : Shared} {world : World} {place : Place} {part : Part} (at : IsChunkAt state world place part) → Fits state world
+    → direction_of at.op ≡ ToHost
     → MovesChunk world (given_world world place part.unit at.op at.chunk) place (unit_after part.unit at.entry.task.buffer at.chunk at.op)
     (task_in (Some place.client) (Ok at.op) (progress_left part.unit at.chunk at.op)) (buffer_after part.unit at.entry.task.buffer at.chunk at.op)
     (in_events world place part.unit at.op at.chunk)
@@ -167,6 +184,7 @@ moves-given {state} {world} {place} {part} at fits way =
       units = sym (ap (slice_set world.device.units place.client) gives.unit_same ∙ slice_get-back world.device.units place.client part.unit at.found.unit_is);
       tasks = refl;
       command = lines.0.command;
+      engine = lines.0.engine;
       status = lines.0.status;
       data_in = lines.0.others;
       data_out = λ other there apart. ap (λ rs. stream_ring rs other) lines.1;
@@ -181,7 +199,8 @@ given-length buffer from size None fits short = refl
 given-length buffer from size (Some bytes) fits short = length-with_bytes_at buffer from bytes (omega (arith, fits, short))
 
 -- the device gives a chunk
-pub gives-fit : {state : Shared} {world : World} {place : Place} {part : Part} (at : IsChunkAt state world place part) → Fits state world → direction_of at.op ≡ ToHost
+pub gives-fit : {state : Shared} {world : World} {place : Place} {part : Part} (at : IsChunkAt state world place part) → Fits state world
+    → direction_of at.op ≡ ToHost
     → is_open state.data_in (tag_of place) ≡ true → place_of (length state.parts) (tag_of place) ≡ Some place → due state (Data (tag_of place)) ≡ true
     → DataFits state world (tag_of place)
 gives-fit {state} {world} {place} {part} at fits way rung named is_due =
@@ -218,8 +237,10 @@ pub rings-out : {state : Shared} {world : World} {place : Place} {part : Part} (
     → HoldsTrbs (stream_ring world.lines.data_out (tag_of place)) (data_td (tag_of place) (moved_bytes at.op)) at.chunk
     × HoldsTrbs (stream_ring world.lines.data_in (tag_of place)) [] 0
 rings-out {state} {world} {place} {part} at way = (
-  subst (λ d. HoldsData (stream_ring world.lines.data_out (tag_of place)) (data_td (tag_of place) (moved_bytes at.op)) (data_out_td d (Some (moving_td at.chunk)))) way at.here.data_out,
-  subst (λ d. HoldsData (stream_ring world.lines.data_in (tag_of place)) (data_td (tag_of place) (moved_bytes at.op)) (data_in_td d (Some (moving_td at.chunk)))) way at.here.data_in,
+  subst (λ d. HoldsData (stream_ring world.lines.data_out (tag_of place)) (data_td (tag_of place) (moved_bytes at.op))
+      (data_out_td d (Some (moving_td at.chunk)))) way at.here.data_out,
+  subst (λ d. HoldsData (stream_ring world.lines.data_in (tag_of place)) (data_td (tag_of place) (moved_bytes at.op))
+      (data_in_td d (Some (moving_td at.chunk)))) way at.here.data_in,
 )
 
 abbrev out_front : World → Place → Op → ℕ → Front
@@ -256,19 +277,23 @@ pub own-out : {state : Shared} {world : World} {place : Place} {part : Part} (at
 own-out {state} {world} {place} {part} at way =
     let lent : IsInLent state world place part at = in-lent at in
     subst (λ (f : Option (ℕ × Trb)). IfSome f (λ front. IsOwnData world.frames (chunk_size at.op at.chunk) front.1)) (sym (front-out at way))
-    (own-data_trb world.frames (window_of (tag_of place) + 4096 * at.chunk) (moved_bytes at.op - 4096 * at.chunk) (data_trb_count (moved_bytes at.op) - 1 - at.chunk) lent.named)
+    (own-data_trb world.frames (window_of (tag_of place) + 4096 * at.chunk) (moved_bytes at.op - 4096 * at.chunk)
+    (data_trb_count (moved_bytes at.op) - 1 - at.chunk) lent.named)
 
-moved-out : {state : Shared} {world : World} {place : Place} {part : Part} (at : IsChunkAt state world place part) → Fits state world → direction_of at.op ≡ ToDevice
+moved-out : {state : Shared} {world : World} {place : Place} {part : Part} (at : IsChunkAt state world place part) → Fits state world
+    → direction_of at.op ≡ ToDevice
     → is_open state.data_out (tag_of place) ≡ true
     → moved world.controller (sides_in world) (tag_of place)
     ≡ took_at (sides_in world) (tag_of place) (chunk_size at.op at.chunk) (out_front world place at.op at.chunk)
 moved-out {state} {world} {place} {part} at fits way rung =
     let rings = rings-out at way in
     let ring : Ring = stream_ring world.lines.data_out (tag_of place) in
-    let armed = all_three (has_stream (tag_of place)) (is_open world.controller.data_out (tag_of place)) (has_pending ring) (has_stream-tag (tag_of place) (omega arith) at.last_tag)
+    let armed = all_three (has_stream (tag_of place)) (is_open world.controller.data_out (tag_of place)) (has_pending ring)
+    (has_stream-tag (tag_of place) (omega arith) at.last_tag)
     (ap (λ p. is_open p (tag_of place)) fits.data_out ∙ rung) (pending-td ring (tag_of place) (moved_bytes at.op) at.chunk rings.0 at.below) in
     ap (moved_by world.controller (sides_in world) (tag_of place)) (wanted-out at way)
-    ∙ step-front (sides_in world) (took_at (sides_in world) (tag_of place) (chunk_size at.op at.chunk)) (armed_front world.controller world.lines DataOut (tag_of place))
+    ∙ step-front (sides_in world) (took_at (sides_in world) (tag_of place) (chunk_size at.op at.chunk))
+    (armed_front world.controller world.lines DataOut (tag_of place))
     (pointer_of STREAM_RING_PLACES ring at.chunk) (tag_of place) (moved_bytes at.op) at.chunk at.below
     (armed-front world.controller world.lines DataOut (tag_of place) _ armed (event-room state world fits) (front-out at way))
 
@@ -278,21 +303,24 @@ taken-is {state} {world} {place} {part} at way =
     taken_chunk part.unit at.entry.task.buffer at.chunk (chunk_size at.op at.chunk) at.op (chunk_wanted-takes at.op at.chunk way) at.here.sound.chunk.0
 
 -- the device after the bytes that the TRB names
-device-out : {state : Shared} {world : World} {place : Place} {part : Part} (at : IsChunkAt state world place part) → Fits state world → direction_of at.op ≡ ToDevice
+device-out : {state : Shared} {world : World} {place : Place} {part : Part} (at : IsChunkAt state world place part) → Fits state world
+    → direction_of at.op ≡ ToDevice
     → took world.device (tag_of place) (bytes_at world.frames (window_of (tag_of place) + 4096 * at.chunk) (chunk_size at.op at.chunk))
     ≡ (taken_world world place part.unit at.entry.task.buffer at.op at.chunk).device
 device-out {state} {world} {place} {part} at fits way =
     let lent : IsInLent state world place part at = in-lent at in
     let takes : IsTaken part.unit at.entry.task.buffer at.chunk (chunk_size at.op at.chunk) at.op = taken-is at way in
     ap (took world.device (tag_of place))
-    (chunk-read world.frames (tag_of place) at.chunk (chunk_size at.op at.chunk) at.entry.task.buffer fits.sound.frames (omega arith) at.last_tag at.here.lent lent.some lent.fits)
+    (chunk-read world.frames (tag_of place) at.chunk (chunk_size at.op at.chunk) at.entry.task.buffer fits.sound.frames
+    (omega arith) at.last_tag at.here.lent lent.some lent.fits)
     ∙ took-moving world.device place.client (tag_of place) at.chunk at.op part.unit _ lent.task at.found.unit_is
     ∙ ap (λ u. record {
       units = slice_set world.device.units place.client u;
       tasks = with_held_under world.device.tasks (tag_of place) (task_in (Some place.client) (Ok at.op) (progress_left part.unit at.chunk at.op));
     }) (sym takes.unit_is)
 
-data_world-out : {state : Shared} {world : World} {place : Place} {part : Part} (at : IsChunkAt state world place part) → Fits state world → direction_of at.op ≡ ToDevice
+data_world-out : {state : Shared} {world : World} {place : Place} {part : Part} (at : IsChunkAt state world place part) → Fits state world
+    → direction_of at.op ≡ ToDevice
     → is_open state.data_out (tag_of place) ≡ true → data_world world (tag_of place) ≡ taken_world world place part.unit at.entry.task.buffer at.op at.chunk
 data_world-out {state} {world} {place} {part} at fits way rung =
     let takes : IsTaken part.unit at.entry.task.buffer at.chunk (chunk_size at.op at.chunk) at.op = taken-is at way in
@@ -321,7 +349,8 @@ takes-taken {state} {world} {place} {part} at fits =
     (window_of (tag_of place) + 4096 * at.chunk) (chunk_size at.op at.chunk) (chunk_moved (progress_left part.unit at.chunk at.op))
     (not (at.chunk + 1 == data_trb_count (moved_bytes at.op))) (omega arith) (omega (arith, at.last_tag, fits.sound.lines.data_out))
 
-moves-taken : {state : Shared} {world : World} {place : Place} {part : Part} (at : IsChunkAt state world place part) → Fits state world → direction_of at.op ≡ ToDevice
+moves-taken : {state : Shared} {world : World} {place : Place} {part : Part} (at : IsChunkAt state world place part) → Fits state world
+    → direction_of at.op ≡ ToDevice
     → MovesChunk world (taken_world world place part.unit at.entry.task.buffer at.op at.chunk) place (unit_after part.unit at.entry.task.buffer at.chunk at.op)
     (task_in (Some place.client) (Ok at.op) (progress_left part.unit at.chunk at.op)) (buffer_after part.unit at.entry.task.buffer at.chunk at.op)
     (out_events world place part.unit at.op at.chunk)
@@ -336,6 +365,7 @@ moves-taken {state} {world} {place} {part} at fits way =
       units = refl;
       tasks = refl;
       command = lines.0.command;
+      engine = lines.0.engine;
       status = lines.0.status;
       data_in = λ other there apart. ap (λ rs. stream_ring rs other) lines.1;
       data_out = lines.0.others;
@@ -345,7 +375,8 @@ moves-taken {state} {world} {place} {part} at fits way =
     }
 
 -- the device takes a chunk
-pub takes-fit : {state : Shared} {world : World} {place : Place} {part : Part} (at : IsChunkAt state world place part) → Fits state world → direction_of at.op ≡ ToDevice
+pub takes-fit : {state : Shared} {world : World} {place : Place} {part : Part} (at : IsChunkAt state world place part) → Fits state world
+    → direction_of at.op ≡ ToDevice
     → is_open state.data_out (tag_of place) ≡ true → place_of (length state.parts) (tag_of place) ≡ Some place → due state (Data (tag_of place)) ≡ true
     → DataFits state world (tag_of place)
 takes-fit {state} {world} {place} {part} at fits way rung named is_due =
@@ -356,7 +387,8 @@ takes-fit {state} {world} {place} {part} at fits way rung named is_due =
     let ring : Ring = stream_ring world.lines.data_out (tag_of place) in
     let trbs : List Trb = data_td (tag_of place) (moved_bytes at.op) in
     let td = Some (td_after took at.chunk) in
-    let empty : HoldsTrbs (stream_ring after.lines.data_in (tag_of place)) [] 0 = subst (λ rs. HoldsTrbs (stream_ring rs (tag_of place)) [] 0) (sym lines.1) rings.1 in
+    let empty : HoldsTrbs (stream_ring after.lines.data_in (tag_of place)) [] 0 = subst (λ rs. HoldsTrbs (stream_ring rs (tag_of place)) [] 0)
+    (sym lines.1) rings.1 in
     let in_ring : HoldsData (stream_ring after.lines.data_in (tag_of place)) trbs (data_in_td (direction_of at.op) td) =
     subst (λ d. HoldsData (stream_ring after.lines.data_in (tag_of place)) trbs (data_in_td d td)) (sym way) empty in
     let out_ring : HoldsData (stream_ring after.lines.data_out (tag_of place)) trbs (data_out_td (direction_of at.op) td) =

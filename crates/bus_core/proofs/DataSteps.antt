@@ -1,5 +1,6 @@
 -- A step of a data stream on the world of rings is the shared machine's.
-use Rattle.std.proofs.Common.{◌≡◌, ℕ, zero, suc, ◌+◌, ◌-◌, ◌*◌, ◌<◌, ◌≤◌, Bool, true, ◌&&◌, cond, List, [], ◌∷◌, length, Option, Some, None, Ok, refl, arith, ap, sym, subst, ◌∙◌, inr}
+use Rattle.std.proofs.Common.{◌≡◌, ℕ, zero, suc, ◌+◌, ◌-◌, ◌*◌, ◌<◌, ◌≤◌, Bool, true, ◌&&◌, cond, List, length, Option, Some, None, Ok, refl, arith}
+use Rattle.std.proofs.Common.{ap, sym, subst, ◌∙◌, inr}
 use Rattle.std.specs.Prelude.{slice_get, min}
 use Rattle.std.specs.Option.{option_map_or}
 use Rattle.std.proofs.lemmas.Bool.{lt-ltb, le-leb}
@@ -29,12 +30,9 @@ use Rattle.uas_host.specs.Tags.{place_of, tag_of}
 use Rattle.uas_host.specs.Tds.{data_td, data_trb, data_trb_count, window_of}
 use Rattle.xhci_ctl.specs.declared.Acted.{Acted}
 use Rattle.xhci_ctl.specs.declared.Acted.TheVariants.{Idle}
-use Rattle.xhci_ctl.specs.declared.TheConstants.{MOST_EVENTS}
 use Rattle.xhci_ctl.specs.Own.{IsOwnData}
 use Rattle.xhci_ctl.specs.Pipes.{ControllerState, has_pending, is_armed}
 use Rattle.xhci_ctl.specs.Steps.{Front, Sides, armed_front, has_event_room, on_front, room_front}
-use Rattle.bus_core.specs.declared.Completion.{Completion}
-use Rattle.bus_core.specs.declared.Completion.TheVariants.{CommandDone, DataDone, StatusDone}
 use Rattle.bus_core.specs.declared.Step.TheVariants.{Data}
 use Rattle.bus_core.specs.Td.{Entry}
 use Rattle.bus_core.specs.Part.{Part, is_last_trb, move_act, moved_slot}
@@ -43,7 +41,6 @@ use Rattle.bus_core.specs.Matched.{IsMatched, carried_places, held_in}
 use Rattle.bus_core.specs.World.{World, cell_at}
 use Rattle.bus_core.specs.Cells.{FitsCell, FitsHeld, HoldsData, HoldsTrbs, data_in_td, data_out_td}
 use Rattle.bus_core.specs.Fits.{Fits, IsSoundWorld, event_texts}
-use Rattle.bus_core.proofs.MatchedBounds.{matched-room}
 use Rattle.bus_core.proofs.MatchedEntries.{data_event_if}
 use Rattle.bus_core.proofs.MatchedNext.{matched-no_data_event}
 use Rattle.bus_core.proofs.MatchedPlaces.{held-within}
@@ -76,7 +73,8 @@ pub cell-found : (state : Shared) (world : World) (place : Place) (part : Part) 
 cell-found state world place part fits there within = (found_part world state.parts place.client part fits.clients there).fits.cells place.slot within
 
 pub chunk-at : (state : Shared) (world : World) (place : Place) (part : Part) (entry : Entry) (chunk : ℕ) → Fits state world
-    → slice_get state.parts place.client ≡ Some part → held_at part.entries place.slot ≡ Some entry → entry.task.phase ≡ Begun (Moving chunk) → IsChunkAt state world place part
+    → slice_get state.parts place.client ≡ Some part → held_at part.entries place.slot ≡ Some entry → entry.task.phase ≡ Begun (Moving chunk)
+    → IsChunkAt state world place part
 chunk-at state world place part entry chunk fits there held moving =
     let found : IsFound world place.client part = found_part world state.parts place.client part fits.clients there in
     let client : place.client < length state.parts = slice_get-within state.parts place.client part there in
@@ -116,7 +114,8 @@ data_step state place part entry op chunk is_due named there held =
 -- a world in which the place moved its chunk fits the state in which it did
 pub fits-after : (state : Shared) (world after : World) (place : Place) (part : Part) (at : IsChunkAt state world place part) (posted : List Event)
     → Fits state world → place_of (length state.parts) (tag_of place) ≡ Some place → due state (Data (tag_of place)) ≡ true
-    → MovesChunk world after place (unit_after part.unit at.entry.task.buffer at.chunk at.op) (task_in (Some place.client) (Ok at.op) (progress_left part.unit at.chunk at.op))
+    → MovesChunk world after place (unit_after part.unit at.entry.task.buffer at.chunk at.op)
+    (task_in (Some place.client) (Ok at.op) (progress_left part.unit at.chunk at.op))
     (buffer_after part.unit at.entry.task.buffer at.chunk at.op) posted
     → HoldsData (stream_ring after.lines.data_in (tag_of place)) (data_td (tag_of place) (moved_bytes at.op))
     (data_in_td (direction_of at.op) (Some (td_after (chunk_moved (progress_left part.unit at.chunk at.op)) at.chunk)))
@@ -124,7 +123,8 @@ pub fits-after : (state : Shared) (world after : World) (place : Place) (part : 
     (data_out_td (direction_of at.op) (Some (td_after (chunk_moved (progress_left part.unit at.chunk at.op)) at.chunk)))
     → length (buffer_after part.unit at.entry.task.buffer at.chunk at.op) ≡ length at.entry.task.buffer
     → event_texts after (0 + length (carried_places state.events))
-    (data_event_if (is_last_trb (chunk_moved (progress_left part.unit at.chunk at.op)) (data_trb_count (moved_bytes at.op)) (Some (moving_td at.chunk))) place) ≡ posted
+    (data_event_if (is_last_trb (chunk_moved (progress_left part.unit at.chunk at.op)) (data_trb_count (moved_bytes at.op)) (Some (moving_td at.chunk)))
+    place) ≡ posted
     → IsSoundWorld after → Fits (shared_step state (Data (tag_of place))).0 after
 fits-after state world after place part at posted fits named is_due moves data_in data_out long texts sound =
     let last : Bool = is_last_trb (chunk_moved (progress_left part.unit at.chunk at.op)) (data_trb_count (moved_bytes at.op)) (Some (moving_td at.chunk)) in
@@ -133,24 +133,14 @@ fits-after state world after place part at posted fits named is_due moves data_i
     fits-chunk place.client place part.unit at.entry at.op at.chunk (cell_at world place) (cell_at after place) at.here
     (cell-moved world after place _ _ _ posted moves fits.sound at.last_tag) data_in data_out long in
     subst (λ s. Fits s after) (sym step)
-    (fits-moved state world after place part (unit_after part.unit at.entry.task.buffer at.chunk at.op) (chunk_entry part.unit at.entry at.op at.chunk) _ _ posted _
-    fits at.found at.there at.within moves (unit_taken-count part.unit (chunk_brought at.entry.task.buffer at.chunk at.op) at.chunk (work_of at.op part.unit.count))
+    (fits-moved state world after place part (unit_after part.unit at.entry.task.buffer at.chunk at.op)
+    (chunk_entry part.unit at.entry at.op at.chunk) _ _ posted _
+    fits at.found at.there at.within moves
+    (unit_taken-count part.unit (chunk_brought at.entry.task.buffer at.chunk at.op) at.chunk (work_of at.op part.unit.count))
     (matched-no_data_event state fits.matched (tag_of place) place named is_due) here (carried_places-data last place) texts
     (subst IsMatched step (shared_step-matched state (Data (tag_of place)) fits.matched)) sound)
 
 -- THE FRONT OF A DATA RING
-
-length-event_texts : (world : World) (k : ℕ) (events : List Completion) → length (event_texts world k events) ≡ length events
-length-event_texts world k [] = refl
-length-event_texts world k (CommandDone place ∷ rest) = ap suc (length-event_texts world (suc k) rest)
-length-event_texts world k (DataDone place ∷ rest) = ap suc (length-event_texts world k rest)
-length-event_texts world k (StatusDone place ∷ rest) = ap suc (length-event_texts world k rest)
-
--- the event ring always has room
-pub event-room : (state : Shared) (world : World) → Fits state world → has_event_room world.lines ≡ true
-event-room state world fits =
-    let size : length world.lines.events.pending ≡ length state.events = ap length fits.queues.texts ∙ length-event_texts world 0 state.events in
-    lt-ltb (length world.lines.events.pending) MOST_EVENTS (omega (arith, size, (matched-room state fits.matched).events, fits.most_clients))
 
 pub has_stream-tag : (tag : ℕ) → 0 < tag → tag ≤ 248 → has_stream tag ≡ true
 has_stream-tag tag some within = rw (lt-ltb 0 tag some, le-leb tag 248 within) refl
@@ -177,7 +167,8 @@ pub step-front : (sides : Sides) (step : Front → Sides × Acted) (front : Opti
 step-front sides step front address tag bytes k below is =
     ap (on_front sides step) is ∙ ap (λ f. option_map_or step f (sides, Idle)) (front_in-data_trb address tag bytes k below)
 
-pub own-data_trb : (frames : List TagBuffers) (pointer left more : ℕ) → IsNamed frames pointer (min 4096 left) → IsOwnData frames (min 4096 left) (data_trb pointer left more)
+pub own-data_trb : (frames : List TagBuffers) (pointer left more : ℕ) → IsNamed frames pointer (min 4096 left)
+    → IsOwnData frames (min 4096 left) (data_trb pointer left more)
 own-data_trb frames pointer left zero named = ((refl, refl, named), refl)
 own-data_trb frames pointer left (suc more) named = ((refl, refl, named), refl)
 

@@ -1,5 +1,6 @@
 -- The TRBs of a data TD one by one, and the chunks of the device: TRB k is of chunk k.
-use Rattle.std.proofs.Common.{◌≡◌, ℕ, zero, suc, ◌+◌, ◌-◌, ◌*◌, ◌<◌, ◌≤◌, true, false, not, cond, length, length-take, Some, None, IfSome, refl, arith, ap, sym, subst, ◌∙◌}
+use Rattle.std.proofs.Common.{◌≡◌, ℕ, zero, suc, ◌+◌, ◌-◌, ◌*◌, ◌<◌, ◌≤◌, true, false, not, cond, length, length-take, Some, None, IfSome, refl, arith, ap, sym}
+use Rattle.std.proofs.Common.{subst, ◌∙◌}
 use Rattle.std.specs.Prelude.{slice_get, option_map, min, ◌==◌}
 use Rattle.std.proofs.lemmas.Bool.{eqb-true, eqb-false, ne_eqb}
 use Rattle.block_unit.specs.BlockMaps.{BlockMaps, bytes_from, blocks_read}
@@ -103,7 +104,8 @@ given-work unit chunk NoWork little less = tt
 given-work unit chunk (GivesWork bytes) little less = omega (arith, little, less)
 given-work unit chunk (Reads lba count) little less =
     elim (meets_bad_chunk unit lba count chunk) as
-    (λ b. IfSome (cond b None (Some (blocks_read unit (lba + 8 * chunk) (chunk_blocks count chunk)))) (λ bytes. length bytes ≤ min 4096 (512 * count - 4096 * chunk))) [
+    (λ b. IfSome (cond b None (Some (blocks_read unit (lba + 8 * chunk) (chunk_blocks count chunk))))
+    (λ bytes. length bytes ≤ min 4096 (512 * count - 4096 * chunk))) [
       | true ↦ tt
       | false ↦ omega (arith, length-blocks_read unit (lba + 8 * chunk) (chunk_blocks count chunk))
     ]

@@ -27,7 +27,7 @@ use Rattle.bus_core.specs.World.{World, cell_at}
 use Rattle.bus_core.specs.Cells.{FitsCell}
 use Rattle.bus_core.specs.Fits.{Fits, FitsQueues, IsSoundWorld, command_trb, event_texts, place_in}
 use Rattle.bus_core.proofs.Standing.{held_under-with_same, held_under-with_other, slice_get-back}
-use Rattle.bus_core.proofs.Framing.{AllFit-set, FitsPart-set, ChangesCell, IsFound}
+use Rattle.bus_core.proofs.Framing.{AllFit-set, FitsPart-set, ChangesCell, IsFound, engine-kept}
 use Rattle.bus_core.proofs.EventTexts.{carried_places-append, event_texts-append, event_texts-one, KeepsOthers}
 
 -- ONE CHUNK
@@ -40,6 +40,7 @@ pub record MovesChunk (before after : World) (place : Place) (unit : BlockMaps) 
   pub units : after.device.units ≡ slice_set before.device.units place.client unit
   pub tasks : after.device.tasks ≡ with_held_under before.device.tasks (tag_of place) task
   pub command : after.lines.command ≡ before.lines.command
+  pub engine : after.lines.engine ≡ before.lines.engine
   pub status : after.lines.status ≡ before.lines.status
   pub data_in : (other : ℕ) → 0 < other → (other ≡ tag_of place → ⊥) → stream_ring after.lines.data_in other ≡ stream_ring before.lines.data_in other
   pub data_out : (other : ℕ) → 0 < other → (other ≡ tag_of place → ⊥) → stream_ring after.lines.data_out other ≡ stream_ring before.lines.data_out other
@@ -58,7 +59,8 @@ keeps-others before after place unit task lent posted moves other at within apar
     let tag : ℕ = tag_of (place_in other at) in
     let some : 0 < tag_of (place_in other at) = tag_of-some (place_in other at) in
     let tasks : task_of after.device (tag_of (place_in other at)) ≡ task_of before.device (tag_of (place_in other at)) =
-    ap (λ ts. held_under ts (tag_of (place_in other at))) moves.tasks ∙ held_under-with_other before.device.tasks (tag_of place) (tag_of (place_in other at)) task apart in
+    ap (λ ts. held_under ts (tag_of (place_in other at))) moves.tasks
+    ∙ held_under-with_other before.device.tasks (tag_of place) (tag_of (place_in other at)) task apart in
     λ i. record {
       held = (ap (λ h. held_at (client_of h other).entries at) moves.host) i;
       task = tasks i;
@@ -116,7 +118,8 @@ moved_state state place part unit entry posted = record state {
   events = state.events ++ posted;
 }
 
-queues-moved : (state : Shared) (before after : World) (place : Place) (part : Part) (unit : BlockMaps) (entry : Entry) (task : Option DeviceTask) (lent : List ℕ) (posted : List Event) (done : List Completion)
+queues-moved : (state : Shared) (before after : World) (place : Place) (part : Part) (unit : BlockMaps) (entry : Entry) (task : Option DeviceTask)
+    (lent : List ℕ) (posted : List Event) (done : List Completion)
     → MovesChunk before after place unit task lent posted → IsMatched state → FitsQueues state before → place.slot < TAGS → data_events place state.events ≡ 0
     → carried_places done ≡ [] → event_texts after (0 + length (carried_places state.events)) done ≡ posted
     → FitsQueues (moved_state state place part unit entry done) after
@@ -135,7 +138,8 @@ queues-moved state before after place part unit entry task lent posted done move
     }
 
 -- what the place has now fits its cell, and so does everything else
-pub fits-moved : (state : Shared) (before after : World) (place : Place) (part : Part) (unit : BlockMaps) (entry : Entry) (task : Option DeviceTask) (lent : List ℕ) (posted : List Event) (done : List Completion)
+pub fits-moved : (state : Shared) (before after : World) (place : Place) (part : Part) (unit : BlockMaps) (entry : Entry) (task : Option DeviceTask)
+    (lent : List ℕ) (posted : List Event) (done : List Completion)
     → Fits state before → IsFound before place.client part → slice_get state.parts place.client ≡ Some part → place.slot < TAGS
     → MovesChunk before after place unit task lent posted → unit.count ≡ part.unit.count → data_events place state.events ≡ 0
     → FitsCell place.client part.unit.count place entry (cell_at after place)
@@ -154,9 +158,13 @@ fits-moved state before after place part unit entry task lent posted done fits f
       data_out = ap (λ (c : ControllerState). c.data_out) moves.controller ∙ fits.data_out;
       sound = sound;
       queues = queues-moved state before after place part unit entry task lent posted done moves fits.matched fits.queues within none quiet texts;
+      engine = engine-kept state (moved_state state place part unit entry done) before after fits.engine
+          (ap (λ (h : HostState). h.retirement) moves.host) moves.engine;
       matched = matched;
-      clients = AllFit-set before after state.parts place.client place.slot unit found.held part (with_entry (record part { unit = unit }) place.slot entry) fits.clients there within changes
-          (FitsPart-set before after place.client place.slot part.unit unit found.held found.held part (Some entry) part.least part.ready found.fits within changes count found.fits.least found.fits.ready here);
+      clients = AllFit-set before after state.parts place.client place.slot unit found.held part
+          (with_entry (record part { unit = unit }) place.slot entry) fits.clients there within changes
+          (FitsPart-set before after place.client place.slot part.unit unit found.held found.held part
+          (Some entry) part.least part.ready found.fits within changes count found.fits.least found.fits.ready here);
       others = λ other past.
           let within_parts : place.client < length state.parts = slice_get-within state.parts place.client part there in
           let past_all : TAGS * length state.parts < other = omega (arith, past, parts) in

@@ -44,15 +44,20 @@ executed-op : (units : List BlockMaps) (number : ℕ) (op : Op) (unit : BlockMap
       task_in (Some number) (Ok op) (begun unit (reports_attention op) (checked_work op unit.count)).1,
     )
 executed-op units number op unit is =
-    let begins : begun_by unit (cdb_bytes op) (asked (cdb_bytes op) unit.count) ≡ begun unit (reports_attention op) (checked_work op unit.count) = begins_as_asked unit op in
+    let begins : begun_by unit (cdb_bytes op) (asked (cdb_bytes op) unit.count) ≡ begun unit (reports_attention op)
+    (checked_work op unit.count) = begins_as_asked unit op in
     ap (executed_on units number (cdb_bytes op)) is
     ∙ (λ i. (slice_set units number (begins i).0, task_in (Some number) (asked-cdb_bytes op unit.count i) (begins i).1))
     ∙ ap (λ t. (slice_set units number (begun unit (reports_attention op) (checked_work op unit.count)).0, t)) (task_begun (Some number) unit op)
 
 -- the device receives the text of a command to the unit of this number, under a free tag
-pub received-op : (device : Device) (number tag : ℕ) (op : Op) (unit : BlockMaps) → slice_get device.units number ≡ Some unit → tag < 2 ^ 16 → is_tag tag ≡ true → held_under device.tasks tag ≡ None →
+pub received-op : (device : Device) (number tag : ℕ) (op : Op) (unit : BlockMaps) → slice_get device.units number ≡ Some unit → tag < 2 ^ 16
+    → is_tag tag ≡ true → held_under device.tasks tag ≡ None →
     (received device (request_text number tag (Execute op))).0
-    ≡ record { units = slice_set device.units number (begun unit (reports_attention op) (checked_work op unit.count)).0; tasks = with_held_under device.tasks tag (task_in (Some number) (Ok op) (begun unit (reports_attention op) (checked_work op unit.count)).1) }
+    ≡ record {
+      units = slice_set device.units number (begun unit (reports_attention op) (checked_work op unit.count)).0;
+      tasks = with_held_under device.tasks tag (task_in (Some number) (Ok op) (begun unit (reports_attention op) (checked_work op unit.count)).1);
+    }
 received-op device number tag op unit is less is_one free =
     ap (λ r. r.0) (received-command device tag (lun_text number) (cdb_bytes op) (less, refl, length-cdb_bytes op))
     ∙ rw (is_one, free) refl
@@ -65,12 +70,14 @@ pub wanted-moving : (device : Device) (number tag chunk : ℕ) (op : Op) → hel
     wanted device tag ≡ chunk_wanted chunk op
 wanted-moving device number tag chunk op is = rw is refl
 
-pub gave-moving : (device : Device) (number tag chunk : ℕ) (op : Op) (unit : BlockMaps) → held_under device.tasks tag ≡ Some (MovingTask (Some number) op chunk) →
+pub gave-moving : (device : Device) (number tag chunk : ℕ) (op : Op) (unit : BlockMaps)
+    → held_under device.tasks tag ≡ Some (MovingTask (Some number) op chunk) →
     slice_get device.units number ≡ Some unit →
     gave device tag ≡ record { units = device.units; tasks = with_held_under device.tasks tag (task_in (Some number) (Ok op) (progress_left unit chunk op)) }
 gave-moving device number tag chunk op unit is there = rw (is, there) refl
 
-pub given-moving : (device : Device) (number tag chunk : ℕ) (op : Op) (unit : BlockMaps) → held_under device.tasks tag ≡ Some (MovingTask (Some number) op chunk) →
+pub given-moving : (device : Device) (number tag chunk : ℕ) (op : Op) (unit : BlockMaps)
+    → held_under device.tasks tag ≡ Some (MovingTask (Some number) op chunk) →
     slice_get device.units number ≡ Some unit → given device tag ≡ chunk_given unit chunk (work_of op unit.count)
 given-moving device number tag chunk op unit is there = rw (is, there) refl
 
@@ -83,7 +90,8 @@ pub took-moving : (device : Device) (number tag chunk : ℕ) (op : Op) (unit : B
     }
 took-moving device number tag chunk op unit bytes is there = rw (is, there) refl
 
-pub fits-moving : (device : Device) (number tag chunk : ℕ) (op : Op) (unit : BlockMaps) → held_under device.tasks tag ≡ Some (MovingTask (Some number) op chunk) →
+pub fits-moving : (device : Device) (number tag chunk : ℕ) (op : Op) (unit : BlockMaps)
+    → held_under device.tasks tag ≡ Some (MovingTask (Some number) op chunk) →
     slice_get device.units number ≡ Some unit → fits device tag ≡ chunk_fits unit chunk (work_of op unit.count)
 fits-moving device number tag chunk op unit is there = rw (is, there) refl
 

@@ -1,19 +1,15 @@
 -- No step changes how many tags the device has.
-use Rattle.std.proofs.Common.{◌≡◌, ℕ, zero, suc, Bool, true, false, cond, not, List, length, length-set, Option, Some, None, Result, Ok, Err, refl}
-use Rattle.std.specs.Prelude.{is_some, option_and_then, ◌==◌, nat_le, ◌&&◌}
+use Rattle.std.proofs.Common.{◌≡◌, ℕ, zero, suc, List, length, length-set, Option, Some, None, refl}
+use Rattle.std.specs.Prelude.{option_and_then}
 use Rattle.std.specs.Option.{option_map_or}
 use Rattle.scsi_cmd.specs.Held.{with_held_under}
 use Rattle.xhci_trb.specs.declared.Trb.{Trb}
 use Rattle.uas_iu.specs.declared.Iu.{Iu}
-use Rattle.uas_iu.specs.Faults.{first_fault, identifier}
 use Rattle.uas_iu.specs.Units.{unit_text}
-use Rattle.uas_target.specs.Device.{Device, answered, dropped, executed, on_its_tag, received, received_unit, received_unreadable, task_of, wanted, with_response, with_units_and_task}
-use Rattle.uas_target.specs.declared.Overlap.{Overlap}
+use Rattle.uas_target.specs.Device.{Device, Receive, answered, received, wanted}
 use Rattle.uas_target.specs.declared.Phase.{Phase}
 use Rattle.uas_target.specs.declared.Phase.TheVariants.{Absent, Gives, Takes, Ends}
-use Rattle.uas_target.specs.declared.Took.{Took}
-use Rattle.uas_target.specs.declared.Took.TheVariants.{Began}
-use Rattle.uas_target.specs.Fields.{is_tag, tag_in, lun_in, cdb_in}
+use Rattle.uas_target.proofs.Kept.{tags_kept}
 use Rattle.xhci_ctl.specs.declared.Acted.{Acted}
 use Rattle.xhci_ctl.specs.declared.Acted.TheVariants.{Idle}
 use Rattle.xhci_ctl.specs.Pipes.{ControllerState}
@@ -25,42 +21,21 @@ tags-set places (suc slot) now = length-set places slot now
 
 -- RECEIVING
 
-either : (device : Device) (test : Bool) (first second : Device × Result Took Overlap) → length first.0.tasks ≡ length device.tasks → length second.0.tasks ≡ length device.tasks
-    → length (cond test first second).0.tasks ≡ length device.tasks
-either device true first second one two = one
-either device false first second one two = two
-
-on-its-tag : (device after : Device) (tag : ℕ) → length after.tasks ≡ length device.tasks → length (on_its_tag device tag after).0.tasks ≡ length device.tasks
-on-its-tag device after tag kept =
-    either device (not (is_tag tag)) (dropped device) (cond (is_some (task_of device tag)) (device, Err (record {})) (after, Ok (Began tag))) refl
-    (either device (is_some (task_of device tag)) (device, Err (record {})) (after, Ok (Began tag)) refl kept)
-
-tags-unit : (device : Device) (bytes : List ℕ) (tag : ℕ) → length (received_unit device bytes tag).0.tasks ≡ length device.tasks
-tags-unit device bytes tag =
-    either device (identifier bytes == 1)
-    (on_its_tag device tag (with_units_and_task device tag (executed device.units (lun_in bytes) (cdb_in bytes))))
-    (cond (identifier bytes == 5) (on_its_tag device tag (with_response device tag 4)) (dropped device))
-    (on-its-tag device (with_units_and_task device tag (executed device.units (lun_in bytes) (cdb_in bytes))) tag (tags-set device.tasks tag _))
-    (either device (identifier bytes == 5) (on_its_tag device tag (with_response device tag 4)) (dropped device)
-    (on-its-tag device (with_response device tag 4) tag (tags-set device.tasks tag _)) refl)
-
 pub tags-received : (device : Device) (bytes : List ℕ) → length (received device bytes).0.tasks ≡ length device.tasks
-tags-received device bytes =
-    either device (is_some (first_fault bytes)) (received_unreadable device bytes (tag_in bytes)) (received_unit device bytes (tag_in bytes))
-    (either device (nat_le 4 (length bytes) && is_tag (tag_in bytes) && not (is_some (task_of device (tag_in bytes))))
-    (with_response device (tag_in bytes) 2, Ok (Began (tag_in bytes))) (dropped device) (tags-set device.tasks (tag_in bytes) _) refl)
-    (tags-unit device bytes (tag_in bytes))
+tags-received device bytes = tags_kept device (Receive bytes)
 
 -- STEPS
 
 abbrev KeepsTags : Sides → Sides × Acted → Type 0
 KeepsTags sides after = length after.0.device.tasks ≡ length sides.device.tasks
 
-at-front : (sides : Sides) (step : Front → Sides × Acted) (front : Option Front) → ((at : Front) → KeepsTags sides (step at)) → KeepsTags sides (option_map_or step front (sides, Idle))
+at-front : (sides : Sides) (step : Front → Sides × Acted) (front : Option Front) → ((at : Front) → KeepsTags sides (step at))
+    → KeepsTags sides (option_map_or step front (sides, Idle))
 at-front sides step None keeps = refl
 at-front sides step (Some at) keeps = keeps at
 
-tags-front : (sides : Sides) (step : Front → Sides × Acted) (front : Option (ℕ × Trb)) → ((at : Front) → KeepsTags sides (step at)) → KeepsTags sides (on_front sides step front)
+tags-front : (sides : Sides) (step : Front → Sides × Acted) (front : Option (ℕ × Trb)) → ((at : Front) → KeepsTags sides (step at))
+    → KeepsTags sides (on_front sides step front)
 tags-front sides step front keeps = at-front sides step (option_and_then front_in front) keeps
 
 pub tags-commanded : (sides : Sides) → KeepsTags sides (commanded sides)
@@ -75,7 +50,8 @@ moved-by controller sides tag Ends = refl
 pub tags-moved : (controller : ControllerState) (sides : Sides) (tag : ℕ) → KeepsTags sides (moved controller sides tag)
 tags-moved controller sides tag = moved-by controller sides tag (wanted sides.device tag)
 
-sent-as : (controller : ControllerState) (sides : Sides) (tag : ℕ) (phase : Phase) (answer : Option Iu) → KeepsTags sides (sent_as controller sides tag phase answer)
+sent-as : (controller : ControllerState) (sides : Sides) (tag : ℕ) (phase : Phase) (answer : Option Iu)
+    → KeepsTags sides (sent_as controller sides tag phase answer)
 sent-as controller sides tag Ends (Some unit) = tags-front sides (sent_at sides tag (unit_text unit)) _ (λ at. tags-set sides.device.tasks tag _)
 sent-as controller sides tag Ends None = refl
 sent-as controller sides tag Absent answer = refl

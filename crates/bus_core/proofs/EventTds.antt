@@ -1,6 +1,7 @@
 -- The TD that the host finds for each event that waits: the one that the event is of. The address of an item of a ring
 -- finds that item, and an event's address is of the last TRB of its TD.
-use Rattle.std.proofs.Common.{◌≡◌, ℕ, zero, suc, ◌+◌, ◌-◌, ◌*◌, ◌/◌, ◌%◌, ◌<◌, ◌≤◌, Bool, true, false, List, [], ◌∷◌, ◌++◌, length, length-append, Option, Some, None, refl, arith, ap, sym, subst, ◌∙◌}
+use Rattle.std.proofs.Common.{◌≡◌, ℕ, zero, suc, ◌+◌, ◌-◌, ◌*◌, ◌/◌, ◌%◌, ◌<◌, ◌≤◌, Bool, true, false, List, [], ◌∷◌, ◌++◌, length, length-append, Option, Some}
+use Rattle.std.proofs.Common.{None, refl, arith, ap, sym, subst, ◌∙◌}
 use Rattle.std.specs.Prelude.{◌==◌, nat_lt, min, is_some, slice_get, option_map, option_and_then, if◌then◌else◌}
 use Rattle.std.proofs.Math.Nat.{mod-lt}
 use Rattle.std.proofs.lemmas.Bool.{lt-ltb, le-ltb, le-leb, ltb-true, eqb-true, ne_eqb, false≢true}
@@ -23,7 +24,7 @@ use Rattle.scsi_cmd.specs.declared.Op.TheVariants.{TestUnitReady, Inquiry, ReadC
 use Rattle.scsi_cmd.specs.declared.Direction.{Direction}
 use Rattle.scsi_cmd.specs.declared.Direction.TheVariants.{Nothing, ToHost, ToDevice}
 use Rattle.scsi_cmd.specs.declared.Request.{Request}
-use Rattle.scsi_cmd.specs.declared.Request.TheVariants.{Execute}
+use Rattle.scsi_cmd.specs.declared.Request.TheVariants.{Execute, Manage}
 use Rattle.uas_host.specs.declared.Place.{Place}
 use Rattle.uas_host.specs.Tags.{tag_of}
 use Rattle.uas_host.specs.Tds.{status_buffer_of, window_of, data_trb, data_trbs, data_trb_count, data_td, status_td}
@@ -264,10 +265,12 @@ moved-goes (Execute ReadCapacity) some is = to_host-goes is
 moved-goes (Execute (Read lba count fua)) some is = to_host-goes (way-goes (512 * count) ToHost some is)
 moved-goes (Execute (Write lba count fua)) some is = to_device-goes (way-goes (512 * count) ToDevice some is)
 moved-goes (Execute (Sync lba count)) some is = absurd (omega (arith, some))
+moved-goes (Manage what noted) some is = absurd (omega (arith, some))
 
 -- a data TD has as many TRBs as its bytes take
 pub data_trbs-count : (request : Request) → trbs_of request ≡ data_trb_count (request_bytes request)
 data_trbs-count (Execute op) = refl
+data_trbs-count (Manage what noted) = refl
 
 data_td_spent : (world : World) (place : Place) (request : Request) (td : Option Td) → request_bytes request ≤ 65536
     → is_some td ≡ nat_lt 0 (request_bytes request)

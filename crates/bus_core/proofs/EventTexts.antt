@@ -49,9 +49,11 @@ event_texts-append world k (CommandDone place ∷ rest) more =
     ap (λ es. command_event world k ∷ es)
     (event_texts-append world (suc k) rest more ∙ ap (λ n. event_texts world (suc k) rest ++ event_texts world n more) same)
 event_texts-append world k (DataDone place ∷ rest) more =
-    ap (λ es. data_event (stream_ring world.lines.data_in (tag_of place)) (stream_ring world.lines.data_out (tag_of place)) ∷ es) (event_texts-append world k rest more)
+    ap (λ es. data_event (stream_ring world.lines.data_in (tag_of place)) (stream_ring world.lines.data_out (tag_of place)) ∷ es)
+    (event_texts-append world k rest more)
 event_texts-append world k (StatusDone place ∷ rest) more =
-    ap (λ es. status_event (stream_ring world.lines.status (tag_of place)) (held_for world.frames (tag_of place)).status ∷ es) (event_texts-append world k rest more)
+    ap (λ es. status_event (stream_ring world.lines.status (tag_of place)) (held_for world.frames (tag_of place)).status ∷ es)
+    (event_texts-append world k rest more)
 
 -- WHAT EACH EVENT READS IS THE SAME
 

@@ -1,12 +1,15 @@
 -- What the host makes of an event that it awaits: its entry becomes the host's side of what the shared machine's becomes.
-use Rattle.std.proofs.Common.{◌≡◌, ℕ, zero, suc, ◌+◌, ◌-◌, ◌*◌, ◌/◌, ◌%◌, ◌<◌, ◌≤◌, true, ◌&&◌, List, [], ◌∷◌, take, length, Option, Some, None, option_map, refl, arith, ap, sym, ◌∙◌}
-use Rattle.std.specs.Prelude.{nat_lt, slice_index, option_and_then, ◌==◌, if◌then◌else◌}
+use Rattle.std.proofs.Common.{◌≡◌, ℕ, zero, suc, ◌+◌, ◌-◌, ◌*◌, ◌/◌, ◌%◌, ◌<◌, ◌≤◌, true, false, ◌&&◌, List, [], ◌∷◌, take, length, Option, Some, None}
+use Rattle.std.proofs.Common.{option_map}
+use Rattle.std.proofs.Common.{refl, arith, ap, sym, ◌∙◌}
+use Rattle.std.specs.Prelude.{nat_lt, slice_index, slice_set, option_and_then, ◌==◌, if◌then◌else◌}
 use Rattle.std.proofs.lemmas.Bool.{lt-ltb, eq-eqb}
 use Rattle.frame_store.specs.declared.TagBuffers.{TagBuffers}
 use Rattle.frame_store.specs.Buffers.{held_for}
 use Rattle.scsi_cmd.specs.declared.Direction.TheVariants.{ToHost, ToDevice}
 use Rattle.scsi_cmd.specs.declared.Request.{Request}
-use Rattle.scsi_cmd.specs.declared.Request.TheVariants.{Execute}
+use Rattle.scsi_cmd.specs.declared.Request.TheVariants.{Execute, Manage}
+use Rattle.bus_core.specs.Matched.{IsCommandRequest}
 use Rattle.scsi_cmd.specs.declared.TheConstants.{TAGS}
 use Rattle.scsi_cmd.specs.Held.{held_at}
 use Rattle.device_server.specs.declared.Answer.{Answer}
@@ -24,9 +27,14 @@ use Rattle.uas_host.specs.declared.Told.TheVariants.{Status as ToldStatus}
 use Rattle.uas_host.specs.declared.News.{News}
 use Rattle.uas_host.specs.declared.News.TheVariants.{CommandSeen, DataInSeen, DataOutSeen, Answered}
 use Rattle.uas_host.specs.declared.HostEntry.{HostEntry}
-use Rattle.uas_host.specs.State.{HostState, client_of, with_client, is_pending as is_host_pending, is_seen as is_host_seen, is_over as is_host_over, is_data_over as is_host_data_over, is_ready as is_host_ready}
+use Rattle.uas_host.specs.declared.HostClient.{HostClient}
+use Rattle.uas_host.specs.Seen.{after_response, completes, noted_in}
+use Rattle.uas_host.specs.State.{HostState, client_of, with_client, is_pending as is_host_pending, is_seen as is_host_seen, is_over as is_host_over}
+use Rattle.uas_host.specs.State.{is_command, queued_if}
+use Rattle.uas_host.specs.State.{is_data_over as is_host_data_over, is_ready as is_host_ready}
 use Rattle.uas_host.specs.Tags.{place_of, tag_of}
-use Rattle.uas_host.specs.Events.{answer_in, data_after, goes_to_host, goes_to_device, request_direction as host_direction, seen, seen_data, host_seen, place_seen, with_seen, left_over_td as host_left_over, news_on}
+use Rattle.uas_host.specs.Events.{answer_in, data_after, goes_to_host, goes_to_device, request_direction as host_direction, seen, seen_data, host_seen}
+use Rattle.uas_host.specs.Events.{place_seen, with_seen, left_over_td as host_left_over, news_on}
 use Rattle.uas_host.proofs.Texts.{answer_by-text}
 use Rattle.xhci_ctl.specs.declared.TheConstants.{SHORT_PACKET, STATUS_LENGTH}
 use Rattle.bus_core.specs.declared.Td.{Td}
@@ -34,7 +42,7 @@ use Rattle.bus_core.specs.Bus.{IsPlace}
 use Rattle.bus_core.specs.Td.{Entry, is_seen, is_over, is_data_over, is_ready, with_event_seen, left_over_td, data_after_answer, data_after_status}
 use Rattle.bus_core.specs.Shared.{request_direction}
 use Rattle.bus_core.specs.Wire.{answer_text}
-use Rattle.bus_core.specs.Cells.{host_side, state_of, told_by}
+use Rattle.bus_core.specs.Cells.{host_request, host_side, state_of, told_by}
 use Rattle.bus_core.specs.Fits.{unit_len}
 
 -- READY
@@ -63,12 +71,18 @@ is_ready-side entry =
 
 -- ONE ENTRY
 
+-- what the bus hands the host is a command
+is_command-side : (request : Request) → IsCommandRequest request → is_command (host_request request) ≡ true
+is_command-side (Execute op) command = refl
+is_command-side (Manage what noted) command = absurd command
+
 pub command_seen-side : (entry : Entry) → entry.command_td.state ≡ Pending
     → seen CommandSeen (host_side entry) ≡ Some (host_side (record entry { command_td = with_event_seen entry.command_td }))
 command_seen-side entry pends = ap (λ s. if is_host_pending s then Some (record (host_side entry) { command_td = Seen }) else None) pends
 
-direction-same : (request : Request) → host_direction request ≡ request_direction request
+direction-same : (request : Request) → host_direction (host_request request) ≡ request_direction request
 direction-same (Execute op) = refl
+direction-same (Manage what noted) = refl
 
 pub data_in_seen-side : (entry : Entry) (td : Td) → entry.data_td ≡ Some td → td.state ≡ Pending → request_direction entry.task.request ≡ ToHost
     → seen DataInSeen (host_side entry) ≡ Some (host_side (record entry { data_td = Some (with_event_seen td) }))
@@ -90,7 +104,8 @@ left_over-state Seen consumed = refl
 left_over-state LeftOver consumed = refl
 left_over-state Retired consumed = refl
 
-data_after-side : (answer : Answer) (td : Option Td) → data_after (status_of answer) (option_map state_of td) ≡ option_map state_of (data_after_answer answer td)
+data_after-side : (answer : Answer) (td : Option Td) → data_after (status_of answer) (option_map state_of td) ≡ option_map state_of
+    (data_after_answer answer td)
 data_after-side Good td = refl
 data_after-side (Check sense) None = refl
 data_after-side (Check sense) (Some td) = ap Some (left_over-state td.state td.consumed)
@@ -99,9 +114,10 @@ data_after-side (Check sense) (Some td) = ap Some (left_over-state td.state td.c
 abbrev pub status_seen : Entry → Entry
 status_seen entry = record entry { status_td = with_event_seen entry.status_td; data_td = data_after_status entry.task.phase entry.data_td }
 
-pub status_seen-side : (entry : Entry) (answer : Answer) → entry.task.phase ≡ Sent answer → entry.status_td.state ≡ Pending
+pub status_seen-side : (entry : Entry) (answer : Answer) → IsCommandRequest entry.task.request → entry.task.phase ≡ Sent answer
+    → entry.status_td.state ≡ Pending
     → seen (Answered (status_of answer) (record { items = sense_of answer })) (host_side entry) ≡ Some (host_side (status_seen entry))
-status_seen-side entry answer sent pends =
+status_seen-side entry answer command sent pends =
     let told : told_by entry.task.phase Seen ≡ ToldStatus (status_of answer) (record { items = sense_of answer }) = ap (λ p. told_by p Seen) sent in
     let left : data_after (status_of answer) (option_map state_of entry.data_td) ≡ option_map state_of (data_after_status entry.task.phase entry.data_td) =
     data_after-side answer entry.data_td ∙ ap (λ p. option_map state_of (data_after_status p entry.data_td)) (sym sent) in
@@ -110,12 +126,14 @@ status_seen-side entry answer sent pends =
       status_td = Seen;
       data_td = data_after (status_of answer) (option_map state_of entry.data_td);
     } in
-    ap (λ s. if is_host_pending s then Some now else None) pends
+    ap (λ c. if c && is_host_pending entry.status_td.state then Some now else None) (is_command-side entry.task.request command)
+    ∙ ap (λ s. if is_host_pending s then Some now else None) pends
     ∙ ap (λ t. Some (record now { told = t })) (sym told)
     ∙ ap (λ d. Some (record now { told = told_by entry.task.phase Seen; data_td = d })) left
 
 -- THE HOST
 
+-- a place that is there is the one that its tag names
 pub place_of-tag_of : (clients : ℕ) (place : Place) → IsPlace clients place → place_of clients (tag_of place) ≡ Some place
 place_of-tag_of clients place there =
     let slot_within = there.slot in
@@ -127,17 +145,35 @@ place_of-tag_of clients place there =
     ∙ ap (λ s. if nat_lt place.client clients then Some (record { client = place.client; slot = s }) else None) slot
     ∙ ap (λ b. if b then Some place else None) (lt-ltb place.client clients there.client)
 
+-- a client with this entry in a slot, the last of the ready ones where it is ready
+abbrev pub client_with : HostClient → ℕ → HostEntry → HostClient
+client_with client slot now = record {
+  entries = slice_set client.entries slot (Some now);
+  least = client.least;
+  ready = record { items = queued_if (is_host_ready now) client.ready.items slot };
+}
+
+-- no other entry changes at news that aren't a response
+with_seen-quiet : (news : News) (client : HostClient) (slot : ℕ) (now : HostEntry) → completes news ≡ false
+    → with_seen news client slot now ≡ client_with client slot now
+with_seen-quiet news client slot now quiet =
+    ap (λ b. record (client_with client slot now) {
+      entries = if b then after_response (noted_in now.request) (slice_set client.entries slot (Some now)) else slice_set client.entries slot (Some now);
+    }) quiet
+
 -- the host whose entry of a place became the host's side of this one
 abbrev pub host_with : HostState → Place → Entry → HostState
-host_with host place now = with_client host place.client (with_seen (client_of host place.client) place.slot (host_side now))
+host_with host place now = with_client host place.client (client_with (client_of host place.client) place.slot (host_side now))
 
-pub host_seen-is : (host : HostState) (place : Place) (entry now : Entry) (news : News) → IsPlace (length host.clients) place
+pub host_seen-is : (host : HostState) (place : Place) (entry now : Entry) (news : News) → completes news ≡ false → IsPlace (length host.clients) place
     → held_at (client_of host place.client).entries place.slot ≡ Some (host_side entry) → seen news (host_side entry) ≡ Some (host_side now)
     → host_seen news host (tag_of place) ≡ Some (host_with host place now)
-host_seen-is host place entry now news there held sees =
+host_seen-is host place entry now news quiet there held sees =
     ap (option_and_then (place_seen news host)) (place_of-tag_of (length host.clients) place there)
-    ∙ ap (λ h. option_map (with_client host place.client) (option_map (with_seen (client_of host place.client) place.slot) (option_and_then (seen news) h))) held
-    ∙ ap (λ h. option_map (with_client host place.client) (option_map (with_seen (client_of host place.client) place.slot) h)) sees
+    ∙ ap (λ h. option_map (with_client host place.client)
+    (option_map (with_seen news (client_of host place.client) place.slot) (option_and_then (seen news) h))) held
+    ∙ ap (λ h. option_map (with_client host place.client) (option_map (with_seen news (client_of host place.client) place.slot) h)) sees
+    ∙ ap (λ c. Some (with_client host place.client c)) (with_seen-quiet news (client_of host place.client) place.slot (host_side now) quiet)
 
 -- THE NEWS OF A STATUS EVENT
 

@@ -48,8 +48,8 @@ pub mod HostSees
 pub mod SeenWorlds
 pub mod SeenStreams
 pub mod SeenCommands
-pub mod WorldFacts
 pub mod DeviceTags
 pub mod Stepped
+pub mod Taken
 pub mod Shown
 pub mod Submitted

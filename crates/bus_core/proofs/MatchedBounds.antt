@@ -1,5 +1,6 @@
 -- What is matched has room: a list that names each place once at most isn't longer than the places are many.
-use Rattle.std.proofs.Common.{◌≡◌, ℕ, zero, suc, ◌+◌, ◌*◌, ◌<◌, ◌≤◌, true, false, List, [], ◌∷◌, length, length-append, Option, Some, None, IfSome, refl, arith, subst}
+use Rattle.std.proofs.Common.{◌≡◌, ℕ, zero, suc, ◌+◌, ◌*◌, ◌<◌, ◌≤◌, true, false, List, [], ◌∷◌, length, length-append, Option, Some, None, IfSome, refl, arith}
+use Rattle.std.proofs.Common.{subst}
 use Rattle.std.specs.Prelude.{slice_get}
 use Rattle.std.proofs.lemmas.Option.{none-some}
 use Rattle.uas_host.specs.declared.Place.{Place}
@@ -11,7 +12,8 @@ use Rattle.bus_core.specs.Part.{Part}
 use Rattle.bus_core.specs.Shared.{Shared}
 use Rattle.bus_core.specs.Bus.{IsPlace}
 use Rattle.bus_core.specs.Soundness.{one_if, awaited_data, readied_of}
-use Rattle.bus_core.specs.Matched.{same_place, times, under, carried_places, moved_places, sent_places, command_events, waiting_command, awaited_command, awaited_status, awaited_data_of, IsMatchedAt, IsMatched, HasRoom, IsNamedOnce, pipe_places}
+use Rattle.bus_core.specs.Matched.{same_place, times, under, carried_places, moved_places, sent_places, command_events, waiting_command, awaited_command}
+use Rattle.bus_core.specs.Matched.{awaited_status, awaited_data_of, IsMatchedAt, IsMatched, HasRoom, IsNamedOnce, pipe_places}
 use Rattle.bus_core.proofs.MatchedPlaces.{one_self, one_if-most, times-append, IsFound, under-found, held-within}
 use Rattle.bus_core.proofs.MatchedEntries.{awaited-taken}
 

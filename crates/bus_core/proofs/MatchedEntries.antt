@@ -10,15 +10,15 @@ use Rattle.scsi_cmd.specs.declared.Op.{Op}
 use Rattle.scsi_cmd.specs.declared.Op.TheVariants.{TestUnitReady, Inquiry, ReadCapacity, Read, Write, Sync}
 use Rattle.scsi_cmd.specs.Op.{moved_bytes}
 use Rattle.scsi_cmd.specs.declared.Request.{Request}
-use Rattle.scsi_cmd.specs.declared.Request.TheVariants.{Execute}
+use Rattle.scsi_cmd.specs.declared.Request.TheVariants.{Execute, Manage}
 use Rattle.device_server.specs.declared.Answer.{Answer}
 use Rattle.device_server.specs.declared.Answer.TheVariants.{Good, Check}
 use Rattle.solo_model.specs.declared.Phase.{Phase}
-use Rattle.solo_model.specs.declared.Phase.TheVariants.{Queued, Begun, Sent}
+use Rattle.solo_model.specs.declared.Phase.TheVariants.{Queued, Begun, Sent, Gone}
 use Rattle.device_server.specs.declared.Progress.TheVariants.{Moving, Ended}
 use Rattle.scsi_cmd.specs.Submission.{is_too_long, first_submit_fault}
-use Rattle.solo_model.specs.declared.TaggedTask.{TaggedTask}
-use Rattle.solo_model.specs.TaggedTask.{carried_request, moved_request}
+use Rattle.solo_model.specs.TaggedTask.{TaggedTask}
+use Rattle.solo_model.specs.TaggedTask.{buffer_after, carried_request, progress_left, unit_after}
 use Rattle.scsi_cmd.specs.Work.{reports_attention}
 use Rattle.device_server.specs.Laws.{after_chunk, begun_progress}
 use Rattle.uas_host.specs.declared.Place.{Place}
@@ -27,10 +27,13 @@ use Rattle.uas_host.specs.declared.TdState.TheVariants.{Pending, Seen, LeftOver,
 use Rattle.bus_core.specs.declared.Td.{Td}
 use Rattle.bus_core.specs.declared.Completion.{Completion}
 use Rattle.bus_core.specs.declared.Completion.TheVariants.{CommandDone, DataDone, StatusDone}
-use Rattle.bus_core.specs.Td.{is_in_ring, Entry, pushed, is_pending, is_seen, is_over, is_data_over, has_trb, is_awaited, is_ready, data_trbs, with_trb_taken, with_event_seen, left_over_td, left_over_data, data_after_answer, data_after_status}
-use Rattle.bus_core.specs.Part.{data_td_after, took_trb, is_last_trb, event_place, seen_by, seen_data_td, data_td_for, new_entry}
+use Rattle.bus_core.specs.Td.{is_in_ring, Entry, pushed, is_pending, is_seen, is_over, is_data_over, has_trb, is_awaited, is_ready, data_trbs, with_trb_taken}
+use Rattle.bus_core.specs.Td.{with_event_seen, left_over_td, left_over_data, data_after_answer, data_after_status}
+use Rattle.bus_core.specs.Part.{data_td_after, entries_after, took_trb, is_last_trb, event_place, seen_by, seen_data_td, data_td_for, new_entry}
 use Rattle.bus_core.specs.Soundness.{one_if, awaited_data}
-use Rattle.bus_core.specs.Matched.{same_place, times, command_events, data_events, status_events, waiting_command, awaited_command, awaited_status, awaited_data_of, IsCommandTd, IsStatusTd, IsMovingTd, IsWholeTd, IsShortTd, IsAnsweredTd, IsDataTd, IsMatchedEntry, awaits_data, awaits_event}
+use Rattle.bus_core.specs.Matched.{same_place, times, command_events, data_events, status_events, waiting_command, awaited_command, awaited_status}
+use Rattle.bus_core.specs.Matched.{awaited_data_of, IsCommandTd, IsStatusTd, IsMovingTd, IsWholeTd, IsShortTd, IsAnsweredTd, IsDataTd, IsMatchedEntry}
+use Rattle.bus_core.specs.Matched.{IsCommandRequest, awaits_data, awaits_event}
 use Rattle.bus_core.proofs.MatchedPlaces.{one_self, and-true}
 
 -- an entry that became another one: the messages popped and the events posted for its place
@@ -42,7 +45,17 @@ pub record IsStepped (place : Place) (popped : List Place) (posted : List Comple
   pub ready : is_ready new ≡ is_ready old
   pub sound : IsMatchedEntry new
 
+-- the operation of a command
+pub asked_op : (request : Request) → IsCommandRequest request → (op : Op) × (request ≡ Execute op)
+asked_op (Execute op) command = (op, refl)
+asked_op (Manage what noted) command = absurd command
+
 -- CARRY
+
+-- a command changes nothing of the client's others
+pub entries_after-command : (request : Request) (entries : List (Option Entry)) → IsCommandRequest request → entries_after request entries ≡ entries
+entries_after-command (Execute op) entries command = refl
+entries_after-command (Manage what noted) entries command = absurd command
 
 -- a command TD whose TRB is in the ring is one of a queued command
 pub has_trb-queued : (phase : Phase) (td : Td) → IsCommandTd phase td → has_trb td 1 ≡ true → phase ≡ Queued
@@ -50,6 +63,7 @@ has_trb-queued Queued td is has = refl
 has_trb-queued (Begun (Moving chunk)) td is has = absurd (omega (arith, is, ltb-true td.consumed 1 (and-true _ (nat_lt td.consumed 1) has).1))
 has_trb-queued (Begun (Ended answer)) td is has = absurd (omega (arith, is, ltb-true td.consumed 1 (and-true _ (nat_lt td.consumed 1) has).1))
 has_trb-queued (Sent answer) td is has = absurd (omega (arith, is, ltb-true td.consumed 1 (and-true _ (nat_lt td.consumed 1) has).1))
+has_trb-queued Gone td is has = absurd is
 
 -- a TD that lacks a TRB is short
 moving-short : (trbs chunk : ℕ) (td : Option Td) → IsMovingTd trbs chunk td → IsShortTd trbs td
@@ -66,23 +80,31 @@ abbrev pub carried_to : Entry → TaggedTask → Entry
 carried_to entry task = record entry { task = task; command_td = with_trb_taken entry.command_td }
 
 received : (unit : BlockMaps) (entry : Entry) (request : Request) → entry.task.request ≡ request → entry.command_td ≡ pushed → entry.status_td ≡ pushed →
-    IsMovingTd (data_trbs entry.task.request) 0 entry.data_td → IsMatchedEntry entry → IsMatchedEntry (carried_to entry (carried_request unit entry.task request).1)
+    IsMovingTd (data_trbs entry.task.request) 0 entry.data_td → IsMatchedEntry entry
+    → IsMatchedEntry (carried_to entry (carried_request unit entry.task request).1)
 received unit entry (Execute op) is command status chunks sound =
     let one : (with_trb_taken entry.command_td).consumed ≡ 1 = ap (λ (td : Td). td.consumed + 1) command in
     let trbs : data_trbs entry.task.request ≡ (moved_bytes op + 4095) / 4096 = ap data_trbs is in
     begun_progress (λ progress. IsMatchedEntry (carried_to entry (record entry.task { phase = Begun progress }))) unit (reports_attention op) op
-    (λ sense. record { command = one; status = status; chunks = moving-short (data_trbs entry.task.request) 0 entry.data_td chunks; moves = sound.moves; small = sound.small })
-    (λ none. record {
+    (λ sense. record {
+      asks = sound.asks;
       command = one;
       status = status;
-      chunks = subst (λ n. IsWholeTd n entry.data_td) (sym trbs) (moving-none (moved_bytes op) 0 entry.data_td none (subst (λ n. IsMovingTd n 0 entry.data_td) trbs chunks));
+      chunks = moving-short (data_trbs entry.task.request) 0 entry.data_td chunks;
       moves = sound.moves;
       small = sound.small;
     })
-    (λ some none. record { command = one; status = status; chunks = chunks; moves = sound.moves; small = sound.small })
-
-carried_request-same : (unit : BlockMaps) (task : TaggedTask) (request : Request) → (carried_request unit task request).1.request ≡ task.request
-carried_request-same unit task (Execute op) = refl
+    (λ none. record {
+      asks = sound.asks;
+      command = one;
+      status = status;
+      chunks = subst (λ n. IsWholeTd n entry.data_td) (sym trbs)
+          (moving-none (moved_bytes op) 0 entry.data_td none (subst (λ n. IsMovingTd n 0 entry.data_td) trbs chunks));
+      moves = sound.moves;
+      small = sound.small;
+    })
+    (λ some none. record { asks = sound.asks; command = one; status = status; chunks = chunks; moves = sound.moves; small = sound.small })
+received unit entry (Manage what noted) is command status chunks sound = absurd (subst (λ r. IsCommandRequest r) is sound.asks)
 
 -- the device receives the command
 pub carry-stepped : (unit : BlockMaps) (place : Place) (entry : Entry) → entry.task.phase ≡ Queued → IsMatchedEntry entry →
@@ -90,17 +112,17 @@ pub carry-stepped : (unit : BlockMaps) (place : Place) (entry : Entry) → entry
 carry-stepped unit place entry queued sound =
     let command : entry.command_td ≡ pushed = subst (λ p. IsCommandTd p entry.command_td) queued sound.command in
     let status : entry.status_td ≡ pushed = subst (λ p. IsStatusTd p entry.status_td) queued sound.status in
-    let chunks : IsMovingTd (data_trbs entry.task.request) 0 entry.data_td = subst (λ p. IsDataTd (data_trbs entry.task.request) p entry.data_td) queued sound.chunks in
+    let chunks : IsMovingTd (data_trbs entry.task.request) 0 entry.data_td = subst
+    (λ p. IsDataTd (data_trbs entry.task.request) p entry.data_td) queued sound.chunks in
     let self = one_self place in
     let waited : one_if (has_trb entry.command_td 1) ≡ 1 = ap (λ td. one_if (has_trb td 1)) command in
     let waits : one_if (has_trb (with_trb_taken entry.command_td) 1) ≡ 0 = ap (λ td. one_if (has_trb (with_trb_taken td) 1)) command in
     let before : one_if (is_awaited entry.command_td 1) ≡ 0 = ap (λ td. one_if (is_awaited td 1)) command in
     let after : one_if (is_awaited (with_trb_taken entry.command_td) 1) ≡ 1 = ap (λ td. one_if (is_awaited (with_trb_taken td) 1)) command in
-    let asks : (carried_request unit entry.task entry.task.request).1.request ≡ entry.task.request = carried_request-same unit entry.task entry.task.request in
     record {
       messages = omega (arith, self, waited, waits);
       carried = omega (arith, self, before, after);
-      moved = omega (arith, ap (λ r. awaited_data (data_trbs r) entry.data_td) asks);
+      moved = omega arith;
       sent = omega arith;
       ready = refl;
       sound = received unit entry entry.task.request refl command status chunks sound;
@@ -134,7 +156,8 @@ chunk-counted trbs chunk took None is = omega arith
 chunk-counted trbs chunk false (Some td) is = omega arith
 chunk-counted trbs chunk true (Some td) is =
     let before : one_if (is_awaited td trbs) ≡ 0 = unawaited td trbs (λ same. omega (arith, is.1, is.2)) in
-    let after : one_if (is_pending td.state && (td.consumed + 1 == trbs)) ≡ one_if (td.consumed + 1 == trbs) = ap (λ state. one_if (is_pending state && (td.consumed + 1 == trbs))) is.0 in
+    let after : one_if (is_pending td.state && (td.consumed + 1 == trbs)) ≡ one_if (td.consumed + 1 == trbs) = ap
+    (λ state. one_if (is_pending state && (td.consumed + 1 == trbs))) is.0 in
     omega (arith, before, after)
 
 chunk-next : (trbs chunk : ℕ) (td : Option Td) → IsMovingTd trbs chunk td → chunk + 1 < trbs → IsMovingTd trbs (chunk + 1) (data_td_after true td)
@@ -192,7 +215,8 @@ moved_events entry task place = data_event_if (is_last_trb (took_trb task.phase)
 -- a step that changes the phase and takes what it takes of the data TD
 chunk-stepped : (place : Place) (entry : Entry) (chunk : ℕ) (buffer : List ℕ) (phase : Phase) → IsMovingTd (data_trbs entry.task.request) chunk entry.data_td →
     IsMatchedEntry (moved_to entry (record entry.task { buffer = buffer; phase = phase })) →
-    IsStepped place [] (moved_events entry (record entry.task { buffer = buffer; phase = phase }) place) entry (moved_to entry (record entry.task { buffer = buffer; phase = phase }))
+    IsStepped place [] (moved_events entry (record entry.task { buffer = buffer; phase = phase }) place) entry
+    (moved_to entry (record entry.task { buffer = buffer; phase = phase }))
 chunk-stepped place entry chunk buffer phase chunks sound =
     let took : Bool = took_trb phase in
     let trbs : ℕ = data_trbs entry.task.request in
@@ -206,28 +230,53 @@ chunk-stepped place entry chunk buffer phase chunks sound =
       sound = sound;
     }
 
-moved_cases : (unit : BlockMaps) (place : Place) (entry : Entry) (chunk : ℕ) (request : Request) → entry.task.request ≡ request → entry.task.phase ≡ Begun (Moving chunk) → IsMatchedEntry entry →
-    IsStepped place [] (moved_events entry (moved_request unit entry.task chunk request).1 place) entry (moved_to entry (moved_request unit entry.task chunk request).1)
-moved_cases unit place entry chunk (Execute op) is moving sound =
+-- a task of an operation once it moved a chunk
+abbrev pub chunk_task : BlockMaps → TaggedTask → ℕ → Op → TaggedTask
+chunk_task unit task chunk op = record task { buffer = buffer_after unit task.buffer chunk op; phase = Begun (progress_left unit chunk op) }
+
+-- the device moves a chunk
+pub move-stepped : (unit : BlockMaps) (place : Place) (entry : Entry) (chunk : ℕ) (op : Op) → entry.task.request ≡ Execute op
+    → entry.task.phase ≡ Begun (Moving chunk) → IsMatchedEntry entry →
+    IsStepped place [] (moved_events entry (chunk_task unit entry.task chunk op) place) entry (moved_to entry (chunk_task unit entry.task chunk op))
+move-stepped unit place entry chunk op is moving sound =
     let command : entry.command_td.consumed ≡ 1 = subst (λ p. IsCommandTd p entry.command_td) moving sound.command in
     let status : entry.status_td ≡ pushed = subst (λ p. IsStatusTd p entry.status_td) moving sound.status in
-    let chunks : IsMovingTd (data_trbs entry.task.request) chunk entry.data_td = subst (λ p. IsDataTd (data_trbs entry.task.request) p entry.data_td) moving sound.chunks in
+    let chunks : IsMovingTd (data_trbs entry.task.request) chunk entry.data_td = subst
+    (λ p. IsDataTd (data_trbs entry.task.request) p entry.data_td) moving sound.chunks in
     let trbs : data_trbs entry.task.request ≡ (moved_bytes op + 4095) / 4096 = ap data_trbs is in
     let there = λ (took : Bool). td-there took entry.data_td ∙ sound.moves in
-    let buffer : List ℕ = (moved_request unit entry.task chunk (Execute op)).1.buffer in
+    let buffer : List ℕ = buffer_after unit entry.task.buffer chunk op in
     after_chunk (λ progress. IsStepped place [] (moved_events entry (record entry.task { buffer = buffer; phase = Begun progress }) place) entry
     (moved_to entry (record entry.task { buffer = buffer; phase = Begun progress }))) unit chunk op unit.count
     (λ more. chunk-stepped place entry chunk buffer (Begun (Moving (chunk + 1))) chunks
-    (record { command = command; status = status; chunks = chunk-next (data_trbs entry.task.request) chunk entry.data_td chunks (omega (arith, trbs, more)); moves = there true; small = sound.small }))
+    (record {
+      asks = sound.asks;
+      command = command;
+      status = status;
+      chunks = chunk-next (data_trbs entry.task.request) chunk entry.data_td chunks
+          (omega (arith, trbs, more));
+      moves = there true;
+      small = sound.small;
+    }))
     (λ last. chunk-stepped place entry chunk buffer (Begun (Ended Good)) chunks
-    (record { command = command; status = status; chunks = chunk-whole (data_trbs entry.task.request) chunk entry.data_td chunks (omega (arith, trbs, last)); moves = there true; small = sound.small }))
+    (record {
+      asks = sound.asks;
+      command = command;
+      status = status;
+      chunks = chunk-whole (data_trbs entry.task.request) chunk entry.data_td chunks
+          (omega (arith, trbs, last));
+      moves = there true;
+      small = sound.small;
+    }))
     (λ sense. chunk-stepped place entry chunk buffer (Begun (Ended (Check sense))) chunks
-    (record { command = command; status = status; chunks = chunk-short (data_trbs entry.task.request) chunk entry.data_td chunks; moves = there false; small = sound.small }))
-
--- the device moves a chunk
-pub move-stepped : (unit : BlockMaps) (place : Place) (entry : Entry) (chunk : ℕ) → entry.task.phase ≡ Begun (Moving chunk) → IsMatchedEntry entry →
-    IsStepped place [] (moved_events entry (moved_request unit entry.task chunk entry.task.request).1 place) entry (moved_to entry (moved_request unit entry.task chunk entry.task.request).1)
-move-stepped unit place entry chunk moving sound = moved_cases unit place entry chunk entry.task.request refl moving sound
+    (record {
+      asks = sound.asks;
+      command = command;
+      status = status;
+      chunks = chunk-short (data_trbs entry.task.request) chunk entry.data_td chunks;
+      moves = there false;
+      small = sound.small;
+    }))
 
 -- SEND
 
@@ -249,6 +298,7 @@ send-stepped place entry answer ended sound =
       sent = omega (arith, one_self place, before, after);
       ready = refl;
       sound = record {
+        asks = sound.asks;
         command = command;
         status = ap (λ (td : Td). td.consumed + 1) status;
         chunks = subst (λ p. IsDataTd (data_trbs entry.task.request) p entry.data_td) ended sound.chunks;
@@ -305,6 +355,7 @@ command-seen_td Queued td awaited is = absurd (pushed-unawaited td is awaited)
 command-seen_td (Begun (Moving chunk)) td awaited is = is
 command-seen_td (Begun (Ended answer)) td awaited is = is
 command-seen_td (Sent answer) td awaited is = is
+command-seen_td Gone td awaited is = absurd is
 
 command-seen : (place : Place) (entry : Entry) → is_awaited entry.command_td 1 ≡ true → IsMatchedEntry entry →
     IsSeenAs (CommandDone place) entry (record entry { command_td = with_event_seen entry.command_td })
@@ -318,6 +369,7 @@ command-seen place entry awaited sound =
       sent = omega arith;
       ready = ap (λ state. one_if (is_seen state && (is_over entry.status_td.state && is_data_over entry.data_td))) pends;
       sound = record {
+        asks = sound.asks;
         command = command-seen_td entry.task.phase entry.command_td awaited sound.command;
         status = sound.status;
         chunks = sound.chunks;
@@ -336,6 +388,7 @@ data-seen_td trbs Queued td spent is = absurd (omega (arith, spent, is.1, is.2))
 data-seen_td trbs (Begun (Moving chunk)) td spent is = absurd (omega (arith, spent, is.1, is.2))
 data-seen_td trbs (Begun (Ended answer)) td spent is = data-seen_answered trbs answer td is
 data-seen_td trbs (Sent answer) td spent is = data-seen_answered trbs answer td is
+data-seen_td trbs Gone td spent is = absurd is
 
 last_false : (a b : Bool) → one_if (a && (b && false)) ≡ 0
 last_false true true = refl
@@ -361,9 +414,11 @@ data-seen place entry td is awaited sound =
           ∙ ap (λ state. one_if (is_seen entry.command_td.state && (is_over entry.status_td.state && is_over state))) pends
           ∙ last_false (is_seen entry.command_td.state) (is_over entry.status_td.state);
       sound = record {
+        asks = sound.asks;
         command = sound.command;
         status = sound.status;
-        chunks = data-seen_td trbs entry.task.phase td (awaited-spent td trbs awaited) (subst (λ t. IsDataTd (data_trbs entry.task.request) entry.task.phase t) is sound.chunks);
+        chunks = data-seen_td trbs entry.task.phase td (awaited-spent td trbs awaited)
+            (subst (λ t. IsDataTd (data_trbs entry.task.request) entry.task.phase t) is sound.chunks);
         moves = sym (ap (λ (t : Option Td). is_some t) is) ∙ sound.moves;
         small = sound.small;
       };
@@ -374,11 +429,13 @@ status-seen_td Queued td awaited is = absurd (pushed-unawaited td is awaited)
 status-seen_td (Begun (Moving chunk)) td awaited is = absurd (pushed-unawaited td is awaited)
 status-seen_td (Begun (Ended answer)) td awaited is = absurd (pushed-unawaited td is awaited)
 status-seen_td (Sent answer) td awaited is = is
+status-seen_td Gone td awaited is = absurd is
 
 -- a TD that may be left over: it isn't pending then
 left-short : (trbs : ℕ) (td : Td) → IsShortTd trbs (Some (left_over_td td))
 left-short trbs td =
-    elim (is_pending td.state) as (λ b. is_pending td.state ≡ b → is_pending (cond b (record td { state = LeftOver }) td).state ≡ true → (cond b (record td { state = LeftOver }) td).consumed < trbs) [
+    elim (is_pending td.state) as (λ b. is_pending td.state ≡ b → is_pending (cond b (record td { state = LeftOver }) td).state ≡ true
+    → (cond b (record td { state = LeftOver }) td).consumed < trbs) [
       | true ↦ λ is pends. absurd (false≢true pends)
       | false ↦ λ is pends. absurd (false≢true (sym is ∙ pends))
     ] refl
@@ -425,11 +482,13 @@ status-left trbs Queued td is = record { chunks = is; awaited = refl; there = re
 status-left trbs (Begun (Moving chunk)) td is = record { chunks = is; awaited = refl; there = refl }
 status-left trbs (Begun (Ended answer)) td is = record { chunks = is; awaited = refl; there = refl }
 status-left trbs (Sent answer) td is = answer-left trbs answer td is
+status-left trbs Gone td is = absurd is
 
 abbrev status_seen : Entry → Entry
 status_seen entry = record entry { status_td = with_event_seen entry.status_td; data_td = data_after_status entry.task.phase entry.data_td }
 
-status-seen : (place : Place) (entry : Entry) → is_awaited entry.status_td 1 ≡ true → IsMatchedEntry entry → IsSeenAs (StatusDone place) entry (status_seen entry)
+status-seen : (place : Place) (entry : Entry) → is_awaited entry.status_td 1 ≡ true → IsMatchedEntry entry
+    → IsSeenAs (StatusDone place) entry (status_seen entry)
 status-seen place entry awaited sound =
     let pends : entry.status_td.state ≡ Pending = awaited-pends entry.status_td 1 awaited in
     let left : IsLeft (data_trbs entry.task.request) entry.task.phase entry.data_td (data_after_status entry.task.phase entry.data_td) =
@@ -443,6 +502,7 @@ status-seen place entry awaited sound =
       ready = ap (λ state. one_if (is_seen entry.command_td.state && (is_over state && is_data_over entry.data_td))) pends
           ∙ middle_false (is_seen entry.command_td.state) (is_data_over entry.data_td);
       sound = record {
+        asks = sound.asks;
         command = sound.command;
         status = status-seen_td entry.task.phase entry.status_td awaited sound.status;
         chunks = left.chunks;
@@ -456,9 +516,11 @@ pub record HasSeen (event : Completion) (old : Entry) : Type 0 where
   pub new : Entry
   pub step : IsSeenAs event old new
 
-data-awaits : (place : Place) (entry : Entry) (td : Option Td) → entry.data_td ≡ td → awaits_data (data_trbs entry.task.request) td ≡ true → IsMatchedEntry entry → HasSeen (DataDone place) entry
+data-awaits : (place : Place) (entry : Entry) (td : Option Td) → entry.data_td ≡ td → awaits_data (data_trbs entry.task.request) td ≡ true
+    → IsMatchedEntry entry → HasSeen (DataDone place) entry
 data-awaits place entry None is awaits sound = absurd (false≢true awaits)
-data-awaits place entry (Some td) is awaits sound = record { new = record entry { data_td = Some (with_event_seen td) }; step = data-seen place entry td is awaits sound }
+data-awaits place entry (Some td) is awaits sound = record
+    { new = record entry { data_td = Some (with_event_seen td) }; step = data-seen place entry td is awaits sound }
 
 pub event-seen : (event : Completion) (entry : Entry) → awaits_event event entry ≡ true → IsMatchedEntry entry → HasSeen event entry
 event-seen (CommandDone place) entry awaits sound =
@@ -500,6 +562,7 @@ over-sent Queued td is over = absurd (pushed-over td is over)
 over-sent (Begun (Moving chunk)) td is over = absurd (pushed-over td is over)
 over-sent (Begun (Ended answer)) td is over = absurd (pushed-over td is over)
 over-sent (Sent answer) td is over = record { answer = answer; is = refl }
+over-sent Gone td is over = absurd is
 
 -- an entry that waits for nothing more, and whose answer was handed over
 pub record IsQuiet (entry : Entry) : Type 0 where
@@ -511,8 +574,10 @@ pub record IsQuiet (entry : Entry) : Type 0 where
 
 pub ready-quiet : (entry : Entry) → is_ready entry ≡ true → IsMatchedEntry entry → IsQuiet entry
 ready-quiet entry ready sound =
-    let first : (is_seen entry.command_td.state ≡ true) × ((is_over entry.status_td.state && is_data_over entry.data_td) ≡ true) = and-true (is_seen entry.command_td.state) _ ready in
-    let rest : (is_over entry.status_td.state ≡ true) × (is_data_over entry.data_td ≡ true) = and-true (is_over entry.status_td.state) (is_data_over entry.data_td) first.1 in
+    let first : (is_seen entry.command_td.state ≡ true) × ((is_over entry.status_td.state && is_data_over entry.data_td) ≡ true) = and-true
+    (is_seen entry.command_td.state) _ ready in
+    let rest : (is_over entry.status_td.state ≡ true) × (is_data_over entry.data_td ≡ true) = and-true (is_over entry.status_td.state)
+    (is_data_over entry.data_td) first.1 in
     let seen : entry.command_td.state ≡ Seen = seen-is entry.command_td.state first.0 in
     record {
       messages = ap (λ state. one_if (has_trb (record entry.command_td { state = state }) 1)) seen;
@@ -564,7 +629,8 @@ unfaulted_if false true long late least op is none = absurd (none-some BadLength
 unfaulted_if false false true late least op is none = absurd (none-some TooLong (sym none))
 unfaulted_if false false false late least op is none = record { free = refl; short = is }
 
-pub unfaulted : (in_use : Bool) (least ticket : ℕ) (command : Command) → first_submit_fault true in_use least ticket command ≡ None → IsUnfaulted in_use command.op
+pub unfaulted : (in_use : Bool) (least ticket : ℕ) (command : Command) → first_submit_fault true in_use least ticket command ≡ None
+    → IsUnfaulted in_use command.op
 unfaulted in_use least ticket command none =
     unfaulted_if in_use (not (length command.buffer == moved_bytes command.op)) (is_too_long command.op) (nat_lt ticket least) least command.op refl none
 
@@ -591,6 +657,7 @@ submit-stepped ticket command short =
       sent = refl;
       ready = refl;
       sound = record {
+        asks = tt;
         command = refl;
         status = refl;
         chunks = chunks;

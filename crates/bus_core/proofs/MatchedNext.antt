@@ -1,5 +1,6 @@
 -- What waits in a matched state is of an entry that waits for it.
-use Rattle.std.proofs.Common.{◌≡◌, ℕ, zero, suc, ◌+◌, ◌/◌, ◌<◌, ◌≤◌, true, false, cond, List, [], ◌∷◌, ◌++◌, length, Option, Some, None, IfSome, refl, arith, ap, sym, subst, ◌∙◌}
+use Rattle.std.proofs.Common.{◌≡◌, ℕ, zero, suc, ◌+◌, ◌/◌, ◌<◌, ◌≤◌, true, false, cond, List, [], ◌∷◌, ◌++◌, length, Option, Some, None, IfSome, refl, arith}
+use Rattle.std.proofs.Common.{ap, sym, subst, ◌∙◌}
 use Rattle.std.specs.Prelude.{nat_lt, slice_get, is_some}
 use Rattle.std.proofs.lemmas.Bool.{ltb-true, ltb-false}
 use Rattle.std.proofs.lemmas.List.{append-nil}
@@ -7,9 +8,9 @@ use Rattle.std.proofs.lemmas.Option.{none-some}
 use Rattle.block_unit.specs.BlockMaps.{BlockMaps}
 use Rattle.scsi_cmd.specs.Op.{moved_bytes}
 use Rattle.scsi_cmd.specs.declared.Request.{Request}
-use Rattle.scsi_cmd.specs.declared.Request.TheVariants.{Execute}
+use Rattle.scsi_cmd.specs.declared.Request.TheVariants.{Execute, Manage}
 use Rattle.solo_model.specs.declared.Phase.{Phase}
-use Rattle.solo_model.specs.declared.Phase.TheVariants.{Queued, Begun, Sent}
+use Rattle.solo_model.specs.declared.Phase.TheVariants.{Queued, Begun, Sent, Gone}
 use Rattle.uas_host.specs.declared.Place.{Place}
 use Rattle.bus_core.specs.declared.Completion.{Completion}
 use Rattle.bus_core.specs.declared.Completion.TheVariants.{CommandDone, DataDone, StatusDone}
@@ -22,13 +23,18 @@ use Rattle.bus_core.specs.Part.{event_place}
 use Rattle.bus_core.specs.Shared.{Shared, idle, is_some_of, opening, carry_step, event_step, shared_step, is_moving, is_ended, data_is_due, status_is_due}
 use Rattle.bus_core.specs.Replay.{replay, replayed}
 use Rattle.bus_core.specs.Soundness.{one_if}
-use Rattle.bus_core.specs.Matched.{pipe_places, carried_places, waiting_command, IsPendingCommand, ArePendingCommands, HaveCommandTrbs, EventFreesFirst, AcceptedFits, times, under, command_events, data_events, status_events, request_bytes, IsCommandTd, IsStatusTd, IsMovingTd, IsDataTd, IsMatchedEntry, IsMatched, IsOwnMessage, IsOwnEvent, HasNoStray, HasDataTrbs, HaveDataTrbs, CarryActs, EventActs, NoDataEventWaits, NoStatusEventWaits}
+use Rattle.bus_core.specs.Matched.{pipe_places, carried_places, waiting_command, IsPendingCommand, ArePendingCommands, HaveCommandTrbs, EventFreesFirst}
+use Rattle.bus_core.specs.Matched.{AcceptedFits, times, under, command_events, data_events, status_events, request_bytes, IsCommandTd, IsStatusTd, IsMovingTd}
+use Rattle.bus_core.specs.Matched.{IsDataTd, IsMatchedEntry, IsMatched, IsOwnMessage, IsOwnEvent, HasNoStray, HasDataTrbs, HaveDataTrbs, CarryActs, EventActs}
+use Rattle.bus_core.specs.Matched.{NoDataEventWaits, NoStatusEventWaits}
 use Rattle.bus_core.proofs.NumberOfClients.{length-parts}
 use Rattle.bus_core.proofs.Opening.{length-new_parts}
 use Rattle.bus_core.proofs.MatchedPlaces.{command_events-append, data_events-append, status_events-append, one_self, and-true, under-written}
 use Rattle.bus_core.proofs.MatchedEntries.{awaited-pends, taken-none, short-small, unfaulted, has_trb-queued, moving-unawaited, HasSeen, event-seen}
 use Rattle.bus_core.proofs.MatchedBounds.{held-place, times_pipe, matched-once}
-use Rattle.bus_core.proofs.MatchedSteps.{IsHeld, matched-held, HasWaiting, message-waiting, carry_step-held, HasAwaiting, times_alike, times_alike-first, event-awaited, event_step-held, seen-written, seen_state, IsDueAt, place_fact-due, IsMovingBy, moving_phase, IsEndedBy, ended_phase}
+use Rattle.bus_core.proofs.MatchedSteps.{IsHeld, matched-held, HasWaiting, message-waiting, carry_step-held, HasAwaiting, times_alike, times_alike-first}
+use Rattle.bus_core.proofs.MatchedSteps.{event-awaited, event_step-held, seen-written, seen_state, IsDueAt, place_fact-due, IsMovingBy, moving_phase, IsEndedBy}
+use Rattle.bus_core.proofs.MatchedSteps.{ended_phase}
 
 -- MESSAGES
 
@@ -104,6 +110,7 @@ command-counted : (phase : Phase) (td : Td) (named : ℕ) → IsCommandTd phase 
 command-counted Queued td named is counted = omega (arith, ap (λ (t : Td). t.consumed) is, counted, ap (λ t. one_if (has_trb t 1)) is)
 command-counted (Begun progress) td named is counted = omega (arith, is, counted, taken-none td is)
 command-counted (Sent answer) td named is counted = omega (arith, is, counted, taken-none td is)
+command-counted Gone td named is counted = absurd is
 
 held-counted : (held : Option Entry) (named : ℕ) → IfSome held IsMatchedEntry → named ≡ waiting_command held →
     IfSome held (λ entry. entry.command_td.consumed + named ≡ 1)
@@ -120,7 +127,7 @@ matched-carries state all place rest is =
     let own : IsOwnMessage state.parts place = own-message state place all (subst (λ ms. 1 ≤ times place ms) (sym is) (omega (arith, one_self place))) in
     let at : IsHeld state place own.entry = matched-held state place own.entry all own.held in
     ap (λ ms. (cond (is_some_of ms) (carry_step state ms) (state, idle)).1.mark) is
-    ∙ ap (λ after. after.1.mark) (carry_step-held state place rest at.found.part own.entry at.found.there at.found.held own.queued)
+    ∙ ap (λ after. after.1.mark) (carry_step-held state place rest at.found.part own.entry at.found.there at.found.held at.here.sound.asks own.queued)
 
 pub matched-sees : (state : Shared) → IsMatched state → EventActs state
 matched-sees state all event rest is =
@@ -197,9 +204,11 @@ both_some one other there back =
 
 trbs-most : (request : Request) → request_bytes request ≤ 65536 → data_trbs request ≤ 16
 trbs-most (Execute op) small = omega arith
+trbs-most (Manage what noted) small = omega arith
 
 trbs-some : (request : Request) → nat_lt 0 (request_bytes request) ≡ nat_lt 0 (data_trbs request)
 trbs-some (Execute op) = both_some (moved_bytes op) ((moved_bytes op + 4095) / 4096) (λ some. omega arith) (λ some. omega arith)
+trbs-some (Manage what noted) = refl
 
 data-trbs : (held : Option Entry) → IfSome held IsMatchedEntry → IfSome held HasDataTrbs
 data-trbs None sound = tt

@@ -1,5 +1,6 @@
 -- Places, how often they are named, and what a write to one place leaves of the others.
-use Rattle.std.proofs.Common.{◌≡◌, ℕ, zero, suc, ◌+◌, ◌<◌, ◌≤◌, Bool, true, false, ◌&&◌, List, [], ◌∷◌, ◌++◌, length, length-set, Option, Some, None, IfSome, refl, arith, ap, sym, subst, ◌∙◌}
+use Rattle.std.proofs.Common.{◌≡◌, ℕ, zero, suc, ◌+◌, ◌<◌, ◌≤◌, Bool, true, false, ◌&&◌, List, [], ◌∷◌, ◌++◌, length, length-set, Option, Some, None, IfSome}
+use Rattle.std.proofs.Common.{refl, arith, ap, sym, subst, ◌∙◌}
 use Rattle.std.specs.Prelude.{◌==◌, slice_get, slice_set}
 use Rattle.std.specs.Option.{option_map_or}
 use Rattle.std.proofs.lemmas.Bool.{eqb-true, eqb-false, ne_eqb, false≢true}
@@ -13,7 +14,8 @@ use Rattle.bus_core.specs.Td.{Entry}
 use Rattle.bus_core.specs.Part.{Part}
 use Rattle.bus_core.specs.Shared.{Shared}
 use Rattle.bus_core.specs.Soundness.{one_if, times_in}
-use Rattle.bus_core.specs.Matched.{same_place, times, held_in, under, command_events, data_events, status_events, readied_in, times_ready, HaveSlots, IsMatchedAt, IsMatched}
+use Rattle.bus_core.specs.Matched.{same_place, times, held_in, under, command_events, data_events, status_events, readied_in, times_ready, HaveSlots}
+use Rattle.bus_core.specs.Matched.{IsMatchedAt, IsMatched}
 use Rattle.bus_core.proofs.Routes.{slice_get-slice_set_same, slice_get-slice_set_other}
 
 -- PLACES

@@ -1,5 +1,6 @@
 -- Each step keeps what waits matched.
-use Rattle.std.proofs.Common.{◌≡◌, ℕ, ◌+◌, ◌<◌, ◌≤◌, Bool, true, false, cond, List, [], ◌∷◌, ◌++◌, length, Option, Some, None, IfSome, refl, arith, ap, sym, subst, ◌∙◌}
+use Rattle.std.proofs.Common.{◌≡◌, ℕ, ◌+◌, ◌<◌, ◌≤◌, Bool, true, false, cond, List, [], ◌∷◌, ◌++◌, length, Option, Some, None, IfSome, refl, arith, ap, sym}
+use Rattle.std.proofs.Common.{suc, subst, ◌∙◌}
 use Rattle.std.specs.Prelude.{nat_lt, slice_get, slice_set, option_and_then, is_some}
 use Rattle.std.specs.Option.{option_map_or}
 use Rattle.std.proofs.lemmas.Bool.{ltb-true, false≢true}
@@ -10,12 +11,14 @@ use Rattle.scsi_cmd.specs.declared.Direction.TheVariants.{Nothing, ToHost, ToDev
 use Rattle.scsi_cmd.specs.declared.SubmitFault.{SubmitFault}
 use Rattle.scsi_cmd.specs.Op.{direction_of}
 use Rattle.scsi_cmd.specs.declared.TheConstants.{TASK_SLOT}
-use Rattle.solo_model.specs.declared.TaggedTask.{TaggedTask}
+use Rattle.scsi_cmd.specs.declared.Op.{Op}
+use Rattle.scsi_cmd.specs.declared.Request.TheVariants.{Execute}
+use Rattle.solo_model.specs.TaggedTask.{TaggedTask}
 use Rattle.device_server.specs.declared.Answer.{Answer}
 use Rattle.solo_model.specs.declared.Phase.{Phase}
-use Rattle.solo_model.specs.declared.Phase.TheVariants.{Queued, Begun, Sent}
+use Rattle.solo_model.specs.declared.Phase.TheVariants.{Queued, Begun, Sent, Gone}
 use Rattle.device_server.specs.declared.Progress.TheVariants.{Moving, Ended}
-use Rattle.solo_model.specs.TaggedTask.{carried_from, carried_request, moved_from, moved_request, sent_from, reply_from}
+use Rattle.solo_model.specs.TaggedTask.{carried_from, carried_request, moved_from, moved_request, sent_from, reply_from, unit_after}
 use Rattle.scsi_cmd.specs.Held.{held_at}
 use Rattle.uas_host.specs.declared.Place.{Place}
 use Rattle.bus_core.specs.declared.Completion.{Completion}
@@ -25,13 +28,23 @@ use Rattle.bus_core.specs.declared.Step.TheVariants.{Submit, CommandPipe, Data, 
 use Rattle.bus_core.specs.declared.Td.{Td}
 use Rattle.bus_core.specs.Td.{Entry, has_trb, is_awaited, is_ready, data_trbs}
 use Rattle.uas_host.specs.Tags.{place_of, command_slot}
-use Rattle.bus_core.specs.Part.{Part, with_entry, carry_act, carried_slot, carried_entry, is_last_trb, took_trb, move_act, moved_slot, moved_entry, send_act, sent_slot, sent_entry, event_act, event_place, seen_by, seen_entry, ready_after, new_entry, fault_at, submitted_part, take_act, taken, settled, entry_reply, slot_tag}
+use Rattle.bus_core.specs.Part.{Part, with_entry, carry_act, carried_slot, carried_entry, is_last_trb, took_trb, move_act, moved_slot, moved_entry, send_act}
+use Rattle.bus_core.specs.Part.{sent_slot, sent_entry, event_act, event_place, seen_by, seen_entry, ready_after, new_entry, fault_at, submitted_part, take_act}
+use Rattle.bus_core.specs.Part.{taken, settled, entry_reply, slot_tag, Act}
+use Rattle.bus_core.specs.declared.Mark.TheVariants.{Carry}
 use Rattle.bus_core.specs.Replay.{replayed}
-use Rattle.bus_core.specs.Shared.{Shared, idle, shared_step, acted_on, carry_step, routed_to, routed_by_tag, due_step, due, entry_fact, part_fact, place_fact, has_ready, is_some_of, routed, with_streams_rung, accepted, answered, submitted_to, submitted_under, event_step, is_moving, is_ended, data_is_due, status_is_due}
+use Rattle.bus_core.specs.Shared.{Shared, idle, shared_step, acted_on, carry_step, routed_to, routed_by_tag, due_step, due, entry_fact, part_fact, place_fact}
+use Rattle.bus_core.specs.Shared.{has_ready, is_some_of, routed, with_streams_rung, accepted, answered, submitted_to, submitted_under, event_step, is_moving}
+use Rattle.bus_core.specs.Shared.{is_ended, data_is_due, status_is_due}
 use Rattle.bus_core.specs.Soundness.{one_if, awaited_data, readied_of, times_in}
-use Rattle.bus_core.specs.Matched.{same_place, times, held_in, under, command_events, data_events, status_events, readied_in, times_ready, waiting_command, awaited_command, awaited_status, awaited_data_of, awaits_data, awaits_event, IsMatchedAt, IsMatched}
-use Rattle.bus_core.proofs.MatchedPlaces.{one_self, and-true, one_if-true, one_if-most, one_equal, one_apart, times_in-push, command_events-append, data_events-append, status_events-append, times-append, IsFound, under-found, held-within, IsWritten, times_ready-written, IsMatched-written}
-use Rattle.bus_core.proofs.MatchedEntries.{IsStepped, carried_to, has_trb-queued, carry-stepped, moved_to, moved_events, IsDataEvent, data_event-is, move-stepped, sent_to, send-stepped, IsSeenAs, HasSeen, event-seen, IsQuiet, ready-quiet, IsUnfaulted, unfaulted, IsSubmitted, submit-stepped}
+use Rattle.bus_core.specs.Matched.{same_place, times, held_in, under, command_events, data_events, status_events, readied_in, times_ready, waiting_command}
+use Rattle.bus_core.specs.Matched.{awaited_command, awaited_status, awaited_data_of, awaits_data, awaits_event, IsCommandRequest, IsMatchedAt, IsMatched}
+use Rattle.bus_core.proofs.MatchedPlaces.{one_self, and-true, one_if-true, one_if-most, one_equal, one_apart, times_in-push, command_events-append}
+use Rattle.bus_core.proofs.MatchedPlaces.{data_events-append, status_events-append, times-append, IsFound, under-found, held-within, IsWritten}
+use Rattle.bus_core.proofs.MatchedPlaces.{times_ready-written, IsMatched-written}
+use Rattle.bus_core.proofs.MatchedEntries.{IsStepped, carried_to, has_trb-queued, carry-stepped, moved_to, moved_events, IsDataEvent, data_event-is}
+use Rattle.bus_core.proofs.MatchedEntries.{move-stepped, sent_to, send-stepped, IsSeenAs, HasSeen, event-seen, IsQuiet, ready-quiet, IsUnfaulted, unfaulted}
+use Rattle.bus_core.proofs.MatchedEntries.{IsSubmitted, submit-stepped, asked_op, chunk_task, entries_after-command}
 use Rattle.bus_core.proofs.Routes.{placed_slot-within}
 
 -- A MATCHED PLACE
@@ -48,7 +61,8 @@ matched-held state place entry all is = record {
 }
 
 -- of a client that is there the queue of ready slots tells how often a place is ready
-pub times_ready-there : (parts : List Part) (place : Place) (part : Part) → slice_get parts place.client ≡ Some part → times_ready parts place ≡ times_in place.slot part.ready
+pub times_ready-there : (parts : List Part) (place : Place) (part : Part) → slice_get parts place.client ≡ Some part
+    → times_ready parts place ≡ times_in place.slot part.ready
 times_ready-there parts place part there = ap (λ found. option_map_or (readied_in place) found 0) there
 
 -- A STEP OF THE DEVICE AT A PLACE
@@ -69,7 +83,8 @@ acted_state state place part unit entry rest posted = record state {
 }
 
 acted-written : (state : Shared) (place : Place) (part : Part) (unit : BlockMaps) (old new : Entry) (popped rest : List Place) (posted : List Completion) →
-    slice_get state.parts place.client ≡ Some part → held_at part.entries place.slot ≡ Some old → state.messages ≡ popped ++ rest → NamesAlone place popped posted →
+    slice_get state.parts place.client ≡ Some part → held_at part.entries place.slot ≡ Some old → state.messages ≡ popped ++ rest
+    → NamesAlone place popped posted →
     IsWritten state (acted_state state place part unit new rest posted) place (Some new)
 acted-written state place part unit old new popped rest posted there held pops alone = record {
   part = part;
@@ -88,7 +103,8 @@ acted-written state place part unit old new popped rest posted there held pops a
 }
 
 pub acted-matched : (state : Shared) (place : Place) (part : Part) (unit : BlockMaps) (old new : Entry) (popped rest : List Place) (posted : List Completion) →
-    slice_get state.parts place.client ≡ Some part → held_at part.entries place.slot ≡ Some old → state.messages ≡ popped ++ rest → NamesAlone place popped posted →
+    slice_get state.parts place.client ≡ Some part → held_at part.entries place.slot ≡ Some old → state.messages ≡ popped ++ rest
+    → NamesAlone place popped posted →
     IsStepped place popped posted old new → IsMatchedAt state place (Some old) → IsMatched state → IsMatched (acted_state state place part unit new rest posted)
 unfolding acted-written
 acted-matched state place part unit old new popped rest posted there held pops alone step here all =
@@ -126,16 +142,34 @@ carry-alone place = record {
   sent = λ other apart. refl;
 }
 
+-- what it is to the client's part that the device receives a command
+abbrev pub command_act : Part → Place → Entry → BlockMaps × TaggedTask → Act
+command_act part place entry after = record {
+  part = with_entry (record part { unit = after.0 }) place.slot (carried_to entry after.1);
+  event = Some (CommandDone place);
+  mark = Carry (suc place.slot);
+  reply = None;
+}
+
+command_act-is : (part : Part) (place : Place) (entry : Entry) (after : BlockMaps × TaggedTask) → IsCommandRequest entry.task.request →
+    carried_entry part place.slot place entry (Some after) ≡ command_act part place entry after
+command_act-is part place entry after command =
+    ap (λ entries. record (command_act part place entry after) {
+      part = with_entry (record part { unit = after.0; entries = entries }) place.slot
+          (carried_to entry after.1);
+    }) (entries_after-command entry.task.request part.entries command)
+
 -- the first message leaves the command pipe: the state after it
 pub carry_step-held : (state : Shared) (place : Place) (rest : List Place) (part : Part) (entry : Entry) → slice_get state.parts place.client ≡ Some part →
-    held_at part.entries place.slot ≡ Some entry → entry.task.phase ≡ Queued →
+    held_at part.entries place.slot ≡ Some entry → IsCommandRequest entry.task.request → entry.task.phase ≡ Queued →
     carry_step state (place ∷ rest) ≡ acted_on (record state { messages = rest }) place.client
-    (carried_entry part place.slot place entry (Some (carried_request part.unit entry.task entry.task.request)))
-carry_step-held state place rest part entry there held queued =
+    (command_act part place entry (carried_request part.unit entry.task entry.task.request))
+carry_step-held state place rest part entry there held command queued =
     let popped : Shared = record state { messages = rest } in
     ap (λ found. routed_to popped place.client (carry_act place) found) there
     ∙ ap (λ found. acted_on popped place.client (carried_slot part place.slot place found)) held
     ∙ ap (λ phase. acted_on popped place.client (carried_entry part place.slot place entry (carried_from part.unit entry.task phase))) queued
+    ∙ ap (λ act. acted_on popped place.client act) (command_act-is part place entry (carried_request part.unit entry.task entry.task.request) command)
 
 pub carry_step-matched : (state : Shared) (messages : List Place) → state.messages ≡ messages → IsMatched state → IsMatched (carry_step state messages).0
 carry_step-matched state [] is all = all
@@ -147,8 +181,9 @@ carry_step-matched state (place ∷ rest) is all =
     let part : Part = at.found.part in
     let queued : entry.task.phase ≡ Queued = has_trb-queued entry.task.phase entry.command_td at.here.sound.command waiting.waits in
     let after : BlockMaps × TaggedTask = carried_request part.unit entry.task entry.task.request in
-    subst (λ now. IsMatched now.0) (sym (carry_step-held state place rest part entry at.found.there at.found.held queued))
-    (acted-matched state place part after.0 entry (carried_to entry after.1) (place ∷ []) rest (CommandDone place ∷ []) at.found.there at.found.held is (carry-alone place)
+    subst (λ now. IsMatched now.0) (sym (carry_step-held state place rest part entry at.found.there at.found.held at.here.sound.asks queued))
+    (acted-matched state place part after.0 entry (carried_to entry after.1) (place ∷ []) rest (CommandDone place ∷ []) at.found.there at.found.held is
+    (carry-alone place)
     (carry-stepped part.unit place entry queued at.here.sound) at.here all)
 
 -- WHERE A STEP IS DUE
@@ -191,18 +226,23 @@ moving_phase Queued is = absurd (false≢true is)
 moving_phase (Begun (Moving chunk)) is = record { chunk = chunk; is = refl }
 moving_phase (Begun (Ended answer)) is = absurd (false≢true is)
 moving_phase (Sent answer) is = absurd (false≢true is)
+moving_phase Gone is = absurd (false≢true is)
 
-move_step-held : (state : Shared) (tag : ℕ) (place : Place) (part : Part) (entry : Entry) (chunk : ℕ) → place_of (length state.parts) tag ≡ Some place →
+move_step-held : (state : Shared) (tag : ℕ) (place : Place) (part : Part) (entry : Entry) (chunk : ℕ) (op : Op)
+    → place_of (length state.parts) tag ≡ Some place →
     slice_get state.parts place.client ≡ Some part → held_at part.entries place.slot ≡ Some entry → entry.task.phase ≡ Begun (Moving chunk) →
+    entry.task.request ≡ Execute op →
     routed_by_tag state move_act (place_of (length state.parts) tag) ≡ acted_on state place.client
-    (moved_entry part place.slot place entry (Some (moved_request part.unit entry.task chunk entry.task.request)))
-move_step-held state tag place part entry chunk named there held moving =
+    (moved_entry part place.slot place entry (Some (unit_after part.unit entry.task.buffer chunk op, chunk_task part.unit entry.task chunk op)))
+move_step-held state tag place part entry chunk op named there held moving asks =
     ap (λ p. routed_by_tag state move_act p) named
     ∙ ap (λ found. routed_to state place.client (move_act place) found) there
     ∙ ap (λ found. acted_on state place.client (moved_slot part place.slot place found)) held
     ∙ ap (λ phase. acted_on state place.client (moved_entry part place.slot place entry (moved_from part.unit entry.task phase))) moving
+    ∙ ap (λ r. acted_on state place.client (moved_entry part place.slot place entry (moved_request part.unit entry.task chunk r))) asks
 
-move_step-matched : (state : Shared) (tag : ℕ) → due state (Data tag) ≡ true → IsMatched state → IsMatched (routed_by_tag state move_act (place_of (length state.parts) tag)).0
+move_step-matched : (state : Shared) (tag : ℕ) → due state (Data tag) ≡ true → IsMatched state
+    → IsMatched (routed_by_tag state move_act (place_of (length state.parts) tag)).0
 move_step-matched state tag is_due all =
     let at : IsDueAt state tag (data_is_due state tag) = place_fact-due state tag (data_is_due state tag) is_due in
     let place : Place = at.place in
@@ -210,13 +250,15 @@ move_step-matched state tag is_due all =
     let held : IsHeld state place entry = matched-held state place entry all at.held in
     let part : Part = held.found.part in
     let moving : IsMovingBy entry.task.phase = moving_phase entry.task.phase (and-true (is_moving entry.task.phase) _ at.so).0 in
-    let after : BlockMaps × TaggedTask = moved_request part.unit entry.task moving.chunk entry.task.request in
+    let asks : (op : Op) × (entry.task.request ≡ Execute op) = asked_op entry.task.request held.here.sound.asks in
+    let after : BlockMaps × TaggedTask = (unit_after part.unit entry.task.buffer moving.chunk asks.0, chunk_task part.unit entry.task moving.chunk asks.0) in
     let posted : List Completion = moved_events entry after.1 place in
     let event : IsDataEvent place posted = data_event-is (is_last_trb (took_trb after.1.phase) (data_trbs entry.task.request) entry.data_td) place in
-    subst (λ now. IsMatched now.0) (sym (move_step-held state tag place part entry moving.chunk at.named held.found.there held.found.held moving.is))
+    subst (λ now. IsMatched now.0) (sym
+    (move_step-held state tag place part entry moving.chunk asks.0 at.named held.found.there held.found.held moving.is asks.1))
     (acted-matched state place part after.0 entry (moved_to entry after.1) [] state.messages posted held.found.there held.found.held refl
     (record { messages = λ other apart. refl; carried = event.carried; moved = event.moved; sent = event.sent })
-    (move-stepped part.unit place entry moving.chunk moving.is held.here.sound) held.here all)
+    (move-stepped part.unit place entry moving.chunk asks.0 asks.1 moving.is held.here.sound) held.here all)
 
 -- SEND
 
@@ -229,8 +271,10 @@ ended_phase Queued is = absurd (false≢true is)
 ended_phase (Begun (Moving chunk)) is = absurd (false≢true is)
 ended_phase (Begun (Ended answer)) is = record { answer = answer; is = refl }
 ended_phase (Sent answer) is = absurd (false≢true is)
+ended_phase Gone is = absurd (false≢true is)
 
-pub send_step-held : (state : Shared) (tag : ℕ) (place : Place) (part : Part) (entry : Entry) (answer : Answer) → place_of (length state.parts) tag ≡ Some place →
+pub send_step-held : (state : Shared) (tag : ℕ) (place : Place) (part : Part) (entry : Entry) (answer : Answer)
+    → place_of (length state.parts) tag ≡ Some place →
     slice_get state.parts place.client ≡ Some part → held_at part.entries place.slot ≡ Some entry → entry.task.phase ≡ Begun (Ended answer) →
     routed_by_tag state send_act (place_of (length state.parts) tag) ≡ acted_on state place.client
     (sent_entry part place.slot place entry (Some (record entry.task { phase = Sent answer })))
@@ -248,7 +292,8 @@ send-alone place = record {
   sent = λ other apart. omega (arith, ap one_if apart);
 }
 
-send_step-matched : (state : Shared) (tag : ℕ) → due state (Status tag) ≡ true → IsMatched state → IsMatched (routed_by_tag state send_act (place_of (length state.parts) tag)).0
+send_step-matched : (state : Shared) (tag : ℕ) → due state (Status tag) ≡ true → IsMatched state
+    → IsMatched (routed_by_tag state send_act (place_of (length state.parts) tag)).0
 send_step-matched state tag is_due all =
     let at : IsDueAt state tag (status_is_due state tag) = place_fact-due state tag (status_is_due state tag) is_due in
     let place : Place = at.place in
@@ -290,7 +335,8 @@ status-awaited : (place : Place) (held : Option Entry) → 1 ≤ awaited_status 
 status-awaited place None some = absurd (omega (arith, some))
 status-awaited place (Some entry) some = record { entry = entry; is = refl; awaits = one_if-true (is_awaited entry.status_td 1) some }
 
-pub event-awaited : (state : Shared) (event : Completion) → IsMatched state → 1 ≤ times_alike event state.events → HasAwaiting event (under state.parts (event_place event))
+pub event-awaited : (state : Shared) (event : Completion) → IsMatched state → 1 ≤ times_alike event state.events
+    → HasAwaiting event (under state.parts (event_place event))
 event-awaited state (CommandDone place) all some = command-awaited place (under state.parts place) (omega (arith, some, (all.places place).carried))
 event-awaited state (DataDone place) all some = data-awaited place (under state.parts place) (omega (arith, some, (all.places place).moved))
 event-awaited state (StatusDone place) all some = status-awaited place (under state.parts place) (omega (arith, some, (all.places place).sent))
@@ -302,19 +348,25 @@ times_alike-first (DataDone place) rest = omega (arith, one_self place)
 times_alike-first (StatusDone place) rest = omega (arith, one_self place)
 
 -- counts of a list by its first event
-pub command_events-first : (place : Place) (event : Completion) (rest : List Completion) → command_events place (event ∷ rest) ≡ command_events place (event ∷ []) + command_events place rest
+pub command_events-first : (place : Place) (event : Completion) (rest : List Completion)
+    → command_events place (event ∷ rest) ≡ command_events place (event ∷ []) + command_events place rest
 command_events-first place event rest = command_events-append place (event ∷ []) rest
 
-pub data_events-first : (place : Place) (event : Completion) (rest : List Completion) → data_events place (event ∷ rest) ≡ data_events place (event ∷ []) + data_events place rest
+pub data_events-first : (place : Place) (event : Completion) (rest : List Completion)
+    → data_events place (event ∷ rest) ≡ data_events place (event ∷ []) + data_events place rest
 data_events-first place event rest = data_events-append place (event ∷ []) rest
 
-pub status_events-first : (place : Place) (event : Completion) (rest : List Completion) → status_events place (event ∷ rest) ≡ status_events place (event ∷ []) + status_events place rest
+pub status_events-first : (place : Place) (event : Completion) (rest : List Completion)
+    → status_events place (event ∷ rest) ≡ status_events place (event ∷ []) + status_events place rest
 status_events-first place event rest = status_events-append place (event ∷ []) rest
 
 event-alone : (event : Completion) → NamesAlone (event_place event) [] (event ∷ [])
-event-alone (CommandDone place) = record { messages = λ other apart. refl; carried = λ other apart. omega (arith, ap one_if apart); moved = λ other apart. refl; sent = λ other apart. refl }
-event-alone (DataDone place) = record { messages = λ other apart. refl; carried = λ other apart. refl; moved = λ other apart. omega (arith, ap one_if apart); sent = λ other apart. refl }
-event-alone (StatusDone place) = record { messages = λ other apart. refl; carried = λ other apart. refl; moved = λ other apart. refl; sent = λ other apart. omega (arith, ap one_if apart) }
+event-alone (CommandDone place) = record
+    { messages = λ other apart. refl; carried = λ other apart. omega (arith, ap one_if apart); moved = λ other apart. refl; sent = λ other apart. refl }
+event-alone (DataDone place) = record
+    { messages = λ other apart. refl; carried = λ other apart. refl; moved = λ other apart. omega (arith, ap one_if apart); sent = λ other apart. refl }
+event-alone (StatusDone place) = record
+    { messages = λ other apart. refl; carried = λ other apart. refl; moved = λ other apart. refl; sent = λ other apart. omega (arith, ap one_if apart) }
 
 -- the part after an event was seen
 abbrev pub seen_part : Part → ℕ → Entry → Part
@@ -324,8 +376,10 @@ seen_part part slot entry = record (with_entry part slot entry) { ready = ready_
 abbrev pub seen_state : Shared → Place → Part → Entry → List Completion → Shared
 seen_state state place part entry rest = record state { parts = slice_set state.parts place.client (seen_part part place.slot entry); events = rest ++ [] }
 
-pub event_step-held : (state : Shared) (event : Completion) (rest : List Completion) (part : Part) (old new : Entry) → slice_get state.parts (event_place event).client ≡ Some part →
-    held_at part.entries (event_place event).slot ≡ Some old → seen_by event old ≡ Some new → (event_step state (event ∷ rest)).0 ≡ seen_state state (event_place event) part new rest
+pub event_step-held : (state : Shared) (event : Completion) (rest : List Completion) (part : Part) (old new : Entry)
+    → slice_get state.parts (event_place event).client ≡ Some part →
+    held_at part.entries (event_place event).slot ≡ Some old → seen_by event old ≡ Some new
+    → (event_step state (event ∷ rest)).0 ≡ seen_state state (event_place event) part new rest
 event_step-held state event rest part old new there held seen =
     let popped : Shared = record state { events = rest } in
     let place : Place = event_place event in
@@ -334,7 +388,8 @@ event_step-held state event rest part old new there held seen =
     ∙ ap (λ after. (acted_on popped place.client (seen_entry part place.slot after)).0) seen
 
 -- other slots of the queue stay, and this one joins it where its entry is ready
-ready_after-other : (queue : List ℕ) (slot other : ℕ) (entry : Entry) → (other ≡ slot → ⊥) → times_in other (ready_after queue slot entry) ≡ times_in other queue
+ready_after-other : (queue : List ℕ) (slot other : ℕ) (entry : Entry) → (other ≡ slot → ⊥)
+    → times_in other (ready_after queue slot entry) ≡ times_in other queue
 ready_after-other queue slot other entry apart =
     elim (is_ready entry) as (λ b. times_in other (cond b (queue ++ slot ∷ []) queue) ≡ times_in other queue) [
       | true ↦ omega (arith, times_in-push other queue slot, one_apart slot other apart)
@@ -363,7 +418,13 @@ seen-written state event rest part old new is there held =
       queue = λ slot apart. ready_after-other part.ready (event_place event).slot slot new apart;
       others = λ other apart. record {
         messages = refl;
-        carried = omega (arith, command_events-append other rest [], ap (command_events other) is, command_events-first other event rest, alone.carried other apart);
+        carried = omega (
+          arith,
+          command_events-append other rest [],
+          ap (command_events other) is,
+          command_events-first other event rest,
+          alone.carried other apart,
+        );
         moved = omega (arith, data_events-append other rest [], ap (data_events other) is, data_events-first other event rest, alone.moved other apart);
         sent = omega (arith, status_events-append other rest [], ap (status_events other) is, status_events-first other event rest, alone.sent other apart);
       };
@@ -379,10 +440,24 @@ seen-matched state event rest part old new is there held step here all =
     let written = seen-written state event rest part old new is there held in
     IsMatched-written state now place (Some new) written (record {
       messages = omega (arith, step.messages, here.messages);
-      carried = omega (arith, command_events-append place rest [], ap (command_events place) is, command_events-first place event rest, step.carried, here.carried);
+      carried = omega (
+        arith,
+        command_events-append place rest [],
+        ap (command_events place) is,
+        command_events-first place event rest,
+        step.carried,
+        here.carried,
+      );
       moved = omega (arith, data_events-append place rest [], ap (data_events place) is, data_events-first place event rest, step.moved, here.moved);
       sent = omega (arith, status_events-append place rest [], ap (status_events place) is, status_events-first place event rest, step.sent, here.sent);
-      ready = omega (arith, times_ready-written state now place (Some new) written, ready_after-own part.ready place.slot new, times_ready-there state.parts place part there, here.ready, step.ready);
+      ready = omega (
+        arith,
+        times_ready-written state now place (Some new) written,
+        ready_after-own part.ready place.slot new,
+        times_ready-there state.parts place part there,
+        here.ready,
+        step.ready,
+      );
       sound = step.sound;
     }) all
 
@@ -418,9 +493,11 @@ abbrev pub settled_part : Part → ℕ → List ℕ → Part
 settled_part part slot rest = record part { entries = slice_set part.entries slot None; ready = rest }
 
 abbrev pub settled_state : Shared → Place → Part → List ℕ → Shared
-settled_state state place part rest = record state { parts = slice_set state.parts place.client (settled_part part place.slot rest); events = state.events ++ [] }
+settled_state state place part rest = record state
+    { parts = slice_set state.parts place.client (settled_part part place.slot rest); events = state.events ++ [] }
 
-pub take_step-held : (state : Shared) (client slot : ℕ) (rest : List ℕ) (part : Part) (entry : Entry) (answer : Answer) → slice_get state.parts client ≡ Some part →
+pub take_step-held : (state : Shared) (client slot : ℕ) (rest : List ℕ) (part : Part) (entry : Entry) (answer : Answer)
+    → slice_get state.parts client ≡ Some part →
     part.ready ≡ slot ∷ rest → held_at part.entries slot ≡ Some entry → entry.task.phase ≡ Sent answer →
     (routed state client (take_act client)).0 ≡ settled_state state (record { client = client; slot = slot }) part rest
 take_step-held state client slot rest part entry answer there queue held sent =
@@ -448,7 +525,8 @@ settled-written state place part rest entry there queue held = record {
 }
 
 settled-matched : (state : Shared) (place : Place) (part : Part) (rest : List ℕ) (entry : Entry) → slice_get state.parts place.client ≡ Some part →
-    part.ready ≡ place.slot ∷ rest → held_at part.entries place.slot ≡ Some entry → times_in place.slot rest ≡ 0 → IsQuiet entry → IsMatchedAt state place (Some entry) → IsMatched state →
+    part.ready ≡ place.slot ∷ rest → held_at part.entries place.slot ≡ Some entry → times_in place.slot rest ≡ 0 → IsQuiet entry
+    → IsMatchedAt state place (Some entry) → IsMatched state →
     IsMatched (settled_state state place part rest)
 unfolding settled-written
 settled-matched state place part rest entry there queue held once quiet here all =
@@ -463,7 +541,8 @@ settled-matched state place part rest entry there queue held once quiet here all
       sound = tt;
     }) all
 
-take_queue : (state : Shared) (client : ℕ) (part : Part) (queue : List ℕ) → slice_get state.parts client ≡ Some part → part.ready ≡ queue → is_some_of queue ≡ true → IsMatched state →
+take_queue : (state : Shared) (client : ℕ) (part : Part) (queue : List ℕ) → slice_get state.parts client ≡ Some part → part.ready ≡ queue
+    → is_some_of queue ≡ true → IsMatched state →
     IsMatched (routed state client (take_act client)).0
 take_queue state client part [] there is some all = absurd (false≢true some)
 take_queue state client part (slot ∷ rest) there is some all =
@@ -479,7 +558,8 @@ take_queue state client part (slot ∷ rest) there is some all =
 
 take_step-matched : (state : Shared) (client : ℕ) → due state (Take client) ≡ true → IsMatched state → IsMatched (routed state client (take_act client)).0
 take_step-matched state client is_due all =
-    elim (slice_get state.parts client) as (λ found. slice_get state.parts client ≡ found → option_map_or has_ready found false ≡ true → IsMatched (routed state client (take_act client)).0) [
+    elim (slice_get state.parts client) as
+    (λ found. slice_get state.parts client ≡ found → option_map_or has_ready found false ≡ true → IsMatched (routed state client (take_act client)).0) [
       | None ↦ λ there some. absurd (false≢true some)
       | Some part ↦ λ there some. take_queue state client part part.ready there refl some all
     ] refl is_due
@@ -491,7 +571,8 @@ rung-events state Nothing tag = refl
 rung-events state ToHost tag = refl
 rung-events state ToDevice tag = refl
 
-accepted-written : (state : Shared) (part : Part) (place : Place) (tag ticket : ℕ) (command : Command) → slice_get state.parts place.client ≡ Some part → place.slot < length part.entries →
+accepted-written : (state : Shared) (part : Part) (place : Place) (tag ticket : ℕ) (command : Command) → slice_get state.parts place.client ≡ Some part
+    → place.slot < length part.entries →
     IsWritten state (accepted state part place tag ticket command).0 place (Some (new_entry ticket command))
 accepted-written state part place tag ticket command there within =
     let events : (accepted state part place tag ticket command).0.events ≡ state.events = rung-events state (direction_of command.op) tag in
@@ -512,16 +593,19 @@ accepted-written state part place tag ticket command there within =
     }
 
 -- a place of this client where nothing stands
-none-matched : (state : Shared) (place : Place) (part : Part) → slice_get state.parts place.client ≡ Some part → is_some (held_at part.entries place.slot) ≡ false → IsMatched state →
+none-matched : (state : Shared) (place : Place) (part : Part) → slice_get state.parts place.client ≡ Some part
+    → is_some (held_at part.entries place.slot) ≡ false → IsMatched state →
     IsMatchedAt state place None
 none-matched state place part there free all =
-    subst (λ held. IsMatchedAt state place held) (ap (λ found. option_map_or (held_in place) found None) there ∙ none (held_at part.entries place.slot) free) (all.places place)
+    subst (λ held. IsMatchedAt state place held)
+    (ap (λ found. option_map_or (held_in place) found None) there ∙ none (held_at part.entries place.slot) free) (all.places place)
   where
     none : (held : Option Entry) → is_some held ≡ false → held ≡ None
     none None is = refl
     none (Some entry) is = absurd (false≢true (sym is))
 
-accepted-matched : (state : Shared) (part : Part) (place : Place) (tag ticket : ℕ) (command : Command) → slice_get state.parts place.client ≡ Some part → place.slot < length part.entries →
+accepted-matched : (state : Shared) (part : Part) (place : Place) (tag ticket : ℕ) (command : Command) → slice_get state.parts place.client ≡ Some part
+    → place.slot < length part.entries →
     IsUnfaulted (is_some (held_at part.entries place.slot)) command.op → IsMatched state → IsMatched (accepted state part place tag ticket command).0
 unfolding accepted-written
 accepted-matched state part place tag ticket command there within fine all =
@@ -535,27 +619,32 @@ accepted-matched state part place tag ticket command there within fine all =
       carried = ap (command_events place) events ∙ here.carried ∙ sym step.carried;
       moved = ap (data_events place) events ∙ here.moved ∙ sym step.moved;
       sent = ap (status_events place) events ∙ here.sent ∙ sym step.sent;
-      ready = times_ready-written state now place (Some (new_entry ticket command)) written ∙ sym (times_ready-there state.parts place part there) ∙ here.ready ∙ sym step.ready;
+      ready = times_ready-written state now place (Some (new_entry ticket command)) written ∙ sym (times_ready-there state.parts place part there)
+          ∙ here.ready ∙ sym step.ready;
       sound = step.sound;
     }) all
 
 slots-there : (state : Shared) (client : ℕ) (part : Part) → IsMatched state → slice_get state.parts client ≡ Some part → length part.entries ≡ 8
 slots-there state client part all there = subst (λ found. IfSome found (λ part. length part.entries ≡ 8)) there (all.slots client)
 
-answered-matched : (state : Shared) (part : Part) (place : Place) (tag ticket : ℕ) (command : Command) (fault : Option SubmitFault) → slice_get state.parts place.client ≡ Some part →
-    place.slot < length part.entries → fault_at part place.slot ticket command ≡ fault → IsMatched state → IsMatched (answered state part place tag ticket command fault).0
+answered-matched : (state : Shared) (part : Part) (place : Place) (tag ticket : ℕ) (command : Command) (fault : Option SubmitFault)
+    → slice_get state.parts place.client ≡ Some part →
+    place.slot < length part.entries → fault_at part place.slot ticket command ≡ fault → IsMatched state
+    → IsMatched (answered state part place tag ticket command fault).0
 answered-matched state part place tag ticket command None there within is all =
     accepted-matched state part place tag ticket command there within (unfaulted (is_some (held_at part.entries place.slot)) part.least ticket command is) all
 answered-matched state part place tag ticket command (Some fault) there within is all = all
 
-submitted_to-matched : (state : Shared) (place : Place) (tag ticket : ℕ) (command : Command) (found : Option Part) → slice_get state.parts place.client ≡ found →
+submitted_to-matched : (state : Shared) (place : Place) (tag ticket : ℕ) (command : Command) (found : Option Part)
+    → slice_get state.parts place.client ≡ found →
     nat_lt place.slot TASK_SLOT ≡ true → IsMatched state → IsMatched (submitted_to state place tag ticket command found).0
 submitted_to-matched state place tag ticket command None is within all = all
 submitted_to-matched state place tag ticket command (Some part) is within all =
     answered-matched state part place tag ticket command (fault_at part place.slot ticket command) is
     (omega (arith, ltb-true place.slot 7 within, slots-there state place.client part all is)) refl all
 
-submitted_under-matched : (state : Shared) (client tag ticket : ℕ) (command : Command) (slot : Option ℕ) → command_slot (length state.parts) client tag ≡ slot → IsMatched state →
+submitted_under-matched : (state : Shared) (client tag ticket : ℕ) (command : Command) (slot : Option ℕ)
+    → command_slot (length state.parts) client tag ≡ slot → IsMatched state →
     IsMatched (submitted_under state client tag ticket command slot).0
 submitted_under-matched state client tag ticket command None is all = all
 submitted_under-matched state client tag ticket command (Some slot) is all =

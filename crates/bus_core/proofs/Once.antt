@@ -1,5 +1,7 @@
 -- Each ticket is accepted once and settled once.
-use Rattle.std.proofs.Common.{◌≡◌, ◌⊎◌, inl, inr, ℕ, zero, suc, ◌+◌, ◌<◌, ◌≤◌, Bool, List, [], ◌∷◌, ◌++◌, map, Option, Some, None, option_map, option_and_then, refl, arith, ap, sym, ◌∙◌, subst, rules}
+use Rattle.std.proofs.Common.{◌≡◌, ◌⊎◌, inl, inr, ℕ, zero, suc, ◌+◌, ◌<◌, ◌≤◌, List, [], ◌∷◌, ◌++◌, map, Option, Some, None, option_map, option_and_then}
+use Rattle.std.proofs.Common.{Bool, true, false, ◌&&◌, cond}
+use Rattle.std.proofs.Common.{refl, arith, ap, sym, ◌∙◌, subst, rules}
 use Rattle.std.specs.Prelude.{All, slice_set, slice_get, is_some, replicate}
 use Rattle.std.proofs.Math.ListN.{get_or-map}
 use Rattle.std.proofs.Math.Seq.{map-set_same}
@@ -10,13 +12,20 @@ use Rattle.std.proofs.lemmas.List.Elements.{All-push, All-weaker, All-nil, All-c
 use Rattle.block_unit.specs.BlockMaps.{BlockMaps}
 use Rattle.scsi_cmd.specs.declared.Command.{Command}
 use Rattle.scsi_cmd.specs.declared.Reply.{Reply}
-use Rattle.solo_model.specs.declared.TaggedTask.{TaggedTask}
+use Rattle.scsi_cmd.specs.declared.Request.{Request}
+use Rattle.scsi_cmd.specs.declared.Request.TheVariants.{Execute, Manage}
+use Rattle.scsi_cmd.specs.declared.Task.{Task as SoloTask}
+use Rattle.scsi_cmd.specs.declared.TheConstants.{TASK_SLOT}
+use Rattle.solo_model.specs.declared.Phase.TheVariants.{Gone}
+use Rattle.solo_model.specs.TaggedTask.{TaggedTask}
 use Rattle.solo_model.specs.declared.Label.{Label}
-use Rattle.solo_model.specs.declared.Label.TheVariants.{Submit, Carry, Move, Send, Settle}
+use Rattle.solo_model.specs.declared.Label.TheVariants.{Submit, Task, Carry, Move, Send, Settle}
 use Rattle.scsi_cmd.specs.Held.{held_at}
-use Rattle.solo_model.specs.TaggedTask.{queued, carried, moved, sent, reply_of}
-use Rattle.scsi_cmd.specs.Submission.{first_submit_fault}
-use Rattle.solo_model.specs.Solo.{SoloState, solo_step, solo_run, silently, submitted, is_command_index, with_task, without_task, with_reply, opening as solo_opening}
+use Rattle.solo_model.specs.TaggedTask.{after_notes, can_be_ended, carried, is_noted, moved, queued, queued_management, reply_of, sent}
+use Rattle.scsi_cmd.specs.Submission.{first_submit_fault, first_task_fault}
+use Rattle.solo_model.specs.Solo.{SoloState, solo_step, solo_run, silently, submitted, is_command_index, with_task, without_task, with_reply}
+use Rattle.solo_model.specs.Solo.{after_request, carried_at, is_there, managed, noted_tickets, task_index, with_request_carried}
+use Rattle.solo_model.specs.Solo.{opening as solo_opening}
 use Rattle.bus_core.specs.declared.Step.{Step}
 use Rattle.bus_core.specs.Replay.{replay}
 use Rattle.bus_core.specs.Isolation.{own_labels, own_replies, own_state}
@@ -111,7 +120,8 @@ held_at-emptied held slot other ticket is = elim (held_at-set held slot other ti
 ]
 
 -- a ticket that is settled is owed no more
-AreOnce-settle : (held : List (Option ℕ)) (least : ℕ) (accepted settled : List ℕ) (slot ticket : ℕ) → AreOnce held least accepted settled → held_at held slot ≡ Some ticket →
+AreOnce-settle : (held : List (Option ℕ)) (least : ℕ) (accepted settled : List ℕ) (slot ticket : ℕ) → AreOnce held least accepted settled
+    → held_at held slot ≡ Some ticket →
     AreOnce (slice_set held slot None) least accepted (settled ++ ticket ∷ [])
 AreOnce-settle held least accepted settled slot ticket once is = record {
   accepted_below = once.accepted_below;
@@ -143,6 +153,10 @@ mapped {A} {B} {C} {P} f g (Some a) c is then =
       | Some b ↦ λ made some. let same : f b ≡ c = cc in then a b refl made same
     ] refl is
 
+made_of : {B C P : Type 0} (f : B → C) (o : Option B) (c : C) → option_map f o ≡ Some c → ((b : B) → o ≡ Some b → f b ≡ c → P) → P
+made_of f None c is then = absurd (none-some c is)
+made_of f (Some b) c is then = let same : f b ≡ c = cc in then b refl same
+
 -- a step that no ticket can tell
 pub record IsSilent (state : SoloState) (after : SoloState × Option Reply) : Type 0 where
   pub tickets_same : tickets after.0 ≡ tickets state
@@ -154,6 +168,34 @@ tickets-kept : (tasks : List (Option TaggedTask)) (slot : ℕ) (was now : Tagged
     map (option_map ticket_of) (slice_set tasks slot (Some now)) ≡ map (option_map ticket_of) tasks
 tickets-kept tasks slot was now is same =
     map-set_same (option_map ticket_of) tasks slot (Some now) None (ap Some same ∙ sym (ap (option_map ticket_of) is))
+
+-- a task that is gone keeps its ticket
+ticket-gone : (gone : Bool) (task : TaggedTask) → (cond gone (record task { phase = Gone }) task).ticket ≡ task.ticket
+ticket-gone true task = refl
+ticket-gone false task = refl
+
+tickets-noted : (noted : List ℕ) (tasks : List (Option TaggedTask)) →
+    map (option_map ticket_of) (map (option_map (after_notes noted)) tasks) ≡ map (option_map ticket_of) tasks
+tickets-noted noted [] = refl
+tickets-noted noted (None ∷ tasks) = ap (λ rest. None ∷ rest) (tickets-noted noted tasks)
+tickets-noted noted (Some task ∷ tasks) =
+    ap (λ t. Some t ∷ map (option_map ticket_of) (map (option_map (after_notes noted)) tasks))
+    (ticket-gone (can_be_ended task && is_noted noted task.ticket) task)
+    ∙ ap (λ rest. Some task.ticket ∷ rest) (tickets-noted noted tasks)
+
+tickets-after : (request : Request) (tasks : List (Option TaggedTask)) →
+    map (option_map ticket_of) (after_request request tasks) ≡ map (option_map ticket_of) tasks
+tickets-after (Execute op) tasks = refl
+tickets-after (Manage what noted) tasks = tickets-noted noted.items tasks
+
+-- the same of a task that is carried
+tickets-carried : (tasks : List (Option TaggedTask)) (request : Request) (slot : ℕ) (was now : TaggedTask) → held_at tasks slot ≡ Some was →
+    now.ticket ≡ was.ticket → map (option_map ticket_of) (slice_set (after_request request tasks) slot (Some now)) ≡ map (option_map ticket_of) tasks
+tickets-carried tasks request slot was now is same =
+    map-set (option_map ticket_of) (after_request request tasks) slot (Some now)
+    ∙ ap (λ tickets. slice_set tickets slot (Some now.ticket)) (tickets-after request tasks)
+    ∙ sym (map-set (option_map ticket_of) tasks slot (Some now))
+    ∙ tickets-kept tasks slot was now is same
 
 carried-ticket : (unit : BlockMaps) (task : TaggedTask) (after : BlockMaps × TaggedTask) → carried unit task ≡ Some after → after.1.ticket ≡ task.ticket
 carried-ticket unit task after is = search rules
@@ -170,12 +212,13 @@ reply_of-ticket tag task reply is = search rules
 carry-silent : (state : SoloState) (index : ℕ) (after : SoloState × Option Reply) → solo_step state (Carry index) ≡ Some after → IsSilent state after
 carry-silent state zero after is = absurd (none-some after is)
 carry-silent state (suc slot) after is =
-    mapped (λ made. silently (with_task state (suc slot) made)) (carried state.unit) (held_at state.tasks slot) after is (λ task made found does same.
+    option_and_then_some (carried_at state (suc slot)) (held_at state.tasks slot) after is (λ task found acts.
+    made_of (λ made. silently (with_task (with_request_carried state task) (suc slot) made)) (carried state.unit task) after acts (λ made does same.
     subst (IsSilent state) same (record {
-      tickets_same = tickets-kept state.tasks slot task made.1 found (carried-ticket state.unit task made does);
+      tickets_same = tickets-carried state.tasks task.request slot task made.1 found (carried-ticket state.unit task made does);
       least_same = refl;
       reply = refl;
-    }))
+    })))
 
 move-silent : (state : SoloState) (index : ℕ) (after : SoloState × Option Reply) → solo_step state (Move index) ≡ Some after → IsSilent state after
 move-silent state zero after is = absurd (none-some after is)
@@ -209,7 +252,8 @@ pub record IsGivenOut (state : SoloState) (ticket : ℕ) (after : SoloState × O
 no_fault-least : (yours in_use : Bool) (least ticket : ℕ) (command : Command) → first_submit_fault yours in_use least ticket command ≡ None → least ≤ ticket
 no_fault-least yours in_use least ticket command none = grind (arith, common_steps)
 
-submit-given_out : (state : SoloState) (index ticket : ℕ) (command : Command) (after : SoloState × Option Reply) → solo_step state (Submit index ticket command) ≡ Some after →
+submit-given_out : (state : SoloState) (index ticket : ℕ) (command : Command) (after : SoloState × Option Reply)
+    → solo_step state (Submit index ticket command) ≡ Some after →
     IsGivenOut state ticket after
 submit-given_out state zero ticket command after is = absurd (none-some after is)
 submit-given_out state (suc slot) ticket command after is =
@@ -224,6 +268,28 @@ submit-given_out state (suc slot) ticket command after is =
             tickets_now = map-set (option_map ticket_of) state.tasks slot (Some (queued ticket command));
             least_now = refl;
             least_before = no_fault-least (is_command_index (suc slot)) (is_some (held_at state.tasks slot)) state.least ticket command none;
+            reply = refl;
+          })
+    ] refl is
+
+no_task_fault-least : (yours in_use : Bool) (least ticket : ℕ) (there : Bool) → first_task_fault yours in_use least ticket there ≡ None → least ≤ ticket
+no_task_fault-least yours in_use least ticket there none = grind (arith, common_steps)
+
+task-given_out : (state : SoloState) (ticket : ℕ) (task : SoloTask) (after : SoloState × Option Reply) → solo_step state (Task ticket task) ≡ Some after →
+    IsGivenOut state ticket after
+task-given_out state ticket task after is =
+    let fault = first_task_fault true (is_some (held_at state.tasks TASK_SLOT)) state.least ticket (is_there state.tasks task) in
+    elim fault as (λ f. fault ≡ f → managed state ticket task f ≡ Some after → IsGivenOut state ticket after) [
+      | Some first ↦ λ found none. absurd (none-some after none)
+      | None ↦ λ none some.
+          let submitted_task : TaggedTask = queued_management ticket task (noted_tickets state.tasks task) in
+          let made : SoloState × Option Reply = silently (record (with_task state task_index (state.unit, submitted_task)) { least = ticket + 1 }) in
+          let same : made ≡ after = same_Some made after some in
+          subst (IsGivenOut state ticket) same (record {
+            slot = TASK_SLOT;
+            tickets_now = map-set (option_map ticket_of) state.tasks TASK_SLOT (Some submitted_task);
+            least_now = refl;
+            least_before = no_task_fault-least true (is_some (held_at state.tasks TASK_SLOT)) state.least ticket (is_there state.tasks task) none;
             reply = refl;
           })
     ] refl is
@@ -266,7 +332,8 @@ pub record IsRest (after : SoloState × Option Reply) (answer : Reply) (labels :
   pub first : replies ≡ answer ∷ rest
   pub run : solo_run after.0 labels ≡ Some (last, rest)
 
-answered-found : (run : Option (SoloState × List Reply)) (after : SoloState × Option Reply) (answer : Reply) (labels : List Label) (last : SoloState) (replies : List Reply) →
+answered-found : (run : Option (SoloState × List Reply)) (after : SoloState × Option Reply) (answer : Reply) (labels : List Label) (last : SoloState)
+    (replies : List Reply) →
     solo_run after.0 labels ≡ run → option_map (with_reply (Some answer)) run ≡ Some (last, replies) → IsRest after answer labels last replies
 answered-found None after answer labels last replies ran is = absurd (none-some (last, replies) is)
 answered-found (Some run) after answer labels last replies ran is =
@@ -285,7 +352,8 @@ AreOnce-silent : (state : SoloState) (after : SoloState × Option Reply) (accept
 AreOnce-silent state after accepted settled once silent = rw (silent.tickets_same, silent.least_same) once
 
 -- the same, where a ticket is given out
-AreOnce-given : (state : SoloState) (after : SoloState × Option Reply) (ticket : ℕ) (accepted settled : List ℕ) → AreOnce (tickets state) state.least accepted settled →
+AreOnce-given : (state : SoloState) (after : SoloState × Option Reply) (ticket : ℕ) (accepted settled : List ℕ)
+    → AreOnce (tickets state) state.least accepted settled →
     IsGivenOut state ticket after → AreOnce (tickets after.0) after.0.least (accepted ++ ticket ∷ []) settled
 AreOnce-given state after ticket accepted settled once given =
     rw (given.tickets_now, given.least_now) (AreOnce-submit (tickets state) state.least accepted settled given.slot ticket once given.least_before)
@@ -300,26 +368,42 @@ pub run-once : (state : SoloState) (labels : List Label) (last : SoloState) (rep
     AreOnce (tickets state) state.least accepted settled → solo_run state labels ≡ Some (last, replies) → SettlesOnce accepted settled labels replies
 run-once state [] last replies accepted settled once is = let none = some_pair_parts state last [] replies is in sym none.1
 run-once state (Submit index ticket command ∷ labels) last replies accepted settled once is =
-    option_and_then_some (λ after. option_map (with_reply after.1) (solo_run after.0 labels)) (solo_step state (Submit index ticket command)) (last, replies) is (λ after step rest.
+    option_and_then_some (λ after. option_map (with_reply after.1) (solo_run after.0 labels)) (solo_step state (Submit index ticket command))
+    (last, replies) is (λ after step rest.
     let given = submit-given_out state index ticket command after step in
     let now = AreOnce-given state after ticket accepted settled once given in (
       All-weaker (λ t. t < state.least) (λ t. t < ticket) (λ t below. omega (arith, given.least_before)) accepted once.accepted_below,
       run-once after.0 labels last replies (accepted ++ ticket ∷ []) settled now (silent-rest after labels last replies given.reply rest),
     ))
+run-once state (Task ticket task ∷ labels) last replies accepted settled once is =
+    option_and_then_some (λ after. option_map (with_reply after.1) (solo_run after.0 labels)) (solo_step state (Task ticket task))
+    (last, replies) is (λ after step rest.
+    let given = task-given_out state ticket task after step in
+    let now = AreOnce-given state after ticket accepted settled once given in (
+      All-weaker (λ t. t < state.least) (λ t. t < ticket) (λ t below. omega (arith, given.least_before)) accepted once.accepted_below,
+      run-once after.0 labels last replies (accepted ++ ticket ∷ []) settled now (silent-rest after labels last replies given.reply rest),
+    ))
 run-once state (Carry index ∷ labels) last replies accepted settled once is =
-    option_and_then_some (λ after. option_map (with_reply after.1) (solo_run after.0 labels)) (solo_step state (Carry index)) (last, replies) is (λ after step rest.
+    option_and_then_some (λ after. option_map (with_reply after.1) (solo_run after.0 labels)) (solo_step state (Carry index)) (last, replies) is
+    (λ after step rest.
     let silent = carry-silent state index after step in
-    run-once after.0 labels last replies accepted settled (AreOnce-silent state after accepted settled once silent) (silent-rest after labels last replies silent.reply rest))
+    run-once after.0 labels last replies accepted settled (AreOnce-silent state after accepted settled once silent)
+    (silent-rest after labels last replies silent.reply rest))
 run-once state (Move index ∷ labels) last replies accepted settled once is =
-    option_and_then_some (λ after. option_map (with_reply after.1) (solo_run after.0 labels)) (solo_step state (Move index)) (last, replies) is (λ after step rest.
+    option_and_then_some (λ after. option_map (with_reply after.1) (solo_run after.0 labels)) (solo_step state (Move index)) (last, replies) is
+    (λ after step rest.
     let silent = move-silent state index after step in
-    run-once after.0 labels last replies accepted settled (AreOnce-silent state after accepted settled once silent) (silent-rest after labels last replies silent.reply rest))
+    run-once after.0 labels last replies accepted settled (AreOnce-silent state after accepted settled once silent)
+    (silent-rest after labels last replies silent.reply rest))
 run-once state (Send index ∷ labels) last replies accepted settled once is =
-    option_and_then_some (λ after. option_map (with_reply after.1) (solo_run after.0 labels)) (solo_step state (Send index)) (last, replies) is (λ after step rest.
+    option_and_then_some (λ after. option_map (with_reply after.1) (solo_run after.0 labels)) (solo_step state (Send index)) (last, replies) is
+    (λ after step rest.
     let silent = send-silent state index after step in
-    run-once after.0 labels last replies accepted settled (AreOnce-silent state after accepted settled once silent) (silent-rest after labels last replies silent.reply rest))
+    run-once after.0 labels last replies accepted settled (AreOnce-silent state after accepted settled once silent)
+    (silent-rest after labels last replies silent.reply rest))
 run-once state (Settle index ∷ labels) last replies accepted settled once is =
-    option_and_then_some (λ after. option_map (with_reply after.1) (solo_run after.0 labels)) (solo_step state (Settle index)) (last, replies) is (λ after step rest.
+    option_and_then_some (λ after. option_map (with_reply after.1) (solo_run after.0 labels)) (solo_step state (Settle index)) (last, replies) is
+    (λ after step rest.
     let told = settle-answered state index after step in
     let next = answered-rest after told.answer labels last replies told.reply rest in
     let now = AreOnce-answered state after accepted settled once told in
@@ -345,7 +429,8 @@ AreOnce-new unit = record {
 
 -- THE LAWS
 
-pub solo-once : (unit : BlockMaps) (labels : List Label) (last : SoloState) (replies : List Reply) → solo_run (solo_opening unit) labels ≡ Some (last, replies) →
+pub solo-once : (unit : BlockMaps) (labels : List Label) (last : SoloState) (replies : List Reply)
+    → solo_run (solo_opening unit) labels ≡ Some (last, replies) →
     SettlesOnce [] [] labels replies
 solo-once unit labels last replies is = run-once (solo_opening unit) labels last replies [] [] (AreOnce-new unit) is
 

@@ -117,6 +117,7 @@ opening-fits units lines some most new sound =
       data_out = refl;
       sound = sound;
       queues = record { put = command.0; got = command.1; texts = ap (λ e. e.pending) new.events };
+      engine = record { retirement = refl; commands = (ap (λ (r : Ring). r.put) new.engine, ap (λ (r : Ring). r.got) new.engine) };
       matched = opening-matched units;
       clients = λ client. clients-opening units units lines 0 client client new (omega (arith, most)) (omega arith);
       others = λ tag past. task_of-opening units tag;

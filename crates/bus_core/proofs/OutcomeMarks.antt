@@ -1,7 +1,9 @@
 -- The outcome of a step that is due in a matched state, by the place that it acts on.
 use Rattle.std.proofs.Common.{◌≡◌, ℕ, suc, ◌≤◌, cond, length, Option, Some, arith, ap, sym, subst, ◌∙◌}
 use Rattle.std.specs.Prelude.{option_and_then}
-use Rattle.solo_model.specs.TaggedTask.{moved_from, sent_from}
+use Rattle.scsi_cmd.specs.declared.Op.{Op}
+use Rattle.scsi_cmd.specs.declared.Request.TheVariants.{Execute}
+use Rattle.solo_model.specs.TaggedTask.{moved_from, moved_request, sent_from}
 use Rattle.uas_host.specs.declared.Place.{Place}
 use Rattle.uas_host.specs.Tags.{place_of}
 use Rattle.bus_core.specs.declared.Mark.TheVariants.{Move, Send}
@@ -11,7 +13,7 @@ use Rattle.bus_core.specs.Shared.{Shared, idle, is_some_of, acted_on, routed_to,
 use Rattle.bus_core.specs.Matched.{times, IsOwnMessage, IsOwnEvent}
 use Rattle.bus_core.specs.WorldDue.{marked, CommandsAreMarked, DataAreMarked, StatusesAreMarked, EventsAreQuiet}
 use Rattle.bus_core.proofs.MatchedPlaces.{one_self, and-true}
-use Rattle.bus_core.proofs.MatchedEntries.{HasSeen, event-seen}
+use Rattle.bus_core.proofs.MatchedEntries.{HasSeen, asked_op, event-seen}
 use Rattle.bus_core.proofs.MatchedSteps.{IsHeld, matched-held, carry_step-held, times_alike, times_alike-first, IsDueAt, place_fact-due, IsMovingBy, moving_phase, IsEndedBy, ended_phase}
 use Rattle.bus_core.proofs.MatchedNext.{own-message, own-event}
 
@@ -21,7 +23,7 @@ carry-marked state place rest all is =
     let own : IsOwnMessage state.parts place = own-message state place all (subst (λ ms. 1 ≤ times place ms) (sym is) (omega (arith, one_self place))) in
     let at : IsHeld state place own.entry = matched-held state place own.entry all own.held in
     ap (λ ms. (cond (is_some_of ms) (carry_step state ms) (state, idle)).1) is
-    ∙ ap (λ after. after.1) (carry_step-held state place rest at.found.part own.entry at.found.there at.found.held own.queued)
+    ∙ ap (λ after. after.1) (carry_step-held state place rest at.found.part own.entry at.found.there at.found.held at.here.sound.asks own.queued)
 
 -- an event
 pub event-marked : EventsAreQuiet
@@ -48,12 +50,14 @@ move-marked state tag place all named is_due =
     let moving : IsMovingBy at.entry.task.phase = moving_phase at.entry.task.phase (and-true (is_moving at.entry.task.phase) _ at.so).0 in
     let slot : ℕ = at.place.slot in
     let part : Part = held.found.part in
+    let asks : (op : Op) × (at.entry.task.request ≡ Execute op) = asked_op at.entry.task.request held.here.sound.asks in
     let done : (shared_step state (Data tag)).1 ≡ marked at.place.client (Move (suc slot)) =
     ap (λ b. (cond b (routed_by_tag state move_act (place_of (length state.parts) tag)) (state, idle)).1) is_due
     ∙ ap (λ p. (routed_by_tag state move_act p).1) at.named
     ∙ ap (λ found. (routed_to state at.place.client (move_act at.place) found).1) held.found.there
     ∙ ap (λ found. (acted_on state at.place.client (moved_slot part slot at.place found)).1) held.found.held
-    ∙ ap (λ phase. (acted_on state at.place.client (moved_entry part slot at.place at.entry (moved_from part.unit at.entry.task phase))).1) moving.is in
+    ∙ ap (λ phase. (acted_on state at.place.client (moved_entry part slot at.place at.entry (moved_from part.unit at.entry.task phase))).1) moving.is
+    ∙ ap (λ r. (acted_on state at.place.client (moved_entry part slot at.place at.entry (moved_request part.unit at.entry.task moving.chunk r))).1) asks.1 in
     subst (λ (p : Place). (shared_step state (Data tag)).1 ≡ marked p.client (Move (suc p.slot)))
     (same_place_named (place_of (length state.parts) tag) at.place place at.named named) done
 

@@ -1,11 +1,12 @@
 -- A world that fits a state tells that state: its cells, its clients, its messages and its events are read back.
-use Rattle.std.proofs.Common.{◌≡◌, ℕ, suc, ◌+◌, ◌-◌, ◌*◌, ◌/◌, ◌%◌, ◌<◌, ◌≤◌, true, List, [], ◌∷◌, ◌++◌, length, take, drop, map, Option, Some, None, option_map, IfSome, refl, arith, ap, ap₂, sym, subst, ◌∙◌}
-use Rattle.std.specs.Prelude.{nat_lt, slice_get, slice_index, is_some, option_and_then, unwrap_or, if◌then◌else◌}
+use Rattle.std.proofs.Common.{◌≡◌, ℕ, suc, ◌+◌, ◌-◌, ◌<◌, ◌≤◌, true, List, [], ◌∷◌, ◌++◌, length, take, drop, map, Option, Some, None}
+use Rattle.std.proofs.Common.{option_map, IfSome, refl, arith, ap, sym, subst, ◌∙◌}
+use Rattle.std.specs.Prelude.{slice_get, slice_index, is_some, option_and_then, unwrap_or}
 use Rattle.std.specs.List.{filter_map, cons_option}
 use Rattle.std.specs.Option.{option_map_or}
 use Rattle.std.proofs.lemmas.List.{get_or-take, ext_get_or, map-append, length-map}
 use Rattle.std.proofs.lemmas.List.FromFn.{length-map-range_with_len, get_or-map-range_with_len}
-use Rattle.std.proofs.lemmas.Bool.{lt-ltb, ltb-true}
+use Rattle.std.proofs.lemmas.Bool.{ltb-true}
 use Rattle.std.proofs.Math.Seq.{drop-append_seam}
 use Rattle.block_unit.specs.BlockMaps.{BlockMaps}
 use Rattle.xhci_trb.specs.declared.Trb.{Trb}
@@ -18,14 +19,14 @@ use Rattle.stream_array.specs.declared.TheConstants.{COMMAND_RING_PLACES}
 use Rattle.scsi_cmd.specs.declared.Direction.{Direction}
 use Rattle.scsi_cmd.specs.declared.Direction.TheVariants.{Nothing, ToHost, ToDevice}
 use Rattle.scsi_cmd.specs.declared.Request.{Request}
-use Rattle.scsi_cmd.specs.declared.Request.TheVariants.{Execute}
+use Rattle.scsi_cmd.specs.declared.Request.TheVariants.{Execute, Manage}
 use Rattle.scsi_cmd.specs.declared.TheConstants.{TAGS}
 use Rattle.scsi_cmd.specs.Held.{held_at}
 use Rattle.device_server.specs.declared.Answer.{Answer}
 use Rattle.device_server.specs.declared.Answer.TheVariants.{Good, Check}
 use Rattle.device_server.specs.declared.Progress.TheVariants.{Moving, Ended}
 use Rattle.solo_model.specs.declared.Phase.{Phase}
-use Rattle.solo_model.specs.declared.Phase.TheVariants.{Queued, Begun, Sent}
+use Rattle.solo_model.specs.declared.Phase.TheVariants.{Queued, Begun, Sent, Gone}
 use Rattle.uas_iu.specs.Units.{unit_text}
 use Rattle.uas_host.specs.declared.Place.{Place}
 use Rattle.uas_host.specs.declared.TdState.{TdState}
@@ -44,14 +45,17 @@ use Rattle.bus_core.specs.Part.{Part}
 use Rattle.bus_core.specs.Bus.{IsPlace}
 use Rattle.bus_core.specs.Shared.{Shared, request_direction}
 use Rattle.bus_core.specs.Wire.{answer_text}
-use Rattle.bus_core.specs.Hosts.{phase_task, asked_by, device_task, told_answer, phase_by, HasTaken}
-use Rattle.bus_core.specs.Matched.{times, under, held_in, carried_places, IsOwnEvent, request_bytes, IsCommandTd, IsMatchedEntry, IsMatched}
+use Rattle.bus_core.specs.Hosts.{phase_task, device_task, told_answer, phase_by, HasTaken}
+use Rattle.bus_core.specs.Matched.{times, under, held_in, carried_places, IsOwnEvent, request_bytes, IsCommandRequest, IsCommandTd, IsMatchedEntry, IsMatched}
 use Rattle.bus_core.specs.World.{World, Cell, cell_at}
-use Rattle.bus_core.specs.Cells.{state_of, host_side, HoldsIn, HoldsTd, HoldsData, data_in_td, data_out_td, HasAnswerIn, FitsCell, FitsHeld}
+use Rattle.bus_core.specs.Cells.{state_of, host_side, HoldsIn, HoldsTd, HoldsData, data_in_td, data_out_td, HasAnswerIn, FitsCell, FitsHeld, host_request}
 use Rattle.bus_core.specs.Fits.{command_trb, event_texts, place_in, FitsPart, FitsClient, Fits}
-use Rattle.bus_core.specs.Decoded.{message_in, decoded_messages, completion_on, completion_of_td, completion_of, decoded_events, consumed_in, decoded_td, data_ring}
+use Rattle.bus_core.specs.Decoded.{message_in, decoded_messages, completion_on, completion_of_td, completion_of, decoded_events, consumed_in, decoded_td}
+use Rattle.bus_core.specs.Decoded.{asked_for}
+use Rattle.bus_core.specs.Decoded.{data_ring}
 use Rattle.bus_core.specs.Decoded.{decoded_held, decoded_cell, decoded_slot, decoded_entries, decoded_part, decoded_parts}
 use Rattle.bus_core.specs.WorldSteps.{WorldReadsBack}
+use Rattle.bus_core.proofs.HostSees.{place_of-tag_of}
 use Rattle.bus_core.proofs.MatchedNext.{times-member, times_alike-member, own-event, matched-no_stray, matched-counted}
 use Rattle.bus_core.proofs.EventTds.{length-data_trbs, data_trbs-count, moved-goes, command_tag-trb, tag_of-most, IsStreamText, IsDataText, HasDataText}
 use Rattle.bus_core.proofs.EventTds.{status_text, status_residual, data_text, command_text, data_text-waits, status_text-waits, command_text-waits}
@@ -82,13 +86,16 @@ phase-taken Queued td is = ap (λ (t : Td). t.consumed) is
 phase-taken (Begun (Moving chunk)) td is = is
 phase-taken (Begun (Ended answer)) td is = is
 phase-taken (Sent answer) td is = is
+phase-taken Gone td is = is
 
-phase_by-back : (client tag taken : ℕ) (request : Request) (phase : Phase) (bytes : List ℕ) → HasTaken phase taken → HasAnswerIn phase tag bytes
-    → phase_by (phase_task (Some client) (asked_by request) phase) taken bytes ≡ phase
-phase_by-back client tag taken request Queued bytes is told = rw is refl
-phase_by-back client tag taken (Execute op) (Begun (Moving chunk)) bytes is told = refl
-phase_by-back client tag taken request (Begun (Ended answer)) bytes is told = refl
-phase_by-back client tag taken request (Sent answer) bytes is told = rw is (ap Sent (told_answer-begins tag answer bytes told))
+phase_by-back : (client tag taken : ℕ) (request : Request) (phase : Phase) (bytes : List ℕ) → IsCommandRequest request → HasTaken phase taken
+    → HasAnswerIn phase tag bytes → phase_by (phase_task (Some client) request phase) taken bytes ≡ phase
+phase_by-back client tag taken request Queued bytes command is told = rw is refl
+phase_by-back client tag taken (Execute op) (Begun (Moving chunk)) bytes command is told = refl
+phase_by-back client tag taken (Execute op) (Begun (Ended answer)) bytes command is told = refl
+phase_by-back client tag taken (Manage what noted) (Begun progress) bytes command is told = absurd command
+phase_by-back client tag taken request Gone bytes command is told = absurd is
+phase_by-back client tag taken request (Sent answer) bytes command is told = rw is (ap Sent (told_answer-begins tag answer bytes told))
 
 -- A STREAM'S TD
 
@@ -123,6 +130,10 @@ length-data_td tag request =
 
 -- ONE CELL
 
+asked_for-back : (request : Request) → asked_for (host_request request) ≡ request
+asked_for-back (Execute op) = refl
+asked_for-back (Manage what noted) = refl
+
 -- by the number of its messages, of which a command TD has one less the TRBs that were taken
 decoded_held-back : (client count waiting : ℕ) (place : Place) (entry : Entry) (cell : Cell) → FitsCell client count place entry cell → IsMatchedEntry entry
     → entry.command_td.consumed + waiting ≡ 1 → decoded_held waiting cell (host_side entry) ≡ entry
@@ -132,18 +143,20 @@ decoded_held-back client count waiting place entry cell fits matched counted =
     ap (λ t. phase_by t (1 - waiting) cell.buffers.status) fits.task
     ∙ ap (λ n. phase_by (device_task client entry) n cell.buffers.status) command
     ∙ phase_by-back client (tag_of place) entry.command_td.consumed entry.task.request entry.task.phase cell.buffers.status
-    (phase-taken entry.task.phase entry.command_td matched.command) fits.answer in
+    matched.asks (phase-taken entry.task.phase entry.command_td matched.command) fits.answer in
     let buffer : unwrap_or cell.buffers.lent [] ≡ entry.task.buffer = ap (λ o. unwrap_or o []) fits.lent in
     let status : decoded_td 1 cell.status entry.status_td.state ≡ entry.status_td =
     decoded_td-back cell.status (status_td (tag_of place)) entry.status_td 1 refl fits.status in
-    let moved : option_map (decoded_td (trbs_of entry.task.request) (data_ring (request_direction entry.task.request) cell)) (option_map state_of entry.data_td)
-    ≡ entry.data_td =
-    decoded_way-back (request_direction entry.task.request) cell (data_td (tag_of place) (request_bytes entry.task.request)) entry.data_td
+    let asks : asked_for (host_request entry.task.request) ≡ entry.task.request = asked_for-back entry.task.request in
+    let moved : option_map (decoded_td (trbs_of (asked_for (host_request entry.task.request)))
+    (data_ring (request_direction (asked_for (host_request entry.task.request))) cell)) (option_map state_of entry.data_td) ≡ entry.data_td =
+    ap (λ r. option_map (decoded_td (trbs_of r) (data_ring (request_direction r) cell)) (option_map state_of entry.data_td)) asks
+    ∙ decoded_way-back (request_direction entry.task.request) cell (data_td (tag_of place) (request_bytes entry.task.request)) entry.data_td
     (trbs_of entry.task.request) (length-data_td (tag_of place) entry.task.request)
     (λ there. moved-goes entry.task.request (ltb-true 0 (request_bytes entry.task.request) (sym matched.moves ∙ there)))
     fits.data_in fits.data_out in
     (λ i. record {
-      task = record { ticket = entry.task.ticket; request = entry.task.request; buffer = buffer i; phase = phase i };
+      task = record { ticket = entry.task.ticket; request = asks i; buffer = buffer i; phase = phase i };
       command_td = record { state = entry.command_td.state; consumed = command i };
       status_td = status i;
       data_td = moved i;
@@ -249,17 +262,6 @@ clients-are state world all =
     subst (λ n. FitsClient world n (slice_get world.device.units k) (slice_get world.host.clients k) (slice_get state.parts k)) same (all.clients k))
 
 -- MESSAGES
-
--- a place that is there is the one that its tag names
-pub place_of-tag_of : (clients : ℕ) (place : Place) → IsPlace clients place → place_of clients (tag_of place) ≡ Some place
-place_of-tag_of clients place there =
-    let slot_within = there.slot in
-    let tag : tag_of place ≡ suc (place.client * TAGS + place.slot) = omega arith in
-    let client : (place.client * TAGS + place.slot) / TAGS ≡ place.client = omega arith in
-    let slot : (place.client * TAGS + place.slot) % TAGS ≡ place.slot = omega arith in
-    ap (place_of clients) tag
-    ∙ ap₂ (λ c s. if nat_lt c clients then Some (record { client = c; slot = s }) else None) client slot
-    ∙ ap (λ b. if b then Some place else None) (lt-ltb place.client clients there.client)
 
 message_in-back : (clients : ℕ) (place : Place) → clients ≤ 31 → IsPlace clients place → message_in clients (command_trb place) ≡ Some place
 message_in-back clients place few there =

@@ -1,5 +1,6 @@
 -- What a submission is refused for.
-use Rattle.std.proofs.Common.{◌≡◌, ℕ, zero, suc, ◌<◌, ◌≤◌, ◌/◌, ◌%◌, true, false, cond, List, [], ◌∷◌, Option, Some, None, option_map, refl, arith, ap, sym, ◌∙◌, subst, rules}
+use Rattle.std.proofs.Common.{◌≡◌, ℕ, zero, suc, ◌<◌, ◌≤◌, ◌/◌, ◌%◌, true, false, cond, List, [], ◌∷◌, Option, Some, None, option_map, refl, arith, ap, sym}
+use Rattle.std.proofs.Common.{◌∙◌, subst, rules}
 use Rattle.std.specs.Prelude.{nat_lt, ◌==◌, ◌&&◌, length, slice_get, is_some}
 use Rattle.std.specs.Option.{option_map_or}
 use Rattle.std.proofs.lemmas.Option.{none-some, cond_some, option_and_then_some, some_pair_parts}
@@ -82,15 +83,17 @@ shared_fault part ticket command (Some slot) = option_map_or (λ (p : Part). fau
 not_yours : (clients client tag ticket : ℕ) (own : SoloState) (command : Command) → command_slot clients client tag ≡ None →
     own_fault clients own client tag ticket command ≡ Some NotYours
 not_yours clients client tag ticket own command none =
-    elim (nat_lt client clients) as (λ b. nat_lt client clients ≡ b → cond b (solo_fault own (own_tag client tag) ticket command) (Some NotYours) ≡ Some NotYours) [
+    elim (nat_lt client clients) as
+    (λ b. nat_lt client clients ≡ b → cond b (solo_fault own (own_tag client tag) ticket command) (Some NotYours) ≡ Some NotYours) [
       | false ↦ λ is. refl
       | true ↦ λ there. elim (own_tag client tag) as (λ index. own_tag client tag ≡ index → solo_fault own index ticket command ≡ Some NotYours) [
         | zero ↦ λ index. refl
-        | suc slot ↦ λ index. elim (nat_lt slot 7) as (λ b. nat_lt slot 7 ≡ b → first_submit_fault b (is_some (held_under own.tasks (suc slot))) own.least ticket command ≡ Some NotYours) [
-          | false ↦ λ is. refl
-          | true ↦ λ within. absurd (none-some slot (sym none
-              ∙ own-command_slot clients client tag slot (record { there = ltb-true _ _ there; within = ltb-true _ _ within; index = index })))
-        ] refl
+        | suc slot ↦ λ index. elim (nat_lt slot 7) as
+            (λ b. nat_lt slot 7 ≡ b → first_submit_fault b (is_some (held_under own.tasks (suc slot))) own.least ticket command ≡ Some NotYours) [
+              | false ↦ λ is. refl
+              | true ↦ λ within. absurd (none-some slot (sym none
+                  ∙ own-command_slot clients client tag slot (record { there = ltb-true _ _ there; within = ltb-true _ _ within; index = index })))
+            ] refl
       ] refl
     ] refl
 
@@ -107,7 +110,8 @@ slot_fault state client tag ticket slot command (Some part) found own =
     let there : nat_lt client (length state.parts) ≡ true = lt-ltb _ _ own.there in
     let within : nat_lt slot 7 ≡ true = lt-ltb _ _ own.within in
     let index = own.index in
-    rw (there, index, within, held_at-solo_of part.entries slot) (ap (λ b. first_submit_fault true b part.least ticket command) (is_some-own_task (held_at part.entries slot)))
+    rw (there, index, within, held_at-solo_of part.entries slot)
+    (ap (λ b. first_submit_fault true b part.least ticket command) (is_some-own_task (held_at part.entries slot)))
 
 -- the shared machine's fault is the client's own
 pub own_fault-shared : (state : Shared) (client tag ticket : ℕ) (command : Command) (slot : Option ℕ) → command_slot (length state.parts) client tag ≡ slot →
@@ -145,7 +149,8 @@ submit-unchanged state client tag ticket command fault is =
 -- OVER WHOLE REPLAYS
 
 -- a client's own submission was refused as its own state has it
-pub refused-own : (state : Shared) (client : ℕ) (step : Step) → RefusedAsOwn (length state.parts) client (own_state state client) step (shared_step state step).1
+pub refused-own : (state : Shared) (client : ℕ) (step : Step)
+    → RefusedAsOwn (length state.parts) client (own_state state client) step (shared_step state step).1
 refused-own state client (Submit owner tag ticket command) = λ same.
     rw (← same) (submit-refused state owner tag ticket command)
 refused-own state client CommandPipe = tt
@@ -167,7 +172,8 @@ replayed-refused state client (step ∷ steps) =
     let P : ℕ → Type 0 = λ n. AllRefusedAsOwn n client (own_state after.0 client) steps (replayed after.0 steps).1 in (
       refused-own state client step,
       own_state after.0 client,
-      after_label-is (own_state state client) (own_state after.0 client) (own_label client step after.1) (own_reply client after.1) (shared_step-own client state step),
+      after_label-is (own_state state client) (own_state after.0 client) (own_label client step after.1) (own_reply client after.1)
+          (shared_step-own client state step),
       subst P (length-parts state step) (replayed-refused after.0 client steps),
     )
 

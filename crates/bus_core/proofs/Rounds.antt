@@ -1,11 +1,13 @@
 -- A round, one try after another.
-use Rattle.std.proofs.Common.{◌≡◌, ℕ, zero, suc, ◌+◌, ◌-◌, false, List, [], ◌∷◌, ◌++◌, map, add-one, refl, arith, ap, sym, ◌∙◌}
+use Rattle.std.proofs.Common.{◌≡◌, ℕ, zero, suc, ◌+◌, ◌-◌, ◌*◌, ◌<◌, ◌≤◌, false, List, [], ◌∷◌, ◌++◌, map, add-one, refl, arith, ap, sym, subst, length, ◌∙◌, rules}
 use Rattle.std.specs.Prelude.{◌==◌}
 use Rattle.std.specs.List.{range_with_len}
 use Rattle.bus_core.specs.declared.Step.{Step}
 use Rattle.bus_core.specs.declared.Step.TheVariants.{CommandPipe, Data, Status, Event}
-use Rattle.bus_core.specs.Shared.{Shared}
-use Rattle.bus_core.specs.Drain.{tried, tried_one, round, rounds}
+use Rattle.bus_core.specs.Shared.{Shared, due}
+use Rattle.scsi_cmd.specs.declared.TheConstants.{TAGS}
+use Rattle.bus_core.specs.Drain.{all_tags, tried, tried_one, tries, round, rounds}
+use Rattle.bus_core.proofs.Drains.{tried-left, tried-parts, tried_one-parts}
 use Rattle.std.proofs.lemmas.Bool.{ne_eqb}
 
 pub tried-append : (now : Shared × ℕ) (steps more : List Step) → tried now (steps ++ more) ≡ tried (tried now steps) more
@@ -29,12 +31,62 @@ round-parts now count data_done after data-is status-is =
     status-is ∙ ap (λ s. tried s (map Status (range_with_len 1 count))) data-is
     ∙ sym (tried-append now (CommandPipe ∷ Event ∷ [] ++ map Data (range_with_len 1 count)) (map Status (range_with_len 1 count)))
 
+-- a round by its four parts, each of which knows its own number of tags
+pub round-by : (now one two three four : Shared × ℕ) → one ≡ tried_one now CommandPipe → two ≡ tried_one one Event
+    → three ≡ tried two (map Data (all_tags (length two.0.parts))) → four ≡ tried three (map Status (all_tags (length three.0.parts))) → four ≡ round now
+round-by now one two three four command event data_tries statuses =
+    let clients : ℕ = length now.0.parts in
+    let first : length one.0.parts ≡ clients = ap (λ (s : Shared × ℕ). length s.0.parts) command ∙ tried_one-parts now CommandPipe in
+    let second : length two.0.parts ≡ clients = ap (λ (s : Shared × ℕ). length s.0.parts) event ∙ tried_one-parts one Event ∙ first in
+    let third : length three.0.parts ≡ clients =
+    ap (λ (s : Shared × ℕ). length s.0.parts) data_tries ∙ tried-parts two (map Data (all_tags (length two.0.parts))) ∙ second in
+    let begun : two ≡ tried_one (tried_one now CommandPipe) Event = event ∙ ap (λ s. tried_one s Event) command in
+    round-parts now (clients * TAGS) three four
+    (data_tries ∙ ap (λ k. tried two (map Data (all_tags k))) second ∙ ap (λ s. tried s (map Data (all_tags clients))) begun)
+    (statuses ∙ ap (λ k. tried three (map Status (all_tags k))) third)
+
+pub round-left : (now after : Shared × ℕ) → after ≡ round now → after.1 ≤ now.1
+round-left now after is = subst (λ (s : Shared × ℕ). s.1 ≤ now.1) (sym is) (tried-left now (tries (length now.0.parts)))
+
 -- one more tag was tried
 pub tried-next : (kind : ℕ → Step) (now : Shared × ℕ) (count : ℕ) (at after : Shared × ℕ) → at ≡ tried now (map kind (range_with_len 1 count)) → after ≡ tried_one at (kind (count + 1)) →
     after ≡ tried now (map kind (range_with_len 1 (count + 1)))
 tried-next kind now count at after at-is after-is =
     let e : 1 + count ≡ count + 1 = omega arith in
     rw add-one (after-is ∙ ap (λ n. tried_one n (kind (count + 1))) at-is ∙ ap (λ n. tried_one (tried now (map kind (range_with_len 1 count))) (kind n)) (sym e) ∙ sym (tried-suc kind now count 1))
+
+-- a try that isn't due leaves all as it is
+pub tried_one-quiet : (now : Shared × ℕ) (step : Step) → due now.0 step ≡ false → tried_one now step ≡ now
+tried_one-quiet now step rests = search (rules, rests)
+
+-- so do those of tags that aren't due
+pub tried-skip : (kind : ℕ → Step) (now : Shared × ℕ) (count more : ℕ) (at : Shared × ℕ) → at ≡ tried now (map kind (range_with_len 1 count))
+    → ((other : ℕ) → count < other → other < suc (count + more) → due at.0 (kind other) ≡ false) → at ≡ tried now (map kind (range_with_len 1 (count + more)))
+tried-skip kind now count zero at is quiet = let same : count ≡ count + 0 = omega arith in is ∙ ap (λ n. tried now (map kind (range_with_len 1 n))) same
+tried-skip kind now count (suc more) at is quiet =
+    let so_far = tried-skip kind now count more at is (λ other above below. quiet other above (omega arith)) in
+    let same : count + more + 1 ≡ count + suc more = omega arith in
+    tried-next kind now (count + more) at at so_far (sym (tried_one-quiet at (kind (count + more + 1)) (quiet (count + more + 1) (omega arith) (omega arith))))
+    ∙ ap (λ n. tried now (map kind (range_with_len 1 n))) same
+
+-- the next tag that is tried, and those before it that aren't due
+pub tried-on : (kind : ℕ → Step) (now : Shared × ℕ) (count next : ℕ) (at after : Shared × ℕ) → at ≡ tried now (map kind (range_with_len 1 count)) → count < next
+    → ((other : ℕ) → count < other → other < next → due at.0 (kind other) ≡ false) → after ≡ tried_one at (kind next) → after ≡ tried now (map kind (range_with_len 1 next))
+tried-on kind now count next at after is above quiet after-is =
+    let more : ℕ = next - 1 - count in
+    let before : suc (count + more) ≡ next = omega arith in
+    let last : count + more + 1 ≡ next = omega arith in
+    let so_far = tried-skip kind now count more at is (λ other low high. quiet other low (omega (arith, high, before))) in
+    tried-next kind now (count + more) at after so_far (after-is ∙ ap (λ n. tried_one at (kind n)) (sym last))
+    ∙ ap (λ n. tried now (map kind (range_with_len 1 n))) last
+
+-- no further tag is due
+pub tried-off : (kind : ℕ → Step) (now : Shared × ℕ) (count all : ℕ) (at : Shared × ℕ) → at ≡ tried now (map kind (range_with_len 1 count)) → count ≤ all
+    → ((other : ℕ) → count < other → other < suc all → due at.0 (kind other) ≡ false) → at ≡ tried now (map kind (range_with_len 1 all))
+tried-off kind now count all at is within quiet =
+    let whole : count + (all - count) ≡ all = omega arith in
+    tried-skip kind now count (all - count) at is (λ other low high. quiet other low (omega (arith, high, whole)))
+    ∙ ap (λ n. tried now (map kind (range_with_len 1 n))) whole
 
 -- a round that isn't the last
 pub rounds-on : (more : ℕ) (now : Shared × ℕ) → ((round now).1 == 0) ≡ false → ((round now).1 == now.1) ≡ false → rounds (suc (suc more)) now ≡ rounds (suc more) (round now)

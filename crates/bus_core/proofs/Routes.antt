@@ -16,7 +16,8 @@ use Rattle.bus_core.specs.declared.Mark.TheVariants.{Quiet}
 use Rattle.bus_core.specs.declared.Outcome.{Outcome}
 use Rattle.uas_host.specs.Tags.{place_of, own_slot, command_slot}
 use Rattle.bus_core.specs.Part.{Part, Act, fault_at, submitted_part, carry_act, move_act, send_act, event_act, event_place, take_act}
-use Rattle.bus_core.specs.Shared.{Shared, idle, unmoved, refusal, due, acted_on, routed, routed_to, routed_by_tag, accepted, answered, submitted_to, submitted_under, carry_step, event_step, due_step, shared_step}
+use Rattle.bus_core.specs.Shared.{Shared, idle, unmoved, refusal, due, acted_on, routed, routed_to, routed_by_tag, accepted, answered, submitted_to}
+use Rattle.bus_core.specs.Shared.{submitted_under, carry_step, event_step, due_step, shared_step}
 use Rattle.bus_core.specs.Isolation.{label_of, own_label, own_reply, renumbered, solo_of, own_state}
 use Rattle.bus_core.proofs.Acts.{solo_try, IsOwnAct, carry_act-own, move_act-own, send_act-own, event_act-own, take_act-own, submitted_part-own}
 
@@ -28,13 +29,15 @@ IsOwnStep client step old after =
 -- PLACES OF A LIST
 
 -- what was written is there
-pub slice_get-slice_set_same : {T : Type 0} (list : List T) (at : ℕ) (was now : T) → slice_get list at ≡ Some was → slice_get (slice_set list at now) at ≡ Some now
+pub slice_get-slice_set_same : {T : Type 0} (list : List T) (at : ℕ) (was now : T) → slice_get list at ≡ Some was
+    → slice_get (slice_set list at now) at ≡ Some now
 slice_get-slice_set_same [] at was now is = absurd (none-some was is)
 slice_get-slice_set_same (first ∷ rest) zero was now is = refl
 slice_get-slice_set_same (first ∷ rest) (suc at) was now is = slice_get-slice_set_same rest at was now is
 
 -- elsewhere a write changes nothing
-pub slice_get-slice_set_other : {T : Type 0} (list : List T) (at other : ℕ) (now : T) → (at ≡ other → ⊥) → slice_get (slice_set list at now) other ≡ slice_get list other
+pub slice_get-slice_set_other : {T : Type 0} (list : List T) (at other : ℕ) (now : T) → (at ≡ other → ⊥)
+    → slice_get (slice_set list at now) other ≡ slice_get list other
 slice_get-slice_set_other [] at other now apart = refl
 slice_get-slice_set_other (first ∷ rest) zero zero now apart = absurd (apart refl)
 slice_get-slice_set_other (first ∷ rest) zero (suc other) now apart = refl
@@ -149,7 +152,8 @@ due_step-own client old (Submit owner tag ticket command) =
     submitted_under-own client old owner tag ticket command (place_of (length old.parts) tag) (command_slot (length old.parts) owner tag) refl
 due_step-own client old CommandPipe = carry_step-own client CommandPipe old old.messages
 due_step-own client old (Data tag) = routed_by_tag-own client (Data tag) old move_act (place_of (length old.parts) tag) (λ owner. move_act-own owner (Data tag))
-due_step-own client old (Status tag) = routed_by_tag-own client (Status tag) old send_act (place_of (length old.parts) tag) (λ owner. send_act-own owner (Status tag))
+due_step-own client old (Status tag) = routed_by_tag-own client (Status tag) old send_act (place_of (length old.parts) tag)
+    (λ owner. send_act-own owner (Status tag))
 due_step-own client old Event = event_step-own client Event old old.events
 due_step-own client old (Take owner) = routed-own client (Take owner) old owner (take_act owner) (take_act-own owner (Take owner))
 

@@ -1,5 +1,6 @@
 -- An event of the command pipe is seen: the oldest TRB of its ring is free again, and the world after it fits.
-use Rattle.std.proofs.Common.{◌≡◌, ℕ, zero, suc, ◌+◌, ◌*◌, ◌%◌, ◌≤◌, true, false, cond, List, [], ◌∷◌, ◌++◌, take, drop, length, length-set, map, Some, None, refl, arith, ap, sym, subst, ◌∙◌}
+use Rattle.std.proofs.Common.{◌≡◌, ℕ, zero, suc, ◌+◌, ◌*◌, ◌%◌, ◌≤◌, true, false, cond, List, [], ◌∷◌, ◌++◌, take, drop, length, length-set, map, Some, None}
+use Rattle.std.proofs.Common.{refl, arith, ap, sym, subst, ◌∙◌}
 use Rattle.std.specs.Prelude.{slice_get, option_and_then}
 use Rattle.std.specs.Option.{option_map_or}
 use Rattle.std.proofs.lemmas.List.{append-nil}
@@ -49,12 +50,14 @@ is_awaited-trb : (host : HostState) (place : Place) (held : HostEntry) → tag_o
     → held_at (client_of host place.client).entries place.slot ≡ Some held → is_awaited_by host (command_trb place) ≡ is_host_pending held.command_td
 is_awaited-trb host place held most there is =
     ap (λ tag. option_map_or (awaits_command host) tag false) (command_tag-trb place most)
-    ∙ ap (λ at. option_map_or (λ (h : HostEntry). is_host_pending h.command_td) (option_and_then (λ (p : Place). held_at (client_of host p.client).entries p.slot) at) false)
+    ∙ ap (λ at. option_map_or (λ (h : HostEntry). is_host_pending h.command_td)
+    (option_and_then (λ (p : Place). held_at (client_of host p.client).entries p.slot) at) false)
     (place_of-tag_of (length host.clients) place there)
     ∙ ap (λ h. option_map_or (λ (h : HostEntry). is_host_pending h.command_td) h false) is
 
 -- the first TRB is freed, and the next stays
-done_before-next : (host : HostState) (n : ℕ) (places : List Place) → ((place : Place) → slice_get places 0 ≡ Some place → is_awaited_by host (command_trb place) ≡ true)
+done_before-next : (host : HostState) (n : ℕ) (places : List Place)
+    → ((place : Place) → slice_get places 0 ≡ Some place → is_awaited_by host (command_trb place) ≡ true)
     → done_before host (take n (map command_trb places)) ≡ 0
 done_before-next host zero places waits = refl
 done_before-next host (suc n) [] waits = refl
@@ -82,6 +85,7 @@ after_command world place entry = seen_world world (command_lines world) place (
 command-frees : (state : Shared) (world : World) (place : Place) (rest : List Completion) (at : IsSeenAt state world (CommandDone place) rest)
     → FreesOne world (command_lines world) place (command_seen at.entry)
 command-frees state world place rest at = record {
+  engine = refl;
   status_others = λ tag some apart. refl;
   data_in_others = λ tag some apart. refl;
   data_out_others = λ tag some apart. refl;
@@ -94,7 +98,8 @@ command-frees state world place rest at = record {
 shifted : (at base i : ℕ) → base + 16 * (((at + 1) % 510 + i) % 255) ≡ base + 16 * ((at + (1 + i)) % 255)
 shifted at base i = omega arith
 
-command-queues : (state : Shared) (world : World) (place : Place) (rest : List Completion) (at : IsSeenAt state world (CommandDone place) rest) → Fits state world
+command-queues : (state : Shared) (world : World) (place : Place) (rest : List Completion) (at : IsSeenAt state world (CommandDone place) rest)
+    → Fits state world
     → FitsQueues (seen_state state place at.part (command_seen at.entry) rest) (after_command world place at.entry)
 command-queues state world place rest at fits =
     let after : World = after_command world place at.entry in
@@ -103,7 +108,8 @@ command-queues state world place rest at fits =
     let got : world.lines.command.got ≡ suc (length (carried_places rest)) = fits.queues.got ∙ ap (λ es. length (carried_places es)) at.is in
     let within : AreWithin (CommandDone place ∷ rest) = subst AreWithin at.is (events-within state fits.matched) in
     let reads = one-reads world after place rest at.is_place.slot within.1
-    (seen-others state world (CommandDone place) rest (command_lines world) (command_seen at.entry) at (command-frees state world place rest at)) (λ some. (refl, refl)) (λ some. (refl, refl)) in
+    (seen-others state world (CommandDone place) rest (command_lines world) (command_seen at.entry) at (command-frees state world place rest at))
+    (λ some. (refl, refl)) (λ some. (refl, refl)) in
     record {
       put = ap (λ (ts : List Trb). drop 1 ts) put ∙ ap (λ es. map command_trb (carried_places es ++ state.messages)) same;
       got = omega (arith, got, ap (λ es. length (carried_places es)) same);
@@ -123,8 +129,10 @@ there-after state world place other entry fits there =
     subst (λ n. IsPlace n other) (sym long) there
 
 -- another TRB of the command pipe is still awaited
-next-awaited : (state : Shared) (world : World) (place : Place) (rest : List Completion) (at : IsSeenAt state world (CommandDone place) rest) (next : Place) → Fits state world
-    → slice_get (carried_places rest ++ state.messages) 0 ≡ Some next → is_awaited_by (host_with world.host place (command_seen at.entry)) (command_trb next) ≡ true
+next-awaited : (state : Shared) (world : World) (place : Place) (rest : List Completion) (at : IsSeenAt state world (CommandDone place) rest)
+    (next : Place) → Fits state world
+    → slice_get (carried_places rest ++ state.messages) 0 ≡ Some next
+    → is_awaited_by (host_with world.host place (command_seen at.entry)) (command_trb next) ≡ true
 next-awaited state world place rest at next fits is =
     let first : pipe_places state ≡ place ∷ (carried_places rest ++ state.messages) = ap (λ es. carried_places es ++ state.messages) at.is in
     let once = (matched-once state fits.matched place).command in
@@ -140,8 +148,10 @@ next-awaited state world place rest at next fits is =
     let slot : next.slot ≡ place.slot = omega arith in
     let one : next ≡ place = λ i. record { client = client i; slot = slot i } in
     omega (arith, none, some, ap (λ p. times p (carried_places rest ++ state.messages)) one) in
-    let kept = seen-others state world (CommandDone place) rest (command_lines world) (command_seen at.entry) at (command-frees state world place rest at) next.client next.slot inside apart in
-    is_awaited-trb (host_with world.host place (command_seen at.entry)) next (host_side other.entry) cell.tag (there-after state world place next (command_seen at.entry) fits there)
+    let kept = seen-others state world (CommandDone place) rest (command_lines world) (command_seen at.entry) at
+    (command-frees state world place rest at) next.client next.slot inside apart in
+    is_awaited-trb (host_with world.host place (command_seen at.entry)) next (host_side other.entry) cell.tag
+    (there-after state world place next (command_seen at.entry) fits there)
     (ap (λ (c : Cell). c.held) kept ∙ cell.fits.held)
     ∙ ap is_host_pending other.pending
 
@@ -150,7 +160,8 @@ first-seen : (state : Shared) (world : World) (place : Place) (rest : List Compl
 first-seen state world place rest at fits =
     is_awaited-trb (host_with world.host place (command_seen at.entry)) place (host_side (command_seen at.entry)) at.most
     (there-after state world place place (command_seen at.entry) fits at.is_place)
-    (seen-cell state world (CommandDone place) rest (command_lines world) at (with_event_seen at.entry.command_td) at.entry.status_td at.entry.data_td fits
+    (seen-cell state world (CommandDone place) rest (command_lines world) at
+    (with_event_seen at.entry.command_td) at.entry.status_td at.entry.data_td fits at.cell.answerable
     (command-frees state world place rest at)).held
 
 one-done : (state : Shared) (world : World) (place : Place) (rest : List Completion) (at : IsSeenAt state world (CommandDone place) rest) → Fits state world
@@ -178,15 +189,22 @@ command-fits state world place rest fits is =
     let there : IsPlace (length world.host.clients) place =
     subst (λ n. IsPlace n place) (sym (clients-length world state.parts fits.clients)) at.is_place in
     let ended = command_text-waits state world 0 place fits (ap (λ es. slice_get (carried_places es) 0) is) in
-    let does = handled-is world place at.entry (command_seen at.entry) CommandPipe (pointer_of COMMAND_RING_PLACES world.lines.command 0) 0 SUCCESS CommandSeen there at.cell.held ended
+    let does = handled-is world place at.entry (command_seen at.entry) CommandPipe
+    (pointer_of COMMAND_RING_PLACES world.lines.command 0) 0 SUCCESS CommandSeen refl there at.cell.held ended
     refl (command_seen-side at.entry (awaited-pends at.entry.command_td 1 at.awaits))
-    ∙ ap (λ n. (record { host = host_with world.host place (command_seen at.entry); lines = with_commands_freed (without_event world.lines) n }, Matched (tag_of place)))
+    ∙ ap (λ n. (
+      record { host = host_with world.host place (command_seen at.entry); lines = with_commands_freed (without_event world.lines) n },
+      Matched
+          (tag_of place),
+    ))
     (one-done state world place rest at fits) in (
       command_text world,
       ap (λ (es : List Event). slice_get es 0) (fits.queues.texts ∙ ap (event_texts world 0) is),
       event-done state world (command_text world) (CommandDone place) rest (command_lines world) (command_seen at.entry) does
-          (event-fits state world (CommandDone place) rest (command_lines world) at (with_event_seen at.entry.command_td) at.entry.status_td at.entry.data_td fits
-          (ap (λ b. cond b (Some (command_seen at.entry)) None) at.awaits) (command-frees state world place rest at) (command-queues state world place rest at fits)),
+          (event-fits state world (CommandDone place) rest (command_lines world) at
+          (with_event_seen at.entry.command_td) at.entry.status_td at.entry.data_td fits at.cell.answerable
+          (ap (λ b. cond b (Some (command_seen at.entry)) None) at.awaits) (command-frees state world place rest at)
+          (command-queues state world place rest at fits)),
     )
 
 -- EVERY EVENT

@@ -1,5 +1,6 @@
 -- An event of a stream is seen: its TD's ring is free again, and the world after it fits.
-use Rattle.std.proofs.Common.{◌≡◌, ℕ, ◌+◌, ◌-◌, ◌<◌, ◌≤◌, true, cond, List, [], ◌∷◌, ◌++◌, drop, length, map, Option, Some, None, refl, arith, ap, sym, subst, ◌∙◌}
+use Rattle.std.proofs.Common.{◌≡◌, ℕ, ◌+◌, ◌-◌, ◌<◌, ◌≤◌, true, cond, List, [], ◌∷◌, ◌++◌, drop, length, map, Option, Some, None, refl, arith, ap, sym, subst}
+use Rattle.std.proofs.Common.{◌∙◌}
 use Rattle.std.specs.Prelude.{slice_get, slice_set, ◌==◌}
 use Rattle.std.proofs.Math.Seq.{drop-length}
 use Rattle.std.proofs.lemmas.Bool.{eqb-true, false≢true}
@@ -15,7 +16,7 @@ use Rattle.scsi_cmd.specs.declared.Direction.TheVariants.{Nothing, ToHost, ToDev
 use Rattle.device_server.specs.declared.Answer.{Answer}
 use Rattle.device_server.specs.declared.Answer.TheVariants.{Good, Check}
 use Rattle.solo_model.specs.declared.Phase.{Phase}
-use Rattle.solo_model.specs.declared.Phase.TheVariants.{Queued, Begun, Sent}
+use Rattle.solo_model.specs.declared.Phase.TheVariants.{Queued, Begun, Sent, Gone}
 use Rattle.uas_host.specs.declared.Handled.TheVariants.{Matched}
 use Rattle.uas_host.specs.declared.Place.{Place}
 use Rattle.uas_host.specs.declared.TdState.{TdState}
@@ -37,7 +38,8 @@ use Rattle.bus_core.specs.Cells.{HasAnswerIn, HoldsData, HoldsIn, HoldsTd, Holds
 use Rattle.bus_core.specs.Fits.{Fits, FitsQueues, IsSoundWorld, command_trb, event_texts}
 use Rattle.bus_core.specs.WorldSteps.{EventFits, event_sides, without_event}
 use Rattle.bus_core.proofs.CellWrites.{clients-length, stream_ring-same, stream_ring-other}
-use Rattle.bus_core.proofs.EventTds.{HasCell, IsDataText, IsSpent, IsSpentBy, cell-data_spent, cell-status_spent, data_text, data_text-is, data_trbs-count, length-data_trbs, status_text, status_text-is}
+use Rattle.bus_core.proofs.EventTds.{HasCell, IsDataText, IsSpent, IsSpentBy, cell-data_spent, cell-status_spent, data_text, data_text-is, data_trbs-count}
+use Rattle.bus_core.proofs.EventTds.{length-data_trbs, status_text, status_text-is}
 use Rattle.bus_core.proofs.EventTexts.{AreWithin, KeepsData, KeepsStatus, event_texts-kept, events-within, one-reads}
 use Rattle.bus_core.proofs.HostSees.{data_in_seen-side, data_out_seen-side, host_with, status_news-is, status_seen, status_seen-side}
 use Rattle.bus_core.proofs.MatchedBounds.{matched-once}
@@ -72,7 +74,8 @@ freed-holds rings tag some within spent =
 -- THE QUEUES
 
 -- the first event left, it was none of the command pipe, and no other event reads what changed
-stream-queues : (state : Shared) (world : World) (done : Completion) (rest : List Completion) (lines : LinesState) (now : Entry) (at : IsSeenAt state world done rest) → Fits state world
+stream-queues : (state : Shared) (world : World) (done : Completion) (rest : List Completion) (lines : LinesState) (now : Entry)
+    (at : IsSeenAt state world done rest) → Fits state world
     → lines.command ≡ world.lines.command → lines.events.pending ≡ drop 1 world.lines.events.pending
     → carried_places (done ∷ rest) ≡ carried_places rest → drop 1 (event_texts world 0 (done ∷ rest)) ≡ event_texts world 0 rest
     → FreesOne world lines (event_place done) now
@@ -83,7 +86,8 @@ stream-queues state world done rest lines now at fits command popped carried tex
     let after : World = seen_world world lines (event_place done) now in
     let left : carried_places state.events ≡ carried_places (rest ++ []) = ap carried_places at.is ∙ carried ∙ ap carried_places (sym (append-nil rest)) in
     let within : AreWithin (done ∷ rest) = subst AreWithin at.is (events-within state fits.matched) in
-    let reads = one-reads world after (event_place done) rest at.is_place.slot within.1 (seen-others state world done rest lines now at frees) data_kept status_kept in
+    let reads = one-reads world after (event_place done) rest at.is_place.slot within.1
+    (seen-others state world done rest lines now at frees) data_kept status_kept in
     record {
       put = ap (λ (r : Ring). r.put) command ∙ fits.queues.put ∙ ap (λ places. map command_trb (places ++ state.messages)) left;
       got = ap (λ (r : Ring). r.got) command ∙ fits.queues.got ∙ ap (λ (places : List Place). length places) left;
@@ -104,7 +108,8 @@ data-alone state place rest is once some = omega (arith, once, some, ap (data_ev
 -- ALL TOGETHER
 
 pub event-done : (state : Shared) (world : World) (event : Event) (done : Completion) (rest : List Completion) (lines : LinesState) (now : Entry)
-    → handled (event_sides world) world.frames event ≡ (record { host = host_with world.host (event_place done) now; lines = lines }, Matched (tag_of (event_place done)))
+    → handled (event_sides world) world.frames event
+    ≡ (record { host = host_with world.host (event_place done) now; lines = lines }, Matched (tag_of (event_place done)))
     → (IsSoundWorld (seen_world world lines (event_place done) now) → Fits (shared_step state EventStep).0 (seen_world world lines (event_place done) now))
     → EventFits state world event done
 event-done state world event done rest lines now is fits = record {
@@ -119,6 +124,7 @@ awaited-sent : (phase : Phase) (td : Td) → IsStatusTd phase td → is_awaited 
 awaited-sent Queued td is awaited = absurd (false≢true (sym (ap (λ t. is_awaited t 1) is) ∙ awaited))
 awaited-sent (Begun progress) td is awaited = absurd (false≢true (sym (ap (λ t. is_awaited t 1) is) ∙ awaited))
 awaited-sent (Sent answer) td is awaited = record { answer = answer; is = refl }
+awaited-sent Gone td is awaited = absurd is
 
 -- a TD that is left over stays where it is
 holds-left : (ring : Ring) (trbs : List Trb) (state : TdState) (consumed : ℕ) → HoldsIn ring trbs consumed state
@@ -150,20 +156,28 @@ out-answered ring trbs ToDevice (Check sense) td holds = holds-left_data ring tr
 abbrev status_lines : World → ℕ → LinesState
 status_lines world tag = with_ring (without_event world.lines) Status tag (freed_ring world.lines.status tag)
 
-status-frees : (state : Shared) (world : World) (place : Place) (rest : List Completion) (at : IsSeenAt state world (StatusDone place) rest) (answer : Answer) → Fits state world
+status-frees : (state : Shared) (world : World) (place : Place) (rest : List Completion) (at : IsSeenAt state world (StatusDone place) rest)
+    (answer : Answer) → Fits state world
     → at.entry.task.phase ≡ Sent answer → IsSpent (stream_ring world.lines.status (tag_of place))
     → FreesOne world (status_lines world (tag_of place)) place (status_seen at.entry)
 status-frees state world place rest at answer fits sent spent = record {
-  status_others = λ tag some apart. stream_ring-other world.lines.status (tag_of place) tag (freed_ring world.lines.status (tag_of place)) (omega arith) some apart;
+  engine = refl;
+  status_others = λ tag some apart. stream_ring-other world.lines.status (tag_of place) tag (freed_ring world.lines.status (tag_of place))
+      (omega arith) some apart;
   data_in_others = λ tag some apart. refl;
   data_out_others = λ tag some apart. refl;
-  status = (freed-holds world.lines.status (tag_of place) (omega arith) (omega (arith, at.most, fits.sound.lines.status)) spent, awaited-taken at.entry.status_td 1 at.awaits);
+  status = (
+    freed-holds world.lines.status (tag_of place) (omega arith) (omega (arith, at.most, fits.sound.lines.status)) spent,
+    awaited-taken at.entry.status_td 1 at.awaits,
+  );
   data_in = subst (λ p. HoldsData (cell_at world place).data_in (data_td (tag_of place) (request_bytes at.entry.task.request))
       (data_in_td (request_direction at.entry.task.request) (data_after_status p at.entry.data_td))) (sym sent)
-      (in-answered (cell_at world place).data_in (data_td (tag_of place) (request_bytes at.entry.task.request)) (request_direction at.entry.task.request) answer at.entry.data_td at.cell.data_in);
+      (in-answered (cell_at world place).data_in (data_td (tag_of place) (request_bytes at.entry.task.request))
+      (request_direction at.entry.task.request) answer at.entry.data_td at.cell.data_in);
   data_out = subst (λ p. HoldsData (cell_at world place).data_out (data_td (tag_of place) (request_bytes at.entry.task.request))
       (data_out_td (request_direction at.entry.task.request) (data_after_status p at.entry.data_td))) (sym sent)
-      (out-answered (cell_at world place).data_out (data_td (tag_of place) (request_bytes at.entry.task.request)) (request_direction at.entry.task.request) answer at.entry.data_td at.cell.data_out);
+      (out-answered (cell_at world place).data_out (data_td (tag_of place) (request_bytes at.entry.task.request))
+      (request_direction at.entry.task.request) answer at.entry.data_td at.cell.data_out);
 }
 
 abbrev pub HasEventFit : Shared → World → Completion → Type 0
@@ -184,14 +198,18 @@ status-fits state world place rest fits is =
     let there : IsPlace (length world.host.clients) place =
     subst (λ n. IsPlace n place) (sym (clients-length world state.parts fits.clients)) at.is_place in
     let does = ap (handled (event_sides world) world.frames) text.is
-    ∙ handled-is world place at.entry (status_seen at.entry) Status text.pointer _ _ _ there at.cell.held text.ended
-    (status_news-is world.frames tag answer at.most holds_answer) (status_seen-side at.entry answer answered.is (awaited-pends at.entry.status_td 1 at.awaits))
-    ∙ ap (λ item. (record { host = host_with world.host place (status_seen at.entry); lines = with_freed (without_event world.lines) Status tag item }, Matched tag)) text.item in (
+    ∙ handled-is world place at.entry (status_seen at.entry) Status text.pointer _ _ _ refl there at.cell.held text.ended
+    (status_news-is world.frames tag answer at.most holds_answer) (status_seen-side at.entry answer at.matched.asks answered.is
+    (awaited-pends at.entry.status_td 1 at.awaits))
+    ∙ ap (λ item. (
+      record { host = host_with world.host place (status_seen at.entry); lines = with_freed (without_event world.lines) Status tag item },
+      Matched tag,
+    )) text.item in (
       status_text world place,
       ap (λ (es : List Event). slice_get es 0) (fits.queues.texts ∙ ap (event_texts world 0) is),
       event-done state world (status_text world place) (StatusDone place) rest (status_lines world tag) (status_seen at.entry) does
           (event-fits state world (StatusDone place) rest (status_lines world tag) at at.entry.command_td (with_event_seen at.entry.status_td)
-          (data_after_status at.entry.task.phase at.entry.data_td) fits (ap (λ b. cond b (Some (status_seen at.entry)) None) at.awaits) frees
+          (data_after_status at.entry.task.phase at.entry.data_td) fits tt (ap (λ b. cond b (Some (status_seen at.entry)) None) at.awaits) frees
           (stream-queues state world (StatusDone place) rest (status_lines world tag) (status_seen at.entry) at fits refl refl refl refl frees
           (λ some. (refl, refl)) (λ some. absurd (status-alone state place rest is (matched-once state fits.matched place).status_events some)))),
     )
@@ -228,36 +246,48 @@ data-holds ring tag entry moved free = (
       ∙ sym (length-data_trbs (data_trb_count (request_bytes entry.task.request)) (window_of tag) (request_bytes entry.task.request)),
 )
 
-in-frees : (state : Shared) (world : World) (place : Place) (rest : List Completion) (at : IsSeenAt state world (DataDone place) rest) (moved : HasDataTd at.entry) → Fits state world
+in-frees : (state : Shared) (world : World) (place : Place) (rest : List Completion) (at : IsSeenAt state world (DataDone place) rest)
+    (moved : HasDataTd at.entry) → Fits state world
     → request_direction at.entry.task.request ≡ ToHost → IsSpent (stream_ring world.lines.data_in (tag_of place))
     → FreesOne world (in_lines world (tag_of place)) place (data_seen at.entry moved.td)
 in-frees state world place rest at moved fits way spent =
     let tag : ℕ = tag_of place in
     let trbs : List Trb = data_td tag (request_bytes at.entry.task.request) in
     record {
+      engine = refl;
       status_others = λ tag some apart. refl;
-      data_in_others = λ tag some apart. stream_ring-other world.lines.data_in (tag_of place) tag (freed_ring world.lines.data_in (tag_of place)) (omega arith) some apart;
+      data_in_others = λ tag some apart. stream_ring-other world.lines.data_in (tag_of place) tag (freed_ring world.lines.data_in (tag_of place))
+          (omega arith) some apart;
       data_out_others = λ tag some apart. refl;
       status = at.cell.status;
-      data_in = subst (λ w. HoldsData (stream_ring (in_lines world (tag_of place)).data_in (tag_of place)) (data_td (tag_of place) (request_bytes at.entry.task.request))
+      data_in = subst (λ w. HoldsData (stream_ring (in_lines world (tag_of place)).data_in (tag_of place))
+          (data_td (tag_of place) (request_bytes at.entry.task.request))
           (data_in_td w (Some (with_event_seen moved.td)))) (sym way)
           (data-holds (stream_ring (in_lines world (tag_of place)).data_in (tag_of place)) (tag_of place) at.entry moved
           (freed-holds world.lines.data_in (tag_of place) (omega arith) (omega (arith, at.most, fits.sound.lines.data_in)) spent));
-      data_out = subst (λ w. HoldsData (cell_at world place).data_out (data_td (tag_of place) (request_bytes at.entry.task.request)) (data_out_td w (Some (with_event_seen moved.td)))) (sym way)
-          (subst (λ w. HoldsData (cell_at world place).data_out (data_td (tag_of place) (request_bytes at.entry.task.request)) (data_out_td w at.entry.data_td)) way at.cell.data_out);
+      data_out = subst (λ w. HoldsData (cell_at world place).data_out (data_td (tag_of place) (request_bytes at.entry.task.request))
+          (data_out_td w (Some (with_event_seen moved.td)))) (sym way)
+          (subst (λ w. HoldsData (cell_at world place).data_out (data_td (tag_of place) (request_bytes at.entry.task.request))
+          (data_out_td w at.entry.data_td)) way at.cell.data_out);
     }
 
-out-frees : (state : Shared) (world : World) (place : Place) (rest : List Completion) (at : IsSeenAt state world (DataDone place) rest) (moved : HasDataTd at.entry) → Fits state world
+out-frees : (state : Shared) (world : World) (place : Place) (rest : List Completion) (at : IsSeenAt state world (DataDone place) rest)
+    (moved : HasDataTd at.entry) → Fits state world
     → request_direction at.entry.task.request ≡ ToDevice → IsSpent (stream_ring world.lines.data_out (tag_of place))
     → FreesOne world (out_lines world (tag_of place)) place (data_seen at.entry moved.td)
 out-frees state world place rest at moved fits way spent = record {
+  engine = refl;
   status_others = λ tag some apart. refl;
   data_in_others = λ tag some apart. refl;
-  data_out_others = λ tag some apart. stream_ring-other world.lines.data_out (tag_of place) tag (freed_ring world.lines.data_out (tag_of place)) (omega arith) some apart;
+  data_out_others = λ tag some apart. stream_ring-other world.lines.data_out (tag_of place) tag (freed_ring world.lines.data_out (tag_of place))
+      (omega arith) some apart;
   status = at.cell.status;
-  data_in = subst (λ w. HoldsData (cell_at world place).data_in (data_td (tag_of place) (request_bytes at.entry.task.request)) (data_in_td w (Some (with_event_seen moved.td)))) (sym way)
-      (subst (λ w. HoldsData (cell_at world place).data_in (data_td (tag_of place) (request_bytes at.entry.task.request)) (data_in_td w at.entry.data_td)) way at.cell.data_in);
-  data_out = subst (λ w. HoldsData (stream_ring (out_lines world (tag_of place)).data_out (tag_of place)) (data_td (tag_of place) (request_bytes at.entry.task.request))
+  data_in = subst (λ w. HoldsData (cell_at world place).data_in (data_td (tag_of place) (request_bytes at.entry.task.request))
+      (data_in_td w (Some (with_event_seen moved.td)))) (sym way)
+      (subst (λ w. HoldsData (cell_at world place).data_in (data_td (tag_of place) (request_bytes at.entry.task.request))
+      (data_in_td w at.entry.data_td)) way at.cell.data_in);
+  data_out = subst (λ w. HoldsData (stream_ring (out_lines world (tag_of place)).data_out (tag_of place))
+      (data_td (tag_of place) (request_bytes at.entry.task.request))
       (data_out_td w (Some (with_event_seen moved.td)))) (sym way)
       (data-holds (stream_ring (out_lines world (tag_of place)).data_out (tag_of place)) (tag_of place) at.entry moved
       (freed-holds world.lines.data_out (tag_of place) (omega arith) (omega (arith, at.most, fits.sound.lines.data_out)) spent));
@@ -267,10 +297,12 @@ seen-data : (entry : Entry) (moved : HasDataTd entry) → seen_data_td entry ent
 seen-data entry moved = ap (seen_data_td entry) moved.is ∙ ap (λ b. cond b (Some (data_seen entry moved.td)) None) moved.awaited
 
 -- the host's clients are as many as the parts
-host-there : (state : Shared) (world : World) (place : Place) → Fits state world → IsPlace (length state.parts) place → IsPlace (length world.host.clients) place
+host-there : (state : Shared) (world : World) (place : Place) → Fits state world → IsPlace (length state.parts) place
+    → IsPlace (length world.host.clients) place
 host-there state world place fits there = subst (λ n. IsPlace n place) (sym (clients-length world state.parts fits.clients)) there
 
-data-by : (state : Shared) (world : World) (place : Place) (rest : List Completion) (way : Direction) (at : IsSeenAt state world (DataDone place) rest) (moved : HasDataTd at.entry)
+data-by : (state : Shared) (world : World) (place : Place) (rest : List Completion) (way : Direction) (at : IsSeenAt state world (DataDone place) rest)
+    (moved : HasDataTd at.entry)
     → Fits state world → request_direction at.entry.task.request ≡ way → IsDataText way world place → IsSpentBy way world place
     → EventFits state world (data_text world place) (DataDone place)
 data-by state world place rest Nothing at moved fits way text spent = absurd text
@@ -279,11 +311,21 @@ data-by state world place rest ToHost at moved fits way text spent =
     let now : Entry = data_seen at.entry moved.td in
     let frees : FreesOne world (in_lines world tag) place (data_seen at.entry moved.td) = in-frees state world place rest at moved fits way spent in
     let does = ap (handled (event_sides world) world.frames) text.is
-    ∙ handled-is world place at.entry (data_seen at.entry moved.td) DataIn text.pointer _ _ _ (host-there state world place fits at.is_place) at.cell.held text.ended
+    ∙ handled-is world place at.entry (data_seen at.entry moved.td) DataIn text.pointer _ _ _ refl
+    (host-there state world place fits at.is_place) at.cell.held text.ended
     refl (data_in_seen-side at.entry moved.td moved.is (awaited-pends moved.td (data_trbs at.entry.task.request) moved.awaited) way)
-    ∙ ap (λ item. (record { host = host_with world.host place (data_seen at.entry moved.td); lines = with_freed (without_event world.lines) DataIn tag item }, Matched tag)) text.item in
+    ∙ ap (λ item. (
+      record {
+        host = host_with world.host place (data_seen at.entry moved.td);
+        lines = with_freed
+            (without_event world.lines) DataIn tag item;
+      },
+      Matched tag,
+    )) text.item in
     event-done state world (data_text world place) (DataDone place) rest (in_lines world tag) now does
-    (event-fits state world (DataDone place) rest (in_lines world tag) at at.entry.command_td at.entry.status_td (Some (with_event_seen moved.td)) fits (seen-data at.entry moved) frees
+    (event-fits state world (DataDone place) rest (in_lines world tag) at at.entry.command_td at.entry.status_td
+    (Some (with_event_seen moved.td)) fits at.cell.answerable
+    (seen-data at.entry moved) frees
     (stream-queues state world (DataDone place) rest (in_lines world tag) now at fits refl refl refl refl frees
     (λ some. absurd (data-alone state place rest at.is (matched-once state fits.matched place).data_events some)) (λ some. (refl, refl))))
 data-by state world place rest ToDevice at moved fits way text spent =
@@ -291,11 +333,21 @@ data-by state world place rest ToDevice at moved fits way text spent =
     let now : Entry = data_seen at.entry moved.td in
     let frees : FreesOne world (out_lines world tag) place (data_seen at.entry moved.td) = out-frees state world place rest at moved fits way spent.0 in
     let does = ap (handled (event_sides world) world.frames) text.is
-    ∙ handled-is world place at.entry (data_seen at.entry moved.td) DataOut text.pointer _ _ _ (host-there state world place fits at.is_place) at.cell.held text.ended
+    ∙ handled-is world place at.entry (data_seen at.entry moved.td) DataOut text.pointer _ _ _ refl
+    (host-there state world place fits at.is_place) at.cell.held text.ended
     refl (data_out_seen-side at.entry moved.td moved.is (awaited-pends moved.td (data_trbs at.entry.task.request) moved.awaited) way)
-    ∙ ap (λ item. (record { host = host_with world.host place (data_seen at.entry moved.td); lines = with_freed (without_event world.lines) DataOut tag item }, Matched tag)) text.item in
+    ∙ ap (λ item. (
+      record {
+        host = host_with world.host place (data_seen at.entry moved.td);
+        lines = with_freed
+            (without_event world.lines) DataOut tag item;
+      },
+      Matched tag,
+    )) text.item in
     event-done state world (data_text world place) (DataDone place) rest (out_lines world tag) now does
-    (event-fits state world (DataDone place) rest (out_lines world tag) at at.entry.command_td at.entry.status_td (Some (with_event_seen moved.td)) fits (seen-data at.entry moved) frees
+    (event-fits state world (DataDone place) rest (out_lines world tag) at at.entry.command_td at.entry.status_td
+    (Some (with_event_seen moved.td)) fits at.cell.answerable
+    (seen-data at.entry moved) frees
     (stream-queues state world (DataDone place) rest (out_lines world tag) now at fits refl refl refl refl frees
     (λ some. absurd (data-alone state place rest at.is (matched-once state fits.matched place).data_events some)) (λ some. (refl, refl))))
 

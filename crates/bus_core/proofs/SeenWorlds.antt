@@ -1,5 +1,6 @@
 -- An event that waits, the world once the host has seen it, and why that fits where its rings do.
 use Rattle.std.proofs.Common.{◌≡◌, ℕ, ◌<◌, ◌≤◌, true, cond, List, [], ◌∷◌, ◌++◌, length, length-set, Option, Some, None, refl, arith, ap, sym, subst, ◌∙◌}
+use Rattle.std.proofs.Common.{false}
 use Rattle.std.specs.Prelude.{slice_get, option_and_then}
 use Rattle.cycle_ring.specs.Ring.{consumed_at}
 use Rattle.stream_array.specs.declared.Pipe.{Pipe}
@@ -15,7 +16,8 @@ use Rattle.uas_host.specs.declared.HostClient.{HostClient}
 use Rattle.uas_host.specs.State.{client_of}
 use Rattle.uas_host.specs.Tags.{tag_of}
 use Rattle.uas_host.specs.Tds.{data_td, status_td}
-use Rattle.uas_host.specs.Events.{ended_at, ended_on, ended_td, freed_on, handled_td, handled_news, handled_seen, news_of, seen, with_seen}
+use Rattle.uas_host.specs.Events.{ended_at, ended_on, ended_td, freed_on, handled_td, handled_news, handled_seen, news_of, seen}
+use Rattle.uas_host.specs.Seen.{completes}
 use Rattle.bus_core.specs.declared.Td.{Td}
 use Rattle.bus_core.specs.declared.Completion.{Completion}
 use Rattle.bus_core.specs.declared.Step.TheVariants.{Event as EventStep}
@@ -25,13 +27,13 @@ use Rattle.bus_core.specs.Part.{Part, event_place, ready_after, seen_by}
 use Rattle.bus_core.specs.Shared.{Shared, event_step, idle, is_some_of, request_direction, shared_step}
 use Rattle.bus_core.specs.Matched.{IsMatched, IsMatchedEntry, IsOwnEvent, awaits_event, request_bytes}
 use Rattle.bus_core.specs.World.{World, cell_at}
-use Rattle.bus_core.specs.Cells.{FitsCell, FitsHeld, HoldsData, HoldsTd, data_in_td, data_out_td, host_side}
+use Rattle.bus_core.specs.Cells.{FitsCell, FitsHeld, HoldsData, HoldsTd, data_in_td, data_out_td, host_side, IsAwaitedOrSeen}
 use Rattle.bus_core.specs.Fits.{Fits, FitsQueues, IsSoundWorld, place_in}
 use Rattle.bus_core.specs.WorldSteps.{event_sides, without_event}
 use Rattle.bus_core.proofs.CellWrites.{client_of-found, entry_at-same, entry_at-other, get-within}
 use Rattle.bus_core.proofs.EventTexts.{KeepsOthers}
-use Rattle.bus_core.proofs.Framing.{AllFit-set, FitsPart-set, ChangesCell, IsFound, found}
-use Rattle.bus_core.proofs.HostSees.{host_with, host_seen-is, is_ready-side}
+use Rattle.bus_core.proofs.Framing.{AllFit-set, FitsPart-set, ChangesCell, IsFound, engine-kept, found}
+use Rattle.bus_core.proofs.HostSees.{client_with, host_with, host_seen-is, is_ready-side}
 use Rattle.bus_core.proofs.MatchedNext.{own-event}
 use Rattle.bus_core.proofs.MatchedSteps.{IsHeld, matched-held, times_alike, times_alike-first, event_step-held, seen_part, seen_state, shared_step-matched}
 use Rattle.bus_core.proofs.Standing.{slice_get-back}
@@ -59,7 +61,8 @@ seen-at state world done rest fits is =
     let own : IsOwnEvent state.parts done =
     own-event state done fits.matched (subst (λ es. 1 ≤ times_alike done es) (sym is) (times_alike-first done rest)) in
     let at : IsHeld state (event_place done) own.entry = matched-held state (event_place done) own.entry fits.matched own.held in
-    let it : IsFound world (event_place done).client at.found.part = found world state.parts (event_place done).client at.found.part fits.clients at.found.there in
+    let it : IsFound world (event_place done).client at.found.part = found world state.parts
+    (event_place done).client at.found.part fits.clients at.found.there in
     record {
       is = is;
       part = at.found.part;
@@ -83,23 +86,27 @@ seen_world world lines place now = record world { host = host_with world.host pl
 
 -- the rings of all other tags are as they were, and those of the place hold its TDs
 pub record FreesOne (world : World) (lines : LinesState) (place : Place) (now : Entry) : Type 0 where
+  pub engine : lines.engine ≡ world.lines.engine
   pub status_others : (tag : ℕ) → 0 < tag → (tag ≡ tag_of place → ⊥) → stream_ring lines.status tag ≡ stream_ring world.lines.status tag
   pub data_in_others : (tag : ℕ) → 0 < tag → (tag ≡ tag_of place → ⊥) → stream_ring lines.data_in tag ≡ stream_ring world.lines.data_in tag
   pub data_out_others : (tag : ℕ) → 0 < tag → (tag ≡ tag_of place → ⊥) → stream_ring lines.data_out tag ≡ stream_ring world.lines.data_out tag
   pub status : HoldsTd (stream_ring lines.status (tag_of place)) (status_td (tag_of place)) now.status_td
-  pub data_in : HoldsData (stream_ring lines.data_in (tag_of place)) (data_td (tag_of place) (request_bytes now.task.request)) (data_in_td (request_direction now.task.request) now.data_td)
-  pub data_out : HoldsData (stream_ring lines.data_out (tag_of place)) (data_td (tag_of place) (request_bytes now.task.request)) (data_out_td (request_direction now.task.request) now.data_td)
+  pub data_in : HoldsData (stream_ring lines.data_in (tag_of place)) (data_td (tag_of place) (request_bytes now.task.request))
+      (data_in_td (request_direction now.task.request) now.data_td)
+  pub data_out : HoldsData (stream_ring lines.data_out (tag_of place)) (data_td (tag_of place) (request_bytes now.task.request))
+      (data_out_td (request_direction now.task.request) now.data_td)
 
 -- the entry with other TDs
 abbrev pub with_tds : Entry → Td → Td → Option Td → Entry
 with_tds entry command status moved = record entry { command_td = command; status_td = status; data_td = moved }
 
-pub seen-others : (state : Shared) (world : World) (done : Completion) (rest : List Completion) (lines : LinesState) (now : Entry) → IsSeenAt state world done rest
+pub seen-others : (state : Shared) (world : World) (done : Completion) (rest : List Completion) (lines : LinesState) (now : Entry)
+    → IsSeenAt state world done rest
     → FreesOne world lines (event_place done) now → KeepsOthers world (seen_world world lines (event_place done) now) (event_place done)
 seen-others state world done rest lines now at frees other slot inside apart =
     let place : Place = event_place done in
     let held_is = entry_at-other world.host (event_place done).client (event_place done).slot other slot
-    (with_seen (client_of world.host (event_place done).client) (event_place done).slot (host_side now)) (Some (host_side now))
+    (client_with (client_of world.host (event_place done).client) (event_place done).slot (host_side now)) (Some (host_side now))
     (get-within world.host.clients (event_place done).client at.it.held at.it.held_is) refl apart in
     let status_is = frees.status_others (tag_of (place_in other slot)) (omega arith) apart in
     let in_is = frees.data_in_others (tag_of (place_in other slot)) (omega arith) apart in
@@ -113,16 +120,18 @@ seen-others state world done rest lines now at frees other slot inside apart =
       buffers = (cell_at world (place_in other slot)).buffers;
     }
 
-pub seen-cell : (state : Shared) (world : World) (done : Completion) (rest : List Completion) (lines : LinesState) (at : IsSeenAt state world done rest) (command status : Td) (moved : Option Td)
-    → Fits state world → FreesOne world lines (event_place done) (with_tds at.entry command status moved)
+pub seen-cell : (state : Shared) (world : World) (done : Completion) (rest : List Completion) (lines : LinesState) (at : IsSeenAt state world done rest)
+    (command status : Td) (moved : Option Td)
+    → Fits state world → IsAwaitedOrSeen status.state → FreesOne world lines (event_place done) (with_tds at.entry command status moved)
     → FitsCell (event_place done).client at.part.unit.count (event_place done) (with_tds at.entry command status moved)
     (cell_at (seen_world world lines (event_place done) (with_tds at.entry command status moved)) (event_place done))
-seen-cell state world done rest lines at command status moved fits frees =
+seen-cell state world done rest lines at command status moved fits kept frees =
     let there = get-within world.host.clients (event_place done).client at.it.held at.it.held_is in
     let now : Entry = with_tds at.entry command status moved in
     record {
       held = entry_at-same world.host (event_place done).client (event_place done).slot
-          (with_seen (client_of world.host (event_place done).client) (event_place done).slot (host_side now)) (client_of world.host (event_place done).client).entries
+          (client_with (client_of world.host (event_place done).client) (event_place done).slot (host_side now))
+          (client_of world.host (event_place done).client).entries
           (Some (host_side now)) there (omega (arith, at.is_place.slot, (fits.sound.host.clients (event_place done).client there).slots)) refl;
       task = at.cell.task;
       status = frees.status;
@@ -131,22 +140,25 @@ seen-cell state world done rest lines at command status moved fits frees =
       lent = at.cell.lent;
       unit = at.cell.unit;
       answer = at.cell.answer;
+      answerable = kept;
       sound = at.cell.sound;
     }
 
 queue-same : (world : World) (client slot : ℕ) (part : Part) (now : Entry) → IsFound world client part
-    → ready_after part.ready slot now ≡ (with_seen (client_of world.host client) slot (host_side now)).ready.items
+    → ready_after part.ready slot now ≡ (client_with (client_of world.host client) slot (host_side now)).ready.items
 queue-same world client slot part now it =
     ap (λ q. cond (is_ready now) (q ++ slot ∷ []) q) (sym (ready-found world client part it))
     ∙ ap (λ b. cond b ((client_of world.host client).ready.items ++ slot ∷ []) (client_of world.host client).ready.items) (sym (is_ready-side now))
 
-pub event-fits : (state : Shared) (world : World) (done : Completion) (rest : List Completion) (lines : LinesState) (at : IsSeenAt state world done rest) (command status : Td) (moved : Option Td)
-    → Fits state world → seen_by done at.entry ≡ Some (with_tds at.entry command status moved)
+pub event-fits : (state : Shared) (world : World) (done : Completion) (rest : List Completion) (lines : LinesState)
+    (at : IsSeenAt state world done rest) (command status : Td) (moved : Option Td)
+    → Fits state world → IsAwaitedOrSeen status.state → seen_by done at.entry ≡ Some (with_tds at.entry command status moved)
     → FreesOne world lines (event_place done) (with_tds at.entry command status moved)
-    → FitsQueues (seen_state state (event_place done) at.part (with_tds at.entry command status moved) rest) (seen_world world lines (event_place done) (with_tds at.entry command status moved))
+    → FitsQueues (seen_state state (event_place done) at.part (with_tds at.entry command status moved) rest)
+    (seen_world world lines (event_place done) (with_tds at.entry command status moved))
     → IsSoundWorld (seen_world world lines (event_place done) (with_tds at.entry command status moved))
     → Fits (shared_step state EventStep).0 (seen_world world lines (event_place done) (with_tds at.entry command status moved))
-event-fits state world done rest lines at command status moved fits sees frees queues sound =
+event-fits state world done rest lines at command status moved fits kept sees frees queues sound =
     let client : ℕ = (event_place done).client in
     let slot : ℕ = (event_place done).slot in
     let now : Entry = with_tds at.entry command status moved in
@@ -154,7 +166,7 @@ event-fits state world done rest lines at command status moved fits sees frees q
     let stepped : (shared_step state EventStep).0 ≡ seen_state state (event_place done) at.part now rest =
     ap (λ es. (cond (is_some_of es) (event_step state es) (state, idle)).0) at.is
     ∙ event_step-held state done rest at.part at.entry now at.there at.held sees in
-    let held_now : HostClient = with_seen (client_of world.host client) slot (host_side now) in
+    let held_now : HostClient = client_with (client_of world.host client) slot (host_side now) in
     let long = length-set state.parts client (seen_part at.part slot now) in
     let changes : ChangesCell world after client slot held_now at.part.unit = record {
       hosts = refl;
@@ -171,11 +183,14 @@ event-fits state world done rest lines at command status moved fits sees frees q
       data_out = fits.data_out;
       sound = sound;
       queues = queues;
+      engine = engine-kept state (seen_state state (event_place done) at.part now rest) world after fits.engine refl frees.engine;
       matched = subst IsMatched stepped (shared_step-matched state EventStep fits.matched);
       clients = AllFit-set world after state.parts client slot at.part.unit held_now at.part (seen_part at.part slot now)
           fits.clients at.there at.is_place.slot changes
-          (FitsPart-set world after client slot at.part.unit at.part.unit at.it.held held_now at.part (Some now) at.part.least (ready_after at.part.ready slot now)
-          at.it.fits at.is_place.slot changes refl least_is (queue-same world client slot at.part now at.it) (seen-cell state world done rest lines at command status moved fits frees));
+          (FitsPart-set world after client slot at.part.unit at.part.unit at.it.held held_now at.part (Some now) at.part.least
+          (ready_after at.part.ready slot now)
+          at.it.fits at.is_place.slot changes refl least_is (queue-same world client slot at.part now at.it)
+          (seen-cell state world done rest lines at command status moved fits kept frees));
       others = λ other over. fits.others other (omega (arith, over, long));
     })
 
@@ -197,14 +212,21 @@ ended_at-events lines pointer =
 
 -- an event of a TD that the host awaits: what it sees, and the rings that it frees
 pub handled-is : (world : World) (place : Place) (entry now : Entry) (pipe : Pipe) (pointer residual code : ℕ) (news : News)
-    → IsPlace (length world.host.clients) place → (cell_at world place).held ≡ Some (host_side entry)
+    → completes news ≡ false → IsPlace (length world.host.clients) place → (cell_at world place).held ≡ Some (host_side entry)
     → ended_at world.lines pointer ≡ Some (record { pipe = pipe; tag = tag_of place })
     → news_of world.frames residual code (record { pipe = pipe; tag = tag_of place }) ≡ Some news
     → seen news (host_side entry) ≡ Some (host_side now)
     → handled_td (event_sides world) world.frames pointer residual code (ended_at (without_event world.lines) pointer)
-    ≡ (record { host = host_with world.host place now; lines = freed_on pipe (host_with world.host place now) (without_event world.lines) (tag_of place) pointer }, Matched (tag_of place))
-handled-is world place entry now pipe pointer residual code news there held ended tells sees =
+    ≡ (
+      record {
+        host = host_with world.host place now;
+        lines = freed_on pipe (host_with world.host place now) (without_event world.lines)
+            (tag_of place) pointer;
+      },
+      Matched (tag_of place),
+    )
+handled-is world place entry now pipe pointer residual code news quiet there held ended tells sees =
     let td : EndedTd = record { pipe = pipe; tag = tag_of place } in
     ap (handled_td (event_sides world) world.frames pointer residual code) (ended_at-events world.lines pointer ∙ ended)
     ∙ ap (handled_news (event_sides world) pointer td) tells
-    ∙ ap (handled_seen (event_sides world) pointer td) (host_seen-is world.host place entry now news there held sees)
+    ∙ ap (handled_seen (event_sides world) pointer td) (host_seen-is world.host place entry now news quiet there held sees)

@@ -1,5 +1,6 @@
 -- The rings of a world that fits a state show it.
-use Rattle.std.proofs.Common.{◌≡◌, ℕ, zero, suc, ◌<◌, Bool, true, false, cond, List, [], ◌∷◌, ◌++◌, drop, map, length, Option, Some, None, refl, arith, ap, sym, ◌∙◌}
+use Rattle.std.proofs.Common.{◌≡◌, ℕ, zero, suc, ◌<◌, Bool, true, false, cond, List, [], ◌∷◌, ◌++◌, drop, map, length, Option, Some, None, refl, arith, ap, sym}
+use Rattle.std.proofs.Common.{◌∙◌}
 use Rattle.std.specs.Prelude.{slice_get, ◌==◌}
 use Rattle.std.specs.Option.{option_map_or}
 use Rattle.std.proofs.lemmas.Option.{none-some}
@@ -11,7 +12,7 @@ use Rattle.stream_array.specs.declared.Pipe.TheVariants.{Command, Status, DataIn
 use Rattle.stream_array.specs.declared.TheConstants.{COMMAND_RING_PLACES}
 use Rattle.xhci_ctl.specs.declared.TheConstants.{SUCCESS, SHORT_PACKET, SLOT}
 use Rattle.xhci_ctl.specs.Steps.{endpoint_of}
-use Rattle.stream_array.specs.Rings.{stream_ring}
+use Rattle.stream_array.specs.Rings.{LinesState, stream_ring}
 use Rattle.scsi_cmd.specs.declared.TheConstants.{TAGS}
 use Rattle.scsi_cmd.specs.Held.{held_at}
 use Rattle.uas_host.specs.declared.Place.{Place}
@@ -28,7 +29,7 @@ use Rattle.bus_core.specs.Matched.{carried_places, held_in}
 use Rattle.bus_core.specs.World.{World, cell_at}
 use Rattle.bus_core.specs.Cells.{FitsHeld, HoldsTrbs, HoldsIn, HoldsData}
 use Rattle.bus_core.specs.Fits.{Fits, command_trb, event_texts, last_pointer}
-use Rattle.bus_core.specs.Shows.{ShowsPlace, ShowsShared, data_tells, left_in, left_of, pending_in, tells, tells_of, told_in}
+use Rattle.bus_core.specs.Shows.{PointAhead, ShowsPlace, ShowsShared, data_tells, left_in, left_of, pending_in, tells, tells_of, told_in}
 use Rattle.bus_core.proofs.Framing.{IsFound, found}
 
 -- MESSAGES
@@ -39,7 +40,8 @@ drop-carried (place ∷ rest) messages = drop-carried rest messages
 
 -- EVENTS
 
-told-if : (test : Bool) (one other : ℕ) (first second : Pipe) → told_in (cond test (Transfer one 0 SUCCESS (endpoint_of first) SLOT) (Transfer other 0 SUCCESS (endpoint_of second) SLOT))
+told-if : (test : Bool) (one other : ℕ) (first second : Pipe)
+    → told_in (cond test (Transfer one 0 SUCCESS (endpoint_of first) SLOT) (Transfer other 0 SUCCESS (endpoint_of second) SLOT))
     ≡ Some (cond test (tells one SUCCESS first) (tells other SUCCESS second))
 told-if true one other first second = refl
 told-if false one other first second = refl
@@ -71,7 +73,8 @@ left-data : (ring : Ring) (trbs : List Trb) (td : Option Td) → HoldsData ring 
 left-data ring trbs None holds = left-trbs ring [] 0 holds
 left-data ring trbs (Some td) holds = left-held ring trbs td.consumed td.state holds
 
-shown-place : (world : World) (client count : ℕ) (place : Place) (held : Option Entry) → FitsHeld client count place held (cell_at world place) → ShowsPlace world.lines place held
+shown-place : (world : World) (client count : ℕ) (place : Place) (held : Option Entry) → FitsHeld client count place held (cell_at world place)
+    → ShowsPlace world.lines place held
 shown-place world client count place None fits = record {
   status = left-trbs (stream_ring world.lines.status (tag_of place)) [] 0 fits.status;
   data_in = left-trbs (stream_ring world.lines.data_in (tag_of place)) [] 0 fits.data_in;
@@ -83,7 +86,8 @@ shown-place world client count place (Some entry) fits = record {
   data_out = left-data (stream_ring world.lines.data_out (tag_of place)) _ _ fits.data_out;
 }
 
-shown-at : (state : Shared) (world : World) (place : Place) (found_part : Option Part) → Fits state world → slice_get state.parts place.client ≡ found_part → place.client < length state.parts
+shown-at : (state : Shared) (world : World) (place : Place) (found_part : Option Part) → Fits state world
+    → slice_get state.parts place.client ≡ found_part → place.client < length state.parts
     → place.slot < TAGS → ShowsPlace world.lines place (option_map_or (held_in place) found_part None)
 shown-at state world place None fits is there within = absurd (missing state.parts place.client there is)
   where
@@ -105,3 +109,11 @@ shown state world fits = record {
   events = ap (map told_in) fits.queues.texts ∙ told-texts world 0 state.events;
   places = λ place there within. shown-at state world place (slice_get state.parts place.client) fits refl there within;
 }
+
+-- CONTEXTS
+
+pub points-ahead : (lines : LinesState) → PointAhead lines
+points-ahead lines Command stream contexts streams has shown = absurd streams
+points-ahead lines Status stream contexts streams has shown = shown.ring stream has.0 has.1
+points-ahead lines DataIn stream contexts streams has shown = shown.ring stream has.0 has.1
+points-ahead lines DataOut stream contexts streams has shown = shown.ring stream has.0 has.1

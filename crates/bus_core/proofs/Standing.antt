@@ -6,11 +6,13 @@ use Rattle.scsi_cmd.specs.Held.{held_under, with_held_under}
 
 -- PLACES OF A LIST
 
-pub held_under-with_same : {T : Type 0} (places : List (Option T)) (tag : ℕ) (now : Option T) → 0 < tag → tag ≤ length places → held_under (with_held_under places tag now) tag ≡ now
+pub held_under-with_same : {T : Type 0} (places : List (Option T)) (tag : ℕ) (now : Option T) → 0 < tag → tag ≤ length places
+    → held_under (with_held_under places tag now) tag ≡ now
 held_under-with_same places zero now some within = absurd (omega arith)
 held_under-with_same places (suc slot) now some within = get_or-set_same places slot now None (omega arith)
 
-pub held_under-with_other : {T : Type 0} (places : List (Option T)) (tag other : ℕ) (now : Option T) → (other ≡ tag → ⊥) → held_under (with_held_under places tag now) other ≡ held_under places other
+pub held_under-with_other : {T : Type 0} (places : List (Option T)) (tag other : ℕ) (now : Option T) → (other ≡ tag → ⊥)
+    → held_under (with_held_under places tag now) other ≡ held_under places other
 held_under-with_other places zero other now apart = refl
 held_under-with_other places (suc slot) zero now apart = refl
 held_under-with_other places (suc slot) (suc at) now apart = get_or-set_other places slot at now None (λ same. apart (ap suc same))

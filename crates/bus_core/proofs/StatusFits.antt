@@ -1,5 +1,6 @@
 -- A step of a status stream: the device hands over the answer of a command that has ended.
-use Rattle.std.proofs.Common.{◌≡◌, ℕ, ◌+◌, ◌-◌, ◌<◌, ◌≤◌, Bool, true, false, ◌&&◌, cond, List, [], ◌∷◌, ◌++◌, take, drop, length, map, Option, Some, None, option_map, refl, arith, ap, sym, subst, ◌∙◌, inr}
+use Rattle.std.proofs.Common.{◌≡◌, ℕ, ◌+◌, ◌-◌, ◌<◌, ◌≤◌, Bool, true, false, ◌&&◌, cond, List, [], ◌∷◌, ◌++◌, take, drop, length, map, Option, Some, None}
+use Rattle.std.proofs.Common.{option_map, refl, arith, ap, sym, subst, ◌∙◌, inr}
 use Rattle.std.specs.Prelude.{nat_lt, slice_get, option_and_then, IfSome}
 use Rattle.std.specs.Option.{option_map_or}
 use Rattle.std.proofs.Math.Seq.{take-append_seam}
@@ -27,14 +28,14 @@ use Rattle.scsi_cmd.specs.declared.Direction.TheVariants.{Nothing, ToHost, ToDev
 use Rattle.scsi_cmd.specs.Op.{direction_of, moved_bytes}
 use Rattle.device_server.specs.Server.{chunk_bytes}
 use Rattle.scsi_cmd.specs.declared.Request.{Request}
-use Rattle.scsi_cmd.specs.declared.Request.TheVariants.{Execute}
+use Rattle.scsi_cmd.specs.declared.Request.TheVariants.{Execute, Manage}
 use Rattle.scsi_cmd.specs.Held.{held_at}
 use Rattle.device_server.specs.declared.Answer.{Answer}
 use Rattle.device_server.specs.declared.Answer.TheVariants.{Good, Check}
 use Rattle.device_server.specs.declared.Progress.TheVariants.{Moving, Ended}
 use Rattle.device_server.specs.Server.{status_of, sense_of}
 use Rattle.solo_model.specs.declared.Phase.{Phase}
-use Rattle.solo_model.specs.declared.Phase.TheVariants.{Queued, Begun, Sent}
+use Rattle.solo_model.specs.declared.Phase.TheVariants.{Queued, Begun, Sent, Gone}
 use Rattle.solo_model.specs.Soundness.{IsSoundRequest}
 use Rattle.uas_iu.specs.declared.Iu.{Iu}
 use Rattle.uas_iu.specs.declared.Iu.TheVariants.{Sense as SenseIu}
@@ -59,10 +60,10 @@ use Rattle.bus_core.specs.declared.Completion.TheVariants.{StatusDone}
 use Rattle.bus_core.specs.declared.Step.TheVariants.{Status as StatusStep}
 use Rattle.bus_core.specs.Td.{Entry, has_trb, pushed, with_trb_taken}
 use Rattle.bus_core.specs.Wire.{answer_text}
-use Rattle.bus_core.specs.Hosts.{asked_by, device_task, phase_task}
+use Rattle.bus_core.specs.Hosts.{begun_task, device_task, phase_task}
 use Rattle.bus_core.specs.Part.{Part}
 use Rattle.bus_core.specs.Shared.{Shared, due, due_step, idle, is_ended, shared_step, status_is_due}
-use Rattle.bus_core.specs.Matched.{carried_places, status_events, IsMatched, IsStatusTd}
+use Rattle.bus_core.specs.Matched.{carried_places, status_events, IsCommandRequest, IsMatched, IsStatusTd}
 use Rattle.bus_core.specs.World.{World, Cell, cell_at, sides_in, with_sides}
 use Rattle.bus_core.specs.Cells.{FitsCell, HoldsTd, HoldsTrbs, host_side, told_by, told_sent}
 use Rattle.bus_core.specs.Fits.{Fits, FitsQueues, IsSoundWorld, command_trb, event_texts, place_in, status_event, unit_len}
@@ -71,7 +72,7 @@ use Rattle.bus_core.specs.WorldDue.{StatusesAreDue, status_due_by}
 use Rattle.bus_core.proofs.ActFits.{IsPlaced, placed, IsActed, acted_state, acted-fits, place_of-tag, by-tag}
 use Rattle.bus_core.proofs.CommandFits.{event-room}
 use Rattle.bus_core.proofs.EventTexts.{KeepsOthers, carried_places-append, event_texts-append, event_texts-one}
-use Rattle.bus_core.proofs.MatchedEntries.{sent_to}
+use Rattle.bus_core.proofs.MatchedEntries.{asked_op, sent_to}
 use Rattle.bus_core.proofs.MatchedNext.{matched-no_status_event}
 use Rattle.bus_core.proofs.MatchedPlaces.{and-true}
 use Rattle.bus_core.proofs.MatchedSteps.{IsDueAt, place_fact-due, IsEndedBy, ended_phase, send_step-held, shared_step-matched}
@@ -116,7 +117,8 @@ with_status buffers text = record buffers { status = with_bytes_at buffers.statu
 pub status-written : (frames : List TagBuffers) (tag : ℕ) (text : List ℕ) → IsWhole frames → 1 ≤ tag → tag ≤ 248 → length text ≤ 112
     → written frames (status_buffer_of tag) (length text) text ≡ with_held frames tag (with_status (held_for frames tag) text)
 status-written frames tag text whole some most short =
-    written-named frames (status_buffer_of tag) (length text) text (front_byte StatusBuffer tag) whole (status-names frames tag (length text) whole some most short) refl
+    written-named frames (status_buffer_of tag) (length text) text (front_byte StatusBuffer tag) whole
+    (status-names frames tag (length text) whole some most short) refl
     ∙ ap (λ bytes. with_held frames tag (record (held_for frames tag) { status = bytes }))
     (spliced-front (held_for frames tag).status text (omega (arith, short, (whole.sizes tag some most).status)))
 
@@ -131,7 +133,11 @@ pub record IsStatusReady (state : Shared) (world : World) (place : Place) (entry
   pub td : entry.status_td ≡ pushed
   pub ring : HoldsTrbs (stream_ring world.lines.status (tag_of place)) (status_td (tag_of place)) 0
   pub front : front_of STREAM_RING_PLACES (stream_ring world.lines.status (tag_of place))
-      ≡ Some (pointer_of STREAM_RING_PLACES (stream_ring world.lines.status (tag_of place)) 0, Normal (status_buffer_of (tag_of place)) 112 0 (record { 0 = 18 }))
+      ≡ Some (
+        pointer_of STREAM_RING_PLACES (stream_ring world.lines.status (tag_of place)) 0,
+        Normal (status_buffer_of (tag_of place)) 112 0
+            (record { 0 = 18 }),
+      )
 
 status-ready : (state : Shared) (world : World) (place : Place) (entry : Entry) (answer : Answer) → IsPlaced state world place entry
     → entry.task.phase ≡ Begun (Ended answer) → IsStatusReady state world place entry
@@ -142,7 +148,8 @@ status-ready state world place entry answer at ended =
     record {
       td = td;
       ring = ring;
-      front = ap (λ k. option_map (λ trb. (pointer_of STREAM_RING_PLACES (stream_ring world.lines.status (tag_of place)) k, trb)) (slice_get (stream_ring world.lines.status (tag_of place)).put k)) ring.1
+      front = ap (λ k. option_map (λ trb. (pointer_of STREAM_RING_PLACES (stream_ring world.lines.status (tag_of place)) k, trb))
+          (slice_get (stream_ring world.lines.status (tag_of place)).put k)) ring.1
           ∙ ap (λ trbs. option_map (λ trb. (pointer_of STREAM_RING_PLACES (stream_ring world.lines.status (tag_of place)) 0, trb)) (slice_get trbs 0)) ring.0;
     }
 
@@ -181,7 +188,8 @@ status-own state world place entry answer at fits ready =
 ended-task : (state : Shared) (world : World) (place : Place) (entry : Entry) (answer : Answer) → IsPlaced state world place entry
     → entry.task.phase ≡ Begun (Ended answer) → task_of world.device (tag_of place) ≡ Some (EndedTask (Some place.client) (StatusAnswer answer))
 ended-task state world place entry answer at ended =
-    at.cell.task ∙ ap (λ p. phase_task (Some place.client) (asked_by entry.task.request) p) ended
+    at.cell.task ∙ ap (λ p. phase_task (Some place.client) entry.task.request p) ended
+    ∙ ap (λ r. begun_task (Some place.client) r (Ended answer)) (asked_op entry.task.request at.matched.here.sound.asks).1
 
 -- the world after the answer of a place was handed over
 abbrev pub sent_world : World → Place → List ℕ → World
@@ -205,7 +213,8 @@ sent-is state world place entry answer at fits ended opened =
     let step = on_front (sides_in world) (sent_at (sides_in world) (tag_of place) (answer_text (tag_of place) answer)) in
     ap (λ t. sent_as world.controller (sides_in world) (tag_of place) (option_map_or task_wants t Absent) (option_and_then (task_answer (tag_of place)) t))
     (ended-task state world place entry answer at ended)
-    ∙ ap (λ b. on_front (sides_in world) (sent_at (sides_in world) (tag_of place) (answer_text (tag_of place) answer)) (cond b (room_front world.lines Status (tag_of place)) None)) armed
+    ∙ ap (λ b. on_front (sides_in world) (sent_at (sides_in world) (tag_of place) (answer_text (tag_of place) answer))
+    (cond b (room_front world.lines Status (tag_of place)) None)) armed
     ∙ ap (λ b. on_front (sides_in world) (sent_at (sides_in world) (tag_of place) (answer_text (tag_of place) answer))
     (cond b (front_of STREAM_RING_PLACES (stream_ring world.lines.status (tag_of place))) None)) (event-room state world fits)
     ∙ ap (on_front (sides_in world) (sent_at (sides_in world) (tag_of place) (answer_text (tag_of place) answer))) ready.front
@@ -220,7 +229,8 @@ taken_ring ring = record ring { got = ring.got + 1 }
 abbrev pub sent_cell : Cell → List ℕ → Cell
 sent_cell cell text = record cell { task = None; status = taken_ring cell.status; buffers = with_status cell.buffers text }
 
-pub cell-sent : (client count : ℕ) (place : Place) (entry : Entry) (answer : Answer) (cell : Cell) → entry.task.phase ≡ Begun (Ended answer) → entry.status_td ≡ pushed
+pub cell-sent : (client count : ℕ) (place : Place) (entry : Entry) (answer : Answer) (cell : Cell) → entry.task.phase ≡ Begun (Ended answer)
+    → entry.status_td ≡ pushed
     → FitsCell client count place entry cell
     → FitsCell client count place (sent_to entry answer) (sent_cell cell (answer_text (tag_of place) answer))
 cell-sent client count place entry answer cell ended td fits = record {
@@ -236,11 +246,13 @@ cell-sent client count place entry answer cell ended td fits = record {
   lent = fits.lent;
   unit = fits.unit;
   answer = text-begins cell.buffers.status (answer_text (tag_of place) answer);
+  answerable = fits.answerable;
   sound = sound_sent entry.task.request fits.sound;
 }
   where
     sound_sent : (request : Request) → IsSoundRequest count entry.task request → IsSoundRequest count (record entry.task { phase = Sent answer }) request
     sound_sent (Execute op) sound = record { whole = sound.whole; chunk = tt }
+    sound_sent (Manage what noted) sound = tt
 
 -- the cells of the world after it
 sent-here : (world : World) (place : Place) (text : List ℕ) → IsSoundWorld world → 1 ≤ tag_of place → tag_of place ≤ 248
@@ -249,9 +261,11 @@ sent-here world place text sound some most =
     let task : task_of (without_task world.device (tag_of place)) (tag_of place) ≡ None =
     held_under-with_same world.device.tasks (tag_of place) None (omega (arith, some)) (omega (arith, most, sound.tags)) in
     let ring : stream_ring (sent_world world place text).lines.status (tag_of place) ≡ taken_ring (stream_ring world.lines.status (tag_of place)) =
-    get_or-set_same world.lines.status (tag_of place - 1) (taken_ring (stream_ring world.lines.status (tag_of place))) (opening 0) (omega (arith, some, most, sound.lines.status)) in
+    get_or-set_same world.lines.status (tag_of place - 1) (taken_ring (stream_ring world.lines.status (tag_of place))) (opening 0)
+    (omega (arith, some, most, sound.lines.status)) in
     let buffers : held_for (sent_world world place text).frames (tag_of place) ≡ with_status (held_for world.frames (tag_of place)) text =
-    get_or-set_same world.frames (tag_of place - 1) (with_status (held_for world.frames (tag_of place)) text) no_buffers (omega (arith, some, most, sound.frames.tags)) in
+    get_or-set_same world.frames (tag_of place - 1) (with_status (held_for world.frames (tag_of place)) text) no_buffers
+    (omega (arith, some, most, sound.frames.tags)) in
     λ i. record (cell_at world place) { task = task i; status = ring i; buffers = buffers i }
 
 sent-others : (world : World) (place : Place) (text : List ℕ) → KeepsOthers world (sent_world world place text) place
@@ -259,10 +273,13 @@ sent-others world place text other at inside apart =
     let behind : tag_of (place_in other at) - 1 ≡ tag_of place - 1 → ⊥ = λ same. apart (omega (arith, same)) in
     let task : task_of (without_task world.device (tag_of place)) (tag_of (place_in other at)) ≡ task_of world.device (tag_of (place_in other at)) =
     held_under-with_other world.device.tasks (tag_of place) (tag_of (place_in other at)) None apart in
-    let ring : stream_ring (sent_world world place text).lines.status (tag_of (place_in other at)) ≡ stream_ring world.lines.status (tag_of (place_in other at)) =
-    get_or-set_other world.lines.status (tag_of place - 1) (tag_of (place_in other at) - 1) (taken_ring (stream_ring world.lines.status (tag_of place))) (opening 0) behind in
+    let ring : stream_ring (sent_world world place text).lines.status (tag_of (place_in other at)) ≡ stream_ring world.lines.status
+    (tag_of (place_in other at)) =
+    get_or-set_other world.lines.status (tag_of place - 1) (tag_of (place_in other at) - 1) (taken_ring (stream_ring world.lines.status (tag_of place)))
+    (opening 0) behind in
     let buffers : held_for (sent_world world place text).frames (tag_of (place_in other at)) ≡ held_for world.frames (tag_of (place_in other at)) =
-    get_or-set_other world.frames (tag_of place - 1) (tag_of (place_in other at) - 1) (with_status (held_for world.frames (tag_of place)) text) no_buffers behind in
+    get_or-set_other world.frames (tag_of place - 1) (tag_of (place_in other at) - 1)
+    (with_status (held_for world.frames (tag_of place)) text) no_buffers behind in
     λ i. record (cell_at world (place_in other at)) { task = task i; status = ring i; buffers = buffers i }
 
 -- THE QUEUES
@@ -278,16 +295,21 @@ sent-text world place answer k sound some most put =
     let ring : Ring = stream_ring world.lines.status (tag_of place) in
     ap (λ (c : Cell). status_event c.status c.buffers.status ∷ []) (sent-here world place (answer_text (tag_of place) answer) sound some most)
     ∙ ap (λ trbs. Transfer (pointer_of STREAM_RING_PLACES (stream_ring world.lines.status (tag_of place)) (length trbs - 1))
-    (STATUS_LENGTH - unit_len (with_bytes_at (held_for world.frames (tag_of place)).status 0 (answer_text (tag_of place) answer))) SHORT_PACKET (endpoint_of Status) SLOT ∷ []) put
-    ∙ ap (λ n. Transfer (pointer_of STREAM_RING_PLACES (stream_ring world.lines.status (tag_of place)) 0) (STATUS_LENGTH - n) SHORT_PACKET (endpoint_of Status) SLOT ∷ [])
+    (STATUS_LENGTH - unit_len (with_bytes_at (held_for world.frames (tag_of place)).status 0 (answer_text (tag_of place) answer))) SHORT_PACKET
+    (endpoint_of Status) SLOT ∷ []) put
+    ∙ ap (λ n. Transfer (pointer_of STREAM_RING_PLACES (stream_ring world.lines.status (tag_of place)) 0) (STATUS_LENGTH - n) SHORT_PACKET
+    (endpoint_of Status) SLOT ∷ [])
     (answer-len (tag_of place) answer (held_for world.frames (tag_of place)).status)
 
 pub sent-queues : (state : Shared) (world : World) (place : Place) (answer : Answer) (part : Part) (new : Entry) → Fits state world → place.slot < TAGS
-    → 1 ≤ tag_of place → tag_of place ≤ 248 → (stream_ring world.lines.status (tag_of place)).put ≡ status_td (tag_of place) → status_events place state.events ≡ 0
-    → FitsQueues (acted_state state place part part.unit new state.messages (StatusDone place ∷ [])) (sent_world world place (answer_text (tag_of place) answer))
+    → 1 ≤ tag_of place → tag_of place ≤ 248 → (stream_ring world.lines.status (tag_of place)).put ≡ status_td (tag_of place)
+    → status_events place state.events ≡ 0
+    → FitsQueues (acted_state state place part part.unit new state.messages (StatusDone place ∷ []))
+    (sent_world world place (answer_text (tag_of place) answer))
 sent-queues state world place answer part new fits within some most put none =
     let after : World = sent_world world place (answer_text (tag_of place) answer) in
-    let event : Event = Transfer (pointer_of STREAM_RING_PLACES (stream_ring world.lines.status (tag_of place)) 0) (STATUS_LENGTH - length (answer_text (tag_of place) answer)) SHORT_PACKET (endpoint_of Status) SLOT in
+    let event : Event = Transfer (pointer_of STREAM_RING_PLACES (stream_ring world.lines.status (tag_of place)) 0)
+    (STATUS_LENGTH - length (answer_text (tag_of place) answer)) SHORT_PACKET (endpoint_of Status) SLOT in
     let more : carried_places (state.events ++ StatusDone place ∷ []) ≡ carried_places state.events =
     carried_places-append state.events (StatusDone place ∷ []) ∙ append-nil (carried_places state.events) in
     let kept : event_texts (sent_world world place (answer_text (tag_of place) answer)) 0 state.events ≡ event_texts world 0 state.events =
@@ -306,13 +328,15 @@ sent-queues state world place answer part new fits within some most put none =
 
 sent-acted : (state : Shared) (world : World) (place : Place) (entry : Entry) (answer : Answer) (at : IsPlaced state world place entry) → Fits state world
     → entry.task.phase ≡ Begun (Ended answer) → status_events place state.events ≡ 0
-    → IsActed state world (sent_world world place (answer_text (tag_of place) answer)) place at.part at.part.unit (sent_to entry answer) state.messages (StatusDone place ∷ [])
+    → IsActed state world (sent_world world place (answer_text (tag_of place) answer)) place at.part at.part.unit (sent_to entry answer) state.messages
+    (StatusDone place ∷ [])
 sent-acted state world place entry answer at fits ended none =
     let tag = tag-bounds state world place entry at fits in
     let ready : IsStatusReady state world place entry = status-ready state world place entry answer at ended in
     record {
       host = refl;
       controller = refl;
+      engine = refl;
       units = sym (slice_get-back world.device.units place.client at.part.unit at.client.unit_is);
       tasks = λ other apart. held_under-with_other world.device.tasks (tag_of place) other None apart;
       others = sent-others world place (answer_text (tag_of place) answer);
@@ -346,8 +370,10 @@ status-at state world place entry answer at fits is_due named ended opened =
       acted = ap (λ c. c.1) called;
       fits = λ sound.
           subst (λ s. Fits s (status_world world (tag_of place))) (sym stepped)
-          (subst (λ (c : Sides × Acted). Fits (acted_state state place at.part at.part.unit (sent_to entry answer) state.messages (StatusDone place ∷ [])) (with_sides world c.0)) (sym called)
-          (acted-fits state world (sent_world world place (answer_text (tag_of place) answer)) place entry (sent_to entry answer) at.part.unit state.messages (StatusDone place ∷ []) at fits
+          (subst (λ (c : Sides × Acted). Fits
+          (acted_state state place at.part at.part.unit (sent_to entry answer) state.messages (StatusDone place ∷ [])) (with_sides world c.0)) (sym called)
+          (acted-fits state world (sent_world world place (answer_text (tag_of place) answer)) place entry
+          (sent_to entry answer) at.part.unit state.messages (StatusDone place ∷ []) at fits
           (sent-acted state world place entry answer at fits ended (matched-no_status_event state fits.matched (tag_of place) place named is_due))
           (subst IsMatched stepped (shared_step-matched state (StatusStep (tag_of place)) fits.matched))
           (subst (λ (c : Sides × Acted). IsSoundWorld (with_sides world c.0)) called sound)));
@@ -383,32 +409,39 @@ IsTold world tag task is_due =
 
 told-ended : (state : Shared) (world : World) (place : Place) (entry : Entry) (answer : Answer) → IsPlaced state world place entry → Fits state world
     → IsStatusReady state world place entry
-    → IsTold world (tag_of place) (Some (EndedTask (Some place.client) (StatusAnswer answer))) (is_open state.status (tag_of place) && has_trb entry.status_td 1)
+    → IsTold world (tag_of place) (Some (EndedTask (Some place.client) (StatusAnswer answer)))
+    (is_open state.status (tag_of place) && has_trb entry.status_td 1)
 told-ended state world place entry answer at fits ready = (
   status-due state world place entry ready ∙ sym (status-armed state world place entry at fits ready),
   status-own state world place entry answer at fits ready,
 )
 
-told-at : (state : Shared) (world : World) (place : Place) (entry : Entry) (request : Request) (phase : Phase) → IsPlaced state world place entry → Fits state world
-    → entry.task.phase ≡ phase
-    → IsTold world (tag_of place) (phase_task (Some place.client) (asked_by request) phase) (is_ended phase && (is_open state.status (tag_of place) && has_trb entry.status_td 1))
-told-at state world place entry request Queued at fits is = (refl, tt)
-told-at state world place entry (Execute op) (Begun (Moving chunk)) at fits is = (sym (moving-undue world (tag_of place) (chunk_bytes (moved_bytes op) chunk) (direction_of op)), tt)
-told-at state world place entry request (Begun (Ended answer)) at fits is = told-ended state world place entry answer at fits (status-ready state world place entry answer at is)
-told-at state world place entry request (Sent answer) at fits is = (refl, tt)
+told-at : (state : Shared) (world : World) (place : Place) (entry : Entry) (request : Request) (phase : Phase) → IsPlaced state world place entry
+    → Fits state world → IsCommandRequest request → entry.task.phase ≡ phase
+    → IsTold world (tag_of place) (phase_task (Some place.client) request phase)
+    (is_ended phase && (is_open state.status (tag_of place) && has_trb entry.status_td 1))
+told-at state world place entry request Queued at fits command is = (refl, tt)
+told-at state world place entry (Execute op) (Begun (Moving chunk)) at fits command
+    is = (sym (moving-undue world (tag_of place) (chunk_bytes (moved_bytes op) chunk) (direction_of op)), tt)
+told-at state world place entry (Execute op) (Begun (Ended answer)) at fits command is = told-ended state world place entry answer at fits
+    (status-ready state world place entry answer at is)
+told-at state world place entry (Manage what noted) (Begun progress) at fits command is = absurd command
+told-at state world place entry request (Sent answer) at fits command is = (refl, tt)
+told-at state world place entry request Gone at fits command is = (refl, tt)
 
 told : (state : Shared) (world : World) (tag : ℕ) → Fits state world → IsTold world tag (task_of world.device tag) (due state (StatusStep tag))
 told state world tag fits =
     by-tag state world tag (status_is_due state tag) (IsTold world tag) fits (refl, tt)
     (λ place entry same at.
     subst (λ t. IsTold world t (device_task place.client entry) (status_is_due state t entry)) same
-    (told-at state world place entry entry.task.request entry.task.phase at fits refl))
+    (told-at state world place entry entry.task.request entry.task.phase at fits at.matched.here.sound.asks refl))
 
 pub statuses_due : StatusesAreDue
 statuses_due state world tag fits = let it = told state world tag fits in record { due = it.0; own = it.1 }
 
 -- where it isn't due the controller is idle
-unarmed-idle : (controller : ControllerState) (sides : Sides) (tag : ℕ) (wants : Wants) (answer : Option Iu) (armed : Bool) → is_armed controller sides.lines Status tag ≡ armed
+unarmed-idle : (controller : ControllerState) (sides : Sides) (tag : ℕ) (wants : Wants) (answer : Option Iu) (armed : Bool)
+    → is_armed controller sides.lines Status tag ≡ armed
     → (wants ≡ Ends → armed ≡ false) → sent_as controller sides tag wants answer ≡ (sides, Idle)
 unarmed-idle controller sides tag Absent answer armed is none = refl
 unarmed-idle controller sides tag (Gives size) answer armed is none = refl
@@ -419,5 +452,6 @@ unarmed-idle controller sides tag Ends (Some unit) armed is none =
 
 pub status_idle : StatusIsIdle
 status_idle state world tag fits undue =
-    unarmed-idle world.controller (sides_in world) tag (wanted world.device tag) (answered world.device tag) (is_armed world.controller world.lines Status tag) refl
+    unarmed-idle world.controller (sides_in world) tag (wanted world.device tag) (answered world.device tag)
+    (is_armed world.controller world.lines Status tag) refl
     (λ ends. ap (λ w. status_due_by world tag w) (sym ends) ∙ sym (told state world tag fits).0 ∙ undue)

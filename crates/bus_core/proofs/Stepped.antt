@@ -1,6 +1,7 @@
 -- Each step of host and controller, on a world that fits a state: the world after it reads as the shared machine's state after its
 -- step, and the outcome is the shared machine's.
-use Rattle.std.proofs.Common.{◌≡◌, ℕ, zero, suc, ◌-◌, ◌/◌, ◌%◌, ◌<◌, ◌≤◌, true, List, [], ◌∷◌, length, Option, Some, None, IfSome, refl, arith, ap, sym, subst, ◌∙◌}
+use Rattle.std.proofs.Common.{◌≡◌, ℕ, zero, suc, ◌-◌, ◌/◌, ◌%◌, ◌<◌, ◌≤◌, true, List, [], ◌∷◌, length, Option, Some, None, IfSome, refl, arith, ap, sym, subst}
+use Rattle.std.proofs.Common.{◌∙◌}
 use Rattle.std.specs.Prelude.{slice_get, nat_lt, option_and_then, is_some}
 use Rattle.std.proofs.lemmas.Bool.{false≢true}
 use Rattle.std.proofs.lemmas.List.{length-replicate}
@@ -14,13 +15,15 @@ use Rattle.uas_target.specs.declared.TheConstants.{GREATEST_TAG}
 use Rattle.uas_target.specs.declared.DeviceTask.{DeviceTask}
 use Rattle.uas_target.specs.Device.{Device, opening as opening_device}
 use Rattle.scsi_cmd.specs.declared.Reply.{Reply}
-use Rattle.scsi_cmd.specs.declared.Reply.TheVariants.{Status as StatusReply}
+use Rattle.scsi_cmd.specs.declared.Reply.TheVariants.{Aborted}
+use Rattle.scsi_cmd.specs.declared.Request.{Request}
+use Rattle.scsi_cmd.specs.declared.Request.TheVariants.{Execute, Manage}
 use Rattle.scsi_cmd.specs.Held.{held_at}
-use Rattle.device_server.specs.Server.{status_of, sense_of}
-use Rattle.solo_model.specs.declared.TaggedTask.{TaggedTask}
+use Rattle.device_server.specs.declared.Answer.{Answer}
+use Rattle.solo_model.specs.TaggedTask.{TaggedTask}
 use Rattle.solo_model.specs.declared.Phase.{Phase}
-use Rattle.solo_model.specs.declared.Phase.TheVariants.{Queued, Begun, Sent}
-use Rattle.solo_model.specs.TaggedTask.{reply_from}
+use Rattle.solo_model.specs.declared.Phase.TheVariants.{Queued, Begun, Sent, Gone}
+use Rattle.solo_model.specs.TaggedTask.{aborted_by, answered_by, reply_from}
 use Rattle.uas_host.specs.Replies.{Given, replied}
 use Rattle.uas_host.specs.declared.Place.{Place}
 use Rattle.uas_host.specs.declared.Handled.{Handled}
@@ -47,13 +50,21 @@ use Rattle.bus_core.specs.Fits.{Fits, IsSoundWorld}
 use Rattle.bus_core.specs.Decoded.{decoded, FitsItself}
 use Rattle.bus_core.specs.WorldSteps.{event_sides, event_world, take_world, opening_world, CommandFits, DataFits, StatusFits, EventFits, TakeFits}
 use Rattle.bus_core.specs.WorldDue.{marked}
-use Rattle.bus_core.specs.Owners.{acted_as, handled_as, index_of, owner_of, replying}
+use Rattle.bus_core.specs.Owners.{acted_as, handled_as, index_of, mark_by, owner_of, replying}
 use Rattle.bus_core.proofs.MatchedBounds.{held-place}
 use Rattle.bus_core.proofs.MatchedNext.{matched-no_stray}
 use Rattle.bus_core.proofs.MatchedSteps.{IsDueAt, place_fact-due}
 use Rattle.bus_core.proofs.MatchedPlaces.{held-within}
 use Rattle.bus_core.proofs.DeviceTags.{tags-commanded, tags-moved, tags-sent}
-use Rattle.bus_core.proofs.WorldFacts.{reads_back, opening_fits, commands_fit, data_fits, statuses_fit, events_fit, takes_fit, events_are_due, commands_are_marked, data_are_marked, statuses_are_marked, events_are_quiet}
+use Rattle.bus_core.proofs.CommandFits.{command_fits}
+use Rattle.bus_core.proofs.DataDue.{data_fits}
+use Rattle.bus_core.proofs.DueEvents.{events-are-due}
+use Rattle.bus_core.proofs.OpeningFits.{opening-fits}
+use Rattle.bus_core.proofs.OutcomeMarks.{carry-marked, move-marked, send-marked, event-marked}
+use Rattle.bus_core.proofs.ReadBack.{decoded-back}
+use Rattle.bus_core.proofs.SeenCommands.{events-fit}
+use Rattle.bus_core.proofs.StatusFits.{status_fits}
+use Rattle.bus_core.proofs.Taking.{takes-fit}
 
 -- A STEP
 
@@ -65,7 +76,7 @@ pub record IsStepped (state : Shared) (step : Step) (new : World) (outcome : Out
 pub stepped : (state : Shared) (new : World) (step : Step) (outcome : Outcome) → due state step ≡ true → Fits (shared_step state step).0 new
     → (shared_step state step).1 ≡ outcome → IsStepped state step new outcome
 stepped state new step outcome acts fits told =
-    let back : decoded new ≡ (shared_step state step).0 = reads_back (shared_step state step).0 new fits in
+    let back : decoded new ≡ (shared_step state step).0 = decoded-back (shared_step state step).0 new fits in
     let whole : shared_step state step ≡ due_step state step = rw acts refl in
     record {
       fits = subst (λ s. Fits s new) (sym back) fits;
@@ -80,7 +91,8 @@ slot-of place within = omega arith
 client-of : (place : Place) → place.slot < TAGS → owner_of (tag_of place) ≡ place.client
 client-of place within = omega arith
 
-marked-at : (place : Place) (mark : ℕ → Mark) → place.slot < TAGS → marked place.client (mark (suc place.slot)) ≡ marked (owner_of (tag_of place)) (mark (index_of (tag_of place)))
+marked-at : (place : Place) (mark : ℕ → Mark) → place.slot < TAGS
+    → marked place.client (mark (suc place.slot)) ≡ marked (owner_of (tag_of place)) (mark (index_of (tag_of place)))
 marked-at place mark within =
     ap (λ c. marked c (mark (suc place.slot))) (sym (client-of place within))
     ∙ ap (λ s. marked (owner_of (tag_of place)) (mark (suc s))) (sym (slot-of place within))
@@ -88,11 +100,13 @@ marked-at place mark within =
 pub place-named : (clients tag : ℕ) (place : Place) → place_of clients tag ≡ Some place → (place.client ≡ owner_of tag) × (suc place.slot ≡ index_of tag)
 place-named clients zero place is = absurd (none-some place is)
 place-named clients (suc before) place is =
-    let same : record { client = before / TAGS; slot = before % TAGS } ≡ place = (cond_some (nat_lt (before / TAGS) clients) (record { client = before / TAGS; slot = before % TAGS }) place is).1 in
+    let same : record { client = before / TAGS; slot = before % TAGS }
+    ≡ place = (cond_some (nat_lt (before / TAGS) clients) (record { client = before / TAGS; slot = before % TAGS }) place is).1 in
     let less : suc before - 1 ≡ before = omega arith in
     (sym (ap (λ (p : Place). p.client) same) ∙ ap (λ n. n / TAGS) (sym less), ap suc (sym (ap (λ (p : Place). p.slot) same) ∙ ap (λ n. n % TAGS) (sym less)))
 
-marked-named : (clients tag : ℕ) (place : Place) (mark : ℕ → Mark) → place_of clients tag ≡ Some place → marked place.client (mark (suc place.slot)) ≡ marked (owner_of tag) (mark (index_of tag))
+marked-named : (clients tag : ℕ) (place : Place) (mark : ℕ → Mark) → place_of clients tag ≡ Some place
+    → marked place.client (mark (suc place.slot)) ≡ marked (owner_of tag) (mark (index_of tag))
 marked-named clients tag place mark is =
     let named = place-named clients tag place is in
     ap (λ c. marked c (mark (suc place.slot))) named.0 ∙ ap (λ k. marked (owner_of tag) (mark k)) named.1
@@ -105,7 +119,8 @@ pub record IsDone (state : Shared) (world : World) (step : Step) (after : Sides 
   pub fits : IsSoundWorld (with_sides world after.0) → Fits (shared_step state step).0 (with_sides world after.0)
 
 -- so the world after it reads as the shared machine's state
-pub done-stepped : (state : Shared) (world : World) (step : Step) (after : Sides × Acted) (mark : ℕ → Mark) (lines : LinesState) (frames : List TagBuffers) (device : Device) (acted : Acted)
+pub done-stepped : (state : Shared) (world : World) (step : Step) (after : Sides × Acted) (mark : ℕ → Mark) (lines : LinesState)
+    (frames : List TagBuffers) (device : Device) (acted : Acted)
     → due state step ≡ true → Fits state world → IsDone state world step after mark → after ≡ (sides_of lines frames device, acted)
     → IsLines lines → IsWhole frames → length after.0.device.tasks ≡ length world.device.tasks
     → IsStepped state step (world_of world.host world.controller device lines frames) (acted_as mark acted)
@@ -113,7 +128,8 @@ done-stepped state world step after mark lines frames device acted acts fits don
     let sides : after.0 ≡ sides_of lines frames device = ap (λ (a : Sides × Acted). a.0) is in
     let new : with_sides world after.0 ≡ world_of world.host world.controller device lines frames = ap (λ (s : Sides). with_sides world s) sides in
     let tags : length device.tasks ≡ GREATEST_TAG = sym (ap (λ (s : Sides). length s.device.tasks) sides) ∙ kept ∙ fits.sound.tags in
-    let sound : IsSoundWorld (with_sides world after.0) = subst IsSoundWorld (sym new) (record { host = fits.sound.host; lines = standing; frames = whole; tags = tags }) in
+    let sound : IsSoundWorld (with_sides world after.0) = subst IsSoundWorld (sym new)
+    (record { host = fits.sound.host; lines = standing; frames = whole; tags = tags }) in
     stepped state (world_of world.host world.controller device lines frames) step (acted_as mark acted) acts
     (subst (λ w. Fits (shared_step state step).0 w) new (done.fits sound))
     (done.told ∙ ap (λ (a : Sides × Acted). acted_as mark a.1) is)
@@ -124,27 +140,31 @@ carry-by state world [] fits is some = absurd (false≢true some)
 carry-by state world (place ∷ rest) fits is some =
     let own : IsOwnMessage state.parts place = (matched-no_stray state fits.matched).messages 0 place (ap (λ ms. slice_get ms 0) is) in
     let within : IsPlace (length state.parts) place = held-place state place own.entry fits.matched own.held in
-    let it : CommandFits state world place = commands_fit state world place rest fits is in
+    let it : CommandFits state world place = command_fits state world place rest fits is in
     record {
-      told = commands_are_marked state place rest fits.matched is ∙ marked-at place Carry within.slot ∙ ap (acted_as Carry) (sym it.acted);
+      told = carry-marked state place rest fits.matched is ∙ marked-at place Carry within.slot ∙ ap (acted_as Carry) (sym it.acted);
       fits = it.fits;
     }
 
-move-done : (state : Shared) (world : World) (tag : ℕ) → Fits state world → due state (Data tag) ≡ true → IsDone state world (Data tag) (moved world.controller (sides_in world) tag) Move
+move-done : (state : Shared) (world : World) (tag : ℕ) → Fits state world → due state (Data tag) ≡ true
+    → IsDone state world (Data tag) (moved world.controller (sides_in world) tag) Move
 move-done state world tag fits acts =
     let at : IsDueAt state tag (data_is_due state tag) = place_fact-due state tag (data_is_due state tag) acts in
     let it : DataFits state world tag = data_fits state world tag fits acts in
     record {
-      told = data_are_marked state tag at.place fits.matched at.named acts ∙ marked-named (length state.parts) tag at.place Move at.named ∙ ap (acted_as Move) (sym it.acted);
+      told = move-marked state tag at.place fits.matched at.named acts ∙ marked-named (length state.parts) tag at.place Move at.named
+          ∙ ap (acted_as Move) (sym it.acted);
       fits = it.fits;
     }
 
-send-done : (state : Shared) (world : World) (tag : ℕ) → Fits state world → due state (Status tag) ≡ true → IsDone state world (Status tag) (sent_by world.controller (sides_in world) tag) Send
+send-done : (state : Shared) (world : World) (tag : ℕ) → Fits state world → due state (Status tag) ≡ true
+    → IsDone state world (Status tag) (sent_by world.controller (sides_in world) tag) Send
 send-done state world tag fits acts =
     let at : IsDueAt state tag (status_is_due state tag) = place_fact-due state tag (status_is_due state tag) acts in
-    let it : StatusFits state world tag = statuses_fit state world tag fits acts in
+    let it : StatusFits state world tag = status_fits state world tag fits acts in
     record {
-      told = statuses_are_marked state tag at.place fits.matched at.named acts ∙ marked-named (length state.parts) tag at.place Send at.named ∙ ap (acted_as Send) (sym it.acted);
+      told = send-marked state tag at.place fits.matched at.named acts ∙ marked-named (length state.parts) tag at.place Send at.named
+          ∙ ap (acted_as Send) (sym it.acted);
       fits = it.fits;
     }
 
@@ -152,21 +172,26 @@ pub carried : (state : Shared) (world : World) (lines : LinesState) (device : De
     → commanded (sides_in world) ≡ (sides_of lines world.frames device, acted) → IsLines lines → IsWhole world.frames
     → IsStepped state CommandPipe (world_of world.host world.controller device lines world.frames) (acted_as Carry acted)
 carried state world lines device acted fits acts is standing whole =
-    done-stepped state world CommandPipe (commanded (sides_in world)) Carry lines world.frames device acted acts fits (carry-by state world state.messages fits refl acts) is standing whole
+    done-stepped state world CommandPipe (commanded (sides_in world)) Carry lines world.frames device acted acts fits
+    (carry-by state world state.messages fits refl acts) is standing whole
     (tags-commanded (sides_in world))
 
-pub moved-on : (state : Shared) (world : World) (tag : ℕ) (lines : LinesState) (frames : List TagBuffers) (device : Device) (acted : Acted) → Fits state world → due state (Data tag) ≡ true
+pub moved-on : (state : Shared) (world : World) (tag : ℕ) (lines : LinesState) (frames : List TagBuffers) (device : Device) (acted : Acted)
+    → Fits state world → due state (Data tag) ≡ true
     → moved world.controller (sides_in world) tag ≡ (sides_of lines frames device, acted) → IsLines lines → IsWhole frames
     → IsStepped state (Data tag) (world_of world.host world.controller device lines frames) (acted_as Move acted)
 moved-on state world tag lines frames device acted fits acts is standing whole =
-    done-stepped state world (Data tag) (moved world.controller (sides_in world) tag) Move lines frames device acted acts fits (move-done state world tag fits acts) is standing whole
+    done-stepped state world (Data tag) (moved world.controller (sides_in world) tag) Move lines frames device acted acts fits
+    (move-done state world tag fits acts) is standing whole
     (tags-moved world.controller (sides_in world) tag)
 
-pub sent-on : (state : Shared) (world : World) (tag : ℕ) (lines : LinesState) (frames : List TagBuffers) (device : Device) (acted : Acted) → Fits state world → due state (Status tag) ≡ true
+pub sent-on : (state : Shared) (world : World) (tag : ℕ) (lines : LinesState) (frames : List TagBuffers) (device : Device) (acted : Acted)
+    → Fits state world → due state (Status tag) ≡ true
     → sent_by world.controller (sides_in world) tag ≡ (sides_of lines frames device, acted) → IsLines lines → IsWhole frames
     → IsStepped state (Status tag) (world_of world.host world.controller device lines frames) (acted_as Send acted)
 sent-on state world tag lines frames device acted fits acts is standing whole =
-    done-stepped state world (Status tag) (sent_by world.controller (sides_in world) tag) Send lines frames device acted acts fits (send-done state world tag fits acts) is standing whole
+    done-stepped state world (Status tag) (sent_by world.controller (sides_in world) tag) Send lines frames device acted acts fits
+    (send-done state world tag fits acts) is standing whole
     (tags-sent world.controller (sides_in world) tag)
 
 -- a world that reads as a state fits it
@@ -181,55 +206,82 @@ first-slot state done rest all is =
     let own : IsOwnEvent state.parts done = (matched-no_stray state all).events 0 done (ap (λ es. slice_get es 0) is) in
     (held-place state (event_place done) own.entry all own.held).slot
 
-seen-by : (state : Shared) (world : World) (event : Event) (events : List Completion) (host : HostState) (lines : LinesState) (handled_it : Handled) → Fits state world → state.events ≡ events
+seen-by : (state : Shared) (world : World) (event : Event) (events : List Completion) (host : HostState) (lines : LinesState) (handled_it : Handled)
+    → Fits state world → state.events ≡ events
     → is_some_of events ≡ true → slice_get world.lines.events.pending 0 ≡ Some event
     → handled (event_sides world) world.frames event ≡ (record { host = host; lines = lines }, handled_it) → IsHost host → IsLines lines → IsWhole world.frames
     → IsStepped state EventStep (world_of host world.controller world.device lines world.frames) (handled_as handled_it)
 seen-by state world event [] host lines handled_it fits is some first so hosting standing whole = absurd (false≢true some)
 seen-by state world event (done ∷ rest) host lines handled_it fits is some first so hosting standing whole =
-    let it = events_fit state world done rest fits is in
+    let it = events-fit state world done rest fits is in
     let same : it.0 ≡ event = same_Some it.0 event (sym it.1 ∙ first) in
     let fit : EventFits state world event done = subst (λ e. EventFits state world e done) same it.2 in
     let after : event_world world event ≡ world_of host world.controller world.device lines world.frames =
     ap (λ (a : EventSides × Handled). record world { host = a.0.host; lines = a.0.lines }) so in
     let told : (shared_step state EventStep).1 ≡ handled_as handled_it =
-    events_are_quiet state done rest fits.matched is
+    event-marked state done rest fits.matched is
     ∙ ap (λ c. marked c Quiet) (sym (client-of (event_place done) (first-slot state done rest fits.matched is)))
     ∙ ap handled_as (sym fit.matched)
     ∙ ap (λ (a : EventSides × Handled). handled_as a.1) so in
-    let sound : IsSoundWorld (event_world world event) = subst IsSoundWorld (sym after) (record { host = hosting; lines = standing; frames = whole; tags = fits.sound.tags }) in
+    let sound : IsSoundWorld (event_world world event) = subst IsSoundWorld (sym after)
+    (record { host = hosting; lines = standing; frames = whole; tags = fits.sound.tags }) in
     stepped state (world_of host world.controller world.device lines world.frames) EventStep (handled_as handled_it) (ap is_some_of is)
     (subst (λ w. Fits (shared_step state EventStep).0 w) after (fit.fits sound)) told
 
-pub seen-on : (state : Shared) (world : World) (event : Event) (host : HostState) (lines : LinesState) (handled_it : Handled) → Fits state world → due state EventStep ≡ true
+pub seen-on : (state : Shared) (world : World) (event : Event) (host : HostState) (lines : LinesState) (handled_it : Handled) → Fits state world
+    → due state EventStep ≡ true
     → slice_get world.lines.events.pending 0 ≡ Some event
     → handled (event_sides world) world.frames event ≡ (record { host = host; lines = lines }, handled_it) → IsHost host → IsLines lines → IsWhole world.frames
     → IsStepped state EventStep (world_of host world.controller world.device lines world.frames) (handled_as handled_it)
-seen-on state world event host lines handled_it fits acts first so hosting standing whole = seen-by state world event state.events host lines handled_it fits refl acts first so hosting standing whole
+seen-on state world event host lines handled_it fits acts first so hosting standing whole = seen-by state world event state.events host lines handled_it
+    fits refl acts first so hosting standing whole
 
 -- where an event is due one is pending
 pub event-pends : (state : Shared) (world : World) → Fits state world → due state EventStep ≡ true → world.lines.events.pending ≡ [] → ⊥
 event-pends state world fits acts none =
-    false≢true (sym (ap (λ (es : List Event). nat_lt 0 (length es)) none) ∙ sym (events_are_due state world fits) ∙ acts)
+    false≢true (sym (ap (λ (es : List Event). nat_lt 0 (length es)) none) ∙ sym (events-are-due state world fits) ∙ acts)
 
 -- TAKE
 
+-- a reply under the slot's tag marks the step as the settling of its index
+settled-told : (client slot : ℕ) (part : Part) (rest : List ℕ) (reply : Reply) → slot < TAGS → mark_by reply ≡ Settle (index_of (slot_tag client slot))
+    → outcome_of client (settled part slot rest (Some reply)) ≡ replying client (Some reply)
+settled-told client slot part rest reply within marks =
+    let index : slot ≡ (slot_tag client slot - 1) % TAGS = omega arith in
+    ap (λ m. record { acted = true; owner = Some client; mark = m; reply = Some reply; refused = None; doors = record { items = [] } })
+    (ap (λ k. Settle (suc k)) index ∙ sym marks)
+
+answered-marks : (tag ticket : ℕ) (buffer : List ℕ) (answer : Answer) (request : Request)
+    → mark_by (answered_by tag ticket buffer answer request) ≡ Settle (index_of tag)
+answered-marks tag ticket buffer answer (Execute op) = refl
+answered-marks tag ticket buffer answer (Manage what noted) = refl
+
+settled-gone : (client slot : ℕ) (part : Part) (rest : List ℕ) (ticket : ℕ) (buffer : List ℕ) (request : Request) → slot < TAGS
+    → outcome_of client (settled part slot rest (aborted_by (slot_tag client slot) ticket buffer request))
+    ≡ replying client (settled part slot rest (aborted_by (slot_tag client slot) ticket buffer request)).reply
+settled-gone client slot part rest ticket buffer (Execute op) within =
+    settled-told client slot part rest (Aborted (slot_tag client slot) ticket buffer) within refl
+settled-gone client slot part rest ticket buffer (Manage what noted) within = refl
+
 settled-by : (client slot : ℕ) (part : Part) (rest : List ℕ) (task : TaggedTask) (phase : Phase) → slot < TAGS
-    → outcome_of client (settled part slot rest (reply_from (slot_tag client slot) task phase)) ≡ replying client (settled part slot rest (reply_from (slot_tag client slot) task phase)).reply
+    → outcome_of client (settled part slot rest (reply_from (slot_tag client slot) task phase)) ≡ replying client
+    (settled part slot rest (reply_from (slot_tag client slot) task phase)).reply
 settled-by client slot part rest task Queued within = refl
 settled-by client slot part rest task (Begun progress) within = refl
 settled-by client slot part rest task (Sent answer) within =
-    let reply : Reply = StatusReply (slot_tag client slot) task.ticket (status_of answer) (record { items = sense_of answer }) task.buffer in
-    let index : slot ≡ (slot_tag client slot - 1) % TAGS = omega arith in
-    ap (λ k. record { acted = true; owner = Some client; mark = Settle (suc k); reply = Some reply; refused = None; doors = record { items = [] } }) index
+    settled-told client slot part rest (answered_by (slot_tag client slot) task.ticket task.buffer answer task.request) within
+    (answered-marks (slot_tag client slot) task.ticket task.buffer answer task.request)
+settled-by client slot part rest task Gone within = settled-gone client slot part rest task.ticket task.buffer task.request within
 
 settled-held : (client slot : ℕ) (part : Part) (rest : List ℕ) (held : Option Entry) → held_at part.entries slot ≡ held → length part.entries ≡ TAGS
-    → outcome_of client (settled part slot rest (option_and_then (entry_reply (slot_tag client slot)) held)) ≡ replying client (settled part slot rest (option_and_then (entry_reply (slot_tag client slot)) held)).reply
+    → outcome_of client (settled part slot rest (option_and_then (entry_reply (slot_tag client slot)) held)) ≡ replying client
+    (settled part slot rest (option_and_then (entry_reply (slot_tag client slot)) held)).reply
 settled-held client slot part rest None is long = refl
 settled-held client slot part rest (Some entry) is long =
     settled-by client slot part rest entry.task entry.task.phase (omega (arith, held-within part.entries slot entry is, long))
 
-taken-told : (client : ℕ) (part : Part) (queue : List ℕ) → length part.entries ≡ TAGS → outcome_of client (taken client part queue) ≡ replying client (taken client part queue).reply
+taken-told : (client : ℕ) (part : Part) (queue : List ℕ) → length part.entries ≡ TAGS
+    → outcome_of client (taken client part queue) ≡ replying client (taken client part queue).reply
 taken-told client part [] long = refl
 taken-told client part (slot ∷ rest) long = settled-held client slot part rest (held_at part.entries slot) refl long
 
@@ -238,18 +290,22 @@ routed-told : (state : Shared) (client : ℕ) (found : Option Part) → IfSome f
 routed-told state client None long = refl
 routed-told state client (Some part) long = taken-told client part part.ready long
 
-take-told : (state : Shared) (client : ℕ) → IsMatched state → due state (Take client) ≡ true → (shared_step state (Take client)).1 ≡ replying client (shared_step state (Take client)).1.reply
+take-told : (state : Shared) (client : ℕ) → IsMatched state → due state (Take client) ≡ true
+    → (shared_step state (Take client)).1 ≡ replying client (shared_step state (Take client)).1.reply
 take-told state client all acts =
     let whole : shared_step state (Take client) ≡ routed state client (take_act client) = rw acts refl in
     subst (λ (a : Shared × Outcome). a.1 ≡ replying client a.1.reply) (sym whole) (routed-told state client (slice_get state.parts client) (all.slots client))
 
-pub taken-on : (state : Shared) (world : World) (client : ℕ) (host : HostState) (frames : List TagBuffers) (reply : Option Reply) → Fits state world → due state (Take client) ≡ true
+pub taken-on : (state : Shared) (world : World) (client : ℕ) (host : HostState) (frames : List TagBuffers) (reply : Option Reply) → Fits state world
+    → due state (Take client) ≡ true
     → replied world.host world.frames client ≡ record { host = host; frames = frames; reply = reply } → IsHost host → IsLines world.lines → IsWhole frames
     → IsStepped state (Take client) (world_of host world.controller world.device world.lines frames) (replying client reply)
 taken-on state world client host frames reply fits acts so hosting standing whole =
-    let fit : TakeFits state world client = takes_fit state world client fits acts in
-    let after : take_world world client ≡ world_of host world.controller world.device world.lines frames = ap (λ (g : Given). record world { host = g.host; frames = g.frames }) so in
-    let sound : IsSoundWorld (take_world world client) = subst IsSoundWorld (sym after) (record { host = hosting; lines = standing; frames = whole; tags = fits.sound.tags }) in
+    let fit : TakeFits state world client = takes-fit state world client fits acts in
+    let after : take_world world client ≡ world_of host world.controller world.device world.lines frames = ap
+    (λ (g : Given). record world { host = g.host; frames = g.frames }) so in
+    let sound : IsSoundWorld (take_world world client) = subst IsSoundWorld (sym after)
+    (record { host = hosting; lines = standing; frames = whole; tags = fits.sound.tags }) in
     stepped state (world_of host world.controller world.device world.lines frames) (Take client) (replying client reply) acts
     (subst (λ w. Fits (shared_step state (Take client)).0 w) after (fit.fits sound))
     (take-told state client fits.matched acts ∙ ap (replying client) (sym fit.reply) ∙ ap (λ (g : Given). replying client g.reply) so)
@@ -273,12 +329,14 @@ opened-at units clients lines some most count new hosting standing whole =
     let sound : IsSoundWorld world = record { host = hosting; lines = standing; frames = whole; tags = length-replicate {A = Option DeviceTask} 248 None } in
     let fits : Fits (opening units) world =
     subst (λ n. Fits (opening units) (opening_world units n lines)) (sym count)
-    (opening_fits units lines some most new (subst (λ n. IsSoundWorld (opening_world units n lines)) count sound)) in
-    let back : decoded world ≡ opening units = reads_back (opening units) world fits in
+    (opening-fits units lines some most new (subst (λ n. IsSoundWorld (opening_world units n lines)) count sound)) in
+    let back : decoded world ≡ opening units = decoded-back (opening units) world fits in
     record { fits = subst (λ s. Fits s world) (sym back) fits; opens = back }
 
-pub opened : (units : List BlockMaps) (clients : ℕ) (host : HostState) (controller : ControllerState) (device : Device) (lines : LinesState) (frames : List TagBuffers)
-    → 1 ≤ length units → length units ≤ 31 → clients ≡ length units → host ≡ opening_host clients → controller ≡ new_controller → device ≡ opening_device units → frames ≡ opening_frames
+pub opened : (units : List BlockMaps) (clients : ℕ) (host : HostState) (controller : ControllerState) (device : Device) (lines : LinesState)
+    (frames : List TagBuffers)
+    → 1 ≤ length units → length units ≤ 31 → clients ≡ length units → host ≡ opening_host clients → controller ≡ new_controller
+    → device ≡ opening_device units → frames ≡ opening_frames
     → IsOpeningLines lines → IsHost host → IsLines lines → IsWhole frames → IsOpened units (world_of host controller device lines frames)
 opened units clients host controller device lines frames some most count host_is controller_is device_is frames_is new hosting standing whole =
     let same : world_of (opening_host clients) new_controller (opening_device units) lines opening_frames ≡ world_of host controller device lines frames =

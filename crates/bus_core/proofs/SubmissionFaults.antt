@@ -26,7 +26,8 @@ pub fault_at-found : (world : World) (client slot ticket : ℕ) (command : Comma
 fault_at-found world client slot ticket command part it within =
     let is : client_of world.host client ≡ it.held = client_of-found world.host client it.held it.held_is in
     let same : is_some (held_at (client_of world.host client).entries slot) ≡ is_some (held_at part.entries slot) =
-    FitsHeld-some client part.unit.count (place_in client slot) (held_at part.entries slot) (cell_at world (place_in client slot)) (it.fits.cells slot within) in
+    FitsHeld-some client part.unit.count (place_in client slot) (held_at part.entries slot) (cell_at world (place_in client slot))
+    (it.fits.cells slot within) in
     ap (λ used. first_submit_fault true used (client_of world.host client).least ticket command) same
     ∙ ap (λ (c : HostClient). first_submit_fault true (is_some (held_at part.entries slot)) c.least ticket command) is
     ∙ ap (λ least. first_submit_fault true (is_some (held_at part.entries slot)) least ticket command) (sym it.fits.least)
@@ -36,7 +37,8 @@ answered-fault : (state : Shared) (part : Part) (place : Place) (tag ticket : �
 answered-fault state part place tag ticket command None = refl
 answered-fault state part place tag ticket command (Some fault) = refl
 
-to-fault : (state : Shared) (world : World) (client slot tag ticket : ℕ) (command : Command) (at : Option Part) → Fits state world → slice_get state.parts client ≡ at
+to-fault : (state : Shared) (world : World) (client slot tag ticket : ℕ) (command : Command) (at : Option Part) → Fits state world
+    → slice_get state.parts client ≡ at
     → client < length state.parts → slot < TAGS
     → host_fault_at (client_of world.host client) ticket command (Some slot)
     ≡ option_map fault_in (submitted_to state (record { client = client; slot = slot }) tag ticket command at).1.refused

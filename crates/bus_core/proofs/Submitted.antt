@@ -1,5 +1,6 @@
 -- A submission of the host, on a world that fits a state, is the shared machine's.
-use Rattle.std.proofs.Common.{◌≡◌, ℕ, suc, ◌+◌, ◌*◌, ◌^◌, ◌<◌, List, [], ◌∷◌, ◌++◌, length, Option, Some, None, MatchOption, Result, Ok, Err, refl, arith, ap, sym, subst, ◌∙◌}
+use Rattle.std.proofs.Common.{◌≡◌, ℕ, suc, ◌+◌, ◌*◌, ◌^◌, ◌<◌, List, [], ◌∷◌, ◌++◌, length, Option, Some, None, MatchOption, Result, Ok, Err, refl, arith, ap}
+use Rattle.std.proofs.Common.{sym, subst, ◌∙◌}
 use Rattle.std.specs.Prelude.{slice_get, nat_lt, option_map, ◌==◌, ◌&&◌}
 use Rattle.std.proofs.lemmas.Option.{cond_some, option_and_then_some}
 use Rattle.arrayvec.specs.ArrayVec.{ArrayVec}
@@ -13,6 +14,7 @@ use Rattle.scsi_cmd.specs.declared.SubmitFault.{SubmitFault}
 use Rattle.scsi_cmd.specs.declared.TheConstants.{TASK_SLOT}
 use Rattle.scsi_cmd.specs.Op.{direction_of}
 use Rattle.uas_host.specs.Doors.{submission_doors as host_doors}
+use Rattle.uas_host.specs.Retirement.{is_held}
 use Rattle.uas_host.specs.State.{HostState, IsHost}
 use Rattle.uas_host.specs.Submit.{host_fault, lent, submitted}
 use Rattle.uas_host.specs.Tags.{command_slot, own_slot, place_of}
@@ -28,10 +30,13 @@ use Rattle.bus_core.specs.Decoded.{decoded, FitsItself}
 use Rattle.bus_core.specs.WorldSteps.{SubmitFits, fault_in, rung_all, submit_world}
 use Rattle.bus_core.specs.Owners.{index_of, submitted_as}
 use Rattle.bus_core.proofs.Stepped.{place-named}
-use Rattle.bus_core.proofs.WorldFacts.{reads_back, faults_agree, submissions_fit}
+use Rattle.bus_core.proofs.Submitting.{free_doors, none_held}
+use Rattle.bus_core.proofs.ReadBack.{decoded-back}
+use Rattle.bus_core.proofs.SubmissionFaults.{faults-agree}
+use Rattle.bus_core.proofs.Submitting.{submissions-fit}
 
 -- the doorbells are the same numbers
-doors-same : (way : Direction) (tag : ℕ) → submission_doors way tag ≡ host_doors way tag
+doors-same : (way : Direction) (tag : ℕ) → submission_doors way tag ≡ free_doors way tag
 doors-same Nothing tag = let status : tag * 2 ^ 16 + 3 ≡ 3 + 2 ^ 16 * tag = omega arith in ap (λ d. d ∷ 2 ∷ []) status
 doors-same ToHost tag =
     let status : tag * 2 ^ 16 + 3 ≡ 3 + 2 ^ 16 * tag = omega arith in
@@ -55,7 +60,7 @@ slot-named clients client tag slot is =
 abbrev Answers : Shared → ℕ → ℕ → Command → Shared × Outcome → Type 0
 Answers state client tag command after =
     MatchOption (option_map fault_in after.1.refused)
-    (after.1 ≡ acceptance client (SubmitMark (index_of tag)) (host_doors (direction_of command.op) tag))
+    (after.1 ≡ acceptance client (SubmitMark (index_of tag)) (free_doors (direction_of command.op) tag))
     (λ fault. after ≡ (state, refusal client fault command))
 
 answers-fault : (state : Shared) (client slot tag ticket : ℕ) (command : Command) (part : Part) (fault : Option SubmitFault) → suc slot ≡ index_of tag
@@ -68,7 +73,8 @@ answers-fault state client slot tag ticket command part (Some fault) index = ref
 answers-part : (state : Shared) (client slot tag ticket : ℕ) (command : Command) (part : Option Part) → suc slot ≡ index_of tag
     → Answers state client tag command (submitted_to state (record { client = client; slot = slot }) tag ticket command part)
 answers-part state client slot tag ticket command None index = refl
-answers-part state client slot tag ticket command (Some part) index = answers-fault state client slot tag ticket command part (fault_at part slot ticket command) index
+answers-part state client slot tag ticket command (Some part) index = answers-fault state client slot tag ticket command part
+    (fault_at part slot ticket command) index
 
 answers-slot : (state : Shared) (client tag ticket : ℕ) (command : Command) (slot : Option ℕ) → command_slot (length state.parts) client tag ≡ slot
     → Answers state client tag command (submitted_under state client tag ticket command slot)
@@ -84,7 +90,7 @@ answers state client tag ticket command = answers-slot state client tag ticket c
 abbrev Accepts : World → ℕ → ℕ → ℕ → Command → HostState → LinesState → List TagBuffers → List ℕ → Result (Unit {0}) (SubmitFault × Command) → Type 0
 Accepts world client tag ticket command host lines frames doors answer =
     (answer ≡ Ok (record {})) × (host ≡ submitted world.host client tag ticket command.op) × (lines ≡ pushed world.lines tag command.op)
-    × (frames ≡ lent world.frames client tag command) × (doors ≡ host_doors (direction_of command.op) tag)
+    × (frames ≡ lent world.frames client tag command) × (doors ≡ host_doors (is_held world.host) (direction_of command.op) tag)
 
 abbrev Refuses : World → Command → HostState → LinesState → List TagBuffers → List ℕ → Result (Unit {0}) (SubmitFault × Command) → SubmitFault → Type 0
 Refuses world command host lines frames doors answer fault =
@@ -94,56 +100,71 @@ pub record IsSubmitted (state : Shared) (client tag ticket : ℕ) (command : Com
   pub fits : FitsItself new
   pub shared : submit_step state client tag ticket command ≡ (decoded new, outcome)
 
-submitted-by : (state : Shared) (world : World) (client tag ticket : ℕ) (command : Command) (host : HostState) (lines : LinesState) (frames : List TagBuffers) (doors : List ℕ)
-    (answer : Result (Unit {0}) (SubmitFault × Command)) (fault : Option SubmitFault) → Fits state world → ticket < 2 ^ 60 → host_fault world.host client tag ticket command ≡ fault
+submitted-by : (state : Shared) (world : World) (client tag ticket : ℕ) (command : Command) (host : HostState) (lines : LinesState)
+    (frames : List TagBuffers) (doors : List ℕ)
+    (answer : Result (Unit {0}) (SubmitFault × Command)) (fault : Option SubmitFault) → Fits state world → ticket < 2 ^ 60
+    → host_fault world.host client tag ticket command ≡ fault
     → MatchOption fault (Accepts world client tag ticket command host lines frames doors answer) (Refuses world command host lines frames doors answer)
-    → MatchOption fault ((submit_step state client tag ticket command).1 ≡ acceptance client (SubmitMark (index_of tag)) (host_doors (direction_of command.op) tag))
+    → MatchOption fault ((submit_step state client tag ticket command).1 ≡ acceptance client (SubmitMark (index_of tag))
+    (free_doors (direction_of command.op) tag))
     (λ f. submit_step state client tag ticket command ≡ (state, refusal client f command))
     → IsHost host → IsLines lines → IsWhole frames
-    → IsSubmitted state client tag ticket command (world_of host (rung_all world.controller doors) world.device lines frames) (submitted_as client tag doors answer)
+    → IsSubmitted state client tag ticket command (world_of host (rung_all world.controller doors) world.device lines frames)
+    (submitted_as client tag doors answer)
 submitted-by state world client tag ticket command host lines frames doors answer None fits small is accepts told hosting standing whole =
     let new : World = world_of host (rung_all world.controller doors) world.device lines frames in
-    let fit : SubmitFits state world client tag ticket command = submissions_fit state world client tag ticket command fits small is in
+    let fit : SubmitFits state world client tag ticket command = submissions-fit state world client tag ticket command fits small is in
     let after : submit_world world client tag ticket command ≡ new = rw (accepts.1, accepts.2, accepts.3, accepts.4) refl in
     let sound : IsSoundWorld (submit_world world client tag ticket command) =
     subst IsSoundWorld (sym after) (record { host = hosting; lines = standing; frames = whole; tags = fits.sound.tags }) in
-    let now : Fits (submit_step state client tag ticket command).0 new = subst (λ w. Fits (submit_step state client tag ticket command).0 w) after (fit.fits sound) in
-    let back : decoded new ≡ (submit_step state client tag ticket command).0 = reads_back (submit_step state client tag ticket command).0 new now in
+    let now : Fits (submit_step state client tag ticket command).0 new = subst (λ w. Fits (submit_step state client tag ticket command).0 w) after
+    (fit.fits sound) in
+    let back : decoded new ≡ (submit_step state client tag ticket command).0 = decoded-back (submit_step state client tag ticket command).0 new now in
     record {
       fits = subst (λ s. Fits s new) (sym back) now;
       shared =
           ap (λ s. (s, (submit_step state client tag ticket command).1)) (sym back)
-          ∙ ap (λ o. (decoded new, o)) (told ∙ ap (λ d. acceptance client (SubmitMark (index_of tag)) d) (sym accepts.4) ∙ ap (submitted_as client tag doors) (sym accepts.0));
+          ∙ ap (λ o. (decoded new, o)) (told
+          ∙ ap (λ d. acceptance client (SubmitMark (index_of tag)) d)
+          (sym (accepts.4 ∙ none_held world.host (direction_of command.op) tag fits.engine.retirement))
+          ∙ ap (submitted_as client tag doors) (sym accepts.0));
     }
 submitted-by state world client tag ticket command host lines frames doors answer (Some fault) fits small is refuses told hosting standing whole =
     let new : World = world_of host (rung_all world.controller doors) world.device lines frames in
     let same : world ≡ new = rw (refuses.1, refuses.2, refuses.3, refuses.4) refl in
-    let back : decoded new ≡ state = ap decoded (sym same) ∙ reads_back state world fits in
+    let back : decoded new ≡ state = ap decoded (sym same) ∙ decoded-back state world fits in
     record {
       fits = subst (λ s. Fits s new) (sym back) (subst (λ w. Fits state w) same fits);
       shared = told ∙ ap (λ s. (s, refusal client fault command)) (sym back) ∙ ap (λ a. (decoded new, submitted_as client tag doors a)) (sym refuses.0);
     }
 
-pub submitted-on : (state : Shared) (world : World) (client tag ticket : ℕ) (command : Command) (host : HostState) (lines : LinesState) (frames : List TagBuffers) (doors : List ℕ)
+pub submitted-on : (state : Shared) (world : World) (client tag ticket : ℕ) (command : Command) (host : HostState) (lines : LinesState)
+    (frames : List TagBuffers) (doors : List ℕ)
     (answer : Result (Unit {0}) (SubmitFault × Command)) → Fits state world → ticket < 2 ^ 60
-    → MatchOption (host_fault world.host client tag ticket command) (Accepts world client tag ticket command host lines frames doors answer) (Refuses world command host lines frames doors answer)
+    → MatchOption (host_fault world.host client tag ticket command) (Accepts world client tag ticket command host lines frames doors answer)
+    (Refuses world command host lines frames doors answer)
     → IsHost host → IsLines lines → IsWhole frames
-    → IsSubmitted state client tag ticket command (world_of host (rung_all world.controller doors) world.device lines frames) (submitted_as client tag doors answer)
+    → IsSubmitted state client tag ticket command (world_of host (rung_all world.controller doors) world.device lines frames)
+    (submitted_as client tag doors answer)
 submitted-on state world client tag ticket command host lines frames doors answer fits small host_answers hosting standing whole =
-    submitted-by state world client tag ticket command host lines frames doors answer (host_fault world.host client tag ticket command) fits small refl host_answers
-    (subst (λ fault. MatchOption fault ((submit_step state client tag ticket command).1 ≡ acceptance client (SubmitMark (index_of tag)) (host_doors (direction_of command.op) tag))
-    (λ f. submit_step state client tag ticket command ≡ (state, refusal client f command))) (sym (faults_agree state world client tag ticket command fits)) (answers state client tag ticket command))
+    submitted-by state world client tag ticket command host lines frames doors answer
+    (host_fault world.host client tag ticket command) fits small refl host_answers
+    (subst (λ fault. MatchOption fault
+    ((submit_step state client tag ticket command).1 ≡ acceptance client (SubmitMark (index_of tag)) (free_doors (direction_of command.op) tag))
+    (λ f. submit_step state client tag ticket command ≡ (state, refusal client f command)))
+    (sym (faults-agree state world client tag ticket command fits)) (answers state client tag ticket command))
     hosting standing whole
 
 -- the doorbells were noted on an empty list
-pub cleared : (world : World) (client tag ticket : ℕ) (command : Command) (host : HostState) (lines : LinesState) (frames : List TagBuffers) (old new : ArrayVec ℕ)
+pub cleared : (world : World) (client tag ticket : ℕ) (command : Command) (host : HostState) (lines : LinesState) (frames : List TagBuffers)
+    (old new : ArrayVec ℕ)
     (answer : Result (Unit {0}) (SubmitFault × Command)) (fault : Option SubmitFault) → old.items ≡ []
     → MatchOption fault
     ((answer ≡ Ok (record {})) × (host ≡ submitted world.host client tag ticket command.op) × (lines ≡ pushed world.lines tag command.op)
-    × (frames ≡ lent world.frames client tag command) × (new.items ≡ old.items ++ host_doors (direction_of command.op) tag))
+    × (frames ≡ lent world.frames client tag command) × (new.items ≡ old.items ++ host_doors (is_held world.host) (direction_of command.op) tag))
     (λ f. (answer ≡ Err (f, command)) × (host ≡ world.host) × (lines ≡ world.lines) × (frames ≡ world.frames) × (new ≡ old))
     → MatchOption fault (Accepts world client tag ticket command host lines frames new.items answer) (Refuses world command host lines frames new.items answer)
 cleared world client tag ticket command host lines frames old new answer None empty it =
-    (it.0, it.1, it.2, it.3, it.4 ∙ ap (λ ds. ds ++ host_doors (direction_of command.op) tag) empty)
+    (it.0, it.1, it.2, it.3, it.4 ∙ ap (λ ds. ds ++ host_doors (is_held world.host) (direction_of command.op) tag) empty)
 cleared world client tag ticket command host lines frames old new answer (Some fault) empty it =
     (it.0, it.1, it.2, it.3, ap (λ (d : ArrayVec ℕ). d.items) it.4 ∙ empty)

@@ -1,5 +1,6 @@
 -- A submission without a fault: its rings have room, and the world after it fits the shared machine after it.
-use Rattle.std.proofs.Common.{◌≡◌, ℕ, ◌+◌, ◌-◌, ◌*◌, ◌/◌, ◌%◌, ◌<◌, ◌≤◌, true, false, cond, List, [], ◌∷◌, ◌++◌, length, length-set, map, Option, Some, None, is_some, option_map, refl, arith, ap, sym, subst, ◌∙◌}
+use Rattle.std.proofs.Common.{◌≡◌, ℕ, ◌+◌, ◌-◌, ◌*◌, ◌/◌, ◌%◌, ◌<◌, ◌≤◌, true, false, cond, List, [], ◌∷◌, ◌++◌, length, length-set, map, Option, Some, None}
+use Rattle.std.proofs.Common.{is_some, option_map, refl, arith, ap, sym, subst, ◌∙◌}
 use Rattle.std.specs.Prelude.{slice_get, slice_set, ◌==◌}
 use Rattle.std.specs.Option.{option_map_or}
 use Rattle.std.proofs.lemmas.Bool.{eqb-true, lt-ltb, le-leb, false≢true}
@@ -26,8 +27,11 @@ use Rattle.scsi_cmd.specs.Op.{direction_of, moved_bytes}
 use Rattle.uas_host.specs.declared.Place.{Place}
 use Rattle.uas_host.specs.declared.HostClient.{HostClient}
 use Rattle.uas_host.specs.Doors.{door, submission_doors}
-use Rattle.uas_host.specs.State.{client_of}
-use Rattle.uas_host.specs.Submit.{HasRoomFor, host_fault, fault_at as host_fault_at, new_entry as host_entry, data_td_for as host_data_td, slot_of, submitted_client}
+use Rattle.uas_host.specs.declared.Retirement.{Retirement}
+use Rattle.uas_host.specs.Retirement.{is_held, same_pipe}
+use Rattle.uas_host.specs.State.{HostState, client_of}
+use Rattle.uas_host.specs.Submit.{HasRoomFor, host_fault, fault_at as host_fault_at, new_entry as host_entry, data_td_for as host_data_td, slot_of}
+use Rattle.uas_host.specs.Submit.{submitted_client}
 use Rattle.uas_host.specs.Tags.{command_slot, tag_of}
 use Rattle.uas_host.specs.Tds.{HasDataRoom, command_td, data_td, data_trbs as trbs_from, status_td, put_on, with_data_td}
 use Rattle.xhci_ctl.specs.Doorbells.{rung_by, rung_in, rung_on, pipe_at}
@@ -42,9 +46,10 @@ use Rattle.bus_core.specs.World.{World, cell_at}
 use Rattle.bus_core.specs.Cells.{HoldsTrbs, HoldsData, data_in_td, data_out_td, state_of, host_side, FitsHeld, FitsCell, IsEmptyCell}
 use Rattle.bus_core.specs.Fits.{Fits, FitsQueues, IsSoundWorld, command_trb, event_texts, place_in}
 use Rattle.bus_core.specs.WorldSteps.{SubmissionsFit, SubmitFits, submit_world, rung_all}
-use Rattle.bus_core.proofs.CellWrites.{get-none, stream_ring-same, stream_ring-other, held_for-same, held_for-other, client_of-found, entry_at-same, entry_at-other, clients-length, get-within}
+use Rattle.bus_core.proofs.CellWrites.{get-none, stream_ring-same, stream_ring-other, held_for-same, held_for-other, client_of-found, entry_at-same}
+use Rattle.bus_core.proofs.CellWrites.{entry_at-other, clients-length, get-within}
 use Rattle.bus_core.proofs.EventTexts.{KeepsOthers, event_texts-one}
-use Rattle.bus_core.proofs.Framing.{AllFit-set, FitsPart-set, ChangesCell, IsFound, found}
+use Rattle.bus_core.proofs.Framing.{AllFit-set, FitsPart-set, ChangesCell, IsFound, engine-kept, found}
 use Rattle.bus_core.proofs.MatchedBounds.{matched-room}
 use Rattle.bus_core.proofs.MatchedEntries.{unfaulted, IsUnfaulted}
 use Rattle.bus_core.proofs.MatchedNext.{accepted-trbs}
@@ -78,7 +83,8 @@ accepted-part state world client tag slot ticket command (Some part) fits named 
       own = own;
       named = named;
       there = is;
-      unfaulted = sym (fault_at-found world client slot ticket command part (found world state.parts client part fits.clients is) (omega (arith, own.within))) ∙ none;
+      unfaulted = sym (fault_at-found world client slot ticket command part (found world state.parts client part fits.clients is)
+          (omega (arith, own.within))) ∙ none;
     }
 
 accepted-slot : (state : Shared) (world : World) (client tag ticket : ℕ) (command : Command) (slot : Option ℕ) → Fits state world
@@ -92,7 +98,8 @@ accepted-is : (state : Shared) (world : World) (client tag ticket : ℕ) (comman
     → host_fault world.host client tag ticket command ≡ None → IsAccepted state client tag ticket command
 accepted-is state world client tag ticket command fits none =
     accepted-slot state world client tag ticket command (command_slot (length state.parts) client tag) fits refl
-    (ap (λ n. host_fault_at (client_of world.host client) ticket command (command_slot n client tag)) (sym (clients-length world state.parts fits.clients)) ∙ none)
+    (ap (λ n. host_fault_at (client_of world.host client) ticket command (command_slot n client tag))
+    (sym (clients-length world state.parts fits.clients)) ∙ none)
 
 submit_step-is : (state : Shared) (client tag ticket : ℕ) (command : Command) (it : IsAccepted state client tag ticket command)
     → (submit_step state client tag ticket command).0 ≡ (accepted state it.part (place_in client it.slot) tag ticket command).0
@@ -104,7 +111,8 @@ submit_step-is state client tag ticket command it =
 -- THE DOORBELLS
 
 with_streams_rung-is : (state : Shared) (way : Direction) (tag : ℕ)
-    → with_streams_rung state way tag ≡ record state { status = rung_at state.status tag; data_in = data_in_after way state.data_in tag; data_out = data_out_after way state.data_out tag }
+    → with_streams_rung state way tag ≡ record state
+    { status = rung_at state.status tag; data_in = data_in_after way state.data_in tag; data_out = data_out_after way state.data_out tag }
 with_streams_rung-is state Nothing tag = refl
 with_streams_rung-is state ToHost tag = refl
 with_streams_rung-is state ToDevice tag = refl
@@ -121,9 +129,21 @@ rung_by-door : (controller : ControllerState) (target tag : ℕ) (pipe : Pipe) �
 rung_by-door controller target tag pipe small has is =
     ap (λ rung. option_map_or (λ r. rung_on controller r.0 r.1) rung controller) (rung_in-door target tag pipe small has is)
 
+-- no pipe is held, so no doorbell is left out
+abbrev pub free_doors : Direction → ℕ → List ℕ
+free_doors way tag = submission_doors (λ pipe. false) way tag
+
+pub none_held : (host : HostState) (way : Direction) (tag : ℕ) → host.retirement ≡ None → submission_doors (is_held host) way tag ≡ free_doors way tag
+none_held host way tag none =
+    ap (λ r. submission_doors (λ pipe. option_map_or (λ (retirement : Retirement). same_pipe retirement.pipe pipe) r false) way tag) none
+
 rung_all-is : (controller : ControllerState) (way : Direction) (tag : ℕ) → has_stream tag ≡ true
-    → rung_all controller (submission_doors way tag)
-    ≡ record { status = rung_at controller.status tag; data_in = data_in_after way controller.data_in tag; data_out = data_out_after way controller.data_out tag }
+    → rung_all controller (free_doors way tag)
+    ≡ record {
+      status = rung_at controller.status tag;
+      data_in = data_in_after way controller.data_in tag;
+      data_out = data_out_after way controller.data_out tag;
+    }
 rung_all-is controller Nothing tag has = ap (λ c. rung_by c (door 2 0)) (rung_by-door controller 3 tag StatusPipe (omega arith) has refl)
 rung_all-is controller ToHost tag has =
     ap (λ c. rung_by (rung_by c (door 3 tag)) (door 2 0)) (rung_by-door controller 5 tag DataIn (omega arith) has refl)
@@ -144,6 +164,11 @@ lines-command lines Nothing tag bytes = refl
 lines-command lines ToHost tag bytes = refl
 lines-command lines ToDevice tag bytes = refl
 
+lines-engine : (lines : LinesState) (way : Direction) (tag bytes : ℕ) → (lines_after lines way tag bytes).engine ≡ lines.engine
+lines-engine lines Nothing tag bytes = refl
+lines-engine lines ToHost tag bytes = refl
+lines-engine lines ToDevice tag bytes = refl
+
 lines-events : (lines : LinesState) (way : Direction) (tag bytes : ℕ) → (lines_after lines way tag bytes).events ≡ lines.events
 lines-events lines Nothing tag bytes = refl
 lines-events lines ToHost tag bytes = refl
@@ -161,14 +186,16 @@ lines-status lines ToDevice tag bytes = refl
 data_in-other : (lines : LinesState) (way : Direction) (tag bytes other : ℕ) → 0 < tag → 0 < other → (other ≡ tag → ⊥)
     → stream_ring (lines_after lines way tag bytes).data_in other ≡ stream_ring lines.data_in other
 data_in-other lines Nothing tag bytes other some there apart = refl
-data_in-other lines ToHost tag bytes other some there apart = stream_ring-other lines.data_in tag other (ring_put lines.data_in tag (data_td tag bytes)) some there apart
+data_in-other lines ToHost tag bytes other some there apart = stream_ring-other lines.data_in tag other
+    (ring_put lines.data_in tag (data_td tag bytes)) some there apart
 data_in-other lines ToDevice tag bytes other some there apart = refl
 
 data_out-other : (lines : LinesState) (way : Direction) (tag bytes other : ℕ) → 0 < tag → 0 < other → (other ≡ tag → ⊥)
     → stream_ring (lines_after lines way tag bytes).data_out other ≡ stream_ring lines.data_out other
 data_out-other lines Nothing tag bytes other some there apart = refl
 data_out-other lines ToHost tag bytes other some there apart = refl
-data_out-other lines ToDevice tag bytes other some there apart = stream_ring-other lines.data_out tag other (ring_put lines.data_out tag (data_td tag bytes)) some there apart
+data_out-other lines ToDevice tag bytes other some there apart = stream_ring-other lines.data_out tag other
+    (ring_put lines.data_out tag (data_td tag bytes)) some there apart
 
 -- a ring with a data TD, if any, that was just put on it
 holds_pushed : (ring : Ring) (tag bytes : ℕ) → HoldsTrbs ring (data_td tag bytes) 0 → HoldsData ring (data_td tag bytes) (data_td_for bytes)
@@ -193,12 +220,14 @@ data_in-holds lines ToHost tag bytes some within holds =
     holds_pushed (stream_ring (lines_after lines ToHost tag bytes).data_in tag) tag bytes (put_empty lines.data_in tag (data_td tag bytes) some within holds)
 data_in-holds lines ToDevice tag bytes some within holds = holds
 
-data_out-holds : (lines : LinesState) (way : Direction) (tag bytes : ℕ) → 0 < tag → tag ≤ length lines.data_out → HoldsTrbs (stream_ring lines.data_out tag) [] 0
+data_out-holds : (lines : LinesState) (way : Direction) (tag bytes : ℕ) → 0 < tag → tag ≤ length lines.data_out
+    → HoldsTrbs (stream_ring lines.data_out tag) [] 0
     → HoldsData (stream_ring (lines_after lines way tag bytes).data_out tag) (data_td tag bytes) (data_out_td way (data_td_for bytes))
 data_out-holds lines Nothing tag bytes some within holds = holds
 data_out-holds lines ToHost tag bytes some within holds = holds
 data_out-holds lines ToDevice tag bytes some within holds =
-    holds_pushed (stream_ring (lines_after lines ToDevice tag bytes).data_out tag) tag bytes (put_empty lines.data_out tag (data_td tag bytes) some within holds)
+    holds_pushed (stream_ring (lines_after lines ToDevice tag bytes).data_out tag) tag bytes
+    (put_empty lines.data_out tag (data_td tag bytes) some within holds)
 
 -- ROOM
 
@@ -241,7 +270,8 @@ free-at : (state : Shared) (world : World) (client tag ticket : ℕ) (command : 
     → IsFreeAt state world client at.slot ticket command at.part
 free-at state world client tag ticket command at fits =
     let it : IsFound world client at.part = found world state.parts client at.part fits.clients at.there in
-    let free : IsUnfaulted (is_some (held_at at.part.entries at.slot)) command.op = unfaulted (is_some (held_at at.part.entries at.slot)) at.part.least ticket command at.unfaulted in
+    let free : IsUnfaulted (is_some (held_at at.part.entries at.slot)) command.op = unfaulted
+    (is_some (held_at at.part.entries at.slot)) at.part.least ticket command at.unfaulted in
     let none : held_at at.part.entries at.slot ≡ None = not_some (held_at at.part.entries at.slot) free.free in
     let within : at.slot < TAGS = omega (arith, at.own.within) in
     record {
@@ -250,9 +280,11 @@ free-at state world client tag ticket command at fits =
       few = omega (arith, at.own.there, fits.most_clients);
       it = it;
       none = none;
-      empty = subst (λ held. FitsHeld client at.part.unit.count (place_in client at.slot) held (cell_at world (place_in client at.slot))) none (it.fits.cells at.slot within);
+      empty = subst (λ held. FitsHeld client at.part.unit.count (place_in client at.slot) held (cell_at world (place_in client at.slot))) none
+          (it.fits.cells at.slot within);
       short = accepted-trbs (is_some (held_at at.part.entries at.slot)) at.part.least ticket command at.unfaulted;
-      whole = submit_fault-none true (is_some (held_at at.part.entries at.slot)) at.part.least ticket command (ap (λ (f : Option SubmitFault). is_some f) at.unfaulted);
+      whole = submit_fault-none true (is_some (held_at at.part.entries at.slot)) at.part.least ticket command
+          (ap (λ (f : Option SubmitFault). is_some f) at.unfaulted);
       matched = subst (λ held. IsMatchedAt state (place_in client at.slot) held)
           (ap (λ found. option_map_or (held_in (place_in client at.slot)) found None) at.there ∙ none) (fits.matched.places (place_in client at.slot));
     }
@@ -276,11 +308,13 @@ tag_at client slot = tag_of (place_in client slot)
 abbrev after_at : World → ℕ → ℕ → ℕ → Command → World
 after_at world client slot ticket command = submit_world world client (tag_at client slot) ticket command
 
-submit-others : (state : Shared) (world : World) (client slot ticket : ℕ) (command : Command) (part : Part) → IsFreeAt state world client slot ticket command part
+submit-others : (state : Shared) (world : World) (client slot ticket : ℕ) (command : Command) (part : Part)
+    → IsFreeAt state world client slot ticket command part
     → KeepsOthers world (after_at world client slot ticket command) (place_in client slot)
 submit-others state world client slot ticket command part free other at inside apart =
     let tag : ℕ = tag_at client slot in
-    let held_is = entry_at-other world.host client slot other at (submitted_client (client_of world.host client) (slot_of tag) ticket command.op) (Some (host_entry ticket command.op))
+    let held_is = entry_at-other world.host client slot other at (submitted_client (client_of world.host client) (slot_of tag) ticket command.op)
+    (Some (host_entry ticket command.op))
     (get-within world.host.clients client free.it.held free.it.held_is) (submitted-entries state world client slot ticket command free.within) apart in
     let status_is = ap (λ rs. stream_ring rs (tag_at other at)) (lines-status world.lines (direction_of command.op) tag (moved_bytes command.op))
     ∙ stream_ring-other world.lines.status tag (tag_at other at) (ring_put world.lines.status tag (status_td tag)) (omega arith) (omega arith) apart in
@@ -296,8 +330,10 @@ submit-others state world client slot ticket command part free other at inside a
       buffers = buffers_is i;
     }
 
-submit-cell : (state : Shared) (world : World) (client slot ticket : ℕ) (command : Command) (part : Part) → IsFreeAt state world client slot ticket command part → Fits state world
-    → FitsCell client part.unit.count (place_in client slot) (new_entry ticket command) (cell_at (after_at world client slot ticket command) (place_in client slot))
+submit-cell : (state : Shared) (world : World) (client slot ticket : ℕ) (command : Command) (part : Part)
+    → IsFreeAt state world client slot ticket command part → Fits state world
+    → FitsCell client part.unit.count (place_in client slot) (new_entry ticket command)
+    (cell_at (after_at world client slot ticket command) (place_in client slot))
 submit-cell state world client slot ticket command part free fits =
     let tag : ℕ = tag_at client slot in
     let some : 0 < tag_at client slot = omega arith in
@@ -308,20 +344,25 @@ submit-cell state world client slot ticket command part free fits =
     let status_holds = put_empty world.lines.status tag (status_td tag) some (omega (arith, most, fits.sound.lines.status)) free.empty.status in
     let buffers_is = held_for-same world.frames tag _ some (omega (arith, most, fits.sound.frames.tags)) in
     record {
-      held = entry_at-same world.host client slot (submitted_client (client_of world.host client) (slot_of tag) ticket command.op) (client_of world.host client).entries
+      held = entry_at-same world.host client slot (submitted_client (client_of world.host client) (slot_of tag) ticket command.op)
+          (client_of world.host client).entries
           (Some (host_entry ticket command.op)) there slots (submitted-entries state world client slot ticket command free.within)
           ∙ ap Some (host_entry-side ticket command);
       task = free.empty.task;
       status = (ap (λ (r : Ring). r.put) status_is ∙ status_holds.0, ap (λ (r : Ring). r.got) status_is ∙ status_holds.1);
-      data_in = data_in-holds world.lines (direction_of command.op) tag (moved_bytes command.op) some (omega (arith, most, fits.sound.lines.data_in)) free.empty.data_in;
-      data_out = data_out-holds world.lines (direction_of command.op) tag (moved_bytes command.op) some (omega (arith, most, fits.sound.lines.data_out)) free.empty.data_out;
+      data_in = data_in-holds world.lines (direction_of command.op) tag (moved_bytes command.op) some
+          (omega (arith, most, fits.sound.lines.data_in)) free.empty.data_in;
+      data_out = data_out-holds world.lines (direction_of command.op) tag (moved_bytes command.op) some
+          (omega (arith, most, fits.sound.lines.data_out)) free.empty.data_out;
       lent = ap (λ (b : TagBuffers). b.lent) buffers_is;
       unit = ap (λ (b : TagBuffers). b.command) buffers_is;
       answer = tt;
+      answerable = tt;
       sound = record { whole = free.whole; chunk = tt };
     }
 
-submit-queues : (state : Shared) (world : World) (client slot ticket : ℕ) (command : Command) (part : Part) → IsFreeAt state world client slot ticket command part → Fits state world
+submit-queues : (state : Shared) (world : World) (client slot ticket : ℕ) (command : Command) (part : Part)
+    → IsFreeAt state world client slot ticket command part → Fits state world
     → FitsQueues (accepted state part (place_in client slot) (tag_at client slot) ticket command).0 (after_at world client slot ticket command)
 submit-queues state world client slot ticket command part free fits =
     let place : Place = place_in client slot in
@@ -342,14 +383,17 @@ submit-queues state world client slot ticket command part free fits =
           ∙ ap (event_texts (after_at world client slot ticket command) 0) (sym events_is);
     }
 
-submit-fits : (state : Shared) (world : World) (client slot ticket : ℕ) (command : Command) (part : Part) → IsFreeAt state world client slot ticket command part → Fits state world
+submit-fits : (state : Shared) (world : World) (client slot ticket : ℕ) (command : Command) (part : Part)
+    → IsFreeAt state world client slot ticket command part → Fits state world
     → IsMatched (accepted state part (place_in client slot) (tag_at client slot) ticket command).0 → IsSoundWorld (after_at world client slot ticket command)
     → Fits (accepted state part (place_in client slot) (tag_at client slot) ticket command).0 (after_at world client slot ticket command)
 submit-fits state world client slot ticket command part free fits matched sound =
     let tag : ℕ = tag_at client slot in
     let way : Direction = direction_of command.op in
     let held_now : HostClient = submitted_client (client_of world.host client) (slot_of tag) ticket command.op in
-    let rang : rung_all world.controller (submission_doors way tag) ≡ _ = rung_all-is world.controller way tag (tag_stream client slot free.few free.within) in
+    let rang : rung_all world.controller (submission_doors (is_held world.host) way tag) ≡ _ =
+    ap (rung_all world.controller) (none_held world.host way tag fits.engine.retirement)
+    ∙ rung_all-is world.controller way tag (tag_stream client slot free.few free.within) in
     let rung = with_streams_rung-is state way tag in
     let changes : ChangesCell world (after_at world client slot ticket command) client slot held_now part.unit = record {
       hosts = refl;
@@ -366,21 +410,28 @@ submit-fits state world client slot ticket command part free fits matched sound 
       data_out = ap (λ (c : ControllerState). c.data_out) rang ∙ ap (λ p. data_out_after way p tag) fits.data_out ∙ sym (ap (λ (s : Shared). s.data_out) rung);
       sound = sound;
       queues = submit-queues state world client slot ticket command part free fits;
+      engine = engine-kept state (accepted state part (place_in client slot) tag ticket command).0 world
+          (after_at world client slot ticket command) fits.engine refl
+          (lines-engine world.lines way tag (moved_bytes command.op));
       matched = matched;
-      clients = AllFit-set world (after_at world client slot ticket command) state.parts client slot part.unit held_now part (submitted_part part slot ticket command)
+      clients = AllFit-set world (after_at world client slot ticket command) state.parts client slot part.unit held_now part
+          (submitted_part part slot ticket command)
           fits.clients free.there free.within changes
-          (FitsPart-set world (after_at world client slot ticket command) client slot part.unit part.unit free.it.held held_now part (Some (new_entry ticket command)) (ticket + 1) part.ready
+          (FitsPart-set world (after_at world client slot ticket command) client slot part.unit part.unit free.it.held held_now part
+          (Some (new_entry ticket command)) (ticket + 1) part.ready
           free.it.fits free.within changes refl refl queue_is (submit-cell state world client slot ticket command part free fits));
       others = λ other over. fits.others other (omega (arith, over, length-set state.parts client (submitted_part part slot ticket command)));
     }
 
-submit-room : (state : Shared) (world : World) (client slot ticket : ℕ) (command : Command) (part : Part) → IsFreeAt state world client slot ticket command part → Fits state world
+submit-room : (state : Shared) (world : World) (client slot ticket : ℕ) (command : Command) (part : Part)
+    → IsFreeAt state world client slot ticket command part → Fits state world
     → HasRoomFor world.lines world.frames (tag_at client slot) command.op
 submit-room state world client slot ticket command part free fits =
     let room = matched-room state fits.matched in
     record {
       tds = record {
-        on_data = data_room world.lines (direction_of command.op) (tag_at client slot) (moved_bytes command.op) free.short free.empty.data_in free.empty.data_out;
+        on_data = data_room world.lines (direction_of command.op) (tag_at client slot)
+            (moved_bytes command.op) free.short free.empty.data_in free.empty.data_out;
         on_status = omega (arith, ap (λ (ts : List Trb). length ts) free.empty.status.0);
         on_command = omega (arith, ap (λ (ts : List Trb). length ts) fits.queues.put, length-map (pipe_places state) command_trb, room.pipe, fits.most_clients);
       };
@@ -396,7 +447,8 @@ submit-at state world client tag ticket command at fits is =
     record {
       room = subst (λ t. HasRoomFor world.lines world.frames t command.op) (sym is) (submit-room state world client at.slot ticket command at.part free fits);
       fits = subst (λ s. IsSoundWorld (submit_world world client tag ticket command) → Fits s (submit_world world client tag ticket command)) (sym stepped)
-          (subst (λ t. IsMatched (accepted state at.part (place_in client at.slot) t ticket command).0 → IsSoundWorld (submit_world world client t ticket command)
+          (subst (λ t. IsMatched (accepted state at.part (place_in client at.slot) t ticket command).0
+          → IsSoundWorld (submit_world world client t ticket command)
           → Fits (accepted state at.part (place_in client at.slot) t ticket command).0 (submit_world world client t ticket command)) (sym is)
           (submit-fits state world client at.slot ticket command at.part free fits) (subst IsMatched stepped matched));
     }

@@ -1,5 +1,6 @@
 -- A reply is the shared machine's, and the world after it fits the shared machine after it.
-use Rattle.std.proofs.Common.{◌≡◌, ℕ, ◌<◌, ◌≤◌, true, false, cond, List, [], ◌∷◌, ◌++◌, length, length-set, map, Option, Some, None, refl, arith, ap, sym, subst, ◌∙◌}
+use Rattle.std.proofs.Common.{◌≡◌, ℕ, ◌<◌, ◌≤◌, true, false, cond, List, [], ◌∷◌, ◌++◌, length, length-set, map, Option, Some, None, refl, arith, ap, sym}
+use Rattle.std.proofs.Common.{subst, ◌∙◌}
 use Rattle.std.specs.Prelude.{slice_get, option_and_then, ◌&&◌}
 use Rattle.std.specs.Option.{option_map_or}
 use Rattle.std.proofs.lemmas.Bool.{false≢true}
@@ -11,21 +12,23 @@ use Rattle.frame_store.specs.Buffers.{held_for, with_lent}
 use Rattle.scsi_cmd.specs.declared.Direction.{Direction}
 use Rattle.scsi_cmd.specs.declared.Direction.TheVariants.{Nothing, ToHost, ToDevice}
 use Rattle.scsi_cmd.specs.declared.Reply.{Reply}
+use Rattle.scsi_cmd.specs.declared.Request.{Request}
+use Rattle.scsi_cmd.specs.declared.Request.TheVariants.{Execute, Manage}
 use Rattle.scsi_cmd.specs.declared.Reply.TheVariants.{Status as StatusReply}
 use Rattle.scsi_cmd.specs.declared.TheConstants.{TAGS}
 use Rattle.scsi_cmd.specs.Held.{held_at}
-use Rattle.scsi_cmd.specs.Laws.{AllHeld-held}
 use Rattle.device_server.specs.declared.Answer.{Answer}
 use Rattle.solo_model.specs.declared.Phase.TheVariants.{Sent}
 use Rattle.device_server.specs.Server.{status_of, sense_of}
-use Rattle.solo_model.specs.TaggedTask.{reply_from}
+use Rattle.solo_model.specs.TaggedTask.{answered_by, reply_from}
 use Rattle.uas_host.specs.declared.Place.{Place}
 use Rattle.uas_host.specs.declared.TdState.{TdState}
 use Rattle.uas_host.specs.declared.TdState.TheVariants.{Pending, Seen, LeftOver, Retired}
 use Rattle.uas_host.specs.declared.Told.TheVariants.{Status as ToldStatus}
 use Rattle.uas_host.specs.declared.HostClient.{HostClient}
-use Rattle.uas_host.specs.State.{IsHostClient, WasTold, client_of, is_over as is_host_over, is_status, new_client, with_client}
-use Rattle.uas_host.specs.Replies.{Given, given, no_reply, replied, replied_first, reply_by, reply_of, slot_reply, without}
+use Rattle.uas_host.specs.declared.HostEntry.{HostEntry}
+use Rattle.uas_host.specs.State.{client_of, new_client, with_client}
+use Rattle.uas_host.specs.Replies.{Given, command_reply, given, no_reply, replied, replied_first, reply_of, reply_to, slot_reply, status_reply, without}
 use Rattle.uas_host.specs.Tags.{tag_of}
 use Rattle.uas_host.specs.Tds.{data_td, status_td}
 use Rattle.bus_core.specs.declared.Td.{Td}
@@ -34,18 +37,21 @@ use Rattle.bus_core.specs.Td.{Entry, is_over, is_data_over, is_ready, is_seen}
 use Rattle.bus_core.specs.Part.{Part, entry_reply, settled, slot_tag, take_act, taken}
 use Rattle.bus_core.specs.Shared.{Shared, due, due_step, has_ready, idle, is_some_of, request_direction, routed, routed_to, shared_step}
 use Rattle.bus_core.specs.Soundness.{readied_of, times_in}
-use Rattle.bus_core.specs.Matched.{IsMatched, carried_places, held_in, request_bytes, under}
-use Rattle.bus_core.specs.Hosts.{asked_by, phase_task}
+use Rattle.bus_core.specs.Matched.{IsCommandRequest, IsMatched, carried_places, held_in, request_bytes, under}
+use Rattle.bus_core.specs.Hosts.{phase_task}
 use Rattle.bus_core.specs.World.{World, cell_at}
 use Rattle.bus_core.specs.Cells.{HoldsIn, HoldsTrbs, HoldsData, FitsCell, FitsHeld, IsEmptyCell, data_in_td, data_out_td, host_side, told_by, told_sent}
+use Rattle.bus_core.specs.Cells.{IsAwaitedOrSeen, host_request}
 use Rattle.bus_core.specs.Fits.{Fits, FitsQueues, IsSoundWorld, command_trb, event_texts, place_in}
 use Rattle.bus_core.specs.WorldSteps.{TakeFits, TakesFit, TakeIsIdle, take_world}
-use Rattle.bus_core.proofs.CellWrites.{client_of-found, entry_at-same, entry_at-other, clients-length, get-none, get-within, held_for-same, held_for-other, index-past}
+use Rattle.bus_core.proofs.CellWrites.{client_of-found, entry_at-same, entry_at-other, clients-length, get-none, get-within, held_for-same, held_for-other}
+use Rattle.bus_core.proofs.CellWrites.{index-past}
 use Rattle.bus_core.proofs.EventTexts.{KeepsOthers, event_texts-one}
-use Rattle.bus_core.proofs.Framing.{AllFit-set, FitsPart-set, ChangesCell, IsFound, found}
-use Rattle.bus_core.proofs.MatchedEntries.{IsQuiet, ready-quiet}
+use Rattle.bus_core.proofs.Framing.{AllFit-set, FitsPart-set, ChangesCell, IsFound, engine-kept, found}
+use Rattle.bus_core.proofs.MatchedEntries.{IsQuiet, asked_op, ready-quiet}
 use Rattle.bus_core.proofs.MatchedPlaces.{and-true, held-within}
-use Rattle.bus_core.proofs.MatchedSteps.{IsFirstReady, first-ready, IsHeld, matched-held, settled_part, settled_state, take_step-held, times_ready-there, shared_step-matched}
+use Rattle.bus_core.proofs.MatchedSteps.{IsFirstReady, first-ready, IsHeld, matched-held, settled_part, settled_state, take_step-held, times_ready-there}
+use Rattle.bus_core.proofs.MatchedSteps.{shared_step-matched}
 use Rattle.bus_core.proofs.Standing.{slice_get-back}
 
 -- WHERE NOTHING IS READY
@@ -62,7 +68,8 @@ idle-queue : (world : World) (client : ℕ) (ready : List ℕ) → (client_of wo
 idle-queue world client [] is none = replied-by world client [] is
 idle-queue world client (slot ∷ rest) is none = absurd (false≢true (sym none))
 
-idle-part : (state : Shared) (world : World) (client : ℕ) (at : Option Part) → Fits state world → slice_get state.parts client ≡ at → option_map_or has_ready at false ≡ false
+idle-part : (state : Shared) (world : World) (client : ℕ) (at : Option Part) → Fits state world → slice_get state.parts client ≡ at
+    → option_map_or has_ready at false ≡ false
     → replied world.host world.frames client ≡ no_reply world.host world.frames
 idle-part state world client None fits is none =
     let past : length world.host.clients ≤ client = omega (arith, clients-length world state.parts fits.clients, get-none state.parts client is) in
@@ -85,6 +92,7 @@ record IsReadyAt (state : Shared) (world : World) (client slot : ℕ) (rest : Li
   answer : Answer
   held : held_at part.entries slot ≡ Some entry
   ready : is_ready entry ≡ true
+  asks : IsCommandRequest entry.task.request
   sent : entry.task.phase ≡ Sent answer
   cell : FitsCell client part.unit.count (place_in client slot) entry (cell_at world (place_in client slot))
   status_over : is_over entry.status_td.state ≡ true
@@ -113,6 +121,7 @@ ready-at state world client slot rest part fits there queue =
       answer = quiet.answered.answer;
       held = held;
       ready = first.ready;
+      asks = at.here.sound.asks;
       sent = quiet.answered.is;
       cell = subst (λ o. FitsHeld client part.unit.count place o (cell_at world place)) held (it.fits.cells slot within);
       status_over = over.0;
@@ -121,31 +130,36 @@ ready-at state world client slot rest part fits there queue =
 
 -- THE REPLY
 
-told-over : (answer : Answer) (state : TdState) → is_over state ≡ true → (is_host_over state ≡ true → is_status (told_sent answer state) ≡ true)
-    → told_sent answer state ≡ ToldStatus (status_of answer) (record { items = sense_of answer })
-told-over answer Pending over told = absurd (false≢true over)
-told-over answer Seen over told = refl
-told-over answer LeftOver over told = absurd (false≢true over)
-told-over answer Retired over told = absurd (false≢true (told refl))
+-- a status TD that is over was seen
+over-seen : (state : TdState) → IsAwaitedOrSeen state → is_over state ≡ true → state ≡ Seen
+over-seen Pending kept over = absurd (false≢true over)
+over-seen Seen kept over = refl
+over-seen LeftOver kept over = absurd kept
+over-seen Retired kept over = absurd kept
 
 abbrev reply_at : ℕ → ℕ → Entry → Answer → Reply
 reply_at client slot entry answer =
     StatusReply (tag_of (place_in client slot)) entry.task.ticket (status_of answer) (record { items = sense_of answer }) entry.task.buffer
 
-slot_reply-is : (state : Shared) (world : World) (client slot : ℕ) (rest : List ℕ) (part : Part) (at : IsReadyAt state world client slot rest part) → Fits state world
+-- what the bus hands the host is answered as a command
+command-replies : (tag : ℕ) (held : HostEntry) (lent : Option (List ℕ)) (request : Request) → IsCommandRequest request
+    → reply_to tag held lent (host_request request) ≡ option_and_then (command_reply tag held.ticket held.told held.status_td) lent
+command-replies tag held lent (Execute op) command = refl
+command-replies tag held lent (Manage what noted) command = absurd command
+
+slot_reply-is : (state : Shared) (world : World) (client slot : ℕ) (rest : List ℕ) (part : Part) (at : IsReadyAt state world client slot rest part)
+    → Fits state world
     → slot_reply world.host world.frames client slot ≡ Some (reply_at client slot at.entry at.answer)
 slot_reply-is state world client slot rest part at fits =
     let tag : ℕ = tag_of (place_in client slot) in
-    let entry : Entry = at.entry in
-    let sound : IsHostClient (client_of world.host client) = fits.sound.host.clients client (get-within world.host.clients client at.it.held at.it.held_is) in
-    let told_is : told_by at.entry.task.phase at.entry.status_td.state ≡ told_sent at.answer at.entry.status_td.state =
-    ap (λ p. told_by p at.entry.status_td.state) at.sent in
-    let was_told : WasTold (host_side at.entry) = AllHeld-held WasTold (client_of world.host client).entries slot (host_side at.entry) sound.told at.cell.held in
+    let seen : at.entry.status_td.state ≡ Seen = over-seen at.entry.status_td.state at.cell.answerable at.status_over in
     let told : told_by at.entry.task.phase at.entry.status_td.state ≡ ToldStatus (status_of at.answer) (record { items = sense_of at.answer }) =
-    told_is ∙ told-over at.answer at.entry.status_td.state at.status_over (λ over. ap is_status (sym told_is) ∙ was_told over) in
-    ap (λ lent. option_and_then (λ buffer. option_and_then (reply_of tag buffer) (held_at (client_of world.host client).entries slot)) lent) at.cell.lent
-    ∙ ap (λ held. option_and_then (reply_of tag at.entry.task.buffer) held) at.cell.held
-    ∙ ap (λ t. reply_by tag (host_side at.entry) at.entry.task.buffer t) told
+    ap (λ p. told_by p at.entry.status_td.state) at.sent ∙ ap (λ s. told_sent at.answer s) seen in
+    ap (λ held. option_and_then (reply_of tag (held_for world.frames tag).lent) held) at.cell.held
+    ∙ command-replies tag (host_side at.entry) (held_for world.frames tag).lent at.entry.task.request at.asks
+    ∙ ap (λ lent. option_and_then (command_reply tag at.entry.task.ticket (host_side at.entry).told (host_side at.entry).status_td) lent) at.cell.lent
+    ∙ ap (λ s. command_reply tag at.entry.task.ticket (host_side at.entry).told s at.entry.task.buffer) seen
+    ∙ ap (λ t. status_reply tag at.entry.task.ticket at.entry.task.buffer t) told
 
 abbrev host_after : World → ℕ → ℕ → List ℕ → World
 host_after world client slot rest = record world {
@@ -153,7 +167,8 @@ host_after world client slot rest = record world {
   frames = with_lent world.frames (tag_of (place_in client slot)) None;
 }
 
-replied-is : (state : Shared) (world : World) (client slot : ℕ) (rest : List ℕ) (part : Part) (at : IsReadyAt state world client slot rest part) → Fits state world
+replied-is : (state : Shared) (world : World) (client slot : ℕ) (rest : List ℕ) (part : Part) (at : IsReadyAt state world client slot rest part)
+    → Fits state world
     → replied world.host world.frames client ≡ given world.host world.frames client slot rest (Some (reply_at client slot at.entry at.answer))
 replied-is state world client slot rest part at fits =
     replied-by world client (slot ∷ rest) (ready-found world client part at.it ∙ at.queue)
@@ -166,6 +181,7 @@ taken-reply state world client slot rest part at =
     ∙ ap (λ ready. (taken client part ready).reply) at.queue
     ∙ ap (λ found. (settled part slot rest (option_and_then (entry_reply (slot_tag client slot)) found)).reply) at.held
     ∙ ap (λ phase. (settled part slot rest (reply_from (slot_tag client slot) at.entry.task phase)).reply) at.sent
+    ∙ ap (λ r. Some (answered_by (slot_tag client slot) at.entry.task.ticket at.entry.task.buffer at.answer r)) (asked_op at.entry.task.request at.asks).1
 
 -- THE CELL IS EMPTY
 
@@ -189,7 +205,8 @@ out-over Nothing td over = refl
 out-over ToHost td over = refl
 out-over ToDevice td over = over
 
-take-others : (world : World) (client slot : ℕ) (rest : List ℕ) (part : Part) → IsFound world client part → KeepsOthers world (host_after world client slot rest) (place_in client slot)
+take-others : (world : World) (client slot : ℕ) (rest : List ℕ) (part : Part) → IsFound world client part
+    → KeepsOthers world (host_after world client slot rest) (place_in client slot)
 take-others world client slot rest part it other at inside apart =
     let held_is = entry_at-other world.host client slot other at (without (client_of world.host client) slot rest) None
     (get-within world.host.clients client it.held it.held_is) refl apart in
@@ -208,27 +225,33 @@ take-cell : (state : Shared) (world : World) (client slot : ℕ) (rest : List �
 take-cell state world client slot rest part at fits few =
     let tag : ℕ = tag_of (place_in client slot) in
     let there = get-within world.host.clients client at.it.held at.it.held_is in
-    let buffers_is = held_for-same world.frames tag (record (held_for world.frames tag) { lent = None }) (omega arith) (omega (arith, few, at.within, fits.sound.frames.tags)) in
+    let buffers_is = held_for-same world.frames tag (record (held_for world.frames tag) { lent = None }) (omega arith)
+    (omega (arith, few, at.within, fits.sound.frames.tags)) in
     let way : Direction = request_direction at.entry.task.request in
     let data_trbs : List Trb = data_td tag (request_bytes at.entry.task.request) in
     record {
       held = entry_at-same world.host client slot (without (client_of world.host client) slot rest) (client_of world.host client).entries None
           there (omega (arith, at.within, (fits.sound.host.clients client there).slots)) refl;
-      task = at.cell.task ∙ ap (λ p. phase_task (Some client) (asked_by at.entry.task.request) p) at.sent;
-      status = holds-over (cell_at world (place_in client slot)).status (status_td tag) at.entry.status_td.consumed at.entry.status_td.state at.status_over at.cell.status;
-      data_in = data-over (cell_at world (place_in client slot)).data_in data_trbs (data_in_td way at.entry.data_td) (in-over way at.entry.data_td at.data_over) at.cell.data_in;
-      data_out = data-over (cell_at world (place_in client slot)).data_out data_trbs (data_out_td way at.entry.data_td) (out-over way at.entry.data_td at.data_over) at.cell.data_out;
+      task = at.cell.task ∙ ap (λ p. phase_task (Some client) at.entry.task.request p) at.sent;
+      status = holds-over (cell_at world (place_in client slot)).status
+          (status_td tag) at.entry.status_td.consumed at.entry.status_td.state at.status_over at.cell.status;
+      data_in = data-over (cell_at world (place_in client slot)).data_in data_trbs (data_in_td way at.entry.data_td)
+          (in-over way at.entry.data_td at.data_over) at.cell.data_in;
+      data_out = data-over (cell_at world (place_in client slot)).data_out data_trbs (data_out_td way at.entry.data_td)
+          (out-over way at.entry.data_td at.data_over) at.cell.data_out;
       lent = ap (λ (b : TagBuffers). b.lent) buffers_is;
     }
 
 -- ALL TOGETHER
 
-take-queues : (state : Shared) (world : World) (client slot : ℕ) (rest : List ℕ) (part : Part) → IsReadyAt state world client slot rest part → Fits state world → client < 31
+take-queues : (state : Shared) (world : World) (client slot : ℕ) (rest : List ℕ) (part : Part) → IsReadyAt state world client slot rest part
+    → Fits state world → client < 31
     → FitsQueues (settled_state state (place_in client slot) part rest) (host_after world client slot rest)
 take-queues state world client slot rest part at fits few =
     let tag : ℕ = tag_of (place_in client slot) in
     let same : state.events ≡ state.events ++ [] = sym (append-nil state.events) in
-    let buffers_is = held_for-same world.frames tag (record (held_for world.frames tag) { lent = None }) (omega arith) (omega (arith, few, at.within, fits.sound.frames.tags)) in
+    let buffers_is = held_for-same world.frames tag (record (held_for world.frames tag) { lent = None }) (omega arith)
+    (omega (arith, few, at.within, fits.sound.frames.tags)) in
     record {
       put = fits.queues.put ∙ ap (λ es. map command_trb (carried_places es ++ state.messages)) same;
       got = fits.queues.got ∙ ap (λ es. length (carried_places es)) same;
@@ -260,6 +283,7 @@ take-fits state world client slot rest part at fits matched sound =
       data_out = fits.data_out;
       sound = sound;
       queues = take-queues state world client slot rest part at fits few;
+      engine = engine-kept state (settled_state state (place_in client slot) part rest) world (host_after world client slot rest) fits.engine refl refl;
       matched = matched;
       clients = AllFit-set world (host_after world client slot rest) state.parts client slot part.unit held_now part (settled_part part slot rest)
           fits.clients at.there at.within changes
@@ -271,7 +295,8 @@ take-fits state world client slot rest part at fits matched sound =
 take-at : (state : Shared) (world : World) (client slot : ℕ) (rest : List ℕ) (part : Part) → IsReadyAt state world client slot rest part → Fits state world
     → due state (Take client) ≡ true → TakeFits state world client
 take-at state world client slot rest part at fits is_due =
-    let stepped : shared_step state (Take client) ≡ routed state client (take_act client) = ap (λ b. cond b (due_step state (Take client)) (state, idle)) is_due in
+    let stepped : shared_step state (Take client) ≡ routed state client (take_act client) = ap
+    (λ b. cond b (due_step state (Take client)) (state, idle)) is_due in
     let now : (shared_step state (Take client)).0 ≡ settled_state state (place_in client slot) part rest =
     ap (λ after. after.0) stepped ∙ take_step-held state client slot rest part at.entry at.answer at.there at.queue at.held at.sent in
     let gives = replied-is state world client slot rest part at fits in
@@ -284,13 +309,15 @@ take-at state world client slot rest part at fits is_due =
           (take-fits state world client slot rest part at fits (subst IsMatched now matched)));
     }
 
-take-queue : (state : Shared) (world : World) (client : ℕ) (part : Part) (queue : List ℕ) → Fits state world → slice_get state.parts client ≡ Some part → part.ready ≡ queue
+take-queue : (state : Shared) (world : World) (client : ℕ) (part : Part) (queue : List ℕ) → Fits state world → slice_get state.parts client ≡ Some part
+    → part.ready ≡ queue
     → is_some_of queue ≡ true → due state (Take client) ≡ true → TakeFits state world client
 take-queue state world client part [] fits there is some is_due = absurd (false≢true some)
 take-queue state world client part (slot ∷ rest) fits there is some is_due =
     take-at state world client slot rest part (ready-at state world client slot rest part fits there is) fits is_due
 
-take-part : (state : Shared) (world : World) (client : ℕ) (at : Option Part) → Fits state world → slice_get state.parts client ≡ at → option_map_or has_ready at false ≡ true
+take-part : (state : Shared) (world : World) (client : ℕ) (at : Option Part) → Fits state world → slice_get state.parts client ≡ at
+    → option_map_or has_ready at false ≡ true
     → due state (Take client) ≡ true → TakeFits state world client
 take-part state world client None fits there some is_due = absurd (false≢true some)
 take-part state world client (Some part) fits there some is_due = take-queue state world client part part.ready fits there refl some is_due

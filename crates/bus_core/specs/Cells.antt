@@ -4,9 +4,11 @@ use Rattle.xhci_trb.specs.declared.Trb.{Trb}
 use Rattle.cycle_ring.specs.Ring.{Ring}
 use Rattle.scsi_cmd.specs.declared.Direction.{Direction}
 use Rattle.scsi_cmd.specs.declared.Direction.TheVariants.{Nothing, ToHost, ToDevice}
+use Rattle.scsi_cmd.specs.declared.Request.{Request}
+use Rattle.scsi_cmd.specs.declared.Request.TheVariants.{Execute, Manage}
 use Rattle.device_server.specs.declared.Answer.{Answer}
 use Rattle.solo_model.specs.declared.Phase.{Phase}
-use Rattle.solo_model.specs.declared.Phase.TheVariants.{Queued, Begun, Sent}
+use Rattle.solo_model.specs.declared.Phase.TheVariants.{Queued, Begun, Sent, Gone}
 use Rattle.device_server.specs.Server.{status_of, sense_of}
 use Rattle.solo_model.specs.Soundness.{IsSound}
 use Rattle.uas_host.specs.declared.Place.{Place}
@@ -14,6 +16,8 @@ use Rattle.uas_host.specs.declared.TdState.{TdState}
 use Rattle.uas_host.specs.declared.TdState.TheVariants.{Pending, Seen, LeftOver, Retired}
 use Rattle.uas_host.specs.declared.Told.{Told}
 use Rattle.uas_host.specs.declared.Told.TheVariants.{Untold, Status as ToldStatus}
+use Rattle.uas_host.specs.declared.HostRequest.{HostRequest}
+use Rattle.uas_host.specs.declared.HostRequest.TheVariants.{Execute as HostExecute, Manage as HostManage}
 use Rattle.uas_host.specs.declared.HostEntry.{HostEntry}
 use Rattle.uas_host.specs.Tags.{tag_of}
 use Rattle.uas_host.specs.Tds.{data_td, status_td}
@@ -30,6 +34,11 @@ use Rattle.bus_core.specs.World.{Cell}
 abbrev pub state_of : Td → TdState
 state_of td = td.state
 
+-- the host has the operation of a command, and of a task management what it noted
+abbrev pub host_request : Request → HostRequest
+host_request (Execute op) = HostExecute op
+host_request (Manage what noted) = HostManage what noted
+
 -- the host was told the answer once it has seen the status event
 abbrev pub told_sent : Answer → TdState → Told
 told_sent answer Pending = Untold
@@ -41,11 +50,12 @@ abbrev pub told_by : Phase → TdState → Told
 told_by Queued state = Untold
 told_by (Begun progress) state = Untold
 told_by (Sent answer) state = told_sent answer state
+told_by Gone state = Untold
 
 abbrev pub host_side : Entry → HostEntry
 host_side entry = record {
   ticket = entry.task.ticket;
-  request = entry.task.request;
+  request = host_request entry.task.request;
   told = told_by entry.task.phase entry.status_td.state;
   command_td = entry.command_td.state;
   status_td = entry.status_td.state;
@@ -91,6 +101,16 @@ abbrev pub HasAnswerIn : Phase → ℕ → List ℕ → Type 0
 HasAnswerIn Queued tag bytes = Unit {0}
 HasAnswerIn (Begun progress) tag bytes = Unit {0}
 HasAnswerIn (Sent answer) tag bytes = take (length (answer_text tag answer)) bytes ≡ answer_text tag answer
+HasAnswerIn Gone tag bytes = Unit {0}
+
+-- THE STATUS TD
+
+-- The host waits for its event, or has seen it: no step dooms a command, so its status TD is never given up.
+abbrev pub IsAwaitedOrSeen : TdState → Type 0
+IsAwaitedOrSeen Pending = Unit {0}
+IsAwaitedOrSeen Seen = Unit {0}
+IsAwaitedOrSeen LeftOver = ⊥
+IsAwaitedOrSeen Retired = ⊥
 
 -- ONE CELL
 
@@ -99,11 +119,14 @@ pub record FitsCell (client count : ℕ) (place : Place) (entry : Entry) (cell :
   pub held : cell.held ≡ Some (host_side entry)
   pub task : cell.task ≡ device_task client entry
   pub status : HoldsTd cell.status (status_td (tag_of place)) entry.status_td
-  pub data_in : HoldsData cell.data_in (data_td (tag_of place) (request_bytes entry.task.request)) (data_in_td (request_direction entry.task.request) entry.data_td)
-  pub data_out : HoldsData cell.data_out (data_td (tag_of place) (request_bytes entry.task.request)) (data_out_td (request_direction entry.task.request) entry.data_td)
+  pub data_in : HoldsData cell.data_in (data_td (tag_of place) (request_bytes entry.task.request))
+      (data_in_td (request_direction entry.task.request) entry.data_td)
+  pub data_out : HoldsData cell.data_out (data_td (tag_of place) (request_bytes entry.task.request))
+      (data_out_td (request_direction entry.task.request) entry.data_td)
   pub lent : cell.buffers.lent ≡ Some entry.task.buffer
   pub unit : cell.buffers.command ≡ request_text client (tag_of place) entry.task.request
   pub answer : HasAnswerIn entry.task.phase (tag_of place) cell.buffers.status
+  pub answerable : IsAwaitedOrSeen entry.status_td.state
   pub sound : IsSound count entry.task
 
 -- a cell with nothing

@@ -10,10 +10,14 @@ use Rattle.stream_array.specs.declared.Pipe.{Pipe}
 use Rattle.stream_array.specs.declared.Pipe.TheVariants.{Command, Status, DataIn, DataOut}
 use Rattle.scsi_cmd.specs.declared.Direction.{Direction}
 use Rattle.scsi_cmd.specs.declared.Direction.TheVariants.{Nothing, ToHost, ToDevice}
+use Rattle.scsi_cmd.specs.declared.Request.{Request}
+use Rattle.scsi_cmd.specs.declared.Request.TheVariants.{Execute, Manage}
 use Rattle.scsi_cmd.specs.declared.TheConstants.{TAGS}
 use Rattle.uas_host.specs.declared.Place.{Place}
 use Rattle.uas_host.specs.declared.TdState.{TdState}
 use Rattle.uas_host.specs.declared.TdState.TheVariants.{Pending, Seen, LeftOver, Retired}
+use Rattle.uas_host.specs.declared.HostRequest.{HostRequest}
+use Rattle.uas_host.specs.declared.HostRequest.TheVariants.{Execute as HostExecute, Manage as HostManage}
 use Rattle.uas_host.specs.declared.HostEntry.{HostEntry}
 use Rattle.uas_host.specs.declared.HostClient.{HostClient}
 use Rattle.uas_host.specs.declared.EndedTd.{EndedTd}
@@ -76,18 +80,23 @@ data_ring Nothing cell = cell.data_out
 data_ring ToHost cell = cell.data_in
 data_ring ToDevice cell = cell.data_out
 
+-- what a host's entry asks for
+abbrev pub asked_for : HostRequest → Request
+asked_for (HostExecute op) = Execute op
+asked_for (HostManage task noted) = Manage task noted
+
 -- an entry by its cell and the number of its messages
 abbrev pub decoded_held : ℕ → Cell → HostEntry → Entry
 decoded_held waiting cell held = record {
   task = record {
     ticket = held.ticket;
-    request = held.request;
+    request = asked_for held.request;
     buffer = unwrap_or cell.buffers.lent [];
     phase = phase_by cell.task (1 - waiting) cell.buffers.status;
   };
   command_td = record { state = held.command_td; consumed = 1 - waiting };
   status_td = decoded_td 1 cell.status held.status_td;
-  data_td = option_map (decoded_td (data_trbs held.request) (data_ring (request_direction held.request) cell)) held.data_td;
+  data_td = option_map (decoded_td (data_trbs (asked_for held.request)) (data_ring (request_direction (asked_for held.request)) cell)) held.data_td;
 }
 
 abbrev pub decoded_cell : Cell → ℕ → Option Entry

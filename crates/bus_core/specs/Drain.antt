@@ -1,5 +1,5 @@
 -- The drain: rounds of tries until nothing acts.
-use Rattle.std.specs.Prelude.{ℕ, zero, suc, ◌-◌, ◌*◌, ◌==◌, Bool, true, false, List, [], ◌∷◌, ◌++◌, length, map, if◌then◌else◌}
+use Rattle.std.specs.Prelude.{◌≡◌, ℕ, zero, suc, ◌-◌, ◌*◌, ◌<◌, ◌==◌, Bool, true, false, List, [], ◌∷◌, ◌++◌, length, map, if◌then◌else◌}
 use Rattle.std.specs.List.{range_with_len}
 use Rattle.scsi_cmd.specs.declared.TheConstants.{TAGS}
 use Rattle.bus_core.specs.declared.Step.{Step}
@@ -25,6 +25,10 @@ tried_one now step =
 abbrev pub tried : Shared × ℕ → List Step → Shared × ℕ
 tried now [] = now
 tried now (step ∷ steps) = tried (tried_one now step) steps
+
+-- neither stream is due of any tag between two others
+abbrev pub AreQuiet : Shared → ℕ → ℕ → Type 0
+AreQuiet state tag next = (other : ℕ) → tag < other → other < next → (due state (Data other) ≡ false) × (due state (Status other) ≡ false)
 
 -- a whole round
 abbrev pub round : Shared × ℕ → Shared × ℕ

@@ -1,5 +1,6 @@
 -- The world of rings fits a state of the shared machine: what each ring, context, buffer and table has to hold for it.
-use Rattle.std.specs.Prelude.{◌≡◌, ℕ, suc, ◌+◌, ◌-◌, ◌*◌, ◌<◌, ◌≤◌, ◌==◌, if◌then◌else◌, List, [], ◌∷◌, ◌++◌, length, map, slice_get, slice_index, Option, Some, None}
+use Rattle.std.specs.Prelude.{◌≡◌, ℕ, suc, ◌+◌, ◌-◌, ◌*◌, ◌<◌, ◌≤◌, ◌==◌, if◌then◌else◌, List, [], ◌∷◌, ◌++◌, length, map, slice_get, slice_index, Option, Some}
+use Rattle.std.specs.Prelude.{None}
 use Rattle.block_unit.specs.BlockMaps.{BlockMaps}
 use Rattle.xhci_trb.specs.declared.Trb.{Trb}
 use Rattle.xhci_trb.specs.declared.Trb.TheVariants.{Normal}
@@ -28,7 +29,7 @@ use Rattle.bus_core.specs.Part.{Part}
 use Rattle.bus_core.specs.Shared.{Shared}
 use Rattle.bus_core.specs.Matched.{IsMatched, carried_places}
 use Rattle.bus_core.specs.World.{World, cell_at}
-use Rattle.bus_core.specs.Cells.{FitsHeld}
+use Rattle.bus_core.specs.Cells.{FitsHeld, HoldsTrbs}
 
 -- THE COMMAND PIPE AND THE EVENT RING
 
@@ -72,6 +73,13 @@ pub record FitsQueues (state : Shared) (world : World) : Type 0 where
   pub got : world.lines.command.got ≡ length (carried_places state.events)
   pub texts : world.lines.events.pending ≡ event_texts world 0 state.events
 
+-- THE CONTROLLER'S COMMAND RING
+
+-- A state has no retirement: none is under way, and no command stands on the controller's command ring.
+pub record FitsEngine (state : Shared) (world : World) : Type 0 where
+  pub retirement : world.host.retirement ≡ None
+  pub commands : HoldsTrbs world.lines.engine [] 0
+
 -- ONE CLIENT
 
 abbrev pub place_in : ℕ → ℕ → Place
@@ -111,7 +119,9 @@ pub record Fits (state : Shared) (world : World) : Type 0 where
   pub data_out : world.controller.data_out ≡ state.data_out
   pub sound : IsSoundWorld world
   pub queues : FitsQueues state world
+  pub engine : FitsEngine state world
   pub matched : IsMatched state
-  pub clients : (client : ℕ) → FitsClient world client (slice_get world.device.units client) (slice_get world.host.clients client) (slice_get state.parts client)
+  pub clients : (client : ℕ) → FitsClient world client (slice_get world.device.units client) (slice_get world.host.clients client)
+      (slice_get state.parts client)
   -- the device has no task of a tag that is no client's
   pub others : (tag : ℕ) → TAGS * length state.parts < tag → task_of world.device tag ≡ None

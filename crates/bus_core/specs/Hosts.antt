@@ -1,14 +1,13 @@
 -- What the device has of an entry, and the phase that device and host tell of it together.
-use Rattle.std.specs.Prelude.{◌≡◌, ℕ, ◌==◌, if◌then◌else◌, List, slice_index, Option, Some, None, Result, Ok}
-use Rattle.scsi_cmd.specs.declared.Op.{Op}
-use Rattle.scsi_cmd.specs.declared.Sense.{Sense}
+use Rattle.std.specs.Prelude.{◌≡◌, ℕ, ◌==◌, if◌then◌else◌, List, slice_index, Option, Some, None, Ok}
 use Rattle.scsi_cmd.specs.declared.Request.{Request}
-use Rattle.scsi_cmd.specs.declared.Request.TheVariants.{Execute}
+use Rattle.scsi_cmd.specs.declared.Request.TheVariants.{Execute, Manage}
 use Rattle.device_server.specs.declared.Answer.{Answer}
 use Rattle.device_server.specs.declared.Answer.TheVariants.{Good, Check}
+use Rattle.device_server.specs.declared.Progress.{Progress}
 use Rattle.device_server.specs.declared.Progress.TheVariants.{Moving, Ended}
 use Rattle.solo_model.specs.declared.Phase.{Phase}
-use Rattle.solo_model.specs.declared.Phase.TheVariants.{Queued, Begun, Sent}
+use Rattle.solo_model.specs.declared.Phase.TheVariants.{Queued, Begun, Sent, Gone}
 use Rattle.uas_target.specs.declared.DeviceAnswer.{DeviceAnswer}
 use Rattle.uas_target.specs.declared.DeviceAnswer.TheVariants.{Status, Response}
 use Rattle.uas_target.specs.declared.DeviceTask.{DeviceTask}
@@ -18,18 +17,21 @@ use Rattle.bus_core.specs.Td.{Entry}
 
 -- THE DEVICE'S TASK
 
-abbrev pub asked_by : Request → Result Op Sense
-asked_by (Execute op) = Ok op
+-- what the device has of a request that it has begun: of a task management its response, COMPLETE, 00h
+abbrev pub begun_task : Option ℕ → Request → Progress → Option DeviceTask
+begun_task unit (Execute op) progress = task_in unit (Ok op) progress
+begun_task unit (Manage what noted) progress = Some (EndedTask None (Response 0))
 
--- what the device has of a command in this phase: nothing of one that it hasn't received or whose answer it sent
-abbrev pub phase_task : Option ℕ → Result Op Sense → Phase → Option DeviceTask
-phase_task unit asks Queued = None
-phase_task unit asks (Begun progress) = task_in unit asks progress
-phase_task unit asks (Sent answer) = None
+-- What the device has of a request in this phase: nothing of one that it hasn't received, whose answer it sent or that is gone.
+abbrev pub phase_task : Option ℕ → Request → Phase → Option DeviceTask
+phase_task unit request Queued = None
+phase_task unit request (Begun progress) = begun_task unit request progress
+phase_task unit request (Sent answer) = None
+phase_task unit request Gone = None
 
 -- what the device has of an entry of this client
 abbrev pub device_task : ℕ → Entry → Option DeviceTask
-device_task number entry = phase_task (Some number) (asked_by entry.task.request) entry.task.phase
+device_task number entry = phase_task (Some number) entry.task.request entry.task.phase
 
 -- TOGETHER
 
@@ -56,8 +58,9 @@ abbrev pub phase_by : Option DeviceTask → ℕ → List ℕ → Phase
 phase_by None taken status = phase_apart taken status
 phase_by (Some task) taken status = task_phase task
 
--- the device received a command where its command TD's TRB was taken
+-- the device received a command where its command TD's TRB was taken; none is gone
 abbrev pub HasTaken : Phase → ℕ → Type 0
 HasTaken Queued taken = taken ≡ 0
 HasTaken (Begun progress) taken = taken ≡ 1
 HasTaken (Sent answer) taken = taken ≡ 1
+HasTaken Gone taken = ⊥

@@ -3,9 +3,11 @@ use Rattle.std.specs.Prelude.{◌≡◌, ℕ, ◌+◌, ◌<◌, true, false, Lis
 use Rattle.std.specs.Option.{option_map_or}
 use Rattle.scsi_cmd.specs.declared.Reply.{Reply}
 use Rattle.scsi_cmd.specs.declared.Reply.TheVariants.{Status as StatusReply, Aborted as AbortedReply, Task as TaskReply}
+use Rattle.scsi_cmd.specs.declared.Request.{Request}
+use Rattle.scsi_cmd.specs.declared.Request.TheVariants.{Execute, Manage}
 use Rattle.scsi_cmd.specs.Held.{held_at}
 use Rattle.solo_model.specs.declared.Phase.{Phase}
-use Rattle.solo_model.specs.declared.Phase.TheVariants.{Queued, Begun, Sent}
+use Rattle.solo_model.specs.declared.Phase.TheVariants.{Queued, Begun, Sent, Gone}
 use Rattle.bus_core.specs.Td.{Entry}
 use Rattle.bus_core.specs.declared.Step.{Step}
 use Rattle.bus_core.specs.declared.Step.TheVariants.{Take}
@@ -96,14 +98,20 @@ reply_len (StatusReply tag ticket status sense buffer) = length buffer
 reply_len (AbortedReply tag ticket buffer) = length buffer
 reply_len (TaskReply tag ticket code) = 0
 
--- a command brings its buffer once its answer was sent
-abbrev pub sent_len : Phase → List ℕ → ℕ
-sent_len Queued buffer = 0
-sent_len (Begun progress) buffer = 0
-sent_len (Sent answer) buffer = length buffer
+-- what the reply of a request brings: of a command its buffer, of a task management nothing
+abbrev pub brought_len : Request → List ℕ → ℕ
+brought_len (Execute op) buffer = length buffer
+brought_len (Manage what noted) buffer = 0
+
+-- a request brings it once its answer was sent, and a command that is gone at once
+abbrev pub sent_len : Phase → Request → List ℕ → ℕ
+sent_len Queued request buffer = 0
+sent_len (Begun progress) request buffer = 0
+sent_len (Sent answer) request buffer = brought_len request buffer
+sent_len Gone request buffer = brought_len request buffer
 
 abbrev pub entry_len : Entry → ℕ
-entry_len entry = sent_len entry.task.phase entry.task.buffer
+entry_len entry = sent_len entry.task.phase entry.task.request entry.task.buffer
 
 abbrev pub first_len : Part → List ℕ → ℕ
 first_len part [] = 0

@@ -1,5 +1,6 @@
 -- What waits in the shared machine, counted exactly: each message and each event is of one TD, and each TD of one.
-use Rattle.std.specs.Prelude.{◌≡◌, ℕ, suc, ◌+◌, ◌*◌, ◌<◌, ◌≤◌, ◌==◌, nat_lt, Bool, true, false, ◌&&◌, List, [], ◌∷◌, ◌++◌, length, slice_get, Option, Some, None, is_some, IfSome}
+use Rattle.std.specs.Prelude.{◌≡◌, ℕ, suc, ◌+◌, ◌*◌, ◌<◌, ◌≤◌, ◌==◌, nat_lt, Bool, true, false, ◌&&◌, List, [], ◌∷◌, ◌++◌, length, slice_get, Option, Some}
+use Rattle.std.specs.Prelude.{None, is_some, IfSome}
 use Rattle.std.specs.Option.{option_map_or}
 use Rattle.block_unit.specs.BlockMaps.{BlockMaps}
 use Rattle.scsi_cmd.specs.declared.Command.{Command}
@@ -7,11 +8,11 @@ use Rattle.scsi_cmd.specs.Submission.{first_submit_fault}
 use Rattle.scsi_cmd.specs.Op.{moved_bytes}
 use Rattle.scsi_cmd.specs.declared.TheConstants.{TAGS}
 use Rattle.scsi_cmd.specs.declared.Request.{Request}
-use Rattle.scsi_cmd.specs.declared.Request.TheVariants.{Execute}
+use Rattle.scsi_cmd.specs.declared.Request.TheVariants.{Execute, Manage}
 use Rattle.device_server.specs.declared.Answer.{Answer}
 use Rattle.device_server.specs.declared.Answer.TheVariants.{Good, Check}
 use Rattle.solo_model.specs.declared.Phase.{Phase}
-use Rattle.solo_model.specs.declared.Phase.TheVariants.{Queued, Begun, Sent}
+use Rattle.solo_model.specs.declared.Phase.TheVariants.{Queued, Begun, Sent, Gone}
 use Rattle.device_server.specs.declared.Progress.TheVariants.{Moving, Ended}
 use Rattle.scsi_cmd.specs.Held.{held_at}
 use Rattle.bus_core.specs.declared.TheConstants.{MAX_CLIENTS}
@@ -109,6 +110,14 @@ abbrev pub awaited_data_of : Option Entry → ℕ
 awaited_data_of None = 0
 awaited_data_of (Some entry) = awaited_data (data_trbs entry.task.request) entry.data_td
 
+-- WHAT NO ENTRY IS
+
+-- The bus has no step that submits a task management. So each entry is of a command, and no command is gone: what stands here and
+-- below of an entry excludes both.
+abbrev pub IsCommandRequest : Request → Type 0
+IsCommandRequest (Execute op) = Unit {0}
+IsCommandRequest (Manage what noted) = ⊥
+
 -- THE TDS OF AN ENTRY, BY ITS PHASE: what no count tells
 
 -- the device takes the command TD's TRB as it receives the command
@@ -116,12 +125,14 @@ abbrev pub IsCommandTd : Phase → Td → Type 0
 IsCommandTd Queued td = td ≡ pushed
 IsCommandTd (Begun progress) td = td.consumed ≡ 1
 IsCommandTd (Sent answer) td = td.consumed ≡ 1
+IsCommandTd Gone td = ⊥
 
 -- it takes the status TD's TRB as it hands over the answer
 abbrev pub IsStatusTd : Phase → Td → Type 0
 IsStatusTd Queued td = td ≡ pushed
 IsStatusTd (Begun progress) td = td ≡ pushed
 IsStatusTd (Sent answer) td = td.consumed ≡ 1
+IsStatusTd Gone td = ⊥
 
 -- as many TRBs of a data TD were taken as chunks were moved, and one more is there
 abbrev pub IsMovingTd : ℕ → ℕ → Option Td → Type 0
@@ -149,12 +160,15 @@ IsDataTd trbs Queued td = IsMovingTd trbs 0 td
 IsDataTd trbs (Begun (Moving chunk)) td = IsMovingTd trbs chunk td
 IsDataTd trbs (Begun (Ended answer)) td = IsAnsweredTd trbs answer td
 IsDataTd trbs (Sent answer) td = IsAnsweredTd trbs answer td
+IsDataTd trbs Gone td = ⊥
 
 abbrev pub request_bytes : Request → ℕ
 request_bytes (Execute op) = moved_bytes op
+request_bytes (Manage what noted) = 0
 
--- The TDs of an entry. There is a data TD exactly where bytes are moved, and 65,536 bytes are the most.
+-- An entry of a command and its TDs. There is a data TD exactly where bytes are moved, and 65,536 bytes are the most.
 pub record IsMatchedEntry (entry : Entry) : Type 0 where
+  pub asks : IsCommandRequest entry.task.request
   pub command : IsCommandTd entry.task.phase entry.command_td
   pub status : IsStatusTd entry.task.phase entry.status_td
   pub chunks : IsDataTd (data_trbs entry.task.request) entry.task.phase entry.data_td

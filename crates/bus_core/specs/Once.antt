@@ -2,9 +2,9 @@
 use Rattle.std.specs.Prelude.{◌≡◌, ℕ, ◌<◌, List, [], ◌∷◌, ◌++◌, Some, All, Contains, slice_get}
 use Rattle.block_unit.specs.BlockMaps.{BlockMaps}
 use Rattle.scsi_cmd.specs.declared.Reply.{Reply}
-use Rattle.scsi_cmd.specs.declared.Reply.TheVariants.{Status, Aborted, Task}
+use Rattle.scsi_cmd.specs.declared.Reply.TheVariants.{Status, Aborted, Task as TaskReply}
 use Rattle.solo_model.specs.declared.Label.{Label}
-use Rattle.solo_model.specs.declared.Label.TheVariants.{Submit, Carry, Move, Send, Settle}
+use Rattle.solo_model.specs.declared.Label.TheVariants.{Submit, Task, Carry, Move, Send, Settle}
 use Rattle.solo_model.specs.Solo.{SoloState, solo_run, opening as solo_opening}
 use Rattle.bus_core.specs.declared.Step.{Step}
 use Rattle.bus_core.specs.Replay.{replay}
@@ -14,20 +14,22 @@ use Rattle.bus_core.specs.Isolation.{own_labels, own_replies}
 abbrev pub reply_ticket : Reply → ℕ
 reply_ticket (Status tag ticket status sense buffer) = ticket
 reply_ticket (Aborted tag ticket buffer) = ticket
-reply_ticket (Task tag ticket code) = ticket
+reply_ticket (TaskReply tag ticket code) = ticket
 
 -- the ticket was accepted, and isn't settled yet
 pub record IsOwed (accepted settled : List ℕ) (ticket : ℕ) : Type 0 where
   pub accepted_before : Contains accepted ticket
   pub not_settled : Contains settled ticket → ⊥
 
--- Of a run after these tickets were accepted and those settled: each Submit's ticket is above all that were accepted
+-- Of a run after these tickets were accepted and those settled: the ticket of each Submit or Task is above all that were accepted
 -- before, so none is accepted twice; each Settle has the next reply, whose ticket is owed, so none is settled twice or
 -- before it was accepted; and there are no further replies. Checked by hand: Submit 1 of ticket 5 and Settle 1 with a reply
 -- of ticket 5 are so; a second Settle with ticket 5, one with ticket 4, and a second Submit of ticket 5 aren't.
 abbrev pub SettlesOnce : List ℕ → List ℕ → List Label → List Reply → Type 0
 SettlesOnce accepted settled [] replies = replies ≡ []
 SettlesOnce accepted settled (Submit index ticket command ∷ labels) replies =
+    All (λ earlier. earlier < ticket) accepted × SettlesOnce (accepted ++ ticket ∷ []) settled labels replies
+SettlesOnce accepted settled (Task ticket task ∷ labels) replies =
     All (λ earlier. earlier < ticket) accepted × SettlesOnce (accepted ++ ticket ∷ []) settled labels replies
 SettlesOnce accepted settled (Carry index ∷ labels) replies = SettlesOnce accepted settled labels replies
 SettlesOnce accepted settled (Move index ∷ labels) replies = SettlesOnce accepted settled labels replies

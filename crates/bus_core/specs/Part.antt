@@ -1,17 +1,20 @@
 -- One client's part of the shared machine, and what each step does to it.
-use Rattle.std.specs.Prelude.{ℕ, suc, ◌+◌, ◌==◌, Bool, true, false, List, [], ◌∷◌, ◌++◌, if◌then◌else◌, Option, Some, None, is_some, option_and_then, slice_set, replicate}
+use Rattle.std.specs.Prelude.{ℕ, suc, ◌+◌, ◌==◌, Bool, true, false, List, [], ◌∷◌, ◌++◌, if◌then◌else◌, Option, Some, None, is_some, option_and_then, slice_set}
+use Rattle.std.specs.Prelude.{map, option_map, replicate}
 use Rattle.block_unit.specs.BlockMaps.{BlockMaps}
 use Rattle.scsi_cmd.specs.declared.Command.{Command}
 use Rattle.scsi_cmd.specs.declared.Reply.{Reply}
+use Rattle.scsi_cmd.specs.declared.Request.{Request}
+use Rattle.scsi_cmd.specs.declared.Request.TheVariants.{Execute, Manage}
 use Rattle.scsi_cmd.specs.declared.SubmitFault.{SubmitFault}
 use Rattle.scsi_cmd.specs.Op.{moved_bytes}
 use Rattle.scsi_cmd.specs.declared.TheConstants.{TAGS}
-use Rattle.solo_model.specs.declared.TaggedTask.{TaggedTask}
+use Rattle.solo_model.specs.TaggedTask.{TaggedTask}
 use Rattle.solo_model.specs.declared.Phase.{Phase}
-use Rattle.solo_model.specs.declared.Phase.TheVariants.{Queued, Begun, Sent}
+use Rattle.solo_model.specs.declared.Phase.TheVariants.{Queued, Begun, Sent, Gone}
 use Rattle.device_server.specs.Server.{chunk_moved}
 use Rattle.scsi_cmd.specs.Held.{held_at}
-use Rattle.solo_model.specs.TaggedTask.{queued, carried, moved, sent, reply_of}
+use Rattle.solo_model.specs.TaggedTask.{after_notes, queued, carried, moved, sent, reply_of}
 use Rattle.scsi_cmd.specs.Submission.{first_submit_fault}
 use Rattle.uas_host.specs.declared.Place.{Place}
 use Rattle.bus_core.specs.declared.Td.{Td}
@@ -74,10 +77,23 @@ submitted_part part slot ticket command = record (with_entry part slot (new_entr
 
 -- CARRY
 
+-- the entry once a task management that noted these tickets is carried: its task may be gone, its TDs stay as they are
+abbrev pub noted_entry : List ℕ → Entry → Entry
+noted_entry noted entry = record entry { task = after_notes noted entry.task }
+
+-- the client's entries once a request is carried; a command changes nothing of the others
+abbrev pub entries_after : Request → List (Option Entry) → List (Option Entry)
+entries_after (Execute op) entries = entries
+entries_after (Manage what noted) entries = map (option_map (noted_entry noted.items)) entries
+
+abbrev pub with_request_carried : Part → Entry → Part
+with_request_carried part entry = record part { entries = entries_after entry.task.request part.entries }
+
 abbrev pub carried_entry : Part → ℕ → Place → Entry → Option (BlockMaps × TaggedTask) → Act
 carried_entry part slot place entry None = nothing part
 carried_entry part slot place entry (Some after) = record {
-  part = with_entry (record part { unit = after.0 }) slot (record entry { task = after.1; command_td = with_trb_taken entry.command_td });
+  part = with_entry (record (with_request_carried part entry) { unit = after.0 }) slot
+      (record entry { task = after.1; command_td = with_trb_taken entry.command_td });
   event = Some (CommandDone place);
   mark = Carry (suc slot);
   reply = None;
@@ -87,7 +103,7 @@ abbrev pub carried_slot : Part → ℕ → Place → Option Entry → Act
 carried_slot part slot place None = nothing part
 carried_slot part slot place (Some entry) = carried_entry part slot place entry (carried part.unit entry.task)
 
--- the device receives the command under this slot
+-- the device receives the request under this slot
 abbrev pub carry_act : Place → Part → Act
 carry_act place part = carried_slot part place.slot place (held_at part.entries place.slot)
 
@@ -98,6 +114,7 @@ abbrev pub took_trb : Phase → Bool
 took_trb Queued = true
 took_trb (Begun progress) = chunk_moved progress
 took_trb (Sent answer) = true
+took_trb Gone = true
 
 abbrev pub data_td_after : Bool → Option Td → Option Td
 data_td_after taken None = None

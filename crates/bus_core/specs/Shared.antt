@@ -1,5 +1,6 @@
 -- The shared machine: many clients over one controller and one device, without rings or bytes.
-use Rattle.std.specs.Prelude.{ℕ, suc, Bool, true, false, ◌&&◌, if◌then◌else◌, List, [], ◌∷◌, ◌++◌, length, slice_get, slice_set, Option, Some, None, option_to_list}
+use Rattle.std.specs.Prelude.{ℕ, suc, Bool, true, false, ◌&&◌, if◌then◌else◌, List, [], ◌∷◌, ◌++◌, length, slice_get, slice_set, Option, Some, None}
+use Rattle.std.specs.Prelude.{option_to_list}
 use Rattle.std.specs.Option.{option_map_or}
 use Rattle.block_unit.specs.BlockMaps.{BlockMaps}
 use Rattle.scsi_cmd.specs.declared.Command.{Command}
@@ -9,9 +10,9 @@ use Rattle.scsi_cmd.specs.declared.SubmitFault.{SubmitFault}
 use Rattle.scsi_cmd.specs.declared.SubmitFault.TheVariants.{NotYours}
 use Rattle.scsi_cmd.specs.Op.{direction_of}
 use Rattle.scsi_cmd.specs.declared.Request.{Request}
-use Rattle.scsi_cmd.specs.declared.Request.TheVariants.{Execute}
+use Rattle.scsi_cmd.specs.declared.Request.TheVariants.{Execute, Manage}
 use Rattle.solo_model.specs.declared.Phase.{Phase}
-use Rattle.solo_model.specs.declared.Phase.TheVariants.{Queued, Begun, Sent}
+use Rattle.solo_model.specs.declared.Phase.TheVariants.{Queued, Begun, Sent, Gone}
 use Rattle.device_server.specs.declared.Progress.TheVariants.{Moving, Ended}
 use Rattle.scsi_cmd.specs.Held.{held_at}
 use Rattle.uas_host.specs.declared.Place.{Place}
@@ -75,7 +76,14 @@ unmoved client =
 -- a refused submission is Quiet, and hands the command back
 abbrev pub refusal : ℕ → SubmitFault → Command → Outcome
 refusal client fault command =
-    record { acted = true; owner = Some client; mark = Quiet; reply = None; refused = Some (record { fault = fault; command = command }); doors = record { items = [] } }
+    record {
+      acted = true;
+      owner = Some client;
+      mark = Quiet;
+      reply = None;
+      refused = Some (record { fault = fault; command = command });
+      doors = record { items = [] };
+    }
 
 -- an accepted submission of this mark rings these doorbells
 abbrev pub acceptance : ℕ → Mark → List ℕ → Outcome
@@ -101,6 +109,7 @@ is_moving Queued = false
 is_moving (Begun (Moving chunk)) = true
 is_moving (Begun (Ended answer)) = false
 is_moving (Sent answer) = false
+is_moving Gone = false
 
 -- the target has an answer to send
 abbrev pub is_ended : Phase → Bool
@@ -108,6 +117,7 @@ is_ended Queued = false
 is_ended (Begun (Moving chunk)) = false
 is_ended (Begun (Ended answer)) = true
 is_ended (Sent answer) = false
+is_ended Gone = false
 
 -- the data stream was rung since the last stop of its pipe, which runs
 abbrev pub is_data_open : Shared → ℕ → Direction → Bool
@@ -117,6 +127,7 @@ is_data_open state tag ToDevice = is_open state.data_out tag
 
 abbrev pub request_direction : Request → Direction
 request_direction (Execute op) = direction_of op
+request_direction (Manage what noted) = Nothing
 
 abbrev pub has_data_trb : ℕ → Option Td → Bool
 has_data_trb trbs None = false

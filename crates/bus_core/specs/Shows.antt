@@ -1,13 +1,16 @@
 -- The rings show the shared machine: what it has waiting stands in them, in order, and nothing else does.
 use Rattle.std.specs.Prelude.{◌≡◌, ℕ, suc, ◌<◌, ◌==◌, if◌then◌else◌, List, [], ◌∷◌, drop, length, map, Option, None, Some}
 use Rattle.xhci_trb.specs.declared.Trb.{Trb}
-use Rattle.cycle_ring.specs.Ring.{Ring, pointer_of}
+use Rattle.cycle_ring.specs.Ring.{Ring, cycle_of, pointer_of}
 use Rattle.event_ring.specs.declared.Event.{Event}
 use Rattle.event_ring.specs.declared.Event.TheVariants.{Transfer, Command as CommandCompletion}
 use Rattle.stream_array.specs.declared.Pipe.{Pipe}
 use Rattle.stream_array.specs.declared.Pipe.TheVariants.{Command, Status, DataIn, DataOut}
-use Rattle.stream_array.specs.declared.TheConstants.{COMMAND_RING_PLACES}
-use Rattle.stream_array.specs.Rings.{LinesState, stream_ring}
+use Rattle.stream_array.specs.declared.Dequeue.{Dequeue}
+use Rattle.stream_array.specs.declared.TheConstants.{COMMAND_RING_PLACES, STREAM_RING_PLACES}
+use Rattle.stream_array.specs.Contexts.{Contexts, entry_of}
+use Rattle.stream_array.specs.Map.{HasRing, HasStreams}
+use Rattle.stream_array.specs.Rings.{LinesState, ShowsRings, ring_of, stream_ring}
 use Rattle.scsi_cmd.specs.declared.TheConstants.{TAGS}
 use Rattle.uas_host.specs.declared.Place.{Place}
 use Rattle.uas_host.specs.declared.TdState.{TdState}
@@ -100,3 +103,15 @@ pub record ShowsShared (state : Shared) (lines : LinesState) : Type 0 where
   pub messages : pending_in lines.command ≡ map command_trb state.messages
   pub events : map told_in lines.events.pending ≡ tells_of lines 0 state.events
   pub places : (place : Place) → place.client < length state.parts → place.slot < TAGS → ShowsPlace lines place (under state.parts place)
+
+-- CONTEXTS
+
+-- where the controller goes on in a stream's ring: at the first TRB that it may take, at the enqueue place where there is none
+abbrev pub next_place : Ring → Dequeue
+next_place ring = record { pointer = pointer_of STREAM_RING_PLACES ring ring.got; cycle = cycle_of STREAM_RING_PLACES ring ring.got }
+
+-- Each stream's context points there (xHCI 4.12), whatever contexts show the rings of its pipe.
+abbrev pub PointAhead : LinesState → Type 0
+PointAhead lines =
+    (pipe : Pipe) (stream : ℕ) (contexts : Contexts) → HasStreams pipe → HasRing pipe stream → ShowsRings lines pipe contexts
+    → entry_of contexts stream ≡ Some (next_place (ring_of lines pipe stream))

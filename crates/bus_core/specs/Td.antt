@@ -1,11 +1,11 @@
 -- Transfer descriptors (xHCI 4.11): how far the controller and the host are with one.
 use Rattle.std.specs.Prelude.{ℕ, ◌+◌, ◌/◌, ◌==◌, nat_lt, Bool, true, false, ◌&&◌, if◌then◌else◌, Option, Some, None}
 use Rattle.scsi_cmd.specs.Op.{moved_bytes}
-use Rattle.solo_model.specs.declared.TaggedTask.{TaggedTask}
+use Rattle.solo_model.specs.TaggedTask.{TaggedTask}
 use Rattle.scsi_cmd.specs.declared.Request.{Request}
-use Rattle.scsi_cmd.specs.declared.Request.TheVariants.{Execute}
+use Rattle.scsi_cmd.specs.declared.Request.TheVariants.{Execute, Manage}
 use Rattle.solo_model.specs.declared.Phase.{Phase}
-use Rattle.solo_model.specs.declared.Phase.TheVariants.{Queued, Begun, Sent}
+use Rattle.solo_model.specs.declared.Phase.TheVariants.{Queued, Begun, Sent, Gone}
 use Rattle.device_server.specs.declared.Answer.{Answer}
 use Rattle.device_server.specs.declared.Answer.TheVariants.{Good, Check}
 use Rattle.uas_host.specs.declared.TdState.{TdState}
@@ -42,9 +42,10 @@ is_seen Seen = true
 is_seen LeftOver = false
 is_seen Retired = false
 
--- the TRBs of a data TD: 4,096 bytes each, the last one what is left
+-- the TRBs of a data TD: 4,096 bytes each, the last one what is left; a task management moves no data
 abbrev pub data_trbs : Request → ℕ
 data_trbs (Execute op) = (moved_bytes op + 4095) / 4096
+data_trbs (Manage what noted) = 0
 
 -- Its TRBs are in its ring: pushed, and not yet reclaimed. The host waits for nothing of a TD that is left over, but its
 -- TRBs stay where they are until the controller is moved past them.
@@ -86,6 +87,7 @@ abbrev pub data_after_status : Phase → Option Td → Option Td
 data_after_status Queued td = td
 data_after_status (Begun progress) td = td
 data_after_status (Sent answer) td = data_after_answer answer td
+data_after_status Gone td = td
 
 -- a command without data has no data TD
 abbrev pub is_data_over : Option Td → Bool

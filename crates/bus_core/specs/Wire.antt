@@ -1,17 +1,20 @@
 -- The units that cross the pipes, as bytes (INCITS 471, information units).
 use Rattle.std.specs.Prelude.{ℕ, List}
 use Rattle.scsi_cmd.specs.Op.{cdb_bytes}
-use Rattle.uas_iu.specs.declared.Iu.TheVariants.{Command, Sense}
+use Rattle.uas_iu.specs.declared.Iu.TheVariants.{Command, Sense, Task as TaskUnit}
 use Rattle.uas_iu.specs.Units.{unit_text}
 use Rattle.uas_iu.specs.Lun.{lun_text}
+use Rattle.uas_host.specs.Tasks.{aborted_tag, function_of}
 use Rattle.scsi_cmd.specs.declared.Request.{Request}
-use Rattle.scsi_cmd.specs.declared.Request.TheVariants.{Execute}
+use Rattle.scsi_cmd.specs.declared.Request.TheVariants.{Execute, Manage}
 use Rattle.device_server.specs.declared.Answer.{Answer}
 use Rattle.device_server.specs.Server.{status_of, sense_of}
 
--- the unit that asks for a request, of this logical unit under this tag
+-- The unit that asks for a request, of this logical unit under this tag: Command, or Task Management with its function and the
+-- tag of the task that an abort names.
 abbrev pub request_text : ℕ → ℕ → Request → List ℕ
 request_text number tag (Execute op) = unit_text (Command tag (lun_text number) (cdb_bytes op))
+request_text number tag (Manage what noted) = unit_text (TaskUnit tag (function_of what) (aborted_tag what) (lun_text number))
 
 -- the unit that tells the answer under this tag
 abbrev pub answer_text : ℕ → Answer → List ℕ

@@ -15,6 +15,7 @@ use Rattle.uas_host.specs.declared.Handled.TheVariants.{Matched}
 use Rattle.uas_host.specs.declared.Place.{Place}
 use Rattle.uas_host.specs.State.{opening as opening_host}
 use Rattle.uas_host.specs.Doors.{submission_doors}
+use Rattle.uas_host.specs.Retirement.{is_held}
 use Rattle.uas_host.specs.Submit.{HasRoomFor, host_fault, lent, submitted}
 use Rattle.uas_host.specs.Tds.{pushed}
 use Rattle.uas_host.specs.Tags.{tag_of}
@@ -90,7 +91,7 @@ rung_all controller doors = fold rung_by controller doors
 abbrev pub submit_world : World → ℕ → ℕ → ℕ → Command → World
 submit_world world client tag ticket command = record world {
   host = submitted world.host client tag ticket command.op;
-  controller = rung_all world.controller (submission_doors (direction_of command.op) tag);
+  controller = rung_all world.controller (submission_doors (is_held world.host) (direction_of command.op) tag);
   lines = pushed world.lines tag command.op;
   frames = lent world.frames client tag command;
 }
@@ -108,7 +109,8 @@ pub record CommandFits (state : Shared) (world : World) (place : Place) : Type 0
   pub fits : IsSoundWorld (command_world world) → Fits (shared_step state CommandPipe).0 (command_world world)
 
 abbrev pub CommandsFit : Type 0
-CommandsFit = (state : Shared) (world : World) (place : Place) (rest : List Place) → Fits state world → state.messages ≡ place ∷ rest → CommandFits state world place
+CommandsFit = (state : Shared) (world : World) (place : Place) (rest : List Place) → Fits state world → state.messages ≡ place ∷ rest
+    → CommandFits state world place
 
 -- where no message waits the controller is idle
 abbrev pub NoCommandIsIdle : Type 0
@@ -124,7 +126,8 @@ abbrev pub DataFit : Type 0
 DataFit = (state : Shared) (world : World) (tag : ℕ) → Fits state world → due state (Data tag) ≡ true → DataFits state world tag
 
 abbrev pub DataIsIdle : Type 0
-DataIsIdle = (state : Shared) (world : World) (tag : ℕ) → Fits state world → due state (Data tag) ≡ false → moved world.controller (sides_in world) tag ≡ (sides_in world, Idle)
+DataIsIdle = (state : Shared) (world : World) (tag : ℕ) → Fits state world → due state (Data tag) ≡ false
+    → moved world.controller (sides_in world) tag ≡ (sides_in world, Idle)
 
 -- Status
 pub record StatusFits (state : Shared) (world : World) (tag : ℕ) : Type 0 where
@@ -136,7 +139,8 @@ abbrev pub StatusesFit : Type 0
 StatusesFit = (state : Shared) (world : World) (tag : ℕ) → Fits state world → due state (Status tag) ≡ true → StatusFits state world tag
 
 abbrev pub StatusIsIdle : Type 0
-StatusIsIdle = (state : Shared) (world : World) (tag : ℕ) → Fits state world → due state (Status tag) ≡ false → sent_by world.controller (sides_in world) tag ≡ (sides_in world, Idle)
+StatusIsIdle = (state : Shared) (world : World) (tag : ℕ) → Fits state world → due state (Status tag) ≡ false
+    → sent_by world.controller (sides_in world) tag ≡ (sides_in world, Idle)
 
 -- Event: the first event is matched to the TD that it is of; none is stray
 pub record EventFits (state : Shared) (world : World) (event : Event) (done : Completion) : Type 0 where
@@ -159,7 +163,8 @@ FaultsAgree =
 
 pub record SubmitFits (state : Shared) (world : World) (client tag ticket : ℕ) (command : Command) : Type 0 where
   pub room : HasRoomFor world.lines world.frames tag command.op
-  pub fits : IsSoundWorld (submit_world world client tag ticket command) → Fits (submit_step state client tag ticket command).0 (submit_world world client tag ticket command)
+  pub fits : IsSoundWorld (submit_world world client tag ticket command)
+      → Fits (submit_step state client tag ticket command).0 (submit_world world client tag ticket command)
 
 abbrev pub SubmissionsFit : Type 0
 SubmissionsFit =

@@ -7,6 +7,7 @@ use arrayvec::ArrayVec;
 use xhci_ctl::Controller;
 
 /// Rings doorbells, in order.
+#[inline(always)]
 pub(crate) fn ring(controller: &mut Controller, values: &[u32])
     ensures { controller.new ≡ rung_all controller.old values.now }
 {
@@ -16,6 +17,7 @@ pub(crate) fn ring(controller: &mut Controller, values: &[u32])
 }
 
 /// The doorbells of one step.
+#[inline(always)]
 pub(crate) fn rung(values: &[u32]) -> ArrayVec<u32, MOST_DOORBELLS>
     requires { length values.now ≤ MOST_DOORBELLS }
     ensures { result.items ≡ values.now }

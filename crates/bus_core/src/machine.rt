@@ -1,11 +1,15 @@
 //! The bus and its steps, each by one call of host or controller.
-ghost use Rattle.std.specs.Prelude.{◌≡◌, ℕ, ◌<◌, ◌≤◌, ◌&&◌, true, IfSome, length, ◌^◌, IfOk, slice_get, vec_len};
+ghost use Rattle.std.specs.Prelude.{◌≡◌, ℕ, suc, ◌*◌, ◌<◌, ◌≤◌, IfSome, IfNone, length, ◌^◌, IfOk, slice_get, vec_len};
 ghost use Rattle.stream_array.specs.Rings.{IsLines};
 ghost use Rattle.frame_store.specs.Buffers.{IsWhole};
 ghost use Rattle.uas_host.specs.State.{IsHost};
+ghost use Rattle.scsi_cmd.specs.declared.TheConstants.{TAGS};
 ghost use Rattle.bus_core.specs.Bus.{HasTicket};
-ghost use Rattle.bus_core.specs.Shared.{due, due_step, opening, shared_step, submit_step};
-ghost use Rattle.bus_core.specs.Shows.{ShowsShared};
+ghost use Rattle.bus_core.specs.Drain.{AreQuiet};
+ghost use Rattle.bus_core.specs.Owners.{acted_as, handled_as};
+ghost use Rattle.bus_core.specs.Shared.{due, opening, shared_step};
+ghost use Rattle.bus_core.specs.declared.Mark.{Mark};
+ghost use Rattle.bus_core.specs.Shows.{PointAhead, ShowsShared};
 ghost use Rattle.bus_core.specs.StepIsolation.{IsIsolatedStep};
 
 use crate::doors::{ring, rung};
@@ -16,10 +20,10 @@ use frame_store::Frames;
 use scsi_cmd::Command;
 use std::alloc::{AllocError, Global};
 use stream_array::{Lines, Pipe};
-use uas_host::Host;
+use uas_host::{Handled, Host};
 use uas_iu::lun_bytes;
 use uas_target::{Phase, Target};
-use xhci_ctl::Controller;
+use xhci_ctl::{Acted, Controller};
 
 impl Bus {
     /// The bus of these units, the unit of client c at place c: 1 to 31 of them. `AllocError` where there is no memory
@@ -66,8 +70,18 @@ impl Bus {
         // They show what waits: the command pipe's ring each message, the event ring each event, each stream's ring what
         // is left of its TD.
         ensures shows { ShowsShared self.now result.now }
+        // The context of each stream points at the TRB that the controller takes next.
+        ensures contexts { PointAhead result.now }
     {
         &self.lines
+    }
+
+    /// The buffers that the host writes and lends: each tag's command and status buffer, and the clients' vectors while they are out.
+    pub fn frames(&self) -> &Frames
+        ensures whole { IsWhole result.now }
+    {
+        stand(&self.host, &self.lines, &self.frames);
+        &self.frames
     }
 
     /// Whether a step would act.
@@ -112,6 +126,15 @@ impl Bus {
         }
     }
 
+    /// The least tag above this one that the device has a task of. No other tag's streams are due.
+    #[inline(always)]
+    pub(crate) fn next_busy(&self, tag: u16) -> Option<u16>
+        ensures next { IfSome result (λ next. (tag < next) × (next ≤ length self.now.parts * TAGS) × AreQuiet self.now tag next) }
+        ensures none { IfNone result (AreQuiet self.now tag (suc (length self.now.parts * TAGS))) }
+    {
+        self.target.next_task(tag)
+    }
+
     /// The event ring has an event.
     fn event_is_due(&self) -> bool
         ensures { result ≡ due self.now Step.Event }
@@ -127,7 +150,8 @@ impl Bus {
     }
 
     /// One step: what came of it. It acts exactly where it is due; it takes no memory.
-    #[tactic(auto, using(crate::proofs::StepIsolation::idle_isolated, crate::proofs::StepIsolation::due_isolated))]
+    #[tactic(auto, using(crate::proofs::StepIsolation::step_isolated))]
+    #[inline(always)]
     pub fn step(&mut self, step: Step) -> Outcome
         requires { HasTicket step }
         // The bus and the outcome are the shared machine's.
@@ -135,17 +159,14 @@ impl Bus {
         // To each client the step is its own machine's, or nothing at all.
         ensures isolated { (client : ℕ) → IsIsolatedStep self.old step result self.new client }
     {
-        if !self.due(&step) {
-            return Outcome::idle();
-        }
-        self.take_due(step)
+        self.act(step)
     }
 
-    /// A step that is due.
-    fn take_due(&mut self, step: Step) -> Outcome
-        requires ticket { HasTicket step }
-        requires due { due self.old step ≡ true }
-        ensures { due_step self.old step ≡ (self.new, result) }
+    /// A step, each by one call, which finds out for itself whether it is due.
+    #[inline(always)]
+    fn act(&mut self, step: Step) -> Outcome
+        requires { HasTicket step }
+        ensures { shared_step self.old step ≡ (self.new, result) }
     {
         match step {
             Step::Submit {
@@ -154,19 +175,20 @@ impl Bus {
                 ticket,
                 command,
             } => self.submit(client, tag, ticket, command),
-            Step::CommandPipe => self.carry(),
-            Step::Data(tag) => self.move_chunk(tag),
-            Step::Status(tag) => self.send(tag),
-            Step::Event => self.see(),
+            Step::CommandPipe => Outcome::carried(self.carry()),
+            Step::Data(tag) => Outcome::moved(self.move_chunk(tag)),
+            Step::Status(tag) => Outcome::sent(self.send(tag)),
+            Step::Event => Outcome::handled(self.see()),
             Step::Take(client) => self.take(client),
         }
     }
 
     /// A client submits a command: the host writes its unit, lends its buffer and pushes its TDs, and the doorbells that it
     /// names are rung, in their order. A refused submission names none.
+    #[inline(never)]
     fn submit(&mut self, client: usize, tag: u16, ticket: u64, command: Command) -> Outcome
         requires { ticket < 2 ^ 60 }
-        ensures { submit_step self.old client tag ticket command ≡ (self.new, result) }
+        ensures { shared_step self.old (Step.Submit client tag ticket command) ≡ (self.new, result) }
     {
         self.doors.clear();
         let submitted = self.host.submit(
@@ -184,62 +206,65 @@ impl Bus {
     }
 
     /// The device receives the oldest unit in the command pipe.
-    fn carry(&mut self) -> Outcome
-        requires { due self.old Step.CommandPipe ≡ true }
-        ensures { due_step self.old Step.CommandPipe ≡ (self.new, result) }
+    #[inline(never)]
+    pub(crate) fn carry(&mut self) -> Acted
+        ensures { shared_step self.old Step.CommandPipe ≡ (self.new, acted_as Mark.Carry result) }
     {
         let acted = self
             .controller
             .command_step(&mut self.lines, &self.frames, &mut self.target);
         stand(&self.host, &self.lines, &self.frames);
-        Outcome::carried(acted)
+        acted
     }
 
     /// The controller moves a chunk of a tag's data.
-    fn move_chunk(&mut self, tag: u16) -> Outcome
-        requires { due self.old (Step.Data tag) ≡ true }
-        ensures { due_step self.old (Step.Data tag) ≡ (self.new, result) }
+    #[inline(never)]
+    pub(crate) fn move_chunk(&mut self, tag: u16) -> Acted
+        ensures { shared_step self.old (Step.Data tag) ≡ (self.new, acted_as Mark.Move result) }
     {
         let acted = self
             .controller
             .data_step(&mut self.lines, &mut self.frames, &mut self.target, tag);
         stand(&self.host, &self.lines, &self.frames);
-        Outcome::moved(acted)
+        acted
     }
 
     /// The controller moves a tag's status.
-    fn send(&mut self, tag: u16) -> Outcome
-        requires { due self.old (Step.Status tag) ≡ true }
-        ensures { due_step self.old (Step.Status tag) ≡ (self.new, result) }
+    #[inline(never)]
+    pub(crate) fn send(&mut self, tag: u16) -> Acted
+        ensures { shared_step self.old (Step.Status tag) ≡ (self.new, acted_as Mark.Send result) }
     {
         let acted = self
             .controller
             .status_step(&mut self.lines, &mut self.frames, &mut self.target, tag);
         stand(&self.host, &self.lines, &self.frames);
-        Outcome::sent(acted)
+        acted
     }
 
-    /// The host takes the oldest event.
-    fn see(&mut self) -> Outcome
-        requires { due self.old Step.Event ≡ true }
-        ensures { due_step self.old Step.Event ≡ (self.new, result) }
+    /// The host takes the oldest event. It rings no doorbell at an event of a TD, and no other event comes.
+    #[inline(never)]
+    pub(crate) fn see(&mut self) -> Handled
+        ensures { shared_step self.old Step.Event ≡ (self.new, handled_as result) }
     {
         let Some(event) = self.lines.take() else {
-            return Outcome::idle();
+            return Handled::Stray;
         };
         self.doors.clear();
         let handled = self
             .host
             .on_event(&mut self.lines, &self.frames, &mut self.doors, event);
         stand(&self.host, &self.lines, &self.frames);
-        Outcome::handled(handled)
+        handled
     }
 
     /// A client takes the reply that was ready first.
+    #[inline(never)]
     fn take(&mut self, client: usize) -> Outcome
-        requires { due self.old (Step.Take client) ≡ true }
-        ensures { due_step self.old (Step.Take client) ≡ (self.new, result) }
+        ensures { shared_step self.old (Step.Take client) ≡ (self.new, result) }
     {
+        if !self.take_is_due(client) {
+            return Outcome::idle();
+        }
         let reply = self.host.take_reply(&mut self.frames, client);
         stand(&self.host, &self.lines, &self.frames);
         Outcome::replying(client, reply)
@@ -248,6 +273,7 @@ impl Bus {
 
 /// What holds of each host, all rings and all buffers: the host's clients have their slots, the rings lie where the address map
 /// says, and each buffer has its size.
+#[inline(always)]
 fn stand(host: &Host, lines: &Lines, frames: &Frames)
     ensures host { IsHost host.now }
     ensures lines { IsLines lines.now }

@@ -13,6 +13,7 @@ use xhci_ctl::Acted;
 
 impl Outcome {
     /// The outcome of a step that wasn't due.
+    #[inline(always)]
     pub(crate) fn idle() -> Outcome
         ensures { result ≡ idle }
     {
@@ -27,6 +28,7 @@ impl Outcome {
     }
 
     /// The outcome of a step that acted for a client, without a reply.
+    #[inline(always)]
     fn marked(client: usize, mark: Mark) -> Outcome
         ensures { result ≡ marked client mark }
     {
@@ -41,6 +43,7 @@ impl Outcome {
     }
 
     /// The outcome of a step of the command pipe.
+    #[inline(always)]
     pub(crate) fn carried(acted: Acted) -> Outcome
         ensures { result ≡ acted_as Mark.Carry acted }
     {
@@ -51,6 +54,7 @@ impl Outcome {
     }
 
     /// The outcome of a step of a data stream.
+    #[inline(always)]
     pub(crate) fn moved(acted: Acted) -> Outcome
         ensures { result ≡ acted_as Mark.Move acted }
     {
@@ -61,6 +65,7 @@ impl Outcome {
     }
 
     /// The outcome of a step of a status stream.
+    #[inline(always)]
     pub(crate) fn sent(acted: Acted) -> Outcome
         ensures { result ≡ acted_as Mark.Send acted }
     {
@@ -71,16 +76,20 @@ impl Outcome {
     }
 
     /// The outcome of an event.
+    #[inline(always)]
     pub(crate) fn handled(handled: Handled) -> Outcome
         ensures { result ≡ handled_as handled }
     {
         match handled {
             Handled::Matched(tag) => Outcome::marked(owner_of(tag), Mark::Quiet),
+            // Neither comes on a bus: no retirement begins here, so no command stands on the controller's command ring
+            // (`FitsEngine`), and each event that waits is of a TD that the host awaits (`EventsFit`).
             Handled::Engine | Handled::Stray => Outcome::idle(),
         }
     }
 
     /// The outcome of a reply.
+    #[inline(always)]
     pub(crate) fn replying(client: usize, reply: Option<Reply>) -> Outcome
         ensures { result ≡ replying client reply }
     {
@@ -95,6 +104,7 @@ impl Outcome {
     }
 
     /// The outcome of a submission under a tag, by the host's answer and the doorbells that were rung.
+    #[inline(always)]
     pub(crate) fn submitted(
         client: usize,
         tag: u16,
@@ -110,6 +120,7 @@ impl Outcome {
     }
 
     /// The outcome of a refused submission.
+    #[inline(always)]
     fn refused(client: usize, fault: SubmitFault, command: Command) -> Outcome
         ensures { result ≡ refusal client fault command }
     {
@@ -124,6 +135,7 @@ impl Outcome {
     }
 
     /// The outcome of a client's submission that was accepted, with its mark and the doorbells that it rang.
+    #[inline(always)]
     fn accepted(client: usize, mark: Mark, doors: ArrayVec<u32, MOST_DOORBELLS>) -> Outcome
         ensures { result ≡ acceptance client mark doors.items }
     {

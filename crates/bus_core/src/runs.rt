@@ -1,12 +1,14 @@
-ghost use Rattle.std.specs.Prelude.{◌≡◌, ℕ, ◌+◌, ◌≤◌, IfOk, vec_len, vec_capacity, OnErr};
+ghost use Rattle.std.specs.Prelude.{◌≡◌, ℕ, ◌+◌, ◌≤◌, IfOk, length, map, vec_len, vec_capacity, OnErr};
 ghost use Rattle.bus_core.specs.Bus.{AllTicketed, HasTicket};
-ghost use Rattle.bus_core.specs.Drain.{drained, round, tried_one};
+ghost use Rattle.bus_core.specs.Drain.{all_tags, drained, round, tried, tried_one};
+ghost use Rattle.bus_core.specs.declared.Step.TheVariants as Step;
 ghost use Rattle.bus_core.specs.Isolation.{IsIsolated};
 ghost use Rattle.bus_core.specs.Replay.{replayed};
 
 use crate::{Bus, Outcome, Step, Trace};
-use scsi_cmd::TAGS;
 use std::alloc::{AllocError, Global};
+use uas_host::Handled;
+use xhci_ctl::Acted;
 
 impl Bus {
     /// Takes every step, in order: the outcome of each. The room for the outcomes is made first: at `AllocError` no step
@@ -64,33 +66,90 @@ impl Bus {
         }
     }
 
-    /// One round of tries, of which so many may act: how many more may act after it.
+    /// One round of tries, of which so many may act: how many more may act after it. Of the streams it tries those of tags
+    /// with a task alone, as no other is due.
     fn round(&mut self, left: usize) -> usize
         ensures round { (self.new, result) ≡ round (self.old, left) }
         ensures less { result ≤ left }
     {
-        let tags = self.clients() * TAGS;
-        let mut left = self.try_step(Step::CommandPipe, left);
-        left = self.try_step(Step::Event, left);
-        for before in 0..tags {
-            left = self.try_step(Step::Data(before as u16 + 1), left);
+        let left = self.try_command(left);
+        let left = self.try_event(left);
+        let left = self.try_data(left);
+        self.try_statuses(left)
+    }
+
+    fn try_command(&mut self, left: usize) -> usize
+        ensures { (self.new, result) ≡ tried_one (self.old, left) Step.CommandPipe }
+    {
+        if left == 0 {
+            return 0;
         }
-        for before in 0..tags {
-            left = self.try_step(Step::Status(before as u16 + 1), left);
+        match self.carry() {
+            Acted::Acted(_) => left - 1,
+            Acted::Idle => left,
+        }
+    }
+
+    fn try_event(&mut self, left: usize) -> usize
+        ensures { (self.new, result) ≡ tried_one (self.old, left) Step.Event }
+    {
+        if left == 0 {
+            return 0;
+        }
+        match self.see() {
+            Handled::Matched(_) => left - 1,
+            Handled::Engine | Handled::Stray => left,
+        }
+    }
+
+    /// The data streams of all tags, rising.
+    fn try_data(&mut self, left: usize) -> usize
+        ensures { (self.new, result) ≡ tried (self.old, left) (map Step.Data (all_tags (length self.old.parts))) }
+    {
+        let mut left = left;
+        let mut tag = 0;
+        while let Some(next) = self.next_busy(tag) {
+            left = self.try_data_of(next, left);
+            tag = next;
         }
         left
     }
 
-    /// One try: how many more may act after it.
-    fn try_step(&mut self, step: Step, left: usize) -> usize
-        requires { HasTicket step }
-        ensures { (self.new, result) ≡ tried_one (self.old, left) step }
+    fn try_data_of(&mut self, tag: u16, left: usize) -> usize
+        ensures { (self.new, result) ≡ tried_one (self.old, left) (Step.Data tag) }
     {
-        if left == 0 || !self.due(&step) {
-            return left;
+        if left == 0 {
+            return 0;
         }
-        let _ = self.step(step);
-        left - 1
+        match self.move_chunk(tag) {
+            Acted::Acted(_) => left - 1,
+            Acted::Idle => left,
+        }
+    }
+
+    /// The status streams of all tags, rising.
+    fn try_statuses(&mut self, left: usize) -> usize
+        ensures { (self.new, result) ≡ tried (self.old, left) (map Step.Status (all_tags (length self.old.parts))) }
+    {
+        let mut left = left;
+        let mut tag = 0;
+        while let Some(next) = self.next_busy(tag) {
+            left = self.try_status_of(next, left);
+            tag = next;
+        }
+        left
+    }
+
+    fn try_status_of(&mut self, tag: u16, left: usize) -> usize
+        ensures { (self.new, result) ≡ tried_one (self.old, left) (Step.Status tag) }
+    {
+        if left == 0 {
+            return 0;
+        }
+        match self.send(tag) {
+            Acted::Acted(_) => left - 1,
+            Acted::Idle => left,
+        }
     }
 }
 

@@ -4,7 +4,7 @@ use Rattle.scsi_cmd.specs.declared.Op.{Op}
 use Rattle.scsi_cmd.specs.declared.Op.TheVariants.{TestUnitReady, Inquiry, ReadCapacity, Read, Write, Sync}
 use Rattle.scsi_cmd.specs.declared.Command.{Command}
 use Rattle.scsi_cmd.specs.declared.SubmitFault.{SubmitFault}
-use Rattle.scsi_cmd.specs.declared.SubmitFault.TheVariants.{NotYours, InUse, BadLength, TooLong, OutOfTurn}
+use Rattle.scsi_cmd.specs.declared.SubmitFault.TheVariants.{NotYours, InUse, BadLength, TooLong, OutOfTurn, NoSuchTask}
 use Rattle.scsi_cmd.specs.Op.{moved_bytes}
 
 -- READ and WRITE have at most 128 blocks, so 129 are too long; no other command is, SYNCHRONIZE CACHE of 65,535 blocks neither
@@ -27,3 +27,14 @@ first_submit_fault yours in_use least_ticket ticket command =
     else (if is_too_long command.op then Some TooLong
     else (if nat_lt ticket least_ticket then Some (OutOfTurn least_ticket)
     else None))))
+
+-- The first fault of a task management, or none. It reads only whether there is such a client, what it has under its task
+-- tag, its least ticket, and whether what is to be managed is there. Checked by hand: an abort of a free tag with a used
+-- ticket is OutOfTurn.
+abbrev pub first_task_fault : Bool → Bool → ℕ → ℕ → Bool → Option SubmitFault
+first_task_fault yours in_use least_ticket ticket has_task =
+    if not yours then Some NotYours
+    else (if in_use then Some InUse
+    else (if nat_lt ticket least_ticket then Some (OutOfTurn least_ticket)
+    else (if not has_task then Some NoSuchTask
+    else None)))

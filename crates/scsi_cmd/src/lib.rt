@@ -34,7 +34,7 @@ pub use cdbs::{cdb, moves, parse};
 pub use data::{capacity_data, inquiry_data};
 use std::alloc::{AllocError, Global};
 use std::marker::Model;
-pub use submission::submit_fault;
+pub use submission::{submit_fault, task_fault};
 use thiserror::Error;
 pub use works::{
     cdb_reports_attention, checked_work, parse_without_unit, reports_attention, work_of,
@@ -341,10 +341,15 @@ impl Buffer {
 }
 
 /// What a task is asked to do.
-#[derive(Clone, Copy, Debug, PartialEq, Eq)]
+#[derive(Clone, Debug, PartialEq, Eq, Drop)]
 pub enum Request {
     /// Execute a command.
     Execute(Op),
+    /// Manage other tasks of the client: those whose tickets were noted as this was submitted.
+    Manage {
+        task: Task,
+        noted: ArrayVec<u64, TASK_SLOT>,
+    },
 }
 
 /// A command: an operation, and the bytes that it brings or is to fill.

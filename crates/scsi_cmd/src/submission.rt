@@ -1,6 +1,6 @@
 //! What a client is told of a submission before anything of it reaches a device.
 ghost use Rattle.std.specs.Prelude.{◌≡◌, ◌<◌};
-ghost use Rattle.scsi_cmd.specs.Submission.{first_submit_fault, is_too_long};
+ghost use Rattle.scsi_cmd.specs.Submission.{first_submit_fault, first_task_fault, is_too_long};
 
 use crate::{Command, MOST_BLOCKS_MOVED, Op, SubmitFault, moves};
 
@@ -27,6 +27,34 @@ pub fn submit_fault(
         Some(SubmitFault::OutOfTurn(least_ticket))
     } else {
         None
+    }
+}
+
+/// The first fault of a task management, or `None`: `yours` where there is such a client, `in_use` where it has
+/// something under its task tag; `least_ticket` is the least ticket that is taken; `has_task` where what is to be
+/// managed is there.
+pub fn task_fault(
+    yours: bool,
+    in_use: bool,
+    least_ticket: u64,
+    ticket: u64,
+    has_task: bool,
+) -> Option<SubmitFault>
+    ensures { result ≡ first_task_fault yours in_use least_ticket ticket has_task }
+{
+    if !yours {
+        return Some(SubmitFault::NotYours);
+    }
+    if in_use {
+        return Some(SubmitFault::InUse);
+    }
+    if ticket < least_ticket {
+        return Some(SubmitFault::OutOfTurn(least_ticket));
+    }
+    if has_task {
+        None
+    } else {
+        Some(SubmitFault::NoSuchTask)
     }
 }
 

@@ -2,7 +2,7 @@
 use Rattle.std.proofs.Common.{◌≡◌, ℕ, length, sym, subst}
 use Rattle.scsi_cmd.specs.declared.Command.{Command}
 use Rattle.scsi_cmd.specs.Op.{moved_bytes}
-use Rattle.solo_model.specs.declared.TaggedTask.{TaggedTask}
+use Rattle.solo_model.specs.TaggedTask.{TaggedTask}
 use Rattle.solo_model.specs.Soundness.{IsSound}
 use Rattle.solo_model.specs.TaggedTask.{queued}
 

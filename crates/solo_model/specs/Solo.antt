@@ -1,15 +1,22 @@
 -- The solo machine: one client, with no queue, event, pipe or ring.
-use Rattle.std.specs.Prelude.{ℕ, zero, suc, ◌+◌, ◌^◌, ◌<◌, nat_lt, Bool, false, if◌then◌else◌, List, [], ◌∷◌, Option, Some, None, is_some, option_map, option_and_then, Result, Ok, Err, replicate}
+use Rattle.std.specs.Prelude.{◌≡◌, MatchOption, slice_set, ℕ, zero, suc, ◌+◌, ◌^◌, ◌<◌, nat_lt, Bool, true, false, ◌&&◌, if◌then◌else◌, List, [], ◌∷◌, ◌++◌, take, map, Option, Some, None, is_some, option_map, option_and_then, option_to_list, Result, Ok, Err, replicate}
+use Rattle.std.specs.Option.{option_map_or}
+use Rattle.std.specs.List.{filter_map}
+use Rattle.arrayvec.specs.ArrayVec.{ArrayVec}
 use Rattle.block_unit.specs.BlockMaps.{BlockMaps}
 use Rattle.scsi_cmd.specs.declared.Command.{Command}
 use Rattle.scsi_cmd.specs.declared.Reply.{Reply}
 use Rattle.scsi_cmd.specs.declared.SubmitFault.{SubmitFault}
-use Rattle.scsi_cmd.specs.Held.{held_under, with_held_under}
-use Rattle.solo_model.specs.TaggedTask.{queued, carried, moved, sent, reply_of}
-use Rattle.scsi_cmd.specs.Submission.{first_submit_fault}
-use Rattle.solo_model.specs.declared.TaggedTask.{TaggedTask}
+use Rattle.scsi_cmd.specs.declared.Request.{Request}
+use Rattle.scsi_cmd.specs.declared.Request.TheVariants.{Execute, Manage}
+use Rattle.scsi_cmd.specs.declared.Task.{Task}
+use Rattle.scsi_cmd.specs.declared.Task.TheVariants.{Abort, Reset}
+use Rattle.scsi_cmd.specs.Held.{held_at, held_under, with_held_under}
+use Rattle.solo_model.specs.TaggedTask.{after_notes, carried, moved, queued, queued_management, reply_of, sent}
+use Rattle.scsi_cmd.specs.Submission.{first_submit_fault, first_task_fault}
+use Rattle.solo_model.specs.TaggedTask.{TaggedTask}
 use Rattle.solo_model.specs.declared.Label.{Label}
-use Rattle.solo_model.specs.declared.Label.TheVariants.{Submit, Carry, Move, Send, Settle}
+use Rattle.solo_model.specs.declared.Label.TheVariants.{Submit, Task as TaskLabel, Carry, Move, Send, Settle}
 use Rattle.solo_model.specs.declared.NotARun.{NotARun}
 use Rattle.scsi_cmd.specs.declared.TheConstants.{TAGS, TASK_SLOT}
 
@@ -38,7 +45,7 @@ abbrev pub with_task : SoloState → ℕ → BlockMaps × TaggedTask → SoloSta
 with_task state index after =
     record state { unit = after.0; tasks = with_held_under state.tasks index (Some after.1) }
 
--- the task of this index is gone
+-- no task has this index
 abbrev pub without_task : SoloState → ℕ → SoloState
 without_task state index = record state { tasks = with_held_under state.tasks index None }
 
@@ -51,15 +58,68 @@ submitted state index ticket command None =
     Some (silently (record (with_task state index (state.unit, queued ticket command)) { least = ticket + 1 }))
 submitted state index ticket command (Some fault) = None
 
+-- TASK MANAGEMENT
+
+-- the command under an index, where there is one
+abbrev pub command_under : List (Option TaggedTask) → ℕ → Option TaggedTask
+command_under tasks index = if is_command_index index then held_under tasks index else None
+
+-- what is to be managed is there: of an abort the command under its index, of a reset always
+abbrev pub is_there : List (Option TaggedTask) → Task → Bool
+is_there tasks (Abort index) = is_some (command_under tasks index)
+is_there tasks Reset = true
+
+abbrev pub tickets_of : List (Option TaggedTask) → List ℕ
+tickets_of tasks = filter_map (option_map (λ task. task.ticket)) tasks
+
+-- The tickets that a task management notes: an abort that of the command under its index, a reset those of all commands that
+-- were submitted and not settled.
+abbrev pub noted_tickets : List (Option TaggedTask) → Task → List ℕ
+noted_tickets tasks (Abort index) = tickets_of (command_under tasks index ∷ [])
+noted_tickets tasks Reset = tickets_of (take TASK_SLOT tasks)
+
+-- the index of task management
+abbrev pub task_index : ℕ
+task_index = TASK_SLOT + 1
+
+abbrev pub managed : SoloState → ℕ → Task → Option SubmitFault → Option (SoloState × Option Reply)
+managed state ticket task None =
+    Some (silently (record (with_task state task_index (state.unit, queued_management ticket task (noted_tickets state.tasks task))) { least = ticket + 1 }))
+managed state ticket task (Some fault) = None
+
+-- the tasks once a task management that noted these tickets is carried: commands of such a ticket are gone
+abbrev pub heeded : Option (ArrayVec ℕ) → List (Option TaggedTask) → List (Option TaggedTask)
+heeded None tasks = tasks
+heeded (Some noted) tasks = map (option_map (after_notes noted.items)) tasks
+
+-- what the client has once a request is carried; a command changes nothing of the others
+abbrev pub after_request : Request → List (Option TaggedTask) → List (Option TaggedTask)
+after_request (Execute op) tasks = tasks
+after_request (Manage what noted) tasks = heeded (Some noted) tasks
+
+abbrev pub with_request_carried : SoloState → TaggedTask → SoloState
+with_request_carried state task = record state { tasks = after_request task.request state.tasks }
+
+abbrev pub carried_at : SoloState → ℕ → TaggedTask → Option (SoloState × Option Reply)
+carried_at state index task =
+    option_map (λ after. silently (with_task (with_request_carried state task) index after)) (carried state.unit task)
+
+-- what carrying the request of a slot did, or that it did nothing
+abbrev pub IsCarried : BlockMaps → List (Option TaggedTask) → ℕ → Bool → BlockMaps → List (Option TaggedTask) → Type 0
+IsCarried unit tasks slot acted unit_now tasks_now = MatchOption (option_and_then (carried unit) (held_at tasks slot))
+    ((acted ≡ false) × (unit_now ≡ unit) × (tasks_now ≡ tasks))
+    (λ after. (acted ≡ true) × (unit_now ≡ after.0) × (tasks_now ≡ slice_set tasks slot (Some after.1)))
+
 -- One step. None: the label has no step here, so it isn't a run. Checked by hand: after Submit 1 and Carry 1 of TEST UNIT
 -- READY, Send 1 is a step, and Carry 1, Move 1 and Settle 1 are none; the ticket 5 is taken where the least is 5.
 abbrev pub solo_step : SoloState → Label → Option (SoloState × Option Reply)
 solo_step state (Submit index ticket command) =
     submitted state index ticket command
     (first_submit_fault (is_command_index index) (is_some (held_under state.tasks index)) state.least ticket command)
-solo_step state (Carry index) =
-    option_map (λ after. silently (with_task state index after))
-    (option_and_then (carried state.unit) (held_under state.tasks index))
+solo_step state (TaskLabel ticket task) =
+    managed state ticket task
+    (first_task_fault true (is_some (held_under state.tasks task_index)) state.least ticket (is_there state.tasks task))
+solo_step state (Carry index) = option_and_then (carried_at state index) (held_under state.tasks index)
 solo_step state (Move index) =
     option_map (λ after. silently (with_task state index after))
     (option_and_then (moved state.unit) (held_under state.tasks index))
@@ -90,6 +150,7 @@ solo_run state (label ∷ labels) = option_and_then (λ after. option_map (with_
 -- every ticket that is handed in is below 2^60
 abbrev pub TicketFits : Label → Type 0
 TicketFits (Submit index ticket command) = ticket < 2 ^ 60
+TicketFits (TaskLabel ticket task) = ticket < 2 ^ 60
 TicketFits (Carry index) = Unit {0}
 TicketFits (Move index) = Unit {0}
 TicketFits (Send index) = Unit {0}

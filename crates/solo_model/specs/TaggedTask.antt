@@ -1,35 +1,74 @@
 -- One task, from its submission to its reply. The solo machine and the shared machine are made of these functions, and the
 -- device's part of them is the device server's.
-use Rattle.std.specs.Prelude.{ℕ, ◌*◌, List, Option, Some, None}
+use Rattle.std.specs.Prelude.{ℕ, ◌*◌, ◌==◌, Bool, true, false, ◌&&◌, if◌then◌else◌, List, [], Option, Some, None}
+use Rattle.std.specs.List.{list_any}
+use Rattle.arrayvec.specs.ArrayVec.{ArrayVec}
 use Rattle.std.specs.Option.{option_map_or}
-use Rattle.block_unit.specs.BlockMaps.{BlockMaps, bytes_from}
+use Rattle.block_unit.specs.BlockMaps.{BlockMaps, bytes_from, with_attention}
 use Rattle.scsi_cmd.specs.declared.Op.{Op}
 use Rattle.scsi_cmd.specs.declared.Command.{Command}
 use Rattle.scsi_cmd.specs.declared.Reply.{Reply}
-use Rattle.scsi_cmd.specs.declared.Reply.TheVariants.{Status}
+use Rattle.scsi_cmd.specs.declared.Reply.TheVariants.{Status, Aborted, Task as TaskReply}
 use Rattle.scsi_cmd.specs.declared.Request.{Request}
-use Rattle.scsi_cmd.specs.declared.Request.TheVariants.{Execute}
+use Rattle.scsi_cmd.specs.declared.Request.TheVariants.{Execute, Manage}
+use Rattle.scsi_cmd.specs.declared.Task.{Task}
+use Rattle.scsi_cmd.specs.declared.Task.TheVariants.{Abort, Reset}
 use Rattle.scsi_cmd.specs.Buffers.{with_bytes_at}
 use Rattle.scsi_cmd.specs.Op.{moved_bytes}
 use Rattle.scsi_cmd.specs.Work.{checked_work, reports_attention, work_of}
 use Rattle.device_server.specs.declared.Progress.{Progress}
+use Rattle.device_server.specs.declared.Answer.{Answer}
+use Rattle.device_server.specs.declared.Answer.TheVariants.{Good}
 use Rattle.device_server.specs.declared.Progress.TheVariants.{Moving, Ended}
 use Rattle.device_server.specs.Server.{begun, chunk_bytes, chunk_given, progress_after, sense_of, status_of, unit_taken}
 use Rattle.solo_model.specs.declared.Phase.{Phase}
-use Rattle.solo_model.specs.declared.Phase.TheVariants.{Queued, Begun, Sent}
-use Rattle.solo_model.specs.declared.TaggedTask.{TaggedTask}
+use Rattle.solo_model.specs.declared.Phase.TheVariants.{Queued, Begun, Sent, Gone}
+use Rattle.solo_model.specs.declared.Submitted.{Submitted}
+use Rattle.solo_model.specs.declared.Submitted.TheVariants.{Command as SubmittedCommand, Management}
+
+-- A task under one tag of a client: the number that the client gave it, what is asked, the bytes that it brings or those that
+-- came in so far over what was handed in, and how far it has come.
+pub record TaggedTask : Type 0 where
+  pub ticket : ℕ
+  pub request : Request
+  pub buffer : List ℕ
+  pub phase : Phase
+
+-- what is asked by what was submitted, and its bytes; a task management has none
+abbrev pub request_in : Submitted → Request
+request_in (SubmittedCommand command) = Execute command.op
+request_in (Management task noted) = Manage task noted
+
+abbrev pub buffer_in : Submitted → List ℕ
+buffer_in (SubmittedCommand command) = command.buffer
+buffer_in (Management task noted) = []
 
 -- SUBMISSION
 
--- a task as it is submitted
+-- a command as it is submitted
 abbrev pub queued : ℕ → Command → TaggedTask
 queued ticket command = record { ticket = ticket; request = Execute command.op; buffer = command.buffer; phase = Queued }
 
--- CARRY: the device receives the command and begins it
+-- a task management as it is submitted, with the tickets that it noted; it brings no bytes
+abbrev pub queued_management : ℕ → Task → List ℕ → TaggedTask
+queued_management ticket task noted =
+    record { ticket = ticket; request = Manage task (record { items = noted }); buffer = []; phase = Queued }
+
+-- CARRY: the device receives the request and begins it
+
+-- LOGICAL UNIT RESET leaves an attention on its unit
+abbrev pub unit_managed : BlockMaps → Task → BlockMaps
+unit_managed unit (Abort tag) = unit
+unit_managed unit Reset = with_attention unit true
+
+-- A command begins as far as its data. A task management is done with as it is received: it ends well, with the response
+-- COMPLETE.
+abbrev pub request_begun : BlockMaps → Request → BlockMaps × Progress
+request_begun unit (Execute op) = begun unit (reports_attention op) (checked_work op unit.count)
+request_begun unit (Manage what noted) = (unit_managed unit what, Ended Good)
 
 abbrev pub carried_request : BlockMaps → TaggedTask → Request → BlockMaps × TaggedTask
-carried_request unit task (Execute op) =
-    in_progress task (begun unit (reports_attention op) (checked_work op unit.count))
+carried_request unit task request = in_progress task (request_begun unit request)
   where
     in_progress : TaggedTask → BlockMaps × Progress → BlockMaps × TaggedTask
     in_progress task after = (after.0, record task { phase = Begun after.1 })
@@ -39,9 +78,45 @@ abbrev pub carried_from : BlockMaps → TaggedTask → Phase → Option (BlockMa
 carried_from unit task Queued = Some (carried_request unit task task.request)
 carried_from unit task (Begun progress) = None
 carried_from unit task (Sent answer) = None
+carried_from unit task Gone = None
 
 abbrev pub carried : BlockMaps → TaggedTask → Option (BlockMaps × TaggedTask)
 carried unit task = carried_from unit task task.phase
+
+-- GONE: what a task management that is carried does to the client's other tasks
+
+-- the tickets that a task management noted which is to be carried next
+abbrev pub noted_in : Phase → Request → Option (ArrayVec ℕ)
+noted_in Queued (Execute op) = None
+noted_in Queued (Manage what noted) = Some noted
+noted_in (Begun progress) request = None
+noted_in (Sent answer) request = None
+noted_in Gone request = None
+
+abbrev pub noted_next : TaggedTask → Option (ArrayVec ℕ)
+noted_next task = noted_in task.phase task.request
+
+abbrev pub is_command : Request → Bool
+is_command (Execute op) = true
+is_command (Manage what noted) = false
+
+-- its answer wasn't handed over, so the device can still end it
+abbrev pub can_go : Phase → Bool
+can_go Queued = true
+can_go (Begun progress) = true
+can_go (Sent answer) = false
+can_go Gone = false
+
+-- a command whose answer wasn't handed over
+abbrev pub can_be_ended : TaggedTask → Bool
+can_be_ended task = is_command task.request && can_go task.phase
+
+abbrev pub is_noted : List ℕ → ℕ → Bool
+is_noted noted ticket = list_any (λ other. other == ticket) noted
+
+-- such a command of a noted ticket is gone; any other task stays
+abbrev pub after_notes : List ℕ → TaggedTask → TaggedTask
+after_notes noted task = if can_be_ended task && is_noted noted task.ticket then record task { phase = Gone } else task
 
 -- MOVE: one chunk, on the blocks of this moment
 
@@ -62,16 +137,19 @@ buffer_after unit buffer chunk op =
 abbrev pub progress_left : BlockMaps → ℕ → Op → Progress
 progress_left unit chunk op = progress_after unit chunk (work_of op unit.count)
 
-abbrev pub moved_request : BlockMaps → TaggedTask → ℕ → Request → BlockMaps × TaggedTask
+-- a task management moves no data
+abbrev pub moved_request : BlockMaps → TaggedTask → ℕ → Request → Option (BlockMaps × TaggedTask)
 moved_request unit task chunk (Execute op) =
-    (unit_after unit task.buffer chunk op, record task { buffer = buffer_after unit task.buffer chunk op; phase = Begun (progress_left unit chunk op) })
+    Some (unit_after unit task.buffer chunk op, record task { buffer = buffer_after unit task.buffer chunk op; phase = Begun (progress_left unit chunk op) })
+moved_request unit task chunk (Manage what noted) = None
 
 -- only a task that moves data moves a chunk
 abbrev pub moved_from : BlockMaps → TaggedTask → Phase → Option (BlockMaps × TaggedTask)
 moved_from unit task Queued = None
-moved_from unit task (Begun (Moving chunk)) = Some (moved_request unit task chunk task.request)
+moved_from unit task (Begun (Moving chunk)) = moved_request unit task chunk task.request
 moved_from unit task (Begun (Ended answer)) = None
 moved_from unit task (Sent answer) = None
+moved_from unit task Gone = None
 
 abbrev pub moved : BlockMaps → TaggedTask → Option (BlockMaps × TaggedTask)
 moved unit task = moved_from unit task task.phase
@@ -83,17 +161,29 @@ sent_from task Queued = None
 sent_from task (Begun (Moving chunk)) = None
 sent_from task (Begun (Ended answer)) = Some (record task { phase = Sent answer })
 sent_from task (Sent answer) = None
+sent_from task Gone = None
 
 abbrev pub sent : TaggedTask → Option TaggedTask
 sent task = sent_from task task.phase
 
 -- SETTLE: the client gets its reply
 
+-- a command's status and sense with its buffer, or the response COMPLETE, 00h, of a task management
+abbrev pub answered_by : ℕ → ℕ → List ℕ → Answer → Request → Reply
+answered_by tag ticket buffer answer (Execute op) = Status tag ticket (status_of answer) (record { items = sense_of answer }) buffer
+answered_by tag ticket buffer answer (Manage what noted) = TaskReply tag ticket 0
+
+-- a command that is gone is told as such; none ends a task management
+abbrev pub aborted_by : ℕ → ℕ → List ℕ → Request → Option Reply
+aborted_by tag ticket buffer (Execute op) = Some (Aborted tag ticket buffer)
+aborted_by tag ticket buffer (Manage what noted) = None
+
 abbrev pub reply_from : ℕ → TaggedTask → Phase → Option Reply
 reply_from tag task Queued = None
 reply_from tag task (Begun progress) = None
-reply_from tag task (Sent answer) = Some (Status tag task.ticket (status_of answer) (record { items = sense_of answer }) task.buffer)
+reply_from tag task (Sent answer) = Some (answered_by tag task.ticket task.buffer answer task.request)
+reply_from tag task Gone = aborted_by tag task.ticket task.buffer task.request
 
--- the reply of a task whose answer was sent
+-- the reply of a task that is done with
 abbrev pub reply_of : ℕ → TaggedTask → Option Reply
 reply_of tag task = reply_from tag task task.phase

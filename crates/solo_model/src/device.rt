@@ -9,12 +9,12 @@ ghost use Rattle.scsi_cmd.specs.Work.{IsWorkOn, work_bytes, work_direction};
 ghost use Rattle.scsi_cmd.specs.declared.Direction.{Direction};
 ghost use Rattle.device_server.specs.Server.{chunk_bytes, chunk_given, progress_after, unit_taken};
 ghost use Rattle.solo_model.specs.Soundness.{IsSound};
-ghost use Rattle.solo_model.specs.TaggedTask.{buffer_after, carried, moved, progress_left, sent, unit_after};
+ghost use Rattle.solo_model.specs.TaggedTask.{buffer_after, carried, moved, progress_left, request_begun, request_in, sent, unit_after};
 
-use crate::{Phase, Request, TaggedTask};
+use crate::{Phase, Submitted, TaggedTask, Task};
 use block_unit::Unit;
-use device_server::{CHUNK_BYTES, Progress, begin, chunk_len, give_chunk, take_chunk};
-use scsi_cmd::{Buffer, Direction, Op, Work, checked_work, reports_attention, work_of};
+use device_server::{Answer, CHUNK_BYTES, Progress, begin, chunk_len, give_chunk, take_chunk};
+use scsi_cmd::{Buffer, Command, Direction, Op, Work, checked_work, reports_attention, work_of};
 
 /// The device receives a queued task and begins it; false, and nothing changes, where it isn't queued.
 pub fn carry(unit: &mut Unit, task: &mut TaggedTask) -> bool
@@ -28,10 +28,29 @@ pub fn carry(unit: &mut Unit, task: &mut TaggedTask) -> bool
     let Phase::Queued = task.phase else {
         return false;
     };
-    let Request::Execute(op) = task.request;
-    let asked = checked_work(&op, unit.blocks());
-    task.phase = Phase::Begun(begin(unit, reports_attention(&op), asked));
+    task.phase = Phase::Begun(begin_submitted(unit, &task.submitted));
     true
+}
+
+/// A command begins as far as its data. A task management is done with as it is received, and LOGICAL UNIT RESET leaves an
+/// attention on the unit.
+fn begin_submitted(unit: &mut Unit, submitted: &Submitted) -> Progress
+    ensures unit { unit.new ≡ (request_begun unit.old (request_in submitted.now)).0 }
+    ensures progress { result ≡ (request_begun unit.old (request_in submitted.now)).1 }
+    ensures count { unit.new.count ≡ unit.old.count }
+{
+    match submitted {
+        Submitted::Command(command) => {
+            let asked = checked_work(&command.op, unit.blocks());
+            begin(unit, reports_attention(&command.op), asked)
+        }
+        Submitted::Management { task, .. } => {
+            if let Task::Reset = task {
+                unit.set_attention(true);
+            }
+            Progress::Ended(Answer::Good)
+        }
+    }
 }
 
 /// Moves the next chunk of a task that moves data, on the blocks as they are now; false, and nothing changes,
@@ -47,8 +66,10 @@ pub fn move_chunk(unit: &mut Unit, task: &mut TaggedTask) -> bool
     let Phase::Begun(Progress::Moving(chunk)) = task.phase else {
         return false;
     };
-    let Request::Execute(op) = task.request;
-    task.phase = Phase::Begun(move_op(unit, &mut task.buffer, chunk, &op));
+    let Submitted::Command(Command { op, buffer }) = &mut task.submitted else {
+        return false;
+    };
+    task.phase = Phase::Begun(move_op(unit, buffer, chunk, op));
     true
 }
 

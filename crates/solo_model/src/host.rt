@@ -1,44 +1,152 @@
-ghost use Rattle.std.specs.Prelude.{◌≡◌, ◌^◌, ◌<◌, IfNone, None};
-ghost use Rattle.solo_model.specs.TaggedTask.{queued, reply_of};
+ghost use Rattle.std.specs.Prelude.{◌≡◌, ℕ, is_some};
+ghost use Rattle.solo_model.specs.TaggedTask.{aborted_by, after_notes, answered_by, buffer_in, can_be_ended, is_noted, noted_next, queued, queued_management, reply_of, request_in};
 
-use crate::{Phase, Request, TaggedTask};
-use device_server::status_and_sense;
+use crate::{Phase, Submitted, TASK_SLOT, TaggedTask, Task};
+use arrayvec::ArrayVec;
+use device_server::{Answer, status_and_sense};
 use scsi_cmd::{Command, Reply};
+
+/// The response code of a task management that was carried out (INCITS 471, table of response codes).
+const COMPLETE: u8 = 0x00;
+
+const _: () = prove!(COMPLETE == 0x00);
 
 impl TaggedTask {
     /// A task as it is submitted.
     pub fn new(ticket: u64, command: Command) -> TaggedTask
         ensures { result ≡ queued ticket command }
     {
-        let Command { op, buffer } = command;
         TaggedTask {
             ticket,
-            request: Request::Execute(op),
-            buffer,
+            submitted: Submitted::Command(command),
             phase: Phase::Queued,
         }
     }
+
+    /// A task management as it is submitted, with the tickets that it noted. It brings no bytes.
+    pub fn management(ticket: u64, task: Task, noted: ArrayVec<u64, TASK_SLOT>) -> TaggedTask
+        ensures { result ≡ queued_management ticket task noted.items }
+    {
+        TaggedTask {
+            ticket,
+            submitted: Submitted::Management { task, noted },
+            phase: Phase::Queued,
+        }
+    }
+
+    /// The number that the client gave it.
+    pub fn ticket(&self) -> u64
+        ensures { result ≡ self.now.ticket }
+    {
+        self.ticket
+    }
+
+    /// Whether it is done with, so that it has a reply.
+    pub fn has_reply(&self) -> bool
+        ensures { (tag : ℕ) → result ≡ is_some (reply_of tag self.now) }
+    {
+        match self.phase {
+            Phase::Queued | Phase::Begun(_) => false,
+            Phase::Sent(_) => true,
+            Phase::Gone => matches!(self.submitted, Submitted::Command(_)),
+        }
+    }
+
+    /// The tickets that it noted, where it is a task management that the device hasn't received.
+    pub fn noted_next(&self) -> Option<ArrayVec<u64, TASK_SLOT>>
+        ensures { result ≡ noted_next self.now }
+    {
+        match (&self.phase, &self.submitted) {
+            (Phase::Queued, Submitted::Management { noted, .. }) => Some(copied(noted)),
+            _ => None,
+        }
+    }
+
+    /// A task management with these tickets noted is carried: a command of one of them is gone, where its answer wasn't handed
+    /// over yet.
+    pub fn heed(&mut self, noted: &[u64])
+        ensures { self.new ≡ after_notes noted.now self.old }
+    {
+        if self.can_be_ended() && is_noted(noted, self.ticket) {
+            self.phase = Phase::Gone;
+        }
+    }
+
+    /// Whether it is a command whose answer wasn't handed over.
+    fn can_be_ended(&self) -> bool
+        ensures { result ≡ can_be_ended self.now }
+    {
+        let Submitted::Command(_) = self.submitted else {
+            return false;
+        };
+        matches!(self.phase, Phase::Queued | Phase::Begun(_))
+    }
 }
 
-/// The reply of a task whose answer was sent, under this tag.
+fn is_noted(noted: &[u64], ticket: u64) -> bool
+    ensures { result ≡ is_noted noted.now ticket }
+{
+    noted.iter().any(|other| *other == ticket)
+}
+
+fn copied(tickets: &ArrayVec<u64, TASK_SLOT>) -> ArrayVec<u64, TASK_SLOT>
+    ensures { result ≡ tickets.now }
+{
+    let mut copy = ArrayVec::new();
+    copy.try_extend_from_slice(tickets).unwrap();
+    copy
+}
+
+/// The reply of a task that is done with, under this tag: its answer was sent, or a task management ended it.
 pub fn reply(tag: u16, task: TaggedTask) -> Option<Reply>
     ensures { result ≡ reply_of tag task }
 {
     let TaggedTask {
         ticket,
-        buffer,
+        submitted,
         phase,
-        ..
     } = task;
-    let Phase::Sent(answer) = phase else {
-        return None;
-    };
-    let (status, sense) = status_and_sense(&answer);
-    Some(Reply::Status {
-        tag,
-        ticket,
-        status,
-        sense,
-        buffer,
-    })
+    match phase {
+        Phase::Queued | Phase::Begun(_) => None,
+        Phase::Sent(answer) => Some(answered(tag, ticket, submitted, &answer)),
+        Phase::Gone => ended(tag, ticket, submitted),
+    }
+}
+
+/// The reply of a task whose answer was sent: a command's status and sense with its buffer, or the response of a task
+/// management.
+fn answered(tag: u16, ticket: u64, submitted: Submitted, answer: &Answer) -> Reply
+    ensures { result ≡ answered_by tag ticket (buffer_in submitted) answer.now (request_in submitted) }
+{
+    match submitted {
+        Submitted::Command(Command { buffer, .. }) => {
+            let (status, sense) = status_and_sense(answer);
+            Reply::Status {
+                tag,
+                ticket,
+                status,
+                sense,
+                buffer,
+            }
+        }
+        Submitted::Management { .. } => Reply::Task {
+            tag,
+            ticket,
+            code: COMPLETE,
+        },
+    }
+}
+
+/// The reply of a command that a task management ended; none ends a task management.
+fn ended(tag: u16, ticket: u64, submitted: Submitted) -> Option<Reply>
+    ensures { result ≡ aborted_by tag ticket (buffer_in submitted) (request_in submitted) }
+{
+    match submitted {
+        Submitted::Command(Command { buffer, .. }) => Some(Reply::Aborted {
+            tag,
+            ticket,
+            buffer,
+        }),
+        Submitted::Management { .. } => None,
+    }
 }

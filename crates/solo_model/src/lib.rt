@@ -17,12 +17,15 @@ mod machine;
 #[cfg(test)]
 mod tests;
 
+use arrayvec::ArrayVec;
 use block_unit::Unit;
 pub use device::{carry, move_chunk, send};
 use device_server::{Answer, Progress};
 pub use host::reply;
 use scsi_cmd::Command;
-pub use scsi_cmd::{Buffer, Reply, Request, SubmitFault, TAGS, TASK_SLOT, submit_fault};
+pub use scsi_cmd::{
+    Buffer, Reply, Request, SubmitFault, TAGS, TASK_SLOT, Task, submit_fault, task_fault,
+};
 use std::marker::Model;
 use thiserror::Error;
 
@@ -35,17 +38,42 @@ pub enum Phase {
     Begun(Progress),
     /// The answer was handed over.
     Sent(Answer),
+    /// A task management ended it before its answer was handed over.
+    Gone,
+}
+
+/// What a client submitted.
+#[derive(Debug, Drop)]
+pub enum Submitted {
+    /// A command; its buffer has the bytes that it brings, or those that came in so far over what was handed in.
+    Command(Command),
+    /// A task management, with the tickets that it noted.
+    Management {
+        task: Task,
+        noted: ArrayVec<u64, TASK_SLOT>,
+    },
 }
 
 /// A task under one tag of a client.
 #[derive(Debug, Drop)]
 pub struct TaggedTask {
     /// The number that the client gave it.
-    pub ticket: u64,
-    pub request: Request,
-    /// The bytes that it brings, or those that came in so far over what was handed in.
-    pub buffer: Buffer,
-    pub phase: Phase,
+    ticket: u64,
+    submitted: Submitted,
+    phase: Phase,
+}
+
+impl Model for TaggedTask {
+    ghost use Rattle.solo_model.specs.TaggedTask.{TaggedTask, buffer_in, request_in};
+
+    ghost Value = { TaggedTask };
+
+    ghost view = { λ task. record {
+      ticket = task.ticket;
+      request = request_in task.submitted;
+      buffer = buffer_in task.submitted;
+      phase = task.phase;
+    } };
 }
 
 /// One step of the solo machine; the number is the index of a tag, from 1 on.
@@ -53,6 +81,8 @@ pub struct TaggedTask {
 pub enum Label {
     /// The client submits a command with this ticket.
     Submit(u16, u64, Command),
+    /// The client submits a task management with this ticket; an abort names a command by its index.
+    Task(u64, Task),
     /// The device receives it.
     Carry(u16),
     /// The device moves its next chunk.

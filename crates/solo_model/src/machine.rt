@@ -1,13 +1,15 @@
-ghost use Rattle.std.specs.Prelude.{◌≡◌, ℕ, ◌+◌, ◌^◌, ◌<◌, ◌≤◌, MatchOption, true, false, length, slice_set, option_and_then, is_some, if◌then◌else◌};
+ghost use Rattle.std.specs.Prelude.{◌≡◌, ℕ, suc, ◌+◌, ◌^◌, ◌<◌, ◌≤◌, IfNone, IfSome, MatchOption, true, false, length, map, slice_set, option_and_then, option_map, is_some, option_to_list, ◌++◌, if◌then◌else◌};
+ghost use Rattle.arrayvec.specs.ArrayVec.{array_vec_len};
 ghost use Rattle.scsi_cmd.specs.Held.{AllHeld, held_at};
 ghost use Rattle.solo_model.specs.Soundness.{IsSound};
-ghost use Rattle.solo_model.specs.TaggedTask.{carried, moved, sent, reply_of};
-ghost use Rattle.solo_model.specs.Solo.{opening, solo_step, applied, slot_under, TicketFits};
+ghost use Rattle.solo_model.specs.TaggedTask.{after_notes, carried, moved, noted_next, sent, reply_of};
+ghost use Rattle.solo_model.specs.Solo.{IsCarried, TicketFits, applied, heeded, is_command_index, is_there, noted_tickets, opening, slot_under, solo_step, tickets_of};
 
 use crate::{
-    Label, NotARun, Phase, Solo, TAGS, TASK_SLOT, TaggedTask, carry, move_chunk, reply, send,
-    submit_fault,
+    Label, NotARun, Solo, TAGS, TASK_SLOT, TaggedTask, Task, carry, move_chunk, reply, send,
+    submit_fault, task_fault,
 };
+use arrayvec::ArrayVec;
 use block_unit::Unit;
 use scsi_cmd::{Command, Reply};
 
@@ -38,6 +40,7 @@ impl Solo {
     {
         match label {
             Label::Submit(index, ticket, command) => self.submit(index, ticket, command),
+            Label::Task(ticket, task) => self.manage(ticket, task),
             Label::Carry(index) => self.carry(index),
             Label::Move(index) => self.move_chunk(index),
             Label::Send(index) => self.send(index),
@@ -68,11 +71,26 @@ impl Solo {
         Ok(None)
     }
 
+    fn manage(&mut self, ticket: u64, task: Task) -> Result<Option<Reply>, NotARun>
+        requires { ticket < 2 ^ 60 }
+        ensures { applied self.old (solo_step self.old (Label.Task ticket task)) ≡ (self.new, result) }
+    {
+        let in_use = self.tasks[TASK_SLOT].is_some();
+        let there = is_there(&self.tasks, &task);
+        if task_fault(true, in_use, self.least, ticket, there).is_some() {
+            return Err(NotARun);
+        }
+        let noted = noted_tickets(&self.tasks, &task);
+        self.tasks[TASK_SLOT] = Some(TaggedTask::management(ticket, task, noted));
+        self.least = ticket + 1;
+        Ok(None)
+    }
+
     fn carry(&mut self, index: u16) -> Result<Option<Reply>, NotARun>
         ensures { applied self.old (solo_step self.old (Label.Carry index)) ≡ (self.new, result) }
     {
         match slot_of(index) {
-            Some(slot) => run_if(carry_at(&mut self.unit, &mut self.tasks, slot)),
+            Some(slot) => run_if(carry_slot(&mut self.unit, &mut self.tasks, slot)),
             None => Err(NotARun),
         }
     }
@@ -127,6 +145,122 @@ fn slot_of(index: u16) -> Option<usize>
     }
 }
 
+/// Whether what is to be managed is there: of an abort the command under its index, of a reset always.
+fn is_there(tasks: &[Option<TaggedTask>; TAGS], task: &Task) -> bool
+    ensures { result ≡ is_there tasks.now task.now }
+{
+    match task {
+        Task::Abort { tag } => match command_slot(*tag) {
+            Some(slot) => tasks[slot].is_some(),
+            None => false,
+        },
+        Task::Reset => true,
+    }
+}
+
+/// The slot of a command's index.
+fn command_slot(index: u16) -> Option<usize>
+    ensures none { IfNone result (is_command_index index ≡ false) }
+    ensures some { IfSome result (λ slot. (slot < TASK_SLOT) × (suc slot ≡ index) × (is_command_index index ≡ true)) }
+{
+    match slot_of(index) {
+        Some(slot) if slot < TASK_SLOT => Some(slot),
+        _ => None,
+    }
+}
+
+/// The tickets that a task management notes: an abort that of the command under its index, a reset those of all commands that
+/// were submitted and not settled.
+fn noted_tickets(tasks: &[Option<TaggedTask>], task: &Task) -> ArrayVec<u64, TASK_SLOT>
+    requires { length tasks.now ≡ TAGS }
+    ensures { result.items ≡ noted_tickets tasks.now task.now }
+{
+    match task {
+        Task::Abort { tag } => match command_slot(*tag) {
+            Some(slot) => tickets_in(&tasks[slot..slot + 1]),
+            None => ArrayVec::new(),
+        },
+        Task::Reset => tickets_in(&tasks[..TASK_SLOT]),
+    }
+}
+
+/// The tickets of the tasks of at most seven places, in their order.
+fn tickets_in(tasks: &[Option<TaggedTask>]) -> ArrayVec<u64, TASK_SLOT>
+    requires { length tasks.now ≤ TASK_SLOT }
+    ensures { result.items ≡ tickets_of tasks.now }
+{
+    let mut tickets = ArrayVec::new();
+    for task in tasks {
+        note(&mut tickets, ticket_of(task));
+    }
+    tickets
+}
+
+fn note(tickets: &mut ArrayVec<u64, TASK_SLOT>, ticket: Option<u64>)
+    requires { array_vec_len tickets.old < TASK_SLOT }
+    ensures { tickets.new.items ≡ tickets.old.items ++ option_to_list ticket }
+{
+    if let Some(ticket) = ticket {
+        tickets.push(ticket);
+    }
+}
+
+fn ticket_of(task: &Option<TaggedTask>) -> Option<u64>
+    ensures { result ≡ option_map (λ task. task.ticket) task.now }
+{
+    match task {
+        Some(task) => Some(task.ticket()),
+        None => None,
+    }
+}
+
+/// The tickets that the task of a slot noted, where it is a task management that is to be carried next.
+fn noted_at(tasks: &[Option<TaggedTask>], slot: usize) -> Option<ArrayVec<u64, TASK_SLOT>>
+    requires { slot < length tasks.now }
+    ensures { result ≡ option_and_then noted_next (held_at tasks.now slot) }
+{
+    tasks[slot].as_ref()?.noted_next()
+}
+
+/// The same of these tickets, where there are any.
+fn heed_noted(tasks: &mut [Option<TaggedTask>], noted: Option<ArrayVec<u64, TASK_SLOT>>)
+    ensures { tasks.new ≡ heeded noted tasks.old }
+{
+    if let Some(noted) = noted {
+        heed_all(tasks, &noted);
+    }
+}
+
+/// A task management with these tickets noted is carried: each command of one of them is gone, where its answer wasn't handed
+/// over.
+fn heed_all(tasks: &mut [Option<TaggedTask>], noted: &[u64])
+    ensures { tasks.new ≡ map (option_map (after_notes noted.now)) tasks.old }
+{
+    for task in tasks.iter_mut() {
+        heed(task, noted);
+    }
+}
+
+fn heed(task: &mut Option<TaggedTask>, noted: &[u64])
+    ensures { task.new ≡ option_map (after_notes noted.now) task.old }
+{
+    if let Some(task) = task {
+        task.heed(noted);
+    }
+}
+
+/// The device receives the request of a slot: a task management first ends the commands whose tickets it noted.
+fn carry_slot(unit: &mut Unit, tasks: &mut [Option<TaggedTask>], slot: usize) -> bool
+    requires slot { slot < length tasks.old }
+    requires sound { AllHeld (IsSound unit.old.count) tasks.old }
+    ensures carried { IsCarried unit.old (heeded (option_and_then noted_next (held_at tasks.old slot)) tasks.old) slot result unit.new tasks.new }
+    ensures sound { AllHeld (IsSound unit.new.count) tasks.new }
+{
+    let noted = noted_at(tasks, slot);
+    heed_noted(tasks, noted);
+    carry_at(unit, tasks, slot)
+}
+
 fn carry_at(unit: &mut Unit, tasks: &mut [Option<TaggedTask>], slot: usize) -> bool
     requires slot { slot < length tasks.old }
     requires sound { AllHeld (IsSound unit.old.count) tasks.old }
@@ -174,7 +308,7 @@ fn settle_at(tasks: &mut [Option<TaggedTask>], slot: usize, tag: u16) -> Option<
     ensures tasks { tasks.new ≡ (if is_some result then slice_set tasks.old slot None else tasks.old) }
     ensures sound { (count : ℕ) → AllHeld (IsSound count) tasks.old → AllHeld (IsSound count) tasks.new }
 {
-    if !is_sent(&tasks[slot]) {
+    if !has_reply(&tasks[slot]) {
         return None;
     }
     match tasks[slot].take() {
@@ -183,14 +317,11 @@ fn settle_at(tasks: &mut [Option<TaggedTask>], slot: usize, tag: u16) -> Option<
     }
 }
 
-fn is_sent(task: &Option<TaggedTask>) -> bool
+fn has_reply(task: &Option<TaggedTask>) -> bool
     ensures { (tag : ℕ) → result ≡ is_some (option_and_then (reply_of tag) task.now) }
 {
-    matches!(
-        task,
-        Some(TaggedTask {
-            phase: Phase::Sent(_),
-            ..
-        })
-    )
+    match task {
+        Some(task) => task.has_reply(),
+        None => false,
+    }
 }

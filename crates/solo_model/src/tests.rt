@@ -100,6 +100,72 @@ fn read_sees_write(rt: HostRuntime) -> Result<(), Fail> {
     Ok(())
 }
 
+/// A READ of 24 blocks is aborted after its second chunk. Its buffer has 8,192 bytes from the unit and 4,096 as handed in. A
+/// later command under the same index is left alone by an abort that noted the ticket of an earlier one.
+#[test]
+fn aborted_read(rt: HostRuntime) -> Result<(), Fail> {
+    let mut solo = Solo::new(Unit::new(rt.alloc(), 24, Vec::new(rt.alloc()))?);
+    let (lba, count, fua) = (0, 24, false);
+    let read = command_of(rt.alloc(), Op::Read { lba, count, fua }, 0xee, 12_288)?;
+    assert!(rt; submits(&mut solo, 1, 0, read));
+    let begun = [
+        (Kind::Carry, 1, true),
+        (Kind::Move, 1, true),
+        (Kind::Move, 1, true),
+    ];
+    assert!(rt; follows(&mut solo, &begun));
+    assert!(rt; solo.apply(Label::Task(1, Task::Abort { tag: 2 })).is_err());
+    assert!(rt; solo.apply(Label::Task(1, Task::Abort { tag: 1 })).is_ok());
+    let ended = [
+        (Kind::Settle, 1, false),
+        (Kind::Carry, 8, true),
+        (Kind::Move, 1, false),
+        (Kind::Send, 1, false),
+        (Kind::Send, 8, true),
+    ];
+    assert!(rt; follows(&mut solo, &ended));
+    let Some(Reply::Aborted { ticket, buffer, .. }) = settled(&mut solo, 1) else {
+        panic!(rt; "no reply")
+    };
+    assert_eq!(rt; ticket, 0);
+    let mut bytes = [0x00; 12_288];
+    bytes[8192..].copy_from_slice(&[0xee; 4096]);
+    assert_eq!(rt; buffer.as_slice(), bytes.as_slice());
+    let Some(Reply::Task { ticket, code, .. }) = settled(&mut solo, 8) else {
+        panic!(rt; "no reply")
+    };
+    assert_eq!(rt; (ticket, code), (1, 0x00));
+    Ok(())
+}
+
+/// An abort that noted a ticket reaches no later command under the same index, and a reset leaves an attention that INQUIRY
+/// doesn't report and the next command does.
+#[test]
+fn noted_tickets_alone(rt: HostRuntime) -> Result<(), Fail> {
+    let mut solo = Solo::new(Unit::new(rt.alloc(), 8, Vec::new(rt.alloc()))?);
+    let ready = command_of(rt.alloc(), Op::TestUnitReady, 0, 0)?;
+    assert!(rt; submits(&mut solo, 2, 0, ready));
+    let sent = [(Kind::Carry, 2, true), (Kind::Send, 2, true)];
+    assert!(rt; follows(&mut solo, &sent));
+    assert!(rt; solo.apply(Label::Task(1, Task::Abort { tag: 2 })).is_ok());
+    assert!(rt; settled(&mut solo, 2).is_some());
+    let later = command_of(rt.alloc(), Op::TestUnitReady, 0, 0)?;
+    assert!(rt; submits(&mut solo, 2, 2, later));
+    let left_alone = [
+        (Kind::Carry, 8, true),
+        (Kind::Carry, 2, true),
+        (Kind::Send, 2, true),
+        (Kind::Settle, 2, true),
+        (Kind::Send, 8, true),
+        (Kind::Settle, 8, true),
+    ];
+    assert!(rt; follows(&mut solo, &left_alone));
+    assert!(rt; solo.apply(Label::Task(3, Task::Reset)).is_ok());
+    assert!(rt; follows(&mut solo, &[(Kind::Carry, 8, true)]));
+    assert!(rt; solo.unit().attention());
+    Ok(())
+}
+
 /// A READ of blocks 99 and 100 of 100 ends with 5/21/00 and moves nothing.
 #[test]
 fn out_of_range_read(rt: HostRuntime) -> Result<(), Fail> {

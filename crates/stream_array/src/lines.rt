@@ -96,6 +96,7 @@ impl Lines {
         requires { HasRing pipe stream }
         ensures place { let ring = ring_of self.now pipe stream in result ≡ (pointer_of (places_of pipe) ring (length ring.put), cycle_of (places_of pipe) ring (length ring.put)) }
         ensures unused { (k : ℕ) → k < length (ring_of self.now pipe stream).put → pointer_of (places_of pipe) (ring_of self.now pipe stream) k ≢ result.0 }
+        ensures lines { IsLines self.now }
     {
         match pipe {
             Pipe::Command => self.command.place(),
@@ -174,6 +175,7 @@ impl Lines {
         requires { HasRing pipe stream }
         ensures oldest { result ≡ oldest_of (places_of pipe) (ring_of self.now pipe stream) }
         ensures known { IfSome result (λ at. IsConsumed (places_of pipe) (ring_of self.now pipe stream) 0 at.0) }
+        ensures lines { IsLines self.now }
     {
         match pipe {
             Pipe::Command => self.command.oldest(),

@@ -7,3 +7,6 @@ pub mod Freeing
 pub mod Ends
 pub mod Replying
 pub mod Apart
+pub mod Changing
+pub mod Resuming
+pub mod Emptying

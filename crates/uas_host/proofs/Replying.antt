@@ -3,8 +3,13 @@ use Rattle.std.proofs.Common.{◌≡◌, ℕ, ◌<◌, Bool, true, false, List, 
 use Rattle.std.specs.Prelude.{◌&&◌, slice_get}
 use Rattle.scsi_cmd.specs.Held.{held_at}
 use Rattle.uas_host.specs.declared.HostClient.{HostClient}
-use Rattle.uas_host.specs.State.{HostState, IsHost, IsHostClient, WasTold, client_of, is_data_over, is_over, is_seen, readied_of, with_client}
-use Rattle.uas_host.specs.Replies.{HasStatus, IsReadySlot, without}
+use Rattle.uas_host.specs.declared.HostRequest.{HostRequest}
+use Rattle.uas_host.specs.declared.HostRequest.TheVariants.{Execute, Manage}
+use Rattle.uas_host.specs.declared.TdState.{TdState}
+use Rattle.uas_host.specs.declared.TdState.TheVariants.{Pending, Seen, LeftOver, Retired}
+use Rattle.uas_host.specs.declared.Told.{Told}
+use Rattle.uas_host.specs.State.{HostState, IsHost, IsHostClient, WasTold, client_of, is_answer_to, is_command, is_data_over, is_given_up, is_over, is_seen, readied_of, with_client}
+use Rattle.uas_host.specs.Replies.{HasAnswer, IsReadySlot, has_answer, without}
 use Rattle.uas_host.proofs.Queues.{AreReady-take, IsFirst, readied-ready}
 use Rattle.uas_host.proofs.Sound.{AllHeld-set, IsHost-set}
 use Rattle.uas_host.proofs.Seeing.{held-at}
@@ -13,22 +18,31 @@ first-slot : (queue : List ℕ) (slot : ℕ) → slice_get queue 0 ≡ Some slot
 first-slot [] slot is = absurd (cc)
 first-slot (first ∷ rest) slot is = let same : first ≡ slot = cc in ap (λ s. s ∷ rest) same
 
-over_ready : (command status moved : Bool) → (command && (status && moved)) ≡ true → status ≡ true
-over_ready true true moved is = refl
-over_ready true false moved is = is
-over_ready false status moved is = absurd (cc)
+-- what is ready, and was told as every entry was, has its reply
+ready-answered : (request : HostRequest) (told : Told) (command status : TdState) (moved : Bool) → (is_seen command && (is_over status && moved)) ≡ true →
+    (is_seen status ≡ true → is_answer_to request told ≡ true) → (is_given_up status ≡ true → is_command request ≡ true) → has_answer told status request ≡ true
+ready-answered (Execute op) told Seen Seen moved is answer command = rw (answer refl) refl
+ready-answered (Execute op) told Seen Retired moved is answer command = refl
+ready-answered (Manage task noted) told Seen Seen moved is answer command = answer refl
+ready-answered (Manage task noted) told Seen Retired moved is answer command = absurd (let no : false ≡ true = command refl in cc)
+ready-answered request told Seen Pending moved is answer command = absurd (cc)
+ready-answered request told Seen LeftOver moved is answer command = absurd (cc)
+ready-answered request told Pending status moved is answer command = absurd (cc)
+ready-answered request told LeftOver status moved is answer command = absurd (cc)
+ready-answered request told Retired status moved is answer command = absurd (cc)
 
 first_of : (held : HostClient) (slot : ℕ) → IsHostClient held → slice_get held.ready.items 0 ≡ Some slot → IsFirst held.entries slot (drop 1 held.ready.items)
 first_of held slot sound is = AreReady-take held.entries held.ready.items (drop 1 held.ready.items) slot sound.ready (first-slot held.ready.items slot is)
 
--- what is ready was told a status
-ready-status : (held : HostClient) (slot : ℕ) → IsHostClient held → readied_of (held_at held.entries slot) ≡ 1 → HasStatus (held_at held.entries slot)
+-- what is ready has its reply
+ready-status : (held : HostClient) (slot : ℕ) → IsHostClient held → readied_of (held_at held.entries slot) ≡ 1 → HasAnswer (held_at held.entries slot)
 ready-status held slot sound ready =
-    elim (held_at held.entries slot) as (λ o. held_at held.entries slot ≡ o → readied_of o ≡ 1 → HasStatus o) [
+    elim (held_at held.entries slot) as (λ o. held_at held.entries slot ≡ o → readied_of o ≡ 1 → HasAnswer o) [
       | None ↦ λ is none. let no : ◌≡◌ {A = ℕ} 0 1 = none in omega arith
       | Some entry ↦ λ is one.
-          let over = over_ready (is_seen entry.command_td) (is_over entry.status_td) (is_data_over entry.data_td) (readied-ready (Some entry) entry refl one) in
-          held-at WasTold held.entries slot entry sound.told is over
+          let told = held-at WasTold held.entries slot entry sound.told is in
+          ready-answered entry.request entry.told entry.command_td entry.status_td (is_data_over entry.data_td) (readied-ready (Some entry) entry refl one)
+          told.answer told.command
     ] refl ready
 
 -- the first of the ready slots of a client that is there
@@ -42,7 +56,7 @@ first_ready-known host client (Some slot) there is first =
       there = there;
       most = omega (arith, there, is.most);
       within = omega (arith, ready.within, sound.slots);
-      told = ready-status (client_of host client) slot sound ready.ready;
+      answered = ready-status (client_of host client) slot sound ready.ready;
     }
 
 -- the entry of the first slot goes

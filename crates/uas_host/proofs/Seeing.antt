@@ -1,20 +1,25 @@
 -- What is true of every host is kept at an event.
 use Rattle.std.proofs.Common.{◌≡◌, ℕ, zero, suc, ◌<◌, ◌≤◌, Bool, true, false, List, [], ◌∷◌, length, length-set, Option, Some, None, IfSome, MatchOption, refl, arith, sym, ap, ◌∙◌, subst}
-use Rattle.std.specs.Prelude.{◌&&◌, option_and_then, option_map, cond}
+use Rattle.std.specs.Prelude.{◌&&◌, not, option_and_then, option_map, cond, slice_set}
+use Rattle.std.specs.Option.{option_map_or}
+use Rattle.std.proofs.lemmas.List.{set-get_or}
+use Rattle.arrayvec.specs.ArrayVec.{ArrayVec}
+use Rattle.stream_array.specs.declared.Pipe.{Pipe}
+use Rattle.stream_array.specs.declared.Pipe.TheVariants.{Command, Status, DataIn, DataOut}
 use Rattle.scsi_cmd.specs.declared.TheConstants.{TAGS}
 use Rattle.scsi_cmd.specs.Held.{AllHeld, held_at}
 use Rattle.uas_host.specs.declared.TdState.{TdState}
 use Rattle.uas_host.specs.declared.TdState.TheVariants.{Pending, Seen, LeftOver, Retired}
-use Rattle.uas_host.specs.declared.Told.TheVariants.{Status as ToldStatus}
+use Rattle.uas_host.specs.declared.Told.TheVariants.{Status as ToldStatus, Response as ToldResponse}
+use Rattle.uas_host.specs.declared.HostRequest.{HostRequest}
+use Rattle.uas_host.specs.declared.HostRequest.TheVariants.{Execute, Manage}
 use Rattle.uas_host.specs.declared.HostEntry.{HostEntry}
 use Rattle.uas_host.specs.declared.HostClient.{HostClient}
 use Rattle.uas_host.specs.declared.News.{News}
-use Rattle.uas_host.specs.declared.News.TheVariants.{CommandSeen, DataInSeen, DataOutSeen, Answered}
-use Rattle.uas_host.specs.State.{HostState, IsHost, IsHostClient, WasTold, is_over, is_pending, client_of, is_ready, is_seen, new_client, one_if, with_client}
-use Rattle.uas_host.specs.Tags.{place_of}
+use Rattle.uas_host.specs.declared.News.TheVariants.{CommandSeen, DataInSeen, DataOutSeen, Answered, Responded, TdRetired}
 use Rattle.uas_host.specs.declared.Place.{Place}
-use Rattle.std.proofs.lemmas.List.{set-get_or}
-use Rattle.uas_host.specs.Events.{client_seen, goes_to_device, data_after, goes_to_host, host_seen, request_direction, seen, seen_data, with_seen}
+use Rattle.uas_host.specs.State.{HostState, IsHost, IsHostClient, WasTold, client_of, is_answer_to, is_command, is_given_up, is_left_over, is_over, is_pending, is_ready, is_seen, new_client, one_if, queued_if, readied_of, with_client}
+use Rattle.uas_host.specs.Seen.{after_response, client_seen, completes, data_after, doomed, entries_after, goes_to_device, goes_to_host, is_data_left_over, is_doomed, left_over_data, noted_in, place_seen, request_direction, seen, seen_data, with_seen}
 use Rattle.uas_host.proofs.Queues.{AreReady-length, AreReady-push}
 use Rattle.uas_host.proofs.Sound.{AllHeld-set, IsHost-set}
 
@@ -44,54 +49,181 @@ pending-not_over Seen is = absurd (cc)
 pending-not_over LeftOver is = absurd (cc)
 pending-not_over Retired is = absurd (cc)
 
+left_over-not_over : (td : TdState) → is_left_over td ≡ true → is_over td ≡ false
+left_over-not_over Pending is = absurd (cc)
+left_over-not_over Seen is = absurd (cc)
+left_over-not_over LeftOver is = refl
+left_over-not_over Retired is = absurd (cc)
+
+left_over-given_up : (td : TdState) → is_left_over td ≡ true → is_given_up td ≡ true
+left_over-given_up Pending is = absurd (cc)
+left_over-given_up Seen is = absurd (cc)
+left_over-given_up LeftOver is = refl
+left_over-given_up Retired is = absurd (cc)
+
 and_false : (b : Bool) → (b && false) ≡ false
 and_false true = refl
 and_false false = refl
 
--- what an event finds isn't ready, and is told of its status where its status TD is over
+and_left : (a b : Bool) → (a && b) ≡ true → a ≡ true
+and_left true b is = refl
+and_left false b is = absurd (cc)
+
+and_right : (a b : Bool) → (a && b) ≡ true → b ≡ true
+and_right true b is = is
+and_right false b is = absurd (cc)
+
+status-answers : (request : HostRequest) (status : ℕ) (sense : ArrayVec ℕ) → is_command request ≡ true → is_answer_to request (ToldStatus status sense) ≡ true
+status-answers (Execute op) status sense is = refl
+status-answers (Manage task noted) status sense is = absurd (cc)
+
+response-answers : (request : HostRequest) (code : ℕ) → not (is_command request) ≡ true → is_answer_to request (ToldResponse code) ≡ true
+response-answers (Execute op) code is = absurd (cc)
+response-answers (Manage task noted) code is = refl
+
+-- what an event finds isn't ready, and it is told of what it was told
 pub record IsKept (held now : HostEntry) : Type 0 where
   pub unready : is_ready held ≡ false
   pub told : WasTold held → WasTold now
 
+unready_status : (held : HostEntry) → is_over held.status_td ≡ false → is_ready held ≡ false
+unready_status held is = rw (is, and_false (is_seen held.command_td)) refl
+
+unready_data : (held : HostEntry) (td : TdState) → held.data_td ≡ Some td → is_over td ≡ false → is_ready held ≡ false
+unready_data held td is unseen = rw (is, unseen, and_false (is_over held.status_td), and_false (is_seen held.command_td)) refl
+
+-- a test, and what follows where it holds
+where_so : (test : Bool) (held now : HostEntry) → (test ≡ true → IsKept held now) → IfSome (cond test (Some now) None) (IsKept held)
+where_so true held now then = then refl
+where_so false held now then = tt
+
 kept_command : (held : HostEntry) → IfSome (seen CommandSeen held) (IsKept held)
-kept_command held =
-    elim (is_pending held.command_td) as (λ b. is_pending held.command_td ≡ b → IfSome (cond b (Some (record held { command_td = Seen })) None) (IsKept held)) [
-      | true ↦ λ is. record { unready = rw (pending-unseen held.command_td is) refl; told = λ told. told }
-      | false ↦ λ is. tt
-    ] refl
+kept_command held = where_so (is_pending held.command_td) held (record held { command_td = Seen })
+    (λ is. record { unready = rw (pending-unseen held.command_td is) refl; told = λ told. record { answer = told.answer; command = told.command } })
 
 kept_data : (right : Bool) (held : HostEntry) (td : Option TdState) → held.data_td ≡ td → IfSome (seen_data right held td) (IsKept held)
 kept_data right held None is = tt
-kept_data false held (Some td) is = tt
-kept_data true held (Some td) is =
-    elim (is_pending td) as (λ b. is_pending td ≡ b → IfSome (cond b (Some (record held { data_td = Some Seen })) None) (IsKept held)) [
-      | true ↦ λ waits. record {
-        unready = rw (is, pending-not_over td waits, and_false (is_over held.status_td), and_false (is_seen held.command_td)) refl;
-        told = λ told. told;
-      }
-      | false ↦ λ waits. tt
-    ] refl
+kept_data right held (Some td) is = where_so (right && is_pending td) held (record held { data_td = Some Seen })
+    (λ waits. record {
+      unready = unready_data held td is (pending-not_over td (and_right right (is_pending td) waits));
+      told = λ told. record { answer = told.answer; command = told.command };
+    })
+
+kept_status : (held : HostEntry) (status : ℕ) (sense : ArrayVec ℕ) → IfSome (seen (Answered status sense) held) (IsKept held)
+kept_status held status sense =
+    where_so (is_command held.request && is_pending held.status_td) held (record held { told = ToldStatus status sense; status_td = Seen; data_td = data_after status held.data_td })
+    (λ is. record {
+      unready = unready_status held (pending-not_over held.status_td (and_right (is_command held.request) (is_pending held.status_td) is));
+      told = λ told. record {
+        answer = λ seen. status-answers held.request status sense (and_left (is_command held.request) (is_pending held.status_td) is);
+        command = λ given_up. absurd (cc);
+      };
+    })
+
+kept_response : (held : HostEntry) (code : ℕ) → IfSome (seen (Responded code) held) (IsKept held)
+kept_response held code =
+    where_so (not (is_command held.request) && is_pending held.status_td) held (record held { told = ToldResponse code; status_td = Seen })
+    (λ is. record {
+      unready = unready_status held (pending-not_over held.status_td (and_right (not (is_command held.request)) (is_pending held.status_td) is));
+      told = λ told. record {
+        answer = λ seen. response-answers held.request code (and_left (not (is_command held.request)) (is_pending held.status_td) is);
+        command = λ given_up. absurd (cc);
+      };
+    })
+
+left_over-unready : (held : HostEntry) (td : Option TdState) → held.data_td ≡ td → option_map_or is_left_over td false ≡ true → is_ready held ≡ false
+left_over-unready held None same is = absurd (cc)
+left_over-unready held (Some td) same is = unready_data held td same (left_over-not_over td is)
+
+kept_retired_data : (right : Bool) (held : HostEntry) → IfSome (cond (is_data_left_over right held) (Some (record held { data_td = Some Retired })) None) (IsKept held)
+kept_retired_data right held = where_so (is_data_left_over right held) held (record held { data_td = Some Retired })
+    (λ is. record {
+      unready = left_over-unready held held.data_td refl (and_right right (option_map_or is_left_over held.data_td false) is);
+      told = λ told. record { answer = told.answer; command = told.command };
+    })
+
+kept_retired_status : (held : HostEntry) → IfSome (cond (is_left_over held.status_td) (Some (record held { status_td = Retired })) None) (IsKept held)
+kept_retired_status held = where_so (is_left_over held.status_td) held (record held { status_td = Retired })
+    (λ is. record {
+      unready = unready_status held (left_over-not_over held.status_td is);
+      told = λ told. record { answer = λ seen. absurd (cc); command = λ given_up. told.command (left_over-given_up held.status_td is) };
+    })
+
+kept_retired : (pipe : Pipe) (held : HostEntry) → IfSome (seen (TdRetired pipe) held) (IsKept held)
+kept_retired Command held = tt
+kept_retired Status held = kept_retired_status held
+kept_retired DataIn held = kept_retired_data (goes_to_host (request_direction held.request)) held
+kept_retired DataOut held = kept_retired_data (goes_to_device (request_direction held.request)) held
 
 pub seen-kept : (news : News) (held : HostEntry) → IfSome (seen news held) (IsKept held)
 seen-kept CommandSeen held = kept_command held
 seen-kept DataInSeen held = kept_data (goes_to_host (request_direction held.request)) held held.data_td refl
 seen-kept DataOutSeen held = kept_data (goes_to_device (request_direction held.request)) held held.data_td refl
-seen-kept (Answered status sense) held =
-    elim (is_pending held.status_td) as (λ b. is_pending held.status_td ≡ b → IfSome (cond b (Some (record held { told = ToldStatus status sense; status_td = Seen; data_td = data_after status held.data_td })) None) (IsKept held)) [
-      | true ↦ λ is. record { unready = rw (pending-not_over held.status_td is, and_false (is_seen held.command_td)) refl; told = λ told over. refl }
-      | false ↦ λ is. tt
-    ] refl
+seen-kept (Answered status sense) held = kept_status held status sense
+seen-kept (Responded code) held = kept_response held code
+seen-kept (TdRetired pipe) held = kept_retired pipe held
 
 -- ONE CLIENT
 
-with_seen-sound : (client : HostClient) (slot : ℕ) (held now : HostEntry) → slot < TAGS → held_at client.entries slot ≡ Some held → IsKept held now → WasTold held →
-    IsHostClient client → IsHostClient (with_seen client slot now)
-with_seen-sound client slot held now within is kept told sound = record {
+-- a doomed command isn't ready, before and after
+doomed-readied : (noted : List ℕ) (held : HostEntry) → is_ready (doomed noted held) ≡ is_ready held
+doomed-readied noted held =
+    elim (is_doomed noted held) as (λ b. is_doomed noted held ≡ b →
+    is_ready (cond b (record held { status_td = LeftOver; data_td = left_over_data held.data_td }) held) ≡ is_ready held) [
+      | true ↦ λ is.
+          let waits = and_left (is_pending held.status_td) _ (and_right (is_command held.request) _ is) in
+          and_false (is_seen held.command_td) ∙ sym (unready_status held (pending-not_over held.status_td waits))
+      | false ↦ λ is. refl
+    ] refl
+
+doomed-told : (noted : List ℕ) (held : HostEntry) → WasTold held → WasTold (doomed noted held)
+doomed-told noted held told =
+    elim (is_doomed noted held) as (λ b. is_doomed noted held ≡ b →
+    WasTold (cond b (record held { status_td = LeftOver; data_td = left_over_data held.data_td }) held)) [
+      | true ↦ λ is. record { answer = λ seen. absurd (cc); command = λ given_up. and_left (is_command held.request) _ is }
+      | false ↦ λ is. told
+    ] refl
+
+doomed-at : (noted : List ℕ) (entries : List (Option HostEntry)) (slot : ℕ) → readied_of (held_at (after_response noted entries) slot) ≡ readied_of (held_at entries slot)
+doomed-at noted [] slot = refl
+doomed-at noted (None ∷ rest) zero = refl
+doomed-at noted (Some held ∷ rest) zero = ap one_if (doomed-readied noted held)
+doomed-at noted (held ∷ rest) (suc slot) = doomed-at noted rest slot
+
+all-doomed : (noted : List ℕ) (entries : List (Option HostEntry)) → AllHeld WasTold entries → AllHeld WasTold (after_response noted entries)
+all-doomed noted [] all = all
+all-doomed noted (None ∷ rest) all = (all.0, all-doomed noted rest all.1)
+all-doomed noted (Some held ∷ rest) all = (doomed-told noted held all.0, all-doomed noted rest all.1)
+
+length-doomed : (noted : List ℕ) (entries : List (Option HostEntry)) → length (after_response noted entries) ≡ length entries
+length-doomed noted [] = refl
+length-doomed noted (held ∷ rest) = ap suc (length-doomed noted rest)
+
+-- a response leaves commands over
+entries_after-sound : (news : News) (request : HostRequest) (client : HostClient) → IsHostClient client →
+    IsHostClient (record { entries = entries_after news request client.entries; least = client.least; ready = client.ready })
+entries_after-sound news request client sound =
+    elim (completes news) as (λ b. IsHostClient (record { entries = cond b (after_response (noted_in request) client.entries) client.entries; least = client.least; ready = client.ready })) [
+      | true ↦ record {
+        slots = length-doomed (noted_in request) client.entries ∙ sound.slots;
+        ready = λ slot. sound.ready slot ∙ sym (doomed-at (noted_in request) client.entries slot);
+        told = all-doomed (noted_in request) client.entries sound.told;
+      }
+      | false ↦ record { slots = sound.slots; ready = sound.ready; told = sound.told }
+    ]
+
+with_seen-sound : (news : News) (client : HostClient) (slot : ℕ) (held now : HostEntry) → slot < TAGS → held_at client.entries slot ≡ Some held → IsKept held now → WasTold held →
+    IsHostClient client → IsHostClient (with_seen news client slot now)
+with_seen-sound news client slot held now within is kept told sound = entries_after-sound news now.request (record {
+  entries = slice_set client.entries slot (Some now);
+  least = client.least;
+  ready = record { items = queued_if (is_ready now) client.ready.items slot };
+}) (record {
   slots = length-set client.entries slot (Some now) ∙ sound.slots;
   ready = AreReady-push client.entries client.ready.items slot (Some held) (Some now) (is_ready now) (omega (arith, sound.slots, within)) is
       (omega (arith, ap one_if kept.unready)) sound.ready;
   told = AllHeld-set WasTold client.entries slot (Some now) sound.told (kept.told told);
-}
+})
 
 -- whatever a place holds
 pub held-at : {T : Type 0} → (P : T → Type 0) (places : List (Option T)) (slot : ℕ) (held : T) → AllHeld P places → held_at places slot ≡ Some held → P held
@@ -101,12 +233,12 @@ held-at P (place ∷ places) (suc slot) held all is = held-at P places slot held
 
 pub client_seen-sound : (news : News) (client : HostClient) (slot : ℕ) → slot < TAGS → IsHostClient client → IfSome (client_seen news client slot) IsHostClient
 client_seen-sound news client slot within sound =
-    elim (held_at client.entries slot) as (λ o. held_at client.entries slot ≡ o → IfSome (option_map (with_seen client slot) (option_and_then (seen news) o)) IsHostClient) [
+    elim (held_at client.entries slot) as (λ o. held_at client.entries slot ≡ o → IfSome (option_map (with_seen news client slot) (option_and_then (seen news) o)) IsHostClient) [
       | None ↦ λ is. tt
       | Some held ↦ λ is.
-          elim (seen news held) as (λ o. IfSome o (IsKept held) → IfSome (option_map (with_seen client slot) o) IsHostClient) [
+          elim (seen news held) as (λ o. IfSome o (IsKept held) → IfSome (option_map (with_seen news client slot) o) IsHostClient) [
             | None ↦ λ none. tt
-            | Some now ↦ λ kept. with_seen-sound client slot held now within is kept (held-at WasTold client.entries slot held sound.told is) sound
+            | Some now ↦ λ kept. with_seen-sound news client slot held now within is kept (held-at WasTold client.entries slot held sound.told is) sound
           ] (seen-kept news held)
     ] refl
 
@@ -133,14 +265,13 @@ has_seen-host news host client slot now saw there within is seen_so =
       | Some after ↦ λ sound same. rw same.1 sound
     ] (client_seen-sound news (client_of host client) slot within (is.clients client there)) seen_so)
 
-pub host_seen-placed : (news : News) (host : HostState) (tag : ℕ) (place : Place) (now : HostClient) (saw : Bool) → Some place ≡ place_of (length host.clients) tag →
+pub place_seen-client : (news : News) (host : HostState) (place : Place) (now : HostClient) (saw : Bool) →
     HasSeen news (client_of host place.client) place.slot now saw →
-    MatchOption (host_seen news host tag) ((saw ≡ false) × (with_client host place.client now ≡ host)) (λ after. (saw ≡ true) × (with_client host place.client now ≡ after))
-host_seen-placed news host tag place now saw is seen_so =
-    rw (← is)
-    (elim (client_seen news (client_of host place.client) place.slot) as (λ o.
+    MatchOption (place_seen news host place) ((saw ≡ false) × (with_client host place.client now ≡ host)) (λ after. (saw ≡ true) × (with_client host place.client now ≡ after))
+place_seen-client news host place now saw seen_so =
+    elim (client_seen news (client_of host place.client) place.slot) as (λ o.
     MatchOption o ((saw ≡ false) × (now ≡ client_of host place.client)) (λ after. (saw ≡ true) × (now ≡ after)) →
     MatchOption (option_map (with_client host place.client) o) ((saw ≡ false) × (with_client host place.client now ≡ host)) (λ after. (saw ≡ true) × (with_client host place.client now ≡ after))) [
-      | None ↦ λ same. (same.0, ap (with_client host place.client) same.1 ∙ ap (λ clients. record { clients = clients }) (set-get_or host.clients place.client new_client))
+      | None ↦ λ same. (same.0, ap (with_client host place.client) same.1 ∙ ap (λ clients. record { clients = clients; retirement = host.retirement }) (set-get_or host.clients place.client new_client))
       | Some after ↦ λ same. (same.0, ap (with_client host place.client) same.1)
-    ] seen_so)
+    ] seen_so

@@ -14,6 +14,11 @@ pub command_text-length : (tag : ℕ) (lun cdb : List ℕ) → Fits (Command tag
 unfolding unit_text
 command_text-length tag lun cdb fits = omega (arith, fits.1, fits.2, length-append lun cdb)
 
+-- and a Task Management unit 16
+pub task_text-length : (tag function task_tag : ℕ) (lun : List ℕ) → Fits (Task tag function task_tag lun) → length (unit_text (Task tag function task_tag lun)) ≡ 16
+unfolding unit_text
+task_text-length tag function task_tag lun fits = omega (arith, fits.2)
+
 -- a place written twice, the second time from what the first wrote
 pub set-set_from : {A : Type 0} → (list : List A) (at : ℕ) (first none : A) (change : A → A) →
     slice_set (slice_set list at first) at (change (slice_index_or (slice_set list at first) at none)) ≡ slice_set list at (change first)
@@ -35,7 +40,8 @@ unfolding unit_text
 answer_by-text tag (Command told lun cdb) fits sound = rw sound refl
 answer_by-text tag (Sense told status sense) fits sound =
     let number : told / 256 % 256 * 256 + told % 256 ≡ told = omega (arith, fits.0) in rw (sound, number) refl
-answer_by-text tag (Response told code) fits sound = rw sound refl
+answer_by-text tag (Response told code) fits sound =
+    let number : told / 256 % 256 * 256 + told % 256 ≡ told = omega (arith, fits) in rw (sound, number) refl
 answer_by-text tag (Task told function task_tag lun) fits sound = rw sound refl
 
 -- bytes that are read as a unit tell what the unit tells

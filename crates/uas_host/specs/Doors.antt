@@ -1,15 +1,37 @@
 -- Doorbells (xHCI 4.7 and 5.6).
-use Rattle.std.specs.Prelude.{ℕ, ◌+◌, ◌*◌, ◌^◌, List, [], ◌∷◌}
+use Rattle.std.specs.Prelude.{ℕ, ◌+◌, ◌*◌, ◌^◌, Bool, if◌then◌else◌, List, [], ◌∷◌, ◌++◌}
 use Rattle.scsi_cmd.specs.declared.Direction.{Direction}
 use Rattle.scsi_cmd.specs.declared.Direction.TheVariants.{Nothing, ToHost, ToDevice}
+use Rattle.stream_array.specs.declared.Pipe.{Pipe}
+use Rattle.stream_array.specs.declared.Pipe.TheVariants.{Command, Status, DataIn, DataOut}
 
--- A doorbell value: the target in bits 7:0, the stream in bits 31:16. Worked: data-in, stream 18, is 00120005h.
+-- A doorbell value: the target in bits 7:0, the stream in bits 31:16. Worked: data-in, stream 18, is 00120005h. The value 0
+-- is the controller's own doorbell.
 abbrev pub door : ℕ → ℕ → ℕ
 door target stream = target + 2 ^ 16 * stream
 
--- The doorbells of a submission in order: data, status, command. The targets are 5 for data-in, 4 for data-out, 3 for
--- status and 2 for the command pipe, which has no streams. Worked: READ on tag 18 rings 00120005h, 00120003h, 00000002h.
-abbrev pub submission_doors : Direction → ℕ → List ℕ
-submission_doors Nothing tag = door 3 tag ∷ door 2 0 ∷ []
-submission_doors ToHost tag = door 5 tag ∷ door 3 tag ∷ door 2 0 ∷ []
-submission_doors ToDevice tag = door 4 tag ∷ door 3 tag ∷ door 2 0 ∷ []
+-- the doorbell target of a pipe, which is the number of its endpoint in an engine command too
+abbrev pub target_of : Pipe → ℕ
+target_of Command = 2
+target_of Status = 3
+target_of DataIn = 5
+target_of DataOut = 4
+
+-- the doorbell of a stream of a pipe, left out while the pipe is held
+abbrev pub door_unless : Bool → Pipe → ℕ → List ℕ
+door_unless held pipe tag = if held then [] else door (target_of pipe) tag ∷ []
+
+-- the doorbell of the data stream
+abbrev pub data_doors : (Pipe → Bool) → Direction → ℕ → List ℕ
+data_doors held Nothing tag = []
+data_doors held ToHost tag = door_unless (held DataIn) DataIn tag
+data_doors held ToDevice tag = door_unless (held DataOut) DataOut tag
+
+-- the doorbells of the status stream and of the command pipe, which has no streams and is never held
+abbrev pub answer_doors : (Pipe → Bool) → ℕ → List ℕ
+answer_doors held tag = door_unless (held Status) Status tag ++ (door (target_of Command) 0 ∷ [])
+
+-- The doorbells of a submission in order: data, status, command. Worked: READ on tag 18 rings 00120005h, 00120003h,
+-- 00000002h; while data-in is held it rings 00120003h, 00000002h.
+abbrev pub submission_doors : (Pipe → Bool) → Direction → ℕ → List ℕ
+submission_doors held way tag = data_doors held way tag ++ answer_doors held tag

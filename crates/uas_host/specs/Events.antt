@@ -1,5 +1,5 @@
 -- An event (xHCI 4.11.3): which TD it is of, what it tells, and what the host makes of it.
-use Rattle.std.specs.Prelude.{◌≡◌, ℕ, zero, suc, ◌+◌, ◌-◌, ◌*◌, ◌/◌, ◌%◌, ◌≤◌, ◌==◌, nat_lt, nat_le, not, Bool, true, false, ◌&&◌, if◌then◌else◌, List, [], ◌∷◌, length, take, drop, slice_set, slice_index, Option, Some, None, is_none, option_map, option_and_then}
+use Rattle.std.specs.Prelude.{◌≡◌, ℕ, zero, suc, ◌+◌, ◌-◌, ◌*◌, ◌/◌, ◌%◌, ◌≤◌, ◌==◌, nat_lt, nat_le, not, Bool, true, false, ◌&&◌, if◌then◌else◌, List, [], ◌∷◌, length, take, drop, slice_index, Option, Some, None, is_none, is_some, option_map, option_and_then}
 use Rattle.std.specs.Option.{option_map_or}
 use Rattle.xhci_trb.specs.declared.Trb.{Trb}
 use Rattle.xhci_trb.specs.declared.Trb.TheVariants.{Normal, Link, StopEndpoint, SetDequeue, TransferEvent, CommandEvent}
@@ -9,6 +9,7 @@ use Rattle.event_ring.specs.declared.Event.{Event}
 use Rattle.event_ring.specs.declared.Event.TheVariants.{Transfer, Command as CommandCompletion}
 use Rattle.stream_array.specs.declared.Pipe.{Pipe}
 use Rattle.stream_array.specs.declared.Pipe.TheVariants.{Command, Status, DataIn, DataOut}
+use Rattle.stream_array.specs.declared.TheConstants.{ENGINE_RING_PLACES}
 use Rattle.stream_array.specs.Map.{places_of, spot_at}
 use Rattle.stream_array.specs.Rings.{LinesState, ring_of, with_ring}
 use Rattle.frame_store.specs.declared.TagBuffers.{TagBuffers}
@@ -16,25 +17,17 @@ use Rattle.frame_store.specs.Buffers.{held_for}
 use Rattle.uas_iu.specs.declared.Iu.{Iu}
 use Rattle.uas_iu.specs.declared.Iu.TheVariants.{Command as CommandUnit, Sense as SenseUnit, Response as ResponseUnit, Task as TaskUnit}
 use Rattle.uas_iu.specs.Faults.{first_fault, identifier}
-use Rattle.scsi_cmd.specs.declared.Direction.{Direction}
-use Rattle.scsi_cmd.specs.declared.Direction.TheVariants.{Nothing, ToHost, ToDevice}
-use Rattle.scsi_cmd.specs.declared.Request.{Request}
-use Rattle.scsi_cmd.specs.declared.Request.TheVariants.{Execute}
-use Rattle.scsi_cmd.specs.Op.{direction_of}
-use Rattle.scsi_cmd.specs.Held.{held_at}
-use Rattle.uas_host.specs.declared.TdState.{TdState}
-use Rattle.uas_host.specs.declared.TdState.TheVariants.{Seen, LeftOver}
-use Rattle.uas_host.specs.declared.Told.TheVariants.{Status as ToldStatus}
-use Rattle.uas_host.specs.declared.HostEntry.{HostEntry}
-use Rattle.uas_host.specs.declared.HostClient.{HostClient}
 use Rattle.uas_host.specs.declared.Handled.{Handled}
-use Rattle.uas_host.specs.declared.Handled.TheVariants.{Matched, Stray}
+use Rattle.uas_host.specs.declared.Handled.TheVariants.{Engine, Matched, Stray}
 use Rattle.uas_host.specs.declared.EndedTd.{EndedTd}
 use Rattle.uas_host.specs.declared.News.{News}
-use Rattle.uas_host.specs.declared.News.TheVariants.{CommandSeen, DataInSeen, DataOutSeen, Answered}
-use Rattle.uas_host.specs.declared.Place.{Place}
-use Rattle.uas_host.specs.State.{HostState, client_of, is_pending, is_ready, queued_if, with_client}
-use Rattle.uas_host.specs.Tags.{place_of}
+use Rattle.uas_host.specs.declared.News.TheVariants.{CommandSeen, DataInSeen, DataOutSeen, Answered, Responded}
+use Rattle.uas_host.specs.declared.Retirement.{Retirement}
+use Rattle.uas_host.specs.declared.RetirementStage.{RetirementStage}
+use Rattle.uas_host.specs.declared.RetirementStage.TheVariants.{Stopping, Moving}
+use Rattle.uas_host.specs.State.{HostState, is_pending}
+use Rattle.uas_host.specs.Retirement.{moved_lines, resumed_doors, retired_host, stopped_lines, with_retirement}
+pub use Rattle.uas_host.specs.Seen.{after_response, client_seen, completes, data_after, doomed, entries_after, goes_to_device, goes_to_host, held_of, host_seen, is_data_left_over, is_doomed, is_td_left_over, left_over_data, left_over_td, noted_in, place_seen, request_direction, seen, seen_data, with_retired, with_seen}
 
 -- WHICH TD
 
@@ -81,16 +74,25 @@ ended_at lines pointer = option_and_then (ended_on lines pointer) (spot_at point
 abbrev pub is_sense_of : ℕ → List ℕ → Bool
 is_sense_of tag bytes = is_none (first_fault bytes) && ((identifier bytes == 3) && (slice_index bytes 2 * 256 + slice_index bytes 3 == tag))
 
--- the answer that a unit tells, if it is a Sense unit of this tag
+-- the bytes are a Response unit of this tag
+abbrev pub is_response_of : ℕ → List ℕ → Bool
+is_response_of tag bytes = is_none (first_fault bytes) && ((identifier bytes == 4) && (slice_index bytes 2 * 256 + slice_index bytes 3 == tag))
+
+-- the answer that a unit tells, if it is a Sense or a Response unit of this tag
 abbrev pub answer_by : ℕ → Iu → Option News
 answer_by tag (CommandUnit told_tag lun cdb) = None
 answer_by tag (SenseUnit told_tag status sense) = if told_tag == tag then Some (Answered status sense) else None
-answer_by tag (ResponseUnit told_tag code) = None
+answer_by tag (ResponseUnit told_tag code) = if told_tag == tag then Some (Responded code) else None
 answer_by tag (TaskUnit told_tag function task_tag lun) = None
 
--- the status and the sense that they tell: byte 6, and the bytes from 16 on
+-- the code that a Response unit tells, byte 7. Worked: 04 00 00 18 00 00 00 00 tells 00h of tag 24.
+abbrev pub response_of : ℕ → List ℕ → Option News
+response_of tag bytes = if is_response_of tag bytes then Some (Responded (slice_index bytes 7)) else None
+
+-- the status and the sense that a Sense unit tells: byte 6, and the bytes from 16 on
 abbrev pub answer_in : ℕ → List ℕ → Option News
-answer_in tag bytes = if is_sense_of tag bytes then Some (Answered (slice_index bytes 6) (record { items = drop 16 bytes })) else None
+answer_in tag bytes =
+    if is_sense_of tag bytes then Some (Answered (slice_index bytes 6) (record { items = drop 16 bytes })) else response_of tag bytes
 
 -- Success is 1, Short Packet 13 (xHCI 6.4.5)
 abbrev pub succeeded : ℕ → News → Option News
@@ -107,69 +109,7 @@ news_on DataOut frames residual code tag = succeeded code DataOutSeen
 abbrev pub news_of : List TagBuffers → ℕ → ℕ → EndedTd → Option News
 news_of frames residual code td = news_on td.pipe frames residual code td.tag
 
--- WHAT THE HOST MAKES OF IT
-
-abbrev pub left_over_td : TdState → TdState
-left_over_td td = if is_pending td then LeftOver else td
-
-abbrev pub left_over_data : Option TdState → Option TdState
-left_over_data td = option_map left_over_td td
-
--- CHECK CONDITION, 02h, leaves an unseen data TD over
-abbrev pub data_after : ℕ → Option TdState → Option TdState
-data_after status td = if status == 2 then left_over_data td else td
-
-abbrev pub goes_to_host : Direction → Bool
-goes_to_host Nothing = false
-goes_to_host ToHost = true
-goes_to_host ToDevice = false
-
-abbrev pub goes_to_device : Direction → Bool
-goes_to_device Nothing = false
-goes_to_device ToHost = false
-goes_to_device ToDevice = true
-
-abbrev pub request_direction : Request → Direction
-request_direction (Execute op) = direction_of op
-
--- the data TD is seen, where it waits and the event is of its pipe
-abbrev pub seen_data : Bool → HostEntry → Option TdState → Option HostEntry
-seen_data right held None = None
-seen_data right held (Some td) = if right && is_pending td then Some (record held { data_td = Some Seen }) else None
-
--- the entry once the host has seen the event, or none where it waits for no such event
-abbrev pub seen : News → HostEntry → Option HostEntry
-seen CommandSeen held = if is_pending held.command_td then Some (record held { command_td = Seen }) else None
-seen DataInSeen held = seen_data (goes_to_host (request_direction held.request)) held held.data_td
-seen DataOutSeen held = seen_data (goes_to_device (request_direction held.request)) held held.data_td
-seen (Answered status sense) held =
-    if is_pending held.status_td
-    then Some (record held { told = ToldStatus status sense; status_td = Seen; data_td = data_after status held.data_td })
-    else None
-
--- a command that is ready now is the last of the ready ones
-abbrev pub with_seen : HostClient → ℕ → HostEntry → HostClient
-with_seen client slot now = record {
-  entries = slice_set client.entries slot (Some now);
-  least = client.least;
-  ready = record { items = queued_if (is_ready now) client.ready.items slot };
-}
-
-abbrev pub client_seen : News → HostClient → ℕ → Option HostClient
-client_seen news client slot = option_map (with_seen client slot) (option_and_then (seen news) (held_at client.entries slot))
-
-abbrev pub place_seen : News → HostState → Place → Option HostState
-place_seen news host place = option_map (with_client host place.client) (client_seen news (client_of host place.client) place.slot)
-
--- the host once it has seen the event of a tag
-abbrev pub host_seen : News → HostState → ℕ → Option HostState
-host_seen news host tag = option_and_then (place_seen news host) (place_of (length host.clients) tag)
-
 -- WHICH TRBS ARE FREE AGAIN
-
--- what the host has under a tag
-abbrev pub held_of : HostState → ℕ → Option HostEntry
-held_of host tag = option_and_then (λ place. held_at (client_of host place.client).entries place.slot) (place_of (length host.clients) tag)
 
 -- the host waits for the event of the command TD of this tag
 abbrev pub awaits_command : HostState → ℕ → Bool
@@ -226,11 +166,51 @@ abbrev pub handled_td : Sides → List TagBuffers → ℕ → ℕ → ℕ → Op
 handled_td sides frames pointer residual code None = (sides, Stray)
 handled_td sides frames pointer residual code (Some td) = handled_news sides pointer td (news_of frames residual code td)
 
--- What the host makes of an event. No command is under way on the controller's command ring, so none completes; neither
--- endpoint nor slot is read.
+-- the engine's command under way is done: it is consumed, at this address, and its code is 1
+abbrev pub is_engine_done : LinesState → ℕ → ℕ → Bool
+is_engine_done lines pointer code = is_some (consumed_at ENGINE_RING_PLACES lines.engine pointer) && (code == 1)
+
+-- Stop Endpoint is done: Set TR Dequeue Pointer follows it
+abbrev pub handled_stop : Sides → ℕ → Retirement → Sides
+handled_stop sides pointer retirement = record {
+  host = with_retirement sides.host (record retirement { stage = Moving });
+  lines = stopped_lines sides.lines pointer retirement;
+}
+
+-- Set TR Dequeue Pointer is done: the TD is retired
+abbrev pub handled_move : Sides → ℕ → Retirement → Sides
+handled_move sides pointer retirement = record { host = retired_host sides.host retirement; lines = moved_lines sides.lines pointer retirement }
+
+abbrev pub handled_stage : Sides → ℕ → Retirement → RetirementStage → Sides
+handled_stage sides pointer retirement Stopping = handled_stop sides pointer retirement
+handled_stage sides pointer retirement Moving = handled_move sides pointer retirement
+
+abbrev pub handled_engine : Sides → ℕ → Bool → Option Retirement → Sides × Handled
+handled_engine sides pointer false retirement = (sides, Stray)
+handled_engine sides pointer true None = (sides, Stray)
+handled_engine sides pointer true (Some retirement) = (handled_stage sides pointer retirement retirement.stage, Engine)
+
+-- What the host makes of an event. Neither endpoint nor slot is read.
 abbrev pub handled : Sides → List TagBuffers → Event → Sides × Handled
 handled sides frames (Transfer pointer residual code endpoint slot) = handled_td sides frames pointer residual code (ended_at sides.lines pointer)
-handled sides frames (CommandCompletion pointer code slot) = (sides, Stray)
+handled sides frames (CommandCompletion pointer code slot) =
+    handled_engine sides pointer (is_engine_done sides.lines pointer code) sides.host.retirement
+
+-- THE DOORBELLS: the engine's, and at the end of a retirement those of the pipe's streams with pending TRBs
+
+abbrev pub stage_doors : LinesState → ℕ → Retirement → RetirementStage → List ℕ
+stage_doors lines pointer retirement Stopping = 0 ∷ []
+stage_doors lines pointer retirement Moving = resumed_doors (moved_lines lines pointer retirement) retirement.pipe
+
+abbrev pub engine_doors : LinesState → ℕ → Bool → Option Retirement → List ℕ
+engine_doors lines pointer false retirement = []
+engine_doors lines pointer true None = []
+engine_doors lines pointer true (Some retirement) = stage_doors lines pointer retirement retirement.stage
+
+abbrev pub event_doors : Sides → Event → List ℕ
+event_doors sides (Transfer pointer residual code endpoint slot) = []
+event_doors sides (CommandCompletion pointer code slot) =
+    engine_doors sides.lines pointer (is_engine_done sides.lines pointer code) sides.host.retirement
 
 -- on a pipe with streams the tag is the stream
 abbrev pub IsOnStream : Pipe → ℕ → ℕ → Type 0

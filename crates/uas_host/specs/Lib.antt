@@ -3,6 +3,9 @@ pub mod State
 pub mod Tds
 pub mod Doors
 pub mod Submit
+pub mod Tasks
+pub mod Seen
+pub mod Retirement
 pub mod Events
 pub mod Replies
 pub mod Laws

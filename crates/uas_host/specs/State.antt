@@ -1,5 +1,6 @@
 -- What a host knows, and what is true of it.
-use Rattle.std.specs.Prelude.{◌≡◌, ℕ, ◌+◌, ◌<◌, ◌≤◌, ◌==◌, Bool, true, false, cond, ◌&&◌, List, [], ◌∷◌, ◌++◌, length, replicate, Option, Some, None, slice_set, slice_index_or}
+use Rattle.std.specs.Prelude.{◌≡◌, ℕ, ◌+◌, ◌<◌, ◌≤◌, ◌==◌, Bool, true, false, cond, ◌&&◌, List, [], ◌∷◌, ◌++◌, length, replicate, Option, Some, None, IfSome, slice_set, slice_index_or}
+use Rattle.stream_array.specs.Map.{HasStreams}
 use Rattle.scsi_cmd.specs.declared.TheConstants.{TAGS}
 use Rattle.scsi_cmd.specs.Held.{AllHeld, held_at}
 use Rattle.uas_host.specs.declared.TheConstants.{MAX_CLIENTS}
@@ -7,12 +8,16 @@ use Rattle.uas_host.specs.declared.TdState.{TdState}
 use Rattle.uas_host.specs.declared.TdState.TheVariants.{Pending, Seen, LeftOver, Retired}
 use Rattle.uas_host.specs.declared.Told.{Told}
 use Rattle.uas_host.specs.declared.Told.TheVariants.{Untold, Status, Response}
+use Rattle.uas_host.specs.declared.HostRequest.{HostRequest}
+use Rattle.uas_host.specs.declared.HostRequest.TheVariants.{Execute, Manage}
 use Rattle.uas_host.specs.declared.HostEntry.{HostEntry}
 use Rattle.uas_host.specs.declared.HostClient.{HostClient}
+use Rattle.uas_host.specs.declared.Retirement.{Retirement}
 
--- the clients by number
+-- the clients by number, and the retirement under way
 pub record HostState : Type 0 where
   pub clients : List HostClient
+  pub retirement : Option Retirement
 
 -- a client that has submitted nothing
 abbrev pub new_client : HostClient
@@ -20,7 +25,7 @@ new_client = record { entries = replicate TAGS None; least = 0; ready = record {
 
 -- the host of so many clients that have submitted nothing
 abbrev pub opening : ℕ → HostState
-opening clients = record { clients = replicate clients new_client }
+opening clients = record { clients = replicate clients new_client; retirement = None }
 
 -- the client of this number
 abbrev pub client_of : HostState → ℕ → HostClient
@@ -28,7 +33,7 @@ client_of host client = slice_index_or host.clients client new_client
 
 -- the host with this for the client of this number
 abbrev pub with_client : HostState → ℕ → HostClient → HostState
-with_client host client now = record { clients = slice_set host.clients client now }
+with_client host client now = record { clients = slice_set host.clients client now; retirement = host.retirement }
 
 -- TDS
 
@@ -45,6 +50,18 @@ is_seen Seen = true
 is_seen LeftOver = false
 is_seen Retired = false
 
+abbrev pub is_left_over : TdState → Bool
+is_left_over Pending = false
+is_left_over Seen = false
+is_left_over LeftOver = true
+is_left_over Retired = false
+
+abbrev pub is_retired : TdState → Bool
+is_retired Pending = false
+is_retired Seen = false
+is_retired LeftOver = false
+is_retired Retired = true
+
 -- nothing more is to be done about it
 abbrev pub is_over : TdState → Bool
 is_over Pending = false
@@ -57,7 +74,8 @@ abbrev pub is_data_over : Option TdState → Bool
 is_data_over None = true
 is_data_over (Some td) = is_over td
 
--- A command is ready once its command and status events were seen and its data TD was seen or retired.
+-- A command is ready once its command event was seen, its status TD was seen or, of a doomed one, retired, and its data TD
+-- was seen or retired. A task management is ready once its command event and its response were seen.
 abbrev pub is_ready : HostEntry → Bool
 is_ready held = is_seen held.command_td && (is_over held.status_td && is_data_over held.data_td)
 
@@ -85,21 +103,50 @@ queued_if ready queue slot = cond ready (queue ++ slot ∷ []) queue
 
 -- WHAT IS TRUE OF EVERY HOST
 
+abbrev pub is_command : HostRequest → Bool
+is_command (Execute op) = true
+is_command (Manage task noted) = false
+
 abbrev pub is_status : Told → Bool
 is_status Untold = false
 is_status (Status status sense) = true
 is_status (Response code) = false
 
--- the status event of a command told its status
-abbrev pub WasTold : HostEntry → Type 0
-WasTold held = is_over held.status_td ≡ true → is_status held.told ≡ true
+abbrev pub is_response : Told → Bool
+is_response Untold = false
+is_response (Status status sense) = false
+is_response (Response code) = true
+
+-- a command is answered by a status, a task management by a response
+abbrev pub is_answer_to : HostRequest → Told → Bool
+is_answer_to (Execute op) told = is_status told
+is_answer_to (Manage task noted) told = is_response told
+
+-- its event doesn't come: it was left over, and may be retired
+abbrev pub is_given_up : TdState → Bool
+is_given_up Pending = false
+is_given_up Seen = false
+is_given_up LeftOver = true
+is_given_up Retired = true
+
+-- a status TD that was seen told the answer, and a task management's is never given up
+pub record WasTold (held : HostEntry) : Type 0 where
+  pub answer : is_seen held.status_td ≡ true → is_answer_to held.request held.told ≡ true
+  pub command : is_given_up held.status_td ≡ true → is_command held.request ≡ true
 
 pub record IsHostClient (held : HostClient) : Type 0 where
   pub slots : length held.entries ≡ TAGS
   pub ready : AreReady held.entries held.ready.items
   pub told : AllHeld WasTold held.entries
 
+-- a retirement is of a pipe with streams and of a tag of a client that is there
+pub record IsRetirement (clients : ℕ) (retirement : Retirement) : Type 0 where
+  pub streams : HasStreams retirement.pipe
+  pub client : retirement.place.client < clients
+  pub slot : retirement.place.slot < TAGS
+
 pub record IsHost (host : HostState) : Type 0 where
   pub some : 1 ≤ length host.clients
   pub most : length host.clients ≤ MAX_CLIENTS
   pub clients : (client : ℕ) → client < length host.clients → IsHostClient (client_of host client)
+  pub retirement : IfSome host.retirement (IsRetirement (length host.clients))

@@ -6,7 +6,6 @@ use Rattle.scsi_cmd.specs.declared.SubmitFault.{SubmitFault}
 use Rattle.scsi_cmd.specs.declared.SubmitFault.TheVariants.{NotYours}
 use Rattle.scsi_cmd.specs.Op.{cdb_bytes, moved_bytes}
 use Rattle.scsi_cmd.specs.declared.TheConstants.{TAGS}
-use Rattle.scsi_cmd.specs.declared.Request.TheVariants.{Execute}
 use Rattle.scsi_cmd.specs.Submission.{first_submit_fault}
 use Rattle.scsi_cmd.specs.Held.{held_at}
 use Rattle.uas_iu.specs.declared.Iu.TheVariants.{Command as CommandUnit}
@@ -18,6 +17,7 @@ use Rattle.stream_array.specs.Rings.{LinesState}
 use Rattle.uas_host.specs.declared.TdState.{TdState}
 use Rattle.uas_host.specs.declared.TdState.TheVariants.{Pending}
 use Rattle.uas_host.specs.declared.Told.TheVariants.{Untold}
+use Rattle.uas_host.specs.declared.HostRequest.TheVariants.{Execute}
 use Rattle.uas_host.specs.declared.HostEntry.{HostEntry}
 use Rattle.uas_host.specs.declared.HostClient.{HostClient}
 use Rattle.uas_host.specs.State.{HostState, client_of, with_client}

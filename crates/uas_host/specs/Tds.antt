@@ -63,6 +63,10 @@ status_td tag = Normal (status_buffer_of tag) 112 0 (record { 0 = 18 }) ∷ []
 abbrev pub command_td : ℕ → List Trb
 command_td tag = Normal (command_buffer_of tag) 32 0 (record { 0 = 16 }) ∷ []
 
+-- the command TRB of a task management has the 16 bytes of its unit, with IOC
+abbrev pub task_td : ℕ → List Trb
+task_td tag = Normal (command_buffer_of tag) 16 0 (record { 0 = 16 }) ∷ []
+
 -- RINGS
 
 -- these TRBs are put on a ring
@@ -81,6 +85,10 @@ abbrev pub pushed : LinesState → ℕ → Op → LinesState
 pushed lines tag op =
     put_on (put_on (with_data_td lines (direction_of op) tag (moved_bytes op)) Status tag (status_td tag)) Command 0 (command_td tag)
 
+-- both TDs of a task management: status, command
+abbrev pub pushed_task : LinesState → ℕ → LinesState
+pushed_task lines tag = put_on (put_on lines Status tag (status_td tag)) Command 0 (task_td tag)
+
 -- ROOM
 
 -- a ring has room for so many TRBs; two of its places are never filled
@@ -95,6 +103,11 @@ HasDataRoom lines ToDevice tag bytes = HasRoom lines DataOut tag (data_trb_count
 -- the three rings have room for the TDs of a command
 pub record HasTdRoom (lines : LinesState) (tag : ℕ) (op : Op) : Type 0 where
   pub on_data : HasDataRoom lines (direction_of op) tag (moved_bytes op)
+  pub on_status : HasRoom lines Status tag 1
+  pub on_command : HasRoom lines Command 0 1
+
+-- the two rings have room for the TDs of a task management
+pub record HasTaskRoom (lines : LinesState) (tag : ℕ) : Type 0 where
   pub on_status : HasRoom lines Status tag 1
   pub on_command : HasRoom lines Command 0 1
 

@@ -1,40 +1,107 @@
-// The doorbells of a submission.
+// Doorbells: those of a submission, and those of the streams of a pipe that is held no more.
 ghost use Rattle.std.specs.Prelude.{◌≡◌, ◌+◌, ◌++◌, ◌≤◌};
 ghost use Rattle.arrayvec.specs.ArrayVec.{array_vec_len};
-ghost use Rattle.uas_host.specs.Doors.{submission_doors};
+ghost use Rattle.stream_array.specs.Map.{HasRing, HasStreams};
+ghost use Rattle.uas_host.specs.Doors.{answer_doors, data_doors, door_unless, submission_doors, target_of};
+ghost use Rattle.uas_host.specs.Retirement.{is_held, pending_door, resumed_doors, same_pipe};
 
-use crate::MOST_DOORS;
+use crate::{Host, MOST_DOORS};
 use arrayvec::ArrayVec;
 use scsi_cmd::Direction;
-use stream_array::doorbell;
+use stream_array::{Lines, Pipe, STREAMS, doorbell};
 
-/// Doorbell targets of the device's endpoints (xHCI 5.6).
-const COMMAND_TARGET: u8 = 2;
-
-const _: () = prove!(COMMAND_TARGET == 2);
-
-const STATUS_TARGET: u8 = 3;
-
-const _: () = prove!(STATUS_TARGET == 3);
-
-const DATA_OUT_TARGET: u8 = 4;
-
-const _: () = prove!(DATA_OUT_TARGET == 4);
-
-const DATA_IN_TARGET: u8 = 5;
-
-const _: () = prove!(DATA_IN_TARGET == 5);
-
-/// Rings the doorbells of a submission that moves data this way: data, status, command.
-pub(crate) fn ring(doors: &mut ArrayVec<u32, MOST_DOORS>, way: Direction, tag: u16)
-    requires { array_vec_len doors.old ≤ 253 }
-    ensures { doors.new.items ≡ doors.old.items ++ submission_doors way tag }
+/// The doorbell target of a pipe, which is its endpoint's number too (xHCI 5.6).
+pub(crate) fn target(pipe: Pipe) -> u8
+    ensures target { result ≡ target_of pipe }
+    ensures bits { result ≤ 5 }
 {
-    match way {
-        Direction::Nothing => {}
-        Direction::ToHost => doors.push(doorbell(DATA_IN_TARGET, tag)),
-        Direction::ToDevice => doors.push(doorbell(DATA_OUT_TARGET, tag)),
+    match pipe {
+        Pipe::Command => 2,
+        Pipe::Status => 3,
+        Pipe::DataOut => 4,
+        Pipe::DataIn => 5,
     }
-    doors.push(doorbell(STATUS_TARGET, tag));
-    doors.push(doorbell(COMMAND_TARGET, 0));
+}
+
+fn is_same(one: Pipe, other: Pipe) -> bool
+    ensures { result ≡ same_pipe one other }
+{
+    one.number() == other.number()
+}
+
+impl Host {
+    /// Whether a retirement of this pipe is under way, so that no doorbell of it is rung.
+    pub fn is_held(&self, pipe: Pipe) -> bool
+        ensures { result ≡ is_held self.now pipe }
+    {
+        match self.retirement {
+            Some(retirement) => is_same(retirement.pipe, pipe),
+            None => false,
+        }
+    }
+
+    /// Rings a stream of a pipe, unless the pipe is held.
+    fn ring_stream(&self, doors: &mut ArrayVec<u32, MOST_DOORS>, pipe: Pipe, tag: u16)
+        requires { array_vec_len doors.old ≤ 255 }
+        ensures doors { doors.new.items ≡ doors.old.items ++ door_unless (is_held self.now pipe) pipe tag }
+        ensures len { array_vec_len doors.new ≤ array_vec_len doors.old + 1 }
+    {
+        if !self.is_held(pipe) {
+            doors.push(doorbell(target(pipe), tag));
+        }
+    }
+
+    /// Rings the data stream of a submission that moves data this way.
+    fn ring_data(&self, doors: &mut ArrayVec<u32, MOST_DOORS>, way: Direction, tag: u16)
+        requires { array_vec_len doors.old ≤ 255 }
+        ensures doors { doors.new.items ≡ doors.old.items ++ data_doors (is_held self.now) way tag }
+        ensures len { array_vec_len doors.new ≤ array_vec_len doors.old + 1 }
+    {
+        match way {
+            Direction::Nothing => {}
+            Direction::ToHost => self.ring_stream(doors, Pipe::DataIn, tag),
+            Direction::ToDevice => self.ring_stream(doors, Pipe::DataOut, tag),
+        }
+    }
+
+    /// Rings the status stream of a tag and the command pipe.
+    pub(crate) fn ring_answer(&self, doors: &mut ArrayVec<u32, MOST_DOORS>, tag: u16)
+        requires { array_vec_len doors.old ≤ 254 }
+        ensures { doors.new.items ≡ doors.old.items ++ answer_doors (is_held self.now) tag }
+    {
+        self.ring_stream(doors, Pipe::Status, tag);
+        doors.push(doorbell(target(Pipe::Command), 0));
+    }
+
+    /// Rings the doorbells of a submission that moves data this way: data, status, command.
+    pub(crate) fn ring(&self, doors: &mut ArrayVec<u32, MOST_DOORS>, way: Direction, tag: u16)
+        requires { array_vec_len doors.old ≤ 253 }
+        ensures { doors.new.items ≡ doors.old.items ++ submission_doors (is_held self.now) way tag }
+    {
+        self.ring_data(doors, way, tag);
+        self.ring_answer(doors, tag);
+    }
+}
+
+/// Rings a stream of a pipe, where it has a pending TRB.
+fn ring_pending(lines: &Lines, doors: &mut ArrayVec<u32, MOST_DOORS>, pipe: Pipe, stream: u16)
+    requires ring { HasRing pipe stream }
+    requires doors { array_vec_len doors.old ≤ 255 }
+    ensures doors { doors.new.items ≡ doors.old.items ++ pending_door lines.now pipe stream }
+    ensures most { array_vec_len doors.new ≤ array_vec_len doors.old + 1 }
+{
+    if lines.front(pipe, stream).is_some() {
+        doors.push(doorbell(target(pipe), stream));
+    }
+}
+
+/// Rings every stream of a pipe that has a pending TRB, by rising stream.
+pub(crate) fn resume(lines: &Lines, doors: &mut ArrayVec<u32, MOST_DOORS>, pipe: Pipe)
+    requires streams { HasStreams pipe }
+    requires doors { array_vec_len doors.old ≤ 8 }
+    ensures { doors.new.items ≡ doors.old.items ++ resumed_doors lines.now pipe }
+{
+    for stream in 1..STREAMS + 1 {
+        ring_pending(lines, doors, pipe, stream);
+    }
 }

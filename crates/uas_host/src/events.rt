@@ -1,9 +1,11 @@
 // Events.
-ghost use Rattle.std.specs.Prelude.{◌≡◌, ◌≤◌};
-ghost use Rattle.uas_host.specs.Events.{handled, news_of, news_on, succeeded, Sides};
+ghost use Rattle.std.specs.Prelude.{◌≡◌, ◌++◌, ◌≤◌};
+ghost use Rattle.arrayvec.specs.ArrayVec.{array_vec_len};
+ghost use Rattle.uas_host.specs.Events.{ended_at, event_doors, handled, handled_td, news_of, news_on, succeeded, Sides};
 ghost use Rattle.stream_array.specs.declared.Pipe.{Pipe};
 
 use crate::ended::td_ended_at;
+use crate::engine::SUCCESS;
 use crate::units::read_answer;
 use crate::{EndedTd, Handled, Host, MOST_DOORS, News};
 use arrayvec::ArrayVec;
@@ -11,12 +13,7 @@ use event_ring::Event;
 use frame_store::{Frames, STATUS_BYTES};
 use stream_array::{Lines, Pipe};
 
-/// Completion code Success (xHCI 6.4.5).
-const SUCCESS: u8 = 1;
-
-const _: () = prove!(SUCCESS == 1);
-
-/// Completion code Short Packet.
+/// Completion code Short Packet (xHCI 6.4.5).
 const SHORT_PACKET: u8 = 13;
 
 const _: () = prove!(SHORT_PACKET == 13);
@@ -56,30 +53,17 @@ fn news_in(frames: &Frames, residual: u32, code: u8, td: EndedTd) -> Option<News
 }
 
 impl Host {
-    /// Takes in an event, any event. It is `Matched` where it is a transfer event whose pointer is that of the
-    /// last TRB of a consumed TD that still waits, with code 1 (13 for a status), and for a status where the
-    /// first 112 bytes less the residual of the status buffer are a Sense unit of that tag. Its TD is seen
-    /// then, its TRBs are free again, and a command that is ready now is the last of the ready ones. Any other
-    /// event is `Stray`, and nothing changes. No call rings a doorbell yet.
-    pub fn on_event(
+    /// Takes in a transfer event, with this pointer, this residual and this code.
+    fn on_transfer(
         &mut self,
         lines: &mut Lines,
         frames: &Frames,
-        doors: &mut ArrayVec<u32, MOST_DOORS>,
-        event: Event,
+        pointer: u64,
+        residual: u32,
+        code: u8,
     ) -> Handled
-        ensures handled { handled (record { host = self.old; lines = lines.old }) frames.now event ≡ (record { host = self.new; lines = lines.new }, result) }
-        ensures doors { doors.new ≡ doors.old }
+        ensures { handled_td (record { host = self.old; lines = lines.old }) frames.now pointer residual code (ended_at lines.old pointer) ≡ (record { host = self.new; lines = lines.new }, result) }
     {
-        let Event::Transfer {
-            pointer,
-            residual,
-            code,
-            ..
-        } = event
-        else {
-            return Handled::Stray;
-        };
         let Some(td) = td_ended_at(lines, pointer) else {
             return Handled::Stray;
         };
@@ -91,5 +75,36 @@ impl Host {
         }
         self.free(lines, pointer, td);
         Handled::Matched(td.tag)
+    }
+
+    /// Takes in an event, any event. It is `Matched` where it is a transfer event whose pointer is that of the
+    /// last TRB of a consumed TD that still waits, with code 1 (13 for a status), and for a status where the
+    /// first 112 bytes less the residual of the status buffer are a Sense unit of that tag, for a task
+    /// management a Response unit. Its TD is seen then, its TRBs are free again, and a command that is ready now
+    /// is the last of the ready ones; the response COMPLETE leaves over the TDs of each noted command whose
+    /// status wasn't seen. It is `Engine` where a retirement is under way and it is a completion of code 1 whose
+    /// pointer is that of the consumed command under way: the retirement goes on, or the TD is retired, its TRBs
+    /// are free again, and each stream of the pipe with a pending TRB is rung. Any other event is `Stray`, and
+    /// nothing changes. Asks room for 248 doorbells.
+    pub fn on_event(
+        &mut self,
+        lines: &mut Lines,
+        frames: &Frames,
+        doors: &mut ArrayVec<u32, MOST_DOORS>,
+        event: Event,
+    ) -> Handled
+        requires { array_vec_len doors.old ≤ 8 }
+        ensures handled { handled (record { host = self.old; lines = lines.old }) frames.now event ≡ (record { host = self.new; lines = lines.new }, result) }
+        ensures doors { doors.new.items ≡ doors.old.items ++ event_doors (record { host = self.old; lines = lines.old }) event }
+    {
+        match event {
+            Event::Transfer {
+                pointer,
+                residual,
+                code,
+                ..
+            } => self.on_transfer(lines, frames, pointer, residual, code),
+            Event::Command { pointer, code, .. } => self.on_completion(lines, doors, pointer, code),
+        }
     }
 }

@@ -21,6 +21,16 @@
 //! retired. The status CHECK CONDITION leaves an unseen data TD over, as its event can't come any more.
 //! Replies are taken in the order in which commands became ready; only then is the tag free again.
 //!
+//! Task management: an abort or a reset notes the tickets of the commands that it is to end, and goes out under
+//! the client's task tag as a status TD and a command TD. Doomed at its response COMPLETE is each noted command
+//! that is still under its tag by its ticket and whose status wasn't seen: its status TD is left over, and its
+//! data TD where unseen. It is ready once both were retired. A later command on that tag is left alone.
+//!
+//! Retirement (xHCI 4.6.9, 4.6.10): a left-over TD is taken off its ring by Stop Endpoint and then Set TR Dequeue
+//! Pointer to the ring's enqueue place, one TD at a time. From its begin to the event of the second command the
+//! pipe is held: the host pushes TDs on it and rings no doorbell of it. Then it rings every stream of the pipe
+//! that has a pending TRB, by rising stream.
+//!
 //! What is promised: each call is one equation over the new host, rings, buffers, doorbells and answer
 //! (`specs/`). A refused submission changes nothing and hands the command back. [`Host::new`] takes all
 //! memory, and no other call takes any: a client's vector is moved and never copied. The host knows neither
@@ -31,21 +41,24 @@
 mod asked;
 mod doors;
 mod ended;
+mod engine;
 mod events;
 mod freed;
 mod hosts;
 pub mod laws;
 mod replies;
+mod retirements;
 mod seen;
 mod submissions;
 mod tags;
+mod tasks;
 mod tds;
 #[cfg(test)]
 mod tests;
 mod units;
 
 use arrayvec::ArrayVec;
-use scsi_cmd::{MAX_SENSE_BYTES, Request, TAGS};
+use scsi_cmd::{MAX_SENSE_BYTES, Op, TAGS, TASK_SLOT, Task};
 use std::alloc::AllocError;
 use std::marker::Model;
 use stream_array::Pipe;
@@ -83,7 +96,7 @@ pub enum TdState {
     Retired,
 }
 
-/// What the host was told of a command.
+/// What the host was told of a command or of a task management.
 #[derive(Debug, Drop)]
 pub enum Told {
     /// Nothing yet.
@@ -131,17 +144,53 @@ pub enum News {
         status: u8,
         sense: ArrayVec<u8, MAX_SENSE_BYTES>,
     },
+    /// The task management was answered with this code.
+    Responded {
+        code: u8,
+    },
+    /// The left-over TD on this pipe is off its ring.
+    TdRetired(Pipe),
+}
+
+/// How far a retirement is: which engine command is under way (xHCI 4.6.9, 4.6.10).
+#[derive(Clone, Copy, Debug, PartialEq, Eq)]
+pub enum RetirementStage {
+    /// Stop Endpoint.
+    Stopping,
+    /// Set TR Dequeue Pointer.
+    Moving,
+}
+
+/// The retirement of the left-over TD of a tag on a pipe. The pipe is held while it is under way.
+#[derive(Clone, Copy, Debug, PartialEq, Eq)]
+pub struct Retirement {
+    pub pipe: Pipe,
+    pub place: Place,
+    pub stage: RetirementStage,
+}
+
+/// What a client asked for under a tag.
+#[derive(Debug, Drop)]
+pub enum HostRequest {
+    /// A command.
+    Execute(Op),
+    /// A task management, and the tickets that it noted when it was submitted: an abort that of the command on the
+    /// tag, a reset those of all commands of its client, by rising slot.
+    Manage {
+        task: Task,
+        noted: ArrayVec<u64, TASK_SLOT>,
+    },
 }
 
 /// What the host has under a tag that is in use.
 #[derive(Debug, Drop)]
 pub struct HostEntry {
     pub ticket: u64,
-    pub request: Request,
+    pub request: HostRequest,
     pub told: Told,
     pub command_td: TdState,
     pub status_td: TdState,
-    /// A command that moves no bytes has none.
+    /// A command that moves no bytes has none, nor has a task management.
     pub data_td: Option<TdState>,
 }
 
@@ -154,10 +203,11 @@ pub struct HostClient {
     pub ready: ArrayVec<usize, TAGS>,
 }
 
-/// The host driver of 1 to 31 clients.
+/// The host driver of 1 to 31 clients, with at most one retirement under way.
 #[derive(Debug, Drop)]
 pub struct Host {
     clients: Vec<HostClient>,
+    retirement: Option<Retirement>,
 }
 
 impl Model for Host {
@@ -165,7 +215,7 @@ impl Model for Host {
 
     ghost Value = { HostState };
 
-    ghost view = { λ host. record { clients = host.clients.items } };
+    ghost view = { λ host. record { clients = host.clients.items; retirement = host.retirement } };
 
-    ghost invariant = { λ host. IsHost (record { clients = host.clients.items }) };
+    ghost invariant = { λ host. IsHost (record { clients = host.clients.items; retirement = host.retirement }) };
 }

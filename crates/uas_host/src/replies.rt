@@ -1,45 +1,95 @@
 // Replies.
-ghost use Rattle.std.specs.Prelude.{◌≡◌, ◌<◌, ◌≤◌, drop, option_and_then, slice_get, IfSome, None, Some};
+ghost use Rattle.std.specs.Prelude.{◌≡◌, ◌<◌, ◌≤◌, ◌&&◌, ◌||◌, drop, length, option_and_then, slice_get, IfSome, IsSome, None, Some, true};
 ghost use Rattle.scsi_cmd.specs.Held.{held_at};
 ghost use Rattle.scsi_cmd.specs.declared.TheConstants.{TAGS};
-ghost use Rattle.uas_host.specs.Replies.{replied, reply_of, without, HasStatus, IsReadySlot};
-ghost use Rattle.uas_host.specs.State.{client_of, with_client};
+ghost use Rattle.uas_host.specs.Replies.{command_reply, has_command, replied, reply_of, task_reply, without, HasAnswer, HasBuffer, IsReadySlot};
+ghost use Rattle.uas_host.specs.State.{client_of, is_command, is_response, is_retired, is_seen, is_status, with_client};
 ghost use Rattle.uas_host.specs.Tags.{tag_of};
 
 use crate::tags::tag_under;
-use crate::{Host, HostClient, HostEntry, Told};
+use crate::{Host, HostClient, HostEntry, HostRequest, TdState, Told};
 use frame_store::Frames;
 use scsi_cmd::{Buffer, Reply};
 
+/// The reply of a command with its buffer. Asks that its status TD was seen and told its status, or is retired.
+fn command_reply(tag: u16, ticket: u64, told: Told, status_td: TdState, buffer: Buffer) -> Reply
+    requires { ((is_seen status_td && is_status told) || is_retired status_td) ≡ true }
+    ensures { command_reply tag ticket told status_td buffer ≡ Some result }
+{
+    if status_td.is_retired() {
+        return Reply::Aborted {
+            tag,
+            ticket,
+            buffer,
+        };
+    }
+    match told {
+        Told::Status { status, sense } => Reply::Status {
+            tag,
+            ticket,
+            status,
+            sense,
+            buffer,
+        },
+        Told::Untold | Told::Response { .. } => unreachable!(),
+    }
+}
+
+/// The reply of a task management. Asks that its response was told.
+fn task_reply(tag: u16, ticket: u64, told: Told) -> Reply
+    requires { is_response told ≡ true }
+    ensures { task_reply tag ticket told ≡ Some result }
+{
+    match told {
+        Told::Response { code } => Reply::Task { tag, ticket, code },
+        Told::Untold | Told::Status { .. } => unreachable!(),
+    }
+}
+
 impl HostEntry {
-    /// The reply under this tag with this buffer. Asks that a status was told.
-    fn into_reply(self, tag: u16, buffer: Buffer) -> Reply
-        requires { HasStatus (Some self) }
-        ensures { reply_of tag buffer self ≡ Some result }
+    /// The reply under this tag, a command's with its buffer. Asks that it is answered.
+    fn into_reply(self, tag: u16, lent: Option<Buffer>) -> Reply
+        requires answer { HasAnswer (Some self) }
+        requires lent { HasBuffer lent (Some self) }
+        ensures { reply_of tag lent self ≡ Some result }
     {
-        let HostEntry { ticket, told, .. } = self;
-        match told {
-            Told::Status { status, sense } => Reply::Status {
-                tag,
-                ticket,
-                status,
-                sense,
-                buffer,
-            },
-            Told::Untold | Told::Response { .. } => unreachable!(),
+        let HostEntry {
+            ticket,
+            request,
+            told,
+            status_td,
+            ..
+        } = self;
+        match (request, lent) {
+            (HostRequest::Execute(_), Some(buffer)) => {
+                command_reply(tag, ticket, told, status_td, buffer)
+            }
+            (HostRequest::Manage { .. }, _) => task_reply(tag, ticket, told),
+            (HostRequest::Execute(_), None) => unreachable!(),
         }
     }
 }
 
-/// What is held goes, as the reply under this tag with this buffer.
-fn release_held(held: &mut Option<HostEntry>, tag: u16, buffer: Buffer) -> Reply
-    requires { HasStatus held.old }
+/// What is held goes, as the reply under this tag.
+fn release_held(held: &mut Option<HostEntry>, tag: u16, lent: Option<Buffer>) -> Reply
+    requires answer { HasAnswer held.old }
+    requires lent { HasBuffer lent held.old }
     ensures gone { held.new ≡ None }
-    ensures reply { option_and_then (reply_of tag buffer) held.old ≡ Some result }
+    ensures reply { option_and_then (reply_of tag lent) held.old ≡ Some result }
 {
     match held.take() {
-        Some(entry) => entry.into_reply(tag, buffer),
+        Some(entry) => entry.into_reply(tag, lent),
         None => unreachable!(),
+    }
+}
+
+/// Whether what is held is a command.
+fn has_command(held: &Option<HostEntry>) -> bool
+    ensures { result ≡ has_command held.now }
+{
+    match held {
+        Some(entry) => entry.is_command(),
+        None => false,
     }
 }
 
@@ -52,15 +102,16 @@ impl HostClient {
     }
 
     /// The slot that was ready first is free again, and its entry is the reply.
-    fn release(&mut self, slot: usize, tag: u16, buffer: Buffer) -> Reply
+    fn release(&mut self, slot: usize, tag: u16, lent: Option<Buffer>) -> Reply
         requires slot { slot < TAGS }
         requires first { slice_get self.old.ready.items 0 ≡ Some slot }
-        requires told { HasStatus (held_at self.old.entries slot) }
+        requires answer { HasAnswer (held_at self.old.entries slot) }
+        requires lent { HasBuffer lent (held_at self.old.entries slot) }
         ensures client { self.new ≡ without self.old slot (drop 1 self.old.ready.items) }
-        ensures reply { option_and_then (reply_of tag buffer) (held_at self.old.entries slot) ≡ Some result }
+        ensures reply { option_and_then (reply_of tag lent) (held_at self.old.entries slot) ≡ Some result }
     {
         let _ = self.ready.remove(0);
-        release_held(&mut self.entries[slot], tag, buffer)
+        release_held(&mut self.entries[slot], tag, lent)
     }
 }
 
@@ -76,19 +127,29 @@ impl Host {
         self.clients[client].first_ready()
     }
 
-    /// The slot of a client that was ready first is free again, and its entry is the reply.
-    fn release(&mut self, client: usize, slot: usize, tag: u16, buffer: Buffer) -> Reply
-        requires ready { IsReadySlot self.old client slot }
-        requires first { slice_get (client_of self.old client).ready.items 0 ≡ Some slot }
-        ensures host { self.new ≡ with_client self.old client (without (client_of self.old client) slot (drop 1 (client_of self.old client).ready.items)) }
-        ensures reply { option_and_then (reply_of tag buffer) (held_at (client_of self.old client).entries slot) ≡ Some result }
+    /// Whether a command is under a slot of a client.
+    fn is_command_at(&self, client: usize, slot: usize) -> bool
+        requires client { client < length self.now.clients }
+        requires slot { slot < TAGS }
+        ensures { result ≡ has_command (held_at (client_of self.now client).entries slot) }
     {
-        self.clients[client].release(slot, tag, buffer)
+        has_command(&self.clients[client].entries[slot])
     }
 
-    /// Gives the reply of a client that was ready first, with its buffer, the very vector that was handed in.
-    /// The tag is free then. None, and nothing changes, where no reply is ready, where its vector isn't lent,
-    /// or where the client isn't there.
+    /// The slot of a client that was ready first is free again, and its entry is the reply.
+    fn release(&mut self, client: usize, slot: usize, tag: u16, lent: Option<Buffer>) -> Reply
+        requires ready { IsReadySlot self.old client slot }
+        requires first { slice_get (client_of self.old client).ready.items 0 ≡ Some slot }
+        requires lent { HasBuffer lent (held_at (client_of self.old client).entries slot) }
+        ensures host { self.new ≡ with_client self.old client (without (client_of self.old client) slot (drop 1 (client_of self.old client).ready.items)) }
+        ensures reply { option_and_then (reply_of tag lent) (held_at (client_of self.old client).entries slot) ≡ Some result }
+    {
+        self.clients[client].release(slot, tag, lent)
+    }
+
+    /// Gives the reply of a client that was ready first: a command's with its buffer, the very vector that was
+    /// handed in, and a task management's with the code of its response. The tag is free then. None, and nothing
+    /// changes, where no reply is ready, where a command's vector isn't lent, or where the client isn't there.
     pub fn take_reply(&mut self, frames: &mut Frames, client: usize) -> Option<Reply>
         ensures { replied self.old frames.old client ≡ record { host = self.new; frames = frames.new; reply = result } }
     {
@@ -96,9 +157,12 @@ impl Host {
             return None;
         };
         let tag = tag_under(client, slot);
+        if !self.is_command_at(client, slot) {
+            return Some(self.release(client, slot, tag, None));
+        }
         let Ok(bytes) = frames.take_back(tag) else {
             return None;
         };
-        Some(self.release(client, slot, tag, Buffer::from_vec(bytes)))
+        Some(self.release(client, slot, tag, Some(Buffer::from_vec(bytes))))
     }
 }

@@ -2,12 +2,16 @@
 ghost use Rattle.std.specs.Prelude.{◌≡◌, ◌<◌, ◌≤◌, MatchOption, IfSome, Some, true, false, length, option_and_then, option_map};
 ghost use Rattle.scsi_cmd.specs.Held.{held_at};
 ghost use Rattle.scsi_cmd.specs.declared.TheConstants.{TAGS};
-ghost use Rattle.uas_host.specs.Events.{client_seen, data_after, goes_to_device, goes_to_host, host_seen, left_over_data, request_direction, seen, seen_data};
-ghost use Rattle.uas_host.specs.State.{is_data_over, is_over, is_pending, is_ready, is_seen};
+ghost use Rattle.uas_host.specs.Seen.{after_response, client_seen, completes, data_after, doomed, goes_to_device, goes_to_host, host_seen, is_data_left_over, is_doomed, is_td_left_over, left_over_data, noted_in, place_seen, request_direction, seen, seen_data, with_retired};
+ghost use Rattle.uas_host.specs.declared.News.TheVariants.{TdRetired};
+ghost use Rattle.uas_host.specs.State.{is_command, is_data_over, is_left_over, is_over, is_pending, is_ready, is_retired, is_seen};
 
 use crate::tags::place_of_tag;
-use crate::{Host, HostClient, HostEntry, News, TdState, Told};
-use scsi_cmd::{CHECK_CONDITION, Direction, Request, TAGS, moves};
+use crate::{Host, HostClient, HostEntry, HostRequest, News, Place, TdState, Told};
+use arrayvec::ArrayVec;
+use scsi_cmd::{CHECK_CONDITION, Direction, TAGS, TASK_SLOT, moves};
+use stream_array::Pipe;
+use uas_iu::TASK_COMPLETE;
 
 impl TdState {
     pub(crate) fn is_pending(self) -> bool
@@ -20,6 +24,18 @@ impl TdState {
         ensures { result ≡ is_seen self }
     {
         matches!(self, TdState::Seen)
+    }
+
+    fn is_left_over(self) -> bool
+        ensures { result ≡ is_left_over self }
+    {
+        matches!(self, TdState::LeftOver)
+    }
+
+    pub(crate) fn is_retired(self) -> bool
+        ensures { result ≡ is_retired self }
+    {
+        matches!(self, TdState::Retired)
     }
 
     fn is_over(self) -> bool
@@ -68,8 +84,10 @@ impl HostEntry {
     fn direction(&self) -> Direction
         ensures { result ≡ request_direction self.now.request }
     {
-        let Request::Execute(op) = &self.request;
-        moves(op).0
+        match &self.request {
+            HostRequest::Execute(op) => moves(op).0,
+            HostRequest::Manage { .. } => Direction::Nothing,
+        }
     }
 
     /// The data TD is seen, where it waits and `right` says that the event is of its pipe; false, and nothing
@@ -84,6 +102,73 @@ impl HostEntry {
             }
             _ => false,
         }
+    }
+
+    pub(crate) fn is_command(&self) -> bool
+        ensures { result ≡ is_command self.now.request }
+    {
+        matches!(self.request, HostRequest::Execute(_))
+    }
+
+    /// Whether the data TD is left over, where `right` says that it is of the pipe that is asked for.
+    fn is_data_left_over(&self, right: bool) -> bool
+        ensures { result ≡ is_data_left_over right self.now }
+    {
+        match self.data_td {
+            Some(td) => right && td.is_left_over(),
+            None => false,
+        }
+    }
+
+    /// Whether the TD on a pipe is left over.
+    pub(crate) fn is_left_over(&self, pipe: Pipe) -> bool
+        ensures { result ≡ is_td_left_over pipe self.now }
+    {
+        match pipe {
+            Pipe::Command => false,
+            Pipe::Status => self.status_td.is_left_over(),
+            Pipe::DataIn => self.is_data_left_over(matches!(self.direction(), Direction::ToHost)),
+            Pipe::DataOut => self.is_data_left_over(matches!(
+                self.direction(),
+                Direction::ToDevice
+            )),
+        }
+    }
+
+    /// The TD on a pipe is retired, where it is left over; false, and nothing changes, where not.
+    fn retire(&mut self, pipe: Pipe) -> bool
+        ensures { MatchOption (seen (TdRetired pipe) self.old) ((result ≡ false) × (self.new ≡ self.old)) (λ now. (result ≡ true) × (self.new ≡ now)) }
+    {
+        if !self.is_left_over(pipe) {
+            return false;
+        }
+        match pipe {
+            Pipe::Command => {}
+            Pipe::Status => self.status_td = TdState::Retired,
+            Pipe::DataIn | Pipe::DataOut => self.data_td = Some(TdState::Retired),
+        }
+        true
+    }
+
+    /// A command that a task management noted is left over, where its status wasn't seen.
+    fn leave_doomed_over(&mut self, noted: &[u64])
+        ensures { self.new ≡ doomed noted.now self.old }
+    {
+        if self.is_command() && self.status_td.is_pending() && noted.contains(&self.ticket) {
+            self.status_td = TdState::LeftOver;
+            leave_over(&mut self.data_td);
+        }
+    }
+
+    /// The tickets that a task management noted.
+    fn noted(&self) -> ArrayVec<u64, TASK_SLOT>
+        ensures { result.items ≡ noted_in self.now.request }
+    {
+        let mut tickets = ArrayVec::new();
+        if let HostRequest::Manage { noted, .. } = &self.request {
+            tickets.try_extend_from_slice(noted.as_slice()).unwrap();
+        }
+        tickets
     }
 
     /// The host sees an event; false, and nothing changes, where it waits for no such event.
@@ -107,7 +192,7 @@ impl HostEntry {
                 self.see_data(right)
             }
             News::Answered { status, sense } => {
-                if !self.status_td.is_pending() {
+                if !self.is_command() || !self.status_td.is_pending() {
                     return false;
                 }
                 settle_data(&mut self.data_td, status);
@@ -115,6 +200,15 @@ impl HostEntry {
                 self.status_td = TdState::Seen;
                 true
             }
+            News::Responded { code } => {
+                if self.is_command() || !self.status_td.is_pending() {
+                    return false;
+                }
+                self.told = Told::Response { code };
+                self.status_td = TdState::Seen;
+                true
+            }
+            News::TdRetired(pipe) => self.retire(pipe),
         }
     }
 }
@@ -136,6 +230,43 @@ fn see_held(held: &mut Option<HostEntry>, news: News) -> Option<bool>
     }
 }
 
+/// What is held is left over, where a task management noted it and its status wasn't seen.
+fn leave_held_over(held: &mut Option<HostEntry>, noted: &[u64])
+    ensures { held.new ≡ option_map (doomed noted.now) held.old }
+{
+    if let Some(entry) = held {
+        entry.leave_doomed_over(noted);
+    }
+}
+
+/// What a task management noted, among the commands of its client, is left over where its status wasn't seen.
+fn leave_doomed_over(entries: &mut [Option<HostEntry>; TAGS], noted: &[u64])
+    ensures { entries.new ≡ after_response noted.now entries.old }
+{
+    for slot in 0..TAGS {
+        leave_held_over(&mut entries[slot], noted);
+    }
+}
+
+/// The tickets that a task management noted.
+fn noted_by(held: &Option<HostEntry>) -> ArrayVec<u64, TASK_SLOT>
+    ensures { IfSome held.now (λ entry. result.items ≡ noted_in entry.request) }
+{
+    match held {
+        Some(entry) => entry.noted(),
+        None => ArrayVec::new(),
+    }
+}
+
+impl News {
+    /// Whether it is the response COMPLETE.
+    fn completes(&self) -> bool
+        ensures { result ≡ completes self.now }
+    {
+        matches!(self, News::Responded { code } if *code == TASK_COMPLETE)
+    }
+}
+
 impl HostClient {
     /// The host sees an event of a slot; false, and nothing changes, where it waits for no such event.
     fn see(&mut self, slot: usize, news: News) -> bool
@@ -143,9 +274,14 @@ impl HostClient {
         requires room { IfSome (client_seen news self.old slot) (λ now. length now.ready.items ≤ TAGS) }
         ensures { MatchOption (client_seen news self.old slot) ((result ≡ false) × (self.new ≡ self.old)) (λ now. (result ≡ true) × (self.new ≡ now)) }
     {
+        let completes = news.completes();
         match see_held(&mut self.entries[slot], news) {
             None => false,
             Some(ready) => {
+                if completes {
+                    let noted = noted_by(&self.entries[slot]);
+                    leave_doomed_over(&mut self.entries, &noted);
+                }
                 if ready {
                     self.ready.push(slot);
                 }
@@ -156,6 +292,15 @@ impl HostClient {
 }
 
 impl Host {
+    /// The host sees an event of a place; false, and nothing changes, where it waits for no such event.
+    pub(crate) fn see_at(&mut self, place: Place, news: News) -> bool
+        requires client { place.client < length self.old.clients }
+        requires slot { place.slot < TAGS }
+        ensures { MatchOption (place_seen news self.old place) ((result ≡ false) × (self.new ≡ self.old)) (λ now. (result ≡ true) × (self.new ≡ now)) }
+    {
+        self.clients[place.client].see(place.slot, news)
+    }
+
     /// The host sees an event of a tag; false, and nothing changes, where it waits for no such event.
     pub(crate) fn see(&mut self, tag: u16, news: News) -> bool
         ensures { MatchOption (host_seen news self.old tag) ((result ≡ false) × (self.new ≡ self.old)) (λ now. (result ≡ true) × (self.new ≡ now)) }
@@ -163,6 +308,6 @@ impl Host {
         let Some(place) = place_of_tag(self.clients.len(), tag) else {
             return false;
         };
-        self.clients[place.client].see(place.slot, news)
+        self.see_at(place, news)
     }
 }

@@ -3,10 +3,10 @@ ghost use Rattle.std.specs.Prelude.{◌≡◌, ◌+◌, ◌++◌, ◌<◌, ◌�
 ghost use Rattle.arrayvec.specs.ArrayVec.{array_vec_len};
 ghost use Rattle.scsi_cmd.specs.Op.{direction_of};
 ghost use Rattle.uas_host.specs.Doors.{submission_doors};
+ghost use Rattle.uas_host.specs.Retirement.{is_held};
 ghost use Rattle.uas_host.specs.Submit.{HasRoomFor, host_fault, lent, submitted};
 ghost use Rattle.uas_host.specs.Tds.{pushed};
 
-use crate::doors::ring;
 use crate::tds::push_tds;
 use crate::units::lend_command;
 use crate::{Host, MOST_DOORS};
@@ -19,8 +19,9 @@ impl Host {
     /// Submits a client's command under one of its command tags. The first fault hands the command back, and
     /// nothing changes: `NotYours` where the tag is no command tag of the client, `InUse` where a command is
     /// under it, `BadLength` where the buffer hasn't the bytes that the operation moves, `TooLong` above 128
-    /// blocks, `OutOfTurn` where the ticket is below the least one. Asks a ticket below `2^60`, room for three
-    /// doorbells, and where there is no fault room on the three rings and no vector lent under the tag.
+    /// blocks, `OutOfTurn` where the ticket is below the least one. The doorbell of a held pipe is left out. Asks a
+    /// ticket below `2^60`, room for three doorbells, and where there is no fault room on the three rings and no
+    /// vector lent under the tag.
     pub fn submit(
         &mut self,
         lines: &mut Lines,
@@ -39,7 +40,7 @@ impl Host {
             × (self.new ≡ submitted self.old client tag ticket command.op)
             × (lines.new ≡ pushed lines.old tag command.op)
             × (frames.new ≡ lent frames.old client tag command)
-            × (doors.new.items ≡ doors.old.items ++ submission_doors (direction_of command.op) tag))
+            × (doors.new.items ≡ doors.old.items ++ submission_doors (is_held self.old) (direction_of command.op) tag))
             (λ fault. (result ≡ Err (fault, command))
             × (self.new ≡ self.old) × (lines.new ≡ lines.old) × (frames.new ≡ frames.old) × (doors.new ≡ doors.old)) }
     {
@@ -50,7 +51,7 @@ impl Host {
         let Command { op, buffer } = command;
         lend_command(frames, client as u8, tag, &op, buffer);
         push_tds(lines, tag, &op);
-        ring(doors, moves(&op).0, tag);
+        self.ring(doors, moves(&op).0, tag);
         self.note(client, slot, ticket, op);
         Ok(())
     }

@@ -3,6 +3,7 @@ ghost use Rattle.std.specs.Prelude.{◌≡◌, ◌*◌, ◌+◌, ◌<◌, ◌≤
 ghost use Rattle.scsi_cmd.specs.declared.TheConstants.{TAGS, TASK_SLOT};
 ghost use Rattle.uas_host.specs.Submit.{slot_of};
 ghost use Rattle.uas_host.specs.Tags.{command_slot, place_of, tag_of};
+ghost use Rattle.uas_host.specs.Tasks.{task_tag};
 
 use crate::{MAX_CLIENTS, Place};
 use scsi_cmd::{TAGS, TASK_SLOT};
@@ -46,4 +47,14 @@ pub(crate) fn tag_under(client: usize, slot: usize) -> u16
     ensures last_tag { result ≤ 248 }
 {
     (client * TAGS + slot + 1) as u16
+}
+
+/// The tag for task managements of a client.
+pub(crate) fn task_tag_of(client: usize) -> u16
+    requires client { client < MAX_CLIENTS }
+    ensures tag { result ≡ task_tag client }
+    ensures first_tag { 1 ≤ result }
+    ensures last_tag { result ≤ 248 }
+{
+    tag_under(client, TASK_SLOT)
 }

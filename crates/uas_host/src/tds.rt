@@ -1,14 +1,15 @@
-// The TDs of a command as TRBs, and their way onto the rings.
+// The TDs of a command and of a task management as TRBs, and their way onto the rings.
 ghost use Rattle.std.specs.Prelude.{◌≡◌, ◌+◌, ◌-◌, ◌*◌, ◌<◌, ◌≤◌, ◌^◌, length, take};
 ghost use Rattle.scsi_cmd.specs.Op.{moved_bytes};
 ghost use Rattle.scsi_cmd.specs.declared.Direction.{Direction};
 ghost use Rattle.stream_array.specs.Map.{HasRing, HasStreams, places_of};
 ghost use Rattle.stream_array.specs.Rings.{ring_of};
-ghost use Rattle.uas_host.specs.Tds.{command_td, data_td, data_trb, data_trb_count, packets_left, pushed, put_on, status_td, with_data_td, HasDataRoom, HasRoom, HasTdRoom, IsOnData};
+ghost use Rattle.uas_host.specs.Tds.{command_td, data_td, data_trb, data_trb_count, packets_left, pushed, pushed_task, put_on, status_td, task_td, with_data_td, HasDataRoom, HasRoom, HasTaskRoom, HasTdRoom, IsOnData};
 
 use frame_store::{COMMAND_BYTES, STATUS_BYTES};
 use scsi_cmd::{Direction, Op, moves};
 use stream_array::{Lines, Pipe};
+use uas_iu::TASK_BYTES;
 use xhci_trb::{Trb, TrbFlags};
 
 /// Bytes of a data TRB; the last of a TD has what is left.
@@ -60,6 +61,8 @@ const _: () = prove!(COMMAND_BYTES == 32);
 
 const _: () = prove!(STATUS_BYTES == 112);
 
+const _: () = prove!(TASK_BYTES == 16);
+
 const _: () = prove!(TrbFlags::CH.0 == 8);
 
 const _: () = prove!(TrbFlags::IOC.0 == 16);
@@ -88,6 +91,18 @@ fn command_trb(tag: u16) -> [Trb; 1]
     [Trb::Normal {
         pointer: COMMAND_BUFFERS + BUFFER_SPAN * u64::from(tag),
         length: COMMAND_BYTES as u32,
+        td_size: 0,
+        flags: TrbFlags::IOC,
+    }]
+}
+
+/// The TRB of the command TD of a task management: the Task Management unit.
+fn task_trb(tag: u16) -> [Trb; 1]
+    ensures { result ≡ task_td tag }
+{
+    [Trb::Normal {
+        pointer: COMMAND_BUFFERS + BUFFER_SPAN * u64::from(tag),
+        length: TASK_BYTES as u32,
         td_size: 0,
         flags: TrbFlags::IOC,
     }]
@@ -179,4 +194,15 @@ pub(crate) fn push_tds(lines: &mut Lines, tag: u16, op: &Op)
     push_data_td(lines, way, tag, bytes);
     lines.push_td(Pipe::Status, tag, &status_trb(tag)).unwrap();
     lines.push_td(Pipe::Command, 0, &command_trb(tag)).unwrap();
+}
+
+/// Pushes the TDs of a task management: status, command. Asks room for them.
+pub(crate) fn push_task(lines: &mut Lines, tag: u16)
+    requires some_tag { 0 < tag }
+    requires last_tag { tag ≤ 248 }
+    requires room { HasTaskRoom lines.old tag }
+    ensures { lines.new ≡ pushed_task lines.old tag }
+{
+    lines.push_td(Pipe::Status, tag, &status_trb(tag)).unwrap();
+    lines.push_td(Pipe::Command, 0, &task_trb(tag)).unwrap();
 }

@@ -1,4 +1,4 @@
-// Rows with their TRBs, places and bytes as the standards print them, worked out by hand.
+// Rows with their TRBs, places, doorbells and bytes as the standards print them, worked out by hand.
 ghost use Rattle.std.specs.Prelude.{◌≡◌, ◌≤◌};
 ghost use Rattle.stream_array.specs.Map.{HasRing};
 
@@ -6,59 +6,66 @@ use crate::{Handled, Host, MOST_DOORS};
 use arrayvec::ArrayVec;
 use event_ring::Event;
 use frame_store::Frames;
-use scsi_cmd::{Buffer, Command, Op, Reply, SubmitFault, moves};
+use scsi_cmd::{Buffer, Command, Op, Reply, Task, moves};
 use std::alloc::{AllocError, Global};
 use std::process::Abort;
 use std::test::Fail;
 use stream_array::{Lines, Pipe};
+use xhci_trb::{Trb, decode};
 
+/// A host of four clients, and what it is lent. `done` counts the engine's commands that are done.
 #[derive(Drop)]
 struct Rig {
     host: Host,
     lines: Lines,
     frames: Frames,
     doors: ArrayVec<u32, MOST_DOORS>,
+    done: u64,
 }
 
 impl Rig {
     fn new(alloc: Global) -> Result<Rig, AllocError> {
+        let host = Host::new(alloc, 4)?;
+        let frames = Frames::new(alloc)?;
+        let lines = Lines::new(alloc)?;
         Ok(Rig {
-            host: Host::new(alloc, 3)?,
-            lines: Lines::new(alloc)?,
-            frames: Frames::new(alloc)?,
+            host,
+            lines,
+            frames,
             doors: ArrayVec::new(),
+            done: 0,
         })
     }
 }
 
-fn zeroed(alloc: Global, op: Op) -> Result<Command, AllocError> {
-    let bytes = vec![in alloc; 0; moves(&op).1]?;
-    Ok(Command {
-        op,
-        buffer: Buffer::from_vec(bytes),
-    })
+fn read_of(count: u16) -> Op {
+    Op::Read {
+        lba: 0,
+        count,
+        fua: false,
+    }
 }
 
-// A submission for which there is room.
+/// A submission for which there is room, with a buffer of zeros, that is accepted.
 fn submit(
     rt: &impl Abort,
+    alloc: Global,
     rig: &mut Rig,
-    client: usize,
-    tag: u16,
-    ticket: u64,
-    command: Command,
-) -> Result<(), (SubmitFault, Command)> {
-    assert!(rt; ticket < 100);
-    assert!(rt; 0 < tag);
-    assert!(rt; tag <= 248);
-    let trbs = moves(&command.op).1.div_ceil(4096);
+    at: (usize, u16, u64),
+    op: Op,
+) -> Result<(), AllocError> {
+    let (client, tag, ticket) = at;
+    let buffer = Buffer::from_vec(vec![in alloc; 0; moves(&op).1]?);
+    let trbs = moves(&op).1.div_ceil(4096);
+    assert!(rt; ticket < 100 && 0 < tag && tag <= 248);
     assert!(rt; trbs <= rig.lines.room(Pipe::DataIn, tag));
     assert!(rt; trbs <= rig.lines.room(Pipe::DataOut, tag));
     assert!(rt; 1 <= rig.lines.room(Pipe::Status, tag));
     assert!(rt; 1 <= rig.lines.room(Pipe::Command, 0));
     assert!(rt; rig.frames.take_back(tag).is_err());
-    assert!(rt; rig.doors.len() <= 253);
-    rig.host.submit(
+    rig.doors.clear();
+    let command = Command { op, buffer };
+    let answer = rig.host.submit(
         &mut rig.lines,
         &mut rig.frames,
         &mut rig.doors,
@@ -66,10 +73,28 @@ fn submit(
         tag,
         ticket,
         command,
-    )
+    );
+    assert!(rt; answer.is_ok());
+    Ok(())
 }
 
-// The controller consumes so many TRBs of a ring.
+/// Client 2 aborts a tag by its tag 24, with ticket 1.
+fn abort(rt: &impl Abort, rig: &mut Rig, tag: u16) {
+    assert!(rt; 1 <= rig.lines.room(Pipe::Status, 24));
+    assert!(rt; 1 <= rig.lines.room(Pipe::Command, 0));
+    rig.doors.clear();
+    let answer = rig.host.task(
+        &mut rig.lines,
+        &mut rig.frames,
+        &mut rig.doors,
+        2,
+        1,
+        Task::Abort { tag },
+    );
+    assert!(rt; answer.is_ok());
+}
+
+/// The controller consumes so many TRBs of a ring.
 fn advance(rt: &impl Abort, rig: &mut Rig, pipe: Pipe, stream: u16, trbs: usize)
     requires { HasRing pipe stream }
 {
@@ -79,19 +104,27 @@ fn advance(rt: &impl Abort, rig: &mut Rig, pipe: Pipe, stream: u16, trbs: usize)
     }
 }
 
-// The controller writes bytes.
-fn write(rt: &impl Abort, rig: &mut Rig, address: u64, bytes: &[u8]) {
-    assert!(rt; rig.frames.check(address, bytes.len()).is_ok());
-    rig.frames.write(address, bytes);
+/// The controller writes a unit into a status buffer.
+fn write(rt: &impl Abort, rig: &mut Rig, address: u64, unit: &[u8]) {
+    assert!(rt; rig.frames.check(address, unit.len()).is_ok());
+    rig.frames.write(address, unit);
 }
 
-fn read<'a>(rt: &impl Abort, rig: &'a Rig, address: u64, len: usize) -> &'a [u8] {
-    assert!(rt; rig.frames.check(address, len).is_ok());
-    rig.frames.read(address, len)
+/// What an event comes to: the tag that it matched, 255 for the engine, 0 for a stray one.
+fn answer_to(rig: &mut Rig, event: Event) -> u16 {
+    rig.doors.clear();
+    match rig
+        .host
+        .on_event(&mut rig.lines, &rig.frames, &mut rig.doors, event)
+    {
+        Handled::Matched(tag) => tag,
+        Handled::Engine => 255,
+        Handled::Stray => 0,
+    }
 }
 
-// The host takes in a transfer event.
-fn event(rig: &mut Rig, pointer: u64, residual: u32, code: u8) -> Handled {
+/// The host takes in a transfer event.
+fn transfer(rig: &mut Rig, pointer: u64, residual: u32, code: u8) -> u16 {
     let event = Event::Transfer {
         pointer,
         residual,
@@ -99,262 +132,400 @@ fn event(rig: &mut Rig, pointer: u64, residual: u32, code: u8) -> Handled {
         endpoint: 9,
         slot: 7,
     };
-    rig.host
-        .on_event(&mut rig.lines, &rig.frames, &mut rig.doors, event)
+    answer_to(rig, event)
 }
 
-// A Sense unit of GOOD under a tag below 256.
-fn good(tag: u8) -> [u8; 16] {
-    [3, 0, 0, tag, 0, 0, 0, 0, 0, 0, 0, 0, 0, 0, 0, 0]
+/// The controller is done with the engine's next command, whose completion the host takes in.
+fn complete(rt: &impl Abort, rig: &mut Rig) {
+    assert!(rt; rig.lines.front_engine().is_some() && rig.done < 15);
+    rig.lines.advance_engine();
+    let event = Event::Command {
+        pointer: 0x5000_0000 + 16 * rig.done,
+        code: 1,
+        slot: 1,
+    };
+    rig.done += 1;
+    assert_eq!(rt; answer_to(rig, event), 255);
 }
 
-#[test]
-fn test_unit_ready_on_tag_1(rt: HostRuntime) -> Result<(), Fail> {
-    let mut rig = Rig::new(rt.alloc())?;
-    let command = zeroed(rt.alloc(), Op::TestUnitReady)?;
-    assert!(rt; submit(&rt, &mut rig, 0, 1, 0, command).is_ok());
-    let unit = [
-        1, 0, 0, 1, 0, 0, 0, 0, 0, 0, 0, 0, 0, 0, 0, 0, 0, 0, 0, 0, 0, 0, 0, 0, 0, 0, 0, 0, 0, 0,
-        0, 0,
-    ];
-    assert_eq!(rt; read(&rt, &rig, 0x1000_0100, 32), unit.as_slice());
-    let command_trb = [0, 1, 0, 0x10, 0, 0, 0, 0, 0x20, 0, 0, 0, 0x21, 4, 0, 0];
-    assert_eq!(rt; rig.lines.image(Pipe::Command, 0, 0), Some(command_trb));
-    let status_trb = [0, 1, 0, 0x20, 0, 0, 0, 0, 0x70, 0, 0, 0, 0x25, 4, 0, 0];
-    assert_eq!(rt; rig.lines.image(Pipe::Status, 1, 0), Some(status_trb));
-    assert_eq!(rt; rig.lines.image(Pipe::DataIn, 1, 0), None);
-    assert_eq!(rt; rig.doors.as_slice(), [0x0001_0003, 2].as_slice());
-
-    advance(&rt, &mut rig, Pipe::Command, 0, 1);
-    advance(&rt, &mut rig, Pipe::Status, 1, 1);
-    write(&rt, &mut rig, 0x2000_0100, &good(1));
-    assert_eq!(rt; event(&mut rig, 0x4200_1000, 96, 13), Handled::Matched(1));
-    assert!(rt; rig.host.take_reply(&mut rig.frames, 0).is_none());
-    assert_eq!(rt; event(&mut rig, 0x4100_0000, 0, 1), Handled::Matched(1));
-    assert!(rt; is_good(rig.host.take_reply(&mut rig.frames, 0), 1, 0, 0));
-    Ok(())
+/// The host begins to retire the TD of a tag on a pipe, where it is left over.
+fn begin(rt: &impl Abort, rig: &mut Rig, pipe: Pipe, tag: u16) -> bool {
+    assert!(rt; 1 <= rig.lines.room_engine());
+    rig.doors.clear();
+    rig.host.retire(&mut rig.lines, &mut rig.doors, pipe, tag)
 }
 
-// A reply of GOOD without sense, under this tag and ticket, with a buffer of so many bytes.
-fn is_good(reply: Option<Reply>, its_tag: u16, its_ticket: u64, len: usize) -> bool {
-    match reply {
-        Some(
-            Reply::Status {
-                tag,
-                ticket,
-                status,
-                sense,
-                buffer,
-            },
-        ) => {
-            tag == its_tag
-                && ticket == its_ticket
-                && status == 0
-                && sense.is_empty()
-                && buffer.len() == len
-        }
-        _ => false,
+/// The controller moves a stream's dequeue pointer to the enqueue place, which ends the retirement.
+fn end(rt: &impl Abort, rig: &mut Rig, pipe: Pipe, tag: u16)
+    requires { HasRing pipe tag }
+{
+    let (pointer, cycle) = rig.lines.place(pipe, tag);
+    assert!(rt; rig.lines.move_dequeue(pipe, tag, pointer, cycle).is_ok());
+    complete(rt, rig);
+}
+
+/// What stands at a place of a ring.
+fn assert_image(rt: &impl Abort, found: Option<[u8; 16]>, wanted: &[u8]) {
+    match found {
+        Some(bytes) => assert!(rt; bytes.as_slice() == wanted, "other bytes"),
+        None => assert!(rt; wanted.is_empty(), "nothing there"),
     }
+}
+
+/// The doorbells of the last call.
+fn assert_doors(rt: &impl Abort, rig: &Rig, wanted: &[u32]) {
+    assert!(rt; rig.doors.as_slice() == wanted, "other doorbells");
+}
+
+/// The first bytes of a buffer.
+fn assert_bytes(rt: &impl Abort, rig: &Rig, address: u64, wanted: &[u8]) {
+    assert!(rt; rig.frames.check(address, wanted.len()).is_ok());
+    assert!(rt;
+        rig.frames.read(address, wanted.len()) == wanted,
+        "other bytes"
+    );
+}
+
+/// INQUIRY of 36 bytes by client 2 on tag 18: the unit, the data TRB, the doorbells.
+fn submit_inquiry(rt: &impl Abort, alloc: Global, rig: &mut Rig) -> Result<(), AllocError> {
+    submit(rt, alloc, rig, (2, 18, 0), Op::Inquiry { allocation: 36 })?;
+    let unit =
+        b"\x01\x00\x00\x12\x00\x00\x00\x00\x00\x02\x00\x00\x00\x00\x00\x00\x12\x00\x00\x00\x24\x00\x00";
+    assert_bytes(rt, rig, 0x1000_1200, unit);
+    let data_trb = b"\x00\x00\x12\x00\x01\x00\x00\x00\x24\x00\x00\x00\x21\x04\x00\x00";
+    assert_image(rt, rig.lines.image(Pipe::DataIn, 18, 0), data_trb);
+    assert_doors(rt, rig, &[0x0012_0005, 0x0012_0003, 2]);
+    Ok(())
 }
 
 #[test]
 fn inquiry_of_36_on_tag_18(rt: HostRuntime) -> Result<(), Fail> {
     let mut rig = Rig::new(rt.alloc())?;
-    let command = zeroed(rt.alloc(), Op::Inquiry { allocation: 36 })?;
-    assert!(rt; submit(&rt, &mut rig, 2, 18, 0, command).is_ok());
-    let unit = [
-        1, 0, 0, 0x12, 0, 0, 0, 0, 0, 2, 0, 0, 0, 0, 0, 0, 0x12, 0, 0, 0, 0x24, 0, 0, 0, 0, 0, 0,
-        0, 0, 0, 0, 0,
-    ];
-    assert_eq!(rt; read(&rt, &rig, 0x1000_1200, 32), unit.as_slice());
-    let data_trb = [0, 0, 0x12, 0, 1, 0, 0, 0, 0x24, 0, 0, 0, 0x21, 4, 0, 0];
-    assert_eq!(rt; rig.lines.image(Pipe::DataIn, 18, 0), Some(data_trb));
-    assert_eq!(rt;
-        rig.doors.as_slice(),
-        [0x0012_0005, 0x0012_0003, 2].as_slice()
-    );
+    submit_inquiry(&rt, rt.alloc(), &mut rig)?;
     Ok(())
 }
 
-// The status word and the control word of a TRB.
-fn words(image: Option<[u8; 16]>) -> Option<(u32, u32)> {
-    let bytes = image?;
-    let status = u32::from_le_bytes([bytes[8], bytes[9], bytes[10], bytes[11]]);
-    let control = u32::from_le_bytes([bytes[12], bytes[13], bytes[14], bytes[15]]);
-    Some((status, control))
+/// READ of 128 blocks on tag 1, twice: the second one wraps, with CH in the Link and the other cycle bit behind it.
+fn read_twice(rt: &impl Abort, alloc: Global, rig: &mut Rig) -> Result<(), AllocError> {
+    submit(rt, alloc, rig, (0, 1, 0), read_of(128))?;
+    let first = b"\x00\x00\x01\x00\x01\x00\x00\x00\x00\x10\x3e\x00\x11\x04\x00\x00";
+    assert_image(rt, rig.lines.image(Pipe::DataIn, 1, 0), first);
+    let last = b"\x00\xf0\x01\x00\x01\x00\x00\x00\x00\x10\x00\x00\x21\x04\x00\x00";
+    assert_image(rt, rig.lines.image(Pipe::DataIn, 1, 15), last);
+    advance(rt, rig, Pipe::Command, 0, 1);
+    advance(rt, rig, Pipe::DataIn, 1, 16);
+    advance(rt, rig, Pipe::Status, 1, 1);
+    write(
+        rt,
+        rig,
+        0x2000_0100,
+        b"\x03\x00\x00\x01\x00\x00\x00\x00\x00\x00\x00\x00\x00\x00\x00\x00",
+    );
+    assert_eq!(rt; transfer(rig, 0x4100_0000, 0, 1), 1);
+    assert_eq!(rt; transfer(rig, 0x4300_10f0, 0, 1), 1);
+    assert_eq!(rt; transfer(rig, 0x4200_1000, 96, 13), 1);
+    assert!(rt; rig.host.take_reply(&mut rig.frames, 0).is_some());
+    submit(rt, alloc, rig, (0, 1, 1), read_of(128))?;
+    let wrapped = b"\x00\xf0\x01\x00\x01\x00\x00\x00\x00\x10\x00\x00\x20\x04\x00\x00";
+    assert_image(rt, rig.lines.image(Pipe::DataIn, 1, 12), wrapped);
+    let link = b"\x00\x10\x00\x43\x00\x00\x00\x00\x00\x00\x00\x00\x13\x18\x00\x00";
+    assert_image(rt, rig.lines.image(Pipe::DataIn, 1, 19), link);
+    Ok(())
 }
-
-// The status words of the 16 TRBs of a READ of 128 blocks.
-const STATUS_WORDS: [u32; 16] = [
-    0x3e_1000, 0x3e_1000, 0x3e_1000, 0x3e_1000, 0x3e_1000, 0x3e_1000, 0x3e_1000, 0x3e_1000,
-    0x38_1000, 0x30_1000, 0x28_1000, 0x20_1000, 0x18_1000, 0x10_1000, 0x08_1000, 0x00_1000,
-];
 
 #[test]
 fn reads_of_128_blocks_on_tag_1(rt: HostRuntime) -> Result<(), Fail> {
     let mut rig = Rig::new(rt.alloc())?;
-    let op = Op::Read {
-        lba: 0,
-        count: 128,
-        fua: false,
-    };
-    let command = zeroed(rt.alloc(), op)?;
-    assert!(rt; submit(&rt, &mut rig, 0, 1, 0, command).is_ok());
-    let first = [0, 0, 1, 0, 1, 0, 0, 0, 0, 0x10, 0x3e, 0, 0x11, 4, 0, 0];
-    assert_eq!(rt; rig.lines.image(Pipe::DataIn, 1, 0), Some(first));
-    for place in 0..16 {
-        let control = if place == 15 { 0x421 } else { 0x411 };
-        let expected = Some((STATUS_WORDS[place], control));
-        assert_eq!(rt; words(rig.lines.image(Pipe::DataIn, 1, place)), expected);
-    }
-    assert_eq!(rt; rig.lines.image(Pipe::DataIn, 1, 16), None);
-
-    advance(&rt, &mut rig, Pipe::Command, 0, 1);
-    advance(&rt, &mut rig, Pipe::DataIn, 1, 16);
-    advance(&rt, &mut rig, Pipe::Status, 1, 1);
-    write(&rt, &mut rig, 0x2000_0100, &good(1));
-    assert_eq!(rt; event(&mut rig, 0x4100_0000, 0, 1), Handled::Matched(1));
-    assert_eq!(rt; event(&mut rig, 0x4300_10f0, 0, 1), Handled::Matched(1));
-    assert_eq!(rt; event(&mut rig, 0x4200_1000, 96, 13), Handled::Matched(1));
-    assert!(rt; is_good(rig.host.take_reply(&mut rig.frames, 0), 1, 0, 65536));
-
-    let command = zeroed(rt.alloc(), op)?;
-    assert!(rt; submit(&rt, &mut rig, 0, 1, 1, command).is_ok());
-    for trb in 0..16 {
-        let place = if trb < 3 { 16 + trb } else { trb - 3 };
-        let control = if trb < 3 {
-            0x411
-        } else if trb == 15 {
-            0x420
-        } else {
-            0x410
-        };
-        let expected = Some((STATUS_WORDS[trb], control));
-        assert_eq!(rt; words(rig.lines.image(Pipe::DataIn, 1, place)), expected);
-    }
-    let link = [0, 0x10, 0, 0x43, 0, 0, 0, 0, 0, 0, 0, 0, 0x13, 0x18, 0, 0];
-    assert_eq!(rt; rig.lines.image(Pipe::DataIn, 1, 19), Some(link));
-    assert_eq!(rt; rig.lines.image(Pipe::DataIn, 1, 13), None);
+    read_twice(&rt, rt.alloc(), &mut rig)?;
     Ok(())
 }
 
-// Pointer, residual and code of transfer events that fit no TD that waits.
-const STRAYS: [(u64, u32, u8); 27] = [
-    (0, 0, 1),
-    (u64::MAX, 0, 1),
-    // Inside a place; a TRB that isn't consumed; the Link's place; behind the ring.
-    (0x4100_0001, 0, 1),
-    (0x4100_0020, 0, 1),
-    (0x4100_0ff0, 0, 1),
-    (0x4100_1000, 0, 1),
-    // Streams 0 and 249, and a stream without a TD.
-    (0x4200_0000, 96, 13),
-    (0x420f_9000, 96, 13),
-    (0x4300_2000, 0, 1),
-    // The first TRB of a data TD of two, and the enqueue place behind them.
-    (0x4300_1000, 0, 1),
-    (0x4300_1020, 0, 1),
-    // Codes: Short Packet for data, TRB Error, Short Packet for a command, Success for a status.
-    (0x4300_1010, 0, 13),
-    (0x4401_2000, 0, 5),
-    (0x4100_0000, 0, 13),
-    (0x4200_1000, 96, 1),
-    // A Sense unit of 16 bytes, read as 112, 15, 17 or none.
-    (0x4200_1000, 0, 13),
-    (0x4200_1000, 97, 13),
-    (0x4200_1000, 95, 13),
-    (0x4200_1000, 112, 13),
-    (0x4200_1000, 113, 13),
-    (0x4200_1000, 0xff_ffff, 13),
-    // A status TD that isn't consumed, and a Sense unit of 34 bytes read as 16.
-    (0x4200_2000, 96, 13),
-    (0x4201_2000, 96, 13),
-    // The same stream on the other data pipe, the command ring, the event ring, a window.
-    (0x4301_2000, 0, 1),
-    (0x5000_0000, 0, 1),
-    (0x6000_0000, 0, 1),
-    (0x1_0001_0000, 0, 1),
-];
+/// Event TRBs with cycle 1, endpoint 9 and slot 7, each with the tag that it matches, or 0 where it is stray: address
+/// 0 and the last one; inside a place, a TRB that isn't consumed, the Link's place, behind the ring; streams 0 and 249,
+/// a stream without a TD; the first TRB of a data TD of two, the enqueue place behind them; Short Packet for data, TRB
+/// Error, Short Packet for a command, Success for a status; a Sense unit of 16 bytes read as 112, 15, 17 or none; a
+/// status TD that isn't consumed, a Sense unit of 34 bytes read as 16; the same stream on the other data pipe, the
+/// command ring, the event ring, a window; completions where no retirement is under way, in the command ring and in the
+/// command pipe. Then in this order: the second command before the first, the first, the data, the status, each twice;
+/// CHECK CONDITION, after which the data TD is left over.
+const EVENTS: &[u8] = b"\
+    \x00\x00\x00\x00\x00\x00\x00\x00\x00\x00\x00\x01\x01\x80\x09\x07\x00\
+    \xff\xff\xff\xff\xff\xff\xff\xff\x00\x00\x00\x01\x01\x80\x09\x07\x00\
+    \x01\x00\x00\x41\x00\x00\x00\x00\x00\x00\x00\x01\x01\x80\x09\x07\x00\
+    \x20\x00\x00\x41\x00\x00\x00\x00\x00\x00\x00\x01\x01\x80\x09\x07\x00\
+    \xf0\x0f\x00\x41\x00\x00\x00\x00\x00\x00\x00\x01\x01\x80\x09\x07\x00\
+    \x00\x10\x00\x41\x00\x00\x00\x00\x00\x00\x00\x01\x01\x80\x09\x07\x00\
+    \x00\x00\x00\x42\x00\x00\x00\x00\x60\x00\x00\x0d\x01\x80\x09\x07\x00\
+    \x00\x90\x0f\x42\x00\x00\x00\x00\x60\x00\x00\x0d\x01\x80\x09\x07\x00\
+    \x00\x20\x00\x43\x00\x00\x00\x00\x00\x00\x00\x01\x01\x80\x09\x07\x00\
+    \x00\x10\x00\x43\x00\x00\x00\x00\x00\x00\x00\x01\x01\x80\x09\x07\x00\
+    \x20\x10\x00\x43\x00\x00\x00\x00\x00\x00\x00\x01\x01\x80\x09\x07\x00\
+    \x10\x10\x00\x43\x00\x00\x00\x00\x00\x00\x00\x0d\x01\x80\x09\x07\x00\
+    \x00\x20\x01\x44\x00\x00\x00\x00\x00\x00\x00\x05\x01\x80\x09\x07\x00\
+    \x00\x00\x00\x41\x00\x00\x00\x00\x00\x00\x00\x0d\x01\x80\x09\x07\x00\
+    \x00\x10\x00\x42\x00\x00\x00\x00\x60\x00\x00\x01\x01\x80\x09\x07\x00\
+    \x00\x10\x00\x42\x00\x00\x00\x00\x00\x00\x00\x0d\x01\x80\x09\x07\x00\
+    \x00\x10\x00\x42\x00\x00\x00\x00\x61\x00\x00\x0d\x01\x80\x09\x07\x00\
+    \x00\x10\x00\x42\x00\x00\x00\x00\x5f\x00\x00\x0d\x01\x80\x09\x07\x00\
+    \x00\x10\x00\x42\x00\x00\x00\x00\x71\x00\x00\x0d\x01\x80\x09\x07\x00\
+    \x00\x20\x00\x42\x00\x00\x00\x00\x60\x00\x00\x0d\x01\x80\x09\x07\x00\
+    \x00\x20\x01\x42\x00\x00\x00\x00\x60\x00\x00\x0d\x01\x80\x09\x07\x00\
+    \x00\x20\x01\x43\x00\x00\x00\x00\x00\x00\x00\x01\x01\x80\x09\x07\x00\
+    \x00\x00\x00\x50\x00\x00\x00\x00\x00\x00\x00\x01\x01\x80\x09\x07\x00\
+    \x00\x00\x00\x60\x00\x00\x00\x00\x00\x00\x00\x01\x01\x80\x09\x07\x00\
+    \x00\x00\x01\x00\x01\x00\x00\x00\x00\x00\x00\x01\x01\x80\x09\x07\x00\
+    \x00\x00\x00\x50\x00\x00\x00\x00\x00\x00\x00\x01\x01\x84\x00\x07\x00\
+    \x00\x00\x00\x41\x00\x00\x00\x00\x00\x00\x00\x01\x01\x84\x00\x07\x00\
+    \x10\x00\x00\x41\x00\x00\x00\x00\x00\x00\x00\x01\x01\x80\x09\x07\x12\
+    \x10\x00\x00\x41\x00\x00\x00\x00\x00\x00\x00\x01\x01\x80\x09\x07\x00\
+    \x00\x00\x00\x41\x00\x00\x00\x00\x00\x00\x00\x01\x01\x80\x09\x07\x01\
+    \x00\x00\x00\x41\x00\x00\x00\x00\x00\x00\x00\x01\x01\x80\x09\x07\x00\
+    \x10\x10\x00\x43\x00\x00\x00\x00\x00\x00\x00\x01\x01\x80\x09\x07\x01\
+    \x10\x10\x00\x43\x00\x00\x00\x00\x00\x00\x00\x01\x01\x80\x09\x07\x00\
+    \x00\x10\x00\x42\x00\x00\x00\x00\x60\x00\x00\x0d\x01\x80\x09\x07\x01\
+    \x00\x10\x00\x42\x00\x00\x00\x00\x60\x00\x00\x0d\x01\x80\x09\x07\x00\
+    \x00\x20\x01\x42\x00\x00\x00\x00\x4e\x00\x00\x0d\x01\x80\x09\x07\x12\
+    \x00\x20\x01\x44\x00\x00\x00\x00\x00\x00\x00\x01\x01\x80\x09\x07\x00\
+";
 
-// Events in this order, and what the host makes of them.
-const MATCHES: [(u64, u32, u8, Handled); 10] = [
-    // The second command before the first: neither TRB is freed until the first was seen.
-    (0x4100_0010, 0, 1, Handled::Matched(18)),
-    (0x4100_0010, 0, 1, Handled::Stray),
-    (0x4100_0000, 0, 1, Handled::Matched(1)),
-    (0x4100_0000, 0, 1, Handled::Stray),
-    (0x4300_1010, 0, 1, Handled::Matched(1)),
-    (0x4300_1010, 0, 1, Handled::Stray),
-    (0x4200_1000, 96, 13, Handled::Matched(1)),
-    (0x4200_1000, 96, 13, Handled::Stray),
-    // CHECK CONDITION leaves the data TD over, so its event is stray.
-    (0x4201_2000, 78, 13, Handled::Matched(18)),
-    (0x4401_2000, 0, 1, Handled::Stray),
-];
+/// The event of an event TRB.
+fn event_of(rt: &impl Abort, bytes: &[u8]) -> Event {
+    let mut text = [0; 16];
+    assert!(rt; bytes.len() == 16);
+    text.copy_from_slice(bytes);
+    match decode(&text) {
+        Ok(
+            (
+                Trb::TransferEvent {
+                    pointer,
+                    residual,
+                    code,
+                    endpoint,
+                    slot,
+                },
+                _,
+            ),
+        ) => Event::Transfer {
+            pointer,
+            residual,
+            code,
+            endpoint,
+            slot,
+        },
+        Ok(
+            (
+                Trb::CommandEvent {
+                    pointer,
+                    code,
+                    slot,
+                },
+                _,
+            ),
+        ) => Event::Command {
+            pointer,
+            code,
+            slot,
+        },
+        _ => panic!(rt; "no event"),
+    }
+}
 
-// READ of nine blocks on tag 1, WRITE of one on tag 18, TEST UNIT READY on tag 2; the first two are done.
-fn three_commands(rt: &impl Abort, alloc: Global) -> Result<Rig, AllocError> {
-    let mut rig = Rig::new(alloc)?;
-    let read_nine = Op::Read {
-        lba: 0,
-        count: 9,
-        fua: false,
-    };
+/// READ of nine blocks on tag 1, WRITE of one on tag 18, TEST UNIT READY on tag 2; the first two are done.
+fn match_events(rt: &impl Abort, alloc: Global, rig: &mut Rig) -> Result<(), AllocError> {
     let write_one = Op::Write {
         lba: 0,
         count: 1,
         fua: false,
     };
-    assert!(rt; submit(rt, &mut rig, 0, 1, 0, zeroed(alloc, read_nine)?).is_ok());
-    assert!(rt; submit(rt, &mut rig, 2, 18, 0, zeroed(alloc, write_one)?).is_ok());
-    assert!(rt; submit(rt, &mut rig, 0, 2, 1, zeroed(alloc, Op::TestUnitReady)?).is_ok());
-    advance(rt, &mut rig, Pipe::Command, 0, 2);
-    advance(rt, &mut rig, Pipe::DataIn, 1, 2);
-    advance(rt, &mut rig, Pipe::DataOut, 18, 1);
-    advance(rt, &mut rig, Pipe::Status, 1, 1);
-    advance(rt, &mut rig, Pipe::Status, 18, 1);
-    write(rt, &mut rig, 0x2000_0100, &good(1));
-    let check = [
-        3, 0, 0, 0x12, 0, 0, 2, 0, 0, 0, 0, 0, 0, 0, 0, 0x12, 0x70, 0, 3, 0, 0, 0, 0, 0x0a, 0, 0,
-        0, 0, 0x0c, 0, 0, 0, 0, 0,
-    ];
-    write(rt, &mut rig, 0x2000_1200, &check);
-    Ok(rig)
+    submit(rt, alloc, rig, (0, 1, 0), read_of(9))?;
+    submit(rt, alloc, rig, (2, 18, 0), write_one)?;
+    submit(rt, alloc, rig, (0, 2, 1), Op::TestUnitReady)?;
+    advance(rt, rig, Pipe::Command, 0, 2);
+    advance(rt, rig, Pipe::DataIn, 1, 2);
+    advance(rt, rig, Pipe::DataOut, 18, 1);
+    advance(rt, rig, Pipe::Status, 1, 1);
+    advance(rt, rig, Pipe::Status, 18, 1);
+    write(
+        rt,
+        rig,
+        0x2000_0100,
+        b"\x03\x00\x00\x01\x00\x00\x00\x00\x00\x00\x00\x00\x00\x00\x00\x00",
+    );
+    write(
+        rt,
+        rig,
+        0x2000_1200,
+        b"\x03\x00\x00\x12\x00\x00\x02\x00\x00\x00\x00\x00\x00\x00\x00\x12\x70\x00\x03\x00\x00\x00\x00\x0a\x00\x00\x00\x00\x0c\x00\x00\x00\x00\x00",
+    );
+    for row in EVENTS.chunks_exact(17) {
+        assert!(rt; row.len() == 17);
+        let event = event_of(rt, &row[..16]);
+        assert_eq!(rt; answer_to(rig, event), u16::from(row[16]));
+    }
+    Ok(())
 }
 
 #[test]
 fn events_matched_and_stray(rt: HostRuntime) -> Result<(), Fail> {
-    let mut rig = three_commands(&rt, rt.alloc())?;
-    for (pointer, residual, code) in STRAYS {
-        assert_eq!(rt; event(&mut rig, pointer, residual, code), Handled::Stray);
-    }
-    let completion = Event::Command {
-        pointer: 0x4100_0000,
-        code: 1,
-        slot: 1,
-    };
-    let handled = rig
-        .host
-        .on_event(&mut rig.lines, &rig.frames, &mut rig.doors, completion);
-    assert_eq!(rt; handled, Handled::Stray);
-    for (pointer, residual, code, expected) in MATCHES {
-        assert_eq!(rt; event(&mut rig, pointer, residual, code), expected);
-    }
-    // A Sense unit of another tag, and a Response unit; then the right one.
-    advance(&rt, &mut rig, Pipe::Status, 2, 1);
-    write(&rt, &mut rig, 0x2000_0200, &good(3));
-    assert_eq!(rt; event(&mut rig, 0x4200_2000, 96, 13), Handled::Stray);
-    write(&rt, &mut rig, 0x2000_0200, &[4, 0, 0, 2, 0, 0, 0, 0]);
-    assert_eq!(rt; event(&mut rig, 0x4200_2000, 104, 13), Handled::Stray);
-    write(&rt, &mut rig, 0x2000_0200, &good(2));
-    assert_eq!(rt; event(&mut rig, 0x4200_2000, 96, 13), Handled::Matched(2));
-    advance(&rt, &mut rig, Pipe::Command, 0, 1);
-    assert_eq!(rt; event(&mut rig, 0x4100_0020, 0, 1), Handled::Matched(2));
+    let mut rig = Rig::new(rt.alloc())?;
+    match_events(&rt, rt.alloc(), &mut rig)?;
+    Ok(())
+}
 
-    assert!(rt; rig.host.take_reply(&mut rig.frames, 2).is_none());
-    assert!(rt; is_good(rig.host.take_reply(&mut rig.frames, 0), 1, 0, 4608));
-    assert!(rt; is_good(rig.host.take_reply(&mut rig.frames, 0), 2, 1, 0));
-    assert!(rt; rig.host.take_reply(&mut rig.frames, 0).is_none());
-    assert!(rt; rig.host.take_reply(&mut rig.frames, 31).is_none());
+/// An abort of tag 18 by tag 24: the unit, the TRBs, the doorbells. The data TD of its READ of 24 blocks is retired
+/// while client 3's READ of 128 blocks on tag 26 is under way: Stop Endpoint, a READ on tag 25 whose data doorbell is
+/// left out, Set TR Dequeue Pointer, and at its event the doorbells of the two streams with pending TRBs.
+fn retire_beside_a_read(rt: &impl Abort, alloc: Global, rig: &mut Rig) -> Result<(), AllocError> {
+    submit(rt, alloc, rig, (2, 18, 0), read_of(24))?;
+    submit(rt, alloc, rig, (3, 26, 0), read_of(128))?;
+    abort(rt, rig, 18);
+    assert_bytes(
+        rt,
+        rig,
+        0x1000_1800,
+        b"\x05\x00\x00\x18\x01\x00\x00\x12\x00\x02\x00\x00\x00\x00\x00\x00",
+    );
+    let task_trb = b"\x00\x18\x00\x10\x00\x00\x00\x00\x10\x00\x00\x00\x21\x04\x00\x00";
+    assert_image(rt, rig.lines.image(Pipe::Command, 0, 2), task_trb);
+    assert_doors(rt, rig, &[0x0018_0003, 2]);
+    advance(rt, rig, Pipe::DataIn, 26, 9);
+    advance(rt, rig, Pipe::Status, 24, 1);
+    assert!(rt; !begin(rt, rig, Pipe::DataIn, 18));
+    write(rt, rig, 0x2000_1800, b"\x04\x00\x00\x18\x00\x00\x00\x00");
+    assert_eq!(rt; transfer(rig, 0x4201_8000, 104, 13), 24);
+
+    assert!(rt; begin(rt, rig, Pipe::DataIn, 18));
+    assert_doors(rt, rig, &[0]);
+    let stop = b"\x00\x00\x00\x00\x00\x00\x00\x00\x00\x00\x00\x00\x01\x3c\x05\x01";
+    assert_image(rt, rig.lines.image_engine(0), stop);
+    complete(rt, rig);
+    assert_doors(rt, rig, &[0]);
+    let move_dequeue = b"\x33\x20\x01\x43\x00\x00\x00\x00\x00\x00\x12\x00\x01\x40\x05\x01";
+    assert_image(rt, rig.lines.image_engine(1), move_dequeue);
+    submit(rt, alloc, rig, (3, 25, 1), read_of(1))?;
+    assert_doors(rt, rig, &[0x0019_0003, 2]);
+    assert!(rt; !begin(rt, rig, Pipe::Status, 18));
+    end(rt, rig, Pipe::DataIn, 18);
+    assert_doors(rt, rig, &[0x0019_0005, 0x001a_0005]);
+    assert!(rt; begin(rt, rig, Pipe::Status, 18));
+    Ok(())
+}
+
+#[test]
+fn retired_beside_a_read(rt: HostRuntime) -> Result<(), Fail> {
+    let mut rig = Rig::new(rt.alloc())?;
+    retire_beside_a_read(&rt, rt.alloc(), &mut rig)?;
+    Ok(())
+}
+
+/// Every order of the command event (c), the status CHECK CONDITION (s) and the response COMPLETE of an abort (r) of a
+/// READ, and of the retirement of what is left over then (t), with the replies in their order: k is the abort's, s the
+/// READ's status, a that it was aborted. The status comes too late behind the response. What is left over at the end is
+/// retired then.
+const ORDERS: &[u8] = b"\
+    csrtkscstrskcrstkacrtskactsrksctrskascrtkssctrsk\
+    srctkssrtcksstcrskstrcksrcstkarctskarsctkarstcka\
+    rtcskartsckatcsrkstcrskatscrkstsrckstrcskatrscka\
+";
+
+/// Retires what is left over of tag 17.
+fn retire_all(rt: &impl Abort, rig: &mut Rig) {
+    for pipe in [Pipe::Status, Pipe::DataIn] {
+        if begin(rt, rig, pipe, 17) {
+            complete(rt, rig);
+            let (pointer, cycle) = match pipe {
+                Pipe::Status => rig.lines.place(Pipe::Status, 17),
+                _ => rig.lines.place(Pipe::DataIn, 17),
+            };
+            let moved = match pipe {
+                Pipe::Status => rig.lines.move_dequeue(Pipe::Status, 17, pointer, cycle),
+                _ => rig.lines.move_dequeue(Pipe::DataIn, 17, pointer, cycle),
+            };
+            assert!(rt; moved.is_ok());
+            complete(rt, rig);
+        }
+    }
+}
+
+/// What happens at a letter of an order; the status is stray once it is `late`.
+fn happen(rt: &impl Abort, rig: &mut Rig, letter: u8, late: bool) {
+    match letter {
+        b'c' => assert_eq!(rt; transfer(rig, 0x4100_0000, 0, 1), 17),
+        b's' => {
+            if rig.lines.front(Pipe::Status, 17).is_some() {
+                rig.lines.advance(Pipe::Status, 17);
+            }
+            assert_eq!(rt;
+                transfer(rig, 0x4201_1000, 96, 13),
+                if late { 0 } else { 17 }
+            );
+        }
+        b'r' => assert_eq!(rt; transfer(rig, 0x4201_8000, 104, 13), 24),
+        _ => retire_all(rt, rig),
+    }
+}
+
+/// The letter of a reply.
+fn letter_of(reply: Option<Reply>) -> u8 {
+    match reply {
+        Some(
+            Reply::Status {
+                tag: 17,
+                ticket: 0,
+                status: 2,
+                ..
+            },
+        ) => b's',
+        Some(
+            Reply::Aborted {
+                tag: 17,
+                ticket: 0,
+                ..
+            },
+        ) => b'a',
+        Some(
+            Reply::Task {
+                tag: 24,
+                ticket: 1,
+                code: 0,
+            },
+        ) => b'k',
+        Some(_) => b'?',
+        None => b'-',
+    }
+}
+
+/// One order: four letters, and the two replies.
+fn follow(rt: &impl Abort, alloc: Global, rig: &mut Rig, row: &[u8]) -> Result<(), AllocError> {
+    assert!(rt; row.len() == 6);
+    submit(rt, alloc, rig, (2, 17, 0), read_of(1))?;
+    abort(rt, rig, 17);
+    advance(rt, rig, Pipe::Command, 0, 2);
+    advance(rt, rig, Pipe::Status, 24, 1);
+    write(
+        rt,
+        rig,
+        0x2000_1100,
+        b"\x03\x00\x00\x11\x00\x00\x02\x00\x00\x00\x00\x00\x00\x00\x00\x00",
+    );
+    write(rt, rig, 0x2000_1800, b"\x04\x00\x00\x18\x00\x00\x00\x00");
+    assert_eq!(rt; transfer(rig, 0x4100_0010, 0, 1), 24);
+    let late = row[5] == b'a';
+    for letter in &row[..4] {
+        happen(rt, rig, *letter, late);
+    }
+    retire_all(rt, rig);
+    assert_eq!(rt; letter_of(rig.host.take_reply(&mut rig.frames, 2)), row[4]);
+    assert_eq!(rt; letter_of(rig.host.take_reply(&mut rig.frames, 2)), row[5]);
+    assert_eq!(rt; letter_of(rig.host.take_reply(&mut rig.frames, 2)), b'-');
+    Ok(())
+}
+
+#[test]
+fn every_order_of_an_aborted_read(rt: HostRuntime) -> Result<(), Fail> {
+    for row in ORDERS.chunks_exact(6) {
+        let mut rig = Rig::new(rt.alloc())?;
+        follow(&rt, rt.alloc(), &mut rig, row)?;
+    }
     Ok(())
 }

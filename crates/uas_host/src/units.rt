@@ -1,15 +1,17 @@
 // The units in a tag's buffers.
-ghost use Rattle.std.specs.Prelude.{◌≡◌, ◌≤◌, ◌<◌, length, None, Some};
+ghost use Rattle.std.specs.Prelude.{◌≡◌, ◌≤◌, ◌<◌, ◌++◌, drop, length, None, Some};
 ghost use Rattle.scsi_cmd.specs.declared.Command.{Command};
 ghost use Rattle.frame_store.specs.Buffers.{held_for, with_held};
 ghost use Rattle.uas_host.specs.Events.{answer_by, answer_in};
 ghost use Rattle.uas_host.specs.Submit.{command_text, lent};
+ghost use Rattle.uas_host.specs.Tasks.{aborted_tag, function_of, task_tag, task_text, with_task_unit};
 
 use crate::News;
+use crate::tags::task_tag_of;
 use arrayvec::ArrayVec;
 use frame_store::Frames;
-use scsi_cmd::{Buffer, Command, Op, cdb};
-use uas_iu::{Iu, MAX_UNIT_BYTES, lun_bytes, read, write};
+use scsi_cmd::{Buffer, Command, Op, Task, cdb};
+use uas_iu::{ABORT_TASK, Iu, LOGICAL_UNIT_RESET, MAX_UNIT_BYTES, lun_bytes, read, write};
 
 /// The Command unit of an operation for the logical unit of a client.
 fn command_unit(client: u8, tag: u16, op: &Op) -> ArrayVec<u8, MAX_UNIT_BYTES>
@@ -49,7 +51,62 @@ pub(crate) fn lend_command(frames: &mut Frames, client: u8, tag: u16, op: &Op, b
     frames.lend(tag, buffer.into_vec()).unwrap();
 }
 
-/// The answer that a unit tells, if it is a Sense unit of this tag.
+/// The function of a task management.
+fn function(task: Task) -> u8
+    ensures { result ≡ function_of task }
+{
+    match task {
+        Task::Abort { .. } => ABORT_TASK,
+        Task::Reset => LOGICAL_UNIT_RESET,
+    }
+}
+
+/// The tag of the task that a task management names; 0 where it names none.
+fn named_tag(task: Task) -> u16
+    ensures { result ≡ aborted_tag task }
+{
+    match task {
+        Task::Abort { tag } => tag,
+        Task::Reset => 0,
+    }
+}
+
+/// The Task Management unit of a client for its logical unit.
+fn task_unit(client: u8, task: Task) -> ArrayVec<u8, MAX_UNIT_BYTES>
+    requires { client < 31 }
+    ensures text { result.items ≡ task_text client task }
+    ensures bytes { length result.items ≡ 16 }
+{
+    let mut unit = ArrayVec::new();
+    let lun = lun_bytes(client);
+    let task = Iu::Task {
+        tag: task_tag_of(usize::from(client)),
+        function: function(task),
+        task_tag: named_tag(task),
+        lun,
+    };
+    write(&task, &mut unit);
+    unit
+}
+
+/// Writes bytes over the first ones of a buffer.
+fn write_front(buffer: &mut [u8], bytes: &[u8])
+    requires { length bytes.now ≤ length buffer.old }
+    ensures { buffer.new ≡ bytes.now ++ drop (length bytes.now) buffer.old }
+{
+    buffer[..bytes.len()].copy_from_slice(bytes);
+}
+
+/// Writes the Task Management unit of a client over the first bytes of its task tag's command buffer.
+pub(crate) fn write_task(frames: &mut Frames, client: u8, task: Task)
+    requires { client < 31 }
+    ensures { frames.new ≡ with_task_unit frames.old client task }
+{
+    let unit = task_unit(client, task);
+    write_front(frames.iu(task_tag_of(usize::from(client))), &unit);
+}
+
+/// The answer that a unit tells, if it is a Sense or a Response unit of this tag.
 fn answer_by_unit(tag: u16, unit: Iu) -> Option<News>
     ensures { result ≡ answer_by tag unit }
 {
@@ -65,11 +122,21 @@ fn answer_by_unit(tag: u16, unit: Iu) -> Option<News>
                 None
             }
         }
+        Iu::Response {
+            tag: told_tag,
+            code,
+        } => {
+            if told_tag == tag {
+                Some(News::Responded { code })
+            } else {
+                None
+            }
+        }
         _ => None,
     }
 }
 
-/// The answer that the bytes of a Sense unit of a tag tell, if they are one.
+/// The answer that the bytes of a Sense or a Response unit of a tag tell, if they are one.
 pub(crate) fn read_answer(tag: u16, bytes: &[u8]) -> Option<News>
     ensures { result ≡ answer_in tag bytes.now }
 {

@@ -43,6 +43,7 @@ const TASK_ZEROS: [usize; 2] = [1, 5];
 /// The unit whose text `bytes` is, and else the first fault in the order of [`IuFault`] (INCITS 471,
 /// information units). No bytes at all are `Short`, as they have no identifier.
 #[tactic(auto, using(crate::proofs::Laws::every_text_found), unfolding(crate::specs::Faults::first_fault))]
+#[inline(always)]
 pub fn read(bytes: &[u8]) -> Result<Iu, IuFault>
     ensures fault { result_err result ≡ first_fault bytes.now }
     ensures found { IfOk result (λ unit. IsTextOf bytes.now unit) }
@@ -62,6 +63,7 @@ pub fn read(bytes: &[u8]) -> Result<Iu, IuFault>
 }
 
 #[tactic(auto, unfolding(crate::specs::Faults::first_fault, crate::specs::Units::unit_text))]
+#[inline(always)]
 fn read_command(bytes: &[u8]) -> Result<Iu, IuFault>
     requires { identifier bytes.now ≡ 1 }
     ensures fault { result_err result ≡ first_fault bytes.now }
@@ -87,6 +89,7 @@ fn read_command(bytes: &[u8]) -> Result<Iu, IuFault>
 }
 
 #[tactic(auto, unfolding(crate::specs::Faults::first_fault, crate::specs::Units::unit_text))]
+#[inline(always)]
 fn read_sense(bytes: &[u8]) -> Result<Iu, IuFault>
     requires { identifier bytes.now ≡ 3 }
     ensures fault { result_err result ≡ first_fault bytes.now }
@@ -160,6 +163,7 @@ fn read_task(bytes: &[u8]) -> Result<Iu, IuFault>
 }
 
 /// Whether a byte at one of `places` is not 0.
+#[inline(always)]
 fn is_any_set(bytes: &[u8], places: &[usize]) -> bool
     ensures { result ≡ list_any (λ place. not (slice_index bytes.now place == 0)) places.now }
 {

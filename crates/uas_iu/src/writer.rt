@@ -9,6 +9,7 @@ use arrayvec::ArrayVec;
 /// Writes the bytes of `unit` into `out`, which is asked to be empty and has room for every unit
 /// (INCITS 471, information units).
 #[tactic(auto, unfolding(crate::specs::Units::unit_text))]
+#[inline(always)]
 pub fn write(unit: &Iu, out: &mut ArrayVec<u8, MAX_UNIT_BYTES>)
     requires { array_vec_len out.old ≡ 0 }
     ensures text { out.new.items ≡ unit_text unit.now }
@@ -51,6 +52,7 @@ pub fn write(unit: &Iu, out: &mut ArrayVec<u8, MAX_UNIT_BYTES>)
 }
 
 /// Appends `bytes`, for which there is room.
+#[inline(always)]
 fn put(out: &mut ArrayVec<u8, MAX_UNIT_BYTES>, bytes: &[u8])
     requires { array_vec_len out.old + length bytes.now ≤ MAX_UNIT_BYTES }
     ensures { out.new.items ≡ out.old.items ++ bytes.now }

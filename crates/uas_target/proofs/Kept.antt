@@ -1,15 +1,20 @@
--- A call leaves the tasks of other tags alone.
-use Rattle.std.proofs.Common.{◌≡◌, ℕ, zero, suc, Bool, true, false, not, ◌&&◌, cond, List, length, Option, None, Result, Ok, Err, refl, ap}
-use Rattle.std.specs.Prelude.{◌==◌, nat_le, is_some}
-use Rattle.std.proofs.lemmas.List.{get_or-set_other}
+-- What a call leaves alone: the tasks of other tags, the commands to other units, and the number of tags. Cited by the laws.
+use Rattle.std.proofs.Common.{◌≡◌, ℕ, zero, suc, Bool, true, false, not, ◌&&◌, ◌||◌, cond, List, length, map, Option, Some, None, IfSome, Result, Ok, Err, refl, ap, sym, ◌∙◌}
+use Rattle.std.specs.Prelude.{◌==◌, nat_le, is_some, slice_index}
+use Rattle.std.proofs.lemmas.Bool.{eqb-false, or_parts}
+use Rattle.std.proofs.lemmas.List.{get_or-set_other, length-map}
+use Rattle.block_unit.specs.BlockMaps.{BlockMaps}
 use Rattle.scsi_cmd.specs.Held.{held_under, with_held_under}
 use Rattle.uas_iu.specs.Faults.{first_fault, identifier}
 use Rattle.uas_target.specs.declared.Overlap.{Overlap}
 use Rattle.uas_target.specs.declared.Took.{Took}
 use Rattle.uas_target.specs.declared.Took.TheVariants.{Began}
-use Rattle.uas_target.specs.Device.{Device, Receive, Give, Take, Send, dropped, executed, on_its_tag, received_unit, received_unreadable, task_of, with_response, with_units_and_task}
-use Rattle.uas_target.specs.Fields.{is_tag, tag_in, lun_in, cdb_in}
-use Rattle.uas_target.specs.Laws.{OtherTagsAreKept}
+use Rattle.uas_target.specs.Device.{Device, Receive, Give, Take, Send, aborted_on, dropped, executed, managed, on_its_tag, received, received_unit, received_unreadable, reset_on, task_of, with_code, with_response, with_units_and_task}
+use Rattle.uas_target.specs.Fields.{addressed, is_tag, tag_in, lun_in, cdb_in, function_in, task_tag_in}
+use Rattle.uas_target.specs.Laws.{OtherTagsAreKept, OtherUnitsAreKept, TagsAreKept}
+use Rattle.uas_target.specs.Tasks.{is_command_of, spared}
+use Rattle.uas_target.proofs.Managed.{held_under-map, held_under-spared, spared-same}
+use Rattle.uas_target.proofs.Sound.{length-with_held}
 
 -- what one tag has now is nothing to another
 pub held_under-other : {T : Type 0} (places : List (Option T)) (tag other : ℕ) (now : Option T) → (other ≡ tag → ⊥) →
@@ -18,41 +23,130 @@ held_under-other places zero other now apart = refl
 held_under-other places (suc slot) zero now apart = refl
 held_under-other places (suc slot) (suc other) now apart = get_or-set_other places slot other now None (λ same. apart (ap suc same))
 
--- so it is after a call whose device is one of two
-either_kept : (device : Device) (tag : ℕ) (test : Bool) (first second : Device × Result Took Overlap) → task_of first.0 tag ≡ task_of device tag →
-    task_of second.0 tag ≡ task_of device tag →
-    task_of (cond test first second).0 tag ≡ task_of device tag
-either_kept device tag true first second one two = one
-either_kept device tag false first second one two = two
+-- RECEIVING
 
-on_its_tag_kept : (device after : Device) (tag other : ℕ) → task_of after other ≡ task_of device other →
-    task_of (on_its_tag device tag after).0 other ≡ task_of device other
-on_its_tag_kept device after tag other kept =
-    either_kept device other (not (is_tag tag)) (dropped device) (cond (is_some (task_of device tag)) (device, Err (record {})) (after, Ok (Began tag))) refl
-    (either_kept device other (is_some (task_of device tag)) (device, Err (record {})) (after, Ok (Began tag)) refl kept)
+-- so it is of a device that is one of two
+either : (P : Device → Type 0) (test : Bool) (first second : Device × Result Took Overlap) → (test ≡ true → P first.0) → P second.0 → P (cond test first second).0
+either P true first second one two = one refl
+either P false first second one two = two
 
-received_unit_kept : (device : Device) (bytes : List ℕ) (tag other : ℕ) → (other ≡ tag → ⊥) →
-    task_of (received_unit device bytes tag).0 other ≡ task_of device other
-received_unit_kept device bytes tag other apart =
-    let run = with_units_and_task device tag (executed device.units (lun_in bytes) (cdb_in bytes)) in
-    let told = with_response device tag 4 in
-    either_kept device other (identifier bytes == 1) (on_its_tag device tag run) (cond (identifier bytes == 5) (on_its_tag device tag told) (dropped device))
-    (on_its_tag_kept device run tag other (held_under-other device.tasks tag other _ apart))
-    (either_kept device other (identifier bytes == 5) (on_its_tag device tag told) (dropped device)
-    (on_its_tag_kept device told tag other (held_under-other device.tasks tag other _ apart)) refl)
+on_its_tag_so : (P : Device → Type 0) (device after : Device) (tag : ℕ) → P device → P after → P (on_its_tag device tag after).0
+on_its_tag_so P device after tag same so =
+    either P (not (is_tag tag)) (dropped device) (cond (is_some (task_of device tag)) (device, Err (record {})) (after, Ok (Began tag))) (λ is. same)
+    (either P (is_some (task_of device tag)) (device, Err (record {})) (after, Ok (Began tag)) (λ is. same) so)
 
-received_unreadable_kept : (device : Device) (bytes : List ℕ) (tag other : ℕ) → (other ≡ tag → ⊥) →
-    task_of (received_unreadable device bytes tag).0 other ≡ task_of device other
-received_unreadable_kept device bytes tag other apart =
-    either_kept device other (nat_le 4 (length bytes) && is_tag tag && not (is_some (task_of device tag))) (with_response device tag 2, Ok (Began tag)) (dropped device)
-    (held_under-other device.tasks tag other _ apart) refl
+-- received bytes leave the device, execute a command, do a task management function or answer 02h
+pub received_so : (P : Device → Type 0) (device : Device) (bytes : List ℕ) → P device
+    → P (with_units_and_task device (tag_in bytes) (executed device.units (lun_in bytes) (cdb_in bytes)))
+    → ((identifier bytes == 5) ≡ true → P (with_code (tag_in bytes) (managed device (function_in bytes) (task_tag_in bytes) (lun_in bytes))))
+    → P (with_response device (tag_in bytes) 2)
+    → P (received device bytes).0
+received_so P device bytes same run told unreadable =
+    let tag = tag_in bytes in
+    let commanded = with_units_and_task device tag (executed device.units (lun_in bytes) (cdb_in bytes)) in
+    let after = with_code tag (managed device (function_in bytes) (task_tag_in bytes) (lun_in bytes)) in
+    either P (is_some (first_fault bytes)) (received_unreadable device bytes tag) (received_unit device bytes tag)
+    (λ fault.
+    either P (nat_le 4 (length bytes) && is_tag tag && not (is_some (task_of device tag))) (with_response device tag 2, Ok (Began tag)) (dropped device) (λ is. unreadable) same)
+    (either P (identifier bytes == 1) (on_its_tag device tag commanded) (cond (identifier bytes == 5) (on_its_tag device tag after) (dropped device))
+    (λ is. on_its_tag_so P device commanded tag same run)
+    (either P (identifier bytes == 5) (on_its_tag device tag after) (dropped device) (λ is. on_its_tag_so P device after tag same (told is)) same))
+
+-- TASK MANAGEMENT
+
+managed_so : (P : Device → Type 0) (device : Device) (abort reset : Device × ℕ) (is_abort is_reset : Bool) → P device → (is_abort ≡ true → P abort.0) →
+    (is_reset ≡ true → P reset.0) → P (cond is_abort abort (cond is_reset reset (device, 4))).0
+managed_so P device abort reset true is_reset same one two = one refl
+managed_so P device abort reset false true same one two = two refl
+managed_so P device abort reset false false same one two = same
+
+aborted_so : (P : Device → Type 0) (device : Device) (number tag : ℕ) (unit : Option BlockMaps) → P device →
+    P (record device { tasks = with_held_under device.tasks tag (spared number (held_under device.tasks tag)) }) → P (aborted_on device number tag unit).0
+aborted_so P device number tag None same so = same
+aborted_so P device number tag (Some unit) same so = so
+
+-- a reset leaves alone what is so of the tasks once the commands to its unit are gone, whatever the units are
+reset_so : (P : Device → Type 0) (device : Device) (number : ℕ) (unit : Option BlockMaps) → P device →
+    ((units : List BlockMaps) → P (record { units = units; tasks = map (spared number) device.tasks })) → P (reset_on device number unit).0
+reset_so P device number None same so = same
+reset_so P device number (Some unit) same so = so _
+
+-- a test that is false isn't true
+not_both : (b : Bool) → b ≡ false → b ≡ true → ⊥
+not_both true fails holds = let it : ◌≡◌ {A = Bool} true false = fails in cc
+not_both false fails holds = let it : ◌≡◌ {A = Bool} false true = holds in cc
+
+-- the tag that an abort names is another
+not_named : (abort reset same : Bool) → (reset || (abort && same)) ≡ false → abort ≡ true → same ≡ false
+not_named true reset same is holds = (or_parts reset same is).1
+not_named false reset same is holds = let it : ◌≡◌ {A = Bool} false true = holds in cc
+
+managed_reaches : (device : Device) (function named other : ℕ) (lun : List ℕ) → (function == 8 || (function == 1 && named == other)) ≡ false →
+    task_of (managed device function named lun).0 other ≡ task_of device other
+managed_reaches device function named other lun apart =
+    let P : Device → Type 0 = λ after. task_of after other ≡ task_of device other in
+    let number = slice_index lun 1 in
+    managed_so P device (aborted_on device number named (addressed device.units lun)) (reset_on device number (addressed device.units lun)) (function == 1) (function == 8) refl
+    (λ abort.
+    aborted_so P device number named (addressed device.units lun) refl
+    (held_under-other device.tasks named other _ (λ same. eqb-false named other (not_named (function == 1) (function == 8) (named == other) apart abort) (sym same))))
+    (λ reset. absurd (not_both (function == 8) (or_parts (function == 8) (function == 1 && named == other) apart).0 reset))
+
+managed_units : (device : Device) (function named other : ℕ) (lun : List ℕ) → IfSome (task_of device other) (λ task. is_command_of (slice_index lun 1) task ≡ false) →
+    task_of (managed device function named lun).0 other ≡ task_of device other
+managed_units device function named other lun spares =
+    let P : Device → Type 0 = λ after. task_of after other ≡ task_of device other in
+    let number = slice_index lun 1 in
+    managed_so P device (aborted_on device number named (addressed device.units lun)) (reset_on device number (addressed device.units lun)) (function == 1) (function == 8) refl
+    (λ abort. aborted_so P device number named (addressed device.units lun) refl (held_under-spared device.tasks number named other spares))
+    (λ reset.
+    reset_so P device number (addressed device.units lun) refl
+    (λ units. held_under-map (spared number) device.tasks other refl ∙ spared-same number (task_of device other) spares))
+
+managed_tags : (device : Device) (function named : ℕ) (lun : List ℕ) → length (managed device function named lun).0.tasks ≡ length device.tasks
+managed_tags device function named lun =
+    let P : Device → Type 0 = λ after. length after.tasks ≡ length device.tasks in
+    let number = slice_index lun 1 in
+    managed_so P device (aborted_on device number named (addressed device.units lun)) (reset_on device number (addressed device.units lun)) (function == 1) (function == 8) refl
+    (λ abort. aborted_so P device number named (addressed device.units lun) refl (length-with_held device.tasks named _))
+    (λ reset. reset_so P device number (addressed device.units lun) refl (λ units. length-map device.tasks (spared number)))
+
+-- THE LAWS
+
+-- a unit that names this tag for an abort, or any for a reset, is a Task Management unit
+not_management : (task_unit reached : Bool) → (task_unit && reached) ≡ false → task_unit ≡ true → reached ≡ false
+not_management true reached is holds = is
+not_management false reached is holds = let it : ◌≡◌ {A = Bool} false true = holds in cc
 
 pub others_kept : OtherTagsAreKept
-others_kept device (Receive bytes) other apart =
-    either_kept device other (is_some (first_fault bytes)) (received_unreadable device bytes (tag_in bytes)) (received_unit device bytes (tag_in bytes))
-    (received_unreadable_kept device bytes (tag_in bytes) other apart) (received_unit_kept device bytes (tag_in bytes) other apart)
-others_kept device (Give tag) other apart = held_under-other device.tasks tag other _ apart
-others_kept device (Take tag bytes) other apart = held_under-other device.tasks tag other _ apart
-others_kept device (Send tag) other apart = held_under-other device.tasks tag other _ apart
+others_kept device (Receive bytes) other apart unreached =
+    received_so (λ after. task_of after other ≡ task_of device other) device bytes refl (held_under-other device.tasks (tag_in bytes) other _ apart)
+    (λ task_unit.
+    held_under-other (managed device (function_in bytes) (task_tag_in bytes) (lun_in bytes)).0.tasks (tag_in bytes) other _ apart
+    ∙ managed_reaches device (function_in bytes) (task_tag_in bytes) other (lun_in bytes)
+    (not_management (identifier bytes == 5) (function_in bytes == 8 || (function_in bytes == 1 && task_tag_in bytes == other)) unreached task_unit))
+    (held_under-other device.tasks (tag_in bytes) other _ apart)
+others_kept device (Give tag) other apart unreached = held_under-other device.tasks tag other _ apart
+others_kept device (Take tag bytes) other apart unreached = held_under-other device.tasks tag other _ apart
+others_kept device (Send tag) other apart unreached = held_under-other device.tasks tag other _ apart
 
-pub ruleset kept = (others_kept)
+pub units_kept : OtherUnitsAreKept
+units_kept device bytes other apart spares =
+    received_so (λ after. task_of after other ≡ task_of device other) device bytes refl (held_under-other device.tasks (tag_in bytes) other _ apart)
+    (λ task_unit.
+    held_under-other (managed device (function_in bytes) (task_tag_in bytes) (lun_in bytes)).0.tasks (tag_in bytes) other _ apart
+    ∙ managed_units device (function_in bytes) (task_tag_in bytes) other (lun_in bytes) spares)
+    (held_under-other device.tasks (tag_in bytes) other _ apart)
+
+pub tags_kept : TagsAreKept
+tags_kept device (Receive bytes) =
+    received_so (λ after. length after.tasks ≡ length device.tasks) device bytes refl (length-with_held device.tasks (tag_in bytes) _)
+    (λ task_unit.
+    length-with_held (managed device (function_in bytes) (task_tag_in bytes) (lun_in bytes)).0.tasks (tag_in bytes) _
+    ∙ managed_tags device (function_in bytes) (task_tag_in bytes) (lun_in bytes))
+    (length-with_held device.tasks (tag_in bytes) _)
+tags_kept device (Give tag) = length-with_held device.tasks tag _
+tags_kept device (Take tag bytes) = length-with_held device.tasks tag _
+tags_kept device (Send tag) = length-with_held device.tasks tag _
+
+pub ruleset kept = (others_kept, units_kept, tags_kept)

@@ -7,9 +7,9 @@ use Rattle.uas_iu.proofs.Laws.{first_fault-unit_text}
 use Rattle.scsi_cmd.specs.Laws.{asked-cdb_bytes, cdb_reports_attention-cdb_bytes}
 use Rattle.scsi_cmd.specs.Work.{work_asked}
 use Rattle.device_server.specs.Server.{begun}
-use Rattle.uas_target.specs.Device.{Device, called, executed, on_its_tag, received_unit, with_response, with_units_and_task}
-use Rattle.uas_target.specs.Fields.{tag_in, lun_in, cdb_in}
-use Rattle.uas_target.specs.Laws.{CommandsAreExecuted, TasksAreAnswered, SensesAreDropped, ResponsesAreDropped, BeginsAsAsked, CallsAreFolded}
+use Rattle.uas_target.specs.Device.{Device, called, executed, managed, on_its_tag, received_unit, with_code, with_units_and_task}
+use Rattle.uas_target.specs.Fields.{tag_in, lun_in, cdb_in, task_tag_in}
+use Rattle.uas_target.specs.Laws.{CommandsAreExecuted, TasksAreManaged, SensesAreDropped, ResponsesAreDropped, BeginsAsAsked, CallsAreFolded}
 
 -- a number below 2^16 is that of its two bytes
 two_bytes : (n : ℕ) → n < 2 ^ 16 → n / 256 % 256 * 256 + n % 256 ≡ n
@@ -45,13 +45,27 @@ received-command device tag lun cdb fits =
     ∙ ap (λ l. on_its_tag device tag (with_units_and_task device tag (executed device.units l (cdb_in (unit_text (Command tag lun cdb)))))) (lun_in-command tag lun cdb fits)
     ∙ ap (λ b. on_its_tag device tag (with_units_and_task device tag (executed device.units lun b))) (cdb_in-command tag lun cdb fits))
 
-task_unit : (device : Device) (tag function task_tag : ℕ) (lun : List ℕ) → Fits (Task tag function task_tag lun) →
-    received_unit device (unit_text (Task tag function task_tag lun)) (tag_in (unit_text (Task tag function task_tag lun))) ≡ on_its_tag device tag (with_response device tag 4)
+task_tag_in-task : (tag function task_tag : ℕ) (lun : List ℕ) → Fits (Task tag function task_tag lun) → task_tag_in (unit_text (Task tag function task_tag lun)) ≡ task_tag
 unfolding unit_text
-task_unit device tag function task_tag lun fits = ap (λ n. on_its_tag device n (with_response device n 4)) (tag_in-task tag function task_tag lun fits)
+task_tag_in-task tag function task_tag lun fits = two_bytes task_tag fits.1
 
-pub received-task : TasksAreAnswered
-received-task device tag function task_tag lun fits = rw (first_fault-unit_text (Task tag function task_tag lun) fits) (task_unit device tag function task_tag lun fits)
+lun_in-task : (tag function task_tag : ℕ) (lun : List ℕ) → Fits (Task tag function task_tag lun) → lun_in (unit_text (Task tag function task_tag lun)) ≡ lun
+unfolding unit_text
+lun_in-task tag function task_tag lun fits = take_all 8 lun (omega (arith, fits.2))
+
+task_unit : (device : Device) (tag function task_tag : ℕ) (lun : List ℕ) → Fits (Task tag function task_tag lun) →
+    received_unit device (unit_text (Task tag function task_tag lun)) (tag_in (unit_text (Task tag function task_tag lun)))
+    ≡ on_its_tag device tag (with_code tag (managed device function (task_tag_in (unit_text (Task tag function task_tag lun))) (lun_in (unit_text (Task tag function task_tag lun)))))
+unfolding unit_text
+task_unit device tag function task_tag lun fits =
+    ap (λ n. on_its_tag device n (with_code n (managed device function (task_tag_in (unit_text (Task tag function task_tag lun))) (lun_in (unit_text (Task tag function task_tag lun)))))) (tag_in-task tag function task_tag lun fits)
+
+pub received-task : TasksAreManaged
+received-task device tag function task_tag lun fits =
+    rw (first_fault-unit_text (Task tag function task_tag lun) fits)
+    (task_unit device tag function task_tag lun fits
+    ∙ ap (λ n. on_its_tag device tag (with_code tag (managed device function n (lun_in (unit_text (Task tag function task_tag lun)))))) (task_tag_in-task tag function task_tag lun fits)
+    ∙ ap (λ l. on_its_tag device tag (with_code tag (managed device function task_tag l))) (lun_in-task tag function task_tag lun fits))
 
 pub received-sense : SensesAreDropped
 unfolding unit_text

@@ -1,7 +1,7 @@
 -- The device: the units and the tasks by tag, and what each call makes of them.
-use Rattle.std.specs.Prelude.{ℕ, nat_le, ◌==◌, Bool, false, not, ◌&&◌, if◌then◌else◌, List, [], ◌∷◌, length, slice_set, slice_index, replicate, Option, None, Some, is_some, option_and_then, Result, Ok, Err}
+use Rattle.std.specs.Prelude.{ℕ, nat_le, ◌==◌, Bool, true, false, not, ◌&&◌, if◌then◌else◌, List, [], ◌∷◌, length, map, slice_set, slice_index, replicate, Option, None, Some, is_some, option_and_then, Result, Ok, Err}
 use Rattle.std.specs.Option.{option_map_or}
-use Rattle.block_unit.specs.BlockMaps.{BlockMaps}
+use Rattle.block_unit.specs.BlockMaps.{BlockMaps, with_attention}
 use Rattle.scsi_cmd.specs.Meaning.{asked}
 use Rattle.scsi_cmd.specs.Work.{asked_without_unit, work_asked_without_unit}
 use Rattle.device_server.specs.Server.{progress_asked}
@@ -17,8 +17,8 @@ use Rattle.uas_target.specs.declared.Phase.TheVariants.{Absent}
 use Rattle.uas_target.specs.declared.TheConstants.{GREATEST_TAG}
 use Rattle.uas_target.specs.declared.Took.{Took}
 use Rattle.uas_target.specs.declared.Took.TheVariants.{Began, Dropped}
-use Rattle.uas_target.specs.Fields.{is_tag, tag_in, lun_in, cdb_in, addressed}
-use Rattle.uas_target.specs.Tasks.{task_in, begun_by, task_wants, task_given, task_fits, task_taken, task_left, task_answer}
+use Rattle.uas_target.specs.Fields.{is_tag, tag_in, lun_in, cdb_in, function_in, task_tag_in, addressed}
+use Rattle.uas_target.specs.Tasks.{task_in, begun_by, spared, task_wants, task_given, task_fits, task_taken, task_left, task_answer}
 
 -- the units by number, and the task of each tag, tag 1 first
 pub record Device : Type 0 where
@@ -63,6 +63,46 @@ executed_on units number cdb (Some unit) =
 abbrev pub executed : List BlockMaps → List ℕ → List ℕ → List BlockMaps × Option DeviceTask
 executed units lun cdb = executed_on units (slice_index lun 1) cdb (addressed units lun)
 
+-- TASK MANAGEMENT
+
+-- the task of a tag is gone where it is a command's to the unit of this number; a tag that no task may have has none
+abbrev pub without_command : Device → ℕ → ℕ → Device
+without_command device number tag = with_task device tag (spared number (task_of device tag))
+
+-- so is that of every tag
+abbrev pub without_commands_of : Device → ℕ → Device
+without_commands_of device number = record device { tasks = map (spared number) device.tasks }
+
+-- the unit of this number is this one now
+abbrev pub with_unit : Device → ℕ → BlockMaps → Device
+with_unit device number unit = record device { units = slice_set device.units number unit }
+
+-- ABORT TASK: 00h, COMPLETE, whether the tag had such a command or not; 09h, INCORRECT LUN, where there is no unit
+abbrev pub aborted_on : Device → ℕ → ℕ → Option BlockMaps → Device × ℕ
+aborted_on device number tag None = (device, 9)
+aborted_on device number tag (Some unit) = (without_command device number tag, 0)
+
+-- LOGICAL UNIT RESET: the unit's commands are gone and it has an attention
+abbrev pub reset_on : Device → ℕ → Option BlockMaps → Device × ℕ
+reset_on device number None = (device, 9)
+reset_on device number (Some unit) = (with_unit (without_commands_of device number) number (with_attention unit true), 0)
+
+-- the device once a task management function was done on a LUN, and the response code: 01h is ABORT TASK, of this tag, 08h
+-- LOGICAL UNIT RESET, and any other is 04h, NOT SUPPORTED, whatever its LUN. Checked by hand, with two units, of which unit 1
+-- moves data on tag 9: 01h of tag 9 and 00 01 takes its task and is 00h, of 00 00 it leaves it and is 00h, of 00 02 it leaves
+-- it and is 09h; 08h of 00 01 takes it too and sets the attention of unit 1; 02h of 00 02 is 04h
+abbrev pub managed : Device → ℕ → ℕ → List ℕ → Device × ℕ
+managed device function tag lun =
+    if function == 1 then aborted_on device (slice_index lun 1) tag (addressed device.units lun)
+    else (if function == 8 then reset_on device (slice_index lun 1) (addressed device.units lun)
+    else (device, 4))
+
+-- the device once that is answered on a tag
+abbrev pub with_code : ℕ → Device × ℕ → Device
+with_code tag after = with_response after.0 tag after.1
+
+-- WHAT COMES OF A UNIT
+
 -- nothing comes of a unit
 abbrev pub dropped : Device → Device × Result Took Overlap
 dropped device = (device, Ok Dropped)
@@ -80,12 +120,12 @@ received_unreadable device bytes tag =
     if nat_le 4 (length bytes) && is_tag tag && not (is_some (task_of device tag))
     then (with_response device tag 2, Ok (Began tag)) else dropped device
 
--- a readable unit, by its identifier: Command is executed, Task Management is answered with 04h, NOT SUPPORTED, and what a
--- device sends is dropped
+-- a readable unit, by its identifier: Command is executed, a Task Management function is done and answered with its code, and
+-- what a device sends is dropped. 05 00 00 18 01 00 00 12 00 02 and six zeros is the abort of tag 18 of unit 2 by tag 24
 abbrev pub received_unit : Device → List ℕ → ℕ → Device × Result Took Overlap
 received_unit device bytes tag =
     if identifier bytes == 1 then on_its_tag device tag (with_units_and_task device tag (executed device.units (lun_in bytes) (cdb_in bytes)))
-    else (if identifier bytes == 5 then on_its_tag device tag (with_response device tag 4)
+    else (if identifier bytes == 5 then on_its_tag device tag (with_code tag (managed device (function_in bytes) (task_tag_in bytes) (lun_in bytes)))
     else dropped device)
 
 -- what comes of received bytes, and the answer of the call

@@ -11,13 +11,21 @@ is_tag tag = nat_lt 0 tag && nat_le tag GREATEST_TAG
 abbrev pub tag_in : List ℕ → ℕ
 tag_in bytes = slice_index bytes 2 * 256 + slice_index bytes 3
 
--- the LUN of a Command unit, bytes 8 to 15
+-- the LUN of a Command or Task Management unit, bytes 8 to 15
 abbrev pub lun_in : List ℕ → List ℕ
 lun_in bytes = take 8 (drop 8 bytes)
 
 -- the CDB of a Command unit, bytes 16 to 31
 abbrev pub cdb_in : List ℕ → List ℕ
 cdb_in bytes = take 16 (drop 16 bytes)
+
+-- the function of a Task Management unit, byte 4
+abbrev pub function_in : List ℕ → ℕ
+function_in bytes = slice_index bytes 4
+
+-- the tag of the task that a Task Management unit names, bytes 6 and 7, big endian
+abbrev pub task_tag_in : List ℕ → ℕ
+task_tag_in bytes = slice_index bytes 6 * 256 + slice_index bytes 7
 
 -- the LUN has the form 00 n and six zeros
 abbrev pub is_plain_lun : List ℕ → Bool

@@ -1,6 +1,8 @@
 -- Laws of the device: statements that a contract can name, and what its users know of a chunk without opening the definitions.
-use Rattle.std.proofs.Common.{◌≡◌, ℕ, ◌*◌, ◌<◌, List, [], ◌∷◌, ◌++◌, refl, arith, sym, ◌∙◌}
+use Rattle.std.proofs.Common.{◌≡◌, ℕ, ◌*◌, ◌<◌, ◌==◌, Bool, false, ◌&&◌, ◌||◌, List, [], ◌∷◌, ◌++◌, length, refl, arith, sym, ◌∙◌}
+use Rattle.std.specs.Prelude.{slice_index, IfSome}
 use Rattle.uas_iu.specs.declared.Iu.TheVariants.{Command, Sense, Response, Task}
+use Rattle.uas_iu.specs.Faults.{identifier}
 use Rattle.uas_iu.specs.Units.{Fits, unit_text}
 use Rattle.arrayvec.specs.ArrayVec.{ArrayVec}
 use Rattle.block_unit.specs.BlockMaps.{BlockMaps}
@@ -14,9 +16,9 @@ use Rattle.scsi_cmd.specs.Work.{checked_work, reports_attention, work_direction,
 use Rattle.device_server.specs.Server.{begun, chunk_bytes}
 use Rattle.uas_target.specs.declared.Phase.{Phase}
 use Rattle.uas_target.specs.declared.Phase.TheVariants.{Absent, Gives, Takes}
-use Rattle.uas_target.specs.Tasks.{begun_by, chunk_wanted, wanted_way}
-use Rattle.uas_target.specs.Device.{Device, Call, Receive, Give, Take, Send, called, device_after, dropped, executed, on_its_tag, received, task_of, with_response, with_units_and_task}
-use Rattle.uas_target.specs.Fields.{tag_in}
+use Rattle.uas_target.specs.Tasks.{begun_by, chunk_wanted, is_command_of, wanted_way}
+use Rattle.uas_target.specs.Device.{Device, Call, Receive, Give, Take, Send, called, device_after, dropped, executed, managed, on_its_tag, received, task_of, with_code, with_units_and_task}
+use Rattle.uas_target.specs.Fields.{function_in, lun_in, tag_in, task_tag_in}
 
 -- WHAT COMES OF THE TEXT OF A UNIT
 
@@ -26,11 +28,11 @@ CommandsAreExecuted =
     (device : Device) (tag : ℕ) (lun cdb : List ℕ) → Fits (Command tag lun cdb)
     → received device (unit_text (Command tag lun cdb)) ≡ on_its_tag device tag (with_units_and_task device tag (executed device.units lun cdb))
 
--- Task Management is not supported
-abbrev pub TasksAreAnswered : Type 0
-TasksAreAnswered =
+-- Task Management is done on the unit that its LUN addresses, and answered
+abbrev pub TasksAreManaged : Type 0
+TasksAreManaged =
     (device : Device) (tag function task_tag : ℕ) (lun : List ℕ) → Fits (Task tag function task_tag lun)
-    → received device (unit_text (Task tag function task_tag lun)) ≡ on_its_tag device tag (with_response device tag 4)
+    → received device (unit_text (Task tag function task_tag lun)) ≡ on_its_tag device tag (with_code tag (managed device function task_tag lun))
 
 -- nothing comes of what a device sends
 abbrev pub SensesAreDropped : Type 0
@@ -58,11 +60,30 @@ tag_of (Give tag) = tag
 tag_of (Take tag bytes) = tag
 tag_of (Send tag) = tag
 
--- a call leaves the tasks of all other tags alone
+-- whether a call may end the task of this tag beside its own: an abort that of the tag it names, a reset that of any, and no
+-- other call one
+abbrev pub reaches : Call → ℕ → Bool
+reaches (Receive bytes) other = identifier bytes == 5 && (function_in bytes == 8 || (function_in bytes == 1 && task_tag_in bytes == other))
+reaches (Give tag) other = false
+reaches (Take tag bytes) other = false
+reaches (Send tag) other = false
+
+-- a call leaves the tasks of all other tags alone that it doesn't reach
 abbrev pub OtherTagsAreKept : Type 0
 OtherTagsAreKept =
-    (device : Device) (call : Call) (other : ℕ) → (other ≡ tag_of call → ⊥)
+    (device : Device) (call : Call) (other : ℕ) → (other ≡ tag_of call → ⊥) → reaches call other ≡ false
     → task_of (called device call) other ≡ task_of device other
+
+-- whatever bytes come, a task of another tag stays that is no command's to the unit whose number stands in their LUN
+abbrev pub OtherUnitsAreKept : Type 0
+OtherUnitsAreKept =
+    (device : Device) (bytes : List ℕ) (other : ℕ) → (other ≡ tag_in bytes → ⊥)
+    → IfSome (task_of device other) (λ task. is_command_of (slice_index (lun_in bytes) 1) task ≡ false)
+    → task_of (received device bytes).0 other ≡ task_of device other
+
+-- no call changes how many tags there are
+abbrev pub TagsAreKept : Type 0
+TagsAreKept = (device : Device) (call : Call) → length (called device call).tasks ≡ length device.tasks
 
 -- after one call more the device is what that call makes of it
 abbrev pub CallsAreFolded : Type 0

@@ -1,5 +1,5 @@
 -- One task of the device, from its unit's receipt to its answer. The steps of a command are the device server's.
-use Rattle.std.specs.Prelude.{ℕ, Bool, false, List, slice_get, slice_set, Option, None, Some, option_map, option_and_then, Result, Ok, Err}
+use Rattle.std.specs.Prelude.{ℕ, ◌==◌, Bool, false, if◌then◌else◌, List, slice_get, slice_set, Option, None, Some, option_map, option_and_then, Result, Ok, Err}
 use Rattle.std.specs.Option.{option_map_or}
 use Rattle.std.specs.Result.{result_ok}
 use Rattle.block_unit.specs.BlockMaps.{BlockMaps}
@@ -99,6 +99,22 @@ task_taken units bytes (Ended unit answer) = units
 abbrev pub task_left : List BlockMaps → DeviceTask → Option DeviceTask
 task_left units (Moving unit op chunk) = task_in unit (Ok op) (progress_left (unit_of units unit) chunk op)
 task_left units (Ended unit answer) = Some (Ended unit answer)
+
+-- WHERE IT IS ENDED BY TASK MANAGEMENT
+
+-- the unit of a task is the one of this number
+abbrev pub is_at : ℕ → Option ℕ → Bool
+is_at number unit = option_map_or (λ found. found == number) unit false
+
+-- whether a task is a command's to the unit of this number; what is answered by a response code is no command's
+abbrev pub is_command_of : ℕ → DeviceTask → Bool
+is_command_of number (Moving unit op chunk) = is_at number unit
+is_command_of number (Ended unit (Status answer)) = is_at number unit
+is_command_of number (Ended unit (Response code)) = false
+
+-- what a tag has once the commands to the unit of this number are gone
+abbrev pub spared : ℕ → Option DeviceTask → Option DeviceTask
+spared number task = if option_map_or (is_command_of number) task false then None else task
 
 -- THE ANSWER
 

@@ -1,11 +1,11 @@
 //! Laws of the device's definitions.
-ghost use Rattle.uas_target.specs.Laws.{BeginsAsAsked, CallsAreFolded, CommandsAreExecuted, OtherTagsAreKept, ResponsesAreDropped, SensesAreDropped, TasksAreAnswered};
+ghost use Rattle.uas_target.specs.Laws.{BeginsAsAsked, CallsAreFolded, CommandsAreExecuted, OtherTagsAreKept, OtherUnitsAreKept, ResponsesAreDropped, SensesAreDropped, TagsAreKept, TasksAreManaged};
 
 /// Law: what comes of the text of each kind of unit.
 #[tactic(auto, using(crate::proofs::Received::of_texts))]
 pub fn received_texts()
     ensures commands { CommandsAreExecuted }
-    ensures tasks { TasksAreAnswered }
+    ensures tasks { TasksAreManaged }
     ensures senses { SensesAreDropped }
     ensures responses { ResponsesAreDropped }
 {}
@@ -22,8 +22,17 @@ pub fn calls_are_folded()
     ensures { CallsAreFolded }
 {}
 
-/// Law: a call leaves the tasks of all tags but its own alone.
+/// Law: a call leaves the tasks of all tags but its own alone, where it is no Task Management unit; an abort can end that of
+/// the tag that it names too, and a reset those of all commands to its unit. Nothing that is received ends a command to
+/// another unit, nor a task that has ended with a response code.
 #[tactic(auto, using(crate::proofs::Kept::kept))]
 pub fn other_tags_are_kept()
-    ensures { OtherTagsAreKept }
+    ensures tags { OtherTagsAreKept }
+    ensures units { OtherUnitsAreKept }
+{}
+
+/// Law: no call changes how many tags the device has.
+#[tactic(auto, using(crate::proofs::Kept::kept))]
+pub fn tags_are_kept()
+    ensures { TagsAreKept }
 {}

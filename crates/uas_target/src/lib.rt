@@ -5,7 +5,7 @@
 //!     no task ------------> moving data ------------------------> ended ----------> no task
 //!        |                                                          ^
 //!        +----------------------------------------------------------+
-//!          receive: no data, a fault, an attention, bytes that are no unit
+//!          receive: no data, a fault, an attention, task management, bytes that are no unit
 //! ```
 //!
 //! A received Command unit is executed whole on the unit that its LUN addresses, up to the data: a unit attention comes
@@ -15,12 +15,19 @@
 //! and every other command ends with LOGICAL UNIT NOT SUPPORTED. Bytes that are no unit are answered where a free tag can
 //! be read from them.
 //!
+//! A received Task Management unit is done at once and ends with a response code on its own tag (SAM): ABORT TASK takes away
+//! the command of the tag that it names, where that was sent to the addressed unit, LOGICAL UNIT RESET all commands to the
+//! unit, whose attention it sets; their answers are never sent. What they take away goes from moving data or from ended to no
+//! task. Any other function isn't supported.
+//!
 //! What is promised: a [`Target`] is the record `Device` of `specs/Device.antt`, block maps by unit number and tasks by
 //! tag, and each call makes of it exactly what the definition of that name says, and answers so. So after any list of
 //! calls it is `device_after` of that list. What a host asks for begins as the operation that its CDB names
-//! (`begins_as_asked`), each chunk goes as in `device_server`, and a call leaves the tasks of all tags but its own alone (`other_tags_are_kept`).
+//! (`begins_as_asked`), each chunk goes as in `device_server`, and a call leaves the tasks of all tags but its own alone, but
+//! for task management, which leaves the commands to other units alone (`other_tags_are_kept`).
 //!
-//! [`Target::new`] takes all memory that the device ever has; no later call takes any. Finding a tag's task is one index.
+//! [`Target::new`] takes all memory that the device ever has; no later call takes any. Finding a tag's task is one index; a
+//! reset alone goes over all tags.
 //!
 //! It stands on `uas_iu` for the units, `scsi_cmd` for what a CDB asks, `block_unit` for the blocks, and `device_server`
 //! for the steps of one command.
@@ -29,6 +36,8 @@
 mod calls;
 mod chunks;
 mod laws;
+mod management;
+mod marks;
 mod receiver;
 mod table;
 #[cfg(test)]
@@ -36,7 +45,9 @@ mod tests;
 
 use block_unit::Unit;
 use device_server::Answer;
-pub use laws::{begins_as_asked, calls_are_folded, other_tags_are_kept, received_texts};
+pub use laws::{
+    begins_as_asked, calls_are_folded, other_tags_are_kept, received_texts, tags_are_kept,
+};
 use scsi_cmd::Op;
 use std::marker::Model;
 use table::TaskTable;

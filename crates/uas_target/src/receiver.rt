@@ -4,7 +4,7 @@ ghost use Rattle.std.specs.Result.{ForOk};
 ghost use Rattle.scsi_cmd.specs.Meaning.{asked, op_fault};
 ghost use Rattle.scsi_cmd.specs.Work.{IsWorkOn, asked_without_unit, work_asked, work_asked_without_unit};
 ghost use Rattle.device_server.specs.Server.{progress_asked};
-ghost use Rattle.uas_target.specs.Device.{Device, executed, on_its_tag, received, received_unreadable, task_of, with_response, with_units_and_task};
+ghost use Rattle.uas_target.specs.Device.{Device, executed, managed, on_its_tag, received, received_unreadable, task_of, with_code, with_response, with_units_and_task};
 ghost use Rattle.uas_target.specs.Fields.{addressed, is_tag, tag_in};
 ghost use Rattle.uas_target.specs.Soundness.{IsSoundTask, counts_of};
 ghost use Rattle.uas_target.specs.Tasks.{begun_by, task_in};
@@ -17,7 +17,7 @@ use device_server::{begin, progress_asked};
 use scsi_cmd::{
     Op, Sense, Work, cdb_reports_attention, parse, parse_without_unit, work_of, work_without_unit,
 };
-use uas_iu::{CDB_BYTES, INVALID_INFORMATION_UNIT, Iu, LUN_BYTES, NOT_SUPPORTED, lun_number, read};
+use uas_iu::{CDB_BYTES, INVALID_INFORMATION_UNIT, Iu, LUN_BYTES, lun_number, read};
 
 /// The number of the unit that a LUN addresses, where it is there (SAM, single level LUN structure).
 pub(crate) fn unit_number(units: &[Unit], lun: &[u8; LUN_BYTES]) -> Option<usize>
@@ -95,16 +95,26 @@ fn missing_task(cdb: &[u8; CDB_BYTES]) -> Option<DeviceTask>
 
 impl Target {
     /// Receives the bytes of a unit (INCITS 471): `Began` where a task began on its tag, which may have ended at once,
-    /// and `Dropped` where nothing came of them. A readable Command unit is executed as far as its data, and Task
-    /// Management is answered as not supported. Bytes that are no unit are answered as such, where at least four came and
-    /// the tag in bytes 2 and 3 is free and may have a task. What a device sends, and a unit whose tag no task may have,
-    /// is dropped. `Overlap`, and nothing changes, where the tag of a readable Command or Task Management unit has a task.
+    /// and `Dropped` where nothing came of them. A readable Command unit is executed as far as its data. A readable Task
+    /// Management unit is done and answered by a Response (SAM): ABORT TASK ends the task that it names, where that is a
+    /// command's to the addressed unit, LOGICAL UNIT RESET ends all of them and sets the unit's attention, and both are 00h,
+    /// or 09h where no unit is addressed; any other function is 04h. Bytes that are no unit are answered by 02h, where at
+    /// least four came and the tag in bytes 2 and 3 is free and may have a task. What a device sends, and a unit whose tag no
+    /// task may have, is dropped. `Overlap`, and nothing changes, where the tag of a readable Command or Task Management unit
+    /// has a task.
     pub fn receive(&mut self, bytes: &[u8]) -> Result<Took, Overlap>
         ensures { (self.new, result) ≡ received self.old bytes.now }
     {
         match read(bytes) {
             Ok(Iu::Command { tag, lun, cdb }) => self.receive_command(tag, &lun, &cdb),
-            Ok(Iu::Task { tag, .. }) => self.receive_task(tag),
+            Ok(
+                Iu::Task {
+                    tag,
+                    function,
+                    task_tag,
+                    lun,
+                },
+            ) => self.receive_task(tag, function, task_tag, &lun),
             Ok(Iu::Sense { .. }) => Ok(Took::Dropped),
             Ok(Iu::Response { .. }) => Ok(Took::Dropped),
             Err(_) => Ok(self.receive_unreadable(bytes)),
@@ -142,13 +152,20 @@ impl Target {
         Ok(Took::Began(tag))
     }
 
-    fn receive_task(&mut self, tag: u16) -> Result<Took, Overlap>
-        ensures { (self.new, result) ≡ on_its_tag self.old tag (with_response self.old tag 4) }
+    fn receive_task(
+        &mut self,
+        tag: u16,
+        function: u8,
+        task_tag: u16,
+        lun: &[u8; LUN_BYTES],
+    ) -> Result<Took, Overlap>
+        ensures { (self.new, result) ≡ on_its_tag self.old tag (with_code tag (managed self.old function task_tag lun.now)) }
     {
         if let Some(refused) = self.refusal(tag) {
             return refused;
         }
-        self.respond(tag, NOT_SUPPORTED);
+        let code = self.manage(function, task_tag, lun);
+        self.respond(tag, code);
         Ok(Took::Began(tag))
     }
 

@@ -1,9 +1,11 @@
 //! The tasks by tag.
-ghost use Rattle.std.specs.Prelude.{◌≡◌, true, None, IfOk, length, replicate};
+ghost use Rattle.std.specs.Prelude.{◌≡◌, ℕ, ◌<◌, ◌≤◌, true, None, IfOk, IfSome, IfNone, IsSome, length, replicate};
 ghost use Rattle.scsi_cmd.specs.Held.{held_under, with_held_under};
+ghost use Rattle.uas_target.specs.Device.{task_of};
 ghost use Rattle.uas_target.specs.Fields.{is_tag};
 
-use crate::{DeviceTask, GREATEST_TAG};
+use crate::marks::Marks;
+use crate::{DeviceTask, GREATEST_TAG, Target};
 use std::alloc::{AllocError, Global};
 use std::marker::Model;
 
@@ -11,18 +13,21 @@ use std::marker::Model;
 #[derive(Debug, Drop)]
 pub(crate) struct TaskTable {
     places: Vec<Option<DeviceTask>>,
+    /// The places that hold a task.
+    marks: Marks,
 }
 
 impl Model for TaskTable {
-    ghost use Rattle.std.specs.Prelude.{◌≡◌, List, Option, length};
+    ghost use Rattle.std.specs.Prelude.{◌≡◌, ℕ, List, Option, length};
     ghost use Rattle.uas_target.specs.declared.DeviceTask.{DeviceTask};
     ghost use Rattle.uas_target.specs.declared.TheConstants.{GREATEST_TAG};
+    ghost use Rattle.uas_target.specs.Marks.{MarksHeld};
 
     ghost Value = { List (Option DeviceTask) };
 
     ghost view = { λ table. table.places.items };
 
-    ghost invariant = { λ table. length table.places.items ≡ GREATEST_TAG };
+    ghost invariant = { λ table. (length table.places.items ≡ GREATEST_TAG) × MarksHeld table.marks.words table.places.items };
 }
 
 /// Whether a task may have this tag.
@@ -40,12 +45,14 @@ impl TaskTable {
     {
         Ok(TaskTable {
             places: Vec::from_array(alloc, [None; GREATEST_TAG as usize])?,
+            marks: Marks::new(),
         })
     }
 
     /// The task of a tag.
     pub(crate) fn get(&self, tag: u16) -> Option<DeviceTask>
-        ensures { result ≡ held_under self.now tag }
+        ensures task { result ≡ held_under self.now tag }
+        ensures tag { IfSome result (λ _. is_tag tag ≡ true) }
     {
         if tag == 0 {
             return None;
@@ -56,12 +63,35 @@ impl TaskTable {
         }
     }
 
+    /// The least tag above this one that has a task.
+    fn next(&self, tag: u16) -> Option<u16>
+        ensures next { IfSome result (λ next. (tag < next) × (next ≤ GREATEST_TAG) × IsSome (held_under self.now next)
+            × ((other : ℕ) → tag < other → other < next → held_under self.now other ≡ None)) }
+        ensures none { IfNone result ((other : ℕ) → tag < other → held_under self.now other ≡ None) }
+    {
+        let place = self.marks.next_from(usize::from(tag))?;
+        Some(place as u16 + 1)
+    }
+
     /// Gives a tag a task, or takes it away.
     pub(crate) fn set(&mut self, tag: u16, task: Option<DeviceTask>)
         requires { is_tag tag ≡ true }
         ensures task { self.new ≡ with_held_under self.old tag task }
         ensures places { length self.new ≡ length self.old }
     {
-        self.places[usize::from(tag) - 1] = task;
+        let place = usize::from(tag) - 1;
+        self.marks.set(place, task.is_some());
+        self.places[place] = task;
+    }
+}
+
+impl Target {
+    /// The least tag above this one that has a task.
+    pub fn next_task(&self, tag: u16) -> Option<u16>
+        ensures next { IfSome result (λ next. (tag < next) × (next ≤ GREATEST_TAG) × IsSome (task_of self.now next)
+            × ((other : ℕ) → tag < other → other < next → task_of self.now other ≡ None)) }
+        ensures none { IfNone result ((other : ℕ) → tag < other → task_of self.now other ≡ None) }
+    {
+        self.tasks.next(tag)
     }
 }

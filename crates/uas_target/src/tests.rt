@@ -1,111 +1,298 @@
 //! Received units and their answers, byte for byte, data on the blocks of its moment, and want of memory.
+//!
+//! Bytes are written as their number and the first ones, after which all are 0, or as `4096*01` where all are alike.
 use crate::{Overlap, Phase, Target, Took};
 use arrayvec::ArrayVec;
 use block_unit::Unit;
 use std::alloc::{AllocError, Global};
 use std::process::Abort;
 use std::test::Fail;
-use uas_iu::{MAX_UNIT_BYTES, write};
+use uas_iu::{Iu, MAX_UNIT_BYTES, lun_bytes, write};
 
-/// Received bytes, the data that is given, and the answer: each list of bytes by how many there are and by the first ones,
-/// after which all are 0. Tag 5 has a task of its own.
-const ROWS: &str = "\
-32: 01 00 00 01 => 16: 03 00 00 01
-32: 01 00 00 f8 => 16: 03 00 00 f8
-32: 01 00 00 00 => dropped
-32: 01 00 00 f9 => dropped
-32: 01 00 01 00 => dropped
-32: 01 00 01 05 => dropped
-32: 01 00 00 05 => overlap
-16: 05 00 00 05 01 00 00 05 => overlap
-31: 01 00 00 12 => 8: 04 00 00 12 00 00 00 02
-0: => dropped
-3: 01 00 00 => dropped
-4: 01 00 00 12 => 8: 04 00 00 12 00 00 00 02
-32: 02 00 00 07 => 8: 04 00 00 07 00 00 00 02
-33: 01 00 00 01 => 8: 04 00 00 01 00 00 00 02
-32: 01 01 00 01 => 8: 04 00 00 01 00 00 00 02
-32: 01 00 00 01 00 00 04 => 8: 04 00 00 01 00 00 00 02
-17: 03 00 00 09 => 8: 04 00 00 09 00 00 00 02
-31: 01 00 00 00 => dropped
-31: 01 00 00 f9 => dropped
-31: 01 00 00 05 => dropped
-16: 03 00 00 01 => dropped
-8: 04 00 00 01 => dropped
-16: 05 00 00 18 01 00 00 12 00 01 => 8: 04 00 00 18 00 00 00 04
-16: 05 00 00 18 08 00 00 00 00 02 => 8: 04 00 00 18 00 00 00 04
-16: 05 00 00 18 ff => 8: 04 00 00 18 00 00 00 04
-16: 05 00 00 f9 01 => dropped
-32: 01 00 00 01 00 00 00 00 00 00 00 00 00 00 00 00 12 00 00 00 24 => 36: 00 00 06 02 1f 00 00 02 53 49 4d 44 49 53 4b 20 55 41 53 20 53 49 4d 20 44 49 53 4b 20 20 20 20 30 30 30 31 => 16: 03 00 00 01
-32: 01 00 00 01 00 00 00 00 00 00 00 00 00 00 00 00 12 00 00 00 05 => 5: 00 00 06 02 1f => 16: 03 00 00 01
-32: 01 00 00 01 00 00 00 00 00 00 00 00 00 00 00 00 12 => 16: 03 00 00 01
-32: 01 00 00 01 00 00 00 00 00 00 00 00 00 00 00 00 12 01 00 00 24 => 34: 03 00 00 01 00 00 02 00 00 00 00 00 00 00 00 12 70 00 05 00 00 00 00 0a 00 00 00 00 24
-32: 01 00 00 01 00 00 00 00 00 00 00 00 00 00 00 00 25 => 8: 00 00 00 63 00 00 02 00 => 16: 03 00 00 01
-32: 01 00 00 01 00 00 00 00 00 00 00 00 00 00 00 00 a8 => 34: 03 00 00 01 00 00 02 00 00 00 00 00 00 00 00 12 70 00 05 00 00 00 00 0a 00 00 00 00 20
-32: 01 00 00 01 00 00 00 00 00 00 00 00 00 00 00 00 28 20 00 00 00 00 00 00 01 => 34: 03 00 00 01 00 00 02 00 00 00 00 00 00 00 00 12 70 00 05 00 00 00 00 0a 00 00 00 00 24
-32: 01 00 00 01 00 00 00 00 00 00 00 00 00 00 00 00 28 00 00 00 00 64 => 34: 03 00 00 01 00 00 02 00 00 00 00 00 00 00 00 12 70 00 05 00 00 00 00 0a 00 00 00 00 21
-32: 01 00 00 01 00 00 00 00 00 00 00 00 00 00 00 00 28 00 00 00 00 63 => 16: 03 00 00 01
-32: 01 00 00 12 00 00 00 00 00 00 00 00 00 00 00 00 28 00 00 00 00 63 00 00 02 => 34: 03 00 00 12 00 00 02 00 00 00 00 00 00 00 00 12 70 00 05 00 00 00 00 0a 00 00 00 00 21
-32: 01 00 00 01 00 00 00 00 00 01 => 34: 03 00 00 01 00 00 02 00 00 00 00 00 00 00 00 12 70 00 06 00 00 00 00 0a 00 00 00 00 29 03
-32: 01 00 00 01 00 00 00 00 00 01 00 00 00 00 00 00 a8 => 34: 03 00 00 01 00 00 02 00 00 00 00 00 00 00 00 12 70 00 06 00 00 00 00 0a 00 00 00 00 29 03
-32: 01 00 00 01 00 00 00 00 00 01 00 00 00 00 00 00 25 => 34: 03 00 00 01 00 00 02 00 00 00 00 00 00 00 00 12 70 00 06 00 00 00 00 0a 00 00 00 00 29 03
-32: 01 00 00 01 00 00 00 00 00 01 00 00 00 00 00 00 28 00 00 00 00 00 00 00 01 => 34: 03 00 00 01 00 00 02 00 00 00 00 00 00 00 00 12 70 00 06 00 00 00 00 0a 00 00 00 00 29 03
-32: 01 00 00 01 00 00 00 00 00 01 00 00 00 00 00 00 2a 00 00 00 00 00 00 00 01 => 34: 03 00 00 01 00 00 02 00 00 00 00 00 00 00 00 12 70 00 06 00 00 00 00 0a 00 00 00 00 29 03
-32: 01 00 00 01 00 00 00 00 00 01 00 00 00 00 00 00 35 => 34: 03 00 00 01 00 00 02 00 00 00 00 00 00 00 00 12 70 00 06 00 00 00 00 0a 00 00 00 00 29 03
-32: 01 00 00 01 00 00 00 00 00 01 00 00 00 00 00 00 12 00 00 00 05 => 5: 00 00 06 02 1f => 16: 03 00 00 01
-32: 01 00 00 01 00 00 00 00 00 02 00 00 00 00 00 00 12 00 00 00 24 => 36: 7f 00 06 02 1f 00 00 02 53 49 4d 44 49 53 4b 20 55 41 53 20 53 49 4d 20 44 49 53 4b 20 20 20 20 30 30 30 31 => 16: 03 00 00 01
-32: 01 00 00 01 00 00 00 00 00 02 00 00 00 00 00 00 12 => 16: 03 00 00 01
-32: 01 00 00 01 00 00 00 00 00 02 00 00 00 00 00 00 12 00 01 00 24 => 34: 03 00 00 01 00 00 02 00 00 00 00 00 00 00 00 12 70 00 05 00 00 00 00 0a 00 00 00 00 24
-32: 01 00 00 01 00 00 00 00 00 02 => 34: 03 00 00 01 00 00 02 00 00 00 00 00 00 00 00 12 70 00 05 00 00 00 00 0a 00 00 00 00 25
-32: 01 00 00 01 00 00 00 00 00 02 00 00 00 00 00 00 a8 => 34: 03 00 00 01 00 00 02 00 00 00 00 00 00 00 00 12 70 00 05 00 00 00 00 0a 00 00 00 00 25
-32: 01 00 00 01 00 00 00 00 40 00 00 00 00 00 00 00 12 00 00 00 05 => 5: 7f 00 06 02 1f => 16: 03 00 00 01
-32: 01 00 00 01 00 00 00 00 00 00 01 00 00 00 00 00 25 => 34: 03 00 00 01 00 00 02 00 00 00 00 00 00 00 00 12 70 00 05 00 00 00 00 0a 00 00 00 00 25
+/// What comes of received bytes: a task begins on the tag in bytes 2 and 3 (`receive`), or none does (`drop`, `overlap`). The
+/// chunk that a tag gives, and its answer, after which it is free. Unit 3 isn't there, and tag 5 has a task until the last
+/// line.
+const UNITS: &str = "\
+receive 32: 01 00 00 05
+receive 32: 01 00 00 01
+answer 16: 03 00 00 01
+receive 32: 01 00 00 f8
+answer 16: 03 00 00 f8
+drop 32: 01 00 00 00
+drop 32: 01 00 00 f9
+drop 32: 01 00 01 00
+drop 32: 01 00 01 05
+overlap 32: 01 00 00 05
+overlap 16: 05 00 00 05 01 00 00 05
+receive 31: 01 00 00 12
+answer 8: 04 00 00 12 00 00 00 02
+drop 0:
+drop 3: 01 00 00
+receive 4: 01 00 00 12
+answer 8: 04 00 00 12 00 00 00 02
+receive 32: 02 00 00 07
+answer 8: 04 00 00 07 00 00 00 02
+receive 33: 01 00 00 01
+answer 8: 04 00 00 01 00 00 00 02
+receive 32: 01 01 00 01
+answer 8: 04 00 00 01 00 00 00 02
+receive 32: 01 00 00 01 00 00 04
+answer 8: 04 00 00 01 00 00 00 02
+receive 17: 03 00 00 09
+answer 8: 04 00 00 09 00 00 00 02
+drop 31: 01 00 00 00
+drop 31: 01 00 00 f9
+drop 31: 01 00 00 05
+drop 16: 03 00 00 01
+drop 8: 04 00 00 01
+receive 16: 05 00 00 18 01 00 00 12 00 02
+answer 8: 04 00 00 18 00 00 00 00
+receive 16: 05 00 00 18 08 00 00 00 00 03
+answer 8: 04 00 00 18 00 00 00 09
+receive 16: 05 00 00 18 ff
+answer 8: 04 00 00 18 00 00 00 04
+drop 16: 05 00 00 f9 01
+receive 32: 01 00 00 01 00 00 00 00 00 00 00 00 00 00 00 00 12 00 00 00 24
+give 1 36: 00 00 06 02 1f 00 00 02 53 49 4d 44 49 53 4b 20 55 41 53 20 53 49 4d 20 44 49 53 4b 20 20 20 20 30 30 30 31
+answer 16: 03 00 00 01
+receive 32: 01 00 00 01 00 00 00 00 00 00 00 00 00 00 00 00 12 00 00 00 05
+give 1 5: 00 00 06 02 1f
+answer 16: 03 00 00 01
+receive 32: 01 00 00 01 00 00 00 00 00 00 00 00 00 00 00 00 12
+answer 16: 03 00 00 01
+receive 32: 01 00 00 01 00 00 00 00 00 00 00 00 00 00 00 00 12 01 00 00 24
+answer 34: 03 00 00 01 00 00 02 00 00 00 00 00 00 00 00 12 70 00 05 00 00 00 00 0a 00 00 00 00 24
+receive 32: 01 00 00 01 00 00 00 00 00 00 00 00 00 00 00 00 25
+give 1 8: 00 00 00 63 00 00 02 00
+answer 16: 03 00 00 01
+receive 32: 01 00 00 01 00 00 00 00 00 00 00 00 00 00 00 00 a8
+answer 34: 03 00 00 01 00 00 02 00 00 00 00 00 00 00 00 12 70 00 05 00 00 00 00 0a 00 00 00 00 20
+receive 32: 01 00 00 01 00 00 00 00 00 00 00 00 00 00 00 00 28 20 00 00 00 00 00 00 01
+answer 34: 03 00 00 01 00 00 02 00 00 00 00 00 00 00 00 12 70 00 05 00 00 00 00 0a 00 00 00 00 24
+receive 32: 01 00 00 01 00 00 00 00 00 00 00 00 00 00 00 00 28 00 00 00 00 64
+answer 34: 03 00 00 01 00 00 02 00 00 00 00 00 00 00 00 12 70 00 05 00 00 00 00 0a 00 00 00 00 21
+receive 32: 01 00 00 01 00 00 00 00 00 00 00 00 00 00 00 00 28 00 00 00 00 63
+answer 16: 03 00 00 01
+receive 32: 01 00 00 12 00 00 00 00 00 00 00 00 00 00 00 00 28 00 00 00 00 63 00 00 02
+answer 34: 03 00 00 12 00 00 02 00 00 00 00 00 00 00 00 12 70 00 05 00 00 00 00 0a 00 00 00 00 21
+receive 16: 05 00 00 18 08 00 00 00 00 01
+answer 8: 04 00 00 18
+receive 32: 01 00 00 01 00 00 00 00 00 01
+answer 34: 03 00 00 01 00 00 02 00 00 00 00 00 00 00 00 12 70 00 06 00 00 00 00 0a 00 00 00 00 29 03
+receive 16: 05 00 00 18 08 00 00 00 00 01
+answer 8: 04 00 00 18
+receive 32: 01 00 00 01 00 00 00 00 00 01 00 00 00 00 00 00 a8
+answer 34: 03 00 00 01 00 00 02 00 00 00 00 00 00 00 00 12 70 00 06 00 00 00 00 0a 00 00 00 00 29 03
+receive 16: 05 00 00 18 08 00 00 00 00 01
+answer 8: 04 00 00 18
+receive 32: 01 00 00 01 00 00 00 00 00 01 00 00 00 00 00 00 25
+answer 34: 03 00 00 01 00 00 02 00 00 00 00 00 00 00 00 12 70 00 06 00 00 00 00 0a 00 00 00 00 29 03
+receive 16: 05 00 00 18 08 00 00 00 00 01
+answer 8: 04 00 00 18
+receive 32: 01 00 00 01 00 00 00 00 00 01 00 00 00 00 00 00 28 00 00 00 00 00 00 00 01
+answer 34: 03 00 00 01 00 00 02 00 00 00 00 00 00 00 00 12 70 00 06 00 00 00 00 0a 00 00 00 00 29 03
+receive 16: 05 00 00 18 08 00 00 00 00 01
+answer 8: 04 00 00 18
+receive 32: 01 00 00 01 00 00 00 00 00 01 00 00 00 00 00 00 2a 00 00 00 00 00 00 00 01
+answer 34: 03 00 00 01 00 00 02 00 00 00 00 00 00 00 00 12 70 00 06 00 00 00 00 0a 00 00 00 00 29 03
+receive 16: 05 00 00 18 08 00 00 00 00 01
+answer 8: 04 00 00 18
+receive 32: 01 00 00 01 00 00 00 00 00 01 00 00 00 00 00 00 35
+answer 34: 03 00 00 01 00 00 02 00 00 00 00 00 00 00 00 12 70 00 06 00 00 00 00 0a 00 00 00 00 29 03
+receive 16: 05 00 00 18 08 00 00 00 00 01
+answer 8: 04 00 00 18
+receive 32: 01 00 00 01 00 00 00 00 00 01 00 00 00 00 00 00 12 00 00 00 05
+give 1 5: 00 00 06 02 1f
+answer 16: 03 00 00 01
+receive 32: 01 00 00 01 00 00 00 00 00 03 00 00 00 00 00 00 12 00 00 00 24
+give 1 36: 7f 00 06 02 1f 00 00 02 53 49 4d 44 49 53 4b 20 55 41 53 20 53 49 4d 20 44 49 53 4b 20 20 20 20 30 30 30 31
+answer 16: 03 00 00 01
+receive 32: 01 00 00 01 00 00 00 00 00 03 00 00 00 00 00 00 12
+answer 16: 03 00 00 01
+receive 32: 01 00 00 01 00 00 00 00 00 03 00 00 00 00 00 00 12 00 01 00 24
+answer 34: 03 00 00 01 00 00 02 00 00 00 00 00 00 00 00 12 70 00 05 00 00 00 00 0a 00 00 00 00 24
+receive 32: 01 00 00 01 00 00 00 00 00 03
+answer 34: 03 00 00 01 00 00 02 00 00 00 00 00 00 00 00 12 70 00 05 00 00 00 00 0a 00 00 00 00 25
+receive 32: 01 00 00 01 00 00 00 00 00 03 00 00 00 00 00 00 a8
+answer 34: 03 00 00 01 00 00 02 00 00 00 00 00 00 00 00 12 70 00 05 00 00 00 00 0a 00 00 00 00 25
+receive 32: 01 00 00 01 00 00 00 00 40 00 00 00 00 00 00 00 12 00 00 00 05
+give 1 5: 7f 00 06 02 1f
+answer 16: 03 00 00 01
+receive 32: 01 00 00 01 00 00 00 00 00 00 01 00 00 00 00 00 25
+answer 34: 03 00 00 01 00 00 02 00 00 00 00 00 00 00 00 12 70 00 05 00 00 00 00 0a 00 00 00 00 25
+drop 16: 05 00 00 00 08
+drop 16: 05 00 01 18 01
+receive 15: 05 00 00 18 01
+answer 8: 04 00 00 18 00 00 00 02
+receive 16: 05 01 00 18 01
+answer 8: 04 00 00 18 00 00 00 02
+receive 16: 05 00 00 18 01 01
+answer 8: 04 00 00 18 00 00 00 02
+receive 16: 05 00 00 18 08 00 00 00 00 01
+answer 8: 04 00 00 18
+receive 32: 01 00 00 01 00 00 00 00 00 01 00 00 00 00 00 00 12 01
+answer 34: 03 00 00 01 00 00 02 00 00 00 00 00 00 00 00 12 70 00 05 00 00 00 00 0a 00 00 00 00 24
+receive 32: 01 00 00 01 00 00 00 00 00 01 00 00 00 00 00 00 28 00 00 00 00 64 00 00 01
+answer 34: 03 00 00 01 00 00 02 00 00 00 00 00 00 00 00 12 70 00 06 00 00 00 00 0a 00 00 00 00 29 03
+receive 32: 01 00 00 01 00 00 00 00 00 01 00 00 00 00 00 00 28 00 00 00 00 64 00 00 01
+answer 34: 03 00 00 01 00 00 02 00 00 00 00 00 00 00 00 12 70 00 05 00 00 00 00 0a 00 00 00 00 21
+answer 16: 03 00 00 05
 ";
 
-/// The LUN of unit 1.
-const UNIT_1: [u8; 8] = [0x00, 0x01, 0x00, 0x00, 0x00, 0x00, 0x00, 0x00];
+/// read-sees-write: a READ has of each block what it holds when its chunk moves.
+const READ_SEES_WRITE: &str = "\
+receive 32: 01 00 00 01 00 00 00 00 00 02 00 00 00 00 00 00 2a 08 00 00 00 00 00 00 10
+receive 32: 01 00 00 02 00 00 00 00 00 02 00 00 00 00 00 00 28 00 00 00 00 00 00 00 10
+take 1 4096*01
+give 2 4096*01
+give 2 4096*00
+take 1 4096*01
+answer 16: 03 00 00 01
+answer 16: 03 00 00 02
+receive 32: 01 00 00 02 00 00 00 00 00 02 00 00 00 00 00 00 28 00 00 00 00 00 00 00 10
+give 2 4096*01
+give 2 4096*01
+answer 16: 03 00 00 02
+";
 
-/// TEST UNIT READY of unit 0 on tag 5.
-const BUSY: [u8; 4] = [0x01, 0x00, 0x00, 0x05];
+/// Block 9 of unit 0 is bad: the first chunks of a READ and of a WRITE of 16 blocks stand, the second ones change nothing
+/// (`refuse`, `keep`) and end the commands with 3/0C/00 and 3/11/00.
+const BAD_BLOCK: &str = "\
+receive 32: 01 00 00 01 00 00 00 00 00 00 00 00 00 00 00 00 2a 00 00 00 00 00 00 00 10
+receive 32: 01 00 00 02 00 00 00 00 00 00 00 00 00 00 00 00 28 00 00 00 00 00 00 00 10
+take 1 4096*01
+refuse 1 4096*01
+give 2 4096*01
+keep 2 4096*ff
+answer 34: 03 00 00 01 00 00 02 00 00 00 00 00 00 00 00 12 70 00 03 00 00 00 00 0a 00 00 00 00 0c
+answer 34: 03 00 00 02 00 00 02 00 00 00 00 00 00 00 00 12 70 00 03 00 00 00 00 0a 00 00 00 00 11
+receive 32: 01 00 00 02 00 00 00 00 00 00 00 00 00 00 00 00 28 00 00 00 00 00 00 00 10
+give 2 4096*01
+keep 2 4096*ff
+answer 34: 03 00 00 02 00 00 02 00 00 00 00 00 00 00 00 12 70 00 03 00 00 00 00 0a 00 00 00 00 11
+";
 
-/// `size` bytes of which these are the first and the rest are 0.
-fn text(alloc: Global, first: &[u8], size: usize) -> Result<Vec<u8>, AllocError> {
-    let mut bytes = first.to_vec(alloc)?;
-    bytes.resize(size, 0)?;
+/// What begins a task on each of ten tags: ended and moving commands to units 0, 1, 2 and 3, and bytes that are no unit.
+const TASKS: &str = "\
+32: 01 00 00 01
+32: 01 00 00 02 00 00 00 00 00 00 00 00 00 00 00 00 28 00 00 00 00 00 00 00 10
+32: 01 00 00 09 00 00 00 00 00 01 00 00 00 00 00 00 28 00 00 00 00 00 00 00 10
+32: 01 00 00 0a 00 00 00 00 00 01
+32: 01 00 00 11 00 00 00 00 00 02 00 00 00 00 00 00 2a 00 00 00 00 00 00 00 10
+32: 01 00 00 12 00 00 00 00 00 02 00 00 00 00 00 00 a8
+32: 01 00 00 19 00 00 00 00 00 03 00 00 00 00 00 00 12 00 00 00 24
+32: 01 00 00 1a 00 00 00 00 00 03
+4: 00 00 00 20
+32: 01 00 00 f8 00 00 00 00 00 02 00 00 00 00 00 00 12 00 00 00 24
+";
+
+/// A Task Management unit that comes then, and what is seen after it: its response code, `a0`, `a1` or `a2` for a unit that has
+/// an attention, and the other tags that have a task.
+const TASK_MANAGEMENT: &str = "\
+05 00 00 18 01 00 00 12 00 02 => 00 01 02 09 0a 11 19 1a 20 f8
+05 00 00 18 01 00 00 11 00 02 => 00 01 02 09 0a 12 19 1a 20 f8
+05 00 00 18 01 00 00 f8 00 02 => 00 01 02 09 0a 11 12 19 1a 20
+05 00 00 18 01 00 00 01 => 00 02 09 0a 11 12 19 1a 20 f8
+05 00 00 18 01 00 00 02 => 00 01 09 0a 11 12 19 1a 20 f8
+05 00 00 18 01 00 00 09 00 01 => 00 01 02 0a 11 12 19 1a 20 f8
+05 00 00 18 01 00 00 0a 00 01 => 00 01 02 09 11 12 19 1a 20 f8
+05 00 00 18 01 00 00 12 => 00 01 02 09 0a 11 12 19 1a 20 f8
+05 00 00 18 01 00 00 12 00 01 => 00 01 02 09 0a 11 12 19 1a 20 f8
+05 00 00 18 01 00 00 01 00 01 => 00 01 02 09 0a 11 12 19 1a 20 f8
+05 00 00 18 01 00 00 09 00 02 => 00 01 02 09 0a 11 12 19 1a 20 f8
+05 00 00 18 01 00 00 f8 => 00 01 02 09 0a 11 12 19 1a 20 f8
+05 00 00 18 01 00 00 19 => 00 01 02 09 0a 11 12 19 1a 20 f8
+05 00 00 18 01 00 00 1a 00 02 => 00 01 02 09 0a 11 12 19 1a 20 f8
+05 00 00 18 01 00 00 20 => 00 01 02 09 0a 11 12 19 1a 20 f8
+05 00 00 18 01 00 00 20 00 02 => 00 01 02 09 0a 11 12 19 1a 20 f8
+05 00 00 18 01 00 00 18 => 00 01 02 09 0a 11 12 19 1a 20 f8
+05 00 00 18 01 00 00 03 => 00 01 02 09 0a 11 12 19 1a 20 f8
+05 00 00 18 01 00 00 00 => 00 01 02 09 0a 11 12 19 1a 20 f8
+05 00 00 18 01 00 00 f9 => 00 01 02 09 0a 11 12 19 1a 20 f8
+05 00 00 18 01 00 01 00 => 00 01 02 09 0a 11 12 19 1a 20 f8
+05 00 00 18 01 00 01 01 => 00 01 02 09 0a 11 12 19 1a 20 f8
+05 00 00 18 01 00 ff ff => 00 01 02 09 0a 11 12 19 1a 20 f8
+05 00 00 18 01 00 00 19 00 03 => 09 01 02 09 0a 11 12 19 1a 20 f8
+05 00 00 18 01 00 00 1a 00 03 => 09 01 02 09 0a 11 12 19 1a 20 f8
+05 00 00 18 01 00 00 01 40 => 09 01 02 09 0a 11 12 19 1a 20 f8
+05 00 00 18 01 00 00 01 00 00 01 => 09 01 02 09 0a 11 12 19 1a 20 f8
+05 00 00 18 01 00 00 01 00 00 00 00 00 00 00 01 => 09 01 02 09 0a 11 12 19 1a 20 f8
+05 00 00 18 01 00 00 12 01 02 => 09 01 02 09 0a 11 12 19 1a 20 f8
+05 00 00 18 01 00 00 12 00 ff => 09 01 02 09 0a 11 12 19 1a 20 f8
+05 00 00 18 08 00 00 00 => 00 a0 09 0a 11 12 19 1a 20 f8
+05 00 00 18 08 00 00 00 00 01 => 00 a1 01 02 11 12 19 1a 20 f8
+05 00 00 18 08 00 00 00 00 02 => 00 a2 01 02 09 0a 19 1a 20
+05 00 00 18 08 00 00 01 00 02 => 00 a2 01 02 09 0a 19 1a 20
+05 00 00 18 08 00 00 00 00 03 => 09 01 02 09 0a 11 12 19 1a 20 f8
+05 00 00 18 08 00 00 00 40 => 09 01 02 09 0a 11 12 19 1a 20 f8
+05 00 00 18 08 00 00 00 00 00 01 => 09 01 02 09 0a 11 12 19 1a 20 f8
+05 00 00 18 08 00 00 00 00 01 00 00 00 00 00 01 => 09 01 02 09 0a 11 12 19 1a 20 f8
+05 00 00 18 00 00 00 01 => 04 01 02 09 0a 11 12 19 1a 20 f8
+05 00 00 18 02 00 00 01 => 04 01 02 09 0a 11 12 19 1a 20 f8
+05 00 00 18 04 00 00 01 => 04 01 02 09 0a 11 12 19 1a 20 f8
+05 00 00 18 09 00 00 01 => 04 01 02 09 0a 11 12 19 1a 20 f8
+05 00 00 18 10 00 00 01 => 04 01 02 09 0a 11 12 19 1a 20 f8
+05 00 00 18 40 00 00 01 => 04 01 02 09 0a 11 12 19 1a 20 f8
+05 00 00 18 80 00 00 01 => 04 01 02 09 0a 11 12 19 1a 20 f8
+05 00 00 18 81 00 00 01 => 04 01 02 09 0a 11 12 19 1a 20 f8
+05 00 00 18 ff 00 00 01 => 04 01 02 09 0a 11 12 19 1a 20 f8
+05 00 00 18 02 00 00 01 00 03 => 04 01 02 09 0a 11 12 19 1a 20 f8
+05 00 00 18 ff 00 00 01 40 => 04 01 02 09 0a 11 12 19 1a 20 f8
+05 00 00 03 01 00 00 02 => 00 01 09 0a 11 12 19 1a 20 f8
+05 00 00 f7 08 00 00 00 => 00 a0 09 0a 11 12 19 1a 20 f8
+05 00 00 08 08 00 00 00 00 01 => 00 a1 01 02 11 12 19 1a 20 f8
+";
+
+/// Three units of 100 blocks; block 9 of unit 0 is bad.
+fn device(alloc: Global) -> Result<Target, AllocError> {
+    let bad = Vec::from_array(alloc, [9])?;
+    let first = Unit::new(alloc, 100, bad)?;
+    let second = Unit::new(alloc, 100, Vec::new(alloc))?;
+    let third = Unit::new(alloc, 100, Vec::new(alloc))?;
+    Target::new(alloc, vec![in alloc; first, second, third]?)
+}
+
+/// Bytes as they are written here.
+fn bytes_of(alloc: Global, entry: &str) -> Result<Vec<u8>, Fail> {
+    if let Some((size, byte)) = entry.split_once("*") {
+        let byte = u8::from_str_radix(byte, 16)?;
+        return Ok(vec![in alloc; byte; size.parse::<usize>()?]?);
+    }
+    let (size, first) = entry.split_once(":").ok_or("no colon")?;
+    let mut bytes = hex_bytes(alloc, first)?;
+    bytes.resize(size.parse::<usize>()?, 0)?;
     Ok(bytes)
 }
 
-/// Two units of 100 blocks, with these bad blocks on unit 0; unit 1 has an attention.
-fn device(alloc: Global, bad: &[u32]) -> Result<Target, AllocError> {
-    let first = Unit::new(alloc, 100, bad.to_vec(alloc)?)?;
-    let mut second = Unit::new(alloc, 100, Vec::new(alloc))?;
-    second.set_attention(true);
-    Target::new(alloc, vec![in alloc; first, second]?)
+fn hex_bytes(alloc: Global, words: &str) -> Result<Vec<u8>, Fail> {
+    let mut bytes = Vec::new(alloc);
+    for word in words.split_whitespace() {
+        bytes.push(u8::from_str_radix(word, 16)?)?;
+    }
+    Ok(bytes)
 }
 
-/// Receives a Command unit that begins like this.
-fn receive(target: &mut Target, alloc: Global, first: &[u8]) -> Result<Took, Fail> {
-    Ok(target.receive(&text(alloc, first, 32)?)?)
-}
-
-/// The next chunk of a tag that gives as many bytes; false at a bad block.
-fn give(rt: &impl Abort, target: &mut Target, tag: u16, bytes: &mut [u8]) -> bool {
-    match target.wants(tag) {
-        Phase::Gives(size) if size == bytes.len() => target.give_chunk(tag, bytes),
-        _ => panic!(rt; "tag {tag} gives no such chunk"),
+/// The tag of a unit, bytes 2 and 3.
+fn tag_of(bytes: &[u8]) -> u16 {
+    match bytes {
+        [_, _, high, low, ..] => u16::from_be_bytes([*high, *low]),
+        _ => 0,
     }
 }
 
-/// The next chunk of a tag that takes as many bytes; false at a bad block.
-fn take(rt: &impl Abort, target: &mut Target, tag: u16, bytes: &[u8]) -> bool {
-    match target.wants(tag) {
-        Phase::Takes(size) if size == bytes.len() => target.take_chunk(tag, bytes),
-        _ => panic!(rt; "tag {tag} takes no such chunk"),
-    }
+/// Bytes are received, and this comes of them.
+fn receive(rt: &impl Abort, target: &mut Target, word: &str, bytes: &[u8]) {
+    let want = match word {
+        "drop" => Ok(Took::Dropped),
+        "overlap" => Err(Overlap),
+        _ => Ok(Took::Began(tag_of(bytes))),
+    };
+    assert_eq!(rt; target.receive(bytes), want, "{word}");
 }
 
 /// The answer of a tag is this one; it is sent, and the tag is free.
-fn end(rt: &impl Abort, target: &mut Target, tag: u16, want: &[u8]) {
+fn end(rt: &impl Abort, target: &mut Target, want: &[u8]) {
+    let tag = tag_of(want);
     let mut bytes = ArrayVec::<u8, MAX_UNIT_BYTES>::new();
     if let Some(unit) = target.status_of(tag) {
         write(&unit, &mut bytes);
@@ -115,67 +302,99 @@ fn end(rt: &impl Abort, target: &mut Target, tag: u16, want: &[u8]) {
         Phase::Ends => target.sent(tag),
         _ => panic!(rt; "tag {tag} has not ended"),
     }
-    assert_eq!(rt; target.wants(tag), Phase::Absent, "on tag {tag}");
-    assert!(rt; target.status_of(tag).is_none(), "on tag {tag}");
 }
 
-/// The bytes of one entry of a row.
-fn bytes_of(alloc: Global, entry: &str) -> Result<Vec<u8>, Fail> {
-    let (size, first) = entry.split_once(":").ok_or("no colon")?;
-    let mut bytes = Vec::new(alloc);
-    for word in first.split_whitespace() {
-        bytes.push(u8::from_str_radix(word, 16)?)?;
-    }
-    bytes.resize(size.trim().parse::<usize>()?, 0)?;
-    Ok(bytes)
-}
-
-/// Each row of the table on a device of its own. A unit that was answered began a task on its tag, bytes 2 and 3 of the
-/// answer; the task of tag 5 has its answer still.
-#[test]
-fn received_units(rt: HostRuntime) -> Result<(), Fail> {
-    let alloc = rt.alloc();
-    for row in ROWS.lines() {
-        let mut target = device(alloc, &[])?;
-        assert_eq!(rt; receive(&mut target, alloc, &BUSY)?, Took::Began(5));
-        let (first, rest) = row.split_once(" => ").ok_or("no arrow")?;
-        let took = target.receive(&bytes_of(alloc, first)?);
-        match rest {
-            "dropped" => assert_eq!(rt; took, Ok(Took::Dropped), "{row}"),
-            "overlap" => assert_eq!(rt; took, Err(Overlap), "{row}"),
-            _ => check_answer(&rt, &mut target, alloc, took, rest)?,
+/// The next chunk of a tag: it gives these bytes, or takes them; or neither at a bad block, which leaves bytes as they were.
+fn move_chunk(rt: &impl Abort, target: &mut Target, tag: u16, good: bool, bytes: &mut [u8]) {
+    match target.wants(tag) {
+        Phase::Gives(size) if size == bytes.len() => {
+            assert_eq!(rt; target.give_chunk(tag, bytes), good);
         }
-        end(&rt, &mut target, 5, &bytes_of(alloc, "16: 03 00 00 05")?);
+        Phase::Takes(size) if size == bytes.len() => {
+            assert_eq!(rt; target.take_chunk(tag, bytes), good);
+        }
+        _ => panic!(rt; "tag {tag} moves no such chunk"),
+    }
+}
+
+/// One line of what happens to a device.
+fn act(rt: &impl Abort, target: &mut Target, alloc: Global, line: &str) -> Result<(), Fail> {
+    let (word, rest) = line.split_once(" ").ok_or("no word")?;
+    match word {
+        "receive" | "drop" | "overlap" => receive(rt, target, word, &bytes_of(alloc, rest)?),
+        "answer" => end(rt, target, &bytes_of(alloc, rest)?),
+        _ => act_on_chunk(rt, target, alloc, word, rest)?,
     }
     Ok(())
 }
 
-/// The data, where there are any, and the answer of a row.
-fn check_answer(
+fn act_on_chunk(
     rt: &impl Abort,
     target: &mut Target,
     alloc: Global,
-    took: Result<Took, Overlap>,
+    word: &str,
     rest: &str,
 ) -> Result<(), Fail> {
-    let Ok(Took::Began(tag)) = took else {
-        panic!(rt; "nothing began: {rest}");
-    };
-    let (data, answer) = match rest.split_once(" => ") {
-        Some((data, answer)) => (bytes_of(alloc, data)?, bytes_of(alloc, answer)?),
-        None => (Vec::new(alloc), bytes_of(alloc, rest)?),
-    };
-    assert_eq!(rt;
-        answer.get(2..4),
-        Some(tag.to_be_bytes().as_slice()),
-        "{rest}"
-    );
-    if !data.is_empty() {
-        let mut bytes = vec![in alloc; 0xff; data.len()]?;
-        assert!(rt; give(rt, target, tag, &mut bytes), "{rest}");
-        assert_eq!(rt; bytes.as_slice(), data.as_slice(), "{rest}");
+    let (tag, rest) = rest.split_once(" ").ok_or("no tag")?;
+    let want = bytes_of(alloc, rest)?;
+    let mut bytes = want.clone()?;
+    let given = word == "give" || word == "keep";
+    if given {
+        bytes.fill(0xff);
     }
-    end(rt, target, tag, &answer);
+    let good = word == "give" || word == "take";
+    move_chunk(rt, target, tag.parse::<u16>()?, good, &mut bytes);
+    assert!(rt; bytes == want, "{word} {rest}");
+    Ok(())
+}
+
+#[test]
+fn units_and_answers(rt: HostRuntime) -> Result<(), Fail> {
+    for script in [UNITS, READ_SEES_WRITE, BAD_BLOCK] {
+        let mut target = device(rt.alloc())?;
+        for line in script.lines() {
+            act(&rt, &mut target, rt.alloc(), line)?;
+        }
+    }
+    Ok(())
+}
+
+/// The response code of a tag, the units that have an attention, and the other tags that have a task.
+fn summary(target: &Target, alloc: Global, own: u16) -> Result<Vec<u8>, AllocError> {
+    let mut seen = Vec::new(alloc);
+    if let Some(Iu::Response { code, .. }) = target.status_of(own) {
+        seen.push(code)?;
+    }
+    for number in 0..3 {
+        if target
+            .unit(&lun_bytes(number))
+            .is_some_and(|unit| unit.attention())
+        {
+            seen.push(0xa0 + number)?;
+        }
+    }
+    for tag in 1..=0xff {
+        if u16::from(tag) != own && target.wants(u16::from(tag)) != Phase::Absent {
+            seen.push(tag)?;
+        }
+    }
+    Ok(seen)
+}
+
+#[test]
+fn task_management(rt: HostRuntime) -> Result<(), Fail> {
+    for row in TASK_MANAGEMENT.lines() {
+        let (unit, want) = row.split_once(" => ").ok_or("no arrow")?;
+        let mut target = device(rt.alloc())?;
+        for task in TASKS.lines() {
+            receive(&rt, &mut target, "", &bytes_of(rt.alloc(), task)?);
+        }
+        let mut bytes = hex_bytes(rt.alloc(), unit)?;
+        bytes.resize(16, 0)?;
+        receive(&rt, &mut target, "", &bytes);
+        let seen = summary(&target, rt.alloc(), tag_of(&bytes))?;
+        assert!(rt; seen == hex_bytes(rt.alloc(), want)?, "{row}");
+    }
     Ok(())
 }
 
@@ -183,138 +402,12 @@ fn check_answer(
 /// one allocation failing (`rt try --test --fail-alloc N`).
 #[test]
 fn want_of_memory(rt: HostRuntime) -> Result<(), Fail> {
-    let first = device(rt.alloc(), &[]);
-    let second = device(rt.alloc(), &[]);
+    let first = device(rt.alloc());
+    let second = device(rt.alloc());
     let mut target = first.or(second)?;
-    let mut command = [0; 32];
-    command[..4].copy_from_slice(&BUSY);
+    receive(&rt, &mut target, "", b"\x01\x00\x00\x05");
+    end(&rt, &mut target, b"\x04\x00\x00\x05\x00\x00\x00\x02");
     assert_eq!(rt; target.wants(5), Phase::Absent);
-    assert_eq!(rt; target.receive(&command), Ok(Took::Began(5)));
-    let good = [0x03, 0, 0, 5, 0, 0, 0, 0, 0, 0, 0, 0, 0, 0, 0, 0];
-    end(&rt, &mut target, 5, &good);
-    Ok(())
-}
-
-/// INQUIRY leaves an attention, another command takes it, whatever its CDB; the next one is executed.
-#[test]
-fn attention(rt: HostRuntime) -> Result<(), Fail> {
-    let mut target = device(rt.alloc(), &[])?;
-    let inquiry = [0x01, 0, 0, 1, 0, 0, 0, 0, 0, 1, 0, 0, 0, 0, 0, 0, 0x12, 1];
-    let read = [
-        0x01, 0, 0, 1, 0, 0, 0, 0, 0, 1, 0, 0, 0, 0, 0, 0, 0x28, 0, 0, 0, 0, 0x64, 0, 0, 1,
-    ];
-    for (first, want, flag) in [
-        (
-            inquiry.as_slice(),
-            "34: 03 00 00 01 00 00 02 00 00 00 00 00 00 00 00 12 70 00 05 00 00 00 00 0a 00 00 00 00 24",
-            true,
-        ),
-        (
-            read.as_slice(),
-            "34: 03 00 00 01 00 00 02 00 00 00 00 00 00 00 00 12 70 00 06 00 00 00 00 0a 00 00 00 00 29 03",
-            false,
-        ),
-        (
-            read.as_slice(),
-            "34: 03 00 00 01 00 00 02 00 00 00 00 00 00 00 00 12 70 00 05 00 00 00 00 0a 00 00 00 00 21",
-            false,
-        ),
-    ] {
-        assert_eq!(rt; receive(&mut target, rt.alloc(), first)?, Took::Began(1));
-        end(&rt, &mut target, 1, &bytes_of(rt.alloc(), want)?);
-        assert!(rt;
-            target
-                .unit(&UNIT_1)
-                .is_some_and(|unit| unit.attention() == flag)
-        );
-    }
-    Ok(())
-}
-
-/// read-sees-write: a READ has of each block what it holds when its chunk moves. The WRITE has FUA.
-#[test]
-fn read_sees_write(rt: HostRuntime) -> Result<(), Fail> {
-    let mut target = device(rt.alloc(), &[])?;
-    let write = [
-        0x01, 0, 0, 1, 0, 0, 0, 0, 0, 0, 0, 0, 0, 0, 0, 0, 0x2a, 0x08, 0, 0, 0, 0, 0, 0, 16,
-    ];
-    let read = [
-        0x01, 0, 0, 2, 0, 0, 0, 0, 0, 0, 0, 0, 0, 0, 0, 0, 0x28, 0, 0, 0, 0, 0, 0, 0, 16,
-    ];
-    assert_eq!(rt; receive(&mut target, rt.alloc(), &write)?, Took::Began(1));
-    assert_eq!(rt; receive(&mut target, rt.alloc(), &read)?, Took::Began(2));
-    let mut bytes = [0xff; 4096];
-    assert!(rt; take(&rt, &mut target, 1, &[0x01; 4096]));
-    assert!(rt; give(&rt, &mut target, 2, &mut bytes));
-    assert_eq!(rt; bytes.as_slice(), [0x01; 4096].as_slice());
-    assert!(rt; give(&rt, &mut target, 2, &mut bytes));
-    assert_eq!(rt; bytes.as_slice(), [0x00; 4096].as_slice());
-    assert!(rt; take(&rt, &mut target, 1, &[0x01; 4096]));
-    end(
-        &rt,
-        &mut target,
-        1,
-        &bytes_of(rt.alloc(), "16: 03 00 00 01")?,
-    );
-    end(
-        &rt,
-        &mut target,
-        2,
-        &bytes_of(rt.alloc(), "16: 03 00 00 02")?,
-    );
-    let unit = target.unit(&[0; 8]).ok_or("no unit 0")?;
-    assert_eq!(rt; unit.contents(), unit.medium());
-    assert_eq!(rt;
-        unit.medium().iter().filter(|byte| **byte == 0x01).count(),
-        8192
-    );
-    Ok(())
-}
-
-/// Block 9 is bad: the first chunks of a READ and of a WRITE of 16 blocks stand, the second ones change nothing and end
-/// the commands with 3/11/00 and 3/0C/00.
-#[test]
-fn bad_block(rt: HostRuntime) -> Result<(), Fail> {
-    let mut target = device(rt.alloc(), &[9])?;
-    let write = [
-        0x01, 0, 0, 1, 0, 0, 0, 0, 0, 0, 0, 0, 0, 0, 0, 0, 0x2a, 0, 0, 0, 0, 0, 0, 0, 16,
-    ];
-    let read = [
-        0x01, 0, 0, 2, 0, 0, 0, 0, 0, 0, 0, 0, 0, 0, 0, 0, 0x28, 0, 0, 0, 0, 0, 0, 0, 16,
-    ];
-    assert_eq!(rt; receive(&mut target, rt.alloc(), &write)?, Took::Began(1));
-    assert_eq!(rt; receive(&mut target, rt.alloc(), &read)?, Took::Began(2));
-    assert!(rt; take(&rt, &mut target, 1, &[0x01; 4096]));
-    assert!(rt; !take(&rt, &mut target, 1, &[0x01; 4096]));
-    let mut bytes = [0xff; 4096];
-    assert!(rt; give(&rt, &mut target, 2, &mut bytes));
-    assert_eq!(rt; bytes.as_slice(), [0x01; 4096].as_slice());
-    bytes = [0xff; 4096];
-    assert!(rt; !give(&rt, &mut target, 2, &mut bytes));
-    assert_eq!(rt; bytes.as_slice(), [0xff; 4096].as_slice());
-    end(
-        &rt,
-        &mut target,
-        1,
-        &bytes_of(
-            rt.alloc(),
-            "34: 03 00 00 01 00 00 02 00 00 00 00 00 00 00 00 12 70 00 03 00 00 00 00 0a 00 00 00 00 0c",
-        )?,
-    );
-    end(
-        &rt,
-        &mut target,
-        2,
-        &bytes_of(
-            rt.alloc(),
-            "34: 03 00 00 02 00 00 02 00 00 00 00 00 00 00 00 12 70 00 03 00 00 00 00 0a 00 00 00 00 11",
-        )?,
-    );
-    let unit = target.unit(&[0; 8]).ok_or("no unit 0")?;
-    assert_eq!(rt;
-        unit.contents().iter().filter(|byte| **byte == 0x01).count(),
-        4096
-    );
     Ok(())
 }
 

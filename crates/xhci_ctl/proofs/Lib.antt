@@ -1,1 +1,2 @@
+pub mod Dequeues
 pub mod Windows

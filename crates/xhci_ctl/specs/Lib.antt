@@ -3,3 +3,4 @@ pub mod Pipes
 pub mod Doorbells
 pub mod Own
 pub mod Steps
+pub mod Engine

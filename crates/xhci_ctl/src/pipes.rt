@@ -1,7 +1,7 @@
 //! Doorbells, and which streams are armed (xHCI 4.7, 4.12, 5.6).
 ghost use Rattle.std.specs.Prelude.{◌≡◌, ◌<◌, ◌≤◌, true, IfSome};
 ghost use Rattle.stream_array.specs.Contexts.{has_stream};
-ghost use Rattle.stream_array.specs.Map.{HasRing};
+ghost use Rattle.stream_array.specs.Map.{HasRing, HasStreams};
 ghost use Rattle.xhci_ctl.specs.Doorbells.{pipe_at, rung_by, rung_in};
 ghost use Rattle.xhci_ctl.specs.Pipes.{is_armed, is_open, is_open_on, is_running, new_controller, new_pipe, rung_at};
 
@@ -35,14 +35,15 @@ impl PipeState {
 }
 
 /// Whether a pipe with streams has a ring for this stream.
-fn has_stream(stream: u16) -> bool
+pub(crate) fn has_stream(stream: u16) -> bool
     ensures { result ≡ has_stream stream }
 {
     stream != 0 && stream <= STREAMS
 }
 
-fn pipe_at(target: u32) -> Option<Pipe>
-    ensures { result ≡ pipe_at target }
+pub(crate) fn pipe_at(target: u32) -> Option<Pipe>
+    ensures pipe { result ≡ pipe_at target }
+    ensures streams { IfSome result HasStreams }
 {
     if target == u32::from(STATUS_ENDPOINT) {
         Some(Pipe::Status)

@@ -1,7 +1,7 @@
-//! Commands over rings laid by hand, and their events byte for byte.
-ghost use Rattle.std.specs.Prelude.{◌≡◌, ◌^◌, ◌<◌, ◌≤◌, All, false, true, length};
+//! Commands over rings laid by hand: the bytes of their events, the controller's own commands, and a pipe that is held.
+ghost use Rattle.std.specs.Prelude.{◌≡◌, ◌^◌, ◌%◌, ◌<◌, ◌≤◌, All, false, true, length};
 ghost use Rattle.xhci_trb.specs.Text.{HasText, has_chain};
-ghost use Rattle.cycle_ring.specs.Ring.{IsNormal, IsTd};
+ghost use Rattle.cycle_ring.specs.Ring.{IsCommand, IsNormal, IsTd};
 ghost use Rattle.stream_array.specs.Map.{HasRing};
 ghost use Rattle.xhci_ctl.specs.Own.{IsOwn, IsOwnCommandFront, IsOwnDataFront, IsOwnStatusFront, length_of};
 
@@ -94,15 +94,17 @@ fn is_own_status(lines: &Lines, frames: &Frames, tag: u16, unit: Option<Iu>) -> 
 }
 
 impl Bench {
-    /// New rings and memory, all zeros, and a device of one unit of 200 blocks of this byte.
-    fn new(alloc: Global, byte: u8) -> Result<Bench, Fail> {
-        let image = vec![in alloc; byte; 102_400]?;
-        let unit = Unit::from_image(alloc, &image, Vec::new(alloc))?;
+    /// New rings and memory, all zeros, and a device of one unit of 200 blocks.
+    fn new(alloc: Global) -> Result<Bench, Fail> {
+        let unit = Unit::new(alloc, 200, Vec::new(alloc))?;
+        let target = Target::new(alloc, vec![in alloc; unit]?)?;
+        let frames = Frames::new(alloc)?;
+        let lines = Lines::new(alloc)?;
         Ok(Bench {
             controller: Controller::new(),
-            lines: Lines::new(alloc)?,
-            frames: Frames::new(alloc)?,
-            target: Target::new(alloc, vec![in alloc; unit]?)?,
+            lines,
+            frames,
+            target,
         })
     }
 
@@ -129,40 +131,25 @@ impl Bench {
         self.put(rt, Pipe::Status, tag, &[alone(0x2000_0000 + place, 112)]);
     }
 
-    /// Lends a vector of this many bytes, all the same.
-    fn lend(
-        &mut self,
-        rt: &impl Abort,
-        alloc: Global,
-        tag: u16,
-        byte: u8,
-        count: usize,
-    ) -> Result<(), Fail>
+    /// Lends a vector of so many bytes.
+    fn lend(&mut self, rt: &impl Abort, alloc: Global, tag: u16, count: usize)
         requires some { 0 < tag }
         requires most { tag ≤ 248 }
         requires count { count ≤ 65536 }
     {
-        let bytes = vec![in alloc; byte; count]?;
-        assert!(rt; self.frames.lend(tag, bytes).is_ok());
-        Ok(())
-    }
-
-    /// The lent vector comes back, and its bytes are all the same.
-    fn back(&mut self, rt: &impl Abort, tag: u16, byte: u8)
-        requires some { 0 < tag }
-        requires most { tag ≤ 248 }
-    {
-        match self.frames.take_back(tag) {
-            Ok(bytes) => assert!(rt; bytes.iter().all(|other| *other == byte)),
+        match vec![in alloc; 0; count] {
+            Ok(bytes) => assert!(rt; self.frames.lend(tag, bytes).is_ok()),
             Err(_) => assert!(rt; false),
         }
     }
 
-    /// A step of the command pipe.
-    fn command(&mut self, rt: &impl Abort) -> Acted {
+    /// The device receives the command in front of the command pipe, which is of this tag.
+    fn begins(&mut self, rt: &impl Abort, tag: u16) {
         assert!(rt; is_own_command(&self.lines, &self.frames));
-        self.controller
-            .command_step(&mut self.lines, &self.frames, &mut self.target)
+        let acted = self
+            .controller
+            .command_step(&mut self.lines, &self.frames, &mut self.target);
+        assert_eq!(rt; acted, Acted::Acted(tag));
     }
 
     /// A step of the tag's data stream.
@@ -176,6 +163,16 @@ impl Bench {
             .data_step(&mut self.lines, &mut self.frames, &mut self.target, tag)
     }
 
+    /// So many chunks move on the tag's data stream.
+    fn chunks(&mut self, rt: &impl Abort, tag: u16, count: usize)
+        requires some { 0 < tag }
+        requires most { tag ≤ 248 }
+    {
+        for _ in 0..count {
+            assert_eq!(rt; self.data(rt, tag), Acted::Acted(tag));
+        }
+    }
+
     /// A step of the tag's status stream.
     fn status(&mut self, rt: &impl Abort, tag: u16) -> Acted
         requires some { 0 < tag }
@@ -187,21 +184,59 @@ impl Bench {
             .status_step(&mut self.lines, &mut self.frames, &mut self.target, tag)
     }
 
-    /// Every chunk of a TD of so many TRBs moves, and the last one alone posts an event.
-    fn chunks(&mut self, rt: &impl Abort, tag: u16, count: usize)
-        requires some { 0 < tag }
-        requires most { tag ≤ 248 }
+    /// A command of the controller's own is executed: the code of its event, which is the last that waits.
+    fn engine(&mut self, rt: &impl Abort, command: Trb) -> u8
+        requires command { IsCommand command }
+        requires text { HasText command }
     {
-        for _ in 0..count {
-            assert_eq!(rt; self.lines.len(), 1);
-            assert_eq!(rt; self.data(rt, tag), Acted::Acted(tag));
-        }
-        assert_eq!(rt; self.lines.len(), 2);
+        assert!(rt; self.lines.push_td_engine(&[command]).is_ok());
+        assert_eq!(rt;
+            self.controller.engine_step(&mut self.lines),
+            Acted::Acted(0)
+        );
+        code_in(self.lines.image_event(self.lines.len().wrapping_sub(1)))
+    }
+
+    fn stop(&mut self, rt: &impl Abort, endpoint: u8, slot: u8) -> u8 {
+        assert!(rt; endpoint < 32);
+        self.engine(rt, Trb::StopEndpoint { endpoint, slot })
+    }
+
+    fn set_dequeue(&mut self, rt: &impl Abort, pointer: u64, stream: u16) -> u8 {
+        assert!(rt; pointer % 16 == 0);
+        self.engine(
+            rt,
+            Trb::SetDequeue {
+                pointer,
+                cycle: true,
+                stream,
+                endpoint: 5,
+                slot: 1,
+            },
+        )
     }
 
     /// The event at this place of the ring has these bytes.
     fn event(&self, rt: &impl Abort, place: usize, bytes: &[u8; 16]) {
         assert_eq!(rt; self.lines.image_event(place), Some(*bytes));
+    }
+
+    /// The command at this place of the controller's command ring has these bytes.
+    fn command(&self, rt: &impl Abort, place: usize, bytes: &[u8; 16]) {
+        assert_eq!(rt; self.lines.image_engine(place), Some(*bytes));
+    }
+
+    /// The context of this stream of data-in has these bytes.
+    fn context(&self, rt: &impl Abort, stream: u16, bytes: &[u8; 16]) {
+        assert_eq!(rt; self.lines.array(Pipe::DataIn).bytes(stream), Ok(*bytes));
+    }
+}
+
+/// The completion code of an event, 0 where there is none.
+fn code_in(event: Option<[u8; 16]>) -> u8 {
+    match event {
+        Some(bytes) => bytes[11],
+        None => 0,
     }
 }
 
@@ -235,39 +270,29 @@ fn alone(pointer: u64, length: u32) -> Trb
     }
 }
 
-/// The data TD of 128 blocks: packets of 1,024 bytes that are still to come, at most 31.
-fn of_128_blocks(window: u64) -> [Trb; 16]
-    requires { window < 2 ^ 63 }
+/// The data TD of 128 blocks on tag 26: packets of 1,024 bytes that are still to come, at most 31.
+fn of_128_blocks() -> [Trb; 16]
     ensures td { IsTd result }
     ensures texts { All HasText result }
 {
     [
-        chained(window, 31),
-        chained(window + 0x1000, 31),
-        chained(window + 0x2000, 31),
-        chained(window + 0x3000, 31),
-        chained(window + 0x4000, 31),
-        chained(window + 0x5000, 31),
-        chained(window + 0x6000, 31),
-        chained(window + 0x7000, 31),
-        chained(window + 0x8000, 28),
-        chained(window + 0x9000, 24),
-        chained(window + 0xa000, 20),
-        chained(window + 0xb000, 16),
-        chained(window + 0xc000, 12),
-        chained(window + 0xd000, 8),
-        chained(window + 0xe000, 4),
-        alone(window + 0xf000, 4096),
+        chained(0x1_001a_0000, 31),
+        chained(0x1_001a_1000, 31),
+        chained(0x1_001a_2000, 31),
+        chained(0x1_001a_3000, 31),
+        chained(0x1_001a_4000, 31),
+        chained(0x1_001a_5000, 31),
+        chained(0x1_001a_6000, 31),
+        chained(0x1_001a_7000, 31),
+        chained(0x1_001a_8000, 28),
+        chained(0x1_001a_9000, 24),
+        chained(0x1_001a_a000, 20),
+        chained(0x1_001a_b000, 16),
+        chained(0x1_001a_c000, 12),
+        chained(0x1_001a_d000, 8),
+        chained(0x1_001a_e000, 4),
+        alone(0x1_001a_f000, 4096),
     ]
-}
-
-/// The data TD of 9 blocks.
-fn of_9_blocks(window: u64) -> [Trb; 2]
-    requires { window < 2 ^ 63 }
-    ensures td { IsTd result }
-    ensures texts { All HasText result }
-{
-    [chained(window, 1), alone(window + 0x1000, 512)]
 }
 
 /// A CDB of this code, for so many blocks from the first on.
@@ -278,106 +303,118 @@ fn cdb(code: u8, count: u8) -> [u8; 16] {
     cdb
 }
 
-#[test]
-fn test_unit_ready_on_tag_1(rt: HostRuntime) -> Result<(), Fail> {
-    let mut bench = Bench::new(rt.alloc(), 0)?;
-    bench.lay(&rt, 1, [0; 16]);
-    assert_eq!(rt; bench.command(&rt), Acted::Acted(1));
-    bench.event(
-        &rt,
-        0,
-        b"\x00\x00\x00\x41\0\0\0\0\0\0\0\x01\x01\x80\x02\x01",
-    );
-    // its doorbell wasn't rung, and then that of tag 2 was
-    assert_eq!(rt; bench.status(&rt, 1), Acted::Idle);
-    bench.controller.doorbell(0x0002_0003);
-    assert_eq!(rt; bench.status(&rt, 1), Acted::Idle);
+/// What a test does on a bench of its own.
+#[derive(Clone, Copy)]
+enum Row {
+    TestUnitReady,
+    Write,
+    Retire,
+    Codes,
+}
+
+/// One new bench, and what is done on it.
+fn run(rt: &impl Abort, alloc: Global, row: Row) -> Result<(), Fail> {
+    let mut bench = Bench::new(alloc)?;
+    match row {
+        Row::TestUnitReady => answers_test_unit_ready(&mut bench, rt),
+        Row::Write => writes_9_blocks(&mut bench, rt, alloc),
+        Row::Retire => retires_beside_read(&mut bench, rt, alloc),
+        Row::Codes => tells_codes(&mut bench, rt),
+    }
+    Ok(())
+}
+
+/// TEST UNIT READY on tag 1: the events of its command TRB and of its status TRB, and its Sense unit.
+fn answers_test_unit_ready(bench: &mut Bench, rt: &impl Abort) {
+    bench.lay(rt, 1, [0; 16]);
+    bench.begins(rt, 1);
     bench.controller.doorbell(0x0001_0003);
-    assert_eq!(rt; bench.status(&rt, 1), Acted::Acted(1));
+    assert_eq!(rt; bench.status(rt, 1), Acted::Acted(1));
+    bench.event(rt, 0, b"\x00\x00\x00\x41\0\0\0\0\0\0\0\x01\x01\x80\x02\x01");
     bench.event(
-        &rt,
+        rt,
         1,
         b"\x00\x10\x00\x42\0\0\0\0\x60\0\0\x0d\x01\x80\x03\x01",
     );
     let text = b"\x03\0\0\x01\0\0\0\0\0\0\0\0\0\0\0\0";
     assert_eq!(rt; &bench.frames.status(1)[..16], text.as_slice());
-    Ok(())
 }
 
 #[test]
-fn a_read_of_128_blocks(rt: HostRuntime) -> Result<(), Fail> {
-    let mut bench = Bench::new(rt.alloc(), 0x5a)?;
-    bench.lay(&rt, 1, cdb(0x28, 128));
-    bench.put(&rt, Pipe::DataIn, 1, &of_128_blocks(0x1_0001_0000));
-    bench.lend(&rt, rt.alloc(), 1, 0, 65_536)?;
-    bench.controller.doorbell(0x0001_0005);
-    assert_eq!(rt; bench.command(&rt), Acted::Acted(1));
-    bench.chunks(&rt, 1, 16);
-    bench.event(
-        &rt,
-        1,
-        b"\xf0\x10\x00\x43\0\0\0\0\0\0\0\x01\x01\x80\x05\x01",
-    );
-    bench.back(&rt, 1, 0x5a);
-    Ok(())
+fn test_unit_ready_on_tag_1(rt: HostRuntime) -> Result<(), Fail> {
+    run(&rt, rt.alloc(), Row::TestUnitReady)
 }
 
-#[test]
-fn a_read_of_9_blocks(rt: HostRuntime) -> Result<(), Fail> {
-    let mut bench = Bench::new(rt.alloc(), 0x5a)?;
-    bench.lay(&rt, 2, cdb(0x28, 9));
-    bench.put(&rt, Pipe::DataIn, 2, &of_9_blocks(0x1_0002_0000));
-    bench.lend(&rt, rt.alloc(), 2, 0, 4608)?;
-    bench.controller.doorbell(0x0002_0005);
-    assert_eq!(rt; bench.command(&rt), Acted::Acted(2));
-    bench.chunks(&rt, 2, 2);
-    bench.back(&rt, 2, 0x5a);
-    Ok(())
+/// WRITE of 9 blocks on tag 18: the event of its second data TRB.
+fn writes_9_blocks(bench: &mut Bench, rt: &impl Abort, alloc: Global) {
+    bench.lay(rt, 18, cdb(0x2a, 9));
+    bench.lend(rt, alloc, 18, 4608);
+    let td = [chained(0x1_0012_0000, 1), alone(0x1_0012_1000, 512)];
+    bench.put(rt, Pipe::DataOut, 18, &td);
+    bench.controller.doorbell(0x0012_0004);
+    bench.begins(rt, 18);
+    bench.chunks(rt, 18, 2);
+    bench.event(rt, 1, b"\x10\x20\x01\x44\0\0\0\0\0\0\0\x01\x01\x80\x04\x01");
 }
 
 #[test]
 fn a_write_of_9_blocks(rt: HostRuntime) -> Result<(), Fail> {
-    let mut bench = Bench::new(rt.alloc(), 0)?;
-    bench.lay(&rt, 18, cdb(0x2a, 9));
-    bench.put(&rt, Pipe::DataOut, 18, &of_9_blocks(0x1_0012_0000));
-    bench.lend(&rt, rt.alloc(), 18, 0xa5, 4608)?;
-    bench.controller.doorbell(0x0012_0004);
-    assert_eq!(rt; bench.command(&rt), Acted::Acted(18));
-    bench.chunks(&rt, 18, 2);
-    bench.event(
-        &rt,
-        1,
-        b"\x10\x20\x01\x44\0\0\0\0\0\0\0\x01\x01\x80\x04\x01",
-    );
-    let mut block = [0; 512];
-    for (number, byte) in [(8, 0xa5), (9, 0)] {
-        match bench.target.unit(&[0; 8]) {
-            Some(unit) if unit.blocks() == 200 => assert_eq!(rt;
-                unit.read_into(number, &mut block),
-                Ok(())
-            ),
-            _ => assert!(rt; false),
-        }
-        assert!(rt; block.iter().all(|other| *other == byte));
-    }
-    Ok(())
+    run(&rt, rt.alloc(), Row::Write)
+}
+
+/// A READ of 24 blocks on tag 18 is retired while a READ of 128 blocks on tag 26 has nine TRBs done. On the held pipe the
+/// latter's stream is idle; with its doorbell it goes on where it was.
+fn retires_beside_read(bench: &mut Bench, rt: &impl Abort, alloc: Global) {
+    let td = [
+        chained(0x1_0012_0000, 8),
+        chained(0x1_0012_1000, 4),
+        alone(0x1_0012_2000, 4096),
+    ];
+    bench.put(rt, Pipe::DataIn, 18, &td);
+    bench.lay(rt, 26, cdb(0x28, 128));
+    bench.lend(rt, alloc, 26, 65_536);
+    bench.put(rt, Pipe::DataIn, 26, &of_128_blocks());
+    bench.controller.doorbell(0x001a_0005);
+    bench.begins(rt, 26);
+    bench.chunks(rt, 26, 9);
+    assert_eq!(rt; bench.stop(rt, 5, 1), 1);
+    bench.command(rt, 0, b"\0\0\0\0\0\0\0\0\0\0\0\0\x01\x3c\x05\x01");
+    assert_eq!(rt; bench.data(rt, 26), Acted::Idle);
+    assert_eq!(rt; bench.set_dequeue(rt, 0x4301_2030, 18), 1);
+    bench.command(rt, 1, b"\x33\x20\x01\x43\0\0\0\0\0\0\x12\0\x01\x40\x05\x01");
+    bench.event(rt, 2, b"\x10\0\0\x50\0\0\0\0\0\0\0\x01\x01\x84\0\x01");
+    bench.context(rt, 18, b"\x33\x20\x01\x43\0\0\0\0\0\0\0\0\0\0\0\0");
+    assert_eq!(rt; bench.data(rt, 26), Acted::Idle);
+    bench.controller.doorbell(0x001a_0005);
+    bench.chunks(rt, 26, 7);
+    bench.event(rt, 3, b"\xf0\xa0\x01\x43\0\0\0\0\0\0\0\x01\x01\x80\x05\x01");
 }
 
 #[test]
-fn a_full_event_ring(rt: HostRuntime) -> Result<(), Fail> {
-    let mut bench = Bench::new(rt.alloc(), 0)?;
-    bench.lay(&rt, 1, [0; 16]);
-    for _ in 0..1023 {
-        let event = Event::Command {
-            pointer: 0x5000_0000,
-            code: 1,
-            slot: 1,
-        };
-        assert_eq!(rt; bench.lines.post(event), Ok(()));
+fn retire_beside_read(rt: HostRuntime) -> Result<(), Fail> {
+    run(&rt, rt.alloc(), Row::Retire)
+}
+
+/// The codes of the controller's own commands on data-in, whose stream 18 has one pending TRB, at place 0.
+fn tells_codes(bench: &mut Bench, rt: &impl Abort) {
+    bench.put(rt, Pipe::DataIn, 18, &[alone(0x1_0012_0000, 512)]);
+    for (stream, code) in [(0, 34), (255, 19), (256, 34), (18, 19)] {
+        assert_eq!(rt; bench.set_dequeue(rt, 0x4301_2010, stream), code);
     }
-    assert_eq!(rt; bench.command(&rt), Acted::Idle);
-    assert!(rt; bench.lines.take().is_some());
-    assert_eq!(rt; bench.command(&rt), Acted::Acted(1));
-    assert_eq!(rt; bench.lines.len(), 1023);
-    Ok(())
+    for (endpoint, slot, code) in [(2, 1, 5), (6, 1, 5), (5, 2, 5), (5, 1, 1), (5, 1, 19)] {
+        assert_eq!(rt; bench.stop(rt, endpoint, slot), code);
+    }
+    for (pointer, stream, code) in [
+        (0x4301_2010, 0, 34),
+        (0x430f_9000, 249, 5),
+        (0x4301_2020, 18, 5),
+        (0x4301_2010, 18, 1),
+    ] {
+        assert_eq!(rt; bench.set_dequeue(rt, pointer, stream), code);
+    }
+}
+
+#[test]
+fn codes_of_commands(rt: HostRuntime) -> Result<(), Fail> {
+    run(&rt, rt.alloc(), Row::Codes)
 }

@@ -4,7 +4,7 @@ use Rattle.uas_target.proofs.Target.take_chunk.Goals as goal
 
 pub take_task-good-requires-clause-sound : goal.take_task-good-requires-clause-sound
 take_task-good-requires-clause-sound c =
-    rw c.deref_mut.ensures.value (task_sound c.self.inside.units.items c.self.inside.tasks c.args.tag c.in-Some.task c.self.invariant (sym c.get.ensures ∙ c.in-Some.is))
+    rw c.deref_mut.ensures.value (task_sound c.self.inside.units.items c.self.inside.tasks c.args.tag c.in-Some.task c.self.invariant (sym c.get.ensures.task ∙ c.in-Some.is))
 
 pub invariant_of-self : goal.invariant_of-self
 invariant_of-self c =

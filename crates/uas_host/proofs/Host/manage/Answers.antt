@@ -1,0 +1,16 @@
+use Rattle.std.proofs.Common.{◌≡◌, ◌<◌, ◌∙◌, length, subst, sym}
+use Rattle.std.proofs.lemmas.List.{get_or_default}
+use Rattle.uas_host.specs.State.{HostState, client_of, new_client}
+use Rattle.scsi_cmd.specs.declared.TheConstants.{TASK_SLOT}
+use Rattle.uas_host.specs.Submit.{IsFree}
+use Rattle.uas_host.proofs.Sound.{managed-host}
+use Rattle.uas_host.proofs.Host.manage.Goals as goal
+
+pub invariant_of-self : goal.invariant_of-self
+invariant_of-self c =
+    let host : HostState = record { clients = c.self.inside.clients.items; retirement = c.self.inside.retirement } in
+    let there : c.args.client < length host.clients = subst (λ (h : HostState). c.args.client < length h.clients) (sym c.self.view_is) c.requires.client in
+    let free : IsFree (client_of host c.args.client) TASK_SLOT = subst (λ (h : HostState). IsFree (client_of h c.args.client) TASK_SLOT) (sym c.self.view_is) c.requires.free in
+    let held : c.index_mut.result.now ≡ client_of host c.args.client = c.index_mut.ensures.value ∙ get_or_default host.clients c.args.client _ new_client there in
+    rw (c.manage.ensures, held)
+    (managed-host host c.args.client c.args.ticket c.args.task there free c.self.invariant)

@@ -1,0 +1,173 @@
+// Task managements of clients.
+ghost use Rattle.std.specs.Prelude.{◌≡◌, ◌+◌, ◌++◌, [], ◌∷◌, ◌<◌, ◌≤◌, ◌^◌, MatchOption, IfSome, None, Ok, Err, Some, length, take};
+ghost use Rattle.arrayvec.specs.ArrayVec.{array_vec_len};
+ghost use Rattle.scsi_cmd.specs.declared.TheConstants.{TAGS, TASK_SLOT};
+ghost use Rattle.uas_host.specs.Doors.{answer_doors};
+ghost use Rattle.uas_host.specs.Retirement.{is_held};
+ghost use Rattle.uas_host.specs.State.{client_of};
+ghost use Rattle.uas_host.specs.Submit.{IsFree, slot_of};
+ghost use Rattle.uas_host.specs.Tags.{command_slot};
+ghost use Rattle.uas_host.specs.Tasks.{client_task_fault, has_task, is_held_at, managed, managed_client, noted_by, task_entry, task_fault, task_tag, tickets_of, with_task_unit};
+ghost use Rattle.uas_host.specs.Tds.{pushed_task, HasTaskRoom};
+
+use crate::tags::{command_slot_of, task_tag_of};
+use crate::tds::push_task;
+use crate::units::write_task;
+use crate::{Host, HostClient, HostEntry, HostRequest, MOST_DOORS, TdState, Told};
+use arrayvec::ArrayVec;
+use frame_store::Frames;
+use scsi_cmd::{SubmitFault, TAGS, TASK_SLOT, Task};
+use stream_array::Lines;
+
+/// Adds the ticket of what is held.
+fn push_ticket(tickets: &mut ArrayVec<u64, TASK_SLOT>, held: &Option<HostEntry>)
+    requires { array_vec_len tickets.old < TASK_SLOT }
+    ensures tickets { tickets.new.items ≡ tickets.old.items ++ tickets_of (held.now ∷ []) }
+    ensures most { array_vec_len tickets.new ≤ array_vec_len tickets.old + 1 }
+{
+    if let Some(entry) = held {
+        tickets.push(entry.ticket);
+    }
+}
+
+/// The tickets of the commands in these slots, by rising slot.
+fn command_tickets(entries: &[Option<HostEntry>; TAGS]) -> ArrayVec<u64, TASK_SLOT>
+    ensures { result.items ≡ tickets_of (take TASK_SLOT entries.now) }
+{
+    let mut tickets = ArrayVec::new();
+    for slot in 0..TASK_SLOT {
+        push_ticket(&mut tickets, &entries[slot]);
+    }
+    tickets
+}
+
+/// The ticket of what is held.
+fn ticket_of(held: &Option<HostEntry>) -> ArrayVec<u64, TASK_SLOT>
+    ensures { result.items ≡ tickets_of (held.now ∷ []) }
+{
+    let mut tickets = ArrayVec::new();
+    push_ticket(&mut tickets, held);
+    tickets
+}
+
+impl HostEntry {
+    /// What the host has under a task tag once a task management was submitted.
+    fn managing(ticket: u64, task: Task, noted: ArrayVec<u64, TASK_SLOT>) -> HostEntry
+        ensures { result ≡ task_entry ticket task noted }
+    {
+        HostEntry {
+            ticket,
+            request: HostRequest::Manage { task, noted },
+            told: Told::Untold,
+            command_td: TdState::Pending,
+            status_td: TdState::Pending,
+            data_td: None,
+        }
+    }
+}
+
+impl HostClient {
+    /// The tickets that a task management notes.
+    fn noted_by(&self, task: Task) -> ArrayVec<u64, TASK_SLOT>
+        ensures { result.items ≡ noted_by self.now task }
+    {
+        match task {
+            Task::Abort { tag } => ticket_of(
+                &self.entries[usize::from(tag.saturating_sub(1)) % TAGS],
+            ),
+            Task::Reset => command_tickets(&self.entries),
+        }
+    }
+
+    fn manage(&mut self, ticket: u64, task: Task)
+        requires ticket { ticket < 2 ^ 60 }
+        ensures { self.new ≡ managed_client self.old ticket task }
+    {
+        let noted = self.noted_by(task);
+        self.entries[TASK_SLOT] = Some(HostEntry::managing(ticket, task, noted));
+        self.least = ticket + 1;
+    }
+}
+
+impl Host {
+    /// Whether there is what a task management of a client that is there is to manage.
+    fn has_task(&self, client: usize, task: Task) -> bool
+        requires { client < length self.now.clients }
+        ensures { result ≡ has_task (length self.now.clients) client (client_of self.now client) task }
+    {
+        match task {
+            Task::Reset => true,
+            Task::Abort { tag } => match command_slot_of(self.clients.len(), client, tag) {
+                Some(slot) => self.clients[client].entries[slot].is_some(),
+                None => false,
+            },
+        }
+    }
+
+    /// The first fault of a task management, if there is one.
+    fn task_fault(&self, client: usize, ticket: u64, task: Task) -> Option<SubmitFault>
+        ensures fault { result ≡ task_fault self.now client ticket task }
+        ensures known { result ≡ None → (client < length self.now.clients) × (length self.now.clients ≤ 31) × IsFree (client_of self.now client) TASK_SLOT }
+    {
+        if self.clients.len() <= client {
+            return Some(SubmitFault::NotYours);
+        }
+        let has_task = self.has_task(client, task);
+        let held = &self.clients[client];
+        scsi_cmd::task_fault(
+            true,
+            held.entries[TASK_SLOT].is_some(),
+            held.least,
+            ticket,
+            has_task,
+        )
+    }
+
+    /// Notes a task management of a client whose task tag is free.
+    fn manage(&mut self, client: usize, ticket: u64, task: Task)
+        requires client { client < length self.old.clients }
+        requires ticket { ticket < 2 ^ 60 }
+        requires free { IsFree (client_of self.old client) TASK_SLOT }
+        ensures { self.new ≡ managed self.old client ticket task }
+    {
+        self.clients[client].manage(ticket, task);
+    }
+
+    /// Submits a client's task management under its task tag. The first fault is answered, and nothing changes:
+    /// `NotYours` where there is no such client, `InUse` where something is under the task tag, `OutOfTurn` where
+    /// the ticket is below the least one, `NoSuchTask` where the tag to abort holds no command of the client that
+    /// was submitted and isn't yet taken. The tickets that it is to end are noted now. The doorbell of the status
+    /// stream is left out while that pipe is held. Asks a ticket below `2^60`, room for two doorbells, and where
+    /// there is no fault room on the two rings. Nothing is lent.
+    pub fn task(
+        &mut self,
+        lines: &mut Lines,
+        frames: &mut Frames,
+        doors: &mut ArrayVec<u32, MOST_DOORS>,
+        client: usize,
+        ticket: u64,
+        task: Task,
+    ) -> Result<(), SubmitFault>
+        requires ticket { ticket < 2 ^ 60 }
+        requires room { task_fault self.old client ticket task ≡ None → HasTaskRoom lines.old (task_tag client) }
+        requires doors { array_vec_len doors.old ≤ 254 }
+        ensures { MatchOption (task_fault self.old client ticket task)
+            ((result ≡ Ok (record {}))
+            × (self.new ≡ managed self.old client ticket task)
+            × (lines.new ≡ pushed_task lines.old (task_tag client))
+            × (frames.new ≡ with_task_unit frames.old client task)
+            × (doors.new.items ≡ doors.old.items ++ answer_doors (is_held self.old) (task_tag client)))
+            (λ fault. (result ≡ Err fault)
+            × (self.new ≡ self.old) × (lines.new ≡ lines.old) × (frames.new ≡ frames.old) × (doors.new ≡ doors.old)) }
+    {
+        if let Some(fault) = self.task_fault(client, ticket, task) {
+            return Err(fault);
+        }
+        let tag = task_tag_of(client);
+        write_task(frames, client as u8, task);
+        push_task(lines, tag);
+        self.ring_answer(doors, tag);
+        self.manage(client, ticket, task);
+        Ok(())
+    }
+}

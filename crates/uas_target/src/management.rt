@@ -1,0 +1,107 @@
+//! Task management (SAM): what ABORT TASK and LOGICAL UNIT RESET end, and what they are answered.
+ghost use Rattle.std.specs.Prelude.{◌≡◌, ◌<◌, MatchOption, length, map, slice_get, slice_index, slice_set, true};
+ghost use Rattle.block_unit.specs.BlockMaps.{with_attention};
+ghost use Rattle.scsi_cmd.specs.Held.{held_under, with_held_under};
+ghost use Rattle.uas_target.specs.Device.{aborted_on, managed, reset_on};
+ghost use Rattle.uas_target.specs.Fields.{addressed};
+ghost use Rattle.uas_target.specs.Soundness.{counts_of};
+ghost use Rattle.uas_target.specs.Tasks.{is_at, is_command_of, spared};
+
+use crate::receiver::unit_number;
+use crate::table::TaskTable;
+use crate::{DeviceAnswer, DeviceTask, GREATEST_TAG, Target};
+use block_unit::Unit;
+use uas_iu::{
+    ABORT_TASK, INCORRECT_LUN, LOGICAL_UNIT_RESET, LUN_BYTES, NOT_SUPPORTED, TASK_COMPLETE,
+};
+
+impl Target {
+    /// Does a task management function on the unit that a LUN addresses; its response code.
+    pub(crate) fn manage(&mut self, function: u8, tag: u16, lun: &[u8; LUN_BYTES]) -> u8
+        ensures { (self.new, result) ≡ managed self.old function tag lun.now }
+    {
+        match function {
+            ABORT_TASK => self.abort(tag, lun),
+            LOGICAL_UNIT_RESET => self.reset(lun),
+            _ => NOT_SUPPORTED,
+        }
+    }
+
+    fn abort(&mut self, tag: u16, lun: &[u8; LUN_BYTES]) -> u8
+        ensures { (self.new, result) ≡ aborted_on self.old (slice_index lun.now 1) tag (addressed self.old.units lun.now) }
+    {
+        let Some(number) = unit_number(&self.units, lun) else {
+            return INCORRECT_LUN;
+        };
+        self.tasks.end_command(number, tag);
+        TASK_COMPLETE
+    }
+
+    fn reset(&mut self, lun: &[u8; LUN_BYTES]) -> u8
+        ensures { (self.new, result) ≡ reset_on self.old (slice_index lun.now 1) (addressed self.old.units lun.now) }
+    {
+        let Some(number) = unit_number(&self.units, lun) else {
+            return INCORRECT_LUN;
+        };
+        self.tasks.end_commands(number);
+        establish_attention(&mut self.units, number);
+        TASK_COMPLETE
+    }
+}
+
+/// The unit of this number has a unit attention.
+fn establish_attention(units: &mut [Unit], number: usize)
+    requires { number < length units.old }
+    ensures unit { MatchOption (slice_get units.old number) ⊥ (λ unit. units.new ≡ slice_set units.old number (with_attention unit true)) }
+    ensures counts { counts_of units.new ≡ counts_of units.old }
+{
+    units[number].set_attention(true);
+}
+
+impl TaskTable {
+    /// The task of a tag is gone where it is a command's to the unit of this number.
+    fn end_command(&mut self, number: usize, tag: u16)
+        ensures task { self.new ≡ with_held_under self.old tag (spared number (held_under self.old tag)) }
+        ensures places { length self.new ≡ length self.old }
+    {
+        let Some(task) = self.get(tag) else {
+            return;
+        };
+        if is_command_of(number, &task) {
+            self.set(tag, None);
+        }
+    }
+
+    /// So is that of every tag.
+    fn end_commands(&mut self, number: usize)
+        requires { length self.old ≡ GREATEST_TAG }
+        ensures { self.new ≡ map (spared number) self.old }
+    {
+        for slot in 0..GREATEST_TAG {
+            self.end_command(number, slot + 1);
+        }
+    }
+}
+
+/// Whether a task is a command's to the unit of this number.
+fn is_command_of(number: usize, task: &DeviceTask) -> bool
+    ensures { result ≡ is_command_of number task.now }
+{
+    match task {
+        DeviceTask::Moving { unit, .. } => is_at(number, *unit),
+        DeviceTask::Ended { unit, answer } => match answer {
+            DeviceAnswer::Status(_) => is_at(number, *unit),
+            DeviceAnswer::Response(_) => false,
+        },
+    }
+}
+
+/// Whether this is the number of a unit.
+fn is_at(number: usize, unit: Option<usize>) -> bool
+    ensures { result ≡ is_at number unit }
+{
+    match unit {
+        Some(found) => found == number,
+        None => false,
+    }
+}

@@ -11,3 +11,4 @@ mod Notes
 mod Transitions
 mod WholeScripts
 mod ReplyLines
+mod Tries

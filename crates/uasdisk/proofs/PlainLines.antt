@@ -13,7 +13,7 @@ use Rattle.clap.specs.declared.error.kind.ErrorKind.TheVariants.{OutOfMemory}
 use Rattle.clap.proofs.OnLiterals.{clap_on_literals}
 use Rattle.uasdisk.specs.declared.words.Run.{Run}
 use Rattle.uasdisk.specs.Words.{is_number, number_in, value_of}
-use Rattle.uasdisk.specs.CommandLine.{Asked, AsksPlainly, asked_by, asked_for, info, make, program_app, refusals, replay}
+use Rattle.uasdisk.specs.CommandLine.{Asked, AsksPlainly, asked_by, asked_for, info, make, program_app, refusals, replay, trace}
 use Rattle.uasdisk.proofs.NumberWords.{numeral-is_number, numerals}
 use Rattle.uasdisk.proofs.CommandLineFacts.{nothing_refused}
 
@@ -55,6 +55,16 @@ replay_passes : (p : Text) (d : ℕ) (ds : Text) (e : ℕ) (es : Text) → IsIn 
     → fault_of program_app (p ∷ codes "replay" ∷ (d ∷ ds) ∷ (e ∷ es) ∷ []) ≡ []
 unfolding clap_on_literals
 replay_passes p d ds e es m n = simp (m.hyphen, m.plus, m.some, m.first, m.rest, m.fits, m.least, m.greatest, n.hyphen, n.plus, n.some, n.first, n.rest, n.fits, n.least, n.greatest)
+
+trace_asks : (p : Text) (d : ℕ) (ds : Text) (e : ℕ) (es : Text) → (d == 45) ≡ false → (d == 43) ≡ false → (e == 45) ≡ false → (e == 43) ≡ false
+    → asked_for (p ∷ codes "trace" ∷ (d ∷ ds) ∷ (e ∷ es) ∷ []) ≡ option_and_then (λ clients. option_map (trace clients) (number_in 1 65536 (e ∷ es))) (number_in 1 31 (d ∷ ds))
+unfolding asked_for clap_on_literals
+trace_asks p d ds e es hyphen plus hyphen' plus' = simp (hyphen, plus, hyphen', plus')
+
+trace_passes : (p : Text) (d : ℕ) (ds : Text) (e : ℕ) (es : Text) → IsIn 31 d ds → IsIn 65536 e es
+    → fault_of program_app (p ∷ codes "trace" ∷ (d ∷ ds) ∷ (e ∷ es) ∷ []) ≡ []
+unfolding clap_on_literals
+trace_passes p d ds e es m n = simp (m.hyphen, m.plus, m.some, m.first, m.rest, m.fits, m.least, m.greatest, n.hyphen, n.plus, n.some, n.first, n.rest, n.fits, n.least, n.greatest)
 
 not-true : (b : Bool) → not b ≡ true → b ≡ false
 not-true true is = sym is
@@ -110,6 +120,17 @@ plain_asks (replay clients blocks) words plain =
       ap asked_for is ∙ (replay_asks plain.0 m.0 m.1 n.0 n.1 m.3.hyphen m.3.plus n.3.hyphen n.3.plus
           ∙ (ap (option_and_then (λ c. option_map (replay c) (number_in 1 65536 (n.0 ∷ n.1)))) first ∙ ap (option_map (replay clients)) second)),
       ap (fault_of program_app) is ∙ replay_passes plain.0 m.0 m.1 n.0 n.1 m.3 n.3,
+    )
+plain_asks (trace clients blocks) words plain =
+    let m = number_is_in 31 clients plain.1 (omega arith) plain.4 in
+    let n = number_is_in 65536 blocks plain.2 (omega arith) plain.5 in
+    let is : words ≡ plain.0 ∷ codes "trace" ∷ (m.0 ∷ m.1) ∷ (n.0 ∷ n.1) ∷ [] =
+    plain.3 ∙ ap₂ (λ (a b : Text). plain.0 ∷ codes "trace" ∷ a ∷ b ∷ []) m.2 n.2 in
+    let first : number_in 1 31 (m.0 ∷ m.1) ≡ Some clients = ap (number_in 1 31) (sym m.2) ∙ plain.4 in
+    let second : number_in 1 65536 (n.0 ∷ n.1) ≡ Some blocks = ap (number_in 1 65536) (sym n.2) ∙ plain.5 in (
+      ap asked_for is ∙ (trace_asks plain.0 m.0 m.1 n.0 n.1 m.3.hyphen m.3.plus n.3.hyphen n.3.plus
+          ∙ (ap (option_and_then (λ c. option_map (trace c) (number_in 1 65536 (n.0 ∷ n.1)))) first ∙ ap (option_map (trace clients)) second)),
+      ap (fault_of program_app) is ∙ trace_passes plain.0 m.0 m.1 n.0 n.1 m.3 n.3,
     )
 plain_asks (make [] blocks) words plain = absurd (true≢false (sym plain.3))
 plain_asks (make (d ∷ ds) blocks) words plain =

@@ -13,18 +13,20 @@ use Rattle.clap.specs.declared.error.kind.ErrorKind.TheVariants.{DisplayHelp, Di
 use Rattle.block_unit.specs.declared.TheConstants.{MAX_BLOCKS}
 use Rattle.bus_core.specs.declared.TheConstants.{MAX_CLIENTS}
 use Rattle.uasdisk.specs.declared.words.Run.{Run}
-use Rattle.uasdisk.specs.declared.words.Run.TheVariants.{Replay, Make, Info}
+use Rattle.uasdisk.specs.declared.words.Run.TheVariants.{Replay, Trace, Make, Info}
 use Rattle.uasdisk.specs.Words.{number_in}
 
--- What is asked for, with a file's name as its text: to run a script of so many clients and blocks, to make an image of
--- so many blocks, or to tell the size of one.
+-- What is asked for, with a file's name as its text: to run a script of so many clients and blocks, to run one and show its
+-- steps, to make an image of so many blocks, or to tell the size of one.
 pub data Asked : Type 0 where
   replay : ℕ → ℕ → Asked
+  trace : ℕ → ℕ → Asked
   make : Text → ℕ → Asked
   info : Text → Asked
 
 abbrev pub asked_by : Run → Asked
 asked_by (Replay clients blocks) = replay clients blocks
+asked_by (Trace clients blocks) = trace clients blocks
 asked_by (Make file blocks) = make file.now blocks
 asked_by (Info file) = info file.now
 
@@ -51,9 +53,11 @@ abbrev pub asked_of : Text → List Row → Option Asked
 asked_of name rows =
     if bytes_eq name (codes "replay")
     then option_and_then (λ clients. option_map (replay clients) (blocks_of rows)) (clients_of rows)
+    else (if bytes_eq name (codes "trace")
+    then option_and_then (λ clients. option_map (trace clients) (blocks_of rows)) (clients_of rows)
     else (if bytes_eq name (codes "make")
     then option_and_then (λ file. option_map (make file) (blocks_of rows)) (file_of rows)
-    else (if bytes_eq name (codes "info") then option_map info (file_of rows) else None))
+    else (if bytes_eq name (codes "info") then option_map info (file_of rows) else None)))
 
 abbrev pub asked_in : Option (Text × List Row) → Option Asked
 asked_in subcommand = option_and_then (λ s. asked_of s.0 s.1) subcommand
@@ -76,9 +80,15 @@ clients_rule = number_rule (codes "CLIENTS") MAX_CLIENTS
 abbrev pub blocks_rule : Rule
 blocks_rule = number_rule (codes "BLOCKS") MAX_BLOCKS
 
--- replay CLIENTS BLOCKS
+-- a subcommand that runs a script: NAME CLIENTS BLOCKS
+abbrev pub script_app : Text → App
+script_app name = with_rule (with_rule (new_app name) clients_rule) blocks_rule
+
 abbrev pub replay_app : App
-replay_app = with_rule (with_rule (new_app (codes "replay")) clients_rule) blocks_rule
+replay_app = script_app (codes "replay")
+
+abbrev pub trace_app : App
+trace_app = script_app (codes "trace")
 
 -- make FILE BLOCKS
 abbrev pub make_app : App
@@ -93,8 +103,8 @@ wants_subcommand s = record s { subcommand_required = true; arg_required_else_he
 
 -- The program wants a subcommand, tells its help with no words, and its version where that is asked for.
 abbrev pub program_app : App
-program_app = with_subcommand (with_subcommand (with_subcommand (on_top wants_subcommand (new_app (codes "uasdisk")))
-    replay_app.top) make_app.top) info_app.top
+program_app = with_subcommand (with_subcommand (with_subcommand (with_subcommand (on_top wants_subcommand (new_app (codes "uasdisk")))
+    replay_app.top) trace_app.top) make_app.top) info_app.top
 
 -- ---- the words, the program's own name first
 
@@ -116,6 +126,8 @@ is_plain_name (byte ∷ bytes) = not (byte == 45)
 abbrev pub AsksPlainly : Asked → List Text → Type 0
 AsksPlainly (replay clients blocks) words = (program first second : Text) × (words ≡ program ∷ codes "replay" ∷ first ∷ second ∷ [])
     × (number_in 1 MAX_CLIENTS first ≡ Some clients) × (number_in 1 MAX_BLOCKS second ≡ Some blocks)
+AsksPlainly (trace clients blocks) words = (program first second : Text) × (words ≡ program ∷ codes "trace" ∷ first ∷ second ∷ [])
+    × (number_in 1 MAX_CLIENTS first ≡ Some clients) × (number_in 1 MAX_BLOCKS second ≡ Some blocks)
 AsksPlainly (make file blocks) words = (program second : Text) × (words ≡ program ∷ codes "make" ∷ file ∷ second ∷ [])
     × (is_plain_name file ≡ true) × (number_in 1 MAX_BLOCKS second ≡ Some blocks)
 AsksPlainly (info file) words = (program : Text) × (words ≡ program ∷ codes "info" ∷ file ∷ []) × (is_plain_name file ≡ true)
@@ -125,6 +137,7 @@ AsksPlainly (info file) words = (program : Text) × (words ≡ program ∷ codes
 -- A run ends with 0, 3 or 4, and a script's with 1 too.
 abbrev pub MayEndRun : Asked → ℕ → Type 0
 MayEndRun (replay clients blocks) status = (status ≤ 1) ⊎ ((status ≡ 3) ⊎ (status ≡ 4))
+MayEndRun (trace clients blocks) status = (status ≤ 1) ⊎ ((status ≡ 3) ⊎ (status ≡ 4))
 MayEndRun (make file blocks) status = (status ≡ 0) ⊎ ((status ≡ 3) ⊎ (status ≡ 4))
 MayEndRun (info file) status = (status ≡ 0) ⊎ ((status ≡ 3) ⊎ (status ≡ 4))
 

@@ -3,11 +3,12 @@ use Rattle.std.specs.Prelude.{◌≡◌, ℕ, ◌<◌, ◌≤◌, Bool, IsTrue, 
 use Rattle.std.specs.Io.KnownBytes.{Appends, Keeps, IsAtEnd}
 use Rattle.clap.specs.Words.{Kinds, Text}
 use Rattle.clap.specs.declared.error.kind.ErrorKind.{ErrorKind}
-use Rattle.uasdisk.specs.CommandLine.{Asked, replay, make, info, IsRequest, EndsRefused}
+use Rattle.uasdisk.specs.CommandLine.{Asked, replay, trace, make, info, IsRequest, EndsRefused}
 use Rattle.uasdisk.specs.Images.{blocks_in, made_image, made_text}
 use Rattle.uasdisk.specs.Script.{script}
 use Rattle.uasdisk.specs.Told.{zeroed_units}
 use Rattle.uasdisk.specs.Runs.{Tells, InfoPrints}
+use Rattle.uasdisk.specs.Traced.{Traces}
 
 -- What is known of a host: whether it tells what its files hold; of the file of a name, whether it can be opened, can
 -- be created and can fail; whether standard input is there, and whether it and standard output can fail.
@@ -39,6 +40,17 @@ pub record ReplayEnds (clients blocks : ℕ) (host : Host) (old new : World) (st
   pub memory : status ≡ 4 → Keeps old.output new.output
   pub files : new.holds ≡ old.holds
 
+-- `trace CLIENTS BLOCKS`: as `replay`, but that standard output gets its text while the script runs.
+pub record TraceEnds (clients blocks : ℕ) (host : Host) (old new : World) (status : ℕ) : Type 0 where
+  pub statuses : (status ≤ 1) ⊎ ((status ≡ 3) ⊎ (status ≡ 4))
+  pub traced : status ≤ 1 → IfSome old.input (λ bytes.
+      Traces (zeroed_units clients blocks) (script clients bytes) status)
+  pub read : status ≤ 1 → IsTrue host.has_input × IsAtEnd new.input
+  pub fault : status ≡ 3 →
+      ((IfSome old.input (λ bytes. IsErr (script clients bytes)) ⊎ IsTrue host.input_can_fail) × Keeps old.output new.output)
+      ⊎ IsTrue host.output_can_fail
+  pub files : new.holds ≡ old.holds
+
 -- `make FILE BLOCKS`: the file of this name holds the image of so many blocks, and standard output has got its line.
 pub record MakeEnds (file : Text) (blocks : ℕ) (host : Host) (old new : World) (status : ℕ) : Type 0 where
   pub statuses : (status ≡ 0) ⊎ ((status ≡ 3) ⊎ (status ≡ 4))
@@ -64,6 +76,7 @@ pub record InfoEnds (file : Text) (host : Host) (old new : World) (status : ℕ)
 -- how what the words ask for ends
 abbrev pub Ends : Asked → Host → World → World → ℕ → Type 0
 Ends (replay clients blocks) host old new status = ReplayEnds clients blocks host old new status
+Ends (trace clients blocks) host old new status = TraceEnds clients blocks host old new status
 Ends (make file blocks) host old new status = MakeEnds file blocks host old new status
 Ends (info file) host old new status = InfoEnds file host old new status
 

@@ -7,7 +7,7 @@ use Rattle.scsi_cmd.specs.declared.Reply.{Reply}
 use Rattle.scsi_cmd.specs.declared.SubmitFault.{SubmitFault}
 use Rattle.scsi_cmd.specs.Op.{direction_of}
 use Rattle.solo_model.specs.declared.Label.{Label}
-use Rattle.solo_model.specs.declared.Label.TheVariants.{Submit, Carry, Move, Send, Settle}
+use Rattle.solo_model.specs.declared.Label.TheVariants.{Submit, Task, Carry, Move, Send, Settle}
 use Rattle.solo_model.specs.Solo.{SoloState, solo_step, opening as solo_opening}
 use Rattle.tag_range.specs.declared.Refused.{Refused}
 use Rattle.bus_core.specs.declared.Step.{Step}
@@ -83,6 +83,7 @@ own_lines client (said ∷ rest) = option_to_list (own_line client said) ++ own_
 -- the label is of a command under this ticket that moves data to the host
 abbrev pub is_to_host_under : ℕ → Label → Bool
 is_to_host_under ticket (Submit index given command) = if given == ticket then is_to_host (direction_of command.op) else false
+is_to_host_under ticket (Task given task) = false
 is_to_host_under ticket (Carry index) = false
 is_to_host_under ticket (Move index) = false
 is_to_host_under ticket (Send index) = false

@@ -7,5 +7,6 @@ pub mod Runs
 pub mod Options
 pub mod CommandLine
 pub mod Told
+pub mod Traced
 pub mod Ends
 pub mod Headline

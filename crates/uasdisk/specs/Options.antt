@@ -3,7 +3,7 @@ use Rattle.std.specs.Prelude.{ℕ, ◌≤◌}
 use Rattle.block_unit.specs.declared.TheConstants.{MAX_BLOCKS}
 use Rattle.bus_core.specs.declared.TheConstants.{MAX_CLIENTS}
 use Rattle.uasdisk.specs.declared.words.Run.{Run}
-use Rattle.uasdisk.specs.declared.words.Run.TheVariants.{Replay, Make, Info}
+use Rattle.uasdisk.specs.declared.words.Run.TheVariants.{Replay, Trace, Make, Info}
 
 -- a program runs 1 to 31 clients
 abbrev pub AreClients : ℕ → Type 0
@@ -16,5 +16,6 @@ AreBlocks blocks = (1 ≤ blocks) × (blocks ≤ MAX_BLOCKS)
 -- each number is in its range
 abbrev pub IsInRange : Run → Type 0
 IsInRange (Replay clients blocks) = AreClients clients × AreBlocks blocks
+IsInRange (Trace clients blocks) = AreClients clients × AreBlocks blocks
 IsInRange (Make file blocks) = AreBlocks blocks
 IsInRange (Info file) = Unit {0}

@@ -2,6 +2,7 @@
 //!
 //! ```text
 //! uasdisk replay CLIENTS BLOCKS < script     runs a script on zeroed units, one for each client
+//! uasdisk trace CLIENTS BLOCKS < script      the same, and prints each step with the bytes that it wrote
 //! uasdisk make FILE BLOCKS                   makes an image of zeroed blocks
 //! uasdisk info FILE                          tells how many blocks an image has
 //! ```
@@ -25,6 +26,7 @@ pub mod printed;
 pub mod program;
 pub mod replay;
 pub mod run_script;
+pub mod run_trace;
 pub mod script;
 pub mod status;
 pub mod streams;

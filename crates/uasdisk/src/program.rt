@@ -15,6 +15,7 @@ ghost use Rattle.uasdisk.specs.Images.{made_image, made_text};
 use crate::files::Files;
 use crate::image::{run_info, run_make};
 use crate::run_script::run_script;
+use crate::run_trace::run_trace;
 use crate::status::{DONE, RunFault, WORDS_REFUSED, output_fault};
 use crate::streams::{Sink, Source};
 use crate::words::{Run, run_of};
@@ -53,6 +54,14 @@ pub fn run_words<F: Files, S: Source, O: Sink, W: Write>(
 {
     match run_of(alloc, words) {
         Ok(Run::Replay { clients, blocks }) => run_script(
+            alloc,
+            usize::from(clients),
+            blocks,
+            input,
+            output,
+            faults,
+        ),
+        Ok(Run::Trace { clients, blocks }) => run_trace(
             alloc,
             usize::from(clients),
             blocks,

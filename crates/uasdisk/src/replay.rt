@@ -6,6 +6,8 @@ ghost use Rattle.std.specs.Prelude.{◌≡◌, ℕ, ◌+◌, ◌*◌, ◌≤◌,
 ghost use Rattle.scsi_cmd.specs.Op.{direction_of};
 ghost use Rattle.uasdisk.specs.Told.{zeroed_units, opening_ranges, tag_of, ticket_of, command_of, is_to_host, took_to_host, told};
 
+pub mod trace;
+
 use crate::printed;
 use crate::script::{Line, Request};
 use crate::status::{COMMAND_FAILED, DONE};
@@ -127,6 +129,14 @@ impl ScriptRun {
         ensures { result ≡ is_due self.now.machine step.now }
     {
         self.bus.due(step)
+    }
+
+    /// How many clients its bus has.
+    fn clients(&self) -> usize
+        ensures count { result ≡ length self.now.machine.parts }
+        ensures most { result ≤ MAX_CLIENTS }
+    {
+        self.bus.clients()
     }
 
     /// Steps of the bus until none acts, or so many have acted.

@@ -8,10 +8,8 @@ use std::alloc::{AllocError, Global};
 use std::io;
 use std::io::{Error, ErrorKind, Read, Write};
 
-mod cases;
 mod failing;
 mod faults;
-mod faulty;
 mod images;
 mod program;
 mod scripts;

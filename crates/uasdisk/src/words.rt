@@ -4,7 +4,7 @@ ghost use Rattle.std.specs.Prelude.{◌≡◌, false, Some, IfOk, IfSome, MatchR
 ghost use Rattle.std.specs.String.{string_bytes};
 ghost use Rattle.clap.specs.Words.{FailsBy, app_of, found_of, kind_of, rows_of, rule_of, subcommand_rows_of};
 ghost use Rattle.uasdisk.specs.Options.{IsInRange};
-ghost use Rattle.uasdisk.specs.CommandLine.{Asked, AsksPlainly, asked_by, asked_for, asked_in, blocks_of, blocks_rule, clients_of, file_rule, info_app, make_app, number_rule, program_app, refusals, replay_app};
+ghost use Rattle.uasdisk.specs.CommandLine.{Asked, AsksPlainly, asked_by, asked_for, asked_in, blocks_of, blocks_rule, clients_of, file_rule, info_app, make_app, number_rule, program_app, refusals, replay_app, script_app, trace_app};
 
 use block_unit::MAX_BLOCKS;
 use bus_core::MAX_CLIENTS;
@@ -27,6 +27,8 @@ pub const VERSION: &str = "0.1.0, proved with rattle-kit-13b logic dac8208d650f1
 pub enum Run<'a> {
     /// Run a script of 1 to 31 clients on units of 1 to 65,536 zeroed blocks.
     Replay { clients: u8, blocks: u32 },
+    /// Run a script as `Replay` does, and show each step.
+    Trace { clients: u8, blocks: u32 },
     /// Make an image file of 1 to 65,536 zeroed blocks.
     Make { file: &'a str, blocks: u32 },
     /// Tell the size of an image file.
@@ -67,6 +69,7 @@ fn command<'a>(alloc: Global) -> Result<Command<'a>, AllocError>
         .subcommand_required(true)
         .arg_required_else_help(true)
         .subcommand(replay_command(alloc)?)?
+        .subcommand(trace_command(alloc)?)?
         .subcommand(make_command(alloc)?)?
         .subcommand(info_command(alloc)?)
 }
@@ -74,9 +77,37 @@ fn command<'a>(alloc: Global) -> Result<Command<'a>, AllocError>
 fn replay_command<'a>(alloc: Global) -> Result<Command<'a>, AllocError>
     ensures { IfOk result (λ command. app_of command ≡ replay_app) }
 {
-    Command::new(alloc, "replay")
-        .about("Reads a script from standard input and runs it on zeroed units")
-        .after_help("Example:\n  uasdisk replay 2 100 < examples/two-clients.script")
+    script_command(
+        alloc,
+        "replay",
+        "Reads a script from standard input and runs it on zeroed units",
+        "Example:\n  uasdisk replay 2 100 < examples/two-clients.script",
+    )
+}
+
+fn trace_command<'a>(alloc: Global) -> Result<Command<'a>, AllocError>
+    ensures { IfOk result (λ command. app_of command ≡ trace_app) }
+{
+    script_command(
+        alloc,
+        "trace",
+        "Runs a script as replay does, and prints each step with the bytes that it wrote",
+        "Example:\n  uasdisk trace 1 100 < examples/first-reply.script",
+    )
+}
+
+/// A subcommand that runs a script.
+fn script_command<'a>(
+    alloc: Global,
+    name: &'a str,
+    about: &'a str,
+    example: &'a str,
+) -> Result<Command<'a>, AllocError>
+    ensures { IfOk result (λ command. app_of command ≡ script_app name.entry.now) }
+{
+    Command::new(alloc, name)
+        .about(about)
+        .after_help(example)
         .arg(number(
             alloc,
             "CLIENTS",
@@ -147,6 +178,11 @@ fn asked<'a>(matches: &ArgMatches<'a>) -> Option<Run<'a>>
             let clients = clients_in(words)?;
             let blocks = blocks_in(words)?;
             Some(Run::Replay { clients, blocks })
+        }
+        "trace" => {
+            let clients = clients_in(words)?;
+            let blocks = blocks_in(words)?;
+            Some(Run::Trace { clients, blocks })
         }
         "make" => {
             let file = words.get_str("FILE")?;

@@ -144,6 +144,7 @@ Usage: uasdisk <COMMAND>
 
 Commands:
   replay  Reads a script from standard input and runs it on zeroed units
+  trace   Runs a script as replay does, and prints each step with the bytes that it wrote
   make    Makes an image file of zeroed blocks
   info    Tells how many blocks an image file has, and the number of the last
   help    Print this message or the help of the given subcommand(s)

@@ -1,6 +1,5 @@
-//! Scripts that run: their lines, what they print, and what they leave on a unit's medium.
+//! Scripts: the lines that are read, the longest text, and what is left on a unit's medium. What scripts print is in tests/cases.
 
-use super::cases::{CLIENTS, COMMANDS, DRAINS, TAGS};
 use super::{repeated, run};
 use crate::script::{Line, MAX_SCRIPT_BYTES, Request, parse_script};
 use crate::streams::BytesLeft;
@@ -45,25 +44,6 @@ fn lines_are_read(rt: HostRuntime) -> Result<(), Fail> {
     ];
     assert!(rt; lines.as_slice() == expected.as_slice());
     Ok(())
-}
-
-#[test]
-fn worked_scripts(rt: HostRuntime) {
-    for cases in [&COMMANDS[..], &TAGS[..], &DRAINS[..], &CLIENTS[..]] {
-        for case in cases {
-            assert!(rt; 1 <= case.clients && case.clients <= 31);
-            assert!(rt; 1 <= case.blocks && case.blocks <= 65_536);
-            let ran = run(
-                rt.alloc(),
-                case.clients,
-                case.blocks,
-                &mut BytesLeft(case.script),
-            );
-            assert_eq!(rt; ran.output.as_slice(), case.output, "{}", case.name);
-            assert_eq!(rt; ran.status, case.status, "{}", case.name);
-            assert!(rt; ran.faults.is_empty(), "{}", case.name);
-        }
-    }
 }
 
 /// Scripts about the limit: a byte, how many of it, the fault, and the exit status. A line of j is an unknown word.

@@ -1,0 +1,83 @@
+-- What `trace` prints beside the lines of `replay`, and how a run ends that writes as it goes.
+use Rattle.std.specs.Prelude.{◌≡◌, ◌⊎◌, ℕ, Bool, if◌then◌else◌, IsTrue, List, [], ◌++◌, codes, Option, IfSome, Result, Ok, Err}
+use Rattle.std.specs.Fmt.{decimal}
+use Rattle.std.specs.Int.{w32, w64, to_be_bytes}
+use Rattle.std.specs.Io.KnownBytes.{Keeps}
+use Rattle.hex.specs.Hex.{encode_lower}
+use Rattle.block_unit.specs.BlockMaps.{BlockMaps}
+use Rattle.scsi_cmd.specs.declared.Op.{Op}
+use Rattle.scsi_cmd.specs.declared.Op.TheVariants.{TestUnitReady, Inquiry, ReadCapacity, Read, Write, Sync}
+use Rattle.bus_core.specs.declared.Step.{Step}
+use Rattle.bus_core.specs.declared.Step.TheVariants as step
+use Rattle.uasdisk.specs.declared.status.RunFault.{RunFault}
+use Rattle.uasdisk.specs.declared.status.RunFault.TheVariants.{Image, ImageFile, Script, ScriptFile, NoMemory}
+use Rattle.uasdisk.specs.declared.script.Line.{Line}
+use Rattle.uasdisk.specs.declared.script.ScriptFault.{ScriptFault}
+use Rattle.uasdisk.specs.Script.{script}
+use Rattle.uasdisk.specs.Told.{told}
+
+-- LINES
+
+abbrev pub fua_word : Bool → List ℕ
+fua_word fua = if fua then codes " fua" else []
+
+-- the words of a command, as a script has them after the client
+abbrev pub op_words : Op → List ℕ
+op_words TestUnitReady = codes "tur"
+op_words (Inquiry allocation) = codes "inquiry " ++ decimal allocation
+op_words ReadCapacity = codes "capacity"
+op_words (Read lba count fua) = codes "read " ++ decimal lba ++ codes " " ++ decimal count ++ fua_word fua
+op_words (Write lba count fua) = codes "write " ++ decimal lba ++ codes " " ++ decimal count ++ fua_word fua
+op_words (Sync lba count) = codes "sync " ++ decimal lba ++ codes " " ++ decimal count
+
+abbrev pub submit_line : ℕ → ℕ → ℕ → Op → List ℕ
+submit_line client tag ticket op =
+    codes "submit " ++ decimal client ++ codes " " ++ decimal tag ++ codes " " ++ decimal ticket ++ codes " " ++ op_words op ++ codes "\n"
+
+-- The line of a step. By hand: a TEST UNIT READY of client 0 on tag 1 with ticket 0 is `submit 0 1 0 tur`.
+abbrev pub step_line : Step → List ℕ
+step_line (step.Submit client tag ticket command) = submit_line client tag ticket command.op
+step_line step.CommandPipe = codes "command\n"
+step_line (step.Data tag) = codes "data " ++ decimal tag ++ codes "\n"
+step_line (step.Status tag) = codes "status " ++ decimal tag ++ codes "\n"
+step_line step.Event = codes "event\n"
+step_line (step.Take client) = codes "take " ++ decimal client ++ codes "\n"
+
+-- the name of what was written, and its address in 16 hexadecimal digits
+abbrev pub address_start : List ℕ → ℕ → List ℕ
+address_start name address = codes "  " ++ name ++ codes " " ++ encode_lower (to_be_bytes w64 address) ++ codes " "
+
+-- `  NAME ADDRESS BYTES`: bytes that were written, in the order of memory
+abbrev pub bytes_line : List ℕ → ℕ → List ℕ → List ℕ
+bytes_line name address bytes = address_start name address ++ encode_lower bytes ++ codes "\n"
+
+-- `  NAME ADDRESS LENGTH`: a chunk that was moved
+abbrev pub chunk_line : List ℕ → ℕ → ℕ → List ℕ
+chunk_line name address len = address_start name address ++ decimal len ++ codes "\n"
+
+-- `  bell VALUE`, the value in 8 hexadecimal digits
+abbrev pub bell_line : ℕ → List ℕ
+bell_line value = codes "  bell " ++ encode_lower (to_be_bytes w32 value) ++ codes "\n"
+
+-- RUNS
+
+-- A call that writes as it goes gives up for want of memory, or at a fault of the writer, where that can fail.
+abbrev pub StopsBy : Bool → RunFault → Type 0
+StopsBy can_fail (Image fault) = ⊥
+StopsBy can_fail ImageFile = ⊥
+StopsBy can_fail (Script fault) = ⊥
+StopsBy can_fail ScriptFile = IsTrue can_fail
+StopsBy can_fail NoMemory = Unit {0}
+
+-- A run of a script that was traced: the exit status is that of the lines' own run.
+abbrev pub Traces : List BlockMaps → Result (List Line) ScriptFault → ℕ → Type 0
+Traces units (Ok lines) status = status ≡ (told units lines).1
+Traces units (Err fault) status = ⊥
+
+-- A run of a script that is traced and gives up: nothing was printed at a fault of the script or of its reader.
+abbrev pub TraceGivesUp : ℕ → Option (List ℕ) → Bool → Bool → Option (List ℕ) → Option (List ℕ) → RunFault → Type 0
+TraceGivesUp clients left can_read_fail can_write_fail old new (Image fault) = ⊥
+TraceGivesUp clients left can_read_fail can_write_fail old new ImageFile = ⊥
+TraceGivesUp clients left can_read_fail can_write_fail old new (Script fault) = IfSome left (λ bytes. script clients bytes ≡ Err fault) × Keeps old new
+TraceGivesUp clients left can_read_fail can_write_fail old new ScriptFile = (IsTrue can_read_fail × Keeps old new) ⊎ IsTrue can_write_fail
+TraceGivesUp clients left can_read_fail can_write_fail old new NoMemory = Unit {0}

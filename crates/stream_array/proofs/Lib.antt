@@ -1,4 +1,5 @@
 pub mod Entries
+pub mod Stored
 pub mod Opening
 pub mod Apart
 pub mod Frames

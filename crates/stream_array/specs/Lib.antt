@@ -1,3 +1,4 @@
 pub mod Map
 pub mod Contexts
 pub mod Rings
+pub mod Stored

@@ -1,30 +1,36 @@
-// The stream arrays.
+// The stream arrays, kept as the bytes of their contexts (xHCI 1.2, 6.2.4.1).
+//
+// A context is written whole, as DCS, SCT 1 and the dequeue pointer, and read back from its bytes. Nothing
+// else says which streams have a ring: a context whose SCT isn't 1 has none.
 
-ghost use Rattle.std.specs.Prelude.{◌≡◌, ℕ, ◌+◌, ◌%◌, ◌<◌, ◌≤◌, ◌↔◌, Some, None, Option, IsOk, IfOk, OnOk, OnErr, slice_set, IsSome, ◌^◌};
-ghost use Rattle.std.specs.Option.{ForSome};
-ghost use Rattle.stream_array.specs.declared.Dequeue.{Dequeue};
-ghost use Rattle.stream_array.specs.Contexts.{Contexts, IsArray, IsOpening, IsStream, entry_of, opening_entry, dequeue_in, context_text};
+ghost use Rattle.std.specs.Prelude.{◌≡◌, ℕ, ◌+◌, ◌%◌, ◌<◌, ◌≤◌, ◌↔◌, Some, IsOk, IfOk, OnOk, OnErr, slice_set, IsSome};
+ghost use Rattle.stream_array.specs.Contexts.{IsOpening, IsStream, entry_of, opening_entry, dequeue_in, context_text};
+ghost use Rattle.stream_array.specs.Stored.{entry_in};
 
 use crate::{Dequeue, InvalidStream, NoMemory, PIPE_SPAN, Pipe, RINGS, STREAM_SPAN, STREAMS};
 use std::alloc::Global;
 use std::marker::Model;
 
+#[cfg(test)]
+mod tests;
+
 /// A linear primary stream array of `S` entries, 2 to 256 (4.12.2). Entry 0 is reserved.
 #[derive(Debug, Drop)]
 pub struct StreamArray<const S: usize> {
-    entries: Vec<Option<Dequeue>>,
+    // as the controller reads them
+    contexts: Vec<[u8; 16]>,
 }
 
 impl<const S: usize> Model for StreamArray<S> {
     ghost use Rattle.std.specs.Prelude.{List, Option};
     ghost use Rattle.stream_array.specs.declared.Dequeue.{Dequeue};
-    ghost use Rattle.stream_array.specs.Contexts.{Contexts, IsArray};
+    ghost use Rattle.stream_array.specs.Stored.{shown, IsStored};
 
     ghost Value = { List (Option Dequeue) };
 
-    ghost view = { λ a. a.entries.items };
+    ghost view = { λ a. shown a.contexts.items };
 
-    ghost invariant = { λ a. IsArray S a.entries.items };
+    ghost invariant = { λ a. IsStored S a.contexts.items (shown a.contexts.items) };
 }
 
 impl<const S: usize> StreamArray<S> {
@@ -34,11 +40,11 @@ impl<const S: usize> StreamArray<S> {
         requires most_entries { S ≤ 256 }
         ensures { IfOk result (λ array. IsOpening pipe S array) }
     {
-        let mut entries = Vec::with_capacity(alloc, S)?;
+        let mut contexts = Vec::with_capacity(alloc, S)?;
         for stream in 0..S {
-            entries.push(opening(pipe, stream as u16))?;
+            contexts.push(opening(pipe, stream as u16))?;
         }
-        Ok(StreamArray { entries })
+        Ok(StreamArray { contexts })
     }
 
     /// A stream's dequeue pointer and cycle state, `(0, false)` where the stream has no ring. Refused
@@ -47,7 +53,7 @@ impl<const S: usize> StreamArray<S> {
         ensures valid { IsOk result ↔ IsStream S stream }
         ensures given { IfOk result (λ dequeue. dequeue ≡ dequeue_in (entry_of self.now stream)) }
     {
-        match self.entry(stream)? {
+        match read(self.context(stream)?) {
             None => Ok((0, false)),
             Some(dequeue) => Ok((dequeue.pointer, dequeue.cycle)),
         }
@@ -61,10 +67,10 @@ impl<const S: usize> StreamArray<S> {
         ensures set { OnOk result (self.new ≡ slice_set self.old stream (Some (record { pointer = pointer; cycle = cycle }))) }
         ensures refused { OnErr result (self.new ≡ self.old) }
     {
-        if self.entry(stream)?.is_none() {
+        if read(self.context(stream)?).is_none() {
             return Err(InvalidStream);
         }
-        self.entries[stream as usize] = Some(Dequeue { pointer, cycle });
+        self.contexts[stream as usize] = text(Dequeue { pointer, cycle });
         Ok(())
     }
 
@@ -73,39 +79,62 @@ impl<const S: usize> StreamArray<S> {
         ensures valid { IsOk result ↔ IsStream S stream }
         ensures given { IfOk result (λ bytes. bytes ≡ context_text (entry_of self.now stream)) }
     {
-        let mut bytes = [0; 16];
-        if let Some(dequeue) = self.entry(stream)? {
-            // SCT 1 in bits 3:1, DCS in bit 0
-            let state = if dequeue.cycle { 3 } else { 2 };
-            let word = dequeue.pointer + state;
-            bytes[..8].copy_from_slice(&word.to_le_bytes());
-        }
-        Ok(bytes)
+        Ok(*self.context(stream)?)
     }
 
-    fn entry(&self, stream: u16) -> Result<Option<Dequeue>, InvalidStream>
+    // A stream's context as it stands.
+    fn context(&self, stream: u16) -> Result<&[u8; 16], InvalidStream>
         ensures valid { IsOk result ↔ IsStream S stream }
-        ensures given { IfOk result (λ entry. entry ≡ entry_of self.now stream) }
-        ensures aligned { IfOk result (λ entry. ForSome entry (λ dequeue. (dequeue.pointer < 2 ^ 64) × (dequeue.pointer % 16 ≡ 0))) }
+        ensures text { IfOk result (λ bytes. bytes.now ≡ context_text (entry_of self.now stream)) }
+        ensures entry { IfOk result (λ bytes. entry_in bytes.now ≡ entry_of self.now stream) }
     {
-        let entries = self.entries.as_slice();
-        if stream == 0 || entries.len() <= stream as usize {
+        let contexts = self.contexts.as_slice();
+        if stream == 0 || contexts.len() <= stream as usize {
             return Err(InvalidStream);
         }
-        Ok(entries[stream as usize])
+        Ok(&contexts[stream as usize])
     }
 }
 
-// The entry of a stream whose ring is new.
-fn opening(pipe: Pipe, stream: u16) -> Option<Dequeue>
-    ensures { result ≡ opening_entry pipe stream }
+// The context of a stream whose ring is new.
+fn opening(pipe: Pipe, stream: u16) -> [u8; 16]
+    ensures { result ≡ context_text (opening_entry pipe stream) }
 {
     if pipe == Pipe::Command || stream == 0 || stream > STREAMS {
-        return None;
+        return [0; 16];
     }
     let pointer = RINGS + PIPE_SPAN * u64::from(pipe.number()) + STREAM_SPAN * u64::from(stream);
-    Some(Dequeue {
+    text(Dequeue {
         pointer,
         cycle: true,
+    })
+}
+
+// The context that holds a dequeue pointer, a multiple of 16, and its cycle state.
+fn text(dequeue: Dequeue) -> [u8; 16]
+    requires { dequeue.pointer % 16 ≡ 0 }
+    ensures { result ≡ context_text (Some dequeue) }
+{
+    // SCT 1 in bits 3:1, DCS in bit 0
+    let state = if dequeue.cycle { 3 } else { 2 };
+    let word = dequeue.pointer + state;
+    let mut bytes = [0; 16];
+    bytes[..8].copy_from_slice(&word.to_le_bytes());
+    bytes
+}
+
+// What a context holds: nothing where SCT isn't 1.
+fn read(bytes: &[u8; 16]) -> Option<Dequeue>
+    ensures { result ≡ entry_in bytes.now }
+{
+    let mut low = [0; 8];
+    low.copy_from_slice(&bytes[..8]);
+    let word = u64::from_le_bytes(low);
+    if word / 2 % 8 != 1 {
+        return None;
+    }
+    Some(Dequeue {
+        pointer: word / 16 * 16,
+        cycle: word % 2 == 1,
     })
 }

@@ -1,8 +1,8 @@
-use Rattle.std.proofs.Common.{◌≡◌, ℕ, ◌<◌, vec_len}
-use Rattle.stream_array.specs.Contexts.{entry_of, opening_entry}
+use Rattle.std.proofs.Common.{◌≡◌, ℕ, ◌<◌, [], get_or, vec_len}
+use Rattle.stream_array.specs.Contexts.{opening_entry, context_text}
 use Rattle.stream_array.proofs.contexts.StreamArray.new.Given as goal
 
 abbrev pub invariant-loop-stream : goal.invariant-loop-stream
 invariant-loop-stream g l =
-    (vec_len l.entries ≡ l.stream)
-    × ((k : ℕ) → k < l.stream → entry_of l.entries.items k ≡ opening_entry l.pipe k)
+    (vec_len l.contexts ≡ l.stream)
+    × ((k : ℕ) → k < l.stream → get_or l.contexts.items k [] ≡ context_text (opening_entry l.pipe k))

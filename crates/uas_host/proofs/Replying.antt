@@ -3,8 +3,8 @@ use Rattle.std.proofs.Common.{◌≡◌, ℕ, ◌<◌, Bool, true, false, List, 
 use Rattle.std.specs.Prelude.{◌&&◌, slice_get}
 use Rattle.scsi_cmd.specs.Held.{held_at}
 use Rattle.uas_host.specs.declared.HostClient.{HostClient}
-use Rattle.uas_host.specs.declared.HostRequest.{HostRequest}
-use Rattle.uas_host.specs.declared.HostRequest.TheVariants.{Execute, Manage}
+use Rattle.scsi_cmd.specs.declared.Request.{Request}
+use Rattle.scsi_cmd.specs.declared.Request.TheVariants.{Execute, Manage}
 use Rattle.uas_host.specs.declared.TdState.{TdState}
 use Rattle.uas_host.specs.declared.TdState.TheVariants.{Pending, Seen, LeftOver, Retired}
 use Rattle.uas_host.specs.declared.Told.{Told}
@@ -19,7 +19,7 @@ first-slot [] slot is = absurd (cc)
 first-slot (first ∷ rest) slot is = let same : first ≡ slot = cc in ap (λ s. s ∷ rest) same
 
 -- what is ready, and was told as every entry was, has its reply
-ready-answered : (request : HostRequest) (told : Told) (command status : TdState) (moved : Bool) → (is_seen command && (is_over status && moved)) ≡ true →
+ready-answered : (request : Request) (told : Told) (command status : TdState) (moved : Bool) → (is_seen command && (is_over status && moved)) ≡ true →
     (is_seen status ≡ true → is_answer_to request told ≡ true) → (is_given_up status ≡ true → is_command request ≡ true) → has_answer told status request ≡ true
 ready-answered (Execute op) told Seen Seen moved is answer command = rw (answer refl) refl
 ready-answered (Execute op) told Seen Retired moved is answer command = refl

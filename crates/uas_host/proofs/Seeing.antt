@@ -11,8 +11,8 @@ use Rattle.scsi_cmd.specs.Held.{AllHeld, held_at}
 use Rattle.uas_host.specs.declared.TdState.{TdState}
 use Rattle.uas_host.specs.declared.TdState.TheVariants.{Pending, Seen, LeftOver, Retired}
 use Rattle.uas_host.specs.declared.Told.TheVariants.{Status as ToldStatus, Response as ToldResponse}
-use Rattle.uas_host.specs.declared.HostRequest.{HostRequest}
-use Rattle.uas_host.specs.declared.HostRequest.TheVariants.{Execute, Manage}
+use Rattle.scsi_cmd.specs.declared.Request.{Request}
+use Rattle.scsi_cmd.specs.declared.Request.TheVariants.{Execute, Manage}
 use Rattle.uas_host.specs.declared.HostEntry.{HostEntry}
 use Rattle.uas_host.specs.declared.HostClient.{HostClient}
 use Rattle.uas_host.specs.declared.News.{News}
@@ -73,11 +73,11 @@ and_right : (a b : Bool) → (a && b) ≡ true → b ≡ true
 and_right true b is = is
 and_right false b is = absurd (cc)
 
-status-answers : (request : HostRequest) (status : ℕ) (sense : ArrayVec ℕ) → is_command request ≡ true → is_answer_to request (ToldStatus status sense) ≡ true
+status-answers : (request : Request) (status : ℕ) (sense : ArrayVec ℕ) → is_command request ≡ true → is_answer_to request (ToldStatus status sense) ≡ true
 status-answers (Execute op) status sense is = refl
 status-answers (Manage task noted) status sense is = absurd (cc)
 
-response-answers : (request : HostRequest) (code : ℕ) → not (is_command request) ≡ true → is_answer_to request (ToldResponse code) ≡ true
+response-answers : (request : Request) (code : ℕ) → not (is_command request) ≡ true → is_answer_to request (ToldResponse code) ≡ true
 response-answers (Execute op) code is = absurd (cc)
 response-answers (Manage task noted) code is = refl
 
@@ -200,7 +200,7 @@ length-doomed noted [] = refl
 length-doomed noted (held ∷ rest) = ap suc (length-doomed noted rest)
 
 -- a response leaves commands over
-entries_after-sound : (news : News) (request : HostRequest) (client : HostClient) → IsHostClient client →
+entries_after-sound : (news : News) (request : Request) (client : HostClient) → IsHostClient client →
     IsHostClient (record { entries = entries_after news request client.entries; least = client.least; ready = client.ready })
 entries_after-sound news request client sound =
     elim (completes news) as (λ b. IsHostClient (record { entries = cond b (after_response (noted_in request) client.entries) client.entries; least = client.least; ready = client.ready })) [

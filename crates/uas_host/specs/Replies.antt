@@ -11,8 +11,8 @@ use Rattle.uas_host.specs.declared.TdState.{TdState}
 use Rattle.uas_host.specs.declared.TdState.TheVariants.{Pending, Seen, LeftOver, Retired}
 use Rattle.uas_host.specs.declared.Told.{Told}
 use Rattle.uas_host.specs.declared.Told.TheVariants.{Untold, Status, Response}
-use Rattle.uas_host.specs.declared.HostRequest.{HostRequest}
-use Rattle.uas_host.specs.declared.HostRequest.TheVariants.{Execute, Manage}
+use Rattle.scsi_cmd.specs.declared.Request.{Request}
+use Rattle.scsi_cmd.specs.declared.Request.TheVariants.{Execute, Manage}
 use Rattle.uas_host.specs.declared.HostEntry.{HostEntry}
 use Rattle.uas_host.specs.declared.HostClient.{HostClient}
 use Rattle.uas_host.specs.State.{HostState, client_of, is_command, is_response, is_retired, is_seen, is_status, with_client}
@@ -49,7 +49,7 @@ task_reply tag ticket (Status status sense) = None
 task_reply tag ticket (Response code) = Some (TaskReply tag ticket code)
 
 -- a command's reply asks that a vector is lent; a task management lends none and needs none
-abbrev pub reply_to : ℕ → HostEntry → Option (List ℕ) → HostRequest → Option Reply
+abbrev pub reply_to : ℕ → HostEntry → Option (List ℕ) → Request → Option Reply
 reply_to tag held lent (Execute op) = option_and_then (command_reply tag held.ticket held.told held.status_td) lent
 reply_to tag held lent (Manage task noted) = task_reply tag held.ticket held.told
 
@@ -92,7 +92,7 @@ replied host frames client = replied_first host frames client (client_of host cl
 
 -- an entry has its reply: a command's status TD was seen and told its status, or is retired, and a task management was told
 -- its response
-abbrev pub has_answer : Told → TdState → HostRequest → Bool
+abbrev pub has_answer : Told → TdState → Request → Bool
 has_answer told td (Execute op) = (is_seen td && is_status told) || is_retired td
 has_answer told td (Manage task noted) = is_response told
 

@@ -11,8 +11,8 @@ use Rattle.scsi_cmd.specs.Held.{held_at}
 use Rattle.uas_host.specs.declared.TdState.{TdState}
 use Rattle.uas_host.specs.declared.TdState.TheVariants.{Seen, LeftOver, Retired}
 use Rattle.uas_host.specs.declared.Told.TheVariants.{Status as ToldStatus, Response as ToldResponse}
-use Rattle.uas_host.specs.declared.HostRequest.{HostRequest}
-use Rattle.uas_host.specs.declared.HostRequest.TheVariants.{Execute, Manage}
+use Rattle.scsi_cmd.specs.declared.Request.{Request}
+use Rattle.scsi_cmd.specs.declared.Request.TheVariants.{Execute, Manage}
 use Rattle.uas_host.specs.declared.HostEntry.{HostEntry}
 use Rattle.uas_host.specs.declared.HostClient.{HostClient}
 use Rattle.uas_host.specs.declared.News.{News}
@@ -44,7 +44,7 @@ goes_to_device ToHost = false
 goes_to_device ToDevice = true
 
 -- a task management moves no data
-abbrev pub request_direction : HostRequest → Direction
+abbrev pub request_direction : Request → Direction
 request_direction (Execute op) = direction_of op
 request_direction (Manage task noted) = Nothing
 
@@ -92,7 +92,7 @@ seen (TdRetired pipe) held = if is_td_left_over pipe held then Some (with_retire
 -- THE DOOMED COMMANDS
 
 -- the tickets that a task management noted
-abbrev pub noted_in : HostRequest → List ℕ
+abbrev pub noted_in : Request → List ℕ
 noted_in (Execute op) = []
 noted_in (Manage task noted) = noted.items
 
@@ -121,7 +121,7 @@ completes (TdRetired pipe) = false
 -- ONE CLIENT AND THE HOST
 
 -- the entries once one of them was seen
-abbrev pub entries_after : News → HostRequest → List (Option HostEntry) → List (Option HostEntry)
+abbrev pub entries_after : News → Request → List (Option HostEntry) → List (Option HostEntry)
 entries_after news request entries = if completes news then after_response (noted_in request) entries else entries
 
 -- What is ready now is the last of the ready ones. No doomed command is ready by the response, as its status TD is left over.

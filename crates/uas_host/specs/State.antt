@@ -8,8 +8,8 @@ use Rattle.uas_host.specs.declared.TdState.{TdState}
 use Rattle.uas_host.specs.declared.TdState.TheVariants.{Pending, Seen, LeftOver, Retired}
 use Rattle.uas_host.specs.declared.Told.{Told}
 use Rattle.uas_host.specs.declared.Told.TheVariants.{Untold, Status, Response}
-use Rattle.uas_host.specs.declared.HostRequest.{HostRequest}
-use Rattle.uas_host.specs.declared.HostRequest.TheVariants.{Execute, Manage}
+use Rattle.scsi_cmd.specs.declared.Request.{Request}
+use Rattle.scsi_cmd.specs.declared.Request.TheVariants.{Execute, Manage}
 use Rattle.uas_host.specs.declared.HostEntry.{HostEntry}
 use Rattle.uas_host.specs.declared.HostClient.{HostClient}
 use Rattle.uas_host.specs.declared.Retirement.{Retirement}
@@ -103,7 +103,7 @@ queued_if ready queue slot = cond ready (queue ++ slot ∷ []) queue
 
 -- WHAT IS TRUE OF EVERY HOST
 
-abbrev pub is_command : HostRequest → Bool
+abbrev pub is_command : Request → Bool
 is_command (Execute op) = true
 is_command (Manage task noted) = false
 
@@ -118,7 +118,7 @@ is_response (Status status sense) = false
 is_response (Response code) = true
 
 -- a command is answered by a status, a task management by a response
-abbrev pub is_answer_to : HostRequest → Told → Bool
+abbrev pub is_answer_to : Request → Told → Bool
 is_answer_to (Execute op) told = is_status told
 is_answer_to (Manage task noted) told = is_response told
 

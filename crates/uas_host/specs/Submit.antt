@@ -17,7 +17,7 @@ use Rattle.stream_array.specs.Rings.{LinesState}
 use Rattle.uas_host.specs.declared.TdState.{TdState}
 use Rattle.uas_host.specs.declared.TdState.TheVariants.{Pending}
 use Rattle.uas_host.specs.declared.Told.TheVariants.{Untold}
-use Rattle.uas_host.specs.declared.HostRequest.TheVariants.{Execute}
+use Rattle.scsi_cmd.specs.declared.Request.TheVariants.{Execute}
 use Rattle.uas_host.specs.declared.HostEntry.{HostEntry}
 use Rattle.uas_host.specs.declared.HostClient.{HostClient}
 use Rattle.uas_host.specs.State.{HostState, client_of, with_client}

@@ -16,7 +16,7 @@ use Rattle.frame_store.specs.declared.TagBuffers.{TagBuffers}
 use Rattle.frame_store.specs.Buffers.{held_for, with_held}
 use Rattle.uas_host.specs.declared.TdState.TheVariants.{Pending}
 use Rattle.uas_host.specs.declared.Told.TheVariants.{Untold}
-use Rattle.uas_host.specs.declared.HostRequest.TheVariants.{Manage}
+use Rattle.scsi_cmd.specs.declared.Request.TheVariants.{Manage}
 use Rattle.uas_host.specs.declared.HostEntry.{HostEntry}
 use Rattle.uas_host.specs.declared.HostClient.{HostClient}
 use Rattle.uas_host.specs.State.{HostState, client_of, with_client}

@@ -6,9 +6,9 @@ ghost use Rattle.uas_host.specs.State.{IsHostClient, client_of, new_client, open
 ghost use Rattle.uas_host.specs.Submit.{IsFree, data_td_for, fault_at, host_fault, new_entry, noted, slot_of, submitted_client};
 
 use crate::tags::command_slot_of;
-use crate::{Host, HostClient, HostEntry, HostRequest, MAX_CLIENTS, NoMemory, TdState, Told};
+use crate::{Host, HostClient, HostEntry, MAX_CLIENTS, NoMemory, TdState, Told};
 use arrayvec::ArrayVec;
-use scsi_cmd::{Command, Op, SubmitFault, TAGS, moves, submit_fault};
+use scsi_cmd::{Command, Op, Request, SubmitFault, TAGS, moves, submit_fault};
 use std::alloc::Global;
 
 impl HostEntry {
@@ -18,7 +18,7 @@ impl HostEntry {
     {
         HostEntry {
             ticket,
-            request: HostRequest::Execute(op),
+            request: Request::Execute(op),
             told: Told::Untold,
             command_td: TdState::Pending,
             status_td: TdState::Pending,

@@ -58,7 +58,7 @@ mod tests;
 mod units;
 
 use arrayvec::ArrayVec;
-use scsi_cmd::{MAX_SENSE_BYTES, Op, TAGS, TASK_SLOT, Task};
+use scsi_cmd::{MAX_SENSE_BYTES, Request, TAGS};
 use std::alloc::AllocError;
 use std::marker::Model;
 use stream_array::Pipe;
@@ -169,24 +169,13 @@ pub struct Retirement {
     pub stage: RetirementStage,
 }
 
-/// What a client asked for under a tag.
-#[derive(Debug, Drop)]
-pub enum HostRequest {
-    /// A command.
-    Execute(Op),
-    /// A task management, and the tickets that it noted when it was submitted: an abort that of the command on the
-    /// tag, a reset those of all commands of its client, by rising slot.
-    Manage {
-        task: Task,
-        noted: ArrayVec<u64, TASK_SLOT>,
-    },
-}
-
 /// What the host has under a tag that is in use.
 #[derive(Debug, Drop)]
 pub struct HostEntry {
     pub ticket: u64,
-    pub request: HostRequest,
+    /// What the client asked for. A task management noted its tickets when it was submitted: an abort that of the command
+    /// on the tag, a reset those of all commands of its client, by rising slot.
+    pub request: Request,
     pub told: Told,
     pub command_td: TdState,
     pub status_td: TdState,

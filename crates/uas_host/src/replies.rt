@@ -7,9 +7,9 @@ ghost use Rattle.uas_host.specs.State.{client_of, is_command, is_response, is_re
 ghost use Rattle.uas_host.specs.Tags.{tag_of};
 
 use crate::tags::tag_under;
-use crate::{Host, HostClient, HostEntry, HostRequest, TdState, Told};
+use crate::{Host, HostClient, HostEntry, TdState, Told};
 use frame_store::Frames;
-use scsi_cmd::{Buffer, Reply};
+use scsi_cmd::{Buffer, Reply, Request};
 
 /// The reply of a command with its buffer. Asks that its status TD was seen and told its status, or is retired.
 fn command_reply(tag: u16, ticket: u64, told: Told, status_td: TdState, buffer: Buffer) -> Reply
@@ -61,11 +61,11 @@ impl HostEntry {
             ..
         } = self;
         match (request, lent) {
-            (HostRequest::Execute(_), Some(buffer)) => {
+            (Request::Execute(_), Some(buffer)) => {
                 command_reply(tag, ticket, told, status_td, buffer)
             }
-            (HostRequest::Manage { .. }, _) => task_reply(tag, ticket, told),
-            (HostRequest::Execute(_), None) => unreachable!(),
+            (Request::Manage { .. }, _) => task_reply(tag, ticket, told),
+            (Request::Execute(_), None) => unreachable!(),
         }
     }
 }

@@ -7,9 +7,9 @@ ghost use Rattle.uas_host.specs.declared.News.TheVariants.{TdRetired};
 ghost use Rattle.uas_host.specs.State.{is_command, is_data_over, is_left_over, is_over, is_pending, is_ready, is_retired, is_seen};
 
 use crate::tags::place_of_tag;
-use crate::{Host, HostClient, HostEntry, HostRequest, News, Place, TdState, Told};
+use crate::{Host, HostClient, HostEntry, News, Place, TdState, Told};
 use arrayvec::ArrayVec;
-use scsi_cmd::{CHECK_CONDITION, Direction, TAGS, TASK_SLOT, moves};
+use scsi_cmd::{CHECK_CONDITION, Direction, Request, TAGS, TASK_SLOT, moves};
 use stream_array::Pipe;
 use uas_iu::TASK_COMPLETE;
 
@@ -85,8 +85,8 @@ impl HostEntry {
         ensures { result ≡ request_direction self.now.request }
     {
         match &self.request {
-            HostRequest::Execute(op) => moves(op).0,
-            HostRequest::Manage { .. } => Direction::Nothing,
+            Request::Execute(op) => moves(op).0,
+            Request::Manage { .. } => Direction::Nothing,
         }
     }
 
@@ -107,7 +107,7 @@ impl HostEntry {
     pub(crate) fn is_command(&self) -> bool
         ensures { result ≡ is_command self.now.request }
     {
-        matches!(self.request, HostRequest::Execute(_))
+        matches!(self.request, Request::Execute(_))
     }
 
     /// Whether the data TD is left over, where `right` says that it is of the pipe that is asked for.
@@ -165,7 +165,7 @@ impl HostEntry {
         ensures { result.items ≡ noted_in self.now.request }
     {
         let mut tickets = ArrayVec::new();
-        if let HostRequest::Manage { noted, .. } = &self.request {
+        if let Request::Manage { noted, .. } = &self.request {
             tickets.try_extend_from_slice(noted.as_slice()).unwrap();
         }
         tickets

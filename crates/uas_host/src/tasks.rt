@@ -13,10 +13,10 @@ ghost use Rattle.uas_host.specs.Tds.{pushed_task, HasTaskRoom};
 use crate::tags::{command_slot_of, task_tag_of};
 use crate::tds::push_task;
 use crate::units::write_task;
-use crate::{Host, HostClient, HostEntry, HostRequest, MOST_DOORS, TdState, Told};
+use crate::{Host, HostClient, HostEntry, MOST_DOORS, TdState, Told};
 use arrayvec::ArrayVec;
 use frame_store::Frames;
-use scsi_cmd::{SubmitFault, TAGS, TASK_SLOT, Task};
+use scsi_cmd::{Request, SubmitFault, TAGS, TASK_SLOT, Task};
 use stream_array::Lines;
 
 /// Adds the ticket of what is held.
@@ -57,7 +57,7 @@ impl HostEntry {
     {
         HostEntry {
             ticket,
-            request: HostRequest::Manage { task, noted },
+            request: Request::Manage { task, noted },
             told: Told::Untold,
             command_td: TdState::Pending,
             status_td: TdState::Pending,

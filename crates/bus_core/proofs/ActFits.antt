@@ -22,7 +22,7 @@ use Rattle.bus_core.specs.Matched.{IsMatched, held_in, under}
 use Rattle.bus_core.specs.World.{World, cell_at}
 use Rattle.bus_core.specs.Cells.{FitsCell, FitsHeld}
 use Rattle.bus_core.specs.Fits.{Fits, FitsPart, FitsQueues, IsSoundWorld}
-use Rattle.bus_core.proofs.Framing.{AllFit-set, FitsPart-set, ChangesCell, IsFound, found, engine-kept}
+use Rattle.bus_core.proofs.Framing.{AllFit-set, EndsStay, FitsPart-set, ChangesCell, IsFound, found, engine-changed, unused-kept}
 use Rattle.bus_core.proofs.EventTexts.{KeepsOthers}
 use Rattle.bus_core.proofs.MatchedBounds.{held-place}
 use Rattle.bus_core.proofs.MatchedSteps.{IsHeld, matched-held}
@@ -76,6 +76,7 @@ pub record IsActed (state : Shared) (before after : World) (place : Place) (part
   pub units : after.device.units ≡ slice_set before.device.units place.client unit
   pub tasks : (tag : ℕ) → (tag ≡ tag_of place → ⊥) → task_of after.device tag ≡ task_of before.device tag
   pub others : KeepsOthers before after place
+  pub ends : EndsStay state before after place
   pub count : unit.count ≡ part.unit.count
   pub cell : FitsCell place.client part.unit.count place new (cell_at after place)
   pub queues : FitsQueues (acted_state state place part unit new rest posted) after
@@ -109,14 +110,18 @@ acted-fits state before after place old new unit rest posted at fits acted match
       data_out = ap (λ c. c.data_out) acted.controller ∙ fits.data_out;
       sound = sound;
       queues = acted.queues;
-      engine = engine-kept state (acted_state state place at.part unit new rest posted) before after fits.engine
-          (ap (λ h. h.retirement) acted.host) acted.engine;
+      engine = engine-changed state (acted_state state place at.part unit new rest posted) before after place fits.matched fits.engine refl
+          (ap (λ h. h.retirement) acted.host) acted.engine at.is_place.slot acted.others acted.ends;
       matched = matched;
       clients = AllFit-set before after state.parts place.client place.slot unit at.client.held at.part
           (with_entry (record at.part { unit = unit }) place.slot new) fits.clients at.there at.is_place.slot changes part;
       others = λ tag above.
           acted.tasks tag (λ same. omega (arith, above, long, same, at.is_place.client, at.is_place.slot))
           ∙ fits.others tag (omega (arith, above, long));
+      unused = λ tag above.
+          unused-kept before after place tag acted.others (omega (arith, above, long, fits.some_client))
+          (λ same. omega (arith, above, long, same, at.is_place.client, at.is_place.slot))
+          (fits.unused tag (omega (arith, above, long)));
     }
 
 -- WHAT STANDS UNDER A TAG

@@ -1,5 +1,5 @@
 -- What an act on a part is to the client's own solo machine.
-use Rattle.std.proofs.Common.{◌≡◌, ℕ, suc, true, List, [], ◌∷◌, map, Option, Some, None, option_map, option_and_then, refl, arith, ap, rules}
+use Rattle.std.proofs.Common.{◌≡◌, ℕ, suc, true, List, [], ◌∷◌, map, Option, Some, None, option_map, option_and_then, refl, arith, ap, sym, ◌∙◌, rules}
 use Rattle.std.specs.Prelude.{nat_lt, slice_set}
 use Rattle.std.proofs.Math.ListN.{get_or-map}
 use Rattle.std.proofs.Math.Seq.{map-set_same}
@@ -16,10 +16,13 @@ use Rattle.scsi_cmd.specs.Held.{held_at}
 use Rattle.solo_model.specs.Solo.{SoloState, after_request, solo_step, silently}
 use Rattle.solo_model.specs.TaggedTask.{after_notes}
 use Rattle.uas_host.specs.declared.Place.{Place}
-use Rattle.bus_core.specs.Td.{Entry}
+use Rattle.stream_array.specs.declared.Pipe.{Pipe}
+use Rattle.stream_array.specs.declared.Pipe.TheVariants.{Command as CommandPipeName, Status as StatusPipe, DataIn, DataOut}
+use Rattle.bus_core.specs.declared.Td.{Td}
+use Rattle.bus_core.specs.Td.{Entry, passed_on, passed_td, retired_on, trbs_on, with_td_on}
 use Rattle.bus_core.specs.declared.Completion.{Completion}
 use Rattle.bus_core.specs.declared.Step.{Step}
-use Rattle.bus_core.specs.Part.{Part, Act, carry_act, move_act, send_act, event_act, seen_entry, event_place, seen_by, fault_at, submitted_part, take_act}
+use Rattle.bus_core.specs.Part.{Part, Act, carry_act, move_act, send_act, event_act, seen_entry, event_place, seen_by, fault_at, submitted_part, take_act, pass_act, passed_slot, retire_act}
 use Rattle.bus_core.specs.Part.{entries_after, noted_entry, own_task, slot_tag}
 use Rattle.bus_core.specs.Isolation.{label_of, renumbered, solo_of, own_tag}
 
@@ -87,6 +90,47 @@ seen_entry-own client step event part slot (Some seen) is =
 -- the client can't tell that the host takes an event
 pub event_act-own : (client : ℕ) (step : Step) (event : Completion) (part : Part) → IsOwnAct client step part (event_act event part)
 event_act-own client step event part = seen_entry-own client step event part (event_place event).slot _ refl
+
+-- RETIREMENT
+
+-- a change of a TD keeps the task
+pub with_td_on-task : (change : Td → Td) (pipe : Pipe) (entry : Entry) → (with_td_on change pipe entry).task ≡ entry.task
+with_td_on-task change CommandPipeName entry = refl
+with_td_on-task change StatusPipe entry = refl
+with_td_on-task change DataIn entry = refl
+with_td_on-task change DataOut entry = refl
+
+-- a retired TD too
+pub retired_on-task : (pipe : Pipe) (entry now : Entry) → retired_on pipe entry ≡ Some now → now.task ≡ entry.task
+retired_on-task pipe entry now is = search (rules, with_td_on-task)
+
+pub retired_held-task : (pipe : Pipe) (held : Option Entry) (now : Entry) →
+    option_and_then (retired_on pipe) held ≡ Some now → option_map own_task (Some now) ≡ option_map own_task held
+retired_held-task pipe None now is = absurd (none-some now is)
+retired_held-task pipe (Some entry) now is = ap Some (retired_on-task pipe entry now is)
+
+-- the client can't tell that a TD of its is retired
+retired_entry-own : (client : ℕ) (step : Step) (pipe : Pipe) (part : Part) (slot : ℕ) (now : Option Entry) →
+    option_and_then (retired_on pipe) (held_at part.entries slot) ≡ now → IsOwnAct client step part (seen_entry part slot now)
+retired_entry-own client step pipe part slot None is = refl
+retired_entry-own client step pipe part slot (Some now) is =
+    let same = map-set_same (option_map own_task) part.entries slot (Some now) None (retired_held-task pipe (held_at part.entries slot) now is) in
+    rw same refl
+
+pub retire_act-own : (client : ℕ) (step : Step) (pipe : Pipe) (place : Place) (part : Part) → IsOwnAct client step part (retire_act pipe place part)
+retire_act-own client step pipe place part = retired_entry-own client step pipe part place.slot _ refl
+
+-- nor that the controller is moved past it
+passed_slot-own : (client : ℕ) (step : Step) (pipe : Pipe) (place : Place) (part : Part) (held : Option Entry) → held_at part.entries place.slot ≡ held
+    → IsOwnAct client step part (passed_slot pipe part place held)
+passed_slot-own client step pipe place part None is = refl
+passed_slot-own client step pipe place part (Some entry) is =
+    let same = map-set_same (option_map own_task) part.entries place.slot (Some (passed_on pipe entry)) None
+    (ap Some (with_td_on-task (passed_td (trbs_on pipe entry)) pipe entry) ∙ ap (option_map own_task) (sym is)) in
+    rw same refl
+
+pub pass_act-own : (client : ℕ) (step : Step) (pipe : Pipe) (place : Place) (part : Part) → IsOwnAct client step part (pass_act pipe place part)
+pass_act-own client step pipe place part = passed_slot-own client step pipe place part _ refl
 
 -- the tag of a slot of a client, renumbered for it, is the slot's index
 pub own_tag-slot_tag : (client slot : ℕ) → own_tag client (slot_tag client slot) ≡ suc slot

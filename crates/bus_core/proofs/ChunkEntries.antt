@@ -15,7 +15,6 @@ use Rattle.solo_model.specs.declared.Phase.TheVariants.{Begun}
 use Rattle.solo_model.specs.Soundness.{IsSound, IsSoundOp, IsSoundPhase, IsSoundRequest}
 use Rattle.solo_model.specs.TaggedTask.{buffer_after, progress_left}
 use Rattle.uas_target.specs.Tasks.{task_in}
-use Rattle.uas_host.specs.declared.HostRequest.TheVariants.{Execute as HostExecute}
 use Rattle.uas_host.specs.declared.Place.{Place}
 use Rattle.uas_host.specs.declared.TdState.TheVariants.{Pending}
 use Rattle.uas_host.specs.declared.Told.TheVariants.{Untold}
@@ -110,7 +109,7 @@ pub fits-chunk : (client : ℕ) (place : Place) (unit : BlockMaps) (entry : Entr
 fits-chunk client place unit entry op chunk was now fits is data_in data_out long = record {
   held = ap (λ (c : Cell). c.held) is ∙ fits.held ∙ (λ i. Some (record {
     ticket = entry.task.ticket;
-    request = HostExecute op;
+    request = Execute op;
     told = Untold;
     command_td = entry.command_td.state;
     status_td = entry.status_td.state;

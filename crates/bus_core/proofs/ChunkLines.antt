@@ -28,6 +28,7 @@ use Rattle.bus_core.specs.Fits.{data_event, event_texts, last_pointer}
 use Rattle.bus_core.proofs.DataTrbs.{length-data_trbs}
 use Rattle.bus_core.proofs.ChunkWindows.{chunk-written}
 use Rattle.bus_core.proofs.ChunkEntries.{moving_td, td_after}
+use Rattle.bus_core.proofs.Framing.{EndsAlike}
 use Rattle.bus_core.proofs.MatchedEntries.{data_event_if}
 
 -- RINGS
@@ -131,6 +132,11 @@ takes-out lines tag address pointer size true false some within = (
   },
   refl,
 )
+
+-- its enqueue place is where it was
+pub ends-after : (ring now : Ring) (got : ℕ) → now ≡ record ring { got = got } → EndsAlike ring now
+ends-after ring now got is =
+    record { base = ap (λ (r : Ring). r.base) is; at = ap (λ (r : Ring). r.at) is; put = ap (λ (r : Ring). r.put) is }
 
 -- the ring holds the TD after the chunk
 pub holds-after : (tag bytes chunk : ℕ) (took : Bool) (ring now : Ring) → HoldsTd ring (data_td tag bytes) (moving_td chunk)

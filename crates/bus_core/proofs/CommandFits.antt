@@ -8,7 +8,7 @@ use Rattle.std.proofs.lemmas.Option.{slice_get_past, slice_get-map}
 use Rattle.block_unit.specs.BlockMaps.{BlockMaps}
 use Rattle.cycle_ring.specs.Ring.{pointer_of, front_of}
 use Rattle.stream_array.specs.declared.TheConstants.{COMMAND_RING_PLACES}
-use Rattle.stream_array.specs.declared.Pipe.TheVariants.{Command}
+use Rattle.stream_array.specs.declared.Pipe.TheVariants.{Command, Status, DataIn, DataOut}
 use Rattle.frame_store.specs.declared.TagBuffers.{TagBuffers}
 use Rattle.frame_store.specs.declared.Place.{Place as Byte}
 use Rattle.frame_store.specs.declared.Buffer.TheVariants.{Command as CommandBuffer}
@@ -18,7 +18,6 @@ use Rattle.scsi_cmd.specs.declared.Op.{Op}
 use Rattle.scsi_cmd.specs.declared.TheConstants.{TAGS}
 use Rattle.scsi_cmd.specs.Work.{checked_work, reports_attention}
 use Rattle.scsi_cmd.specs.Op.{cdb_bytes}
-use Rattle.scsi_cmd.specs.declared.Request.{Request}
 use Rattle.scsi_cmd.specs.declared.Request.TheVariants.{Execute}
 use Rattle.scsi_cmd.specs.Held.{held_at, held_under, with_held_under}
 use Rattle.scsi_cmd.specs.Laws.{length-cdb_bytes}
@@ -47,7 +46,7 @@ use Rattle.xhci_ctl.specs.Pipes.{has_pending}
 use Rattle.xhci_ctl.specs.Own.{IsOwnCommand, IsOwnCommandFront}
 use Rattle.xhci_ctl.specs.Steps.{Sides, began_tag, commanded, completed, has_event_room, on_front, received_at}
 use Rattle.bus_core.specs.declared.Completion.{Completion}
-use Rattle.bus_core.specs.declared.Completion.TheVariants.{CommandDone, DataDone, StatusDone}
+use Rattle.bus_core.specs.declared.Completion.TheVariants.{CommandDone, DataDone, StatusDone, EngineDone}
 use Rattle.bus_core.specs.declared.Step.TheVariants.{CommandPipe}
 use Rattle.bus_core.specs.Td.{Entry, with_trb_taken}
 use Rattle.bus_core.specs.Wire.{request_text}
@@ -63,6 +62,7 @@ use Rattle.bus_core.specs.WorldDue.{CommandsAreDue}
 use Rattle.bus_core.proofs.ActFits.{IsPlaced, placed, IsActed, acted_state, acted-fits}
 use Rattle.bus_core.proofs.DeviceSteps.{received-op}
 use Rattle.bus_core.proofs.EventTexts.{KeepsOthers, carried_places-append, command_event, event_texts-append, event_texts-one}
+use Rattle.bus_core.proofs.Framing.{EndsStay}
 use Rattle.bus_core.proofs.MatchedBounds.{matched-room}
 use Rattle.bus_core.proofs.MatchedEntries.{asked_op, carried_to}
 use Rattle.bus_core.proofs.MatchedNext.{matched-no_stray}
@@ -76,6 +76,7 @@ length-event_texts world k [] = refl
 length-event_texts world k (CommandDone place ∷ rest) = ap suc (length-event_texts world (suc k) rest)
 length-event_texts world k (DataDone place ∷ rest) = ap suc (length-event_texts world k rest)
 length-event_texts world k (StatusDone place ∷ rest) = ap suc (length-event_texts world k rest)
+length-event_texts world k (EngineDone place ∷ rest) = ap suc (length-event_texts world k rest)
 
 pub event-room : (state : Shared) (world : World) → Fits state world → has_event_room world.lines ≡ true
 event-room state world fits =
@@ -232,7 +233,7 @@ received-queues state world place rest after op part new fits is within others =
       got = omega (arith, fits.queues.got, ap length more, length-append (carried_places state.events) (place ∷ []));
       texts = ap (λ es. es ++ command_event world world.lines.command.got ∷ []) fits.queues.texts
           ∙ ap (λ es. es ++ command_event world world.lines.command.got ∷ [])
-          (sym (event_texts-one state world (received_world world place after op) place 0 fits.matched within (refl, refl) others (λ some. (refl, refl))
+          (sym (event_texts-one state world (received_world world place after op) place 0 fits.matched within (refl, refl) refl others (λ some. (refl, refl))
           (λ some. (refl, refl))))
           ∙ ap (λ n. event_texts (received_world world place after op) 0 state.events ++ command_event world n ∷ [])
           (fits.queues.got ∙ plus_none (length (carried_places state.events)))
@@ -245,6 +246,14 @@ received-others : (world : World) (place : Place) (after : BlockMaps × Progress
 received-others world place after op other at inside apart =
     ap (λ t. record (cell_at world (place_in other at)) { task = t })
     (held_under-with_other world.device.tasks (tag_of place) (tag_of (place_in other at)) (task_in (Some place.client) (Ok op) after.1) apart)
+
+-- no stream is touched
+received-ends : (state : Shared) (world : World) (place : Place) (after : BlockMaps × Progress) (op : Op)
+    → EndsStay state world (received_world world place after op) place
+received-ends state world place after op Command streams left = absurd streams
+received-ends state world place after op Status streams left = record { base = refl; at = refl; put = refl }
+received-ends state world place after op DataIn streams left = record { base = refl; at = refl; put = refl }
+received-ends state world place after op DataOut streams left = record { base = refl; at = refl; put = refl }
 
 received-acted : (state : Shared) (world : World) (place : Place) (rest : List Place) (entry : Entry) (op : Op) (at : IsPlaced state world place entry)
     → Fits state world → state.messages ≡ place ∷ rest → entry.task.phase ≡ Queued → entry.task.request ≡ Execute op
@@ -260,6 +269,7 @@ received-acted state world place rest entry op at fits is queued asks =
       units = refl;
       tasks = λ other apart. held_under-with_other world.device.tasks (tag_of place) other task apart;
       others = received-others world place (begins at.part.unit op) op;
+      ends = received-ends state world place (begins at.part.unit op) op;
       count = begun-count at.part.unit (reports_attention op) (checked_work op at.part.unit.count);
       cell = subst (λ t. FitsCell place.client at.part.unit.count place (received_entry entry (begins at.part.unit op).1)
           (record (cell_at world place) { task = t }))

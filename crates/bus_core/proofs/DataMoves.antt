@@ -44,8 +44,10 @@ use Rattle.bus_core.proofs.DeviceSteps.{IsGiven, given_chunk, IsTaken, taken_chu
 use Rattle.bus_core.proofs.DataTrbs.{length-chunk_given, chunk_wanted-gives, chunk_wanted-takes, data_front, front_of-data_td}
 use Rattle.bus_core.proofs.ChunkWindows.{chunk-read}
 use Rattle.bus_core.proofs.ChunkEntries.{moving_td, td_after}
-use Rattle.bus_core.proofs.ChunkLines.{TakesTrb, WritesLent, chunk_events, holds-after, lent-given, lent-kept, takes-in, takes-out, texts-in, texts-out}
+use Rattle.bus_core.proofs.ChunkLines.{TakesTrb, WritesLent, chunk_events, ends-after, holds-after, lent-given, lent-kept, takes-in, takes-out}
+use Rattle.bus_core.proofs.ChunkLines.{texts-in, texts-out}
 use Rattle.bus_core.proofs.DataWorlds.{MovesChunk}
+use Rattle.bus_core.proofs.Framing.{ends-same}
 use Rattle.bus_core.proofs.CommandFits.{event-room}
 use Rattle.bus_core.proofs.DataSteps.{IsChunkAt, IsInLent, all_three, armed-front, chunk_size, fits-after, has_stream-tag, in-lent, own-data_trb}
 use Rattle.bus_core.proofs.DataSteps.{pending-td, step-front}
@@ -186,6 +188,8 @@ moves-given {state} {world} {place} {part} at fits way =
       command = lines.0.command;
       engine = lines.0.engine;
       status = lines.0.status;
+      data_in_ends = ends-after (stream_ring world.lines.data_in (tag_of place)) _ _ lines.0.here;
+      data_out_ends = ends-same (stream_ring world.lines.data_out (tag_of place)) _ (ap (λ rs. stream_ring rs (tag_of place)) lines.1);
       data_in = lines.0.others;
       data_out = λ other there apart. ap (λ rs. stream_ring rs other) lines.1;
       buffers = frames.here;
@@ -367,6 +371,8 @@ moves-taken {state} {world} {place} {part} at fits way =
       command = lines.0.command;
       engine = lines.0.engine;
       status = lines.0.status;
+      data_in_ends = ends-same (stream_ring world.lines.data_in (tag_of place)) _ (ap (λ rs. stream_ring rs (tag_of place)) lines.1);
+      data_out_ends = ends-after (stream_ring world.lines.data_out (tag_of place)) _ _ lines.0.here;
       data_in = λ other there apart. ap (λ rs. stream_ring rs other) lines.1;
       data_out = lines.0.others;
       buffers = frames.here;

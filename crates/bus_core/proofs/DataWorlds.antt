@@ -1,11 +1,12 @@
 -- A world in which one place moved a chunk fits the state in which it did.
-use Rattle.std.proofs.Common.{◌≡◌, ℕ, zero, suc, ◌+◌, ◌*◌, ◌<◌, ◌≤◌, List, [], ◌∷◌, ◌++◌, length, length-set, map, Option, Some, arith, ap, sym, ◌∙◌}
+use Rattle.std.proofs.Common.{◌≡◌, ℕ, zero, suc, ◌+◌, ◌*◌, ◌<◌, ◌≤◌, List, [], ◌∷◌, ◌++◌, length, length-set, map, Option, Some, refl, arith, ap, sym, ◌∙◌}
 use Rattle.std.specs.Prelude.{slice_get, slice_set}
 use Rattle.std.proofs.lemmas.List.{append-nil}
 use Rattle.std.proofs.lemmas.Option.{none-some}
 use Rattle.block_unit.specs.BlockMaps.{BlockMaps}
 use Rattle.cycle_ring.specs.Ring.{Ring}
 use Rattle.event_ring.specs.declared.Event.{Event}
+use Rattle.stream_array.specs.declared.Pipe.TheVariants.{Command, Status, DataIn, DataOut}
 use Rattle.stream_array.specs.Rings.{stream_ring}
 use Rattle.frame_store.specs.declared.TagBuffers.{TagBuffers}
 use Rattle.frame_store.specs.Buffers.{held_for}
@@ -27,7 +28,7 @@ use Rattle.bus_core.specs.World.{World, cell_at}
 use Rattle.bus_core.specs.Cells.{FitsCell}
 use Rattle.bus_core.specs.Fits.{Fits, FitsQueues, IsSoundWorld, command_trb, event_texts, place_in}
 use Rattle.bus_core.proofs.Standing.{held_under-with_same, held_under-with_other, slice_get-back}
-use Rattle.bus_core.proofs.Framing.{AllFit-set, FitsPart-set, ChangesCell, IsFound, engine-kept}
+use Rattle.bus_core.proofs.Framing.{AllFit-set, EndsAlike, EndsStay, FitsPart-set, ChangesCell, IsFound, ends-same, engine-changed, unused-kept}
 use Rattle.bus_core.proofs.EventTexts.{carried_places-append, event_texts-append, event_texts-one, KeepsOthers}
 
 -- ONE CHUNK
@@ -42,6 +43,8 @@ pub record MovesChunk (before after : World) (place : Place) (unit : BlockMaps) 
   pub command : after.lines.command ≡ before.lines.command
   pub engine : after.lines.engine ≡ before.lines.engine
   pub status : after.lines.status ≡ before.lines.status
+  pub data_in_ends : EndsAlike (stream_ring before.lines.data_in (tag_of place)) (stream_ring after.lines.data_in (tag_of place))
+  pub data_out_ends : EndsAlike (stream_ring before.lines.data_out (tag_of place)) (stream_ring after.lines.data_out (tag_of place))
   pub data_in : (other : ℕ) → 0 < other → (other ≡ tag_of place → ⊥) → stream_ring after.lines.data_in other ≡ stream_ring before.lines.data_in other
   pub data_out : (other : ℕ) → 0 < other → (other ≡ tag_of place → ⊥) → stream_ring after.lines.data_out other ≡ stream_ring before.lines.data_out other
   pub buffers : held_for after.frames (tag_of place) ≡ record (held_for before.frames (tag_of place)) { lent = Some lent }
@@ -127,7 +130,7 @@ queues-moved state before after place part unit entry task lent posted done move
     let carried : carried_places (state.events ++ done) ≡ carried_places state.events =
     carried_places-append state.events done ∙ ap (λ ps. carried_places state.events ++ ps) quiet ∙ append-nil (carried_places state.events) in
     let kept : event_texts after 0 state.events ≡ event_texts before 0 state.events =
-    event_texts-one state before after place 0 all within (ap (λ (r : Ring). r.base) moves.command, ap (λ (r : Ring). r.at) moves.command)
+    event_texts-one state before after place 0 all within (ap (λ (r : Ring). r.base) moves.command, ap (λ (r : Ring). r.at) moves.command) moves.engine
     (keeps-others before after place unit task lent posted moves) (λ some. absurd (omega (arith, some, none)))
     (λ some. (ap (λ rs. stream_ring rs (tag_of place)) moves.status, ap (λ (b : TagBuffers). b.status) moves.buffers)) in
     record {
@@ -136,6 +139,16 @@ queues-moved state before after place part unit entry task lent posted done move
       texts = moves.events ∙ ap (λ es. es ++ posted) (queues.texts ∙ sym kept) ∙ ap (λ es. event_texts after 0 state.events ++ es) (sym texts)
           ∙ sym (event_texts-append after 0 state.events done);
     }
+
+-- the enqueue places of its streams are where they were
+moved-ends : (state : Shared) (before after : World) (place : Place) (unit : BlockMaps) (task : Option DeviceTask) (lent : List ℕ) (posted : List Event)
+    → MovesChunk before after place unit task lent posted → EndsStay state before after place
+moved-ends state before after place unit task lent posted moves Command streams left = absurd streams
+moved-ends state before after place unit task lent posted moves Status streams left =
+    ends-same (stream_ring before.lines.status (tag_of place)) (stream_ring after.lines.status (tag_of place))
+    (ap (λ rs. stream_ring rs (tag_of place)) moves.status)
+moved-ends state before after place unit task lent posted moves DataIn streams left = moves.data_in_ends
+moved-ends state before after place unit task lent posted moves DataOut streams left = moves.data_out_ends
 
 -- what the place has now fits its cell, and so does everything else
 pub fits-moved : (state : Shared) (before after : World) (place : Place) (part : Part) (unit : BlockMaps) (entry : Entry) (task : Option DeviceTask)
@@ -158,8 +171,9 @@ fits-moved state before after place part unit entry task lent posted done fits f
       data_out = ap (λ (c : ControllerState). c.data_out) moves.controller ∙ fits.data_out;
       sound = sound;
       queues = queues-moved state before after place part unit entry task lent posted done moves fits.matched fits.queues within none quiet texts;
-      engine = engine-kept state (moved_state state place part unit entry done) before after fits.engine
-          (ap (λ (h : HostState). h.retirement) moves.host) moves.engine;
+      engine = engine-changed state (moved_state state place part unit entry done) before after place fits.matched fits.engine refl
+          (ap (λ (h : HostState). h.retirement) moves.host) moves.engine within (keeps-others before after place unit task lent posted moves)
+          (moved-ends state before after place unit task lent posted moves);
       matched = matched;
       clients = AllFit-set before after state.parts place.client place.slot unit found.held part
           (with_entry (record part { unit = unit }) place.slot entry) fits.clients there within changes
@@ -170,4 +184,9 @@ fits-moved state before after place part unit entry task lent posted done fits f
           let past_all : TAGS * length state.parts < other = omega (arith, past, parts) in
           let apart : other ≡ tag_of place → ⊥ = λ same. omega (arith, same, past_all, within_parts, within) in
           ap (λ ts. held_under ts other) moves.tasks ∙ held_under-with_other before.device.tasks (tag_of place) other task apart ∙ fits.others other past_all;
+      unused = λ other past.
+          let within_parts : place.client < length state.parts = slice_get-within state.parts place.client part there in
+          let past_all : TAGS * length state.parts < other = omega (arith, past, parts) in
+          unused-kept before after place other (keeps-others before after place unit task lent posted moves) (omega (arith, past_all))
+          (λ same. omega (arith, same, past_all, within_parts, within)) (fits.unused other past_all);
     }

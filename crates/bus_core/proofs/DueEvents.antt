@@ -7,7 +7,7 @@ use Rattle.event_ring.specs.declared.Event.{Event}
 use Rattle.uas_host.specs.declared.HostClient.{HostClient}
 use Rattle.uas_host.specs.State.{client_of, new_client}
 use Rattle.bus_core.specs.declared.Completion.{Completion}
-use Rattle.bus_core.specs.declared.Completion.TheVariants.{CommandDone, DataDone, StatusDone}
+use Rattle.bus_core.specs.declared.Completion.TheVariants.{CommandDone, DataDone, StatusDone, EngineDone}
 use Rattle.bus_core.specs.Part.{Part}
 use Rattle.bus_core.specs.Shared.{Shared, has_ready, is_some_of}
 use Rattle.bus_core.specs.World.{World}
@@ -23,6 +23,7 @@ texts-some world k [] = refl
 texts-some world k (CommandDone place ∷ rest) = sym (lt-ltb 0 (suc (length (event_texts world (suc k) rest))) (omega arith))
 texts-some world k (DataDone place ∷ rest) = sym (lt-ltb 0 (suc (length (event_texts world k rest))) (omega arith))
 texts-some world k (StatusDone place ∷ rest) = sym (lt-ltb 0 (suc (length (event_texts world k rest))) (omega arith))
+texts-some world k (EngineDone place ∷ rest) = sym (lt-ltb 0 (suc (length (event_texts world k rest))) (omega arith))
 
 pub events-are-due : EventsAreDue
 events-are-due state world fits = texts-some world 0 state.events ∙ ap (λ (es : List Event). nat_lt 0 (length es)) (sym fits.queues.texts)

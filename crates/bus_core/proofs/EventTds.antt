@@ -370,7 +370,7 @@ pub record HasDataText (state : Shared) (world : World) (place : Place) : Type 0
 
 pub data_text-waits : (state : Shared) (world : World) (place : Place) → Fits state world → 1 ≤ data_events place state.events → HasDataText state world place
 data_text-waits state world place all some =
-    let own : IsOwnEvent state.parts (DataDone place) = own-event state (DataDone place) all.matched some in
+    let own : IsOwnEvent state (DataDone place) = own-event state (DataDone place) all.matched some in
     record {
       entry = own.entry;
       held = own.held;
@@ -381,7 +381,7 @@ data_text-waits state world place all some =
 pub status_text-waits : (state : Shared) (world : World) (place : Place) → Fits state world → 1 ≤ status_events place state.events
     → IsStatusText world place
 status_text-waits state world place all some =
-    let own : IsOwnEvent state.parts (StatusDone place) = own-event state (StatusDone place) all.matched some in
+    let own : IsOwnEvent state (StatusDone place) = own-event state (StatusDone place) all.matched some in
     status_text-is world place own.entry all.sound.lines (fits-cell state world place own.entry all own.held) own.awaits
 
 slice_get-append_left : {T : Type 0} (first second : List T) (at : ℕ) (it : T) → slice_get first at ≡ Some it → slice_get (first ++ second) at ≡ Some it
@@ -393,7 +393,7 @@ slice_get-append_left (next ∷ rest) second (suc at) it is = slice_get-append_l
 pub command_text-waits : (state : Shared) (world : World) (k : ℕ) (place : Place) → Fits state world → slice_get (carried_places state.events) k ≡ Some place
     → ended_at world.lines (pointer_of COMMAND_RING_PLACES world.lines.command k) ≡ Some (record { pipe = Command; tag = tag_of place })
 command_text-waits state world k place all is =
-    let own : IsOwnEvent state.parts (CommandDone place) =
+    let own : IsOwnEvent state (CommandDone place) =
     own-event state (CommandDone place) all.matched (times-member (carried_places state.events) k place is) in
     let within : k < length (carried_places state.events) = slice_get_within (carried_places state.events) k place is in
     let room : length (pipe_places state) ≤ 8 * length state.parts = (matched-room state all.matched).pipe in

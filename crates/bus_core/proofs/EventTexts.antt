@@ -15,14 +15,15 @@ use Rattle.uas_host.specs.Tags.{tag_of}
 use Rattle.xhci_ctl.specs.declared.TheConstants.{SUCCESS, SLOT}
 use Rattle.xhci_ctl.specs.Steps.{endpoint_of}
 use Rattle.bus_core.specs.declared.Completion.{Completion}
-use Rattle.bus_core.specs.declared.Completion.TheVariants.{CommandDone, DataDone, StatusDone}
+use Rattle.bus_core.specs.declared.Completion.TheVariants.{CommandDone, DataDone, StatusDone, EngineDone}
 use Rattle.bus_core.specs.Part.{Part, event_place}
 use Rattle.bus_core.specs.Td.{Entry}
 use Rattle.bus_core.specs.Shared.{Shared}
 use Rattle.bus_core.specs.Soundness.{one_if}
-use Rattle.bus_core.specs.Matched.{same_place, under, carried_places, data_events, status_events, HaveSlots, IsMatched, IsOwnEvent}
+use Rattle.bus_core.specs.Matched.{same_place, under, carried_places, data_events, status_events, HaveSlots, IsMatched, IsOwnEvent, IsRetiring}
 use Rattle.bus_core.specs.World.{World, Cell, cell_at}
-use Rattle.bus_core.specs.Fits.{data_event, status_event, event_texts, place_in}
+use Rattle.bus_core.specs.Fits.{data_event, engine_event, status_event, event_texts}
+pub use Rattle.bus_core.proofs.Framing.{KeepsOthers}
 use Rattle.bus_core.proofs.MatchedPlaces.{IsFound, under-found, held-within, same_place-true, same_place-self}
 use Rattle.bus_core.proofs.MatchedNext.{matched-no_stray}
 
@@ -33,6 +34,7 @@ carried_places-append [] more = refl
 carried_places-append (CommandDone place ∷ rest) more = ap (λ ps. place ∷ ps) (carried_places-append rest more)
 carried_places-append (DataDone place ∷ rest) more = carried_places-append rest more
 carried_places-append (StatusDone place ∷ rest) more = carried_places-append rest more
+carried_places-append (EngineDone place ∷ rest) more = carried_places-append rest more
 
 -- the text of a command event
 abbrev pub command_event : World → ℕ → Event
@@ -54,6 +56,7 @@ event_texts-append world k (DataDone place ∷ rest) more =
 event_texts-append world k (StatusDone place ∷ rest) more =
     ap (λ es. status_event (stream_ring world.lines.status (tag_of place)) (held_for world.frames (tag_of place)).status ∷ es)
     (event_texts-append world k rest more)
+event_texts-append world k (EngineDone place ∷ rest) more = ap (λ es. engine_event world.lines.engine ∷ es) (event_texts-append world k rest more)
 
 -- WHAT EACH EVENT READS IS THE SAME
 
@@ -64,6 +67,7 @@ ReadsSame before after (DataDone place) =
     ((cell_at after place).data_in ≡ (cell_at before place).data_in) × ((cell_at after place).data_out ≡ (cell_at before place).data_out)
 ReadsSame before after (StatusDone place) =
     ((cell_at after place).status ≡ (cell_at before place).status) × ((cell_at after place).buffers.status ≡ (cell_at before place).buffers.status)
+ReadsSame before after (EngineDone place) = after.lines.engine ≡ before.lines.engine
 
 abbrev pub AllReadSame : World → World → List Completion → Type 0
 AllReadSame before after [] = Unit {0}
@@ -89,6 +93,9 @@ event_texts-shifted before after m k (StatusDone place ∷ rest) shifts same =
     ap (λ ring. status_event ring (cell_at after place).buffers.status ∷ event_texts after k rest) same.0.0
     ∙ ap (λ bytes. status_event (cell_at before place).status bytes ∷ event_texts after k rest) same.0.1
     ∙ ap (λ es. status_event (cell_at before place).status (cell_at before place).buffers.status ∷ es) (event_texts-shifted before after m k rest shifts same.1)
+event_texts-shifted before after m k (EngineDone place ∷ rest) shifts same =
+    ap (λ ring. engine_event ring ∷ event_texts after k rest) same.0
+    ∙ ap (λ es. engine_event before.lines.engine ∷ es) (event_texts-shifted before after m k rest shifts same.1)
 
 -- the command ring lies where it lay
 abbrev pub LiesSame : World → World → Type 0
@@ -130,10 +137,16 @@ within-all : (events : List Completion) → ((at : ℕ) (event : Completion) →
 within-all [] each = tt
 within-all (event ∷ rest) each = (each 0 event refl, within-all rest (λ at other is. each (suc at) other is))
 
+-- the place of an event that waits has its slot
+pub event-within : (state : Shared) (event : Completion) → IsMatched state → IsOwnEvent state event → (event_place event).slot < TAGS
+event-within state (CommandDone place) all own = under-within state.parts place own.entry all.slots own.held
+event-within state (DataDone place) all own = under-within state.parts place own.entry all.slots own.held
+event-within state (StatusDone place) all own = under-within state.parts place own.entry all.slots own.held
+event-within state (EngineDone place) all own =
+    subst (λ (p : Place). p.slot < TAGS) own.place_same (subst (λ o. IfSome o (IsRetiring state)) own.under_way all.retiring).there.slot
+
 pub events-within : (state : Shared) → IsMatched state → AreWithin state.events
-events-within state all = within-all state.events
-    (λ at event is. let own : IsOwnEvent state.parts event = (matched-no_stray state all).events at event is in
-    under-within state.parts (event_place event) own.entry all.slots own.held)
+events-within state all = within-all state.events (λ at event is. event-within state event all ((matched-no_stray state all).events at event is))
 
 -- other places have other tags
 pub other-tags : (place other : Place) → place.slot < TAGS → other.slot < TAGS → same_place place other ≡ false → tag_of place ≡ tag_of other → ⊥
@@ -142,11 +155,6 @@ other-tags place other within there apart same =
     let slot : place.slot ≡ other.slot = omega arith in
     let one : place ≡ other = λ i. record { client = client i; slot = slot i } in
     false≢true (sym apart ∙ ap (λ p. same_place p other) one ∙ same_place-self other)
-
--- the cells of all other tags are the same
-abbrev pub KeepsOthers : World → World → Place → Type 0
-KeepsOthers before after place =
-    (other at : ℕ) → at < TAGS → (tag_of (place_in other at) ≡ tag_of place → ⊥) → cell_at after (place_in other at) ≡ cell_at before (place_in other at)
 
 -- where a data event of the place waits its data rings are the same, and where a status event waits its status ring and buffer are
 abbrev pub KeepsData : World → World → Place → List Completion → Type 0
@@ -179,24 +187,28 @@ status-reads before after place other rest within there others status_kept =
 
 -- The handy form. Where no such event waits write `λ some. absurd (omega (arith, some, none))`, and where the cell has
 -- what it reads `λ some. (refl, refl)`.
-pub one-reads : (before after : World) (place : Place) (events : List Completion) → place.slot < TAGS → AreWithin events → KeepsOthers before after place
-    → KeepsData before after place events → KeepsStatus before after place events → AllReadSame before after events
-one-reads before after place [] within there others data_kept status_kept = tt
-one-reads before after place (CommandDone other ∷ rest) within there others data_kept status_kept =
-    (tt, one-reads before after place rest within there.1 others data_kept status_kept)
-one-reads before after place (DataDone other ∷ rest) within there others data_kept status_kept = (
+pub one-reads : (before after : World) (place : Place) (events : List Completion) → place.slot < TAGS → AreWithin events
+    → after.lines.engine ≡ before.lines.engine → KeepsOthers before after place → KeepsData before after place events → KeepsStatus before after place events
+    → AllReadSame before after events
+one-reads before after place [] within there engine others data_kept status_kept = tt
+one-reads before after place (CommandDone other ∷ rest) within there engine others data_kept status_kept =
+    (tt, one-reads before after place rest within there.1 engine others data_kept status_kept)
+one-reads before after place (DataDone other ∷ rest) within there engine others data_kept status_kept = (
   data-reads before after place other rest within there.0 others data_kept,
-  one-reads before after place rest within there.1 others (λ some. data_kept (omega (arith, some))) status_kept,
+  one-reads before after place rest within there.1 engine others (λ some. data_kept (omega (arith, some))) status_kept,
 )
-one-reads before after place (StatusDone other ∷ rest) within there others data_kept status_kept = (
+one-reads before after place (StatusDone other ∷ rest) within there engine others data_kept status_kept = (
   status-reads before after place other rest within there.0 others status_kept,
-  one-reads before after place rest within there.1 others data_kept (λ some. status_kept (omega (arith, some))),
+  one-reads before after place rest within there.1 engine others data_kept (λ some. status_kept (omega (arith, some))),
 )
+one-reads before after place (EngineDone other ∷ rest) within there engine others data_kept status_kept =
+    (engine, one-reads before after place rest within there.1 engine others data_kept status_kept)
 
 -- no event of the place waits that reads what changed, and the command ring lies where it lay: the texts are the same
 pub event_texts-one : (state : Shared) (before after : World) (place : Place) (k : ℕ) → IsMatched state → place.slot < TAGS → LiesSame before after
-    → KeepsOthers before after place → KeepsData before after place state.events → KeepsStatus before after place state.events
+    → after.lines.engine ≡ before.lines.engine → KeepsOthers before after place → KeepsData before after place state.events
+    → KeepsStatus before after place state.events
     → event_texts after k state.events ≡ event_texts before k state.events
-event_texts-one state before after place k all within lies others data_kept status_kept =
+event_texts-one state before after place k all within lies engine others data_kept status_kept =
     event_texts-kept before after k state.events lies
-    (one-reads before after place state.events within (events-within state all) others data_kept status_kept)
+    (one-reads before after place state.events within (events-within state all) engine others data_kept status_kept)

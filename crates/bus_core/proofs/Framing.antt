@@ -1,21 +1,37 @@
 -- The frame of every step on the world of rings: one cell changed, with its client's record and unit, so all others fit as
--- before. Cited by the proofs of all steps.
-use Rattle.std.proofs.Common.{◌≡◌, ℕ, ◌<◌, true, false, List, length, length-set, Option, Some, None, refl, arith, ap, sym, subst, ◌∙◌}
+-- before. The streams of nobody stay empty, and the controller's own command ring fits as before where the enqueue place of no
+-- TD that is left over moved. Cited by the proofs of all steps.
+use Rattle.std.proofs.Common.{◌≡◌, ℕ, ◌+◌, ◌-◌, ◌*◌, ◌/◌, ◌%◌, ◌<◌, true, false, List, [], ◌∷◌, length, length-set, Option, Some, None, IfSome, refl, arith}
+use Rattle.std.proofs.Common.{option_map, ap, sym, subst, ◌∙◌}
 use Rattle.std.specs.Prelude.{slice_get, slice_set, ◌==◌}
+use Rattle.std.specs.Option.{option_map_or}
 use Rattle.std.proofs.lemmas.Bool.{eqb-true, eqb-false}
 use Rattle.std.proofs.lemmas.List.{get_or-set_same, get_or-set_other}
 use Rattle.block_unit.specs.BlockMaps.{BlockMaps}
+use Rattle.xhci_trb.specs.declared.Trb.TheVariants.{SetDequeue}
 use Rattle.cycle_ring.specs.Ring.{Ring}
+use Rattle.stream_array.specs.declared.Pipe.{Pipe}
+use Rattle.stream_array.specs.declared.Pipe.TheVariants.{Command, Status, DataIn, DataOut}
+use Rattle.stream_array.specs.Map.{HasStreams, places_of}
+use Rattle.stream_array.specs.Rings.{LinesState, ring_of}
 use Rattle.scsi_cmd.specs.declared.TheConstants.{TAGS}
 use Rattle.scsi_cmd.specs.Held.{held_at}
 use Rattle.uas_host.specs.declared.HostClient.{HostClient}
+use Rattle.uas_host.specs.declared.Place.{Place}
+use Rattle.uas_host.specs.Doors.{target_of}
+use Rattle.uas_host.specs.declared.Retirement.{Retirement as HostRetirement}
+use Rattle.uas_host.specs.Retirement.{is_held as is_host_held, move_trb, same_pipe}
 use Rattle.uas_host.specs.Tags.{tag_of}
+use Rattle.bus_core.specs.declared.Retirement.{Retirement}
+use Rattle.bus_core.specs.declared.RetirementStage.{RetirementStage}
+use Rattle.bus_core.specs.declared.RetirementStage.TheVariants.{StopAsked, StopAnswered, MoveAsked, MoveAnswered}
 use Rattle.bus_core.specs.Td.{Entry}
 use Rattle.bus_core.specs.Part.{Part}
-use Rattle.bus_core.specs.Shared.{Shared}
-use Rattle.bus_core.specs.World.{World, cell_at}
-use Rattle.bus_core.specs.Cells.{FitsHeld}
-use Rattle.bus_core.specs.Fits.{FitsPart, FitsClient, FitsEngine, place_in}
+use Rattle.bus_core.specs.Shared.{Shared, is_held}
+use Rattle.bus_core.specs.Matched.{IsMatched, IsRetiring, is_left_over_at}
+use Rattle.bus_core.specs.World.{World, Cell, cell_at}
+use Rattle.bus_core.specs.Cells.{FitsHeld, HoldsTrbs}
+use Rattle.bus_core.specs.Fits.{AreUnused, FitsPart, FitsClient, FitsEngine, HoldsCommand, HoldsCommandOf, host_retirement, place_in}
 use Rattle.bus_core.proofs.Routes.{slice_get-slice_set_same, slice_get-slice_set_other}
 
 -- TAGS
@@ -29,13 +45,61 @@ slots-apart client slot at apart same = apart (omega arith)
 
 -- THE CONTROLLER'S COMMAND RING
 
--- a step that leaves that ring alone
-pub engine-kept : (state now : Shared) (before after : World) → FitsEngine state before → after.host.retirement ≡ before.host.retirement
-    → after.lines.engine ≡ before.lines.engine → FitsEngine now after
-engine-kept state now before after fits none same = record {
-  retirement = none ∙ fits.retirement;
-  commands = (ap (λ (r : Ring). r.put) same ∙ fits.commands.0, ap (λ (r : Ring). r.got) same ∙ fits.commands.1);
+-- the producer's end of a ring is where it was: of a ring Set TR Dequeue Pointer tells no more
+pub record EndsAlike (before after : Ring) : Type 0 where
+  pub base : after.base ≡ before.base
+  pub at : after.at ≡ before.at
+  pub put : after.put ≡ before.put
+
+pub ends-same : (before after : Ring) → after ≡ before → EndsAlike before after
+ends-same before after same =
+    record { base = ap (λ (r : Ring). r.base) same; at = ap (λ (r : Ring). r.at) same; put = ap (λ (r : Ring). r.put) same }
+
+pub move_trb-kept : (before after : LinesState) (pipe : Pipe) (tag : ℕ) → EndsAlike (ring_of before pipe tag) (ring_of after pipe tag)
+    → move_trb after pipe tag ≡ move_trb before pipe tag
+move_trb-kept before after pipe tag ends = λ i. SetDequeue (ends.base i + 16 * ((ends.at i + length (ends.put i)) % (places_of pipe - 1)))
+    ((ends.at i + length (ends.put i)) / (places_of pipe - 1) % 2 == 0) tag (target_of pipe) 1
+
+command-kept : (before after : LinesState) (pipe : Pipe) (place : Place) (stage : RetirementStage) → after.engine ≡ before.engine
+    → move_trb after pipe (tag_of place) ≡ move_trb before pipe (tag_of place) → HoldsCommand before pipe place stage → HoldsCommand after pipe place stage
+command-kept before after pipe place StopAsked same moves holds = (ap (λ (r : Ring). r.put) same ∙ holds.0, ap (λ (r : Ring). r.got) same ∙ holds.1)
+command-kept before after pipe place StopAnswered same moves holds = (ap (λ (r : Ring). r.put) same ∙ holds.0, ap (λ (r : Ring). r.got) same ∙ holds.1)
+command-kept before after pipe place MoveAsked same moves holds =
+    (ap (λ (r : Ring). r.put) same ∙ holds.0 ∙ ap (λ trb. trb ∷ []) (sym moves), ap (λ (r : Ring). r.got) same ∙ holds.1)
+command-kept before after pipe place MoveAnswered same moves holds =
+    (ap (λ (r : Ring). r.put) same ∙ holds.0 ∙ ap (λ trb. trb ∷ []) (sym moves), ap (λ (r : Ring). r.got) same ∙ holds.1)
+
+-- the enqueue place of the ring from which a retirement's TD goes is the same
+abbrev pub MovesAlike : Option Retirement → LinesState → LinesState → Type 0
+MovesAlike retirement before after =
+    (r : Retirement) → retirement ≡ Some r → move_trb after r.pipe (tag_of r.place) ≡ move_trb before r.pipe (tag_of r.place)
+
+holds-kept : (before after : LinesState) (retirement : Option Retirement) → after.engine ≡ before.engine → MovesAlike retirement before after
+    → HoldsCommandOf before retirement → HoldsCommandOf after retirement
+holds-kept before after None same moves holds = (ap (λ (r : Ring). r.put) same ∙ holds.0, ap (λ (r : Ring). r.got) same ∙ holds.1)
+holds-kept before after (Some r) same moves holds = command-kept before after r.pipe r.place r.stage same (moves r refl) holds
+
+-- a step that leaves that ring and the retirement alone
+pub engine-kept : (state now : Shared) (before after : World) → FitsEngine state before → now.retirement ≡ state.retirement
+    → after.host.retirement ≡ before.host.retirement → after.lines.engine ≡ before.lines.engine → MovesAlike state.retirement before.lines after.lines
+    → FitsEngine now after
+engine-kept state now before after fits stays host same moves = record {
+  retirement = host ∙ fits.retirement ∙ ap (option_map host_retirement) (sym stays);
+  commands = subst (λ r. HoldsCommandOf after.lines r) (sym stays) (holds-kept before.lines after.lines state.retirement same moves fits.commands);
 }
+
+-- HELD PIPES
+
+held-by : (retirement : Option Retirement) (pipe : Pipe)
+    → option_map_or (λ (r : HostRetirement). same_pipe r.pipe pipe) (option_map host_retirement retirement) false
+    ≡ option_map_or (λ (r : Retirement). same_pipe r.pipe pipe) retirement false
+held-by None pipe = refl
+held-by (Some r) pipe = refl
+
+-- the host holds the pipes that the shared machine holds
+pub held-host : (state : Shared) (world : World) → FitsEngine state world → is_host_held world.host ≡ is_held state
+held-host state world fits = λ i. λ pipe.
+    (ap (λ r. option_map_or (λ (one : HostRetirement). same_pipe one.pipe pipe) r false) fits.retirement ∙ held-by state.retirement pipe) i
 
 -- ONE CELL CHANGES
 
@@ -44,6 +108,73 @@ pub record ChangesCell (before after : World) (client slot : ℕ) (held : HostCl
   pub units : after.device.units ≡ slice_set before.device.units client unit
   pub others : (other at : ℕ) → at < TAGS → (tag_of (place_in other at) ≡ tag_of (place_in client slot) → ⊥)
       → cell_at after (place_in other at) ≡ cell_at before (place_in other at)
+
+-- so the rings of a stream of another tag are the same
+rings-kept : (before after : World) (pipe : Pipe) (place : Place) → HasStreams pipe → cell_at after place ≡ cell_at before place
+    → ring_of after.lines pipe (tag_of place) ≡ ring_of before.lines pipe (tag_of place)
+rings-kept before after Command place streams same = absurd streams
+rings-kept before after Status place streams same = ap (λ (c : Cell). c.status) same
+rings-kept before after DataIn place streams same = ap (λ (c : Cell). c.data_in) same
+rings-kept before after DataOut place streams same = ap (λ (c : Cell). c.data_out) same
+
+-- all cells but that of a place are the same
+abbrev pub KeepsOthers : World → World → Place → Type 0
+KeepsOthers before after place =
+    (other at : ℕ) → at < TAGS → (tag_of (place_in other at) ≡ tag_of place → ⊥) → cell_at after (place_in other at) ≡ cell_at before (place_in other at)
+
+-- the streams of nobody stay empty, since each of their tags would be one of some place
+pub unused-kept : (before after : World) (place : Place) (tag : ℕ) → KeepsOthers before after place → 0 < tag → (tag ≡ tag_of place → ⊥)
+    → AreUnused before.lines tag → AreUnused after.lines tag
+unused-kept before after place tag others some apart unused =
+    let at : ℕ = (tag - 1) % TAGS in
+    let is : tag_of (place_in ((tag - 1) / TAGS) ((tag - 1) % TAGS)) ≡ tag = omega (arith, some) in
+    let same = others ((tag - 1) / TAGS) ((tag - 1) % TAGS) (omega arith) (λ one. apart (sym is ∙ one)) in
+    subst (AreUnused after.lines) is
+    (let was : AreUnused before.lines (tag_of (place_in ((tag - 1) / TAGS) ((tag - 1) % TAGS))) = subst (AreUnused before.lines) (sym is) unused in
+    record {
+      status = subst (λ (c : Cell). HoldsTrbs c.status [] 0) (sym same) was.status;
+      data_in = subst (λ (c : Cell). HoldsTrbs c.data_in [] 0) (sym same) was.data_in;
+      data_out = subst (λ (c : Cell). HoldsTrbs c.data_out [] 0) (sym same) was.data_out;
+    })
+
+-- THE RETIREMENT'S RING
+
+-- the enqueue places of the rings of a place that may be the retirement's
+abbrev pub EndsStay : Shared → World → World → Place → Type 0
+EndsStay state before after place =
+    (pipe : Pipe) → HasStreams pipe → is_left_over_at state pipe place ≡ true
+    → EndsAlike (ring_of before.lines pipe (tag_of place)) (ring_of after.lines pipe (tag_of place))
+
+moves-at : (state : Shared) (before after : World) (place : Place) (r : Retirement) → IsRetiring state r → place.slot < TAGS
+    → KeepsOthers before after place → EndsStay state before after place
+    → move_trb after.lines r.pipe (tag_of r.place) ≡ move_trb before.lines r.pipe (tag_of r.place)
+moves-at state before after place r retiring within others ends =
+    let inside : r.place.slot < TAGS = retiring.there.slot in
+    move_trb-kept before.lines after.lines r.pipe (tag_of r.place)
+    (elim (tag_of r.place == tag_of place) as (λ b. (tag_of r.place == tag_of place) ≡ b
+    → EndsAlike (ring_of before.lines r.pipe (tag_of r.place)) (ring_of after.lines r.pipe (tag_of r.place))) [
+      | true ↦ λ is.
+          let tags : tag_of r.place ≡ tag_of place = eqb-true (tag_of r.place) (tag_of place) is in
+          let client : place.client ≡ r.place.client = omega arith in
+          let slot : place.slot ≡ r.place.slot = omega arith in
+          let one : place ≡ r.place = λ i. record { client = client i; slot = slot i } in
+          subst (λ p. EndsStay state before after p) one ends r.pipe retiring.streams retiring.left
+      | false ↦ λ is.
+          ends-same (ring_of before.lines r.pipe (tag_of r.place)) (ring_of after.lines r.pipe (tag_of r.place))
+          (rings-kept before after r.pipe r.place retiring.streams
+          (others r.place.client r.place.slot inside (eqb-false (tag_of r.place) (tag_of place) is)))
+    ] refl)
+
+retiring-of : (state : Shared) (r : Retirement) → IsMatched state → state.retirement ≡ Some r → IsRetiring state r
+retiring-of state r all is = subst (λ o. IfSome o (IsRetiring state)) is all.retiring
+
+-- a step at one place leaves the controller's command ring as it was, where it moves no enqueue place of a TD that is left over
+pub engine-changed : (state now : Shared) (before after : World) (place : Place) → IsMatched state → FitsEngine state before
+    → now.retirement ≡ state.retirement → after.host.retirement ≡ before.host.retirement → after.lines.engine ≡ before.lines.engine → place.slot < TAGS
+    → KeepsOthers before after place → EndsStay state before after place → FitsEngine now after
+engine-changed state now before after place all fits stays host same within others ends =
+    engine-kept state now before after fits stays host same
+    (λ r is. moves-at state before after place r (retiring-of state r all is) within others ends)
 
 -- ONE CLIENT
 

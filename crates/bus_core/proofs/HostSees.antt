@@ -42,7 +42,7 @@ use Rattle.bus_core.specs.Bus.{IsPlace}
 use Rattle.bus_core.specs.Td.{Entry, is_seen, is_over, is_data_over, is_ready, with_event_seen, left_over_td, data_after_answer, data_after_status}
 use Rattle.bus_core.specs.Shared.{request_direction}
 use Rattle.bus_core.specs.Wire.{answer_text}
-use Rattle.bus_core.specs.Cells.{host_request, host_side, state_of, told_by}
+use Rattle.bus_core.specs.Cells.{host_side, state_of, told_by}
 use Rattle.bus_core.specs.Fits.{unit_len}
 
 -- READY
@@ -72,7 +72,7 @@ is_ready-side entry =
 -- ONE ENTRY
 
 -- what the bus hands the host is a command
-is_command-side : (request : Request) → IsCommandRequest request → is_command (host_request request) ≡ true
+is_command-side : (request : Request) → IsCommandRequest request → is_command request ≡ true
 is_command-side (Execute op) command = refl
 is_command-side (Manage what noted) command = absurd command
 
@@ -80,7 +80,7 @@ pub command_seen-side : (entry : Entry) → entry.command_td.state ≡ Pending
     → seen CommandSeen (host_side entry) ≡ Some (host_side (record entry { command_td = with_event_seen entry.command_td }))
 command_seen-side entry pends = ap (λ s. if is_host_pending s then Some (record (host_side entry) { command_td = Seen }) else None) pends
 
-direction-same : (request : Request) → host_direction (host_request request) ≡ request_direction request
+direction-same : (request : Request) → host_direction request ≡ request_direction request
 direction-same (Execute op) = refl
 direction-same (Manage what noted) = refl
 

@@ -10,6 +10,7 @@ pub mod FirstBlocks
 pub mod Refusals
 pub mod Once
 pub mod Due
+pub mod StreamDoors
 pub mod NumberOfClients
 pub mod Drains
 pub mod Lengths
@@ -18,8 +19,14 @@ pub mod Rounds
 pub mod Standing
 pub mod DeviceSteps
 pub mod MatchedPlaces
+pub mod MatchedTds
 pub mod MatchedOpening
 pub mod MatchedEntries
+pub mod MatchedLeftOver
+pub mod MatchedRetirement
+pub mod MatchedFlows
+pub mod MatchedActs
+pub mod MatchedEngine
 pub mod MatchedSteps
 pub mod MatchedBounds
 pub mod MatchedNext
@@ -53,3 +60,13 @@ pub mod Stepped
 pub mod Taken
 pub mod Shown
 pub mod Submitted
+pub mod EngineCells
+pub mod EngineDue
+pub mod RetireFits
+pub mod EngineCellWrites
+pub mod EngineFits
+pub mod Resumed
+pub mod EngineSeen
+pub mod RetiredSeen
+pub mod EventsFit
+pub mod EngineStepped

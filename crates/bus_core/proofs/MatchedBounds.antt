@@ -1,21 +1,22 @@
 -- What is matched has room: a list that names each place once at most isn't longer than the places are many.
-use Rattle.std.proofs.Common.{◌≡◌, ℕ, zero, suc, ◌+◌, ◌*◌, ◌<◌, ◌≤◌, true, false, List, [], ◌∷◌, length, length-append, Option, Some, None, IfSome, refl, arith}
-use Rattle.std.proofs.Common.{subst}
+use Rattle.std.proofs.Common.{◌≡◌, ℕ, zero, suc, ◌+◌, ◌*◌, ◌<◌, ◌≤◌, true, false, List, [], ◌∷◌, length, length-append, Option, Some, None, IfSome, refl}
+use Rattle.std.proofs.Common.{arith, ap, subst}
 use Rattle.std.specs.Prelude.{slice_get}
 use Rattle.std.proofs.lemmas.Option.{none-some}
 use Rattle.uas_host.specs.declared.Place.{Place}
 use Rattle.bus_core.specs.declared.Td.{Td}
 use Rattle.bus_core.specs.declared.Completion.{Completion}
-use Rattle.bus_core.specs.declared.Completion.TheVariants.{CommandDone, DataDone, StatusDone}
+use Rattle.bus_core.specs.declared.Completion.TheVariants.{CommandDone, DataDone, StatusDone, EngineDone}
 use Rattle.bus_core.specs.Td.{Entry, has_trb, is_awaited, is_ready, data_trbs}
 use Rattle.bus_core.specs.Part.{Part}
 use Rattle.bus_core.specs.Shared.{Shared}
 use Rattle.bus_core.specs.Bus.{IsPlace}
 use Rattle.bus_core.specs.Soundness.{one_if, awaited_data, readied_of}
 use Rattle.bus_core.specs.Matched.{same_place, times, under, carried_places, moved_places, sent_places, command_events, waiting_command, awaited_command}
-use Rattle.bus_core.specs.Matched.{awaited_status, awaited_data_of, IsMatchedAt, IsMatched, HasRoom, IsNamedOnce, pipe_places}
+use Rattle.bus_core.specs.Matched.{awaited_status, awaited_data_of, retired_places, HaveSlots, IsMatchedAt, IsMatched, HasRoom, IsNamedOnce, pipe_places}
 use Rattle.bus_core.proofs.MatchedPlaces.{one_self, one_if-most, times-append, IsFound, under-found, held-within}
 use Rattle.bus_core.proofs.MatchedEntries.{awaited-taken}
+use Rattle.bus_core.proofs.MatchedRetirement.{answered-once}
 
 -- SUMS OVER THE PLACES
 
@@ -92,13 +93,14 @@ once-length clients places within once =
     let most = sum_places-ones clients (λ place. times place places) once in
     omega (arith, long, most)
 
--- the events are those of the three kinds
+-- the events are those of the four kinds
 length-events : (events : List Completion) →
-    length events ≡ length (carried_places events) + length (moved_places events) + length (sent_places events)
+    length events ≡ length (carried_places events) + length (moved_places events) + length (sent_places events) + length (retired_places events)
 length-events [] = refl
 length-events (CommandDone place ∷ rest) = omega (arith, length-events rest)
 length-events (DataDone place ∷ rest) = omega (arith, length-events rest)
 length-events (StatusDone place ∷ rest) = omega (arith, length-events rest)
+length-events (EngineDone place ∷ rest) = omega (arith, length-events rest)
 
 -- A MATCHED STATE
 
@@ -109,15 +111,18 @@ found-within (first ∷ rest) zero part is = omega arith
 found-within (first ∷ rest) (suc client) part is = omega (arith, found-within rest client part is)
 
 -- where something stands is a place
-pub held-place : (state : Shared) (place : Place) (entry : Entry) → IsMatched state → under state.parts place ≡ Some entry →
-    IsPlace (length state.parts) place
-held-place state place entry all is =
-    let found : IsFound state.parts place entry = under-found state.parts place entry is in
-    let long : length found.part.entries ≡ 8 = subst (λ part. IfSome part (λ part. length part.entries ≡ 8)) found.there (all.slots place.client) in
+pub slots-place : (parts : List Part) (place : Place) (entry : Entry) → HaveSlots parts → under parts place ≡ Some entry → IsPlace (length parts) place
+slots-place parts place entry slots is =
+    let found : IsFound parts place entry = under-found parts place entry is in
+    let long : length found.part.entries ≡ 8 = subst (λ part. IfSome part (λ part. length part.entries ≡ 8)) found.there (slots place.client) in
     record {
-      client = found-within state.parts place.client found.part found.there;
+      client = found-within parts place.client found.part found.there;
       slot = omega (arith, held-within found.part.entries place.slot entry found.held, long);
     }
+
+pub held-place : (state : Shared) (place : Place) (entry : Entry) → IsMatched state → under state.parts place ≡ Some entry →
+    IsPlace (length state.parts) place
+held-place state place entry all is = slots-place state.parts place entry all.slots is
 
 -- what is counted somewhere stands there
 some-place : (state : Shared) (place : Place) (count : Option Entry → ℕ) → count None ≡ 0 → IsMatched state → 1 ≤ count (under state.parts place) →
@@ -201,5 +206,7 @@ matched-room state all =
         length-events state.events,
         moved-length state all,
         sent-length state all,
+        ap (λ places. length places) all.retired,
+        answered-once state.retirement,
       );
     }

@@ -1,9 +1,11 @@
--- What the device's and the host's steps make of one entry, counted exactly.
+-- What the device's and the host's steps make of one entry, counted exactly: cited by MatchedActs, MatchedSteps and MatchedLeftOver.
 use Rattle.std.proofs.Common.{◌≡◌, ℕ, ◌+◌, ◌/◌, ◌<◌, ◌≤◌, Bool, true, false, ◌&&◌, cond, List, [], ◌∷◌, Option, Some, None, refl, arith, ap, sym, subst, ◌∙◌}
 use Rattle.std.specs.Prelude.{◌==◌, nat_lt, option_to_list, is_some, not, length}
 use Rattle.std.proofs.lemmas.Bool.{ltb-true, ltb-false, eqb-true, eqb-false, ne_eqb, false≢true}
 use Rattle.std.proofs.lemmas.Option.{none-some}
 use Rattle.block_unit.specs.BlockMaps.{BlockMaps}
+use Rattle.stream_array.specs.declared.Pipe.{Pipe}
+use Rattle.stream_array.specs.declared.Pipe.TheVariants.{Command as CommandPipe, Status, DataIn, DataOut}
 use Rattle.scsi_cmd.specs.declared.Command.{Command}
 use Rattle.scsi_cmd.specs.declared.SubmitFault.TheVariants.{InUse, BadLength, TooLong, OutOfTurn}
 use Rattle.scsi_cmd.specs.declared.Op.{Op}
@@ -11,30 +13,33 @@ use Rattle.scsi_cmd.specs.declared.Op.TheVariants.{TestUnitReady, Inquiry, ReadC
 use Rattle.scsi_cmd.specs.Op.{moved_bytes}
 use Rattle.scsi_cmd.specs.declared.Request.{Request}
 use Rattle.scsi_cmd.specs.declared.Request.TheVariants.{Execute, Manage}
+use Rattle.scsi_cmd.specs.Submission.{is_too_long, first_submit_fault}
+use Rattle.scsi_cmd.specs.Work.{reports_attention}
+use Rattle.scsi_cmd.specs.declared.Direction.{Direction}
+use Rattle.scsi_cmd.specs.declared.Direction.TheVariants.{Nothing, ToHost, ToDevice}
 use Rattle.device_server.specs.declared.Answer.{Answer}
 use Rattle.device_server.specs.declared.Answer.TheVariants.{Good, Check}
+use Rattle.device_server.specs.declared.Progress.TheVariants.{Moving, Ended}
+use Rattle.device_server.specs.Laws.{after_chunk, begun_progress}
 use Rattle.solo_model.specs.declared.Phase.{Phase}
 use Rattle.solo_model.specs.declared.Phase.TheVariants.{Queued, Begun, Sent, Gone}
-use Rattle.device_server.specs.declared.Progress.TheVariants.{Moving, Ended}
-use Rattle.scsi_cmd.specs.Submission.{is_too_long, first_submit_fault}
-use Rattle.solo_model.specs.TaggedTask.{TaggedTask}
-use Rattle.solo_model.specs.TaggedTask.{buffer_after, carried_request, progress_left, unit_after}
-use Rattle.scsi_cmd.specs.Work.{reports_attention}
-use Rattle.device_server.specs.Laws.{after_chunk, begun_progress}
+use Rattle.solo_model.specs.TaggedTask.{TaggedTask, buffer_after, carried_request, progress_left}
 use Rattle.uas_host.specs.declared.Place.{Place}
 use Rattle.uas_host.specs.declared.TdState.{TdState}
 use Rattle.uas_host.specs.declared.TdState.TheVariants.{Pending, Seen, LeftOver, Retired}
 use Rattle.bus_core.specs.declared.Td.{Td}
 use Rattle.bus_core.specs.declared.Completion.{Completion}
-use Rattle.bus_core.specs.declared.Completion.TheVariants.{CommandDone, DataDone, StatusDone}
+use Rattle.bus_core.specs.declared.Completion.TheVariants.{CommandDone, DataDone, StatusDone, EngineDone}
 use Rattle.bus_core.specs.Td.{is_in_ring, Entry, pushed, is_pending, is_seen, is_over, is_data_over, has_trb, is_awaited, is_ready, data_trbs, with_trb_taken}
-use Rattle.bus_core.specs.Td.{with_event_seen, left_over_td, left_over_data, data_after_answer, data_after_status}
+use Rattle.bus_core.specs.Td.{with_event_seen, left_over_td, left_over_data, data_after_answer, data_after_status, is_left_over, is_td_left_over}
+use Rattle.bus_core.specs.Td.{is_left_over_on, data_in_td, data_out_td, request_direction}
 use Rattle.bus_core.specs.Part.{data_td_after, entries_after, took_trb, is_last_trb, event_place, seen_by, seen_data_td, data_td_for, new_entry}
 use Rattle.bus_core.specs.Soundness.{one_if, awaited_data}
 use Rattle.bus_core.specs.Matched.{same_place, times, command_events, data_events, status_events, waiting_command, awaited_command, awaited_status}
 use Rattle.bus_core.specs.Matched.{awaited_data_of, IsCommandTd, IsStatusTd, IsMovingTd, IsWholeTd, IsShortTd, IsAnsweredTd, IsDataTd, IsMatchedEntry}
-use Rattle.bus_core.specs.Matched.{IsCommandRequest, awaits_data, awaits_event}
+use Rattle.bus_core.specs.Matched.{IsCommandRequest, awaits_data, awaits_event, retired_places}
 use Rattle.bus_core.proofs.MatchedPlaces.{one_self, and-true}
+use Rattle.bus_core.proofs.MatchedTds.{TdGoesOn, TdsGoOn, td-same, td-taken, td-seen, td-left}
 
 -- an entry that became another one: the messages popped and the events posted for its place
 pub record IsStepped (place : Place) (popped : List Place) (posted : List Completion) (old new : Entry) : Type 0 where
@@ -128,6 +133,18 @@ carry-stepped unit place entry queued sound =
       sound = received unit entry entry.task.request refl command status chunks sound;
     }
 
+-- no TD but the command's changes
+carried_request-asked : (unit : BlockMaps) (task : TaggedTask) (request : Request) → (carried_request unit task request).1.request ≡ task.request
+carried_request-asked unit task (Execute op) = refl
+carried_request-asked unit task (Manage what noted) = refl
+
+pub carry-tds : (unit : BlockMaps) (entry : Entry) → TdsGoOn entry (carried_to entry (carried_request unit entry.task entry.task.request).1)
+carry-tds unit entry = record {
+  request = carried_request-asked unit entry.task entry.task.request;
+  status = td-same 1 (Some entry.status_td);
+  data_tds = td-same (data_trbs entry.task.request) entry.data_td;
+}
+
 -- MOVE
 
 -- a data TD is there or isn't, whatever is taken of it
@@ -197,12 +214,18 @@ pub record IsDataEvent (place : Place) (posted : List Completion) : Type 0 where
   pub carried : (other : Place) → same_place place other ≡ false → command_events other posted ≡ 0
   pub moved : (other : Place) → same_place place other ≡ false → data_events other posted ≡ 0
   pub sent : (other : Place) → same_place place other ≡ false → status_events other posted ≡ 0
+  pub retired : retired_places posted ≡ []
+
+data_event-no_engine : (last : Bool) (place : Place) → retired_places (data_event_if last place) ≡ []
+data_event-no_engine true place = refl
+data_event-no_engine false place = refl
 
 pub data_event-is : (last : Bool) (place : Place) → IsDataEvent place (data_event_if last place)
 data_event-is last place = record {
   carried = λ other apart. data_event-no_command last place other;
   moved = λ other apart. data_event-alone last place other apart;
   sent = λ other apart. data_event-no_status last place other;
+  retired = data_event-no_engine last place;
 }
 
 -- an entry whose task moved a chunk
@@ -278,6 +301,23 @@ move-stepped unit place entry chunk op is moving sound =
       small = sound.small;
     }))
 
+-- the data TD alone changes, which was pending
+chunk-td : (trbs chunk : ℕ) (took : Bool) (td : Option Td) → IsMovingTd trbs chunk td → TdGoesOn trbs td (data_td_after took td)
+chunk-td trbs chunk took None is = td-same trbs None
+chunk-td trbs chunk true (Some td) is = td-taken trbs td is.0
+chunk-td trbs chunk false (Some td) is = td-same trbs (Some td)
+
+pub move-tds : (unit : BlockMaps) (entry : Entry) (chunk : ℕ) (op : Op) → entry.task.phase ≡ Begun (Moving chunk) → IsMatchedEntry entry →
+    TdsGoOn entry (moved_to entry (chunk_task unit entry.task chunk op))
+move-tds unit entry chunk op moving sound =
+    let chunks : IsMovingTd (data_trbs entry.task.request) chunk entry.data_td = subst
+    (λ p. IsDataTd (data_trbs entry.task.request) p entry.data_td) moving sound.chunks in
+    record {
+      request = refl;
+      status = td-same 1 (Some entry.status_td);
+      data_tds = chunk-td (data_trbs entry.task.request) chunk (took_trb (Begun (progress_left unit chunk op))) entry.data_td chunks;
+    }
+
 -- SEND
 
 -- an entry whose answer was handed over
@@ -307,17 +347,30 @@ send-stepped place entry answer ended sound =
       };
     }
 
+-- the status TD alone changes, which was pending
+pub send-tds : (entry : Entry) (answer : Answer) → entry.task.phase ≡ Begun (Ended answer) → IsMatchedEntry entry → TdsGoOn entry (sent_to entry answer)
+send-tds entry answer ended sound = record {
+  request = refl;
+  status = td-taken 1 entry.status_td (ap (λ (td : Td). td.state) (subst (λ p. IsStatusTd p entry.status_td) ended sound.status));
+  data_tds = td-same (data_trbs entry.task.request) entry.data_td;
+}
+
 -- EVENT
 
--- an entry whose event the host has seen
-pub record IsSeenAs (event : Completion) (old new : Entry) : Type 0 where
-  pub seen : seen_by event old ≡ Some new
+-- an entry of which an event was taken: as much less is awaited, and it wasn't ready
+pub record IsCountedOut (event : Completion) (old new : Entry) : Type 0 where
   pub messages : waiting_command (Some old) ≡ waiting_command (Some new)
   pub carried : awaited_command (Some old) ≡ command_events (event_place event) (event ∷ []) + awaited_command (Some new)
   pub moved : awaited_data_of (Some old) ≡ data_events (event_place event) (event ∷ []) + awaited_data_of (Some new)
   pub sent : awaited_status (Some old) ≡ status_events (event_place event) (event ∷ []) + awaited_status (Some new)
   pub ready : one_if (is_ready old) ≡ 0
   pub sound : IsMatchedEntry new
+
+-- an entry whose event the host has seen
+pub record IsSeenAs (event : Completion) (old new : Entry) : Type 0 where
+  pub seen : seen_by event old ≡ Some new
+  pub counts : IsCountedOut event old new
+  pub tds : TdsGoOn old new
 
 -- a TD that is awaited is pending, and has no TRB left
 awaited-spent : (td : Td) (trbs : ℕ) → is_awaited td trbs ≡ true → td.consumed ≡ trbs
@@ -363,19 +416,22 @@ command-seen place entry awaited sound =
     let pends : entry.command_td.state ≡ Pending = awaited-pends entry.command_td 1 awaited in
     record {
       seen = ap (λ b. cond b (Some (record entry { command_td = with_event_seen entry.command_td })) None) awaited;
-      messages = awaited-taken entry.command_td awaited;
-      carried = omega (arith, one_self place, ap one_if awaited);
-      moved = omega arith;
-      sent = omega arith;
-      ready = ap (λ state. one_if (is_seen state && (is_over entry.status_td.state && is_data_over entry.data_td))) pends;
-      sound = record {
-        asks = sound.asks;
-        command = command-seen_td entry.task.phase entry.command_td awaited sound.command;
-        status = sound.status;
-        chunks = sound.chunks;
-        moves = sound.moves;
-        small = sound.small;
+      counts = record {
+        messages = awaited-taken entry.command_td awaited;
+        carried = omega (arith, one_self place, ap one_if awaited);
+        moved = omega arith;
+        sent = omega arith;
+        ready = ap (λ state. one_if (is_seen state && (is_over entry.status_td.state && is_data_over entry.data_td))) pends;
+        sound = record {
+          asks = sound.asks;
+          command = command-seen_td entry.task.phase entry.command_td awaited sound.command;
+          status = sound.status;
+          chunks = sound.chunks;
+          moves = sound.moves;
+          small = sound.small;
+        };
       };
+      tds = record { request = refl; status = td-same 1 (Some entry.status_td); data_tds = td-same (data_trbs entry.task.request) entry.data_td };
     }
 
 -- a data TD that is awaited has been moved whole
@@ -390,12 +446,12 @@ data-seen_td trbs (Begun (Ended answer)) td spent is = data-seen_answered trbs a
 data-seen_td trbs (Sent answer) td spent is = data-seen_answered trbs answer td is
 data-seen_td trbs Gone td spent is = absurd is
 
-last_false : (a b : Bool) → one_if (a && (b && false)) ≡ 0
+pub last_false : (a b : Bool) → one_if (a && (b && false)) ≡ 0
 last_false true true = refl
 last_false true false = refl
 last_false false b = refl
 
-middle_false : (a b : Bool) → one_if (a && (false && b)) ≡ 0
+pub middle_false : (a b : Bool) → one_if (a && (false && b)) ≡ 0
 middle_false true b = refl
 middle_false false b = refl
 
@@ -406,21 +462,28 @@ data-seen place entry td is awaited sound =
     let pends : td.state ≡ Pending = awaited-pends td trbs awaited in
     record {
       seen = ap (λ t. seen_data_td entry t) is ∙ ap (λ b. cond b (Some (record entry { data_td = Some (with_event_seen td) })) None) awaited;
-      messages = refl;
-      carried = omega arith;
-      moved = omega (arith, one_self place, ap (λ t. awaited_data (data_trbs entry.task.request) t) is, ap one_if awaited);
-      sent = omega arith;
-      ready = ap (λ t. one_if (is_seen entry.command_td.state && (is_over entry.status_td.state && is_data_over t))) is
-          ∙ ap (λ state. one_if (is_seen entry.command_td.state && (is_over entry.status_td.state && is_over state))) pends
-          ∙ last_false (is_seen entry.command_td.state) (is_over entry.status_td.state);
-      sound = record {
-        asks = sound.asks;
-        command = sound.command;
-        status = sound.status;
-        chunks = data-seen_td trbs entry.task.phase td (awaited-spent td trbs awaited)
-            (subst (λ t. IsDataTd (data_trbs entry.task.request) entry.task.phase t) is sound.chunks);
-        moves = sym (ap (λ (t : Option Td). is_some t) is) ∙ sound.moves;
-        small = sound.small;
+      counts = record {
+        messages = refl;
+        carried = omega arith;
+        moved = omega (arith, one_self place, ap (λ t. awaited_data (data_trbs entry.task.request) t) is, ap one_if awaited);
+        sent = omega arith;
+        ready = ap (λ t. one_if (is_seen entry.command_td.state && (is_over entry.status_td.state && is_data_over t))) is
+            ∙ ap (λ state. one_if (is_seen entry.command_td.state && (is_over entry.status_td.state && is_over state))) pends
+            ∙ last_false (is_seen entry.command_td.state) (is_over entry.status_td.state);
+        sound = record {
+          asks = sound.asks;
+          command = sound.command;
+          status = sound.status;
+          chunks = data-seen_td trbs entry.task.phase td (awaited-spent td trbs awaited)
+              (subst (λ t. IsDataTd (data_trbs entry.task.request) entry.task.phase t) is sound.chunks);
+          moves = sym (ap (λ (t : Option Td). is_some t) is) ∙ sound.moves;
+          small = sound.small;
+        };
+      };
+      tds = record {
+        request = refl;
+        status = td-same 1 (Some entry.status_td);
+        data_tds = subst (λ t. TdGoesOn (data_trbs entry.task.request) t (Some (with_event_seen td))) (sym is) (td-seen trbs td pends);
       };
     }
 
@@ -467,11 +530,23 @@ check-there : (td : Option Td) → is_some (left_over_data td) ≡ is_some td
 check-there None = refl
 check-there (Some td) = refl
 
--- the data TD once the status was seen
+-- the data TD once it may be left over, was passed or was retired
 pub record IsLeft (trbs : ℕ) (phase : Phase) (old new : Option Td) : Type 0 where
   pub chunks : IsDataTd trbs phase new
   pub awaited : awaited_data trbs new ≡ awaited_data trbs old
   pub there : is_some new ≡ is_some old
+
+-- it may be left over then, where it is short
+answer-td : (trbs : ℕ) (answer : Answer) (td : Option Td) → IsAnsweredTd trbs answer td → TdGoesOn trbs td (data_after_answer answer td)
+answer-td trbs Good td is = td-same trbs td
+answer-td trbs (Check sense) None is = td-same trbs None
+answer-td trbs (Check sense) (Some td) is = td-left trbs td is
+
+status-td : (trbs : ℕ) (phase : Phase) (td : Option Td) → IsDataTd trbs phase td → TdGoesOn trbs td (data_after_status phase td)
+status-td trbs Queued td is = td-same trbs td
+status-td trbs (Begun progress) td is = td-same trbs td
+status-td trbs (Sent answer) td is = answer-td trbs answer td is
+status-td trbs Gone td is = absurd is
 
 answer-left : (trbs : ℕ) (answer : Answer) (td : Option Td) → IsAnsweredTd trbs answer td → IsLeft trbs (Sent answer) td (data_after_answer answer td)
 answer-left trbs Good td is = record { chunks = is; awaited = refl; there = refl }
@@ -495,19 +570,26 @@ status-seen place entry awaited sound =
     status-left (data_trbs entry.task.request) entry.task.phase entry.data_td sound.chunks in
     record {
       seen = ap (λ b. cond b (Some (status_seen entry)) None) awaited;
-      messages = refl;
-      carried = omega arith;
-      moved = omega (arith, left.awaited);
-      sent = omega (arith, one_self place, ap one_if awaited);
-      ready = ap (λ state. one_if (is_seen entry.command_td.state && (is_over state && is_data_over entry.data_td))) pends
-          ∙ middle_false (is_seen entry.command_td.state) (is_data_over entry.data_td);
-      sound = record {
-        asks = sound.asks;
-        command = sound.command;
-        status = status-seen_td entry.task.phase entry.status_td awaited sound.status;
-        chunks = left.chunks;
-        moves = left.there ∙ sound.moves;
-        small = sound.small;
+      counts = record {
+        messages = refl;
+        carried = omega arith;
+        moved = omega (arith, left.awaited);
+        sent = omega (arith, one_self place, ap one_if awaited);
+        ready = ap (λ state. one_if (is_seen entry.command_td.state && (is_over state && is_data_over entry.data_td))) pends
+            ∙ middle_false (is_seen entry.command_td.state) (is_data_over entry.data_td);
+        sound = record {
+          asks = sound.asks;
+          command = sound.command;
+          status = status-seen_td entry.task.phase entry.status_td awaited sound.status;
+          chunks = left.chunks;
+          moves = left.there ∙ sound.moves;
+          small = sound.small;
+        };
+      };
+      tds = record {
+        request = refl;
+        status = td-seen 1 entry.status_td pends;
+        data_tds = status-td (data_trbs entry.task.request) entry.task.phase entry.data_td sound.chunks;
       };
     }
 
@@ -527,6 +609,7 @@ event-seen (CommandDone place) entry awaits sound =
     record { new = record entry { command_td = with_event_seen entry.command_td }; step = command-seen place entry awaits sound }
 event-seen (DataDone place) entry awaits sound = data-awaits place entry entry.data_td refl awaits sound
 event-seen (StatusDone place) entry awaits sound = record { new = status_seen entry; step = status-seen place entry awaits sound }
+event-seen (EngineDone place) entry awaits sound = absurd (false≢true awaits)
 
 -- TAKE
 
@@ -548,6 +631,40 @@ unpending-unawaited td trbs is = ap (λ b. one_if (b && (td.consumed == trbs))) 
 over-data : (trbs : ℕ) (td : Option Td) → is_data_over td ≡ true → awaited_data trbs td ≡ 0
 over-data trbs None is = refl
 over-data trbs (Some td) is = unpending-unawaited td trbs (over-pends td.state is)
+
+-- what is over isn't left over
+over-left : (state : TdState) → is_over state ≡ true → is_left_over state ≡ false
+over-left Pending is = refl
+over-left Seen is = refl
+over-left LeftOver is = absurd (false≢true is)
+over-left Retired is = refl
+
+over-left_data : (td : Option Td) → is_data_over td ≡ true → is_td_left_over td ≡ false
+over-left_data None is = refl
+over-left_data (Some td) is = over-left td.state is
+
+pub over-left_in : (way : Direction) (td : Option Td) → is_td_left_over td ≡ false → is_td_left_over (data_in_td way td) ≡ false
+over-left_in Nothing td none = refl
+over-left_in ToHost td none = none
+over-left_in ToDevice td none = refl
+
+pub over-left_out : (way : Direction) (td : Option Td) → is_td_left_over td ≡ false → is_td_left_over (data_out_td way td) ≡ false
+over-left_out Nothing td none = refl
+over-left_out ToHost td none = refl
+over-left_out ToDevice td none = none
+
+-- no TD of an entry that is ready is left over
+pub ready-left : (pipe : Pipe) (entry : Entry) → is_ready entry ≡ true → is_left_over_on pipe entry ≡ false
+ready-left pipe entry ready =
+    let first = and-true (is_seen entry.command_td.state) (is_over entry.status_td.state && is_data_over entry.data_td) ready in
+    let rest = and-true (is_over entry.status_td.state) (is_data_over entry.data_td) first.1 in
+    on pipe rest.0 (over-left_data entry.data_td rest.1)
+  where
+    on : (pipe : Pipe) → is_over entry.status_td.state ≡ true → is_td_left_over entry.data_td ≡ false → is_left_over_on pipe entry ≡ false
+    on CommandPipe status none = refl
+    on Status status none = over-left entry.status_td.state status
+    on DataIn status none = over-left_in (request_direction entry.task.request) entry.data_td none
+    on DataOut status none = over-left_out (request_direction entry.task.request) entry.data_td none
 
 -- an answer that was handed over
 pub record IsSentBy (phase : Phase) : Type 0 where

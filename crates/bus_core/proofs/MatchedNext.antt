@@ -12,29 +12,32 @@ use Rattle.scsi_cmd.specs.declared.Request.TheVariants.{Execute, Manage}
 use Rattle.solo_model.specs.declared.Phase.{Phase}
 use Rattle.solo_model.specs.declared.Phase.TheVariants.{Queued, Begun, Sent, Gone}
 use Rattle.uas_host.specs.declared.Place.{Place}
+use Rattle.uas_host.specs.Tags.{place_of}
 use Rattle.bus_core.specs.declared.Completion.{Completion}
-use Rattle.bus_core.specs.declared.Completion.TheVariants.{CommandDone, DataDone, StatusDone}
+use Rattle.bus_core.specs.declared.Completion.TheVariants.{CommandDone, DataDone, StatusDone, EngineDone}
 use Rattle.bus_core.specs.declared.Step.{Step}
 use Rattle.bus_core.specs.declared.Step.TheVariants.{Event}
 use Rattle.bus_core.specs.declared.Td.{Td}
 use Rattle.bus_core.specs.Td.{Entry, pushed, has_trb, is_awaited, data_trbs}
-use Rattle.uas_host.specs.Tags.{place_of}
-use Rattle.bus_core.specs.Part.{event_place}
+use Rattle.bus_core.specs.Part.{Part, event_place, seen_by}
+use Rattle.scsi_cmd.specs.Held.{held_at}
 use Rattle.bus_core.specs.Shared.{Shared, idle, is_some_of, opening, carry_step, event_step, shared_step, is_moving, is_ended, data_is_due, status_is_due}
 use Rattle.bus_core.specs.Replay.{replay, replayed}
 use Rattle.bus_core.specs.Soundness.{one_if}
 use Rattle.bus_core.specs.Matched.{pipe_places, carried_places, waiting_command, IsPendingCommand, ArePendingCommands, HaveCommandTrbs, EventFreesFirst}
 use Rattle.bus_core.specs.Matched.{AcceptedFits, times, under, command_events, data_events, status_events, request_bytes, IsCommandTd, IsStatusTd, IsMovingTd}
-use Rattle.bus_core.specs.Matched.{IsDataTd, IsMatchedEntry, IsMatched, IsOwnMessage, IsOwnEvent, HasNoStray, HasDataTrbs, HaveDataTrbs, CarryActs, EventActs}
-use Rattle.bus_core.specs.Matched.{NoDataEventWaits, NoStatusEventWaits}
+use Rattle.bus_core.specs.Matched.{retired_places, is_td_event, IsOwnTdEvent, IsDataTd, IsMatchedEntry, IsMatched, IsOwnMessage, IsOwnEvent, HasNoStray}
+use Rattle.bus_core.specs.Matched.{HasDataTrbs, HaveDataTrbs, CarryActs, EventActs, NoDataEventWaits, NoStatusEventWaits}
 use Rattle.bus_core.proofs.NumberOfClients.{length-parts}
 use Rattle.bus_core.proofs.Opening.{length-new_parts}
-use Rattle.bus_core.proofs.MatchedPlaces.{command_events-append, data_events-append, status_events-append, one_self, and-true, under-written}
+use Rattle.bus_core.proofs.MatchedPlaces.{retired_places-append, times-append, command_events-append, data_events-append, status_events-append, one_self}
+use Rattle.bus_core.proofs.MatchedPlaces.{and-true, under-written}
+use Rattle.bus_core.proofs.MatchedRetirement.{own-engine_event}
 use Rattle.bus_core.proofs.MatchedEntries.{awaited-pends, taken-none, short-small, unfaulted, has_trb-queued, moving-unawaited, HasSeen, event-seen}
 use Rattle.bus_core.proofs.MatchedBounds.{held-place, times_pipe, matched-once}
 use Rattle.bus_core.proofs.MatchedSteps.{IsHeld, matched-held, HasWaiting, message-waiting, carry_step-held, HasAwaiting, times_alike, times_alike-first}
-use Rattle.bus_core.proofs.MatchedSteps.{event-awaited, event_step-held, seen-written, seen_state, IsDueAt, place_fact-due, IsMovingBy, moving_phase, IsEndedBy}
-use Rattle.bus_core.proofs.MatchedSteps.{ended_phase}
+use Rattle.bus_core.proofs.MatchedSteps.{event-awaited, event_step-held, seen-written, seen_state, IsDueAt, place_fact-due, IsMovingBy, moving_phase}
+use Rattle.bus_core.proofs.MatchedSteps.{IsEndedBy, ended_phase}
 
 -- MESSAGES
 
@@ -63,6 +66,8 @@ times_alike-rest : (event first : Completion) (rest : List Completion) → times
 times_alike-rest (CommandDone place) first rest = omega (arith, command_events-append place (first ∷ []) rest)
 times_alike-rest (DataDone place) first rest = omega (arith, data_events-append place (first ∷ []) rest)
 times_alike-rest (StatusDone place) first rest = omega (arith, status_events-append place (first ∷ []) rest)
+times_alike-rest (EngineDone place) first rest =
+    omega (arith, ap (times place) (retired_places-append (first ∷ []) rest), times-append place (retired_places (first ∷ [])) (retired_places rest))
 
 pub times_alike-member : (events : List Completion) (at : ℕ) (event : Completion) → slice_get events at ≡ Some event → 1 ≤ times_alike event events
 times_alike-member [] at event is = absurd (none-some event is)
@@ -70,9 +75,10 @@ times_alike-member (first ∷ rest) zero event is =
     let same : first ≡ event = cc in subst (λ e. 1 ≤ times_alike e (first ∷ rest)) same (times_alike-first first rest)
 times_alike-member (first ∷ rest) (suc at) event is = omega (arith, times_alike-member rest at event is, times_alike-rest event first rest)
 
-pub own-event : (state : Shared) (event : Completion) → IsMatched state → 1 ≤ times_alike event state.events → IsOwnEvent state.parts event
-own-event state event all some =
-    let awaiting : HasAwaiting event (under state.parts (event_place event)) = event-awaited state event all some in
+pub own-td_event : (state : Shared) (event : Completion) → IsMatched state → is_td_event event ≡ true → 1 ≤ times_alike event state.events →
+    IsOwnTdEvent state.parts event
+own-td_event state event all of_td some =
+    let awaiting : HasAwaiting event (under state.parts (event_place event)) = event-awaited state event all of_td some in
     let at : IsHeld state (event_place event) awaiting.entry = matched-held state (event_place event) awaiting.entry all awaiting.is in
     let seen : HasSeen event awaiting.entry = event-seen event awaiting.entry awaiting.awaits at.here.sound in
     record {
@@ -82,6 +88,12 @@ own-event state event all some =
       awaits = awaiting.awaits;
       seen = ap (λ (e : Option Entry). is_some e) seen.step.seen;
     }
+
+pub own-event : (state : Shared) (event : Completion) → IsMatched state → 1 ≤ times_alike event state.events → IsOwnEvent state event
+own-event state (CommandDone place) all some = own-td_event state (CommandDone place) all refl some
+own-event state (DataDone place) all some = own-td_event state (DataDone place) all refl some
+own-event state (StatusDone place) all some = own-td_event state (StatusDone place) all refl some
+own-event state (EngineDone place) all some = own-engine_event state place all some
 
 pub matched-no_stray : (state : Shared) → IsMatched state → HasNoStray state
 matched-no_stray state all = record {
@@ -97,8 +109,8 @@ pending-command state place all some =
     elim (nat_lt 0 (times place state.messages)) as (λ b. nat_lt 0 (times place state.messages) ≡ b → IsPendingCommand state.parts place) [
       | true ↦ λ is. let own : IsOwnMessage state.parts place = own-message state place all (omega (arith, ltb-true 0 (times place state.messages) is)) in
           record { entry = own.entry; held = own.held; pending = ap (λ (td : Td). td.state) own.pushed }
-      | false ↦ λ is. let own : IsOwnEvent state.parts (CommandDone place) =
-          own-event state (CommandDone place) all (omega (arith, some, times_pipe state place, ltb-false 0 (times place state.messages) is)) in
+      | false ↦ λ is. let own : IsOwnTdEvent state.parts (CommandDone place) =
+          own-td_event state (CommandDone place) all refl (omega (arith, some, times_pipe state place, ltb-false 0 (times place state.messages) is)) in
           record { entry = own.entry; held = own.held; pending = awaited-pends own.entry.command_td 1 own.awaits }
     ] refl
 
@@ -129,32 +141,45 @@ matched-carries state all place rest is =
     ap (λ ms. (cond (is_some_of ms) (carry_step state ms) (state, idle)).1.mark) is
     ∙ ap (λ after. after.1.mark) (carry_step-held state place rest at.found.part own.entry at.found.there at.found.held at.here.sound.asks own.queued)
 
+-- the state once the first event, which is of a TD, was taken
+event-stepped : (state : Shared) (event : Completion) (rest : List Completion) (part : Part) (old new : Entry) → is_td_event event ≡ true →
+    state.events ≡ event ∷ rest → slice_get state.parts (event_place event).client ≡ Some part → held_at part.entries (event_place event).slot ≡ Some old →
+    seen_by event old ≡ Some new → (shared_step state Event).0 ≡ seen_state state (event_place event) part new rest
+event-stepped state event rest part old new of_td is there held seen =
+    ap (λ es. (cond (is_some_of es) (event_step state es) (state, idle)).0) is
+    ∙ event_step-held state event rest part old new of_td there held seen
+
 pub matched-sees : (state : Shared) → IsMatched state → EventActs state
-matched-sees state all event rest is =
-    let own : IsOwnEvent state.parts event = own-event state event all (subst (λ es. 1 ≤ times_alike event es) (sym is) (times_alike-first event rest)) in
+matched-sees state all event rest is of_td =
+    let own : IsOwnTdEvent state.parts event =
+    own-td_event state event all of_td (subst (λ es. 1 ≤ times_alike event es) (sym is) (times_alike-first event rest)) in
     let place : Place = event_place event in
     let at : IsHeld state place own.entry = matched-held state place own.entry all own.held in
     let seen : HasSeen event own.entry = event-seen event own.entry own.awaits at.here.sound in
     let now : Shared = seen_state state place at.found.part seen.new rest in
     let stepped : (shared_step state Event).0 ≡ now =
-    ap (λ es. (cond (is_some_of es) (event_step state es) (state, idle)).0) is
-    ∙ event_step-held state event rest at.found.part own.entry seen.new at.found.there at.found.held seen.step.seen in
+    event-stepped state event rest at.found.part own.entry seen.new of_td is at.found.there at.found.held seen.step.seen in
     let wrote : under now.parts place ≡ Some seen.new =
     under-written state now place (Some seen.new) (seen-written state event rest at.found.part own.entry seen.new is at.found.there at.found.held) in
     (own.entry, seen.new, own.held, seen.step.seen, ap (λ (s : Shared). under s.parts (event_place event)) stepped ∙ wrote)
 
--- the places in the command pipe's ring after an event
+-- the places in the command pipe's ring once a command event was taken of what stands there
+freed_by : (state : Shared) (place : Place) (rest : List Completion) (part : Part) (old new : Entry) → state.events ≡ CommandDone place ∷ rest →
+    slice_get state.parts place.client ≡ Some part → held_at part.entries place.slot ≡ Some old → seen_by (CommandDone place) old ≡ Some new →
+    pipe_places (shared_step state Event).0 ≡ carried_places rest ++ state.messages
+freed_by state place rest part old new is there held seen =
+    ap (λ (s : Shared). pipe_places s) (event-stepped state (CommandDone place) rest part old new refl is there held seen)
+    ∙ ap (λ es. carried_places es ++ state.messages) (append-nil rest)
+
+-- the same in a matched state
 freed_places : (state : Shared) (place : Place) (rest : List Completion) → IsMatched state → state.events ≡ CommandDone place ∷ rest →
     pipe_places (shared_step state Event).0 ≡ carried_places rest ++ state.messages
 freed_places state place rest all is =
-    let own : IsOwnEvent state.parts (CommandDone place) =
-    own-event state (CommandDone place) all (subst (λ es. 1 ≤ command_events place es) (sym is) (omega (arith, one_self place))) in
+    let own : IsOwnTdEvent state.parts (CommandDone place) =
+    own-td_event state (CommandDone place) all refl (subst (λ es. 1 ≤ command_events place es) (sym is) (omega (arith, one_self place))) in
     let at : IsHeld state place own.entry = matched-held state place own.entry all own.held in
     let seen : HasSeen (CommandDone place) own.entry = event-seen (CommandDone place) own.entry own.awaits at.here.sound in
-    ap (λ es. pipe_places (cond (is_some_of es) (event_step state es) (state, idle)).0) is
-    ∙ ap (λ (s : Shared). pipe_places s)
-    (event_step-held state (CommandDone place) rest at.found.part own.entry seen.new at.found.there at.found.held seen.step.seen)
-    ∙ ap (λ es. carried_places es ++ state.messages) (append-nil rest)
+    freed_by state place rest at.found.part own.entry seen.new is at.found.there at.found.held seen.step.seen
 
 pub matched-frees : (state : Shared) → IsMatched state → EventFreesFirst state
 matched-frees state all place rest is =

@@ -1,11 +1,15 @@
 -- Nothing waits at the start.
-use Rattle.std.proofs.Common.{◌≡◌, ℕ, zero, suc, List, [], ◌∷◌, Option, None, refl}
+use Rattle.std.proofs.Common.{◌≡◌, ℕ, zero, suc, true, List, [], ◌∷◌, Option, None, refl, ap, sym, ◌∙◌}
 use Rattle.std.specs.Prelude.{replicate}
+use Rattle.std.proofs.lemmas.Bool.{false≢true}
 use Rattle.block_unit.specs.BlockMaps.{BlockMaps}
+use Rattle.stream_array.specs.declared.Pipe.{Pipe}
+use Rattle.stream_array.specs.declared.Pipe.TheVariants.{Command, Status, DataIn, DataOut}
 use Rattle.scsi_cmd.specs.Held.{held_at}
 use Rattle.bus_core.specs.Td.{Entry}
-use Rattle.bus_core.specs.Shared.{new_parts, opening}
+use Rattle.bus_core.specs.Shared.{new_parts, opening, pipe_of}
 use Rattle.bus_core.specs.Matched.{under, times_ready, HaveSlots, IsMatched}
+use Rattle.bus_core.proofs.MatchedFlows.{left_of}
 
 held-none : (n slot : ℕ) → held_at (replicate n (let none : Option Entry = None in none)) slot ≡ None
 held-none zero slot = refl
@@ -27,9 +31,22 @@ ready-new number [] client slot = refl
 ready-new number (unit ∷ units) zero slot = refl
 ready-new number (unit ∷ units) (suc client) slot = ready-new (suc number) units client slot
 
+-- each pipe runs
+new-runs : (units : List BlockMaps) (pipe : Pipe) → (pipe_of (opening units) pipe).runs ≡ true
+new-runs units Command = refl
+new-runs units Status = refl
+new-runs units DataIn = refl
+new-runs units DataOut = refl
+
 pub opening-matched : (units : List BlockMaps) → IsMatched (opening units)
 opening-matched units = record {
   slots = slots-new 0 units;
   places = λ place. rw (under-new 0 units place.client place.slot)
       (record { messages = refl; carried = refl; moved = refl; sent = refl; ready = ready-new 0 units place.client place.slot; sound = tt });
+  retired = refl;
+  retiring = tt;
+  flows = λ pipe place. record {
+    runs = λ few free has. new-runs units pipe;
+    left = λ before left. absurd (false≢true (sym (ap (left_of pipe) (under-new 0 units place.client place.slot)) ∙ left));
+  };
 }

@@ -9,13 +9,13 @@ use Rattle.std.proofs.lemmas.Option.{none-some}
 use Rattle.scsi_cmd.specs.Held.{held_at}
 use Rattle.uas_host.specs.declared.Place.{Place}
 use Rattle.bus_core.specs.declared.Completion.{Completion}
-use Rattle.bus_core.specs.declared.Completion.TheVariants.{CommandDone, DataDone, StatusDone}
+use Rattle.bus_core.specs.declared.Completion.TheVariants.{CommandDone, DataDone, StatusDone, EngineDone}
 use Rattle.bus_core.specs.Td.{Entry}
 use Rattle.bus_core.specs.Part.{Part}
 use Rattle.bus_core.specs.Shared.{Shared}
 use Rattle.bus_core.specs.Soundness.{one_if, times_in}
 use Rattle.bus_core.specs.Matched.{same_place, times, held_in, under, command_events, data_events, status_events, readied_in, times_ready, HaveSlots}
-use Rattle.bus_core.specs.Matched.{IsMatchedAt, IsMatched}
+use Rattle.bus_core.specs.Matched.{retired_places, IsMatchedAt, IsMatched}
 use Rattle.bus_core.proofs.Routes.{slice_get-slice_set_same, slice_get-slice_set_other}
 
 -- PLACES
@@ -73,6 +73,7 @@ command_events-append place [] more = omega arith
 command_events-append place (CommandDone next ∷ rest) more = omega (arith, command_events-append place rest more)
 command_events-append place (DataDone next ∷ rest) more = command_events-append place rest more
 command_events-append place (StatusDone next ∷ rest) more = command_events-append place rest more
+command_events-append place (EngineDone next ∷ rest) more = command_events-append place rest more
 
 pub data_events-append : (place : Place) (events more : List Completion) →
     data_events place (events ++ more) ≡ data_events place events + data_events place more
@@ -80,6 +81,7 @@ data_events-append place [] more = omega arith
 data_events-append place (CommandDone next ∷ rest) more = data_events-append place rest more
 data_events-append place (DataDone next ∷ rest) more = omega (arith, data_events-append place rest more)
 data_events-append place (StatusDone next ∷ rest) more = data_events-append place rest more
+data_events-append place (EngineDone next ∷ rest) more = data_events-append place rest more
 
 pub status_events-append : (place : Place) (events more : List Completion) →
     status_events place (events ++ more) ≡ status_events place events + status_events place more
@@ -87,6 +89,15 @@ status_events-append place [] more = omega arith
 status_events-append place (CommandDone next ∷ rest) more = status_events-append place rest more
 status_events-append place (DataDone next ∷ rest) more = status_events-append place rest more
 status_events-append place (StatusDone next ∷ rest) more = omega (arith, status_events-append place rest more)
+status_events-append place (EngineDone next ∷ rest) more = status_events-append place rest more
+
+-- the places of the events of the controller's own commands, in order
+pub retired_places-append : (events more : List Completion) → retired_places (events ++ more) ≡ retired_places events ++ retired_places more
+retired_places-append [] more = refl
+retired_places-append (CommandDone next ∷ rest) more = retired_places-append rest more
+retired_places-append (DataDone next ∷ rest) more = retired_places-append rest more
+retired_places-append (StatusDone next ∷ rest) more = retired_places-append rest more
+retired_places-append (EngineDone next ∷ rest) more = ap (λ places. next ∷ places) (retired_places-append rest more)
 
 -- one more in a queue of slots
 pub times_in-push : (slot : ℕ) (queue : List ℕ) (last : ℕ) → times_in slot (queue ++ last ∷ []) ≡ times_in slot queue + one_if (last == slot)
@@ -180,15 +191,21 @@ pub times_ready-written : (old new : Shared) (place : Place) (entry : Option Ent
 times_ready-written old new place entry written =
     rw written.parts (fact-set_same (readied_in place) 0 old.parts place.client written.part written.now written.there)
 
+-- at another place stands what stood there
+pub under-other : (old new : Shared) (place other : Place) (entry : Option Entry) → IsWritten old new place entry → same_place place other ≡ false →
+    under new.parts other ≡ under old.parts other
+under-other old new place other entry written apart =
+    let differ : place.client ≡ other.client → place.slot ≡ other.slot → ⊥ = apart_slot place other apart in
+    rw written.parts (fact-set_other (held_in other) None old.parts place.client other.client written.part written.now written.there
+    (λ same. ap (λ entries. held_at entries other.slot) written.entries
+    ∙ get_or-set_other written.part.entries place.slot other.slot entry None (λ at. differ same (sym at))))
+
 -- another place is as it was
 matched-other : (old new : Shared) (place other : Place) (entry : Option Entry) → IsWritten old new place entry → same_place place other ≡ false →
     IsMatchedAt old other (under old.parts other) → IsMatchedAt new other (under new.parts other)
 matched-other old new place other entry written apart was =
     let differ : place.client ≡ other.client → place.slot ≡ other.slot → ⊥ = apart_slot place other apart in
-    let held : under new.parts other ≡ under old.parts other =
-    rw written.parts (fact-set_other (held_in other) None old.parts place.client other.client written.part written.now written.there
-    (λ same. ap (λ entries. held_at entries other.slot) written.entries
-    ∙ get_or-set_other written.part.entries place.slot other.slot entry None (λ at. differ same (sym at)))) in
+    let held : under new.parts other ≡ under old.parts other = under-other old new place other entry written apart in
     let readied : times_ready new.parts other ≡ times_ready old.parts other =
     rw written.parts (fact-set_other (readied_in other) 0 old.parts place.client other.client written.part written.now written.there
     (λ same. written.queue other.slot (λ at. differ same (sym at)))) in
@@ -211,10 +228,19 @@ slots-written old new place entry written slots client =
     ap (λ entries. length entries) written.entries ∙ length-set written.part.entries place.slot entry ∙ long)
     (slots client))
 
--- Everything is matched after a step at one place, where that place is.
-pub IsMatched-written : (old new : Shared) (place : Place) (entry : Option Entry) → IsWritten old new place entry → IsMatchedAt new place entry →
-    IsMatched old → IsMatched new
-IsMatched-written old new place entry written here all = record {
+-- the clients are as many as before
+pub clients-written : (old new : Shared) (place : Place) (entry : Option Entry) → IsWritten old new place entry → length new.parts ≡ length old.parts
+clients-written old new place entry written = ap (λ parts. length parts) written.parts ∙ length-set old.parts place.client written.now
+
+-- Every place is matched, whatever of the retirement.
+pub record AreMatched (state : Shared) : Type 0 where
+  pub slots : HaveSlots state.parts
+  pub places : (place : Place) → IsMatchedAt state place (under state.parts place)
+
+-- So it is after a step at one place, where that place is.
+pub AreMatched-written : (old new : Shared) (place : Place) (entry : Option Entry) → IsWritten old new place entry → IsMatchedAt new place entry →
+    AreMatched old → AreMatched new
+AreMatched-written old new place entry written here all = record {
   slots = slots-written old new place entry written all.slots;
   places = λ other.
       elim (same_place place other) as (λ b. same_place place other ≡ b → IsMatchedAt new other (under new.parts other)) [
@@ -223,3 +249,20 @@ IsMatched-written old new place entry written here all = record {
         | false ↦ λ is. matched-other old new place other entry written is (all.places other)
       ] refl;
 }
+
+-- and after a step that writes no place
+pub AreMatched-same : (old new : Shared) → new.parts ≡ old.parts → ((place : Place) → WaitsAsBefore old new place) → AreMatched old → AreMatched new
+AreMatched-same old new parts waits all = record {
+  slots = subst (λ ps. HaveSlots ps) (sym parts) all.slots;
+  places = λ place. subst (λ held. IsMatchedAt new place held) (sym (ap (λ ps. under ps place) parts)) (record {
+    messages = (waits place).messages ∙ (all.places place).messages;
+    carried = (waits place).carried ∙ (all.places place).carried;
+    moved = (waits place).moved ∙ (all.places place).moved;
+    sent = (waits place).sent ∙ (all.places place).sent;
+    ready = ap (λ ps. times_ready ps place) parts ∙ (all.places place).ready;
+    sound = (all.places place).sound;
+  });
+}
+
+pub matched-places : (state : Shared) → IsMatched state → AreMatched state
+matched-places state all = record { slots = all.slots; places = all.places }

@@ -1,123 +1,63 @@
--- Each step keeps what waits matched.
-use Rattle.std.proofs.Common.{◌≡◌, ℕ, ◌+◌, ◌<◌, ◌≤◌, Bool, true, false, cond, List, [], ◌∷◌, ◌++◌, length, Option, Some, None, IfSome, refl, arith, ap, sym}
-use Rattle.std.proofs.Common.{suc, subst, ◌∙◌}
-use Rattle.std.specs.Prelude.{nat_lt, slice_get, slice_set, option_and_then, is_some}
+-- Each step keeps what waits matched: cited by queue_laws, and wherever a step's fit carries IsMatched on.
+use Rattle.std.proofs.Common.{◌≡◌, ℕ, ◌<◌, ◌≤◌, Bool, true, false, cond, List, [], ◌∷◌, ◌++◌, length, Option, Some, None, IfSome, refl, arith, ap, sym, suc}
+use Rattle.std.proofs.Common.{subst, ◌∙◌}
+use Rattle.std.specs.Prelude.{nat_lt, slice_get, slice_set, option_and_then, is_some, ◌==◌}
 use Rattle.std.specs.Option.{option_map_or}
 use Rattle.std.proofs.lemmas.Bool.{ltb-true, false≢true}
+use Rattle.std.proofs.lemmas.List.{append-nil}
 use Rattle.block_unit.specs.BlockMaps.{BlockMaps}
+use Rattle.stream_array.specs.declared.Pipe.{Pipe}
+use Rattle.stream_array.specs.declared.Pipe.TheVariants.{Command as CommandName, Status as StatusName, DataIn, DataOut}
 use Rattle.scsi_cmd.specs.declared.Command.{Command}
 use Rattle.scsi_cmd.specs.declared.Direction.{Direction}
 use Rattle.scsi_cmd.specs.declared.Direction.TheVariants.{Nothing, ToHost, ToDevice}
 use Rattle.scsi_cmd.specs.declared.SubmitFault.{SubmitFault}
-use Rattle.scsi_cmd.specs.Op.{direction_of}
+use Rattle.scsi_cmd.specs.Op.{direction_of, moved_bytes}
 use Rattle.scsi_cmd.specs.declared.TheConstants.{TASK_SLOT}
 use Rattle.scsi_cmd.specs.declared.Op.{Op}
 use Rattle.scsi_cmd.specs.declared.Request.TheVariants.{Execute}
-use Rattle.solo_model.specs.TaggedTask.{TaggedTask}
+use Rattle.scsi_cmd.specs.Held.{held_at}
 use Rattle.device_server.specs.declared.Answer.{Answer}
+use Rattle.device_server.specs.declared.Progress.TheVariants.{Moving, Ended}
+use Rattle.solo_model.specs.TaggedTask.{TaggedTask, carried_from, carried_request, moved_from, moved_request, sent_from, reply_from, unit_after}
 use Rattle.solo_model.specs.declared.Phase.{Phase}
 use Rattle.solo_model.specs.declared.Phase.TheVariants.{Queued, Begun, Sent, Gone}
-use Rattle.device_server.specs.declared.Progress.TheVariants.{Moving, Ended}
-use Rattle.solo_model.specs.TaggedTask.{carried_from, carried_request, moved_from, moved_request, sent_from, reply_from, unit_after}
-use Rattle.scsi_cmd.specs.Held.{held_at}
+use Rattle.xhci_ctl.specs.declared.PipeState.{PipeState}
 use Rattle.uas_host.specs.declared.Place.{Place}
-use Rattle.bus_core.specs.declared.Completion.{Completion}
-use Rattle.bus_core.specs.declared.Completion.TheVariants.{CommandDone, DataDone, StatusDone}
-use Rattle.bus_core.specs.declared.Step.{Step}
-use Rattle.bus_core.specs.declared.Step.TheVariants.{Submit, CommandPipe, Data, Status, Event, Take}
-use Rattle.bus_core.specs.declared.Td.{Td}
-use Rattle.bus_core.specs.Td.{Entry, has_trb, is_awaited, is_ready, data_trbs}
 use Rattle.uas_host.specs.Tags.{place_of, command_slot}
-use Rattle.bus_core.specs.Part.{Part, with_entry, carry_act, carried_slot, carried_entry, is_last_trb, took_trb, move_act, moved_slot, moved_entry, send_act}
-use Rattle.bus_core.specs.Part.{sent_slot, sent_entry, event_act, event_place, seen_by, seen_entry, ready_after, new_entry, fault_at, submitted_part, take_act}
-use Rattle.bus_core.specs.Part.{taken, settled, entry_reply, slot_tag, Act}
+use Rattle.bus_core.specs.declared.Completion.{Completion}
+use Rattle.bus_core.specs.declared.Step.{Step}
+use Rattle.bus_core.specs.declared.Td.{Td}
 use Rattle.bus_core.specs.declared.Mark.TheVariants.{Carry}
+use Rattle.bus_core.specs.declared.Completion.TheVariants.{CommandDone, DataDone, StatusDone, EngineDone}
+use Rattle.bus_core.specs.declared.Step.TheVariants.{Submit, CommandPipe, Data, Status, Engine, Event, Retire, Take}
+use Rattle.bus_core.specs.Td.{Entry, has_trb, is_awaited, is_ready, data_trbs, pushed, is_td_left_over, is_left_over_on, has_data_trb, has_trb_on, data_in_td}
+use Rattle.bus_core.specs.Td.{data_out_td}
+use Rattle.bus_core.specs.Part.{Part, with_entry, carry_act, carried_slot, carried_entry, is_last_trb, took_trb, move_act, moved_slot, moved_entry, send_act}
+use Rattle.bus_core.specs.Part.{sent_slot, sent_entry, event_act, event_place, seen_by, seen_entry, new_entry, fault_at, submitted_part, take_act, taken}
+use Rattle.bus_core.specs.Part.{settled, entry_reply, slot_tag, Act, data_td_for}
 use Rattle.bus_core.specs.Replay.{replayed}
-use Rattle.bus_core.specs.Shared.{Shared, idle, shared_step, acted_on, carry_step, routed_to, routed_by_tag, due_step, due, entry_fact, part_fact, place_fact}
-use Rattle.bus_core.specs.Shared.{has_ready, is_some_of, routed, with_streams_rung, accepted, answered, submitted_to, submitted_under, event_step, is_moving}
-use Rattle.bus_core.specs.Shared.{is_ended, data_is_due, status_is_due}
+use Rattle.bus_core.specs.Shared.{Shared, idle, shared_step, acted_on, carry_step, routed_to, routed_by_tag, due_step, due, has_ready, is_some_of, routed}
+use Rattle.bus_core.specs.Shared.{with_streams_rung, accepted, answered, submitted_to, submitted_under, event_step, is_moving, is_ended, data_is_due}
+use Rattle.bus_core.specs.Shared.{status_is_due, event_seen, pipe_of, is_held}
 use Rattle.bus_core.specs.Soundness.{one_if, awaited_data, readied_of, times_in}
-use Rattle.bus_core.specs.Matched.{same_place, times, held_in, under, command_events, data_events, status_events, readied_in, times_ready, waiting_command}
-use Rattle.bus_core.specs.Matched.{awaited_command, awaited_status, awaited_data_of, awaits_data, awaits_event, IsCommandRequest, IsMatchedAt, IsMatched}
-use Rattle.bus_core.proofs.MatchedPlaces.{one_self, and-true, one_if-true, one_if-most, one_equal, one_apart, times_in-push, command_events-append}
-use Rattle.bus_core.proofs.MatchedPlaces.{data_events-append, status_events-append, times-append, IsFound, under-found, held-within, IsWritten}
-use Rattle.bus_core.proofs.MatchedPlaces.{times_ready-written, IsMatched-written}
-use Rattle.bus_core.proofs.MatchedEntries.{IsStepped, carried_to, has_trb-queued, carry-stepped, moved_to, moved_events, IsDataEvent, data_event-is}
-use Rattle.bus_core.proofs.MatchedEntries.{move-stepped, sent_to, send-stepped, IsSeenAs, HasSeen, event-seen, IsQuiet, ready-quiet, IsUnfaulted, unfaulted}
-use Rattle.bus_core.proofs.MatchedEntries.{IsSubmitted, submit-stepped, asked_op, chunk_task, entries_after-command}
+use Rattle.bus_core.specs.Matched.{same_place, times, held_in, under, command_events, data_events, status_events, waiting_command, awaited_command}
+use Rattle.bus_core.specs.Matched.{awaited_status, awaited_data_of, awaits_data, awaits_event, IsCommandRequest, IsMatchedAt, IsMatched, retired_places}
+use Rattle.bus_core.specs.Matched.{is_td_event, is_left_over_at, has_trb_at, is_whole_on, is_whole_at}
+use Rattle.bus_core.specs.Pipes.{rung_unless}
+use Rattle.bus_core.proofs.MatchedPlaces.{one_self, and-true, one_if-true, one_if-most, one_equal, one_apart, command_events-append, data_events-append}
+use Rattle.bus_core.proofs.MatchedPlaces.{status_events-append, times-append, held-within, IsWritten, times_ready-written, AreMatched-written}
+use Rattle.bus_core.proofs.MatchedPlaces.{same_place-true, under-written, under-other, clients-written, matched-places}
+use Rattle.bus_core.proofs.MatchedEntries.{carried_to, has_trb-queued, carry-stepped, moved_to, moved_events, IsDataEvent, data_event-is, move-stepped}
+use Rattle.bus_core.proofs.MatchedEntries.{sent_to, send-stepped, HasSeen, event-seen, IsQuiet, ready-quiet, IsUnfaulted, unfaulted, IsSubmitted}
+use Rattle.bus_core.proofs.MatchedEntries.{submit-stepped, asked_op, chunk_task, entries_after-command, carry-tds, move-tds, send-tds, ready-left}
+use Rattle.bus_core.proofs.MatchedEntries.{over-left_in, over-left_out}
 use Rattle.bus_core.proofs.Routes.{placed_slot-within}
-
--- A MATCHED PLACE
-
--- what stands there, its part and how it is matched
-pub record IsHeld (state : Shared) (place : Place) (entry : Entry) : Type 0 where
-  pub found : IsFound state.parts place entry
-  pub here : IsMatchedAt state place (Some entry)
-
-pub matched-held : (state : Shared) (place : Place) (entry : Entry) → IsMatched state → under state.parts place ≡ Some entry → IsHeld state place entry
-matched-held state place entry all is = record {
-  found = under-found state.parts place entry is;
-  here = subst (λ held. IsMatchedAt state place held) is (all.places place);
-}
-
--- of a client that is there the queue of ready slots tells how often a place is ready
-pub times_ready-there : (parts : List Part) (place : Place) (part : Part) → slice_get parts place.client ≡ Some part
-    → times_ready parts place ≡ times_in place.slot part.ready
-times_ready-there parts place part there = ap (λ found. option_map_or (readied_in place) found 0) there
-
--- A STEP OF THE DEVICE AT A PLACE
-
--- what was popped and posted names this place alone
-pub record NamesAlone (place : Place) (popped : List Place) (posted : List Completion) : Type 0 where
-  pub messages : (other : Place) → same_place place other ≡ false → times other popped ≡ 0
-  pub carried : (other : Place) → same_place place other ≡ false → command_events other posted ≡ 0
-  pub moved : (other : Place) → same_place place other ≡ false → data_events other posted ≡ 0
-  pub sent : (other : Place) → same_place place other ≡ false → status_events other posted ≡ 0
-
--- the state after a step of the device
-abbrev acted_state : Shared → Place → Part → BlockMaps → Entry → List Place → List Completion → Shared
-acted_state state place part unit entry rest posted = record state {
-  parts = slice_set state.parts place.client (with_entry (record part { unit = unit }) place.slot entry);
-  messages = rest;
-  events = state.events ++ posted;
-}
-
-acted-written : (state : Shared) (place : Place) (part : Part) (unit : BlockMaps) (old new : Entry) (popped rest : List Place) (posted : List Completion) →
-    slice_get state.parts place.client ≡ Some part → held_at part.entries place.slot ≡ Some old → state.messages ≡ popped ++ rest
-    → NamesAlone place popped posted →
-    IsWritten state (acted_state state place part unit new rest posted) place (Some new)
-acted-written state place part unit old new popped rest posted there held pops alone = record {
-  part = part;
-  now = with_entry (record part { unit = unit }) place.slot new;
-  there = there;
-  within = held-within part.entries place.slot old held;
-  parts = refl;
-  entries = refl;
-  queue = λ slot apart. refl;
-  others = λ other apart. record {
-    messages = omega (arith, ap (times other) pops, times-append other popped rest, alone.messages other apart);
-    carried = omega (arith, command_events-append other state.events posted, alone.carried other apart);
-    moved = omega (arith, data_events-append other state.events posted, alone.moved other apart);
-    sent = omega (arith, status_events-append other state.events posted, alone.sent other apart);
-  };
-}
-
-pub acted-matched : (state : Shared) (place : Place) (part : Part) (unit : BlockMaps) (old new : Entry) (popped rest : List Place) (posted : List Completion) →
-    slice_get state.parts place.client ≡ Some part → held_at part.entries place.slot ≡ Some old → state.messages ≡ popped ++ rest
-    → NamesAlone place popped posted →
-    IsStepped place popped posted old new → IsMatchedAt state place (Some old) → IsMatched state → IsMatched (acted_state state place part unit new rest posted)
-unfolding acted-written
-acted-matched state place part unit old new popped rest posted there held pops alone step here all =
-    let written = acted-written state place part unit old new popped rest posted there held pops alone in
-    IsMatched-written state (acted_state state place part unit new rest posted) place (Some new) written (record {
-      messages = omega (arith, ap (times place) pops, times-append place popped rest, step.messages, here.messages);
-      carried = omega (arith, command_events-append place state.events posted, step.carried, here.carried);
-      moved = omega (arith, data_events-append place state.events posted, step.moved, here.moved);
-      sent = omega (arith, status_events-append place state.events posted, step.sent, here.sent);
-      ready = times_ready-written state (acted_state state place part unit new rest posted) place (Some new) written
-          ∙ sym (times_ready-there state.parts place part there) ∙ here.ready ∙ ap one_if (sym step.ready);
-      sound = step.sound;
-    }) all
+use Rattle.bus_core.proofs.MatchedTds.{none-goes}
+use Rattle.bus_core.proofs.MatchedFlows.{pipes-same, left_of, trb_of, whole_of, HeldGoesOn, written-goes, GoOn, goes-on, IsMatched-kept}
+pub use Rattle.bus_core.proofs.MatchedActs.{IsHeld, matched-held, times_ready-there, IsDueAt, place_fact-due, seen_part, seen_state, seen-written}
+use Rattle.bus_core.proofs.MatchedActs.{NamesAlone, acted-matched, under-there, seen-matched}
+use Rattle.bus_core.proofs.MatchedEngine.{engine_step-matched, retire_step-matched, engine_event-matched}
 
 -- CARRY
 
@@ -183,37 +123,8 @@ carry_step-matched state (place ∷ rest) is all =
     let after : BlockMaps × TaggedTask = carried_request part.unit entry.task entry.task.request in
     subst (λ now. IsMatched now.0) (sym (carry_step-held state place rest part entry at.found.there at.found.held at.here.sound.asks queued))
     (acted-matched state place part after.0 entry (carried_to entry after.1) (place ∷ []) rest (CommandDone place ∷ []) at.found.there at.found.held is
-    (carry-alone place)
+    (carry-alone place) refl (carry-tds part.unit entry)
     (carry-stepped part.unit place entry queued at.here.sound) at.here all)
-
--- WHERE A STEP IS DUE
-
--- the place of a tag where a fact is so of what stands there
-pub record IsDueAt (state : Shared) (tag : ℕ) (fact : Entry → Bool) : Type 0 where
-  pub place : Place
-  pub entry : Entry
-  pub named : place_of (length state.parts) tag ≡ Some place
-  pub held : under state.parts place ≡ Some entry
-  pub so : fact entry ≡ true
-
-due_part : (fact : Entry → Bool) (place : Place) (found : Option Part) → option_map_or (entry_fact fact place.slot) found false ≡ true →
-    (entry : Entry) × (option_map_or (held_in place) found None ≡ Some entry) × (fact entry ≡ true)
-due_part fact place None so = absurd (false≢true so)
-due_part fact place (Some part) so = due_held (held_at part.entries place.slot) so
-  where
-    due_held : (held : Option Entry) → option_map_or fact held false ≡ true → (entry : Entry) × (held ≡ Some entry) × (fact entry ≡ true)
-    due_held None is = absurd (false≢true is)
-    due_held (Some entry) is = (entry, refl, is)
-
-due_named : (state : Shared) (tag : ℕ) (fact : Entry → Bool) (place : Option Place) → place_of (length state.parts) tag ≡ place →
-    option_map_or (λ (p : Place). part_fact state p.client (entry_fact fact p.slot)) place false ≡ true → IsDueAt state tag fact
-due_named state tag fact None is so = absurd (false≢true so)
-due_named state tag fact (Some place) is so =
-    let at = due_part fact place (slice_get state.parts place.client) so in
-    record { place = place; entry = at.0; named = is; held = at.1; so = at.2 }
-
-pub place_fact-due : (state : Shared) (tag : ℕ) (fact : Entry → Bool) → place_fact state tag fact ≡ true → IsDueAt state tag fact
-place_fact-due state tag fact so = due_named state tag fact (place_of (length state.parts) tag) refl so
 
 -- MOVE
 
@@ -257,7 +168,8 @@ move_step-matched state tag is_due all =
     subst (λ now. IsMatched now.0) (sym
     (move_step-held state tag place part entry moving.chunk asks.0 at.named held.found.there held.found.held moving.is asks.1))
     (acted-matched state place part after.0 entry (moved_to entry after.1) [] state.messages posted held.found.there held.found.held refl
-    (record { messages = λ other apart. refl; carried = event.carried; moved = event.moved; sent = event.sent })
+    (record { messages = λ other apart. refl; carried = event.carried; moved = event.moved; sent = event.sent }) event.retired
+    (move-tds part.unit entry moving.chunk asks.0 moving.is held.here.sound)
     (move-stepped part.unit place entry moving.chunk asks.0 asks.1 moving.is held.here.sound) held.here all)
 
 -- SEND
@@ -303,7 +215,8 @@ send_step-matched state tag is_due all =
     let ended : IsEndedBy entry.task.phase = ended_phase entry.task.phase (and-true (is_ended entry.task.phase) _ at.so).0 in
     subst (λ now. IsMatched now.0) (sym (send_step-held state tag place part entry ended.answer at.named held.found.there held.found.held ended.is))
     (acted-matched state place part part.unit entry (sent_to entry ended.answer) [] state.messages (StatusDone place ∷ []) held.found.there held.found.held refl
-    (send-alone place) (send-stepped place entry ended.answer ended.is held.here.sound) held.here all)
+    (send-alone place) refl (send-tds entry ended.answer ended.is held.here.sound)
+    (send-stepped place entry ended.answer ended.is held.here.sound) held.here all)
 
 -- EVENT
 
@@ -312,6 +225,7 @@ abbrev pub times_alike : Completion → List Completion → ℕ
 times_alike (CommandDone place) events = command_events place events
 times_alike (DataDone place) events = data_events place events
 times_alike (StatusDone place) events = status_events place events
+times_alike (EngineDone place) events = times place (retired_places events)
 
 -- a place that an event names has an entry that awaits it
 pub record HasAwaiting (event : Completion) (held : Option Entry) : Type 0 where
@@ -335,141 +249,56 @@ status-awaited : (place : Place) (held : Option Entry) → 1 ≤ awaited_status 
 status-awaited place None some = absurd (omega (arith, some))
 status-awaited place (Some entry) some = record { entry = entry; is = refl; awaits = one_if-true (is_awaited entry.status_td 1) some }
 
-pub event-awaited : (state : Shared) (event : Completion) → IsMatched state → 1 ≤ times_alike event state.events
+pub event-awaited : (state : Shared) (event : Completion) → IsMatched state → is_td_event event ≡ true → 1 ≤ times_alike event state.events
     → HasAwaiting event (under state.parts (event_place event))
-event-awaited state (CommandDone place) all some = command-awaited place (under state.parts place) (omega (arith, some, (all.places place).carried))
-event-awaited state (DataDone place) all some = data-awaited place (under state.parts place) (omega (arith, some, (all.places place).moved))
-event-awaited state (StatusDone place) all some = status-awaited place (under state.parts place) (omega (arith, some, (all.places place).sent))
+event-awaited state (CommandDone place) all of_td some =
+    command-awaited place (under state.parts place) (omega (arith, some, (all.places place).carried))
+event-awaited state (DataDone place) all of_td some = data-awaited place (under state.parts place) (omega (arith, some, (all.places place).moved))
+event-awaited state (StatusDone place) all of_td some = status-awaited place (under state.parts place) (omega (arith, some, (all.places place).sent))
+event-awaited state (EngineDone place) all of_td some = absurd (false≢true of_td)
 
 -- the event that is next is one of those that wait
 pub times_alike-first : (event : Completion) (rest : List Completion) → 1 ≤ times_alike event (event ∷ rest)
 times_alike-first (CommandDone place) rest = omega (arith, one_self place)
 times_alike-first (DataDone place) rest = omega (arith, one_self place)
 times_alike-first (StatusDone place) rest = omega (arith, one_self place)
+times_alike-first (EngineDone place) rest = omega (arith, one_self place)
 
--- counts of a list by its first event
-pub command_events-first : (place : Place) (event : Completion) (rest : List Completion)
-    → command_events place (event ∷ rest) ≡ command_events place (event ∷ []) + command_events place rest
-command_events-first place event rest = command_events-append place (event ∷ []) rest
+-- the host takes an event of a TD as an act of its client
+pub event_seen-td : (state : Shared) (event : Completion) → is_td_event event ≡ true →
+    event_seen state event ≡ routed state (event_place event).client (event_act event)
+event_seen-td state (CommandDone place) of_td = refl
+event_seen-td state (DataDone place) of_td = refl
+event_seen-td state (StatusDone place) of_td = refl
+event_seen-td state (EngineDone place) of_td = absurd (false≢true of_td)
 
-pub data_events-first : (place : Place) (event : Completion) (rest : List Completion)
-    → data_events place (event ∷ rest) ≡ data_events place (event ∷ []) + data_events place rest
-data_events-first place event rest = data_events-append place (event ∷ []) rest
-
-pub status_events-first : (place : Place) (event : Completion) (rest : List Completion)
-    → status_events place (event ∷ rest) ≡ status_events place (event ∷ []) + status_events place rest
-status_events-first place event rest = status_events-append place (event ∷ []) rest
-
-event-alone : (event : Completion) → NamesAlone (event_place event) [] (event ∷ [])
-event-alone (CommandDone place) = record
-    { messages = λ other apart. refl; carried = λ other apart. omega (arith, ap one_if apart); moved = λ other apart. refl; sent = λ other apart. refl }
-event-alone (DataDone place) = record
-    { messages = λ other apart. refl; carried = λ other apart. refl; moved = λ other apart. omega (arith, ap one_if apart); sent = λ other apart. refl }
-event-alone (StatusDone place) = record
-    { messages = λ other apart. refl; carried = λ other apart. refl; moved = λ other apart. refl; sent = λ other apart. omega (arith, ap one_if apart) }
-
--- the part after an event was seen
-abbrev pub seen_part : Part → ℕ → Entry → Part
-seen_part part slot entry = record (with_entry part slot entry) { ready = ready_after part.ready slot entry }
-
--- the state after it
-abbrev pub seen_state : Shared → Place → Part → Entry → List Completion → Shared
-seen_state state place part entry rest = record state { parts = slice_set state.parts place.client (seen_part part place.slot entry); events = rest ++ [] }
-
-pub event_step-held : (state : Shared) (event : Completion) (rest : List Completion) (part : Part) (old new : Entry)
-    → slice_get state.parts (event_place event).client ≡ Some part →
-    held_at part.entries (event_place event).slot ≡ Some old → seen_by event old ≡ Some new
+pub event_step-held : (state : Shared) (event : Completion) (rest : List Completion) (part : Part) (old new : Entry) → is_td_event event ≡ true →
+    slice_get state.parts (event_place event).client ≡ Some part → held_at part.entries (event_place event).slot ≡ Some old → seen_by event old ≡ Some new
     → (event_step state (event ∷ rest)).0 ≡ seen_state state (event_place event) part new rest
-event_step-held state event rest part old new there held seen =
+event_step-held state event rest part old new of_td there held seen =
     let popped : Shared = record state { events = rest } in
     let place : Place = event_place event in
-    ap (λ found. (routed_to popped place.client (event_act event) found).0) there
+    ap (λ after. after.0) (event_seen-td popped event of_td)
+    ∙ ap (λ found. (routed_to popped place.client (event_act event) found).0) there
     ∙ ap (λ found. (acted_on popped place.client (seen_entry part place.slot (option_and_then (seen_by event) found))).0) held
     ∙ ap (λ after. (acted_on popped place.client (seen_entry part place.slot after)).0) seen
 
--- other slots of the queue stay, and this one joins it where its entry is ready
-ready_after-other : (queue : List ℕ) (slot other : ℕ) (entry : Entry) → (other ≡ slot → ⊥)
-    → times_in other (ready_after queue slot entry) ≡ times_in other queue
-ready_after-other queue slot other entry apart =
-    elim (is_ready entry) as (λ b. times_in other (cond b (queue ++ slot ∷ []) queue) ≡ times_in other queue) [
-      | true ↦ omega (arith, times_in-push other queue slot, one_apart slot other apart)
-      | false ↦ refl
-    ]
-
-ready_after-own : (queue : List ℕ) (slot : ℕ) (entry : Entry) → times_in slot (ready_after queue slot entry) ≡ times_in slot queue + one_if (is_ready entry)
-ready_after-own queue slot entry =
-    elim (is_ready entry) as (λ b. times_in slot (cond b (queue ++ slot ∷ []) queue) ≡ times_in slot queue + one_if b) [
-      | true ↦ omega (arith, times_in-push slot queue slot, one_equal slot)
-      | false ↦ omega arith
-    ]
-
-pub seen-written : (state : Shared) (event : Completion) (rest : List Completion) (part : Part) (old new : Entry) → state.events ≡ event ∷ rest →
-    slice_get state.parts (event_place event).client ≡ Some part → held_at part.entries (event_place event).slot ≡ Some old →
-    IsWritten state (seen_state state (event_place event) part new rest) (event_place event) (Some new)
-seen-written state event rest part old new is there held =
-    let alone : NamesAlone (event_place event) [] (event ∷ []) = event-alone event in
-    record {
-      part = part;
-      now = seen_part part (event_place event).slot new;
-      there = there;
-      within = held-within part.entries (event_place event).slot old held;
-      parts = refl;
-      entries = refl;
-      queue = λ slot apart. ready_after-other part.ready (event_place event).slot slot new apart;
-      others = λ other apart. record {
-        messages = refl;
-        carried = omega (
-          arith,
-          command_events-append other rest [],
-          ap (command_events other) is,
-          command_events-first other event rest,
-          alone.carried other apart,
-        );
-        moved = omega (arith, data_events-append other rest [], ap (data_events other) is, data_events-first other event rest, alone.moved other apart);
-        sent = omega (arith, status_events-append other rest [], ap (status_events other) is, status_events-first other event rest, alone.sent other apart);
-      };
-    }
-
-seen-matched : (state : Shared) (event : Completion) (rest : List Completion) (part : Part) (old new : Entry) → state.events ≡ event ∷ rest →
-    slice_get state.parts (event_place event).client ≡ Some part → held_at part.entries (event_place event).slot ≡ Some old → IsSeenAs event old new →
-    IsMatchedAt state (event_place event) (Some old) → IsMatched state → IsMatched (seen_state state (event_place event) part new rest)
-unfolding seen-written
-seen-matched state event rest part old new is there held step here all =
-    let place : Place = event_place event in
-    let now : Shared = seen_state state place part new rest in
-    let written = seen-written state event rest part old new is there held in
-    IsMatched-written state now place (Some new) written (record {
-      messages = omega (arith, step.messages, here.messages);
-      carried = omega (
-        arith,
-        command_events-append place rest [],
-        ap (command_events place) is,
-        command_events-first place event rest,
-        step.carried,
-        here.carried,
-      );
-      moved = omega (arith, data_events-append place rest [], ap (data_events place) is, data_events-first place event rest, step.moved, here.moved);
-      sent = omega (arith, status_events-append place rest [], ap (status_events place) is, status_events-first place event rest, step.sent, here.sent);
-      ready = omega (
-        arith,
-        times_ready-written state now place (Some new) written,
-        ready_after-own part.ready place.slot new,
-        times_ready-there state.parts place part there,
-        here.ready,
-        step.ready,
-      );
-      sound = step.sound;
-    }) all
+td_event_step-matched : (state : Shared) (event : Completion) (rest : List Completion) → is_td_event event ≡ true → state.events ≡ event ∷ rest →
+    IsMatched state → IsMatched (event_step state (event ∷ rest)).0
+td_event_step-matched state event rest of_td is all =
+    let some : 1 ≤ times_alike event state.events = subst (λ es. 1 ≤ times_alike event es) (sym is) (times_alike-first event rest) in
+    let awaiting : HasAwaiting event (under state.parts (event_place event)) = event-awaited state event all of_td some in
+    let held : IsHeld state (event_place event) awaiting.entry = matched-held state (event_place event) awaiting.entry all awaiting.is in
+    let seen : HasSeen event awaiting.entry = event-seen event awaiting.entry awaiting.awaits held.here.sound in
+    subst IsMatched (sym (event_step-held state event rest held.found.part awaiting.entry seen.new of_td held.found.there held.found.held seen.step.seen))
+    (seen-matched state event rest held.found.part awaiting.entry seen.new of_td is held.found.there held.found.held seen.step held.here all)
 
 pub event_step-matched : (state : Shared) (events : List Completion) → state.events ≡ events → IsMatched state → IsMatched (event_step state events).0
 event_step-matched state [] is all = all
-event_step-matched state (event ∷ rest) is all =
-    let some : 1 ≤ times_alike event state.events = subst (λ es. 1 ≤ times_alike event es) (sym is) (times_alike-first event rest) in
-    let awaiting : HasAwaiting event (under state.parts (event_place event)) = event-awaited state event all some in
-    let held : IsHeld state (event_place event) awaiting.entry = matched-held state (event_place event) awaiting.entry all awaiting.is in
-    let seen : HasSeen event awaiting.entry = event-seen event awaiting.entry awaiting.awaits held.here.sound in
-    subst IsMatched (sym (event_step-held state event rest held.found.part awaiting.entry seen.new held.found.there held.found.held seen.step.seen))
-    (seen-matched state event rest held.found.part awaiting.entry seen.new is held.found.there held.found.held seen.step held.here all)
+event_step-matched state (CommandDone place ∷ rest) is all = td_event_step-matched state (CommandDone place) rest refl is all
+event_step-matched state (DataDone place ∷ rest) is all = td_event_step-matched state (DataDone place) rest refl is all
+event_step-matched state (StatusDone place ∷ rest) is all = td_event_step-matched state (StatusDone place) rest refl is all
+event_step-matched state (EngineDone place ∷ rest) is all = engine_event-matched state place rest is all
 
 -- TAKE
 
@@ -524,22 +353,34 @@ settled-written state place part rest entry there queue held = record {
   };
 }
 
+-- no TD of an entry that is ready is left over, and none of a place where nothing stands
+ready-goes : (pipe : Pipe) (entry : Entry) → is_ready entry ≡ true → HeldGoesOn pipe (Some entry) None
+ready-goes pipe entry ready =
+    none-goes (is_left_over_on pipe entry) (has_trb_on pipe entry) (is_whole_on pipe entry) false false false (ready-left pipe entry ready) refl
+    (λ has. absurd (false≢true has))
+
 settled-matched : (state : Shared) (place : Place) (part : Part) (rest : List ℕ) (entry : Entry) → slice_get state.parts place.client ≡ Some part →
-    part.ready ≡ place.slot ∷ rest → held_at part.entries place.slot ≡ Some entry → times_in place.slot rest ≡ 0 → IsQuiet entry
+    part.ready ≡ place.slot ∷ rest → held_at part.entries place.slot ≡ Some entry → times_in place.slot rest ≡ 0 → is_ready entry ≡ true → IsQuiet entry
     → IsMatchedAt state place (Some entry) → IsMatched state →
     IsMatched (settled_state state place part rest)
 unfolding settled-written
-settled-matched state place part rest entry there queue held once quiet here all =
+settled-matched state place part rest entry there queue held once ready quiet here all =
     let now : Shared = settled_state state place part rest in
     let written = settled-written state place part rest entry there queue held in
-    IsMatched-written state now place None written (record {
+    IsMatched-kept state now
+    (goes-on state now (clients-written state now place None written) refl (pipes-same state now refl refl refl)
+    (written-goes state now place None written
+    (λ pipe. subst (λ was. HeldGoesOn pipe was None) (sym (under-there state.parts place part (Some entry) there held)) (ready-goes pipe entry ready))))
+    (AreMatched-written state now place None written (record {
       messages = here.messages ∙ quiet.messages;
       carried = omega (arith, command_events-append place state.events [], here.carried, quiet.carried);
       moved = omega (arith, data_events-append place state.events [], here.moved, quiet.moved);
       sent = omega (arith, status_events-append place state.events [], here.sent, quiet.sent);
       ready = times_ready-written state now place None written ∙ once;
       sound = tt;
-    }) all
+    }) (matched-places state all))
+    (ap (λ events. retired_places events) (append-nil state.events))
+    all
 
 take_queue : (state : Shared) (client : ℕ) (part : Part) (queue : List ℕ) → slice_get state.parts client ≡ Some part → part.ready ≡ queue
     → is_some_of queue ≡ true → IsMatched state →
@@ -554,7 +395,7 @@ take_queue state client part (slot ∷ rest) there is some all =
     let at : held_at part.entries slot ≡ Some first.entry = sym (ap (λ found. option_map_or (held_in place) found None) there) ∙ first.is in
     let quiet : IsQuiet first.entry = ready-quiet first.entry first.ready held.here.sound in
     subst IsMatched (sym (take_step-held state client slot rest part first.entry quiet.answered.answer there is at quiet.answered.is))
-    (settled-matched state place part rest first.entry there is at first.once quiet held.here all)
+    (settled-matched state place part rest first.entry there is at first.once first.ready quiet held.here all)
 
 take_step-matched : (state : Shared) (client : ℕ) → due state (Take client) ≡ true → IsMatched state → IsMatched (routed state client (take_act client)).0
 take_step-matched state client is_due all =
@@ -593,16 +434,150 @@ accepted-written state part place tag ticket command there within =
     }
 
 -- a place of this client where nothing stands
-none-matched : (state : Shared) (place : Place) (part : Part) → slice_get state.parts place.client ≡ Some part
-    → is_some (held_at part.entries place.slot) ≡ false → IsMatched state →
-    IsMatchedAt state place None
-none-matched state place part there free all =
-    subst (λ held. IsMatchedAt state place held)
-    (ap (λ found. option_map_or (held_in place) found None) there ∙ none (held_at part.entries place.slot) free) (all.places place)
+none-under : (state : Shared) (place : Place) (part : Part) → slice_get state.parts place.client ≡ Some part →
+    is_some (held_at part.entries place.slot) ≡ false → under state.parts place ≡ None
+none-under state place part there free = under-there state.parts place part None there (none (held_at part.entries place.slot) free)
   where
     none : (held : Option Entry) → is_some held ≡ false → held ≡ None
     none None is = refl
     none (Some entry) is = absurd (false≢true (sym is))
+
+none-matched : (state : Shared) (place : Place) (part : Part) → slice_get state.parts place.client ≡ Some part
+    → is_some (held_at part.entries place.slot) ≡ false → IsMatched state →
+    IsMatchedAt state place None
+none-matched state place part there free all = subst (λ held. IsMatchedAt state place held) (none-under state place part there free) (all.places place)
+
+-- the state after a submission of any direction
+abbrev submitted_state : Shared → Direction → ℕ → List Part → List Place → Shared
+submitted_state state way tag parts messages = record (with_streams_rung state way tag) { parts = parts; messages = messages }
+
+-- A doorbell makes a pipe run, and none of a held one is rung.
+rung-held : (held : Bool) (pipe : PipeState) (tag : ℕ) → held ≡ true → (rung_unless held pipe tag).runs ≡ pipe.runs
+rung-held held pipe tag is = ap (λ b. (rung_unless b pipe tag).runs) is
+
+rung-free : (held : Bool) (pipe : PipeState) (tag : ℕ) → held ≡ false → (rung_unless held pipe tag).runs ≡ true
+rung-free held pipe tag is = ap (λ b. (rung_unless b pipe tag).runs) is
+
+rung-runs : (held : Bool) (pipe : PipeState) (tag : ℕ) → pipe.runs ≡ true → (rung_unless held pipe tag).runs ≡ true
+rung-runs true pipe tag is = is
+rung-runs false pipe tag is = refl
+
+submitted-held : (state : Shared) (way : Direction) (tag : ℕ) (parts : List Part) (messages : List Place) (pipe : Pipe) → is_held state pipe ≡ true →
+    (pipe_of (submitted_state state way tag parts messages) pipe).runs ≡ (pipe_of state pipe).runs
+submitted-held state way tag parts messages CommandName held = refl
+submitted-held state Nothing tag parts messages StatusName held = rung-held (is_held state StatusName) state.status tag held
+submitted-held state ToHost tag parts messages StatusName held = rung-held (is_held state StatusName) state.status tag held
+submitted-held state ToDevice tag parts messages StatusName held = rung-held (is_held state StatusName) state.status tag held
+submitted-held state Nothing tag parts messages DataIn held = refl
+submitted-held state ToHost tag parts messages DataIn held = rung-held (is_held state DataIn) state.data_in tag held
+submitted-held state ToDevice tag parts messages DataIn held = refl
+submitted-held state Nothing tag parts messages DataOut held = refl
+submitted-held state ToHost tag parts messages DataOut held = refl
+submitted-held state ToDevice tag parts messages DataOut held = rung-held (is_held state DataOut) state.data_out tag held
+
+submitted-runs : (state : Shared) (way : Direction) (tag : ℕ) (parts : List Part) (messages : List Place) (pipe : Pipe) →
+    (pipe_of state pipe).runs ≡ true → (pipe_of (submitted_state state way tag parts messages) pipe).runs ≡ true
+submitted-runs state way tag parts messages CommandName runs = refl
+submitted-runs state Nothing tag parts messages StatusName runs = rung-runs (is_held state StatusName) state.status tag runs
+submitted-runs state ToHost tag parts messages StatusName runs = rung-runs (is_held state StatusName) state.status tag runs
+submitted-runs state ToDevice tag parts messages StatusName runs = rung-runs (is_held state StatusName) state.status tag runs
+submitted-runs state Nothing tag parts messages DataIn runs = runs
+submitted-runs state ToHost tag parts messages DataIn runs = rung-runs (is_held state DataIn) state.data_in tag runs
+submitted-runs state ToDevice tag parts messages DataIn runs = runs
+submitted-runs state Nothing tag parts messages DataOut runs = runs
+submitted-runs state ToHost tag parts messages DataOut runs = runs
+submitted-runs state ToDevice tag parts messages DataOut runs = rung-runs (is_held state DataOut) state.data_out tag runs
+
+-- the TDs of this direction on a pipe that isn't held: their pipe was rung
+abbrev submitted_trb : Direction → Pipe → Option Td → Bool
+submitted_trb way CommandName td = false
+submitted_trb way StatusName td = true
+submitted_trb way DataIn td = is_some (data_in_td way td)
+submitted_trb way DataOut td = is_some (data_out_td way td)
+
+submitted-rung : (state : Shared) (way : Direction) (tag : ℕ) (parts : List Part) (messages : List Place) (pipe : Pipe) (td : Option Td) →
+    is_held state pipe ≡ false → submitted_trb way pipe td ≡ true → (pipe_of (submitted_state state way tag parts messages) pipe).runs ≡ true
+submitted-rung state way tag parts messages CommandName td free has = refl
+submitted-rung state Nothing tag parts messages StatusName td free has = rung-free (is_held state StatusName) state.status tag free
+submitted-rung state ToHost tag parts messages StatusName td free has = rung-free (is_held state StatusName) state.status tag free
+submitted-rung state ToDevice tag parts messages StatusName td free has = rung-free (is_held state StatusName) state.status tag free
+submitted-rung state Nothing tag parts messages DataIn td free has = absurd (false≢true has)
+submitted-rung state ToHost tag parts messages DataIn td free has = rung-free (is_held state DataIn) state.data_in tag free
+submitted-rung state ToDevice tag parts messages DataIn td free has = absurd (false≢true has)
+submitted-rung state Nothing tag parts messages DataOut td free has = absurd (false≢true has)
+submitted-rung state ToHost tag parts messages DataOut td free has = absurd (false≢true has)
+submitted-rung state ToDevice tag parts messages DataOut td free has = rung-free (is_held state DataOut) state.data_out tag free
+
+trb-some : (trbs : ℕ) (td : Option Td) → has_data_trb trbs td ≡ true → is_some td ≡ true
+trb-some trbs None has = absurd (false≢true has)
+trb-some trbs (Some td) has = refl
+
+new-trb : (pipe : Pipe) (ticket : ℕ) (command : Command) → has_trb_on pipe (new_entry ticket command) ≡ true →
+    submitted_trb (direction_of command.op) pipe (data_td_for (moved_bytes command.op)) ≡ true
+new-trb CommandName ticket command has = absurd (false≢true has)
+new-trb StatusName ticket command has = refl
+new-trb DataIn ticket command has =
+    trb-some (data_trbs (Execute command.op)) (data_in_td (direction_of command.op) (data_td_for (moved_bytes command.op))) has
+new-trb DataOut ticket command has =
+    trb-some (data_trbs (Execute command.op)) (data_out_td (direction_of command.op) (data_td_for (moved_bytes command.op))) has
+
+-- what was pushed isn't left over
+data_for-left : (bytes : ℕ) → is_td_left_over (data_td_for bytes) ≡ false
+data_for-left bytes =
+    elim (bytes == 0) as (λ b. is_td_left_over (cond b (let none : Option Td = None in none) (Some pushed)) ≡ false) [
+      | true ↦ refl
+      | false ↦ refl
+    ]
+
+new-left : (pipe : Pipe) (ticket : ℕ) (command : Command) → is_left_over_on pipe (new_entry ticket command) ≡ false
+new-left CommandName ticket command = refl
+new-left StatusName ticket command = refl
+new-left DataIn ticket command = over-left_in (direction_of command.op) (data_td_for (moved_bytes command.op)) (data_for-left (moved_bytes command.op))
+new-left DataOut ticket command = over-left_out (direction_of command.op) (data_td_for (moved_bytes command.op)) (data_for-left (moved_bytes command.op))
+
+rung-retirement : (state : Shared) (way : Direction) (tag : ℕ) → (with_streams_rung state way tag).retirement ≡ state.retirement
+rung-retirement state Nothing tag = refl
+rung-retirement state ToHost tag = refl
+rung-retirement state ToDevice tag = refl
+
+-- at a place of a submission, and elsewhere
+accepted-go : (state : Shared) (part : Part) (place : Place) (tag ticket : ℕ) (command : Command) → slice_get state.parts place.client ≡ Some part →
+    place.slot < length part.entries → under state.parts place ≡ None → GoOn state (accepted state part place tag ticket command).0
+accepted-go state part place tag ticket command there within free =
+    let now : Shared = (accepted state part place tag ticket command).0 in
+    let entry : Entry = new_entry ticket command in
+    let way : Direction = direction_of command.op in
+    let parts : List Part = slice_set state.parts place.client (submitted_part part place.slot ticket command) in
+    let messages : List Place = state.messages ++ place ∷ [] in
+    let written : IsWritten state now place (Some entry) = accepted-written state part place tag ticket command there within in
+    let here : under now.parts place ≡ Some entry = under-written state now place (Some entry) written in
+    let apart : (other : Place) → same_place place other ≡ false → under now.parts other ≡ under state.parts other =
+    λ other differ. under-other state now place other (Some entry) written differ in
+    record {
+      clients = clients-written state now place (Some entry) written;
+      retirement = rung-retirement state way tag;
+      held = λ pipe held. submitted-held state way tag parts messages pipe held;
+      left = λ pipe other left. by_place other (λ at. is_left_over_at now pipe at ≡ true)
+          (λ same. absurd (false≢true (sym (ap (left_of pipe) (sym (ap (λ at. under state.parts at) same) ∙ free)) ∙ left)))
+          (λ differ. ap (left_of pipe) (apart other differ) ∙ left);
+      whole = λ pipe other left is. by_place other (λ at. is_whole_at now pipe at ≡ true)
+          (λ same. absurd (false≢true (sym (ap (left_of pipe) (sym (ap (λ at. under state.parts at) same) ∙ free)) ∙ left)))
+          (λ differ. ap (whole_of pipe) (apart other differ) ∙ is);
+      runs = λ pipe other unheld has was. by_place other (λ at. (pipe_of now pipe).runs ≡ true)
+          (λ same. submitted-rung state way tag parts messages pipe (data_td_for (moved_bytes command.op)) unheld
+          (new-trb pipe ticket command (sym (ap (trb_of pipe) (sym (ap (λ at. under now.parts at) same) ∙ here)) ∙ has)))
+          (λ differ. submitted-runs state way tag parts messages pipe (was (sym (ap (trb_of pipe) (apart other differ)) ∙ has)));
+      fresh = λ pipe other left was. by_place other (λ at. has_trb_at now pipe at ≡ true)
+          (λ same. absurd (false≢true (sym (new-left pipe ticket command) ∙ sym (ap (left_of pipe) (sym (ap (λ at. under now.parts at) same) ∙ here)) ∙ left)))
+          (λ differ. ap (trb_of pipe) (apart other differ) ∙ was (sym (ap (left_of pipe) (apart other differ)) ∙ left));
+    }
+  where
+    by_place : (other : Place) (P : Place → Type 0) → (place ≡ other → P other) → (same_place place other ≡ false → P other) → P other
+    by_place other P same differ =
+        elim (same_place place other) as (λ b. same_place place other ≡ b → P other) [
+          | true ↦ λ is. same (same_place-true place other is)
+          | false ↦ λ is. differ is
+        ] refl
 
 accepted-matched : (state : Shared) (part : Part) (place : Place) (tag ticket : ℕ) (command : Command) → slice_get state.parts place.client ≡ Some part
     → place.slot < length part.entries →
@@ -614,7 +589,9 @@ accepted-matched state part place tag ticket command there within fine all =
     let here : IsMatchedAt state place None = none-matched state place part there fine.free all in
     let step : IsSubmitted (new_entry ticket command) = submit-stepped ticket command fine.short in
     let events : now.events ≡ state.events = rung-events state (direction_of command.op) tag in
-    IsMatched-written state now place (Some (new_entry ticket command)) written (record {
+    IsMatched-kept state now
+    (accepted-go state part place tag ticket command there within (none-under state place part there fine.free))
+    (AreMatched-written state now place (Some (new_entry ticket command)) written (record {
       messages = omega (arith, times-append place state.messages (place ∷ []), one_self place, here.messages, step.messages);
       carried = ap (command_events place) events ∙ here.carried ∙ sym step.carried;
       moved = ap (data_events place) events ∙ here.moved ∙ sym step.moved;
@@ -622,7 +599,9 @@ accepted-matched state part place tag ticket command there within fine all =
       ready = times_ready-written state now place (Some (new_entry ticket command)) written ∙ sym (times_ready-there state.parts place part there)
           ∙ here.ready ∙ sym step.ready;
       sound = step.sound;
-    }) all
+    }) (matched-places state all))
+    (ap (λ events. retired_places events) events)
+    all
 
 slots-there : (state : Shared) (client : ℕ) (part : Part) → IsMatched state → slice_get state.parts client ≡ Some part → length part.entries ≡ 8
 slots-there state client part all there = subst (λ found. IfSome found (λ part. length part.entries ≡ 8)) there (all.slots client)
@@ -659,6 +638,8 @@ due_step-matched state (Submit client tag ticket command) is all =
 due_step-matched state CommandPipe is all = carry_step-matched state state.messages refl all
 due_step-matched state (Data tag) is all = move_step-matched state tag is all
 due_step-matched state (Status tag) is all = send_step-matched state tag is all
+due_step-matched state Engine is all = engine_step-matched state state.retirement refl all
+due_step-matched state (Retire pipe tag) is all = retire_step-matched state pipe tag is all
 due_step-matched state Event is all = event_step-matched state state.events refl all
 due_step-matched state (Take client) is all = take_step-matched state client is all
 

@@ -1,12 +1,13 @@
 -- A new world fits the opening shared machine: every cell is empty, and nothing waits.
-use Rattle.std.proofs.Common.{◌≡◌, ℕ, zero, suc, ◌+◌, ◌-◌, ◌<◌, ◌≤◌, List, [], ◌∷◌, length, Option, None, refl, arith, ap, sym, subst, ◌∙◌}
-use Rattle.std.specs.Prelude.{replicate, slice_get, slice_index_or}
+use Rattle.std.proofs.Common.{◌≡◌, ℕ, zero, suc, ◌+◌, ◌-◌, ◌<◌, ◌≤◌, true, false, List, [], ◌∷◌, length, Option, None, refl, arith, ap, sym, subst, ◌∙◌}
+use Rattle.std.specs.Prelude.{nat_le, replicate, slice_get, slice_index_or}
+use Rattle.std.proofs.lemmas.Bool.{leb-true, leb-false}
 use Rattle.block_unit.specs.BlockMaps.{BlockMaps}
-use Rattle.cycle_ring.specs.Ring.{Ring}
+use Rattle.cycle_ring.specs.Ring.{Ring, opening}
 use Rattle.stream_array.specs.declared.Pipe.{Pipe}
 use Rattle.stream_array.specs.declared.Pipe.TheVariants.{Command, Status, DataIn, DataOut}
 use Rattle.stream_array.specs.Map.{HasRing}
-use Rattle.stream_array.specs.Rings.{LinesState, IsOpeningLines, ring_of}
+use Rattle.stream_array.specs.Rings.{IsLines, LinesState, IsOpeningLines, ring_of, stream_ring}
 use Rattle.frame_store.specs.Buffers.{held_for, opening as opening_frames, opening_buffers, no_buffers}
 use Rattle.scsi_cmd.specs.declared.TheConstants.{TAGS}
 use Rattle.scsi_cmd.specs.Held.{held_at, held_under}
@@ -21,8 +22,9 @@ use Rattle.bus_core.specs.Part.{new_part}
 use Rattle.bus_core.specs.Shared.{new_parts}
 use Rattle.bus_core.specs.World.{Cell, cell_at}
 use Rattle.bus_core.specs.Cells.{HoldsTrbs, IsEmptyCell, FitsHeld}
-use Rattle.bus_core.specs.Fits.{place_in, FitsPart, FitsClient}
+use Rattle.bus_core.specs.Fits.{AreUnused, place_in, FitsPart, FitsClient}
 use Rattle.bus_core.specs.WorldSteps.{opening_world, OpeningFits}
+use Rattle.bus_core.proofs.CellWrites.{index-past}
 use Rattle.bus_core.proofs.Opening.{length-new_parts}
 use Rattle.bus_core.proofs.MatchedOpening.{opening-matched}
 
@@ -61,6 +63,28 @@ lent-opening tag = none 248 (tag - 1)
 holds-opening : (lines : LinesState) (pipe : Pipe) (stream : ℕ) → IsOpeningLines lines → HasRing pipe stream → HoldsTrbs (ring_of lines pipe stream) [] 0
 holds-opening lines pipe stream new there =
     (ap (λ (r : Ring). r.put) (new.ring pipe stream there), ap (λ (r : Ring). r.got) (new.ring pipe stream there))
+
+-- nor has a stream past the last one, of which there is no ring
+past-opening : (rings : List Ring) (tag : ℕ) → length rings < tag → HoldsTrbs (stream_ring rings tag) [] 0
+past-opening rings tag past =
+    let none = index-past rings (tag - 1) (opening 0) (omega (arith, past)) in (ap (λ (r : Ring). r.put) none, ap (λ (r : Ring). r.got) none)
+
+unused-opening : (lines : LinesState) (tag : ℕ) → IsOpeningLines lines → IsLines lines → 0 < tag → AreUnused lines tag
+unused-opening lines tag new sound some =
+    elim (nat_le tag 248) as (λ b. nat_le tag 248 ≡ b → AreUnused lines tag) [
+      | true ↦ λ is. let there : tag ≤ 248 = leb-true tag 248 is in
+          record {
+            status = holds-opening lines Status tag new (some, there);
+            data_in = holds-opening lines DataIn tag new (some, there);
+            data_out = holds-opening lines DataOut tag new (some, there);
+          }
+      | false ↦ λ is. let past : 248 < tag = leb-false tag 248 is in
+          record {
+            status = past-opening lines.status tag (omega (arith, past, sound.status));
+            data_in = past-opening lines.data_in tag (omega (arith, past, sound.data_in));
+            data_out = past-opening lines.data_out tag (omega (arith, past, sound.data_out));
+          }
+    ] refl
 
 empty-opening : (units : List BlockMaps) (lines : LinesState) (client slot : ℕ) → IsOpeningLines lines → client < 31 → slot < TAGS
     → IsEmptyCell (cell_at (opening_world units (length units) lines) (place_in client slot))
@@ -121,4 +145,5 @@ opening-fits units lines some most new sound =
       matched = opening-matched units;
       clients = λ client. clients-opening units units lines 0 client client new (omega (arith, most)) (omega arith);
       others = λ tag past. task_of-opening units tag;
+      unused = λ tag past. unused-opening lines tag new sound.lines (omega (arith, past, long, some));
     }

@@ -1,21 +1,37 @@
 -- The outcome of a step that is due in a matched state, by the place that it acts on.
-use Rattle.std.proofs.Common.{◌≡◌, ℕ, suc, ◌≤◌, cond, length, Option, Some, arith, ap, sym, subst, ◌∙◌}
-use Rattle.std.specs.Prelude.{option_and_then}
+use Rattle.std.proofs.Common.{◌≡◌, ℕ, suc, ◌≤◌, cond, length, Option, Some, arith, ap, sym, subst, ◌∙◌, true, false, List, [], ◌∷◌, None, refl}
+use Rattle.std.specs.Prelude.{option_and_then, slice_get}
 use Rattle.scsi_cmd.specs.declared.Op.{Op}
 use Rattle.scsi_cmd.specs.declared.Request.TheVariants.{Execute}
 use Rattle.solo_model.specs.TaggedTask.{moved_from, moved_request, sent_from}
 use Rattle.uas_host.specs.declared.Place.{Place}
 use Rattle.uas_host.specs.Tags.{place_of}
-use Rattle.bus_core.specs.declared.Mark.TheVariants.{Move, Send}
-use Rattle.bus_core.specs.declared.Step.TheVariants.{Data, Status as StatusStep}
+use Rattle.bus_core.specs.declared.Mark.TheVariants.{Move, Send, Quiet}
+use Rattle.bus_core.specs.declared.Step.TheVariants.{Data, Status as StatusStep, Event}
 use Rattle.bus_core.specs.Part.{Part, move_act, moved_slot, moved_entry, send_act, sent_slot, sent_entry, seen_by, seen_entry, event_act, event_place}
-use Rattle.bus_core.specs.Shared.{Shared, idle, is_some_of, acted_on, routed_to, routed_by_tag, carry_step, event_step, shared_step, is_moving, is_ended, data_is_due, status_is_due}
-use Rattle.bus_core.specs.Matched.{times, IsOwnMessage, IsOwnEvent}
-use Rattle.bus_core.specs.WorldDue.{marked, CommandsAreMarked, DataAreMarked, StatusesAreMarked, EventsAreQuiet}
+use Rattle.bus_core.specs.Part.{stop_act, pass_act, passed_slot, retire_act}
+use Rattle.bus_core.specs.Shared.{Shared, idle, is_some_of, acted_on, routed_to, routed_by_tag, carry_step, event_step, shared_step, is_moving, is_ended}
+use Rattle.bus_core.specs.Shared.{data_is_due, status_is_due, ringing, routed, with_pipe, at_stage, is_asked, engine_did, engine_step, retire_step, resumed}
+use Rattle.bus_core.specs.Shared.{stage_seen, engine_seen}
+use Rattle.bus_core.specs.Matched.{times, IsOwnMessage, retired_places, is_td_event, IsOwnTdEvent, IsMatched}
+use Rattle.bus_core.specs.WorldDue.{marked, CommandsAreMarked, DataAreMarked, StatusesAreMarked, EventsAreQuiet, EnginesAreMarked, RetirementsAreMarked}
 use Rattle.bus_core.proofs.MatchedPlaces.{one_self, and-true}
 use Rattle.bus_core.proofs.MatchedEntries.{HasSeen, asked_op, event-seen}
-use Rattle.bus_core.proofs.MatchedSteps.{IsHeld, matched-held, carry_step-held, times_alike, times_alike-first, IsDueAt, place_fact-due, IsMovingBy, moving_phase, IsEndedBy, ended_phase}
-use Rattle.bus_core.proofs.MatchedNext.{own-message, own-event}
+use Rattle.bus_core.proofs.MatchedSteps.{IsHeld, matched-held, carry_step-held, times_alike, times_alike-first, IsDueAt, place_fact-due, IsMovingBy}
+use Rattle.bus_core.proofs.MatchedSteps.{moving_phase, IsEndedBy, ended_phase, event_seen-td}
+use Rattle.bus_core.proofs.MatchedNext.{own-message, own-td_event}
+use Rattle.std.specs.Option.{option_map_or}
+use Rattle.std.proofs.lemmas.Bool.{false≢true}
+use Rattle.xhci_ctl.specs.Engine.{stopped_pipe}
+use Rattle.bus_core.specs.declared.Completion.{Completion}
+use Rattle.bus_core.specs.declared.Completion.TheVariants.{CommandDone, DataDone, StatusDone, EngineDone}
+use Rattle.bus_core.specs.declared.Outcome.{Outcome}
+use Rattle.bus_core.specs.declared.Retirement.{Retirement}
+use Rattle.bus_core.specs.declared.RetirementStage.{RetirementStage}
+use Rattle.bus_core.specs.declared.RetirementStage.TheVariants.{StopAsked, StopAnswered, MoveAsked, MoveAnswered}
+use Rattle.bus_core.specs.Td.{with_td_on, retired_td}
+use Rattle.bus_core.proofs.MatchedRetirement.{IsAnswered, first-engine_event, retiring-of}
+use Rattle.bus_core.proofs.MatchedEngine.{HasLeft, has-left, IsPiped, with_pipe-is, retired-step}
 
 -- a message
 pub carry-marked : CommandsAreMarked
@@ -25,18 +41,97 @@ carry-marked state place rest all is =
     ap (λ ms. (cond (is_some_of ms) (carry_step state ms) (state, idle)).1) is
     ∙ ap (λ after. after.1) (carry_step-held state place rest at.found.part own.entry at.found.there at.found.held at.here.sound.asks own.queued)
 
--- an event
-pub event-marked : EventsAreQuiet
-event-marked state event rest all is =
-    let own : IsOwnEvent state.parts event = own-event state event all (subst (λ es. 1 ≤ times_alike event es) (sym is) (times_alike-first event rest)) in
+-- the doorbells that a quiet step rang are those of its outcome
+quiet-doors : (outcome : Outcome) (client : ℕ) (doors : List ℕ) → outcome ≡ ringing client doors → outcome ≡ ringing client outcome.doors
+quiet-doors outcome client doors is = is ∙ ap (λ (o : Outcome). ringing client o.doors) (sym is)
+
+-- an event of a TD
+td_event-marked : (state : Shared) (event : Completion) (rest : List Completion) → is_td_event event ≡ true → IsMatched state → state.events ≡ event ∷ rest →
+    (event_step state (event ∷ rest)).1 ≡ ringing (event_place event).client []
+td_event-marked state event rest of_td all is =
+    let own : IsOwnTdEvent state.parts event =
+    own-td_event state event all of_td (subst (λ es. 1 ≤ times_alike event es) (sym is) (times_alike-first event rest)) in
     let at : IsHeld state (event_place event) own.entry = matched-held state (event_place event) own.entry all own.held in
     let seen : HasSeen event own.entry = event-seen event own.entry own.awaits at.here.sound in
     let popped : Shared = record state { events = rest } in
     let client : ℕ = (event_place event).client in
-    ap (λ es. (cond (is_some_of es) (event_step state es) (state, idle)).1) is
+    ap (λ after. after.1) (event_seen-td popped event of_td)
     ∙ ap (λ found. (routed_to popped client (event_act event) found).1) at.found.there
     ∙ ap (λ found. (acted_on popped client (seen_entry at.found.part (event_place event).slot (option_and_then (seen_by event) found))).1) at.found.held
     ∙ ap (λ after. (acted_on popped client (seen_entry at.found.part (event_place event).slot after)).1) seen.step.seen
+
+-- an event of the controller's own commands: after Stop Endpoint its doorbell is rung, after Set TR Dequeue Pointer those of the pipe
+pub record IsQuietEvent (outcome : Outcome) (client : ℕ) : Type 0 where
+  pub doors : List ℕ
+  pub is : outcome ≡ ringing client doors
+
+engine_event-marked : (state : Shared) (place : Place) (rest : List Completion) → IsMatched state → state.events ≡ EngineDone place ∷ rest →
+    IsQuietEvent (event_step state (EngineDone place ∷ rest)).1 place.client
+engine_event-marked state place rest all first =
+    let popped : Shared = record state { events = rest } in
+    let own : IsAnswered state.retirement place (retired_places rest) = first-engine_event state place rest all first in
+    subst (λ found. IsQuietEvent (engine_seen popped place found).1 place.client) (sym own.is)
+    (subst (λ (p : Place). IsQuietEvent (stage_seen popped own.retirement own.retirement.stage).1 p.client) own.place_same
+    (at own.retirement own.is own.retirement.stage own.answered))
+  where
+    at : (r : Retirement) → state.retirement ≡ Some r → (stage : RetirementStage) → is_asked stage ≡ false →
+        IsQuietEvent (stage_seen (record state { events = rest }) r stage).1 r.place.client
+    at r is StopAsked answered = absurd (false≢true (sym answered))
+    at r is StopAnswered answered = record { doors = 0 ∷ []; is = refl }
+    at r is MoveAsked answered = absurd (false≢true (sym answered))
+    at r is MoveAnswered answered =
+        let held : HasLeft state r = has-left state r (retiring-of state r all is) in
+        let base : Shared = record state { events = rest; retirement = None } in
+        let done : Shared × Outcome = acted_on base r.place.client (seen_entry held.found.part r.place.slot (Some (with_td_on retired_td r.pipe held.entry))) in
+        record {
+          doors = (resumed r.pipe done).1.doors;
+          is = ap (λ after. record ((routed base r.place.client (retire_act r.pipe r.place)).1) { doors = (resumed r.pipe after).1.doors })
+              (retired-step state r rest held.found.part held.entry held.found.there held.found.held held.left)
+              ∙ ap (λ after. record after.1 { doors = (resumed r.pipe done).1.doors })
+              (retired-step state r rest held.found.part held.entry held.found.there held.found.held held.left);
+        }
+
+pub event-marked : EventsAreQuiet
+event-marked state event rest all is =
+    let step : (shared_step state Event).1 ≡ (event_step state (event ∷ rest)).1 =
+    ap (λ es. (cond (is_some_of es) (event_step state es) (state, idle)).1) is in
+    let quiet : IsQuietEvent (event_step state (event ∷ rest)).1 (event_place event).client = at event is in
+    quiet-doors (shared_step state Event).1 (event_place event).client quiet.doors (step ∙ quiet.is)
+  where
+    at : (event : Completion) → state.events ≡ event ∷ rest → IsQuietEvent (event_step state (event ∷ rest)).1 (event_place event).client
+    at (CommandDone place) first = record { doors = []; is = td_event-marked state (CommandDone place) rest refl all first }
+    at (DataDone place) first = record { doors = []; is = td_event-marked state (DataDone place) rest refl all first }
+    at (StatusDone place) first = record { doors = []; is = td_event-marked state (StatusDone place) rest refl all first }
+    at (EngineDone place) first = engine_event-marked state place rest all first
+
+-- a command of the controller's own command ring
+pub engine-marked : EnginesAreMarked
+engine-marked state r all is is_due =
+    let asked : is_asked r.stage ≡ true = sym (ap (λ found. option_map_or (λ (retirement : Retirement). is_asked retirement.stage) found false) is) ∙ is_due in
+    ap (λ b. (cond b (engine_step state state.retirement) (state, idle)).1) is_due
+    ∙ ap (λ found. (engine_step state found).1) is
+    ∙ at r.stage asked
+  where
+    held : HasLeft state r
+    held = has-left state r (retiring-of state r all is)
+
+    at : (stage : RetirementStage) → is_asked stage ≡ true → (engine_did state r stage).1 ≡ marked r.place.client Quiet
+    at StopAsked asked =
+        let piped : Shared = with_pipe state r.pipe stopped_pipe in
+        let facts : IsPiped state piped r.pipe stopped_pipe = with_pipe-is state r.pipe stopped_pipe in
+        ap (λ found. (routed_to (at_stage piped r StopAnswered) r.place.client (stop_act r.place) found).1)
+        (ap (λ parts. slice_get parts r.place.client) facts.parts ∙ held.found.there)
+    at StopAnswered asked = absurd (false≢true asked)
+    at MoveAsked asked =
+        ap (λ found. (routed_to (at_stage state r MoveAnswered) r.place.client (pass_act r.pipe r.place) found).1) held.found.there
+        ∙ ap (λ found. (acted_on (at_stage state r MoveAnswered) r.place.client (passed_slot r.pipe held.found.part r.place found)).1) held.found.held
+    at MoveAnswered asked = absurd (false≢true asked)
+
+-- a retirement that begins
+pub retire-marked : RetirementsAreMarked
+retire-marked state pipe tag place named is_due =
+    ap (λ b. (cond b (retire_step state pipe (place_of (length state.parts) tag)) (state, idle)).1) is_due
+    ∙ ap (λ found. (retire_step state pipe found).1) named
 
 -- a tag names one place
 same_place_named : (found : Option Place) (one other : Place) → found ≡ Some one → found ≡ Some other → one ≡ other

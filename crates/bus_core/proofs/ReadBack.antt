@@ -15,6 +15,7 @@ use Rattle.event_ring.specs.declared.Event.{Event}
 use Rattle.event_ring.specs.declared.Event.TheVariants.{Transfer}
 use Rattle.stream_array.specs.declared.Pipe.{Pipe}
 use Rattle.stream_array.specs.declared.Pipe.TheVariants.{Command, Status, DataIn, DataOut}
+use Rattle.stream_array.specs.Rings.{LinesState}
 use Rattle.stream_array.specs.declared.TheConstants.{COMMAND_RING_PLACES}
 use Rattle.scsi_cmd.specs.declared.Direction.{Direction}
 use Rattle.scsi_cmd.specs.declared.Direction.TheVariants.{Nothing, ToHost, ToDevice}
@@ -37,21 +38,28 @@ use Rattle.uas_host.specs.Tds.{data_td, data_trb_count, status_td, window_of}
 use Rattle.uas_host.specs.Events.{ended_at}
 use Rattle.xhci_ctl.specs.declared.TheConstants.{SUCCESS, SHORT_PACKET, SLOT}
 use Rattle.xhci_ctl.specs.Steps.{endpoint_of}
+use Rattle.uas_host.specs.declared.Retirement.{Retirement as HostRetirement}
+use Rattle.uas_host.specs.declared.RetirementStage.TheVariants.{Stopping, Moving as HostMoving}
+use Rattle.bus_core.specs.declared.Retirement.{Retirement}
+use Rattle.bus_core.specs.declared.RetirementStage.{RetirementStage}
+use Rattle.bus_core.specs.declared.RetirementStage.TheVariants.{StopAsked, StopAnswered, MoveAsked, MoveAnswered}
 use Rattle.bus_core.specs.declared.Td.{Td}
 use Rattle.bus_core.specs.declared.Completion.{Completion}
-use Rattle.bus_core.specs.declared.Completion.TheVariants.{CommandDone, DataDone, StatusDone}
+use Rattle.bus_core.specs.declared.Completion.TheVariants.{CommandDone, DataDone, StatusDone, EngineDone}
 use Rattle.bus_core.specs.Td.{Entry, data_trbs as trbs_of}
 use Rattle.bus_core.specs.Part.{Part}
 use Rattle.bus_core.specs.Bus.{IsPlace}
 use Rattle.bus_core.specs.Shared.{Shared, request_direction}
 use Rattle.bus_core.specs.Wire.{answer_text}
 use Rattle.bus_core.specs.Hosts.{phase_task, device_task, told_answer, phase_by, HasTaken}
-use Rattle.bus_core.specs.Matched.{times, under, held_in, carried_places, IsOwnEvent, request_bytes, IsCommandRequest, IsCommandTd, IsMatchedEntry, IsMatched}
+use Rattle.bus_core.specs.Matched.{times, under, held_in, carried_places, IsOwnEngineEvent, IsOwnEvent, request_bytes, IsCommandRequest, IsCommandTd}
+use Rattle.bus_core.specs.Matched.{IsMatchedEntry, IsMatched}
 use Rattle.bus_core.specs.World.{World, Cell, cell_at}
-use Rattle.bus_core.specs.Cells.{state_of, host_side, HoldsIn, HoldsTd, HoldsData, data_in_td, data_out_td, HasAnswerIn, FitsCell, FitsHeld, host_request}
-use Rattle.bus_core.specs.Fits.{command_trb, event_texts, place_in, FitsPart, FitsClient, Fits}
+use Rattle.bus_core.specs.Cells.{state_of, host_side, HoldsIn, HoldsTd, HoldsData, data_in_td, data_out_td, HasAnswerIn, FitsCell, FitsHeld}
+use Rattle.bus_core.specs.Fits.{HoldsCommand, HoldsCommandOf, command_trb, engine_event, event_texts, host_retirement, host_stage, place_in, FitsPart}
+use Rattle.bus_core.specs.Fits.{FitsClient, Fits}
 use Rattle.bus_core.specs.Decoded.{message_in, decoded_messages, completion_on, completion_of_td, completion_of, decoded_events, consumed_in, decoded_td}
-use Rattle.bus_core.specs.Decoded.{asked_for}
+use Rattle.bus_core.specs.Decoded.{decoded_retirement, stage_by}
 use Rattle.bus_core.specs.Decoded.{data_ring}
 use Rattle.bus_core.specs.Decoded.{decoded_held, decoded_cell, decoded_slot, decoded_entries, decoded_part, decoded_parts}
 use Rattle.bus_core.specs.WorldSteps.{WorldReadsBack}
@@ -130,10 +138,6 @@ length-data_td tag request =
 
 -- ONE CELL
 
-asked_for-back : (request : Request) → asked_for (host_request request) ≡ request
-asked_for-back (Execute op) = refl
-asked_for-back (Manage what noted) = refl
-
 -- by the number of its messages, of which a command TD has one less the TRBs that were taken
 decoded_held-back : (client count waiting : ℕ) (place : Place) (entry : Entry) (cell : Cell) → FitsCell client count place entry cell → IsMatchedEntry entry
     → entry.command_td.consumed + waiting ≡ 1 → decoded_held waiting cell (host_side entry) ≡ entry
@@ -147,16 +151,14 @@ decoded_held-back client count waiting place entry cell fits matched counted =
     let buffer : unwrap_or cell.buffers.lent [] ≡ entry.task.buffer = ap (λ o. unwrap_or o []) fits.lent in
     let status : decoded_td 1 cell.status entry.status_td.state ≡ entry.status_td =
     decoded_td-back cell.status (status_td (tag_of place)) entry.status_td 1 refl fits.status in
-    let asks : asked_for (host_request entry.task.request) ≡ entry.task.request = asked_for-back entry.task.request in
-    let moved : option_map (decoded_td (trbs_of (asked_for (host_request entry.task.request)))
-    (data_ring (request_direction (asked_for (host_request entry.task.request))) cell)) (option_map state_of entry.data_td) ≡ entry.data_td =
-    ap (λ r. option_map (decoded_td (trbs_of r) (data_ring (request_direction r) cell)) (option_map state_of entry.data_td)) asks
-    ∙ decoded_way-back (request_direction entry.task.request) cell (data_td (tag_of place) (request_bytes entry.task.request)) entry.data_td
+    let moved : option_map (decoded_td (trbs_of entry.task.request) (data_ring (request_direction entry.task.request) cell))
+    (option_map state_of entry.data_td) ≡ entry.data_td =
+    decoded_way-back (request_direction entry.task.request) cell (data_td (tag_of place) (request_bytes entry.task.request)) entry.data_td
     (trbs_of entry.task.request) (length-data_td (tag_of place) entry.task.request)
     (λ there. moved-goes entry.task.request (ltb-true 0 (request_bytes entry.task.request) (sym matched.moves ∙ there)))
     fits.data_in fits.data_out in
     (λ i. record {
-      task = record { ticket = entry.task.ticket; request = asks i; buffer = buffer i; phase = phase i };
+      task = record { ticket = entry.task.ticket; request = entry.task.request; buffer = buffer i; phase = phase i };
       command_td = record { state = entry.command_td.state; consumed = command i };
       status_td = status i;
       data_td = moved i;
@@ -304,6 +306,8 @@ AreTold world k [] = Unit {0}
 AreTold world k (CommandDone place ∷ rest) = (completion_of world (command_text world k) ≡ Some (CommandDone place)) × AreTold world (suc k) rest
 AreTold world k (DataDone place ∷ rest) = (completion_of world (data_text world place) ≡ Some (DataDone place)) × AreTold world k rest
 AreTold world k (StatusDone place ∷ rest) = (completion_of world (status_text world place) ≡ Some (StatusDone place)) × AreTold world k rest
+AreTold world k (EngineDone place ∷ rest) =
+    (completion_of world (engine_event world.lines.engine) ≡ Some (EngineDone place)) × AreTold world k rest
 
 texts-back : (world : World) (k : ℕ) (events : List Completion) → AreTold world k events
     → filter_map (completion_of world) (event_texts world k events) ≡ events
@@ -317,6 +321,9 @@ texts-back world k (DataDone place ∷ rest) told =
 texts-back world k (StatusDone place ∷ rest) told =
     ap (λ o. cons_option o (filter_map (completion_of world) (event_texts world k rest))) told.0
     ∙ ap (λ es. StatusDone place ∷ es) (texts-back world k rest told.1)
+texts-back world k (EngineDone place ∷ rest) told =
+    ap (λ o. cons_option o (filter_map (completion_of world) (event_texts world k rest))) told.0
+    ∙ ap (λ es. EngineDone place ∷ es) (texts-back world k rest told.1)
 
 -- a stream's text
 stream_text-told : (world : World) (clients residual code : ℕ) (text : Event) (pipe : Pipe) (place : Place) → length world.host.clients ≡ clients
@@ -336,6 +343,14 @@ abbrev pub IsTold : World → Completion → Type 0
 IsTold world (CommandDone place) = Unit {0}
 IsTold world (DataDone place) = completion_of world (data_text world place) ≡ Some (DataDone place)
 IsTold world (StatusDone place) = completion_of world (status_text world place) ≡ Some (StatusDone place)
+IsTold world (EngineDone place) = completion_of world (engine_event world.lines.engine) ≡ Some (EngineDone place)
+
+-- an event of the controller's own commands is of the retirement that the host has under way
+engine-told : (state : Shared) (world : World) (place : Place) → Fits state world → IsOwnEngineEvent state place
+    → completion_of world (engine_event world.lines.engine) ≡ Some (EngineDone place)
+engine-told state world place all own =
+    ap (option_map (λ (r : HostRetirement). EngineDone r.place)) (all.engine.retirement ∙ ap (option_map host_retirement) own.under_way)
+    ∙ ap (λ p. Some (EngineDone p)) own.place_same
 
 waiting-told : (state : Shared) (world : World) (at : ℕ) (event : Completion) → Fits state world → slice_get state.events at ≡ Some event → IsTold world event
 waiting-told state world at (CommandDone place) all is = tt
@@ -348,11 +363,12 @@ waiting-told state world at (StatusDone place) all is =
     stream_text-told world (length state.parts) (status_residual world place) SHORT_PACKET (status_text world place) Status place
     (clients-are state world all) there
     (status_text-waits state world place all (times_alike-member state.events at (StatusDone place) is))
+waiting-told state world at (EngineDone place) all is = engine-told state world place all ((matched-no_stray state all.matched).events at (EngineDone place) is)
 
 command-told : (state : Shared) (world : World) (k : ℕ) (place : Place) → Fits state world → slice_get (carried_places state.events) k ≡ Some place
     → completion_of world (command_text world k) ≡ Some (CommandDone place)
 command-told state world k place all is =
-    let own : IsOwnEvent state.parts (CommandDone place) =
+    let own : IsOwnEvent state (CommandDone place) =
     own-event state (CommandDone place) all.matched (times-member (carried_places state.events) k place is) in
     completion_of-ended world (length state.parts) 0 SUCCESS (endpoint_of Command) SLOT (pointer_of COMMAND_RING_PLACES world.lines.command k) Command place
     (clients-are state world all) own.there (command_text-waits state world k place all is)
@@ -370,6 +386,8 @@ events-told world k (DataDone place ∷ rest) told commands =
     (told 0 (DataDone place) refl, events-told world k rest (λ at event is. told (suc at) event is) commands)
 events-told world k (StatusDone place ∷ rest) told commands =
     (told 0 (StatusDone place) refl, events-told world k rest (λ at event is. told (suc at) event is) commands)
+events-told world k (EngineDone place ∷ rest) told commands =
+    (told 0 (EngineDone place) refl, events-told world k rest (λ at event is. told (suc at) event is) commands)
 
 pub events-back : (state : Shared) (world : World) → Fits state world → decoded_events world ≡ state.events
 events-back state world all =
@@ -377,6 +395,26 @@ events-back state world all =
     ∙ texts-back world 0 state.events (events-told world 0 state.events (λ at event is. waiting-told state world at event all is)
     (λ i n place same is. let one : i ≡ n = omega arith in
     subst (λ m. completion_of world (command_text world m) ≡ Some (CommandDone place)) one (command-told state world i place all is)))
+
+-- THE RETIREMENT
+
+-- the host knows which command is under way, and its ring whether it was executed
+stage-back : (lines : LinesState) (pipe : Pipe) (place : Place) (stage : RetirementStage) → HoldsCommand lines pipe place stage
+    → stage_by (host_stage stage) lines.engine.got ≡ stage
+stage-back lines pipe place StopAsked holds = ap (stage_by Stopping) holds.1
+stage-back lines pipe place StopAnswered holds = ap (stage_by Stopping) holds.1
+stage-back lines pipe place MoveAsked holds = ap (stage_by HostMoving) holds.1
+stage-back lines pipe place MoveAnswered holds = ap (stage_by HostMoving) holds.1
+
+retired-back : (world : World) (retirement : Option Retirement) → HoldsCommandOf world.lines retirement
+    → option_map (decoded_retirement world) (option_map host_retirement retirement) ≡ retirement
+retired-back world None holds = refl
+retired-back world (Some r) holds =
+    ap (λ stage. Some (record { pipe = r.pipe; place = r.place; stage = stage })) (stage-back world.lines r.pipe r.place r.stage holds)
+
+pub retirement-back : (state : Shared) (world : World) → Fits state world → option_map (decoded_retirement world) world.host.retirement ≡ state.retirement
+retirement-back state world all =
+    ap (option_map (decoded_retirement world)) all.engine.retirement ∙ retired-back world state.retirement all.engine.commands
 
 -- THE WHOLE
 
@@ -386,6 +424,7 @@ decoded-back state world all =
     let parts : decoded_parts world (decoded_messages world) 0 world.host.clients world.device.units ≡ state.parts =
     ap (λ ms. decoded_parts world ms 0 world.host.clients world.device.units) messages ∙ parts-back state world all in
     let events : decoded_events world ≡ state.events = events-back state world all in
+    let retirement = retirement-back state world all in
     (λ i. record {
       parts = parts i;
       messages = messages i;
@@ -393,4 +432,5 @@ decoded-back state world all =
       status = all.status i;
       data_in = all.data_in i;
       data_out = all.data_out i;
+      retirement = retirement i;
     })

@@ -16,7 +16,7 @@ use Rattle.scsi_cmd.specs.Submission.{first_submit_fault}
 use Rattle.solo_model.specs.Solo.{SoloState, opening as solo_opening}
 use Rattle.uas_host.specs.declared.Place.{Place}
 use Rattle.bus_core.specs.declared.Step.{Step}
-use Rattle.bus_core.specs.declared.Step.TheVariants.{Submit, CommandPipe, Data, Status, Event, Take}
+use Rattle.bus_core.specs.declared.Step.TheVariants.{Submit, CommandPipe, Data, Status, Engine, Event, Retire, Take}
 use Rattle.bus_core.specs.Td.{Entry}
 use Rattle.uas_host.specs.Tags.{place_of, own_slot, command_slot}
 use Rattle.bus_core.specs.Part.{Part, own_task, fault_at}
@@ -156,7 +156,9 @@ refused-own state client (Submit owner tag ticket command) = λ same.
 refused-own state client CommandPipe = tt
 refused-own state client (Data tag) = tt
 refused-own state client (Status tag) = tt
+refused-own state client Engine = tt
 refused-own state client Event = tt
+refused-own state client (Retire pipe tag) = tt
 refused-own state client (Take owner) = tt
 
 -- the state after a label is the solo machine's

@@ -3,10 +3,12 @@ use Rattle.std.proofs.Common.{◌≡◌, ℕ, zero, suc, ◌+◌, ◌-◌, ◌*�
 use Rattle.std.specs.Prelude.{◌==◌}
 use Rattle.std.specs.List.{range_with_len}
 use Rattle.bus_core.specs.declared.Step.{Step}
-use Rattle.bus_core.specs.declared.Step.TheVariants.{CommandPipe, Data, Status, Event}
+use Rattle.stream_array.specs.declared.Pipe.{Pipe}
+use Rattle.stream_array.specs.declared.Pipe.TheVariants.{Status, DataIn, DataOut}
+use Rattle.bus_core.specs.declared.Step.TheVariants.{CommandPipe, Data, Status as StatusStep, Engine, Event}
 use Rattle.bus_core.specs.Shared.{Shared, due}
 use Rattle.scsi_cmd.specs.declared.TheConstants.{TAGS}
-use Rattle.bus_core.specs.Drain.{all_tags, tried, tried_one, tries, round, rounds}
+use Rattle.bus_core.specs.Drain.{all_tags, retirements, tried, tried_one, tries, round, rounds}
 use Rattle.bus_core.proofs.Drains.{tried-left, tried-parts, tried_one-parts}
 use Rattle.std.proofs.lemmas.Bool.{ne_eqb}
 
@@ -22,28 +24,52 @@ tried-suc kind now (suc count) first =
     tried-suc kind (tried_one now (kind first)) count (first + 1)
     ∙ ap (λ n. tried_one (tried (tried_one now (kind first)) (map kind (range_with_len (first + 1) count))) (kind n)) e
 
--- a round by its four parts
-pub round-parts : (now : Shared × ℕ) (count : ℕ) (data_done : Shared × ℕ) (after : Shared × ℕ) →
-    data_done ≡ tried (tried_one (tried_one now CommandPipe) Event) (map Data (range_with_len 1 count)) →
-    after ≡ tried data_done (map Status (range_with_len 1 count)) →
-    after ≡ tried now (CommandPipe ∷ Event ∷ [] ++ map Data (range_with_len 1 count) ++ map Status (range_with_len 1 count))
-round-parts now count data_done after data-is status-is =
-    status-is ∙ ap (λ s. tried s (map Status (range_with_len 1 count))) data-is
-    ∙ sym (tried-append now (CommandPipe ∷ Event ∷ [] ++ map Data (range_with_len 1 count)) (map Status (range_with_len 1 count)))
+-- what a kind of tries leaves, each part of a round knowing its own number of clients
+abbrev LeadsOn : ℕ → (ℕ → List Step) → Shared × ℕ → Shared × ℕ → Type 0
+LeadsOn clients steps before after = (after ≡ tried before (steps clients)) × (length after.0.parts ≡ clients)
 
--- a round by its four parts, each of which knows its own number of tags
-pub round-by : (now one two three four : Shared × ℕ) → one ≡ tried_one now CommandPipe → two ≡ tried_one one Event
-    → three ≡ tried two (map Data (all_tags (length two.0.parts))) → four ≡ tried three (map Status (all_tags (length three.0.parts))) → four ≡ round now
-round-by now one two three four command event data_tries statuses =
+led : (clients : ℕ) (steps : ℕ → List Step) (before after : Shared × ℕ) → length before.0.parts ≡ clients → after ≡ tried before (steps (length before.0.parts))
+    → LeadsOn clients steps before after
+led clients steps before after here is =
+    (is ∙ ap (λ k. tried before (steps k)) here, ap (λ (s : Shared × ℕ). length s.0.parts) is ∙ tried-parts before (steps (length before.0.parts)) ∙ here)
+
+abbrev one_step : Step → ℕ → List Step
+one_step step clients = step ∷ []
+
+abbrev of_tags : (ℕ → Step) → ℕ → List Step
+of_tags kind clients = map kind (all_tags clients)
+
+abbrev of_pipe : Pipe → ℕ → List Step
+of_pipe pipe clients = retirements clients pipe
+
+-- one more part
+joined : (now before after : Shared × ℕ) (steps more : List Step) → before ≡ tried now steps → after ≡ tried before more → after ≡ tried now (steps ++ more)
+joined now before after steps more is on = on ∙ ap (λ s. tried s more) is ∙ sym (tried-append now steps more)
+
+-- a round by its eight parts, each of which knows its own number of tags
+pub round-by : (now one two three four five six seven eight : Shared × ℕ) → one ≡ tried_one now CommandPipe → two ≡ tried_one one Engine → three ≡ tried_one two Event
+    → four ≡ tried three (map Data (all_tags (length three.0.parts))) → five ≡ tried four (map StatusStep (all_tags (length four.0.parts)))
+    → six ≡ tried five (retirements (length five.0.parts) Status) → seven ≡ tried six (retirements (length six.0.parts) DataIn)
+    → eight ≡ tried seven (retirements (length seven.0.parts) DataOut) → eight ≡ round now
+round-by now one two three four five six seven eight command engine event data_tries statuses on_status on_data_in on_data_out =
     let clients : ℕ = length now.0.parts in
-    let first : length one.0.parts ≡ clients = ap (λ (s : Shared × ℕ). length s.0.parts) command ∙ tried_one-parts now CommandPipe in
-    let second : length two.0.parts ≡ clients = ap (λ (s : Shared × ℕ). length s.0.parts) event ∙ tried_one-parts one Event ∙ first in
-    let third : length three.0.parts ≡ clients =
-    ap (λ (s : Shared × ℕ). length s.0.parts) data_tries ∙ tried-parts two (map Data (all_tags (length two.0.parts))) ∙ second in
-    let begun : two ≡ tried_one (tried_one now CommandPipe) Event = event ∙ ap (λ s. tried_one s Event) command in
-    round-parts now (clients * TAGS) three four
-    (data_tries ∙ ap (λ k. tried two (map Data (all_tags k))) second ∙ ap (λ s. tried s (map Data (all_tags clients))) begun)
-    (statuses ∙ ap (λ k. tried three (map Status (all_tags k))) third)
+    let first = led clients (one_step CommandPipe) now one refl command in
+    let second = led clients (one_step Engine) one two first.1 engine in
+    let third = led clients (one_step Event) two three second.1 event in
+    let fourth = led clients (of_tags Data) three four third.1 data_tries in
+    let fifth = led clients (of_tags StatusStep) four five fourth.1 statuses in
+    let sixth = led clients (of_pipe Status) five six fifth.1 on_status in
+    let seventh = led clients (of_pipe DataIn) six seven sixth.1 on_data_in in
+    let eighth = led clients (of_pipe DataOut) seven eight seventh.1 on_data_out in
+    let steps : List Step = map Data (all_tags clients) in
+    joined now seven eight (CommandPipe ∷ Engine ∷ Event ∷ steps ++ map StatusStep (all_tags clients) ++ retirements clients Status ++ retirements clients DataIn)
+    (retirements clients DataOut)
+    (joined now six seven (CommandPipe ∷ Engine ∷ Event ∷ steps ++ map StatusStep (all_tags clients) ++ retirements clients Status) (retirements clients DataIn)
+    (joined now five six (CommandPipe ∷ Engine ∷ Event ∷ steps ++ map StatusStep (all_tags clients)) (retirements clients Status)
+    (joined now four five (CommandPipe ∷ Engine ∷ Event ∷ steps) (map StatusStep (all_tags clients))
+    (joined now three four (CommandPipe ∷ Engine ∷ Event ∷ []) steps
+    (joined now two three (CommandPipe ∷ Engine ∷ []) (Event ∷ []) (joined now one two (CommandPipe ∷ []) (Engine ∷ []) first.0 second.0) third.0)
+    fourth.0) fifth.0) sixth.0) seventh.0) eighth.0
 
 pub round-left : (now after : Shared × ℕ) → after ≡ round now → after.1 ≤ now.1
 round-left now after is = subst (λ (s : Shared × ℕ). s.1 ≤ now.1) (sym is) (tried-left now (tries (length now.0.parts)))

@@ -9,17 +9,28 @@ use Rattle.scsi_cmd.specs.declared.SubmitFault.TheVariants.{NotYours}
 use Rattle.scsi_cmd.specs.declared.TheConstants.{TASK_SLOT}
 use Rattle.solo_model.specs.Solo.{SoloState}
 use Rattle.uas_host.specs.declared.Place.{Place}
+use Rattle.std.specs.Option.{option_map_or}
+use Rattle.stream_array.specs.declared.Pipe.{Pipe}
+use Rattle.stream_array.specs.declared.Pipe.TheVariants.{Command as CommandPipeName, Status as StatusPipe, DataIn, DataOut}
+use Rattle.xhci_ctl.specs.declared.PipeState.{PipeState}
+use Rattle.xhci_ctl.specs.Engine.{stopped_pipe}
 use Rattle.bus_core.specs.declared.Completion.{Completion}
+use Rattle.bus_core.specs.declared.Completion.TheVariants.{CommandDone, DataDone, StatusDone, EngineDone}
+use Rattle.bus_core.specs.declared.Retirement.{Retirement}
+use Rattle.bus_core.specs.declared.RetirementStage.{RetirementStage}
+use Rattle.bus_core.specs.declared.RetirementStage.TheVariants.{StopAsked, StopAnswered, MoveAsked, MoveAnswered}
+use Rattle.bus_core.specs.Pipes.{all_rung}
 use Rattle.bus_core.specs.declared.Step.{Step}
-use Rattle.bus_core.specs.declared.Step.TheVariants.{Submit, CommandPipe, Data, Status, Event, Take}
+use Rattle.bus_core.specs.declared.Step.TheVariants.{Submit, CommandPipe, Data, Status as StatusStep, Engine, Event, Retire, Take}
 use Rattle.bus_core.specs.declared.Mark.TheVariants.{Quiet}
 use Rattle.bus_core.specs.declared.Outcome.{Outcome}
 use Rattle.uas_host.specs.Tags.{place_of, own_slot, command_slot}
-use Rattle.bus_core.specs.Part.{Part, Act, fault_at, submitted_part, carry_act, move_act, send_act, event_act, event_place, take_act}
+use Rattle.bus_core.specs.Part.{Part, Act, fault_at, submitted_part, carry_act, move_act, send_act, event_act, take_act, stop_act, pass_act, retire_act}
 use Rattle.bus_core.specs.Shared.{Shared, idle, unmoved, refusal, due, acted_on, routed, routed_to, routed_by_tag, accepted, answered, submitted_to}
-use Rattle.bus_core.specs.Shared.{submitted_under, carry_step, event_step, due_step, shared_step}
-use Rattle.bus_core.specs.Isolation.{label_of, own_label, own_reply, renumbered, solo_of, own_state}
-use Rattle.bus_core.proofs.Acts.{solo_try, IsOwnAct, carry_act-own, move_act-own, send_act-own, event_act-own, take_act-own, submitted_part-own}
+use Rattle.bus_core.specs.Shared.{submitted_under, carry_step, event_step, event_seen, due_step, shared_step}
+use Rattle.bus_core.specs.Shared.{at_stage, engine_did, engine_seen, engine_step, pipe_of, resumed, retire_step, ringing, stage_seen, streams_pending, with_pipe}
+use Rattle.bus_core.specs.Isolation.{label_of, nobody, own_label, own_reply, renumbered, solo_of, own_state}
+use Rattle.bus_core.proofs.Acts.{solo_try, IsOwnAct, carry_act-own, move_act-own, send_act-own, event_act-own, take_act-own, submitted_part-own, pass_act-own, retire_act-own}
 
 -- what each client's own solo machine makes of a step of the shared machine
 abbrev pub IsOwnStep : ℕ → Step → Shared → Shared × Outcome → Type 0
@@ -103,11 +114,81 @@ carry_step-own client step old [] = quiet-own client step old old idle refl refl
 carry_step-own client step old (place ∷ rest) =
     routed-own client step (record old { messages = rest }) place.client (carry_act place) (carry_act-own place.client step place)
 
+-- RETIREMENT
+
+-- what a step makes of pipes no client can tell
+with_pipe-own : (state : Shared) (pipe : Pipe) (now : PipeState) → (with_pipe state pipe now).parts ≡ state.parts
+with_pipe-own state CommandPipeName now = refl
+with_pipe-own state StatusPipe now = refl
+with_pipe-own state DataIn now = refl
+with_pipe-own state DataOut now = refl
+
+-- nor the doorbells that are rung
+resumed-own : (client : ℕ) (step : Step) (old : Shared) (pipe : Pipe) (after : Shared × Outcome) → IsOwnStep client step old after
+    → IsOwnStep client step old (resumed pipe after)
+resumed-own client step old pipe after own =
+    rw (ap (λ parts. option_map_or solo_of (slice_get parts client) nobody)
+    (with_pipe-own after.0 pipe (all_rung (pipe_of after.0 pipe) (streams_pending after.0 pipe)))) own
+
+-- the controller executes the command of a retirement
+engine_did-own : (client : ℕ) (step : Step) (old : Shared) (retirement : Retirement) (stage : RetirementStage)
+    → IsOwnStep client step old (engine_did old retirement stage)
+engine_did-own client step old retirement StopAsked =
+    subst (λ parts. solo_try (option_map_or solo_of (slice_get parts client) nobody)
+    (own_label client step (engine_did old retirement StopAsked).1)
+    ≡ Some (own_state (engine_did old retirement StopAsked).0 client, own_reply client (engine_did old retirement StopAsked).1))
+    (with_pipe-own old retirement.pipe stopped_pipe)
+    (routed-own client step (at_stage (with_pipe old retirement.pipe stopped_pipe) retirement StopAnswered) retirement.place.client
+    (stop_act retirement.place) (λ part. refl))
+engine_did-own client step old retirement StopAnswered = quiet-own client step old old idle refl refl refl
+engine_did-own client step old retirement MoveAsked =
+    routed-own client step (at_stage old retirement MoveAnswered) retirement.place.client (pass_act retirement.pipe retirement.place)
+    (pass_act-own retirement.place.client step retirement.pipe retirement.place)
+engine_did-own client step old retirement MoveAnswered = quiet-own client step old old idle refl refl refl
+
+engine_step-own : (client : ℕ) (step : Step) (old : Shared) (retirement : Option Retirement) → IsOwnStep client step old (engine_step old retirement)
+engine_step-own client step old None = quiet-own client step old old idle refl refl refl
+engine_step-own client step old (Some retirement) = engine_did-own client step old retirement retirement.stage
+
+-- the host begins a retirement
+retire_step-own : (client : ℕ) (step : Step) (old : Shared) (pipe : Pipe) (place : Option Place) → IsOwnStep client step old (retire_step old pipe place)
+retire_step-own client step old pipe None = quiet-own client step old old idle refl refl refl
+retire_step-own client step old pipe (Some place) =
+    quiet-own client step old (retire_step old pipe (Some place)).0 (retire_step old pipe (Some place)).1 refl refl refl
+
+-- the host takes the event of a retirement's command
+stage_seen-own : (client : ℕ) (step : Step) (old : Shared) (retirement : Retirement) (stage : RetirementStage)
+    → IsOwnStep client step old (stage_seen old retirement stage)
+stage_seen-own client step old retirement StopAsked = quiet-own client step old old (unmoved retirement.place.client) refl refl refl
+stage_seen-own client step old retirement StopAnswered =
+    quiet-own client step old (at_stage old retirement MoveAsked) (ringing retirement.place.client (0 ∷ [])) refl refl refl
+stage_seen-own client step old retirement MoveAsked = quiet-own client step old old (unmoved retirement.place.client) refl refl refl
+stage_seen-own client step old retirement MoveAnswered =
+    let after = routed (record old { retirement = None }) retirement.place.client (retire_act retirement.pipe retirement.place) in
+    resumed-own client step old retirement.pipe after
+    (routed-own client step (record old { retirement = None }) retirement.place.client (retire_act retirement.pipe retirement.place)
+    (retire_act-own retirement.place.client step retirement.pipe retirement.place))
+
+engine_seen-own : (client : ℕ) (step : Step) (old : Shared) (place : Place) (retirement : Option Retirement)
+    → IsOwnStep client step old (engine_seen old place retirement)
+engine_seen-own client step old place None = quiet-own client step old old (unmoved place.client) refl refl refl
+engine_seen-own client step old place (Some retirement) = stage_seen-own client step old retirement retirement.stage
+
+-- EVENTS
+
+event_seen-own : (client : ℕ) (step : Step) (old : Shared) (event : Completion) → IsOwnStep client step old (event_seen old event)
+event_seen-own client step old (CommandDone place) =
+    routed-own client step old place.client (event_act (CommandDone place)) (event_act-own place.client step (CommandDone place))
+event_seen-own client step old (DataDone place) =
+    routed-own client step old place.client (event_act (DataDone place)) (event_act-own place.client step (DataDone place))
+event_seen-own client step old (StatusDone place) =
+    routed-own client step old place.client (event_act (StatusDone place)) (event_act-own place.client step (StatusDone place))
+event_seen-own client step old (EngineDone place) = engine_seen-own client step old place old.retirement
+
 -- the first event is taken
 pub event_step-own : (client : ℕ) (step : Step) (old : Shared) (events : List Completion) → IsOwnStep client step old (event_step old events)
 event_step-own client step old [] = quiet-own client step old old idle refl refl refl
-event_step-own client step old (event ∷ rest) =
-    routed-own client step (record old { events = rest }) (event_place event).client (event_act event) (event_act-own (event_place event).client step event)
+event_step-own client step old (event ∷ rest) = event_seen-own client step (record old { events = rest }) event
 
 -- SUBMISSION
 
@@ -152,9 +233,11 @@ due_step-own client old (Submit owner tag ticket command) =
     submitted_under-own client old owner tag ticket command (place_of (length old.parts) tag) (command_slot (length old.parts) owner tag) refl
 due_step-own client old CommandPipe = carry_step-own client CommandPipe old old.messages
 due_step-own client old (Data tag) = routed_by_tag-own client (Data tag) old move_act (place_of (length old.parts) tag) (λ owner. move_act-own owner (Data tag))
-due_step-own client old (Status tag) = routed_by_tag-own client (Status tag) old send_act (place_of (length old.parts) tag)
-    (λ owner. send_act-own owner (Status tag))
+due_step-own client old (StatusStep tag) = routed_by_tag-own client (StatusStep tag) old send_act (place_of (length old.parts) tag)
+    (λ owner. send_act-own owner (StatusStep tag))
+due_step-own client old Engine = engine_step-own client Engine old old.retirement
 due_step-own client old Event = event_step-own client Event old old.events
+due_step-own client old (Retire pipe tag) = retire_step-own client (Retire pipe tag) old pipe (place_of (length old.parts) tag)
 due_step-own client old (Take owner) = routed-own client (Take owner) old owner (take_act owner) (take_act-own owner (Take owner))
 
 -- each client's own solo machine takes the step's own label to its own state after it, with its own reply

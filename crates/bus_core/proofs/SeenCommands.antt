@@ -3,12 +3,13 @@ use Rattle.std.proofs.Common.{◌≡◌, ℕ, zero, suc, ◌+◌, ◌*◌, ◌%�
 use Rattle.std.proofs.Common.{refl, arith, ap, sym, subst, ◌∙◌}
 use Rattle.std.specs.Prelude.{slice_get, option_and_then}
 use Rattle.std.specs.Option.{option_map_or}
+use Rattle.std.proofs.lemmas.Bool.{false≢true}
 use Rattle.std.proofs.lemmas.List.{append-nil}
 use Rattle.xhci_trb.specs.declared.Trb.{Trb}
 use Rattle.cycle_ring.specs.Ring.{pointer_of, reclaimed}
 use Rattle.event_ring.specs.declared.Event.{Event}
 use Rattle.event_ring.specs.declared.Event.TheVariants.{Transfer}
-use Rattle.stream_array.specs.declared.Pipe.TheVariants.{Command as CommandPipe}
+use Rattle.stream_array.specs.declared.Pipe.TheVariants.{Command as CommandPipe, Status, DataIn, DataOut}
 use Rattle.stream_array.specs.declared.TheConstants.{COMMAND_RING_PLACES}
 use Rattle.stream_array.specs.Rings.{LinesState, with_ring}
 use Rattle.scsi_cmd.specs.Held.{held_at}
@@ -22,18 +23,19 @@ use Rattle.uas_host.specs.Events.{awaits_command, done_before, is_awaited as is_
 use Rattle.xhci_ctl.specs.declared.TheConstants.{SUCCESS, SLOT}
 use Rattle.xhci_ctl.specs.Steps.{endpoint_of}
 use Rattle.bus_core.specs.declared.Completion.{Completion}
-use Rattle.bus_core.specs.declared.Completion.TheVariants.{CommandDone, DataDone, StatusDone}
+use Rattle.bus_core.specs.declared.Completion.TheVariants.{CommandDone, DataDone, StatusDone, EngineDone}
 use Rattle.bus_core.specs.Bus.{IsPlace}
 use Rattle.bus_core.specs.Td.{Entry, with_event_seen}
 use Rattle.bus_core.specs.Shared.{Shared}
-use Rattle.bus_core.specs.Matched.{IsPendingCommand, carried_places, pipe_places, times}
+use Rattle.bus_core.specs.Matched.{IsPendingCommand, carried_places, is_td_event, pipe_places, times}
 use Rattle.bus_core.specs.World.{World, Cell}
 use Rattle.bus_core.specs.Cells.{host_side}
 use Rattle.bus_core.specs.Fits.{Fits, FitsQueues, command_trb, event_texts}
-use Rattle.bus_core.specs.WorldSteps.{EventsFit, without_event}
+use Rattle.bus_core.specs.WorldSteps.{without_event}
 use Rattle.bus_core.proofs.CellWrites.{clients-length}
 use Rattle.bus_core.proofs.EventTds.{HasCell, command_tag-trb, command_text-waits, fits-cell}
 use Rattle.bus_core.proofs.EventTexts.{AreWithin, event_texts-shifted, events-within, one-reads}
+use Rattle.bus_core.proofs.Framing.{EndsStay}
 use Rattle.bus_core.proofs.HostSees.{command_seen-side, host_with, place_of-tag_of}
 use Rattle.bus_core.proofs.MatchedBounds.{held-place, matched-once}
 use Rattle.bus_core.proofs.MatchedEntries.{awaited-pends}
@@ -107,7 +109,7 @@ command-queues state world place rest at fits =
     let put = fits.queues.put ∙ ap (λ es. map command_trb (carried_places es ++ state.messages)) at.is in
     let got : world.lines.command.got ≡ suc (length (carried_places rest)) = fits.queues.got ∙ ap (λ es. length (carried_places es)) at.is in
     let within : AreWithin (CommandDone place ∷ rest) = subst AreWithin at.is (events-within state fits.matched) in
-    let reads = one-reads world after place rest at.is_place.slot within.1
+    let reads = one-reads world after place rest at.is_place.slot within.1 refl
     (seen-others state world (CommandDone place) rest (command_lines world) (command_seen at.entry) at (command-frees state world place rest at))
     (λ some. (refl, refl)) (λ some. (refl, refl)) in
     record {
@@ -176,6 +178,14 @@ one-done state world place rest at fits =
     ∙ done_before-first host (length (carried_places rest)) place (carried_places rest ++ state.messages) (first-seen state world place rest at fits)
     (λ next is. next-awaited state world place rest at next fits is)
 
+-- no stream is touched
+command-ends : (state : Shared) (world : World) (place : Place) (rest : List Completion) (at : IsSeenAt state world (CommandDone place) rest)
+    → EndsStay state world (after_command world place at.entry) place
+command-ends state world place rest at CommandPipe streams left = absurd streams
+command-ends state world place rest at Status streams left = record { base = refl; at = refl; put = refl }
+command-ends state world place rest at DataIn streams left = record { base = refl; at = refl; put = refl }
+command-ends state world place rest at DataOut streams left = record { base = refl; at = refl; put = refl }
+
 -- ALL TOGETHER
 
 abbrev command_text : World → Event
@@ -184,7 +194,7 @@ command_text world = Transfer (pointer_of COMMAND_RING_PLACES world.lines.comman
 pub command-fits : (state : Shared) (world : World) (place : Place) (rest : List Completion) → Fits state world → state.events ≡ CommandDone place ∷ rest
     → HasEventFit state world (CommandDone place)
 command-fits state world place rest fits is =
-    let at : IsSeenAt state world (CommandDone place) rest = seen-at state world (CommandDone place) rest fits is in
+    let at : IsSeenAt state world (CommandDone place) rest = seen-at state world (CommandDone place) rest fits is refl in
     let now : Entry = command_seen at.entry in
     let there : IsPlace (length world.host.clients) place =
     subst (λ n. IsPlace n place) (sym (clients-length world state.parts fits.clients)) at.is_place in
@@ -200,16 +210,19 @@ command-fits state world place rest fits is =
     (one-done state world place rest at fits) in (
       command_text world,
       ap (λ (es : List Event). slice_get es 0) (fits.queues.texts ∙ ap (event_texts world 0) is),
-      event-done state world (command_text world) (CommandDone place) rest (command_lines world) (command_seen at.entry) does
+      event-done state world (command_text world) (CommandDone place) rest (command_lines world) (command_seen at.entry) is refl refl does
           (event-fits state world (CommandDone place) rest (command_lines world) at
-          (with_event_seen at.entry.command_td) at.entry.status_td at.entry.data_td fits at.cell.answerable
+          (with_event_seen at.entry.command_td) at.entry.status_td at.entry.data_td fits refl at.cell.answerable
           (ap (λ b. cond b (Some (command_seen at.entry)) None) at.awaits) (command-frees state world place rest at)
+          (command-ends state world place rest at)
           (command-queues state world place rest at fits)),
     )
 
--- EVERY EVENT
+-- EVERY EVENT OF A TD
 
-pub events-fit : EventsFit
-events-fit state world (CommandDone place) rest fits is = command-fits state world place rest fits is
-events-fit state world (DataDone place) rest fits is = data-fits state world place rest fits is
-events-fit state world (StatusDone place) rest fits is = status-fits state world place rest fits is
+pub td-event-fits : (state : Shared) (world : World) (done : Completion) (rest : List Completion) → is_td_event done ≡ true → Fits state world
+    → state.events ≡ done ∷ rest → HasEventFit state world done
+td-event-fits state world (CommandDone place) rest of_td fits is = command-fits state world place rest fits is
+td-event-fits state world (DataDone place) rest of_td fits is = data-fits state world place rest fits is
+td-event-fits state world (StatusDone place) rest of_td fits is = status-fits state world place rest fits is
+td-event-fits state world (EngineDone place) rest of_td fits is = absurd (false≢true of_td)

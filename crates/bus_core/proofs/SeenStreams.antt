@@ -8,7 +8,7 @@ use Rattle.std.proofs.lemmas.List.{append-nil}
 use Rattle.xhci_trb.specs.declared.Trb.{Trb}
 use Rattle.cycle_ring.specs.Ring.{Ring, reclaimed}
 use Rattle.event_ring.specs.declared.Event.{Event}
-use Rattle.stream_array.specs.declared.Pipe.TheVariants.{Status, DataIn, DataOut}
+use Rattle.stream_array.specs.declared.Pipe.TheVariants.{Command, Status, DataIn, DataOut}
 use Rattle.stream_array.specs.declared.TheConstants.{STREAM_RING_PLACES}
 use Rattle.stream_array.specs.Rings.{LinesState, stream_ring, with_ring}
 use Rattle.scsi_cmd.specs.declared.Direction.{Direction}
@@ -23,30 +23,32 @@ use Rattle.uas_host.specs.declared.TdState.{TdState}
 use Rattle.uas_host.specs.declared.TdState.TheVariants.{Pending, Seen, LeftOver, Retired}
 use Rattle.uas_host.specs.Tags.{tag_of}
 use Rattle.uas_host.specs.Tds.{data_td, data_trb_count, window_of}
-use Rattle.uas_host.specs.Events.{Sides, handled, with_freed}
+use Rattle.uas_host.specs.Events.{Sides, event_doors, handled, with_freed}
 use Rattle.bus_core.specs.declared.Td.{Td}
 use Rattle.bus_core.specs.declared.Completion.{Completion}
-use Rattle.bus_core.specs.declared.Completion.TheVariants.{DataDone, StatusDone}
+use Rattle.bus_core.specs.declared.Completion.TheVariants.{CommandDone, DataDone, StatusDone, EngineDone}
 use Rattle.bus_core.specs.declared.Step.TheVariants.{Event as EventStep}
 use Rattle.bus_core.specs.Bus.{IsPlace}
-use Rattle.bus_core.specs.Td.{Entry, data_after_answer, data_after_status, data_trbs, is_awaited, is_pending, left_over_data, left_over_td, with_event_seen}
+use Rattle.bus_core.specs.Td.{Entry, data_after_answer, data_after_status, data_trbs, is_awaited, is_left_over, is_pending, is_td_left_over}
+use Rattle.bus_core.specs.Td.{left_over_data, left_over_td, with_event_seen}
 use Rattle.bus_core.specs.Part.{event_place, seen_data_td}
 use Rattle.bus_core.specs.Shared.{Shared, request_direction, shared_step}
-use Rattle.bus_core.specs.Matched.{IsStatusTd, awaits_data, carried_places, data_events, request_bytes, status_events}
+use Rattle.bus_core.specs.Matched.{IsStatusTd, awaits_data, carried_places, data_events, is_td_event, request_bytes, status_events}
 use Rattle.bus_core.specs.World.{World, cell_at}
 use Rattle.bus_core.specs.Cells.{HasAnswerIn, HoldsData, HoldsIn, HoldsTd, HoldsTrbs, data_in_td, data_out_td}
 use Rattle.bus_core.specs.Fits.{Fits, FitsQueues, IsSoundWorld, command_trb, event_texts}
-use Rattle.bus_core.specs.WorldSteps.{EventFits, event_sides, without_event}
+use Rattle.bus_core.specs.WorldSteps.{EventFits, event_sides, handled_for, rung_all, without_event}
 use Rattle.bus_core.proofs.CellWrites.{clients-length, stream_ring-same, stream_ring-other}
 use Rattle.bus_core.proofs.EventTds.{HasCell, IsDataText, IsSpent, IsSpentBy, cell-data_spent, cell-status_spent, data_text, data_text-is, data_trbs-count}
 use Rattle.bus_core.proofs.EventTds.{length-data_trbs, status_text, status_text-is}
 use Rattle.bus_core.proofs.EventTexts.{AreWithin, KeepsData, KeepsStatus, event_texts-kept, events-within, one-reads}
+use Rattle.bus_core.proofs.Framing.{EndsStay}
 use Rattle.bus_core.proofs.HostSees.{data_in_seen-side, data_out_seen-side, host_with, status_news-is, status_seen, status_seen-side}
 use Rattle.bus_core.proofs.MatchedBounds.{matched-once}
 use Rattle.bus_core.proofs.MatchedEntries.{IsSentBy, awaited-pends}
 use Rattle.bus_core.proofs.MatchedPlaces.{and-true, one_self}
 use Rattle.bus_core.proofs.MatchedSteps.{seen_state}
-use Rattle.bus_core.proofs.SeenWorlds.{FreesOne, IsSeenAt, event-fits, handled-is, seen-at, seen-others, seen_world}
+use Rattle.bus_core.proofs.SeenWorlds.{FreesOne, IsSeenAt, event-fits, handled-is, left-on, seen-at, seen-others, seen-quiet, seen_world}
 
 -- A RING IS FREE AGAIN
 
@@ -87,7 +89,7 @@ stream-queues state world done rest lines now at fits command popped carried tex
     let left : carried_places state.events ≡ carried_places (rest ++ []) = ap carried_places at.is ∙ carried ∙ ap carried_places (sym (append-nil rest)) in
     let within : AreWithin (done ∷ rest) = subst AreWithin at.is (events-within state fits.matched) in
     let reads = one-reads world after (event_place done) rest at.is_place.slot within.1
-    (seen-others state world done rest lines now at frees) data_kept status_kept in
+    frees.engine (seen-others state world done rest lines now at frees) data_kept status_kept in
     record {
       put = ap (λ (r : Ring). r.put) command ∙ fits.queues.put ∙ ap (λ places. map command_trb (places ++ state.messages)) left;
       got = ap (λ (r : Ring). r.got) command ∙ fits.queues.got ∙ ap (λ (places : List Place). length places) left;
@@ -107,15 +109,30 @@ data-alone state place rest is once some = omega (arith, once, some, ap (data_ev
 
 -- ALL TOGETHER
 
+-- the world after an event, by what the host made of it and the doorbells that it rang
+abbrev with_handled : World → Sides → List ℕ → World
+with_handled world after doors =
+    record world { host = after.host; controller = rung_all world.controller doors; lines = after.lines }
+
+matched-td : (done : Completion) → is_td_event done ≡ true → Matched (tag_of (event_place done)) ≡ handled_for done
+matched-td (CommandDone place) of_td = refl
+matched-td (DataDone place) of_td = refl
+matched-td (StatusDone place) of_td = refl
+matched-td (EngineDone place) of_td = absurd (false≢true of_td)
+
 pub event-done : (state : Shared) (world : World) (event : Event) (done : Completion) (rest : List Completion) (lines : LinesState) (now : Entry)
+    → state.events ≡ done ∷ rest → is_td_event done ≡ true → event_doors (event_sides world) event ≡ []
     → handled (event_sides world) world.frames event
     ≡ (record { host = host_with world.host (event_place done) now; lines = lines }, Matched (tag_of (event_place done)))
     → (IsSoundWorld (seen_world world lines (event_place done) now) → Fits (shared_step state EventStep).0 (seen_world world lines (event_place done) now))
     → EventFits state world event done
-event-done state world event done rest lines now is fits = record {
-  matched = ap (λ after. after.1) is;
-  fits = subst (λ (after : Sides). IsSoundWorld (record world { host = after.host; lines = after.lines })
-      → Fits (shared_step state EventStep).0 (record world { host = after.host; lines = after.lines })) (sym (ap (λ after. after.0) is)) fits;
+event-done state world event done rest lines now first of_td quiet is fits = record {
+  matched = ap (λ after. after.1) is ∙ matched-td done of_td;
+  doors = quiet ∙ sym (seen-quiet state done rest first of_td);
+  fits = subst (λ (doors : List ℕ). IsSoundWorld (with_handled world (handled (event_sides world) world.frames event).0 doors)
+      → Fits (shared_step state EventStep).0 (with_handled world (handled (event_sides world) world.frames event).0 doors)) (sym quiet)
+      (subst (λ (after : Sides). IsSoundWorld (with_handled world after []) → Fits (shared_step state EventStep).0 (with_handled world after []))
+      (sym (ap (λ after. after.0) is)) fits);
 }
 
 -- STATUS
@@ -180,6 +197,18 @@ status-frees state world place rest at answer fits sent spent = record {
       (request_direction at.entry.task.request) answer at.entry.data_td at.cell.data_out);
 }
 
+-- a TD that is awaited isn't left over
+pending-stays : (state : TdState) → state ≡ Pending → is_left_over state ≡ true → ⊥
+pending-stays state pends left = false≢true (sym (ap is_left_over pends) ∙ left)
+
+status-ends : (state : Shared) (world : World) (place : Place) (rest : List Completion) (at : IsSeenAt state world (StatusDone place) rest)
+    → EndsStay state world (seen_world world (status_lines world (tag_of place)) place (status_seen at.entry)) place
+status-ends state world place rest at Command streams left = absurd streams
+status-ends state world place rest at Status streams left =
+    absurd (pending-stays at.entry.status_td.state (awaited-pends at.entry.status_td 1 at.awaits) (left-on state world (StatusDone place) rest at Status left))
+status-ends state world place rest at DataIn streams left = record { base = refl; at = refl; put = refl }
+status-ends state world place rest at DataOut streams left = record { base = refl; at = refl; put = refl }
+
 abbrev pub HasEventFit : Shared → World → Completion → Type 0
 HasEventFit state world done = (event : Event) × (slice_get world.lines.events.pending 0 ≡ Some event) × EventFits state world event done
 
@@ -187,7 +216,7 @@ pub status-fits : (state : Shared) (world : World) (place : Place) (rest : List 
     → HasEventFit state world (StatusDone place)
 status-fits state world place rest fits is =
     let tag : ℕ = tag_of place in
-    let at : IsSeenAt state world (StatusDone place) rest = seen-at state world (StatusDone place) rest fits is in
+    let at : IsSeenAt state world (StatusDone place) rest = seen-at state world (StatusDone place) rest fits is refl in
     let cell : HasCell world place at.entry = record { count = at.part.unit.count; tag = at.most; fits = at.cell } in
     let spent : IsSpent (stream_ring world.lines.status tag) = cell-status_spent world place at.entry cell at.awaits in
     let text = status_text-is world place at.entry fits.sound.lines cell at.awaits in
@@ -207,9 +236,11 @@ status-fits state world place rest fits is =
     )) text.item in (
       status_text world place,
       ap (λ (es : List Event). slice_get es 0) (fits.queues.texts ∙ ap (event_texts world 0) is),
-      event-done state world (status_text world place) (StatusDone place) rest (status_lines world tag) (status_seen at.entry) does
+      event-done state world (status_text world place) (StatusDone place) rest (status_lines world tag) (status_seen at.entry) is refl
+          (ap (event_doors (event_sides world)) text.is) does
           (event-fits state world (StatusDone place) rest (status_lines world tag) at at.entry.command_td (with_event_seen at.entry.status_td)
-          (data_after_status at.entry.task.phase at.entry.data_td) fits tt (ap (λ b. cond b (Some (status_seen at.entry)) None) at.awaits) frees
+          (data_after_status at.entry.task.phase at.entry.data_td) fits refl tt (ap (λ b. cond b (Some (status_seen at.entry)) None) at.awaits) frees
+          (status-ends state world place rest at)
           (stream-queues state world (StatusDone place) rest (status_lines world tag) (status_seen at.entry) at fits refl refl refl refl frees
           (λ some. (refl, refl)) (λ some. absurd (status-alone state place rest is (matched-once state fits.matched place).status_events some)))),
     )
@@ -293,6 +324,31 @@ out-frees state world place rest at moved fits way spent = record {
       (freed-holds world.lines.data_out (tag_of place) (omega arith) (omega (arith, at.most, fits.sound.lines.data_out)) spent));
 }
 
+-- the TD that was seen isn't left over
+moved-stays : (entry : Entry) (moved : HasDataTd entry) → is_td_left_over entry.data_td ≡ true → ⊥
+moved-stays entry moved left =
+    pending-stays moved.td.state (awaited-pends moved.td (data_trbs entry.task.request) moved.awaited) (sym (ap is_td_left_over moved.is) ∙ left)
+
+in-ends : (state : Shared) (world : World) (place : Place) (rest : List Completion) (at : IsSeenAt state world (DataDone place) rest)
+    (moved : HasDataTd at.entry) → request_direction at.entry.task.request ≡ ToHost
+    → EndsStay state world (seen_world world (in_lines world (tag_of place)) place (data_seen at.entry moved.td)) place
+in-ends state world place rest at moved way Command streams left = absurd streams
+in-ends state world place rest at moved way Status streams left = record { base = refl; at = refl; put = refl }
+in-ends state world place rest at moved way DataIn streams left =
+    absurd (moved-stays at.entry moved
+    (ap (λ w. is_td_left_over (data_in_td w at.entry.data_td)) (sym way) ∙ left-on state world (DataDone place) rest at DataIn left))
+in-ends state world place rest at moved way DataOut streams left = record { base = refl; at = refl; put = refl }
+
+out-ends : (state : Shared) (world : World) (place : Place) (rest : List Completion) (at : IsSeenAt state world (DataDone place) rest)
+    (moved : HasDataTd at.entry) → request_direction at.entry.task.request ≡ ToDevice
+    → EndsStay state world (seen_world world (out_lines world (tag_of place)) place (data_seen at.entry moved.td)) place
+out-ends state world place rest at moved way Command streams left = absurd streams
+out-ends state world place rest at moved way Status streams left = record { base = refl; at = refl; put = refl }
+out-ends state world place rest at moved way DataIn streams left = record { base = refl; at = refl; put = refl }
+out-ends state world place rest at moved way DataOut streams left =
+    absurd (moved-stays at.entry moved
+    (ap (λ w. is_td_left_over (data_out_td w at.entry.data_td)) (sym way) ∙ left-on state world (DataDone place) rest at DataOut left))
+
 seen-data : (entry : Entry) (moved : HasDataTd entry) → seen_data_td entry entry.data_td ≡ Some (data_seen entry moved.td)
 seen-data entry moved = ap (seen_data_td entry) moved.is ∙ ap (λ b. cond b (Some (data_seen entry moved.td)) None) moved.awaited
 
@@ -322,10 +378,11 @@ data-by state world place rest ToHost at moved fits way text spent =
       },
       Matched tag,
     )) text.item in
-    event-done state world (data_text world place) (DataDone place) rest (in_lines world tag) now does
+    event-done state world (data_text world place) (DataDone place) rest (in_lines world tag) now at.is refl
+    (ap (event_doors (event_sides world)) text.is) does
     (event-fits state world (DataDone place) rest (in_lines world tag) at at.entry.command_td at.entry.status_td
-    (Some (with_event_seen moved.td)) fits at.cell.answerable
-    (seen-data at.entry moved) frees
+    (Some (with_event_seen moved.td)) fits refl at.cell.answerable
+    (seen-data at.entry moved) frees (in-ends state world place rest at moved way)
     (stream-queues state world (DataDone place) rest (in_lines world tag) now at fits refl refl refl refl frees
     (λ some. absurd (data-alone state place rest at.is (matched-once state fits.matched place).data_events some)) (λ some. (refl, refl))))
 data-by state world place rest ToDevice at moved fits way text spent =
@@ -344,17 +401,18 @@ data-by state world place rest ToDevice at moved fits way text spent =
       },
       Matched tag,
     )) text.item in
-    event-done state world (data_text world place) (DataDone place) rest (out_lines world tag) now does
+    event-done state world (data_text world place) (DataDone place) rest (out_lines world tag) now at.is refl
+    (ap (event_doors (event_sides world)) text.is) does
     (event-fits state world (DataDone place) rest (out_lines world tag) at at.entry.command_td at.entry.status_td
-    (Some (with_event_seen moved.td)) fits at.cell.answerable
-    (seen-data at.entry moved) frees
+    (Some (with_event_seen moved.td)) fits refl at.cell.answerable
+    (seen-data at.entry moved) frees (out-ends state world place rest at moved way)
     (stream-queues state world (DataDone place) rest (out_lines world tag) now at fits refl refl refl refl frees
     (λ some. absurd (data-alone state place rest at.is (matched-once state fits.matched place).data_events some)) (λ some. (refl, refl))))
 
 pub data-fits : (state : Shared) (world : World) (place : Place) (rest : List Completion) → Fits state world → state.events ≡ DataDone place ∷ rest
     → HasEventFit state world (DataDone place)
 data-fits state world place rest fits is =
-    let at : IsSeenAt state world (DataDone place) rest = seen-at state world (DataDone place) rest fits is in
+    let at : IsSeenAt state world (DataDone place) rest = seen-at state world (DataDone place) rest fits is refl in
     let cell : HasCell world place at.entry = record { count = at.part.unit.count; tag = at.most; fits = at.cell } in (
       data_text world place,
       ap (λ (es : List Event). slice_get es 0) (fits.queues.texts ∙ ap (event_texts world 0) is),

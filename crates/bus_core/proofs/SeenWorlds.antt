@@ -1,7 +1,9 @@
--- An event that waits, the world once the host has seen it, and why that fits where its rings do.
+-- An event of a TD that waits, the world once the host has seen it, and why that fits where its rings do.
 use Rattle.std.proofs.Common.{◌≡◌, ℕ, ◌<◌, ◌≤◌, true, cond, List, [], ◌∷◌, ◌++◌, length, length-set, Option, Some, None, refl, arith, ap, sym, subst, ◌∙◌}
 use Rattle.std.proofs.Common.{false}
 use Rattle.std.specs.Prelude.{slice_get, option_and_then}
+use Rattle.std.specs.Option.{option_map_or}
+use Rattle.std.proofs.lemmas.Bool.{false≢true}
 use Rattle.cycle_ring.specs.Ring.{consumed_at}
 use Rattle.stream_array.specs.declared.Pipe.{Pipe}
 use Rattle.stream_array.specs.declared.Pipe.TheVariants.{Command, Status, DataIn, DataOut}
@@ -20,22 +22,24 @@ use Rattle.uas_host.specs.Events.{ended_at, ended_on, ended_td, freed_on, handle
 use Rattle.uas_host.specs.Seen.{completes}
 use Rattle.bus_core.specs.declared.Td.{Td}
 use Rattle.bus_core.specs.declared.Completion.{Completion}
+use Rattle.bus_core.specs.declared.Completion.TheVariants.{CommandDone, DataDone, StatusDone, EngineDone}
+use Rattle.bus_core.specs.declared.Outcome.{Outcome}
 use Rattle.bus_core.specs.declared.Step.TheVariants.{Event as EventStep}
 use Rattle.bus_core.specs.Bus.{IsPlace}
-use Rattle.bus_core.specs.Td.{Entry, is_ready}
-use Rattle.bus_core.specs.Part.{Part, event_place, ready_after, seen_by}
-use Rattle.bus_core.specs.Shared.{Shared, event_step, idle, is_some_of, request_direction, shared_step}
-use Rattle.bus_core.specs.Matched.{IsMatched, IsMatchedEntry, IsOwnEvent, awaits_event, request_bytes}
+use Rattle.bus_core.specs.Td.{Entry, is_left_over_on, is_ready}
+use Rattle.bus_core.specs.Part.{Act, Part, event_act, event_place, ready_after, seen_by, seen_entry}
+use Rattle.bus_core.specs.Shared.{Shared, acted_on, event_step, idle, is_some_of, request_direction, routed, routed_to, shared_step}
+use Rattle.bus_core.specs.Matched.{IsMatched, IsMatchedEntry, IsOwnEvent, IsOwnTdEvent, awaits_event, held_in, is_left_over_at, is_td_event, request_bytes}
 use Rattle.bus_core.specs.World.{World, cell_at}
 use Rattle.bus_core.specs.Cells.{FitsCell, FitsHeld, HoldsData, HoldsTd, data_in_td, data_out_td, host_side, IsAwaitedOrSeen}
 use Rattle.bus_core.specs.Fits.{Fits, FitsQueues, IsSoundWorld, place_in}
 use Rattle.bus_core.specs.WorldSteps.{event_sides, without_event}
 use Rattle.bus_core.proofs.CellWrites.{client_of-found, entry_at-same, entry_at-other, get-within}
 use Rattle.bus_core.proofs.EventTexts.{KeepsOthers}
-use Rattle.bus_core.proofs.Framing.{AllFit-set, FitsPart-set, ChangesCell, IsFound, engine-kept, found}
+use Rattle.bus_core.proofs.Framing.{AllFit-set, EndsStay, FitsPart-set, ChangesCell, IsFound, engine-changed, found, unused-kept}
 use Rattle.bus_core.proofs.HostSees.{client_with, host_with, host_seen-is, is_ready-side}
-use Rattle.bus_core.proofs.MatchedNext.{own-event}
-use Rattle.bus_core.proofs.MatchedSteps.{IsHeld, matched-held, times_alike, times_alike-first, event_step-held, seen_part, seen_state, shared_step-matched}
+use Rattle.bus_core.proofs.MatchedNext.{matched-no_stray}
+use Rattle.bus_core.proofs.MatchedSteps.{IsHeld, matched-held, seen_part, seen_state, shared_step-matched}
 use Rattle.bus_core.proofs.Standing.{slice_get-back}
 use Rattle.bus_core.proofs.Taking.{ready-found}
 
@@ -55,11 +59,17 @@ pub record IsSeenAt (state : Shared) (world : World) (done : Completion) (rest :
   pub matched : IsMatchedEntry entry
   pub awaits : awaits_event done entry ≡ true
 
+own-td : (state : Shared) (done : Completion) → is_td_event done ≡ true → IsOwnEvent state done → IsOwnTdEvent state.parts done
+own-td state (CommandDone place) of_td own = own
+own-td state (DataDone place) of_td own = own
+own-td state (StatusDone place) of_td own = own
+own-td state (EngineDone place) of_td own = absurd (false≢true of_td)
+
 pub seen-at : (state : Shared) (world : World) (done : Completion) (rest : List Completion) → Fits state world → state.events ≡ done ∷ rest
-    → IsSeenAt state world done rest
-seen-at state world done rest fits is =
-    let own : IsOwnEvent state.parts done =
-    own-event state done fits.matched (subst (λ es. 1 ≤ times_alike done es) (sym is) (times_alike-first done rest)) in
+    → is_td_event done ≡ true → IsSeenAt state world done rest
+seen-at state world done rest fits is of_td =
+    let own : IsOwnTdEvent state.parts done =
+    own-td state done of_td ((matched-no_stray state fits.matched).events 0 done (ap (λ es. slice_get es 0) is)) in
     let at : IsHeld state (event_place done) own.entry = matched-held state (event_place done) own.entry fits.matched own.held in
     let it : IsFound world (event_place done).client at.found.part = found world state.parts
     (event_place done).client at.found.part fits.clients at.found.there in
@@ -77,6 +87,50 @@ seen-at state world done rest fits is =
       matched = at.here.sound;
       awaits = own.awaits;
     }
+
+-- THE STEP
+
+-- an event of a TD is an act of its client
+td_step-is : (state : Shared) (done : Completion) (rest : List Completion) → is_td_event done ≡ true
+    → event_step state (done ∷ rest) ≡ routed (record state { events = rest }) (event_place done).client (event_act done)
+td_step-is state (CommandDone place) rest of_td = refl
+td_step-is state (DataDone place) rest of_td = refl
+td_step-is state (StatusDone place) rest of_td = refl
+td_step-is state (EngineDone place) rest of_td = absurd (false≢true of_td)
+
+seen-is : (state : Shared) (done : Completion) (rest : List Completion) → state.events ≡ done ∷ rest → is_td_event done ≡ true
+    → shared_step state EventStep ≡ routed (record state { events = rest }) (event_place done).client (event_act done)
+seen-is state done rest is of_td = ap (λ es. cond (is_some_of es) (event_step state es) (state, idle)) is ∙ td_step-is state done rest of_td
+
+pub seen-stepped : (state : Shared) (done : Completion) (rest : List Completion) (part : Part) (old new : Entry) → state.events ≡ done ∷ rest
+    → is_td_event done ≡ true → slice_get state.parts (event_place done).client ≡ Some part
+    → held_at part.entries (event_place done).slot ≡ Some old → seen_by done old ≡ Some new
+    → (shared_step state EventStep).0 ≡ seen_state state (event_place done) part new rest
+seen-stepped state done rest part old new is of_td there held sees =
+    let popped : Shared = record state { events = rest } in
+    let place : Place = event_place done in
+    ap (λ after. after.0) (seen-is state done rest is of_td)
+    ∙ ap (λ found. (routed_to popped place.client (event_act done) found).0) there
+    ∙ ap (λ found. (acted_on popped place.client (seen_entry part place.slot (option_and_then (seen_by done) found))).0) held
+    ∙ ap (λ after. (acted_on popped place.client (seen_entry part place.slot after)).0) sees
+
+routed-quiet : (state : Shared) (client : ℕ) (act : Part → Act) (found : Option Part) → (routed_to state client act found).1.doors ≡ []
+routed-quiet state client act None = refl
+routed-quiet state client act (Some part) = refl
+
+-- it rings no doorbell
+pub seen-quiet : (state : Shared) (done : Completion) (rest : List Completion) → state.events ≡ done ∷ rest → is_td_event done ≡ true
+    → (shared_step state EventStep).1.doors ≡ []
+seen-quiet state done rest is of_td =
+    ap (λ (after : Shared × Outcome). after.1.doors) (seen-is state done rest is of_td)
+    ∙ routed-quiet (record state { events = rest }) (event_place done).client (event_act done) (slice_get state.parts (event_place done).client)
+
+-- what is left over at its place is a TD of its entry
+pub left-on : (state : Shared) (world : World) (done : Completion) (rest : List Completion) (at : IsSeenAt state world done rest) (pipe : Pipe)
+    → is_left_over_at state pipe (event_place done) ≡ true → is_left_over_on pipe at.entry ≡ true
+left-on state world done rest at pipe left =
+    let stands = ap (λ found. option_map_or (held_in (event_place done)) found None) at.there ∙ at.held in
+    ap (λ held. option_map_or (is_left_over_on pipe) held false) (sym stands) ∙ left
 
 -- THE WORLD AFTER IT
 
@@ -152,26 +206,27 @@ queue-same world client slot part now it =
 
 pub event-fits : (state : Shared) (world : World) (done : Completion) (rest : List Completion) (lines : LinesState)
     (at : IsSeenAt state world done rest) (command status : Td) (moved : Option Td)
-    → Fits state world → IsAwaitedOrSeen status.state → seen_by done at.entry ≡ Some (with_tds at.entry command status moved)
+    → Fits state world → is_td_event done ≡ true → IsAwaitedOrSeen status.state → seen_by done at.entry ≡ Some (with_tds at.entry command status moved)
     → FreesOne world lines (event_place done) (with_tds at.entry command status moved)
+    → EndsStay state world (seen_world world lines (event_place done) (with_tds at.entry command status moved)) (event_place done)
     → FitsQueues (seen_state state (event_place done) at.part (with_tds at.entry command status moved) rest)
     (seen_world world lines (event_place done) (with_tds at.entry command status moved))
     → IsSoundWorld (seen_world world lines (event_place done) (with_tds at.entry command status moved))
     → Fits (shared_step state EventStep).0 (seen_world world lines (event_place done) (with_tds at.entry command status moved))
-event-fits state world done rest lines at command status moved fits kept sees frees queues sound =
+event-fits state world done rest lines at command status moved fits of_td kept sees frees ends queues sound =
     let client : ℕ = (event_place done).client in
     let slot : ℕ = (event_place done).slot in
     let now : Entry = with_tds at.entry command status moved in
     let after : World = seen_world world lines (event_place done) now in
     let stepped : (shared_step state EventStep).0 ≡ seen_state state (event_place done) at.part now rest =
-    ap (λ es. (cond (is_some_of es) (event_step state es) (state, idle)).0) at.is
-    ∙ event_step-held state done rest at.part at.entry now at.there at.held sees in
+    seen-stepped state done rest at.part at.entry now at.is of_td at.there at.held sees in
+    let others = seen-others state world done rest lines now at frees in
     let held_now : HostClient = client_with (client_of world.host client) slot (host_side now) in
     let long = length-set state.parts client (seen_part at.part slot now) in
     let changes : ChangesCell world after client slot held_now at.part.unit = record {
       hosts = refl;
       units = sym (slice_get-back world.device.units client at.part.unit at.it.unit_is);
-      others = seen-others state world done rest lines now at frees;
+      others = others;
     } in
     let least_is : at.part.least ≡ held_now.least =
     at.it.fits.least ∙ ap (λ (c : HostClient). c.least) (sym (client_of-found world.host client at.it.held at.it.held_is)) in
@@ -183,7 +238,8 @@ event-fits state world done rest lines at command status moved fits kept sees fr
       data_out = fits.data_out;
       sound = sound;
       queues = queues;
-      engine = engine-kept state (seen_state state (event_place done) at.part now rest) world after fits.engine refl frees.engine;
+      engine = engine-changed state (seen_state state (event_place done) at.part now rest) world after (event_place done) fits.matched fits.engine
+          refl refl frees.engine at.is_place.slot others ends;
       matched = subst IsMatched stepped (shared_step-matched state EventStep fits.matched);
       clients = AllFit-set world after state.parts client slot at.part.unit held_now at.part (seen_part at.part slot now)
           fits.clients at.there at.is_place.slot changes
@@ -192,6 +248,9 @@ event-fits state world done rest lines at command status moved fits kept sees fr
           at.it.fits at.is_place.slot changes refl least_is (queue-same world client slot at.part now at.it)
           (seen-cell state world done rest lines at command status moved fits kept frees));
       others = λ other over. fits.others other (omega (arith, over, long));
+      unused = λ other over.
+          unused-kept world after (event_place done) other others (omega (arith, over, long, fits.some_client))
+          (λ same. omega (arith, over, long, same, at.is_place.client, at.is_place.slot)) (fits.unused other (omega (arith, over, long)));
     })
 
 -- WHAT THE HOST MAKES OF IT

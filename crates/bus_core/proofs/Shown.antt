@@ -19,17 +19,21 @@ use Rattle.uas_host.specs.declared.Place.{Place}
 use Rattle.uas_host.specs.declared.TdState.{TdState}
 use Rattle.uas_host.specs.declared.TdState.TheVariants.{Pending, Seen, LeftOver, Retired}
 use Rattle.uas_host.specs.Tags.{tag_of}
+use Rattle.bus_core.specs.declared.Retirement.{Retirement}
+use Rattle.bus_core.specs.declared.RetirementStage.{RetirementStage}
+use Rattle.bus_core.specs.declared.RetirementStage.TheVariants.{StopAsked, StopAnswered, MoveAsked, MoveAnswered}
 use Rattle.bus_core.specs.declared.Td.{Td}
 use Rattle.bus_core.specs.declared.Completion.{Completion}
-use Rattle.bus_core.specs.declared.Completion.TheVariants.{CommandDone, DataDone, StatusDone}
+use Rattle.bus_core.specs.declared.Completion.TheVariants.{CommandDone, DataDone, StatusDone, EngineDone}
 use Rattle.bus_core.specs.Td.{Entry}
 use Rattle.bus_core.specs.Part.{Part}
 use Rattle.bus_core.specs.Shared.{Shared}
 use Rattle.bus_core.specs.Matched.{carried_places, held_in}
 use Rattle.bus_core.specs.World.{World, cell_at}
 use Rattle.bus_core.specs.Cells.{FitsHeld, HoldsTrbs, HoldsIn, HoldsData}
-use Rattle.bus_core.specs.Fits.{Fits, command_trb, event_texts, last_pointer}
-use Rattle.bus_core.specs.Shows.{PointAhead, ShowsPlace, ShowsShared, data_tells, left_in, left_of, pending_in, tells, tells_of, told_in}
+use Rattle.bus_core.specs.Fits.{Fits, HoldsCommand, HoldsCommandOf, command_trb, event_texts, last_pointer}
+use Rattle.bus_core.specs.Shows.{PointAhead, ShowsPlace, ShowsShared, commands_at, commands_of, data_tells, engine_tells, left_in, left_of}
+use Rattle.bus_core.specs.Shows.{pending_in, tells, tells_of, told_in}
 use Rattle.bus_core.proofs.Framing.{IsFound, found}
 
 -- MESSAGES
@@ -57,6 +61,7 @@ told-texts world k (DataDone place ∷ rest) =
     ∙ ap (λ es. Some (data_tells data_in data_out) ∷ es) (told-texts world k rest)
 told-texts world k (StatusDone place ∷ rest) =
     ap (λ es. Some (tells (last_pointer (stream_ring world.lines.status (tag_of place))) SHORT_PACKET Status) ∷ es) (told-texts world k rest)
+told-texts world k (EngineDone place ∷ rest) = ap (λ es. Some (engine_tells world.lines.engine) ∷ es) (told-texts world k rest)
 
 -- TDS
 
@@ -99,6 +104,20 @@ shown-at state world place (Some part) fits is there within =
     let at : IsFound world place.client part = found world state.parts place.client part fits.clients is in
     shown-place world place.client part.unit.count place (held_at part.entries place.slot) (at.fits.cells place.slot within)
 
+-- THE CONTROLLER'S COMMAND RING
+
+shown-stage : (lines : LinesState) (pipe : Pipe) (place : Place) (stage : RetirementStage) → HoldsCommand lines pipe place stage
+    → pending_in lines.engine ≡ commands_at lines pipe place stage
+shown-stage lines pipe place StopAsked holds = left-trbs lines.engine _ 0 holds
+shown-stage lines pipe place StopAnswered holds = left-trbs lines.engine _ 1 holds
+shown-stage lines pipe place MoveAsked holds = left-trbs lines.engine _ 0 holds
+shown-stage lines pipe place MoveAnswered holds = left-trbs lines.engine _ 1 holds
+
+shown-commands : (lines : LinesState) (retirement : Option Retirement) → HoldsCommandOf lines retirement
+    → pending_in lines.engine ≡ commands_of lines retirement
+shown-commands lines None holds = left-trbs lines.engine [] 0 holds
+shown-commands lines (Some r) holds = shown-stage lines r.pipe r.place r.stage holds
+
 -- THE WHOLE
 
 pub shown : (state : Shared) (world : World) → Fits state world → ShowsShared state world.lines
@@ -106,6 +125,7 @@ shown state world fits = record {
   messages =
       ap (λ n. drop n world.lines.command.put) fits.queues.got ∙ ap (drop (length (carried_places state.events))) fits.queues.put
       ∙ drop-carried (carried_places state.events) state.messages;
+  commands = shown-commands world.lines state.retirement fits.engine.commands;
   events = ap (map told_in) fits.queues.texts ∙ told-texts world 0 state.events;
   places = λ place there within. shown-at state world place (slice_get state.parts place.client) fits refl there within;
 }

@@ -11,7 +11,7 @@ use Rattle.cycle_ring.specs.Ring.{Ring, pointer_of, front_of, opening}
 use Rattle.event_ring.specs.declared.Event.{Event}
 use Rattle.event_ring.specs.declared.Event.TheVariants.{Transfer}
 use Rattle.stream_array.specs.declared.TheConstants.{STREAM_RING_PLACES}
-use Rattle.stream_array.specs.declared.Pipe.TheVariants.{Status}
+use Rattle.stream_array.specs.declared.Pipe.TheVariants.{Command, Status, DataIn, DataOut}
 use Rattle.stream_array.specs.Contexts.{has_stream}
 use Rattle.stream_array.specs.Rings.{stream_ring}
 use Rattle.frame_store.specs.declared.TagBuffers.{TagBuffers}
@@ -72,6 +72,7 @@ use Rattle.bus_core.specs.WorldDue.{StatusesAreDue, status_due_by}
 use Rattle.bus_core.proofs.ActFits.{IsPlaced, placed, IsActed, acted_state, acted-fits, place_of-tag, by-tag}
 use Rattle.bus_core.proofs.CommandFits.{event-room}
 use Rattle.bus_core.proofs.EventTexts.{KeepsOthers, carried_places-append, event_texts-append, event_texts-one}
+use Rattle.bus_core.proofs.Framing.{EndsStay}
 use Rattle.bus_core.proofs.MatchedEntries.{asked_op, sent_to}
 use Rattle.bus_core.proofs.MatchedNext.{matched-no_status_event}
 use Rattle.bus_core.proofs.MatchedPlaces.{and-true}
@@ -313,7 +314,7 @@ sent-queues state world place answer part new fits within some most put none =
     let more : carried_places (state.events ++ StatusDone place ∷ []) ≡ carried_places state.events =
     carried_places-append state.events (StatusDone place ∷ []) ∙ append-nil (carried_places state.events) in
     let kept : event_texts (sent_world world place (answer_text (tag_of place) answer)) 0 state.events ≡ event_texts world 0 state.events =
-    event_texts-one state world (sent_world world place (answer_text (tag_of place) answer)) place 0 fits.matched within (refl, refl)
+    event_texts-one state world (sent_world world place (answer_text (tag_of place) answer)) place 0 fits.matched within (refl, refl) refl
     (sent-others world place (answer_text (tag_of place) answer)) (λ waits. (refl, refl)) (λ waits. absurd (omega (arith, waits, none))) in
     record {
       put = fits.queues.put ∙ ap (λ ps. map command_trb (ps ++ state.messages)) (sym more);
@@ -325,6 +326,16 @@ sent-queues state world place answer part new fits within some most put none =
     }
 
 -- THE STEP
+
+-- the controller took a TRB of the status stream, whose enqueue place is where it was
+sent-ends : (state : Shared) (world : World) (place : Place) (text : List ℕ) → IsSoundWorld world → 1 ≤ tag_of place → tag_of place ≤ 248
+    → EndsStay state world (sent_world world place text) place
+sent-ends state world place text sound some most Command streams left = absurd streams
+sent-ends state world place text sound some most Status streams left =
+    let ring = ap (λ (c : Cell). c.status) (sent-here world place text sound some most) in
+    record { base = ap (λ (r : Ring). r.base) ring; at = ap (λ (r : Ring). r.at) ring; put = ap (λ (r : Ring). r.put) ring }
+sent-ends state world place text sound some most DataIn streams left = record { base = refl; at = refl; put = refl }
+sent-ends state world place text sound some most DataOut streams left = record { base = refl; at = refl; put = refl }
 
 sent-acted : (state : Shared) (world : World) (place : Place) (entry : Entry) (answer : Answer) (at : IsPlaced state world place entry) → Fits state world
     → entry.task.phase ≡ Begun (Ended answer) → status_events place state.events ≡ 0
@@ -340,6 +351,7 @@ sent-acted state world place entry answer at fits ended none =
       units = sym (slice_get-back world.device.units place.client at.part.unit at.client.unit_is);
       tasks = λ other apart. held_under-with_other world.device.tasks (tag_of place) other None apart;
       others = sent-others world place (answer_text (tag_of place) answer);
+      ends = sent-ends state world place (answer_text (tag_of place) answer) fits.sound tag.0 tag.1;
       count = refl;
       cell = subst (λ c. FitsCell place.client at.part.unit.count place (sent_to entry answer) c)
           (sym (sent-here world place (answer_text (tag_of place) answer) fits.sound tag.0 tag.1))

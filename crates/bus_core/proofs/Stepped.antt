@@ -2,7 +2,7 @@
 -- step, and the outcome is the shared machine's.
 use Rattle.std.proofs.Common.{◌≡◌, ℕ, zero, suc, ◌-◌, ◌/◌, ◌%◌, ◌<◌, ◌≤◌, true, List, [], ◌∷◌, length, Option, Some, None, IfSome, refl, arith, ap, sym, subst}
 use Rattle.std.proofs.Common.{◌∙◌}
-use Rattle.std.specs.Prelude.{slice_get, nat_lt, option_and_then, is_some}
+use Rattle.std.specs.Prelude.{slice_get, nat_lt, option_and_then, option_map, is_some}
 use Rattle.std.proofs.lemmas.Bool.{false≢true}
 use Rattle.std.proofs.lemmas.List.{length-replicate}
 use Rattle.std.proofs.lemmas.Option.{none-some, cond_some, same_Some}
@@ -27,30 +27,35 @@ use Rattle.solo_model.specs.TaggedTask.{aborted_by, answered_by, reply_from}
 use Rattle.uas_host.specs.Replies.{Given, replied}
 use Rattle.uas_host.specs.declared.Place.{Place}
 use Rattle.uas_host.specs.declared.Handled.{Handled}
+use Rattle.uas_host.specs.declared.Handled.TheVariants.{Matched}
+use Rattle.uas_host.specs.declared.Retirement.{Retirement as HostRetirement}
 use Rattle.uas_host.specs.State.{HostState, IsHost, opening as opening_host}
 use Rattle.uas_host.specs.Tags.{place_of, tag_of}
-use Rattle.uas_host.specs.Events.{Sides as EventSides, handled}
+use Rattle.uas_host.specs.Events.{Sides as EventSides, event_doors, handled}
 use Rattle.xhci_ctl.specs.declared.Acted.{Acted}
 use Rattle.block_unit.specs.BlockMaps.{BlockMaps}
 use Rattle.xhci_ctl.specs.Pipes.{ControllerState, new_controller}
 use Rattle.xhci_ctl.specs.Steps.{Sides, sides_of, commanded, moved, sent_by}
 use Rattle.bus_core.specs.declared.Completion.{Completion}
+use Rattle.bus_core.specs.declared.Completion.TheVariants.{CommandDone, DataDone, StatusDone, EngineDone}
 use Rattle.bus_core.specs.declared.Mark.{Mark}
-use Rattle.bus_core.specs.declared.Mark.TheVariants.{Carry, Move, Send, Settle, Quiet}
+use Rattle.bus_core.specs.declared.Mark.TheVariants.{Carry, Move, Send, Settle}
 use Rattle.bus_core.specs.declared.Outcome.{Outcome}
 use Rattle.bus_core.specs.declared.Step.{Step}
 use Rattle.bus_core.specs.declared.Step.TheVariants.{CommandPipe, Data, Status, Event as EventStep, Take}
 use Rattle.bus_core.specs.Td.{Entry}
 use Rattle.bus_core.specs.Part.{Part, entry_reply, event_place, settled, slot_tag, take_act, taken}
-use Rattle.bus_core.specs.Shared.{Shared, due, due_step, shared_step, is_some_of, data_is_due, status_is_due, opening, outcome_of, routed, routed_to}
+use Rattle.bus_core.specs.Shared.{Shared, due, due_step, shared_step, is_some_of, data_is_due, status_is_due, opening, outcome_of, ringing, routed, routed_to}
 use Rattle.bus_core.specs.Bus.{IsPlace}
 use Rattle.bus_core.specs.Matched.{IsMatched, IsOwnMessage, IsOwnEvent}
 use Rattle.bus_core.specs.World.{World, sides_in, with_sides, world_of}
-use Rattle.bus_core.specs.Fits.{Fits, IsSoundWorld}
+use Rattle.bus_core.specs.Fits.{Fits, IsSoundWorld, host_retirement}
 use Rattle.bus_core.specs.Decoded.{decoded, FitsItself}
-use Rattle.bus_core.specs.WorldSteps.{event_sides, event_world, take_world, opening_world, CommandFits, DataFits, StatusFits, EventFits, TakeFits}
+use Rattle.bus_core.specs.WorldSteps.{event_sides, event_world, handled_for, rung_all, take_world, opening_world, CommandFits, DataFits, StatusFits}
+use Rattle.bus_core.specs.WorldSteps.{EventFits, EventsFit, TakeFits}
 use Rattle.bus_core.specs.WorldDue.{marked}
-use Rattle.bus_core.specs.Owners.{acted_as, handled_as, index_of, mark_by, owner_of, replying}
+use Rattle.bus_core.specs.Owners.{acted_as, handled_as, index_of, mark_by, owner_of, replying, retirement_seen}
+use Rattle.bus_core.proofs.EventTexts.{event-within}
 use Rattle.bus_core.proofs.MatchedBounds.{held-place}
 use Rattle.bus_core.proofs.MatchedNext.{matched-no_stray}
 use Rattle.bus_core.proofs.MatchedSteps.{IsDueAt, place_fact-due}
@@ -62,7 +67,6 @@ use Rattle.bus_core.proofs.DueEvents.{events-are-due}
 use Rattle.bus_core.proofs.OpeningFits.{opening-fits}
 use Rattle.bus_core.proofs.OutcomeMarks.{carry-marked, move-marked, send-marked, event-marked}
 use Rattle.bus_core.proofs.ReadBack.{decoded-back}
-use Rattle.bus_core.proofs.SeenCommands.{events-fit}
 use Rattle.bus_core.proofs.StatusFits.{status_fits}
 use Rattle.bus_core.proofs.Taking.{takes-fit}
 
@@ -200,41 +204,61 @@ fits-as state world is fits = subst (λ s. Fits s world) is fits
 
 -- EVENT
 
--- the place of the first event has its slot
-first-slot : (state : Shared) (done : Completion) (rest : List Completion) → IsMatched state → state.events ≡ done ∷ rest → (event_place done).slot < TAGS
-first-slot state done rest all is =
-    let own : IsOwnEvent state.parts done = (matched-no_stray state all).events 0 done (ap (λ es. slice_get es 0) is) in
-    (held-place state (event_place done) own.entry all own.held).slot
+-- the outcome of an event, told by what the host made of it and by the doorbells that it rang: an event of a TD is its client's, and one of
+-- the controller's own commands the retirement's
+told-td : (retirement : Option HostRetirement) (doors : List ℕ) (place : Place) → place.slot < TAGS
+    → ringing place.client doors ≡ handled_as retirement doors (Matched (tag_of place))
+told-td retirement doors place within = ap (λ c. ringing c doors) (sym (client-of place within))
 
-seen-by : (state : Shared) (world : World) (event : Event) (events : List Completion) (host : HostState) (lines : LinesState) (handled_it : Handled)
-    → Fits state world → state.events ≡ events
+told-for : (state : Shared) (world : World) (done : Completion) (doors : List ℕ) → Fits state world → IsOwnEvent state done
+    → (event_place done).slot < TAGS → ringing (event_place done).client doors ≡ handled_as world.host.retirement doors (handled_for done)
+told-for state world (CommandDone place) doors fits own within = told-td world.host.retirement doors place within
+told-for state world (DataDone place) doors fits own within = told-td world.host.retirement doors place within
+told-for state world (StatusDone place) doors fits own within = told-td world.host.retirement doors place within
+told-for state world (EngineDone place) doors fits own within =
+    ap (λ (p : Place). ringing p.client doors) (sym own.place_same)
+    ∙ sym (ap (λ r. retirement_seen r doors) (fits.engine.retirement ∙ ap (option_map host_retirement) own.under_way))
+
+seen-by : (state : Shared) (world : World) (event : Event) (events : List Completion) (host : HostState) (lines : LinesState) (doors : List ℕ)
+    (handled_it : Handled)
+    → EventsFit → Fits state world → state.events ≡ events
     → is_some_of events ≡ true → slice_get world.lines.events.pending 0 ≡ Some event
-    → handled (event_sides world) world.frames event ≡ (record { host = host; lines = lines }, handled_it) → IsHost host → IsLines lines → IsWhole world.frames
-    → IsStepped state EventStep (world_of host world.controller world.device lines world.frames) (handled_as handled_it)
-seen-by state world event [] host lines handled_it fits is some first so hosting standing whole = absurd (false≢true some)
-seen-by state world event (done ∷ rest) host lines handled_it fits is some first so hosting standing whole =
-    let it = events-fit state world done rest fits is in
+    → handled (event_sides world) world.frames event ≡ (record { host = host; lines = lines }, handled_it) → event_doors (event_sides world) event ≡ doors
+    → IsHost host → IsLines lines → IsWhole world.frames
+    → IsStepped state EventStep (world_of host (rung_all world.controller doors) world.device lines world.frames)
+    (handled_as world.host.retirement doors handled_it)
+seen-by state world event [] host lines doors handled_it every fits is some first so rang hosting standing whole = absurd (false≢true some)
+seen-by state world event (done ∷ rest) host lines doors handled_it every fits is some first so rang hosting standing whole =
+    let it = every state world done rest fits is in
     let same : it.0 ≡ event = same_Some it.0 event (sym it.1 ∙ first) in
     let fit : EventFits state world event done = subst (λ e. EventFits state world e done) same it.2 in
-    let after : event_world world event ≡ world_of host world.controller world.device lines world.frames =
-    ap (λ (a : EventSides × Handled). record world { host = a.0.host; lines = a.0.lines }) so in
-    let told : (shared_step state EventStep).1 ≡ handled_as handled_it =
+    let own : IsOwnEvent state done = (matched-no_stray state fits.matched).events 0 done (ap (λ es. slice_get es 0) is) in
+    let after : event_world world event ≡ world_of host (rung_all world.controller doors) world.device lines world.frames =
+    ap (λ (a : EventSides × Handled). record world
+    { host = a.0.host; controller = rung_all world.controller (event_doors (event_sides world) event); lines = a.0.lines }) so
+    ∙ ap (λ ds. world_of host (rung_all world.controller ds) world.device lines world.frames) rang in
+    let told : (shared_step state EventStep).1 ≡ handled_as world.host.retirement doors handled_it =
     event-marked state done rest fits.matched is
-    ∙ ap (λ c. marked c Quiet) (sym (client-of (event_place done) (first-slot state done rest fits.matched is)))
-    ∙ ap handled_as (sym fit.matched)
-    ∙ ap (λ (a : EventSides × Handled). handled_as a.1) so in
+    ∙ ap (λ ds. ringing (event_place done).client ds) (sym fit.doors ∙ rang)
+    ∙ told-for state world done doors fits own (event-within state done fits.matched own)
+    ∙ ap (handled_as world.host.retirement doors) (sym fit.matched)
+    ∙ ap (λ (a : EventSides × Handled). handled_as world.host.retirement doors a.1) so in
     let sound : IsSoundWorld (event_world world event) = subst IsSoundWorld (sym after)
     (record { host = hosting; lines = standing; frames = whole; tags = fits.sound.tags }) in
-    stepped state (world_of host world.controller world.device lines world.frames) EventStep (handled_as handled_it) (ap is_some_of is)
+    stepped state (world_of host (rung_all world.controller doors) world.device lines world.frames) EventStep
+    (handled_as world.host.retirement doors handled_it) (ap is_some_of is)
     (subst (λ w. Fits (shared_step state EventStep).0 w) after (fit.fits sound)) told
 
-pub seen-on : (state : Shared) (world : World) (event : Event) (host : HostState) (lines : LinesState) (handled_it : Handled) → Fits state world
-    → due state EventStep ≡ true
+-- an event, where every event fits
+pub seen-on : (state : Shared) (world : World) (event : Event) (host : HostState) (lines : LinesState) (doors : List ℕ) (handled_it : Handled)
+    → EventsFit → Fits state world → due state EventStep ≡ true
     → slice_get world.lines.events.pending 0 ≡ Some event
-    → handled (event_sides world) world.frames event ≡ (record { host = host; lines = lines }, handled_it) → IsHost host → IsLines lines → IsWhole world.frames
-    → IsStepped state EventStep (world_of host world.controller world.device lines world.frames) (handled_as handled_it)
-seen-on state world event host lines handled_it fits acts first so hosting standing whole = seen-by state world event state.events host lines handled_it
-    fits refl acts first so hosting standing whole
+    → handled (event_sides world) world.frames event ≡ (record { host = host; lines = lines }, handled_it) → event_doors (event_sides world) event ≡ doors
+    → IsHost host → IsLines lines → IsWhole world.frames
+    → IsStepped state EventStep (world_of host (rung_all world.controller doors) world.device lines world.frames)
+    (handled_as world.host.retirement doors handled_it)
+seen-on state world event host lines doors handled_it every fits acts first so rang hosting standing whole =
+    seen-by state world event state.events host lines doors handled_it every fits refl acts first so rang hosting standing whole
 
 -- where an event is due one is pending
 pub event-pends : (state : Shared) (world : World) → Fits state world → due state EventStep ≡ true → world.lines.events.pending ≡ [] → ⊥
@@ -248,7 +272,7 @@ settled-told : (client slot : ℕ) (part : Part) (rest : List ℕ) (reply : Repl
     → outcome_of client (settled part slot rest (Some reply)) ≡ replying client (Some reply)
 settled-told client slot part rest reply within marks =
     let index : slot ≡ (slot_tag client slot - 1) % TAGS = omega arith in
-    ap (λ m. record { acted = true; owner = Some client; mark = m; reply = Some reply; refused = None; doors = record { items = [] } })
+    ap (λ m. record { acted = true; owner = Some client; mark = m; reply = Some reply; refused = None; doors = [] })
     (ap (λ k. Settle (suc k)) index ∙ sym marks)
 
 answered-marks : (tag ticket : ℕ) (buffer : List ℕ) (answer : Answer) (request : Request)

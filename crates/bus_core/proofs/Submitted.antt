@@ -1,9 +1,11 @@
 -- A submission of the host, on a world that fits a state, is the shared machine's.
-use Rattle.std.proofs.Common.{◌≡◌, ℕ, suc, ◌+◌, ◌*◌, ◌^◌, ◌<◌, List, [], ◌∷◌, ◌++◌, length, Option, Some, None, MatchOption, Result, Ok, Err, refl, arith, ap}
-use Rattle.std.proofs.Common.{sym, subst, ◌∙◌}
+use Rattle.std.proofs.Common.{◌≡◌, ℕ, suc, ◌^◌, ◌<◌, ◌≤◌, Bool, true, false, List, [], ◌∷◌, ◌++◌, length, length-append, Option, Some, None}
+use Rattle.std.proofs.Common.{MatchOption, Result, Ok, Err, refl, arith, ap, sym, subst, ◌∙◌}
 use Rattle.std.specs.Prelude.{slice_get, nat_lt, option_map, ◌==◌, ◌&&◌}
 use Rattle.std.proofs.lemmas.Option.{cond_some, option_and_then_some}
 use Rattle.arrayvec.specs.ArrayVec.{ArrayVec}
+use Rattle.stream_array.specs.declared.Pipe.{Pipe}
+use Rattle.stream_array.specs.declared.Pipe.TheVariants.{Command as CommandPipe, Status, DataIn, DataOut}
 use Rattle.stream_array.specs.Rings.{LinesState, IsLines}
 use Rattle.frame_store.specs.declared.TagBuffers.{TagBuffers}
 use Rattle.frame_store.specs.Buffers.{IsWhole}
@@ -13,8 +15,8 @@ use Rattle.scsi_cmd.specs.declared.Direction.TheVariants.{Nothing, ToHost, ToDev
 use Rattle.scsi_cmd.specs.declared.SubmitFault.{SubmitFault}
 use Rattle.scsi_cmd.specs.declared.TheConstants.{TASK_SLOT}
 use Rattle.scsi_cmd.specs.Op.{direction_of}
-use Rattle.uas_host.specs.Doors.{submission_doors as host_doors}
-use Rattle.uas_host.specs.Retirement.{is_held}
+use Rattle.uas_host.specs.Doors.{answer_doors, data_doors, door, door_unless, submission_doors, target_of}
+use Rattle.uas_host.specs.Retirement.{is_held as is_host_held}
 use Rattle.uas_host.specs.State.{HostState, IsHost}
 use Rattle.uas_host.specs.Submit.{host_fault, lent, submitted}
 use Rattle.uas_host.specs.Tags.{command_slot, own_slot, place_of}
@@ -22,30 +24,17 @@ use Rattle.uas_host.specs.Tds.{pushed}
 use Rattle.bus_core.specs.declared.Mark.TheVariants.{Submit as SubmitMark}
 use Rattle.bus_core.specs.declared.Outcome.{Outcome}
 use Rattle.bus_core.specs.Part.{Part, fault_at}
-use Rattle.bus_core.specs.Pipes.{submission_doors}
-use Rattle.bus_core.specs.Shared.{Shared, acceptance, answered, refusal, submit_step, submitted_to, submitted_under}
+use Rattle.bus_core.specs.Shared.{Shared, is_held, acceptance, answered, refusal, submit_step, submitted_to, submitted_under}
 use Rattle.bus_core.specs.World.{World, world_of}
 use Rattle.bus_core.specs.Fits.{Fits, IsSoundWorld}
 use Rattle.bus_core.specs.Decoded.{decoded, FitsItself}
 use Rattle.bus_core.specs.WorldSteps.{SubmitFits, fault_in, rung_all, submit_world}
 use Rattle.bus_core.specs.Owners.{index_of, submitted_as}
 use Rattle.bus_core.proofs.Stepped.{place-named}
-use Rattle.bus_core.proofs.Submitting.{free_doors, none_held}
+use Rattle.bus_core.proofs.Framing.{held-host}
 use Rattle.bus_core.proofs.ReadBack.{decoded-back}
 use Rattle.bus_core.proofs.SubmissionFaults.{faults-agree}
 use Rattle.bus_core.proofs.Submitting.{submissions-fit}
-
--- the doorbells are the same numbers
-doors-same : (way : Direction) (tag : ℕ) → submission_doors way tag ≡ free_doors way tag
-doors-same Nothing tag = let status : tag * 2 ^ 16 + 3 ≡ 3 + 2 ^ 16 * tag = omega arith in ap (λ d. d ∷ 2 ∷ []) status
-doors-same ToHost tag =
-    let status : tag * 2 ^ 16 + 3 ≡ 3 + 2 ^ 16 * tag = omega arith in
-    let moves : tag * 2 ^ 16 + 5 ≡ 5 + 2 ^ 16 * tag = omega arith in
-    ap (λ d. d ∷ (tag * 2 ^ 16 + 3) ∷ 2 ∷ []) moves ∙ ap (λ d. (5 + 2 ^ 16 * tag) ∷ d ∷ 2 ∷ []) status
-doors-same ToDevice tag =
-    let status : tag * 2 ^ 16 + 3 ≡ 3 + 2 ^ 16 * tag = omega arith in
-    let moves : tag * 2 ^ 16 + 4 ≡ 4 + 2 ^ 16 * tag = omega arith in
-    ap (λ d. d ∷ (tag * 2 ^ 16 + 3) ∷ 2 ∷ []) moves ∙ ap (λ d. (4 + 2 ^ 16 * tag) ∷ d ∷ 2 ∷ []) status
 
 -- the slot of a command tag is that of the tag's index
 slot-named : (clients client tag slot : ℕ) → command_slot clients client tag ≡ Some slot → suc slot ≡ index_of tag
@@ -60,14 +49,13 @@ slot-named clients client tag slot is =
 abbrev Answers : Shared → ℕ → ℕ → Command → Shared × Outcome → Type 0
 Answers state client tag command after =
     MatchOption (option_map fault_in after.1.refused)
-    (after.1 ≡ acceptance client (SubmitMark (index_of tag)) (free_doors (direction_of command.op) tag))
+    (after.1 ≡ acceptance client (SubmitMark (index_of tag)) (submission_doors (is_held state) (direction_of command.op) tag))
     (λ fault. after ≡ (state, refusal client fault command))
 
 answers-fault : (state : Shared) (client slot tag ticket : ℕ) (command : Command) (part : Part) (fault : Option SubmitFault) → suc slot ≡ index_of tag
     → Answers state client tag command (answered state part (record { client = client; slot = slot }) tag ticket command fault)
 answers-fault state client slot tag ticket command part None index =
-    ap (λ k. acceptance client (SubmitMark k) (submission_doors (direction_of command.op) tag)) index
-    ∙ ap (λ d. acceptance client (SubmitMark (index_of tag)) d) (doors-same (direction_of command.op) tag)
+    ap (λ k. acceptance client (SubmitMark k) (submission_doors (is_held state) (direction_of command.op) tag)) index
 answers-fault state client slot tag ticket command part (Some fault) index = refl
 
 answers-part : (state : Shared) (client slot tag ticket : ℕ) (command : Command) (part : Option Part) → suc slot ≡ index_of tag
@@ -90,7 +78,7 @@ answers state client tag ticket command = answers-slot state client tag ticket c
 abbrev Accepts : World → ℕ → ℕ → ℕ → Command → HostState → LinesState → List TagBuffers → List ℕ → Result (Unit {0}) (SubmitFault × Command) → Type 0
 Accepts world client tag ticket command host lines frames doors answer =
     (answer ≡ Ok (record {})) × (host ≡ submitted world.host client tag ticket command.op) × (lines ≡ pushed world.lines tag command.op)
-    × (frames ≡ lent world.frames client tag command) × (doors ≡ host_doors (is_held world.host) (direction_of command.op) tag)
+    × (frames ≡ lent world.frames client tag command) × (doors ≡ submission_doors (is_host_held world.host) (direction_of command.op) tag)
 
 abbrev Refuses : World → Command → HostState → LinesState → List TagBuffers → List ℕ → Result (Unit {0}) (SubmitFault × Command) → SubmitFault → Type 0
 Refuses world command host lines frames doors answer fault =
@@ -106,7 +94,7 @@ submitted-by : (state : Shared) (world : World) (client tag ticket : ℕ) (comma
     → host_fault world.host client tag ticket command ≡ fault
     → MatchOption fault (Accepts world client tag ticket command host lines frames doors answer) (Refuses world command host lines frames doors answer)
     → MatchOption fault ((submit_step state client tag ticket command).1 ≡ acceptance client (SubmitMark (index_of tag))
-    (free_doors (direction_of command.op) tag))
+    (submission_doors (is_held state) (direction_of command.op) tag))
     (λ f. submit_step state client tag ticket command ≡ (state, refusal client f command))
     → IsHost host → IsLines lines → IsWhole frames
     → IsSubmitted state client tag ticket command (world_of host (rung_all world.controller doors) world.device lines frames)
@@ -126,7 +114,7 @@ submitted-by state world client tag ticket command host lines frames doors answe
           ap (λ s. (s, (submit_step state client tag ticket command).1)) (sym back)
           ∙ ap (λ o. (decoded new, o)) (told
           ∙ ap (λ d. acceptance client (SubmitMark (index_of tag)) d)
-          (sym (accepts.4 ∙ none_held world.host (direction_of command.op) tag fits.engine.retirement))
+          (sym (accepts.4 ∙ ap (λ held. submission_doors held (direction_of command.op) tag) (held-host state world fits.engine)))
           ∙ ap (submitted_as client tag doors) (sym accepts.0));
     }
 submitted-by state world client tag ticket command host lines frames doors answer (Some fault) fits small is refuses told hosting standing whole =
@@ -150,7 +138,8 @@ submitted-on state world client tag ticket command host lines frames doors answe
     submitted-by state world client tag ticket command host lines frames doors answer
     (host_fault world.host client tag ticket command) fits small refl host_answers
     (subst (λ fault. MatchOption fault
-    ((submit_step state client tag ticket command).1 ≡ acceptance client (SubmitMark (index_of tag)) (free_doors (direction_of command.op) tag))
+    ((submit_step state client tag ticket command).1
+    ≡ acceptance client (SubmitMark (index_of tag)) (submission_doors (is_held state) (direction_of command.op) tag))
     (λ f. submit_step state client tag ticket command ≡ (state, refusal client f command)))
     (sym (faults-agree state world client tag ticket command fits)) (answers state client tag ticket command))
     hosting standing whole
@@ -161,10 +150,38 @@ pub cleared : (world : World) (client tag ticket : ℕ) (command : Command) (hos
     (answer : Result (Unit {0}) (SubmitFault × Command)) (fault : Option SubmitFault) → old.items ≡ []
     → MatchOption fault
     ((answer ≡ Ok (record {})) × (host ≡ submitted world.host client tag ticket command.op) × (lines ≡ pushed world.lines tag command.op)
-    × (frames ≡ lent world.frames client tag command) × (new.items ≡ old.items ++ host_doors (is_held world.host) (direction_of command.op) tag))
+    × (frames ≡ lent world.frames client tag command) × (new.items ≡ old.items ++ submission_doors (is_host_held world.host) (direction_of command.op) tag))
     (λ f. (answer ≡ Err (f, command)) × (host ≡ world.host) × (lines ≡ world.lines) × (frames ≡ world.frames) × (new ≡ old))
     → MatchOption fault (Accepts world client tag ticket command host lines frames new.items answer) (Refuses world command host lines frames new.items answer)
 cleared world client tag ticket command host lines frames old new answer None empty it =
-    (it.0, it.1, it.2, it.3, it.4 ∙ ap (λ ds. ds ++ host_doors (is_held world.host) (direction_of command.op) tag) empty)
+    (it.0, it.1, it.2, it.3, it.4 ∙ ap (λ ds. ds ++ submission_doors (is_host_held world.host) (direction_of command.op) tag) empty)
 cleared world client tag ticket command host lines frames old new answer (Some fault) empty it =
     (it.0, it.1, it.2, it.3, ap (λ (d : ArrayVec ℕ). d.items) it.4 ∙ empty)
+
+-- a submission rings three doorbells at most
+few-unless : (held : Bool) (pipe : Pipe) (tag : ℕ) → length (door_unless held pipe tag) ≤ 1
+few-unless true pipe tag = omega arith
+few-unless false pipe tag = omega arith
+
+few-data : (held : Pipe → Bool) (way : Direction) (tag : ℕ) → length (data_doors held way tag) ≤ 1
+few-data held Nothing tag = omega arith
+few-data held ToHost tag = few-unless (held DataIn) DataIn tag
+few-data held ToDevice tag = few-unless (held DataOut) DataOut tag
+
+few-doors : (held : Pipe → Bool) (way : Direction) (tag : ℕ) → length (submission_doors held way tag) ≤ 3
+few-doors held way tag =
+    omega (
+      arith,
+      few-data held way tag,
+      few-unless (held Status) Status tag,
+      length-append (data_doors held way tag) (answer_doors held tag),
+      length-append (door_unless (held Status) Status tag) (door (target_of CommandPipe) 0 ∷ []),
+    )
+
+pub few-rung : (world : World) (client tag ticket : ℕ) (command : Command) (host : HostState) (lines : LinesState) (frames : List TagBuffers)
+    (doors : List ℕ) (answer : Result (Unit {0}) (SubmitFault × Command)) (fault : Option SubmitFault)
+    → MatchOption fault (Accepts world client tag ticket command host lines frames doors answer) (Refuses world command host lines frames doors answer)
+    → length doors ≤ 3
+few-rung world client tag ticket command host lines frames doors answer None accepts =
+    omega (arith, ap length accepts.4, few-doors (is_host_held world.host) (direction_of command.op) tag)
+few-rung world client tag ticket command host lines frames doors answer (Some fault) refuses = omega (arith, ap length refuses.4)

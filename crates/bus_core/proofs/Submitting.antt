@@ -1,7 +1,7 @@
 -- A submission without a fault: its rings have room, and the world after it fits the shared machine after it.
-use Rattle.std.proofs.Common.{◌≡◌, ℕ, ◌+◌, ◌-◌, ◌*◌, ◌/◌, ◌%◌, ◌<◌, ◌≤◌, true, false, cond, List, [], ◌∷◌, ◌++◌, length, length-set, map, Option, Some, None}
-use Rattle.std.proofs.Common.{is_some, option_map, refl, arith, ap, sym, subst, ◌∙◌}
-use Rattle.std.specs.Prelude.{slice_get, slice_set, ◌==◌}
+use Rattle.std.proofs.Common.{◌≡◌, ℕ, ◌+◌, ◌-◌, ◌*◌, ◌/◌, ◌%◌, ◌<◌, ◌≤◌, Bool, true, false, cond, List, [], ◌∷◌, ◌++◌, length, length-set, map, Option, Some}
+use Rattle.std.proofs.Common.{None, is_some, option_map, refl, arith, ap, sym, subst, ◌∙◌}
+use Rattle.std.specs.Prelude.{slice_get, slice_set, ◌==◌, if◌then◌else◌}
 use Rattle.std.specs.Option.{option_map_or}
 use Rattle.std.proofs.lemmas.Bool.{eqb-true, lt-ltb, le-leb, false≢true}
 use Rattle.std.proofs.lemmas.List.{length-map, map-append, append_assoc}
@@ -26,21 +26,20 @@ use Rattle.scsi_cmd.specs.Laws.{submit_fault-none}
 use Rattle.scsi_cmd.specs.Op.{direction_of, moved_bytes}
 use Rattle.uas_host.specs.declared.Place.{Place}
 use Rattle.uas_host.specs.declared.HostClient.{HostClient}
-use Rattle.uas_host.specs.Doors.{door, submission_doors}
-use Rattle.uas_host.specs.declared.Retirement.{Retirement}
-use Rattle.uas_host.specs.Retirement.{is_held, same_pipe}
-use Rattle.uas_host.specs.State.{HostState, client_of}
+use Rattle.uas_host.specs.Doors.{answer_doors, door, door_unless, submission_doors, target_of}
+use Rattle.uas_host.specs.State.{client_of}
 use Rattle.uas_host.specs.Submit.{HasRoomFor, host_fault, fault_at as host_fault_at, new_entry as host_entry, data_td_for as host_data_td, slot_of}
 use Rattle.uas_host.specs.Submit.{submitted_client}
 use Rattle.uas_host.specs.Tags.{command_slot, tag_of}
 use Rattle.uas_host.specs.Tds.{HasDataRoom, command_td, data_td, data_trbs as trbs_from, status_td, put_on, with_data_td}
 use Rattle.xhci_ctl.specs.Doorbells.{rung_by, rung_in, rung_on, pipe_at}
-use Rattle.xhci_ctl.specs.Pipes.{ControllerState, rung_at}
+use Rattle.xhci_ctl.specs.declared.PipeState.{PipeState}
+use Rattle.xhci_ctl.specs.Pipes.{ControllerState}
 use Rattle.bus_core.specs.declared.Step.TheVariants.{Submit}
-use Rattle.bus_core.specs.Pipes.{data_in_after, data_out_after}
+use Rattle.bus_core.specs.Pipes.{rung_unless}
 use Rattle.bus_core.specs.Part.{Part, new_entry, data_td_for, fault_at, submitted_part}
-use Rattle.bus_core.specs.Td.{pushed as pushed_td, data_trbs}
-use Rattle.bus_core.specs.Shared.{Shared, accepted, answered, submitted_to, submitted_under, submit_step, with_streams_rung}
+use Rattle.bus_core.specs.Td.{pushed as pushed_td, data_trbs, is_left_over_on}
+use Rattle.bus_core.specs.Shared.{Shared, is_held, accepted, answered, submitted_to, submitted_under, submit_step, with_streams_rung}
 use Rattle.bus_core.specs.Matched.{held_in, carried_places, IsMatchedAt, IsMatched, pipe_places}
 use Rattle.bus_core.specs.World.{World, cell_at}
 use Rattle.bus_core.specs.Cells.{HoldsTrbs, HoldsData, data_in_td, data_out_td, state_of, host_side, FitsHeld, FitsCell, IsEmptyCell}
@@ -49,7 +48,7 @@ use Rattle.bus_core.specs.WorldSteps.{SubmissionsFit, SubmitFits, submit_world, 
 use Rattle.bus_core.proofs.CellWrites.{get-none, stream_ring-same, stream_ring-other, held_for-same, held_for-other, client_of-found, entry_at-same}
 use Rattle.bus_core.proofs.CellWrites.{entry_at-other, clients-length, get-within}
 use Rattle.bus_core.proofs.EventTexts.{KeepsOthers, event_texts-one}
-use Rattle.bus_core.proofs.Framing.{AllFit-set, FitsPart-set, ChangesCell, IsFound, engine-kept, found}
+use Rattle.bus_core.proofs.Framing.{AllFit-set, EndsStay, FitsPart-set, ChangesCell, IsFound, engine-changed, found, held-host, unused-kept}
 use Rattle.bus_core.proofs.MatchedBounds.{matched-room}
 use Rattle.bus_core.proofs.MatchedEntries.{unfaulted, IsUnfaulted}
 use Rattle.bus_core.proofs.MatchedNext.{accepted-trbs}
@@ -110,9 +109,23 @@ submit_step-is state client tag ticket command it =
 
 -- THE DOORBELLS
 
+-- the data pipes once the doorbells of a command whose data goes this way were rung
+abbrev data_in_after : (Pipe → Bool) → Direction → PipeState → ℕ → PipeState
+data_in_after held Nothing pipe tag = pipe
+data_in_after held ToHost pipe tag = rung_unless (held DataIn) pipe tag
+data_in_after held ToDevice pipe tag = pipe
+
+abbrev data_out_after : (Pipe → Bool) → Direction → PipeState → ℕ → PipeState
+data_out_after held Nothing pipe tag = pipe
+data_out_after held ToHost pipe tag = pipe
+data_out_after held ToDevice pipe tag = rung_unless (held DataOut) pipe tag
+
 with_streams_rung-is : (state : Shared) (way : Direction) (tag : ℕ)
-    → with_streams_rung state way tag ≡ record state
-    { status = rung_at state.status tag; data_in = data_in_after way state.data_in tag; data_out = data_out_after way state.data_out tag }
+    → with_streams_rung state way tag ≡ record state {
+      status = rung_unless (is_held state StatusPipe) state.status tag;
+      data_in = data_in_after (is_held state) way state.data_in tag;
+      data_out = data_out_after (is_held state) way state.data_out tag;
+    }
 with_streams_rung-is state Nothing tag = refl
 with_streams_rung-is state ToHost tag = refl
 with_streams_rung-is state ToDevice tag = refl
@@ -129,28 +142,51 @@ rung_by-door : (controller : ControllerState) (target tag : ℕ) (pipe : Pipe) �
 rung_by-door controller target tag pipe small has is =
     ap (λ rung. option_map_or (λ r. rung_on controller r.0 r.1) rung controller) (rung_in-door target tag pipe small has is)
 
--- no pipe is held, so no doorbell is left out
-abbrev pub free_doors : Direction → ℕ → List ℕ
-free_doors way tag = submission_doors (λ pipe. false) way tag
+-- the doorbell of a stream comes first, or is left out
+rung_all-unless : (controller : ControllerState) (held : Bool) (pipe : Pipe) (tag : ℕ) (rest : List ℕ)
+    → rung_by controller (door (target_of pipe) tag) ≡ rung_on controller pipe tag
+    → rung_all controller (door_unless held pipe tag ++ rest) ≡ rung_all (if held then controller else rung_on controller pipe tag) rest
+rung_all-unless controller true pipe tag rest is = refl
+rung_all-unless controller false pipe tag rest is = ap (λ c. rung_all c rest) is
 
-pub none_held : (host : HostState) (way : Direction) (tag : ℕ) → host.retirement ≡ None → submission_doors (is_held host) way tag ≡ free_doors way tag
-none_held host way tag none =
-    ap (λ r. submission_doors (λ pipe. option_map_or (λ (retirement : Retirement). same_pipe retirement.pipe pipe) r false) way tag) none
+status_rung : (controller : ControllerState) (held : Bool) (tag : ℕ)
+    → (if held then controller else rung_on controller StatusPipe tag) ≡ record controller { status = rung_unless held controller.status tag }
+status_rung controller true tag = refl
+status_rung controller false tag = refl
 
-rung_all-is : (controller : ControllerState) (way : Direction) (tag : ℕ) → has_stream tag ≡ true
-    → rung_all controller (free_doors way tag)
+data_in_rung : (controller : ControllerState) (held : Bool) (tag : ℕ)
+    → (if held then controller else rung_on controller DataIn tag) ≡ record controller { data_in = rung_unless held controller.data_in tag }
+data_in_rung controller true tag = refl
+data_in_rung controller false tag = refl
+
+data_out_rung : (controller : ControllerState) (held : Bool) (tag : ℕ)
+    → (if held then controller else rung_on controller DataOut tag) ≡ record controller { data_out = rung_unless held controller.data_out tag }
+data_out_rung controller true tag = refl
+data_out_rung controller false tag = refl
+
+-- the command pipe's doorbell changes nothing of the controller
+answer_rung : (controller : ControllerState) (held : Pipe → Bool) (tag : ℕ) → has_stream tag ≡ true
+    → rung_all controller (answer_doors held tag) ≡ record controller { status = rung_unless (held StatusPipe) controller.status tag }
+answer_rung controller held tag has =
+    rung_all-unless controller (held StatusPipe) StatusPipe tag (door 2 0 ∷ []) (rung_by-door controller 3 tag StatusPipe (omega arith) has refl)
+    ∙ ap (λ c. rung_by c (door 2 0)) (status_rung controller (held StatusPipe) tag)
+
+pub rung_all-is : (controller : ControllerState) (held : Pipe → Bool) (way : Direction) (tag : ℕ) → has_stream tag ≡ true
+    → rung_all controller (submission_doors held way tag)
     ≡ record {
-      status = rung_at controller.status tag;
-      data_in = data_in_after way controller.data_in tag;
-      data_out = data_out_after way controller.data_out tag;
+      status = rung_unless (held StatusPipe) controller.status tag;
+      data_in = data_in_after held way controller.data_in tag;
+      data_out = data_out_after held way controller.data_out tag;
     }
-rung_all-is controller Nothing tag has = ap (λ c. rung_by c (door 2 0)) (rung_by-door controller 3 tag StatusPipe (omega arith) has refl)
-rung_all-is controller ToHost tag has =
-    ap (λ c. rung_by (rung_by c (door 3 tag)) (door 2 0)) (rung_by-door controller 5 tag DataIn (omega arith) has refl)
-    ∙ ap (λ c. rung_by c (door 2 0)) (rung_by-door (rung_on controller DataIn tag) 3 tag StatusPipe (omega arith) has refl)
-rung_all-is controller ToDevice tag has =
-    ap (λ c. rung_by (rung_by c (door 3 tag)) (door 2 0)) (rung_by-door controller 4 tag DataOut (omega arith) has refl)
-    ∙ ap (λ c. rung_by c (door 2 0)) (rung_by-door (rung_on controller DataOut tag) 3 tag StatusPipe (omega arith) has refl)
+rung_all-is controller held Nothing tag has = answer_rung controller held tag has
+rung_all-is controller held ToHost tag has =
+    rung_all-unless controller (held DataIn) DataIn tag (answer_doors held tag) (rung_by-door controller 5 tag DataIn (omega arith) has refl)
+    ∙ ap (λ c. rung_all c (answer_doors held tag)) (data_in_rung controller (held DataIn) tag)
+    ∙ answer_rung (record controller { data_in = rung_unless (held DataIn) controller.data_in tag }) held tag has
+rung_all-is controller held ToDevice tag has =
+    rung_all-unless controller (held DataOut) DataOut tag (answer_doors held tag) (rung_by-door controller 4 tag DataOut (omega arith) has refl)
+    ∙ ap (λ c. rung_all c (answer_doors held tag)) (data_out_rung controller (held DataOut) tag)
+    ∙ answer_rung (record controller { data_out = rung_unless (held DataOut) controller.data_out tag }) held tag has
 
 -- THE RINGS
 
@@ -378,10 +414,19 @@ submit-queues state world client slot ticket command part free fits =
       got = ap (λ (r : Ring). r.got) lines_is ∙ fits.queues.got ∙ ap (λ es. length (carried_places es)) (sym events_is);
       texts = ap (λ (e : Events). e.pending) (lines-events world.lines (direction_of command.op) tag (moved_bytes command.op)) ∙ fits.queues.texts
           ∙ sym (event_texts-one state world (after_at world client slot ticket command) place 0 fits.matched free.within
-          (ap (λ (r : Ring). r.base) lines_is, ap (λ (r : Ring). r.at) lines_is) (submit-others state world client slot ticket command part free)
+          (ap (λ (r : Ring). r.base) lines_is, ap (λ (r : Ring). r.at) lines_is)
+          (lines-engine world.lines (direction_of command.op) tag (moved_bytes command.op)) (submit-others state world client slot ticket command part free)
           (λ some. absurd (omega (arith, some, free.matched.moved))) (λ some. absurd (omega (arith, some, free.matched.sent))))
           ∙ ap (event_texts (after_at world client slot ticket command) 0) (sym events_is);
     }
+
+-- nothing stands at a free place, so that no retirement is of it
+submit-ends : (state : Shared) (world : World) (client slot ticket : ℕ) (command : Command) (part : Part)
+    → IsFreeAt state world client slot ticket command part
+    → EndsStay state world (after_at world client slot ticket command) (place_in client slot)
+submit-ends state world client slot ticket command part free pipe streams left =
+    let nothing = ap (λ found. option_map_or (held_in (place_in client slot)) found None) free.there ∙ free.none in
+    absurd (false≢true (ap (λ held. option_map_or (is_left_over_on pipe) held false) (sym nothing) ∙ left))
 
 submit-fits : (state : Shared) (world : World) (client slot ticket : ℕ) (command : Command) (part : Part)
     → IsFreeAt state world client slot ticket command part → Fits state world
@@ -391,9 +436,8 @@ submit-fits state world client slot ticket command part free fits matched sound 
     let tag : ℕ = tag_at client slot in
     let way : Direction = direction_of command.op in
     let held_now : HostClient = submitted_client (client_of world.host client) (slot_of tag) ticket command.op in
-    let rang : rung_all world.controller (submission_doors (is_held world.host) way tag) ≡ _ =
-    ap (rung_all world.controller) (none_held world.host way tag fits.engine.retirement)
-    ∙ rung_all-is world.controller way tag (tag_stream client slot free.few free.within) in
+    let rang = ap (λ held. rung_all world.controller (submission_doors held way tag)) (held-host state world fits.engine)
+    ∙ rung_all-is world.controller (is_held state) way tag (tag_stream client slot free.few free.within) in
     let rung = with_streams_rung-is state way tag in
     let changes : ChangesCell world (after_at world client slot ticket command) client slot held_now part.unit = record {
       hosts = refl;
@@ -405,14 +449,19 @@ submit-fits state world client slot ticket command part free fits matched sound 
     record {
       some_client = omega (arith, fits.some_client, length-set state.parts client (submitted_part part slot ticket command));
       most_clients = omega (arith, fits.most_clients, length-set state.parts client (submitted_part part slot ticket command));
-      status = ap (λ (c : ControllerState). c.status) rang ∙ ap (λ p. rung_at p tag) fits.status ∙ sym (ap (λ (s : Shared). s.status) rung);
-      data_in = ap (λ (c : ControllerState). c.data_in) rang ∙ ap (λ p. data_in_after way p tag) fits.data_in ∙ sym (ap (λ (s : Shared). s.data_in) rung);
-      data_out = ap (λ (c : ControllerState). c.data_out) rang ∙ ap (λ p. data_out_after way p tag) fits.data_out ∙ sym (ap (λ (s : Shared). s.data_out) rung);
+      status = ap (λ (c : ControllerState). c.status) rang ∙ ap (λ p. rung_unless (is_held state StatusPipe) p tag) fits.status
+          ∙ sym (ap (λ (s : Shared). s.status) rung);
+      data_in = ap (λ (c : ControllerState). c.data_in) rang ∙ ap (λ p. data_in_after (is_held state) way p tag) fits.data_in
+          ∙ sym (ap (λ (s : Shared). s.data_in) rung);
+      data_out = ap (λ (c : ControllerState). c.data_out) rang ∙ ap (λ p. data_out_after (is_held state) way p tag) fits.data_out
+          ∙ sym (ap (λ (s : Shared). s.data_out) rung);
       sound = sound;
       queues = submit-queues state world client slot ticket command part free fits;
-      engine = engine-kept state (accepted state part (place_in client slot) tag ticket command).0 world
-          (after_at world client slot ticket command) fits.engine refl
-          (lines-engine world.lines way tag (moved_bytes command.op));
+      engine = engine-changed state (accepted state part (place_in client slot) tag ticket command).0 world
+          (after_at world client slot ticket command) (place_in client slot) fits.matched fits.engine
+          (ap (λ (s : Shared). s.retirement) rung) refl (lines-engine world.lines way tag (moved_bytes command.op)) free.within
+          (submit-others state world client slot ticket command part free)
+          (submit-ends state world client slot ticket command part free);
       matched = matched;
       clients = AllFit-set world (after_at world client slot ticket command) state.parts client slot part.unit held_now part
           (submitted_part part slot ticket command)
@@ -421,6 +470,12 @@ submit-fits state world client slot ticket command part free fits matched sound 
           (Some (new_entry ticket command)) (ticket + 1) part.ready
           free.it.fits free.within changes refl refl queue_is (submit-cell state world client slot ticket command part free fits));
       others = λ other over. fits.others other (omega (arith, over, length-set state.parts client (submitted_part part slot ticket command)));
+      unused = λ other over.
+          let long = length-set state.parts client (submitted_part part slot ticket command) in
+          let there : client < length state.parts = get-within state.parts client part free.there in
+          unused-kept world (after_at world client slot ticket command) (place_in client slot) other
+          (submit-others state world client slot ticket command part free) (omega (arith, over, long, fits.some_client))
+          (λ same. omega (arith, over, long, same, there, free.within)) (fits.unused other (omega (arith, over, long)));
     }
 
 submit-room : (state : Shared) (world : World) (client slot ticket : ℕ) (command : Command) (part : Part)

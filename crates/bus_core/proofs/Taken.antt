@@ -17,12 +17,13 @@ use Rattle.uas_target.specs.Device.{Device, answered, wanted}
 use Rattle.uas_target.specs.declared.Phase.{Phase}
 use Rattle.uas_target.specs.declared.Phase.TheVariants.{Absent, Gives, Takes, Ends}
 use Rattle.uas_host.specs.State.{HostState, IsHost}
-use Rattle.uas_host.specs.Events.{handled}
+use Rattle.uas_host.specs.Events.{event_doors, handled}
 use Rattle.uas_host.specs.declared.Handled.{Handled}
 use Rattle.xhci_ctl.specs.declared.Acted.{Acted}
 use Rattle.xhci_ctl.specs.declared.Acted.TheVariants.{Idle}
 use Rattle.xhci_ctl.specs.Pipes.{has_pending}
-use Rattle.xhci_ctl.specs.Steps.{Sides, sides_of, commanded, gave_at, has_event_room, moved, moved_by, on_front, received_at, room_front, sent_at, sent_as, sent_by, took_at}
+use Rattle.xhci_ctl.specs.Steps.{Sides, sides_of, commanded, gave_at, has_event_room, moved, moved_by, on_front, received_at, room_front, sent_at, sent_as}
+use Rattle.xhci_ctl.specs.Steps.{sent_by, took_at}
 use Rattle.uas_iu.specs.Units.{unit_text}
 use Rattle.bus_core.specs.declared.Mark.{Mark}
 use Rattle.bus_core.specs.declared.Mark.TheVariants.{Carry, Move, Send}
@@ -37,7 +38,7 @@ use Rattle.bus_core.specs.Decoded.{decoded, FitsItself}
 use Rattle.bus_core.specs.Owners.{acted_as, handled_as, replying}
 use Rattle.scsi_cmd.specs.declared.Reply.{Reply}
 use Rattle.uas_host.specs.Replies.{replied}
-use Rattle.bus_core.specs.WorldSteps.{event_sides}
+use Rattle.bus_core.specs.WorldSteps.{EventsFit, event_sides, rung_all}
 use Rattle.bus_core.proofs.Due.{shared_step-idle}
 use Rattle.bus_core.proofs.Stepped.{IsStepped, carried, moved-on, sent-on, seen-on, taken-on}
 use Rattle.bus_core.proofs.ReadBack.{decoded-back}
@@ -52,7 +53,8 @@ pub record IsTaken (state : Shared) (step : Step) (new : World) (outcome : Outco
   pub fits : FitsItself new
   pub shared : shared_step state step ≡ (decoded new, outcome)
 
-pub due-taken : (state : Shared) (step : Step) (new : World) (outcome : Outcome) → due state step ≡ true → IsStepped state step new outcome → IsTaken state step new outcome
+pub due-taken : (state : Shared) (step : Step) (new : World) (outcome : Outcome) → due state step ≡ true → IsStepped state step new outcome
+    → IsTaken state step new outcome
 due-taken state step new outcome acts it =
     let whole : shared_step state step ≡ due_step state step = rw acts refl in
     record { fits = it.fits; shared = whole ∙ it.shared }
@@ -67,18 +69,21 @@ idle-taken state step world rests fits =
     }
 
 -- so does a step of the controller that found nothing to act on
-controller-idle : (state : Shared) (step : Step) (world : World) (mark : ℕ → Mark) (lines : LinesState) (frames : List TagBuffers) (device : Device) (acted : Acted) →
+controller-idle : (state : Shared) (step : Step) (world : World) (mark : ℕ → Mark) (lines : LinesState)
+    (frames : List TagBuffers) (device : Device) (acted : Acted) →
     due state step ≡ false → Fits state world → ◌≡◌ {A = Sides × Acted} (sides_in world, Idle) (sides_of lines frames device, acted) →
     IsTaken state step (world_of world.host world.controller device lines frames) (acted_as mark acted)
 controller-idle state step world mark lines frames device acted rests fits is =
-    let P : Sides × Acted → Type 0 = λ after. IsTaken state step (world_of world.host world.controller after.0.device after.0.lines after.0.frames) (acted_as mark after.1) in
+    let P : Sides × Acted → Type 0 = λ after.
+    IsTaken state step (world_of world.host world.controller after.0.device after.0.lines after.0.frames) (acted_as mark after.1) in
     subst P is (idle-taken state step world rests fits)
 
 -- NOTHING TO ACT ON
 
 no-front : (places : ℕ) (ring : Ring) → has_pending ring ≡ false → front_of places ring ≡ None
 no-front places ring none =
-    ap (λ found. option_map (λ trb. (pointer_of places ring ring.got, trb)) found) (slice_get_past ring.put ring.got (ltb-false ring.got (length ring.put) none))
+    ap (λ found. option_map (λ trb. (pointer_of places ring ring.got, trb)) found)
+    (slice_get_past ring.put ring.got (ltb-false ring.got (length ring.put) none))
 
 room-none : (test : Bool) → ◌≡◌ {A = Option (ℕ × Trb)} (cond test None None) None
 room-none true = refl
@@ -86,10 +91,12 @@ room-none false = refl
 
 idle-commanded : (world : World) → command_is_due world ≡ false → commanded (sides_in world) ≡ (sides_in world, Idle)
 idle-commanded world none =
-    ap (λ front. on_front (sides_in world) (received_at (sides_in world)) (cond (has_event_room world.lines) front None)) (no-front COMMAND_RING_PLACES world.lines.command none)
+    ap (λ front. on_front (sides_in world) (received_at (sides_in world)) (cond (has_event_room world.lines) front None))
+    (no-front COMMAND_RING_PLACES world.lines.command none)
     ∙ ap (λ front. on_front (sides_in world) (received_at (sides_in world)) front) (room-none (has_event_room world.lines))
 
-idle-moved-by : (world : World) (tag : ℕ) (phase : Phase) → data_due_by world tag phase ≡ false → moved_by world.controller (sides_in world) tag phase ≡ (sides_in world, Idle)
+idle-moved-by : (world : World) (tag : ℕ) (phase : Phase) → data_due_by world tag phase ≡ false
+    → moved_by world.controller (sides_in world) tag phase ≡ (sides_in world, Idle)
 idle-moved-by world tag Absent none = refl
 idle-moved-by world tag (Gives size) none =
     ap (λ armed. on_front (sides_in world) (gave_at (sides_in world) tag size) (cond armed (room_front world.lines DataIn tag) None)) none
@@ -97,7 +104,8 @@ idle-moved-by world tag (Takes size) none =
     ap (λ armed. on_front (sides_in world) (took_at (sides_in world) tag size) (cond armed (room_front world.lines DataOut tag) None)) none
 idle-moved-by world tag Ends none = refl
 
-idle-sent-as : (world : World) (tag : ℕ) (phase : Phase) (answer : Option Iu) → status_due_by world tag phase ≡ false → sent_as world.controller (sides_in world) tag phase answer ≡ (sides_in world, Idle)
+idle-sent-as : (world : World) (tag : ℕ) (phase : Phase) (answer : Option Iu) → status_due_by world tag phase ≡ false
+    → sent_as world.controller (sides_in world) tag phase answer ≡ (sides_in world, Idle)
 idle-sent-as world tag Absent answer none = refl
 idle-sent-as world tag (Gives size) answer none = refl
 idle-sent-as world tag (Takes size) answer none = refl
@@ -111,7 +119,8 @@ pub command-taken : (state : Shared) (world : World) (lines : LinesState) (devic
     → commanded (sides_in world) ≡ (sides_of lines world.frames device, acted) → IsLines lines → IsWhole world.frames
     → IsTaken state CommandPipe (world_of world.host world.controller device lines world.frames) (acted_as Carry acted)
 command-taken state world lines device acted fits is standing whole =
-    elim (due state CommandPipe) as (λ b. due state CommandPipe ≡ b → IsTaken state CommandPipe (world_of world.host world.controller device lines world.frames) (acted_as Carry acted)) [
+    elim (due state CommandPipe) as
+    (λ b. due state CommandPipe ≡ b → IsTaken state CommandPipe (world_of world.host world.controller device lines world.frames) (acted_as Carry acted)) [
       | true ↦ λ acts. due-taken state CommandPipe _ _ acts (carried state world lines device acted fits acts is standing whole)
       | false ↦ λ rests. controller-idle state CommandPipe world Carry lines world.frames device acted rests fits
           (sym (idle-commanded world (sym (commands_due state world fits).due ∙ rests)) ∙ is)
@@ -121,39 +130,47 @@ pub data-taken : (state : Shared) (world : World) (tag : ℕ) (lines : LinesStat
     → moved world.controller (sides_in world) tag ≡ (sides_of lines frames device, acted) → IsLines lines → IsWhole frames
     → IsTaken state (Data tag) (world_of world.host world.controller device lines frames) (acted_as Move acted)
 data-taken state world tag lines frames device acted fits is standing whole =
-    elim (due state (Data tag)) as (λ b. due state (Data tag) ≡ b → IsTaken state (Data tag) (world_of world.host world.controller device lines frames) (acted_as Move acted)) [
+    elim (due state (Data tag)) as
+    (λ b. due state (Data tag) ≡ b → IsTaken state (Data tag) (world_of world.host world.controller device lines frames) (acted_as Move acted)) [
       | true ↦ λ acts. due-taken state (Data tag) _ _ acts (moved-on state world tag lines frames device acted fits acts is standing whole)
       | false ↦ λ rests. controller-idle state (Data tag) world Move lines frames device acted rests fits
           (sym (idle-moved-by world tag (wanted world.device tag) (sym (data_due state world tag fits).due ∙ rests)) ∙ is)
     ] refl
 
-pub status-taken : (state : Shared) (world : World) (tag : ℕ) (lines : LinesState) (frames : List TagBuffers) (device : Device) (acted : Acted) → Fits state world
+pub status-taken : (state : Shared) (world : World) (tag : ℕ) (lines : LinesState) (frames : List TagBuffers) (device : Device) (acted : Acted)
+    → Fits state world
     → sent_by world.controller (sides_in world) tag ≡ (sides_of lines frames device, acted) → IsLines lines → IsWhole frames
     → IsTaken state (Status tag) (world_of world.host world.controller device lines frames) (acted_as Send acted)
 status-taken state world tag lines frames device acted fits is standing whole =
-    elim (due state (Status tag)) as (λ b. due state (Status tag) ≡ b → IsTaken state (Status tag) (world_of world.host world.controller device lines frames) (acted_as Send acted)) [
+    elim (due state (Status tag)) as
+    (λ b. due state (Status tag) ≡ b → IsTaken state (Status tag) (world_of world.host world.controller device lines frames) (acted_as Send acted)) [
       | true ↦ λ acts. due-taken state (Status tag) _ _ acts (sent-on state world tag lines frames device acted fits acts is standing whole)
       | false ↦ λ rests. controller-idle state (Status tag) world Send lines frames device acted rests fits
           (sym (idle-sent-as world tag (wanted world.device tag) (answered world.device tag) (sym (statuses_due state world tag fits).due ∙ rests)) ∙ is)
     ] refl
 
 -- an event is due where one is pending
-pub event-is-due : (state : Shared) (world : World) (event : Event) → Fits state world → slice_get world.lines.events.pending 0 ≡ Some event → due state EventStep ≡ true
+pub event-is-due : (state : Shared) (world : World) (event : Event) → Fits state world → slice_get world.lines.events.pending 0 ≡ Some event
+    → due state EventStep ≡ true
 event-is-due state world event fits first =
     events-are-due state world fits ∙ lt-ltb 0 (length world.lines.events.pending) (slice_get_within world.lines.events.pending 0 event first)
 
 pub event-rests : (state : Shared) (world : World) → Fits state world → world.lines.events.pending ≡ [] → due state EventStep ≡ false
 event-rests state world fits none = events-are-due state world fits ∙ ap (λ (es : List Event). nat_lt 0 (length es)) none
 
-pub event-taken : (state : Shared) (world : World) (event : Event) (host : HostState) (lines : LinesState) (handled_it : Handled) → Fits state world
-    → slice_get world.lines.events.pending 0 ≡ Some event
-    → handled (event_sides world) world.frames event ≡ (record { host = host; lines = lines }, handled_it) → IsHost host → IsLines lines → IsWhole world.frames
-    → IsTaken state EventStep (world_of host world.controller world.device lines world.frames) (handled_as handled_it)
-event-taken state world event host lines handled_it fits first so hosting standing whole =
+-- an event, where every event fits
+pub event-taken : (state : Shared) (world : World) (event : Event) (host : HostState) (lines : LinesState) (doors : List ℕ) (handled_it : Handled)
+    → EventsFit → Fits state world → slice_get world.lines.events.pending 0 ≡ Some event
+    → handled (event_sides world) world.frames event ≡ (record { host = host; lines = lines }, handled_it) → event_doors (event_sides world) event ≡ doors
+    → IsHost host → IsLines lines → IsWhole world.frames
+    → IsTaken state EventStep (world_of host (rung_all world.controller doors) world.device lines world.frames)
+    (handled_as world.host.retirement doors handled_it)
+event-taken state world event host lines doors handled_it every fits first so rang hosting standing whole =
     let acts : due state EventStep ≡ true = event-is-due state world event fits first in
-    due-taken state EventStep _ _ acts (seen-on state world event host lines handled_it fits acts first so hosting standing whole)
+    due-taken state EventStep _ _ acts (seen-on state world event host lines doors handled_it every fits acts first so rang hosting standing whole)
 
-pub take-taken : (state : Shared) (world : World) (client : ℕ) (host : HostState) (frames : List TagBuffers) (reply : Option Reply) → Fits state world → due state (Take client) ≡ true
+pub take-taken : (state : Shared) (world : World) (client : ℕ) (host : HostState) (frames : List TagBuffers) (reply : Option Reply) → Fits state world
+    → due state (Take client) ≡ true
     → replied world.host world.frames client ≡ record { host = host; frames = frames; reply = reply } → IsHost host → IsLines world.lines → IsWhole frames
     → IsTaken state (Take client) (world_of host world.controller world.device world.lines frames) (replying client reply)
 take-taken state world client host frames reply fits acts so hosting standing whole =

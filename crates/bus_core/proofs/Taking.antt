@@ -41,7 +41,7 @@ use Rattle.bus_core.specs.Matched.{IsCommandRequest, IsMatched, carried_places, 
 use Rattle.bus_core.specs.Hosts.{phase_task}
 use Rattle.bus_core.specs.World.{World, cell_at}
 use Rattle.bus_core.specs.Cells.{HoldsIn, HoldsTrbs, HoldsData, FitsCell, FitsHeld, IsEmptyCell, data_in_td, data_out_td, host_side, told_by, told_sent}
-use Rattle.bus_core.specs.Cells.{IsAwaitedOrSeen, host_request}
+use Rattle.bus_core.specs.Cells.{IsAwaitedOrSeen}
 use Rattle.bus_core.specs.Fits.{Fits, FitsQueues, IsSoundWorld, command_trb, event_texts, place_in}
 use Rattle.bus_core.specs.WorldSteps.{TakeFits, TakesFit, TakeIsIdle, take_world}
 use Rattle.bus_core.proofs.CellWrites.{client_of-found, entry_at-same, entry_at-other, clients-length, get-none, get-within, held_for-same, held_for-other}
@@ -143,7 +143,7 @@ reply_at client slot entry answer =
 
 -- what the bus hands the host is answered as a command
 command-replies : (tag : ℕ) (held : HostEntry) (lent : Option (List ℕ)) (request : Request) → IsCommandRequest request
-    → reply_to tag held lent (host_request request) ≡ option_and_then (command_reply tag held.ticket held.told held.status_td) lent
+    → reply_to tag held lent request ≡ option_and_then (command_reply tag held.ticket held.told held.status_td) lent
 command-replies tag held lent (Execute op) command = refl
 command-replies tag held lent (Manage what noted) command = absurd command
 
@@ -256,7 +256,7 @@ take-queues state world client slot rest part at fits few =
       put = fits.queues.put ∙ ap (λ es. map command_trb (carried_places es ++ state.messages)) same;
       got = fits.queues.got ∙ ap (λ es. length (carried_places es)) same;
       texts = fits.queues.texts
-          ∙ sym (event_texts-one state world (host_after world client slot rest) (place_in client slot) 0 fits.matched at.within (refl, refl)
+          ∙ sym (event_texts-one state world (host_after world client slot rest) (place_in client slot) 0 fits.matched at.within (refl, refl) refl
           (take-others world client slot rest part at.it) (λ some. (refl, refl)) (λ some. (refl, ap (λ (b : TagBuffers). b.status) buffers_is)))
           ∙ ap (event_texts (host_after world client slot rest) 0) same;
     }
@@ -283,13 +283,15 @@ take-fits state world client slot rest part at fits matched sound =
       data_out = fits.data_out;
       sound = sound;
       queues = take-queues state world client slot rest part at fits few;
-      engine = engine-kept state (settled_state state (place_in client slot) part rest) world (host_after world client slot rest) fits.engine refl refl;
+      engine = engine-kept state (settled_state state (place_in client slot) part rest) world (host_after world client slot rest) fits.engine refl refl refl
+          (λ r is. refl);
       matched = matched;
       clients = AllFit-set world (host_after world client slot rest) state.parts client slot part.unit held_now part (settled_part part slot rest)
           fits.clients at.there at.within changes
           (FitsPart-set world (host_after world client slot rest) client slot part.unit part.unit at.it.held held_now part None part.least rest
           at.it.fits at.within changes refl least_is refl (take-cell state world client slot rest part at fits few));
       others = λ other over. fits.others other (omega (arith, over, long));
+      unused = λ other over. fits.unused other (omega (arith, over, long));
     }
 
 take-at : (state : Shared) (world : World) (client slot : ℕ) (rest : List ℕ) (part : Part) → IsReadyAt state world client slot rest part → Fits state world

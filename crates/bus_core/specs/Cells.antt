@@ -4,8 +4,6 @@ use Rattle.xhci_trb.specs.declared.Trb.{Trb}
 use Rattle.cycle_ring.specs.Ring.{Ring}
 use Rattle.scsi_cmd.specs.declared.Direction.{Direction}
 use Rattle.scsi_cmd.specs.declared.Direction.TheVariants.{Nothing, ToHost, ToDevice}
-use Rattle.scsi_cmd.specs.declared.Request.{Request}
-use Rattle.scsi_cmd.specs.declared.Request.TheVariants.{Execute, Manage}
 use Rattle.device_server.specs.declared.Answer.{Answer}
 use Rattle.solo_model.specs.declared.Phase.{Phase}
 use Rattle.solo_model.specs.declared.Phase.TheVariants.{Queued, Begun, Sent, Gone}
@@ -16,14 +14,13 @@ use Rattle.uas_host.specs.declared.TdState.{TdState}
 use Rattle.uas_host.specs.declared.TdState.TheVariants.{Pending, Seen, LeftOver, Retired}
 use Rattle.uas_host.specs.declared.Told.{Told}
 use Rattle.uas_host.specs.declared.Told.TheVariants.{Untold, Status as ToldStatus}
-use Rattle.uas_host.specs.declared.HostRequest.{HostRequest}
-use Rattle.uas_host.specs.declared.HostRequest.TheVariants.{Execute as HostExecute, Manage as HostManage}
 use Rattle.uas_host.specs.declared.HostEntry.{HostEntry}
 use Rattle.uas_host.specs.Tags.{tag_of}
 use Rattle.uas_host.specs.Tds.{data_td, status_td}
 use Rattle.bus_core.specs.declared.Td.{Td}
 use Rattle.bus_core.specs.Td.{Entry}
-use Rattle.bus_core.specs.Shared.{request_direction}
+pub use Rattle.bus_core.specs.Td.{data_in_td, data_out_td}
+use Rattle.bus_core.specs.Td.{request_direction}
 use Rattle.bus_core.specs.Wire.{request_text, answer_text}
 use Rattle.bus_core.specs.Hosts.{device_task}
 use Rattle.bus_core.specs.Matched.{request_bytes}
@@ -33,11 +30,6 @@ use Rattle.bus_core.specs.World.{Cell}
 
 abbrev pub state_of : Td → TdState
 state_of td = td.state
-
--- the host has the operation of a command, and of a task management what it noted
-abbrev pub host_request : Request → HostRequest
-host_request (Execute op) = HostExecute op
-host_request (Manage what noted) = HostManage what noted
 
 -- the host was told the answer once it has seen the status event
 abbrev pub told_sent : Answer → TdState → Told
@@ -55,7 +47,7 @@ told_by Gone state = Untold
 abbrev pub host_side : Entry → HostEntry
 host_side entry = record {
   ticket = entry.task.ticket;
-  request = host_request entry.task.request;
+  request = entry.task.request;
   told = told_by entry.task.phase entry.status_td.state;
   command_td = entry.command_td.state;
   status_td = entry.status_td.state;
@@ -82,17 +74,6 @@ HoldsTd ring trbs td = HoldsIn ring trbs td.consumed td.state
 abbrev pub HoldsData : Ring → List Trb → Option Td → Type 0
 HoldsData ring trbs None = HoldsTrbs ring [] 0
 HoldsData ring trbs (Some td) = HoldsTd ring trbs td
-
--- the data TD is on the ring of its direction
-abbrev pub data_in_td : Direction → Option Td → Option Td
-data_in_td Nothing td = None
-data_in_td ToHost td = td
-data_in_td ToDevice td = None
-
-abbrev pub data_out_td : Direction → Option Td → Option Td
-data_out_td Nothing td = None
-data_out_td ToHost td = None
-data_out_td ToDevice td = td
 
 -- THE BUFFERS
 

@@ -1,5 +1,5 @@
 -- The shared machine, read back from the world of rings.
-use Rattle.std.specs.Prelude.{ℕ, suc, ◌-◌, List, [], ◌∷◌, drop, length, map, Option, None, option_map, option_and_then, unwrap_or}
+use Rattle.std.specs.Prelude.{ℕ, zero, suc, ◌-◌, List, [], ◌∷◌, drop, length, map, Option, None, option_map, option_and_then, unwrap_or}
 use Rattle.std.specs.List.{range_with_len, filter_map}
 use Rattle.block_unit.specs.BlockMaps.{BlockMaps}
 use Rattle.cycle_ring.specs.Ring.{Ring}
@@ -10,23 +10,25 @@ use Rattle.stream_array.specs.declared.Pipe.{Pipe}
 use Rattle.stream_array.specs.declared.Pipe.TheVariants.{Command, Status, DataIn, DataOut}
 use Rattle.scsi_cmd.specs.declared.Direction.{Direction}
 use Rattle.scsi_cmd.specs.declared.Direction.TheVariants.{Nothing, ToHost, ToDevice}
-use Rattle.scsi_cmd.specs.declared.Request.{Request}
-use Rattle.scsi_cmd.specs.declared.Request.TheVariants.{Execute, Manage}
 use Rattle.scsi_cmd.specs.declared.TheConstants.{TAGS}
 use Rattle.uas_host.specs.declared.Place.{Place}
 use Rattle.uas_host.specs.declared.TdState.{TdState}
 use Rattle.uas_host.specs.declared.TdState.TheVariants.{Pending, Seen, LeftOver, Retired}
-use Rattle.uas_host.specs.declared.HostRequest.{HostRequest}
-use Rattle.uas_host.specs.declared.HostRequest.TheVariants.{Execute as HostExecute, Manage as HostManage}
 use Rattle.uas_host.specs.declared.HostEntry.{HostEntry}
 use Rattle.uas_host.specs.declared.HostClient.{HostClient}
 use Rattle.uas_host.specs.declared.EndedTd.{EndedTd}
+use Rattle.uas_host.specs.declared.Retirement.{Retirement as HostRetirement}
+use Rattle.uas_host.specs.declared.RetirementStage.{RetirementStage as HostStage}
+use Rattle.uas_host.specs.declared.RetirementStage.TheVariants.{Stopping, Moving as HostMoving}
 use Rattle.uas_host.specs.Tags.{place_of}
 use Rattle.uas_host.specs.Events.{command_tag, ended_at}
 use Rattle.bus_core.specs.declared.Td.{Td}
 use Rattle.bus_core.specs.declared.Completion.{Completion}
-use Rattle.bus_core.specs.declared.Completion.TheVariants.{CommandDone, DataDone, StatusDone}
+use Rattle.bus_core.specs.declared.Completion.TheVariants.{CommandDone, DataDone, StatusDone, EngineDone}
 use Rattle.bus_core.specs.Td.{Entry, data_trbs}
+use Rattle.bus_core.specs.declared.Retirement.{Retirement}
+use Rattle.bus_core.specs.declared.RetirementStage.{RetirementStage}
+use Rattle.bus_core.specs.declared.RetirementStage.TheVariants.{StopAsked, StopAnswered, MoveAsked, MoveAnswered}
 use Rattle.bus_core.specs.Part.{Part}
 use Rattle.bus_core.specs.Shared.{Shared, request_direction}
 use Rattle.bus_core.specs.Hosts.{phase_by}
@@ -54,11 +56,11 @@ completion_on DataOut place = DataDone place
 abbrev pub completion_of_td : ℕ → EndedTd → Option Completion
 completion_of_td clients td = option_map (completion_on td.pipe) (place_of clients td.tag)
 
--- the TD that the host finds for an event is the one that it is of
+-- The TD that the host finds for an event is the one that it is of; an event of the controller's own commands is of the retirement.
 abbrev pub completion_of : World → Event → Option Completion
 completion_of world (Transfer pointer residual code endpoint slot) =
     option_and_then (completion_of_td (length world.host.clients)) (ended_at world.lines pointer)
-completion_of world (CommandCompletion pointer code slot) = None
+completion_of world (CommandCompletion pointer code slot) = option_map (λ retirement. EngineDone retirement.place) world.host.retirement
 
 abbrev pub decoded_events : World → List Completion
 decoded_events world = filter_map (completion_of world) world.lines.events.pending
@@ -80,23 +82,18 @@ data_ring Nothing cell = cell.data_out
 data_ring ToHost cell = cell.data_in
 data_ring ToDevice cell = cell.data_out
 
--- what a host's entry asks for
-abbrev pub asked_for : HostRequest → Request
-asked_for (HostExecute op) = Execute op
-asked_for (HostManage task noted) = Manage task noted
-
 -- an entry by its cell and the number of its messages
 abbrev pub decoded_held : ℕ → Cell → HostEntry → Entry
 decoded_held waiting cell held = record {
   task = record {
     ticket = held.ticket;
-    request = asked_for held.request;
+    request = held.request;
     buffer = unwrap_or cell.buffers.lent [];
     phase = phase_by cell.task (1 - waiting) cell.buffers.status;
   };
   command_td = record { state = held.command_td; consumed = 1 - waiting };
   status_td = decoded_td 1 cell.status held.status_td;
-  data_td = option_map (decoded_td (data_trbs (asked_for held.request)) (data_ring (request_direction (asked_for held.request)) cell)) held.data_td;
+  data_td = option_map (decoded_td (data_trbs held.request) (data_ring (request_direction held.request) cell)) held.data_td;
 }
 
 abbrev pub decoded_cell : Cell → ℕ → Option Entry
@@ -126,6 +123,19 @@ decoded_parts world messages client (held ∷ rest) [] = []
 decoded_parts world messages client (held ∷ rest) (unit ∷ units) =
     decoded_part world messages client held unit ∷ decoded_parts world messages (suc client) rest units
 
+-- THE RETIREMENT
+
+-- the command of a retirement was executed where the controller's command ring has it consumed
+abbrev pub stage_by : HostStage → ℕ → RetirementStage
+stage_by Stopping zero = StopAsked
+stage_by Stopping (suc more) = StopAnswered
+stage_by HostMoving zero = MoveAsked
+stage_by HostMoving (suc more) = MoveAnswered
+
+abbrev pub decoded_retirement : World → HostRetirement → Retirement
+decoded_retirement world retirement =
+    record { pipe = retirement.pipe; place = retirement.place; stage = stage_by retirement.stage world.lines.engine.got }
+
 -- the whole
 abbrev pub decoded : World → Shared
 decoded world = record {
@@ -135,6 +145,7 @@ decoded world = record {
   status = world.controller.status;
   data_in = world.controller.data_in;
   data_out = world.controller.data_out;
+  retirement = option_map (decoded_retirement world) world.host.retirement;
 }
 
 -- a world fits what is read back from it

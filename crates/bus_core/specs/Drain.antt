@@ -2,18 +2,26 @@
 use Rattle.std.specs.Prelude.{◌≡◌, ℕ, zero, suc, ◌-◌, ◌*◌, ◌<◌, ◌==◌, Bool, true, false, List, [], ◌∷◌, ◌++◌, length, map, if◌then◌else◌}
 use Rattle.std.specs.List.{range_with_len}
 use Rattle.scsi_cmd.specs.declared.TheConstants.{TAGS}
+use Rattle.stream_array.specs.declared.Pipe.{Pipe}
+use Rattle.stream_array.specs.declared.Pipe.TheVariants.{Status, DataIn, DataOut}
 use Rattle.bus_core.specs.declared.Step.{Step}
-use Rattle.bus_core.specs.declared.Step.TheVariants.{CommandPipe, Data, Status, Event}
+use Rattle.bus_core.specs.declared.Step.TheVariants.{CommandPipe, Data, Status as StatusStep, Engine, Event, Retire}
 use Rattle.bus_core.specs.Shared.{Shared, due, shared_step}
 
 -- every tag of so many clients, rising
 abbrev pub all_tags : ℕ → List ℕ
 all_tags clients = range_with_len 1 (clients * TAGS)
 
--- The tries of a round, in order: the command pipe, the event ring, the data stream of each tag, the status stream of
--- each tag.
+-- the retirements on a pipe, by rising tag
+abbrev pub retirements : ℕ → Pipe → List Step
+retirements clients pipe = map (Retire pipe) (all_tags clients)
+
+-- The tries of a round, in order: the command pipe, the controller's command ring, the event ring, the data stream of each tag, the status
+-- stream of each tag, the retirement of each tag's TD on pipe 2, 3 and 4.
 abbrev pub tries : ℕ → List Step
-tries clients = CommandPipe ∷ Event ∷ [] ++ map Data (all_tags clients) ++ map Status (all_tags clients)
+tries clients =
+    CommandPipe ∷ Engine ∷ Event ∷ [] ++ map Data (all_tags clients) ++ map StatusStep (all_tags clients)
+    ++ retirements clients Status ++ retirements clients DataIn ++ retirements clients DataOut
 
 -- the shared machine, and how many more steps may act
 abbrev pub tried_one : Shared × ℕ → Step → Shared × ℕ
@@ -28,7 +36,11 @@ tried now (step ∷ steps) = tried (tried_one now step) steps
 
 -- neither stream is due of any tag between two others
 abbrev pub AreQuiet : Shared → ℕ → ℕ → Type 0
-AreQuiet state tag next = (other : ℕ) → tag < other → other < next → (due state (Data other) ≡ false) × (due state (Status other) ≡ false)
+AreQuiet state tag next = (other : ℕ) → tag < other → other < next → (due state (Data other) ≡ false) × (due state (StatusStep other) ≡ false)
+
+-- no TD on a pipe is left over of any tag between two others
+abbrev pub AreNotLeftOver : Shared → Pipe → ℕ → ℕ → Type 0
+AreNotLeftOver state pipe tag next = (other : ℕ) → tag < other → other < next → due state (Retire pipe other) ≡ false
 
 -- a whole round
 abbrev pub round : Shared × ℕ → Shared × ℕ

@@ -1,15 +1,16 @@
 -- The world of rings fits a state of the shared machine: what each ring, context, buffer and table has to hold for it.
 use Rattle.std.specs.Prelude.{◌≡◌, ℕ, suc, ◌+◌, ◌-◌, ◌*◌, ◌<◌, ◌≤◌, ◌==◌, if◌then◌else◌, List, [], ◌∷◌, ◌++◌, length, map, slice_get, slice_index, Option, Some}
-use Rattle.std.specs.Prelude.{None}
+use Rattle.std.specs.Prelude.{None, option_map}
 use Rattle.block_unit.specs.BlockMaps.{BlockMaps}
 use Rattle.xhci_trb.specs.declared.Trb.{Trb}
 use Rattle.xhci_trb.specs.declared.Trb.TheVariants.{Normal}
 use Rattle.cycle_ring.specs.Ring.{Ring, pointer_of}
 use Rattle.event_ring.specs.declared.Event.{Event}
-use Rattle.event_ring.specs.declared.Event.TheVariants.{Transfer}
+use Rattle.event_ring.specs.declared.Event.TheVariants.{Transfer, Command as CommandCompletion}
+use Rattle.stream_array.specs.declared.Pipe.{Pipe}
 use Rattle.stream_array.specs.declared.Pipe.TheVariants.{Command, Status, DataIn, DataOut}
-use Rattle.stream_array.specs.declared.TheConstants.{COMMAND_RING_PLACES, STREAM_RING_PLACES}
-use Rattle.stream_array.specs.Rings.{IsLines, stream_ring}
+use Rattle.stream_array.specs.declared.TheConstants.{COMMAND_RING_PLACES, ENGINE_RING_PLACES, STREAM_RING_PLACES}
+use Rattle.stream_array.specs.Rings.{IsLines, LinesState, stream_ring}
 use Rattle.frame_store.specs.Buffers.{IsWhole, held_for}
 use Rattle.scsi_cmd.specs.declared.TheConstants.{TAGS}
 use Rattle.scsi_cmd.specs.Held.{held_at}
@@ -18,13 +19,20 @@ use Rattle.uas_target.specs.Device.{task_of}
 use Rattle.uas_host.specs.declared.Place.{Place}
 use Rattle.uas_host.specs.declared.HostClient.{HostClient}
 use Rattle.uas_host.specs.State.{IsHost}
+use Rattle.uas_host.specs.declared.Retirement.{Retirement as HostRetirement}
+use Rattle.uas_host.specs.declared.RetirementStage.{RetirementStage as HostStage}
+use Rattle.uas_host.specs.declared.RetirementStage.TheVariants.{Stopping, Moving}
+use Rattle.uas_host.specs.Retirement.{move_trb, stop_trb}
 use Rattle.uas_host.specs.Tags.{tag_of}
 use Rattle.uas_host.specs.Tds.{command_buffer_of}
 use Rattle.xhci_ctl.specs.declared.TheConstants.{SUCCESS, SHORT_PACKET, SLOT, STATUS_LENGTH}
 use Rattle.xhci_ctl.specs.Steps.{endpoint_of}
 use Rattle.bus_core.specs.declared.TheConstants.{MAX_CLIENTS}
 use Rattle.bus_core.specs.declared.Completion.{Completion}
-use Rattle.bus_core.specs.declared.Completion.TheVariants.{CommandDone, DataDone, StatusDone}
+use Rattle.bus_core.specs.declared.Completion.TheVariants.{CommandDone, DataDone, StatusDone, EngineDone}
+use Rattle.bus_core.specs.declared.Retirement.{Retirement}
+use Rattle.bus_core.specs.declared.RetirementStage.{RetirementStage}
+use Rattle.bus_core.specs.declared.RetirementStage.TheVariants.{StopAsked, StopAnswered, MoveAsked, MoveAnswered}
 use Rattle.bus_core.specs.Part.{Part}
 use Rattle.bus_core.specs.Shared.{Shared}
 use Rattle.bus_core.specs.Matched.{IsMatched, carried_places}
@@ -56,6 +64,10 @@ unit_len bytes = 16 + slice_index bytes 15
 abbrev pub status_event : Ring → List ℕ → Event
 status_event ring bytes = Transfer (last_pointer ring) (STATUS_LENGTH - unit_len bytes) SHORT_PACKET (endpoint_of Status) SLOT
 
+-- the event of the controller's own command, the first on its command ring
+abbrev pub engine_event : Ring → Event
+engine_event ring = CommandCompletion (pointer_of ENGINE_RING_PLACES ring 0) SUCCESS SLOT
+
 -- The events that wait, as TRBs: the k-th command event points at TRB k of the command pipe, and an event of a stream at the
 -- last TRB of its TD.
 abbrev pub event_texts : World → ℕ → List Completion → List Event
@@ -66,6 +78,7 @@ event_texts world k (DataDone place ∷ rest) =
     data_event (stream_ring world.lines.data_in (tag_of place)) (stream_ring world.lines.data_out (tag_of place)) ∷ event_texts world k rest
 event_texts world k (StatusDone place ∷ rest) =
     status_event (stream_ring world.lines.status (tag_of place)) (held_for world.frames (tag_of place)).status ∷ event_texts world k rest
+event_texts world k (EngineDone place ∷ rest) = engine_event world.lines.engine ∷ event_texts world k rest
 
 -- On the command pipe stand first the TRBs that were taken and whose events wait, then the messages.
 pub record FitsQueues (state : Shared) (world : World) : Type 0 where
@@ -75,10 +88,31 @@ pub record FitsQueues (state : Shared) (world : World) : Type 0 where
 
 -- THE CONTROLLER'S COMMAND RING
 
--- A state has no retirement: none is under way, and no command stands on the controller's command ring.
+-- the host knows which of its two commands is under way, and not whether it was executed
+abbrev pub host_stage : RetirementStage → HostStage
+host_stage StopAsked = Stopping
+host_stage StopAnswered = Stopping
+host_stage MoveAsked = Moving
+host_stage MoveAnswered = Moving
+
+abbrev pub host_retirement : Retirement → HostRetirement
+host_retirement retirement = record { pipe = retirement.pipe; place = retirement.place; stage = host_stage retirement.stage }
+
+-- The command stands alone on the controller's command ring; it is consumed once it was executed. Set TR Dequeue Pointer names the enqueue
+-- place of the stream's ring, where nothing is put before the TD is retired.
+abbrev pub HoldsCommand : LinesState → Pipe → Place → RetirementStage → Type 0
+HoldsCommand lines pipe place StopAsked = HoldsTrbs lines.engine (stop_trb pipe ∷ []) 0
+HoldsCommand lines pipe place StopAnswered = HoldsTrbs lines.engine (stop_trb pipe ∷ []) 1
+HoldsCommand lines pipe place MoveAsked = HoldsTrbs lines.engine (move_trb lines pipe (tag_of place) ∷ []) 0
+HoldsCommand lines pipe place MoveAnswered = HoldsTrbs lines.engine (move_trb lines pipe (tag_of place) ∷ []) 1
+
+abbrev pub HoldsCommandOf : LinesState → Option Retirement → Type 0
+HoldsCommandOf lines None = HoldsTrbs lines.engine [] 0
+HoldsCommandOf lines (Some retirement) = HoldsCommand lines retirement.pipe retirement.place retirement.stage
+
 pub record FitsEngine (state : Shared) (world : World) : Type 0 where
-  pub retirement : world.host.retirement ≡ None
-  pub commands : HoldsTrbs world.lines.engine [] 0
+  pub retirement : world.host.retirement ≡ option_map host_retirement state.retirement
+  pub commands : HoldsCommandOf world.lines state.retirement
 
 -- ONE CLIENT
 
@@ -101,6 +135,13 @@ FitsClient world client None (Some held) part = ⊥
 FitsClient world client (Some unit) None part = ⊥
 FitsClient world client (Some unit) (Some held) None = ⊥
 FitsClient world client (Some unit) (Some held) (Some part) = FitsPart world client unit held part
+
+-- THE STREAMS OF NOBODY
+
+pub record AreUnused (lines : LinesState) (tag : ℕ) : Type 0 where
+  pub status : HoldsTrbs (stream_ring lines.status tag) [] 0
+  pub data_in : HoldsTrbs (stream_ring lines.data_in tag) [] 0
+  pub data_out : HoldsTrbs (stream_ring lines.data_out tag) [] 0
 
 -- THE WHOLE
 
@@ -125,3 +166,5 @@ pub record Fits (state : Shared) (world : World) : Type 0 where
       (slice_get state.parts client)
   -- the device has no task of a tag that is no client's
   pub others : (tag : ℕ) → TAGS * length state.parts < tag → task_of world.device tag ≡ None
+  -- and nothing is on the rings of its streams
+  pub unused : (tag : ℕ) → TAGS * length state.parts < tag → AreUnused world.lines tag

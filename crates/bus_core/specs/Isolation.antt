@@ -9,7 +9,7 @@ use Rattle.solo_model.specs.declared.Label.{Label}
 use Rattle.solo_model.specs.declared.Label.TheVariants.{Submit as SubmitLabel, Carry as CarryLabel, Move as MoveLabel, Send as SendLabel, Settle as SettleLabel}
 use Rattle.solo_model.specs.Solo.{SoloState, solo_run}
 use Rattle.bus_core.specs.declared.Step.{Step}
-use Rattle.bus_core.specs.declared.Step.TheVariants.{Submit, CommandPipe, Data, Status, Event, Take}
+use Rattle.bus_core.specs.declared.Step.TheVariants.{Submit, CommandPipe, Data, Status, Engine, Event, Retire, Take}
 use Rattle.bus_core.specs.declared.Mark.{Mark}
 use Rattle.bus_core.specs.declared.Mark.TheVariants.{Submit as SubmitMark, Carry, Move, Send, Settle, Quiet}
 use Rattle.bus_core.specs.declared.Outcome.{Outcome}
@@ -22,7 +22,9 @@ submit_label index (Submit client tag ticket command) = Some (SubmitLabel index 
 submit_label index CommandPipe = None
 submit_label index (Data tag) = None
 submit_label index (Status tag) = None
+submit_label index Engine = None
 submit_label index Event = None
+submit_label index (Retire pipe tag) = None
 submit_label index (Take client) = None
 
 -- the label of a step with this mark; none where it is Quiet

@@ -1,6 +1,7 @@
 pub mod Td
 pub mod Part
 pub mod Pipes
+pub mod Doorbells
 pub mod Wire
 pub mod Soundness
 pub mod Shared

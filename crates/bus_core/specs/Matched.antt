@@ -20,13 +20,19 @@ use Rattle.uas_host.specs.declared.Place.{Place}
 use Rattle.uas_host.specs.declared.TdState.TheVariants.{Pending}
 use Rattle.bus_core.specs.declared.Td.{Td}
 use Rattle.bus_core.specs.declared.Completion.{Completion}
-use Rattle.bus_core.specs.declared.Completion.TheVariants.{CommandDone, DataDone, StatusDone}
+use Rattle.bus_core.specs.declared.Completion.TheVariants.{CommandDone, DataDone, StatusDone, EngineDone}
 use Rattle.bus_core.specs.declared.Step.{Step}
 use Rattle.bus_core.specs.declared.Step.TheVariants.{CommandPipe, Data, Status, Event}
 use Rattle.bus_core.specs.declared.Mark.TheVariants.{Carry}
-use Rattle.bus_core.specs.Td.{Entry, pushed, is_pending, has_trb, is_awaited, data_trbs}
+use Rattle.bus_core.specs.Td.{Entry, pushed, is_pending, has_trb, is_awaited, data_trbs, trbs_on, td_on, has_trb_on, is_left_over_on}
+use Rattle.bus_core.specs.declared.Retirement.{Retirement}
+use Rattle.bus_core.specs.declared.RetirementStage.{RetirementStage}
+use Rattle.bus_core.specs.declared.RetirementStage.TheVariants.{StopAsked, StopAnswered, MoveAsked, MoveAnswered}
+use Rattle.stream_array.specs.declared.Pipe.{Pipe}
+use Rattle.stream_array.specs.Map.{HasStreams}
+use Rattle.uas_host.specs.Retirement.{same_pipe}
 use Rattle.bus_core.specs.Part.{Part, event_place, seen_by}
-use Rattle.bus_core.specs.Shared.{Shared, opening, due, shared_step}
+use Rattle.bus_core.specs.Shared.{Shared, opening, due, is_asked, is_held, pipe_of, shared_step}
 use Rattle.uas_host.specs.Tags.{place_of}
 use Rattle.bus_core.specs.Replay.{replay}
 use Rattle.bus_core.specs.Bus.{IsPlace}
@@ -57,6 +63,7 @@ carried_places [] = []
 carried_places (CommandDone place ∷ rest) = place ∷ carried_places rest
 carried_places (DataDone place ∷ rest) = carried_places rest
 carried_places (StatusDone place ∷ rest) = carried_places rest
+carried_places (EngineDone place ∷ rest) = carried_places rest
 
 -- the same of data events
 abbrev pub moved_places : List Completion → List Place
@@ -64,6 +71,7 @@ moved_places [] = []
 moved_places (CommandDone place ∷ rest) = moved_places rest
 moved_places (DataDone place ∷ rest) = place ∷ moved_places rest
 moved_places (StatusDone place ∷ rest) = moved_places rest
+moved_places (EngineDone place ∷ rest) = moved_places rest
 
 -- the same of status events
 abbrev pub sent_places : List Completion → List Place
@@ -71,6 +79,15 @@ sent_places [] = []
 sent_places (CommandDone place ∷ rest) = sent_places rest
 sent_places (DataDone place ∷ rest) = sent_places rest
 sent_places (StatusDone place ∷ rest) = place ∷ sent_places rest
+sent_places (EngineDone place ∷ rest) = sent_places rest
+
+-- the same of the controller's own commands
+abbrev pub retired_places : List Completion → List Place
+retired_places [] = []
+retired_places (CommandDone place ∷ rest) = retired_places rest
+retired_places (DataDone place ∷ rest) = retired_places rest
+retired_places (StatusDone place ∷ rest) = retired_places rest
+retired_places (EngineDone place ∷ rest) = place ∷ retired_places rest
 
 -- How many events of a kind wait for a place. Checked by hand: of CommandDone p, StatusDone p, CommandDone q there is
 -- one command event for p, one status event for p and no data event.
@@ -190,10 +207,76 @@ pub record IsMatchedAt (state : Shared) (place : Place) (held : Option Entry) : 
 abbrev pub HaveSlots : List Part → Type 0
 HaveSlots parts = (client : ℕ) → IfSome (slice_get parts client) (λ part. length part.entries ≡ TAGS)
 
+-- THE RETIREMENT
+
+-- an event of the controller's own commands waits exactly where one of them was executed and its event wasn't taken
+abbrev pub answered_place : RetirementStage → Place → List Place
+answered_place StopAsked place = []
+answered_place StopAnswered place = place ∷ []
+answered_place MoveAsked place = []
+answered_place MoveAnswered place = place ∷ []
+
+abbrev pub answered_places : Option Retirement → List Place
+answered_places None = []
+answered_places (Some retirement) = answered_place retirement.stage retirement.place
+
+-- the TD of a place on a pipe is left over; the controller may take a TRB of it
+abbrev pub is_left_over_at : Shared → Pipe → Place → Bool
+is_left_over_at state pipe place = option_map_or (is_left_over_on pipe) (under state.parts place) false
+
+abbrev pub has_trb_at : Shared → Pipe → Place → Bool
+has_trb_at state pipe place = option_map_or (has_trb_on pipe) (under state.parts place) false
+
+-- every TRB of the TD of a place on a pipe was taken, or passed
+abbrev pub is_whole : ℕ → Option Td → Bool
+is_whole trbs None = false
+is_whole trbs (Some td) = td.consumed == trbs
+
+abbrev pub is_whole_on : Pipe → Entry → Bool
+is_whole_on pipe entry = is_whole (trbs_on pipe entry) (td_on pipe entry)
+
+abbrev pub is_whole_at : Shared → Pipe → Place → Bool
+is_whole_at state pipe place = option_map_or (is_whole_on pipe) (under state.parts place) false
+
+-- Stop Endpoint finds the pipe running, and from then on it is stopped; once the controller was moved every TRB of the TD is consumed.
+-- (So of as many clients as there are streams: those alone are rung as a pipe is held no more.)
+abbrev pub IsAtStage : Shared → Pipe → Place → RetirementStage → Type 0
+IsAtStage state pipe place StopAsked = length state.parts ≤ MAX_CLIENTS → (pipe_of state pipe).runs ≡ true
+IsAtStage state pipe place StopAnswered = (pipe_of state pipe).runs ≡ false
+IsAtStage state pipe place MoveAsked = (pipe_of state pipe).runs ≡ false
+IsAtStage state pipe place MoveAnswered = ((pipe_of state pipe).runs ≡ false) × (is_whole_at state pipe place ≡ true)
+
+-- The retirement under way is of a pipe with streams and of a place that is there, whose TD on that pipe is left over.
+pub record IsRetiring (state : Shared) (retirement : Retirement) : Type 0 where
+  pub streams : HasStreams retirement.pipe
+  pub there : IsPlace (length state.parts) retirement.place
+  pub left : is_left_over_at state retirement.pipe retirement.place ≡ true
+  pub stage : IsAtStage state retirement.pipe retirement.place retirement.stage
+
+-- the controller was moved past the place's TD on this pipe, which the host hasn't seen yet
+abbrev pub was_moved : RetirementStage → Bool
+was_moved StopAsked = false
+was_moved StopAnswered = false
+was_moved MoveAsked = false
+was_moved MoveAnswered = true
+
+abbrev pub is_passed : Shared → Pipe → Place → Bool
+is_passed state pipe place =
+    option_map_or (λ retirement. same_pipe retirement.pipe pipe && (same_place retirement.place place && was_moved retirement.stage)) state.retirement false
+
+-- What stands on a pipe for a place. While the pipe isn't held it runs wherever it has a TRB to take, so that a TD that is left over is
+-- retired from a pipe that runs (of as many clients as there are streams). A TD that is left over has a TRB until the controller was moved past it.
+pub record FlowsAt (state : Shared) (pipe : Pipe) (place : Place) : Type 0 where
+  pub runs : length state.parts ≤ MAX_CLIENTS → is_held state pipe ≡ false → has_trb_at state pipe place ≡ true → (pipe_of state pipe).runs ≡ true
+  pub left : is_passed state pipe place ≡ false → is_left_over_at state pipe place ≡ true → has_trb_at state pipe place ≡ true
+
 -- Every place is matched, also one that isn't there: nothing stands at it, so that nothing names it.
 pub record IsMatched (state : Shared) : Type 0 where
   pub slots : HaveSlots state.parts
   pub places : (place : Place) → IsMatchedAt state place (under state.parts place)
+  pub retired : retired_places state.events ≡ answered_places state.retirement
+  pub retiring : IfSome state.retirement (IsRetiring state)
+  pub flows : (pipe : Pipe) (place : Place) → FlowsAt state pipe place
 
 -- WHAT FOLLOWS
 
@@ -202,15 +285,16 @@ pub record IsMatched (state : Shared) : Type 0 where
 abbrev pub pipe_places : Shared → List Place
 pipe_places state = carried_places state.events ++ state.messages
 
--- a client has as many TRBs in the command pipe's ring as it has slots at most, and three events for each slot
+-- a client has as many TRBs in the command pipe's ring as it has slots at most, and three events for each slot; and the controller's own
+-- commands one event
 pub record HasRoom (state : Shared) : Type 0 where
   pub pipe : length (pipe_places state) ≤ TAGS * length state.parts
-  pub events : length state.events ≤ 3 * (TAGS * length state.parts)
+  pub events : length state.events ≤ 3 * (TAGS * length state.parts) + 1
 
 -- the same at 31 clients: a ring of 256 places has room for 254 TRBs, and an event ring of 1,024 places for 1,023 events
 pub record HasRingRoom (state : Shared) : Type 0 where
   pub pipe : length (pipe_places state) ≤ 248
-  pub events : length state.events ≤ 744
+  pub events : length state.events ≤ 745
 
 -- nothing names a place twice
 pub record IsNamedOnce (state : Shared) (place : Place) : Type 0 where
@@ -236,19 +320,33 @@ abbrev pub awaits_event : Completion → Entry → Bool
 awaits_event (CommandDone place) entry = is_awaited entry.command_td 1
 awaits_event (DataDone place) entry = awaits_data (data_trbs entry.task.request) entry.data_td
 awaits_event (StatusDone place) entry = is_awaited entry.status_td 1
+awaits_event (EngineDone place) entry = false
 
--- an event is of such a TD of a place that is there, and the host makes something of it
-pub record IsOwnEvent (parts : List Part) (event : Completion) : Type 0 where
+-- an event of a TD is of such a one, of a place that is there, and the host makes something of it
+pub record IsOwnTdEvent (parts : List Part) (event : Completion) : Type 0 where
   pub entry : Entry
   pub held : under parts (event_place event) ≡ Some entry
   pub there : IsPlace (length parts) (event_place event)
   pub awaits : awaits_event event entry ≡ true
   pub seen : is_some (seen_by event entry) ≡ true
 
+-- an event of the controller's own commands is of the retirement under way, whose command was executed
+pub record IsOwnEngineEvent (state : Shared) (place : Place) : Type 0 where
+  pub retirement : Retirement
+  pub under_way : state.retirement ≡ Some retirement
+  pub place_same : retirement.place ≡ place
+  pub answered : is_asked retirement.stage ≡ false
+
+abbrev pub IsOwnEvent : Shared → Completion → Type 0
+IsOwnEvent state (CommandDone place) = IsOwnTdEvent state.parts (CommandDone place)
+IsOwnEvent state (DataDone place) = IsOwnTdEvent state.parts (DataDone place)
+IsOwnEvent state (StatusDone place) = IsOwnTdEvent state.parts (StatusDone place)
+IsOwnEvent state (EngineDone place) = IsOwnEngineEvent state place
+
 -- every message and every event that waits is of an entry that waits for it: none is stray
 pub record HasNoStray (state : Shared) : Type 0 where
   pub messages : (at : ℕ) (place : Place) → slice_get state.messages at ≡ Some place → IsOwnMessage state.parts place
-  pub events : (at : ℕ) (event : Completion) → slice_get state.events at ≡ Some event → IsOwnEvent state.parts event
+  pub events : (at : ℕ) (event : Completion) → slice_get state.events at ≡ Some event → IsOwnEvent state event
 
 -- a TRB in the command pipe's ring is of a command TD that is pending
 pub record IsPendingCommand (parts : List Part) (place : Place) : Type 0 where
@@ -296,10 +394,16 @@ abbrev pub CarryActs : Shared → Type 0
 CarryActs state =
     (place : Place) (rest : List Place) → state.messages ≡ place ∷ rest → (shared_step state CommandPipe).1.mark ≡ Carry (suc place.slot)
 
--- and the host always sees the first event: what stood there becomes what the event makes of it
+-- and the host always sees the first event: of a TD, what stood there becomes what the event makes of it
+abbrev pub is_td_event : Completion → Bool
+is_td_event (CommandDone place) = true
+is_td_event (DataDone place) = true
+is_td_event (StatusDone place) = true
+is_td_event (EngineDone place) = false
+
 abbrev pub EventActs : Shared → Type 0
 EventActs state =
-    (event : Completion) (rest : List Completion) → state.events ≡ event ∷ rest
+    (event : Completion) (rest : List Completion) → state.events ≡ event ∷ rest → is_td_event event ≡ true
     → (old : Entry) × (new : Entry) × (under state.parts (event_place event) ≡ Some old) × (seen_by event old ≡ Some new)
     × (under (shared_step state Event).0.parts (event_place event) ≡ Some new)
 

@@ -12,7 +12,8 @@ use Rattle.uas_host.specs.declared.Handled.{Handled}
 use Rattle.uas_host.specs.declared.Handled.TheVariants.{Matched, Engine, Stray}
 use Rattle.xhci_ctl.specs.declared.Acted.{Acted}
 use Rattle.xhci_ctl.specs.declared.Acted.TheVariants.{Acted as ActedOn, Idle}
-use Rattle.bus_core.specs.Shared.{acceptance, idle, refusal}
+use Rattle.uas_host.specs.declared.Retirement.{Retirement}
+use Rattle.bus_core.specs.Shared.{acceptance, idle, refusal, ringing}
 use Rattle.bus_core.specs.WorldDue.{marked}
 
 -- The client whose tag it is, and the tag's index among that client's. Worked: tag 18 is client 2's, its index is 2.
@@ -32,11 +33,24 @@ abbrev pub submitted_as : ℕ → ℕ → List ℕ → Result (Unit {0}) (Submit
 submitted_as client tag doors (Ok done) = acceptance client (Submit (index_of tag)) doors
 submitted_as client tag doors (Err refused) = refusal client refused.0 refused.1
 
--- the event that the host took in
-abbrev pub handled_as : Handled → Outcome
-handled_as (Matched tag) = marked (owner_of tag) Quiet
-handled_as Engine = idle
-handled_as Stray = idle
+-- what the controller did of its own command ring is the retirement's
+abbrev pub engine_of : Option Retirement → Outcome
+engine_of None = idle
+engine_of (Some retirement) = marked retirement.place.client Quiet
+
+abbrev pub executed_as : Option Retirement → Acted → Outcome
+executed_as retirement (ActedOn tag) = engine_of retirement
+executed_as retirement Idle = idle
+
+-- the event that the host took in, with the doorbells that it rang
+abbrev pub retirement_seen : Option Retirement → List ℕ → Outcome
+retirement_seen None doors = idle
+retirement_seen (Some retirement) doors = ringing retirement.place.client doors
+
+abbrev pub handled_as : Option Retirement → List ℕ → Handled → Outcome
+handled_as retirement doors (Matched tag) = ringing (owner_of tag) doors
+handled_as retirement doors Engine = retirement_seen retirement doors
+handled_as retirement doors Stray = idle
 
 -- a reply settles the ticket under its tag
 abbrev pub mark_by : Reply → Mark
@@ -51,4 +65,4 @@ mark_of (Some reply) = mark_by reply
 -- a client took a reply, or none came
 abbrev pub replying : ℕ → Option Reply → Outcome
 replying client reply =
-    record { acted = true; owner = Some client; mark = mark_of reply; reply = reply; refused = None; doors = record { items = [] } }
+    record { acted = true; owner = Some client; mark = mark_of reply; reply = reply; refused = None; doors = [] }

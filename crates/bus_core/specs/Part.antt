@@ -3,6 +3,7 @@ use Rattle.std.specs.Prelude.{ℕ, suc, ◌+◌, ◌==◌, Bool, true, false, Li
 use Rattle.std.specs.Prelude.{map, option_map, replicate}
 use Rattle.block_unit.specs.BlockMaps.{BlockMaps}
 use Rattle.scsi_cmd.specs.declared.Command.{Command}
+use Rattle.stream_array.specs.declared.Pipe.{Pipe}
 use Rattle.scsi_cmd.specs.declared.Reply.{Reply}
 use Rattle.scsi_cmd.specs.declared.Request.{Request}
 use Rattle.scsi_cmd.specs.declared.Request.TheVariants.{Execute, Manage}
@@ -20,11 +21,11 @@ use Rattle.uas_host.specs.declared.Place.{Place}
 use Rattle.bus_core.specs.declared.Td.{Td}
 use Rattle.bus_core.specs.Td.{Entry}
 use Rattle.bus_core.specs.declared.Completion.{Completion}
-use Rattle.bus_core.specs.declared.Completion.TheVariants.{CommandDone, DataDone, StatusDone}
+use Rattle.bus_core.specs.declared.Completion.TheVariants.{CommandDone, DataDone, StatusDone, EngineDone}
 use Rattle.bus_core.specs.declared.Mark.{Mark}
 use Rattle.bus_core.specs.declared.Mark.TheVariants.{Carry, Move, Send, Settle, Quiet}
 use Rattle.uas_host.specs.Tags.{tag_of}
-use Rattle.bus_core.specs.Td.{pushed, data_trbs, is_awaited, with_trb_taken, with_event_seen, data_after_status, is_ready}
+use Rattle.bus_core.specs.Td.{pushed, data_trbs, is_awaited, with_trb_taken, with_event_seen, data_after_status, is_ready, passed_on, retired_on}
 
 -- a client's number, unit, entries by slot, least ticket, and ready slots in order
 pub record Part : Type 0 where
@@ -182,16 +183,18 @@ seen_status entry =
     then Some (record entry { status_td = with_event_seen entry.status_td; data_td = data_after_status entry.task.phase entry.data_td })
     else None
 
--- which TD an event is of
+-- Which TD an event is of. An event of the controller's own commands is of none that the host waits for.
 abbrev pub seen_by : Completion → Entry → Option Entry
 seen_by (CommandDone place) entry = seen_command entry
 seen_by (DataDone place) entry = seen_data entry
 seen_by (StatusDone place) entry = seen_status entry
+seen_by (EngineDone place) entry = None
 
 abbrev pub event_place : Completion → Place
 event_place (CommandDone place) = place
 event_place (DataDone place) = place
 event_place (StatusDone place) = place
+event_place (EngineDone place) = place
 
 -- a command that is ready now is the last of the ready ones
 abbrev pub ready_after : List ℕ → ℕ → Entry → List ℕ
@@ -206,6 +209,25 @@ seen_entry part slot (Some entry) =
 abbrev pub event_act : Completion → Part → Act
 event_act event part =
     seen_entry part (event_place event).slot (option_and_then (seen_by event) (held_at part.entries (event_place event).slot))
+
+-- RETIREMENT
+
+-- Stop Endpoint changes nothing of the client
+abbrev pub stop_act : Place → Part → Act
+stop_act place part = record { part = part; event = Some (EngineDone place); mark = Quiet; reply = None }
+
+-- Set TR Dequeue Pointer moves the controller past the TD that is retired
+abbrev pub passed_slot : Pipe → Part → Place → Option Entry → Act
+passed_slot pipe part place None = nothing part
+passed_slot pipe part place (Some entry) =
+    record { part = with_entry part place.slot (passed_on pipe entry); event = Some (EngineDone place); mark = Quiet; reply = None }
+
+abbrev pub pass_act : Pipe → Place → Part → Act
+pass_act pipe place part = passed_slot pipe part place (held_at part.entries place.slot)
+
+-- the host retires the TD, as it takes that command's event
+abbrev pub retire_act : Pipe → Place → Part → Act
+retire_act pipe place part = seen_entry part place.slot (option_and_then (retired_on pipe) (held_at part.entries place.slot))
 
 -- TAKE
 

@@ -9,7 +9,7 @@ use Rattle.scsi_cmd.specs.Submission.{first_submit_fault}
 use Rattle.solo_model.specs.declared.Label.{Label}
 use Rattle.solo_model.specs.Solo.{SoloState, solo_step, is_command_index, opening as solo_opening}
 use Rattle.bus_core.specs.declared.Step.{Step}
-use Rattle.bus_core.specs.declared.Step.TheVariants.{Submit, CommandPipe, Data, Status, Event, Take}
+use Rattle.bus_core.specs.declared.Step.TheVariants.{Submit, CommandPipe, Data, Status, Engine, Event, Retire, Take}
 use Rattle.bus_core.specs.declared.Refusal.{Refusal}
 use Rattle.bus_core.specs.declared.Outcome.{Outcome}
 use Rattle.bus_core.specs.Shared.{Shared, refusal, shared_step}
@@ -57,7 +57,9 @@ is_submission (Submit client tag ticket command) = true
 is_submission CommandPipe = false
 is_submission (Data tag) = false
 is_submission (Status tag) = false
+is_submission Engine = false
 is_submission Event = false
+is_submission (Retire pipe tag) = false
 is_submission (Take client) = false
 
 -- Nothing but a submission is refused.
@@ -79,7 +81,9 @@ RefusedAsOwn clients client own (Submit owner tag ticket command) outcome =
 RefusedAsOwn clients client own CommandPipe outcome = Unit {0}
 RefusedAsOwn clients client own (Data tag) outcome = Unit {0}
 RefusedAsOwn clients client own (Status tag) outcome = Unit {0}
+RefusedAsOwn clients client own Engine outcome = Unit {0}
 RefusedAsOwn clients client own Event outcome = Unit {0}
+RefusedAsOwn clients client own (Retire pipe tag) outcome = Unit {0}
 RefusedAsOwn clients client own (Take owner) outcome = Unit {0}
 
 -- each submission of this client was refused as its own state has it, which goes by its own labels alone

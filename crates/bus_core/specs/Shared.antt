@@ -1,8 +1,12 @@
 -- The shared machine: many clients over one controller and one device, without rings or bytes.
-use Rattle.std.specs.Prelude.{ℕ, suc, Bool, true, false, ◌&&◌, if◌then◌else◌, List, [], ◌∷◌, ◌++◌, length, slice_get, slice_set, Option, Some, None}
+use Rattle.std.specs.Prelude.{ℕ, suc, Bool, true, false, ◌&&◌, if◌then◌else◌, List, [], ◌∷◌, ◌++◌, filter, map, length, slice_get, slice_set, Option, Some, None, is_none}
 use Rattle.std.specs.Prelude.{option_to_list}
+use Rattle.std.specs.List.{range_with_len}
 use Rattle.std.specs.Option.{option_map_or}
 use Rattle.block_unit.specs.BlockMaps.{BlockMaps}
+use Rattle.stream_array.specs.declared.Pipe.{Pipe}
+use Rattle.stream_array.specs.declared.Pipe.TheVariants.{Command as CommandPipeName, Status as StatusPipe, DataIn, DataOut}
+use Rattle.stream_array.specs.declared.TheConstants.{STREAMS}
 use Rattle.scsi_cmd.specs.declared.Command.{Command}
 use Rattle.scsi_cmd.specs.declared.Direction.{Direction}
 use Rattle.scsi_cmd.specs.declared.Direction.TheVariants.{Nothing, ToHost, ToDevice}
@@ -19,20 +23,28 @@ use Rattle.uas_host.specs.declared.Place.{Place}
 use Rattle.bus_core.specs.declared.Td.{Td}
 use Rattle.bus_core.specs.Td.{Entry}
 use Rattle.bus_core.specs.declared.Completion.{Completion}
+use Rattle.bus_core.specs.declared.Completion.TheVariants.{CommandDone, DataDone, StatusDone, EngineDone}
+use Rattle.bus_core.specs.declared.Retirement.{Retirement}
+use Rattle.bus_core.specs.declared.RetirementStage.{RetirementStage}
+use Rattle.bus_core.specs.declared.RetirementStage.TheVariants.{StopAsked, StopAnswered, MoveAsked, MoveAnswered}
 use Rattle.xhci_ctl.specs.declared.PipeState.{PipeState}
 use Rattle.bus_core.specs.declared.Mark.{Mark}
 use Rattle.bus_core.specs.declared.Mark.TheVariants.{Submit as SubmitMark, Quiet}
 use Rattle.bus_core.specs.declared.Step.{Step}
-use Rattle.bus_core.specs.declared.Step.TheVariants.{Submit, CommandPipe, Data, Status, Event, Take}
+use Rattle.bus_core.specs.declared.Step.TheVariants.{Submit, CommandPipe, Data, Status, Engine, Event, Retire, Take}
 use Rattle.bus_core.specs.declared.Outcome.{Outcome}
 use Rattle.uas_host.specs.Tags.{place_of, command_slot}
-use Rattle.bus_core.specs.Td.{has_trb, data_trbs}
-use Rattle.bus_core.specs.Pipes.{submission_doors}
-use Rattle.xhci_ctl.specs.Pipes.{new_pipe, rung_at, is_open}
-use Rattle.bus_core.specs.Part.{Part, Act, new_part, fault_at, submitted_part, carry_act, move_act, send_act, event_act, event_place, take_act}
+use Rattle.uas_host.specs.Doors.{door, submission_doors, target_of}
+use Rattle.uas_host.specs.Retirement.{same_pipe}
+pub use Rattle.bus_core.specs.Td.{has_data_trb, request_direction}
+use Rattle.bus_core.specs.Td.{has_trb, has_trb_on, data_trbs, is_left_over_on}
+use Rattle.bus_core.specs.Pipes.{all_rung, rung_unless}
+use Rattle.xhci_ctl.specs.Pipes.{new_pipe, is_open}
+use Rattle.xhci_ctl.specs.Engine.{stopped_pipe}
+use Rattle.bus_core.specs.Part.{Part, Act, new_part, fault_at, submitted_part, carry_act, move_act, send_act, event_act, event_place, take_act, stop_act, pass_act, retire_act}
 
 -- each client's part by number; the messages in the command pipe and the events not yet taken, the oldest first; the
--- pipes 2 to 4
+-- pipes 2 to 4; and the retirement under way
 pub record Shared : Type 0 where
   pub parts : List Part
   pub messages : List Place
@@ -40,6 +52,7 @@ pub record Shared : Type 0 where
   pub status : PipeState
   pub data_in : PipeState
   pub data_out : PipeState
+  pub retirement : Option Retirement
 
 -- the parts of new clients, by number from this one on
 abbrev pub new_parts : ℕ → List BlockMaps → List Part
@@ -55,23 +68,43 @@ opening units = record {
   status = new_pipe;
   data_in = new_pipe;
   data_out = new_pipe;
+  retirement = None;
 }
+
+-- THE PIPES
+
+-- the state of a pipe; the command pipe, which has no streams, always runs
+abbrev pub pipe_of : Shared → Pipe → PipeState
+pipe_of state CommandPipeName = new_pipe
+pipe_of state StatusPipe = state.status
+pipe_of state DataIn = state.data_in
+pipe_of state DataOut = state.data_out
+
+abbrev pub with_pipe : Shared → Pipe → PipeState → Shared
+with_pipe state CommandPipeName pipe = state
+with_pipe state StatusPipe pipe = record state { status = pipe }
+with_pipe state DataIn pipe = record state { data_in = pipe }
+with_pipe state DataOut pipe = record state { data_out = pipe }
+
+-- A pipe is held while a retirement on it is under way: the host pushes TDs and rings no doorbell of it.
+abbrev pub is_held : Shared → Pipe → Bool
+is_held state pipe = option_map_or (λ retirement. same_pipe retirement.pipe pipe) state.retirement false
 
 -- OUTCOMES
 
 -- a step that wasn't due
 abbrev pub idle : Outcome
-idle = record { acted = false; owner = None; mark = Quiet; reply = None; refused = None; doors = record { items = [] } }
+idle = record { acted = false; owner = None; mark = Quiet; reply = None; refused = None; doors = [] }
 
 -- the outcome of an act of this client
 abbrev pub outcome_of : ℕ → Act → Outcome
 outcome_of client act =
-    record { acted = true; owner = Some client; mark = act.mark; reply = act.reply; refused = None; doors = record { items = [] } }
+    record { acted = true; owner = Some client; mark = act.mark; reply = act.reply; refused = None; doors = [] }
 
 -- the outcome of a step that found no such client
 abbrev pub unmoved : ℕ → Outcome
 unmoved client =
-    record { acted = true; owner = Some client; mark = Quiet; reply = None; refused = None; doors = record { items = [] } }
+    record { acted = true; owner = Some client; mark = Quiet; reply = None; refused = None; doors = [] }
 
 -- a refused submission is Quiet, and hands the command back
 abbrev pub refusal : ℕ → SubmitFault → Command → Outcome
@@ -82,13 +115,18 @@ refusal client fault command =
       mark = Quiet;
       reply = None;
       refused = Some (record { fault = fault; command = command });
-      doors = record { items = [] };
+      doors = [];
     }
+
+-- a step that acted for a client, told nothing and rang these doorbells
+abbrev pub ringing : ℕ → List ℕ → Outcome
+ringing client doors =
+    record { acted = true; owner = Some client; mark = Quiet; reply = None; refused = None; doors = doors }
 
 -- an accepted submission of this mark rings these doorbells
 abbrev pub acceptance : ℕ → Mark → List ℕ → Outcome
 acceptance client mark doors =
-    record { acted = true; owner = Some client; mark = mark; reply = None; refused = None; doors = record { items = doors } }
+    record { acted = true; owner = Some client; mark = mark; reply = None; refused = None; doors = doors }
 
 -- DUE
 
@@ -125,14 +163,6 @@ is_data_open state tag Nothing = false
 is_data_open state tag ToHost = is_open state.data_in tag
 is_data_open state tag ToDevice = is_open state.data_out tag
 
-abbrev pub request_direction : Request → Direction
-request_direction (Execute op) = direction_of op
-request_direction (Manage what noted) = Nothing
-
-abbrev pub has_data_trb : ℕ → Option Td → Bool
-has_data_trb trbs None = false
-has_data_trb trbs (Some td) = has_trb td trbs
-
 -- the data stream of the tag is armed, and the target gives or takes on it
 abbrev pub data_is_due : Shared → ℕ → Entry → Bool
 data_is_due state tag entry =
@@ -151,13 +181,26 @@ is_some_of (x ∷ xs) = true
 abbrev pub has_ready : Part → Bool
 has_ready part = is_some_of part.ready
 
+-- the controller's command ring has the retirement's command
+abbrev pub is_asked : RetirementStage → Bool
+is_asked StopAsked = true
+is_asked StopAnswered = false
+is_asked MoveAsked = true
+is_asked MoveAnswered = false
+
+-- a retirement of the tag's TD on a pipe may begin: none is under way, and the TD is left over
+abbrev pub retire_is_due : Shared → Pipe → ℕ → Bool
+retire_is_due state pipe tag = is_none state.retirement && place_fact state tag (is_left_over_on pipe)
+
 -- where a step acts; elsewhere it is idle
 abbrev pub due : Shared → Step → Bool
 due state (Submit client tag ticket command) = true
 due state CommandPipe = is_some_of state.messages
 due state (Data tag) = place_fact state tag (data_is_due state tag)
 due state (Status tag) = place_fact state tag (status_is_due state tag)
+due state Engine = option_map_or (λ retirement. is_asked retirement.stage) state.retirement false
 due state Event = is_some_of state.events
+due state (Retire pipe tag) = retire_is_due state pipe tag
 due state (Take client) = part_fact state client has_ready
 
 -- STEPS
@@ -180,11 +223,17 @@ abbrev pub routed_by_tag : Shared → (Place → Part → Act) → Option Place 
 routed_by_tag state act None = (state, idle)
 routed_by_tag state act (Some place) = routed state place.client (act place)
 
--- the doorbells of a submission arm its status stream and its data stream
+-- the doorbells of a submission arm its status stream and its data stream, those of a held pipe apart
 abbrev pub with_streams_rung : Shared → Direction → ℕ → Shared
-with_streams_rung state Nothing tag = record state { status = rung_at state.status tag }
-with_streams_rung state ToHost tag = record state { status = rung_at state.status tag; data_in = rung_at state.data_in tag }
-with_streams_rung state ToDevice tag = record state { status = rung_at state.status tag; data_out = rung_at state.data_out tag }
+with_streams_rung state Nothing tag = record state { status = rung_unless (is_held state StatusPipe) state.status tag }
+with_streams_rung state ToHost tag = record state {
+  status = rung_unless (is_held state StatusPipe) state.status tag;
+  data_in = rung_unless (is_held state DataIn) state.data_in tag;
+}
+with_streams_rung state ToDevice tag = record state {
+  status = rung_unless (is_held state StatusPipe) state.status tag;
+  data_out = rung_unless (is_held state DataOut) state.data_out tag;
+}
 
 abbrev pub accepted : Shared → Part → Place → ℕ → ℕ → Command → Shared × Outcome
 accepted state part place tag ticket command = (
@@ -192,7 +241,7 @@ accepted state part place tag ticket command = (
     parts = slice_set state.parts place.client (submitted_part part place.slot ticket command);
     messages = state.messages ++ place ∷ [];
   },
-  acceptance place.client (SubmitMark (suc place.slot)) (submission_doors (direction_of command.op) tag),
+  acceptance place.client (SubmitMark (suc place.slot)) (submission_doors (is_held state) (direction_of command.op) tag),
 )
 
 abbrev pub answered : Shared → Part → Place → ℕ → ℕ → Command → Option SubmitFault → Shared × Outcome
@@ -219,17 +268,78 @@ abbrev pub carry_step : Shared → List Place → Shared × Outcome
 carry_step state [] = (state, idle)
 carry_step state (place ∷ rest) = routed (record state { messages = rest }) place.client (carry_act place)
 
+-- RETIREMENT (xHCI 4.6.9 and 4.6.10)
+
+abbrev pub at_stage : Shared → Retirement → RetirementStage → Shared
+at_stage state retirement stage = record state { retirement = Some (record retirement { stage = stage }) }
+
+-- The controller executes the command that waits: Stop Endpoint stops the pipe and disarms its streams, Set TR Dequeue Pointer moves it
+-- past the TD.
+abbrev pub engine_did : Shared → Retirement → RetirementStage → Shared × Outcome
+engine_did state retirement StopAsked =
+    routed (at_stage (with_pipe state retirement.pipe stopped_pipe) retirement StopAnswered) retirement.place.client (stop_act retirement.place)
+engine_did state retirement StopAnswered = (state, idle)
+engine_did state retirement MoveAsked =
+    routed (at_stage state retirement MoveAnswered) retirement.place.client (pass_act retirement.pipe retirement.place)
+engine_did state retirement MoveAnswered = (state, idle)
+
+abbrev pub engine_step : Shared → Option Retirement → Shared × Outcome
+engine_step state None = (state, idle)
+engine_step state (Some retirement) = engine_did state retirement retirement.stage
+
+-- a retirement begins: Stop Endpoint is put, and the controller's own doorbell rung
+abbrev pub retire_step : Shared → Pipe → Option Place → Shared × Outcome
+retire_step state pipe None = (state, idle)
+retire_step state pipe (Some place) =
+    (record state { retirement = Some (record { pipe = pipe; place = place; stage = StopAsked }) }, ringing place.client (0 ∷ []))
+
+-- the streams of a pipe with pending TRBs, rising
+abbrev pub streams_pending : Shared → Pipe → List ℕ
+streams_pending state pipe = filter (λ tag. place_fact state tag (has_trb_on pipe)) (range_with_len 1 STREAMS)
+
+-- the pipe is held no more: each of its streams with pending TRBs is rung
+abbrev pub resumed : Pipe → Shared × Outcome → Shared × Outcome
+resumed pipe after = (
+  with_pipe after.0 pipe (all_rung (pipe_of after.0 pipe) (streams_pending after.0 pipe)),
+  record after.1 { doors = map (door (target_of pipe)) (streams_pending after.0 pipe) },
+)
+
+-- The host takes the event of the controller's command: Set TR Dequeue Pointer follows Stop Endpoint, and after it the TD is retired.
+-- No event waits while a command does.
+abbrev pub stage_seen : Shared → Retirement → RetirementStage → Shared × Outcome
+stage_seen state retirement StopAsked = (state, unmoved retirement.place.client)
+stage_seen state retirement StopAnswered = (at_stage state retirement MoveAsked, ringing retirement.place.client (0 ∷ []))
+stage_seen state retirement MoveAsked = (state, unmoved retirement.place.client)
+stage_seen state retirement MoveAnswered =
+    resumed retirement.pipe
+    (routed (record state { retirement = None }) retirement.place.client (retire_act retirement.pipe retirement.place))
+
+abbrev pub engine_seen : Shared → Place → Option Retirement → Shared × Outcome
+engine_seen state place None = (state, unmoved place.client)
+engine_seen state place (Some retirement) = stage_seen state retirement retirement.stage
+
+-- THE EVENTS
+
+-- the host takes an event that has left the event ring
+abbrev pub event_seen : Shared → Completion → Shared × Outcome
+event_seen state (CommandDone place) = routed state place.client (event_act (CommandDone place))
+event_seen state (DataDone place) = routed state place.client (event_act (DataDone place))
+event_seen state (StatusDone place) = routed state place.client (event_act (StatusDone place))
+event_seen state (EngineDone place) = engine_seen state place state.retirement
+
 -- the first event is taken
 abbrev pub event_step : Shared → List Completion → Shared × Outcome
 event_step state [] = (state, idle)
-event_step state (event ∷ rest) = routed (record state { events = rest }) (event_place event).client (event_act event)
+event_step state (event ∷ rest) = event_seen (record state { events = rest }) event
 
 abbrev pub due_step : Shared → Step → Shared × Outcome
 due_step state (Submit client tag ticket command) = submit_step state client tag ticket command
 due_step state CommandPipe = carry_step state state.messages
 due_step state (Data tag) = routed_by_tag state move_act (place_of (length state.parts) tag)
 due_step state (Status tag) = routed_by_tag state send_act (place_of (length state.parts) tag)
+due_step state Engine = engine_step state state.retirement
 due_step state Event = event_step state state.events
+due_step state (Retire pipe tag) = retire_step state pipe (place_of (length state.parts) tag)
 due_step state (Take client) = routed state client (take_act client)
 
 -- One step of the shared machine: the state after it and its outcome.

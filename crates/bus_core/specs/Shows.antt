@@ -7,7 +7,7 @@ use Rattle.event_ring.specs.declared.Event.TheVariants.{Transfer, Command as Com
 use Rattle.stream_array.specs.declared.Pipe.{Pipe}
 use Rattle.stream_array.specs.declared.Pipe.TheVariants.{Command, Status, DataIn, DataOut}
 use Rattle.stream_array.specs.declared.Dequeue.{Dequeue}
-use Rattle.stream_array.specs.declared.TheConstants.{COMMAND_RING_PLACES, STREAM_RING_PLACES}
+use Rattle.stream_array.specs.declared.TheConstants.{COMMAND_RING_PLACES, ENGINE_RING_PLACES, STREAM_RING_PLACES}
 use Rattle.stream_array.specs.Contexts.{Contexts, entry_of}
 use Rattle.stream_array.specs.Map.{HasRing, HasStreams}
 use Rattle.stream_array.specs.Rings.{LinesState, ShowsRings, ring_of, stream_ring}
@@ -15,13 +15,17 @@ use Rattle.scsi_cmd.specs.declared.TheConstants.{TAGS}
 use Rattle.uas_host.specs.declared.Place.{Place}
 use Rattle.uas_host.specs.declared.TdState.{TdState}
 use Rattle.uas_host.specs.declared.TdState.TheVariants.{Pending, Seen, LeftOver, Retired}
+use Rattle.uas_host.specs.Retirement.{move_trb, stop_trb}
 use Rattle.uas_host.specs.Tags.{tag_of}
 use Rattle.uas_host.specs.Tds.{data_td, status_td}
 use Rattle.xhci_ctl.specs.declared.TheConstants.{SUCCESS, SHORT_PACKET}
 use Rattle.xhci_ctl.specs.Steps.{endpoint_of}
 use Rattle.bus_core.specs.declared.Td.{Td}
 use Rattle.bus_core.specs.declared.Completion.{Completion}
-use Rattle.bus_core.specs.declared.Completion.TheVariants.{CommandDone, DataDone, StatusDone}
+use Rattle.bus_core.specs.declared.Completion.TheVariants.{CommandDone, DataDone, StatusDone, EngineDone}
+use Rattle.bus_core.specs.declared.Retirement.{Retirement}
+use Rattle.bus_core.specs.declared.RetirementStage.{RetirementStage}
+use Rattle.bus_core.specs.declared.RetirementStage.TheVariants.{StopAsked, StopAnswered, MoveAsked, MoveAnswered}
 use Rattle.bus_core.specs.Td.{Entry}
 use Rattle.bus_core.specs.Shared.{Shared, request_direction}
 use Rattle.bus_core.specs.Matched.{request_bytes, under}
@@ -30,7 +34,7 @@ use Rattle.bus_core.specs.Fits.{command_trb, last_pointer}
 
 -- EVENTS
 
--- what an event tells: its pointer, its completion code, its endpoint
+-- what an event tells: its pointer, its completion code, its endpoint; an event of the controller's own commands is of none, 0
 pub record Tells : Type 0 where
   pub pointer : ℕ
   pub code : ℕ
@@ -41,12 +45,16 @@ tells pointer code pipe = record { pointer = pointer; code = code; endpoint = en
 
 abbrev pub told_in : Event → Option Tells
 told_in (Transfer pointer residual code endpoint slot) = Some (record { pointer = pointer; code = code; endpoint = endpoint })
-told_in (CommandCompletion pointer code slot) = None
+told_in (CommandCompletion pointer code slot) = Some (record { pointer = pointer; code = code; endpoint = 0 })
 
 -- the event of a data TD, which is on one of these two rings
 abbrev pub data_tells : Ring → Ring → Tells
 data_tells data_in data_out =
     if length data_in.put == 0 then tells (last_pointer data_out) SUCCESS DataOut else tells (last_pointer data_in) SUCCESS DataIn
+
+-- the event of the first command on the controller's command ring
+abbrev pub engine_tells : Ring → Tells
+engine_tells ring = record { pointer = pointer_of ENGINE_RING_PLACES ring 0; code = SUCCESS; endpoint = 0 }
 
 -- What the events tell that wait, the oldest first: the k-th command event points at TRB k of the command pipe's ring, and an
 -- event of a stream at the last TRB of its TD.
@@ -55,6 +63,7 @@ tells_of lines k [] = []
 tells_of lines k (CommandDone place ∷ rest) = Some (tells (pointer_of COMMAND_RING_PLACES lines.command k) SUCCESS Command) ∷ tells_of lines (suc k) rest
 tells_of lines k (DataDone place ∷ rest) =
     Some (data_tells (stream_ring lines.data_in (tag_of place)) (stream_ring lines.data_out (tag_of place))) ∷ tells_of lines k rest
+tells_of lines k (EngineDone place ∷ rest) = Some (engine_tells lines.engine) ∷ tells_of lines k rest
 tells_of lines k (StatusDone place ∷ rest) = Some (tells (last_pointer (stream_ring lines.status (tag_of place))) SHORT_PACKET Status) ∷ tells_of lines k rest
 
 -- TDS
@@ -95,12 +104,26 @@ pub record ShowsPlace (lines : LinesState) (place : Place) (held : Option Entry)
   pub data_in : pending_in (stream_ring lines.data_in (tag_of place)) ≡ data_in_left place held
   pub data_out : pending_in (stream_ring lines.data_out (tag_of place)) ≡ data_out_left place held
 
+-- THE CONTROLLER'S COMMAND RING
+
+-- the command that the controller may execute
+abbrev pub commands_at : LinesState → Pipe → Place → RetirementStage → List Trb
+commands_at lines pipe place StopAsked = stop_trb pipe ∷ []
+commands_at lines pipe place StopAnswered = []
+commands_at lines pipe place MoveAsked = move_trb lines pipe (tag_of place) ∷ []
+commands_at lines pipe place MoveAnswered = []
+
+abbrev pub commands_of : LinesState → Option Retirement → List Trb
+commands_of lines None = []
+commands_of lines (Some retirement) = commands_at lines retirement.pipe retirement.place retirement.stage
+
 -- THE WHOLE
 
--- The command pipe's ring has a TRB with the tag's buffer for each message, the event ring an event for each event, and the
--- streams of each place that is there what is left of its TDs; all in order.
+-- The command pipe's ring has a TRB with the tag's buffer for each message, the controller's command ring the command of the
+-- retirement that wasn't executed yet, the event ring an event for each event, and the streams of each place that is there what is left of its TDs; all in order.
 pub record ShowsShared (state : Shared) (lines : LinesState) : Type 0 where
   pub messages : pending_in lines.command ≡ map command_trb state.messages
+  pub commands : pending_in lines.engine ≡ commands_of lines state.retirement
   pub events : map told_in lines.events.pending ≡ tells_of lines 0 state.events
   pub places : (place : Place) → place.client < length state.parts → place.slot < TAGS → ShowsPlace lines place (under state.parts place)
 

@@ -1,6 +1,10 @@
 -- Transfer descriptors (xHCI 4.11): how far the controller and the host are with one.
-use Rattle.std.specs.Prelude.{ℕ, ◌+◌, ◌/◌, ◌==◌, nat_lt, Bool, true, false, ◌&&◌, if◌then◌else◌, Option, Some, None}
-use Rattle.scsi_cmd.specs.Op.{moved_bytes}
+use Rattle.std.specs.Prelude.{ℕ, ◌+◌, ◌/◌, ◌==◌, nat_lt, Bool, true, false, ◌&&◌, if◌then◌else◌, Option, Some, None, option_map}
+use Rattle.stream_array.specs.declared.Pipe.{Pipe}
+use Rattle.stream_array.specs.declared.Pipe.TheVariants.{Command, Status, DataIn, DataOut}
+use Rattle.scsi_cmd.specs.declared.Direction.{Direction}
+use Rattle.scsi_cmd.specs.declared.Direction.TheVariants.{Nothing, ToHost, ToDevice}
+use Rattle.scsi_cmd.specs.Op.{direction_of, moved_bytes}
 use Rattle.solo_model.specs.TaggedTask.{TaggedTask}
 use Rattle.scsi_cmd.specs.declared.Request.{Request}
 use Rattle.scsi_cmd.specs.declared.Request.TheVariants.{Execute, Manage}
@@ -97,3 +101,79 @@ is_data_over (Some td) = is_over td.state
 -- A command is ready once its command and status events were seen and its data TD was seen or retired.
 abbrev pub is_ready : Entry → Bool
 is_ready entry = is_seen entry.command_td.state && (is_over entry.status_td.state && is_data_over entry.data_td)
+
+-- THE TD ON A PIPE
+
+-- a task management moves no data
+abbrev pub request_direction : Request → Direction
+request_direction (Execute op) = direction_of op
+request_direction (Manage what noted) = Nothing
+
+-- the data TD is on the pipe of its direction
+abbrev pub data_in_td : Direction → Option Td → Option Td
+data_in_td Nothing td = None
+data_in_td ToHost td = td
+data_in_td ToDevice td = None
+
+abbrev pub data_out_td : Direction → Option Td → Option Td
+data_out_td Nothing td = None
+data_out_td ToHost td = None
+data_out_td ToDevice td = td
+
+-- The TD of an entry on a pipe with streams. No TD of the command pipe is ever left over.
+abbrev pub td_on : Pipe → Entry → Option Td
+td_on Command entry = None
+td_on Status entry = Some entry.status_td
+td_on DataIn entry = data_in_td (request_direction entry.task.request) entry.data_td
+td_on DataOut entry = data_out_td (request_direction entry.task.request) entry.data_td
+
+-- how many TRBs it has
+abbrev pub trbs_on : Pipe → Entry → ℕ
+trbs_on Command entry = 1
+trbs_on Status entry = 1
+trbs_on DataIn entry = data_trbs entry.task.request
+trbs_on DataOut entry = data_trbs entry.task.request
+
+-- its ring has a TRB of it that the controller may take, where it is there
+abbrev pub has_data_trb : ℕ → Option Td → Bool
+has_data_trb trbs None = false
+has_data_trb trbs (Some td) = has_trb td trbs
+
+abbrev pub has_trb_on : Pipe → Entry → Bool
+has_trb_on pipe entry = has_data_trb (trbs_on pipe entry) (td_on pipe entry)
+
+-- LEFT OVER, AND RETIRED
+
+abbrev pub is_left_over : TdState → Bool
+is_left_over Pending = false
+is_left_over Seen = false
+is_left_over LeftOver = true
+is_left_over Retired = false
+
+abbrev pub is_td_left_over : Option Td → Bool
+is_td_left_over None = false
+is_td_left_over (Some td) = is_left_over td.state
+
+abbrev pub is_left_over_on : Pipe → Entry → Bool
+is_left_over_on pipe entry = is_td_left_over (td_on pipe entry)
+
+-- the entry with a change of its TD on a pipe
+abbrev pub with_td_on : (Td → Td) → Pipe → Entry → Entry
+with_td_on change Command entry = entry
+with_td_on change Status entry = record entry { status_td = change entry.status_td }
+with_td_on change DataIn entry = record entry { data_td = option_map change entry.data_td }
+with_td_on change DataOut entry = record entry { data_td = option_map change entry.data_td }
+
+-- the controller was moved past the TD's TRBs: all are consumed
+abbrev pub passed_td : ℕ → Td → Td
+passed_td trbs td = record td { consumed = trbs }
+
+abbrev pub passed_on : Pipe → Entry → Entry
+passed_on pipe entry = with_td_on (passed_td (trbs_on pipe entry)) pipe entry
+
+abbrev pub retired_td : Td → Td
+retired_td td = record td { state = Retired }
+
+-- the entry once its TD on a pipe is retired, or none where that TD isn't left over
+abbrev pub retired_on : Pipe → Entry → Option Entry
+retired_on pipe entry = if is_left_over_on pipe entry then Some (with_td_on retired_td pipe entry) else None

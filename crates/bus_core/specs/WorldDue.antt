@@ -1,11 +1,13 @@
 -- Where a step of the world of rings is due, and what its outcome is, told from rings, device and host alone.
-use Rattle.std.specs.Prelude.{◌≡◌, ℕ, suc, Bool, true, false, nat_lt, List, [], ◌∷◌, length, Some, None}
+use Rattle.std.specs.Prelude.{◌≡◌, ℕ, suc, Bool, true, false, nat_lt, List, [], ◌∷◌, length, Some, None, is_some}
+use Rattle.stream_array.specs.declared.Pipe.{Pipe}
 use Rattle.stream_array.specs.declared.Pipe.TheVariants.{Status, DataIn, DataOut}
 use Rattle.uas_target.specs.declared.Phase.{Phase}
 use Rattle.uas_target.specs.declared.Phase.TheVariants.{Absent, Gives, Takes, Ends}
 use Rattle.uas_target.specs.Device.{answered, wanted}
 use Rattle.uas_host.specs.declared.Place.{Place}
 use Rattle.uas_host.specs.State.{client_of}
+use Rattle.uas_host.specs.Retirement.{retirement_for}
 use Rattle.uas_host.specs.Tags.{place_of}
 use Rattle.xhci_ctl.specs.Own.{IsOwnCommandFront, IsOwnDataFront, IsOwnStatusFront}
 use Rattle.xhci_ctl.specs.Pipes.{has_pending, is_armed}
@@ -13,9 +15,10 @@ use Rattle.bus_core.specs.declared.Completion.{Completion}
 use Rattle.bus_core.specs.declared.Mark.{Mark}
 use Rattle.bus_core.specs.declared.Mark.TheVariants.{Carry, Move, Send, Quiet}
 use Rattle.bus_core.specs.declared.Outcome.{Outcome}
-use Rattle.bus_core.specs.declared.Step.TheVariants.{CommandPipe, Data, Status as StatusStep, Event, Take}
+use Rattle.bus_core.specs.declared.Step.TheVariants.{CommandPipe, Data, Status as StatusStep, Engine, Event, Retire, Take}
 use Rattle.bus_core.specs.Part.{event_place}
-use Rattle.bus_core.specs.Shared.{Shared, due, is_some_of, shared_step}
+use Rattle.bus_core.specs.declared.Retirement.{Retirement}
+use Rattle.bus_core.specs.Shared.{Shared, due, is_some_of, ringing, shared_step}
 use Rattle.bus_core.specs.Matched.{IsMatched}
 use Rattle.bus_core.specs.World.{World}
 use Rattle.bus_core.specs.Fits.{Fits}
@@ -53,6 +56,14 @@ event_is_due world = nat_lt 0 (length world.lines.events.pending)
 abbrev pub take_is_due : World → ℕ → Bool
 take_is_due world client = is_some_of (client_of world.host client).ready.items
 
+-- the controller's command ring has a pending TRB
+abbrev pub engine_is_due : World → Bool
+engine_is_due world = has_pending world.lines.engine
+
+-- the host may begin to retire the tag's TD on a pipe
+abbrev pub retire_is_due_on : World → Pipe → ℕ → Bool
+retire_is_due_on world pipe tag = is_some (retirement_for world.host pipe tag)
+
 pub record CommandDue (state : Shared) (world : World) : Type 0 where
   pub due : due state CommandPipe ≡ command_is_due world
   pub own : IsOwnCommandFront world.lines world.frames
@@ -80,11 +91,18 @@ EventsAreDue = (state : Shared) (world : World) → Fits state world → due sta
 abbrev pub TakesAreDue : Type 0
 TakesAreDue = (state : Shared) (world : World) (client : ℕ) → Fits state world → due state (Take client) ≡ take_is_due world client
 
+abbrev pub EnginesAreDue : Type 0
+EnginesAreDue = (state : Shared) (world : World) → Fits state world → due state Engine ≡ engine_is_due world
+
+abbrev pub RetirementsAreDue : Type 0
+RetirementsAreDue =
+    (state : Shared) (world : World) (pipe : Pipe) (tag : ℕ) → Fits state world → due state (Retire pipe tag) ≡ retire_is_due_on world pipe tag
+
 -- OUTCOMES
 
 -- a step that acted for a client, without a reply
 abbrev pub marked : ℕ → Mark → Outcome
-marked client mark = record { acted = true; owner = Some client; mark = mark; reply = None; refused = None; doors = record { items = [] } }
+marked client mark = record { acted = true; owner = Some client; mark = mark; reply = None; refused = None; doors = [] }
 
 abbrev pub CommandsAreMarked : Type 0
 CommandsAreMarked =
@@ -104,4 +122,16 @@ StatusesAreMarked =
 abbrev pub EventsAreQuiet : Type 0
 EventsAreQuiet =
     (state : Shared) (done : Completion) (rest : List Completion) → IsMatched state → state.events ≡ done ∷ rest
-    → (shared_step state Event).1 ≡ marked (event_place done).client Quiet
+    → (shared_step state Event).1 ≡ ringing (event_place done).client (shared_step state Event).1.doors
+
+-- the engine is the retirement's
+abbrev pub EnginesAreMarked : Type 0
+EnginesAreMarked =
+    (state : Shared) (retirement : Retirement) → IsMatched state → state.retirement ≡ Some retirement → due state Engine ≡ true
+    → (shared_step state Engine).1 ≡ marked retirement.place.client Quiet
+
+-- a retirement rings the controller's own doorbell
+abbrev pub RetirementsAreMarked : Type 0
+RetirementsAreMarked =
+    (state : Shared) (pipe : Pipe) (tag : ℕ) (place : Place) → place_of (length state.parts) tag ≡ Some place → due state (Retire pipe tag) ≡ true
+    → (shared_step state (Retire pipe tag)).1 ≡ ringing place.client (0 ∷ [])

@@ -11,25 +11,30 @@ use Rattle.scsi_cmd.specs.declared.Command.{Command}
 use Rattle.scsi_cmd.specs.declared.SubmitFault.{SubmitFault}
 use Rattle.scsi_cmd.specs.Op.{direction_of}
 use Rattle.uas_target.specs.Device.{answered, opening as opening_device, wanted}
-use Rattle.uas_host.specs.declared.Handled.TheVariants.{Matched}
+use Rattle.stream_array.specs.declared.Pipe.{Pipe}
+use Rattle.uas_host.specs.declared.Handled.{Handled}
+use Rattle.uas_host.specs.declared.Handled.TheVariants.{Engine as EngineHandled, Matched}
 use Rattle.uas_host.specs.declared.Place.{Place}
 use Rattle.uas_host.specs.State.{opening as opening_host}
 use Rattle.uas_host.specs.Doors.{submission_doors}
-use Rattle.uas_host.specs.Retirement.{is_held}
+use Rattle.uas_host.specs.Retirement.{HasEngineRoom, is_held, retirement_for, stop_trb, with_engine_command, with_retirement}
 use Rattle.uas_host.specs.Submit.{HasRoomFor, host_fault, lent, submitted}
 use Rattle.uas_host.specs.Tds.{pushed}
-use Rattle.uas_host.specs.Tags.{tag_of}
-use Rattle.uas_host.specs.Events.{Sides as EventSides, handled}
+use Rattle.uas_host.specs.declared.RetirementStage.TheVariants.{Stopping}
+use Rattle.uas_host.specs.Tags.{place_of, tag_of}
+use Rattle.uas_host.specs.Events.{Sides as EventSides, event_doors, handled}
 use Rattle.uas_host.specs.Replies.{no_reply, replied}
 use Rattle.xhci_ctl.specs.declared.Acted.TheVariants.{Acted, Idle}
 use Rattle.xhci_ctl.specs.Doorbells.{rung_by}
 use Rattle.xhci_ctl.specs.Own.{IsOwnCommandFront, IsOwnDataFront, IsOwnStatusFront}
 use Rattle.xhci_ctl.specs.Pipes.{ControllerState, new_controller}
+use Rattle.xhci_ctl.specs.Engine.{engine_acted}
 use Rattle.xhci_ctl.specs.Steps.{commanded, moved, sent_by}
 use Rattle.bus_core.specs.declared.TheConstants.{MAX_CLIENTS}
 use Rattle.bus_core.specs.declared.Completion.{Completion}
+use Rattle.bus_core.specs.declared.Completion.TheVariants.{CommandDone, DataDone, StatusDone, EngineDone}
 use Rattle.bus_core.specs.declared.Refusal.{Refusal}
-use Rattle.bus_core.specs.declared.Step.TheVariants.{CommandPipe, Data, Status, Event as EventStep, Take}
+use Rattle.bus_core.specs.declared.Step.TheVariants.{CommandPipe, Data, Status, Engine as EngineStep, Event as EventStep, Retire, Take}
 use Rattle.bus_core.specs.Part.{event_place}
 use Rattle.bus_core.specs.Shared.{Shared, opening, due, shared_step, submit_step}
 use Rattle.bus_core.specs.World.{World, sides_in, with_sides}
@@ -78,16 +83,32 @@ without_event lines = with_events lines (taken EVENT_RING_PLACES lines.events)
 abbrev pub event_sides : World → EventSides
 event_sides world = record { host = world.host; lines = without_event world.lines }
 
-abbrev pub event_world : World → Event → World
-event_world world event = record world {
-  host = (handled (event_sides world) world.frames event).0.host;
-  lines = (handled (event_sides world) world.frames event).0.lines;
-}
-
--- the host submits a command, and its doorbells are rung in their order
+-- doorbells are rung in their order
 abbrev pub rung_all : ControllerState → List ℕ → ControllerState
 rung_all controller doors = fold rung_by controller doors
 
+abbrev pub event_world : World → Event → World
+event_world world event = record world {
+  host = (handled (event_sides world) world.frames event).0.host;
+  controller = rung_all world.controller (event_doors (event_sides world) event);
+  lines = (handled (event_sides world) world.frames event).0.lines;
+}
+
+-- the controller executes the first command of its own command ring
+abbrev pub engine_world : World → World
+engine_world world = record world {
+  controller = (engine_acted (world.controller, world.lines)).0.0;
+  lines = (engine_acted (world.controller, world.lines)).0.1;
+}
+
+-- the host begins a retirement: Stop Endpoint is put; the controller's own doorbell changes nothing of it
+abbrev pub retire_world : World → Pipe → Place → World
+retire_world world pipe place = record world {
+  host = with_retirement world.host (record { pipe = pipe; place = place; stage = Stopping });
+  lines = with_engine_command world.lines (stop_trb pipe);
+}
+
+-- the host submits a command
 abbrev pub submit_world : World → ℕ → ℕ → ℕ → Command → World
 submit_world world client tag ticket command = record world {
   host = submitted world.host client tag ticket command.op;
@@ -142,15 +163,51 @@ abbrev pub StatusIsIdle : Type 0
 StatusIsIdle = (state : Shared) (world : World) (tag : ℕ) → Fits state world → due state (Status tag) ≡ false
     → sent_by world.controller (sides_in world) tag ≡ (sides_in world, Idle)
 
--- Event: the first event is matched to the TD that it is of; none is stray
+-- Event: the first event is matched to the TD that it is of, or to the command of the retirement; none is stray
+abbrev pub handled_for : Completion → Handled
+handled_for (CommandDone place) = Matched (tag_of place)
+handled_for (DataDone place) = Matched (tag_of place)
+handled_for (StatusDone place) = Matched (tag_of place)
+handled_for (EngineDone place) = EngineHandled
+
 pub record EventFits (state : Shared) (world : World) (event : Event) (done : Completion) : Type 0 where
-  pub matched : (handled (event_sides world) world.frames event).1 ≡ Matched (tag_of (event_place done))
+  pub matched : (handled (event_sides world) world.frames event).1 ≡ handled_for done
+  pub doors : event_doors (event_sides world) event ≡ (shared_step state EventStep).1.doors
   pub fits : IsSoundWorld (event_world world event) → Fits (shared_step state EventStep).0 (event_world world event)
 
 abbrev pub EventsFit : Type 0
 EventsFit =
     (state : Shared) (world : World) (done : Completion) (rest : List Completion) → Fits state world → state.events ≡ done ∷ rest
     → (event : Event) × (slice_get world.lines.events.pending 0 ≡ Some event) × EventFits state world event done
+
+-- Engine: the controller executes the retirement's command with code 1, where one waits
+pub record EngineFits (state : Shared) (world : World) : Type 0 where
+  pub acted : (engine_acted (world.controller, world.lines)).1 ≡ Acted 0
+  pub fits : IsSoundWorld (engine_world world) → Fits (shared_step state EngineStep).0 (engine_world world)
+
+abbrev pub EnginesFit : Type 0
+EnginesFit = (state : Shared) (world : World) → Fits state world → due state EngineStep ≡ true → EngineFits state world
+
+abbrev pub EngineIsIdle : Type 0
+EngineIsIdle = (state : Shared) (world : World) → Fits state world → due state EngineStep ≡ false
+    → engine_acted (world.controller, world.lines) ≡ ((world.controller, world.lines), Idle)
+
+-- Retire: the host finds the TD left over exactly where the shared machine does
+pub record RetireFits (state : Shared) (world : World) (pipe : Pipe) (tag : ℕ) : Type 0 where
+  pub place : Place
+  pub named : place_of (length state.parts) tag ≡ Some place
+  pub begins : retirement_for world.host pipe tag ≡ Some (record { pipe = pipe; place = place; stage = Stopping })
+  pub room : HasEngineRoom world.lines
+  pub fits : IsSoundWorld (retire_world world pipe place) → Fits (shared_step state (Retire pipe tag)).0 (retire_world world pipe place)
+
+abbrev pub RetirementsFit : Type 0
+RetirementsFit =
+    (state : Shared) (world : World) (pipe : Pipe) (tag : ℕ) → Fits state world → due state (Retire pipe tag) ≡ true → RetireFits state world pipe tag
+
+abbrev pub RetireIsIdle : Type 0
+RetireIsIdle =
+    (state : Shared) (world : World) (pipe : Pipe) (tag : ℕ) → Fits state world → due state (Retire pipe tag) ≡ false
+    → retirement_for world.host pipe tag ≡ None
 
 -- Submit: the host finds the fault that the shared machine finds, and where there is none, room on all rings
 abbrev pub fault_in : Refusal → SubmitFault

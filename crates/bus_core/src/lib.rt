@@ -19,6 +19,7 @@
 //! their contracts alone.
 #![tactic(auto)]
 
+mod doorbells;
 mod doors;
 mod headline_laws;
 mod laws;
@@ -34,6 +35,7 @@ pub mod world_laws;
 
 use arrayvec::ArrayVec;
 use block_unit::Unit;
+pub use doorbells::{Doorbells, MOST_RESUMED};
 use frame_store::Frames;
 pub use headline_laws::{
     opens_as_solo, refuses_as_own, replays_as_solo, settles_once, steps_isolated,
@@ -48,7 +50,7 @@ pub use queue_laws::{
 };
 use scsi_cmd::{Command, Reply, SubmitFault};
 use std::marker::Model;
-use stream_array::Lines;
+use stream_array::{Lines, Pipe};
 use uas_host::{Host, MOST_DOORS, Place, TdState};
 use uas_target::Target;
 use xhci_ctl::Controller;
@@ -58,7 +60,7 @@ pub const MAX_CLIENTS: usize = 31;
 
 const _: () = prove!(MAX_CLIENTS == 31);
 
-/// The most doorbells that one step rings.
+/// The most doorbells that are kept one by one: those of a submission.
 pub const MOST_DOORBELLS: usize = 3;
 
 const _: () = prove!(MOST_DOORBELLS == 3);
@@ -76,6 +78,29 @@ pub enum Completion {
     CommandDone(Place),
     DataDone(Place),
     StatusDone(Place),
+    /// The controller's own command is done, of the retirement of this place's TD.
+    EngineDone(Place),
+}
+
+/// How far a retirement is: which of its two commands was asked for last, and whether the controller has executed it.
+#[derive(Clone, Copy, Debug, PartialEq, Eq)]
+pub enum RetirementStage {
+    /// Stop Endpoint waits on the controller's command ring.
+    StopAsked,
+    /// Its event waits.
+    StopAnswered,
+    /// Set TR Dequeue Pointer waits on the controller's command ring.
+    MoveAsked,
+    /// Its event waits.
+    MoveAnswered,
+}
+
+/// A retirement that is under way: the place whose TD on this pipe is taken off its ring.
+#[derive(Clone, Copy, Debug, PartialEq, Eq)]
+pub struct Retirement {
+    pub pipe: Pipe,
+    pub place: Place,
+    pub stage: RetirementStage,
 }
 
 /// One atomic step of the bus.
@@ -94,8 +119,12 @@ pub enum Step {
     Data(u16),
     /// The controller moves the tag's status.
     Status(u16),
+    /// The controller executes the oldest command of its own command ring.
+    Engine,
     /// The host takes the oldest event.
     Event,
+    /// The host begins to retire the tag's TD on a pipe, which is left over.
+    Retire(Pipe, u16),
     /// A client takes its oldest reply that is ready.
     Take(usize),
 }
@@ -130,7 +159,7 @@ pub struct Outcome {
     pub reply: Option<Reply>,
     pub refused: Option<Refusal>,
     /// The doorbells that were rung, in order.
-    pub doors: ArrayVec<u32, MOST_DOORBELLS>,
+    pub doors: Doorbells,
 }
 
 /// The bus: the host, the controller and the device, the rings and contexts between host and controller, and the buffers that

@@ -5,22 +5,23 @@ ghost use Rattle.frame_store.specs.Buffers.{IsWhole};
 ghost use Rattle.uas_host.specs.State.{IsHost};
 ghost use Rattle.scsi_cmd.specs.declared.TheConstants.{TAGS};
 ghost use Rattle.bus_core.specs.Bus.{HasTicket};
-ghost use Rattle.bus_core.specs.Drain.{AreQuiet};
-ghost use Rattle.bus_core.specs.Owners.{acted_as, handled_as};
+ghost use Rattle.bus_core.specs.Drain.{AreNotLeftOver, AreQuiet};
+ghost use Rattle.bus_core.specs.Owners.{acted_as};
 ghost use Rattle.bus_core.specs.Shared.{due, opening, shared_step};
 ghost use Rattle.bus_core.specs.declared.Mark.{Mark};
 ghost use Rattle.bus_core.specs.Shows.{PointAhead, ShowsShared};
 ghost use Rattle.bus_core.specs.StepIsolation.{IsIsolatedStep};
 
-use crate::doors::{ring, rung};
-use crate::{Bus, MAX_CLIENTS, Outcome, Step};
+use crate::doors::ring;
+use crate::owners::owner_of;
+use crate::{Bus, Doorbells, MAX_CLIENTS, Outcome, Step};
 use arrayvec::ArrayVec;
 use block_unit::Unit;
 use frame_store::Frames;
-use scsi_cmd::Command;
+use scsi_cmd::{Command, TAGS};
 use std::alloc::{AllocError, Global};
 use stream_array::{Lines, Pipe};
-use uas_host::{Handled, Host};
+use uas_host::{Handled, Host, RetirementStage};
 use uas_iu::lun_bytes;
 use uas_target::{Phase, Target};
 use xhci_ctl::{Acted, Controller};
@@ -93,7 +94,9 @@ impl Bus {
             Step::CommandPipe => self.command_is_due(),
             Step::Data(tag) => self.data_is_due(*tag),
             Step::Status(tag) => self.status_is_due(*tag),
+            Step::Engine => self.engine_is_due(),
             Step::Event => self.event_is_due(),
+            Step::Retire(pipe, tag) => self.retire_is_due(*pipe, *tag),
             Step::Take(client) => self.take_is_due(*client),
         }
     }
@@ -135,8 +138,22 @@ impl Bus {
         self.target.next_task(tag)
     }
 
+    /// The controller's command ring has a TRB.
+    pub(crate) fn engine_is_due(&self) -> bool
+        ensures { result ≡ due self.now Step.Engine }
+    {
+        self.lines.front_engine().is_some()
+    }
+
+    /// No retirement is under way, and the tag's TD on the pipe is left over.
+    pub(crate) fn retire_is_due(&self, pipe: Pipe, tag: u16) -> bool
+        ensures { result ≡ due self.now (Step.Retire pipe tag) }
+    {
+        self.host.retirement().is_none() && self.host.is_left_over(pipe, tag)
+    }
+
     /// The event ring has an event.
-    fn event_is_due(&self) -> bool
+    pub(crate) fn event_is_due(&self) -> bool
         ensures { result ≡ due self.now Step.Event }
     {
         self.lines.len() > 0
@@ -178,7 +195,9 @@ impl Bus {
             Step::CommandPipe => Outcome::carried(self.carry()),
             Step::Data(tag) => Outcome::moved(self.move_chunk(tag)),
             Step::Status(tag) => Outcome::sent(self.send(tag)),
-            Step::Event => Outcome::handled(self.see()),
+            Step::Engine => self.execute(),
+            Step::Event => self.see(),
+            Step::Retire(pipe, tag) => self.retire(pipe, tag),
             Step::Take(client) => self.take(client),
         }
     }
@@ -202,7 +221,7 @@ impl Bus {
         );
         ring(&mut self.controller, &self.doors);
         stand(&self.host, &self.lines, &self.frames);
-        Outcome::submitted(client, tag, submitted, rung(&self.doors))
+        Outcome::submitted(client, tag, submitted, Doorbells::single(&self.doors))
     }
 
     /// The device receives the oldest unit in the command pipe.
@@ -241,20 +260,74 @@ impl Bus {
         acted
     }
 
-    /// The host takes the oldest event. It rings no doorbell at an event of a TD, and no other event comes.
+    /// The controller executes the oldest command of its own command ring, which is the retirement's.
     #[inline(never)]
-    pub(crate) fn see(&mut self) -> Handled
-        ensures { shared_step self.old Step.Event ≡ (self.new, handled_as result) }
+    pub(crate) fn execute(&mut self) -> Outcome
+        ensures { shared_step self.old Step.Engine ≡ (self.new, result) }
+    {
+        let retirement = self.host.retirement();
+        let acted = self.controller.engine_step(&mut self.lines);
+        stand(&self.host, &self.lines, &self.frames);
+        Outcome::executed(retirement, acted)
+    }
+
+    /// The host takes the oldest event. It rings no doorbell at an event of a TD; at one of a retirement it rings the controller's own, or,
+    /// when the TD is retired, those of the pipe's streams with pending TRBs.
+    #[inline(never)]
+    pub(crate) fn see(&mut self) -> Outcome
+        ensures { shared_step self.old Step.Event ≡ (self.new, result) }
     {
         let Some(event) = self.lines.take() else {
-            return Handled::Stray;
+            return Outcome::idle();
         };
+        let retirement = self.host.retirement();
         self.doors.clear();
         let handled = self
             .host
             .on_event(&mut self.lines, &self.frames, &mut self.doors, event);
+        ring(&mut self.controller, &self.doors);
         stand(&self.host, &self.lines, &self.frames);
-        handled
+        let rung = match (handled, retirement) {
+            (Handled::Engine, Some(ended)) if matches!(ended.stage, RetirementStage::Moving) => {
+                Doorbells::resumed(ended.pipe, &self.doors)
+            }
+            _ => Doorbells::single(&self.doors),
+        };
+        Outcome::handled(retirement, handled, rung)
+    }
+
+    /// The host begins to retire a TD that is left over.
+    #[inline(never)]
+    pub(crate) fn retire(&mut self, pipe: Pipe, tag: u16) -> Outcome
+        ensures { shared_step self.old (Step.Retire pipe tag) ≡ (self.new, result) }
+    {
+        self.doors.clear();
+        let began = self
+            .host
+            .retire(&mut self.lines, &mut self.doors, pipe, tag);
+        ring(&mut self.controller, &self.doors);
+        stand(&self.host, &self.lines, &self.frames);
+        if began {
+            Outcome::ringing(owner_of(tag), Doorbells::single(&self.doors))
+        } else {
+            Outcome::idle()
+        }
+    }
+
+    /// The least tag above this one whose TD on a pipe is left over. No other tag's is.
+    pub(crate) fn next_left_over(&self, pipe: Pipe, tag: u16) -> Option<u16>
+        ensures next { IfSome result (λ next. (tag < next) × (next ≤ length self.now.parts * TAGS) × AreNotLeftOver self.now pipe tag next) }
+        ensures none { IfNone result (AreNotLeftOver self.now pipe tag (suc (length self.now.parts * TAGS))) }
+    {
+        let most = (self.clients() * TAGS) as u16;
+        let mut next = tag;
+        while next < most {
+            next += 1;
+            if self.retire_is_due(pipe, next) {
+                return Some(next);
+            }
+        }
+        None
     }
 
     /// A client takes the reply that was ready first.

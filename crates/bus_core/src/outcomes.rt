@@ -1,14 +1,13 @@
 ghost use Rattle.std.specs.Prelude.{◌≡◌};
-ghost use Rattle.bus_core.specs.Owners.{acted_as, handled_as, replying, submitted_as};
+ghost use Rattle.bus_core.specs.Owners.{acted_as, executed_as, handled_as, replying, submitted_as};
 ghost use Rattle.bus_core.specs.declared.Mark.{Mark};
-ghost use Rattle.bus_core.specs.Shared.{acceptance, idle, refusal};
+ghost use Rattle.bus_core.specs.Shared.{acceptance, idle, refusal, ringing};
 ghost use Rattle.bus_core.specs.WorldDue.{marked};
 
 use crate::owners::{index_of, mark_of, owner_of};
-use crate::{MOST_DOORBELLS, Mark, Outcome, Refusal};
-use arrayvec::ArrayVec;
+use crate::{Doorbells, Mark, Outcome, Refusal};
 use scsi_cmd::{Command, Reply, SubmitFault};
-use uas_host::Handled;
+use uas_host::{Handled, Retirement};
 use xhci_ctl::Acted;
 
 impl Outcome {
@@ -23,7 +22,7 @@ impl Outcome {
             mark: Mark::Quiet,
             reply: None,
             refused: None,
-            doors: ArrayVec::new(),
+            doors: Doorbells::none(),
         }
     }
 
@@ -38,7 +37,7 @@ impl Outcome {
             mark,
             reply: None,
             refused: None,
-            doors: ArrayVec::new(),
+            doors: Doorbells::none(),
         }
     }
 
@@ -75,16 +74,51 @@ impl Outcome {
         }
     }
 
-    /// The outcome of an event.
+    /// The outcome of a step that acted for a client, told nothing and rang these doorbells.
     #[inline(always)]
-    pub(crate) fn handled(handled: Handled) -> Outcome
-        ensures { result ≡ handled_as handled }
+    pub(crate) fn ringing(client: usize, doors: Doorbells) -> Outcome
+        ensures { result ≡ ringing client doors }
     {
-        match handled {
-            Handled::Matched(tag) => Outcome::marked(owner_of(tag), Mark::Quiet),
-            // Neither comes on a bus: no retirement begins here, so no command stands on the controller's command ring
-            // (`FitsEngine`), and each event that waits is of a TD that the host awaits (`EventsFit`).
-            Handled::Engine | Handled::Stray => Outcome::idle(),
+        Outcome {
+            acted: true,
+            owner: Some(client),
+            mark: Mark::Quiet,
+            reply: None,
+            refused: None,
+            doors,
+        }
+    }
+
+    /// The outcome of a step of the controller's own command ring: it is the retirement's.
+    #[inline(always)]
+    pub(crate) fn executed(retirement: Option<Retirement>, acted: Acted) -> Outcome
+        ensures { result ≡ executed_as retirement acted }
+    {
+        match (acted, retirement) {
+            (Acted::Acted(_), Some(retirement)) => {
+                Outcome::marked(retirement.place.client, Mark::Quiet)
+            }
+            // No command waits but a retirement's (`FitsEngine`).
+            (Acted::Acted(_), None) | (Acted::Idle, _) => Outcome::idle(),
+        }
+    }
+
+    /// The outcome of an event, with the doorbells that were rung at it.
+    #[inline(always)]
+    pub(crate) fn handled(
+        retirement: Option<Retirement>,
+        handled: Handled,
+        doors: Doorbells,
+    ) -> Outcome
+        ensures { result ≡ handled_as retirement doors handled }
+    {
+        match (handled, retirement) {
+            (Handled::Matched(tag), _) => Outcome::ringing(owner_of(tag), doors),
+            (Handled::Engine, Some(retirement)) => {
+                Outcome::ringing(retirement.place.client, doors)
+            }
+            // Each event that waits is of a TD that the host awaits, or of the retirement (`EventsFit`).
+            (Handled::Engine, None) | (Handled::Stray, _) => Outcome::idle(),
         }
     }
 
@@ -99,7 +133,7 @@ impl Outcome {
             mark: mark_of(&reply),
             reply,
             refused: None,
-            doors: ArrayVec::new(),
+            doors: Doorbells::none(),
         }
     }
 
@@ -109,9 +143,9 @@ impl Outcome {
         client: usize,
         tag: u16,
         answer: Result<(), (SubmitFault, Command)>,
-        doors: ArrayVec<u32, MOST_DOORBELLS>,
+        doors: Doorbells,
     ) -> Outcome
-        ensures { result ≡ submitted_as client tag doors.items answer }
+        ensures { result ≡ submitted_as client tag doors answer }
     {
         match answer {
             Ok(()) => Outcome::accepted(client, Mark::Submit(index_of(tag)), doors),
@@ -130,14 +164,14 @@ impl Outcome {
             mark: Mark::Quiet,
             reply: None,
             refused: Some(Refusal { fault, command }),
-            doors: ArrayVec::new(),
+            doors: Doorbells::none(),
         }
     }
 
     /// The outcome of a client's submission that was accepted, with its mark and the doorbells that it rang.
     #[inline(always)]
-    fn accepted(client: usize, mark: Mark, doors: ArrayVec<u32, MOST_DOORBELLS>) -> Outcome
-        ensures { result ≡ acceptance client mark doors.items }
+    fn accepted(client: usize, mark: Mark, doors: Doorbells) -> Outcome
+        ensures { result ≡ acceptance client mark doors }
     {
         Outcome {
             acted: true,

@@ -13,7 +13,7 @@ pub fn steps_keep_matches()
     ensures { StepKeepsMatches }
 {}
 
-/// No place is named twice, so that no queue outgrows the places: 248 TRBs in the command pipe's ring and 744 events are
+/// No place is named twice, so that no queue outgrows the places: 248 TRBs in the command pipe's ring and 745 events are
 /// the most of 31 clients.
 pub fn no_queue_outgrows()
     ensures once { FromMatches AreNamedOnce }

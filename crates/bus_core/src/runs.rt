@@ -1,13 +1,13 @@
 ghost use Rattle.std.specs.Prelude.{◌≡◌, ℕ, ◌+◌, ◌≤◌, IfOk, length, map, vec_len, vec_capacity, OnErr};
 ghost use Rattle.bus_core.specs.Bus.{AllTicketed, HasTicket};
-ghost use Rattle.bus_core.specs.Drain.{all_tags, drained, round, tried, tried_one};
+ghost use Rattle.bus_core.specs.Drain.{all_tags, drained, retirements, round, tried, tried_one};
 ghost use Rattle.bus_core.specs.declared.Step.TheVariants as Step;
 ghost use Rattle.bus_core.specs.Isolation.{IsIsolated};
 ghost use Rattle.bus_core.specs.Replay.{replayed};
 
 use crate::{Bus, Outcome, Step, Trace};
 use std::alloc::{AllocError, Global};
-use uas_host::Handled;
+use stream_array::Pipe;
 use xhci_ctl::Acted;
 
 impl Bus {
@@ -73,9 +73,13 @@ impl Bus {
         ensures less { result ≤ left }
     {
         let left = self.try_command(left);
+        let left = self.try_engine(left);
         let left = self.try_event(left);
         let left = self.try_data(left);
-        self.try_statuses(left)
+        let left = self.try_statuses(left);
+        let left = self.try_retirements(Pipe::Status, left);
+        let left = self.try_retirements(Pipe::DataIn, left);
+        self.try_retirements(Pipe::DataOut, left)
     }
 
     fn try_command(&mut self, left: usize) -> usize
@@ -90,16 +94,24 @@ impl Bus {
         }
     }
 
+    fn try_engine(&mut self, left: usize) -> usize
+        ensures { (self.new, result) ≡ tried_one (self.old, left) Step.Engine }
+    {
+        if left == 0 || !self.engine_is_due() {
+            return left;
+        }
+        let _ = self.execute();
+        left - 1
+    }
+
     fn try_event(&mut self, left: usize) -> usize
         ensures { (self.new, result) ≡ tried_one (self.old, left) Step.Event }
     {
-        if left == 0 {
-            return 0;
+        if left == 0 || !self.event_is_due() {
+            return left;
         }
-        match self.see() {
-            Handled::Matched(_) => left - 1,
-            Handled::Engine | Handled::Stray => left,
-        }
+        let _ = self.see();
+        left - 1
     }
 
     /// The data streams of all tags, rising.
@@ -150,6 +162,31 @@ impl Bus {
             Acted::Acted(_) => left - 1,
             Acted::Idle => left,
         }
+    }
+}
+
+impl Bus {
+    /// The retirements on a pipe, by rising tag.
+    fn try_retirements(&mut self, pipe: Pipe, left: usize) -> usize
+        ensures { (self.new, result) ≡ tried (self.old, left) (retirements (length self.old.parts) pipe) }
+    {
+        let mut left = left;
+        let mut tag = 0;
+        while let Some(next) = self.next_left_over(pipe, tag) {
+            left = self.try_retirement_of(pipe, next, left);
+            tag = next;
+        }
+        left
+    }
+
+    fn try_retirement_of(&mut self, pipe: Pipe, tag: u16, left: usize) -> usize
+        ensures { (self.new, result) ≡ tried_one (self.old, left) (Step.Retire pipe tag) }
+    {
+        if left == 0 || !self.retire_is_due(pipe, tag) {
+            return left;
+        }
+        let _ = self.retire(pipe, tag);
+        left - 1
     }
 }
 

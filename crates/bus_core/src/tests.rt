@@ -136,3 +136,22 @@ fn long_read_on_the_rings(rt: HostRuntime) -> Result<(), Fail> {
     assert_image(&rt, bus.lines().image(Pipe::DataIn, 1, 16), b"");
     Ok(())
 }
+
+/// Doorbells come back in order: the three of a READ on tag 18, and those of streams 1, 18, 63, 64 and 248 of the data-in pipe.
+#[test]
+fn doorbells_in_order(rt: HostRuntime) -> Result<(), Fail> {
+    assert!(rt; Doorbells::none().list().is_empty());
+    let three = [0x0012_0005, 0x0012_0003, 0x0000_0002];
+    let rung = Doorbells::single(&three);
+    assert_eq!(rt; rung.list().as_slice(), three.as_slice());
+    let five = [
+        0x0001_0005,
+        0x0012_0005,
+        0x003F_0005,
+        0x0040_0005,
+        0x00F8_0005,
+    ];
+    let rung = Doorbells::resumed(Pipe::DataIn, &five);
+    assert_eq!(rt; rung.list().as_slice(), five.as_slice());
+    Ok(())
+}

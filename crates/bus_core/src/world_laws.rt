@@ -1,6 +1,6 @@
 //! The laws of the world of rings: where rings, buffers, host and device fit a state of the shared machine, each step of
 //! host and controller is the shared machine's step.
-ghost use Rattle.bus_core.specs.WorldSteps.{CommandsFit, DataFit, DataIsIdle, EventsFit, FaultsAgree, NoCommandIsIdle, OpeningFits, StatusIsIdle, StatusesFit, SubmissionsFit, TakeIsIdle, TakesFit, WorldReadsBack};
+ghost use Rattle.bus_core.specs.WorldSteps.{CommandsFit, DataFit, DataIsIdle, EngineIsIdle, EnginesFit, EventsFit, FaultsAgree, NoCommandIsIdle, OpeningFits, RetireIsIdle, RetirementsFit, StatusIsIdle, StatusesFit, SubmissionsFit, TakeIsIdle, TakesFit, WorldReadsBack};
 
 /// A world that fits a state tells that state.
 pub fn worlds_read_back()
@@ -28,6 +28,18 @@ pub fn data_fits()
 pub fn statuses_fit()
     ensures step { StatusesFit }
     ensures idle { StatusIsIdle }
+{}
+
+/// The controller executes a retirement's command, with code 1, and that is the shared machine's step.
+pub fn engines_fit()
+    ensures step { EnginesFit }
+    ensures idle { EngineIsIdle }
+{}
+
+/// The host begins a retirement where the shared machine does.
+pub fn retirements_fit()
+    ensures step { RetirementsFit }
+    ensures idle { RetireIsIdle }
 {}
 
 /// The host matches each event to the TD that it is of, and what it makes of it is the shared machine's step.

@@ -3,6 +3,7 @@ mod Lines
 mod Zeros
 mod NumberWords
 mod CommandLineFacts
+mod WalkSteps
 mod PlainLines
 mod Appended
 mod Outcomes

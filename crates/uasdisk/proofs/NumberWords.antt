@@ -21,11 +21,11 @@ within least most n = cond (nat_le least n && nat_le n most) (Some n) None
 pub numerals : IsNumeralModel (λ ds. list_all is_ascii_digit ds ≡ true) (fold with_digit 0)
 numerals = numerals_by_fold _ (search rules) (fold with_digit) (search rules)
 
-number_in-numeral : (most n : ℕ) (ds : List ℕ) → is_number ds ≡ true → value_of ds ≡ n → number_in 1 most ds ≡ within 1 most n
-number_in-numeral most n ds is value = ap₂ (λ (b : Bool) (m : ℕ). cond (b && (nat_le 1 m && nat_le m most)) (Some m) None) is value
+number_in-numeral : (least most n : ℕ) (ds : List ℕ) → is_number ds ≡ true → value_of ds ≡ n → number_in least most ds ≡ within least most n
+number_in-numeral least most n ds is value = ap₂ (λ (b : Bool) (m : ℕ). cond (b && (nat_le least m && nat_le m most)) (Some m) None) is value
 
-number_in-none : (most : ℕ) (ds : List ℕ) → (is_number ds ≡ true → value_of ds ≤ most → ⊥) → number_in 1 most ds ≡ None
-number_in-none most ds never = go (is_number ds) refl (nat_le 1 (value_of ds)) (nat_le (value_of ds) most) refl
+number_in-none : (least most : ℕ) (ds : List ℕ) → (is_number ds ≡ true → value_of ds ≤ most → ⊥) → number_in least most ds ≡ None
+number_in-none least most ds never = go (is_number ds) refl (nat_le least (value_of ds)) (nat_le (value_of ds) most) refl
   where
     go : (a : Bool) → is_number ds ≡ a → (b c : Bool) → nat_le (value_of ds) most ≡ c → cond (a && (b && c)) (Some (value_of ds)) None ≡ None
     go false is b c fits = refl
@@ -51,35 +51,35 @@ numeral-is_number ds is = go (length ds == 0) refl is
     go false some digits = (above_zero (length ds) (eqb-false (length ds) 0 some), numerals.to ds digits)
     go true some digits = cc
 
-parsed_number : {E : Type 0} (k most : ℕ) (text : List ℕ) (r : Result ℕ E) → ParsesUnsigned k 10 text r → most < 2 ^ k
-    → number_of 1 most text ≡ option_and_then (within 1 most) (result_ok r)
-parsed_number k most text (Ok n) parsed fits =
+parsed_number : {E : Type 0} (k least most : ℕ) (text : List ℕ) (r : Result ℕ E) → ParsesUnsigned k 10 text r → most < 2 ^ k
+    → number_of least most text ≡ option_and_then (within least most) (result_ok r)
+parsed_number k least most text (Ok n) parsed fits =
     let ds = without_leading_plus text in
-    number_in-numeral most n ds (is_number-numeral ds parsed.0.0) (numerals.same ds parsed.0.0.1 ∙ sym parsed.1)
-parsed_number k most text (Err e) parsed fits =
-    number_in-none most (without_leading_plus text) (λ is small.
+    number_in-numeral least most n ds (is_number-numeral ds parsed.0.0) (numerals.same ds parsed.0.0.1 ∙ sym parsed.1)
+parsed_number k least most text (Err e) parsed fits =
+    number_in-none least most (without_leading_plus text) (λ is small.
     let numeral = numeral-is_number (without_leading_plus text) is in
     let same : value_of (without_leading_plus text) ≡ digits_value 10 (without_leading_plus text) = numerals.same _ numeral.1 in
     parsed (numeral, omega (arith, same, small, fits)))
 
 -- what `get_one` gives of a text, where it is in the range
-one_number : {E : Type 0} (G : List ℕ → Result ℕ E → Type 0) (k most : ℕ) (one : Option (List ℕ)) (r : Option ℕ)
+one_number : {E : Type 0} (G : List ℕ → Result ℕ E → Type 0) (k least most : ℕ) (one : Option (List ℕ)) (r : Option ℕ)
     → ((u : List ℕ) (x : Result ℕ E) → G u x → ParsesUnsigned k 10 u x) → most < 2 ^ k
     → (one ≡ None → r ≡ None) → ((t : List ℕ) → one ≡ Some t → ReadsOne G t r)
-    → option_and_then (number_of 1 most) one ≡ option_and_then (within 1 most) r
-one_number {E} G k most None r only fits none value = ap (option_and_then (within 1 most)) (sym (none refl))
-one_number {E} G k most (Some t) None only fits none value =
+    → option_and_then (number_of least most) one ≡ option_and_then (within least most) r
+one_number {E} G k least most None r only fits none value = ap (option_and_then (within least most)) (sym (none refl))
+one_number {E} G k least most (Some t) None only fits none value =
     let given = value t refl in
-    parsed_number {E = E} k most t (Err given.0) (only t (Err given.0) given.1) fits
-one_number {E} G k most (Some t) (Some n) only fits none value =
-    parsed_number {E = E} k most t (Ok n) (only t (Ok n) (value t refl)) fits
+    parsed_number {E = E} k least most t (Err given.0) (only t (Err given.0) given.1) fits
+one_number {E} G k least most (Some t) (Some n) only fits none value =
+    parsed_number {E = E} k least most t (Ok n) (only t (Ok n) (value t refl)) fits
 
 -- and of an argument, by its rows
-pub number_read : (k most : ℕ) (id : List ℕ) (f : Found) (r : Option ℕ) → most < 2 ^ k
+pub number_read : (k least most : ℕ) (id : List ℕ) (f : Found) (r : Option ℕ) → most < 2 ^ k
     → (one_text f id ≡ None → r ≡ None)
     → ((t : List ℕ) → one_text f id ≡ Some t
     → ReadsOne (λ bs x. ParsesUnsigned k 10 bs x × ExplainsUnsignedError 10 bs x × HasUnsignedDigitsIfOk bs x) t r)
-    → option_and_then (number_of 1 most) (one_of id (rows_of f)) ≡ option_and_then (within 1 most) r
-number_read k most id f r fits none value =
-    ap (option_and_then (number_of 1 most)) (sym (one_text-rows f id))
-    ∙ one_number (λ bs x. ParsesUnsigned k 10 bs x × ExplainsUnsignedError 10 bs x × HasUnsignedDigitsIfOk bs x) k most _ r (λ u x g. g.0) fits none value
+    → option_and_then (number_of least most) (one_of id (rows_of f)) ≡ option_and_then (within least most) r
+number_read k least most id f r fits none value =
+    ap (option_and_then (number_of least most)) (sym (one_text-rows f id))
+    ∙ one_number (λ bs x. ParsesUnsigned k 10 bs x × ExplainsUnsignedError 10 bs x × HasUnsignedDigitsIfOk bs x) k least most _ r (λ u x g. g.0) fits none value

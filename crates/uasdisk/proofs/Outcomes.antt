@@ -8,19 +8,25 @@ use Rattle.solo_model.specs.TaggedTask.{TaggedTask}
 use Rattle.solo_model.specs.TaggedTask.{carried, moved, sent}
 use Rattle.block_unit.specs.BlockMaps.{BlockMaps}
 use Rattle.bus_core.specs.declared.Step.{Step}
-use Rattle.bus_core.specs.declared.Step.TheVariants.{Submit, CommandPipe, Data, Status, Event, Take}
+use Rattle.bus_core.specs.declared.Step.TheVariants.{Submit, CommandPipe, Data, Status, Engine, Event, Retire, Take}
 use Rattle.bus_core.specs.declared.Mark.{Mark}
 use Rattle.bus_core.specs.declared.Mark.TheVariants.{Submit as SubmitMark, Quiet}
 use Rattle.bus_core.specs.declared.Outcome.{Outcome}
 use Rattle.bus_core.specs.declared.Refusal.{Refusal}
 use Rattle.uas_host.specs.declared.Place.{Place}
+use Rattle.stream_array.specs.declared.Pipe.{Pipe}
 use Rattle.bus_core.specs.declared.Completion.{Completion}
+use Rattle.bus_core.specs.declared.Completion.TheVariants.{CommandDone, DataDone, StatusDone, EngineDone}
+use Rattle.bus_core.specs.declared.Retirement.{Retirement}
+use Rattle.bus_core.specs.declared.RetirementStage.{RetirementStage}
+use Rattle.bus_core.specs.declared.RetirementStage.TheVariants.{StopAsked, StopAnswered, MoveAsked, MoveAnswered}
 use Rattle.bus_core.specs.Td.{Entry}
 use Rattle.uas_host.specs.Tags.{place_of, command_slot}
 use Rattle.bus_core.specs.Part.{Part, Act, carry_act, carried_slot, carried_entry, move_act, moved_slot, moved_entry, send_act, sent_slot, sent_entry}
-use Rattle.bus_core.specs.Part.{event_act, event_place, seen_entry, seen_by, take_act, fault_at}
+use Rattle.bus_core.specs.Part.{event_act, event_place, seen_entry, seen_by, take_act, fault_at, stop_act, pass_act, passed_slot, retire_act}
 use Rattle.bus_core.specs.Shared.{Shared, idle, due, due_step, shared_step, routed, routed_to, routed_by_tag, carry_step, event_step, submitted_under}
-use Rattle.bus_core.specs.Shared.{submitted_to, answered}
+use Rattle.bus_core.specs.Shared.{submitted_to, answered, event_seen, engine_step, engine_did, engine_seen, stage_seen, at_stage, retire_step, resumed}
+use Rattle.bus_core.specs.Td.{retired_on}
 use Rattle.std.specs.Prelude.{option_and_then, length}
 
 -- NO NEWS
@@ -86,11 +92,61 @@ untold_carry state (place ∷ rest) =
     untold_routed_to (record state { messages = rest }) place.client (carry_act place) (slice_get state.parts place.client)
     (λ p. carry_slot-reply p place.slot place (held_at p.entries place.slot))
 
+passed_slot-reply : (pipe : Pipe) (part : Part) (place : Place) (entry : Option Entry) → (passed_slot pipe part place entry).reply ≡ None
+passed_slot-reply pipe part place None = refl
+passed_slot-reply pipe part place (Some entry) = refl
+
+untold_engine : (state : Shared) (retirement : Option Retirement) → Untold (engine_step state retirement).1
+untold_engine state None = untold_idle
+untold_engine state (Some retirement) = go retirement.stage
+  where
+    place : Place
+    place = retirement.place
+
+    go : (stage : RetirementStage) → Untold (engine_did state retirement stage).1
+    go StopAsked = untold_routed_to _ place.client (stop_act place) _ (λ p. refl)
+    go StopAnswered = untold_idle
+    go MoveAsked =
+        untold_routed_to (at_stage state retirement MoveAnswered) place.client (pass_act retirement.pipe place) (slice_get state.parts place.client)
+        (λ p. passed_slot-reply retirement.pipe p place (held_at p.entries place.slot))
+    go MoveAnswered = untold_idle
+
+untold_resumed : (pipe : Pipe) (after : Shared × Outcome) → Untold after.1 → Untold (resumed pipe after).1
+untold_resumed pipe after untold = record { reply = untold.reply; refused = untold.refused }
+
+-- the event of the controller's own command
+untold_stage : (state : Shared) (retirement : Retirement) (stage : RetirementStage) → Untold (stage_seen state retirement stage).1
+untold_stage state retirement StopAsked = record { reply = refl; refused = refl }
+untold_stage state retirement StopAnswered = record { reply = refl; refused = refl }
+untold_stage state retirement MoveAsked = record { reply = refl; refused = refl }
+untold_stage state retirement MoveAnswered =
+    let place : Place = retirement.place in
+    untold_resumed retirement.pipe (routed (record state { retirement = None }) place.client (retire_act retirement.pipe place))
+    (untold_routed_to (record state { retirement = None }) place.client (retire_act retirement.pipe place) (slice_get state.parts place.client)
+    (λ p. seen_entry-reply p place.slot (option_and_then (retired_on retirement.pipe) (held_at p.entries place.slot))))
+
+untold_engine_seen : (state : Shared) (place : Place) (retirement : Option Retirement) → Untold (engine_seen state place retirement).1
+untold_engine_seen state place None = record { reply = refl; refused = refl }
+untold_engine_seen state place (Some retirement) = untold_stage state retirement retirement.stage
+
+-- the event of a TD
+untold_td : (state : Shared) (event : Completion) → Untold (routed state (event_place event).client (event_act event)).1
+untold_td state event =
+    untold_routed_to state (event_place event).client (event_act event) (slice_get state.parts (event_place event).client) (event_act-reply event)
+
+untold_seen : (state : Shared) (event : Completion) → Untold (event_seen state event).1
+untold_seen state (CommandDone place) = untold_td state (CommandDone place)
+untold_seen state (DataDone place) = untold_td state (DataDone place)
+untold_seen state (StatusDone place) = untold_td state (StatusDone place)
+untold_seen state (EngineDone place) = untold_engine_seen state place state.retirement
+
 untold_event : (state : Shared) (events : List Completion) → Untold (event_step state events).1
 untold_event state [] = untold_idle
-untold_event state (event ∷ rest) =
-    untold_routed_to (record state { events = rest }) (event_place event).client (event_act event) (slice_get state.parts (event_place event).client)
-    (event_act-reply event)
+untold_event state (event ∷ rest) = untold_seen (record state { events = rest }) event
+
+untold_retire : (state : Shared) (pipe : Pipe) (place : Option Place) → Untold (retire_step state pipe place).1
+untold_retire state pipe None = untold_idle
+untold_retire state pipe (Some place) = record { reply = refl; refused = refl }
 
 -- A step of controller, device or host, and of no client.
 abbrev pub IsInner : Step → Type 0
@@ -98,7 +154,9 @@ IsInner (Submit client tag ticket command) = ⊥
 IsInner CommandPipe = Unit {0}
 IsInner (Data tag) = Unit {0}
 IsInner (Status tag) = Unit {0}
+IsInner Engine = Unit {0}
 IsInner Event = Unit {0}
+IsInner (Retire pipe tag) = Unit {0}
 IsInner (Take client) = ⊥
 
 pub inner_untold : (state : Shared) (step : Step) → IsInner step → Untold (shared_step state step).1
@@ -106,6 +164,10 @@ inner_untold state CommandPipe inner =
     untold_if (due state CommandPipe) state (due_step state CommandPipe) (untold_carry state state.messages)
 inner_untold state Event inner =
     untold_if (due state Event) state (due_step state Event) (untold_event state state.events)
+inner_untold state Engine inner =
+    untold_if (due state Engine) state (due_step state Engine) (untold_engine state state.retirement)
+inner_untold state (Retire pipe tag) inner =
+    untold_if (due state (Retire pipe tag)) state (due_step state (Retire pipe tag)) (untold_retire state pipe (place_of (length state.parts) tag))
 inner_untold state (Data tag) inner =
     untold_if (due state (Data tag)) state (due_step state (Data tag)) (untold_by_tag state move_act (place_of (length state.parts) tag)
     (λ at p. move_slot-reply p at.slot at (held_at p.entries at.slot)))

@@ -11,11 +11,18 @@ use Rattle.clap.specs.Words.{FailsBy, HasKind, Kinds, Text, fault_of, kind_of}
 use Rattle.clap.specs.declared.error.Error.{Error}
 use Rattle.clap.specs.declared.error.kind.ErrorKind.TheVariants.{OutOfMemory}
 use Rattle.clap.proofs.OnLiterals.{clap_on_literals}
+use Rattle.clap.specs.Faults.{check_fault, defaults_fault, entered_fault, level_fault, settle_fault, walk_fault}
+use Rattle.clap.specs.Kinds.{or_else}
+use Rattle.clap.specs.Simple.{Shape, built, entered, label_of}
+use Rattle.clap.specs.Walk.{answers_to, finished, nothing_held, settled, walk, walk_from}
+use Rattle.std.specs.Option.{option_map_or}
+use Rattle.std.specs.Prelude.{find}
 use Rattle.uasdisk.specs.declared.words.Run.{Run}
 use Rattle.uasdisk.specs.Words.{is_number, number_in, value_of}
-use Rattle.uasdisk.specs.CommandLine.{Asked, AsksPlainly, asked_by, asked_for, info, make, program_app, refusals, replay, trace}
+use Rattle.uasdisk.specs.CommandLine.{Asked, AsksPlainly, asked_by, asked_for, asked_in, dump, fill, info, make, program_app, refusals, replay, trace}
 use Rattle.uasdisk.proofs.NumberWords.{numeral-is_number, numerals}
 use Rattle.uasdisk.proofs.CommandLineFacts.{nothing_refused}
+use Rattle.uasdisk.proofs.WalkSteps.{fault-end, fault-plain, walked-plain}
 
 info_asks : (p : Text) (d : ℕ) (ds : Text) → (d == 45) ≡ false → asked_for (p ∷ codes "info" ∷ (d ∷ ds) ∷ []) ≡ Some (info (d ∷ ds))
 unfolding asked_for clap_on_literals
@@ -26,57 +33,153 @@ unfolding clap_on_literals
 info_passes p d ds plain = simp plain
 
 -- a word of digits is a number in the range of the words' parser
-record IsIn (most : ℕ) (d : ℕ) (ds : Text) : Type 0 where
+record IsIn (least most : ℕ) (d : ℕ) (ds : Text) : Type 0 where
   hyphen : (d == 45) ≡ false
   plus : (d == 43) ≡ false
   some : nat_lt 0 (length (d ∷ ds)) ≡ true
   first : nat_lt (digit_value d) 10 ≡ true
   rest : list_all (λ x. nat_lt (digit_value x) 10) ds ≡ true
   fits : nat_lt (digits_value 10 (d ∷ ds)) (2 ^ 63) ≡ true
-  least : int_le (pos 1) (pos (digits_value 10 (d ∷ ds))) ≡ true
-  greatest : int_le (pos (digits_value 10 (d ∷ ds))) (pos most) ≡ true
+  low : int_le (pos least) (pos (digits_value 10 (d ∷ ds))) ≡ true
+  high : int_le (pos (digits_value 10 (d ∷ ds))) (pos most) ≡ true
 
 make_asks : (p : Text) (d : ℕ) (ds : Text) (e : ℕ) (es : Text) → (d == 45) ≡ false → (e == 45) ≡ false → (e == 43) ≡ false
     → asked_for (p ∷ codes "make" ∷ (d ∷ ds) ∷ (e ∷ es) ∷ []) ≡ option_map (make (d ∷ ds)) (number_in 1 65536 (e ∷ es))
 unfolding asked_for clap_on_literals
 make_asks p d ds e es plain hyphen plus = simp (plain, hyphen, plus)
 
-make_passes : (p : Text) (d : ℕ) (ds : Text) (e : ℕ) (es : Text) → (d == 45) ≡ false → IsIn 65536 e es
+make_passes : (p : Text) (d : ℕ) (ds : Text) (e : ℕ) (es : Text) → (d == 45) ≡ false → IsIn 1 65536 e es
     → fault_of program_app (p ∷ codes "make" ∷ (d ∷ ds) ∷ (e ∷ es) ∷ []) ≡ []
 unfolding clap_on_literals
-make_passes p d ds e es plain n = simp (plain, n.hyphen, n.plus, n.some, n.first, n.rest, n.fits, n.least, n.greatest)
+make_passes p d ds e es plain n = simp (plain, n.hyphen, n.plus, n.some, n.first, n.rest, n.fits, n.low, n.high)
 
 replay_asks : (p : Text) (d : ℕ) (ds : Text) (e : ℕ) (es : Text) → (d == 45) ≡ false → (d == 43) ≡ false → (e == 45) ≡ false → (e == 43) ≡ false
     → asked_for (p ∷ codes "replay" ∷ (d ∷ ds) ∷ (e ∷ es) ∷ []) ≡ option_and_then (λ clients. option_map (replay clients) (number_in 1 65536 (e ∷ es))) (number_in 1 31 (d ∷ ds))
 unfolding asked_for clap_on_literals
 replay_asks p d ds e es hyphen plus hyphen' plus' = simp (hyphen, plus, hyphen', plus')
 
-replay_passes : (p : Text) (d : ℕ) (ds : Text) (e : ℕ) (es : Text) → IsIn 31 d ds → IsIn 65536 e es
+replay_passes : (p : Text) (d : ℕ) (ds : Text) (e : ℕ) (es : Text) → IsIn 1 31 d ds → IsIn 1 65536 e es
     → fault_of program_app (p ∷ codes "replay" ∷ (d ∷ ds) ∷ (e ∷ es) ∷ []) ≡ []
 unfolding clap_on_literals
-replay_passes p d ds e es m n = simp (m.hyphen, m.plus, m.some, m.first, m.rest, m.fits, m.least, m.greatest, n.hyphen, n.plus, n.some, n.first, n.rest, n.fits, n.least, n.greatest)
+replay_passes p d ds e es m n = simp (m.hyphen, m.plus, m.some, m.first, m.rest, m.fits, m.low, m.high, n.hyphen, n.plus, n.some, n.first, n.rest, n.fits, n.low, n.high)
 
 trace_asks : (p : Text) (d : ℕ) (ds : Text) (e : ℕ) (es : Text) → (d == 45) ≡ false → (d == 43) ≡ false → (e == 45) ≡ false → (e == 43) ≡ false
     → asked_for (p ∷ codes "trace" ∷ (d ∷ ds) ∷ (e ∷ es) ∷ []) ≡ option_and_then (λ clients. option_map (trace clients) (number_in 1 65536 (e ∷ es))) (number_in 1 31 (d ∷ ds))
 unfolding asked_for clap_on_literals
 trace_asks p d ds e es hyphen plus hyphen' plus' = simp (hyphen, plus, hyphen', plus')
 
-trace_passes : (p : Text) (d : ℕ) (ds : Text) (e : ℕ) (es : Text) → IsIn 31 d ds → IsIn 65536 e es
+trace_passes : (p : Text) (d : ℕ) (ds : Text) (e : ℕ) (es : Text) → IsIn 1 31 d ds → IsIn 1 65536 e es
     → fault_of program_app (p ∷ codes "trace" ∷ (d ∷ ds) ∷ (e ∷ es) ∷ []) ≡ []
 unfolding clap_on_literals
-trace_passes p d ds e es m n = simp (m.hyphen, m.plus, m.some, m.first, m.rest, m.fits, m.least, m.greatest, n.hyphen, n.plus, n.some, n.first, n.rest, n.fits, n.least, n.greatest)
+trace_passes p d ds e es m n = simp (m.hyphen, m.plus, m.some, m.first, m.rest, m.fits, m.low, m.high, n.hyphen, n.plus, n.some, n.first, n.rest, n.fits, n.low, n.high)
+
+-- the words after `dump` and `fill` are those of the subcommand
+dump_enters : (p a b c : Text) → fault_of program_app (p ∷ codes "dump" ∷ a ∷ b ∷ c ∷ [])
+    ≡ or_else (entered_fault (built program_app) (Some (codes "dump", a ∷ b ∷ c ∷ []))) []
+unfolding clap_on_literals
+dump_enters p a b c = refl
+
+dump_entered : (p a b c : Text) → asked_for (p ∷ codes "dump" ∷ a ∷ b ∷ c ∷ []) ≡ asked_in (entered (built program_app) (Some (codes "dump", a ∷ b ∷ c ∷ [])))
+unfolding asked_for clap_on_literals
+dump_entered p a b c = refl
+
+fill_enters : (p a b c d : Text) → fault_of program_app (p ∷ codes "fill" ∷ a ∷ b ∷ c ∷ d ∷ [])
+    ≡ or_else (entered_fault (built program_app) (Some (codes "fill", a ∷ b ∷ c ∷ d ∷ []))) []
+unfolding clap_on_literals
+fill_enters p a b c d = refl
+
+fill_entered : (p a b c d : Text) → asked_for (p ∷ codes "fill" ∷ a ∷ b ∷ c ∷ d ∷ [])
+    ≡ asked_in (entered (built program_app) (Some (codes "fill", a ∷ b ∷ c ∷ d ∷ [])))
+unfolding asked_for clap_on_literals
+fill_entered p a b c d = refl
+
+dump_rows : (d : ℕ) (ds : Text) (e : ℕ) (es : Text) (f : ℕ) (fs : Text) → (d == 45) ≡ false → (e == 45) ≡ false → (e == 43) ≡ false
+    → (f == 45) ≡ false → (f == 43) ≡ false
+    → asked_in (entered (built program_app) (Some (codes "dump", (d ∷ ds) ∷ (e ∷ es) ∷ (f ∷ fs) ∷ [])))
+    ≡ option_and_then (λ lba. option_map (dump (d ∷ ds) lba) (number_in 1 128 (f ∷ fs))) (number_in 0 4294967295 (e ∷ es))
+dump_rows d ds e es f fs plain hyphen plus hyphen' plus' =
+    simp (walked-plain d ds plain, walked-plain e es hyphen, walked-plain f fs hyphen') (simp (hyphen, plus) (simp (hyphen', plus')))
+
+dump_faults : (d : ℕ) (ds : Text) (e : ℕ) (es : Text) (f : ℕ) (fs : Text) → (d == 45) ≡ false → IsIn 0 4294967295 e es → IsIn 1 128 f fs
+    → entered_fault (built program_app) (Some (codes "dump", (d ∷ ds) ∷ (e ∷ es) ∷ (f ∷ fs) ∷ [])) ≡ []
+unfolding defaults_fault
+dump_faults d ds e es f fs plain m n =
+    simp (walked-plain d ds plain, walked-plain e es m.hyphen, walked-plain f fs n.hyphen)
+    (simp (fault-plain d ds plain, fault-plain e es m.hyphen, fault-plain f fs n.hyphen, fault-end)
+    (simp (m.hyphen, m.plus, m.some, m.first, m.rest, m.fits, m.low, m.high) (simp (n.hyphen, n.plus, n.some, n.first, n.rest, n.fits, n.low, n.high))))
+
+fill_rows : (d : ℕ) (ds : Text) (e : ℕ) (es : Text) (f : ℕ) (fs : Text) (h : ℕ) (hs : Text) → (d == 45) ≡ false
+    → (e == 45) ≡ false → (e == 43) ≡ false → (f == 45) ≡ false → (f == 43) ≡ false → (h == 45) ≡ false → (h == 43) ≡ false
+    → asked_in (entered (built program_app) (Some (codes "fill", (d ∷ ds) ∷ (e ∷ es) ∷ (f ∷ fs) ∷ (h ∷ hs) ∷ [])))
+    ≡ option_and_then (λ lba. option_and_then (λ count. option_map (fill (d ∷ ds) lba count) (number_in 0 255 (h ∷ hs))) (number_in 1 128 (f ∷ fs)))
+    (number_in 0 4294967295 (e ∷ es))
+fill_rows d ds e es f fs h hs plain hyphen plus hyphen' plus' hyphen″ plus″ =
+    simp (walked-plain d ds plain, walked-plain e es hyphen, walked-plain f fs hyphen', walked-plain h hs hyphen″)
+    (simp hyphen (simp plus (simp hyphen' (simp plus' (simp hyphen″ (simp plus″))))))
+
+nothing : (a b c d : Kinds) → a ≡ [] → b ≡ [] → c ≡ [] → d ≡ [] → or_else a (or_else [] (or_else b (or_else c d))) ≡ []
+nothing a b c d p q r t = simp (p, q, r, t)
+
+-- what follows the name of a subcommand is not refused where no part of its parse is
+level_nothing : (s : Shape) (words : List Text) → walk_fault s [] (walk_from nothing_held) words ≡ []
+    → settle_fault s.rules s.args_override_self (walk s.rules [] nothing_held words).held ≡ []
+    → defaults_fault (settled s.rules (walk s.rules [] nothing_held words).held).rows s.rules ≡ []
+    → check_fault s (finished s.rules (walk s.rules [] nothing_held words).held) false ≡ []
+    → level_fault s [] nothing_held words false [] ≡ []
+level_nothing s words p q r t = nothing _ _ _ _ p q r t
+
+abbrev fill_shape : Shape
+fill_shape = option_map_or (λ s. s) (find (λ s. answers_to (codes "fill") (label_of s)) (built program_app).subs) (built program_app).top
+
+abbrev four : (d : ℕ) (ds : Text) (e : ℕ) (es : Text) (f : ℕ) (fs : Text) (h : ℕ) (hs : Text) → List Text
+four d ds e es f fs h hs = (d ∷ ds) ∷ (e ∷ es) ∷ (f ∷ fs) ∷ (h ∷ hs) ∷ []
+
+fill_walk : (d : ℕ) (ds : Text) (e : ℕ) (es : Text) (f : ℕ) (fs : Text) (h : ℕ) (hs : Text) → (d == 45) ≡ false
+    → IsIn 0 4294967295 e es → IsIn 1 128 f fs → (h == 45) ≡ false → walk_fault fill_shape [] (walk_from nothing_held) (four d ds e es f fs h hs) ≡ []
+fill_walk d ds e es f fs h hs plain m n hyphen =
+    simp (fault-plain d ds plain) (simp (fault-plain e es m.hyphen) (simp (fault-plain f fs n.hyphen) (simp (fault-plain h hs hyphen) (simp fault-end
+    (simp (m.hyphen, m.plus, m.some, m.first, m.rest, m.fits, m.low, m.high) (simp (n.hyphen, n.plus, n.some, n.first, n.rest, n.fits, n.low, n.high)))))))
+
+fill_last : (d : ℕ) (ds : Text) (e : ℕ) (es : Text) (f : ℕ) (fs : Text) (h : ℕ) (hs : Text) → (d == 45) ≡ false
+    → (e == 45) ≡ false → (f == 45) ≡ false → IsIn 0 255 h hs
+    → settle_fault fill_shape.rules fill_shape.args_override_self (walk fill_shape.rules [] nothing_held (four d ds e es f fs h hs)).held ≡ []
+fill_last d ds e es f fs h hs plain hyphen hyphen' o =
+    simp (walked-plain d ds plain, walked-plain e es hyphen, walked-plain f fs hyphen', walked-plain h hs o.hyphen)
+    (simp (o.hyphen, o.plus, o.some, o.first, o.rest, o.fits, o.low, o.high))
+
+fill_defaults : (d : ℕ) (ds : Text) (e : ℕ) (es : Text) (f : ℕ) (fs : Text) (h : ℕ) (hs : Text) → (d == 45) ≡ false
+    → (e == 45) ≡ false → (f == 45) ≡ false → (h == 45) ≡ false
+    → defaults_fault (settled fill_shape.rules (walk fill_shape.rules [] nothing_held (four d ds e es f fs h hs)).held).rows fill_shape.rules ≡ []
+unfolding defaults_fault
+fill_defaults d ds e es f fs h hs plain hyphen hyphen' hyphen″ =
+    simp (walked-plain d ds plain, walked-plain e es hyphen, walked-plain f fs hyphen', walked-plain h hs hyphen″)
+
+fill_given : (d : ℕ) (ds : Text) (e : ℕ) (es : Text) (f : ℕ) (fs : Text) (h : ℕ) (hs : Text) → (d == 45) ≡ false
+    → (e == 45) ≡ false → (f == 45) ≡ false → (h == 45) ≡ false
+    → check_fault fill_shape (finished fill_shape.rules (walk fill_shape.rules [] nothing_held (four d ds e es f fs h hs)).held) false ≡ []
+fill_given d ds e es f fs h hs plain hyphen hyphen' hyphen″ =
+    simp (walked-plain d ds plain, walked-plain e es hyphen, walked-plain f fs hyphen', walked-plain h hs hyphen″)
+
+fill_faults : (d : ℕ) (ds : Text) (e : ℕ) (es : Text) (f : ℕ) (fs : Text) (h : ℕ) (hs : Text) → (d == 45) ≡ false
+    → IsIn 0 4294967295 e es → IsIn 1 128 f fs → IsIn 0 255 h hs
+    → entered_fault (built program_app) (Some (codes "fill", (d ∷ ds) ∷ (e ∷ es) ∷ (f ∷ fs) ∷ (h ∷ hs) ∷ [])) ≡ []
+fill_faults d ds e es f fs h hs plain m n o =
+    level_nothing fill_shape (four d ds e es f fs h hs) (fill_walk d ds e es f fs h hs plain m n o.hyphen)
+    (fill_last d ds e es f fs h hs plain m.hyphen n.hyphen o)
+    (fill_defaults d ds e es f fs h hs plain m.hyphen n.hyphen o.hyphen) (fill_given d ds e es f fs h hs plain m.hyphen n.hyphen o.hyphen)
 
 not-true : (b : Bool) → not b ≡ true → b ≡ false
 not-true true is = sym is
 not-true false is = refl
 
 -- what a number in a range is
-number_in-Some : (most n : ℕ) (text : Text) → number_in 1 most text ≡ Some n → (is_number text ≡ true) × (1 ≤ value_of text) × (value_of text ≤ most)
-number_in-Some most n text is = go (is_number text) refl (nat_le 1 (value_of text)) refl (nat_le (value_of text) most) refl is
+number_in-Some : (least most n : ℕ) (text : Text) → number_in least most text ≡ Some n
+    → (is_number text ≡ true) × (least ≤ value_of text) × (value_of text ≤ most)
+number_in-Some least most n text is = go (is_number text) refl (nat_le least (value_of text)) refl (nat_le (value_of text) most) refl is
   where
-    go : (a : Bool) → is_number text ≡ a → (b : Bool) → nat_le 1 (value_of text) ≡ b → (c : Bool) → nat_le (value_of text) most ≡ c
-        → cond (a && (b && c)) (Some (value_of text)) None ≡ Some n → (is_number text ≡ true) × (1 ≤ value_of text) × (value_of text ≤ most)
-    go true x true y true z e = (x, leb-true 1 (value_of text) y, leb-true (value_of text) most z)
+    go : (a : Bool) → is_number text ≡ a → (b : Bool) → nat_le least (value_of text) ≡ b → (c : Bool) → nat_le (value_of text) most ≡ c
+        → cond (a && (b && c)) (Some (value_of text)) None ≡ Some n → (is_number text ≡ true) × (least ≤ value_of text) × (value_of text ≤ most)
+    go true x true y true z e = (x, leb-true least (value_of text) y, leb-true (value_of text) most z)
     go false x b y c z e = cc
     go true x false y c z e = cc
     go true x true y false z e = cc
@@ -85,8 +188,9 @@ digits_pass : (ds : Text) → AllDigits 10 ds → list_all (λ x. nat_lt (digit_
 digits_pass [] h = refl
 digits_pass (d ∷ ds) h = rw (lt-ltb (digit_value d) 10 h.0) (digits_pass ds h.1)
 
-in_range : (most n d : ℕ) (ds : Text) → most < 2 ^ 63 → (is_number (d ∷ ds) ≡ true) × (1 ≤ value_of (d ∷ ds)) × (value_of (d ∷ ds) ≤ most) → IsIn most d ds
-in_range most n d ds small h =
+in_range : (least most n d : ℕ) (ds : Text) → most < 2 ^ 63 → (is_number (d ∷ ds) ≡ true) × (least ≤ value_of (d ∷ ds)) × (value_of (d ∷ ds) ≤ most)
+    → IsIn least most d ds
+in_range least most n d ds small h =
     let numeral = numeral-is_number (d ∷ ds) h.0 in
     let range = digit_from_value d numeral.1.0 in
     let same : value_of (d ∷ ds) ≡ digits_value 10 (d ∷ ds) = numerals.same (d ∷ ds) numeral.1 in
@@ -97,22 +201,23 @@ in_range most n d ds small h =
       first = lt-ltb (digit_value d) 10 numeral.1.0;
       rest = digits_pass ds numeral.1.1;
       fits = lt-ltb _ _ (omega (arith, same, h.2));
-      least = le-leb _ _ (omega (arith, same, h.1));
-      greatest = le-leb _ _ (omega (arith, same, h.2));
+      low = le-leb _ _ (omega (arith, same, h.1));
+      high = le-leb _ _ (omega (arith, same, h.2));
     }
 
 -- a number has a first digit, which is no sign
-number_is_in : (most n : ℕ) (text : Text) → most < 2 ^ 63 → number_in 1 most text ≡ Some n → (d : ℕ) × (ds : Text) × (text ≡ d ∷ ds) × IsIn most d ds
-number_is_in most n [] small is =
-    let none : number_in 1 most [] ≡ None = refl in
+number_is_in : (least most n : ℕ) (text : Text) → most < 2 ^ 63 → number_in least most text ≡ Some n
+    → (d : ℕ) × (ds : Text) × (text ≡ d ∷ ds) × IsIn least most d ds
+number_is_in least most n [] small is =
+    let none : number_in least most [] ≡ None = refl in
     cc
-number_is_in most n (d ∷ ds) small is = (d, ds, refl, in_range most n d ds small (number_in-Some most n (d ∷ ds) is))
+number_is_in least most n (d ∷ ds) small is = (d, ds, refl, in_range least most n d ds small (number_in-Some least most n (d ∷ ds) is))
 
 -- the program asks for what its words plainly ask for, and refuses nothing
 pub plain_asks : (asked : Asked) (words : List Text) → AsksPlainly asked words → (asked_for words ≡ Some asked) × (fault_of program_app words ≡ [])
 plain_asks (replay clients blocks) words plain =
-    let m = number_is_in 31 clients plain.1 (omega arith) plain.4 in
-    let n = number_is_in 65536 blocks plain.2 (omega arith) plain.5 in
+    let m = number_is_in 1 31 clients plain.1 (omega arith) plain.4 in
+    let n = number_is_in 1 65536 blocks plain.2 (omega arith) plain.5 in
     let is : words ≡ plain.0 ∷ codes "replay" ∷ (m.0 ∷ m.1) ∷ (n.0 ∷ n.1) ∷ [] =
     plain.3 ∙ ap₂ (λ (a b : Text). plain.0 ∷ codes "replay" ∷ a ∷ b ∷ []) m.2 n.2 in
     let first : number_in 1 31 (m.0 ∷ m.1) ≡ Some clients = ap (number_in 1 31) (sym m.2) ∙ plain.4 in
@@ -122,8 +227,8 @@ plain_asks (replay clients blocks) words plain =
       ap (fault_of program_app) is ∙ replay_passes plain.0 m.0 m.1 n.0 n.1 m.3 n.3,
     )
 plain_asks (trace clients blocks) words plain =
-    let m = number_is_in 31 clients plain.1 (omega arith) plain.4 in
-    let n = number_is_in 65536 blocks plain.2 (omega arith) plain.5 in
+    let m = number_is_in 1 31 clients plain.1 (omega arith) plain.4 in
+    let n = number_is_in 1 65536 blocks plain.2 (omega arith) plain.5 in
     let is : words ≡ plain.0 ∷ codes "trace" ∷ (m.0 ∷ m.1) ∷ (n.0 ∷ n.1) ∷ [] =
     plain.3 ∙ ap₂ (λ (a b : Text). plain.0 ∷ codes "trace" ∷ a ∷ b ∷ []) m.2 n.2 in
     let first : number_in 1 31 (m.0 ∷ m.1) ≡ Some clients = ap (number_in 1 31) (sym m.2) ∙ plain.4 in
@@ -134,7 +239,7 @@ plain_asks (trace clients blocks) words plain =
     )
 plain_asks (make [] blocks) words plain = absurd (true≢false (sym plain.3))
 plain_asks (make (d ∷ ds) blocks) words plain =
-    let n = number_is_in 65536 blocks plain.1 (omega arith) plain.4 in
+    let n = number_is_in 1 65536 blocks plain.1 (omega arith) plain.4 in
     let hyphen : (d == 45) ≡ false = not-true (d == 45) plain.3 in
     let is : words ≡ plain.0 ∷ codes "make" ∷ (d ∷ ds) ∷ (n.0 ∷ n.1) ∷ [] = plain.2 ∙ ap (λ (b : Text). plain.0 ∷ codes "make" ∷ (d ∷ ds) ∷ b ∷ []) n.2 in
     let second : number_in 1 65536 (n.0 ∷ n.1) ≡ Some blocks = ap (number_in 1 65536) (sym n.2) ∙ plain.4 in (
@@ -146,6 +251,43 @@ plain_asks (info (d ∷ ds)) words plain =
     let hyphen : (d == 45) ≡ false = not-true (d == 45) plain.2 in (
       ap asked_for plain.1 ∙ info_asks plain.0 d ds hyphen,
       ap (fault_of program_app) plain.1 ∙ info_passes plain.0 d ds hyphen,
+    )
+plain_asks (dump [] lba count) words plain = absurd (true≢false (sym plain.4))
+plain_asks (dump (d ∷ ds) lba count) words plain =
+    let m = number_is_in 0 4294967295 lba plain.1 (omega arith) plain.5 in
+    let n = number_is_in 1 128 count plain.2 (omega arith) plain.6 in
+    let hyphen : (d == 45) ≡ false = not-true (d == 45) plain.4 in
+    let is : words ≡ plain.0 ∷ codes "dump" ∷ (d ∷ ds) ∷ (m.0 ∷ m.1) ∷ (n.0 ∷ n.1) ∷ [] =
+    plain.3 ∙ ap₂ (λ (a b : Text). plain.0 ∷ codes "dump" ∷ (d ∷ ds) ∷ a ∷ b ∷ []) m.2 n.2 in
+    let second : number_in 0 4294967295 (m.0 ∷ m.1) ≡ Some lba = ap (number_in 0 4294967295) (sym m.2) ∙ plain.5 in
+    let third : number_in 1 128 (n.0 ∷ n.1) ≡ Some count = ap (number_in 1 128) (sym n.2) ∙ plain.6 in (
+      ap asked_for is ∙ (dump_entered plain.0 (d ∷ ds) (m.0 ∷ m.1) (n.0 ∷ n.1)
+          ∙ (dump_rows d ds m.0 m.1 n.0 n.1 hyphen m.3.hyphen m.3.plus n.3.hyphen n.3.plus
+          ∙ (ap (option_and_then (λ first. option_map (dump (d ∷ ds) first) (number_in 1 128 (n.0 ∷ n.1)))) second
+          ∙ ap (option_map (dump (d ∷ ds) lba)) third))),
+      ap (fault_of program_app) is ∙ (dump_enters plain.0 (d ∷ ds) (m.0 ∷ m.1) (n.0 ∷ n.1)
+          ∙ ap (λ (k : Kinds). or_else k []) (dump_faults d ds m.0 m.1 n.0 n.1 hyphen m.3 n.3)),
+    )
+plain_asks (fill [] lba count byte) words plain = absurd (true≢false (sym plain.5))
+plain_asks (fill (d ∷ ds) lba count byte) words plain =
+    let m = number_is_in 0 4294967295 lba plain.1 (omega arith) plain.6 in
+    let n = number_is_in 1 128 count plain.2 (omega arith) plain.7 in
+    let o = number_is_in 0 255 byte plain.3 (omega arith) plain.8 in
+    let hyphen : (d == 45) ≡ false = not-true (d == 45) plain.5 in
+    let is : words ≡ plain.0 ∷ codes "fill" ∷ (d ∷ ds) ∷ (m.0 ∷ m.1) ∷ (n.0 ∷ n.1) ∷ (o.0 ∷ o.1) ∷ [] =
+    plain.4 ∙ (ap₂ (λ (a b : Text). plain.0 ∷ codes "fill" ∷ (d ∷ ds) ∷ a ∷ b ∷ plain.3 ∷ []) m.2 n.2
+    ∙ ap (λ (c : Text). plain.0 ∷ codes "fill" ∷ (d ∷ ds) ∷ (m.0 ∷ m.1) ∷ (n.0 ∷ n.1) ∷ c ∷ []) o.2) in
+    let second : number_in 0 4294967295 (m.0 ∷ m.1) ≡ Some lba = ap (number_in 0 4294967295) (sym m.2) ∙ plain.6 in
+    let third : number_in 1 128 (n.0 ∷ n.1) ≡ Some count = ap (number_in 1 128) (sym n.2) ∙ plain.7 in
+    let fourth : number_in 0 255 (o.0 ∷ o.1) ≡ Some byte = ap (number_in 0 255) (sym o.2) ∙ plain.8 in (
+      ap asked_for is ∙ (fill_entered plain.0 (d ∷ ds) (m.0 ∷ m.1) (n.0 ∷ n.1) (o.0 ∷ o.1)
+          ∙ (fill_rows d ds m.0 m.1 n.0 n.1 o.0 o.1 hyphen m.3.hyphen m.3.plus n.3.hyphen n.3.plus o.3.hyphen o.3.plus
+          ∙ (ap (option_and_then (λ first. option_and_then (λ many. option_map (fill (d ∷ ds) first many) (number_in 0 255 (o.0 ∷ o.1)))
+          (number_in 1 128 (n.0 ∷ n.1)))) second
+          ∙ (ap (option_and_then (λ many. option_map (fill (d ∷ ds) lba many) (number_in 0 255 (o.0 ∷ o.1)))) third
+          ∙ ap (option_map (fill (d ∷ ds) lba count)) fourth)))),
+      ap (fault_of program_app) is ∙ (fill_enters plain.0 (d ∷ ds) (m.0 ∷ m.1) (n.0 ∷ n.1) (o.0 ∷ o.1)
+          ∙ ap (λ (k : Kinds). or_else k []) (fill_faults d ds m.0 m.1 n.0 n.1 o.0 o.1 hyphen m.3 n.3 o.3)),
     )
 
 -- a run that is plainly asked for is given, but for want of memory

@@ -12,6 +12,7 @@ use Rattle.scsi_cmd.specs.Op.{direction_of}
 use Rattle.tag_range.specs.declared.Refused.{Refused}
 use Rattle.tag_range.specs.declared.Refused.TheVariants.{NoTag, Worn}
 use Rattle.tag_range.specs.Tags.{ClientTags, issue_entry, is_worn, tag_at}
+use Rattle.stream_array.specs.declared.Pipe.TheVariants.{Status, DataIn, DataOut}
 use Rattle.bus_core.specs.declared.Step.{Step}
 use Rattle.bus_core.specs.declared.Step.TheVariants as step
 use Rattle.bus_core.specs.declared.Mark.{Mark}
@@ -19,7 +20,7 @@ use Rattle.bus_core.specs.declared.Mark.TheVariants.{Submit as SubmitMark, Carry
 use Rattle.bus_core.specs.declared.Outcome.{Outcome}
 use Rattle.bus_core.specs.declared.Refusal.{Refusal}
 use Rattle.bus_core.specs.Shared.{Shared, due, shared_step}
-use Rattle.bus_core.specs.Drain.{all_tags, tries, tried, tried_one, round, rounds}
+use Rattle.bus_core.specs.Drain.{all_tags, retirements, tries, tried, tried_one, round, rounds}
 use Rattle.bus_core.specs.Laws.{HeadlineHolds}
 use Rattle.bus_core.specs.Isolation.{renumbered, label_of, is_own, own_label, own_reply}
 use Rattle.uasdisk.specs.declared.script.Request.{Request}
@@ -61,7 +62,9 @@ IsNoSubmission (step.Submit client tag ticket command) = ⊥
 IsNoSubmission step.CommandPipe = Unit {0}
 IsNoSubmission (step.Data tag) = Unit {0}
 IsNoSubmission (step.Status tag) = Unit {0}
+IsNoSubmission step.Engine = Unit {0}
 IsNoSubmission step.Event = Unit {0}
+IsNoSubmission (step.Retire pipe tag) = Unit {0}
 IsNoSubmission (step.Take client) = Unit {0}
 
 mark_label : (ticket : ℕ) (mark : Mark) (taken : Step) → IsNoSubmission taken → is_to_host_by ticket (label_of mark taken) ≡ false
@@ -69,7 +72,9 @@ mark_label ticket (SubmitMark index) (step.Submit client tag given command) is =
 mark_label ticket (SubmitMark index) step.CommandPipe is = refl
 mark_label ticket (SubmitMark index) (step.Data tag) is = refl
 mark_label ticket (SubmitMark index) (step.Status tag) is = refl
+mark_label ticket (SubmitMark index) step.Engine is = refl
 mark_label ticket (SubmitMark index) step.Event is = refl
+mark_label ticket (SubmitMark index) (step.Retire pipe tag) is = refl
 mark_label ticket (SubmitMark index) (step.Take client) is = refl
 mark_label ticket (Carry index) taken is = refl
 mark_label ticket (Move index) taken is = refl
@@ -89,7 +94,9 @@ inner_no_submission (step.Submit client tag ticket command) is = absurd is
 inner_no_submission step.CommandPipe is = tt
 inner_no_submission (step.Data tag) is = tt
 inner_no_submission (step.Status tag) is = tt
+inner_no_submission step.Engine is = tt
 inner_no_submission step.Event is = tt
+inner_no_submission (step.Retire pipe tag) is = tt
 inner_no_submission (step.Take client) is = tt
 
 same_notes : (b : Bool) (client ticket : ℕ) (taken : Step) (outcome : Outcome) → IsNoSubmission taken
@@ -221,9 +228,21 @@ inner_map f (tag ∷ tags) inner = (inner tag, inner_map f tags inner)
 
 inner_tries : (clients : ℕ) → AllInner (tries clients)
 inner_tries clients =
-    inner_append ((step.CommandPipe ∷ step.Event ∷ []) ++ map step.Data (all_tags clients)) (map step.Status (all_tags clients))
-    (inner_append (step.CommandPipe ∷ step.Event ∷ []) (map step.Data (all_tags clients)) (tt, (tt, tt)) (inner_map step.Data (all_tags clients) (λ tag. tt)))
-    (inner_map step.Status (all_tags clients) (λ tag. tt))
+    let tags : List ℕ = all_tags clients in
+    let first : List Step = step.CommandPipe ∷ step.Engine ∷ step.Event ∷ [] in
+    let moves : List Step = first ++ map step.Data tags in
+    let sends : List Step = moves ++ map step.Status tags in
+    let statuses : List Step = sends ++ retirements clients Status in
+    let inward : List Step = statuses ++ retirements clients DataIn in
+    inner_append inward (retirements clients DataOut)
+    (inner_append statuses (retirements clients DataIn)
+    (inner_append sends (retirements clients Status)
+    (inner_append moves (map step.Status tags)
+    (inner_append first (map step.Data tags) (tt, (tt, (tt, tt))) (inner_map step.Data tags (λ tag. tt)))
+    (inner_map step.Status tags (λ tag. tt)))
+    (inner_map (step.Retire Status) tags (λ tag. tt)))
+    (inner_map (step.Retire DataIn) tags (λ tag. tt)))
+    (inner_map (step.Retire DataOut) tags (λ tag. tt))
 
 tried_one_goes : HeadlineHolds → (run : Telling) (now : Shared × ℕ) (taken : Step) → IsInner taken
     → Goes (at_machine run now.0) (at_machine run (tried_one now taken).0)
@@ -401,9 +420,11 @@ line_goes : HeadlineHolds → (run : Telling) (one : Line) → Goes run (told_li
 unfolding told_line
 line_goes isolated run (line.Submit client request) = submitted_goes isolated run client request
 line_goes isolated run line.CommandPipe = stepped_goes isolated run step.CommandPipe tt
+line_goes isolated run line.Engine = stepped_goes isolated run step.Engine tt
 line_goes isolated run line.Event = stepped_goes isolated run step.Event tt
 line_goes isolated run (line.Data tag) = stepped_goes isolated run (step.Data tag) tt
 line_goes isolated run (line.Status tag) = stepped_goes isolated run (step.Status tag) tt
+line_goes isolated run (line.Retire pipe tag) = stepped_goes isolated run (step.Retire pipe tag) tt
 line_goes isolated run (line.Take client) = taken_or_idle_goes isolated run client
 line_goes isolated run line.Drain = drained_goes isolated run
 

@@ -3,7 +3,8 @@ use Rattle.std.proofs.Common.{◌≡◌, ℕ, zero, suc, ◌+◌, ◌-◌, false
 use Rattle.std.specs.Prelude.{◌==◌}
 use Rattle.std.specs.List.{range_with_len}
 use Rattle.bus_core.specs.declared.Step.{Step}
-use Rattle.bus_core.specs.declared.Step.TheVariants.{CommandPipe, Data, Status, Event}
+use Rattle.stream_array.specs.declared.Pipe.TheVariants.{Status, DataIn, DataOut}
+use Rattle.bus_core.specs.declared.Step.TheVariants.{CommandPipe, Data, Status as StatusStep, Engine, Event, Retire}
 use Rattle.bus_core.specs.Shared.{Shared}
 use Rattle.bus_core.specs.Drain.{tried, tried_one, round, rounds}
 use Rattle.std.proofs.lemmas.Bool.{ne_eqb}
@@ -20,14 +21,33 @@ tried-suc kind now (suc count) first =
     tried-suc kind (tried_one now (kind first)) count (first + 1)
     ∙ ap (λ n. tried_one (tried (tried_one now (kind first)) (map kind (range_with_len (first + 1) count))) (kind n)) e
 
--- a round by its four parts
-pub round-parts : (now : Shared × ℕ) (count : ℕ) (data_done : Shared × ℕ) (after : Shared × ℕ) →
-    data_done ≡ tried (tried_one (tried_one now CommandPipe) Event) (map Data (range_with_len 1 count)) →
-    after ≡ tried data_done (map Status (range_with_len 1 count)) →
-    after ≡ tried now (CommandPipe ∷ Event ∷ [] ++ map Data (range_with_len 1 count) ++ map Status (range_with_len 1 count))
-round-parts now count data_done after data-is status-is =
-    status-is ∙ ap (λ s. tried s (map Status (range_with_len 1 count))) data-is
-    ∙ sym (tried-append now (CommandPipe ∷ Event ∷ [] ++ map Data (range_with_len 1 count)) (map Status (range_with_len 1 count)))
+-- one more part
+joined : (now before after : Shared × ℕ) (steps more : List Step) → before ≡ tried now steps → after ≡ tried before more → after ≡ tried now (steps ++ more)
+joined now before after steps more is on = on ∙ ap (λ s. tried s more) is ∙ sym (tried-append now steps more)
+
+-- The tries of a round, over so many tags.
+abbrev pub tries_of : ℕ → List Step
+tries_of count =
+    CommandPipe ∷ Engine ∷ Event ∷ [] ++ map Data (range_with_len 1 count) ++ map StatusStep (range_with_len 1 count)
+    ++ map (Retire Status) (range_with_len 1 count) ++ map (Retire DataIn) (range_with_len 1 count) ++ map (Retire DataOut) (range_with_len 1 count)
+
+-- a round by its parts: the three single steps, then the tags' data streams, status streams and TDs on each pipe
+pub round-parts : (now : Shared × ℕ) (tags count : ℕ) (moves sends on_status on_data_in after : Shared × ℕ) → tags ≡ count →
+    moves ≡ tried (tried_one (tried_one (tried_one now CommandPipe) Engine) Event) (map Data (range_with_len 1 tags)) →
+    sends ≡ tried moves (map StatusStep (range_with_len 1 tags)) →
+    on_status ≡ tried sends (map (Retire Status) (range_with_len 1 tags)) →
+    on_data_in ≡ tried on_status (map (Retire DataIn) (range_with_len 1 tags)) →
+    after ≡ tried on_data_in (map (Retire DataOut) (range_with_len 1 tags)) → after ≡ tried now (tries_of count)
+round-parts now tags count moves sends on_status on_data_in after counted moves-is sends-is on_status-is on_data_in-is after-is =
+    let first : List Step = CommandPipe ∷ Engine ∷ Event ∷ [] ++ map Data (range_with_len 1 tags) in
+    let second : List Step = first ++ map StatusStep (range_with_len 1 tags) in
+    let third : List Step = second ++ map (Retire Status) (range_with_len 1 tags) in
+    let fourth : List Step = third ++ map (Retire DataIn) (range_with_len 1 tags) in
+    joined now on_data_in after fourth (map (Retire DataOut) (range_with_len 1 tags))
+    (joined now on_status on_data_in third (map (Retire DataIn) (range_with_len 1 tags))
+    (joined now sends on_status second (map (Retire Status) (range_with_len 1 tags))
+    (joined now moves sends first (map StatusStep (range_with_len 1 tags)) moves-is sends-is) on_status-is) on_data_in-is) after-is
+    ∙ ap (λ n. tried now (tries_of n)) counted
 
 -- one more tag was tried
 pub tried-next : (kind : ℕ → Step) (now : Shared × ℕ) (count : ℕ) (at after : Shared × ℕ) → at ≡ tried now (map kind (range_with_len 1 count)) → after ≡ tried_one at (kind (count + 1)) →

@@ -12,23 +12,29 @@ use Rattle.clap.specs.declared.error.kind.ErrorKind.{ErrorKind}
 use Rattle.clap.specs.declared.error.kind.ErrorKind.TheVariants.{DisplayHelp, DisplayVersion, OutOfMemory, ValueValidation}
 use Rattle.block_unit.specs.declared.TheConstants.{MAX_BLOCKS}
 use Rattle.bus_core.specs.declared.TheConstants.{MAX_CLIENTS}
+use Rattle.scsi_cmd.specs.declared.TheConstants.{MOST_BLOCKS_MOVED}
 use Rattle.uasdisk.specs.declared.words.Run.{Run}
-use Rattle.uasdisk.specs.declared.words.Run.TheVariants.{Replay, Trace, Make, Info}
+use Rattle.uasdisk.specs.declared.words.Run.TheVariants.{Replay, Trace, Make, Info, Dump, Fill}
 use Rattle.uasdisk.specs.Words.{number_in}
 
 -- What is asked for, with a file's name as its text: to run a script of so many clients and blocks, to run one and show its
--- steps, to make an image of so many blocks, or to tell the size of one.
+-- steps, to make an image of so many blocks, to tell the size of one, to print its blocks from a number on, so many of them, or
+-- to fill them with a byte.
 pub data Asked : Type 0 where
   replay : ℕ → ℕ → Asked
   trace : ℕ → ℕ → Asked
   make : Text → ℕ → Asked
   info : Text → Asked
+  dump : Text → ℕ → ℕ → Asked
+  fill : Text → ℕ → ℕ → ℕ → Asked
 
 abbrev pub asked_by : Run → Asked
 asked_by (Replay clients blocks) = replay clients blocks
 asked_by (Trace clients blocks) = trace clients blocks
 asked_by (Make file blocks) = make file.now blocks
 asked_by (Info file) = info file.now
+asked_by (Dump file extent) = dump file.now extent.lba extent.count
+asked_by (Fill file extent byte) = fill file.now extent.lba extent.count byte
 
 -- ---- the arguments of a subcommand, by what was found for it
 
@@ -44,9 +50,35 @@ clients_of rows = option_and_then (number_of 1 MAX_CLIENTS) (one_of (codes "CLIE
 abbrev pub blocks_of : List Row → Option ℕ
 blocks_of rows = option_and_then (number_of 1 MAX_BLOCKS) (one_of (codes "BLOCKS") rows)
 
+-- the greatest number of a block that a CDB can name, which needs no block of the unit
+abbrev pub max_lba : ℕ
+max_lba = 4294967295
+
+-- LBA is a number from 0 to 4,294,967,295
+abbrev pub lba_of : List Row → Option ℕ
+lba_of rows = option_and_then (number_of 0 max_lba) (one_of (codes "LBA") rows)
+
+-- COUNT is a number from 1 to 128, the most blocks of one READ or WRITE
+abbrev pub count_of : List Row → Option ℕ
+count_of rows = option_and_then (number_of 1 MOST_BLOCKS_MOVED) (one_of (codes "COUNT") rows)
+
+-- BYTE is a number from 0 to 255
+abbrev pub byte_of : List Row → Option ℕ
+byte_of rows = option_and_then (number_of 0 255) (one_of (codes "BYTE") rows)
+
 -- FILE is any text
 abbrev pub file_of : List Row → Option Text
 file_of rows = first_of (codes "FILE") rows
+
+-- FILE LBA COUNT
+abbrev pub dump_of : List Row → Option Asked
+dump_of rows = option_and_then (λ file. option_and_then (λ lba. option_map (dump file lba) (count_of rows)) (lba_of rows)) (file_of rows)
+
+-- FILE LBA COUNT BYTE
+abbrev pub fill_of : List Row → Option Asked
+fill_of rows =
+    option_and_then (λ file. option_and_then (λ lba. option_and_then (λ count. option_map (fill file lba count) (byte_of rows)) (count_of rows)) (lba_of rows))
+    (file_of rows)
 
 -- what a subcommand asks for, by its name
 abbrev pub asked_of : Text → List Row → Option Asked
@@ -57,7 +89,9 @@ asked_of name rows =
     then option_and_then (λ clients. option_map (trace clients) (blocks_of rows)) (clients_of rows)
     else (if bytes_eq name (codes "make")
     then option_and_then (λ file. option_map (make file) (blocks_of rows)) (file_of rows)
-    else (if bytes_eq name (codes "info") then option_map info (file_of rows) else None)))
+    else (if bytes_eq name (codes "info") then option_map info (file_of rows)
+    else (if bytes_eq name (codes "dump") then dump_of rows
+    else (if bytes_eq name (codes "fill") then fill_of rows else None)))))
 
 abbrev pub asked_in : Option (Text × List Row) → Option Asked
 asked_in subcommand = option_and_then (λ s. asked_of s.0 s.1) subcommand
@@ -70,15 +104,24 @@ required_rule name = record (new_rule name) { required = true; action = Some Set
 abbrev pub file_rule : Rule
 file_rule = required_rule (codes "FILE")
 
--- a number from 1 to `most`
-abbrev pub number_rule : Text → ℕ → Rule
-number_rule name most = record (required_rule name) { parser = Some (parser.Signed (pos 1) (pos most)) }
+-- a number from `least` to `most`
+abbrev pub number_rule : Text → ℕ → ℕ → Rule
+number_rule name least most = record (required_rule name) { parser = Some (parser.Signed (pos least) (pos most)) }
 
 abbrev pub clients_rule : Rule
-clients_rule = number_rule (codes "CLIENTS") MAX_CLIENTS
+clients_rule = number_rule (codes "CLIENTS") 1 MAX_CLIENTS
 
 abbrev pub blocks_rule : Rule
-blocks_rule = number_rule (codes "BLOCKS") MAX_BLOCKS
+blocks_rule = number_rule (codes "BLOCKS") 1 MAX_BLOCKS
+
+abbrev pub lba_rule : Rule
+lba_rule = number_rule (codes "LBA") 0 max_lba
+
+abbrev pub count_rule : Rule
+count_rule = number_rule (codes "COUNT") 1 MOST_BLOCKS_MOVED
+
+abbrev pub byte_rule : Rule
+byte_rule = number_rule (codes "BYTE") 0 255
 
 -- a subcommand that runs a script: NAME CLIENTS BLOCKS
 abbrev pub script_app : Text → App
@@ -98,13 +141,27 @@ make_app = with_rule (with_rule (new_app (codes "make")) file_rule) blocks_rule
 abbrev pub info_app : App
 info_app = with_rule (new_app (codes "info")) file_rule
 
+-- a subcommand on blocks of an image: NAME FILE LBA COUNT
+abbrev pub extent_app : Text → App
+extent_app name = with_rule (with_rule (with_rule (new_app name) file_rule) lba_rule) count_rule
+
+abbrev pub dump_app : App
+dump_app = extent_app (codes "dump")
+
+-- fill FILE LBA COUNT BYTE
+abbrev pub fill_app : App
+fill_app = with_rule (extent_app (codes "fill")) byte_rule
+
 abbrev pub wants_subcommand : Shape → Shape
 wants_subcommand s = record s { subcommand_required = true; arg_required_else_help = true; has_version = true }
 
+abbrev pub top_app : App
+top_app = on_top wants_subcommand (new_app (codes "uasdisk"))
+
 -- The program wants a subcommand, tells its help with no words, and its version where that is asked for.
 abbrev pub program_app : App
-program_app = with_subcommand (with_subcommand (with_subcommand (with_subcommand (on_top wants_subcommand (new_app (codes "uasdisk")))
-    replay_app.top) trace_app.top) make_app.top) info_app.top
+program_app = with_subcommand (with_subcommand (with_subcommand (with_subcommand (with_subcommand (with_subcommand
+    top_app replay_app.top) trace_app.top) make_app.top) info_app.top) dump_app.top) fill_app.top
 
 -- ---- the words, the program's own name first
 
@@ -131,15 +188,23 @@ AsksPlainly (trace clients blocks) words = (program first second : Text) × (wor
 AsksPlainly (make file blocks) words = (program second : Text) × (words ≡ program ∷ codes "make" ∷ file ∷ second ∷ [])
     × (is_plain_name file ≡ true) × (number_in 1 MAX_BLOCKS second ≡ Some blocks)
 AsksPlainly (info file) words = (program : Text) × (words ≡ program ∷ codes "info" ∷ file ∷ []) × (is_plain_name file ≡ true)
+AsksPlainly (dump file lba count) words =
+    (program second third : Text) × (words ≡ program ∷ codes "dump" ∷ file ∷ second ∷ third ∷ []) × (is_plain_name file ≡ true)
+    × (number_in 0 max_lba second ≡ Some lba) × (number_in 1 MOST_BLOCKS_MOVED third ≡ Some count)
+AsksPlainly (fill file lba count byte) words =
+    (program second third fourth : Text) × (words ≡ program ∷ codes "fill" ∷ file ∷ second ∷ third ∷ fourth ∷ []) × (is_plain_name file ≡ true)
+    × (number_in 0 max_lba second ≡ Some lba) × (number_in 1 MOST_BLOCKS_MOVED third ≡ Some count) × (number_in 0 255 fourth ≡ Some byte)
 
 -- ---- exit statuses
 
--- A run ends with 0, 3 or 4, and a script's with 1 too.
+-- A run ends with 0, 3 or 4, and one that submits commands with 1 too.
 abbrev pub MayEndRun : Asked → ℕ → Type 0
 MayEndRun (replay clients blocks) status = (status ≤ 1) ⊎ ((status ≡ 3) ⊎ (status ≡ 4))
 MayEndRun (trace clients blocks) status = (status ≤ 1) ⊎ ((status ≡ 3) ⊎ (status ≡ 4))
 MayEndRun (make file blocks) status = (status ≡ 0) ⊎ ((status ≡ 3) ⊎ (status ≡ 4))
 MayEndRun (info file) status = (status ≡ 0) ⊎ ((status ≡ 3) ⊎ (status ≡ 4))
+MayEndRun (dump file lba count) status = (status ≤ 1) ⊎ ((status ≡ 3) ⊎ (status ≡ 4))
+MayEndRun (fill file lba count byte) status = (status ≤ 1) ⊎ ((status ≡ 3) ⊎ (status ≡ 4))
 
 -- Help or the version is asked for.
 abbrev pub IsRequest : ErrorKind → Type 0

@@ -3,11 +3,13 @@ use Rattle.std.specs.Prelude.{◌≡◌, ℕ, ◌<◌, ◌≤◌, Bool, IsTrue, 
 use Rattle.std.specs.Io.KnownBytes.{Appends, Keeps, IsAtEnd}
 use Rattle.clap.specs.Words.{Kinds, Text}
 use Rattle.clap.specs.declared.error.kind.ErrorKind.{ErrorKind}
-use Rattle.uasdisk.specs.CommandLine.{Asked, replay, trace, make, info, IsRequest, EndsRefused}
+use Rattle.uasdisk.specs.CommandLine.{Asked, replay, trace, make, info, dump, fill, IsRequest, EndsRefused}
 use Rattle.uasdisk.specs.Images.{blocks_in, made_image, made_text}
 use Rattle.uasdisk.specs.Script.{script}
 use Rattle.uasdisk.specs.Told.{zeroed_units}
-use Rattle.uasdisk.specs.Runs.{Tells, InfoPrints}
+use Rattle.uasdisk.specs.Runs.{Tells, InfoPrints, AnswersOf}
+use Rattle.uasdisk.specs.Alone.{dumped, filled, filled_medium}
+use Rattle.block_unit.specs.BlockMaps.{imaged}
 use Rattle.uasdisk.specs.Traced.{Traces}
 
 -- What is known of a host: whether it tells what its files hold; of the file of a name, whether it can be opened, can
@@ -73,12 +75,44 @@ pub record InfoEnds (file : Text) (host : Host) (old new : World) (status : ℕ)
   pub files : new.holds ≡ old.holds
   pub input : new.input ≡ old.input
 
+-- `dump FILE LBA COUNT`: standard output has got what is told of the blocks of the image that the file of this name holds.
+pub record DumpEnds (file : Text) (lba count : ℕ) (host : Host) (old new : World) (status : ℕ) : Type 0 where
+  pub statuses : (status ≤ 1) ⊎ ((status ≡ 3) ⊎ (status ≡ 4))
+  pub told : status ≤ 1 → IsTrue host.tells → IfSome (old.holds file) (λ bytes.
+      AnswersOf (blocks_in bytes) (dumped (imaged bytes []) lba count) old.output new.output status)
+  pub read : status ≤ 1 → IsTrue (host.can_open file)
+  pub fault : status ≡ 3 →
+      (((IsTrue host.tells → IfSome (old.holds file) (λ bytes. IsErr (blocks_in bytes))) ⊎ IsTrue (host.file_can_fail file))
+      × Keeps old.output new.output) ⊎ IsTrue host.output_can_fail
+  pub memory : status ≡ 4 → Keeps old.output new.output
+  pub files : new.holds ≡ old.holds
+  pub input : new.input ≡ old.input
+
+-- `fill FILE LBA COUNT BYTE`: standard output has got what is told of the WRITE, and after a GOOD the file of this name holds the
+-- medium that it left. Where it ended otherwise, every file holds what it held.
+pub record FillEnds (file : Text) (lba count byte : ℕ) (host : Host) (old new : World) (status : ℕ) : Type 0 where
+  pub statuses : (status ≤ 1) ⊎ ((status ≡ 3) ⊎ (status ≡ 4))
+  pub told : status ≤ 1 → IsTrue host.tells → IfSome (old.holds file) (λ bytes.
+      AnswersOf (blocks_in bytes) (filled (imaged bytes []) lba count byte) old.output new.output status)
+  pub image : status ≡ 0 → IsTrue host.tells → IfSome (old.holds file) (λ bytes.
+      new.holds file ≡ Some (filled_medium (imaged bytes []) lba count byte))
+  pub kept : status ≡ 1 → new.holds ≡ old.holds
+  pub read : status ≤ 1 → IsTrue (host.can_open file)
+  pub created : status ≡ 0 → IsTrue (host.can_create file)
+  pub fault : status ≡ 3 →
+      (((IsTrue host.tells → IfSome (old.holds file) (λ bytes. IsErr (blocks_in bytes))) ⊎ IsTrue (host.file_can_fail file))
+      × Keeps old.output new.output) ⊎ IsTrue host.output_can_fail
+  pub memory : status ≡ 4 → Keeps old.output new.output
+  pub input : new.input ≡ old.input
+
 -- how what the words ask for ends
 abbrev pub Ends : Asked → Host → World → World → ℕ → Type 0
 Ends (replay clients blocks) host old new status = ReplayEnds clients blocks host old new status
 Ends (trace clients blocks) host old new status = TraceEnds clients blocks host old new status
 Ends (make file blocks) host old new status = MakeEnds file blocks host old new status
 Ends (info file) host old new status = InfoEnds file host old new status
+Ends (dump file lba count) host old new status = DumpEnds file lba count host old new status
+Ends (fill file lba count byte) host old new status = FillEnds file lba count byte host old new status
 
 -- Words that are refused with an error of this kind: help and the version go to standard output, nothing else does.
 pub record RefusalEnds (kind : ErrorKind) (can_fail : Bool) (old new : Option (List ℕ)) (status : ℕ) : Type 0 where

@@ -7,6 +7,7 @@ pub mod Runs
 pub mod Options
 pub mod CommandLine
 pub mod Told
+pub mod Alone
 pub mod Traced
 pub mod Ends
 pub mod Headline

@@ -2,8 +2,9 @@
 use Rattle.std.specs.Prelude.{ℕ, ◌≤◌}
 use Rattle.block_unit.specs.declared.TheConstants.{MAX_BLOCKS}
 use Rattle.bus_core.specs.declared.TheConstants.{MAX_CLIENTS}
+use Rattle.scsi_cmd.specs.declared.TheConstants.{MOST_BLOCKS_MOVED}
 use Rattle.uasdisk.specs.declared.words.Run.{Run}
-use Rattle.uasdisk.specs.declared.words.Run.TheVariants.{Replay, Trace, Make, Info}
+use Rattle.uasdisk.specs.declared.words.Run.TheVariants.{Replay, Trace, Make, Info, Dump, Fill}
 
 -- a program runs 1 to 31 clients
 abbrev pub AreClients : ℕ → Type 0
@@ -13,9 +14,15 @@ AreClients clients = (1 ≤ clients) × (clients ≤ MAX_CLIENTS)
 abbrev pub AreBlocks : ℕ → Type 0
 AreBlocks blocks = (1 ≤ blocks) × (blocks ≤ MAX_BLOCKS)
 
+-- one READ or WRITE is of 1 to 128 blocks
+abbrev pub IsMoved : ℕ → Type 0
+IsMoved count = (1 ≤ count) × (count ≤ MOST_BLOCKS_MOVED)
+
 -- each number is in its range
 abbrev pub IsInRange : Run → Type 0
 IsInRange (Replay clients blocks) = AreClients clients × AreBlocks blocks
 IsInRange (Trace clients blocks) = AreClients clients × AreBlocks blocks
 IsInRange (Make file blocks) = AreBlocks blocks
 IsInRange (Info file) = Unit {0}
+IsInRange (Dump file extent) = IsMoved extent.count
+IsInRange (Fill file extent byte) = IsMoved extent.count

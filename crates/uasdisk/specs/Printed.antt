@@ -27,11 +27,14 @@ good_line client ticket bytes =
 abbrev pub hex_at : List ℕ → ℕ → List ℕ
 hex_at sense place = encode_lower (slice_index sense place ∷ [])
 
--- `C T check KK/AA/QQ`: sense key, additional sense code and qualifier are bytes 2, 12 and 13 of the fixed format.
+-- `check KK/AA/QQ`: sense key, additional sense code and qualifier are bytes 2, 12 and 13 of the fixed format
+abbrev pub sense_line : List ℕ → List ℕ
+sense_line sense = codes "check " ++ hex_at sense 2 ++ codes "/" ++ hex_at sense 12 ++ codes "/" ++ hex_at sense 13 ++ codes "\n"
+
+-- `C T check KK/AA/QQ`.
 -- By hand: 5/21/00 of ticket 0 of client 2 prints `2 0 check 05/21/00`.
 abbrev pub check_line : ℕ → ℕ → List ℕ → List ℕ
-check_line client ticket sense =
-    line_start client ticket ++ codes "check " ++ hex_at sense 2 ++ codes "/" ++ hex_at sense 12 ++ codes "/" ++ hex_at sense 13 ++ codes "\n"
+check_line client ticket sense = line_start client ticket ++ sense_line sense
 
 abbrev pub aborted_line : ℕ → ℕ → List ℕ
 aborted_line client ticket = line_start client ticket ++ codes "aborted\n"

@@ -1,11 +1,11 @@
 -- When a run may give up.
-use Rattle.std.specs.Prelude.{◌≡◌, ℕ, Bool, IsTrue, List, ◌⊎◌, Option, IfSome, Result, Ok, Err, ⊤}
+use Rattle.std.specs.Prelude.{◌≡◌, ℕ, Bool, IsTrue, List, [], ◌⊎◌, Option, IfSome, Result, Ok, Err, ⊤}
 use Rattle.uasdisk.specs.declared.status.RunFault.{RunFault}
 use Rattle.uasdisk.specs.declared.status.RunFault.TheVariants.{Image, ImageFile, Script, ScriptFile, NoMemory}
 use Rattle.uasdisk.specs.declared.streams.StreamFault.{StreamFault}
 use Rattle.uasdisk.specs.declared.streams.StreamFault.TheVariants.{NoMemory as StreamNoMemory, File}
 use Rattle.std.specs.Io.KnownBytes.{Appends, Keeps}
-use Rattle.block_unit.specs.BlockMaps.{BlockMaps}
+use Rattle.block_unit.specs.BlockMaps.{BlockMaps, imaged}
 use Rattle.uasdisk.specs.declared.script.Line.{Line}
 use Rattle.uasdisk.specs.declared.script.ScriptFault.{ScriptFault}
 use Rattle.uasdisk.specs.Script.{script}
@@ -23,6 +23,19 @@ ReadGivesUp left is_there can_fail ImageFile = IsTrue can_fail
 ReadGivesUp left is_there can_fail (Script fault) = ⊥
 ReadGivesUp left is_there can_fail ScriptFile = ⊥
 ReadGivesUp left is_there can_fail NoMemory = ⊤
+
+-- The unit of an image that was read, by the number of blocks in it: of no other file is there one.
+abbrev pub HoldsImage : Result ℕ ImageFault → List ℕ → BlockMaps → Type 0
+HoldsImage (Ok blocks) bytes unit = unit ≡ imaged bytes []
+HoldsImage (Err fault) bytes unit = ⊥
+
+-- The reading of a unit: the image's own fault, where it is there and its bytes are known; its file's, where that can fail; want of memory.
+abbrev pub UnitGivesUp : Option (List ℕ) → Bool → Bool → RunFault → Type 0
+UnitGivesUp left is_there can_fail (Image fault) = IfSome left (λ bytes. blocks_in bytes ≡ Err fault) × IsTrue is_there
+UnitGivesUp left is_there can_fail ImageFile = IsTrue can_fail
+UnitGivesUp left is_there can_fail (Script fault) = ⊥
+UnitGivesUp left is_there can_fail ScriptFile = ⊥
+UnitGivesUp left is_there can_fail NoMemory = ⊤
 
 -- A run that reads an image and prints: the image's own fault, where it is there and its bytes are known, or its file's, where that can
 -- fail, and nothing was printed; standard output's, where that can fail; want of memory, and nothing was printed.
@@ -56,6 +69,23 @@ MakeGivesUp blocks is_there can_file_fail can_write_fail image image' old new No
 abbrev pub InfoPrints : Result ℕ ImageFault → Option (List ℕ) → Option (List ℕ) → Type 0
 InfoPrints (Ok blocks) old new = Appends old new (info_text blocks)
 InfoPrints (Err fault) old new = ⊥
+
+-- A run of a command on an image that told something: its text, and its number as the exit status. Of no other file does it tell
+-- anything.
+abbrev pub AnswersOf : Result ℕ ImageFault → List ℕ × ℕ → Option (List ℕ) → Option (List ℕ) → ℕ → Type 0
+AnswersOf (Ok blocks) said old new status = Appends old new said.0 × (status ≡ said.1)
+AnswersOf (Err fault) said old new status = ⊥
+
+-- A run that fills blocks of a file that holds these bytes, where that is known: the image's own fault, and nothing was printed; its
+-- file's, where that can fail, and nothing was printed; standard output's, where that can fail; want of memory, and nothing was
+-- printed.
+abbrev pub FillGivesUp : Bool → Option (List ℕ) → Bool → Bool → Option (List ℕ) → Option (List ℕ) → RunFault → Type 0
+FillGivesUp tells holds can_file_fail can_write_fail old new (Image fault) =
+    (IsTrue tells → IfSome holds (λ bytes. blocks_in bytes ≡ Err fault)) × Keeps old new
+FillGivesUp tells holds can_file_fail can_write_fail old new ImageFile = IsTrue can_file_fail × Keeps old new
+FillGivesUp tells holds can_file_fail can_write_fail old new (Script fault) = ⊥
+FillGivesUp tells holds can_file_fail can_write_fail old new ScriptFile = IsTrue can_write_fail
+FillGivesUp tells holds can_file_fail can_write_fail old new NoMemory = Keeps old new
 
 -- A run of a script that told something: its lines' text, and their number as the exit status.
 abbrev pub Tells : List BlockMaps → Result (List Line) ScriptFault → Option (List ℕ) → Option (List ℕ) → ℕ → Type 0

@@ -10,7 +10,9 @@ use Rattle.scsi_cmd.specs.declared.TheConstants.{TAGS}
 use Rattle.scsi_cmd.specs.declared.Op.{Op}
 use Rattle.scsi_cmd.specs.declared.Op.TheVariants.{TestUnitReady, Inquiry, ReadCapacity, Read, Write, Sync}
 use Rattle.uasdisk.specs.declared.script.Line.{Line}
-use Rattle.uasdisk.specs.declared.script.Line.TheVariants.{Submit, CommandPipe, Event, Data, Status, Take, Drain}
+use Rattle.stream_array.specs.declared.Pipe.{Pipe}
+use Rattle.stream_array.specs.Map.{pipe_numbered}
+use Rattle.uasdisk.specs.declared.script.Line.TheVariants.{Submit, CommandPipe, Engine, Event, Data, Status, Retire, Take, Drain}
 use Rattle.uasdisk.specs.declared.script.LineFault.{LineFault}
 use Rattle.uasdisk.specs.declared.script.LineFault.TheVariants.{NotAscii, UnknownWord, WrongNumberOfWords, NumberOutOfRange}
 use Rattle.uasdisk.specs.declared.script.ScriptFault.{ScriptFault}
@@ -21,7 +23,7 @@ use Rattle.uasdisk.specs.declared.script.RequestName.TheVariants.{Tur as TurName
 use Rattle.uasdisk.specs.declared.script.RequestName.TheVariants.{Write as WriteName, Sync as SyncName}
 use Rattle.uasdisk.specs.declared.script.StepName.{StepName}
 use Rattle.uasdisk.specs.declared.script.StepName.TheVariants.{Command as CommandName, Event as EventName, Data as DataName, Status as StatusName}
-use Rattle.uasdisk.specs.declared.script.StepName.TheVariants.{Take as TakeName, Drain as DrainName}
+use Rattle.uasdisk.specs.declared.script.StepName.TheVariants.{Engine as EngineName, Retire as RetireName, Take as TakeName, Drain as DrainName}
 use Rattle.uasdisk.specs.Words.{pieces, words, is_number, number_in}
 
 -- WORDS OF A LINE, by their places from 0
@@ -45,6 +47,10 @@ client_at clients words place = number_at words place 0 (clients - 1)
 -- tags are 1 to 248
 abbrev pub tag_at : List (List ℕ) → ℕ → Option ℕ
 tag_at words place = number_at words place 1 (MAX_CLIENTS * TAGS)
+
+-- pipes with streams are 2 to 4
+abbrev pub pipe_at : List (List ℕ) → ℕ → Option Pipe
+pipe_at words place = option_and_then pipe_numbered (number_at words place 2 4)
 
 -- block numbers have 32 bits, counts and lengths 16, bytes 8
 abbrev pub lba_at : List (List ℕ) → ℕ → Option ℕ
@@ -110,32 +116,38 @@ named_submission clients words (Some name) =
 abbrev pub submission : ℕ → List (List ℕ) → Result Line LineFault
 submission clients words = named_submission clients words (option_and_then request_named (slice_get words 1))
 
--- STEPS: `command`, `event`, `data TAG`, `status TAG`, `take C`, `drain`
+-- STEPS: `command`, `engine`, `event`, `data TAG`, `status TAG`, `retire PIPE TAG`, `take C`, `drain`
 
 abbrev pub step_named : List ℕ → Option StepName
 step_named word =
     if bytes_eq word (codes "command") then Some CommandName
+    else (if bytes_eq word (codes "engine") then Some EngineName
     else (if bytes_eq word (codes "event") then Some EventName
     else (if bytes_eq word (codes "data") then Some DataName
     else (if bytes_eq word (codes "status") then Some StatusName
+    else (if bytes_eq word (codes "retire") then Some RetireName
     else (if bytes_eq word (codes "take") then Some TakeName
     else (if bytes_eq word (codes "drain") then Some DrainName
-    else None)))))
+    else None)))))))
 
 -- how many words its line has, the name among them
 abbrev pub step_has : StepName → ℕ
 step_has CommandName = 1
+step_has EngineName = 1
 step_has EventName = 1
 step_has DataName = 2
 step_has StatusName = 2
+step_has RetireName = 3
 step_has TakeName = 2
 step_has DrainName = 1
 
 abbrev pub step_of : ℕ → StepName → List (List ℕ) → Option Line
 step_of clients CommandName words = Some CommandPipe
+step_of clients EngineName words = Some Engine
 step_of clients EventName words = Some Event
 step_of clients DataName words = option_map Data (tag_at words 1)
 step_of clients StatusName words = option_map Status (tag_at words 1)
+step_of clients RetireName words = option_and_then (λ pipe. option_map (Retire pipe) (tag_at words 2)) (pipe_at words 1)
 step_of clients TakeName words = option_map Take (client_at clients words 1)
 step_of clients DrainName words = Some Drain
 

@@ -198,9 +198,11 @@ drained_run run = all_taken (record run { machine = drained_machine run.machine 
 unfoldable pub told_line : Telling → Line → Telling
 told_line run (line.Submit client request) = submitted run client request
 told_line run line.CommandPipe = stepped run step.CommandPipe
+told_line run line.Engine = stepped run step.Engine
 told_line run line.Event = stepped run step.Event
 told_line run (line.Data tag) = stepped run (step.Data tag)
 told_line run (line.Status tag) = stepped run (step.Status tag)
+told_line run (line.Retire pipe tag) = stepped run (step.Retire pipe tag)
 told_line run (line.Take client) = taken_or_idle run client
 told_line run line.Drain = drained_run run
 

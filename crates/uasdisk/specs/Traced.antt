@@ -7,6 +7,8 @@ use Rattle.hex.specs.Hex.{encode_lower}
 use Rattle.block_unit.specs.BlockMaps.{BlockMaps}
 use Rattle.scsi_cmd.specs.declared.Op.{Op}
 use Rattle.scsi_cmd.specs.declared.Op.TheVariants.{TestUnitReady, Inquiry, ReadCapacity, Read, Write, Sync}
+use Rattle.stream_array.specs.declared.Pipe.{Pipe}
+use Rattle.stream_array.specs.Map.{number_of}
 use Rattle.bus_core.specs.declared.Step.{Step}
 use Rattle.bus_core.specs.declared.Step.TheVariants as step
 use Rattle.uasdisk.specs.declared.status.RunFault.{RunFault}
@@ -40,7 +42,9 @@ step_line (step.Submit client tag ticket command) = submit_line client tag ticke
 step_line step.CommandPipe = codes "command\n"
 step_line (step.Data tag) = codes "data " ++ decimal tag ++ codes "\n"
 step_line (step.Status tag) = codes "status " ++ decimal tag ++ codes "\n"
+step_line step.Engine = codes "engine\n"
 step_line step.Event = codes "event\n"
+step_line (step.Retire pipe tag) = codes "retire " ++ decimal (number_of pipe) ++ codes " " ++ decimal tag ++ codes "\n"
 step_line (step.Take client) = codes "take " ++ decimal client ++ codes "\n"
 
 -- the name of what was written, and its address in 16 hexadecimal digits
@@ -54,6 +58,11 @@ bytes_line name address bytes = address_start name address ++ encode_lower bytes
 -- `  NAME ADDRESS LENGTH`: a chunk that was moved
 abbrev pub chunk_line : List ℕ → ℕ → ℕ → List ℕ
 chunk_line name address len = address_start name address ++ decimal len ++ codes "\n"
+
+-- `  context PIPE STREAM BYTES`: a stream context as it stands
+abbrev pub context_line : Pipe → ℕ → List ℕ → List ℕ
+context_line pipe stream bytes =
+    codes "  context " ++ decimal (number_of pipe) ++ codes " " ++ decimal stream ++ codes " " ++ encode_lower bytes ++ codes "\n"
 
 -- `  bell VALUE`, the value in 8 hexadecimal digits
 abbrev pub bell_line : ℕ → List ℕ

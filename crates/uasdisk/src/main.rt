@@ -5,11 +5,14 @@
 //! uasdisk trace CLIENTS BLOCKS < script      the same, and prints each step with the bytes that it wrote
 //! uasdisk make FILE BLOCKS                   makes an image of zeroed blocks
 //! uasdisk info FILE                          tells how many blocks an image has
+//! uasdisk dump FILE LBA COUNT                prints blocks of an image, by one READ
+//! uasdisk fill FILE LBA COUNT BYTE           fills blocks of an image with a byte, by one WRITE
 //! ```
 //!
 //! A line of a script submits a command for a client, takes one step of the bus, or drains it; what replies and refusals
-//! came of it is printed. The exit status is 0 where all went well, 1 where a command ended other than GOOD or was
-//! refused, 2 where the words are refused, 3 at a fault of a script, an image or a file, and 4 for want of memory.
+//! came of it is printed. A command on an image is submitted, drained and answered on a bus of its own. The exit status is 0
+//! where all went well, 1 where a command ended other than GOOD or was refused, 2 where the words are refused, 3 at a fault
+//! of a script, an image or a file, and 4 for want of memory.
 //!
 //! `main` gets the words and `start` the host: its standard streams and its files. All else is decided by `run_words`,
 //! over a host that tells its bytes and whether it can fail (`streams`, `files`). What the words ask for, and by which
@@ -19,12 +22,15 @@
 //! is `specs/Script.antt`. The rest is tested: the texts of faults and of help.
 #![tactic(auto)]
 
+pub mod alone;
 pub mod files;
 pub mod headline;
 pub mod image;
 pub mod printed;
 pub mod program;
 pub mod replay;
+pub mod run_dump;
+pub mod run_fill;
 pub mod run_script;
 pub mod run_trace;
 pub mod script;

@@ -3,7 +3,7 @@
 ghost use Rattle.std.specs.Prelude.{◌≡◌, ℕ, ◌≤◌, ◌++◌, [], length, take, codes, IfOk, OnOk, vec_len};
 ghost use Rattle.hex.specs.Hex.{encode_lower};
 ghost use Rattle.std.specs.String.{string_bytes};
-ghost use Rattle.uasdisk.specs.Printed.{line_start, shown_bytes, good_line, hex_at, check_line, aborted_line, task_line, bytes_in, reply_line, is_failure, fault_name, refused_name, refusal_line, idle_line};
+ghost use Rattle.uasdisk.specs.Printed.{line_start, shown_bytes, good_line, hex_at, sense_line, check_line, aborted_line, task_line, bytes_in, reply_line, is_failure, fault_name, refused_name, refusal_line, idle_line};
 
 use scsi_cmd::{GOOD, Reply, SubmitFault};
 use std::alloc::{AllocError, Global};
@@ -111,8 +111,16 @@ fn push_check(
 ) -> Result<(), AllocError>
     ensures { OnOk result (text.new.items ≡ text.old.items ++ check_line client ticket sense.now) }
 {
-    let start = format!(in alloc; "{client} {ticket} check ")?;
+    let start = format!(in alloc; "{client} {ticket} ")?;
     text.extend_from_slice(start.as_bytes())?;
+    push_sense(text, sense)
+}
+
+/// Adds `check KK/AA/QQ`.
+pub fn push_sense(text: &mut Vec<u8>, sense: &[u8]) -> Result<(), AllocError>
+    ensures { OnOk result (text.new.items ≡ text.old.items ++ sense_line sense.now) }
+{
+    text.extend_from_slice(b"check ")?;
     push_hex_at(text, sense, KEY_PLACE)?;
     text.extend_from_slice(b"/")?;
     push_hex_at(text, sense, CODE_PLACE)?;

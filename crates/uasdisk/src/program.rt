@@ -14,6 +14,8 @@ ghost use Rattle.uasdisk.specs.Images.{made_image, made_text};
 
 use crate::files::Files;
 use crate::image::{run_info, run_make};
+use crate::run_dump::run_dump;
+use crate::run_fill::run_fill;
 use crate::run_script::run_script;
 use crate::run_trace::run_trace;
 use crate::status::{DONE, RunFault, WORDS_REFUSED, output_fault};
@@ -79,6 +81,12 @@ pub fn run_words<F: Files, S: Source, O: Sink, W: Write>(
             may_show_progress,
         ),
         Ok(Run::Info { file }) => run_info(alloc, &mut files.open(file), output, faults),
+        Ok(Run::Dump { file, extent }) => {
+            run_dump(alloc, extent, &mut files.open(file), output, faults)
+        }
+        Ok(Run::Fill { file, extent, byte }) => {
+            run_fill(alloc, extent, byte, files, file, output, faults)
+        }
         Err(error) => refuse(alloc, &error, output, faults),
     }
 }

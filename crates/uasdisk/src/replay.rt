@@ -19,7 +19,7 @@ use std::marker::Model;
 use tag_range::TagRange;
 
 /// The most steps of a drain.
-const DRAIN_LIMIT: usize = 100_000;
+pub const DRAIN_LIMIT: usize = 100_000;
 
 /// Of each ticket that a client was given, whether the bus took a command under it that moves data to the host.
 #[derive(Drop)]
@@ -331,9 +331,11 @@ impl ScriptRun {
         match line {
             Line::Submit { client, request } => self.submit(client, request),
             Line::CommandPipe => self.step(Step::CommandPipe),
+            Line::Engine => self.step(Step::Engine),
             Line::Event => self.step(Step::Event),
             Line::Data(tag) => self.step(Step::Data(tag)),
             Line::Status(tag) => self.step(Step::Status(tag)),
+            Line::Retire(pipe, tag) => self.step(Step::Retire(pipe, tag)),
             Line::Take(client) => self.take_or_idle(client),
             Line::Drain => self.drain(),
         }
@@ -426,7 +428,7 @@ fn took_to_host(op: &Op, refused: &Option<Refusal>) -> bool
 }
 
 /// The command of a request, with its buffer filled.
-fn command_of(alloc: Global, request: Request) -> Result<Command, AllocError>
+pub fn command_of(alloc: Global, request: Request) -> Result<Command, AllocError>
     ensures { IfOk result (λ command. command ≡ command_of request) }
 {
     let bytes = vec![in alloc; request.fill; moves(&request.op).1]?;

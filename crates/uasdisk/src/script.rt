@@ -13,6 +13,7 @@ mod words;
 
 use scsi_cmd::Op;
 use std::alloc::{AllocError, Global};
+use stream_array::Pipe;
 use thiserror::Error;
 
 /// The most bytes of a script.
@@ -34,12 +35,16 @@ pub enum Line {
     Submit { client: usize, request: Request },
     /// One step of the command pipe.
     CommandPipe,
+    /// One step of the controller: it executes a command of its own command ring.
+    Engine,
     /// One step of the host: it takes an event.
     Event,
     /// One step on the data stream of a tag.
     Data(u16),
     /// One step on the status stream of a tag.
     Status(u16),
+    /// One step of the host: it begins to retire what is left over of a tag's TD on a pipe.
+    Retire(Pipe, u16),
     /// One step of a client: it takes a reply.
     Take(usize),
     /// Steps until none acts, then every reply.
@@ -83,9 +88,11 @@ pub enum RequestName {
 #[derive(Clone, Copy, PartialEq, Eq)]
 pub enum StepName {
     Command,
+    Engine,
     Event,
     Data,
     Status,
+    Retire,
     Take,
     Drain,
 }

@@ -4,12 +4,14 @@ ghost use Rattle.std.specs.Prelude.{◌≡◌, false, Some, IfOk, IfSome, MatchR
 ghost use Rattle.std.specs.String.{string_bytes};
 ghost use Rattle.clap.specs.Words.{FailsBy, app_of, found_of, kind_of, rows_of, rule_of, subcommand_rows_of};
 ghost use Rattle.uasdisk.specs.Options.{IsInRange};
-ghost use Rattle.uasdisk.specs.CommandLine.{Asked, AsksPlainly, asked_by, asked_for, asked_in, blocks_of, blocks_rule, clients_of, file_rule, info_app, make_app, number_rule, program_app, refusals, replay_app, script_app, trace_app};
+ghost use Rattle.uasdisk.specs.CommandLine.{Asked, AsksPlainly, asked_by, asked_for, asked_in, blocks_of, blocks_rule, byte_of, byte_rule, clients_of, count_of, count_rule, dump_app, dump_of, extent_app, file_of, file_rule, fill_app, fill_of, info_app, lba_of, lba_rule, make_app, number_rule, program_app, refusals, replay_app, script_app, top_app, trace_app};
 
+use crate::alone::Extent;
 use block_unit::MAX_BLOCKS;
 use bus_core::MAX_CLIENTS;
 use clap::error::ErrorKind;
 use clap::{Arg, ArgAction, ArgMatches, Command, Error};
+use scsi_cmd::MOST_BLOCKS_MOVED;
 use std::alloc::{AllocError, Global};
 
 /// The most clients, as a word of the command line.
@@ -19,6 +21,16 @@ const _: () = prove!(MOST_CLIENTS == 31);
 
 const _: () = prove!(MAX_BLOCKS == 65_536);
 
+/// The most blocks that one command moves, as a word of the command line.
+const MOST_MOVED: u32 = MOST_BLOCKS_MOVED as u32;
+
+const _: () = prove!(MOST_MOVED == 128);
+
+/// The greatest byte.
+const MAX_BYTE: u32 = u8::MAX as u32;
+
+const _: () = prove!(MAX_BYTE == 255);
+
 /// The version of the program, and the toolchain that it was proved with.
 pub const VERSION: &str = "0.1.0, proved with rattle-kit-13b logic dac8208d650f15bf";
 
@@ -26,13 +38,35 @@ pub const VERSION: &str = "0.1.0, proved with rattle-kit-13b logic dac8208d650f1
 #[derive(Clone, Copy, Debug, PartialEq, Eq)]
 pub enum Run<'a> {
     /// Run a script of 1 to 31 clients on units of 1 to 65,536 zeroed blocks.
-    Replay { clients: u8, blocks: u32 },
+    Replay {
+        clients: u8,
+        blocks: u32,
+    },
     /// Run a script as `Replay` does, and show each step.
-    Trace { clients: u8, blocks: u32 },
+    Trace {
+        clients: u8,
+        blocks: u32,
+    },
     /// Make an image file of 1 to 65,536 zeroed blocks.
-    Make { file: &'a str, blocks: u32 },
+    Make {
+        file: &'a str,
+        blocks: u32,
+    },
     /// Tell the size of an image file.
-    Info { file: &'a str },
+    Info {
+        file: &'a str,
+    },
+    /// Print 1 to 128 blocks of an image file.
+    Dump {
+        file: &'a str,
+        extent: Extent,
+    },
+    /// Fill 1 to 128 blocks of an image file with a byte.
+    Fill {
+        file: &'a str,
+        extent: Extent,
+        byte: u8,
+    },
 }
 
 /// Reads the words, the program's own name first. An error has the text to print, help among them.
@@ -63,15 +97,24 @@ fn run_by<'a>(mut command: Command<'a>, words: &'a [String]) -> Result<Run<'a>, 
 fn command<'a>(alloc: Global) -> Result<Command<'a>, AllocError>
     ensures { IfOk result (λ command. app_of command ≡ program_app) }
 {
+    top_command(alloc)
+        .subcommand(replay_command(alloc)?)?
+        .subcommand(trace_command(alloc)?)?
+        .subcommand(make_command(alloc)?)?
+        .subcommand(info_command(alloc)?)?
+        .subcommand(dump_command(alloc)?)?
+        .subcommand(fill_command(alloc)?)
+}
+
+/// The command without its subcommands.
+fn top_command<'a>(alloc: Global) -> Command<'a>
+    ensures { app_of result ≡ top_app }
+{
     Command::new(alloc, "uasdisk")
         .about("Runs disks of many clients over USB Attached SCSI, simulated and verified")
         .version(VERSION)
         .subcommand_required(true)
         .arg_required_else_help(true)
-        .subcommand(replay_command(alloc)?)?
-        .subcommand(trace_command(alloc)?)?
-        .subcommand(make_command(alloc)?)?
-        .subcommand(info_command(alloc)?)
 }
 
 fn replay_command<'a>(alloc: Global) -> Result<Command<'a>, AllocError>
@@ -111,6 +154,7 @@ fn script_command<'a>(
         .arg(number(
             alloc,
             "CLIENTS",
+            1,
             MOST_CLIENTS,
             "How many clients there are, each with a unit of its own: 1 to 31",
         ))?
@@ -139,6 +183,46 @@ fn info_command<'a>(alloc: Global) -> Result<Command<'a>, AllocError>
         .arg(file(alloc, "The image file: 1 to 65536 blocks of 512 bytes"))
 }
 
+fn dump_command<'a>(alloc: Global) -> Result<Command<'a>, AllocError>
+    ensures { IfOk result (λ command. app_of command ≡ dump_app) }
+{
+    extent_command(
+        alloc,
+        "dump",
+        "Reads blocks of an image file by one READ, and prints their bytes",
+        "Example:\n  uasdisk dump disk.image 0 1",
+    )
+}
+
+fn fill_command<'a>(alloc: Global) -> Result<Command<'a>, AllocError>
+    ensures { IfOk result (λ command. app_of command ≡ fill_app) }
+{
+    extent_command(
+        alloc,
+        "fill",
+        "Fills blocks of an image file with a byte by one WRITE, and writes the file",
+        "Example:\n  uasdisk fill disk.image 0 1 255",
+    )?
+    .arg(byte(alloc, "The byte that the blocks are filled with: 0 to 255"))
+}
+
+/// A subcommand on blocks of an image.
+fn extent_command<'a>(
+    alloc: Global,
+    name: &'a str,
+    about: &'a str,
+    example: &'a str,
+) -> Result<Command<'a>, AllocError>
+    ensures { IfOk result (λ command. app_of command ≡ extent_app name.entry.now) }
+{
+    Command::new(alloc, name)
+        .about(about)
+        .after_help(example)
+        .arg(file(alloc, "The image file: 1 to 65536 blocks of 512 bytes"))?
+        .arg(lba(alloc, "The number of the first block: 0 to 4294967295"))?
+        .arg(count(alloc, "How many blocks: 1 to 128"))
+}
+
 fn file<'a>(alloc: Global, help: &'a str) -> Arg<'a>
     ensures rule { rule_of result ≡ file_rule }
     ensures local { result.global ≡ false }
@@ -153,17 +237,38 @@ fn blocks<'a>(alloc: Global, help: &'a str) -> Arg<'a>
     ensures rule { rule_of result ≡ blocks_rule }
     ensures local { result.global ≡ false }
 {
-    number(alloc, "BLOCKS", MAX_BLOCKS, help)
+    number(alloc, "BLOCKS", 1, MAX_BLOCKS, help)
 }
 
-fn number<'a>(alloc: Global, name: &'a str, most: u32, help: &'a str) -> Arg<'a>
-    ensures rule { rule_of result ≡ number_rule name.entry.now most }
+fn lba<'a>(alloc: Global, help: &'a str) -> Arg<'a>
+    ensures rule { rule_of result ≡ lba_rule }
+    ensures local { result.global ≡ false }
+{
+    number(alloc, "LBA", 0, u32::MAX, help)
+}
+
+fn count<'a>(alloc: Global, help: &'a str) -> Arg<'a>
+    ensures rule { rule_of result ≡ count_rule }
+    ensures local { result.global ≡ false }
+{
+    number(alloc, "COUNT", 1, MOST_MOVED, help)
+}
+
+fn byte<'a>(alloc: Global, help: &'a str) -> Arg<'a>
+    ensures rule { rule_of result ≡ byte_rule }
+    ensures local { result.global ≡ false }
+{
+    number(alloc, "BYTE", 0, MAX_BYTE, help)
+}
+
+fn number<'a>(alloc: Global, name: &'a str, least: u32, most: u32, help: &'a str) -> Arg<'a>
+    ensures rule { rule_of result ≡ number_rule name.entry.now least most }
     ensures local { result.global ≡ false }
 {
     Arg::new(alloc, name)
         .required(true)
         .action(ArgAction::Set)
-        .value_parser(clap::value_parser!(u32).range(1..=i64::from(most)))
+        .value_parser(clap::value_parser!(u32).range(i64::from(least)..=i64::from(most)))
         .help(help)
 }
 
@@ -193,8 +298,39 @@ fn asked<'a>(matches: &ArgMatches<'a>) -> Option<Run<'a>>
             let file = words.get_str("FILE")?;
             Some(Run::Info { file })
         }
+        "dump" => dump_in(words),
+        "fill" => fill_in(words),
         _ => None,
     }
+}
+
+fn dump_in<'a>(words: &ArgMatches<'a>) -> Option<Run<'a>>
+    ensures range { IfSome result IsInRange }
+    ensures asked { option_map asked_by result ≡ dump_of (rows_of (found_of words.now)) }
+{
+    let file = file_in(words)?;
+    let lba = lba_in(words)?;
+    let count = count_in(words)?;
+    let extent = Extent { lba, count };
+    Some(Run::Dump { file, extent })
+}
+
+fn fill_in<'a>(words: &ArgMatches<'a>) -> Option<Run<'a>>
+    ensures range { IfSome result IsInRange }
+    ensures asked { option_map asked_by result ≡ fill_of (rows_of (found_of words.now)) }
+{
+    let file = file_in(words)?;
+    let lba = lba_in(words)?;
+    let count = count_in(words)?;
+    let byte = byte_in(words)?;
+    let extent = Extent { lba, count };
+    Some(Run::Fill { file, extent, byte })
+}
+
+fn file_in<'a>(words: &ArgMatches<'a>) -> Option<&'a str>
+    ensures { option_map (λ file. file.now) result ≡ file_of (rows_of (found_of words.now)) }
+{
+    words.get_str("FILE")
 }
 
 fn clients_in(words: &ArgMatches<'_>) -> Option<u8>
@@ -217,4 +353,29 @@ fn blocks_in(words: &ArgMatches<'_>) -> Option<u32>
     } else {
         None
     }
+}
+
+fn lba_in(words: &ArgMatches<'_>) -> Option<u32>
+    ensures { result ≡ lba_of (rows_of (found_of words.now)) }
+{
+    let lba = words.get_one::<u32>("LBA")?;
+    Some(lba)
+}
+
+fn count_in(words: &ArgMatches<'_>) -> Option<u16>
+    ensures { result ≡ count_of (rows_of (found_of words.now)) }
+{
+    let count = words.get_one::<u16>("COUNT")?;
+    if 1 <= count && count <= MOST_BLOCKS_MOVED {
+        Some(count)
+    } else {
+        None
+    }
+}
+
+fn byte_in(words: &ArgMatches<'_>) -> Option<u8>
+    ensures { result ≡ byte_of (rows_of (found_of words.now)) }
+{
+    let byte = words.get_one::<u8>("BYTE")?;
+    Some(byte)
 }

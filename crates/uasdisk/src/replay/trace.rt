@@ -10,7 +10,7 @@ ghost use Rattle.std.specs.Prelude.{◌≡◌, ◌≤◌, ◌<◌, ◌^◌, Ok, 
 ghost use Rattle.std.specs.List.{range_with_len};
 ghost use Rattle.bus_core.specs.Bus.{HasTicket};
 ghost use Rattle.bus_core.specs.Drain.{round, tried, tried_one};
-ghost use Rattle.bus_core.specs.declared.Step.TheVariants.{Data, Status};
+ghost use Rattle.bus_core.specs.declared.Step.TheVariants.{Data, Retire, Status};
 ghost use Rattle.uasdisk.specs.Told.{all_taken, all_taken_by, drained_machine, drained_run, issued_run, opening_run, step_of, stepped, submitted, taken, taken_or_idle, told, told_line, zeroed_units};
 ghost use Rattle.uasdisk.specs.Traced.{StopsBy};
 ghost use Rattle.uasdisk.specs.declared.status.RunFault.{RunFault};
@@ -27,7 +27,7 @@ use bus_core::{Outcome, Step};
 use lines::push_step;
 use scsi_cmd::TAGS;
 use std::alloc::Global;
-use stream_array::EVENT_RING_PLACES;
+use stream_array::{EVENT_RING_PLACES, Pipe};
 use writes::Before;
 
 /// A script's run that is shown step by step.
@@ -298,6 +298,27 @@ impl TracedRun {
         Ok(left)
     }
 
+    /// A try to retire what is left over on a pipe of the TD of each tag up to this one.
+    fn try_retire<O: Sink>(
+        &mut self,
+        writer: &mut O,
+        pipe: Pipe,
+        tags: usize,
+        left: usize,
+    ) -> Result<usize, RunFault>
+        requires { tags ≤ 248 }
+        ensures machine { IfOk result (λ after. (self.new.run.machine, after) ≡ tried (self.old.run.machine, left) (map (Retire pipe) (range_with_len 1 tags))) }
+        ensures rest { OnOk result (self.new.run ≡ record self.old.run { machine = self.new.run.machine }) }
+        ensures same { O.can_fail writer.new ≡ O.can_fail writer.old }
+        ensures fault { IfErr result (StopsBy (O.can_fail writer.old)) }
+    {
+        let mut left = left;
+        for before in 0..tags {
+            left = self.try_step(writer, Step::Retire(pipe, before as u16 + 1), left)?;
+        }
+        Ok(left)
+    }
+
     /// One round of tries, in the order of the bus's drain, of which so many may act: how many more may act after it.
     fn round<O: Sink>(&mut self, writer: &mut O, left: usize) -> Result<usize, RunFault>
         ensures machine { IfOk result (λ after. (self.new.run.machine, after) ≡ round (self.old.run.machine, left)) }
@@ -307,9 +328,13 @@ impl TracedRun {
     {
         let tags = self.run.clients() * TAGS;
         let first = self.try_step(writer, Step::CommandPipe, left)?;
-        let second = self.try_step(writer, Step::Event, first)?;
-        let third = self.try_data(writer, tags, second)?;
-        self.try_status(writer, tags, third)
+        let second = self.try_step(writer, Step::Engine, first)?;
+        let third = self.try_step(writer, Step::Event, second)?;
+        let fourth = self.try_data(writer, tags, third)?;
+        let fifth = self.try_status(writer, tags, fourth)?;
+        let sixth = self.try_retire(writer, Pipe::Status, tags, fifth)?;
+        let seventh = self.try_retire(writer, Pipe::DataIn, tags, sixth)?;
+        self.try_retire(writer, Pipe::DataOut, tags, seventh)
     }
 
     /// Steps of the bus until none acts, or so many have acted.
@@ -352,9 +377,11 @@ impl TracedRun {
         match line {
             Line::Submit { client, request } => self.submit(writer, client, request),
             Line::CommandPipe => self.step(writer, Step::CommandPipe),
+            Line::Engine => self.step(writer, Step::Engine),
             Line::Event => self.step(writer, Step::Event),
             Line::Data(tag) => self.step(writer, Step::Data(tag)),
             Line::Status(tag) => self.step(writer, Step::Status(tag)),
+            Line::Retire(pipe, tag) => self.step(writer, Step::Retire(pipe, tag)),
             Line::Take(client) => self.take_or_idle(writer, client),
             Line::Drain => self.drain(writer),
         }

@@ -2,12 +2,13 @@
 
 ghost use Rattle.std.specs.Prelude.{◌≡◌, ℕ, ◌≤◌, ◌<◌, map, IfSome, length};
 ghost use Rattle.std.specs.Str.{bytes_eq};
-ghost use Rattle.uasdisk.specs.Script.{number_at, fua_at, client_at, tag_at, lba_at, count_at, byte_at, request_named, request_has, zeroed, request_of, submission_of, submission, step_named, step_has, step_of, named_step, line_of_words};
+ghost use Rattle.uasdisk.specs.Script.{number_at, fua_at, client_at, tag_at, pipe_at, lba_at, count_at, byte_at, request_named, request_has, zeroed, request_of, submission_of, submission, step_named, step_has, step_of, named_step, line_of_words};
 
 use super::words::{is_number, number_in};
 use super::{Line, LineFault, Request, RequestName, StepName};
 use bus_core::MAX_CLIENTS;
 use scsi_cmd::{Op, TAGS};
+use stream_array::Pipe;
 
 /// The greatest tag.
 const MAX_TAG: u32 = (MAX_CLIENTS * TAGS) as u32;
@@ -44,6 +45,18 @@ fn tag_at(words: &[&[u8]], place: usize) -> Option<u16>
 {
     let tag = number_at(words, place, 1, MAX_TAG)?;
     Some(tag as u16)
+}
+
+/// The word at a place, as the number of a pipe with streams.
+fn pipe_at(words: &[&[u8]], place: usize) -> Option<Pipe>
+    ensures { result ≡ pipe_at (map (λ word. word.now) words.now) place }
+{
+    match number_at(words, place, 2, 4)? {
+        2 => Some(Pipe::Status),
+        3 => Some(Pipe::DataIn),
+        4 => Some(Pipe::DataOut),
+        _ => None,
+    }
 }
 
 /// The word at a place, as a block number.
@@ -198,12 +211,16 @@ fn step_named(word: &[u8]) -> Option<StepName>
 {
     if is_word(word, "command") {
         Some(StepName::Command)
+    } else if is_word(word, "engine") {
+        Some(StepName::Engine)
     } else if is_word(word, "event") {
         Some(StepName::Event)
     } else if is_word(word, "data") {
         Some(StepName::Data)
     } else if is_word(word, "status") {
         Some(StepName::Status)
+    } else if is_word(word, "retire") {
+        Some(StepName::Retire)
     } else if is_word(word, "take") {
         Some(StepName::Take)
     } else if is_word(word, "drain") {
@@ -219,8 +236,9 @@ impl StepName {
         ensures { result ≡ step_has self }
     {
         match self {
-            StepName::Command | StepName::Event | StepName::Drain => 1,
+            StepName::Command | StepName::Engine | StepName::Event | StepName::Drain => 1,
             StepName::Data | StepName::Status | StepName::Take => 2,
+            StepName::Retire => 3,
         }
     }
 }
@@ -245,9 +263,11 @@ fn step_of(clients: usize, name: StepName, words: &[&[u8]]) -> Option<Line>
 {
     match name {
         StepName::Command => Some(Line::CommandPipe),
+        StepName::Engine => Some(Line::Engine),
         StepName::Event => Some(Line::Event),
         StepName::Data => Some(Line::Data(tag_at(words, 1)?)),
         StepName::Status => Some(Line::Status(tag_at(words, 1)?)),
+        StepName::Retire => Some(Line::Retire(pipe_at(words, 1)?, tag_at(words, 2)?)),
         StepName::Take => Some(Line::Take(client_at(clients, words, 1)?)),
         StepName::Drain => Some(Line::Drain),
     }

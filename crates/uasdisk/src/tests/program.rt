@@ -147,6 +147,8 @@ Commands:
   trace   Runs a script as replay does, and prints each step with the bytes that it wrote
   make    Makes an image file of zeroed blocks
   info    Tells how many blocks an image file has, and the number of the last
+  dump    Reads blocks of an image file by one READ, and prints their bytes
+  fill    Fills blocks of an image file with a byte by one WRITE, and writes the file
   help    Print this message or the help of the given subcommand(s)
 
 Options:
@@ -189,6 +191,25 @@ Example:
 ",
         ),
         (
+            "uasdisk fill --help",
+            "Fills blocks of an image file with a byte by one WRITE, and writes the file
+
+Usage: uasdisk fill <FILE> <LBA> <COUNT> <BYTE>
+
+Arguments:
+  <FILE>   The image file: 1 to 65536 blocks of 512 bytes
+  <LBA>    The number of the first block: 0 to 4294967295
+  <COUNT>  How many blocks: 1 to 128
+  <BYTE>   The byte that the blocks are filled with: 0 to 255
+
+Options:
+  -h, --help  Print help
+
+Example:
+  uasdisk fill disk.image 0 1 255
+",
+        ),
+        (
             "uasdisk info -h",
             "Tells how many blocks an image file has, and the number of the last
 
@@ -223,7 +244,7 @@ struct CommandLine {
     made: Option<usize>,
 }
 
-static LINES: [CommandLine; 7] = [
+static LINES: [CommandLine; 9] = [
     CommandLine {
         line: "uasdisk replay 1 1",
         status: 0,
@@ -260,6 +281,20 @@ static LINES: [CommandLine; 7] = [
         made: None,
     },
     CommandLine {
+        line: "uasdisk fill disk 0 1 255",
+        status: 0,
+        output: b"good\n",
+        faults: b"",
+        made: Some(1024),
+    },
+    CommandLine {
+        line: "uasdisk dump other 0 1",
+        status: 3,
+        output: b"",
+        faults: b"image: file\n",
+        made: None,
+    },
+    CommandLine {
         line: "uasdisk replay 32 1",
         status: 2,
         output: b"",
@@ -270,7 +305,7 @@ static LINES: [CommandLine; 7] = [
         line: "uasdisk jump",
         status: 2,
         output: b"",
-        faults: b"error: unrecognized subcommand 'jump'\n\nUsage: uasdisk <COMMAND>\n\nFor more information, try '--help'.\n",
+        faults: b"error: unrecognized subcommand 'jump'\n\n  tip: a similar subcommand exists: 'dump'\n\nUsage: uasdisk <COMMAND>\n\nFor more information, try '--help'.\n",
         made: None,
     },
 ];
@@ -284,5 +319,16 @@ fn command_lines(rt: HostRuntime) -> Result<(), Fail> {
         assert_eq!(rt; ended.faults.as_slice(), row.faults);
         assert_eq!(rt; ended.new.map(|bytes| bytes.len()), row.made);
     }
+    Ok(())
+}
+
+/// Block 1 of the file, whose bytes are 7: 32 lines.
+#[test]
+fn a_block_is_printed(rt: HostRuntime) -> Result<(), Fail> {
+    let ended = run(rt.alloc(), "uasdisk dump disk 1 1", b"")?;
+    assert_eq!(rt; ended.status, 0);
+    assert_eq!(rt; ended.output.len(), 32 * 42);
+    let first = b"00000200 07070707070707070707070707070707\n";
+    assert!(rt; ended.output.as_slice().starts_with(first));
     Ok(())
 }

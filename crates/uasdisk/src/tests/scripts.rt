@@ -7,11 +7,12 @@ use block_unit::{BLOCK_BYTES, Unit};
 use bus_core::{Bus, Step};
 use scsi_cmd::{Buffer, Command, Op};
 use std::test::Fail;
+use stream_array::Pipe;
 
 #[test]
 fn lines_are_read(rt: HostRuntime) -> Result<(), Fail> {
     let text =
-        b"# a comment\n\n   \n  002   tur \n1 read 4294967295 65535 fua\n1 write 7 8 255\ndata 248\ntake 0\ndrain";
+        b"# a comment\n\n   \n  002   tur \n1 read 4294967295 65535 fua\n1 write 7 8 255\ndata 248\nretire 4 18\ntake 0\ndrain";
     let lines = parse_script(rt.alloc(), 3, text)??;
     let zeroed = |op| Request { op, fill: 0 };
     let expected = [
@@ -39,6 +40,7 @@ fn lines_are_read(rt: HostRuntime) -> Result<(), Fail> {
             },
         },
         Line::Data(248),
+        Line::Retire(Pipe::DataOut, 18),
         Line::Take(0),
         Line::Drain,
     ];

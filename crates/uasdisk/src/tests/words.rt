@@ -1,5 +1,6 @@
 //! Command lines.
 
+use crate::alone::Extent;
 use crate::words::{Run, run_of};
 use clap::error::ErrorKind;
 use std::alloc::{AllocError, Global};
@@ -18,6 +19,11 @@ fn words_that_ask_for_a_run(rt: HostRuntime) -> Result<(), Fail> {
     let replay = |clients, blocks| Run::Replay { clients, blocks };
     let make = |file, blocks| Run::Make { file, blocks };
     let info = |file| Run::Info { file };
+    let fill = |lba, count, byte| Run::Fill {
+        file: "d",
+        extent: Extent { lba, count },
+        byte,
+    };
     for (line, run) in [
         ("uasdisk replay 1 1", replay(1, 1)),
         ("uasdisk replay 31 65536", replay(31, 65_536)),
@@ -32,6 +38,18 @@ fn words_that_ask_for_a_run(rt: HostRuntime) -> Result<(), Fail> {
         ("uasdisk info d", info("d")),
         ("uasdisk info replay", info("replay")),
         ("uasdisk info -- -d", info("-d")),
+        (
+            "uasdisk dump d 0 1",
+            Run::Dump {
+                file: "d",
+                extent: Extent { lba: 0, count: 1 },
+            },
+        ),
+        (
+            "uasdisk fill d 4294967295 128 255",
+            fill(u32::MAX, 128, 255),
+        ),
+        ("uasdisk fill d 7 1 0", fill(7, 1, 0)),
     ] {
         let words = words_of(rt.alloc(), line)?;
         assert!(rt; run_of(rt.alloc(), &words)? == run, "{line}");
@@ -40,7 +58,7 @@ fn words_that_ask_for_a_run(rt: HostRuntime) -> Result<(), Fail> {
 }
 
 /// Words that are refused, the kind of the error, and the exit status that clap has for it.
-static REFUSED: [(&str, ErrorKind, i32); 33] = [
+static REFUSED: [(&str, ErrorKind, i32); 38] = [
     (
         "uasdisk",
         ErrorKind::DisplayHelpOnMissingArgumentOrSubcommand,
@@ -78,6 +96,11 @@ static REFUSED: [(&str, ErrorKind, i32); 33] = [
     ("uasdisk replay -- 1 -1", ErrorKind::ValueValidation, 2),
     ("uasdisk make d 0", ErrorKind::ValueValidation, 2),
     ("uasdisk make d 65537", ErrorKind::ValueValidation, 2),
+    ("uasdisk fill d 0 1", ErrorKind::MissingRequiredArgument, 2),
+    ("uasdisk dump d 0 0", ErrorKind::ValueValidation, 2),
+    ("uasdisk dump d 0 129", ErrorKind::ValueValidation, 2),
+    ("uasdisk dump d 4294967296 1", ErrorKind::ValueValidation, 2),
+    ("uasdisk fill d 0 1 256", ErrorKind::ValueValidation, 2),
 ];
 
 #[test]

@@ -1,5 +1,5 @@
 -- The outcome of each step that acts.
-use Rattle.bus_core.proofs.OutcomeMarks.{carry-marked, move-marked, send-marked, event-marked}
+use Rattle.bus_core.proofs.OutcomeMarks.{carry-marked, move-marked, send-marked, event-marked, engine-marked, retire-marked}
 use Rattle.bus_core.proofs.world_due.steps_are_marked.Goals as goal
 
 pub returns-clause-command : goal.returns-clause-command
@@ -13,3 +13,9 @@ returns-clause-status c = send-marked
 
 pub returns-clause-event : goal.returns-clause-event
 returns-clause-event c = event-marked
+
+pub returns-clause-engine : goal.returns-clause-engine
+returns-clause-engine c = engine-marked
+
+pub returns-clause-retire : goal.returns-clause-retire
+returns-clause-retire c = retire-marked

@@ -1,11 +1,12 @@
 //! The lines that `trace` prints beside those of `replay`: a step, and what it wrote.
 
 ghost use Rattle.std.specs.Prelude.{◌≡◌, ◌++◌, OnOk};
-ghost use Rattle.uasdisk.specs.Traced.{address_start, bell_line, bytes_line, chunk_line, fua_word, op_words, step_line, submit_line};
+ghost use Rattle.uasdisk.specs.Traced.{address_start, bell_line, bytes_line, chunk_line, context_line, fua_word, op_words, step_line, submit_line};
 
 use bus_core::Step;
 use scsi_cmd::Op;
 use std::alloc::{AllocError, Global};
+use stream_array::Pipe;
 
 /// Adds the line of a step.
 pub fn push_step(alloc: Global, text: &mut Vec<u8>, step: &Step) -> Result<(), AllocError>
@@ -27,7 +28,13 @@ pub fn push_step(alloc: Global, text: &mut Vec<u8>, step: &Step) -> Result<(), A
             let line = format!(in alloc; "status {tag}\n")?;
             text.extend_from_slice(line.as_bytes())
         }
+        Step::Engine => text.extend_from_slice(b"engine\n"),
         Step::Event => text.extend_from_slice(b"event\n"),
+        Step::Retire(pipe, tag) => {
+            let number = pipe.number();
+            let line = format!(in alloc; "retire {number} {tag}\n")?;
+            text.extend_from_slice(line.as_bytes())
+        }
         Step::Take(client) => {
             let line = format!(in alloc; "take {client}\n")?;
             text.extend_from_slice(line.as_bytes())
@@ -120,6 +127,22 @@ pub fn push_chunk(
     push_address(alloc, text, name, address)?;
     let end = format!(in alloc; "{len}\n")?;
     text.extend_from_slice(end.as_bytes())
+}
+
+/// Adds `  context PIPE STREAM BYTES`.
+pub fn push_context(
+    alloc: Global,
+    text: &mut Vec<u8>,
+    pipe: Pipe,
+    stream: u16,
+    bytes: &[u8],
+) -> Result<(), AllocError>
+    ensures { OnOk result (text.new.items ≡ text.old.items ++ context_line pipe stream bytes.now) }
+{
+    let number = pipe.number();
+    let digits = hex::encode(alloc, bytes)?;
+    let line = format!(in alloc; "  context {number} {stream} {digits}\n")?;
+    text.extend_from_slice(line.as_bytes())
 }
 
 /// Adds `  NAME ADDRESS ` with the address in 16 digits.

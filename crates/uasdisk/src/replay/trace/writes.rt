@@ -3,21 +3,21 @@
 //! Before a step it is noted where the rings end that it may put TRBs on, and which TRBs are in front of the rings that it may
 //! take from. After it, the places between are read, and the TRB that is gone from the front names the chunk that was moved.
 
-ghost use Rattle.std.specs.Prelude.{◌≡◌, ◌<◌, ◌≤◌, IsTrue};
+ghost use Rattle.std.specs.Prelude.{◌≡◌, ◌<◌, ◌≤◌, IfSome, IsTrue};
 ghost use Rattle.frame_store.specs.Places.{IsPlace};
-ghost use Rattle.stream_array.specs.Map.{HasRing, place_address};
+ghost use Rattle.stream_array.specs.Map.{HasRing, HasStreams, place_address};
 
-use super::lines::{push_bell, push_bytes, push_chunk};
+use super::lines::{push_bell, push_bytes, push_chunk, push_context};
 use bus_core::{Bus, Outcome, Step};
 use frame_store::{Buffer, COMMAND_BYTES, Frames, Place, STATUS_BYTES};
 use std::alloc::{AllocError, Global};
 use stream_array::{
-    COMMAND_RING_PLACES, EVENT_RING, EVENT_RING_PLACES, Lines, PIPE_SPAN, Pipe, RINGS,
-    STREAM_RING_PLACES, STREAM_SPAN, STREAMS, find,
+    COMMAND_RING_PLACES, ENGINE_RING, ENGINE_RING_PLACES, EVENT_RING, EVENT_RING_PLACES, Lines,
+    PIPE_SPAN, Pipe, RINGS, STREAM_RING_PLACES, STREAM_SPAN, STREAMS, find,
 };
 use xhci_trb::Trb;
 
-/// What a step of a tag may write, but for its event.
+/// What a step may write, but for its event.
 #[derive(Clone, Copy)]
 enum Writes {
     /// The unit of a submission, and its TDs from these ends of the rings on.
@@ -33,6 +33,14 @@ enum Writes {
     /// The unit of a status.
     Status {
         tag: u16,
+    },
+    /// A command to the controller, at this place of its command ring.
+    Command {
+        place: usize,
+    },
+    /// A stream context, by this command to the controller.
+    Context {
+        command: Option<(u64, Trb)>,
     },
     /// Nothing.
     Nothing,
@@ -71,6 +79,12 @@ impl Before {
                 ],
             },
             Step::Status(tag) if is_stream(*tag) => Writes::Status { tag: *tag },
+            Step::Event | Step::Retire(..) => Writes::Command {
+                place: engine_end(lines),
+            },
+            Step::Engine => Writes::Context {
+                command: lines.front_engine(),
+            },
             _ => Writes::Nothing,
         };
         Before {
@@ -106,7 +120,7 @@ impl Before {
         if let Some(bytes) = event {
             push_bytes(alloc, text, "event", EVENT_RING + 16 * place as u64, &bytes)?;
         }
-        for value in &outcome.doors {
+        for value in &outcome.doors.list() {
             push_bell(alloc, text, *value)?;
         }
         Ok(())
@@ -148,6 +162,8 @@ impl Before {
                 let len = STATUS_BYTES.saturating_sub(event.map_or(STATUS_BYTES, residual));
                 push_unit(alloc, text, bus.frames(), tag, Buffer::Status, len)
             }
+            Writes::Command { place } => push_command(alloc, text, lines, place),
+            Writes::Context { command } => push_moved(alloc, text, lines, command),
             _ => Ok(()),
         }
     }
@@ -267,6 +283,90 @@ fn address(pipe: Pipe, stream: u16, place: usize) -> u64
         + PIPE_SPAN * u64::from(pipe.number())
         + STREAM_SPAN * u64::from(stream)
         + 16 * place as u64
+}
+
+/// The place of the Link of the controller's command ring.
+const ENGINE_LINK: usize = ENGINE_RING_PLACES - 1;
+
+/// The place of the next TRB of the controller's command ring.
+fn engine_end(lines: &Lines) -> usize {
+    let (pointer, _) = lines.place_engine();
+    (pointer.saturating_sub(ENGINE_RING) / 16) as usize
+}
+
+/// Adds the line of the command that was put at a place of the controller's command ring, if one was, and of the Link behind it.
+/// The host puts one at a time.
+fn push_command(
+    alloc: Global,
+    text: &mut Vec<u8>,
+    lines: &Lines,
+    place: usize,
+) -> Result<(), AllocError> {
+    if place >= ENGINE_LINK || place == engine_end(lines) {
+        return Ok(());
+    }
+    push_engine_trb(alloc, text, "put", lines, place)?;
+    if place + 1 == ENGINE_LINK {
+        push_engine_trb(alloc, text, "link", lines, ENGINE_LINK)?;
+    }
+    Ok(())
+}
+
+/// Adds the line of the TRB at a place of the controller's command ring.
+fn push_engine_trb(
+    alloc: Global,
+    text: &mut Vec<u8>,
+    name: &str,
+    lines: &Lines,
+    place: usize,
+) -> Result<(), AllocError>
+    requires { place < ENGINE_RING_PLACES }
+{
+    match lines.image_engine(place) {
+        Some(bytes) => push_bytes(alloc, text, name, ENGINE_RING + 16 * place as u64, &bytes),
+        None => Ok(()),
+    }
+}
+
+/// Adds the line of the stream context that a command to the controller moved, if it is one that does.
+fn push_moved(
+    alloc: Global,
+    text: &mut Vec<u8>,
+    lines: &Lines,
+    command: Option<(u64, Trb)>,
+) -> Result<(), AllocError> {
+    let Some(
+        (
+            _,
+            Trb::SetDequeue {
+                stream,
+                endpoint,
+                ..
+            },
+        ),
+    ) = command
+    else {
+        return Ok(());
+    };
+    let Some(pipe) = pipe_of(endpoint) else {
+        return Ok(());
+    };
+    match lines.array(pipe).bytes(stream) {
+        Ok(bytes) => push_context(alloc, text, pipe, stream, &bytes),
+        Err(_) => Ok(()),
+    }
+}
+
+/// The pipe with streams of an endpoint.
+fn pipe_of(endpoint: u8) -> Option<Pipe>
+    ensures { IfSome result HasStreams }
+{
+    match endpoint {
+        3 => Some(Pipe::Status),
+        4 => Some(Pipe::DataOut),
+        5 => Some(Pipe::DataIn),
+        _ => None,
+    }
 }
 
 /// Adds the line of so many bytes of a tag's buffer.

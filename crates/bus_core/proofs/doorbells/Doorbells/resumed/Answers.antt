@@ -1,0 +1,15 @@
+use Rattle.std.proofs.Common.{arith, ap, ◌∙◌, map, take_all}
+use Rattle.std.proofs.Math.Dec.{eqb}
+use Rattle.std.specs.List.{list_any}
+use Rattle.xhci_ctl.specs.Doorbells.{stream_in}
+use Rattle.bus_core.proofs.StreamDoors.{resumed-back, stream-below}
+use Rattle.bus_core.proofs.doorbells.Doorbells.resumed.Goals as goal
+
+pub mark-requires : goal.mark-requires
+mark-requires c = omega (arith, stream-below c.args.pipe c.args.values.now c.loop-value.value-index c.requires.rung c.loop-value-test.true)
+
+pub returns : goal.returns
+returns c =
+    resumed-back c.args.pipe c.loop-value.streams c.args.values.now c.requires.rung
+    (λ stream. c.loop-value.invariant stream
+    ∙ ap (λ values. list_any (eqb stream) (map stream_in values)) (take_all c.loop-value.value-index c.args.values.now c.loop-value-test.false))

@@ -1,0 +1,156 @@
+//! The doorbells of one step, and how they are kept.
+//!
+//! A submission rings at most three. A pipe that is held no more rings each of its streams that has a pending TRB, which may be
+//! all 248, by rising stream. So those are kept as one bit for each stream: stream s has the bit s % 64 of the word s / 64.
+ghost use Rattle.std.specs.Prelude.{◌≡◌, ℕ, ◌<◌, ◌≤◌, ◌==◌, ◌||◌, [], length};
+ghost use Rattle.stream_array.specs.Map.{HasStreams};
+ghost use Rattle.uas_host.specs.Doors.{target_of};
+ghost use Rattle.bus_core.specs.Doorbells.{IsResumed, is_marked, resumed_by};
+
+use crate::MOST_DOORBELLS;
+use arrayvec::ArrayVec;
+use std::marker::Model;
+use stream_array::{Pipe, STREAMS, doorbell};
+
+/// The most doorbells of a pipe: one for each stream.
+pub const MOST_RESUMED: usize = 248;
+
+const _: () = prove!(MOST_RESUMED == 248);
+
+/// Words of one bit for each stream, 64 in a word.
+const STREAM_WORDS: usize = 4;
+
+const _: () = prove!(STREAM_WORDS == 4);
+
+/// How they are kept.
+#[derive(Debug, Drop)]
+enum Rung {
+    /// One by one, in order.
+    Single(ArrayVec<u32, MOST_DOORBELLS>),
+    /// Those of the pipe's streams whose bits are set, by rising stream.
+    Resumed {
+        pipe: Pipe,
+        streams: [u64; STREAM_WORDS],
+    },
+}
+
+/// The doorbells that one step rings, in order: few one by one, or those of one pipe's streams, by rising stream. Contracts see
+/// the list of their values.
+#[derive(Debug, Drop)]
+pub struct Doorbells {
+    rung: Rung,
+}
+
+impl Model for Doorbells {
+    ghost use Rattle.std.specs.Prelude.{ℕ, List};
+
+    ghost Value = { List ℕ };
+
+    ghost use Rattle.bus_core.specs.Doorbells.{values_of};
+
+    ghost view = { λ doorbells. values_of doorbells.rung };
+}
+
+const _: () = prove!(size_of::<Doorbells>() <= 64);
+
+impl Doorbells {
+    /// No doorbell.
+    #[inline(always)]
+    pub fn none() -> Doorbells
+        ensures { result ≡ [] }
+    {
+        Doorbells {
+            rung: Rung::Single(ArrayVec::new()),
+        }
+    }
+
+    /// At most three, in this order.
+    #[inline(always)]
+    pub fn single(values: &[u32]) -> Doorbells
+        requires { length values.now ≤ MOST_DOORBELLS }
+        ensures { result ≡ values.now }
+    {
+        let mut few = ArrayVec::new();
+        few.try_extend_from_slice(values).unwrap();
+        Doorbells {
+            rung: Rung::Single(few),
+        }
+    }
+
+    /// Those of some streams of a pipe, by rising stream.
+    pub fn resumed(pipe: Pipe, values: &[u32]) -> Doorbells
+        requires streams { HasStreams pipe }
+        requires rung { IsResumed pipe values.now }
+        ensures { result ≡ values.now }
+    {
+        let mut streams = [0; STREAM_WORDS];
+        for value in values {
+            mark(&mut streams, (*value >> 16) as usize);
+        }
+        Doorbells {
+            rung: Rung::Resumed { pipe, streams },
+        }
+    }
+
+    /// Their values, in order.
+    pub fn list(&self) -> ArrayVec<u32, MOST_RESUMED>
+        ensures { result.items ≡ self.now }
+    {
+        match &self.rung {
+            Rung::Single(values) => copied(values),
+            Rung::Resumed { pipe, streams } => listed(*pipe, streams),
+        }
+    }
+}
+
+/// Few values, with room for those of a pipe.
+fn copied(values: &[u32]) -> ArrayVec<u32, MOST_RESUMED>
+    requires { length values.now ≤ MOST_RESUMED }
+    ensures { result.items ≡ values.now }
+{
+    let mut list = ArrayVec::new();
+    list.try_extend_from_slice(values).unwrap();
+    list
+}
+
+/// The doorbells of the streams of a pipe whose bits are set.
+fn listed(pipe: Pipe, streams: &[u64; STREAM_WORDS]) -> ArrayVec<u32, MOST_RESUMED>
+    ensures { result.items ≡ resumed_by pipe (is_marked streams.now) }
+{
+    let mut list = ArrayVec::new();
+    for stream in 1..STREAMS + 1 {
+        if is_marked(streams, stream) {
+            list.push(doorbell(target(pipe), stream));
+        }
+    }
+    list
+}
+
+/// Sets the bit of a stream.
+fn mark(streams: &mut [u64; STREAM_WORDS], stream: usize)
+    requires { stream < 256 }
+    ensures { (other : ℕ) → is_marked streams.new other ≡ (other == stream || is_marked streams.old other) }
+{
+    streams[stream / 64] |= 1 << (stream % 64);
+}
+
+/// Whether the bit of a stream is set.
+fn is_marked(streams: &[u64; STREAM_WORDS], stream: u16) -> bool
+    requires { stream < 256 }
+    ensures { result ≡ is_marked streams.now stream }
+{
+    let word = streams[usize::from(stream / 64)];
+    (word >> (stream % 64)) & 1 == 1
+}
+
+/// The doorbell target of a pipe (xHCI 5.6).
+fn target(pipe: Pipe) -> u8
+    ensures { result ≡ target_of pipe }
+{
+    match pipe {
+        Pipe::Command => 2,
+        Pipe::Status => 3,
+        Pipe::DataOut => 4,
+        Pipe::DataIn => 5,
+    }
+}

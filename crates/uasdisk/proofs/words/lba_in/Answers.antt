@@ -1,0 +1,15 @@
+use Rattle.std.proofs.Common.{rules, arith, codes}
+use Rattle.std.proofs.lemmas.Grind.{common_steps}
+use Rattle.clap.specs.Words.{found_of}
+use Rattle.uasdisk.proofs.NumberWords.{number_read}
+use Rattle.uasdisk.proofs.words.lba_in.Goals as goal
+
+pub returns-in_err-lba : goal.returns-in_err-lba
+returns-in_err-lba c =
+    rw (number_read 32 0 4294967295 (codes "LBA") (found_of c.args.words.now) c.get_one.result (omega arith) c.get_one.ensures.none c.get_one.ensures.value)
+    (search rules)
+
+pub returns : goal.returns
+returns c =
+    rw (number_read 32 0 4294967295 (codes "LBA") (found_of c.args.words.now) c.get_one.result (omega arith) c.get_one.ensures.none c.get_one.ensures.value)
+    (grind (arith, common_steps))

@@ -10,3 +10,5 @@ pub mod Apart
 pub mod Changing
 pub mod Resuming
 pub mod Emptying
+pub mod Words
+pub mod LeftOver

@@ -5,6 +5,7 @@ ghost use Rattle.scsi_cmd.specs.declared.TheConstants.{TAGS, TASK_SLOT};
 ghost use Rattle.uas_host.specs.State.{IsHostClient, client_of, new_client, opening};
 ghost use Rattle.uas_host.specs.Submit.{IsFree, data_td_for, fault_at, host_fault, new_entry, noted, slot_of, submitted_client};
 
+use crate::marks::Marks;
 use crate::tags::command_slot_of;
 use crate::{Host, HostClient, HostEntry, MAX_CLIENTS, NoMemory, TdState, Told};
 use arrayvec::ArrayVec;
@@ -87,6 +88,7 @@ impl Host {
         }
         Ok(Host {
             clients: list,
+            marks: Marks::new(),
             retirement: None,
         })
     }

@@ -29,7 +29,8 @@
 //! Retirement (xHCI 4.6.9, 4.6.10): a left-over TD is taken off its ring by Stop Endpoint and then Set TR Dequeue
 //! Pointer to the ring's enqueue place, one TD at a time. From its begin to the event of the second command the
 //! pipe is held: the host pushes TDs on it and rings no doorbell of it. Then it rings every stream of the pipe
-//! that has a pending TRB, by rising stream.
+//! that has a pending TRB, by rising stream. A bit for each client says whether a TD of it may be left over, so that
+//! the next TD that is left over is found without a look at the clients that have none.
 //!
 //! What is promised: each call is one equation over the new host, rings, buffers, doorbells and answer
 //! (`specs/`). A refused submission changes nothing and hands the command back. [`Host::new`] takes all
@@ -46,6 +47,8 @@ mod events;
 mod freed;
 mod hosts;
 pub mod laws;
+mod left;
+mod marks;
 mod replies;
 mod retirements;
 mod seen;
@@ -57,6 +60,7 @@ mod tds;
 mod tests;
 mod units;
 
+use crate::marks::Marks;
 use arrayvec::ArrayVec;
 use scsi_cmd::{MAX_SENSE_BYTES, Request, TAGS};
 use std::alloc::AllocError;
@@ -196,15 +200,19 @@ pub struct HostClient {
 #[derive(Debug, Drop)]
 pub struct Host {
     clients: Vec<HostClient>,
+    /// The clients that may have a TD that is left over.
+    marks: Marks,
     retirement: Option<Retirement>,
 }
 
 impl Model for Host {
+    ghost use Rattle.uas_host.specs.Left.{AreMarked};
     ghost use Rattle.uas_host.specs.State.{HostState, IsHost};
 
     ghost Value = { HostState };
 
     ghost view = { λ host. record { clients = host.clients.items; retirement = host.retirement } };
 
-    ghost invariant = { λ host. IsHost (record { clients = host.clients.items; retirement = host.retirement }) };
+    ghost invariant = { λ host. IsHost (record { clients = host.clients.items; retirement = host.retirement })
+        × AreMarked host.marks.word host.clients.items };
 }

@@ -26,7 +26,7 @@ impl TdState {
         matches!(self, TdState::Seen)
     }
 
-    fn is_left_over(self) -> bool
+    pub(crate) fn is_left_over(self) -> bool
         ensures { result ≡ is_left_over self }
     {
         matches!(self, TdState::LeftOver)
@@ -298,7 +298,11 @@ impl Host {
         requires slot { place.slot < TAGS }
         ensures { MatchOption (place_seen news self.old place) ((result ≡ false) × (self.new ≡ self.old)) (λ now. (result ≡ true) × (self.new ≡ now)) }
     {
-        self.clients[place.client].see(place.slot, news)
+        let changed = news.moves_left_over();
+        let held = &mut self.clients[place.client];
+        let saw = held.see(place.slot, news);
+        self.marks.settle(place.client, changed, held);
+        saw
     }
 
     /// The host sees an event of a tag; false, and nothing changes, where it waits for no such event.

@@ -428,10 +428,13 @@ const ORDERS: &[u8] = b"\
     rtcskartsckatcsrkstcrskatscrkstsrckstrcskatrscka\
 ";
 
-/// Retires what is left over of tag 17.
+/// Retires what is left over, which is of tag 17.
 fn retire_all(rt: &impl Abort, rig: &mut Rig) {
     for pipe in [Pipe::Status, Pipe::DataIn] {
-        if begin(rt, rig, pipe, 17) {
+        let left = rig.host.next_left_over(pipe, 0);
+        assert!(rt; rig.host.next_left_over(pipe, 17).is_none());
+        assert_eq!(rt; begin(rt, rig, pipe, 17), left == Some(17));
+        if left.is_some() {
             complete(rt, rig);
             let (pointer, cycle) = match pipe {
                 Pipe::Status => rig.lines.place(Pipe::Status, 17),
@@ -443,6 +446,7 @@ fn retire_all(rt: &impl Abort, rig: &mut Rig) {
             };
             assert!(rt; moved.is_ok());
             complete(rt, rig);
+            assert!(rt; rig.host.next_left_over(pipe, 0).is_none());
         }
     }
 }

@@ -3,6 +3,7 @@ use Rattle.std.proofs.lemmas.List.{get_or_default}
 use Rattle.uas_host.specs.State.{HostState, client_of, new_client}
 use Rattle.scsi_cmd.specs.declared.TheConstants.{TASK_SLOT}
 use Rattle.uas_host.specs.Submit.{IsFree}
+use Rattle.uas_host.proofs.LeftOver.{AreMarked-managed}
 use Rattle.uas_host.proofs.Sound.{managed-host}
 use Rattle.uas_host.proofs.Host.manage.Goals as goal
 
@@ -12,5 +13,7 @@ invariant_of-self c =
     let there : c.args.client < length host.clients = subst (λ (h : HostState). c.args.client < length h.clients) (sym c.self.view_is) c.requires.client in
     let free : IsFree (client_of host c.args.client) TASK_SLOT = subst (λ (h : HostState). IsFree (client_of h c.args.client) TASK_SLOT) (sym c.self.view_is) c.requires.free in
     let held : c.index_mut.result.now ≡ client_of host c.args.client = c.index_mut.ensures.value ∙ get_or_default host.clients c.args.client _ new_client there in
-    rw (c.manage.ensures, held)
-    (managed-host host c.args.client c.args.ticket c.args.task there free c.self.invariant)
+    rw (c.manage.ensures, held) (
+      managed-host host c.args.client c.args.ticket c.args.task there free c.self.invariant.0,
+      AreMarked-managed c.self.inside.marks.word host c.args.client c.args.ticket c.args.task there c.self.invariant.0 c.self.invariant.1,
+    )

@@ -1,30 +1,38 @@
 use Rattle.std.proofs.Common.{◌≡◌, ◌<◌, ◌∙◌, length, subst, sym}
 use Rattle.std.proofs.lemmas.List.{get_or_default}
 use Rattle.uas_host.specs.State.{HostState, client_of, new_client}
+use Rattle.uas_host.proofs.LeftOver.{AreMarked-seen}
 use Rattle.uas_host.proofs.Seeing.{HasSeen, client_seen-room, has_seen-host, place_seen-client}
 use Rattle.uas_host.proofs.Host.see_at.Goals as goal
 
-pub see-requires-clause-room : goal.see-requires-clause-room
-see-requires-clause-room c =
+pub see-saw-requires-clause-room : goal.see-saw-requires-clause-room
+see-saw-requires-clause-room c =
     let host : HostState = record { clients = c.self.inside.clients.items; retirement = c.self.inside.retirement } in
     let place = c.args.place in
     let there : place.client < length host.clients = subst (λ (h : HostState). place.client < length h.clients) (sym c.self.view_is) c.requires.client in
-    let held : c.index_mut.result.now ≡ client_of host place.client = c.index_mut.ensures.value ∙ get_or_default host.clients place.client _ new_client there in
-    rw held (client_seen-room c.args.news (client_of host place.client) place.slot c.requires.slot (c.self.invariant.clients place.client there))
+    let held : c.index_mut-held.result.now ≡ client_of host place.client =
+    c.index_mut-held.ensures.value ∙ get_or_default host.clients place.client _ new_client there in
+    rw held (client_seen-room c.args.news (client_of host place.client) place.slot c.requires.slot (c.self.invariant.0.clients place.client there))
 
 pub invariant_of-self : goal.invariant_of-self
 invariant_of-self c =
     let host : HostState = record { clients = c.self.inside.clients.items; retirement = c.self.inside.retirement } in
     let place = c.args.place in
     let there : place.client < length host.clients = subst (λ (h : HostState). place.client < length h.clients) (sym c.self.view_is) c.requires.client in
-    let held : c.index_mut.result.now ≡ client_of host place.client = c.index_mut.ensures.value ∙ get_or_default host.clients place.client _ new_client there in
-    has_seen-host c.args.news host place.client place.slot c.see.new.self c.see.result there c.requires.slot c.self.invariant (rw held at c.see.ensures)
+    let held : c.index_mut-held.result.now ≡ client_of host place.client =
+    c.index_mut-held.ensures.value ∙ get_or_default host.clients place.client _ new_client there in
+    let seen : HasSeen c.args.news (client_of host place.client) place.slot c.see-saw.new.self c.see-saw.result = rw held at c.see-saw.ensures in (
+      has_seen-host c.args.news host place.client place.slot c.see-saw.new.self c.see-saw.result there c.requires.slot c.self.invariant.0 seen,
+      AreMarked-seen c.self.inside.marks.word c.settle.new.self.word c.args.news host place.client place.slot c.see-saw.new.self c.see-saw.result there
+          c.self.invariant.0 c.self.invariant.1 seen (rw c.moves_left_over-changed.ensures at c.settle.ensures.here) c.settle.ensures.others,
+    )
 
 pub returns : goal.returns
 returns c =
     let host : HostState = record { clients = c.self.inside.clients.items; retirement = c.self.inside.retirement } in
     let place = c.args.place in
     let there : place.client < length host.clients = subst (λ (h : HostState). place.client < length h.clients) (sym c.self.view_is) c.requires.client in
-    let held : c.index_mut.result.now ≡ client_of host place.client = c.index_mut.ensures.value ∙ get_or_default host.clients place.client _ new_client there in
-    let seen : HasSeen c.args.news (client_of host place.client) place.slot c.see.new.self c.see.result = rw held at c.see.ensures in
-    rw (← c.self.view_is) (place_seen-client c.args.news host place c.see.new.self c.see.result seen)
+    let held : c.index_mut-held.result.now ≡ client_of host place.client =
+    c.index_mut-held.ensures.value ∙ get_or_default host.clients place.client _ new_client there in
+    let seen : HasSeen c.args.news (client_of host place.client) place.slot c.see-saw.new.self c.see-saw.result = rw held at c.see-saw.ensures in
+    rw (← c.self.view_is) (place_seen-client c.args.news host place c.see-saw.new.self c.see-saw.result seen)

@@ -1,0 +1,326 @@
+-- The marks of clients: what sets and keeps them, and what they tell of the TDs that are left over. The answers of each call that
+-- changes a host's clients cite the first part, those of next_left_over the last.
+use Rattle.std.proofs.Common.{◌≡◌, ℕ, zero, suc, ◌+◌, ◌-◌, ◌*◌, ◌/◌, ◌%◌, ◌<◌, ◌≤◌, Bool, true, false, List, [], ◌∷◌, length, length-set, replicate}
+use Rattle.std.proofs.Common.{Option, Some, None, IfSome, MatchOption, refl, arith, sym, ap, ◌∙◌, inl, inr}
+use Rattle.std.specs.Prelude.{◌==◌, ◌&&◌, ◌||◌, not, nat_lt, option_and_then, option_map, cond, slice_set, slice_index_or, if◌then◌else◌}
+use Rattle.std.specs.Option.{option_map_or}
+use Rattle.std.proofs.lemmas.Bool.{cases_eq, cases_Bool, lt-ltb, le-ltb, ltb-true, ltb-false}
+use Rattle.std.proofs.lemmas.List.{get_or-set_same, get_or-set_other}
+use Rattle.stream_array.specs.declared.Pipe.{Pipe}
+use Rattle.stream_array.specs.declared.Pipe.TheVariants.{Command, Status, DataIn, DataOut}
+use Rattle.scsi_cmd.specs.Held.{held_at}
+use Rattle.uas_host.specs.declared.TdState.{TdState}
+use Rattle.uas_host.specs.declared.TdState.TheVariants.{Pending, Seen}
+use Rattle.uas_host.specs.declared.Told.TheVariants.{Status as ToldStatus, Response as ToldResponse}
+use Rattle.uas_host.specs.declared.Place.{Place}
+use Rattle.scsi_cmd.specs.declared.Op.{Op}
+use Rattle.scsi_cmd.specs.Op.{moved_bytes}
+use Rattle.scsi_cmd.specs.declared.Task.{Task}
+use Rattle.scsi_cmd.specs.declared.TheConstants.{TASK_SLOT}
+use Rattle.uas_host.specs.declared.HostEntry.{HostEntry}
+use Rattle.uas_host.specs.declared.HostClient.{HostClient}
+use Rattle.uas_host.specs.declared.News.{News}
+use Rattle.uas_host.specs.declared.News.TheVariants.{CommandSeen, DataInSeen, DataOutSeen, Answered, Responded, TdRetired}
+use Rattle.uas_host.specs.State.{HostState, IsHost, client_of, is_command, is_left_over, is_pending, new_client, with_client}
+use Rattle.uas_host.specs.Submit.{data_td_for, new_entry, noted, submitted_client}
+use Rattle.uas_host.specs.Tasks.{managed, managed_client, noted_by, task_entry}
+use Rattle.uas_host.specs.Replies.{without}
+use Rattle.uas_host.specs.Seen.{after_response, completes, data_after, left_over_data, noted_in, goes_to_device, goes_to_host, is_td_left_over}
+use Rattle.uas_host.specs.Seen.{request_direction, seen, seen_data, with_seen}
+use Rattle.uas_host.specs.Left.{AreMarked, has_left_over, have_left_over, holds_left_over, is_held_left_over, is_marked, moves_left_over}
+use Rattle.uas_host.specs.Retirement.{is_left_over_on}
+use Rattle.uas_host.proofs.Seeing.{HasSeen}
+
+-- ENTRIES
+
+or_right : (a b : Bool) → b ≡ true → (a || b) ≡ true
+or_right true b is = refl
+or_right false b is = is
+
+or_left : (a b : Bool) → a ≡ true → (a || b) ≡ true
+or_left true b is = refl
+or_left false b is = absurd (cc)
+
+-- one of two, of which the second is none
+or_first : (a b : Bool) → (a || false) ≡ true → (a || b) ≡ true
+or_first true b is = refl
+or_first false b is = absurd (cc)
+
+and_second : (a b : Bool) → (a && b) ≡ true → b ≡ true
+and_second true b is = is
+and_second false b is = absurd (cc)
+
+-- a TD on a pipe is one of the entry's
+pipe-left_over : (pipe : Pipe) (held : HostEntry) → is_td_left_over pipe held ≡ true → has_left_over held ≡ true
+pipe-left_over Command held is = absurd (cc)
+pipe-left_over Status held is = or_left (is_left_over held.status_td) (option_map_or is_left_over held.data_td false) is
+pipe-left_over DataIn held is = or_right (is_left_over held.status_td) (option_map_or is_left_over held.data_td false)
+    (and_second (goes_to_host (request_direction held.request)) (option_map_or is_left_over held.data_td false) is)
+pipe-left_over DataOut held is = or_right (is_left_over held.status_td) (option_map_or is_left_over held.data_td false)
+    (and_second (goes_to_device (request_direction held.request)) (option_map_or is_left_over held.data_td false) is)
+
+pipe-held : (pipe : Pipe) (held : Option HostEntry) → is_held_left_over pipe held ≡ true → holds_left_over held ≡ true
+pipe-held pipe None is = absurd (cc)
+pipe-held pipe (Some held) is = pipe-left_over pipe held is
+
+-- what is left over of the second was so of the first
+abbrev LeavesNoMore : HostEntry → HostEntry → Type 0
+LeavesNoMore held now = has_left_over now ≡ true → has_left_over held ≡ true
+
+where_so : (test : Bool) (held now : HostEntry) → LeavesNoMore held now → IfSome (cond test (Some now) None) (LeavesNoMore held)
+where_so true held now less = less
+where_so false held now less = tt
+
+data-no_more : (right : Bool) (held : HostEntry) (td : Option TdState) → IfSome (seen_data right held td) (LeavesNoMore held)
+data-no_more right held None = tt
+data-no_more right held (Some td) = where_so (right && is_pending td) held (record held { data_td = Some Seen })
+    (λ is. or_first (is_left_over held.status_td) (option_map_or is_left_over held.data_td false) is)
+
+-- the answer came, and its data TD is as it was
+answered-no_more : (held : HostEntry) (status : ℕ) → (status == 2) ≡ false → (option_map_or is_left_over (data_after status held.data_td) false) ≡ true →
+    has_left_over held ≡ true
+answered-no_more held status still is =
+    let same : data_after status held.data_td ≡ held.data_td = ap (λ b. cond b (left_over_data held.data_td) held.data_td) still in
+    or_right (is_left_over held.status_td) (option_map_or is_left_over held.data_td false) (sym (ap (λ td. option_map_or is_left_over td false) same) ∙ is)
+
+pub seen-no_more : (news : News) (held : HostEntry) → moves_left_over news ≡ false → IfSome (seen news held) (LeavesNoMore held)
+seen-no_more CommandSeen held still = where_so (is_pending held.command_td) held (record held { command_td = Seen }) (λ is. is)
+seen-no_more DataInSeen held still = data-no_more (goes_to_host (request_direction held.request)) held held.data_td
+seen-no_more DataOutSeen held still = data-no_more (goes_to_device (request_direction held.request)) held held.data_td
+seen-no_more (Answered status sense) held still = where_so (is_command held.request && is_pending held.status_td) held
+    (record held { told = ToldStatus status sense; status_td = Seen; data_td = data_after status held.data_td }) (answered-no_more held status still)
+seen-no_more (Responded code) held still = where_so (not (is_command held.request) && is_pending held.status_td) held
+    (record held { told = ToldResponse code; status_td = Seen }) (or_right (is_left_over held.status_td) (option_map_or is_left_over held.data_td false))
+seen-no_more (TdRetired pipe) held still = absurd (cc)
+
+-- CLIENTS
+
+-- what is left over of the second client's entries was so of the first's
+abbrev pub LeavesNoMoreIn : List (Option HostEntry) → List (Option HostEntry) → Type 0
+LeavesNoMoreIn entries now = (slot : ℕ) → holds_left_over (held_at now slot) ≡ true → holds_left_over (held_at entries slot) ≡ true
+
+pub held-set : (entries : List (Option HostEntry)) (slot : ℕ) (now : Option HostEntry) →
+    (holds_left_over now ≡ true → holds_left_over (held_at entries slot) ≡ true) → LeavesNoMoreIn entries (slice_set entries slot now)
+held-set [] slot now here other is = is
+held-set (held ∷ rest) zero now here zero is = here is
+held-set (held ∷ rest) zero now here (suc other) is = is
+held-set (held ∷ rest) (suc slot) now here zero is = is
+held-set (held ∷ rest) (suc slot) now here (suc other) is = held-set rest slot now here other is
+
+still-incomplete : (news : News) → moves_left_over news ≡ false → completes news ≡ false
+still-incomplete CommandSeen still = refl
+still-incomplete DataInSeen still = refl
+still-incomplete DataOutSeen still = refl
+still-incomplete (Answered status sense) still = refl
+still-incomplete (Responded code) still = still
+still-incomplete (TdRetired pipe) still = refl
+
+with_seen-no_more : (news : News) (client : HostClient) (slot : ℕ) (held now : HostEntry) → moves_left_over news ≡ false →
+    held_at client.entries slot ≡ Some held →
+    LeavesNoMore held now → LeavesNoMoreIn client.entries (with_seen news client slot now).entries
+with_seen-no_more news client slot held now still is less =
+    let so : (with_seen news client slot now).entries ≡ slice_set client.entries slot (Some now) =
+    ap (λ b. cond b (after_response (noted_in now.request) (slice_set client.entries slot (Some now))) (slice_set client.entries slot (Some now)))
+    (still-incomplete news still) in
+    rw so (held-set client.entries slot (Some now) (rw is less))
+
+-- an event that can't change which TDs are left over
+pub has_seen-no_more : (news : News) (client : HostClient) (slot : ℕ) (now : HostClient) (saw : Bool) → moves_left_over news ≡ false →
+    HasSeen news client slot now saw → LeavesNoMoreIn client.entries now.entries
+has_seen-no_more news client slot now saw still seen_so =
+    elim (held_at client.entries slot) as (λ o. held_at client.entries slot ≡ o →
+    MatchOption (option_map (with_seen news client slot) (option_and_then (seen news) o)) ((saw ≡ false) × (now ≡ client))
+    (λ after. (saw ≡ true) × (now ≡ after)) →
+    LeavesNoMoreIn client.entries now.entries) [
+      | None ↦ λ is same. rw same.1 (λ slot is. is)
+      | Some held ↦ λ is.
+          elim (seen news held) as (λ o. IfSome o (LeavesNoMore held) →
+          MatchOption (option_map (with_seen news client slot) o) ((saw ≡ false) × (now ≡ client)) (λ after. (saw ≡ true) × (now ≡ after)) →
+          LeavesNoMoreIn client.entries now.entries) [
+            | None ↦ λ none same. rw same.1 (λ slot is. is)
+            | Some after ↦ λ less same. rw same.1 (with_seen-no_more news client slot held after still is less)
+          ] (seen-no_more news held still)
+    ] refl seen_so
+
+any-at : (entries : List (Option HostEntry)) (slot : ℕ) → holds_left_over (held_at entries slot) ≡ true → have_left_over entries ≡ true
+any-at [] slot is = absurd (cc)
+any-at (held ∷ rest) zero is = or_left (holds_left_over held) (have_left_over rest) is
+any-at (held ∷ rest) (suc slot) is = or_right (holds_left_over held) (have_left_over rest) (any-at rest slot is)
+
+-- MARKS
+
+-- no client of a new host is marked, and none has anything left over
+pub AreMarked-none : (word clients : ℕ) → ((client : ℕ) → is_marked word client ≡ false) → AreMarked word (replicate clients new_client)
+AreMarked-none word clients none = record {
+  there = λ client within is. let no : true ≡ false = sym is ∙ none client in absurd (cc);
+  left_over = λ client slot within is.
+      let here : ◌≡◌ {A = Bool} false true = sym (none-held clients client slot) ∙ is in absurd (cc);
+}
+  where
+    none-at : (count slot : ℕ) → holds_left_over (held_at (replicate count None) slot) ≡ false
+    none-at zero slot = refl
+    none-at (suc count) zero = refl
+    none-at (suc count) (suc slot) = none-at count slot
+
+    none-held : (clients client slot : ℕ) → holds_left_over (held_at (slice_index_or (replicate clients new_client) client new_client).entries slot) ≡ false
+    none-held zero client slot = none-at 8 slot
+    none-held (suc clients) zero slot = none-at 8 slot
+    none-held (suc clients) (suc client) slot = none-held clients client slot
+
+-- a client changes, and it is marked exactly where a TD of it is left over; or no more of it is left over, and its mark stays
+pub AreMarked-settled : (word after : ℕ) (clients : List HostClient) (client : ℕ) (now : HostClient) (changed : Bool) → client < length clients →
+    length clients ≤ 31 →
+    AreMarked word clients → is_marked after client ≡ (if changed then have_left_over now.entries else is_marked word client) →
+    ((other : ℕ) → other < 32 → (other ≡ client → ⊥) → is_marked after other ≡ is_marked word other) →
+    (changed ≡ false → LeavesNoMoreIn (slice_index_or clients client new_client).entries now.entries) → AreMarked after (slice_set clients client now)
+AreMarked-settled word after clients client now changed there most are here others less = record {
+  there = λ other within is.
+      elim (cases_eq other client) as (λ _. other < length (slice_set clients client now)) [
+        | inl same ↦ omega (arith, same, there, length-set clients client now)
+        | inr apart ↦ let inside = are.there other within (sym (others other within apart) ∙ is) in omega (arith, inside, length-set clients client now)
+      ];
+  left_over = λ other slot within is.
+      let inside : other < length clients = omega (arith, within, length-set clients client now) in
+      elim (cases_eq other client) as (λ _. is_marked after other ≡ true) [
+        | inl same ↦
+            let held : holds_left_over (held_at now.entries slot) ≡ true =
+            sym (ap (λ (c : HostClient). holds_left_over (held_at c.entries slot)) (get_or-set_same clients client now new_client there))
+            ∙ (sym (ap (λ n. holds_left_over (held_at (slice_index_or (slice_set clients client now) n new_client).entries slot)) same) ∙ is) in
+            ap (is_marked after) same ∙ (here ∙ marked-here slot changed held less)
+        | inr apart ↦
+            others other (omega (arith, inside, most)) apart
+            ∙ are.left_over other slot inside
+            (sym (ap (λ (c : HostClient). holds_left_over (held_at c.entries slot)) (get_or-set_other clients client other now new_client apart)) ∙ is)
+      ];
+}
+  where
+    marked-here : (slot : ℕ) (changed : Bool) → holds_left_over (held_at now.entries slot) ≡ true →
+        (changed ≡ false → LeavesNoMoreIn (slice_index_or clients client new_client).entries now.entries) →
+        (if changed then have_left_over now.entries else is_marked word client) ≡ true
+    marked-here slot true held less = any-at now.entries slot held
+    marked-here slot false held less = are.left_over client slot there (less refl slot held)
+
+-- the marks stay, where no more is left over
+pub AreMarked-kept : (word : ℕ) (clients : List HostClient) (client : ℕ) (now : HostClient) → client < length clients → length clients ≤ 31 →
+    AreMarked word clients → LeavesNoMoreIn (slice_index_or clients client new_client).entries now.entries → AreMarked word (slice_set clients client now)
+AreMarked-kept word clients client now there most are less =
+    AreMarked-settled word word clients client now false there most are refl (λ other within apart. refl) (λ still. less)
+
+-- the data TD of a command that was just submitted isn't left over
+data_td-none : (bytes : ℕ) → option_map_or is_left_over (data_td_for bytes) false ≡ false
+data_td-none bytes = elim (bytes == 0) as (λ b. option_map_or is_left_over (cond b None (Some Pending)) false ≡ false) [ true ↦ refl | false ↦ refl ]
+
+-- a command that was just submitted has no TD that is left over
+pub AreMarked-noted : (word : ℕ) (host : HostState) (client slot ticket : ℕ) (op : Op) → client < length host.clients → IsHost host →
+    AreMarked word host.clients →
+    AreMarked word (noted host client slot ticket op).clients
+AreMarked-noted word host client slot ticket op there is are =
+    AreMarked-kept word host.clients client (submitted_client (client_of host client) slot ticket op) there is.most are
+    (held-set (client_of host client).entries slot (Some (new_entry ticket op))
+    (λ left. let no : true ≡ false = sym left ∙ data_td-none (moved_bytes op) in absurd (cc)))
+
+-- nor has a task management
+pub AreMarked-managed : (word : ℕ) (host : HostState) (client ticket : ℕ) (task : Task) → client < length host.clients → IsHost host →
+    AreMarked word host.clients →
+    AreMarked word (managed host client ticket task).clients
+AreMarked-managed word host client ticket task there is are =
+    AreMarked-kept word host.clients client (managed_client (client_of host client) ticket task) there is.most are
+    (held-set (client_of host client).entries TASK_SLOT (Some (task_entry ticket task (record { items = noted_by (client_of host client) task })))
+    (λ left. absurd (cc)))
+
+-- nor what is gone
+pub AreMarked-released : (word : ℕ) (host : HostState) (client slot : ℕ) (queue : List ℕ) → client < length host.clients → IsHost host →
+    AreMarked word host.clients →
+    AreMarked word (with_client host client (without (client_of host client) slot queue)).clients
+AreMarked-released word host client slot queue there is are =
+    AreMarked-kept word host.clients client (without (client_of host client) slot queue) there is.most are
+    (held-set (client_of host client).entries slot None (λ left. absurd (cc)))
+
+-- an event of a client was seen, or it waits for no such event
+pub AreMarked-seen : (word after : ℕ) (news : News) (host : HostState) (client slot : ℕ) (now : HostClient) (saw : Bool) → client < length host.clients →
+    IsHost host →
+    AreMarked word host.clients → HasSeen news (client_of host client) slot now saw →
+    is_marked after client ≡ (if moves_left_over news then have_left_over now.entries else is_marked word client) →
+    ((other : ℕ) → other < 32 → (other ≡ client → ⊥) → is_marked after other ≡ is_marked word other) → AreMarked after (with_client host client now).clients
+AreMarked-seen word after news host client slot now saw there is are seen_so here others =
+    AreMarked-settled word after host.clients client now (moves_left_over news) there is.most are here others
+    (λ still. has_seen-no_more news (client_of host client) slot now saw still seen_so)
+
+-- THE NEXT TD THAT IS LEFT OVER
+
+-- what is under the tag after this number, and nothing where it names no client
+under-tag : (host : HostState) (pipe : Pipe) (before : ℕ) → is_left_over_on host pipe (suc before)
+    ≡ (if nat_lt (before / 8) (length host.clients) then is_held_left_over pipe (held_at (client_of host (before / 8)).entries (before % 8)) else false)
+under-tag host pipe before =
+    elim (nat_lt (before / 8) (length host.clients)) as (λ b.
+    option_map_or (is_td_left_over pipe) (option_and_then (λ (place : Place). held_at (client_of host place.client).entries place.slot)
+    (if b then Some (record { client = before / 8; slot = before % 8 }) else None)) false
+    ≡ (if b then is_held_left_over pipe (held_at (client_of host (before / 8)).entries (before % 8)) else false)) [
+      | true ↦ refl
+      | false ↦ refl
+    ]
+
+-- the TD of a slot of a client that is there
+pub left_over-found : (host : HostState) (pipe : Pipe) (client slot tag : ℕ) → client < length host.clients → slot < 8 → tag ≡ client * 8 + slot + 1 →
+    is_held_left_over pipe (held_at (client_of host client).entries slot) ≡ true → is_left_over_on host pipe tag ≡ true
+left_over-found host pipe client slot tag there within is left =
+    let next : tag ≡ suc (client * 8 + slot) = omega (arith, is) in
+    let owner : (client * 8 + slot) / 8 ≡ client = omega (arith, within) in
+    let place : (client * 8 + slot) % 8 ≡ slot = omega (arith, within) in
+    rw (next, under-tag host pipe (client * 8 + slot), owner, place, lt-ltb client (length host.clients) there) left
+
+-- the TD of a tag of a client that isn't marked
+unmarked-none : (word : ℕ) (host : HostState) (pipe : Pipe) (before : ℕ) → AreMarked word host.clients → is_marked word (before / 8) ≡ false →
+    is_left_over_on host pipe (suc before) ≡ false
+unmarked-none word host pipe before are unmarked =
+    under-tag host pipe before
+    ∙ elim (nat_lt (before / 8) (length host.clients)) as (λ b. nat_lt (before / 8) (length host.clients) ≡ b →
+    (if b then is_held_left_over pipe (held_at (client_of host (before / 8)).entries (before % 8)) else false) ≡ false) [
+      | true ↦ λ there.
+          elim (cases_Bool (is_held_left_over pipe (held_at (client_of host (before / 8)).entries (before % 8)))) as
+          (λ _. is_held_left_over pipe (held_at (client_of host (before / 8)).entries (before % 8)) ≡ false) [
+            | inl left ↦
+                let marked = are.left_over (before / 8) (before % 8) (ltb-true (before / 8) (length host.clients) there)
+                (pipe-held pipe (held_at (client_of host (before / 8)).entries (before % 8)) left) in
+                let no : true ≡ false = sym marked ∙ unmarked in absurd (cc)
+            | inr none ↦ none
+          ]
+      | false ↦ λ past. refl
+    ] refl
+
+-- where the clients from one on to another aren't marked, and of that one the TDs of the slots up to one aren't left over, no TD
+-- of the tags between is
+pub left_over-passed : (word : ℕ) (host : HostState) (pipe : Pipe) (from client upto : ℕ) → AreMarked word host.clients → client < length host.clients →
+    upto ≤ 8 →
+    ((other : ℕ) → from / 8 ≤ other → other < client → is_marked word other ≡ false) →
+    ((slot : ℕ) → from - client * 8 ≤ slot → slot < upto → is_held_left_over pipe (held_at (client_of host client).entries slot) ≡ false) →
+    (other : ℕ) → from < other → other ≤ client * 8 + upto → is_left_over_on host pipe other ≡ false
+left_over-passed word host pipe from client upto are there most unmarked none zero after within = absurd (omega arith)
+left_over-passed word host pipe from client upto are there most unmarked none (suc before) after within =
+    elim (cases_eq (before / 8) client) as (λ _. is_left_over_on host pipe (suc before) ≡ false) [
+      | inl same ↦
+          rw (under-tag host pipe before, same, lt-ltb client (length host.clients) there) (none (before % 8) (omega (arith, same)) (omega (arith, same)))
+      | inr apart ↦ unmarked-none word host pipe before are (unmarked (before / 8) (omega (arith, after)) (omega (arith, apart, within, most)))
+    ]
+
+-- where no client from one on is marked, no TD of a later tag is left over
+pub left_over-none : (word : ℕ) (host : HostState) (pipe : Pipe) (from : ℕ) → AreMarked word host.clients → length host.clients ≤ 31 →
+    ((other : ℕ) → from / 8 ≤ other → other < 32 → is_marked word other ≡ false) → (other : ℕ) → from < other → is_left_over_on host pipe other ≡ false
+left_over-none word host pipe from are most unmarked zero after = absurd (omega arith)
+left_over-none word host pipe from are most unmarked (suc before) after =
+    elim (cases_Bool (nat_lt (before / 8) 32)) as (λ _. is_left_over_on host pipe (suc before) ≡ false) [
+      | inl inside ↦ unmarked-none word host pipe before are (unmarked (before / 8) (omega (arith, after)) (ltb-true (before / 8) 32 inside))
+      | inr past ↦
+          rw (under-tag host pipe before, le-ltb (before / 8) (length host.clients) (omega (arith, ltb-false (before / 8) 32 past, most))) refl
+    ]
+
+-- of the tags up to one no TD is left over, nor of the tags from there up to another
+pub left_over-further : (host : HostState) (pipe : Pipe) (tag from upto : ℕ) →
+    ((other : ℕ) → tag < other → other ≤ from → is_left_over_on host pipe other ≡ false) →
+    ((other : ℕ) → from < other → other ≤ upto → is_left_over_on host pipe other ≡ false) →
+    (other : ℕ) → tag < other → other ≤ upto → is_left_over_on host pipe other ≡ false
+left_over-further host pipe tag from upto before after other above within =
+    elim (cases_Bool (nat_lt from other)) as (λ _. is_left_over_on host pipe other ≡ false) [
+      | inl past ↦ after other (ltb-true from other past) within
+      | inr up ↦ before other above (ltb-false from other up)
+    ]

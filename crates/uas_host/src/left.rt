@@ -1,0 +1,105 @@
+// Which TDs are left over, found by the marks of the clients that may have some.
+ghost use Rattle.std.specs.Prelude.{◌≡◌, ℕ, ◌*◌, ◌<◌, ◌≤◌, true, false, IfSome, IfNone, length};
+ghost use Rattle.scsi_cmd.specs.Held.{held_at};
+ghost use Rattle.scsi_cmd.specs.declared.TheConstants.{TAGS};
+ghost use Rattle.uas_host.specs.Left.{has_left_over, have_left_over, holds_left_over, is_held_left_over, moves_left_over};
+ghost use Rattle.uas_host.specs.Retirement.{is_left_over_on};
+
+use crate::tags::tag_under;
+use crate::{Host, HostClient, HostEntry, News};
+use scsi_cmd::{CHECK_CONDITION, TAGS};
+use stream_array::Pipe;
+use uas_iu::TASK_COMPLETE;
+
+impl News {
+    /// Whether it can change which TDs are left over.
+    pub(crate) fn moves_left_over(&self) -> bool
+        ensures { result ≡ moves_left_over self.now }
+    {
+        match self {
+            News::CommandSeen | News::DataInSeen | News::DataOutSeen => false,
+            News::Answered { status, .. } => *status == CHECK_CONDITION,
+            News::Responded { code } => *code == TASK_COMPLETE,
+            News::TdRetired(_) => true,
+        }
+    }
+}
+
+impl HostEntry {
+    /// Whether one of its TDs is left over.
+    fn has_left_over(&self) -> bool
+        ensures { result ≡ has_left_over self.now }
+    {
+        match self.data_td {
+            Some(td) => self.status_td.is_left_over() || td.is_left_over(),
+            None => self.status_td.is_left_over(),
+        }
+    }
+}
+
+/// Whether of what is held a TD is left over.
+fn holds_left_over(held: &Option<HostEntry>) -> bool
+    ensures { result ≡ holds_left_over held.now }
+{
+    match held {
+        Some(entry) => entry.has_left_over(),
+        None => false,
+    }
+}
+
+/// Whether of what is held the TD on a pipe is left over.
+fn is_held_left_over(held: &Option<HostEntry>, pipe: Pipe) -> bool
+    ensures { result ≡ is_held_left_over pipe held.now }
+{
+    match held {
+        Some(entry) => entry.is_left_over(pipe),
+        None => false,
+    }
+}
+
+/// Whether a TD of one of the entries is left over.
+pub(crate) fn have_left_over(entries: &[Option<HostEntry>; TAGS]) -> bool
+    ensures { result ≡ have_left_over entries.now }
+{
+    for slot in 0..TAGS {
+        if holds_left_over(&entries[slot]) {
+            return true;
+        }
+    }
+    false
+}
+
+impl HostClient {
+    /// The first slot from this one on whose TD on a pipe is left over.
+    fn left_over_from(&self, pipe: Pipe, from: usize) -> Option<usize>
+        ensures slot { IfSome result (λ slot. (from ≤ slot) × (slot < TAGS) × (is_held_left_over pipe (held_at self.now.entries slot) ≡ true)
+            × ((other : ℕ) → from ≤ other → other < slot → is_held_left_over pipe (held_at self.now.entries other) ≡ false)) }
+        ensures none { IfNone result ((other : ℕ) → from ≤ other → other < TAGS → is_held_left_over pipe (held_at self.now.entries other) ≡ false) }
+    {
+        for slot in from..TAGS {
+            if is_held_left_over(&self.entries[slot], pipe) {
+                return Some(slot);
+            }
+        }
+        None
+    }
+}
+
+impl Host {
+    /// The least tag above this one whose TD on a pipe is left over. Only clients that are marked are looked at.
+    pub fn next_left_over(&self, pipe: Pipe, tag: u16) -> Option<u16>
+        ensures next { IfSome result (λ next. (tag < next) × (next ≤ length self.now.clients * TAGS) × (is_left_over_on self.now pipe next ≡ true)
+            × ((other : ℕ) → tag < other → other < next → is_left_over_on self.now pipe other ≡ false)) }
+        ensures none { IfNone result ((other : ℕ) → tag < other → is_left_over_on self.now pipe other ≡ false) }
+    {
+        let mut from = usize::from(tag);
+        while let Some(client) = self.marks.next_from(from / TAGS) {
+            let first = from.saturating_sub(client * TAGS);
+            if let Some(slot) = self.clients[client].left_over_from(pipe, first) {
+                return Some(tag_under(client, slot));
+            }
+            from = (client + 1) * TAGS;
+        }
+        None
+    }
+}

@@ -22,7 +22,7 @@ use Rattle.uas_host.specs.Tags.{tag_of}
 use Rattle.uas_host.specs.Tds.{data_td, data_trb_count, status_td}
 use Rattle.bus_core.specs.declared.Td.{Td}
 use Rattle.bus_core.specs.Td.{Entry, data_trbs, with_trb_taken}
-use Rattle.bus_core.specs.Matched.{IsCommandRequest, IsDataTd, IsMovingTd, IsMatchedEntry, request_bytes}
+use Rattle.bus_core.specs.Matched.{IsDataTd, IsManagedPhase, IsMovingTd, IsMatchedEntry, IsPhaseOf, request_bytes}
 use Rattle.bus_core.specs.World.{Cell}
 use Rattle.bus_core.specs.Cells.{FitsCell, HoldsData, HoldsTd, data_in_td, data_out_td, state_of}
 
@@ -56,21 +56,22 @@ chunked-td entry chunk op (Some td) request phase is trbs moves less =
       below = trbs.2;
     }
 
-chunked-request : (count : ℕ) (entry : Entry) (chunk : ℕ) (request : Request) → entry.task.request ≡ request → entry.task.phase ≡ Begun (Moving chunk)
-    → IsMatchedEntry entry → IsSound count entry.task → IsChunked entry chunk
-chunked-request count entry chunk (Execute op) is moving matched sound =
+chunked-request : (slot count : ℕ) (entry : Entry) (chunk : ℕ) (request : Request) → entry.task.request ≡ request → entry.task.phase ≡ Begun (Moving chunk)
+    → IsMatchedEntry slot entry → IsSound count entry.task → IsChunked entry chunk
+chunked-request slot count entry chunk (Execute op) is moving matched sound =
     let sound_op : IsSoundOp count entry.task op = subst (λ r. IsSoundRequest count entry.task r) is sound in
     let has : IsSoundPhase count op (Begun (Moving chunk)) = subst (λ p. IsSoundPhase count op p) moving sound_op.chunk in
     let trbs : IsMovingTd (data_trbs (Execute op)) chunk entry.data_td =
     subst (λ p. IsDataTd (data_trbs (Execute op)) p entry.data_td) moving
     (subst (λ r. IsDataTd (data_trbs r) entry.task.phase entry.data_td) is matched.chunks) in
     chunked-td entry chunk op entry.data_td is moving refl trbs (matched.moves ∙ ap (λ r. nat_lt 0 (request_bytes r)) is) has.0
-chunked-request count entry chunk (Manage what noted) is moving matched sound = absurd (subst (λ r. IsCommandRequest r) is matched.asks)
+chunked-request slot count entry chunk (Manage what noted) is moving matched sound =
+    absurd (subst (λ p. IsManagedPhase p) moving (subst (λ r. IsPhaseOf r entry.task.phase) is matched.answers))
 
 -- a matched, sound entry whose phase is Moving
-pub chunked : (count : ℕ) (entry : Entry) (chunk : ℕ) → entry.task.phase ≡ Begun (Moving chunk) → IsMatchedEntry entry → IsSound count entry.task
+pub chunked : (slot count : ℕ) (entry : Entry) (chunk : ℕ) → entry.task.phase ≡ Begun (Moving chunk) → IsMatchedEntry slot entry → IsSound count entry.task
     → IsChunked entry chunk
-chunked count entry chunk moving matched sound = chunked-request count entry chunk entry.task.request refl moving matched sound
+chunked slot count entry chunk moving matched sound = chunked-request slot count entry chunk entry.task.request refl moving matched sound
 
 -- AFTER A CHUNK
 
@@ -120,8 +121,8 @@ fits-chunk client place unit entry op chunk was now fits is data_in data_out lon
   data_in = data_in;
   data_out = data_out;
   lent = ap (λ (c : Cell). c.buffers.lent) is;
+  bytes = tt;
   unit = ap (λ (c : Cell). c.buffers.command) is ∙ fits.unit;
   answer = tt;
-  answerable = fits.answerable;
   sound = record { whole = long ∙ fits.sound.whole; chunk = HasChunk-after unit chunk op unit.count fits.sound.chunk.1 };
 }

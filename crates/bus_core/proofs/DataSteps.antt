@@ -82,7 +82,7 @@ chunk-at state world place part entry chunk fits there held moving =
     let here : FitsCell place.client part.unit.count place entry (cell_at world place) =
     subst (λ o. FitsHeld place.client part.unit.count place o (cell_at world place)) held (cell-found state world place part fits there within) in
     let at : IsHeld state place entry = matched-held state place entry fits.matched (ap (λ p. option_map_or (held_in place) p None) there ∙ held) in
-    let it : IsChunked entry chunk = chunked part.unit.count entry chunk moving at.here.sound here.sound in
+    let it : IsChunked entry chunk = chunked place.slot part.unit.count entry chunk moving at.here.sound here.sound in
     record {
       entry = entry;
       op = it.op;

@@ -25,7 +25,7 @@ use Rattle.bus_core.specs.Td.{request_direction, td_on, trbs_on, with_td_on}
 use Rattle.bus_core.specs.Shared.{Shared}
 use Rattle.bus_core.specs.Matched.{request_bytes, under}
 use Rattle.bus_core.specs.World.{Cell, World, cell_at}
-use Rattle.bus_core.specs.Cells.{FitsCell, HoldsData, HoldsIn, HoldsTd, HoldsTrbs, IsAwaitedOrSeen, host_side}
+use Rattle.bus_core.specs.Cells.{FitsCell, HoldsData, HoldsIn, HoldsTd, HoldsTrbs, host_side}
 use Rattle.bus_core.proofs.EventTds.{data_trbs-count, length-data_trbs}
 use Rattle.bus_core.proofs.MatchedPlaces.{and-true}
 
@@ -171,22 +171,22 @@ in-kept ring trbs change ToDevice found so holds = holds
 pub cell-changed : (client count : ℕ) (pipe : Pipe) (place : Place) (entry : Entry) (cell : Cell) (change : Td → Td) (ring : Ring) (held : Option HostEntry)
     → FitsCell client count place entry cell → is_left_over_on pipe entry ≡ true
     → ((td : Td) → td_on pipe entry ≡ Some td → td.state ≡ LeftOver → HoldsTd ring (td_trbs pipe (tag_of place) entry) (change td))
-    → IsAwaitedOrSeen (with_td_on change pipe entry).status_td.state → held ≡ Some (host_side (with_td_on change pipe entry))
+    → held ≡ Some (host_side (with_td_on change pipe entry))
     → FitsCell client count place (with_td_on change pipe entry) (record (with_cell_ring pipe cell ring) { held = held })
-cell-changed client count Command place entry cell change ring held fits so holds kept is = absurd (false≢true so)
-cell-changed client count Status place entry cell change ring held fits so holds kept is = record {
+cell-changed client count Command place entry cell change ring held fits so holds is = absurd (false≢true so)
+cell-changed client count Status place entry cell change ring held fits so holds is = record {
   held = is;
   task = fits.task;
   status = holds entry.status_td refl (left-state entry.status_td.state so);
   data_in = fits.data_in;
   data_out = fits.data_out;
   lent = fits.lent;
+  bytes = fits.bytes;
   unit = fits.unit;
   answer = fits.answer;
-  answerable = kept;
   sound = fits.sound;
 }
-cell-changed client count DataIn place entry cell change ring held fits so holds kept is = record {
+cell-changed client count DataIn place entry cell change ring held fits so holds is = record {
   held = is;
   task = fits.task;
   status = fits.status;
@@ -194,12 +194,12 @@ cell-changed client count DataIn place entry cell change ring held fits so holds
   data_out = out-kept cell.data_out (data_td (tag_of place) (request_bytes entry.task.request)) change (request_direction entry.task.request) entry.data_td
       so fits.data_out;
   lent = fits.lent;
+  bytes = fits.bytes;
   unit = fits.unit;
   answer = fits.answer;
-  answerable = kept;
   sound = fits.sound;
 }
-cell-changed client count DataOut place entry cell change ring held fits so holds kept is = record {
+cell-changed client count DataOut place entry cell change ring held fits so holds is = record {
   held = is;
   task = fits.task;
   status = fits.status;
@@ -207,9 +207,9 @@ cell-changed client count DataOut place entry cell change ring held fits so hold
       so fits.data_in;
   data_out = out-changed ring (data_td (tag_of place) (request_bytes entry.task.request)) change (request_direction entry.task.request) entry.data_td so holds;
   lent = fits.lent;
+  bytes = fits.bytes;
   unit = fits.unit;
   answer = fits.answer;
-  answerable = kept;
   sound = fits.sound;
 }
 

@@ -243,8 +243,8 @@ pub record ReadsAlike (before after : World) (events : List Completion) : Type 0
       → data_event (stream_ring after.lines.data_in (tag_of place)) (stream_ring after.lines.data_out (tag_of place))
       ≡ data_event (stream_ring before.lines.data_in (tag_of place)) (stream_ring before.lines.data_out (tag_of place))
   pub sent : (place : Place) → 1 ≤ status_events place events
-      → status_event (stream_ring after.lines.status (tag_of place)) (held_for after.frames (tag_of place)).status
-      ≡ status_event (stream_ring before.lines.status (tag_of place)) (held_for before.frames (tag_of place)).status
+      → status_event place.slot (stream_ring after.lines.status (tag_of place)) (held_for after.frames (tag_of place)).status
+      ≡ status_event place.slot (stream_ring before.lines.status (tag_of place)) (held_for before.frames (tag_of place)).status
 
 no-cons : {T : Type 0} (first : T) (rest : List T) → first ∷ rest ≡ [] → ⊥
 no-cons first rest is = let no : suc (length rest) ≡ 0 = ap length is in omega (arith, no)
@@ -269,7 +269,7 @@ texts-alike before after k (DataDone place ∷ rest) alike =
     }))
 texts-alike before after k (StatusDone place ∷ rest) alike =
     ap (λ e. e ∷ event_texts after k rest) (alike.sent place (omega (arith, one_self place)))
-    ∙ ap (λ es. status_event (stream_ring before.lines.status (tag_of place)) (held_for before.frames (tag_of place)).status ∷ es)
+    ∙ ap (λ es. status_event place.slot (stream_ring before.lines.status (tag_of place)) (held_for before.frames (tag_of place)).status ∷ es)
     (texts-alike before after k rest (record {
       none = alike.none;
       command_base = alike.command_base;
@@ -288,7 +288,8 @@ texts-last world k (DataDone other ∷ rest) place =
     ap (λ es. data_event (stream_ring world.lines.data_in (tag_of other)) (stream_ring world.lines.data_out (tag_of other)) ∷ es)
     (texts-last world k rest place)
 texts-last world k (StatusDone other ∷ rest) place =
-    ap (λ es. status_event (stream_ring world.lines.status (tag_of other)) (held_for world.frames (tag_of other)).status ∷ es) (texts-last world k rest place)
+    ap (λ es. status_event other.slot (stream_ring world.lines.status (tag_of other)) (held_for world.frames (tag_of other)).status ∷ es)
+    (texts-last world k rest place)
 texts-last world k (EngineDone other ∷ rest) place = ap (λ es. engine_event world.lines.engine ∷ es) (texts-last world k rest place)
 
 pub carried-last : (events : List Completion) (place : Place) → carried_places (events ++ EngineDone place ∷ []) ≡ carried_places events

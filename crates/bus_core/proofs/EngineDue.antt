@@ -164,6 +164,7 @@ named-some world pipe tag none =
     none-left : (none : Bool) → (none && false) ≡ is_some {T = HostRetirement} (if none && false then None else None)
     none-left true = refl
     none-left false = refl
+
     some-left : (b : Bool) (pipe : Pipe) (place : Place) → b ≡ is_some {T = HostRetirement}
         (if b then Some (record { pipe = pipe; place = place; stage = Stopping }) else None)
     some-left true pipe place = refl

@@ -45,7 +45,7 @@ use Rattle.bus_core.specs.Shared.{Shared, acted_on, at_stage, engine_step, idle,
 use Rattle.bus_core.specs.Matched.{IsMatched, IsRetiring, answered_place, answered_places, carried_places, is_passed, retired_places, same_place, under}
 use Rattle.bus_core.specs.Matched.{was_moved}
 use Rattle.bus_core.specs.World.{World, cell_at}
-use Rattle.bus_core.specs.Cells.{FitsCell, HoldsIn, HoldsTrbs, IsAwaitedOrSeen, host_side, state_of}
+use Rattle.bus_core.specs.Cells.{FitsCell, HoldsIn, HoldsTrbs, host_side, state_of}
 use Rattle.bus_core.specs.Fits.{Fits, FitsQueues, HoldsCommand, HoldsCommandOf, IsSoundWorld, command_trb, data_event, engine_event, event_texts}
 use Rattle.bus_core.specs.Fits.{host_retirement, place_in, status_event}
 use Rattle.bus_core.specs.WorldSteps.{EngineFits, EngineIsIdle, EnginesFit, engine_world}
@@ -77,8 +77,14 @@ acted-is : (controller now : ControllerState) (lines after : LinesState) (trb : 
     → engine_acted (controller, lines) ≡ ((now, posted (engine_consumed after) (engine_event lines.engine)), ActedOn 0)
 acted-is controller now lines after trb room holds does =
     ap (λ front. option_map_or (engine_did (controller, lines)) front ((controller, lines), Idle)) (front-is lines trb room holds)
-    ∙ ap (λ (done : (ControllerState × LinesState) × ℕ). ((done.0.0, posted (engine_consumed done.0.1)
-    (CommandDone (pointer_of 16 lines.engine 0) done.1 SLOT)), ActedOn 0)) does
+    ∙ ap (λ (done : (ControllerState × LinesState) × ℕ). (
+      (
+        done.0.0,
+        posted (engine_consumed done.0.1)
+            (CommandDone (pointer_of 16 lines.engine 0) done.1 SLOT),
+      ),
+      ActedOn 0,
+    )) does
 
 commanded-is : (pipe : Pipe) → HasStreams pipe → commanded_pipe (target_of pipe) 1 ≡ Some pipe
 commanded-is Command streams = absurd streams
@@ -341,7 +347,7 @@ moved-reads state world pipe place streams none =
       moved = λ other some.
           ap (λ (ring : Ring). data_event ring (stream_ring after.data_out (tag_of other))) (alike.data_in (tag_of other))
           ∙ ap (λ (ring : Ring). data_event (stream_ring world.lines.data_in (tag_of other)) ring) (alike.data_out (tag_of other));
-      sent = λ other some. ap (λ (ring : Ring). status_event ring (held_for world.frames (tag_of other)).status) (alike.status (tag_of other));
+      sent = λ other some. ap (λ (ring : Ring). status_event other.slot ring (held_for world.frames (tag_of other)).status) (alike.status (tag_of other));
     }
 
 -- the TD as it stands on that ring, with a TRB that the controller may take
@@ -395,12 +401,6 @@ passed-side Status entry = refl
 passed-side DataIn entry = ap (λ states. record (host_side entry) { data_td = states }) (passed-states (trbs_on DataIn entry) entry.data_td)
 passed-side DataOut entry = ap (λ states. record (host_side entry) { data_td = states }) (passed-states (trbs_on DataOut entry) entry.data_td)
 
-passed-answerable : (pipe : Pipe) (entry : Entry) → IsAwaitedOrSeen entry.status_td.state → IsAwaitedOrSeen (passed_on pipe entry).status_td.state
-passed-answerable Command entry kept = kept
-passed-answerable Status entry kept = kept
-passed-answerable DataIn entry kept = kept
-passed-answerable DataOut entry kept = kept
-
 moved-here : (world : World) (pipe : Pipe) (place : Place) → IsLines world.lines → tag_of place ≤ 248 → HasStreams pipe
     → cell_at (moved_world world pipe place) place
     ≡ record (with_cell_ring pipe (cell_at world place) (passed_ring (ring_of world.lines pipe (tag_of place)))) { held = (cell_at world place).held }
@@ -429,7 +429,6 @@ moved-cell state world pipe place at fits =
     (cell-changed place.client at.at.part.unit.count pipe place at.entry (cell_at world place) (passed_td (trbs_on pipe at.entry)) ring
     (cell_at world place).held at.at.cell at.left
     (λ td on left. subst (HoldsIn ring (td_trbs pipe (tag_of place) at.entry) (trbs_on pipe at.entry)) (sym left) (able.put, able.count))
-    (passed-answerable pipe at.entry at.at.cell.answerable)
     (at.at.cell.held ∙ ap (λ (h : HostEntry). Some h) (sym (passed-side pipe at.entry))))
 
 moved-writes : (state : Shared) (world : World) (pipe : Pipe) (place : Place) (at : IsUnderWay state world pipe place MoveAsked) → Fits state world

@@ -1,5 +1,5 @@
 -- The TD that the host finds for each event that waits: the one that the event is of. The address of an item of a ring
--- finds that item, and an event's address is of the last TRB of its TD.
+-- finds that item, and an event's address is of the last TRB of its TD. Cited by the events' proofs and by reading back.
 use Rattle.std.proofs.Common.{◌≡◌, ℕ, zero, suc, ◌+◌, ◌-◌, ◌*◌, ◌/◌, ◌%◌, ◌<◌, ◌≤◌, Bool, true, false, List, [], ◌∷◌, ◌++◌, length, length-append, Option, Some}
 use Rattle.std.proofs.Common.{None, refl, arith, ap, sym, subst, ◌∙◌}
 use Rattle.std.specs.Prelude.{◌==◌, nat_lt, min, is_some, slice_get, option_map, option_and_then, if◌then◌else◌}
@@ -283,7 +283,7 @@ data_td_spent world place request (Some td) most there on_in on_out awaited =
     spent_by (request_direction request) world place td (request_bytes request) (moved-goes request some) some most on_in on_out
     (subst (λ n. is_awaited td n ≡ true) (data_trbs-count request) awaited)
 
-pub cell-data_spent : (world : World) (place : Place) (entry : Entry) → HasCell world place entry → IsMatchedEntry entry
+pub cell-data_spent : (world : World) (place : Place) (entry : Entry) → HasCell world place entry → IsMatchedEntry place.slot entry
     → awaits_data (trbs_of entry.task.request) entry.data_td ≡ true → IsSpentBy (request_direction entry.task.request) world place
 cell-data_spent world place entry cell matched awaited =
     data_td_spent world place entry.task.request entry.data_td matched.small matched.moves cell.fits.data_in cell.fits.data_out awaited
@@ -298,11 +298,11 @@ pub record IsStreamText (lines : LinesState) (text : Event) (residual code : ℕ
   pub item : item_at (places_of pipe) (ring_of lines pipe tag) pointer ≡ Some (length (ring_of lines pipe tag).put - 1)
 
 abbrev pub status_text : World → Place → Event
-status_text world place = status_event (stream_ring world.lines.status (tag_of place)) (held_for world.frames (tag_of place)).status
+status_text world place = status_event place.slot (stream_ring world.lines.status (tag_of place)) (held_for world.frames (tag_of place)).status
 
 -- what the unit in the status buffer leaves of its 112 bytes is the residual
 abbrev pub status_residual : World → Place → ℕ
-status_residual world place = STATUS_LENGTH - unit_len (held_for world.frames (tag_of place)).status
+status_residual world place = STATUS_LENGTH - unit_len place.slot (held_for world.frames (tag_of place)).status
 
 abbrev pub IsStatusText : World → Place → Type 0
 IsStatusText world place = IsStreamText world.lines (status_text world place) (status_residual world place) SHORT_PACKET Status (tag_of place)
@@ -355,7 +355,7 @@ data_text-by ToDevice world place sound most spent =
       item = item_at-last_pointer ring spent.0;
     }
 
-pub data_text-is : (world : World) (place : Place) (entry : Entry) → IsLines world.lines → HasCell world place entry → IsMatchedEntry entry
+pub data_text-is : (world : World) (place : Place) (entry : Entry) → IsLines world.lines → HasCell world place entry → IsMatchedEntry place.slot entry
     → awaits_data (trbs_of entry.task.request) entry.data_td ≡ true → IsDataText (request_direction entry.task.request) world place
 data_text-is world place entry sound cell matched awaited =
     data_text-by (request_direction entry.task.request) world place sound cell.tag (cell-data_spent world place entry cell matched awaited)

@@ -54,7 +54,7 @@ event_texts-append world k (DataDone place ∷ rest) more =
     ap (λ es. data_event (stream_ring world.lines.data_in (tag_of place)) (stream_ring world.lines.data_out (tag_of place)) ∷ es)
     (event_texts-append world k rest more)
 event_texts-append world k (StatusDone place ∷ rest) more =
-    ap (λ es. status_event (stream_ring world.lines.status (tag_of place)) (held_for world.frames (tag_of place)).status ∷ es)
+    ap (λ es. status_event place.slot (stream_ring world.lines.status (tag_of place)) (held_for world.frames (tag_of place)).status ∷ es)
     (event_texts-append world k rest more)
 event_texts-append world k (EngineDone place ∷ rest) more = ap (λ es. engine_event world.lines.engine ∷ es) (event_texts-append world k rest more)
 
@@ -90,9 +90,10 @@ event_texts-shifted before after m k (DataDone place ∷ rest) shifts same =
     ∙ ap (λ ring. data_event (cell_at before place).data_in ring ∷ event_texts after k rest) same.0.1
     ∙ ap (λ es. data_event (cell_at before place).data_in (cell_at before place).data_out ∷ es) (event_texts-shifted before after m k rest shifts same.1)
 event_texts-shifted before after m k (StatusDone place ∷ rest) shifts same =
-    ap (λ ring. status_event ring (cell_at after place).buffers.status ∷ event_texts after k rest) same.0.0
-    ∙ ap (λ bytes. status_event (cell_at before place).status bytes ∷ event_texts after k rest) same.0.1
-    ∙ ap (λ es. status_event (cell_at before place).status (cell_at before place).buffers.status ∷ es) (event_texts-shifted before after m k rest shifts same.1)
+    ap (λ ring. status_event place.slot ring (cell_at after place).buffers.status ∷ event_texts after k rest) same.0.0
+    ∙ ap (λ bytes. status_event place.slot (cell_at before place).status bytes ∷ event_texts after k rest) same.0.1
+    ∙ ap (λ es. status_event place.slot (cell_at before place).status (cell_at before place).buffers.status ∷ es)
+    (event_texts-shifted before after m k rest shifts same.1)
 event_texts-shifted before after m k (EngineDone place ∷ rest) shifts same =
     ap (λ ring. engine_event ring ∷ event_texts after k rest) same.0
     ∙ ap (λ es. engine_event before.lines.engine ∷ es) (event_texts-shifted before after m k rest shifts same.1)

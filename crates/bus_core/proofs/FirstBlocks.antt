@@ -12,20 +12,20 @@ use Rattle.bus_core.proofs.WholeRuns.{replayed-isolated}
 use Rattle.bus_core.proofs.Worlds.{replayed-agree}
 
 -- each new part is a new solo machine, wherever the numbers begin
-pub solo_of-new_parts : (number : ℕ) (units : List BlockMaps) (client : ℕ) →
-    option_map_or solo_of (slice_get (new_parts number units) client) nobody ≡ option_map_or solo_opening (slice_get units client) nobody
-solo_of-new_parts number [] client = refl
-solo_of-new_parts number (unit ∷ units) zero = refl
-solo_of-new_parts number (unit ∷ units) (suc client) = solo_of-new_parts (suc number) units client
+pub solo_of-new_parts : (number whose : ℕ) (units : List BlockMaps) (client : ℕ) →
+    option_map_or (solo_of whose) (slice_get (new_parts number units) client) nobody ≡ option_map_or solo_opening (slice_get units client) nobody
+solo_of-new_parts number whose [] client = refl
+solo_of-new_parts number whose (unit ∷ units) zero = refl
+solo_of-new_parts number whose (unit ∷ units) (suc client) = solo_of-new_parts (suc number) whose units client
 
 pub opening-solo : (units : List BlockMaps) (client : ℕ) (unit : BlockMaps) → slice_get units client ≡ Some unit →
     own_state (opening units) client ≡ solo_opening unit
 opening-solo units client unit is =
-    solo_of-new_parts 0 units client ∙ ap (λ (o : Option BlockMaps). option_map_or solo_opening o nobody) is
+    solo_of-new_parts 0 client units client ∙ ap (λ (o : Option BlockMaps). option_map_or solo_opening o nobody) is
 
 pub opening-nobody : (units : List BlockMaps) (client : ℕ) → slice_get units client ≡ None → own_state (opening units) client ≡ nobody
 opening-nobody units client is =
-    solo_of-new_parts 0 units client ∙ ap (λ (o : Option BlockMaps). option_map_or solo_opening o nobody) is
+    solo_of-new_parts 0 client units client ∙ ap (λ (o : Option BlockMaps). option_map_or solo_opening o nobody) is
 
 -- a replay is to each client a run of a new solo machine
 pub replay-solo : (units : List BlockMaps) (steps : List Step) (client : ℕ) (unit : BlockMaps) → slice_get units client ≡ Some unit →

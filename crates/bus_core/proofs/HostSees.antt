@@ -1,31 +1,34 @@
--- What the host makes of an event that it awaits: its entry becomes the host's side of what the shared machine's becomes.
+-- What the host makes of an event that it awaits: its entry becomes the host's side of what the shared machine's becomes, and once a response
+-- came, each entry of the client the host's side of what the shared machine leaves of it. Cited by the proofs of the events.
 use Rattle.std.proofs.Common.{◌≡◌, ℕ, zero, suc, ◌+◌, ◌-◌, ◌*◌, ◌/◌, ◌%◌, ◌<◌, ◌≤◌, true, false, ◌&&◌, List, [], ◌∷◌, take, length, Option, Some, None}
 use Rattle.std.proofs.Common.{option_map}
 use Rattle.std.proofs.Common.{refl, arith, ap, sym, ◌∙◌}
-use Rattle.std.specs.Prelude.{nat_lt, slice_index, slice_set, option_and_then, ◌==◌, if◌then◌else◌}
-use Rattle.std.proofs.lemmas.Bool.{lt-ltb, eq-eqb}
+use Rattle.std.specs.Prelude.{nat_lt, slice_index, slice_set, option_and_then, ◌==◌, if◌then◌else◌, not}
+use Rattle.std.proofs.lemmas.Bool.{lt-ltb, eq-eqb, ne_eqb}
 use Rattle.frame_store.specs.declared.TagBuffers.{TagBuffers}
 use Rattle.frame_store.specs.Buffers.{held_for}
 use Rattle.scsi_cmd.specs.declared.Direction.TheVariants.{ToHost, ToDevice}
 use Rattle.scsi_cmd.specs.declared.Request.{Request}
 use Rattle.scsi_cmd.specs.declared.Request.TheVariants.{Execute, Manage}
-use Rattle.bus_core.specs.Matched.{IsCommandRequest}
-use Rattle.scsi_cmd.specs.declared.TheConstants.{TAGS}
+use Rattle.scsi_cmd.specs.declared.Op.{Op}
+use Rattle.scsi_cmd.specs.declared.Task.{Task}
+use Rattle.arrayvec.specs.ArrayVec.{ArrayVec}
+use Rattle.scsi_cmd.specs.declared.TheConstants.{TAGS, TASK_SLOT}
 use Rattle.scsi_cmd.specs.Held.{held_at}
 use Rattle.device_server.specs.declared.Answer.{Answer}
 use Rattle.device_server.specs.declared.Answer.TheVariants.{Good, Check}
 use Rattle.device_server.specs.Server.{status_of, sense_of}
 use Rattle.solo_model.specs.declared.Phase.TheVariants.{Sent}
-use Rattle.uas_iu.specs.declared.Iu.TheVariants.{Sense as SenseUnit}
+use Rattle.uas_iu.specs.declared.Iu.TheVariants.{Response as ResponseUnit, Sense as SenseUnit}
 use Rattle.uas_iu.specs.Units.{unit_text, Fits as FitsUnit}
 use Rattle.uas_iu.proofs.Laws.{first_fault-unit_text}
 use Rattle.stream_array.specs.declared.Pipe.TheVariants.{Status}
 use Rattle.uas_host.specs.declared.Place.{Place}
 use Rattle.uas_host.specs.declared.TdState.{TdState}
 use Rattle.uas_host.specs.declared.TdState.TheVariants.{Pending, Seen, LeftOver, Retired}
-use Rattle.uas_host.specs.declared.Told.TheVariants.{Status as ToldStatus}
+use Rattle.uas_host.specs.declared.Told.TheVariants.{Response as ToldResponse, Status as ToldStatus}
 use Rattle.uas_host.specs.declared.News.{News}
-use Rattle.uas_host.specs.declared.News.TheVariants.{CommandSeen, DataInSeen, DataOutSeen, Answered}
+use Rattle.uas_host.specs.declared.News.TheVariants.{CommandSeen, DataInSeen, DataOutSeen, Answered, Responded}
 use Rattle.uas_host.specs.declared.HostEntry.{HostEntry}
 use Rattle.uas_host.specs.declared.HostClient.{HostClient}
 use Rattle.uas_host.specs.Seen.{after_response, completes, noted_in}
@@ -71,11 +74,6 @@ is_ready-side entry =
 
 -- ONE ENTRY
 
--- what the bus hands the host is a command
-is_command-side : (request : Request) → IsCommandRequest request → is_command request ≡ true
-is_command-side (Execute op) command = refl
-is_command-side (Manage what noted) command = absurd command
-
 pub command_seen-side : (entry : Entry) → entry.command_td.state ≡ Pending
     → seen CommandSeen (host_side entry) ≡ Some (host_side (record entry { command_td = with_event_seen entry.command_td }))
 command_seen-side entry pends = ap (λ s. if is_host_pending s then Some (record (host_side entry) { command_td = Seen }) else None) pends
@@ -98,7 +96,7 @@ data_out_seen-side entry td is pends way =
     ∙ ap (λ t. seen_data true (host_side entry) (option_map state_of t)) is
     ∙ ap (λ s. seen_data true (host_side entry) (Some s)) pends
 
-left_over-state : (state : TdState) (consumed : ℕ) → host_left_over state ≡ state_of (left_over_td (record { state = state; consumed = consumed }))
+pub left_over-state : (state : TdState) (consumed : ℕ) → host_left_over state ≡ state_of (left_over_td (record { state = state; consumed = consumed }))
 left_over-state Pending consumed = refl
 left_over-state Seen consumed = refl
 left_over-state LeftOver consumed = refl
@@ -114,11 +112,12 @@ data_after-side (Check sense) (Some td) = ap Some (left_over-state td.state td.c
 abbrev pub status_seen : Entry → Entry
 status_seen entry = record entry { status_td = with_event_seen entry.status_td; data_td = data_after_status entry.task.phase entry.data_td }
 
-pub status_seen-side : (entry : Entry) (answer : Answer) → IsCommandRequest entry.task.request → entry.task.phase ≡ Sent answer
+pub status_seen-side : (entry : Entry) (op : Op) (answer : Answer) → entry.task.request ≡ Execute op → entry.task.phase ≡ Sent answer
     → entry.status_td.state ≡ Pending
     → seen (Answered (status_of answer) (record { items = sense_of answer })) (host_side entry) ≡ Some (host_side (status_seen entry))
-status_seen-side entry answer command sent pends =
-    let told : told_by entry.task.phase Seen ≡ ToldStatus (status_of answer) (record { items = sense_of answer }) = ap (λ p. told_by p Seen) sent in
+status_seen-side entry op answer asks sent pends =
+    let told : told_by entry.task.request entry.task.phase Seen ≡ ToldStatus (status_of answer) (record { items = sense_of answer }) =
+    ap (λ p. told_by entry.task.request p Seen) sent ∙ ap (λ r. told_by r (Sent answer) Seen) asks in
     let left : data_after (status_of answer) (option_map state_of entry.data_td) ≡ option_map state_of (data_after_status entry.task.phase entry.data_td) =
     data_after-side answer entry.data_td ∙ ap (λ p. option_map state_of (data_after_status p entry.data_td)) (sym sent) in
     let now : HostEntry = record (host_side entry) {
@@ -126,10 +125,23 @@ status_seen-side entry answer command sent pends =
       status_td = Seen;
       data_td = data_after (status_of answer) (option_map state_of entry.data_td);
     } in
-    ap (λ c. if c && is_host_pending entry.status_td.state then Some now else None) (is_command-side entry.task.request command)
+    ap (λ r. if is_command r && is_host_pending entry.status_td.state then Some now else None) asks
     ∙ ap (λ s. if is_host_pending s then Some now else None) pends
     ∙ ap (λ t. Some (record now { told = t })) (sym told)
-    ∙ ap (λ d. Some (record now { told = told_by entry.task.phase Seen; data_td = d })) left
+    ∙ ap (λ d. Some (record now { told = told_by entry.task.request entry.task.phase Seen; data_td = d })) left
+
+-- a task management is told the code of its response, and has no data TD
+pub response_seen-side : (entry : Entry) (what : Task) (noted : ArrayVec ℕ) → entry.task.request ≡ Manage what noted → entry.task.phase ≡ Sent Good
+    → entry.status_td.state ≡ Pending → seen (Responded 0) (host_side entry) ≡ Some (host_side (status_seen entry))
+response_seen-side entry what noted asks sent pends =
+    let told : told_by entry.task.request entry.task.phase Seen ≡ ToldResponse 0 =
+    ap (λ p. told_by entry.task.request p Seen) sent ∙ ap (λ r. told_by r (Sent Good) Seen) asks in
+    let left : data_after_status entry.task.phase entry.data_td ≡ entry.data_td = ap (λ p. data_after_status p entry.data_td) sent in
+    let now : HostEntry = record (host_side entry) { told = ToldResponse 0; status_td = Seen } in
+    ap (λ r. if not (is_command r) && is_host_pending entry.status_td.state then Some now else None) asks
+    ∙ ap (λ s. if is_host_pending s then Some now else None) pends
+    ∙ ap (λ t. Some (record now { told = t })) (sym told)
+    ∙ ap (λ td. Some (record now { told = told_by entry.task.request entry.task.phase Seen; data_td = option_map state_of td })) (sym left)
 
 -- THE HOST
 
@@ -184,43 +196,75 @@ index-take (byte ∷ bytes) zero at less = absurd (omega arith)
 index-take (byte ∷ bytes) (suc n) zero less = refl
 index-take (byte ∷ bytes) (suc n) (suc at) less = index-take bytes n at (omega arith)
 
-text-len : (tag : ℕ) (answer : Answer) → unit_len (answer_text tag answer) ≡ length (answer_text tag answer)
+text-len : (tag : ℕ) (op : Op) (answer : Answer) → unit_len 0 (answer_text tag (Execute op) answer) ≡ length (answer_text tag (Execute op) answer)
 unfolding unit_text
-text-len tag Good = refl
-text-len tag (Check sense) = refl
+text-len tag op Good = refl
+text-len tag op (Check sense) = refl
 
-text-bounds : (tag : ℕ) (answer : Answer) → (16 ≤ length (answer_text tag answer)) × (length (answer_text tag answer) ≤ 112)
+text-bounds : (tag : ℕ) (op : Op) (answer : Answer)
+    → (16 ≤ length (answer_text tag (Execute op) answer)) × (length (answer_text tag (Execute op) answer) ≤ 112)
 unfolding unit_text
-text-bounds tag Good = (omega arith, omega arith)
-text-bounds tag (Check sense) = (omega arith, omega arith)
+text-bounds tag op Good = (omega arith, omega arith)
+text-bounds tag op (Check sense) = (omega arith, omega arith)
+
+-- a command slot's unit is a Sense unit, which tells its length
+sense-len : (slot : ℕ) (bytes : List ℕ) → slot < TASK_SLOT → unit_len slot bytes ≡ unit_len 0 bytes
+sense-len slot bytes less = ap (λ b. if b then 8 else 16 + slice_index bytes 15) (ne_eqb slot TASK_SLOT (λ same. omega (arith, less, same)))
 
 -- the length that a status buffer tells once it begins with an answer
-unit_len-answer : (tag : ℕ) (answer : Answer) (bytes : List ℕ) → take (length (answer_text tag answer)) bytes ≡ answer_text tag answer
-    → unit_len bytes ≡ length (answer_text tag answer)
-unit_len-answer tag answer bytes is =
-    let bounds = text-bounds tag answer in
-    ap (λ n. 16 + n) (sym (index-take bytes (length (answer_text tag answer)) 15 (omega (arith, bounds.0))))
-    ∙ ap (λ bs. unit_len bs) is ∙ text-len tag answer
+unit_len-answer : (slot tag : ℕ) (op : Op) (answer : Answer) (bytes : List ℕ) → slot < TASK_SLOT
+    → take (length (answer_text tag (Execute op) answer)) bytes ≡ answer_text tag (Execute op) answer
+    → unit_len slot bytes ≡ length (answer_text tag (Execute op) answer)
+unit_len-answer slot tag op answer bytes less is =
+    let bounds = text-bounds tag op answer in
+    sense-len slot bytes less
+    ∙ ap (λ n. 16 + n) (sym (index-take bytes (length (answer_text tag (Execute op) answer)) 15 (omega (arith, bounds.0))))
+    ∙ ap (λ bs. unit_len 0 bs) is ∙ text-len tag op answer
 
 fits-answer : (tag : ℕ) (answer : Answer) → tag ≤ 248 → FitsUnit (SenseUnit tag (status_of answer) (record { items = sense_of answer }))
 fits-answer tag Good most = (omega arith, omega arith)
 fits-answer tag (Check sense) most = (omega arith, omega arith)
 
-answer_in-text : (tag : ℕ) (answer : Answer) → tag ≤ 248
-    → answer_in tag (answer_text tag answer) ≡ Some (Answered (status_of answer) (record { items = sense_of answer }))
-answer_in-text tag answer most =
+answer_in-text : (tag : ℕ) (op : Op) (answer : Answer) → tag ≤ 248
+    → answer_in tag (answer_text tag (Execute op) answer) ≡ Some (Answered (status_of answer) (record { items = sense_of answer }))
+answer_in-text tag op answer most =
     let fits = fits-answer tag answer most in
     let unit = SenseUnit tag (status_of answer) (record { items = sense_of answer }) in
     let same : (tag == tag) ≡ true = eq-eqb tag tag refl in
     sym (answer_by-text tag unit fits (first_fault-unit_text unit fits))
     ∙ ap (λ b. if b then Some (Answered (status_of answer) (record { items = sense_of answer })) else None) same
 
-pub status_news-is : (frames : List TagBuffers) (tag : ℕ) (answer : Answer) → tag ≤ 248
-    → take (length (answer_text tag answer)) (held_for frames tag).status ≡ answer_text tag answer
-    → news_on Status frames (STATUS_LENGTH - unit_len (held_for frames tag).status) SHORT_PACKET tag
+pub status_news-is : (frames : List TagBuffers) (slot tag : ℕ) (op : Op) (answer : Answer) → slot < TASK_SLOT → tag ≤ 248
+    → take (length (answer_text tag (Execute op) answer)) (held_for frames tag).status ≡ answer_text tag (Execute op) answer
+    → news_on Status frames (STATUS_LENGTH - unit_len slot (held_for frames tag).status) SHORT_PACKET tag
     ≡ Some (Answered (status_of answer) (record { items = sense_of answer }))
-status_news-is frames tag answer most is =
-    let len = unit_len-answer tag answer (held_for frames tag).status is in
-    let bounds = text-bounds tag answer in
-    let left : 112 - (112 - unit_len (held_for frames tag).status) ≡ length (answer_text tag answer) = omega (arith, len, bounds.1) in
-    ap (λ n. answer_in tag (take n (held_for frames tag).status)) left ∙ ap (answer_in tag) is ∙ answer_in-text tag answer most
+status_news-is frames slot tag op answer less most is =
+    let len = unit_len-answer slot tag op answer (held_for frames tag).status less is in
+    let bounds = text-bounds tag op answer in
+    let left : 112 - (112 - unit_len slot (held_for frames tag).status) ≡ length (answer_text tag (Execute op) answer) = omega (arith, len, bounds.1) in
+    ap (λ n. answer_in tag (take n (held_for frames tag).status)) left ∙ ap (answer_in tag) is ∙ answer_in-text tag op answer most
+
+-- THE NEWS OF A RESPONSE
+
+response-len : (tag : ℕ) (what : Task) (noted : ArrayVec ℕ) (answer : Answer) → length (answer_text tag (Manage what noted) answer) ≡ 8
+unfolding unit_text
+response-len tag what noted answer = refl
+
+response_in-text : (tag : ℕ) (what : Task) (noted : ArrayVec ℕ) (answer : Answer) → tag ≤ 248
+    → answer_in tag (answer_text tag (Manage what noted) answer) ≡ Some (Responded 0)
+response_in-text tag what noted answer most =
+    let unit = ResponseUnit tag 0 in
+    let fits : FitsUnit (ResponseUnit tag 0) = omega (arith, most) in
+    let same : (tag == tag) ≡ true = eq-eqb tag tag refl in
+    sym (answer_by-text tag unit fits (first_fault-unit_text unit fits)) ∙ ap (λ b. if b then Some (Responded 0) else None) same
+
+-- of the last slot: 8 bytes, of which the last tells the code
+pub response_news-is : (frames : List TagBuffers) (slot tag : ℕ) (what : Task) (noted : ArrayVec ℕ) (answer : Answer) → slot ≡ TASK_SLOT → tag ≤ 248
+    → take (length (answer_text tag (Manage what noted) answer)) (held_for frames tag).status ≡ answer_text tag (Manage what noted) answer
+    → news_on Status frames (STATUS_LENGTH - unit_len slot (held_for frames tag).status) SHORT_PACKET tag ≡ Some (Responded 0)
+response_news-is frames slot tag what noted answer last most is =
+    let len : unit_len slot (held_for frames tag).status ≡ 8 =
+    ap (λ b. if b then 8 else 16 + slice_index (held_for frames tag).status 15) (eq-eqb slot TASK_SLOT last) in
+    let left : 112 - (112 - unit_len slot (held_for frames tag).status) ≡ length (answer_text tag (Manage what noted) answer) =
+    omega (arith, len, response-len tag what noted answer) in
+    ap (λ n. answer_in tag (take n (held_for frames tag).status)) left ∙ ap (answer_in tag) is ∙ response_in-text tag what noted answer most

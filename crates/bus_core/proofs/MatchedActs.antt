@@ -19,10 +19,10 @@ use Rattle.bus_core.specs.Matched.{same_place, times, held_in, under, command_ev
 use Rattle.bus_core.specs.Matched.{IsMatched, retired_places, is_td_event}
 use Rattle.bus_core.proofs.MatchedPlaces.{one_equal, one_apart, times_in-push, command_events-append, data_events-append, status_events-append, times-append}
 use Rattle.bus_core.proofs.MatchedPlaces.{IsFound, under-found, held-within, IsWritten, times_ready-written, AreMatched-written, retired_places-append}
-use Rattle.bus_core.proofs.MatchedPlaces.{clients-written, AreMatched, matched-places}
+use Rattle.bus_core.proofs.MatchedPlaces.{clients-written, AreMatched, IsCounted, matched-places}
 use Rattle.bus_core.proofs.MatchedEntries.{IsStepped, IsSeenAs, IsCountedOut}
 use Rattle.bus_core.proofs.MatchedTds.{TdsGoOn, tds-on}
-use Rattle.bus_core.proofs.MatchedFlows.{pipes-same, HeldGoesOn, written-goes, goes-on, IsMatched-kept}
+use Rattle.bus_core.proofs.MatchedFlows.{pipes-same, HeldGoesOn, written-goes, goes-on, IsCounted-kept}
 
 -- A MATCHED PLACE
 
@@ -106,11 +106,11 @@ under-there parts place part held there is = ap (λ found. option_map_or (held_i
 pub acted-matched : (state : Shared) (place : Place) (part : Part) (unit : BlockMaps) (old new : Entry) (popped rest : List Place) (posted : List Completion) →
     slice_get state.parts place.client ≡ Some part → held_at part.entries place.slot ≡ Some old → state.messages ≡ popped ++ rest
     → NamesAlone place popped posted → retired_places posted ≡ [] → TdsGoOn old new →
-    IsStepped place popped posted old new → IsMatchedAt state place (Some old) → IsMatched state → IsMatched (acted_state state place part unit new rest posted)
+    IsStepped place popped posted old new → IsMatchedAt state place (Some old) → IsCounted state → IsCounted (acted_state state place part unit new rest posted)
 acted-matched state place part unit old new popped rest posted there held pops alone none tds step here all =
     let now : Shared = acted_state state place part unit new rest posted in
     let written = acted-written state place part unit old new popped rest posted there held pops alone in
-    IsMatched-kept state now
+    IsCounted-kept state now
     (goes-on state now (clients-written state now place (Some new) written) refl (pipes-same state now refl refl refl)
     (written-goes state now place (Some new) written
     (λ pipe. subst (λ was. HeldGoesOn pipe was (Some new)) (sym (under-there state.parts place part (Some old) there held)) (tds-on pipe old new tds))))
@@ -263,13 +263,13 @@ td_event-retired (EngineDone place) rest is = absurd (false≢true is)
 
 pub seen-matched : (state : Shared) (event : Completion) (rest : List Completion) (part : Part) (old new : Entry) → is_td_event event ≡ true →
     state.events ≡ event ∷ rest → slice_get state.parts (event_place event).client ≡ Some part → held_at part.entries (event_place event).slot ≡ Some old →
-    IsSeenAs event old new → IsMatchedAt state (event_place event) (Some old) → IsMatched state →
-    IsMatched (seen_state state (event_place event) part new rest)
+    IsSeenAs event old new → IsMatchedAt state (event_place event) (Some old) → IsCounted state →
+    IsCounted (seen_state state (event_place event) part new rest)
 seen-matched state event rest part old new of_td is there held step here all =
     let place : Place = event_place event in
     let now : Shared = seen_state state place part new rest in
     let written = seen-written state event rest part old new is there held in
-    IsMatched-kept state now
+    IsCounted-kept state now
     (goes-on state now (clients-written state now place (Some new) written) refl (pipes-same state now refl refl refl)
     (written-goes state now place (Some new) written
     (λ pipe. subst (λ was. HeldGoesOn pipe was (Some new)) (sym (under-there state.parts place part (Some old) there held)) (tds-on pipe old new step.tds))))

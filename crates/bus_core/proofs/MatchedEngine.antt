@@ -37,7 +37,7 @@ use Rattle.bus_core.specs.Matched.{answered_places, is_left_over_at, has_trb_at,
 use Rattle.bus_core.specs.Matched.{IsAtStage, IsRetiring, FlowsAt, IsMatched}
 use Rattle.bus_core.proofs.MatchedPlaces.{and-true, same_place-self, same_place-true, command_events-append, data_events-append, status_events-append}
 use Rattle.bus_core.proofs.MatchedPlaces.{retired_places-append, IsFound, under-found, IsWritten, under-written, under-other, clients-written, AreMatched}
-use Rattle.bus_core.proofs.MatchedPlaces.{AreMatched-same, matched-places}
+use Rattle.bus_core.proofs.MatchedPlaces.{AreMatched-same, IsCounted, counted-of, matched-places}
 use Rattle.bus_core.proofs.MatchedBounds.{slots-place, held-place}
 use Rattle.bus_core.proofs.MatchedLeftOver.{passed-stepped, retired-counted, retired_on-is, IsSameOn, changed-other, passed-empty, passed-whole, passed-still}
 use Rattle.bus_core.proofs.MatchedLeftOver.{retired-gone}
@@ -146,7 +146,7 @@ posted-retired state now r stage events all is at asked =
     ap (λ es. retired_places es) events ∙ retired_places-append state.events (EngineDone r.place ∷ []) ∙ ap (λ places. places ++ r.place ∷ []) none
 
 stopped-matched : (state : Shared) (r : Retirement) → state.retirement ≡ Some r → r.stage ≡ StopAsked → IsMatched state →
-    IsMatched (engine_did state r StopAsked).0
+    IsCounted (engine_did state r StopAsked).0
 stopped-matched state r is asked all =
     let retiring : IsRetiring state r = retiring-of state r all is in
     let at : HasLeft state r = has-left state r retiring in
@@ -159,9 +159,9 @@ stopped-matched state r is asked all =
     let parts : now.parts ≡ state.parts =
     ap (λ parts. slice_set parts r.place.client part) facts.parts ∙ slice_set-self state.parts r.place.client part at.found.there in
     let events : now.events ≡ state.events ++ EngineDone r.place ∷ [] = ap (λ es. es ++ EngineDone r.place ∷ []) facts.events in
-    let places : AreMatched now = stop-event state r.place now parts facts.messages events (matched-places state all) in
+    let places : AreMatched now = stop-event state r.place now parts facts.messages events (matched-places state (counted-of state all)) in
     let own : pipe_of now r.pipe ≡ stopped_pipe = pipes-same piped now refl refl refl r.pipe ∙ facts.own retiring.streams in
-    subst (λ (after : Shared × Outcome). IsMatched after.0) (sym (ap (λ found. routed_to base r.place.client (stop_act r.place) found) there)) (record {
+    subst (λ (after : Shared × Outcome). IsCounted after.0) (sym (ap (λ found. routed_to base r.place.client (stop_act r.place) found) there)) (record {
       slots = places.slots;
       places = places.places;
       retired = posted-retired state now r StopAsked events all.retired is asked refl;
@@ -236,7 +236,7 @@ passed-apart state r pipe place is at =
     and-one false = refl
 
 moved-matched : (state : Shared) (r : Retirement) → state.retirement ≡ Some r → r.stage ≡ MoveAsked → IsMatched state →
-    IsMatched (engine_did state r MoveAsked).0
+    IsCounted (engine_did state r MoveAsked).0
 moved-matched state r is asked all =
     let retiring : IsRetiring state r = retiring-of state r all is in
     let at : HasLeft state r = has-left state r retiring in
@@ -249,9 +249,9 @@ moved-matched state r is asked all =
     let now : Shared = acted_state base r.place part part.unit new state.messages posted in
     let alone : NamesAlone r.place [] posted =
     record { messages = λ other apart. refl; carried = λ other apart. refl; moved = λ other apart. refl; sent = λ other apart. refl } in
-    let bases : AreMatched base = places-kept state base refl refl refl (matched-places state all) in
+    let bases : AreMatched base = places-kept state base refl refl refl (matched-places state (counted-of state all)) in
     let here : IsMatchedAt base r.place (Some old) = subst (λ held. IsMatchedAt base r.place held) at.held (bases.places r.place) in
-    let sound : IsMatchedEntry old = here.sound in
+    let sound : IsMatchedEntry r.place.slot old = here.sound in
     let places : AreMatched now = acted-counted base r.place part part.unit old new [] state.messages posted at.found.there at.found.held refl alone
     (passed-stepped r.pipe r.place old at.left sound) here bases in
     let written : IsWritten base now r.place (Some new) =
@@ -266,7 +266,7 @@ moved-matched state r is asked all =
     let step : routed base r.place.client (pass_act r.pipe r.place) ≡ acted_on base r.place.client (passed_slot r.pipe part r.place (Some old)) =
     ap (λ found. routed_to base r.place.client (pass_act r.pipe r.place) found) at.found.there
     ∙ ap (λ held. acted_on base r.place.client (passed_slot r.pipe part r.place held)) at.found.held in
-    subst (λ (after : Shared × Outcome). IsMatched after.0) (sym step) (record {
+    subst (λ (after : Shared × Outcome). IsCounted after.0) (sym step) (record {
       slots = places.slots;
       places = places.places;
       retired = posted-retired state now r MoveAsked refl all.retired is asked refl;
@@ -301,15 +301,15 @@ moved-matched state r is asked all =
 
 -- THE CONTROLLER'S COMMAND RING
 
-pub engine_step-matched : (state : Shared) (found : Option Retirement) → state.retirement ≡ found → IsMatched state → IsMatched (engine_step state found).0
-engine_step-matched state None is all = all
+pub engine_step-matched : (state : Shared) (found : Option Retirement) → state.retirement ≡ found → IsMatched state → IsCounted (engine_step state found).0
+engine_step-matched state None is all = counted-of state all
 engine_step-matched state (Some r) is all = at r.stage refl
   where
-    at : (stage : RetirementStage) → r.stage ≡ stage → IsMatched (engine_did state r stage).0
+    at : (stage : RetirementStage) → r.stage ≡ stage → IsCounted (engine_did state r stage).0
     at StopAsked so = stopped-matched state r is so all
-    at StopAnswered so = all
+    at StopAnswered so = counted-of state all
     at MoveAsked so = moved-matched state r is so all
-    at MoveAnswered so = all
+    at MoveAnswered so = counted-of state all
 
 -- A RETIREMENT BEGINS
 
@@ -324,11 +324,11 @@ left-streams DataIn entry left = tt
 left-streams DataOut entry left = tt
 
 begun-matched : (state : Shared) (pipe : Pipe) (place : Place) (entry : Entry) → state.retirement ≡ None → under state.parts place ≡ Some entry →
-    is_left_over_on pipe entry ≡ true → IsMatched state → IsMatched (retire_step state pipe (Some place)).0
+    is_left_over_on pipe entry ≡ true → IsMatched state → IsCounted (retire_step state pipe (Some place)).0
 begun-matched state pipe place entry none held left all =
     let now : Shared = (retire_step state pipe (Some place)).0 in
     let r : Retirement = record { pipe = pipe; place = place; stage = StopAsked } in
-    let places : AreMatched now = places-kept state now refl refl refl (matched-places state all) in
+    let places : AreMatched now = places-kept state now refl refl refl (matched-places state (counted-of state all)) in
     let here : is_left_over_at state pipe place ≡ true = ap (left_of pipe) held ∙ left in
     let pipes : (p : Pipe) → pipe_of now p ≡ pipe_of state p = pipes-same state now refl refl refl in
     record {
@@ -349,11 +349,11 @@ begun-matched state pipe place entry none held left all =
     }
 
 pub retire_step-matched : (state : Shared) (pipe : Pipe) (tag : ℕ) → due state (Retire pipe tag) ≡ true → IsMatched state →
-    IsMatched (retire_step state pipe (place_of (length state.parts) tag)).0
+    IsCounted (retire_step state pipe (place_of (length state.parts) tag)).0
 retire_step-matched state pipe tag is_due all =
     let both = and-true (is_none state.retirement) (place_fact state tag (is_left_over_on pipe)) is_due in
     let at : IsDueAt state tag (is_left_over_on pipe) = place_fact-due state tag (is_left_over_on pipe) both.1 in
-    subst (λ found. IsMatched (retire_step state pipe found).0) (sym at.named)
+    subst (λ found. IsCounted (retire_step state pipe found).0) (sym at.named)
     (begun-matched state pipe at.place at.entry (is_none-true state.retirement both.0) at.held at.so all)
 
 -- THE EVENT OF STOP ENDPOINT
@@ -370,10 +370,10 @@ popped-places state place rest now is parts messages events all = AreMatched-sam
 
 asked-matched : (state : Shared) (r : Retirement) (place : Place) (rest : List Completion) → state.events ≡ EngineDone place ∷ rest →
     state.retirement ≡ Some r → r.stage ≡ StopAnswered → retired_places rest ≡ [] → IsMatched state →
-    IsMatched (stage_seen (record state { events = rest }) r StopAnswered).0
+    IsCounted (stage_seen (record state { events = rest }) r StopAnswered).0
 asked-matched state r place rest first is at none all =
     let now : Shared = (stage_seen (record state { events = rest }) r StopAnswered).0 in
-    let places : AreMatched now = popped-places state place rest now first refl refl refl (matched-places state all) in
+    let places : AreMatched now = popped-places state place rest now first refl refl refl (matched-places state (counted-of state all)) in
     let was : IsRetiring state r = retiring-of state r all is in
     let stage : IsAtStage state r.pipe r.place StopAnswered = subst (λ s. IsAtStage state r.pipe r.place s) at was.stage in
     let pipes : (p : Pipe) → pipe_of now p ≡ pipe_of state p = pipes-same state now refl refl refl in
@@ -455,13 +455,14 @@ pending-some state pipe place slots few has =
 pub retired-step : (state : Shared) (r : Retirement) (rest : List Completion) (part : Part) (old : Entry) → slice_get state.parts r.place.client ≡ Some part →
     held_at part.entries r.place.slot ≡ Some old → is_left_over_on r.pipe old ≡ true →
     routed (record state { events = rest; retirement = None }) r.place.client (retire_act r.pipe r.place)
-    ≡ acted_on (record state { events = rest; retirement = None }) r.place.client (seen_entry part r.place.slot (Some (with_td_on retired_td r.pipe old)))
+    ≡ acted_on (record state { events = rest; retirement = None }) r.place.client
+    (seen_entry (EngineDone r.place) part r.place.slot (Some (with_td_on retired_td r.pipe old)))
 retired-step state r rest part old there held left =
     let base : Shared = record state { events = rest; retirement = None } in
     let client : ℕ = r.place.client in
     ap (λ found. routed_to base client (retire_act r.pipe r.place) found) there
-    ∙ ap (λ found. acted_on base client (seen_entry part r.place.slot (option_and_then (retired_on r.pipe) found))) held
-    ∙ ap (λ found. acted_on base client (seen_entry part r.place.slot found)) (retired_on-is r.pipe old left)
+    ∙ ap (λ found. acted_on base client (seen_entry (EngineDone r.place) part r.place.slot (option_and_then (retired_on r.pipe) found))) held
+    ∙ ap (λ found. acted_on base client (seen_entry (EngineDone r.place) part r.place.slot found)) (retired_on-is r.pipe old left)
 
 -- the state before the pipe's doorbells are rung
 abbrev retired_state : Shared → Retirement → List Completion → Part → Entry → Shared
@@ -469,7 +470,7 @@ retired_state state r rest part old = record (seen_state state r.place part (wit
 
 retired-matched : (state : Shared) (r : Retirement) (rest : List Completion) → state.events ≡ EngineDone r.place ∷ rest →
     state.retirement ≡ Some r → r.stage ≡ MoveAnswered → retired_places rest ≡ [] → IsMatched state →
-    IsMatched (stage_seen (record state { events = rest }) r MoveAnswered).0
+    IsCounted (stage_seen (record state { events = rest }) r MoveAnswered).0
 retired-matched state r rest first is moved none all =
     let retiring : IsRetiring state r = retiring-of state r all is in
     let at : HasLeft state r = has-left state r retiring in
@@ -482,10 +483,10 @@ retired-matched state r rest first is moved none all =
     let now : Shared = with_pipe after r.pipe all_pipe in
     let facts : IsPiped after now r.pipe all_pipe = with_pipe-is after r.pipe all_pipe in
     let here : IsMatchedAt state r.place (Some old) = subst (λ held. IsMatchedAt state r.place held) at.held (all.places r.place) in
-    let sound : IsMatchedEntry old = here.sound in
+    let sound : IsMatchedEntry r.place.slot old = here.sound in
     let counted : AreMatched seen =
     seen-counted state (EngineDone r.place) rest part old new first at.found.there at.found.held (retired-counted r.pipe r.place old at.left sound) here
-    (matched-places state all) in
+    (matched-places state (counted-of state all)) in
     let places : AreMatched after = places-kept seen after refl refl refl counted in
     let nows : AreMatched now = places-kept after now facts.parts facts.messages facts.events places in
     let written : IsWritten state seen r.place (Some new) = seen-written state (EngineDone r.place) rest part old new first at.found.there at.found.held in
@@ -498,7 +499,7 @@ retired-matched state r rest first is moved none all =
     λ pipe place. ap (λ ps. trb_of pipe (under ps place)) facts.parts in
     let left_now : (pipe : Pipe) (place : Place) → is_left_over_at now pipe place ≡ is_left_over_at seen pipe place =
     λ pipe place. ap (λ ps. left_of pipe (under ps place)) facts.parts in
-    subst (λ (s : Shared × Outcome). IsMatched (resumed r.pipe s).0) (sym (retired-step state r rest part old at.found.there at.found.held at.left)) (record {
+    subst (λ (s : Shared × Outcome). IsCounted (resumed r.pipe s).0) (sym (retired-step state r rest part old at.found.there at.found.held at.left)) (record {
       slots = nows.slots;
       places = nows.places;
       retired = ap (λ es. retired_places es) (facts.events ∙ append-nil rest) ∙ none ∙ sym (ap (λ found. answered_places found) no_more);
@@ -528,16 +529,16 @@ retired-matched state r rest first is moved none all =
 -- THE EVENT OF THE CONTROLLER'S OWN COMMAND
 
 pub engine_event-matched : (state : Shared) (place : Place) (rest : List Completion) → state.events ≡ EngineDone place ∷ rest → IsMatched state →
-    IsMatched (event_step state (EngineDone place ∷ rest)).0
+    IsCounted (event_step state (EngineDone place ∷ rest)).0
 engine_event-matched state place rest first all =
     let popped : Shared = record state { events = rest } in
     let own : IsAnswered state.retirement place (retired_places rest) = first-engine_event state place rest all first in
     let r : Retirement = own.retirement in
     let it : state.events ≡ EngineDone r.place ∷ rest = first ∙ ap (λ at. EngineDone at ∷ rest) (sym own.place_same) in
-    subst (λ found. IsMatched (engine_seen popped place found).0) (sym own.is) (at r own.is it own.alone r.stage refl own.answered)
+    subst (λ found. IsCounted (engine_seen popped place found).0) (sym own.is) (at r own.is it own.alone r.stage refl own.answered)
   where
     at : (r : Retirement) → state.retirement ≡ Some r → state.events ≡ EngineDone r.place ∷ rest → retired_places rest ≡ [] →
-        (stage : RetirementStage) → r.stage ≡ stage → is_asked r.stage ≡ false → IsMatched (stage_seen (record state { events = rest }) r stage).0
+        (stage : RetirementStage) → r.stage ≡ stage → is_asked r.stage ≡ false → IsCounted (stage_seen (record state { events = rest }) r stage).0
     at r is it none StopAsked so answered = absurd (false≢true (sym answered ∙ ap (λ stage. is_asked stage) so))
     at r is it none StopAnswered so answered = asked-matched state r r.place rest it is so none all
     at r is it none MoveAsked so answered = absurd (false≢true (sym answered ∙ ap (λ stage. is_asked stage) so))

@@ -7,13 +7,13 @@ use Rattle.block_unit.specs.BlockMaps.{BlockMaps}
 use Rattle.stream_array.specs.declared.Pipe.{Pipe}
 use Rattle.stream_array.specs.declared.Pipe.TheVariants.{Command as CommandPipe, Status, DataIn, DataOut}
 use Rattle.scsi_cmd.specs.declared.Command.{Command}
-use Rattle.scsi_cmd.specs.declared.SubmitFault.TheVariants.{InUse, BadLength, TooLong, OutOfTurn}
+use Rattle.scsi_cmd.specs.declared.SubmitFault.TheVariants.{InUse, BadLength, TooLong, OutOfTurn, NoSuchTask}
 use Rattle.scsi_cmd.specs.declared.Op.{Op}
 use Rattle.scsi_cmd.specs.declared.Op.TheVariants.{TestUnitReady, Inquiry, ReadCapacity, Read, Write, Sync}
 use Rattle.scsi_cmd.specs.Op.{moved_bytes}
 use Rattle.scsi_cmd.specs.declared.Request.{Request}
 use Rattle.scsi_cmd.specs.declared.Request.TheVariants.{Execute, Manage}
-use Rattle.scsi_cmd.specs.Submission.{is_too_long, first_submit_fault}
+use Rattle.scsi_cmd.specs.Submission.{is_too_long, first_submit_fault, first_task_fault}
 use Rattle.scsi_cmd.specs.Work.{reports_attention}
 use Rattle.scsi_cmd.specs.declared.Direction.{Direction}
 use Rattle.scsi_cmd.specs.declared.Direction.TheVariants.{Nothing, ToHost, ToDevice}
@@ -23,7 +23,11 @@ use Rattle.device_server.specs.declared.Progress.TheVariants.{Moving, Ended}
 use Rattle.device_server.specs.Laws.{after_chunk, begun_progress}
 use Rattle.solo_model.specs.declared.Phase.{Phase}
 use Rattle.solo_model.specs.declared.Phase.TheVariants.{Queued, Begun, Sent, Gone}
-use Rattle.solo_model.specs.TaggedTask.{TaggedTask, buffer_after, carried_request, progress_left}
+use Rattle.solo_model.specs.TaggedTask.{TaggedTask, aborted_by, answered_by, buffer_after, carried_request, is_command, progress_left, reply_from, reply_of}
+use Rattle.scsi_cmd.specs.declared.Reply.{Reply}
+use Rattle.scsi_cmd.specs.declared.Reply.TheVariants.{Aborted}
+use Rattle.scsi_cmd.specs.declared.Task.{Task}
+use Rattle.scsi_cmd.specs.declared.TheConstants.{TASK_SLOT}
 use Rattle.uas_host.specs.declared.Place.{Place}
 use Rattle.uas_host.specs.declared.TdState.{TdState}
 use Rattle.uas_host.specs.declared.TdState.TheVariants.{Pending, Seen, LeftOver, Retired}
@@ -33,11 +37,11 @@ use Rattle.bus_core.specs.declared.Completion.TheVariants.{CommandDone, DataDone
 use Rattle.bus_core.specs.Td.{is_in_ring, Entry, pushed, is_pending, is_seen, is_over, is_data_over, has_trb, is_awaited, is_ready, data_trbs, with_trb_taken}
 use Rattle.bus_core.specs.Td.{with_event_seen, left_over_td, left_over_data, data_after_answer, data_after_status, is_left_over, is_td_left_over}
 use Rattle.bus_core.specs.Td.{is_left_over_on, data_in_td, data_out_td, request_direction}
-use Rattle.bus_core.specs.Part.{data_td_after, entries_after, took_trb, is_last_trb, event_place, seen_by, seen_data_td, data_td_for, new_entry}
+use Rattle.bus_core.specs.Part.{data_td_after, entries_after, took_trb, is_last_trb, event_place, seen_by, seen_data_td, data_td_for, new_entry, new_management}
 use Rattle.bus_core.specs.Soundness.{one_if, awaited_data}
 use Rattle.bus_core.specs.Matched.{same_place, times, command_events, data_events, status_events, waiting_command, awaited_command, awaited_status}
-use Rattle.bus_core.specs.Matched.{awaited_data_of, IsCommandTd, IsStatusTd, IsMovingTd, IsWholeTd, IsShortTd, IsAnsweredTd, IsDataTd, IsMatchedEntry}
-use Rattle.bus_core.specs.Matched.{IsCommandRequest, awaits_data, awaits_event, retired_places}
+use Rattle.bus_core.specs.Matched.{awaited_data_of, IsCommandTd, IsStatusTd, IsMovingTd, IsWholeTd, IsShortTd, IsWithinTd, IsAnsweredTd, IsDataTd, IsMatchedEntry}
+use Rattle.bus_core.specs.Matched.{IsManagedPhase, IsPhaseOf, IsAwaitedOrSeen, IsGivenUp, awaits_data, awaits_event, retired_places}
 use Rattle.bus_core.proofs.MatchedPlaces.{one_self, and-true}
 use Rattle.bus_core.proofs.MatchedTds.{TdGoesOn, TdsGoOn, td-same, td-taken, td-seen, td-left}
 
@@ -48,19 +52,28 @@ pub record IsStepped (place : Place) (popped : List Place) (posted : List Comple
   pub moved : awaited_data_of (Some old) + data_events place posted ≡ awaited_data_of (Some new)
   pub sent : awaited_status (Some old) + status_events place posted ≡ awaited_status (Some new)
   pub ready : is_ready new ≡ is_ready old
-  pub sound : IsMatchedEntry new
+  pub sound : IsMatchedEntry place.slot new
 
 -- the operation of a command
-pub asked_op : (request : Request) → IsCommandRequest request → (op : Op) × (request ≡ Execute op)
+pub asked_op : (request : Request) → is_command request ≡ true → (op : Op) × (request ≡ Execute op)
 asked_op (Execute op) command = (op, refl)
-asked_op (Manage what noted) command = absurd command
+asked_op (Manage what noted) command = absurd (false≢true command)
+
+-- what moves data is a command
+pub moving_op : (request : Request) (phase : Phase) (chunk : ℕ) → phase ≡ Begun (Moving chunk) → IsPhaseOf request phase → (op : Op) × (request ≡ Execute op)
+moving_op (Execute op) phase chunk moving answers = (op, refl)
+moving_op (Manage what noted) phase chunk moving answers = absurd (subst (λ p. IsManagedPhase p) moving answers)
+
+-- a command may be at any phase
+command-answers : (request : Request) (op : Op) (phase : Phase) → request ≡ Execute op → IsPhaseOf request phase
+command-answers request op phase is = subst (λ r. IsPhaseOf r phase) (sym is) tt
 
 -- CARRY
 
 -- a command changes nothing of the client's others
-pub entries_after-command : (request : Request) (entries : List (Option Entry)) → IsCommandRequest request → entries_after request entries ≡ entries
+pub entries_after-command : (request : Request) (entries : List (Option Entry)) → is_command request ≡ true → entries_after request entries ≡ entries
 entries_after-command (Execute op) entries command = refl
-entries_after-command (Manage what noted) entries command = absurd command
+entries_after-command (Manage what noted) entries command = absurd (false≢true command)
 
 -- a command TD whose TRB is in the ring is one of a queued command
 pub has_trb-queued : (phase : Phase) (td : Td) → IsCommandTd phase td → has_trb td 1 ≡ true → phase ≡ Queued
@@ -68,39 +81,51 @@ has_trb-queued Queued td is has = refl
 has_trb-queued (Begun (Moving chunk)) td is has = absurd (omega (arith, is, ltb-true td.consumed 1 (and-true _ (nat_lt td.consumed 1) has).1))
 has_trb-queued (Begun (Ended answer)) td is has = absurd (omega (arith, is, ltb-true td.consumed 1 (and-true _ (nat_lt td.consumed 1) has).1))
 has_trb-queued (Sent answer) td is has = absurd (omega (arith, is, ltb-true td.consumed 1 (and-true _ (nat_lt td.consumed 1) has).1))
-has_trb-queued Gone td is has = absurd is
+has_trb-queued Gone td is has = absurd (omega (arith, is, ltb-true td.consumed 1 (and-true _ (nat_lt td.consumed 1) has).1))
 
 -- a TD that lacks a TRB is short
 moving-short : (trbs chunk : ℕ) (td : Option Td) → IsMovingTd trbs chunk td → IsShortTd trbs td
 moving-short trbs chunk None is = tt
 moving-short trbs chunk (Some td) is = λ pends. omega (arith, is.1, is.2)
 
+-- of a TD that is moved no more TRBs were taken than there are
+pub moving-within : (trbs chunk : ℕ) (td : Option Td) → IsMovingTd trbs chunk td → IsWithinTd trbs td
+moving-within trbs chunk None is = tt
+moving-within trbs chunk (Some td) is = omega (arith, is.1, is.2)
+
 -- a TD of no TRB isn't there
 moving-none : (bytes chunk : ℕ) (td : Option Td) → bytes ≡ 0 → IsMovingTd ((bytes + 4095) / 4096) chunk td → IsWholeTd ((bytes + 4095) / 4096) td
 moving-none bytes chunk None none is = tt
 moving-none bytes chunk (Some td) none is = absurd (omega (arith, none, is.2))
 
--- an entry whose command the device received
+moving-nothing : (trbs chunk : ℕ) (td : Option Td) → trbs ≡ 0 → IsMovingTd trbs chunk td → IsWholeTd trbs td
+moving-nothing trbs chunk None none is = tt
+moving-nothing trbs chunk (Some td) none is = absurd (omega (arith, none, is.2))
+
+-- an entry whose request the device received
 abbrev pub carried_to : Entry → TaggedTask → Entry
 carried_to entry task = record entry { task = task; command_td = with_trb_taken entry.command_td }
 
-received : (unit : BlockMaps) (entry : Entry) (request : Request) → entry.task.request ≡ request → entry.command_td ≡ pushed → entry.status_td ≡ pushed →
-    IsMovingTd (data_trbs entry.task.request) 0 entry.data_td → IsMatchedEntry entry
-    → IsMatchedEntry (carried_to entry (carried_request unit entry.task request).1)
-received unit entry (Execute op) is command status chunks sound =
+received : (unit : BlockMaps) (slot : ℕ) (entry : Entry) (request : Request) → entry.task.request ≡ request → entry.command_td ≡ pushed
+    → entry.status_td ≡ pushed → IsMovingTd (data_trbs entry.task.request) 0 entry.data_td → IsMatchedEntry slot entry
+    → IsMatchedEntry slot (carried_to entry (carried_request unit entry.task request).1)
+received unit slot entry (Execute op) is command status chunks sound =
     let one : (with_trb_taken entry.command_td).consumed ≡ 1 = ap (λ (td : Td). td.consumed + 1) command in
+    let answers : (phase : Phase) → IsPhaseOf entry.task.request phase = λ phase. command-answers entry.task.request op phase is in
     let trbs : data_trbs entry.task.request ≡ (moved_bytes op + 4095) / 4096 = ap data_trbs is in
-    begun_progress (λ progress. IsMatchedEntry (carried_to entry (record entry.task { phase = Begun progress }))) unit (reports_attention op) op
+    begun_progress (λ progress. IsMatchedEntry slot (carried_to entry (record entry.task { phase = Begun progress }))) unit (reports_attention op) op
     (λ sense. record {
       asks = sound.asks;
+      answers = answers (Begun (Ended (Check sense)));
       command = one;
       status = status;
-      chunks = moving-short (data_trbs entry.task.request) 0 entry.data_td chunks;
+      chunks = (moving-short (data_trbs entry.task.request) 0 entry.data_td chunks, moving-within (data_trbs entry.task.request) 0 entry.data_td chunks);
       moves = sound.moves;
       small = sound.small;
     })
     (λ none. record {
       asks = sound.asks;
+      answers = answers (Begun (Ended Good));
       command = one;
       status = status;
       chunks = subst (λ n. IsWholeTd n entry.data_td) (sym trbs)
@@ -108,11 +133,27 @@ received unit entry (Execute op) is command status chunks sound =
       moves = sound.moves;
       small = sound.small;
     })
-    (λ some none. record { asks = sound.asks; command = one; status = status; chunks = chunks; moves = sound.moves; small = sound.small })
-received unit entry (Manage what noted) is command status chunks sound = absurd (subst (λ r. IsCommandRequest r) is sound.asks)
+    (λ some none. record {
+      asks = sound.asks;
+      answers = answers (Begun (Moving 0));
+      command = one;
+      status = status;
+      chunks = chunks;
+      moves = sound.moves;
+      small = sound.small;
+    })
+received unit slot entry (Manage what noted) is command status chunks sound = record {
+  asks = sound.asks;
+  answers = subst (λ r. IsPhaseOf r (Begun (Ended Good))) (sym is) tt;
+  command = ap (λ (td : Td). td.consumed + 1) command;
+  status = status;
+  chunks = moving-nothing (data_trbs entry.task.request) 0 entry.data_td (ap data_trbs is) chunks;
+  moves = sound.moves;
+  small = sound.small;
+}
 
--- the device receives the command
-pub carry-stepped : (unit : BlockMaps) (place : Place) (entry : Entry) → entry.task.phase ≡ Queued → IsMatchedEntry entry →
+-- the device receives the request
+pub carry-stepped : (unit : BlockMaps) (place : Place) (entry : Entry) → entry.task.phase ≡ Queued → IsMatchedEntry place.slot entry →
     IsStepped place (place ∷ []) (CommandDone place ∷ []) entry (carried_to entry (carried_request unit entry.task entry.task.request).1)
 carry-stepped unit place entry queued sound =
     let command : entry.command_td ≡ pushed = subst (λ p. IsCommandTd p entry.command_td) queued sound.command in
@@ -130,7 +171,7 @@ carry-stepped unit place entry queued sound =
       moved = omega arith;
       sent = omega arith;
       ready = refl;
-      sound = received unit entry entry.task.request refl command status chunks sound;
+      sound = received unit place.slot entry entry.task.request refl command status chunks sound;
     }
 
 -- no TD but the command's changes
@@ -185,9 +226,9 @@ chunk-whole : (trbs chunk : ℕ) (td : Option Td) → IsMovingTd trbs chunk td �
 chunk-whole trbs chunk None is last = tt
 chunk-whole trbs chunk (Some td) is last = omega (arith, is.1, is.2, last)
 
-chunk-short : (trbs chunk : ℕ) (td : Option Td) → IsMovingTd trbs chunk td → IsShortTd trbs (data_td_after false td)
-chunk-short trbs chunk None is = tt
-chunk-short trbs chunk (Some td) is = λ pends. omega (arith, is.1, is.2)
+chunk-short : (trbs chunk : ℕ) (td : Option Td) → IsMovingTd trbs chunk td → IsShortTd trbs (data_td_after false td) × IsWithinTd trbs (data_td_after false td)
+chunk-short trbs chunk None is = (tt, tt)
+chunk-short trbs chunk (Some td) is = ((λ pends. omega (arith, is.1, is.2)), omega (arith, is.1, is.2))
 
 -- the event of a data TD, where its last TRB was taken
 abbrev pub data_event_if : Bool → Place → List Completion
@@ -237,7 +278,7 @@ moved_events entry task place = data_event_if (is_last_trb (took_trb task.phase)
 
 -- a step that changes the phase and takes what it takes of the data TD
 chunk-stepped : (place : Place) (entry : Entry) (chunk : ℕ) (buffer : List ℕ) (phase : Phase) → IsMovingTd (data_trbs entry.task.request) chunk entry.data_td →
-    IsMatchedEntry (moved_to entry (record entry.task { buffer = buffer; phase = phase })) →
+    IsMatchedEntry place.slot (moved_to entry (record entry.task { buffer = buffer; phase = phase })) →
     IsStepped place [] (moved_events entry (record entry.task { buffer = buffer; phase = phase }) place) entry
     (moved_to entry (record entry.task { buffer = buffer; phase = phase }))
 chunk-stepped place entry chunk buffer phase chunks sound =
@@ -259,7 +300,7 @@ chunk_task unit task chunk op = record task { buffer = buffer_after unit task.bu
 
 -- the device moves a chunk
 pub move-stepped : (unit : BlockMaps) (place : Place) (entry : Entry) (chunk : ℕ) (op : Op) → entry.task.request ≡ Execute op
-    → entry.task.phase ≡ Begun (Moving chunk) → IsMatchedEntry entry →
+    → entry.task.phase ≡ Begun (Moving chunk) → IsMatchedEntry place.slot entry →
     IsStepped place [] (moved_events entry (chunk_task unit entry.task chunk op) place) entry (moved_to entry (chunk_task unit entry.task chunk op))
 move-stepped unit place entry chunk op is moving sound =
     let command : entry.command_td.consumed ≡ 1 = subst (λ p. IsCommandTd p entry.command_td) moving sound.command in
@@ -268,12 +309,14 @@ move-stepped unit place entry chunk op is moving sound =
     (λ p. IsDataTd (data_trbs entry.task.request) p entry.data_td) moving sound.chunks in
     let trbs : data_trbs entry.task.request ≡ (moved_bytes op + 4095) / 4096 = ap data_trbs is in
     let there = λ (took : Bool). td-there took entry.data_td ∙ sound.moves in
+    let answers : (phase : Phase) → IsPhaseOf entry.task.request phase = λ phase. command-answers entry.task.request op phase is in
     let buffer : List ℕ = buffer_after unit entry.task.buffer chunk op in
     after_chunk (λ progress. IsStepped place [] (moved_events entry (record entry.task { buffer = buffer; phase = Begun progress }) place) entry
     (moved_to entry (record entry.task { buffer = buffer; phase = Begun progress }))) unit chunk op unit.count
     (λ more. chunk-stepped place entry chunk buffer (Begun (Moving (chunk + 1))) chunks
     (record {
       asks = sound.asks;
+      answers = answers (Begun (Moving (chunk + 1)));
       command = command;
       status = status;
       chunks = chunk-next (data_trbs entry.task.request) chunk entry.data_td chunks
@@ -284,6 +327,7 @@ move-stepped unit place entry chunk op is moving sound =
     (λ last. chunk-stepped place entry chunk buffer (Begun (Ended Good)) chunks
     (record {
       asks = sound.asks;
+      answers = answers (Begun (Ended Good));
       command = command;
       status = status;
       chunks = chunk-whole (data_trbs entry.task.request) chunk entry.data_td chunks
@@ -294,6 +338,7 @@ move-stepped unit place entry chunk op is moving sound =
     (λ sense. chunk-stepped place entry chunk buffer (Begun (Ended (Check sense))) chunks
     (record {
       asks = sound.asks;
+      answers = answers (Begun (Ended (Check sense)));
       command = command;
       status = status;
       chunks = chunk-short (data_trbs entry.task.request) chunk entry.data_td chunks;
@@ -307,9 +352,9 @@ chunk-td trbs chunk took None is = td-same trbs None
 chunk-td trbs chunk true (Some td) is = td-taken trbs td is.0
 chunk-td trbs chunk false (Some td) is = td-same trbs (Some td)
 
-pub move-tds : (unit : BlockMaps) (entry : Entry) (chunk : ℕ) (op : Op) → entry.task.phase ≡ Begun (Moving chunk) → IsMatchedEntry entry →
+pub move-tds : (unit : BlockMaps) (slot : ℕ) (entry : Entry) (chunk : ℕ) (op : Op) → entry.task.phase ≡ Begun (Moving chunk) → IsMatchedEntry slot entry →
     TdsGoOn entry (moved_to entry (chunk_task unit entry.task chunk op))
-move-tds unit entry chunk op moving sound =
+move-tds unit slot entry chunk op moving sound =
     let chunks : IsMovingTd (data_trbs entry.task.request) chunk entry.data_td = subst
     (λ p. IsDataTd (data_trbs entry.task.request) p entry.data_td) moving sound.chunks in
     record {
@@ -324,7 +369,13 @@ move-tds unit entry chunk op moving sound =
 abbrev pub sent_to : Entry → Answer → Entry
 sent_to entry answer = record entry { task = record entry.task { phase = Sent answer }; status_td = with_trb_taken entry.status_td }
 
-pub send-stepped : (place : Place) (entry : Entry) (answer : Answer) → entry.task.phase ≡ Begun (Ended answer) → IsMatchedEntry entry →
+-- an answer that is handed over is one that the request may have
+sent-answers : (request : Request) (answer : Answer) → IsPhaseOf request (Begun (Ended answer)) → IsPhaseOf request (Sent answer)
+sent-answers (Execute op) answer is = tt
+sent-answers (Manage what noted) Good is = tt
+sent-answers (Manage what noted) (Check sense) is = absurd is
+
+pub send-stepped : (place : Place) (entry : Entry) (answer : Answer) → entry.task.phase ≡ Begun (Ended answer) → IsMatchedEntry place.slot entry →
     IsStepped place [] (StatusDone place ∷ []) entry (sent_to entry answer)
 send-stepped place entry answer ended sound =
     let command : entry.command_td.consumed ≡ 1 = subst (λ p. IsCommandTd p entry.command_td) ended sound.command in
@@ -339,8 +390,9 @@ send-stepped place entry answer ended sound =
       ready = refl;
       sound = record {
         asks = sound.asks;
+        answers = sent-answers entry.task.request answer (subst (λ p. IsPhaseOf entry.task.request p) ended sound.answers);
         command = command;
-        status = ap (λ (td : Td). td.consumed + 1) status;
+        status = (ap (λ (td : Td). td.consumed + 1) status, subst (λ (td : Td). IsAwaitedOrSeen td.state) (sym status) tt);
         chunks = subst (λ p. IsDataTd (data_trbs entry.task.request) p entry.data_td) ended sound.chunks;
         moves = sound.moves;
         small = sound.small;
@@ -348,8 +400,9 @@ send-stepped place entry answer ended sound =
     }
 
 -- the status TD alone changes, which was pending
-pub send-tds : (entry : Entry) (answer : Answer) → entry.task.phase ≡ Begun (Ended answer) → IsMatchedEntry entry → TdsGoOn entry (sent_to entry answer)
-send-tds entry answer ended sound = record {
+pub send-tds : (slot : ℕ) (entry : Entry) (answer : Answer) → entry.task.phase ≡ Begun (Ended answer) → IsMatchedEntry slot entry
+    → TdsGoOn entry (sent_to entry answer)
+send-tds slot entry answer ended sound = record {
   request = refl;
   status = td-taken 1 entry.status_td (ap (λ (td : Td). td.state) (subst (λ p. IsStatusTd p entry.status_td) ended sound.status));
   data_tds = td-same (data_trbs entry.task.request) entry.data_td;
@@ -364,7 +417,7 @@ pub record IsCountedOut (event : Completion) (old new : Entry) : Type 0 where
   pub moved : awaited_data_of (Some old) ≡ data_events (event_place event) (event ∷ []) + awaited_data_of (Some new)
   pub sent : awaited_status (Some old) ≡ status_events (event_place event) (event ∷ []) + awaited_status (Some new)
   pub ready : one_if (is_ready old) ≡ 0
-  pub sound : IsMatchedEntry new
+  pub sound : IsMatchedEntry (event_place event).slot new
 
 -- an entry whose event the host has seen
 pub record IsSeenAs (event : Completion) (old new : Entry) : Type 0 where
@@ -408,9 +461,9 @@ command-seen_td Queued td awaited is = absurd (pushed-unawaited td is awaited)
 command-seen_td (Begun (Moving chunk)) td awaited is = is
 command-seen_td (Begun (Ended answer)) td awaited is = is
 command-seen_td (Sent answer) td awaited is = is
-command-seen_td Gone td awaited is = absurd is
+command-seen_td Gone td awaited is = is
 
-command-seen : (place : Place) (entry : Entry) → is_awaited entry.command_td 1 ≡ true → IsMatchedEntry entry →
+command-seen : (place : Place) (entry : Entry) → is_awaited entry.command_td 1 ≡ true → IsMatchedEntry place.slot entry →
     IsSeenAs (CommandDone place) entry (record entry { command_td = with_event_seen entry.command_td })
 command-seen place entry awaited sound =
     let pends : entry.command_td.state ≡ Pending = awaited-pends entry.command_td 1 awaited in
@@ -424,6 +477,7 @@ command-seen place entry awaited sound =
         ready = ap (λ state. one_if (is_seen state && (is_over entry.status_td.state && is_data_over entry.data_td))) pends;
         sound = record {
           asks = sound.asks;
+          answers = sound.answers;
           command = command-seen_td entry.task.phase entry.command_td awaited sound.command;
           status = sound.status;
           chunks = sound.chunks;
@@ -437,14 +491,14 @@ command-seen place entry awaited sound =
 -- a data TD that is awaited has been moved whole
 data-seen_answered : (trbs : ℕ) (answer : Answer) (td : Td) → IsAnsweredTd trbs answer (Some td) → IsAnsweredTd trbs answer (Some (with_event_seen td))
 data-seen_answered trbs Good td is = is
-data-seen_answered trbs (Check sense) td is = λ pends. absurd (false≢true pends)
+data-seen_answered trbs (Check sense) td is = ((λ pends. absurd (false≢true pends)), is.1)
 
 data-seen_td : (trbs : ℕ) (phase : Phase) (td : Td) → td.consumed ≡ trbs → IsDataTd trbs phase (Some td) → IsDataTd trbs phase (Some (with_event_seen td))
 data-seen_td trbs Queued td spent is = absurd (omega (arith, spent, is.1, is.2))
 data-seen_td trbs (Begun (Moving chunk)) td spent is = absurd (omega (arith, spent, is.1, is.2))
 data-seen_td trbs (Begun (Ended answer)) td spent is = data-seen_answered trbs answer td is
 data-seen_td trbs (Sent answer) td spent is = data-seen_answered trbs answer td is
-data-seen_td trbs Gone td spent is = absurd is
+data-seen_td trbs Gone td spent is = is
 
 pub last_false : (a b : Bool) → one_if (a && (b && false)) ≡ 0
 last_false true true = refl
@@ -455,7 +509,8 @@ pub middle_false : (a b : Bool) → one_if (a && (false && b)) ≡ 0
 middle_false true b = refl
 middle_false false b = refl
 
-data-seen : (place : Place) (entry : Entry) (td : Td) → entry.data_td ≡ Some td → is_awaited td (data_trbs entry.task.request) ≡ true → IsMatchedEntry entry →
+data-seen : (place : Place) (entry : Entry) (td : Td) → entry.data_td ≡ Some td → is_awaited td (data_trbs entry.task.request) ≡ true
+    → IsMatchedEntry place.slot entry →
     IsSeenAs (DataDone place) entry (record entry { data_td = Some (with_event_seen td) })
 data-seen place entry td is awaited sound =
     let trbs : ℕ = data_trbs entry.task.request in
@@ -472,6 +527,7 @@ data-seen place entry td is awaited sound =
             ∙ last_false (is_seen entry.command_td.state) (is_over entry.status_td.state);
         sound = record {
           asks = sound.asks;
+          answers = sound.answers;
           command = sound.command;
           status = sound.status;
           chunks = data-seen_td trbs entry.task.phase td (awaited-spent td trbs awaited)
@@ -491,8 +547,10 @@ status-seen_td : (phase : Phase) (td : Td) → is_awaited td 1 ≡ true → IsSt
 status-seen_td Queued td awaited is = absurd (pushed-unawaited td is awaited)
 status-seen_td (Begun (Moving chunk)) td awaited is = absurd (pushed-unawaited td is awaited)
 status-seen_td (Begun (Ended answer)) td awaited is = absurd (pushed-unawaited td is awaited)
-status-seen_td (Sent answer) td awaited is = is
-status-seen_td Gone td awaited is = absurd is
+status-seen_td (Sent answer) td awaited is = (is.0, tt)
+status-seen_td Gone td awaited is =
+    let none : td.consumed ≡ 0 = subst (λ state. IsGivenUp td.consumed state) (awaited-pends td 1 awaited) is in
+    absurd (omega (arith, none, awaited-spent td 1 awaited))
 
 -- a TD that may be left over: it isn't pending then
 left-short : (trbs : ℕ) (td : Td) → IsShortTd trbs (Some (left_over_td td))
@@ -517,16 +575,27 @@ short-unawaited trbs td is =
       | false ↦ λ awaited. refl
     ] refl
 
-check-left : (trbs : ℕ) (td : Option Td) → IsShortTd trbs td → IsShortTd trbs (left_over_data td)
-check-left trbs None is = tt
-check-left trbs (Some td) is = left-short trbs td
+check-left : (trbs : ℕ) (td : Option Td) → IsShortTd trbs (left_over_data td)
+check-left trbs None = tt
+check-left trbs (Some td) = left-short trbs td
+
+-- as many TRBs of it are taken
+left-consumed : (td : Td) → (left_over_td td).consumed ≡ td.consumed
+left-consumed td = elim (is_pending td.state) as (λ b. (cond b (record td { state = LeftOver }) td).consumed ≡ td.consumed) [
+  | true ↦ refl
+  | false ↦ refl
+]
+
+pub left-within : (trbs : ℕ) (td : Option Td) → IsWithinTd trbs td → IsWithinTd trbs (left_over_data td)
+left-within trbs None is = tt
+left-within trbs (Some td) is = subst (λ n. n ≤ trbs) (sym (left-consumed td)) is
 
 -- what CHECK CONDITION leaves over wasn't awaited
-check-awaited : (trbs : ℕ) (td : Option Td) → IsShortTd trbs td → awaited_data trbs (left_over_data td) ≡ awaited_data trbs td
+pub check-awaited : (trbs : ℕ) (td : Option Td) → IsShortTd trbs td → awaited_data trbs (left_over_data td) ≡ awaited_data trbs td
 check-awaited trbs None is = refl
 check-awaited trbs (Some td) is = left-unawaited trbs td ∙ sym (short-unawaited trbs td is)
 
-check-there : (td : Option Td) → is_some (left_over_data td) ≡ is_some td
+pub check-there : (td : Option Td) → is_some (left_over_data td) ≡ is_some td
 check-there None = refl
 check-there (Some td) = refl
 
@@ -540,29 +609,30 @@ pub record IsLeft (trbs : ℕ) (phase : Phase) (old new : Option Td) : Type 0 wh
 answer-td : (trbs : ℕ) (answer : Answer) (td : Option Td) → IsAnsweredTd trbs answer td → TdGoesOn trbs td (data_after_answer answer td)
 answer-td trbs Good td is = td-same trbs td
 answer-td trbs (Check sense) None is = td-same trbs None
-answer-td trbs (Check sense) (Some td) is = td-left trbs td is
+answer-td trbs (Check sense) (Some td) is = td-left trbs td is.0
 
 status-td : (trbs : ℕ) (phase : Phase) (td : Option Td) → IsDataTd trbs phase td → TdGoesOn trbs td (data_after_status phase td)
 status-td trbs Queued td is = td-same trbs td
 status-td trbs (Begun progress) td is = td-same trbs td
 status-td trbs (Sent answer) td is = answer-td trbs answer td is
-status-td trbs Gone td is = absurd is
+status-td trbs Gone td is = td-same trbs td
 
 answer-left : (trbs : ℕ) (answer : Answer) (td : Option Td) → IsAnsweredTd trbs answer td → IsLeft trbs (Sent answer) td (data_after_answer answer td)
 answer-left trbs Good td is = record { chunks = is; awaited = refl; there = refl }
-answer-left trbs (Check sense) td is = record { chunks = check-left trbs td is; awaited = check-awaited trbs td is; there = check-there td }
+answer-left trbs (Check sense) td is =
+    record { chunks = (check-left trbs td, left-within trbs td is.1); awaited = check-awaited trbs td is.0; there = check-there td }
 
 status-left : (trbs : ℕ) (phase : Phase) (td : Option Td) → IsDataTd trbs phase td → IsLeft trbs phase td (data_after_status phase td)
 status-left trbs Queued td is = record { chunks = is; awaited = refl; there = refl }
 status-left trbs (Begun (Moving chunk)) td is = record { chunks = is; awaited = refl; there = refl }
 status-left trbs (Begun (Ended answer)) td is = record { chunks = is; awaited = refl; there = refl }
 status-left trbs (Sent answer) td is = answer-left trbs answer td is
-status-left trbs Gone td is = absurd is
+status-left trbs Gone td is = record { chunks = is; awaited = refl; there = refl }
 
 abbrev status_seen : Entry → Entry
 status_seen entry = record entry { status_td = with_event_seen entry.status_td; data_td = data_after_status entry.task.phase entry.data_td }
 
-status-seen : (place : Place) (entry : Entry) → is_awaited entry.status_td 1 ≡ true → IsMatchedEntry entry
+status-seen : (place : Place) (entry : Entry) → is_awaited entry.status_td 1 ≡ true → IsMatchedEntry place.slot entry
     → IsSeenAs (StatusDone place) entry (status_seen entry)
 status-seen place entry awaited sound =
     let pends : entry.status_td.state ≡ Pending = awaited-pends entry.status_td 1 awaited in
@@ -579,6 +649,7 @@ status-seen place entry awaited sound =
             ∙ middle_false (is_seen entry.command_td.state) (is_data_over entry.data_td);
         sound = record {
           asks = sound.asks;
+          answers = sound.answers;
           command = sound.command;
           status = status-seen_td entry.task.phase entry.status_td awaited sound.status;
           chunks = left.chunks;
@@ -599,12 +670,12 @@ pub record HasSeen (event : Completion) (old : Entry) : Type 0 where
   pub step : IsSeenAs event old new
 
 data-awaits : (place : Place) (entry : Entry) (td : Option Td) → entry.data_td ≡ td → awaits_data (data_trbs entry.task.request) td ≡ true
-    → IsMatchedEntry entry → HasSeen (DataDone place) entry
+    → IsMatchedEntry place.slot entry → HasSeen (DataDone place) entry
 data-awaits place entry None is awaits sound = absurd (false≢true awaits)
 data-awaits place entry (Some td) is awaits sound = record
     { new = record entry { data_td = Some (with_event_seen td) }; step = data-seen place entry td is awaits sound }
 
-pub event-seen : (event : Completion) (entry : Entry) → awaits_event event entry ≡ true → IsMatchedEntry entry → HasSeen event entry
+pub event-seen : (event : Completion) (entry : Entry) → awaits_event event entry ≡ true → IsMatchedEntry (event_place event).slot entry → HasSeen event entry
 event-seen (CommandDone place) entry awaits sound =
     record { new = record entry { command_td = with_event_seen entry.command_td }; step = command-seen place entry awaits sound }
 event-seen (DataDone place) entry awaits sound = data-awaits place entry entry.data_td refl awaits sound
@@ -674,23 +745,57 @@ pub record IsSentBy (phase : Phase) : Type 0 where
 pushed-over : (td : Td) → td ≡ pushed → is_over td.state ≡ true → ⊥
 pushed-over td is over = false≢true (sym (ap (λ (t : Td). is_over t.state) is) ∙ over)
 
-over-sent : (phase : Phase) (td : Td) → IsStatusTd phase td → is_over td.state ≡ true → IsSentBy phase
-over-sent Queued td is over = absurd (pushed-over td is over)
-over-sent (Begun (Moving chunk)) td is over = absurd (pushed-over td is over)
-over-sent (Begun (Ended answer)) td is over = absurd (pushed-over td is over)
-over-sent (Sent answer) td is over = record { answer = answer; is = refl }
-over-sent Gone td is over = absurd is
+-- the device is done with it: its answer was handed over, or it is a command that a task management ended
+abbrev pub IsDone : Request → Phase → Type 0
+IsDone request Queued = ⊥
+IsDone request (Begun progress) = ⊥
+IsDone request (Sent answer) = Unit {0}
+IsDone request Gone = is_command request ≡ true
 
--- an entry that waits for nothing more, and whose answer was handed over
+gone-command : (request : Request) → IsPhaseOf request Gone → is_command request ≡ true
+gone-command (Execute op) is = refl
+gone-command (Manage what noted) is = absurd is
+
+over-done : (request : Request) (phase : Phase) (td : Td) → IsPhaseOf request phase → IsStatusTd phase td → is_over td.state ≡ true → IsDone request phase
+over-done request Queued td answers is over = absurd (pushed-over td is over)
+over-done request (Begun progress) td answers is over = absurd (pushed-over td is over)
+over-done request (Sent answer) td answers is over = tt
+over-done request Gone td answers is over = gone-command request answers
+
+-- so it has a reply
+pub record HasReply (tag : ℕ) (task : TaggedTask) : Type 0 where
+  pub reply : Reply
+  pub is : reply_of tag task ≡ Some reply
+
+pub done-reply : (tag : ℕ) (task : TaggedTask) → IsDone task.request task.phase → HasReply tag task
+done-reply tag task done = from task.phase task.request refl refl done
+  where
+    gone : (request : Request) → task.phase ≡ Gone → task.request ≡ request → is_command request ≡ true → HasReply tag task
+    gone (Execute op) at asks is = record {
+      reply = Aborted tag task.ticket task.buffer;
+      is = ap (λ phase. reply_from tag task phase) at ∙ ap (λ request. aborted_by tag task.ticket task.buffer request) asks;
+    }
+    gone (Manage what noted) at asks is = absurd (false≢true is)
+
+    from : (phase : Phase) (request : Request) → task.phase ≡ phase → task.request ≡ request → IsDone request phase → HasReply tag task
+    from Queued request at asks is = absurd is
+    from (Begun progress) request at asks is = absurd is
+    from (Sent answer) request at asks is = record {
+      reply = answered_by tag task.ticket task.buffer answer task.request;
+      is = ap (λ phase. reply_from tag task phase) at;
+    }
+    from Gone request at asks is = gone request at asks is
+
+-- an entry that waits for nothing more, and that the device is done with
 pub record IsQuiet (entry : Entry) : Type 0 where
   pub messages : waiting_command (Some entry) ≡ 0
   pub carried : awaited_command (Some entry) ≡ 0
   pub moved : awaited_data_of (Some entry) ≡ 0
   pub sent : awaited_status (Some entry) ≡ 0
-  pub answered : IsSentBy entry.task.phase
+  pub done : IsDone entry.task.request entry.task.phase
 
-pub ready-quiet : (entry : Entry) → is_ready entry ≡ true → IsMatchedEntry entry → IsQuiet entry
-ready-quiet entry ready sound =
+pub ready-quiet : (slot : ℕ) (entry : Entry) → is_ready entry ≡ true → IsMatchedEntry slot entry → IsQuiet entry
+ready-quiet slot entry ready sound =
     let first : (is_seen entry.command_td.state ≡ true) × ((is_over entry.status_td.state && is_data_over entry.data_td) ≡ true) = and-true
     (is_seen entry.command_td.state) _ ready in
     let rest : (is_over entry.status_td.state ≡ true) × (is_data_over entry.data_td ≡ true) = and-true (is_over entry.status_td.state)
@@ -701,7 +806,7 @@ ready-quiet entry ready sound =
       carried = unpending-unawaited entry.command_td 1 (ap (λ state. is_pending state) seen);
       moved = over-data (data_trbs entry.task.request) entry.data_td rest.1;
       sent = unpending-unawaited entry.status_td 1 (over-pends entry.status_td.state rest.0);
-      answered = over-sent entry.task.phase entry.status_td sound.status rest.0;
+      done = over-done entry.task.request entry.task.phase entry.status_td sound.answers sound.status rest.0;
     }
 
 -- SUBMIT
@@ -751,21 +856,21 @@ pub unfaulted : (in_use : Bool) (least ticket : ℕ) (command : Command) → fir
 unfaulted in_use least ticket command none =
     unfaulted_if in_use (not (length command.buffer == moved_bytes command.op)) (is_too_long command.op) (nat_lt ticket least) least command.op refl none
 
--- the entry of a command that was just submitted
-pub record IsSubmitted (entry : Entry) : Type 0 where
+-- the entry of a request that was just submitted
+pub record IsSubmitted (slot : ℕ) (entry : Entry) : Type 0 where
   pub messages : waiting_command (Some entry) ≡ 1
   pub carried : awaited_command (Some entry) ≡ 0
   pub moved : awaited_data_of (Some entry) ≡ 0
   pub sent : awaited_status (Some entry) ≡ 0
   pub ready : one_if (is_ready entry) ≡ 0
-  pub sound : IsMatchedEntry entry
+  pub sound : IsMatchedEntry slot entry
 
 pub moving-unawaited : (trbs chunk : ℕ) (td : Option Td) → IsMovingTd trbs chunk td → awaited_data trbs td ≡ 0
 moving-unawaited trbs chunk None is = refl
 moving-unawaited trbs chunk (Some td) is = unawaited td trbs (λ same. omega (arith, is.1, is.2))
 
-pub submit-stepped : (ticket : ℕ) (command : Command) → is_too_long command.op ≡ false → IsSubmitted (new_entry ticket command)
-submit-stepped ticket command short =
+pub submit-stepped : (slot ticket : ℕ) (command : Command) → slot < TASK_SLOT → is_too_long command.op ≡ false → IsSubmitted slot (new_entry ticket command)
+submit-stepped slot ticket command within short =
     let chunks : IsMovingTd ((moved_bytes command.op + 4095) / 4096) 0 (data_td_for (moved_bytes command.op)) = submitted-chunks (moved_bytes command.op) in
     record {
       messages = refl;
@@ -774,7 +879,8 @@ submit-stepped ticket command short =
       sent = refl;
       ready = refl;
       sound = record {
-        asks = tt;
+        asks = within;
+        answers = tt;
         command = refl;
         status = refl;
         chunks = chunks;
@@ -782,3 +888,24 @@ submit-stepped ticket command short =
         small = short-small command.op short;
       };
     }
+
+-- TASK MANAGEMENT
+
+pub manage-stepped : (ticket : ℕ) (task : Task) (noted : List ℕ) → IsSubmitted TASK_SLOT (new_management ticket task noted)
+manage-stepped ticket task noted = record {
+  messages = refl;
+  carried = refl;
+  moved = refl;
+  sent = refl;
+  ready = refl;
+  sound = record { asks = refl; answers = tt; command = refl; status = refl; chunks = tt; moves = refl; small = omega arith };
+}
+
+-- one without a fault is for a free slot
+task_unfaulted_if : (in_use late none_there : Bool) (least : ℕ) →
+    cond in_use (Some InUse) (cond late (Some (OutOfTurn least)) (cond none_there (Some NoSuchTask) None)) ≡ None → in_use ≡ false
+task_unfaulted_if true late none_there least none = absurd (none-some InUse (sym none))
+task_unfaulted_if false late none_there least none = refl
+
+pub task-unfaulted : (in_use : Bool) (least ticket : ℕ) (has_task : Bool) → first_task_fault true in_use least ticket has_task ≡ None → in_use ≡ false
+task-unfaulted in_use least ticket has_task none = task_unfaulted_if in_use (nat_lt ticket least) (not has_task) least none

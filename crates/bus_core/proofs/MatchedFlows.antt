@@ -14,10 +14,10 @@ use Rattle.bus_core.specs.Bus.{IsPlace}
 use Rattle.bus_core.specs.Td.{Entry, is_left_over_on, has_trb_on}
 use Rattle.bus_core.specs.Shared.{Shared, is_held, pipe_of}
 use Rattle.bus_core.specs.Matched.{same_place, under, retired_places, answered_places, is_left_over_at, has_trb_at, is_whole_on, is_whole_at, is_passed}
-use Rattle.bus_core.specs.Matched.{IsAtStage, IsRetiring, IsMatched}
-use Rattle.bus_core.proofs.MatchedPlaces.{same_place-true, IsWritten, under-written, under-other, AreMatched}
+use Rattle.bus_core.specs.Matched.{IsAtStage, IsRetiring}
+use Rattle.bus_core.proofs.MatchedPlaces.{same_place-true, IsWritten, under-written, under-other, AreMatched, IsCounted}
 use Rattle.bus_core.proofs.MatchedTds.{GoesOn, same-goes}
-use Rattle.bus_core.proofs.MatchedRetirement.{if-some, retiring-of, held-own, passed_in}
+use Rattle.bus_core.proofs.MatchedRetirement.{of-some, if-some, held-own, passed_in}
 
 -- THE PIPES
 
@@ -103,9 +103,9 @@ retiring-kept old new r clients runs left whole was = record {
 }
 
 -- what goes on stays matched
-pub IsMatched-kept : (old new : Shared) → GoOn old new → AreMatched new → retired_places new.events ≡ retired_places old.events → IsMatched old →
-    IsMatched new
-IsMatched-kept old new go now retired all = record {
+pub IsCounted-kept : (old new : Shared) → GoOn old new → AreMatched new → retired_places new.events ≡ retired_places old.events → IsCounted old →
+    IsCounted new
+IsCounted-kept old new go now retired all = record {
   slots = now.slots;
   places = now.places;
   retired = retired ∙ all.retired ∙ ap (λ found. answered_places found) (sym go.retirement);
@@ -127,5 +127,5 @@ IsMatched-kept old new go now retired all = record {
     under_way : (r : Retirement) → new.retirement ≡ Some r → IsRetiring new r
     under_way r is =
         let before : old.retirement ≡ Some r = sym go.retirement ∙ is in
-        let was : IsRetiring old r = retiring-of old r all before in
+        let was : IsRetiring old r = of-some (IsRetiring old) old.retirement r all.retiring before in
         retiring-kept old new r go.clients (go.held r.pipe (held-own old r before)) (go.left r.pipe r.place) (go.whole r.pipe r.place was.left) was

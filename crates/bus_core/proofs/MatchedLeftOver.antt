@@ -1,6 +1,6 @@
 -- What it is to an entry that its TD on a pipe, which is left over, is passed by the controller, and then retired: cited by MatchedEngine and
 -- MatchedRetirement.
-use Rattle.std.proofs.Common.{◌≡◌, ℕ, true, false, ◌&&◌, [], ◌∷◌, Option, Some, None, option_map, refl, arith, ap, sym, ◌∙◌}
+use Rattle.std.proofs.Common.{◌≡◌, ℕ, true, false, ◌&&◌, [], ◌∷◌, Option, Some, None, option_map, refl, arith, ap, sym, subst, ◌∙◌}
 use Rattle.std.specs.Prelude.{◌==◌, nat_lt, if◌then◌else◌}
 use Rattle.std.proofs.lemmas.Bool.{eq-eqb, ltb-true, false≢true, and_right}
 use Rattle.stream_array.specs.declared.Pipe.{Pipe}
@@ -22,7 +22,7 @@ use Rattle.bus_core.specs.Td.{Entry, pushed, is_pending, is_seen, is_over, is_da
 use Rattle.bus_core.specs.Td.{is_awaited, has_trb, has_data_trb, has_trb_on, data_trbs, trbs_on, data_in_td, data_out_td, request_direction, with_td_on}
 use Rattle.bus_core.specs.Td.{passed_td, passed_on, retired_td, retired_on}
 use Rattle.bus_core.specs.Soundness.{one_if}
-use Rattle.bus_core.specs.Matched.{is_whole, is_whole_on, IsStatusTd, IsAnsweredTd, IsDataTd, IsMatchedEntry}
+use Rattle.bus_core.specs.Matched.{is_whole, is_whole_on, IsAwaitedOrSeen, IsGivenUp, IsStatusTd, IsAnsweredTd, IsDataTd, IsMatchedEntry}
 use Rattle.bus_core.proofs.MatchedEntries.{IsStepped, IsCountedOut, IsLeft, last_false, middle_false}
 
 -- ONE TD
@@ -44,29 +44,34 @@ left-pends td left pends = false≢true (sym (ap (λ state. is_left_over state) 
 left-pushed : (td : Td) → is_left_over td.state ≡ true → td ≡ pushed → ⊥
 left-pushed td left is = left-pends td left (ap (λ (t : Td). t.state) is)
 
--- THE STATUS TD: its answer was handed over
+-- an answer that was handed over isn't left over
+left-answered : (td : Td) → is_left_over td.state ≡ true → IsAwaitedOrSeen td.state → ⊥
+left-answered td left is = subst (λ state. IsAwaitedOrSeen state) (left-state td.state left) is
+
+-- THE STATUS TD: a task management ended its command
 
 passed-status : (phase : Phase) (td : Td) → is_left_over td.state ≡ true → IsStatusTd phase td → IsStatusTd phase (passed_td 1 td)
 passed-status Queued td left is = absurd (left-pushed td left is)
 passed-status (Begun progress) td left is = absurd (left-pushed td left is)
-passed-status (Sent answer) td left is = refl
-passed-status Gone td left is = absurd is
+passed-status (Sent answer) td left is = absurd (left-answered td left is.1)
+passed-status Gone td left is = subst (λ state. IsGivenUp 1 state) (sym (left-state td.state left)) tt
 
 retired-status : (phase : Phase) (td : Td) → is_left_over td.state ≡ true → IsStatusTd phase td → IsStatusTd phase (retired_td td)
 retired-status Queued td left is = absurd (left-pushed td left is)
 retired-status (Begun progress) td left is = absurd (left-pushed td left is)
-retired-status (Sent answer) td left is = is
-retired-status Gone td left is = absurd is
+retired-status (Sent answer) td left is = absurd (left-answered td left is.1)
+retired-status Gone td left is = tt
 
 -- THE DATA TD
 
 passed-answered : (trbs : ℕ) (answer : Answer) (td : Td) → is_left_over td.state ≡ true → IsAnsweredTd trbs answer (Some (passed_td trbs td))
 passed-answered trbs Good td left = refl
-passed-answered trbs (Check sense) td left = λ pends. absurd (false≢true (sym (ap (λ state. is_pending state) (left-state td.state left)) ∙ pends))
+passed-answered trbs (Check sense) td left =
+    ((λ pends. absurd (false≢true (sym (ap (λ state. is_pending state) (left-state td.state left)) ∙ pends))), omega arith)
 
 retired-answered : (trbs : ℕ) (answer : Answer) (td : Td) → IsAnsweredTd trbs answer (Some td) → IsAnsweredTd trbs answer (Some (retired_td td))
 retired-answered trbs Good td is = is
-retired-answered trbs (Check sense) td is = λ pends. absurd (false≢true pends)
+retired-answered trbs (Check sense) td is = ((λ pends. absurd (false≢true pends)), is.1)
 
 passed-chunks : (trbs : ℕ) (phase : Phase) (td : Td) → is_left_over td.state ≡ true → IsDataTd trbs phase (Some td)
     → IsDataTd trbs phase (Some (passed_td trbs td))
@@ -74,7 +79,7 @@ passed-chunks trbs Queued td left is = absurd (left-pends td left is.0)
 passed-chunks trbs (Begun (Moving chunk)) td left is = absurd (left-pends td left is.0)
 passed-chunks trbs (Begun (Ended answer)) td left is = passed-answered trbs answer td left
 passed-chunks trbs (Sent answer) td left is = passed-answered trbs answer td left
-passed-chunks trbs Gone td left is = absurd is
+passed-chunks trbs Gone td left is = omega arith
 
 retired-chunks : (trbs : ℕ) (phase : Phase) (td : Td) → is_left_over td.state ≡ true → IsDataTd trbs phase (Some td)
     → IsDataTd trbs phase (Some (retired_td td))
@@ -82,7 +87,7 @@ retired-chunks trbs Queued td left is = absurd (left-pends td left is.0)
 retired-chunks trbs (Begun (Moving chunk)) td left is = absurd (left-pends td left is.0)
 retired-chunks trbs (Begun (Ended answer)) td left is = retired-answered trbs answer td is
 retired-chunks trbs (Sent answer) td left is = retired-answered trbs answer td is
-retired-chunks trbs Gone td left is = absurd is
+retired-chunks trbs Gone td left is = is
 
 passed-data : (trbs : ℕ) (phase : Phase) (td : Option Td) → is_td_left_over td ≡ true → IsDataTd trbs phase td
     → IsLeft trbs phase td (option_map (passed_td trbs) td)
@@ -127,7 +132,7 @@ left-out ToDevice td left = (refl, left)
 abbrev with_data_passed : Entry → Entry
 with_data_passed entry = record entry { data_td = option_map (passed_td (data_trbs entry.task.request)) entry.data_td }
 
-data-passed : (place : Place) (entry : Entry) → is_td_left_over entry.data_td ≡ true → IsMatchedEntry entry →
+data-passed : (place : Place) (entry : Entry) → is_td_left_over entry.data_td ≡ true → IsMatchedEntry place.slot entry →
     IsStepped place [] (EngineDone place ∷ []) entry (with_data_passed entry)
 data-passed place entry left sound =
     let trbs : ℕ = data_trbs entry.task.request in
@@ -141,6 +146,7 @@ data-passed place entry left sound =
       ready = ap (λ b. is_seen entry.command_td.state && (is_over entry.status_td.state && b)) (passed-over trbs entry.data_td);
       sound = record {
         asks = sound.asks;
+        answers = sound.answers;
         command = sound.command;
         status = sound.status;
         chunks = now.chunks;
@@ -150,7 +156,7 @@ data-passed place entry left sound =
     }
 
 -- the controller was moved past the TD
-pub passed-stepped : (pipe : Pipe) (place : Place) (entry : Entry) → is_left_over_on pipe entry ≡ true → IsMatchedEntry entry →
+pub passed-stepped : (pipe : Pipe) (place : Place) (entry : Entry) → is_left_over_on pipe entry ≡ true → IsMatchedEntry place.slot entry →
     IsStepped place [] (EngineDone place ∷ []) entry (passed_on pipe entry)
 passed-stepped Command place entry left sound = absurd (false≢true left)
 passed-stepped Status place entry left sound = record {
@@ -161,6 +167,7 @@ passed-stepped Status place entry left sound = record {
   ready = refl;
   sound = record {
     asks = sound.asks;
+    answers = sound.answers;
     command = sound.command;
     status = passed-status entry.task.phase entry.status_td left sound.status;
     chunks = sound.chunks;
@@ -176,7 +183,7 @@ passed-stepped DataOut place entry left sound = data-passed place entry (left-ou
 abbrev with_data_retired : Entry → Entry
 with_data_retired entry = record entry { data_td = option_map retired_td entry.data_td }
 
-data-retired : (place : Place) (entry : Entry) → is_td_left_over entry.data_td ≡ true → IsMatchedEntry entry →
+data-retired : (place : Place) (entry : Entry) → is_td_left_over entry.data_td ≡ true → IsMatchedEntry place.slot entry →
     IsCountedOut (EngineDone place) entry (with_data_retired entry)
 data-retired place entry left sound =
     let trbs : ℕ = data_trbs entry.task.request in
@@ -191,6 +198,7 @@ data-retired place entry left sound =
           ∙ last_false (is_seen entry.command_td.state) (is_over entry.status_td.state);
       sound = record {
         asks = sound.asks;
+        answers = sound.answers;
         command = sound.command;
         status = sound.status;
         chunks = now.chunks;
@@ -200,7 +208,7 @@ data-retired place entry left sound =
     }
 
 -- the host retires the TD: the entry wasn't ready
-pub retired-counted : (pipe : Pipe) (place : Place) (entry : Entry) → is_left_over_on pipe entry ≡ true → IsMatchedEntry entry →
+pub retired-counted : (pipe : Pipe) (place : Place) (entry : Entry) → is_left_over_on pipe entry ≡ true → IsMatchedEntry place.slot entry →
     IsCountedOut (EngineDone place) entry (with_td_on retired_td pipe entry)
 retired-counted Command place entry left sound = absurd (false≢true left)
 retired-counted Status place entry left sound = record {
@@ -212,6 +220,7 @@ retired-counted Status place entry left sound = record {
       ∙ middle_false (is_seen entry.command_td.state) (is_data_over entry.data_td);
   sound = record {
     asks = sound.asks;
+    answers = sound.answers;
     command = sound.command;
     status = retired-status entry.task.phase entry.status_td left sound.status;
     chunks = sound.chunks;

@@ -1,9 +1,9 @@
 -- What waits in a matched state is of an entry that waits for it.
 use Rattle.std.proofs.Common.{◌≡◌, ℕ, zero, suc, ◌+◌, ◌/◌, ◌<◌, ◌≤◌, true, false, cond, List, [], ◌∷◌, ◌++◌, length, Option, Some, None, IfSome, refl, arith}
 use Rattle.std.proofs.Common.{ap, sym, subst, ◌∙◌}
-use Rattle.std.specs.Prelude.{nat_lt, slice_get, is_some}
+use Rattle.std.specs.Prelude.{nat_lt, slice_get, slice_set, is_some}
 use Rattle.std.proofs.lemmas.Bool.{ltb-true, ltb-false}
-use Rattle.std.proofs.lemmas.List.{append-nil}
+use Rattle.std.proofs.lemmas.List.{append-nil, get_or-set_same}
 use Rattle.std.proofs.lemmas.Option.{none-some}
 use Rattle.block_unit.specs.BlockMaps.{BlockMaps}
 use Rattle.scsi_cmd.specs.Op.{moved_bytes}
@@ -31,12 +31,14 @@ use Rattle.bus_core.specs.Matched.{HasDataTrbs, HaveDataTrbs, CarryActs, EventAc
 use Rattle.bus_core.proofs.NumberOfClients.{length-parts}
 use Rattle.bus_core.proofs.Opening.{length-new_parts}
 use Rattle.bus_core.proofs.MatchedPlaces.{retired_places-append, times-append, command_events-append, data_events-append, status_events-append, one_self}
-use Rattle.bus_core.proofs.MatchedPlaces.{and-true, under-written}
+use Rattle.bus_core.proofs.MatchedPlaces.{and-true, held-within}
+use Rattle.bus_core.proofs.MatchedActs.{under-there}
+use Rattle.bus_core.proofs.Routes.{slice_get-slice_set_same}
 use Rattle.bus_core.proofs.MatchedRetirement.{own-engine_event}
 use Rattle.bus_core.proofs.MatchedEntries.{awaited-pends, taken-none, short-small, unfaulted, has_trb-queued, moving-unawaited, HasSeen, event-seen}
 use Rattle.bus_core.proofs.MatchedBounds.{held-place, times_pipe, matched-once}
-use Rattle.bus_core.proofs.MatchedSteps.{IsHeld, matched-held, HasWaiting, message-waiting, carry_step-held, HasAwaiting, times_alike, times_alike-first}
-use Rattle.bus_core.proofs.MatchedSteps.{event-awaited, event_step-held, seen-written, seen_state, IsDueAt, place_fact-due, IsMovingBy, moving_phase}
+use Rattle.bus_core.proofs.MatchedSteps.{IsHeld, matched-held, HasWaiting, message-waiting, carry_step-is, HasAwaiting, times_alike, times_alike-first}
+use Rattle.bus_core.proofs.MatchedSteps.{event-awaited, event_step-held, told_part, told_state, told-own, IsDueAt, place_fact-due, IsMovingBy, moving_phase}
 use Rattle.bus_core.proofs.MatchedSteps.{IsEndedBy, ended_phase}
 
 -- MESSAGES
@@ -122,15 +124,16 @@ command-counted : (phase : Phase) (td : Td) (named : ℕ) → IsCommandTd phase 
 command-counted Queued td named is counted = omega (arith, ap (λ (t : Td). t.consumed) is, counted, ap (λ t. one_if (has_trb t 1)) is)
 command-counted (Begun progress) td named is counted = omega (arith, is, counted, taken-none td is)
 command-counted (Sent answer) td named is counted = omega (arith, is, counted, taken-none td is)
-command-counted Gone td named is counted = absurd is
+command-counted Gone td named is counted = omega (arith, is, counted, taken-none td is)
 
-held-counted : (held : Option Entry) (named : ℕ) → IfSome held IsMatchedEntry → named ≡ waiting_command held →
+held-counted : (slot : ℕ) (held : Option Entry) (named : ℕ) → IfSome held (IsMatchedEntry slot) → named ≡ waiting_command held →
     IfSome held (λ entry. entry.command_td.consumed + named ≡ 1)
-held-counted None named sound counted = tt
-held-counted (Some entry) named sound counted = command-counted entry.task.phase entry.command_td named sound.command counted
+held-counted slot None named sound counted = tt
+held-counted slot (Some entry) named sound counted = command-counted entry.task.phase entry.command_td named sound.command counted
 
 pub matched-counted : (state : Shared) → IsMatched state → HaveCommandTrbs state
-matched-counted state all place = held-counted (under state.parts place) (times place state.messages) (all.places place).sound (all.places place).messages
+matched-counted state all place =
+    held-counted place.slot (under state.parts place) (times place state.messages) (all.places place).sound (all.places place).messages
 
 -- THE STEPS THAT TAKE THEM
 
@@ -139,12 +142,12 @@ matched-carries state all place rest is =
     let own : IsOwnMessage state.parts place = own-message state place all (subst (λ ms. 1 ≤ times place ms) (sym is) (omega (arith, one_self place))) in
     let at : IsHeld state place own.entry = matched-held state place own.entry all own.held in
     ap (λ ms. (cond (is_some_of ms) (carry_step state ms) (state, idle)).1.mark) is
-    ∙ ap (λ after. after.1.mark) (carry_step-held state place rest at.found.part own.entry at.found.there at.found.held at.here.sound.asks own.queued)
+    ∙ ap (λ after. after.1.mark) (carry_step-is state place rest at.found.part own.entry at.found.there at.found.held own.queued)
 
 -- the state once the first event, which is of a TD, was taken
 event-stepped : (state : Shared) (event : Completion) (rest : List Completion) (part : Part) (old new : Entry) → is_td_event event ≡ true →
     state.events ≡ event ∷ rest → slice_get state.parts (event_place event).client ≡ Some part → held_at part.entries (event_place event).slot ≡ Some old →
-    seen_by event old ≡ Some new → (shared_step state Event).0 ≡ seen_state state (event_place event) part new rest
+    seen_by event old ≡ Some new → (shared_step state Event).0 ≡ told_state state event part new rest
 event-stepped state event rest part old new of_td is there held seen =
     ap (λ es. (cond (is_some_of es) (event_step state es) (state, idle)).0) is
     ∙ event_step-held state event rest part old new of_td there held seen
@@ -156,11 +159,14 @@ matched-sees state all event rest is of_td =
     let place : Place = event_place event in
     let at : IsHeld state place own.entry = matched-held state place own.entry all own.held in
     let seen : HasSeen event own.entry = event-seen event own.entry own.awaits at.here.sound in
-    let now : Shared = seen_state state place at.found.part seen.new rest in
+    let part : Part = at.found.part in
+    let now : Shared = told_state state event part seen.new rest in
     let stepped : (shared_step state Event).0 ≡ now =
-    event-stepped state event rest at.found.part own.entry seen.new of_td is at.found.there at.found.held seen.step.seen in
-    let wrote : under now.parts place ≡ Some seen.new =
-    under-written state now place (Some seen.new) (seen-written state event rest at.found.part own.entry seen.new is at.found.there at.found.held) in
+    event-stepped state event rest part own.entry seen.new of_td is at.found.there at.found.held seen.step.seen in
+    let wrote : under now.parts place ≡ Some seen.new = under-there now.parts place (told_part event part place.slot seen.new) (Some seen.new)
+    (slice_get-slice_set_same state.parts place.client part (told_part event part place.slot seen.new) at.found.there)
+    (told-own event seen.new.task.request (slice_set part.entries place.slot (Some seen.new)) place.slot seen.new refl
+    (get_or-set_same part.entries place.slot (Some seen.new) None (held-within part.entries place.slot own.entry at.found.held))) in
     (own.entry, seen.new, own.held, seen.step.seen, ap (λ (s : Shared). under s.parts (event_place event)) stepped ∙ wrote)
 
 -- the places in the command pipe's ring once a command event was taken of what stands there
@@ -235,15 +241,15 @@ trbs-some : (request : Request) → nat_lt 0 (request_bytes request) ≡ nat_lt 
 trbs-some (Execute op) = both_some (moved_bytes op) ((moved_bytes op + 4095) / 4096) (λ some. omega arith) (λ some. omega arith)
 trbs-some (Manage what noted) = refl
 
-data-trbs : (held : Option Entry) → IfSome held IsMatchedEntry → IfSome held HasDataTrbs
-data-trbs None sound = tt
-data-trbs (Some entry) sound = record { most = trbs-most entry.task.request sound.small; there = sound.moves ∙ trbs-some entry.task.request }
+data-trbs : (slot : ℕ) (held : Option Entry) → IfSome held (IsMatchedEntry slot) → IfSome held HasDataTrbs
+data-trbs slot None sound = tt
+data-trbs slot (Some entry) sound = record { most = trbs-most entry.task.request sound.small; there = sound.moves ∙ trbs-some entry.task.request }
 
 pub accepted-trbs : AcceptedFits
 accepted-trbs in_use least ticket command none = trbs-most (Execute command.op) (short-small command.op (unfaulted in_use least ticket command none).short)
 
 pub matched-data_trbs : (state : Shared) → IsMatched state → HaveDataTrbs state
-matched-data_trbs state all place = data-trbs (under state.parts place) (all.places place).sound
+matched-data_trbs state all place = data-trbs place.slot (under state.parts place) (all.places place).sound
 
 -- REPLAYS
 

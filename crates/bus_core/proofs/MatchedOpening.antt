@@ -10,6 +10,7 @@ use Rattle.bus_core.specs.Td.{Entry}
 use Rattle.bus_core.specs.Shared.{new_parts, opening, pipe_of}
 use Rattle.bus_core.specs.Matched.{under, times_ready, HaveSlots, IsMatched}
 use Rattle.bus_core.proofs.MatchedFlows.{left_of}
+use Rattle.bus_core.proofs.Ordered.{opening-ordered}
 
 held-none : (n slot : ℕ) → held_at (replicate n (let none : Option Entry = None in none)) slot ≡ None
 held-none zero slot = refl
@@ -49,4 +50,5 @@ opening-matched units = record {
     runs = λ few free has. new-runs units pipe;
     left = λ before left. absurd (false≢true (sym (ap (left_of pipe) (under-new 0 units place.client place.slot)) ∙ left));
   };
+  ordered = opening-ordered units;
 }

@@ -15,7 +15,9 @@ use Rattle.bus_core.specs.Part.{Part}
 use Rattle.bus_core.specs.Shared.{Shared}
 use Rattle.bus_core.specs.Soundness.{one_if, times_in}
 use Rattle.bus_core.specs.Matched.{same_place, times, held_in, under, command_events, data_events, status_events, readied_in, times_ready, HaveSlots}
-use Rattle.bus_core.specs.Matched.{retired_places, IsMatchedAt, IsMatched}
+use Rattle.stream_array.specs.declared.Pipe.{Pipe}
+use Rattle.bus_core.specs.Ordered.{IsOrdered}
+use Rattle.bus_core.specs.Matched.{retired_places, answered_places, IsMatchedAt, IsRetiring, FlowsAt, IsMatched}
 use Rattle.bus_core.proofs.Routes.{slice_get-slice_set_same, slice_get-slice_set_other}
 
 -- PLACES
@@ -264,5 +266,21 @@ AreMatched-same old new parts waits all = record {
   });
 }
 
-pub matched-places : (state : Shared) → IsMatched state → AreMatched state
+-- A MATCHED STATE BUT FOR THE ORDER OF ITS REQUESTS, which Ordered shows
+
+pub record IsCounted (state : Shared) : Type 0 where
+  pub slots : HaveSlots state.parts
+  pub places : (place : Place) → IsMatchedAt state place (under state.parts place)
+  pub retired : retired_places state.events ≡ answered_places state.retirement
+  pub retiring : IfSome state.retirement (IsRetiring state)
+  pub flows : (pipe : Pipe) (place : Place) → FlowsAt state pipe place
+
+pub counted-of : (state : Shared) → IsMatched state → IsCounted state
+counted-of state all = record { slots = all.slots; places = all.places; retired = all.retired; retiring = all.retiring; flows = all.flows }
+
+pub matched-of : (state : Shared) → IsCounted state → IsOrdered state → IsMatched state
+matched-of state all ordered =
+    record { slots = all.slots; places = all.places; retired = all.retired; retiring = all.retiring; flows = all.flows; ordered = ordered }
+
+pub matched-places : (state : Shared) → IsCounted state → AreMatched state
 matched-places state all = record { slots = all.slots; places = all.places }

@@ -2,7 +2,7 @@
 use Rattle.std.proofs.Common.{◌≡◌, ℕ, List, [], ◌∷◌, Option, Some, None, refl, ◌∙◌, rules}
 use Rattle.std.specs.Prelude.{length}
 use Rattle.bus_core.specs.declared.Step.{Step}
-use Rattle.bus_core.specs.declared.Step.TheVariants.{Submit, CommandPipe, Data, Status as StatusStep, Engine, Event, Retire, Take}
+use Rattle.bus_core.specs.declared.Step.TheVariants.{Submit, Task as TaskStep, CommandPipe, Data, Status as StatusStep, Engine, Event, Retire, Take}
 use Rattle.stream_array.specs.declared.Pipe.{Pipe}
 use Rattle.stream_array.specs.declared.Pipe.TheVariants.{Command, Status, DataIn, DataOut}
 use Rattle.xhci_ctl.specs.declared.PipeState.{PipeState}
@@ -66,6 +66,7 @@ event_step-parts state (event ∷ rest) = event_seen-parts (record state { event
 -- a step that is due keeps the number of clients
 pub due_step-parts : (state : Shared) (step : Step) → length (due_step state step).0.parts ≡ length state.parts
 due_step-parts state (Submit client tag ticket command) = search rules
+due_step-parts state (TaskStep client ticket task) = search rules
 due_step-parts state CommandPipe = search rules
 due_step-parts state (Data tag) = search rules
 due_step-parts state (StatusStep tag) = search rules

@@ -16,8 +16,8 @@ use Rattle.bus_core.specs.Shared.{stage_seen, engine_seen}
 use Rattle.bus_core.specs.Matched.{times, IsOwnMessage, retired_places, is_td_event, IsOwnTdEvent, IsMatched}
 use Rattle.bus_core.specs.WorldDue.{marked, CommandsAreMarked, DataAreMarked, StatusesAreMarked, EventsAreQuiet, EnginesAreMarked, RetirementsAreMarked}
 use Rattle.bus_core.proofs.MatchedPlaces.{one_self, and-true}
-use Rattle.bus_core.proofs.MatchedEntries.{HasSeen, asked_op, event-seen}
-use Rattle.bus_core.proofs.MatchedSteps.{IsHeld, matched-held, carry_step-held, times_alike, times_alike-first, IsDueAt, place_fact-due, IsMovingBy}
+use Rattle.bus_core.proofs.MatchedEntries.{HasSeen, moving_op, event-seen}
+use Rattle.bus_core.proofs.MatchedSteps.{IsHeld, matched-held, carry_step-is, times_alike, times_alike-first, IsDueAt, place_fact-due, IsMovingBy}
 use Rattle.bus_core.proofs.MatchedSteps.{moving_phase, IsEndedBy, ended_phase, event_seen-td}
 use Rattle.bus_core.proofs.MatchedNext.{own-message, own-td_event}
 use Rattle.std.specs.Option.{option_map_or}
@@ -39,7 +39,7 @@ carry-marked state place rest all is =
     let own : IsOwnMessage state.parts place = own-message state place all (subst (λ ms. 1 ≤ times place ms) (sym is) (omega (arith, one_self place))) in
     let at : IsHeld state place own.entry = matched-held state place own.entry all own.held in
     ap (λ ms. (cond (is_some_of ms) (carry_step state ms) (state, idle)).1) is
-    ∙ ap (λ after. after.1) (carry_step-held state place rest at.found.part own.entry at.found.there at.found.held at.here.sound.asks own.queued)
+    ∙ ap (λ after. after.1) (carry_step-is state place rest at.found.part own.entry at.found.there at.found.held own.queued)
 
 -- the doorbells that a quiet step rang are those of its outcome
 quiet-doors : (outcome : Outcome) (client : ℕ) (doors : List ℕ) → outcome ≡ ringing client doors → outcome ≡ ringing client outcome.doors
@@ -57,8 +57,8 @@ td_event-marked state event rest of_td all is =
     let client : ℕ = (event_place event).client in
     ap (λ after. after.1) (event_seen-td popped event of_td)
     ∙ ap (λ found. (routed_to popped client (event_act event) found).1) at.found.there
-    ∙ ap (λ found. (acted_on popped client (seen_entry at.found.part (event_place event).slot (option_and_then (seen_by event) found))).1) at.found.held
-    ∙ ap (λ after. (acted_on popped client (seen_entry at.found.part (event_place event).slot after)).1) seen.step.seen
+    ∙ ap (λ found. (acted_on popped client (seen_entry event at.found.part (event_place event).slot (option_and_then (seen_by event) found))).1) at.found.held
+    ∙ ap (λ after. (acted_on popped client (seen_entry event at.found.part (event_place event).slot after)).1) seen.step.seen
 
 -- an event of the controller's own commands: after Stop Endpoint its doorbell is rung, after Set TR Dequeue Pointer those of the pipe
 pub record IsQuietEvent (outcome : Outcome) (client : ℕ) : Type 0 where
@@ -82,7 +82,7 @@ engine_event-marked state place rest all first =
     at r is MoveAnswered answered =
         let held : HasLeft state r = has-left state r (retiring-of state r all is) in
         let base : Shared = record state { events = rest; retirement = None } in
-        let done : Shared × Outcome = acted_on base r.place.client (seen_entry held.found.part r.place.slot (Some (with_td_on retired_td r.pipe held.entry))) in
+        let done : Shared × Outcome = acted_on base r.place.client (seen_entry (EngineDone r.place) held.found.part r.place.slot (Some (with_td_on retired_td r.pipe held.entry))) in
         record {
           doors = (resumed r.pipe done).1.doors;
           is = ap (λ after. record ((routed base r.place.client (retire_act r.pipe r.place)).1) { doors = (resumed r.pipe after).1.doors })
@@ -145,7 +145,7 @@ move-marked state tag place all named is_due =
     let moving : IsMovingBy at.entry.task.phase = moving_phase at.entry.task.phase (and-true (is_moving at.entry.task.phase) _ at.so).0 in
     let slot : ℕ = at.place.slot in
     let part : Part = held.found.part in
-    let asks : (op : Op) × (at.entry.task.request ≡ Execute op) = asked_op at.entry.task.request held.here.sound.asks in
+    let asks : (op : Op) × (at.entry.task.request ≡ Execute op) = moving_op at.entry.task.request at.entry.task.phase moving.chunk moving.is held.here.sound.answers in
     let done : (shared_step state (Data tag)).1 ≡ marked at.place.client (Move (suc slot)) =
     ap (λ b. (cond b (routed_by_tag state move_act (place_of (length state.parts) tag)) (state, idle)).1) is_due
     ∙ ap (λ p. (routed_by_tag state move_act p).1) at.named

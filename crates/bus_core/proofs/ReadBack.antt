@@ -51,11 +51,13 @@ use Rattle.bus_core.specs.Part.{Part}
 use Rattle.bus_core.specs.Bus.{IsPlace}
 use Rattle.bus_core.specs.Shared.{Shared, request_direction}
 use Rattle.bus_core.specs.Wire.{answer_text}
-use Rattle.bus_core.specs.Hosts.{phase_task, device_task, told_answer, phase_by, HasTaken}
-use Rattle.bus_core.specs.Matched.{times, under, held_in, carried_places, IsOwnEngineEvent, IsOwnEvent, request_bytes, IsCommandRequest, IsCommandTd}
+use Rattle.bus_core.specs.Hosts.{phase_task, device_task, told_answer, phase_by, phase_received, HasTaken}
+use Rattle.bus_core.specs.Matched.{times, under, held_in, carried_places, IsOwnEngineEvent, IsOwnEvent, request_bytes, IsCommandTd}
+use Rattle.bus_core.specs.Matched.{IsAwaitedOrSeen, IsGivenUp, IsPhaseOf, IsStatusTd}
 use Rattle.bus_core.specs.Matched.{IsMatchedEntry, IsMatched}
 use Rattle.bus_core.specs.World.{World, Cell, cell_at}
-use Rattle.bus_core.specs.Cells.{state_of, host_side, HoldsIn, HoldsTd, HoldsData, data_in_td, data_out_td, HasAnswerIn, FitsCell, FitsHeld}
+use Rattle.bus_core.specs.Cells.{state_of, host_side, HoldsIn, HoldsTd, HoldsData, data_in_td, data_out_td, HasAnswerIn, HasNoBytes, lent_for, FitsCell}
+use Rattle.bus_core.specs.Cells.{FitsHeld}
 use Rattle.bus_core.specs.Fits.{HoldsCommand, HoldsCommandOf, command_trb, engine_event, event_texts, host_retirement, host_stage, place_in, FitsPart}
 use Rattle.bus_core.specs.Fits.{FitsClient, Fits}
 use Rattle.bus_core.specs.Decoded.{message_in, decoded_messages, completion_on, completion_of_td, completion_of, decoded_events, consumed_in, decoded_td}
@@ -74,21 +76,25 @@ use Rattle.bus_core.proofs.EventTds.{status_text, status_residual, data_text, co
 byte-is : (bytes text : List ℕ) (at : ℕ) → take (length text) bytes ≡ text → at < length text → slice_index bytes at ≡ slice_index text at
 byte-is bytes text at is within = sym (get_or-take (length text) bytes at 0 within) ∙ ap (λ l. slice_index l at) is
 
--- a buffer that begins with an answer tells it
-pub told_answer-begins : (tag : ℕ) (answer : Answer) (bytes : List ℕ) → take (length (answer_text tag answer)) bytes ≡ answer_text tag answer
-    → told_answer bytes ≡ answer
+-- a buffer that begins with an answer tells it: a Sense unit in its status and sense, and byte 6 of a Response unit is 0
+pub told_answer-begins : (tag : ℕ) (request : Request) (answer : Answer) (bytes : List ℕ) → IsPhaseOf request (Sent answer)
+    → take (length (answer_text tag request answer)) bytes ≡ answer_text tag request answer → told_answer bytes ≡ answer
 unfolding unit_text
-told_answer-begins tag Good bytes is =
-    let status : slice_index bytes 6 ≡ 0 = byte-is bytes (answer_text tag Good) 6 is (omega arith) in
+told_answer-begins tag (Execute op) Good bytes answers is =
+    let status : slice_index bytes 6 ≡ 0 = byte-is bytes (answer_text tag (Execute op) Good) 6 is (omega arith) in
     rw status refl
-told_answer-begins tag (Check sense) bytes is =
-    let status : slice_index bytes 6 ≡ 2 = byte-is bytes (answer_text tag (Check sense)) 6 is (omega arith) in
-    let key : slice_index bytes 18 ≡ sense.key = byte-is bytes (answer_text tag (Check sense)) 18 is (omega arith) in
-    let asc : slice_index bytes 28 ≡ sense.asc = byte-is bytes (answer_text tag (Check sense)) 28 is (omega arith) in
-    let ascq : slice_index bytes 29 ≡ sense.ascq = byte-is bytes (answer_text tag (Check sense)) 29 is (omega arith) in
+told_answer-begins tag (Execute op) (Check sense) bytes answers is =
+    let status : slice_index bytes 6 ≡ 2 = byte-is bytes (answer_text tag (Execute op) (Check sense)) 6 is (omega arith) in
+    let key : slice_index bytes 18 ≡ sense.key = byte-is bytes (answer_text tag (Execute op) (Check sense)) 18 is (omega arith) in
+    let asc : slice_index bytes 28 ≡ sense.asc = byte-is bytes (answer_text tag (Execute op) (Check sense)) 28 is (omega arith) in
+    let ascq : slice_index bytes 29 ≡ sense.ascq = byte-is bytes (answer_text tag (Execute op) (Check sense)) 29 is (omega arith) in
     rw (status, key, asc, ascq) refl
+told_answer-begins tag (Manage what noted) Good bytes answers is =
+    let code : slice_index bytes 6 ≡ 0 = byte-is bytes (answer_text tag (Manage what noted) Good) 6 is (omega arith) in
+    rw code refl
+told_answer-begins tag (Manage what noted) (Check sense) bytes answers is = absurd answers
 
--- the device has received a command where its command TD's TRB was taken
+-- the device has received a request where its command TD's TRB was taken
 phase-taken : (phase : Phase) (td : Td) → IsCommandTd phase td → HasTaken phase td.consumed
 phase-taken Queued td is = ap (λ (t : Td). t.consumed) is
 phase-taken (Begun (Moving chunk)) td is = is
@@ -96,14 +102,38 @@ phase-taken (Begun (Ended answer)) td is = is
 phase-taken (Sent answer) td is = is
 phase-taken Gone td is = is
 
-phase_by-back : (client tag taken : ℕ) (request : Request) (phase : Phase) (bytes : List ℕ) → IsCommandRequest request → HasTaken phase taken
-    → HasAnswerIn phase tag bytes → phase_by (phase_task (Some client) request phase) taken bytes ≡ phase
-phase_by-back client tag taken request Queued bytes command is told = rw is refl
-phase_by-back client tag taken (Execute op) (Begun (Moving chunk)) bytes command is told = refl
-phase_by-back client tag taken (Execute op) (Begun (Ended answer)) bytes command is told = refl
-phase_by-back client tag taken (Manage what noted) (Begun progress) bytes command is told = absurd command
-phase_by-back client tag taken request Gone bytes command is told = absurd is
-phase_by-back client tag taken request (Sent answer) bytes command is told = rw is (ap Sent (told_answer-begins tag answer bytes told))
+-- an answer whose status TD's TRB was taken was sent
+received-sent : (consumed : ℕ) (state : TdState) (bytes : List ℕ) → consumed ≡ 1 → IsAwaitedOrSeen state
+    → phase_received consumed state bytes ≡ Sent (told_answer bytes)
+received-sent consumed Pending bytes taken awaited = rw taken refl
+received-sent consumed Seen bytes taken awaited = refl
+received-sent consumed LeftOver bytes taken awaited = absurd awaited
+received-sent consumed Retired bytes taken awaited = absurd awaited
+
+-- what has neither a task nor an answer is gone
+received-gone : (consumed : ℕ) (state : TdState) (bytes : List ℕ) → IsGivenUp consumed state → phase_received consumed state bytes ≡ Gone
+received-gone consumed Pending bytes given_up = rw given_up refl
+received-gone consumed Seen bytes given_up = absurd given_up
+received-gone consumed LeftOver bytes given_up = refl
+received-gone consumed Retired bytes given_up = refl
+
+-- device, command TD, status TD and status buffer tell the phase together
+phase_by-back : (client tag taken : ℕ) (request : Request) (phase : Phase) (status : Td) (bytes : List ℕ) → IsPhaseOf request phase → HasTaken phase taken
+    → IsStatusTd phase status → HasAnswerIn request phase tag bytes → phase_by (phase_task (Some client) request phase) taken status bytes ≡ phase
+phase_by-back client tag taken request Queued status bytes answers is sends told = rw is refl
+phase_by-back client tag taken (Execute op) (Begun (Moving chunk)) status bytes answers is sends told = refl
+phase_by-back client tag taken (Execute op) (Begun (Ended answer)) status bytes answers is sends told = refl
+phase_by-back client tag taken (Manage what noted) (Begun (Moving chunk)) status bytes answers is sends told = absurd answers
+phase_by-back client tag taken (Manage what noted) (Begun (Ended Good)) status bytes answers is sends told = refl
+phase_by-back client tag taken (Manage what noted) (Begun (Ended (Check sense))) status bytes answers is sends told = absurd answers
+phase_by-back client tag taken request (Sent answer) status bytes answers is sends told =
+    rw is (received-sent status.consumed status.state bytes sends.0 sends.1 ∙ ap Sent (told_answer-begins tag request answer bytes answers told))
+phase_by-back client tag taken request Gone status bytes answers is sends told = rw is (received-gone status.consumed status.state bytes sends)
+
+-- a command's bytes are those that it lends, and a task management has none
+lent-back : (request : Request) (buffer : List ℕ) → HasNoBytes request buffer → unwrap_or (lent_for request buffer) [] ≡ buffer
+lent-back (Execute op) buffer none = refl
+lent-back (Manage what noted) buffer none = sym none
 
 -- A STREAM'S TD
 
@@ -139,18 +169,21 @@ length-data_td tag request =
 -- ONE CELL
 
 -- by the number of its messages, of which a command TD has one less the TRBs that were taken
-decoded_held-back : (client count waiting : ℕ) (place : Place) (entry : Entry) (cell : Cell) → FitsCell client count place entry cell → IsMatchedEntry entry
+decoded_held-back : (client count waiting : ℕ) (place : Place) (entry : Entry) (cell : Cell) → FitsCell client count place entry cell
+    → IsMatchedEntry place.slot entry
     → entry.command_td.consumed + waiting ≡ 1 → decoded_held waiting cell (host_side entry) ≡ entry
 decoded_held-back client count waiting place entry cell fits matched counted =
     let command : 1 - waiting ≡ entry.command_td.consumed = omega (arith, counted) in
-    let phase : phase_by cell.task (1 - waiting) cell.buffers.status ≡ entry.task.phase =
-    ap (λ t. phase_by t (1 - waiting) cell.buffers.status) fits.task
-    ∙ ap (λ n. phase_by (device_task client entry) n cell.buffers.status) command
-    ∙ phase_by-back client (tag_of place) entry.command_td.consumed entry.task.request entry.task.phase cell.buffers.status
-    matched.asks (phase-taken entry.task.phase entry.command_td matched.command) fits.answer in
-    let buffer : unwrap_or cell.buffers.lent [] ≡ entry.task.buffer = ap (λ o. unwrap_or o []) fits.lent in
     let status : decoded_td 1 cell.status entry.status_td.state ≡ entry.status_td =
     decoded_td-back cell.status (status_td (tag_of place)) entry.status_td 1 refl fits.status in
+    let phase : phase_by cell.task (1 - waiting) (decoded_td 1 cell.status entry.status_td.state) cell.buffers.status ≡ entry.task.phase =
+    ap (λ t. phase_by t (1 - waiting) (decoded_td 1 cell.status entry.status_td.state) cell.buffers.status) fits.task
+    ∙ ap (λ n. phase_by (device_task client entry) n (decoded_td 1 cell.status entry.status_td.state) cell.buffers.status) command
+    ∙ ap (λ td. phase_by (device_task client entry) entry.command_td.consumed td cell.buffers.status) status
+    ∙ phase_by-back client (tag_of place) entry.command_td.consumed entry.task.request entry.task.phase entry.status_td cell.buffers.status
+    matched.answers (phase-taken entry.task.phase entry.command_td matched.command) matched.status fits.answer in
+    let buffer : unwrap_or cell.buffers.lent [] ≡ entry.task.buffer =
+    ap (λ o. unwrap_or o []) fits.lent ∙ lent-back entry.task.request entry.task.buffer fits.bytes in
     let moved : option_map (decoded_td (trbs_of entry.task.request) (data_ring (request_direction entry.task.request) cell))
     (option_map state_of entry.data_td) ≡ entry.data_td =
     decoded_way-back (request_direction entry.task.request) cell (data_td (tag_of place) (request_bytes entry.task.request)) entry.data_td
@@ -165,7 +198,7 @@ decoded_held-back client count waiting place entry cell fits matched counted =
     })
 
 pub decoded_cell-back : (client count waiting : ℕ) (place : Place) (held : Option Entry) (cell : Cell) → FitsHeld client count place held cell
-    → IfSome held IsMatchedEntry → IfSome held (λ entry. entry.command_td.consumed + waiting ≡ 1) → decoded_cell cell waiting ≡ held
+    → IfSome held (IsMatchedEntry place.slot) → IfSome held (λ entry. entry.command_td.consumed + waiting ≡ 1) → decoded_cell cell waiting ≡ held
 decoded_cell-back client count waiting place None cell fits matched counted = ap (option_map (decoded_held waiting cell)) fits.held
 decoded_cell-back client count waiting place (Some entry) cell fits matched counted =
     ap (option_map (decoded_held waiting cell)) fits.held ∙ ap Some (decoded_held-back client count waiting place entry cell fits matched counted)
@@ -183,7 +216,7 @@ decoded_slot-back state world client slot unit held part all there fits within =
     let place : Place = place_in client slot in
     let is : under state.parts place ≡ held_at part.entries slot = under-at state.parts client slot part there in
     decoded_cell-back client unit.count (times place state.messages) place (held_at part.entries slot) (cell_at world place) (fits.cells slot within)
-    (subst (λ o. IfSome o IsMatchedEntry) is (all.places place).sound)
+    (subst (λ o. IfSome o (IsMatchedEntry slot)) is (all.places place).sound)
     (subst (λ o. IfSome o (λ entry. entry.command_td.consumed + times place state.messages ≡ 1)) is (matched-counted state all place))
 
 decoded_entries-back : (state : Shared) (world : World) (client : ℕ) (unit : BlockMaps) (held : HostClient) (part : Part) → IsMatched state

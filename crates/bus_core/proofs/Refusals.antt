@@ -4,10 +4,12 @@ use Rattle.std.proofs.Common.{◌∙◌, subst, rules}
 use Rattle.std.specs.Prelude.{nat_lt, ◌==◌, ◌&&◌, length, slice_get, is_some}
 use Rattle.std.specs.Option.{option_map_or}
 use Rattle.std.proofs.lemmas.Option.{none-some, cond_some, option_and_then_some, some_pair_parts}
-use Rattle.std.proofs.lemmas.Bool.{and_parts, ltb-true, lt-ltb, eqb-true, eq-eqb}
+use Rattle.std.proofs.lemmas.Bool.{and_parts, ltb-true, le-ltb, lt-ltb, eqb-true, eq-eqb}
 use Rattle.block_unit.specs.BlockMaps.{BlockMaps}
 use Rattle.scsi_cmd.specs.declared.Command.{Command}
 use Rattle.scsi_cmd.specs.declared.Reply.{Reply}
+use Rattle.scsi_cmd.specs.declared.Task.{Task}
+use Rattle.scsi_cmd.specs.declared.TheConstants.{TASK_SLOT}
 use Rattle.scsi_cmd.specs.declared.SubmitFault.{SubmitFault}
 use Rattle.scsi_cmd.specs.declared.SubmitFault.TheVariants.{NotYours}
 use Rattle.solo_model.specs.declared.Label.{Label}
@@ -16,55 +18,21 @@ use Rattle.scsi_cmd.specs.Submission.{first_submit_fault}
 use Rattle.solo_model.specs.Solo.{SoloState, opening as solo_opening}
 use Rattle.uas_host.specs.declared.Place.{Place}
 use Rattle.bus_core.specs.declared.Step.{Step}
-use Rattle.bus_core.specs.declared.Step.TheVariants.{Submit, CommandPipe, Data, Status, Engine, Event, Retire, Take}
+use Rattle.bus_core.specs.declared.Step.TheVariants.{Submit, Task as TaskStep, CommandPipe, Data, Status, Engine, Event, Retire, Take}
 use Rattle.bus_core.specs.Td.{Entry}
 use Rattle.uas_host.specs.Tags.{place_of, own_slot, command_slot}
-use Rattle.bus_core.specs.Part.{Part, own_task, fault_at}
-use Rattle.bus_core.specs.Shared.{Shared, opening, refusal, submitted_under, shared_step}
+use Rattle.bus_core.specs.Part.{Part, fault_at, named_slot, task_fault_at}
+use Rattle.bus_core.specs.Shared.{Shared, managed_or, managed_to, opening, refusal, submitted_under, shared_step, task_refusal}
 use Rattle.bus_core.specs.Replay.{replay, replayed}
-use Rattle.bus_core.specs.Isolation.{own_label, own_reply, own_state, own_tag, solo_of, nobody}
-use Rattle.bus_core.specs.Refusals.{solo_fault, own_fault, handed_back, after_label, RefusedAsOwn, AllRefusedAsOwn}
+use Rattle.bus_core.specs.Isolation.{own_label, own_reply, own_state, own_tag, own_task, solo_of, nobody}
+use Rattle.bus_core.specs.Refusals.{solo_fault, own_fault, own_task_fault, fault_alone, handed_back, after_label, RefusedAsOwn, AllRefusedAsOwn, TasksAreOwned}
 use Rattle.bus_core.proofs.Acts.{solo_try, held_at-solo_of}
-use Rattle.bus_core.proofs.Routes.{shared_step-own}
+use Rattle.bus_core.proofs.OwnSlots.{IsOwnSlot, command_slot-own, own-command_slot}
+use Rattle.bus_core.proofs.Managed.{task_fault-own}
+use Rattle.bus_core.proofs.Routes.{shared_step-own, there}
 use Rattle.bus_core.proofs.NumberOfClients.{length-parts}
 use Rattle.bus_core.proofs.Opening.{length-new_parts}
 use Rattle.bus_core.proofs.FirstBlocks.{opening-solo}
-
--- TAGS
-
--- what a command tag's slot says of the client and the index
-pub record IsOwnSlot (clients client tag slot : ℕ) : Type 0 where
-  pub there : client < clients
-  pub within : slot < 7
-  pub index : own_tag client tag ≡ suc slot
-
--- the same, of the place that the tag names
-pub placed_slot-own : (clients client before slot : ℕ) → nat_lt (before / 8) clients ≡ true → (before / 8 == client) && nat_lt (before % 8) 7 ≡ true →
-    before % 8 ≡ slot → IsOwnSlot clients client (suc before) slot
-placed_slot-own clients client before slot there own is =
-    let parts = and_parts (before / 8 == client) (nat_lt (before % 8) 7) own in
-    let below : before / 8 < clients = ltb-true _ _ there in
-    let same : before / 8 ≡ client = eqb-true _ _ parts.0 in
-    let small : before % 8 < 7 = ltb-true _ _ parts.1 in
-    record { there = omega arith; within = omega arith; index = omega arith }
-
-pub command_slot-own : (clients client tag slot : ℕ) → command_slot clients client tag ≡ Some slot → IsOwnSlot clients client tag slot
-command_slot-own clients client zero slot is = absurd (none-some slot is)
-command_slot-own clients client (suc before) slot is =
-    option_and_then_some (own_slot client) (place_of clients (suc before)) slot is (λ place at own_at.
-    let here = cond_some (nat_lt (before / 8) clients) (record { client = before / 8; slot = before % 8 }) place at in
-    let own = cond_some ((before / 8 == client) && nat_lt (before % 8) 7) (before % 8) slot
-    (subst (λ (p : Place). own_slot client p ≡ Some slot) (sym here.1) own_at) in
-    placed_slot-own clients client before slot here.0 own.0 own.1)
-
-pub own-command_slot : (clients client tag slot : ℕ) → IsOwnSlot clients client tag slot → command_slot clients client tag ≡ Some slot
-own-command_slot clients client zero slot own = absurd (omega (arith, own.index))
-own-command_slot clients client (suc before) slot own =
-    let client_is : before / 8 ≡ client = omega (arith, own.index, own.within) in
-    let slot_is : before % 8 ≡ slot = omega (arith, own.index, own.within) in
-    let there : nat_lt client clients ≡ true = lt-ltb _ _ own.there in
-    let within : nat_lt slot 7 ≡ true = lt-ltb _ _ own.within in
-    rw (client_is, slot_is, there, eq-eqb client client refl, within) refl
 
 -- FAULTS
 
@@ -97,21 +65,21 @@ not_yours clients client tag ticket own command none =
       ] refl
     ] refl
 
-is_some-own_task : (held : Option Entry) → is_some (option_map own_task held) ≡ is_some held
-is_some-own_task None = refl
-is_some-own_task (Some entry) = refl
+is_some-own_task : (client : ℕ) (held : Option Entry) → is_some (option_map (own_task client) held) ≡ is_some held
+is_some-own_task client None = refl
+is_some-own_task client (Some entry) = refl
 
 -- a slot: the solo machine has under the index what the entry has
 slot_fault : (state : Shared) (client tag ticket slot : ℕ) (command : Command) (found : Option Part) → slice_get state.parts client ≡ found →
     IsOwnSlot (length state.parts) client tag slot →
-    own_fault (length state.parts) (option_map_or solo_of found nobody) client tag ticket command ≡ shared_fault found ticket command (Some slot)
+    own_fault (length state.parts) (option_map_or (solo_of client) found nobody) client tag ticket command ≡ shared_fault found ticket command (Some slot)
 slot_fault state client tag ticket slot command None found own = let past = slice_get-none state.parts client found in absurd (omega (arith, own.there))
 slot_fault state client tag ticket slot command (Some part) found own =
     let there : nat_lt client (length state.parts) ≡ true = lt-ltb _ _ own.there in
     let within : nat_lt slot 7 ≡ true = lt-ltb _ _ own.within in
     let index = own.index in
-    rw (there, index, within, held_at-solo_of part.entries slot)
-    (ap (λ b. first_submit_fault true b part.least ticket command) (is_some-own_task (held_at part.entries slot)))
+    rw (there, index, within, held_at-solo_of client part.entries slot)
+    (ap (λ b. first_submit_fault true b part.least ticket command) (is_some-own_task client (held_at part.entries slot)))
 
 -- the shared machine's fault is the client's own
 pub own_fault-shared : (state : Shared) (client tag ticket : ℕ) (command : Command) (slot : Option ℕ) → command_slot (length state.parts) client tag ≡ slot →
@@ -146,6 +114,63 @@ submit-unchanged state client tag ticket command fault is =
     submitted_under-unchanged state client tag ticket command (command_slot (length state.parts) client tag) fault
     (sym (own_fault-shared state client tag ticket command (command_slot (length state.parts) client tag) refl) ∙ is)
 
+-- TASK MANAGEMENT
+
+-- the fault that the shared machine finds for a task management of this part
+abbrev pub shared_task_fault : ℕ → Option Part → ℕ → ℕ → Task → Option SubmitFault
+shared_task_fault clients part client ticket task =
+    option_map_or (λ (p : Part). task_fault_at p (named_slot clients client task) ticket task) part (Some NotYours)
+
+task_fault-found : (state : Shared) (client ticket : ℕ) (task : Task) (found : Option Part) → slice_get state.parts client ≡ found
+    → own_task_fault (length state.parts) (option_map_or (solo_of client) found nobody) client ticket task
+    ≡ shared_task_fault (length state.parts) found client ticket task
+task_fault-found state client ticket task None found =
+    let past : length state.parts ≤ client = slice_get-none state.parts client found in
+    let beyond : nat_lt client (length state.parts) ≡ false = le-ltb _ _ past in
+    rw beyond refl
+task_fault-found state client ticket task (Some part) found =
+    let here : client < length state.parts = there state.parts client part found in
+    let within : nat_lt client (length state.parts) ≡ true = lt-ltb _ _ here in
+    rw within (task_fault-own (length state.parts) client ticket part task here)
+
+managed_to-refused : (state : Shared) (place : Place) (slot : Option ℕ) (ticket : ℕ) (task : Task) (part : Option Part)
+    → (managed_to state place slot ticket task part).1.refused
+    ≡ fault_alone (option_map_or (λ (p : Part). task_fault_at p slot ticket task) part (Some NotYours))
+managed_to-refused state place slot ticket task part = search rules
+
+managed_to-unchanged : (state : Shared) (place : Place) (slot : Option ℕ) (ticket : ℕ) (task : Task) (part : Option Part) (fault : SubmitFault)
+    → option_map_or (λ (p : Part). task_fault_at p slot ticket task) part (Some NotYours) ≡ Some fault
+    → managed_to state place slot ticket task part ≡ (state, task_refusal place.client fault)
+managed_to-unchanged state place slot ticket task part fault is = search rules
+
+pub task-refused : (state : Shared) (client ticket : ℕ) (task : Task) →
+    (shared_step state (TaskStep client ticket task)).1.refused
+    ≡ fault_alone (own_task_fault (length state.parts) (own_state state client) client ticket task)
+task-refused state client ticket task =
+    managed_to-refused state (record { client = client; slot = TASK_SLOT }) (named_slot (length state.parts) client task) ticket task (slice_get state.parts client)
+    ∙ ap fault_alone (sym (task_fault-found state client ticket task (slice_get state.parts client) refl))
+
+pub task-unchanged : (state : Shared) (client ticket : ℕ) (task : Task) (fault : SubmitFault) →
+    own_task_fault (length state.parts) (own_state state client) client ticket task ≡ Some fault →
+    shared_step state (TaskStep client ticket task) ≡ (state, task_refusal client fault)
+task-unchanged state client ticket task fault is =
+    managed_to-unchanged state (record { client = client; slot = TASK_SLOT }) (named_slot (length state.parts) client task) ticket task (slice_get state.parts client) fault
+    (sym (task_fault-found state client ticket task (slice_get state.parts client) refl) ∙ is)
+
+managed_or-owned : (state : Shared) (part : Part) (place : Place) (slot : Option ℕ) (ticket : ℕ) (task : Task) (fault : Option SubmitFault)
+    → ((managed_or state part place slot ticket task fault).1.acted ≡ true) × ((managed_or state part place slot ticket task fault).1.owner ≡ Some place.client)
+managed_or-owned state part place slot ticket task None = (refl, refl)
+managed_or-owned state part place slot ticket task (Some fault) = (refl, refl)
+
+managed_to-owned : (state : Shared) (place : Place) (slot : Option ℕ) (ticket : ℕ) (task : Task) (part : Option Part)
+    → ((managed_to state place slot ticket task part).1.acted ≡ true) × ((managed_to state place slot ticket task part).1.owner ≡ Some place.client)
+managed_to-owned state place slot ticket task None = (refl, refl)
+managed_to-owned state place slot ticket task (Some part) = managed_or-owned state part place slot ticket task (task_fault_at part slot ticket task)
+
+pub task-owned : TasksAreOwned
+task-owned state client ticket task =
+    managed_to-owned state (record { client = client; slot = TASK_SLOT }) (named_slot (length state.parts) client task) ticket task (slice_get state.parts client)
+
 -- OVER WHOLE REPLAYS
 
 -- a client's own submission was refused as its own state has it
@@ -153,6 +178,9 @@ pub refused-own : (state : Shared) (client : ℕ) (step : Step)
     → RefusedAsOwn (length state.parts) client (own_state state client) step (shared_step state step).1
 refused-own state client (Submit owner tag ticket command) = λ same.
     rw (← same) (submit-refused state owner tag ticket command)
+refused-own state client (TaskStep owner ticket task) = λ same.
+    subst (λ other. (shared_step state (TaskStep owner ticket task)).1.refused
+    ≡ fault_alone (own_task_fault (length state.parts) (own_state state other) other ticket task)) same (task-refused state owner ticket task)
 refused-own state client CommandPipe = tt
 refused-own state client (Data tag) = tt
 refused-own state client (Status tag) = tt

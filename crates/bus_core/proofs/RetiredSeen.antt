@@ -18,6 +18,7 @@ use Rattle.stream_array.specs.Rings.{IsLines, LinesState, ring_of, stream_ring, 
 use Rattle.frame_store.specs.Buffers.{held_for}
 use Rattle.scsi_cmd.specs.declared.Direction.{Direction}
 use Rattle.scsi_cmd.specs.declared.Direction.TheVariants.{Nothing, ToHost, ToDevice}
+use Rattle.scsi_cmd.specs.declared.Request.{Request}
 use Rattle.scsi_cmd.specs.declared.TheConstants.{TAGS}
 use Rattle.scsi_cmd.specs.Held.{held_at}
 use Rattle.solo_model.specs.declared.Phase.{Phase}
@@ -51,7 +52,7 @@ use Rattle.bus_core.specs.Soundness.{awaited_data, one_if}
 use Rattle.bus_core.specs.Matched.{IsMatched, IsMatchedEntry, answered_place, answered_places, awaited_data_of, awaited_status, data_events, is_whole}
 use Rattle.bus_core.specs.Matched.{is_whole_on, request_bytes, retired_places, same_place, status_events, under}
 use Rattle.bus_core.specs.World.{World, cell_at}
-use Rattle.bus_core.specs.Cells.{FitsCell, HoldsTrbs, IsAwaitedOrSeen, host_side, state_of, told_by}
+use Rattle.bus_core.specs.Cells.{FitsCell, HoldsTrbs, host_side, state_of, told_by}
 use Rattle.xhci_ctl.specs.declared.PipeState.{PipeState}
 use Rattle.bus_core.specs.Fits.{Fits, HoldsCommandOf, IsSoundWorld, data_event, engine_event, event_texts, host_retirement, place_in, status_event}
 use Rattle.bus_core.specs.WorldSteps.{EventFits, rung_all, without_event}
@@ -81,17 +82,17 @@ use Rattle.bus_core.proofs.Taking.{ready-found}
 abbrev retired_entry : Pipe → Entry → Entry
 retired_entry pipe entry = with_td_on retired_td pipe entry
 
-untold : (phase : Phase) (state : TdState) → state ≡ LeftOver → told_by phase state ≡ told_by phase Retired
-untold Queued state left = refl
-untold (Begun progress) state left = refl
-untold (Sent answer) state left = ap (λ s. told_by (Sent answer) s) left
-untold Gone state left = refl
+untold : (request : Request) (phase : Phase) (state : TdState) → state ≡ LeftOver → told_by request phase state ≡ told_by request phase Retired
+untold request Queued state left = refl
+untold request (Begun progress) state left = refl
+untold request (Sent answer) state left = ap (λ s. told_by request (Sent answer) s) left
+untold request Gone state left = refl
 
 retired-states : (pipe : Pipe) (entry : Entry) → is_left_over_on pipe entry ≡ true → with_retired pipe (host_side entry) ≡ host_side (retired_entry pipe entry)
 retired-states Command entry so = absurd (false≢true so)
 retired-states Status entry so =
     ap (λ told. record (host_side entry) { told = told; status_td = Retired })
-    (untold entry.task.phase entry.status_td.state (left-state entry.status_td.state so))
+    (untold entry.task.request entry.task.phase entry.status_td.state (left-state entry.status_td.state so))
 retired-states DataIn entry so = ap (λ states. record (host_side entry) { data_td = states })
     (in-states (request_direction entry.task.request) entry.data_td so)
   where
@@ -157,10 +158,10 @@ ring-of-freed world DataIn place streams = refl
 ring-of-freed world DataOut place streams = refl
 
 -- a TD that is there has a TRB
-trbs-some : (pipe : Pipe) (entry : Entry) → is_left_over_on pipe entry ≡ true → IsMatchedEntry entry → 1 ≤ trbs_on pipe entry
-trbs-some Command entry so sound = absurd (false≢true so)
-trbs-some Status entry so sound = omega arith
-trbs-some DataIn entry so sound =
+trbs-some : (pipe : Pipe) (slot : ℕ) (entry : Entry) → is_left_over_on pipe entry ≡ true → IsMatchedEntry slot entry → 1 ≤ trbs_on pipe entry
+trbs-some Command slot entry so sound = absurd (false≢true so)
+trbs-some Status slot entry so sound = omega arith
+trbs-some DataIn slot entry so sound =
     let there : is_some entry.data_td ≡ true = in-some (request_direction entry.task.request) entry.data_td so in
     let some : 0 < request_bytes entry.task.request = ltb-true 0 (request_bytes entry.task.request) (sym sound.moves ∙ there) in
     omega (arith, some, data_trbs-count entry.task.request)
@@ -170,7 +171,7 @@ trbs-some DataIn entry so sound =
     in-some ToHost None so = absurd (false≢true so)
     in-some ToHost (Some td) so = refl
     in-some ToDevice td so = absurd (false≢true so)
-trbs-some DataOut entry so sound =
+trbs-some DataOut slot entry so sound =
     let there : is_some entry.data_td ≡ true = out-some (request_direction entry.task.request) entry.data_td so in
     let some : 0 < request_bytes entry.task.request = ltb-true 0 (request_bytes entry.task.request) (sym sound.moves ∙ there) in
     omega (arith, some, data_trbs-count entry.task.request)
@@ -207,7 +208,7 @@ emptied-is state world pipe place fits at =
     let long : (ring_of (freed_lines world) pipe (tag_of place)).got ≡ length (ring_of (freed_lines world) pipe (tag_of place)).put =
     got ∙ all ∙ sym count ∙ sym (ap (λ (ts : List Trb). length ts) put) in
     record {
-      some = omega (arith, got, all, trbs-some pipe at.entry at.left at.at.matched.here.sound);
+      some = omega (arith, got, all, trbs-some pipe place.slot at.entry at.left at.at.matched.here.sound);
       empty = (
         ap (λ n. drop n (ring_of (freed_lines world) pipe (tag_of place)).put) long ∙ drop-length (ring_of (freed_lines world) pipe (tag_of place)).put,
         omega arith,
@@ -255,14 +256,6 @@ ring-here world DataOut place entry lines most streams =
     ap (λ ring. record (cell_at (retired_world world DataOut place entry) place) { data_out = ring })
     (stream_ring-same world.lines.data_out (tag_of place) (emptied_ring world DataOut place) (omega arith) (omega (arith, most, lines.data_out)))
 
--- of a status TD the cell can't tell that it is left over
-retired-answerable : (pipe : Pipe) (entry : Entry) → is_left_over_on pipe entry ≡ true → IsAwaitedOrSeen entry.status_td.state
-    → IsAwaitedOrSeen (retired_entry pipe entry).status_td.state
-retired-answerable Command entry so kept = kept
-retired-answerable Status entry so kept = absurd (subst IsAwaitedOrSeen (left-state entry.status_td.state so) kept)
-retired-answerable DataIn entry so kept = kept
-retired-answerable DataOut entry so kept = kept
-
 retired-cell : (state : Shared) (world : World) (pipe : Pipe) (place : Place) → Fits state world → (at : IsUnderWay state world pipe place MoveAnswered)
     → IsEmptied world pipe place at.entry
     → FitsCell place.client at.at.part.unit.count place (retired_entry pipe at.entry) (cell_at (retired_world world pipe place at.entry) place)
@@ -277,8 +270,7 @@ retired-cell state world pipe place fits at emptied =
     (sym (ring-here world pipe place at.entry fits.sound.lines tag.1 at.retiring.streams))
     (cell-changed place.client at.at.part.unit.count pipe place at.entry (cell_at world place) retired_td (emptied_ring world pipe place)
     (cell_at (retired_world world pipe place at.entry) place).held at.at.cell at.left
-    (λ td on left. (emptied.empty, emptied.whole td on))
-    (retired-answerable pipe at.entry at.left at.at.cell.answerable) held)
+    (λ td on left. (emptied.empty, emptied.whole td on)) held)
 
 queue-same : (world : World) (client slot : ℕ) (part : Part) (now : Entry) → IsFound world client part
     → ready_after part.ready slot now ≡ (client_with (client_of world.host client) slot (host_side now)).ready.items
@@ -377,8 +369,8 @@ data-kept state world pipe place rest entry first fits none within other some =
 status-kept : (state : Shared) (world : World) (pipe : Pipe) (place : Place) (rest : List Completion) (entry : Entry)
     → IsEngineFirst state world pipe place MoveAnswered rest (move_trb world.lines pipe (tag_of place)) → Fits state world
     → awaited_status (under state.parts place) ≡ 0 → place.slot < TAGS → (other : Place) → 1 ≤ status_events other rest
-    → status_event (stream_ring (retired_lines world pipe place).status (tag_of other)) (held_for world.frames (tag_of other)).status
-    ≡ status_event (stream_ring world.lines.status (tag_of other)) (held_for world.frames (tag_of other)).status
+    → status_event other.slot (stream_ring (retired_lines world pipe place).status (tag_of other)) (held_for world.frames (tag_of other)).status
+    ≡ status_event other.slot (stream_ring world.lines.status (tag_of other)) (held_for world.frames (tag_of other)).status
 status-kept state world pipe place rest entry first fits none within other some =
     let keeps : KeepsRings (freed_lines world) (retired_lines world pipe place) place =
     with_ring-keeps (freed_lines world) pipe place (emptied_ring world pipe place) in
@@ -386,7 +378,7 @@ status-kept state world pipe place rest entry first fits none within other some 
     omega (arith, some, ap (status_events other) first.is, (fits.matched.places other).sent) in
     let there : IsPlace (length state.parts) other = some-place state other awaited_status refl fits.matched waits in
     apart-or other place _ _ there.slot within (λ same. omega (arith, waits, none, ap (λ p. awaited_status (under state.parts p)) same))
-    (λ apart. ap (λ ring. status_event ring (held_for world.frames (tag_of other)).status) (keeps.status (tag_of other) (omega arith) apart))
+    (λ apart. ap (λ ring. status_event other.slot ring (held_for world.frames (tag_of other)).status) (keeps.status (tag_of other) (omega arith) apart))
 
 retired-reads : (state : Shared) (world : World) (pipe : Pipe) (place : Place) (rest : List Completion)
     → (first : IsEngineFirst state world pipe place MoveAnswered rest (move_trb world.lines pipe (tag_of place))) → Fits state world
@@ -499,9 +491,9 @@ retired-stepped state pipe place part entry rest there held so =
     let popped : Shared = record state { events = rest; retirement = None } in
     ap (λ found. resumed pipe (routed_to (record state { events = rest; retirement = None }) place.client (retire_act pipe place) found)) there
     ∙ ap (λ found. resumed pipe (acted_on (record state { events = rest; retirement = None }) place.client
-    (seen_entry part place.slot (option_and_then (retired_on pipe) found)))) held
+    (seen_entry (EngineDone place) part place.slot (option_and_then (retired_on pipe) found)))) held
     ∙ ap (λ b. resumed pipe (acted_on (record state { events = rest; retirement = None }) place.client
-    (seen_entry part place.slot (cond b (Some (retired_entry pipe entry)) None)))) so
+    (seen_entry (EngineDone place) part place.slot (cond b (Some (retired_entry pipe entry)) None)))) so
 
 move-seen : (state : Shared) (world : World) (pipe : Pipe) (place : Place) (rest : List Completion) → Fits state world
     → IsEngineFirst state world pipe place MoveAnswered rest (move_trb world.lines pipe (tag_of place))

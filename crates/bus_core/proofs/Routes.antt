@@ -1,9 +1,10 @@
 -- What a step of the shared machine is to each client's own solo machine.
-use Rattle.std.proofs.Common.{◌≡◌, ℕ, zero, suc, true, false, cond, List, [], ◌∷◌, Option, Some, None, option_map, refl, ap, subst, rules}
+use Rattle.std.proofs.Common.{◌≡◌, ℕ, zero, suc, ◌<◌, true, false, cond, List, [], ◌∷◌, Option, Some, None, option_map, refl, arith, ap, subst, rules}
 use Rattle.std.specs.Prelude.{nat_lt, ◌==◌, slice_get, slice_set, length, option_and_then}
 use Rattle.std.proofs.lemmas.Bool.{eqb-true, eqb-false}
 use Rattle.std.proofs.lemmas.Option.{none-some}
 use Rattle.scsi_cmd.specs.declared.Command.{Command}
+use Rattle.scsi_cmd.specs.declared.Task.{Task}
 use Rattle.scsi_cmd.specs.declared.SubmitFault.{SubmitFault}
 use Rattle.scsi_cmd.specs.declared.SubmitFault.TheVariants.{NotYours}
 use Rattle.scsi_cmd.specs.declared.TheConstants.{TASK_SLOT}
@@ -21,15 +22,17 @@ use Rattle.bus_core.specs.declared.RetirementStage.{RetirementStage}
 use Rattle.bus_core.specs.declared.RetirementStage.TheVariants.{StopAsked, StopAnswered, MoveAsked, MoveAnswered}
 use Rattle.bus_core.specs.Pipes.{all_rung}
 use Rattle.bus_core.specs.declared.Step.{Step}
-use Rattle.bus_core.specs.declared.Step.TheVariants.{Submit, CommandPipe, Data, Status as StatusStep, Engine, Event, Retire, Take}
+use Rattle.bus_core.specs.declared.Step.TheVariants.{Submit, Task as TaskStep, CommandPipe, Data, Status as StatusStep, Engine, Event, Retire, Take}
 use Rattle.bus_core.specs.declared.Mark.TheVariants.{Quiet}
 use Rattle.bus_core.specs.declared.Outcome.{Outcome}
 use Rattle.uas_host.specs.Tags.{place_of, own_slot, command_slot}
-use Rattle.bus_core.specs.Part.{Part, Act, fault_at, submitted_part, carry_act, move_act, send_act, event_act, take_act, stop_act, pass_act, retire_act}
+use Rattle.bus_core.specs.Part.{Part, Act, fault_at, submitted_part, carry_act, move_act, send_act, event_act, take_act, stop_act, pass_act, retire_act, managed_part, named_slot, task_fault_at}
 use Rattle.bus_core.specs.Shared.{Shared, idle, unmoved, refusal, due, acted_on, routed, routed_to, routed_by_tag, accepted, answered, submitted_to}
 use Rattle.bus_core.specs.Shared.{submitted_under, carry_step, event_step, event_seen, due_step, shared_step}
 use Rattle.bus_core.specs.Shared.{at_stage, engine_did, engine_seen, engine_step, pipe_of, resumed, retire_step, ringing, stage_seen, streams_pending, with_pipe}
+use Rattle.bus_core.specs.Shared.{managed, managed_or, managed_to, task_refusal}
 use Rattle.bus_core.specs.Isolation.{label_of, nobody, own_label, own_reply, renumbered, solo_of, own_state}
+use Rattle.bus_core.proofs.Managed.{managed_part-own}
 use Rattle.bus_core.proofs.Acts.{solo_try, IsOwnAct, carry_act-own, move_act-own, send_act-own, event_act-own, take_act-own, submitted_part-own, pass_act-own, retire_act-own}
 
 -- what each client's own solo machine makes of a step of the shared machine
@@ -65,7 +68,7 @@ quiet-own client step old new outcome same mark reply = search rules
 -- to its owner a step on one part is what it is to that part
 pub written-owner : (client : ℕ) (step : Step) (old new : Shared) (outcome : Outcome) (part now : Part) →
     slice_get old.parts client ≡ Some part → new.parts ≡ slice_set old.parts client now →
-    solo_try (solo_of part) (label_of outcome.mark step) ≡ Some (solo_of now, option_map (renumbered client) outcome.reply) →
+    solo_try (solo_of client part) (label_of outcome.mark step) ≡ Some (solo_of client now, option_map (renumbered client) outcome.reply) →
     solo_try (own_state old client) (label_of outcome.mark step) ≡ Some (own_state new client, option_map (renumbered client) outcome.reply)
 written-owner client step old new outcome part now found wrote own =
     rw (found, wrote, slice_get-slice_set_same old.parts client part now found) own
@@ -78,7 +81,7 @@ written-other owner client old new now apart wrote = rw (wrote, slice_get-slice_
 -- a step on one part is to each client what it is to its own part, or nothing
 pub written-own : (client : ℕ) (step : Step) (old new : Shared) (owner : ℕ) (outcome : Outcome) (part now : Part) →
     slice_get old.parts owner ≡ Some part → new.parts ≡ slice_set old.parts owner now → outcome.owner ≡ Some owner →
-    solo_try (solo_of part) (label_of outcome.mark step) ≡ Some (solo_of now, option_map (renumbered owner) outcome.reply) →
+    solo_try (solo_of owner part) (label_of outcome.mark step) ≡ Some (solo_of owner now, option_map (renumbered owner) outcome.reply) →
     IsOwnStep client step old (new, outcome)
 written-own client step old new owner outcome part now found wrote owns own =
     rw owns (elim (owner == client) as (λ b. (owner == client) ≡ b → solo_try (own_state old client) (cond b (label_of outcome.mark step) None)
@@ -86,7 +89,7 @@ written-own client step old new owner outcome part now found wrote owns own =
       | true ↦ λ same. let it : owner ≡ client = eqb-true owner client same in
           written-owner client step old new outcome part now (subst (λ o. slice_get old.parts o ≡ Some part) it found)
           (subst (λ o. new.parts ≡ slice_set old.parts o now) it wrote)
-          (subst (λ o. solo_try (solo_of part) (label_of outcome.mark step) ≡ Some (solo_of now, option_map (renumbered o) outcome.reply)) it own)
+          (subst (λ o. solo_try (solo_of o part) (label_of outcome.mark step) ≡ Some (solo_of o now, option_map (renumbered o) outcome.reply)) it own)
       | false ↦ λ apart. ap (λ (state : SoloState). Some (state, None)) (written-other owner client old new now (eqb-false owner client apart) wrote)
     ] refl)
 
@@ -127,14 +130,14 @@ with_pipe-own state DataOut now = refl
 resumed-own : (client : ℕ) (step : Step) (old : Shared) (pipe : Pipe) (after : Shared × Outcome) → IsOwnStep client step old after
     → IsOwnStep client step old (resumed pipe after)
 resumed-own client step old pipe after own =
-    rw (ap (λ parts. option_map_or solo_of (slice_get parts client) nobody)
+    rw (ap (λ parts. option_map_or (solo_of client) (slice_get parts client) nobody)
     (with_pipe-own after.0 pipe (all_rung (pipe_of after.0 pipe) (streams_pending after.0 pipe)))) own
 
 -- the controller executes the command of a retirement
 engine_did-own : (client : ℕ) (step : Step) (old : Shared) (retirement : Retirement) (stage : RetirementStage)
     → IsOwnStep client step old (engine_did old retirement stage)
 engine_did-own client step old retirement StopAsked =
-    subst (λ parts. solo_try (option_map_or solo_of (slice_get parts client) nobody)
+    subst (λ parts. solo_try (option_map_or (solo_of client) (slice_get parts client) nobody)
     (own_label client step (engine_did old retirement StopAsked).1)
     ≡ Some (own_state (engine_did old retirement StopAsked).0 client, own_reply client (engine_did old retirement StopAsked).1))
     (with_pipe-own old retirement.pipe stopped_pipe)
@@ -203,7 +206,7 @@ pub answered-own : (client : ℕ) (old : Shared) (part : Part) (owner tag ticket
 answered-own client old part owner tag ticket slot command None found within none =
     let after = accepted old part (record { client = owner; slot = slot }) tag ticket command in
     written-own client (Submit owner tag ticket command) old after.0 owner after.1 part (submitted_part part slot ticket command) found refl refl
-    (submitted_part-own part slot ticket command within none)
+    (submitted_part-own owner part slot ticket command within none)
 answered-own client old part owner tag ticket slot command (Some fault) found within some =
     quiet-own client (Submit owner tag ticket command) old old (refusal owner fault command) refl refl refl
 
@@ -225,12 +228,42 @@ submitted_under-own client old owner tag ticket command place None is =
 submitted_under-own client old owner tag ticket command place (Some slot) is =
     submitted_to-own client old owner tag ticket slot command (slice_get old.parts owner) refl (placed_slot-within owner place slot is)
 
+-- TASK MANAGEMENT
+
+-- a client that is in a list is before its end
+pub there : {T : Type 0} (list : List T) (at : ℕ) (was : T) → slice_get list at ≡ Some was → at < length list
+there [] at was is = absurd (none-some was is)
+there (first ∷ rest) zero was is = omega arith
+there (first ∷ rest) (suc at) was is = let below = there rest at was is in omega (arith, below)
+
+-- a task management is accepted, or refused and Quiet
+managed_or-own : (client : ℕ) (old : Shared) (part : Part) (owner ticket : ℕ) (task : Task) (fault : Option SubmitFault) → slice_get old.parts owner ≡ Some part
+    → task_fault_at part (named_slot (length old.parts) owner task) ticket task ≡ fault
+    → IsOwnStep client (TaskStep owner ticket task) old
+    (managed_or old part (record { client = owner; slot = TASK_SLOT }) (named_slot (length old.parts) owner task) ticket task fault)
+managed_or-own client old part owner ticket task None found none =
+    let slot = named_slot (length old.parts) owner task in
+    let after = managed old part (record { client = owner; slot = TASK_SLOT }) slot ticket task in
+    written-own client (TaskStep owner ticket task) old after.0 owner after.1 part (managed_part part slot ticket task) found refl refl
+    (managed_part-own (length old.parts) owner ticket part task (there old.parts owner part found) none)
+managed_or-own client old part owner ticket task (Some fault) found some =
+    quiet-own client (TaskStep owner ticket task) old old (task_refusal owner fault) refl refl refl
+
+-- the same, of a client that is there, or isn't
+managed_to-own : (client : ℕ) (old : Shared) (owner ticket : ℕ) (task : Task) (found : Option Part) → slice_get old.parts owner ≡ found
+    → IsOwnStep client (TaskStep owner ticket task) old
+    (managed_to old (record { client = owner; slot = TASK_SLOT }) (named_slot (length old.parts) owner task) ticket task found)
+managed_to-own client old owner ticket task None is = quiet-own client (TaskStep owner ticket task) old old (task_refusal owner NotYours) refl refl refl
+managed_to-own client old owner ticket task (Some part) is =
+    managed_or-own client old part owner ticket task (task_fault_at part (named_slot (length old.parts) owner task) ticket task) is refl
+
 -- EVERY STEP
 
 -- whatever is due is to each client what its own solo machine makes of it
 pub due_step-own : (client : ℕ) (old : Shared) (step : Step) → IsOwnStep client step old (due_step old step)
 due_step-own client old (Submit owner tag ticket command) =
     submitted_under-own client old owner tag ticket command (place_of (length old.parts) tag) (command_slot (length old.parts) owner tag) refl
+due_step-own client old (TaskStep owner ticket task) = managed_to-own client old owner ticket task (slice_get old.parts owner) refl
 due_step-own client old CommandPipe = carry_step-own client CommandPipe old old.messages
 due_step-own client old (Data tag) = routed_by_tag-own client (Data tag) old move_act (place_of (length old.parts) tag) (λ owner. move_act-own owner (Data tag))
 due_step-own client old (StatusStep tag) = routed_by_tag-own client (StatusStep tag) old send_act (place_of (length old.parts) tag)

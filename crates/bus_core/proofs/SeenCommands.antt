@@ -163,7 +163,7 @@ first-seen state world place rest at fits =
     is_awaited-trb (host_with world.host place (command_seen at.entry)) place (host_side (command_seen at.entry)) at.most
     (there-after state world place place (command_seen at.entry) fits at.is_place)
     (seen-cell state world (CommandDone place) rest (command_lines world) at
-    (with_event_seen at.entry.command_td) at.entry.status_td at.entry.data_td fits at.cell.answerable
+    (with_event_seen at.entry.command_td) at.entry.status_td at.entry.data_td fits
     (command-frees state world place rest at)).held
 
 one-done : (state : Shared) (world : World) (place : Place) (rest : List Completion) (at : IsSeenAt state world (CommandDone place) rest) → Fits state world
@@ -212,7 +212,7 @@ command-fits state world place rest fits is =
       ap (λ (es : List Event). slice_get es 0) (fits.queues.texts ∙ ap (event_texts world 0) is),
       event-done state world (command_text world) (CommandDone place) rest (command_lines world) (command_seen at.entry) is refl refl does
           (event-fits state world (CommandDone place) rest (command_lines world) at
-          (with_event_seen at.entry.command_td) at.entry.status_td at.entry.data_td fits refl at.cell.answerable
+          (with_event_seen at.entry.command_td) at.entry.status_td at.entry.data_td fits refl (λ entries. refl)
           (ap (λ b. cond b (Some (command_seen at.entry)) None) at.awaits) (command-frees state world place rest at)
           (command-ends state world place rest at)
           (command-queues state world place rest at fits)),

@@ -1,7 +1,7 @@
 -- An event of a TD that waits, the world once the host has seen it, and why that fits where its rings do.
 use Rattle.std.proofs.Common.{◌≡◌, ℕ, ◌<◌, ◌≤◌, true, cond, List, [], ◌∷◌, ◌++◌, length, length-set, Option, Some, None, refl, arith, ap, sym, subst, ◌∙◌}
 use Rattle.std.proofs.Common.{false}
-use Rattle.std.specs.Prelude.{slice_get, option_and_then}
+use Rattle.std.specs.Prelude.{slice_get, slice_set, option_and_then}
 use Rattle.std.specs.Option.{option_map_or}
 use Rattle.std.proofs.lemmas.Bool.{false≢true}
 use Rattle.cycle_ring.specs.Ring.{consumed_at}
@@ -9,6 +9,7 @@ use Rattle.stream_array.specs.declared.Pipe.{Pipe}
 use Rattle.stream_array.specs.declared.Pipe.TheVariants.{Command, Status, DataIn, DataOut}
 use Rattle.stream_array.specs.Map.{places_of, spot_at}
 use Rattle.stream_array.specs.Rings.{LinesState, ring_of, stream_ring}
+use Rattle.scsi_cmd.specs.declared.Request.{Request}
 use Rattle.scsi_cmd.specs.Held.{held_at}
 use Rattle.uas_host.specs.declared.EndedTd.{EndedTd}
 use Rattle.uas_host.specs.declared.Handled.TheVariants.{Matched}
@@ -27,11 +28,11 @@ use Rattle.bus_core.specs.declared.Outcome.{Outcome}
 use Rattle.bus_core.specs.declared.Step.TheVariants.{Event as EventStep}
 use Rattle.bus_core.specs.Bus.{IsPlace}
 use Rattle.bus_core.specs.Td.{Entry, is_left_over_on, is_ready}
-use Rattle.bus_core.specs.Part.{Act, Part, event_act, event_place, ready_after, seen_by, seen_entry}
+use Rattle.bus_core.specs.Part.{Act, Part, after_event, event_act, event_place, ready_after, seen_by, seen_entry}
 use Rattle.bus_core.specs.Shared.{Shared, acted_on, event_step, idle, is_some_of, request_direction, routed, routed_to, shared_step}
 use Rattle.bus_core.specs.Matched.{IsMatched, IsMatchedEntry, IsOwnEvent, IsOwnTdEvent, awaits_event, held_in, is_left_over_at, is_td_event, request_bytes}
 use Rattle.bus_core.specs.World.{World, cell_at}
-use Rattle.bus_core.specs.Cells.{FitsCell, FitsHeld, HoldsData, HoldsTd, data_in_td, data_out_td, host_side, IsAwaitedOrSeen}
+use Rattle.bus_core.specs.Cells.{FitsCell, FitsHeld, HoldsData, HoldsTd, data_in_td, data_out_td, host_side}
 use Rattle.bus_core.specs.Fits.{Fits, FitsQueues, IsSoundWorld, place_in}
 use Rattle.bus_core.specs.WorldSteps.{event_sides, without_event}
 use Rattle.bus_core.proofs.CellWrites.{client_of-found, entry_at-same, entry_at-other, get-within}
@@ -56,7 +57,7 @@ pub record IsSeenAt (state : Shared) (world : World) (done : Completion) (rest :
   pub is_place : IsPlace (length state.parts) (event_place done)
   pub most : tag_of (event_place done) ≤ 248
   pub cell : FitsCell (event_place done).client part.unit.count (event_place done) entry (cell_at world (event_place done))
-  pub matched : IsMatchedEntry entry
+  pub matched : IsMatchedEntry (event_place done).slot entry
   pub awaits : awaits_event done entry ≡ true
 
 own-td : (state : Shared) (done : Completion) → is_td_event done ≡ true → IsOwnEvent state done → IsOwnTdEvent state.parts done
@@ -102,17 +103,46 @@ seen-is : (state : Shared) (done : Completion) (rest : List Completion) → stat
     → shared_step state EventStep ≡ routed (record state { events = rest }) (event_place done).client (event_act done)
 seen-is state done rest is of_td = ap (λ es. cond (is_some_of es) (event_step state es) (state, idle)) is ∙ td_step-is state done rest of_td
 
-pub seen-stepped : (state : Shared) (done : Completion) (rest : List Completion) (part : Part) (old new : Entry) → state.events ≡ done ∷ rest
+-- the client's part with what stands at the place now, and what the event makes of all that the client has
+abbrev pub answered_part : Completion → Part → Entry → Part
+answered_part done part new = record part {
+  entries = after_event done new.task.request (slice_set part.entries (event_place done).slot (Some new));
+  ready = ready_after part.ready (event_place done).slot new;
+}
+
+abbrev pub answered_state : Shared → Completion → Part → Entry → List Completion → Shared
+answered_state state done part new rest = record state {
+  parts = slice_set state.parts (event_place done).client (answered_part done part new);
+  events = rest ++ [];
+}
+
+pub seen-answered : (state : Shared) (done : Completion) (rest : List Completion) (part : Part) (old new : Entry) → state.events ≡ done ∷ rest
     → is_td_event done ≡ true → slice_get state.parts (event_place done).client ≡ Some part
     → held_at part.entries (event_place done).slot ≡ Some old → seen_by done old ≡ Some new
-    → (shared_step state EventStep).0 ≡ seen_state state (event_place done) part new rest
-seen-stepped state done rest part old new is of_td there held sees =
+    → (shared_step state EventStep).0 ≡ answered_state state done part new rest
+seen-answered state done rest part old new is of_td there held sees =
     let popped : Shared = record state { events = rest } in
     let place : Place = event_place done in
     ap (λ after. after.0) (seen-is state done rest is of_td)
     ∙ ap (λ found. (routed_to popped place.client (event_act done) found).0) there
-    ∙ ap (λ found. (acted_on popped place.client (seen_entry part place.slot (option_and_then (seen_by done) found))).0) held
-    ∙ ap (λ after. (acted_on popped place.client (seen_entry part place.slot after)).0) sees
+    ∙ ap (λ found. (acted_on popped place.client (seen_entry done part place.slot (option_and_then (seen_by done) found))).0) held
+    ∙ ap (λ after. (acted_on popped place.client (seen_entry done part place.slot after)).0) sees
+
+-- any event but a response, which may leave over what commands wait for, changes nothing of the client's other entries
+abbrev pub ChangesOne : Completion → Request → Type 0
+ChangesOne done request = (entries : List (Option Entry)) → after_event done request entries ≡ entries
+
+pub seen-stepped : (state : Shared) (done : Completion) (rest : List Completion) (part : Part) (old new : Entry) → state.events ≡ done ∷ rest
+    → is_td_event done ≡ true → ChangesOne done new.task.request → slice_get state.parts (event_place done).client ≡ Some part
+    → held_at part.entries (event_place done).slot ≡ Some old → seen_by done old ≡ Some new
+    → (shared_step state EventStep).0 ≡ seen_state state (event_place done) part new rest
+seen-stepped state done rest part old new is of_td one there held sees =
+    let place : Place = event_place done in
+    seen-answered state done rest part old new is of_td there held sees
+    ∙ ap (λ entries. record state {
+      parts = slice_set state.parts place.client (record part { entries = entries; ready = ready_after part.ready place.slot new });
+      events = rest ++ [];
+    }) (one (slice_set part.entries place.slot (Some new)))
 
 routed-quiet : (state : Shared) (client : ℕ) (act : Part → Act) (found : Option Part) → (routed_to state client act found).1.doors ≡ []
 routed-quiet state client act None = refl
@@ -176,10 +206,10 @@ seen-others state world done rest lines now at frees other slot inside apart =
 
 pub seen-cell : (state : Shared) (world : World) (done : Completion) (rest : List Completion) (lines : LinesState) (at : IsSeenAt state world done rest)
     (command status : Td) (moved : Option Td)
-    → Fits state world → IsAwaitedOrSeen status.state → FreesOne world lines (event_place done) (with_tds at.entry command status moved)
+    → Fits state world → FreesOne world lines (event_place done) (with_tds at.entry command status moved)
     → FitsCell (event_place done).client at.part.unit.count (event_place done) (with_tds at.entry command status moved)
     (cell_at (seen_world world lines (event_place done) (with_tds at.entry command status moved)) (event_place done))
-seen-cell state world done rest lines at command status moved fits kept frees =
+seen-cell state world done rest lines at command status moved fits frees =
     let there = get-within world.host.clients (event_place done).client at.it.held at.it.held_is in
     let now : Entry = with_tds at.entry command status moved in
     record {
@@ -192,9 +222,9 @@ seen-cell state world done rest lines at command status moved fits kept frees =
       data_in = frees.data_in;
       data_out = frees.data_out;
       lent = at.cell.lent;
+      bytes = at.cell.bytes;
       unit = at.cell.unit;
       answer = at.cell.answer;
-      answerable = kept;
       sound = at.cell.sound;
     }
 
@@ -206,20 +236,21 @@ queue-same world client slot part now it =
 
 pub event-fits : (state : Shared) (world : World) (done : Completion) (rest : List Completion) (lines : LinesState)
     (at : IsSeenAt state world done rest) (command status : Td) (moved : Option Td)
-    → Fits state world → is_td_event done ≡ true → IsAwaitedOrSeen status.state → seen_by done at.entry ≡ Some (with_tds at.entry command status moved)
+    → Fits state world → is_td_event done ≡ true → ChangesOne done at.entry.task.request
+    → seen_by done at.entry ≡ Some (with_tds at.entry command status moved)
     → FreesOne world lines (event_place done) (with_tds at.entry command status moved)
     → EndsStay state world (seen_world world lines (event_place done) (with_tds at.entry command status moved)) (event_place done)
     → FitsQueues (seen_state state (event_place done) at.part (with_tds at.entry command status moved) rest)
     (seen_world world lines (event_place done) (with_tds at.entry command status moved))
     → IsSoundWorld (seen_world world lines (event_place done) (with_tds at.entry command status moved))
     → Fits (shared_step state EventStep).0 (seen_world world lines (event_place done) (with_tds at.entry command status moved))
-event-fits state world done rest lines at command status moved fits of_td kept sees frees ends queues sound =
+event-fits state world done rest lines at command status moved fits of_td one sees frees ends queues sound =
     let client : ℕ = (event_place done).client in
     let slot : ℕ = (event_place done).slot in
     let now : Entry = with_tds at.entry command status moved in
     let after : World = seen_world world lines (event_place done) now in
     let stepped : (shared_step state EventStep).0 ≡ seen_state state (event_place done) at.part now rest =
-    seen-stepped state done rest at.part at.entry now at.is of_td at.there at.held sees in
+    seen-stepped state done rest at.part at.entry now at.is of_td one at.there at.held sees in
     let others = seen-others state world done rest lines now at frees in
     let held_now : HostClient = client_with (client_of world.host client) slot (host_side now) in
     let long = length-set state.parts client (seen_part at.part slot now) in
@@ -246,7 +277,7 @@ event-fits state world done rest lines at command status moved fits of_td kept s
           (FitsPart-set world after client slot at.part.unit at.part.unit at.it.held held_now at.part (Some now) at.part.least
           (ready_after at.part.ready slot now)
           at.it.fits at.is_place.slot changes refl least_is (queue-same world client slot at.part now at.it)
-          (seen-cell state world done rest lines at command status moved fits kept frees));
+          (seen-cell state world done rest lines at command status moved fits frees));
       others = λ other over. fits.others other (omega (arith, over, long));
       unused = λ other over.
           unused-kept world after (event_place done) other others (omega (arith, over, long, fits.some_client))

@@ -1,10 +1,11 @@
--- A step of a status stream: the device hands over the answer of a command that has ended.
+-- A step of a status stream: the device hands over the answer to a request that has ended, the Sense unit of a command or the Response
+-- unit of a task management. Cited by the law statuses_fit, by what is due, and by the steps of the bus.
 use Rattle.std.proofs.Common.{◌≡◌, ℕ, ◌+◌, ◌-◌, ◌<◌, ◌≤◌, Bool, true, false, ◌&&◌, cond, List, [], ◌∷◌, ◌++◌, take, drop, length, map, Option, Some, None}
 use Rattle.std.proofs.Common.{option_map, refl, arith, ap, sym, subst, ◌∙◌, inr}
 use Rattle.std.specs.Prelude.{nat_lt, slice_get, option_and_then, IfSome}
 use Rattle.std.specs.Option.{option_map_or}
 use Rattle.std.proofs.Math.Seq.{take-append_seam}
-use Rattle.std.proofs.lemmas.Bool.{lt-ltb, le-leb}
+use Rattle.std.proofs.lemmas.Bool.{eq-eqb, lt-ltb, le-leb, ne_eqb}
 use Rattle.std.proofs.lemmas.List.{append-nil, get_or-set_same, get_or-set_other}
 use Rattle.xhci_trb.specs.declared.Trb.TheVariants.{Normal}
 use Rattle.cycle_ring.specs.Ring.{Ring, pointer_of, front_of, opening}
@@ -22,7 +23,7 @@ use Rattle.frame_store.proofs.FramesLaws.{written-named}
 use Rattle.scsi_cmd.specs.Buffers.{with_bytes_at}
 use Rattle.scsi_cmd.specs.Laws.{written_at-fits}
 use Rattle.scsi_cmd.proofs.Buffers.{filled-written_at}
-use Rattle.scsi_cmd.specs.declared.TheConstants.{TAGS}
+use Rattle.scsi_cmd.specs.declared.TheConstants.{TAGS, TASK_SLOT}
 use Rattle.scsi_cmd.specs.declared.Direction.{Direction}
 use Rattle.scsi_cmd.specs.declared.Direction.TheVariants.{Nothing, ToHost, ToDevice}
 use Rattle.scsi_cmd.specs.Op.{direction_of, moved_bytes}
@@ -38,11 +39,9 @@ use Rattle.solo_model.specs.declared.Phase.{Phase}
 use Rattle.solo_model.specs.declared.Phase.TheVariants.{Queued, Begun, Sent, Gone}
 use Rattle.solo_model.specs.Soundness.{IsSoundRequest}
 use Rattle.uas_iu.specs.declared.Iu.{Iu}
-use Rattle.uas_iu.specs.declared.Iu.TheVariants.{Sense as SenseIu}
+use Rattle.uas_iu.specs.declared.Iu.TheVariants.{Response as ResponseIu, Sense as SenseIu}
 use Rattle.uas_iu.specs.Units.{unit_text}
-use Rattle.uas_target.specs.declared.DeviceAnswer.TheVariants.{Status as StatusAnswer}
 use Rattle.uas_target.specs.declared.DeviceTask.{DeviceTask}
-use Rattle.uas_target.specs.declared.DeviceTask.TheVariants.{Ended as EndedTask}
 use Rattle.uas_target.specs.declared.Phase.{Phase as Wants}
 use Rattle.uas_target.specs.declared.Phase.TheVariants.{Absent, Gives, Takes, Ends}
 use Rattle.uas_target.specs.Device.{answered, task_of, wanted, without_task}
@@ -63,7 +62,7 @@ use Rattle.bus_core.specs.Wire.{answer_text}
 use Rattle.bus_core.specs.Hosts.{begun_task, device_task, phase_task}
 use Rattle.bus_core.specs.Part.{Part}
 use Rattle.bus_core.specs.Shared.{Shared, due, due_step, idle, is_ended, shared_step, status_is_due}
-use Rattle.bus_core.specs.Matched.{carried_places, status_events, IsCommandRequest, IsMatched, IsStatusTd}
+use Rattle.bus_core.specs.Matched.{carried_places, status_events, IsMatched, IsPhaseOf, IsRequestIn, IsStatusTd}
 use Rattle.bus_core.specs.World.{World, Cell, cell_at, sides_in, with_sides}
 use Rattle.bus_core.specs.Cells.{FitsCell, HoldsTd, HoldsTrbs, host_side, told_by, told_sent}
 use Rattle.bus_core.specs.Fits.{Fits, FitsQueues, IsSoundWorld, command_trb, event_texts, place_in, status_event, unit_len}
@@ -73,7 +72,7 @@ use Rattle.bus_core.proofs.ActFits.{IsPlaced, placed, IsActed, acted_state, acte
 use Rattle.bus_core.proofs.CommandFits.{event-room}
 use Rattle.bus_core.proofs.EventTexts.{KeepsOthers, carried_places-append, event_texts-append, event_texts-one}
 use Rattle.bus_core.proofs.Framing.{EndsStay}
-use Rattle.bus_core.proofs.MatchedEntries.{asked_op, sent_to}
+use Rattle.bus_core.proofs.MatchedEntries.{sent_to}
 use Rattle.bus_core.proofs.MatchedNext.{matched-no_status_event}
 use Rattle.bus_core.proofs.MatchedPlaces.{and-true}
 use Rattle.bus_core.proofs.MatchedSteps.{IsDueAt, place_fact-due, IsEndedBy, ended_phase, send_step-held, shared_step-matched}
@@ -81,21 +80,31 @@ use Rattle.bus_core.proofs.Standing.{held_under-with_same, held_under-with_other
 
 -- THE UNIT OF AN ANSWER
 
-pub answer-least : (tag : ℕ) (answer : Answer) → 16 ≤ length (answer_text tag answer)
-unfolding unit_text
-answer-least tag Good = omega arith
-answer-least tag (Check sense) = omega arith
+-- of a command a Sense unit, of a task management the Response unit with COMPLETE
+abbrev pub answer_unit : ℕ → Request → Answer → Iu
+answer_unit tag (Execute op) answer = SenseIu tag (status_of answer) (record { items = sense_of answer })
+answer_unit tag (Manage what noted) answer = ResponseIu tag 0
 
-answer-most : (tag : ℕ) (answer : Answer) → length (answer_text tag answer) ≤ 112
-unfolding unit_text
-answer-most tag Good = omega arith
-answer-most tag (Check sense) = omega arith
+pub answer-unit : (tag : ℕ) (request : Request) (answer : Answer) → answer_text tag request answer ≡ unit_text (answer_unit tag request answer)
+answer-unit tag (Execute op) answer = refl
+answer-unit tag (Manage what noted) answer = refl
 
--- byte 15 of a status buffer that begins with an answer tells its length
-pub answer-len : (tag : ℕ) (answer : Answer) (bytes : List ℕ) → unit_len (with_bytes_at bytes 0 (answer_text tag answer)) ≡ length (answer_text tag answer)
+pub answer-most : (tag : ℕ) (request : Request) (answer : Answer) → length (answer_text tag request answer) ≤ 112
+unfolding unit_text
+answer-most tag (Execute op) Good = omega arith
+answer-most tag (Execute op) (Check sense) = omega arith
+answer-most tag (Manage what noted) answer = omega arith
+
+-- byte 15 of a status buffer that begins with a Sense unit tells its length, and a Response unit, of the last slot, has 8 bytes
+pub answer-len : (tag slot : ℕ) (request : Request) (answer : Answer) (bytes : List ℕ) → IsRequestIn slot request
+    → unit_len slot (with_bytes_at bytes 0 (answer_text tag request answer)) ≡ length (answer_text tag request answer)
 unfolding unit_text with_bytes_at
-answer-len tag Good bytes = refl
-answer-len tag (Check sense) bytes = refl
+answer-len tag slot (Execute op) Good bytes asks =
+    ap (λ b. cond b 8 16) (ne_eqb slot TASK_SLOT (λ same. omega (arith, asks, same)))
+answer-len tag slot (Execute op) (Check sense) bytes asks =
+    ap (λ b. cond b 8 34) (ne_eqb slot TASK_SLOT (λ same. omega (arith, asks, same)))
+answer-len tag slot (Manage what noted) answer bytes asks =
+    ap (λ b. cond b 8 (unit_len 0 (with_bytes_at bytes 0 (answer_text tag (Manage what noted) answer)))) (eq-eqb slot TASK_SLOT asks)
 
 pub text-begins : (bytes text : List ℕ) → take (length text) (with_bytes_at bytes 0 text) ≡ text
 unfolding with_bytes_at
@@ -123,7 +132,7 @@ status-written frames tag text whole some most short =
     ∙ ap (λ bytes. with_held frames tag (record (held_for frames tag) { status = bytes }))
     (spliced-front (held_for frames tag).status text (omega (arith, short, (whole.sizes tag some most).status)))
 
--- THE STREAM OF AN ENDED COMMAND
+-- THE STREAM OF AN ENDED REQUEST
 
 tag-bounds : (state : Shared) (world : World) (place : Place) (entry : Entry) → IsPlaced state world place entry → Fits state world
     → (1 ≤ tag_of place) × (tag_of place ≤ 248)
@@ -174,23 +183,31 @@ status-due state world place entry ready = ap (λ td. is_open state.status (tag_
 -- the TRB in front is the host's own
 pub status-own : (state : Shared) (world : World) (place : Place) (entry : Entry) (answer : Answer) → IsPlaced state world place entry → Fits state world
     → IsStatusReady state world place entry
-    → IsOwnStatusFront world.lines world.frames (tag_of place) (Some (SenseIu (tag_of place) (status_of answer) (record { items = sense_of answer })))
+    → IsOwnStatusFront world.lines world.frames (tag_of place) (Some (answer_unit (tag_of place) entry.task.request answer))
 status-own state world place entry answer at fits ready =
     let tag = tag-bounds state world place entry at fits in
-    let unit : Iu = SenseIu (tag_of place) (status_of answer) (record { items = sense_of answer }) in
-    subst (λ front. IfSome front (λ f. IsOwnStatus world.frames unit f.1)) (sym ready.front) (
+    subst (λ front. IfSome front (λ f. IsOwnStatus world.frames (answer_unit (tag_of place) entry.task.request answer) f.1)) (sym ready.front) (
       (refl, refl, inr (front_byte StatusBuffer (tag_of place), status-names world.frames (tag_of place) 112 fits.sound.frames tag.0 tag.1 (omega arith))),
-      answer-most (tag_of place) answer,
+      subst (λ text. length text ≤ 112) (answer-unit (tag_of place) entry.task.request answer) (answer-most (tag_of place) entry.task.request answer),
     )
 
 -- THE CALL, COMPUTED
 
--- the device's word of an ended command
+-- the device's word of an ended request
+ended-wants : (unit : Option ℕ) (request : Request) (answer : Answer) → option_map_or task_wants (begun_task unit request (Ended answer)) Absent ≡ Ends
+ended-wants unit (Execute op) answer = refl
+ended-wants unit (Manage what noted) answer = refl
+
+ended-answer : (unit : Option ℕ) (tag : ℕ) (request : Request) (answer : Answer)
+    → option_and_then (task_answer tag) (begun_task unit request (Ended answer)) ≡ Some (answer_unit tag request answer)
+ended-answer unit tag (Execute op) answer = refl
+ended-answer unit tag (Manage what noted) answer = refl
+
 ended-task : (state : Shared) (world : World) (place : Place) (entry : Entry) (answer : Answer) → IsPlaced state world place entry
-    → entry.task.phase ≡ Begun (Ended answer) → task_of world.device (tag_of place) ≡ Some (EndedTask (Some place.client) (StatusAnswer answer))
+    → entry.task.phase ≡ Begun (Ended answer)
+    → task_of world.device (tag_of place) ≡ begun_task (Some place.client) entry.task.request (Ended answer)
 ended-task state world place entry answer at ended =
     at.cell.task ∙ ap (λ p. phase_task (Some place.client) entry.task.request p) ended
-    ∙ ap (λ r. begun_task (Some place.client) r (Ended answer)) (asked_op entry.task.request at.matched.here.sound.asks).1
 
 -- the world after the answer of a place was handed over
 abbrev pub sent_world : World → Place → List ℕ → World
@@ -203,24 +220,33 @@ sent_world world place text = record world {
 
 pub sent-is : (state : Shared) (world : World) (place : Place) (entry : Entry) (answer : Answer) → IsPlaced state world place entry → Fits state world
     → entry.task.phase ≡ Begun (Ended answer) → is_open state.status (tag_of place) ≡ true
-    → sent_by world.controller (sides_in world) (tag_of place) ≡ (sides_in (sent_world world place (answer_text (tag_of place) answer)), ActedOn (tag_of place))
+    → sent_by world.controller (sides_in world) (tag_of place)
+    ≡ (sides_in (sent_world world place (answer_text (tag_of place) entry.task.request answer)), ActedOn (tag_of place))
 sent-is state world place entry answer at fits ended opened =
     let tag = tag-bounds state world place entry at fits in
-    let text : List ℕ = answer_text (tag_of place) answer in
     let ready : IsStatusReady state world place entry = status-ready state world place entry answer at ended in
-    let ring : Ring = stream_ring world.lines.status (tag_of place) in
     let armed : is_armed world.controller world.lines Status (tag_of place) ≡ true =
     status-armed state world place entry at fits ready ∙ ap (λ b. b && true) opened in
-    let step = on_front (sides_in world) (sent_at (sides_in world) (tag_of place) (answer_text (tag_of place) answer)) in
     ap (λ t. sent_as world.controller (sides_in world) (tag_of place) (option_map_or task_wants t Absent) (option_and_then (task_answer (tag_of place)) t))
     (ended-task state world place entry answer at ended)
-    ∙ ap (λ b. on_front (sides_in world) (sent_at (sides_in world) (tag_of place) (answer_text (tag_of place) answer))
+    ∙ ap (λ w. sent_as world.controller (sides_in world) (tag_of place) w
+    (option_and_then (task_answer (tag_of place)) (begun_task (Some place.client) entry.task.request (Ended answer))))
+    (ended-wants (Some place.client) entry.task.request answer)
+    ∙ ap (sent_as world.controller (sides_in world) (tag_of place) Ends) (ended-answer (Some place.client) (tag_of place) entry.task.request answer)
+    ∙ ap (λ text. on_front (sides_in world) (sent_at (sides_in world) (tag_of place) text)
+    (cond (is_armed world.controller world.lines Status (tag_of place)) (room_front world.lines Status (tag_of place)) None))
+    (sym (answer-unit (tag_of place) entry.task.request answer))
+    ∙ ap (λ b. on_front (sides_in world) (sent_at (sides_in world) (tag_of place) (answer_text (tag_of place) entry.task.request answer))
     (cond b (room_front world.lines Status (tag_of place)) None)) armed
-    ∙ ap (λ b. on_front (sides_in world) (sent_at (sides_in world) (tag_of place) (answer_text (tag_of place) answer))
+    ∙ ap (λ b. on_front (sides_in world) (sent_at (sides_in world) (tag_of place) (answer_text (tag_of place) entry.task.request answer))
     (cond b (front_of STREAM_RING_PLACES (stream_ring world.lines.status (tag_of place))) None)) (event-room state world fits)
-    ∙ ap (on_front (sides_in world) (sent_at (sides_in world) (tag_of place) (answer_text (tag_of place) answer))) ready.front
-    ∙ ap (λ frames. (record (sides_in (sent_world world place (answer_text (tag_of place) answer))) { frames = frames }, ActedOn (tag_of place)))
-    (status-written world.frames (tag_of place) (answer_text (tag_of place) answer) fits.sound.frames tag.0 tag.1 (answer-most (tag_of place) answer))
+    ∙ ap (on_front (sides_in world) (sent_at (sides_in world) (tag_of place) (answer_text (tag_of place) entry.task.request answer))) ready.front
+    ∙ ap (λ frames. (
+      record (sides_in (sent_world world place (answer_text (tag_of place) entry.task.request answer))) { frames = frames },
+      ActedOn (tag_of place),
+    ))
+    (status-written world.frames (tag_of place) (answer_text (tag_of place) entry.task.request answer) fits.sound.frames tag.0 tag.1
+    (answer-most (tag_of place) entry.task.request answer))
 
 -- THE CELL
 
@@ -233,11 +259,11 @@ sent_cell cell text = record cell { task = None; status = taken_ring cell.status
 pub cell-sent : (client count : ℕ) (place : Place) (entry : Entry) (answer : Answer) (cell : Cell) → entry.task.phase ≡ Begun (Ended answer)
     → entry.status_td ≡ pushed
     → FitsCell client count place entry cell
-    → FitsCell client count place (sent_to entry answer) (sent_cell cell (answer_text (tag_of place) answer))
+    → FitsCell client count place (sent_to entry answer) (sent_cell cell (answer_text (tag_of place) entry.task.request answer))
 cell-sent client count place entry answer cell ended td fits = record {
   held = fits.held
-      ∙ ap (λ p. Some (record (host_side entry) { told = told_by p entry.status_td.state })) ended
-      ∙ ap (λ t. Some (record (host_side entry) { told = t })) (sym (ap (λ t. told_sent answer t.state) td));
+      ∙ ap (λ p. Some (record (host_side entry) { told = told_by entry.task.request p entry.status_td.state })) ended
+      ∙ ap (λ t. Some (record (host_side entry) { told = t })) (sym (ap (λ t. told_sent entry.task.request answer t.state) td));
   task = refl;
   status =
       let holds : HoldsTrbs cell.status (status_td (tag_of place)) 0 = subst (λ t. HoldsTd cell.status (status_td (tag_of place)) t) td fits.status in
@@ -245,9 +271,9 @@ cell-sent client count place entry answer cell ended td fits = record {
   data_in = fits.data_in;
   data_out = fits.data_out;
   lent = fits.lent;
+  bytes = fits.bytes;
   unit = fits.unit;
-  answer = text-begins cell.buffers.status (answer_text (tag_of place) answer);
-  answerable = fits.answerable;
+  answer = text-begins cell.buffers.status (answer_text (tag_of place) entry.task.request answer);
   sound = sound_sent entry.task.request fits.sound;
 }
   where
@@ -286,43 +312,43 @@ sent-others world place text other at inside apart =
 -- THE QUEUES
 
 -- the event of the status TD, as the cell tells it afterwards
-sent-text : (world : World) (place : Place) (answer : Answer) (k : ℕ) → IsSoundWorld world → 1 ≤ tag_of place → tag_of place ≤ 248
+sent-text : (world : World) (place : Place) (request : Request) (answer : Answer) (k : ℕ) → IsSoundWorld world → IsRequestIn place.slot request
+    → 1 ≤ tag_of place → tag_of place ≤ 248
     → (stream_ring world.lines.status (tag_of place)).put ≡ status_td (tag_of place)
-    → event_texts (sent_world world place (answer_text (tag_of place) answer)) k (StatusDone place ∷ [])
+    → event_texts (sent_world world place (answer_text (tag_of place) request answer)) k (StatusDone place ∷ [])
     ≡ Transfer (pointer_of STREAM_RING_PLACES (stream_ring world.lines.status (tag_of place)) 0)
-    (STATUS_LENGTH - length (answer_text (tag_of place) answer)) SHORT_PACKET (endpoint_of Status) SLOT ∷ []
-sent-text world place answer k sound some most put =
-    let text : List ℕ = answer_text (tag_of place) answer in
-    let ring : Ring = stream_ring world.lines.status (tag_of place) in
-    ap (λ (c : Cell). status_event c.status c.buffers.status ∷ []) (sent-here world place (answer_text (tag_of place) answer) sound some most)
+    (STATUS_LENGTH - length (answer_text (tag_of place) request answer)) SHORT_PACKET (endpoint_of Status) SLOT ∷ []
+sent-text world place request answer k sound asks some most put =
+    ap (λ (c : Cell). status_event place.slot c.status c.buffers.status ∷ [])
+    (sent-here world place (answer_text (tag_of place) request answer) sound some most)
     ∙ ap (λ trbs. Transfer (pointer_of STREAM_RING_PLACES (stream_ring world.lines.status (tag_of place)) (length trbs - 1))
-    (STATUS_LENGTH - unit_len (with_bytes_at (held_for world.frames (tag_of place)).status 0 (answer_text (tag_of place) answer))) SHORT_PACKET
-    (endpoint_of Status) SLOT ∷ []) put
+    (STATUS_LENGTH - unit_len place.slot (with_bytes_at (held_for world.frames (tag_of place)).status 0 (answer_text (tag_of place) request answer)))
+    SHORT_PACKET (endpoint_of Status) SLOT ∷ []) put
     ∙ ap (λ n. Transfer (pointer_of STREAM_RING_PLACES (stream_ring world.lines.status (tag_of place)) 0) (STATUS_LENGTH - n) SHORT_PACKET
     (endpoint_of Status) SLOT ∷ [])
-    (answer-len (tag_of place) answer (held_for world.frames (tag_of place)).status)
+    (answer-len (tag_of place) place.slot request answer (held_for world.frames (tag_of place)).status asks)
 
-pub sent-queues : (state : Shared) (world : World) (place : Place) (answer : Answer) (part : Part) (new : Entry) → Fits state world → place.slot < TAGS
+pub sent-queues : (state : Shared) (world : World) (place : Place) (request : Request) (answer : Answer) (part : Part) (new : Entry) → Fits state world
+    → place.slot < TAGS → IsRequestIn place.slot request
     → 1 ≤ tag_of place → tag_of place ≤ 248 → (stream_ring world.lines.status (tag_of place)).put ≡ status_td (tag_of place)
     → status_events place state.events ≡ 0
     → FitsQueues (acted_state state place part part.unit new state.messages (StatusDone place ∷ []))
-    (sent_world world place (answer_text (tag_of place) answer))
-sent-queues state world place answer part new fits within some most put none =
-    let after : World = sent_world world place (answer_text (tag_of place) answer) in
+    (sent_world world place (answer_text (tag_of place) request answer))
+sent-queues state world place request answer part new fits within asks some most put none =
     let event : Event = Transfer (pointer_of STREAM_RING_PLACES (stream_ring world.lines.status (tag_of place)) 0)
-    (STATUS_LENGTH - length (answer_text (tag_of place) answer)) SHORT_PACKET (endpoint_of Status) SLOT in
+    (STATUS_LENGTH - length (answer_text (tag_of place) request answer)) SHORT_PACKET (endpoint_of Status) SLOT in
     let more : carried_places (state.events ++ StatusDone place ∷ []) ≡ carried_places state.events =
     carried_places-append state.events (StatusDone place ∷ []) ∙ append-nil (carried_places state.events) in
-    let kept : event_texts (sent_world world place (answer_text (tag_of place) answer)) 0 state.events ≡ event_texts world 0 state.events =
-    event_texts-one state world (sent_world world place (answer_text (tag_of place) answer)) place 0 fits.matched within (refl, refl) refl
-    (sent-others world place (answer_text (tag_of place) answer)) (λ waits. (refl, refl)) (λ waits. absurd (omega (arith, waits, none))) in
+    let kept : event_texts (sent_world world place (answer_text (tag_of place) request answer)) 0 state.events ≡ event_texts world 0 state.events =
+    event_texts-one state world (sent_world world place (answer_text (tag_of place) request answer)) place 0 fits.matched within (refl, refl) refl
+    (sent-others world place (answer_text (tag_of place) request answer)) (λ waits. (refl, refl)) (λ waits. absurd (omega (arith, waits, none))) in
     record {
       put = fits.queues.put ∙ ap (λ ps. map command_trb (ps ++ state.messages)) (sym more);
       got = fits.queues.got ∙ ap length (sym more);
       texts = ap (λ es. es ++ event ∷ []) (fits.queues.texts ∙ sym kept)
-          ∙ ap (λ es. event_texts (sent_world world place (answer_text (tag_of place) answer)) 0 state.events ++ es)
-          (sym (sent-text world place answer (0 + length (carried_places state.events)) fits.sound some most put))
-          ∙ sym (event_texts-append (sent_world world place (answer_text (tag_of place) answer)) 0 state.events (StatusDone place ∷ []));
+          ∙ ap (λ es. event_texts (sent_world world place (answer_text (tag_of place) request answer)) 0 state.events ++ es)
+          (sym (sent-text world place request answer (0 + length (carried_places state.events)) fits.sound asks some most put))
+          ∙ sym (event_texts-append (sent_world world place (answer_text (tag_of place) request answer)) 0 state.events (StatusDone place ∷ []));
     }
 
 -- THE STEP
@@ -339,8 +365,8 @@ sent-ends state world place text sound some most DataOut streams left = record {
 
 sent-acted : (state : Shared) (world : World) (place : Place) (entry : Entry) (answer : Answer) (at : IsPlaced state world place entry) → Fits state world
     → entry.task.phase ≡ Begun (Ended answer) → status_events place state.events ≡ 0
-    → IsActed state world (sent_world world place (answer_text (tag_of place) answer)) place at.part at.part.unit (sent_to entry answer) state.messages
-    (StatusDone place ∷ [])
+    → IsActed state world (sent_world world place (answer_text (tag_of place) entry.task.request answer)) place at.part at.part.unit
+    (sent_to entry answer) state.messages (StatusDone place ∷ [])
 sent-acted state world place entry answer at fits ended none =
     let tag = tag-bounds state world place entry at fits in
     let ready : IsStatusReady state world place entry = status-ready state world place entry answer at ended in
@@ -350,13 +376,14 @@ sent-acted state world place entry answer at fits ended none =
       engine = refl;
       units = sym (slice_get-back world.device.units place.client at.part.unit at.client.unit_is);
       tasks = λ other apart. held_under-with_other world.device.tasks (tag_of place) other None apart;
-      others = sent-others world place (answer_text (tag_of place) answer);
-      ends = sent-ends state world place (answer_text (tag_of place) answer) fits.sound tag.0 tag.1;
+      others = sent-others world place (answer_text (tag_of place) entry.task.request answer);
+      ends = sent-ends state world place (answer_text (tag_of place) entry.task.request answer) fits.sound tag.0 tag.1;
       count = refl;
       cell = subst (λ c. FitsCell place.client at.part.unit.count place (sent_to entry answer) c)
-          (sym (sent-here world place (answer_text (tag_of place) answer) fits.sound tag.0 tag.1))
+          (sym (sent-here world place (answer_text (tag_of place) entry.task.request answer) fits.sound tag.0 tag.1))
           (cell-sent place.client at.part.unit.count place entry answer (cell_at world place) ended ready.td at.cell);
-      queues = sent-queues state world place answer at.part (sent_to entry answer) fits at.is_place.slot tag.0 tag.1 ready.ring.0 none;
+      queues = sent-queues state world place entry.task.request answer at.part (sent_to entry answer) fits at.is_place.slot at.matched.here.sound.asks
+          tag.0 tag.1 ready.ring.0 none;
     }
 
 -- the shared machine's step
@@ -378,13 +405,15 @@ status-at state world place entry answer at fits is_due named ended opened =
     let stepped = status-stepped state place at.part entry answer is_due named at.there at.held ended in
     record {
       own = subst (λ t. IsOwnStatusFront world.lines world.frames (tag_of place) (option_and_then (task_answer (tag_of place)) t))
-          (sym (ended-task state world place entry answer at ended)) (status-own state world place entry answer at fits ready);
+          (sym (ended-task state world place entry answer at ended))
+          (subst (IsOwnStatusFront world.lines world.frames (tag_of place))
+          (sym (ended-answer (Some place.client) (tag_of place) entry.task.request answer)) (status-own state world place entry answer at fits ready));
       acted = ap (λ c. c.1) called;
       fits = λ sound.
           subst (λ s. Fits s (status_world world (tag_of place))) (sym stepped)
           (subst (λ (c : Sides × Acted). Fits
           (acted_state state place at.part at.part.unit (sent_to entry answer) state.messages (StatusDone place ∷ [])) (with_sides world c.0)) (sym called)
-          (acted-fits state world (sent_world world place (answer_text (tag_of place) answer)) place entry
+          (acted-fits state world (sent_world world place (answer_text (tag_of place) entry.task.request answer)) place entry
           (sent_to entry answer) at.part.unit state.messages (StatusDone place ∷ []) at fits
           (sent-acted state world place entry answer at fits ended (matched-no_status_event state fits.matched (tag_of place) place named is_due))
           (subst IsMatched stepped (shared_step-matched state (StatusStep (tag_of place)) fits.matched))
@@ -420,33 +449,41 @@ IsTold world tag task is_due =
     × IsOwnStatusFront world.lines world.frames tag (option_and_then (task_answer tag) task)
 
 told-ended : (state : Shared) (world : World) (place : Place) (entry : Entry) (answer : Answer) → IsPlaced state world place entry → Fits state world
-    → IsStatusReady state world place entry
-    → IsTold world (tag_of place) (Some (EndedTask (Some place.client) (StatusAnswer answer)))
+    → entry.task.phase ≡ Begun (Ended answer)
+    → IsTold world (tag_of place) (begun_task (Some place.client) entry.task.request (Ended answer))
     (is_open state.status (tag_of place) && has_trb entry.status_td 1)
-told-ended state world place entry answer at fits ready = (
-  status-due state world place entry ready ∙ sym (status-armed state world place entry at fits ready),
-  status-own state world place entry answer at fits ready,
-)
+told-ended state world place entry answer at fits ended =
+    let ready : IsStatusReady state world place entry = status-ready state world place entry answer at ended in (
+      status-due state world place entry ready ∙ sym (status-armed state world place entry at fits ready)
+          ∙ ap (λ w. status_due_by world (tag_of place) w) (sym (ended-wants (Some place.client) entry.task.request answer)),
+      subst (IsOwnStatusFront world.lines world.frames (tag_of place))
+          (sym (ended-answer (Some place.client) (tag_of place) entry.task.request answer))
+          (status-own state world place entry answer at fits ready),
+    )
 
-told-at : (state : Shared) (world : World) (place : Place) (entry : Entry) (request : Request) (phase : Phase) → IsPlaced state world place entry
-    → Fits state world → IsCommandRequest request → entry.task.phase ≡ phase
-    → IsTold world (tag_of place) (phase_task (Some place.client) request phase)
+-- a task management moves no data
+told-moving : (world : World) (place : Place) (request : Request) (chunk : ℕ) → IsPhaseOf request (Begun (Moving chunk))
+    → IsTold world (tag_of place) (begun_task (Some place.client) request (Moving chunk)) false
+told-moving world place (Execute op) chunk answers =
+    (sym (moving-undue world (tag_of place) (chunk_bytes (moved_bytes op) chunk) (direction_of op)), tt)
+told-moving world place (Manage what noted) chunk answers = absurd answers
+
+told-at : (state : Shared) (world : World) (place : Place) (entry : Entry) (phase : Phase) → IsPlaced state world place entry
+    → Fits state world → IsPhaseOf entry.task.request phase → entry.task.phase ≡ phase
+    → IsTold world (tag_of place) (phase_task (Some place.client) entry.task.request phase)
     (is_ended phase && (is_open state.status (tag_of place) && has_trb entry.status_td 1))
-told-at state world place entry request Queued at fits command is = (refl, tt)
-told-at state world place entry (Execute op) (Begun (Moving chunk)) at fits command
-    is = (sym (moving-undue world (tag_of place) (chunk_bytes (moved_bytes op) chunk) (direction_of op)), tt)
-told-at state world place entry (Execute op) (Begun (Ended answer)) at fits command is = told-ended state world place entry answer at fits
-    (status-ready state world place entry answer at is)
-told-at state world place entry (Manage what noted) (Begun progress) at fits command is = absurd command
-told-at state world place entry request (Sent answer) at fits command is = (refl, tt)
-told-at state world place entry request Gone at fits command is = (refl, tt)
+told-at state world place entry Queued at fits answers is = (refl, tt)
+told-at state world place entry (Begun (Moving chunk)) at fits answers is = told-moving world place entry.task.request chunk answers
+told-at state world place entry (Begun (Ended answer)) at fits answers is = told-ended state world place entry answer at fits is
+told-at state world place entry (Sent answer) at fits answers is = (refl, tt)
+told-at state world place entry Gone at fits answers is = (refl, tt)
 
 told : (state : Shared) (world : World) (tag : ℕ) → Fits state world → IsTold world tag (task_of world.device tag) (due state (StatusStep tag))
 told state world tag fits =
     by-tag state world tag (status_is_due state tag) (IsTold world tag) fits (refl, tt)
     (λ place entry same at.
     subst (λ t. IsTold world t (device_task place.client entry) (status_is_due state t entry)) same
-    (told-at state world place entry entry.task.request entry.task.phase at fits at.matched.here.sound.asks refl))
+    (told-at state world place entry entry.task.phase at fits at.matched.here.sound.answers refl))
 
 pub statuses_due : StatusesAreDue
 statuses_due state world tag fits = let it = told state world tag fits in record { due = it.0; own = it.1 }

@@ -17,7 +17,7 @@ use Rattle.bus_core.specs.World.{World, cell_at}
 use Rattle.bus_core.specs.Fits.{Fits, place_in}
 use Rattle.bus_core.specs.WorldSteps.{FaultsAgree, fault_in}
 use Rattle.bus_core.proofs.Framing.{IsFound, found}
-use Rattle.bus_core.proofs.Refusals.{IsOwnSlot, command_slot-own}
+use Rattle.bus_core.proofs.OwnSlots.{IsOwnSlot, command_slot-own}
 use Rattle.bus_core.proofs.CellWrites.{client_of-found, clients-length, get-none, FitsHeld-some}
 
 -- the host's client of a part that is there finds the part's fault

@@ -3,10 +3,11 @@ use Rattle.std.proofs.Common.{◌≡◌, ℕ, ◌+◌, ◌-◌, ◌*◌, ◌/◌
 use Rattle.std.proofs.Common.{None, is_some, option_map, refl, arith, ap, sym, subst, ◌∙◌}
 use Rattle.std.specs.Prelude.{slice_get, slice_set, ◌==◌, if◌then◌else◌}
 use Rattle.std.specs.Option.{option_map_or}
-use Rattle.std.proofs.lemmas.Bool.{eqb-true, lt-ltb, le-leb, false≢true}
+use Rattle.std.proofs.lemmas.Bool.{eqb-true, lt-ltb, le-leb, ne_eqb, false≢true}
 use Rattle.std.proofs.lemmas.List.{length-map, map-append, append_assoc}
 use Rattle.std.proofs.lemmas.Option.{none-some}
 use Rattle.xhci_trb.specs.declared.Trb.{Trb}
+use Rattle.xhci_trb.specs.declared.Trb.TheVariants.{Normal}
 use Rattle.cycle_ring.specs.Ring.{Ring}
 use Rattle.event_ring.specs.Events.{Events}
 use Rattle.stream_array.specs.declared.Pipe.{Pipe}
@@ -20,7 +21,7 @@ use Rattle.scsi_cmd.specs.declared.Direction.TheVariants.{Nothing, ToHost, ToDev
 use Rattle.scsi_cmd.specs.declared.SubmitFault.{SubmitFault}
 use Rattle.scsi_cmd.specs.declared.SubmitFault.TheVariants.{NotYours}
 use Rattle.scsi_cmd.specs.declared.Request.TheVariants.{Execute}
-use Rattle.scsi_cmd.specs.declared.TheConstants.{TAGS}
+use Rattle.scsi_cmd.specs.declared.TheConstants.{TAGS, TASK_SLOT}
 use Rattle.scsi_cmd.specs.Held.{held_at}
 use Rattle.scsi_cmd.specs.Laws.{submit_fault-none}
 use Rattle.scsi_cmd.specs.Op.{direction_of, moved_bytes}
@@ -31,7 +32,7 @@ use Rattle.uas_host.specs.State.{client_of}
 use Rattle.uas_host.specs.Submit.{HasRoomFor, host_fault, fault_at as host_fault_at, new_entry as host_entry, data_td_for as host_data_td, slot_of}
 use Rattle.uas_host.specs.Submit.{submitted_client}
 use Rattle.uas_host.specs.Tags.{command_slot, tag_of}
-use Rattle.uas_host.specs.Tds.{HasDataRoom, command_td, data_td, data_trbs as trbs_from, status_td, put_on, with_data_td}
+use Rattle.uas_host.specs.Tds.{HasDataRoom, command_buffer_of, command_td, data_td, data_trbs as trbs_from, status_td, put_on, with_data_td}
 use Rattle.xhci_ctl.specs.Doorbells.{rung_by, rung_in, rung_on, pipe_at}
 use Rattle.xhci_ctl.specs.declared.PipeState.{PipeState}
 use Rattle.xhci_ctl.specs.Pipes.{ControllerState}
@@ -53,7 +54,7 @@ use Rattle.bus_core.proofs.MatchedBounds.{matched-room}
 use Rattle.bus_core.proofs.MatchedEntries.{unfaulted, IsUnfaulted}
 use Rattle.bus_core.proofs.MatchedNext.{accepted-trbs}
 use Rattle.bus_core.proofs.MatchedSteps.{shared_step-matched}
-use Rattle.bus_core.proofs.Refusals.{IsOwnSlot, command_slot-own}
+use Rattle.bus_core.proofs.OwnSlots.{IsOwnSlot, command_slot-own}
 use Rattle.bus_core.proofs.Standing.{slice_get-back}
 use Rattle.bus_core.proofs.SubmissionFaults.{fault_at-found}
 
@@ -265,6 +266,12 @@ data_out-holds lines ToDevice tag bytes some within holds =
     holds_pushed (stream_ring (lines_after lines ToDevice tag bytes).data_out tag) tag bytes
     (put_empty lines.data_out tag (data_td tag bytes) some within holds)
 
+-- the command TRB of a command slot has the 32 bytes of a Command unit
+command_trb-command : (client slot : ℕ) → slot < TASK_SLOT → command_trb (place_in client slot) ∷ [] ≡ command_td (tag_of (place_in client slot))
+command_trb-command client slot below =
+    let other : (slot == TASK_SLOT) ≡ false = ne_eqb slot TASK_SLOT (λ same. omega (arith, same, below)) in
+    ap (λ b. Normal (command_buffer_of (tag_of (place_in client slot))) (cond b 16 32) 0 (record { 0 = 16 }) ∷ []) other
+
 -- ROOM
 
 data_room : (lines : LinesState) (way : Direction) (tag bytes : ℕ) → (bytes + 4095) / 4096 ≤ 16 → HoldsTrbs (stream_ring lines.data_in tag) [] 0
@@ -290,6 +297,7 @@ host_entry-side ticket command = ap (λ td. record (host_entry ticket command.op
 record IsFreeAt (state : Shared) (world : World) (client slot ticket : ℕ) (command : Command) (part : Part) : Type 0 where
   there : slice_get state.parts client ≡ Some part
   within : slot < TAGS
+  below : slot < TASK_SLOT
   few : client < 31
   it : IsFound world client part
   none : held_at part.entries slot ≡ None
@@ -313,6 +321,7 @@ free-at state world client tag ticket command at fits =
     record {
       there = at.there;
       within = within;
+      below = at.own.within;
       few = omega (arith, at.own.there, fits.most_clients);
       it = it;
       none = none;
@@ -391,9 +400,9 @@ submit-cell state world client slot ticket command part free fits =
       data_out = data_out-holds world.lines (direction_of command.op) tag (moved_bytes command.op) some
           (omega (arith, most, fits.sound.lines.data_out)) free.empty.data_out;
       lent = ap (λ (b : TagBuffers). b.lent) buffers_is;
+      bytes = tt;
       unit = ap (λ (b : TagBuffers). b.command) buffers_is;
       answer = tt;
-      answerable = tt;
       sound = record { whole = free.whole; chunk = tt };
     }
 
@@ -408,6 +417,7 @@ submit-queues state world client slot ticket command part free fits =
     let lines_is = lines-command world.lines (direction_of command.op) tag (moved_bytes command.op) in
     record {
       put = ap (λ (r : Ring). r.put) lines_is ∙ ap (λ ts. ts ++ command_td tag) fits.queues.put
+          ∙ ap (λ ts. map command_trb (carried_places state.events ++ state.messages) ++ ts) (sym (command_trb-command client slot free.below))
           ∙ sym (map-append command_trb (carried_places state.events ++ state.messages) (place ∷ []))
           ∙ ap (map command_trb) (append_assoc (carried_places state.events) state.messages (place ∷ []))
           ∙ ap (λ es. map command_trb (carried_places es ++ (state.messages ++ place ∷ []))) (sym events_is);

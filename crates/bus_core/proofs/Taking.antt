@@ -1,4 +1,5 @@
--- A reply is the shared machine's, and the world after it fits the shared machine after it.
+-- A reply is the shared machine's, and the world after it fits the shared machine after it: the status of a command or that it was aborted, each
+-- with the vector that the client lent, and the response to a task management, which lent none. Cited by the law takes_fit and by the steps.
 use Rattle.std.proofs.Common.{◌≡◌, ℕ, ◌<◌, ◌≤◌, true, false, cond, List, [], ◌∷◌, ◌++◌, length, length-set, map, Option, Some, None, refl, arith, ap, sym}
 use Rattle.std.proofs.Common.{subst, ◌∙◌}
 use Rattle.std.specs.Prelude.{slice_get, option_and_then, ◌&&◌}
@@ -14,43 +15,45 @@ use Rattle.scsi_cmd.specs.declared.Direction.TheVariants.{Nothing, ToHost, ToDev
 use Rattle.scsi_cmd.specs.declared.Reply.{Reply}
 use Rattle.scsi_cmd.specs.declared.Request.{Request}
 use Rattle.scsi_cmd.specs.declared.Request.TheVariants.{Execute, Manage}
-use Rattle.scsi_cmd.specs.declared.Reply.TheVariants.{Status as StatusReply}
+use Rattle.scsi_cmd.specs.declared.Reply.TheVariants.{Aborted, Status as StatusReply, Task as TaskReply}
+use Rattle.scsi_cmd.specs.declared.Op.{Op}
+use Rattle.scsi_cmd.specs.declared.Task.{Task}
+use Rattle.arrayvec.specs.ArrayVec.{ArrayVec}
 use Rattle.scsi_cmd.specs.declared.TheConstants.{TAGS}
 use Rattle.scsi_cmd.specs.Held.{held_at}
 use Rattle.device_server.specs.declared.Answer.{Answer}
-use Rattle.solo_model.specs.declared.Phase.TheVariants.{Sent}
+use Rattle.solo_model.specs.declared.Phase.{Phase}
+use Rattle.solo_model.specs.declared.Phase.TheVariants.{Queued, Begun, Sent, Gone}
 use Rattle.device_server.specs.Server.{status_of, sense_of}
-use Rattle.solo_model.specs.TaggedTask.{answered_by, reply_from}
+use Rattle.solo_model.specs.TaggedTask.{aborted_by, answered_by, reply_from}
 use Rattle.uas_host.specs.declared.Place.{Place}
 use Rattle.uas_host.specs.declared.TdState.{TdState}
 use Rattle.uas_host.specs.declared.TdState.TheVariants.{Pending, Seen, LeftOver, Retired}
-use Rattle.uas_host.specs.declared.Told.TheVariants.{Status as ToldStatus}
+use Rattle.uas_host.specs.declared.Told.TheVariants.{Response as ToldResponse, Status as ToldStatus}
 use Rattle.uas_host.specs.declared.HostClient.{HostClient}
-use Rattle.uas_host.specs.declared.HostEntry.{HostEntry}
 use Rattle.uas_host.specs.State.{client_of, new_client, with_client}
-use Rattle.uas_host.specs.Replies.{Given, command_reply, given, no_reply, replied, replied_first, reply_of, reply_to, slot_reply, status_reply, without}
+use Rattle.uas_host.specs.Replies.{Given, command_reply, given, no_reply, replied, replied_first, reply_of, reply_to, slot_reply, status_reply, task_reply}
+use Rattle.uas_host.specs.Replies.{without, without_lent}
 use Rattle.uas_host.specs.Tags.{tag_of}
 use Rattle.uas_host.specs.Tds.{data_td, status_td}
 use Rattle.bus_core.specs.declared.Td.{Td}
 use Rattle.bus_core.specs.declared.Step.TheVariants.{Take}
-use Rattle.bus_core.specs.Td.{Entry, is_over, is_data_over, is_ready, is_seen}
+use Rattle.bus_core.specs.Td.{Entry, is_over, is_data_over, is_seen, pushed}
 use Rattle.bus_core.specs.Part.{Part, entry_reply, settled, slot_tag, take_act, taken}
-use Rattle.bus_core.specs.Shared.{Shared, due, due_step, has_ready, idle, is_some_of, request_direction, routed, routed_to, shared_step}
+use Rattle.bus_core.specs.Shared.{Shared, acted_on, due, due_step, has_ready, idle, is_some_of, request_direction, routed, routed_to, shared_step}
 use Rattle.bus_core.specs.Soundness.{readied_of, times_in}
-use Rattle.bus_core.specs.Matched.{IsCommandRequest, IsMatched, carried_places, held_in, request_bytes, under}
+use Rattle.bus_core.specs.Matched.{IsAwaitedOrSeen, IsGivenUp, IsMatched, IsMatchedEntry, IsPhaseOf, IsStatusTd, carried_places, held_in, request_bytes, under}
 use Rattle.bus_core.specs.Hosts.{phase_task}
 use Rattle.bus_core.specs.World.{World, cell_at}
-use Rattle.bus_core.specs.Cells.{HoldsIn, HoldsTrbs, HoldsData, FitsCell, FitsHeld, IsEmptyCell, data_in_td, data_out_td, host_side, told_by, told_sent}
-use Rattle.bus_core.specs.Cells.{IsAwaitedOrSeen}
+use Rattle.bus_core.specs.Cells.{HoldsIn, HoldsTrbs, HoldsData, FitsCell, FitsHeld, IsEmptyCell, data_in_td, data_out_td, host_side, lent_for, told_by}
 use Rattle.bus_core.specs.Fits.{Fits, FitsQueues, IsSoundWorld, command_trb, event_texts, place_in}
 use Rattle.bus_core.specs.WorldSteps.{TakeFits, TakesFit, TakeIsIdle, take_world}
 use Rattle.bus_core.proofs.CellWrites.{client_of-found, entry_at-same, entry_at-other, clients-length, get-none, get-within, held_for-same, held_for-other}
 use Rattle.bus_core.proofs.CellWrites.{index-past}
 use Rattle.bus_core.proofs.EventTexts.{KeepsOthers, event_texts-one}
 use Rattle.bus_core.proofs.Framing.{AllFit-set, FitsPart-set, ChangesCell, IsFound, engine-kept, found}
-use Rattle.bus_core.proofs.MatchedEntries.{IsQuiet, asked_op, ready-quiet}
 use Rattle.bus_core.proofs.MatchedPlaces.{and-true, held-within}
-use Rattle.bus_core.proofs.MatchedSteps.{IsFirstReady, first-ready, IsHeld, matched-held, settled_part, settled_state, take_step-held, times_ready-there}
+use Rattle.bus_core.proofs.MatchedSteps.{IsFirstReady, first-ready, IsHeld, matched-held, settled_part, settled_state, times_ready-there}
 use Rattle.bus_core.proofs.MatchedSteps.{shared_step-matched}
 use Rattle.bus_core.proofs.Standing.{slice_get-back}
 
@@ -89,11 +92,8 @@ record IsReadyAt (state : Shared) (world : World) (client slot : ℕ) (rest : Li
   it : IsFound world client part
   within : slot < TAGS
   entry : Entry
-  answer : Answer
   held : held_at part.entries slot ≡ Some entry
-  ready : is_ready entry ≡ true
-  asks : IsCommandRequest entry.task.request
-  sent : entry.task.phase ≡ Sent answer
+  matched : IsMatchedEntry slot entry
   cell : FitsCell client part.unit.count (place_in client slot) entry (cell_at world (place_in client slot))
   status_over : is_over entry.status_td.state ≡ true
   data_over : is_data_over entry.data_td ≡ true
@@ -107,7 +107,6 @@ ready-at state world client slot rest part fits there queue =
     let first : IsFirstReady (under state.parts place) slot rest = first-ready (under state.parts place) slot rest counted in
     let at : IsHeld state place first.entry = matched-held state place first.entry fits.matched first.is in
     let held : held_at part.entries slot ≡ Some first.entry = sym (ap (λ found. option_map_or (held_in place) found None) there) ∙ first.is in
-    let quiet : IsQuiet first.entry = ready-quiet first.entry first.ready at.here.sound in
     let it : IsFound world client part = found world state.parts client part fits.clients there in
     let within : slot < TAGS = omega (arith, held-within part.entries slot first.entry held, it.fits.slots) in
     let over = and-true (is_over first.entry.status_td.state) (is_data_over first.entry.data_td)
@@ -118,11 +117,8 @@ ready-at state world client slot rest part fits there queue =
       it = it;
       within = within;
       entry = first.entry;
-      answer = quiet.answered.answer;
       held = held;
-      ready = first.ready;
-      asks = at.here.sound.asks;
-      sent = quiet.answered.is;
+      matched = at.here.sound;
       cell = subst (λ o. FitsHeld client part.unit.count place o (cell_at world place)) held (it.fits.cells slot within);
       status_over = over.0;
       data_over = over.1;
@@ -130,58 +126,138 @@ ready-at state world client slot rest part fits there queue =
 
 -- THE REPLY
 
--- a status TD that is over was seen
+-- the buffers once the request under a tag was replied to: the vector of a command goes back
+abbrev frames_given : Request → List TagBuffers → ℕ → List TagBuffers
+frames_given (Execute op) frames tag = with_lent frames tag None
+frames_given (Manage what noted) frames tag = frames
+
+-- the reply of an entry, which the host gives too
+record IsReplied (tag : ℕ) (entry : Entry) : Type 0 where
+  reply : Reply
+  shared : entry_reply tag entry ≡ Some reply
+  host : reply_of tag (lent_for entry.task.request entry.task.buffer) (host_side entry) ≡ Some reply
+  frames : (frames : List TagBuffers) → without_lent frames tag reply ≡ frames_given entry.task.request frames tag
+
+-- the status TD of an answer that was handed over was seen, once it is over
 over-seen : (state : TdState) → IsAwaitedOrSeen state → is_over state ≡ true → state ≡ Seen
 over-seen Pending kept over = absurd (false≢true over)
 over-seen Seen kept over = refl
 over-seen LeftOver kept over = absurd kept
 over-seen Retired kept over = absurd kept
 
-abbrev reply_at : ℕ → ℕ → Entry → Answer → Reply
-reply_at client slot entry answer =
-    StatusReply (tag_of (place_in client slot)) entry.task.ticket (status_of answer) (record { items = sense_of answer }) entry.task.buffer
+-- and that of a command that is gone was retired
+over-retired : (consumed : ℕ) (state : TdState) → IsGivenUp consumed state → is_over state ≡ true → state ≡ Retired
+over-retired consumed Pending given over = absurd (false≢true over)
+over-retired consumed Seen given over = absurd given
+over-retired consumed LeftOver given over = absurd (false≢true over)
+over-retired consumed Retired given over = refl
 
--- what the bus hands the host is answered as a command
-command-replies : (tag : ℕ) (held : HostEntry) (lent : Option (List ℕ)) (request : Request) → IsCommandRequest request
-    → reply_to tag held lent request ≡ option_and_then (command_reply tag held.ticket held.told held.status_td) lent
-command-replies tag held lent (Execute op) command = refl
-command-replies tag held lent (Manage what noted) command = absurd command
+pushed-over : (td : Td) → td ≡ pushed → is_over td.state ≡ true → ⊥
+pushed-over td is over = false≢true (sym (ap (λ (t : Td). is_over t.state) is) ∙ over)
+
+-- the host's reply to a command, by its status TD
+command-host : (tag : ℕ) (entry : Entry) (op : Op) (state : TdState) → entry.task.request ≡ Execute op → entry.status_td.state ≡ state
+    → reply_of tag (lent_for entry.task.request entry.task.buffer) (host_side entry)
+    ≡ command_reply tag entry.task.ticket (told_by entry.task.request entry.task.phase state) state entry.task.buffer
+command-host tag entry op state asks is =
+    ap (λ r. reply_to tag (host_side entry) (lent_for r entry.task.buffer) r) asks
+    ∙ ap (λ s. command_reply tag entry.task.ticket (told_by entry.task.request entry.task.phase s) s entry.task.buffer) is
+
+status-replied : (tag : ℕ) (entry : Entry) (op : Op) (answer : Answer) → entry.task.request ≡ Execute op → entry.task.phase ≡ Sent answer
+    → entry.status_td.state ≡ Seen → IsReplied tag entry
+status-replied tag entry op answer asks sent seen =
+    let told : told_by entry.task.request entry.task.phase Seen ≡ ToldStatus (status_of answer) (record { items = sense_of answer }) =
+    ap (λ p. told_by entry.task.request p Seen) sent ∙ ap (λ r. told_by r (Sent answer) Seen) asks in
+    record {
+      reply = StatusReply tag entry.task.ticket (status_of answer) (record { items = sense_of answer }) entry.task.buffer;
+      shared = ap (λ phase. reply_from tag entry.task phase) sent
+          ∙ ap (λ r. Some (answered_by tag entry.task.ticket entry.task.buffer answer r)) asks;
+      host = command-host tag entry op Seen asks seen ∙ ap (λ t. status_reply tag entry.task.ticket entry.task.buffer t) told;
+      frames = λ frames. ap (λ r. frames_given r frames tag) (sym asks);
+    }
+
+aborted-replied : (tag : ℕ) (entry : Entry) (op : Op) → entry.task.request ≡ Execute op → entry.task.phase ≡ Gone → entry.status_td.state ≡ Retired
+    → IsReplied tag entry
+aborted-replied tag entry op asks gone retired = record {
+  reply = Aborted tag entry.task.ticket entry.task.buffer;
+  shared = ap (λ phase. reply_from tag entry.task phase) gone ∙ ap (λ r. aborted_by tag entry.task.ticket entry.task.buffer r) asks;
+  host = command-host tag entry op Retired asks retired;
+  frames = λ frames. ap (λ r. frames_given r frames tag) (sym asks);
+}
+
+task-replied : (tag : ℕ) (entry : Entry) (what : Task) (noted : ArrayVec ℕ) (answer : Answer) → entry.task.request ≡ Manage what noted
+    → entry.task.phase ≡ Sent answer → entry.status_td.state ≡ Seen → IsReplied tag entry
+task-replied tag entry what noted answer asks sent seen =
+    let told : told_by entry.task.request entry.task.phase entry.status_td.state ≡ ToldResponse 0 =
+    ap (told_by entry.task.request entry.task.phase) seen ∙ ap (λ p. told_by entry.task.request p Seen) sent ∙ ap (λ r. told_by r (Sent answer) Seen) asks in
+    record {
+      reply = TaskReply tag entry.task.ticket 0;
+      shared = ap (λ phase. reply_from tag entry.task phase) sent
+          ∙ ap (λ r. Some (answered_by tag entry.task.ticket entry.task.buffer answer r)) asks;
+      host = ap (λ r. reply_to tag (host_side entry) (lent_for r entry.task.buffer) r) asks ∙ ap (task_reply tag entry.task.ticket) told;
+      frames = λ frames. ap (λ r. frames_given r frames tag) (sym asks);
+    }
+
+replied-by_phase : (tag : ℕ) (entry : Entry) (request : Request) (phase : Phase) → entry.task.request ≡ request → entry.task.phase ≡ phase
+    → IsPhaseOf request phase → IsStatusTd phase entry.status_td → is_over entry.status_td.state ≡ true → IsReplied tag entry
+replied-by_phase tag entry request Queued asks at answers td over = absurd (pushed-over entry.status_td td over)
+replied-by_phase tag entry request (Begun progress) asks at answers td over = absurd (pushed-over entry.status_td td over)
+replied-by_phase tag entry (Execute op) (Sent answer) asks at answers td over =
+    status-replied tag entry op answer asks at (over-seen entry.status_td.state td.1 over)
+replied-by_phase tag entry (Execute op) Gone asks at answers td over =
+    aborted-replied tag entry op asks at (over-retired entry.status_td.consumed entry.status_td.state td over)
+replied-by_phase tag entry (Manage what noted) (Sent answer) asks at answers td over =
+    task-replied tag entry what noted answer asks at (over-seen entry.status_td.state td.1 over)
+replied-by_phase tag entry (Manage what noted) Gone asks at answers td over = absurd answers
+
+entry-replied : (tag slot : ℕ) (entry : Entry) → IsMatchedEntry slot entry → is_over entry.status_td.state ≡ true → IsReplied tag entry
+entry-replied tag slot entry matched over =
+    replied-by_phase tag entry entry.task.request entry.task.phase refl refl matched.answers matched.status over
+
+-- what the device has of it: nothing
+over-apart : (unit : Option ℕ) (request : Request) (phase : Phase) (td : Td) → IsStatusTd phase td → is_over td.state ≡ true
+    → phase_task unit request phase ≡ None
+over-apart unit request Queued td is over = absurd (pushed-over td is over)
+over-apart unit request (Begun progress) td is over = absurd (pushed-over td is over)
+over-apart unit request (Sent answer) td is over = refl
+over-apart unit request Gone td is over = refl
 
 slot_reply-is : (state : Shared) (world : World) (client slot : ℕ) (rest : List ℕ) (part : Part) (at : IsReadyAt state world client slot rest part)
-    → Fits state world
-    → slot_reply world.host world.frames client slot ≡ Some (reply_at client slot at.entry at.answer)
-slot_reply-is state world client slot rest part at fits =
+    (replied : IsReplied (tag_of (place_in client slot)) at.entry) → slot_reply world.host world.frames client slot ≡ Some replied.reply
+slot_reply-is state world client slot rest part at replied =
     let tag : ℕ = tag_of (place_in client slot) in
-    let seen : at.entry.status_td.state ≡ Seen = over-seen at.entry.status_td.state at.cell.answerable at.status_over in
-    let told : told_by at.entry.task.phase at.entry.status_td.state ≡ ToldStatus (status_of at.answer) (record { items = sense_of at.answer }) =
-    ap (λ p. told_by p at.entry.status_td.state) at.sent ∙ ap (λ s. told_sent at.answer s) seen in
     ap (λ held. option_and_then (reply_of tag (held_for world.frames tag).lent) held) at.cell.held
-    ∙ command-replies tag (host_side at.entry) (held_for world.frames tag).lent at.entry.task.request at.asks
-    ∙ ap (λ lent. option_and_then (command_reply tag at.entry.task.ticket (host_side at.entry).told (host_side at.entry).status_td) lent) at.cell.lent
-    ∙ ap (λ s. command_reply tag at.entry.task.ticket (host_side at.entry).told s at.entry.task.buffer) seen
-    ∙ ap (λ t. status_reply tag at.entry.task.ticket at.entry.task.buffer t) told
+    ∙ ap (λ lent. reply_of tag lent (host_side at.entry)) at.cell.lent ∙ replied.host
 
-abbrev host_after : World → ℕ → ℕ → List ℕ → World
-host_after world client slot rest = record world {
+abbrev host_after : World → ℕ → ℕ → List ℕ → Request → World
+host_after world client slot rest request = record world {
   host = with_client world.host client (without (client_of world.host client) slot rest);
-  frames = with_lent world.frames (tag_of (place_in client slot)) None;
+  frames = frames_given request world.frames (tag_of (place_in client slot));
 }
 
 replied-is : (state : Shared) (world : World) (client slot : ℕ) (rest : List ℕ) (part : Part) (at : IsReadyAt state world client slot rest part)
-    → Fits state world
-    → replied world.host world.frames client ≡ given world.host world.frames client slot rest (Some (reply_at client slot at.entry at.answer))
-replied-is state world client slot rest part at fits =
+    (it : IsReplied (tag_of (place_in client slot)) at.entry)
+    → replied world.host world.frames client ≡ given world.host world.frames client slot rest (Some it.reply)
+replied-is state world client slot rest part at it =
     replied-by world client (slot ∷ rest) (ready-found world client part at.it ∙ at.queue)
-    ∙ ap (given world.host world.frames client slot rest) (slot_reply-is state world client slot rest part at fits)
+    ∙ ap (given world.host world.frames client slot rest) (slot_reply-is state world client slot rest part at it)
 
 taken-reply : (state : Shared) (world : World) (client slot : ℕ) (rest : List ℕ) (part : Part) (at : IsReadyAt state world client slot rest part)
-    → (routed state client (take_act client)).1.reply ≡ Some (reply_at client slot at.entry at.answer)
-taken-reply state world client slot rest part at =
+    (it : IsReplied (tag_of (place_in client slot)) at.entry) → (routed state client (take_act client)).1.reply ≡ Some it.reply
+taken-reply state world client slot rest part at it =
     ap (λ found. (routed_to state client (take_act client) found).1.reply) at.there
     ∙ ap (λ ready. (taken client part ready).reply) at.queue
     ∙ ap (λ found. (settled part slot rest (option_and_then (entry_reply (slot_tag client slot)) found)).reply) at.held
-    ∙ ap (λ phase. (settled part slot rest (reply_from (slot_tag client slot) at.entry.task phase)).reply) at.sent
-    ∙ ap (λ r. Some (answered_by (slot_tag client slot) at.entry.task.ticket at.entry.task.buffer at.answer r)) (asked_op at.entry.task.request at.asks).1
+    ∙ ap (λ reply. (settled part slot rest reply).reply) it.shared
+
+taken-state : (state : Shared) (world : World) (client slot : ℕ) (rest : List ℕ) (part : Part) (at : IsReadyAt state world client slot rest part)
+    → IsReplied (tag_of (place_in client slot)) at.entry
+    → (routed state client (take_act client)).0 ≡ settled_state state (place_in client slot) part rest
+taken-state state world client slot rest part at it =
+    ap (λ found. (routed_to state client (take_act client) found).0) at.there
+    ∙ ap (λ ready. (acted_on state client (taken client part ready)).0) at.queue
+    ∙ ap (λ found. (acted_on state client (settled part slot rest (option_and_then (entry_reply (slot_tag client slot)) found))).0) at.held
+    ∙ ap (λ reply. (acted_on state client (settled part slot rest reply)).0) it.shared
 
 -- THE CELL IS EMPTY
 
@@ -205,12 +281,30 @@ out-over Nothing td over = refl
 out-over ToHost td over = refl
 out-over ToDevice td over = over
 
-take-others : (world : World) (client slot : ℕ) (rest : List ℕ) (part : Part) → IsFound world client part
-    → KeepsOthers world (host_after world client slot rest) (place_in client slot)
-take-others world client slot rest part it other at inside apart =
+-- the buffers of its tag lend nothing, and are the same else
+given-lent : (request : Request) (frames : List TagBuffers) (tag : ℕ) (buffer : List ℕ) → 0 < tag → tag ≤ length frames
+    → (held_for frames tag).lent ≡ lent_for request buffer → (held_for (frames_given request frames tag) tag).lent ≡ None
+given-lent (Execute op) frames tag buffer some within lent =
+    ap (λ (b : TagBuffers). b.lent) (held_for-same frames tag (record (held_for frames tag) { lent = None }) some within)
+given-lent (Manage what noted) frames tag buffer some within lent = lent
+
+given-status : (request : Request) (frames : List TagBuffers) (tag : ℕ) → 0 < tag → tag ≤ length frames
+    → (held_for (frames_given request frames tag) tag).status ≡ (held_for frames tag).status
+given-status (Execute op) frames tag some within =
+    ap (λ (b : TagBuffers). b.status) (held_for-same frames tag (record (held_for frames tag) { lent = None }) some within)
+given-status (Manage what noted) frames tag some within = refl
+
+given-other : (request : Request) (frames : List TagBuffers) (tag other : ℕ) → 0 < tag → 0 < other → (other ≡ tag → ⊥)
+    → held_for (frames_given request frames tag) other ≡ held_for frames other
+given-other (Execute op) frames tag other some there apart = held_for-other frames tag other _ some there apart
+given-other (Manage what noted) frames tag other some there apart = refl
+
+take-others : (world : World) (client slot : ℕ) (rest : List ℕ) (request : Request) (part : Part) → IsFound world client part
+    → KeepsOthers world (host_after world client slot rest request) (place_in client slot)
+take-others world client slot rest request part it other at inside apart =
     let held_is = entry_at-other world.host client slot other at (without (client_of world.host client) slot rest) None
     (get-within world.host.clients client it.held it.held_is) refl apart in
-    let buffers_is = held_for-other world.frames (tag_of (place_in client slot)) (tag_of (place_in other at)) _ (omega arith) (omega arith) apart in
+    let buffers_is = given-other request world.frames (tag_of (place_in client slot)) (tag_of (place_in other at)) (omega arith) (omega arith) apart in
     λ i. record {
       held = held_is i;
       task = (cell_at world (place_in other at)).task;
@@ -220,58 +314,60 @@ take-others world client slot rest part it other at inside apart =
       buffers = buffers_is i;
     }
 
-take-cell : (state : Shared) (world : World) (client slot : ℕ) (rest : List ℕ) (part : Part) → IsReadyAt state world client slot rest part → Fits state world
-    → client < 31 → IsEmptyCell (cell_at (host_after world client slot rest) (place_in client slot))
+take-cell : (state : Shared) (world : World) (client slot : ℕ) (rest : List ℕ) (part : Part) (at : IsReadyAt state world client slot rest part)
+    → Fits state world → client < 31 → IsEmptyCell (cell_at (host_after world client slot rest at.entry.task.request) (place_in client slot))
 take-cell state world client slot rest part at fits few =
     let tag : ℕ = tag_of (place_in client slot) in
     let there = get-within world.host.clients client at.it.held at.it.held_is in
-    let buffers_is = held_for-same world.frames tag (record (held_for world.frames tag) { lent = None }) (omega arith)
-    (omega (arith, few, at.within, fits.sound.frames.tags)) in
     let way : Direction = request_direction at.entry.task.request in
     let data_trbs : List Trb = data_td tag (request_bytes at.entry.task.request) in
     record {
       held = entry_at-same world.host client slot (without (client_of world.host client) slot rest) (client_of world.host client).entries None
           there (omega (arith, at.within, (fits.sound.host.clients client there).slots)) refl;
-      task = at.cell.task ∙ ap (λ p. phase_task (Some client) at.entry.task.request p) at.sent;
+      task = at.cell.task
+          ∙ over-apart (Some client) at.entry.task.request at.entry.task.phase at.entry.status_td at.matched.status at.status_over;
       status = holds-over (cell_at world (place_in client slot)).status
           (status_td tag) at.entry.status_td.consumed at.entry.status_td.state at.status_over at.cell.status;
       data_in = data-over (cell_at world (place_in client slot)).data_in data_trbs (data_in_td way at.entry.data_td)
           (in-over way at.entry.data_td at.data_over) at.cell.data_in;
       data_out = data-over (cell_at world (place_in client slot)).data_out data_trbs (data_out_td way at.entry.data_td)
           (out-over way at.entry.data_td at.data_over) at.cell.data_out;
-      lent = ap (λ (b : TagBuffers). b.lent) buffers_is;
+      lent = given-lent at.entry.task.request world.frames tag at.entry.task.buffer (omega arith) (omega (arith, few, at.within, fits.sound.frames.tags))
+          at.cell.lent;
     }
 
 -- ALL TOGETHER
 
-take-queues : (state : Shared) (world : World) (client slot : ℕ) (rest : List ℕ) (part : Part) → IsReadyAt state world client slot rest part
+take-queues : (state : Shared) (world : World) (client slot : ℕ) (rest : List ℕ) (part : Part) (at : IsReadyAt state world client slot rest part)
     → Fits state world → client < 31
-    → FitsQueues (settled_state state (place_in client slot) part rest) (host_after world client slot rest)
+    → FitsQueues (settled_state state (place_in client slot) part rest) (host_after world client slot rest at.entry.task.request)
 take-queues state world client slot rest part at fits few =
     let tag : ℕ = tag_of (place_in client slot) in
+    let after : World = host_after world client slot rest at.entry.task.request in
     let same : state.events ≡ state.events ++ [] = sym (append-nil state.events) in
-    let buffers_is = held_for-same world.frames tag (record (held_for world.frames tag) { lent = None }) (omega arith)
-    (omega (arith, few, at.within, fits.sound.frames.tags)) in
+    let status_is = given-status at.entry.task.request world.frames tag (omega arith) (omega (arith, few, at.within, fits.sound.frames.tags)) in
     record {
       put = fits.queues.put ∙ ap (λ es. map command_trb (carried_places es ++ state.messages)) same;
       got = fits.queues.got ∙ ap (λ es. length (carried_places es)) same;
       texts = fits.queues.texts
-          ∙ sym (event_texts-one state world (host_after world client slot rest) (place_in client slot) 0 fits.matched at.within (refl, refl) refl
-          (take-others world client slot rest part at.it) (λ some. (refl, refl)) (λ some. (refl, ap (λ (b : TagBuffers). b.status) buffers_is)))
-          ∙ ap (event_texts (host_after world client slot rest) 0) same;
+          ∙ sym (event_texts-one state world after (place_in client slot) 0 fits.matched at.within (refl, refl) refl
+          (take-others world client slot rest at.entry.task.request part at.it) (λ some. (refl, refl)) (λ some. (refl, status_is)))
+          ∙ ap (event_texts after 0) same;
     }
 
-take-fits : (state : Shared) (world : World) (client slot : ℕ) (rest : List ℕ) (part : Part) → IsReadyAt state world client slot rest part → Fits state world
-    → IsMatched (settled_state state (place_in client slot) part rest) → IsSoundWorld (host_after world client slot rest)
-    → Fits (settled_state state (place_in client slot) part rest) (host_after world client slot rest)
+take-fits : (state : Shared) (world : World) (client slot : ℕ) (rest : List ℕ) (part : Part) (at : IsReadyAt state world client slot rest part)
+    → Fits state world → IsMatched (settled_state state (place_in client slot) part rest)
+    → IsSoundWorld (host_after world client slot rest at.entry.task.request)
+    → Fits (settled_state state (place_in client slot) part rest) (host_after world client slot rest at.entry.task.request)
 take-fits state world client slot rest part at fits matched sound =
     let few : client < 31 = omega (arith, get-within state.parts client part at.there, fits.most_clients) in
+    let after : World = host_after world client slot rest at.entry.task.request in
     let held_now : HostClient = without (client_of world.host client) slot rest in
     let long = length-set state.parts client (settled_part part slot rest) in
-    let changes : ChangesCell world (host_after world client slot rest) client slot held_now part.unit = record {
+    let changes : ChangesCell world (host_after world client slot rest at.entry.task.request) client slot held_now part.unit = record {
       hosts = refl;
       units = sym (slice_get-back world.device.units client part.unit at.it.unit_is);
-      others = take-others world client slot rest part at.it;
+      others = take-others world client slot rest at.entry.task.request part at.it;
     } in
     let least_is : part.least ≡ held_now.least =
     at.it.fits.least ∙ ap (λ (c : HostClient). c.least) (sym (client_of-found world.host client at.it.held at.it.held_is)) in
@@ -283,12 +379,11 @@ take-fits state world client slot rest part at fits matched sound =
       data_out = fits.data_out;
       sound = sound;
       queues = take-queues state world client slot rest part at fits few;
-      engine = engine-kept state (settled_state state (place_in client slot) part rest) world (host_after world client slot rest) fits.engine refl refl refl
-          (λ r is. refl);
+      engine = engine-kept state (settled_state state (place_in client slot) part rest) world after fits.engine refl refl refl (λ r is. refl);
       matched = matched;
-      clients = AllFit-set world (host_after world client slot rest) state.parts client slot part.unit held_now part (settled_part part slot rest)
+      clients = AllFit-set world after state.parts client slot part.unit held_now part (settled_part part slot rest)
           fits.clients at.there at.within changes
-          (FitsPart-set world (host_after world client slot rest) client slot part.unit part.unit at.it.held held_now part None part.least rest
+          (FitsPart-set world after client slot part.unit part.unit at.it.held held_now part None part.least rest
           at.it.fits at.within changes refl least_is refl (take-cell state world client slot rest part at fits few));
       others = λ other over. fits.others other (omega (arith, over, long));
       unused = λ other over. fits.unused other (omega (arith, over, long));
@@ -297,15 +392,19 @@ take-fits state world client slot rest part at fits matched sound =
 take-at : (state : Shared) (world : World) (client slot : ℕ) (rest : List ℕ) (part : Part) → IsReadyAt state world client slot rest part → Fits state world
     → due state (Take client) ≡ true → TakeFits state world client
 take-at state world client slot rest part at fits is_due =
+    let it : IsReplied (tag_of (place_in client slot)) at.entry =
+    entry-replied (tag_of (place_in client slot)) slot at.entry at.matched at.status_over in
     let stepped : shared_step state (Take client) ≡ routed state client (take_act client) = ap
     (λ b. cond b (due_step state (Take client)) (state, idle)) is_due in
     let now : (shared_step state (Take client)).0 ≡ settled_state state (place_in client slot) part rest =
-    ap (λ after. after.0) stepped ∙ take_step-held state client slot rest part at.entry at.answer at.there at.queue at.held at.sent in
-    let gives = replied-is state world client slot rest part at fits in
-    let world_is : take_world world client ≡ host_after world client slot rest = ap (λ (g : Given). record world { host = g.host; frames = g.frames }) gives in
+    ap (λ after. after.0) stepped ∙ taken-state state world client slot rest part at it in
+    let gives = replied-is state world client slot rest part at it in
+    let world_is : take_world world client ≡ host_after world client slot rest at.entry.task.request =
+    ap (λ (g : Given). record world { host = g.host; frames = g.frames }) gives
+    ∙ ap (λ frames. record (host_after world client slot rest at.entry.task.request) { frames = frames }) (it.frames world.frames) in
     let matched = shared_step-matched state (Take client) fits.matched in
     record {
-      reply = ap (λ (g : Given). g.reply) gives ∙ sym (ap (λ after. after.1.reply) stepped ∙ taken-reply state world client slot rest part at);
+      reply = ap (λ (g : Given). g.reply) gives ∙ sym (ap (λ after. after.1.reply) stepped ∙ taken-reply state world client slot rest part at it);
       fits = subst (λ s. IsSoundWorld (take_world world client) → Fits s (take_world world client)) (sym now)
           (subst (λ w. IsSoundWorld w → Fits (settled_state state (place_in client slot) part rest) w) (sym world_is)
           (take-fits state world client slot rest part at fits (subst IsMatched now matched)));

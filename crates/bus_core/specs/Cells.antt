@@ -1,9 +1,11 @@
 -- What stands under one tag fits what the shared machine has at its place.
-use Rattle.std.specs.Prelude.{◌≡◌, ℕ, List, [], length, take, Option, Some, None, option_map}
+use Rattle.std.specs.Prelude.{◌≡◌, ℕ, ◌<◌, ◌^◌, List, [], length, take, Option, Some, None, option_map}
 use Rattle.xhci_trb.specs.declared.Trb.{Trb}
 use Rattle.cycle_ring.specs.Ring.{Ring}
 use Rattle.scsi_cmd.specs.declared.Direction.{Direction}
 use Rattle.scsi_cmd.specs.declared.Direction.TheVariants.{Nothing, ToHost, ToDevice}
+use Rattle.scsi_cmd.specs.declared.Request.{Request}
+use Rattle.scsi_cmd.specs.declared.Request.TheVariants.{Execute, Manage}
 use Rattle.device_server.specs.declared.Answer.{Answer}
 use Rattle.solo_model.specs.declared.Phase.{Phase}
 use Rattle.solo_model.specs.declared.Phase.TheVariants.{Queued, Begun, Sent, Gone}
@@ -13,9 +15,10 @@ use Rattle.uas_host.specs.declared.Place.{Place}
 use Rattle.uas_host.specs.declared.TdState.{TdState}
 use Rattle.uas_host.specs.declared.TdState.TheVariants.{Pending, Seen, LeftOver, Retired}
 use Rattle.uas_host.specs.declared.Told.{Told}
-use Rattle.uas_host.specs.declared.Told.TheVariants.{Untold, Status as ToldStatus}
+use Rattle.uas_host.specs.declared.Told.TheVariants.{Untold, Status as ToldStatus, Response as ToldResponse}
 use Rattle.uas_host.specs.declared.HostEntry.{HostEntry}
 use Rattle.uas_host.specs.Tags.{tag_of}
+use Rattle.uas_host.specs.Tasks.{aborted_tag}
 use Rattle.uas_host.specs.Tds.{data_td, status_td}
 use Rattle.bus_core.specs.declared.Td.{Td}
 use Rattle.bus_core.specs.Td.{Entry}
@@ -31,24 +34,29 @@ use Rattle.bus_core.specs.World.{Cell}
 abbrev pub state_of : Td → TdState
 state_of td = td.state
 
--- the host was told the answer once it has seen the status event
-abbrev pub told_sent : Answer → TdState → Told
-told_sent answer Pending = Untold
-told_sent answer Seen = ToldStatus (status_of answer) (record { items = sense_of answer })
-told_sent answer LeftOver = Untold
-told_sent answer Retired = Untold
+-- a command is told its status and sense, a task management its code, COMPLETE, 00h
+abbrev pub told_of : Request → Answer → Told
+told_of (Execute op) answer = ToldStatus (status_of answer) (record { items = sense_of answer })
+told_of (Manage what noted) answer = ToldResponse 0
 
-abbrev pub told_by : Phase → TdState → Told
-told_by Queued state = Untold
-told_by (Begun progress) state = Untold
-told_by (Sent answer) state = told_sent answer state
-told_by Gone state = Untold
+-- the host was told the answer once it has seen the status event
+abbrev pub told_sent : Request → Answer → TdState → Told
+told_sent request answer Pending = Untold
+told_sent request answer Seen = told_of request answer
+told_sent request answer LeftOver = Untold
+told_sent request answer Retired = Untold
+
+abbrev pub told_by : Request → Phase → TdState → Told
+told_by request Queued state = Untold
+told_by request (Begun progress) state = Untold
+told_by request (Sent answer) state = told_sent request answer state
+told_by request Gone state = Untold
 
 abbrev pub host_side : Entry → HostEntry
 host_side entry = record {
   ticket = entry.task.ticket;
   request = entry.task.request;
-  told = told_by entry.task.phase entry.status_td.state;
+  told = told_by entry.task.request entry.task.phase entry.status_td.state;
   command_td = entry.command_td.state;
   status_td = entry.status_td.state;
   data_td = option_map state_of entry.data_td;
@@ -78,20 +86,27 @@ HoldsData ring trbs (Some td) = HoldsTd ring trbs td
 -- THE BUFFERS
 
 -- the status buffer begins with the answer once it was sent
-abbrev pub HasAnswerIn : Phase → ℕ → List ℕ → Type 0
-HasAnswerIn Queued tag bytes = Unit {0}
-HasAnswerIn (Begun progress) tag bytes = Unit {0}
-HasAnswerIn (Sent answer) tag bytes = take (length (answer_text tag answer)) bytes ≡ answer_text tag answer
-HasAnswerIn Gone tag bytes = Unit {0}
+abbrev pub HasAnswerIn : Request → Phase → ℕ → List ℕ → Type 0
+HasAnswerIn request Queued tag bytes = Unit {0}
+HasAnswerIn request (Begun progress) tag bytes = Unit {0}
+HasAnswerIn request (Sent answer) tag bytes = take (length (answer_text tag request answer)) bytes ≡ answer_text tag request answer
+HasAnswerIn request Gone tag bytes = Unit {0}
 
--- THE STATUS TD
+-- The command buffer has the Command unit, or begins with the Task Management unit, which has 16 bytes, two of them for the tag that it
+-- names.
+abbrev pub HasUnitIn : ℕ → ℕ → Request → List ℕ → Type 0
+HasUnitIn client tag (Execute op) bytes = bytes ≡ request_text client tag (Execute op)
+HasUnitIn client tag (Manage what noted) bytes = (take 16 bytes ≡ request_text client tag (Manage what noted)) × (aborted_tag what < 2 ^ 16)
 
--- The host waits for its event, or has seen it: no step dooms a command, so its status TD is never given up.
-abbrev pub IsAwaitedOrSeen : TdState → Type 0
-IsAwaitedOrSeen Pending = Unit {0}
-IsAwaitedOrSeen Seen = Unit {0}
-IsAwaitedOrSeen LeftOver = ⊥
-IsAwaitedOrSeen Retired = ⊥
+-- a command lends its buffer, a task management none
+abbrev pub lent_for : Request → List ℕ → Option (List ℕ)
+lent_for (Execute op) buffer = Some buffer
+lent_for (Manage what noted) buffer = None
+
+-- a task management brings no bytes, and none come in
+abbrev pub HasNoBytes : Request → List ℕ → Type 0
+HasNoBytes (Execute op) buffer = Unit {0}
+HasNoBytes (Manage what noted) buffer = buffer ≡ []
 
 -- ONE CELL
 
@@ -104,10 +119,10 @@ pub record FitsCell (client count : ℕ) (place : Place) (entry : Entry) (cell :
       (data_in_td (request_direction entry.task.request) entry.data_td)
   pub data_out : HoldsData cell.data_out (data_td (tag_of place) (request_bytes entry.task.request))
       (data_out_td (request_direction entry.task.request) entry.data_td)
-  pub lent : cell.buffers.lent ≡ Some entry.task.buffer
-  pub unit : cell.buffers.command ≡ request_text client (tag_of place) entry.task.request
-  pub answer : HasAnswerIn entry.task.phase (tag_of place) cell.buffers.status
-  pub answerable : IsAwaitedOrSeen entry.status_td.state
+  pub lent : cell.buffers.lent ≡ lent_for entry.task.request entry.task.buffer
+  pub bytes : HasNoBytes entry.task.request entry.task.buffer
+  pub unit : HasUnitIn client (tag_of place) entry.task.request cell.buffers.command
+  pub answer : HasAnswerIn entry.task.request entry.task.phase (tag_of place) cell.buffers.status
   pub sound : IsSound count entry.task
 
 -- a cell with nothing

@@ -89,7 +89,7 @@ decoded_held waiting cell held = record {
     ticket = held.ticket;
     request = held.request;
     buffer = unwrap_or cell.buffers.lent [];
-    phase = phase_by cell.task (1 - waiting) cell.buffers.status;
+    phase = phase_by cell.task (1 - waiting) (decoded_td 1 cell.status held.status_td) cell.buffers.status;
   };
   command_td = record { state = held.command_td; consumed = 1 - waiting };
   status_td = decoded_td 1 cell.status held.status_td;

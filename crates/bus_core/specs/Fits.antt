@@ -12,7 +12,7 @@ use Rattle.stream_array.specs.declared.Pipe.TheVariants.{Command, Status, DataIn
 use Rattle.stream_array.specs.declared.TheConstants.{COMMAND_RING_PLACES, ENGINE_RING_PLACES, STREAM_RING_PLACES}
 use Rattle.stream_array.specs.Rings.{IsLines, LinesState, stream_ring}
 use Rattle.frame_store.specs.Buffers.{IsWhole, held_for}
-use Rattle.scsi_cmd.specs.declared.TheConstants.{TAGS}
+use Rattle.scsi_cmd.specs.declared.TheConstants.{TAGS, TASK_SLOT}
 use Rattle.scsi_cmd.specs.Held.{held_at}
 use Rattle.uas_target.specs.declared.TheConstants.{GREATEST_TAG}
 use Rattle.uas_target.specs.Device.{task_of}
@@ -41,9 +41,13 @@ use Rattle.bus_core.specs.Cells.{FitsHeld, HoldsTrbs}
 
 -- THE COMMAND PIPE AND THE EVENT RING
 
+-- a Command unit has 32 bytes, and a Task Management unit, which is the last slot's, 16
+abbrev pub unit_bytes : ℕ → ℕ
+unit_bytes slot = if slot == TASK_SLOT then 16 else 32
+
 -- the command TRB of a place
 abbrev pub command_trb : Place → Trb
-command_trb place = Normal (command_buffer_of (tag_of place)) 32 0 (record { 0 = 16 })
+command_trb place = Normal (command_buffer_of (tag_of place)) (unit_bytes place.slot) 0 (record { 0 = 16 })
 
 -- the address of the last TRB on a stream's ring
 abbrev pub last_pointer : Ring → ℕ
@@ -56,13 +60,14 @@ data_event data_in data_out =
     then Transfer (last_pointer data_out) 0 SUCCESS (endpoint_of DataOut) SLOT
     else Transfer (last_pointer data_in) 0 SUCCESS (endpoint_of DataIn) SLOT
 
--- the length of the unit in a status buffer: a Sense unit tells the length of its sense in byte 15
-abbrev pub unit_len : List ℕ → ℕ
-unit_len bytes = 16 + slice_index bytes 15
+-- the length of the unit in a status buffer: a Sense unit tells the length of its sense in byte 15, and a Response unit, which is the last
+-- slot's, has 8 bytes
+abbrev pub unit_len : ℕ → List ℕ → ℕ
+unit_len slot bytes = if slot == TASK_SLOT then 8 else 16 + slice_index bytes 15
 
 -- the event of a status TD
-abbrev pub status_event : Ring → List ℕ → Event
-status_event ring bytes = Transfer (last_pointer ring) (STATUS_LENGTH - unit_len bytes) SHORT_PACKET (endpoint_of Status) SLOT
+abbrev pub status_event : ℕ → Ring → List ℕ → Event
+status_event slot ring bytes = Transfer (last_pointer ring) (STATUS_LENGTH - unit_len slot bytes) SHORT_PACKET (endpoint_of Status) SLOT
 
 -- the event of the controller's own command, the first on its command ring
 abbrev pub engine_event : Ring → Event
@@ -77,7 +82,7 @@ event_texts world k (CommandDone place ∷ rest) =
 event_texts world k (DataDone place ∷ rest) =
     data_event (stream_ring world.lines.data_in (tag_of place)) (stream_ring world.lines.data_out (tag_of place)) ∷ event_texts world k rest
 event_texts world k (StatusDone place ∷ rest) =
-    status_event (stream_ring world.lines.status (tag_of place)) (held_for world.frames (tag_of place)).status ∷ event_texts world k rest
+    status_event place.slot (stream_ring world.lines.status (tag_of place)) (held_for world.frames (tag_of place)).status ∷ event_texts world k rest
 event_texts world k (EngineDone place ∷ rest) = engine_event world.lines.engine ∷ event_texts world k rest
 
 -- On the command pipe stand first the TRBs that were taken and whose events wait, then the messages.

@@ -13,6 +13,9 @@ use Rattle.uas_target.specs.declared.DeviceAnswer.TheVariants.{Status, Response}
 use Rattle.uas_target.specs.declared.DeviceTask.{DeviceTask}
 use Rattle.uas_target.specs.declared.DeviceTask.TheVariants.{Moving as MovingTask, Ended as EndedTask}
 use Rattle.uas_target.specs.Tasks.{task_in}
+use Rattle.uas_host.specs.declared.TdState.{TdState}
+use Rattle.uas_host.specs.declared.TdState.TheVariants.{Pending, Seen, LeftOver, Retired}
+use Rattle.bus_core.specs.declared.Td.{Td}
 use Rattle.bus_core.specs.Td.{Entry}
 
 -- THE DEVICE'S TASK
@@ -41,10 +44,18 @@ told_answer bytes =
     if slice_index bytes 6 == 0 then Good
     else Check (record { key = slice_index bytes 18; asc = slice_index bytes 28; ascq = slice_index bytes 29 })
 
--- the phase of a command that the device has no task of, by the TRBs of its command TD that were taken: it wasn't
--- received, or its answer was sent
-abbrev pub phase_apart : ℕ → List ℕ → Phase
-phase_apart taken status = if taken == 0 then Queued else Sent (told_answer status)
+-- what the device received and has no task of any more: its answer was sent, or it is gone and the TRB of its status TD wasn't taken for
+-- an answer
+abbrev pub phase_received : ℕ → TdState → List ℕ → Phase
+phase_received consumed Pending bytes = if consumed == 0 then Gone else Sent (told_answer bytes)
+phase_received consumed Seen bytes = Sent (told_answer bytes)
+phase_received consumed LeftOver bytes = Gone
+phase_received consumed Retired bytes = Gone
+
+-- the phase of a request that the device has no task of, by the TRBs of its command TD that were taken, its status TD and the bytes of its
+-- status buffer
+abbrev pub phase_apart : ℕ → Td → List ℕ → Phase
+phase_apart taken status_td bytes = if taken == 0 then Queued else phase_received status_td.consumed status_td.state bytes
 
 abbrev pub answer_phase : DeviceAnswer → Phase
 answer_phase (Status answer) = Begun (Ended answer)
@@ -54,13 +65,13 @@ abbrev pub task_phase : DeviceTask → Phase
 task_phase (MovingTask unit op chunk) = Begun (Moving chunk)
 task_phase (EndedTask unit answer) = answer_phase answer
 
-abbrev pub phase_by : Option DeviceTask → ℕ → List ℕ → Phase
-phase_by None taken status = phase_apart taken status
-phase_by (Some task) taken status = task_phase task
+abbrev pub phase_by : Option DeviceTask → ℕ → Td → List ℕ → Phase
+phase_by None taken status_td bytes = phase_apart taken status_td bytes
+phase_by (Some task) taken status_td bytes = task_phase task
 
--- the device received a command where its command TD's TRB was taken; none is gone
+-- the device received a request where its command TD's TRB was taken
 abbrev pub HasTaken : Phase → ℕ → Type 0
 HasTaken Queued taken = taken ≡ 0
 HasTaken (Begun progress) taken = taken ≡ 1
 HasTaken (Sent answer) taken = taken ≡ 1
-HasTaken Gone taken = ⊥
+HasTaken Gone taken = taken ≡ 1

@@ -4,21 +4,28 @@ use Rattle.std.specs.Prelude.{slice_get, map}
 use Rattle.std.specs.Option.{option_map_or}
 use Rattle.scsi_cmd.specs.declared.Reply.{Reply}
 use Rattle.scsi_cmd.specs.declared.Reply.TheVariants.{Status as StatusReply, Aborted as AbortedReply, Task as TaskReply}
+use Rattle.scsi_cmd.specs.declared.Request.{Request}
+use Rattle.scsi_cmd.specs.declared.Request.TheVariants.{Execute, Manage}
+use Rattle.scsi_cmd.specs.declared.Task.{Task}
+use Rattle.scsi_cmd.specs.declared.Task.TheVariants.{Abort, Reset}
 use Rattle.scsi_cmd.specs.declared.TheConstants.{TAGS}
 use Rattle.solo_model.specs.declared.Label.{Label}
-use Rattle.solo_model.specs.declared.Label.TheVariants.{Submit as SubmitLabel, Carry as CarryLabel, Move as MoveLabel, Send as SendLabel, Settle as SettleLabel}
+use Rattle.solo_model.specs.declared.Label.TheVariants.{Submit as SubmitLabel, Task as TaskLabel, Carry as CarryLabel, Move as MoveLabel, Send as SendLabel, Settle as SettleLabel}
+use Rattle.solo_model.specs.TaggedTask.{TaggedTask}
 use Rattle.solo_model.specs.Solo.{SoloState, solo_run}
 use Rattle.bus_core.specs.declared.Step.{Step}
-use Rattle.bus_core.specs.declared.Step.TheVariants.{Submit, CommandPipe, Data, Status, Engine, Event, Retire, Take}
+use Rattle.bus_core.specs.declared.Step.TheVariants.{Submit, Task as TaskStep, CommandPipe, Data, Status, Engine, Event, Retire, Take}
 use Rattle.bus_core.specs.declared.Mark.{Mark}
-use Rattle.bus_core.specs.declared.Mark.TheVariants.{Submit as SubmitMark, Carry, Move, Send, Settle, Quiet}
+use Rattle.bus_core.specs.declared.Mark.TheVariants.{Submit as SubmitMark, Task as TaskMark, Carry, Move, Send, Settle, Quiet}
 use Rattle.bus_core.specs.declared.Outcome.{Outcome}
-use Rattle.bus_core.specs.Part.{Part, own_task}
+use Rattle.bus_core.specs.Td.{Entry}
+use Rattle.bus_core.specs.Part.{Part}
 use Rattle.bus_core.specs.Shared.{Shared}
 
 -- the label of an accepted submission: its index, and what the client handed in
 abbrev pub submit_label : ℕ → Step → Option Label
 submit_label index (Submit client tag ticket command) = Some (SubmitLabel index ticket command)
+submit_label index (TaskStep client ticket task) = None
 submit_label index CommandPipe = None
 submit_label index (Data tag) = None
 submit_label index (Status tag) = None
@@ -27,9 +34,30 @@ submit_label index Event = None
 submit_label index (Retire pipe tag) = None
 submit_label index (Take client) = None
 
+-- tag t of client c becomes t - 8c, in an abort also
+abbrev pub own_tag : ℕ → ℕ → ℕ
+own_tag client tag = tag - client * TAGS
+
+abbrev pub own_management : ℕ → Task → Task
+own_management client (Abort tag) = Abort (own_tag client tag)
+own_management client Reset = Reset
+
+-- the label of an accepted task management: what the client handed in
+abbrev pub task_label : Step → Option Label
+task_label (Submit client tag ticket command) = None
+task_label (TaskStep client ticket task) = Some (TaskLabel ticket (own_management client task))
+task_label CommandPipe = None
+task_label (Data tag) = None
+task_label (Status tag) = None
+task_label Engine = None
+task_label Event = None
+task_label (Retire pipe tag) = None
+task_label (Take client) = None
+
 -- the label of a step with this mark; none where it is Quiet
 abbrev pub label_of : Mark → Step → Option Label
 label_of (SubmitMark index) step = submit_label index step
+label_of TaskMark step = task_label step
 label_of (Carry index) step = Some (CarryLabel index)
 label_of (Move index) step = Some (MoveLabel index)
 label_of (Send index) step = Some (SendLabel index)
@@ -50,10 +78,6 @@ own_labels client (step ∷ steps) [] = []
 own_labels client (step ∷ steps) (outcome ∷ outcomes) =
     option_to_list (own_label client step outcome) ++ own_labels client steps outcomes
 
--- tag t of client c becomes t - 8c
-abbrev pub own_tag : ℕ → ℕ → ℕ
-own_tag client tag = tag - client * TAGS
-
 abbrev pub renumbered : ℕ → Reply → Reply
 renumbered client (StatusReply tag ticket status sense buffer) = StatusReply (own_tag client tag) ticket status sense buffer
 renumbered client (AbortedReply tag ticket buffer) = AbortedReply (own_tag client tag) ticket buffer
@@ -67,9 +91,20 @@ abbrev pub own_replies : ℕ → List Outcome → List Reply
 own_replies client [] = []
 own_replies client (outcome ∷ outcomes) = option_to_list (own_reply client outcome) ++ own_replies client outcomes
 
--- a part as a state of the solo machine: it forgets the TDs, the ready slots and the number
-abbrev pub solo_of : Part → SoloState
-solo_of part = record { unit = part.unit; tasks = map (option_map own_task) part.entries; least = part.least }
+-- what the client's solo machine has of an entry: its task, which names another by its index
+abbrev pub own_request : ℕ → Request → Request
+own_request client (Execute op) = Execute op
+own_request client (Manage what noted) = Manage (own_management client what) noted
+
+abbrev pub own_of : ℕ → TaggedTask → TaggedTask
+own_of client task = record task { request = own_request client task.request }
+
+abbrev pub own_task : ℕ → Entry → TaggedTask
+own_task client entry = own_of client entry.task
+
+-- a part as a state of the client's solo machine: it forgets the TDs and the ready slots
+abbrev pub solo_of : ℕ → Part → SoloState
+solo_of client part = record { unit = part.unit; tasks = map (option_map (own_task client)) part.entries; least = part.least }
 
 -- a client that isn't there has nothing
 abbrev pub nobody : SoloState
@@ -77,7 +112,7 @@ nobody = record { unit = record { count = 0; blocks = []; medium = []; attention
 
 -- the client's part of the shared machine as a state of the solo machine
 abbrev pub own_state : Shared → ℕ → SoloState
-own_state state client = option_map_or solo_of (slice_get state.parts client) nobody
+own_state state client = option_map_or (solo_of client) (slice_get state.parts client) nobody
 
 -- The headline, of a run from one state to another with these outcomes: from the client's own state, its own labels are
 -- a run of the solo machine, with these replies, to its own state after them.

@@ -15,6 +15,8 @@ pub mod FirstBlocks
 pub mod Refusals
 pub mod StepIsolation
 pub mod Once
+pub mod Ordered
+pub mod Reach
 pub mod Matched
 pub mod World
 pub mod Cells

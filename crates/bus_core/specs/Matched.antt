@@ -6,7 +6,7 @@ use Rattle.block_unit.specs.BlockMaps.{BlockMaps}
 use Rattle.scsi_cmd.specs.declared.Command.{Command}
 use Rattle.scsi_cmd.specs.Submission.{first_submit_fault}
 use Rattle.scsi_cmd.specs.Op.{moved_bytes}
-use Rattle.scsi_cmd.specs.declared.TheConstants.{TAGS}
+use Rattle.scsi_cmd.specs.declared.TheConstants.{TAGS, TASK_SLOT}
 use Rattle.scsi_cmd.specs.declared.Request.{Request}
 use Rattle.scsi_cmd.specs.declared.Request.TheVariants.{Execute, Manage}
 use Rattle.device_server.specs.declared.Answer.{Answer}
@@ -17,7 +17,8 @@ use Rattle.device_server.specs.declared.Progress.TheVariants.{Moving, Ended}
 use Rattle.scsi_cmd.specs.Held.{held_at}
 use Rattle.bus_core.specs.declared.TheConstants.{MAX_CLIENTS}
 use Rattle.uas_host.specs.declared.Place.{Place}
-use Rattle.uas_host.specs.declared.TdState.TheVariants.{Pending}
+use Rattle.uas_host.specs.declared.TdState.{TdState}
+use Rattle.uas_host.specs.declared.TdState.TheVariants.{Pending, Seen, LeftOver, Retired}
 use Rattle.bus_core.specs.declared.Td.{Td}
 use Rattle.bus_core.specs.declared.Completion.{Completion}
 use Rattle.bus_core.specs.declared.Completion.TheVariants.{CommandDone, DataDone, StatusDone, EngineDone}
@@ -32,6 +33,8 @@ use Rattle.stream_array.specs.declared.Pipe.{Pipe}
 use Rattle.stream_array.specs.Map.{HasStreams}
 use Rattle.uas_host.specs.Retirement.{same_pipe}
 use Rattle.bus_core.specs.Part.{Part, event_place, seen_by}
+pub use Rattle.bus_core.specs.Ordered.{held_in, under}
+use Rattle.bus_core.specs.Ordered.{IsOrdered}
 use Rattle.bus_core.specs.Shared.{Shared, opening, due, is_asked, is_held, pipe_of, shared_step}
 use Rattle.uas_host.specs.Tags.{place_of}
 use Rattle.bus_core.specs.Replay.{replay}
@@ -47,13 +50,6 @@ same_place one other = (one.client == other.client) && (one.slot == other.slot)
 abbrev pub times : Place → List Place → ℕ
 times place [] = 0
 times place (first ∷ rest) = one_if (same_place first place) + times place rest
-
--- what stands at a place: nothing where there is no such client or no such slot
-abbrev pub held_in : Place → Part → Option Entry
-held_in place part = held_at part.entries place.slot
-
-abbrev pub under : List Part → Place → Option Entry
-under parts place = option_map_or (held_in place) (slice_get parts place.client) None
 
 -- EVENTS OF ONE KIND
 
@@ -127,29 +123,56 @@ abbrev pub awaited_data_of : Option Entry → ℕ
 awaited_data_of None = 0
 awaited_data_of (Some entry) = awaited_data (data_trbs entry.task.request) entry.data_td
 
--- WHAT NO ENTRY IS
+-- WHAT A SLOT IS FOR
 
--- The bus has no step that submits a task management. So each entry is of a command, and no command is gone: what stands here and
--- below of an entry excludes both.
-abbrev pub IsCommandRequest : Request → Type 0
-IsCommandRequest (Execute op) = Unit {0}
-IsCommandRequest (Manage what noted) = ⊥
+-- the last slot of a client is for task managements, the others for commands
+abbrev pub IsRequestIn : ℕ → Request → Type 0
+IsRequestIn slot (Execute op) = slot < TASK_SLOT
+IsRequestIn slot (Manage what noted) = slot ≡ TASK_SLOT
+
+-- a task management is answered, well, as it is received, and none ends it
+abbrev pub IsManagedPhase : Phase → Type 0
+IsManagedPhase Queued = Unit {0}
+IsManagedPhase (Begun (Moving chunk)) = ⊥
+IsManagedPhase (Begun (Ended Good)) = Unit {0}
+IsManagedPhase (Begun (Ended (Check sense))) = ⊥
+IsManagedPhase (Sent Good) = Unit {0}
+IsManagedPhase (Sent (Check sense)) = ⊥
+IsManagedPhase Gone = ⊥
+
+abbrev pub IsPhaseOf : Request → Phase → Type 0
+IsPhaseOf (Execute op) phase = Unit {0}
+IsPhaseOf (Manage what noted) phase = IsManagedPhase phase
 
 -- THE TDS OF AN ENTRY, BY ITS PHASE: what no count tells
 
--- the device takes the command TD's TRB as it receives the command
+-- the device takes the command TD's TRB as it receives the command; so it has of a command that is gone
 abbrev pub IsCommandTd : Phase → Td → Type 0
 IsCommandTd Queued td = td ≡ pushed
 IsCommandTd (Begun progress) td = td.consumed ≡ 1
 IsCommandTd (Sent answer) td = td.consumed ≡ 1
-IsCommandTd Gone td = ⊥
+IsCommandTd Gone td = td.consumed ≡ 1
 
--- it takes the status TD's TRB as it hands over the answer
+-- the host waits for the event of an answer that was handed over, or has seen it
+abbrev pub IsAwaitedOrSeen : TdState → Type 0
+IsAwaitedOrSeen Pending = Unit {0}
+IsAwaitedOrSeen Seen = Unit {0}
+IsAwaitedOrSeen LeftOver = ⊥
+IsAwaitedOrSeen Retired = ⊥
+
+-- the answer of a command that is gone is never handed over, nor seen
+abbrev pub IsGivenUp : ℕ → TdState → Type 0
+IsGivenUp consumed Pending = consumed ≡ 0
+IsGivenUp consumed Seen = ⊥
+IsGivenUp consumed LeftOver = Unit {0}
+IsGivenUp consumed Retired = Unit {0}
+
+-- the device takes the status TD's TRB as it hands over the answer
 abbrev pub IsStatusTd : Phase → Td → Type 0
 IsStatusTd Queued td = td ≡ pushed
 IsStatusTd (Begun progress) td = td ≡ pushed
-IsStatusTd (Sent answer) td = td.consumed ≡ 1
-IsStatusTd Gone td = ⊥
+IsStatusTd (Sent answer) td = (td.consumed ≡ 1) × IsAwaitedOrSeen td.state
+IsStatusTd Gone td = IsGivenUp td.consumed td.state
 
 -- as many TRBs of a data TD were taken as chunks were moved, and one more is there
 abbrev pub IsMovingTd : ℕ → ℕ → Option Td → Type 0
@@ -166,10 +189,15 @@ abbrev pub IsShortTd : ℕ → Option Td → Type 0
 IsShortTd trbs None = Unit {0}
 IsShortTd trbs (Some td) = is_pending td.state ≡ true → td.consumed < trbs
 
--- GOOD comes after the last chunk, CHECK CONDITION before it
+-- no more TRBs were taken than there are
+abbrev pub IsWithinTd : ℕ → Option Td → Type 0
+IsWithinTd trbs None = Unit {0}
+IsWithinTd trbs (Some td) = td.consumed ≤ trbs
+
+-- GOOD comes after the last chunk, CHECK CONDITION before it, so that a TRB is left then
 abbrev pub IsAnsweredTd : ℕ → Answer → Option Td → Type 0
 IsAnsweredTd trbs Good td = IsWholeTd trbs td
-IsAnsweredTd trbs (Check sense) td = IsShortTd trbs td
+IsAnsweredTd trbs (Check sense) td = IsShortTd trbs td × IsWithinTd trbs td
 
 -- Checked by hand: of 8,192 bytes, two TRBs, none was taken at Moving 0, one at Moving 1 and both at Ended Good.
 abbrev pub IsDataTd : ℕ → Phase → Option Td → Type 0
@@ -177,15 +205,16 @@ IsDataTd trbs Queued td = IsMovingTd trbs 0 td
 IsDataTd trbs (Begun (Moving chunk)) td = IsMovingTd trbs chunk td
 IsDataTd trbs (Begun (Ended answer)) td = IsAnsweredTd trbs answer td
 IsDataTd trbs (Sent answer) td = IsAnsweredTd trbs answer td
-IsDataTd trbs Gone td = ⊥
+IsDataTd trbs Gone td = IsWithinTd trbs td
 
 abbrev pub request_bytes : Request → ℕ
 request_bytes (Execute op) = moved_bytes op
 request_bytes (Manage what noted) = 0
 
--- An entry of a command and its TDs. There is a data TD exactly where bytes are moved, and 65,536 bytes are the most.
-pub record IsMatchedEntry (entry : Entry) : Type 0 where
-  pub asks : IsCommandRequest entry.task.request
+-- An entry of a slot and its TDs. There is a data TD exactly where bytes are moved, and 65,536 bytes are the most.
+pub record IsMatchedEntry (slot : ℕ) (entry : Entry) : Type 0 where
+  pub asks : IsRequestIn slot entry.task.request
+  pub answers : IsPhaseOf entry.task.request entry.task.phase
   pub command : IsCommandTd entry.task.phase entry.command_td
   pub status : IsStatusTd entry.task.phase entry.status_td
   pub chunks : IsDataTd (data_trbs entry.task.request) entry.task.phase entry.data_td
@@ -201,7 +230,7 @@ pub record IsMatchedAt (state : Shared) (place : Place) (held : Option Entry) : 
   pub moved : data_events place state.events ≡ awaited_data_of held
   pub sent : status_events place state.events ≡ awaited_status held
   pub ready : times_ready state.parts place ≡ readied_of held
-  pub sound : IfSome held IsMatchedEntry
+  pub sound : IfSome held (IsMatchedEntry place.slot)
 
 -- each client that is there has its slots
 abbrev pub HaveSlots : List Part → Type 0
@@ -277,6 +306,7 @@ pub record IsMatched (state : Shared) : Type 0 where
   pub retired : retired_places state.events ≡ answered_places state.retirement
   pub retiring : IfSome state.retirement (IsRetiring state)
   pub flows : (pipe : Pipe) (place : Place) → FlowsAt state pipe place
+  pub ordered : IsOrdered state
 
 -- WHAT FOLLOWS
 
@@ -377,6 +407,10 @@ OpeningIsMatched = (units : List BlockMaps) → IsMatched (opening units)
 -- a step keeps what waits matched
 abbrev pub StepKeepsMatches : Type 0
 StepKeepsMatches = (state : Shared) (step : Step) → IsMatched state → IsMatched (shared_step state step).0
+
+-- the order of a client's requests among it
+abbrev pub OrderIsKept : Type 0
+OrderIsKept = (state : Shared) (step : Step) → IsMatched state → IsOrdered (shared_step state step).0
 
 -- what is so of every matched state
 abbrev pub FromMatches : (Shared → Type 0) → Type 0

@@ -6,14 +6,14 @@ use Rattle.scsi_cmd.specs.declared.Reply.{Reply}
 use Rattle.scsi_cmd.specs.declared.Reply.TheVariants.{Status, Aborted, Task}
 use Rattle.scsi_cmd.specs.declared.TheConstants.{TAGS}
 use Rattle.bus_core.specs.declared.Mark.{Mark}
-use Rattle.bus_core.specs.declared.Mark.TheVariants.{Settle, Submit, Quiet}
+use Rattle.bus_core.specs.declared.Mark.TheVariants.{Settle, Submit, Task as TaskMark, Quiet}
 use Rattle.bus_core.specs.declared.Outcome.{Outcome}
 use Rattle.uas_host.specs.declared.Handled.{Handled}
 use Rattle.uas_host.specs.declared.Handled.TheVariants.{Matched, Engine, Stray}
 use Rattle.xhci_ctl.specs.declared.Acted.{Acted}
 use Rattle.xhci_ctl.specs.declared.Acted.TheVariants.{Acted as ActedOn, Idle}
 use Rattle.uas_host.specs.declared.Retirement.{Retirement}
-use Rattle.bus_core.specs.Shared.{acceptance, idle, refusal, ringing}
+use Rattle.bus_core.specs.Shared.{acceptance, idle, refusal, ringing, task_refusal}
 use Rattle.bus_core.specs.WorldDue.{marked}
 
 -- The client whose tag it is, and the tag's index among that client's. Worked: tag 18 is client 2's, its index is 2.
@@ -32,6 +32,11 @@ acted_as mark Idle = idle
 abbrev pub submitted_as : ℕ → ℕ → List ℕ → Result (Unit {0}) (SubmitFault × Command) → Outcome
 submitted_as client tag doors (Ok done) = acceptance client (Submit (index_of tag)) doors
 submitted_as client tag doors (Err refused) = refusal client refused.0 refused.1
+
+-- a task management, likewise
+abbrev pub managed_as : ℕ → List ℕ → Result (Unit {0}) SubmitFault → Outcome
+managed_as client doors (Ok done) = acceptance client TaskMark doors
+managed_as client doors (Err fault) = task_refusal client fault
 
 -- what the controller did of its own command ring is the retirement's
 abbrev pub engine_of : Option Retirement → Outcome

@@ -1,6 +1,6 @@
 -- One client's part of the shared machine, and what each step does to it.
 use Rattle.std.specs.Prelude.{ℕ, suc, ◌+◌, ◌==◌, Bool, true, false, List, [], ◌∷◌, ◌++◌, if◌then◌else◌, Option, Some, None, is_some, option_and_then, slice_set}
-use Rattle.std.specs.Prelude.{map, option_map, replicate}
+use Rattle.std.specs.Prelude.{map, option_map, replicate, take, ◌&&◌}
 use Rattle.block_unit.specs.BlockMaps.{BlockMaps}
 use Rattle.scsi_cmd.specs.declared.Command.{Command}
 use Rattle.stream_array.specs.declared.Pipe.{Pipe}
@@ -9,14 +9,16 @@ use Rattle.scsi_cmd.specs.declared.Request.{Request}
 use Rattle.scsi_cmd.specs.declared.Request.TheVariants.{Execute, Manage}
 use Rattle.scsi_cmd.specs.declared.SubmitFault.{SubmitFault}
 use Rattle.scsi_cmd.specs.Op.{moved_bytes}
-use Rattle.scsi_cmd.specs.declared.TheConstants.{TAGS}
+use Rattle.scsi_cmd.specs.declared.Task.{Task}
+use Rattle.scsi_cmd.specs.declared.Task.TheVariants.{Abort, Reset}
+use Rattle.scsi_cmd.specs.declared.TheConstants.{TAGS, TASK_SLOT}
 use Rattle.solo_model.specs.TaggedTask.{TaggedTask}
 use Rattle.solo_model.specs.declared.Phase.{Phase}
 use Rattle.solo_model.specs.declared.Phase.TheVariants.{Queued, Begun, Sent, Gone}
 use Rattle.device_server.specs.Server.{chunk_moved}
 use Rattle.scsi_cmd.specs.Held.{held_at}
-use Rattle.solo_model.specs.TaggedTask.{after_notes, queued, carried, moved, sent, reply_of}
-use Rattle.scsi_cmd.specs.Submission.{first_submit_fault}
+use Rattle.solo_model.specs.TaggedTask.{after_notes, is_command, is_noted, queued, queued_management, carried, moved, sent, reply_of}
+use Rattle.scsi_cmd.specs.Submission.{first_submit_fault, first_task_fault}
 use Rattle.uas_host.specs.declared.Place.{Place}
 use Rattle.bus_core.specs.declared.Td.{Td}
 use Rattle.bus_core.specs.Td.{Entry}
@@ -24,8 +26,8 @@ use Rattle.bus_core.specs.declared.Completion.{Completion}
 use Rattle.bus_core.specs.declared.Completion.TheVariants.{CommandDone, DataDone, StatusDone, EngineDone}
 use Rattle.bus_core.specs.declared.Mark.{Mark}
 use Rattle.bus_core.specs.declared.Mark.TheVariants.{Carry, Move, Send, Settle, Quiet}
-use Rattle.uas_host.specs.Tags.{tag_of}
-use Rattle.bus_core.specs.Td.{pushed, data_trbs, is_awaited, with_trb_taken, with_event_seen, data_after_status, is_ready, passed_on, retired_on}
+use Rattle.uas_host.specs.Tags.{command_slot, tag_of}
+use Rattle.bus_core.specs.Td.{pushed, data_trbs, is_awaited, is_pending, left_over_data, left_over_td, with_trb_taken, with_event_seen, data_after_status, is_ready, passed_on, retired_on}
 
 -- a client's number, unit, entries by slot, least ticket, and ready slots in order
 pub record Part : Type 0 where
@@ -75,6 +77,47 @@ fault_at part slot ticket command = first_submit_fault true (is_some (held_at pa
 
 abbrev pub submitted_part : Part → ℕ → ℕ → Command → Part
 submitted_part part slot ticket command = record (with_entry part slot (new_entry ticket command)) { least = ticket + 1 }
+
+-- TASK MANAGEMENT (SAM, ABORT TASK and LOGICAL UNIT RESET)
+
+-- the tickets of what is held, by rising slot
+abbrev pub tickets_of : List (Option Entry) → List ℕ
+tickets_of [] = []
+tickets_of (None ∷ places) = tickets_of places
+tickets_of (Some entry ∷ places) = entry.task.ticket ∷ tickets_of places
+
+-- the command slot of the client that an abort names, where its tag has one
+abbrev pub named_slot : ℕ → ℕ → Task → Option ℕ
+named_slot clients client (Abort tag) = command_slot clients client tag
+named_slot clients client Reset = None
+
+abbrev pub named_entry : Part → Option ℕ → Option Entry
+named_entry part None = None
+named_entry part (Some slot) = held_at part.entries slot
+
+-- there is something to manage: for an abort the command that its tag names
+abbrev pub is_there : Part → Option ℕ → Task → Bool
+is_there part slot (Abort tag) = is_some (named_entry part slot)
+is_there part slot Reset = true
+
+-- the tickets that a task management notes: an abort that of the command under its tag, a reset those of all commands of the client
+abbrev pub noted_tickets : Part → Option ℕ → Task → List ℕ
+noted_tickets part slot (Abort tag) = tickets_of (named_entry part slot ∷ [])
+noted_tickets part slot Reset = tickets_of (take TASK_SLOT part.entries)
+
+-- the first fault of a task management of a client that is there
+abbrev pub task_fault_at : Part → Option ℕ → ℕ → Task → Option SubmitFault
+task_fault_at part slot ticket task =
+    first_task_fault true (is_some (held_at part.entries TASK_SLOT)) part.least ticket (is_there part slot task)
+
+-- the entry of a task management that was just submitted
+abbrev pub new_management : ℕ → Task → List ℕ → Entry
+new_management ticket task noted =
+    record { task = queued_management ticket task noted; command_td = pushed; status_td = pushed; data_td = None }
+
+abbrev pub managed_part : Part → Option ℕ → ℕ → Task → Part
+managed_part part slot ticket task =
+    record (with_entry part TASK_SLOT (new_management ticket task (noted_tickets part slot task))) { least = ticket + 1 }
 
 -- CARRY
 
@@ -200,15 +243,40 @@ event_place (EngineDone place) = place
 abbrev pub ready_after : List ℕ → ℕ → Entry → List ℕ
 ready_after ready slot entry = if is_ready entry then ready ++ slot ∷ [] else ready
 
-abbrev pub seen_entry : Part → ℕ → Option Entry → Act
-seen_entry part slot None = nothing part
-seen_entry part slot (Some entry) =
-    nothing (record (with_entry part slot entry) { ready = ready_after part.ready slot entry })
+-- A command that a task management noted, still under its tag by its ticket, whose status can't come any more once the response came.
+abbrev pub is_doomed : List ℕ → Entry → Bool
+is_doomed noted entry = is_command entry.task.request && (is_pending entry.status_td.state && is_noted noted entry.task.ticket)
+
+-- its status TD is left over, and its data TD where unseen
+abbrev pub doomed : List ℕ → Entry → Entry
+doomed noted entry =
+    if is_doomed noted entry
+    then record entry { status_td = left_over_td entry.status_td; data_td = left_over_data entry.data_td } else entry
+
+-- what the client has once the response COMPLETE to a request was seen; the status of a command changes nothing of the others
+abbrev pub after_answer : Request → List (Option Entry) → List (Option Entry)
+after_answer (Execute op) entries = entries
+after_answer (Manage what noted) entries = map (option_map (doomed noted.items)) entries
+
+abbrev pub after_event : Completion → Request → List (Option Entry) → List (Option Entry)
+after_event (CommandDone place) request entries = entries
+after_event (DataDone place) request entries = entries
+after_event (StatusDone place) request entries = after_answer request entries
+after_event (EngineDone place) request entries = entries
+
+-- No doomed command is ready by the response, as its status TD is left over.
+abbrev pub seen_entry : Completion → Part → ℕ → Option Entry → Act
+seen_entry event part slot None = nothing part
+seen_entry event part slot (Some entry) =
+    nothing (record part {
+      entries = after_event event entry.task.request (slice_set part.entries slot (Some entry));
+      ready = ready_after part.ready slot entry;
+    })
 
 -- the host takes an event of this client
 abbrev pub event_act : Completion → Part → Act
 event_act event part =
-    seen_entry part (event_place event).slot (option_and_then (seen_by event) (held_at part.entries (event_place event).slot))
+    seen_entry event part (event_place event).slot (option_and_then (seen_by event) (held_at part.entries (event_place event).slot))
 
 -- RETIREMENT
 
@@ -227,7 +295,7 @@ pass_act pipe place part = passed_slot pipe part place (held_at part.entries pla
 
 -- the host retires the TD, as it takes that command's event
 abbrev pub retire_act : Pipe → Place → Part → Act
-retire_act pipe place part = seen_entry part place.slot (option_and_then (retired_on pipe) (held_at part.entries place.slot))
+retire_act pipe place part = seen_entry (EngineDone place) part place.slot (option_and_then (retired_on pipe) (held_at part.entries place.slot))
 
 -- TAKE
 
@@ -257,9 +325,3 @@ taken client part (slot ∷ rest) =
 -- the client takes the reply that was ready first
 abbrev pub take_act : ℕ → Part → Act
 take_act client part = taken client part part.ready
-
--- THE CLIENT'S OWN VIEW
-
--- what the solo machine has of an entry
-abbrev pub own_task : Entry → TaggedTask
-own_task entry = entry.task

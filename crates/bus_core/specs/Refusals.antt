@@ -2,19 +2,20 @@
 use Rattle.std.specs.Prelude.{◌≡◌, ℕ, nat_lt, Bool, true, false, if◌then◌else◌, List, [], ◌∷◌, length, slice_get, Option, Some, None, is_some, option_map}
 use Rattle.block_unit.specs.BlockMaps.{BlockMaps}
 use Rattle.scsi_cmd.specs.declared.Command.{Command}
+use Rattle.scsi_cmd.specs.declared.Task.{Task}
 use Rattle.scsi_cmd.specs.declared.SubmitFault.{SubmitFault}
 use Rattle.scsi_cmd.specs.declared.SubmitFault.TheVariants.{NotYours}
 use Rattle.scsi_cmd.specs.Held.{held_under}
-use Rattle.scsi_cmd.specs.Submission.{first_submit_fault}
+use Rattle.scsi_cmd.specs.Submission.{first_submit_fault, first_task_fault}
 use Rattle.solo_model.specs.declared.Label.{Label}
-use Rattle.solo_model.specs.Solo.{SoloState, solo_step, is_command_index, opening as solo_opening}
+use Rattle.solo_model.specs.Solo.{SoloState, solo_step, is_command_index, is_there, task_index, opening as solo_opening}
 use Rattle.bus_core.specs.declared.Step.{Step}
-use Rattle.bus_core.specs.declared.Step.TheVariants.{Submit, CommandPipe, Data, Status, Engine, Event, Retire, Take}
+use Rattle.bus_core.specs.declared.Step.TheVariants.{Submit, Task as TaskStep, CommandPipe, Data, Status, Engine, Event, Retire, Take}
 use Rattle.bus_core.specs.declared.Refusal.{Refusal}
 use Rattle.bus_core.specs.declared.Outcome.{Outcome}
-use Rattle.bus_core.specs.Shared.{Shared, refusal, shared_step}
+use Rattle.bus_core.specs.Shared.{Shared, refusal, shared_step, task_refusal}
 use Rattle.bus_core.specs.Replay.{replay}
-use Rattle.bus_core.specs.Isolation.{own_label, own_state, own_tag}
+use Rattle.bus_core.specs.Isolation.{own_label, own_management, own_state, own_tag}
 
 -- the fault of a submission under this index: it reads what the client has there, and its least ticket
 abbrev pub solo_fault : SoloState → ℕ → ℕ → Command → Option SubmitFault
@@ -27,9 +28,23 @@ abbrev pub own_fault : ℕ → SoloState → ℕ → ℕ → ℕ → Command →
 own_fault clients own client tag ticket command =
     if nat_lt client clients then solo_fault own (own_tag client tag) ticket command else Some NotYours
 
+-- The first fault of a client's task management, likewise. Checked by hand: of 3 clients client 2 may abort tag 18 while a command of its is there,
+-- and tag 9 or 24 is no such task of its.
+abbrev pub solo_task_fault : SoloState → ℕ → Task → Option SubmitFault
+solo_task_fault own ticket task =
+    first_task_fault true (is_some (held_under own.tasks task_index)) own.least ticket (is_there own.tasks task)
+
+abbrev pub own_task_fault : ℕ → SoloState → ℕ → ℕ → Task → Option SubmitFault
+own_task_fault clients own client ticket task =
+    if nat_lt client clients then solo_task_fault own ticket (own_management client task) else Some NotYours
+
+-- a task management's fault comes alone
+abbrev pub fault_alone : Option SubmitFault → Option Refusal
+fault_alone fault = option_map (λ first. record { fault = first; command = None }) fault
+
 -- a fault comes with the command that was handed in
 abbrev pub handed_back : Command → Option SubmitFault → Option Refusal
-handed_back command fault = option_map (λ first. record { fault = first; command = command }) fault
+handed_back command fault = option_map (λ first. record { fault = first; command = Some command }) fault
 
 -- Whether a submission is refused, and for what, is the client's own doing.
 abbrev pub RefusalsAreOwn : Type 0
@@ -37,6 +52,24 @@ RefusalsAreOwn =
     (state : Shared) (client tag ticket : ℕ) (command : Command)
     → (shared_step state (Submit client tag ticket command)).1.refused
     ≡ handed_back command (own_fault (length state.parts) (own_state state client) client tag ticket command)
+
+-- The same of a task management.
+abbrev pub TaskRefusalsAreOwn : Type 0
+TaskRefusalsAreOwn =
+    (state : Shared) (client ticket : ℕ) (task : Task)
+    → (shared_step state (TaskStep client ticket task)).1.refused
+    ≡ fault_alone (own_task_fault (length state.parts) (own_state state client) client ticket task)
+
+abbrev pub TasksAreOwned : Type 0
+TasksAreOwned =
+    (state : Shared) (client ticket : ℕ) (task : Task)
+    → ((shared_step state (TaskStep client ticket task)).1.acted ≡ true) × ((shared_step state (TaskStep client ticket task)).1.owner ≡ Some client)
+
+abbrev pub RefusedTaskChangesNothing : Type 0
+RefusedTaskChangesNothing =
+    (state : Shared) (client ticket : ℕ) (task : Task) (fault : SubmitFault)
+    → own_task_fault (length state.parts) (own_state state client) client ticket task ≡ Some fault
+    → shared_step state (TaskStep client ticket task) ≡ (state, task_refusal client fault)
 
 -- A submission acts, and is its client's, refused or not.
 abbrev pub SubmissionsAreOwned : Type 0
@@ -54,6 +87,7 @@ RefusedChangesNothing =
 
 abbrev pub is_submission : Step → Bool
 is_submission (Submit client tag ticket command) = true
+is_submission (TaskStep client ticket task) = true
 is_submission CommandPipe = false
 is_submission (Data tag) = false
 is_submission (Status tag) = false
@@ -78,6 +112,8 @@ after_label own (Some label) = option_map (λ after. after.0) (solo_step own lab
 abbrev pub RefusedAsOwn : ℕ → ℕ → SoloState → Step → Outcome → Type 0
 RefusedAsOwn clients client own (Submit owner tag ticket command) outcome =
     owner ≡ client → outcome.refused ≡ handed_back command (own_fault clients own client tag ticket command)
+RefusedAsOwn clients client own (TaskStep owner ticket task) outcome =
+    owner ≡ client → outcome.refused ≡ fault_alone (own_task_fault clients own client ticket task)
 RefusedAsOwn clients client own CommandPipe outcome = Unit {0}
 RefusedAsOwn clients client own (Data tag) outcome = Unit {0}
 RefusedAsOwn clients client own (Status tag) outcome = Unit {0}

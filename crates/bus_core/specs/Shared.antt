@@ -29,11 +29,13 @@ use Rattle.bus_core.specs.declared.RetirementStage.{RetirementStage}
 use Rattle.bus_core.specs.declared.RetirementStage.TheVariants.{StopAsked, StopAnswered, MoveAsked, MoveAnswered}
 use Rattle.xhci_ctl.specs.declared.PipeState.{PipeState}
 use Rattle.bus_core.specs.declared.Mark.{Mark}
-use Rattle.bus_core.specs.declared.Mark.TheVariants.{Submit as SubmitMark, Quiet}
+use Rattle.bus_core.specs.declared.Mark.TheVariants.{Submit as SubmitMark, Task as TaskMark, Quiet}
 use Rattle.bus_core.specs.declared.Step.{Step}
-use Rattle.bus_core.specs.declared.Step.TheVariants.{Submit, CommandPipe, Data, Status, Engine, Event, Retire, Take}
+use Rattle.bus_core.specs.declared.Step.TheVariants.{Submit, Task as TaskStep, CommandPipe, Data, Status, Engine, Event, Retire, Take}
 use Rattle.bus_core.specs.declared.Outcome.{Outcome}
-use Rattle.uas_host.specs.Tags.{place_of, command_slot}
+use Rattle.scsi_cmd.specs.declared.Task.{Task}
+use Rattle.scsi_cmd.specs.declared.TheConstants.{TASK_SLOT}
+use Rattle.uas_host.specs.Tags.{place_of, command_slot, tag_of}
 use Rattle.uas_host.specs.Doors.{door, submission_doors, target_of}
 use Rattle.uas_host.specs.Retirement.{same_pipe}
 pub use Rattle.bus_core.specs.Td.{has_data_trb, request_direction}
@@ -41,7 +43,7 @@ use Rattle.bus_core.specs.Td.{has_trb, has_trb_on, data_trbs, is_left_over_on}
 use Rattle.bus_core.specs.Pipes.{all_rung, rung_unless}
 use Rattle.xhci_ctl.specs.Pipes.{new_pipe, is_open}
 use Rattle.xhci_ctl.specs.Engine.{stopped_pipe}
-use Rattle.bus_core.specs.Part.{Part, Act, new_part, fault_at, submitted_part, carry_act, move_act, send_act, event_act, event_place, take_act, stop_act, pass_act, retire_act}
+use Rattle.bus_core.specs.Part.{Part, Act, new_part, fault_at, submitted_part, carry_act, move_act, send_act, event_act, event_place, take_act, stop_act, pass_act, retire_act, managed_part, named_slot, task_fault_at}
 
 -- each client's part by number; the messages in the command pipe and the events not yet taken, the oldest first; the
 -- pipes 2 to 4; and the retirement under way
@@ -114,7 +116,19 @@ refusal client fault command =
       owner = Some client;
       mark = Quiet;
       reply = None;
-      refused = Some (record { fault = fault; command = command });
+      refused = Some (record { fault = fault; command = Some command });
+      doors = [];
+    }
+
+-- a refused task management brought no command
+abbrev pub task_refusal : ℕ → SubmitFault → Outcome
+task_refusal client fault =
+    record {
+      acted = true;
+      owner = Some client;
+      mark = Quiet;
+      reply = None;
+      refused = Some (record { fault = fault; command = None });
       doors = [];
     }
 
@@ -195,6 +209,7 @@ retire_is_due state pipe tag = is_none state.retirement && place_fact state tag 
 -- where a step acts; elsewhere it is idle
 abbrev pub due : Shared → Step → Bool
 due state (Submit client tag ticket command) = true
+due state (TaskStep client ticket task) = true
 due state CommandPipe = is_some_of state.messages
 due state (Data tag) = place_fact state tag (data_is_due state tag)
 due state (Status tag) = place_fact state tag (status_is_due state tag)
@@ -262,6 +277,30 @@ submitted_under state client tag ticket command (Some slot) =
 abbrev pub submit_step : Shared → ℕ → ℕ → ℕ → Command → Shared × Outcome
 submit_step state client tag ticket command =
     submitted_under state client tag ticket command (command_slot (length state.parts) client tag)
+
+-- TASK MANAGEMENT
+
+-- it goes the way of a submission without data, under the client's task tag
+abbrev pub managed : Shared → Part → Place → Option ℕ → ℕ → Task → Shared × Outcome
+managed state part place slot ticket task = (
+  record (with_streams_rung state Nothing (tag_of place)) {
+    parts = slice_set state.parts place.client (managed_part part slot ticket task);
+    messages = state.messages ++ place ∷ [];
+  },
+  acceptance place.client TaskMark (submission_doors (is_held state) Nothing (tag_of place)),
+)
+
+abbrev pub managed_or : Shared → Part → Place → Option ℕ → ℕ → Task → Option SubmitFault → Shared × Outcome
+managed_or state part place slot ticket task None = managed state part place slot ticket task
+managed_or state part place slot ticket task (Some fault) = (state, task_refusal place.client fault)
+
+abbrev pub managed_to : Shared → Place → Option ℕ → ℕ → Task → Option Part → Shared × Outcome
+managed_to state place slot ticket task None = (state, task_refusal place.client NotYours)
+managed_to state place slot ticket task (Some part) = managed_or state part place slot ticket task (task_fault_at part slot ticket task)
+
+abbrev pub task_step : Shared → ℕ → ℕ → Task → Shared × Outcome
+task_step state client ticket task =
+    managed_to state (record { client = client; slot = TASK_SLOT }) (named_slot (length state.parts) client task) ticket task (slice_get state.parts client)
 
 -- the first message leaves the command pipe
 abbrev pub carry_step : Shared → List Place → Shared × Outcome
@@ -334,6 +373,7 @@ event_step state (event ∷ rest) = event_seen (record state { events = rest }) 
 
 abbrev pub due_step : Shared → Step → Shared × Outcome
 due_step state (Submit client tag ticket command) = submit_step state client tag ticket command
+due_step state (TaskStep client ticket task) = task_step state client ticket task
 due_step state CommandPipe = carry_step state state.messages
 due_step state (Data tag) = routed_by_tag state move_act (place_of (length state.parts) tag)
 due_step state (Status tag) = routed_by_tag state send_act (place_of (length state.parts) tag)

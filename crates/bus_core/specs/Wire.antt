@@ -1,7 +1,7 @@
 -- The units that cross the pipes, as bytes (INCITS 471, information units).
 use Rattle.std.specs.Prelude.{ℕ, List}
 use Rattle.scsi_cmd.specs.Op.{cdb_bytes}
-use Rattle.uas_iu.specs.declared.Iu.TheVariants.{Command, Sense, Task as TaskUnit}
+use Rattle.uas_iu.specs.declared.Iu.TheVariants.{Command, Response, Sense, Task as TaskUnit}
 use Rattle.uas_iu.specs.Units.{unit_text}
 use Rattle.uas_iu.specs.Lun.{lun_text}
 use Rattle.uas_host.specs.Tasks.{aborted_tag, function_of}
@@ -16,6 +16,7 @@ abbrev pub request_text : ℕ → ℕ → Request → List ℕ
 request_text number tag (Execute op) = unit_text (Command tag (lun_text number) (cdb_bytes op))
 request_text number tag (Manage what noted) = unit_text (TaskUnit tag (function_of what) (aborted_tag what) (lun_text number))
 
--- the unit that tells the answer under this tag
-abbrev pub answer_text : ℕ → Answer → List ℕ
-answer_text tag answer = unit_text (Sense tag (status_of answer) (record { items = sense_of answer }))
+-- the unit that tells the answer to a request under this tag: Sense with a command's status, or Response with COMPLETE, 00h
+abbrev pub answer_text : ℕ → Request → Answer → List ℕ
+answer_text tag (Execute op) answer = unit_text (Sense tag (status_of answer) (record { items = sense_of answer }))
+answer_text tag (Manage what noted) answer = unit_text (Response tag 0)

@@ -16,10 +16,12 @@ use Rattle.uas_host.specs.declared.Handled.{Handled}
 use Rattle.uas_host.specs.declared.Handled.TheVariants.{Engine as EngineHandled, Matched}
 use Rattle.uas_host.specs.declared.Place.{Place}
 use Rattle.uas_host.specs.State.{opening as opening_host}
-use Rattle.uas_host.specs.Doors.{submission_doors}
+use Rattle.uas_host.specs.Doors.{answer_doors, submission_doors}
+use Rattle.uas_host.specs.Tasks.{managed, task_fault, task_tag, with_task_unit}
+use Rattle.scsi_cmd.specs.declared.Task.{Task}
 use Rattle.uas_host.specs.Retirement.{HasEngineRoom, is_held, retirement_for, stop_trb, with_engine_command, with_retirement}
 use Rattle.uas_host.specs.Submit.{HasRoomFor, host_fault, lent, submitted}
-use Rattle.uas_host.specs.Tds.{pushed}
+use Rattle.uas_host.specs.Tds.{HasTaskRoom, pushed, pushed_task}
 use Rattle.uas_host.specs.declared.RetirementStage.TheVariants.{Stopping}
 use Rattle.uas_host.specs.Tags.{place_of, tag_of}
 use Rattle.uas_host.specs.Events.{Sides as EventSides, event_doors, handled}
@@ -36,7 +38,7 @@ use Rattle.bus_core.specs.declared.Completion.TheVariants.{CommandDone, DataDone
 use Rattle.bus_core.specs.declared.Refusal.{Refusal}
 use Rattle.bus_core.specs.declared.Step.TheVariants.{CommandPipe, Data, Status, Engine as EngineStep, Event as EventStep, Retire, Take}
 use Rattle.bus_core.specs.Part.{event_place}
-use Rattle.bus_core.specs.Shared.{Shared, opening, due, shared_step, submit_step}
+use Rattle.bus_core.specs.Shared.{Shared, opening, due, shared_step, submit_step, task_step}
 use Rattle.bus_core.specs.World.{World, sides_in, with_sides}
 use Rattle.bus_core.specs.Fits.{Fits, IsSoundWorld}
 use Rattle.bus_core.specs.Decoded.{decoded}
@@ -115,6 +117,15 @@ submit_world world client tag ticket command = record world {
   controller = rung_all world.controller (submission_doors (is_held world.host) (direction_of command.op) tag);
   lines = pushed world.lines tag command.op;
   frames = lent world.frames client tag command;
+}
+
+-- the host submits a task management, likewise
+abbrev pub task_world : World → ℕ → ℕ → Task → World
+task_world world client ticket task = record world {
+  host = managed world.host client ticket task;
+  controller = rung_all world.controller (answer_doors (is_held world.host) (task_tag client));
+  lines = pushed_task world.lines (task_tag client);
+  frames = with_task_unit world.frames client task;
 }
 
 -- the host gives the client's reply that was ready first
@@ -227,6 +238,21 @@ abbrev pub SubmissionsFit : Type 0
 SubmissionsFit =
     (state : Shared) (world : World) (client tag ticket : ℕ) (command : Command) → Fits state world → ticket < 2 ^ 60
     → host_fault world.host client tag ticket command ≡ None → SubmitFits state world client tag ticket command
+
+-- Task: likewise
+abbrev pub TaskFaultsAgree : Type 0
+TaskFaultsAgree =
+    (state : Shared) (world : World) (client ticket : ℕ) (task : Task) → Fits state world
+    → task_fault world.host client ticket task ≡ option_map fault_in (task_step state client ticket task).1.refused
+
+pub record TaskFits (state : Shared) (world : World) (client ticket : ℕ) (task : Task) : Type 0 where
+  pub room : HasTaskRoom world.lines (task_tag client)
+  pub fits : IsSoundWorld (task_world world client ticket task) → Fits (task_step state client ticket task).0 (task_world world client ticket task)
+
+abbrev pub TasksFit : Type 0
+TasksFit =
+    (state : Shared) (world : World) (client ticket : ℕ) (task : Task) → Fits state world → ticket < 2 ^ 60
+    → task_fault world.host client ticket task ≡ None → TaskFits state world client ticket task
 
 -- Take: the reply is the shared machine's
 pub record TakeFits (state : Shared) (world : World) (client : ℕ) : Type 0 where

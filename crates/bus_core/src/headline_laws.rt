@@ -1,7 +1,8 @@
 //! The headline's laws over whole replays from new units, and its parts.
 ghost use Rattle.bus_core.specs.FirstBlocks.{OpensAsSolo, OpensAsNobody, ReplayIsSoloRun, FirstBlocksDecide};
 ghost use Rattle.bus_core.specs.Once.{SoloSettlesOnce, ReplaySettlesOnce};
-ghost use Rattle.bus_core.specs.Refusals.{RefusalsAreOwn, SubmissionsAreOwned, RefusedChangesNothing, OnlySubmissionsAreRefused, ReplayRefusesAsOwn};
+ghost use Rattle.bus_core.specs.Reach.{EndsEarlierNamed, GoneByNote, NobodyStays, NotedAtSubmission, OthersStay, RequestsStay};
+ghost use Rattle.bus_core.specs.Refusals.{RefusalsAreOwn, SubmissionsAreOwned, RefusedChangesNothing, OnlySubmissionsAreRefused, RefusedTaskChangesNothing, ReplayRefusesAsOwn, TaskRefusalsAreOwn, TasksAreOwned};
 ghost use Rattle.bus_core.specs.StepIsolation.{EachStepIsIsolated};
 
 /// On a new bus each client's part is a new solo machine on its unit; a client that isn't there has nothing.
@@ -25,6 +26,9 @@ pub fn refuses_as_own()
     ensures unchanged { RefusedChangesNothing }
     ensures submissions { OnlySubmissionsAreRefused }
     ensures replay { ReplayRefusesAsOwn }
+    ensures tasks { TaskRefusalsAreOwn }
+    ensures tasks_owned { TasksAreOwned }
+    ensures tasks_unchanged { RefusedTaskChangesNothing }
 {}
 
 /// Each step is to each client its own machine's step, or nothing at all.
@@ -37,4 +41,20 @@ pub fn steps_isolated()
 pub fn settles_once()
     ensures solo { SoloSettlesOnce }
     ensures replay { ReplaySettlesOnce }
+{}
+
+/// A step changes no part but its owner's, and none where it has no owner: another client's retirement or task management
+/// changes no byte, no TD and no reply of this one.
+pub fn others_stay()
+    ensures others { OthersStay }
+    ensures nobody { NobodyStays }
+{}
+
+/// A command is gone only as a task management of its own client that noted its ticket is received. What is noted is what
+/// the client held when it submitted the task management, and stays so: a later command on the same tag isn't reached.
+pub fn notes_reach_their_tickets()
+    ensures gone { GoneByNote }
+    ensures earlier { EndsEarlierNamed }
+    ensures same { RequestsStay }
+    ensures noted { NotedAtSubmission }
 {}

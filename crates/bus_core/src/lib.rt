@@ -38,7 +38,8 @@ use block_unit::Unit;
 pub use doorbells::{Doorbells, MOST_RESUMED};
 use frame_store::Frames;
 pub use headline_laws::{
-    opens_as_solo, refuses_as_own, replays_as_solo, settles_once, steps_isolated,
+    notes_reach_their_tickets, opens_as_solo, others_stay, refuses_as_own, replays_as_solo,
+    settles_once, steps_isolated,
 };
 pub use laws::{
     acts_where_due, brings_next_len, drains_to_quiet, idle_changes_nothing, isolated,
@@ -46,9 +47,9 @@ pub use laws::{
 };
 pub use queue_laws::{
     command_pipe_in_order, data_tds_fit, matches_at_start, no_queue_outgrows, none_is_stray,
-    replays_match, steps_keep_matches,
+    order_is_kept, replays_match, steps_keep_matches,
 };
-use scsi_cmd::{Command, Reply, SubmitFault};
+use scsi_cmd::{Command, Reply, SubmitFault, Task};
 use std::marker::Model;
 use stream_array::{Lines, Pipe};
 use uas_host::{Host, MOST_DOORS, Place, TdState};
@@ -113,6 +114,12 @@ pub enum Step {
         ticket: u64,
         command: Command,
     },
+    /// A client submits a task management under its task tag, with a ticket below 2^60.
+    Task {
+        client: usize,
+        ticket: u64,
+        task: Task,
+    },
     /// The device receives the oldest unit in the command pipe.
     CommandPipe,
     /// The controller moves one chunk of the tag's data.
@@ -133,6 +140,7 @@ pub enum Step {
 #[derive(Clone, Copy, Debug, PartialEq, Eq)]
 pub enum Mark {
     Submit(u16),
+    Task,
     Carry(u16),
     Move(u16),
     Send(u16),
@@ -141,11 +149,11 @@ pub enum Mark {
     Quiet,
 }
 
-/// A refused submission: why, and the command handed back.
+/// A refused submission: why, and the command handed back; a task management has none.
 #[derive(Debug, Drop)]
 pub struct Refusal {
     pub fault: SubmitFault,
-    pub command: Command,
+    pub command: Option<Command>,
 }
 
 /// What came of a step.

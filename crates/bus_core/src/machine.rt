@@ -18,7 +18,7 @@ use crate::{Bus, Doorbells, MAX_CLIENTS, Outcome, Step};
 use arrayvec::ArrayVec;
 use block_unit::Unit;
 use frame_store::Frames;
-use scsi_cmd::{Command, TAGS};
+use scsi_cmd::{Command, Task};
 use std::alloc::{AllocError, Global};
 use stream_array::{Lines, Pipe};
 use uas_host::{Handled, Host, RetirementStage};
@@ -90,7 +90,7 @@ impl Bus {
         ensures { result ≡ due self.now step.now }
     {
         match step {
-            Step::Submit { .. } => true,
+            Step::Submit { .. } | Step::Task { .. } => true,
             Step::CommandPipe => self.command_is_due(),
             Step::Data(tag) => self.data_is_due(*tag),
             Step::Status(tag) => self.status_is_due(*tag),
@@ -192,6 +192,11 @@ impl Bus {
                 ticket,
                 command,
             } => self.submit(client, tag, ticket, command),
+            Step::Task {
+                client,
+                ticket,
+                task,
+            } => self.manage(client, ticket, task),
             Step::CommandPipe => Outcome::carried(self.carry()),
             Step::Data(tag) => Outcome::moved(self.move_chunk(tag)),
             Step::Status(tag) => Outcome::sent(self.send(tag)),
@@ -222,6 +227,27 @@ impl Bus {
         ring(&mut self.controller, &self.doors);
         stand(&self.host, &self.lines, &self.frames);
         Outcome::submitted(client, tag, submitted, Doorbells::single(&self.doors))
+    }
+
+    /// A client submits a task management: the host notes the tickets that it is to end, writes its unit and pushes its TDs, and the
+    /// doorbells that it names are rung, in their order. A refused one names none.
+    #[inline(never)]
+    fn manage(&mut self, client: usize, ticket: u64, task: Task) -> Outcome
+        requires { ticket < 2 ^ 60 }
+        ensures { shared_step self.old (Step.Task client ticket task) ≡ (self.new, result) }
+    {
+        self.doors.clear();
+        let managed = self.host.task(
+            &mut self.lines,
+            &mut self.frames,
+            &mut self.doors,
+            client,
+            ticket,
+            task,
+        );
+        ring(&mut self.controller, &self.doors);
+        stand(&self.host, &self.lines, &self.frames);
+        Outcome::managed(client, managed, Doorbells::single(&self.doors))
     }
 
     /// The device receives the oldest unit in the command pipe.
@@ -314,20 +340,15 @@ impl Bus {
         }
     }
 
-    /// The least tag above this one whose TD on a pipe is left over. No other tag's is.
+    /// The least tag above this one whose TD on a pipe is left over. None is due while a retirement is under way.
     pub(crate) fn next_left_over(&self, pipe: Pipe, tag: u16) -> Option<u16>
         ensures next { IfSome result (λ next. (tag < next) × (next ≤ length self.now.parts * TAGS) × AreNotLeftOver self.now pipe tag next) }
         ensures none { IfNone result (AreNotLeftOver self.now pipe tag (suc (length self.now.parts * TAGS))) }
     {
-        let most = (self.clients() * TAGS) as u16;
-        let mut next = tag;
-        while next < most {
-            next += 1;
-            if self.retire_is_due(pipe, next) {
-                return Some(next);
-            }
+        if self.host.retirement().is_some() {
+            return None;
         }
-        None
+        self.host.next_left_over(pipe, tag)
     }
 
     /// A client takes the reply that was ready first.

@@ -1,7 +1,7 @@
 ghost use Rattle.std.specs.Prelude.{◌≡◌};
-ghost use Rattle.bus_core.specs.Owners.{acted_as, executed_as, handled_as, replying, submitted_as};
+ghost use Rattle.bus_core.specs.Owners.{acted_as, executed_as, handled_as, managed_as, replying, submitted_as};
 ghost use Rattle.bus_core.specs.declared.Mark.{Mark};
-ghost use Rattle.bus_core.specs.Shared.{acceptance, idle, refusal, ringing};
+ghost use Rattle.bus_core.specs.Shared.{acceptance, idle, refusal, ringing, task_refusal};
 ghost use Rattle.bus_core.specs.WorldDue.{marked};
 
 use crate::owners::{index_of, mark_of, owner_of};
@@ -163,7 +163,43 @@ impl Outcome {
             owner: Some(client),
             mark: Mark::Quiet,
             reply: None,
-            refused: Some(Refusal { fault, command }),
+            refused: Some(Refusal {
+                fault,
+                command: Some(command),
+            }),
+            doors: Doorbells::none(),
+        }
+    }
+
+    /// The outcome of a task management, by the host's answer and the doorbells that were rung.
+    #[inline(always)]
+    pub(crate) fn managed(
+        client: usize,
+        answer: Result<(), SubmitFault>,
+        doors: Doorbells,
+    ) -> Outcome
+        ensures { result ≡ managed_as client doors answer }
+    {
+        match answer {
+            Ok(()) => Outcome::accepted(client, Mark::Task, doors),
+            Err(fault) => Outcome::refused_task(client, fault),
+        }
+    }
+
+    /// The outcome of a refused task management.
+    #[inline(always)]
+    fn refused_task(client: usize, fault: SubmitFault) -> Outcome
+        ensures { result ≡ task_refusal client fault }
+    {
+        Outcome {
+            acted: true,
+            owner: Some(client),
+            mark: Mark::Quiet,
+            reply: None,
+            refused: Some(Refusal {
+                fault,
+                command: None,
+            }),
             doors: Doorbells::none(),
         }
     }

@@ -1,7 +1,7 @@
 //! The laws of what waits in the shared machine, which hold of its definitions.
 //!
 //! Each message and each event is of one TD, and each TD of at most one of each kind; so no queue outgrows the places.
-ghost use Rattle.bus_core.specs.Matched.{OpeningIsMatched, StepKeepsMatches, FromMatches, HasRoom, RingsHaveRoom, AreNamedOnce, HasNoStray, CarryActs, EventActs, NoDataEventWaits, NoStatusEventWaits, HaveDataTrbs, ArePendingCommands, HaveCommandTrbs, EventFreesFirst, AcceptedFits, OverReplays, ReplaysHaveRoom, IsMatched};
+ghost use Rattle.bus_core.specs.Matched.{OpeningIsMatched, StepKeepsMatches, OrderIsKept, FromMatches, HasRoom, RingsHaveRoom, AreNamedOnce, HasNoStray, CarryActs, EventActs, NoDataEventWaits, NoStatusEventWaits, HaveDataTrbs, ArePendingCommands, HaveCommandTrbs, EventFreesFirst, AcceptedFits, OverReplays, ReplaysHaveRoom, IsMatched};
 
 /// At the start nothing stands anywhere, and nothing waits.
 pub fn matches_at_start()
@@ -11,6 +11,12 @@ pub fn matches_at_start()
 /// Each step keeps what waits matched.
 pub fn steps_keep_matches()
     ensures { StepKeepsMatches }
+{}
+
+/// Each step keeps the order of a client's requests: the device receives them by rising ticket, and what a task management
+/// noted is done with before its response is seen.
+pub fn order_is_kept()
+    ensures { OrderIsKept }
 {}
 
 /// No place is named twice, so that no queue outgrows the places: 248 TRBs in the command pipe's ring and 745 events are

@@ -1,4 +1,4 @@
-//! Refused submissions, and what a submission leaves on the rings.
+//! Refused submissions, what a submission leaves on the rings, and doorbells in order.
 use super::*;
 use scsi_cmd::{Buffer, Op, moves};
 use std::alloc::{AllocError, Global};
@@ -53,8 +53,9 @@ fn bad_lengths(rt: HostRuntime) -> Result<(), Fail> {
         assert_eq!(rt; submitted.mark, Mark::Quiet);
         let refusal = submitted.refused.ok_or("not refused")?;
         assert_eq!(rt; refusal.fault, fault);
-        assert_eq!(rt; refusal.command.op, read);
-        let returned = refusal.command.buffer.into_vec();
+        let handed_back = refusal.command.ok_or("not handed back")?;
+        assert_eq!(rt; handed_back.op, read);
+        let returned = handed_back.buffer.into_vec();
         assert_eq!(rt; returned.len(), length);
         assert!(rt; returned.iter().all(|byte| *byte == 0xA5));
         assert_eq!(rt; bus.drain(100), (0, true));

@@ -1,6 +1,6 @@
 //! The laws of the world of rings: where rings, buffers, host and device fit a state of the shared machine, each step of
 //! host and controller is the shared machine's step.
-ghost use Rattle.bus_core.specs.WorldSteps.{CommandsFit, DataFit, DataIsIdle, EngineIsIdle, EnginesFit, EventsFit, FaultsAgree, NoCommandIsIdle, OpeningFits, RetireIsIdle, RetirementsFit, StatusIsIdle, StatusesFit, SubmissionsFit, TakeIsIdle, TakesFit, WorldReadsBack};
+ghost use Rattle.bus_core.specs.WorldSteps.{CommandsFit, DataFit, DataIsIdle, EngineIsIdle, EnginesFit, EventsFit, FaultsAgree, NoCommandIsIdle, OpeningFits, RetireIsIdle, RetirementsFit, StatusIsIdle, StatusesFit, SubmissionsFit, TakeIsIdle, TakesFit, TaskFaultsAgree, TasksFit, WorldReadsBack};
 
 /// A world that fits a state tells that state.
 pub fn worlds_read_back()
@@ -51,6 +51,12 @@ pub fn events_fit()
 pub fn submissions_fit()
     ensures faults { FaultsAgree }
     ensures step { SubmissionsFit }
+{}
+
+/// A task management, likewise.
+pub fn tasks_fit()
+    ensures faults { TaskFaultsAgree }
+    ensures step { TasksFit }
 {}
 
 /// A reply is the shared machine's.

@@ -3,12 +3,14 @@ use Rattle.std.proofs.Common.{◌≡◌, ℕ, Bool, true, false, cond, suc, List
 use Rattle.std.specs.Prelude.{slice_get}
 use Rattle.scsi_cmd.specs.declared.Command.{Command}
 use Rattle.scsi_cmd.specs.declared.SubmitFault.{SubmitFault}
+use Rattle.scsi_cmd.specs.declared.Task.{Task}
+use Rattle.scsi_cmd.specs.declared.TheConstants.{TASK_SLOT}
 use Rattle.scsi_cmd.specs.Held.{held_at}
 use Rattle.solo_model.specs.TaggedTask.{TaggedTask}
 use Rattle.solo_model.specs.TaggedTask.{carried, moved, sent}
 use Rattle.block_unit.specs.BlockMaps.{BlockMaps}
 use Rattle.bus_core.specs.declared.Step.{Step}
-use Rattle.bus_core.specs.declared.Step.TheVariants.{Submit, CommandPipe, Data, Status, Engine, Event, Retire, Take}
+use Rattle.bus_core.specs.declared.Step.TheVariants.{Submit, Task as TaskStep, CommandPipe, Data, Status, Engine, Event, Retire, Take}
 use Rattle.bus_core.specs.declared.Mark.{Mark}
 use Rattle.bus_core.specs.declared.Mark.TheVariants.{Submit as SubmitMark, Quiet}
 use Rattle.bus_core.specs.declared.Outcome.{Outcome}
@@ -23,9 +25,9 @@ use Rattle.bus_core.specs.declared.RetirementStage.TheVariants.{StopAsked, StopA
 use Rattle.bus_core.specs.Td.{Entry}
 use Rattle.uas_host.specs.Tags.{place_of, command_slot}
 use Rattle.bus_core.specs.Part.{Part, Act, carry_act, carried_slot, carried_entry, move_act, moved_slot, moved_entry, send_act, sent_slot, sent_entry}
-use Rattle.bus_core.specs.Part.{event_act, event_place, seen_entry, seen_by, take_act, fault_at, stop_act, pass_act, passed_slot, retire_act}
+use Rattle.bus_core.specs.Part.{event_act, event_place, seen_entry, seen_by, take_act, fault_at, named_slot, task_fault_at, stop_act, pass_act, passed_slot, retire_act}
 use Rattle.bus_core.specs.Shared.{Shared, idle, due, due_step, shared_step, routed, routed_to, routed_by_tag, carry_step, event_step, submitted_under}
-use Rattle.bus_core.specs.Shared.{submitted_to, answered, event_seen, engine_step, engine_did, engine_seen, stage_seen, at_stage, retire_step, resumed}
+use Rattle.bus_core.specs.Shared.{submitted_to, answered, managed_or, managed_to, event_seen, engine_step, engine_did, engine_seen, stage_seen, at_stage, retire_step, resumed}
 use Rattle.bus_core.specs.Td.{retired_on}
 use Rattle.std.specs.Prelude.{option_and_then, length}
 
@@ -78,13 +80,13 @@ send_slot-reply part slot place (Some entry) = go (sent entry.task)
     go None = refl
     go (Some task) = refl
 
-seen_entry-reply : (part : Part) (slot : ℕ) (entry : Option Entry) → (seen_entry part slot entry).reply ≡ None
-seen_entry-reply part slot None = refl
-seen_entry-reply part slot (Some entry) = refl
+seen_entry-reply : (event : Completion) (part : Part) (slot : ℕ) (entry : Option Entry) → (seen_entry event part slot entry).reply ≡ None
+seen_entry-reply event part slot None = refl
+seen_entry-reply event part slot (Some entry) = refl
 
 event_act-reply : (event : Completion) (part : Part) → (event_act event part).reply ≡ None
 event_act-reply event part =
-    seen_entry-reply part (event_place event).slot (option_and_then (seen_by event) (held_at part.entries (event_place event).slot))
+    seen_entry-reply event part (event_place event).slot (option_and_then (seen_by event) (held_at part.entries (event_place event).slot))
 
 untold_carry : (state : Shared) (messages : List Place) → Untold (carry_step state messages).1
 untold_carry state [] = untold_idle
@@ -123,7 +125,7 @@ untold_stage state retirement MoveAnswered =
     let place : Place = retirement.place in
     untold_resumed retirement.pipe (routed (record state { retirement = None }) place.client (retire_act retirement.pipe place))
     (untold_routed_to (record state { retirement = None }) place.client (retire_act retirement.pipe place) (slice_get state.parts place.client)
-    (λ p. seen_entry-reply p place.slot (option_and_then (retired_on retirement.pipe) (held_at p.entries place.slot))))
+    (λ p. seen_entry-reply (EngineDone place) p place.slot (option_and_then (retired_on retirement.pipe) (held_at p.entries place.slot))))
 
 untold_engine_seen : (state : Shared) (place : Place) (retirement : Option Retirement) → Untold (engine_seen state place retirement).1
 untold_engine_seen state place None = record { reply = refl; refused = refl }
@@ -151,6 +153,7 @@ untold_retire state pipe (Some place) = record { reply = refl; refused = refl }
 -- A step of controller, device or host, and of no client.
 abbrev pub IsInner : Step → Type 0
 IsInner (Submit client tag ticket command) = ⊥
+IsInner (TaskStep client ticket task) = ⊥
 IsInner CommandPipe = Unit {0}
 IsInner (Data tag) = Unit {0}
 IsInner (Status tag) = Unit {0}
@@ -175,6 +178,7 @@ inner_untold state (Status tag) inner =
     untold_if (due state (Status tag)) state (due_step state (Status tag)) (untold_by_tag state send_act (place_of (length state.parts) tag)
     (λ at p. send_slot-reply p at.slot at (held_at p.entries at.slot)))
 inner_untold state (Submit client tag ticket command) inner = absurd inner
+inner_untold state (TaskStep client ticket task) inner = absurd inner
 inner_untold state (Take client) inner = absurd inner
 
 -- A TAKE
@@ -227,3 +231,26 @@ submit_told state client tag ticket command = under (command_slot (length state.
     under : (slot : Option ℕ) → IsSubmitted client (submitted_under state client tag ticket command slot).1
     under None = record { owner = refl; reply = refl; mark = refl }
     under (Some slot) = to slot (slice_get state.parts client)
+
+-- A TASK MANAGEMENT
+
+pub record IsManaged (client : ℕ) (outcome : Outcome) : Type 0 where
+  pub owner : outcome.owner ≡ Some client
+  pub reply : outcome.reply ≡ None
+
+pub task_told : (state : Shared) (client ticket : ℕ) (task : Task) → IsManaged client (shared_step state (TaskStep client ticket task)).1
+task_told state client ticket task = to (slice_get state.parts client)
+  where
+    place : Place
+    place = record { client = client; slot = TASK_SLOT }
+
+    slot : Option ℕ
+    slot = named_slot (length state.parts) client task
+
+    by_fault : (part : Part) (fault : Option SubmitFault) → IsManaged client (managed_or state part place slot ticket task fault).1
+    by_fault part None = record { owner = refl; reply = refl }
+    by_fault part (Some fault) = record { owner = refl; reply = refl }
+
+    to : (part : Option Part) → IsManaged client (managed_to state place slot ticket task part).1
+    to None = record { owner = refl; reply = refl }
+    to (Some part) = by_fault part (task_fault_at part slot ticket task)

@@ -6,17 +6,18 @@ use Rattle.std.proofs.lemmas.Bool.{eqb-true}
 use Rattle.std.specs.Prelude.{◌==◌, ◌-◌, ◌||◌, slice_get, slice_set, position, not}
 use Rattle.scsi_cmd.specs.declared.TheConstants.{TAGS}
 use Rattle.scsi_cmd.specs.declared.Command.{Command}
+use Rattle.scsi_cmd.specs.declared.Task.{Task}
 use Rattle.scsi_cmd.specs.declared.Reply.{Reply}
 use Rattle.scsi_cmd.specs.declared.Reply.TheVariants.{Status as StatusReply, Aborted as AbortedReply, Task as TaskReply}
 use Rattle.scsi_cmd.specs.Op.{direction_of}
 use Rattle.tag_range.specs.declared.Refused.{Refused}
-use Rattle.tag_range.specs.declared.Refused.TheVariants.{NoTag, Worn}
-use Rattle.tag_range.specs.Tags.{ClientTags, issue_entry, is_worn, tag_at}
+use Rattle.tag_range.specs.declared.Refused.TheVariants.{NoTag, TaskBusy, Worn}
+use Rattle.tag_range.specs.Tags.{ClientTags, issue_entry, is_worn, tag_at, task_tag}
 use Rattle.stream_array.specs.declared.Pipe.TheVariants.{Status, DataIn, DataOut}
 use Rattle.bus_core.specs.declared.Step.{Step}
 use Rattle.bus_core.specs.declared.Step.TheVariants as step
 use Rattle.bus_core.specs.declared.Mark.{Mark}
-use Rattle.bus_core.specs.declared.Mark.TheVariants.{Submit as SubmitMark, Carry, Move, Send, Settle, Quiet}
+use Rattle.bus_core.specs.declared.Mark.TheVariants.{Submit as SubmitMark, Task as TaskMark, Carry, Move, Send, Settle, Quiet}
 use Rattle.bus_core.specs.declared.Outcome.{Outcome}
 use Rattle.bus_core.specs.declared.Refusal.{Refusal}
 use Rattle.bus_core.specs.Shared.{Shared, due, shared_step}
@@ -28,11 +29,11 @@ use Rattle.uasdisk.specs.declared.script.Line.{Line}
 use Rattle.uasdisk.specs.declared.script.Line.TheVariants as line
 use Rattle.uasdisk.specs.Printed.{refused_name, fault_name}
 use Rattle.uasdisk.specs.Told.{Telling, drain_limit, step_of, is_due, drained_machine, is_to_host, command_of, refused_run, freed_run, handed_over}
-use Rattle.uasdisk.specs.Told.{took_to_host, noted_run, is_brought_in, issued_run, with_range, submitted_by, submitted, tag_of, ticket_of, replied}
+use Rattle.uasdisk.specs.Told.{took_to_host, noted_run, is_brought_in, issued_run, with_range, submitted_by, submitted, managed_run, managed_by, managed, tag_of, ticket_of, replied}
 use Rattle.uasdisk.specs.Told.{taken, idle_run, stepped, taken_or_idle, taken_times, all_taken_by, taken_below, all_taken, drained_run, told_line}
 use Rattle.uasdisk.specs.Headline.{Said, line_of, replied as said_reply, refused_by_bus, refused_by_tags, idle as said_idle, news_to, own_lines}
-use Rattle.uasdisk.proofs.Outcomes.{Untold, IsInner, inner_untold, IsTaken, take_told, MarksSubmission, IsSubmitted, submit_told}
-use Rattle.uasdisk.proofs.Goes.{Goes, goes_nowhere, goes_on, goes_saying, goes_by_step, is_to_host_by, shown_by, or-false}
+use Rattle.uasdisk.proofs.Outcomes.{Untold, IsInner, inner_untold, IsTaken, take_told, MarksSubmission, IsSubmitted, submit_told, IsManaged, task_told}
+use Rattle.uasdisk.proofs.Goes.{Goes, IsNoted, goes_nowhere, goes_on, goes_saying, goes_by_step, is_to_host_by, shown_by, or-false}
 use Rattle.uasdisk.proofs.Notes.{flags_of, noted_after, ranges_noted, ticket_noted, freed_noted}
 
 -- NO NEWS
@@ -56,9 +57,10 @@ unshown : (brings_in : List (List Bool)) (client : ℕ) (outcome : Outcome) → 
 unshown brings_in client outcome none =
     ap (λ (r : Option Reply). option_to_list (option_map (shown_by brings_in client) r)) (sym (unreplied client outcome none))
 
--- the label of a step that is no submission is of no command
+-- the label of a step that is no submission of a command is of no command
 abbrev IsNoSubmission : Step → Type 0
 IsNoSubmission (step.Submit client tag ticket command) = ⊥
+IsNoSubmission (step.Task client ticket task) = Unit {0}
 IsNoSubmission step.CommandPipe = Unit {0}
 IsNoSubmission (step.Data tag) = Unit {0}
 IsNoSubmission (step.Status tag) = Unit {0}
@@ -69,6 +71,7 @@ IsNoSubmission (step.Take client) = Unit {0}
 
 mark_label : (ticket : ℕ) (mark : Mark) (taken : Step) → IsNoSubmission taken → is_to_host_by ticket (label_of mark taken) ≡ false
 mark_label ticket (SubmitMark index) (step.Submit client tag given command) is = absurd is
+mark_label ticket (SubmitMark index) (step.Task client given task) is = refl
 mark_label ticket (SubmitMark index) step.CommandPipe is = refl
 mark_label ticket (SubmitMark index) (step.Data tag) is = refl
 mark_label ticket (SubmitMark index) (step.Status tag) is = refl
@@ -76,6 +79,15 @@ mark_label ticket (SubmitMark index) step.Engine is = refl
 mark_label ticket (SubmitMark index) step.Event is = refl
 mark_label ticket (SubmitMark index) (step.Retire pipe tag) is = refl
 mark_label ticket (SubmitMark index) (step.Take client) is = refl
+mark_label ticket TaskMark (step.Submit client tag given command) is = refl
+mark_label ticket TaskMark (step.Task client given task) is = refl
+mark_label ticket TaskMark step.CommandPipe is = refl
+mark_label ticket TaskMark (step.Data tag) is = refl
+mark_label ticket TaskMark (step.Status tag) is = refl
+mark_label ticket TaskMark step.Engine is = refl
+mark_label ticket TaskMark step.Event is = refl
+mark_label ticket TaskMark (step.Retire pipe tag) is = refl
+mark_label ticket TaskMark (step.Take client) is = refl
 mark_label ticket (Carry index) taken is = refl
 mark_label ticket (Move index) taken is = refl
 mark_label ticket (Send index) taken is = refl
@@ -91,6 +103,7 @@ no_label client ticket taken outcome is = go (is_own client outcome)
 
 inner_no_submission : (taken : Step) → IsInner taken → IsNoSubmission taken
 inner_no_submission (step.Submit client tag ticket command) is = absurd is
+inner_no_submission (step.Task client ticket task) is = absurd is
 inner_no_submission step.CommandPipe is = tt
 inner_no_submission (step.Data tag) is = tt
 inner_no_submission (step.Status tag) is = tt
@@ -414,11 +427,101 @@ submitted_goes isolated run client request = go (slice_get run.ranges client) re
     go None is = goes_nowhere run
     go (Some tags) is = by_entry tags is (position not tags.out)
 
+-- TASK MANAGEMENT
+
+-- a client's task management under this ticket
+abbrev manages : Telling → ℕ → ℕ → Task → Shared × Outcome
+manages run client ticket task = shared_step run.machine (step.Task client ticket task)
+
+-- nothing is noted of a task management, and its label is of no command
+task_noted : (client other given ticket : ℕ) (taken : Step) (outcome : Outcome) → IsNoSubmission taken
+    → cond (client == other) (cond (given == ticket) false false) false ≡ is_to_host_by ticket (own_label other taken outcome)
+task_noted client other given ticket taken outcome is = none (client == other) (given == ticket) ∙ sym (no_label other ticket taken outcome is)
+  where
+    none : (a b : Bool) → cond a (cond b false false) false ≡ false
+    none true true = refl
+    none true false = refl
+    none false b = refl
+
+-- the client's own tags gave the task tag and a ticket
+given_task_goes : HeadlineHolds → (run : Telling) (client : ℕ) (task : Task) (tags now : ClientTags) (tag : ℕ) → slice_get run.ranges client ≡ Some tags
+    → now.next ≡ tags.next + 1 → Goes run (managed_run (with_range run client now) client task (Ok (tag, tags.next)))
+unfolding step_of
+given_task_goes isolated run client task tags now tag found next = go (manages run client tags.next task).1.refused refl
+  where
+    taken : Step
+    taken = step.Task client tags.next task
+
+    outcome : Outcome
+    outcome = (manages run client tags.next task).1
+
+    told : IsManaged client outcome
+    told = task_told run.machine client tags.next task
+
+    before : Telling
+    before = noted_run (at_machine (with_range run client now) (manages run client tags.next task).0) client false
+
+    notes : IsNoted run → (other ticket : ℕ)
+        → is_brought_in before.brings_in other ticket ≡ (is_brought_in run.brings_in other ticket || is_to_host_by ticket (own_label other taken outcome))
+    notes noted other ticket =
+        let flags = flags_of run client tags noted found in
+        noted_after run.brings_in client false flags.flags flags.is other ticket
+        ∙ ap (λ (b : Bool). is_brought_in run.brings_in other ticket || b) (task_noted client other (length flags.flags) ticket taken outcome tt)
+
+    go : (refused : Option Refusal) → outcome.refused ≡ refused → Goes run (handed_over before client tag refused)
+    go None none =
+        goes_by_step isolated run before taken [] (record {
+          machine = refl;
+          text = sym (append-nil run.text);
+          news = untold_news outcome (record { reply = told.reply; refused = none });
+          noted = ticket_noted run before client tags now false found next refl refl;
+          own = λ other. unshown run.brings_in other outcome told.reply;
+          notes = notes;
+        })
+    go (Some refusal) some =
+        goes_by_step isolated run (refused_run (freed_run before client tag) client (fault_name refusal.fault)) taken
+        (refused_by_bus client refusal.fault ∷ []) (record {
+          machine = refl;
+          text = ap (λ (t : List ℕ). run.text ++ t) (sym (append-nil (line_of (refused_by_bus client refusal.fault))));
+          news = rw (told.owner, told.reply, some) refl;
+          noted = λ noted. freed_noted before client tag (ticket_noted run before client tags now false found next refl refl noted);
+          own = λ other. unshown run.brings_in other outcome told.reply;
+          notes = notes;
+        })
+
+-- the task tag is out, and one more ticket
+abbrev task_out : ClientTags → ClientTags
+task_out tags = record tags { next = tags.next + 1; task_out = true }
+
+managed_goes : HeadlineHolds → (run : Telling) (client : ℕ) (task : Task) → Goes run (managed run client task)
+unfolding managed
+managed_goes isolated run client task = go (slice_get run.ranges client) refl
+  where
+    worn : (tags : ClientTags) → slice_get run.ranges client ≡ Some tags → (b : Bool)
+        → Goes run (managed_run (with_range run client
+        (cond {A = ClientTags × Result (ℕ × ℕ) Refused} b (tags, Err Worn) (task_out tags, Ok (task_tag TAGS tags.client, tags.next))).0) client task
+        (cond {A = ClientTags × Result (ℕ × ℕ) Refused} b (tags, Err Worn) (task_out tags, Ok (task_tag TAGS tags.client, tags.next))).1)
+    worn tags found true = refused_goes run client tags tags Worn found refl
+    worn tags found false = given_task_goes isolated run client task tags (task_out tags) (task_tag TAGS tags.client) found refl
+
+    busy : (tags : ClientTags) → slice_get run.ranges client ≡ Some tags → (b : Bool)
+        → Goes run (managed_run (with_range run client (cond {A = ClientTags × Result (ℕ × ℕ) Refused} b (tags, Err TaskBusy)
+        (cond {A = ClientTags × Result (ℕ × ℕ) Refused} (is_worn tags) (tags, Err Worn) (task_out tags, Ok (task_tag TAGS tags.client, tags.next)))).0) client task
+        (cond {A = ClientTags × Result (ℕ × ℕ) Refused} b (tags, Err TaskBusy)
+        (cond {A = ClientTags × Result (ℕ × ℕ) Refused} (is_worn tags) (tags, Err Worn) (task_out tags, Ok (task_tag TAGS tags.client, tags.next)))).1)
+    busy tags found true = refused_goes run client tags tags TaskBusy found refl
+    busy tags found false = worn tags found (is_worn tags)
+
+    go : (found : Option ClientTags) → slice_get run.ranges client ≡ found → Goes run (managed_by run client task found)
+    go None is = goes_nowhere run
+    go (Some tags) is = busy tags is tags.task_out
+
 -- LINES
 
 line_goes : HeadlineHolds → (run : Telling) (one : Line) → Goes run (told_line run one)
 unfolding told_line
 line_goes isolated run (line.Submit client request) = submitted_goes isolated run client request
+line_goes isolated run (line.Task client task) = managed_goes isolated run client task
 line_goes isolated run line.CommandPipe = stepped_goes isolated run step.CommandPipe tt
 line_goes isolated run line.Engine = stepped_goes isolated run step.Engine tt
 line_goes isolated run line.Event = stepped_goes isolated run step.Event tt

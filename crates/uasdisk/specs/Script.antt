@@ -9,10 +9,11 @@ use Rattle.bus_core.specs.declared.TheConstants.{MAX_CLIENTS}
 use Rattle.scsi_cmd.specs.declared.TheConstants.{TAGS}
 use Rattle.scsi_cmd.specs.declared.Op.{Op}
 use Rattle.scsi_cmd.specs.declared.Op.TheVariants.{TestUnitReady, Inquiry, ReadCapacity, Read, Write, Sync}
+use Rattle.scsi_cmd.specs.declared.Task.TheVariants.{Abort, Reset}
 use Rattle.uasdisk.specs.declared.script.Line.{Line}
 use Rattle.stream_array.specs.declared.Pipe.{Pipe}
 use Rattle.stream_array.specs.Map.{pipe_numbered}
-use Rattle.uasdisk.specs.declared.script.Line.TheVariants.{Submit, CommandPipe, Engine, Event, Data, Status, Retire, Take, Drain}
+use Rattle.uasdisk.specs.declared.script.Line.TheVariants.{Submit, Task, CommandPipe, Engine, Event, Data, Status, Retire, Take, Drain}
 use Rattle.uasdisk.specs.declared.script.LineFault.{LineFault}
 use Rattle.uasdisk.specs.declared.script.LineFault.TheVariants.{NotAscii, UnknownWord, WrongNumberOfWords, NumberOutOfRange}
 use Rattle.uasdisk.specs.declared.script.ScriptFault.{ScriptFault}
@@ -20,7 +21,7 @@ use Rattle.uasdisk.specs.declared.script.ScriptFault.TheVariants.{TooLong, Line 
 use Rattle.uasdisk.specs.declared.script.Request.{Request}
 use Rattle.uasdisk.specs.declared.script.RequestName.{RequestName}
 use Rattle.uasdisk.specs.declared.script.RequestName.TheVariants.{Tur as TurName, Inquiry as InquiryName, Capacity as CapacityName, Read as ReadName}
-use Rattle.uasdisk.specs.declared.script.RequestName.TheVariants.{Write as WriteName, Sync as SyncName}
+use Rattle.uasdisk.specs.declared.script.RequestName.TheVariants.{Write as WriteName, Sync as SyncName, Abort as AbortName, Reset as ResetName}
 use Rattle.uasdisk.specs.declared.script.StepName.{StepName}
 use Rattle.uasdisk.specs.declared.script.StepName.TheVariants.{Command as CommandName, Event as EventName, Data as DataName, Status as StatusName}
 use Rattle.uasdisk.specs.declared.script.StepName.TheVariants.{Engine as EngineName, Retire as RetireName, Take as TakeName, Drain as DrainName}
@@ -63,7 +64,7 @@ abbrev pub byte_at : List (List ℕ) → ℕ → Option ℕ
 byte_at words place = number_at words place 0 255
 
 -- REQUESTS: `C tur`, `C inquiry LEN`, `C capacity`, `C read LBA COUNT [fua]`, `C write LBA COUNT BYTE [fua]`,
--- `C sync LBA COUNT`
+-- `C sync LBA COUNT`, `C abort TAG`, `C reset`
 
 abbrev pub request_named : List ℕ → Option RequestName
 request_named word =
@@ -73,7 +74,9 @@ request_named word =
     else (if bytes_eq word (codes "read") then Some ReadName
     else (if bytes_eq word (codes "write") then Some WriteName
     else (if bytes_eq word (codes "sync") then Some SyncName
-    else None)))))
+    else (if bytes_eq word (codes "abort") then Some AbortName
+    else (if bytes_eq word (codes "reset") then Some ResetName
+    else None)))))))
 
 -- how many words its line has, the client's number and the name among them
 abbrev pub request_has : RequestName → ℕ → Bool
@@ -83,28 +86,32 @@ request_has CapacityName count = count == 2
 request_has ReadName count = count == 4 || count == 5
 request_has WriteName count = count == 5 || count == 6
 request_has SyncName count = count == 4
+request_has AbortName count = count == 3
+request_has ResetName count = count == 2
 
--- an operation whose buffer is zeroed
-abbrev pub zeroed : Op → Request
-zeroed op = record { op = op; fill = 0 }
+-- a submission of an operation whose buffer is zeroed
+abbrev pub zeroed : ℕ → Op → Line
+zeroed client op = Submit client (record { op = op; fill = 0 })
 
--- what the words ask for; none where one is no number or out of range
-abbrev pub request_of : RequestName → List (List ℕ) → Option Request
-request_of TurName words = Some (zeroed TestUnitReady)
-request_of InquiryName words = option_map (λ allocation. zeroed (Inquiry allocation)) (count_at words 2)
-request_of CapacityName words = Some (zeroed ReadCapacity)
-request_of ReadName words =
-    option_and_then (λ lba. option_and_then (λ count. option_map (λ fua. zeroed (Read lba count fua))
+-- what the words ask for of a client; none where one is no number or out of range
+abbrev pub request_of : ℕ → RequestName → List (List ℕ) → Option Line
+request_of client TurName words = Some (zeroed client TestUnitReady)
+request_of client InquiryName words = option_map (λ allocation. zeroed client (Inquiry allocation)) (count_at words 2)
+request_of client CapacityName words = Some (zeroed client ReadCapacity)
+request_of client ReadName words =
+    option_and_then (λ lba. option_and_then (λ count. option_map (λ fua. zeroed client (Read lba count fua))
     (fua_at words 4)) (count_at words 3)) (lba_at words 2)
-request_of WriteName words =
-    option_and_then (λ lba. option_and_then (λ count. option_and_then (λ fill. option_map (λ fua. record { op = Write lba count fua; fill = fill })
+request_of client WriteName words =
+    option_and_then (λ lba. option_and_then (λ count. option_and_then (λ fill. option_map (λ fua.
+    Submit client (record { op = Write lba count fua; fill = fill }))
     (fua_at words 5)) (byte_at words 4)) (count_at words 3)) (lba_at words 2)
-request_of SyncName words =
-    option_and_then (λ lba. option_map (λ count. zeroed (Sync lba count)) (count_at words 3)) (lba_at words 2)
+request_of client SyncName words =
+    option_and_then (λ lba. option_map (λ count. zeroed client (Sync lba count)) (count_at words 3)) (lba_at words 2)
+request_of client AbortName words = option_map (λ tag. Task client (Abort tag)) (tag_at words 2)
+request_of client ResetName words = Some (Task client Reset)
 
 abbrev pub submission_of : ℕ → RequestName → List (List ℕ) → Option Line
-submission_of clients name words =
-    option_and_then (λ client. option_map (λ request. Submit client request) (request_of name words)) (client_at clients words 0)
+submission_of clients name words = option_and_then (λ client. request_of client name words) (client_at clients words 0)
 
 abbrev pub named_submission : ℕ → List (List ℕ) → Option RequestName → Result Line LineFault
 named_submission clients words None = Err UnknownWord

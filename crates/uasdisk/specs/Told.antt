@@ -9,9 +9,10 @@ use Rattle.scsi_cmd.specs.declared.Direction.{Direction}
 use Rattle.scsi_cmd.specs.declared.Direction.TheVariants.{Nothing, ToHost, ToDevice}
 use Rattle.scsi_cmd.specs.declared.Reply.{Reply}
 use Rattle.scsi_cmd.specs.declared.Reply.TheVariants.{Status as StatusReply, Aborted as AbortedReply, Task as TaskReply}
+use Rattle.scsi_cmd.specs.declared.Task.{Task}
 use Rattle.scsi_cmd.specs.Op.{moved_bytes, direction_of}
 use Rattle.tag_range.specs.declared.Refused.{Refused}
-use Rattle.tag_range.specs.Tags.{ClientTags, opening as opening_tags, issue, free, is_issued}
+use Rattle.tag_range.specs.Tags.{ClientTags, opening as opening_tags, issue, issue_task, free, is_issued}
 use Rattle.bus_core.specs.declared.Step.{Step}
 use Rattle.bus_core.specs.declared.Step.TheVariants as step
 use Rattle.bus_core.specs.declared.Refusal.{Refusal}
@@ -135,6 +136,22 @@ submitted_by run client request (Some tags) =
 unfoldable pub submitted : Telling → ℕ → Request → Telling
 submitted run client request = submitted_by run client request (slice_get run.ranges client)
 
+-- TASK MANAGEMENT
+
+-- a task management whose client's tags gave it the task tag and a ticket, or refused
+abbrev pub managed_run : Telling → ℕ → Task → Result (ℕ × ℕ) Refused → Telling
+managed_run run client task (Err refused) = refused_run run client (refused_name refused)
+managed_run run client task (Ok given) =
+    let after = step_of run.machine (step.Task client given.1 task) in
+    handed_over (noted_run (record run { machine = after.0 }) client false) client given.0 after.1.refused
+
+abbrev pub managed_by : Telling → ℕ → Task → Option ClientTags → Telling
+managed_by run client task None = run
+managed_by run client task (Some tags) = managed_run (with_range run client (issue_task TAGS tags).0) client task (issue_task TAGS tags).1
+
+unfoldable pub managed : Telling → ℕ → Task → Telling
+managed run client task = managed_by run client task (slice_get run.ranges client)
+
 -- STEPS AND REPLIES
 
 abbrev pub tag_of : Reply → ℕ
@@ -197,6 +214,7 @@ drained_run run = all_taken (record run { machine = drained_machine run.machine 
 
 unfoldable pub told_line : Telling → Line → Telling
 told_line run (line.Submit client request) = submitted run client request
+told_line run (line.Task client task) = managed run client task
 told_line run line.CommandPipe = stepped run step.CommandPipe
 told_line run line.Engine = stepped run step.Engine
 told_line run line.Event = stepped run step.Event

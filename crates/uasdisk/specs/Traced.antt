@@ -7,6 +7,8 @@ use Rattle.hex.specs.Hex.{encode_lower}
 use Rattle.block_unit.specs.BlockMaps.{BlockMaps}
 use Rattle.scsi_cmd.specs.declared.Op.{Op}
 use Rattle.scsi_cmd.specs.declared.Op.TheVariants.{TestUnitReady, Inquiry, ReadCapacity, Read, Write, Sync}
+use Rattle.scsi_cmd.specs.declared.Task.{Task}
+use Rattle.scsi_cmd.specs.declared.Task.TheVariants.{Abort, Reset}
 use Rattle.stream_array.specs.declared.Pipe.{Pipe}
 use Rattle.stream_array.specs.Map.{number_of}
 use Rattle.bus_core.specs.declared.Step.{Step}
@@ -36,9 +38,19 @@ abbrev pub submit_line : ℕ → ℕ → ℕ → Op → List ℕ
 submit_line client tag ticket op =
     codes "submit " ++ decimal client ++ codes " " ++ decimal tag ++ codes " " ++ decimal ticket ++ codes " " ++ op_words op ++ codes "\n"
 
+-- the words of a task management, as a script has them after the client
+abbrev pub task_words : Task → List ℕ
+task_words (Abort tag) = codes "abort " ++ decimal tag
+task_words Reset = codes "reset"
+
+-- By hand: client 22's LOGICAL UNIT RESET with ticket 4 is `task 22 4 reset`.
+abbrev pub task_step_line : ℕ → ℕ → Task → List ℕ
+task_step_line client ticket task = codes "task " ++ decimal client ++ codes " " ++ decimal ticket ++ codes " " ++ task_words task ++ codes "\n"
+
 -- The line of a step. By hand: a TEST UNIT READY of client 0 on tag 1 with ticket 0 is `submit 0 1 0 tur`.
 abbrev pub step_line : Step → List ℕ
 step_line (step.Submit client tag ticket command) = submit_line client tag ticket command.op
+step_line (step.Task client ticket task) = task_step_line client ticket task
 step_line step.CommandPipe = codes "command\n"
 step_line (step.Data tag) = codes "data " ++ decimal tag ++ codes "\n"
 step_line (step.Status tag) = codes "status " ++ decimal tag ++ codes "\n"

@@ -9,8 +9,8 @@
 //! uasdisk fill FILE LBA COUNT BYTE           fills blocks of an image with a byte, by one WRITE
 //! ```
 //!
-//! A line of a script submits a command for a client, takes one step of the bus, or drains it; what replies and refusals
-//! came of it is printed. A command on an image is submitted, drained and answered on a bus of its own. The exit status is 0
+//! A line of a script submits a command or a task management for a client, takes one step of the bus, or drains it; what
+//! replies and refusals came of it is printed. A command on an image is submitted, drained and answered on a bus of its own. The exit status is 0
 //! where all went well, 1 where a command ended other than GOOD or was refused, 2 where the words are refused, 3 at a fault
 //! of a script, an image or a file, and 4 for want of memory.
 //!

@@ -13,7 +13,7 @@ use crate::script::{Line, Request};
 use crate::status::{COMMAND_FAILED, DONE};
 use block_unit::Unit;
 use bus_core::{Bus, Outcome, Refusal, Step};
-use scsi_cmd::{Buffer, Command, Direction, Op, Reply, TAGS, moves};
+use scsi_cmd::{Buffer, Command, Direction, Op, Reply, TAGS, Task, moves};
 use std::alloc::{AllocError, Global};
 use std::marker::Model;
 use tag_range::TagRange;
@@ -93,7 +93,7 @@ impl Model for ScriptRun {
 
 impl ScriptRun {
     ghost use Rattle.bus_core.specs.Bus.{HasTicket};
-    ghost use Rattle.uasdisk.specs.Told.{zeroed_units, opening_run, step_of, is_due, drained_machine, refused_run, freed_run, handed_over, noted_run, is_brought_in, issued_run, submitted, replied, taken, idle_run, stepped, taken_or_idle, all_taken_by, all_taken, drained_run, told_line};
+    ghost use Rattle.uasdisk.specs.Told.{zeroed_units, opening_run, step_of, is_due, drained_machine, refused_run, freed_run, handed_over, noted_run, is_brought_in, issued_run, submitted, managed_run, managed, replied, taken, idle_run, stepped, taken_or_idle, all_taken_by, all_taken, drained_run, told_line};
 
     /// The run before its first line, of 1 to 31 clients on units of 1 to 65,536 zeroed blocks.
     pub fn new(alloc: Global, clients: usize, blocks: u32) -> Result<ScriptRun, AllocError>
@@ -234,6 +234,40 @@ impl ScriptRun {
         self.hear(client, tag, refused)
     }
 
+    /// A task management: the client's tags give it the task tag and a ticket, or refuse it.
+    #[tactic(auto, unfolding(crate::specs::Told::managed))]
+    fn manage(&mut self, client: usize, task: Task) -> Result<(), AllocError>
+        ensures { OnOk result (self.new ≡ managed self.old client task) }
+    {
+        let Some(range) = self.ranges.get_mut(client) else {
+            return Ok(());
+        };
+        match range.issue_task() {
+            Ok((tag, ticket)) => self.hand_over_task(client, tag, ticket, task),
+            Err(refused) => self.refuse(client, printed::refused_name(refused)),
+        }
+    }
+
+    /// Hands a task management to the bus.
+    fn hand_over_task(
+        &mut self,
+        client: usize,
+        tag: u16,
+        ticket: u64,
+        task: Task,
+    ) -> Result<(), AllocError>
+        requires { ticket < 2 ^ 60 }
+        ensures { OnOk result (self.new ≡ managed_run self.old client task (Ok (tag, ticket))) }
+    {
+        let Outcome { refused, .. } = self.act(Step::Task {
+            client,
+            ticket,
+            task,
+        });
+        self.note(client, false)?;
+        self.hear(client, tag, refused)
+    }
+
     /// Notes of a client's last ticket whether the bus took a command under it that moves data to the host.
     fn note(&mut self, client: usize, brings_in: bool) -> Result<(), AllocError>
         ensures { OnOk result (self.new ≡ noted_run self.old client brings_in) }
@@ -330,6 +364,7 @@ impl ScriptRun {
     {
         match line {
             Line::Submit { client, request } => self.submit(client, request),
+            Line::Task { client, task } => self.manage(client, task),
             Line::CommandPipe => self.step(Step::CommandPipe),
             Line::Engine => self.step(Step::Engine),
             Line::Event => self.step(Step::Event),

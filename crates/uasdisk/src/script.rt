@@ -11,7 +11,7 @@ ghost use Rattle.uasdisk.specs.Script.{script, line_of, lines_after, listed, is_
 mod grammar;
 mod words;
 
-use scsi_cmd::Op;
+use scsi_cmd::{Op, Task};
 use std::alloc::{AllocError, Global};
 use stream_array::Pipe;
 use thiserror::Error;
@@ -33,6 +33,8 @@ pub struct Request {
 pub enum Line {
     /// A submission by a client.
     Submit { client: usize, request: Request },
+    /// A task management by a client.
+    Task { client: usize, task: Task },
     /// One step of the command pipe.
     CommandPipe,
     /// One step of the controller: it executes a command of its own command ring.
@@ -73,7 +75,7 @@ pub enum ScriptFault {
     Line { number: usize, fault: LineFault },
 }
 
-/// The first word of a request, after the client.
+/// The word of a request, after the client.
 #[derive(Clone, Copy, PartialEq, Eq)]
 pub enum RequestName {
     Tur,
@@ -82,6 +84,8 @@ pub enum RequestName {
     Read,
     Write,
     Sync,
+    Abort,
+    Reset,
 }
 
 /// The first word of a line that isn't a client's.

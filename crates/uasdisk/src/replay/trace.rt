@@ -11,7 +11,7 @@ ghost use Rattle.std.specs.List.{range_with_len};
 ghost use Rattle.bus_core.specs.Bus.{HasTicket};
 ghost use Rattle.bus_core.specs.Drain.{round, tried, tried_one};
 ghost use Rattle.bus_core.specs.declared.Step.TheVariants.{Data, Retire, Status};
-ghost use Rattle.uasdisk.specs.Told.{all_taken, all_taken_by, drained_machine, drained_run, issued_run, opening_run, step_of, stepped, submitted, taken, taken_or_idle, told, told_line, zeroed_units};
+ghost use Rattle.uasdisk.specs.Told.{all_taken, all_taken_by, drained_machine, drained_run, issued_run, managed, managed_run, opening_run, step_of, stepped, submitted, taken, taken_or_idle, told, told_line, zeroed_units};
 ghost use Rattle.uasdisk.specs.Traced.{StopsBy};
 ghost use Rattle.uasdisk.specs.declared.status.RunFault.{RunFault};
 
@@ -25,7 +25,7 @@ use crate::status::{COMMAND_FAILED, DONE, RunFault, output_fault};
 use crate::streams::Sink;
 use bus_core::{Outcome, Step};
 use lines::push_step;
-use scsi_cmd::TAGS;
+use scsi_cmd::{TAGS, Task};
 use std::alloc::Global;
 use stream_array::{EVENT_RING_PLACES, Pipe};
 use writes::Before;
@@ -168,6 +168,58 @@ impl TracedRun {
         )?;
         self.run
             .note(client, took_to_host(&request.op, &refused))
+            .map_err(|_| RunFault::NoMemory)?;
+        self.run
+            .hear(client, tag, refused)
+            .map_err(|_| RunFault::NoMemory)?;
+        self.print_told(writer)
+    }
+
+    /// A task management: the client's tags give it the task tag and a ticket, or refuse it.
+    #[tactic(auto, unfolding(crate::specs::Told::managed))]
+    fn manage<O: Sink>(&mut self, writer: &mut O, client: usize, task: Task) -> Result<(), RunFault>
+        ensures run { OnOk result (self.new.run ≡ managed self.old.run client task) }
+        ensures same { O.can_fail writer.new ≡ O.can_fail writer.old }
+        ensures fault { IfErr result (StopsBy (O.can_fail writer.old)) }
+    {
+        let Some(range) = self.run.ranges.get_mut(client) else {
+            return Ok(());
+        };
+        match range.issue_task() {
+            Ok((tag, ticket)) => self.hand_over_task(writer, client, tag, ticket, task),
+            Err(refused) => {
+                self.run
+                    .refuse(client, printed::refused_name(refused))
+                    .map_err(|_| RunFault::NoMemory)?;
+                self.print_told(writer)
+            }
+        }
+    }
+
+    /// Hands a task management to the bus.
+    fn hand_over_task<O: Sink>(
+        &mut self,
+        writer: &mut O,
+        client: usize,
+        tag: u16,
+        ticket: u64,
+        task: Task,
+    ) -> Result<(), RunFault>
+        requires { ticket < 2 ^ 60 }
+        ensures run { OnOk result (self.new.run ≡ managed_run self.old.run client task (Ok (tag, ticket))) }
+        ensures same { O.can_fail writer.new ≡ O.can_fail writer.old }
+        ensures fault { IfErr result (StopsBy (O.can_fail writer.old)) }
+    {
+        let Outcome { refused, .. } = self.act(
+            writer,
+            Step::Task {
+                client,
+                ticket,
+                task,
+            },
+        )?;
+        self.run
+            .note(client, false)
             .map_err(|_| RunFault::NoMemory)?;
         self.run
             .hear(client, tag, refused)
@@ -376,6 +428,7 @@ impl TracedRun {
     {
         match line {
             Line::Submit { client, request } => self.submit(writer, client, request),
+            Line::Task { client, task } => self.manage(writer, client, task),
             Line::CommandPipe => self.step(writer, Step::CommandPipe),
             Line::Engine => self.step(writer, Step::Engine),
             Line::Event => self.step(writer, Step::Event),

@@ -7,7 +7,7 @@ ghost use Rattle.uasdisk.specs.Script.{number_at, fua_at, client_at, tag_at, pip
 use super::words::{is_number, number_in};
 use super::{Line, LineFault, Request, RequestName, StepName};
 use bus_core::MAX_CLIENTS;
-use scsi_cmd::{Op, TAGS};
+use scsi_cmd::{Op, TAGS, Task};
 use stream_array::Pipe;
 
 /// The greatest tag.
@@ -109,6 +109,10 @@ fn request_named(word: &[u8]) -> Option<RequestName>
         Some(RequestName::Write)
     } else if is_word(word, "sync") {
         Some(RequestName::Sync)
+    } else if is_word(word, "abort") {
+        Some(RequestName::Abort)
+    } else if is_word(word, "reset") {
+        Some(RequestName::Reset)
     } else {
         None
     }
@@ -120,8 +124,8 @@ impl RequestName {
         ensures { result ≡ request_has self count }
     {
         match self {
-            RequestName::Tur | RequestName::Capacity => count == 2,
-            RequestName::Inquiry => count == 3,
+            RequestName::Tur | RequestName::Capacity | RequestName::Reset => count == 2,
+            RequestName::Inquiry | RequestName::Abort => count == 3,
             RequestName::Read => count == 4 || count == 5,
             RequestName::Write => count == 5 || count == 6,
             RequestName::Sync => count == 4,
@@ -129,54 +133,67 @@ impl RequestName {
     }
 }
 
-/// What the words ask for, where each number is in its range.
-fn request_of(name: RequestName, words: &[&[u8]]) -> Option<Request>
-    ensures { result ≡ request_of name (map (λ word. word.now) words.now) }
+/// What the words ask for of a client, where each number is in its range.
+fn request_of(client: usize, name: RequestName, words: &[&[u8]]) -> Option<Line>
+    ensures { result ≡ request_of client name (map (λ word. word.now) words.now) }
 {
     match name {
-        RequestName::Tur => Some(zeroed(Op::TestUnitReady)),
+        RequestName::Tur => Some(zeroed(client, Op::TestUnitReady)),
         RequestName::Inquiry => {
             let allocation = count_at(words, 2)?;
-            Some(zeroed(Op::Inquiry { allocation }))
+            Some(zeroed(client, Op::Inquiry { allocation }))
         }
-        RequestName::Capacity => Some(zeroed(Op::ReadCapacity)),
-        RequestName::Read => read_request(words),
-        RequestName::Write => write_request(words),
+        RequestName::Capacity => Some(zeroed(client, Op::ReadCapacity)),
+        RequestName::Read => read_request(client, words),
+        RequestName::Write => write_request(client, words),
         RequestName::Sync => {
             let lba = lba_at(words, 2)?;
             let count = count_at(words, 3)?;
-            Some(zeroed(Op::Sync { lba, count }))
+            Some(zeroed(client, Op::Sync { lba, count }))
         }
+        RequestName::Abort => {
+            let tag = tag_at(words, 2)?;
+            let task = Task::Abort { tag };
+            Some(Line::Task { client, task })
+        }
+        RequestName::Reset => Some(Line::Task {
+            client,
+            task: Task::Reset,
+        }),
     }
 }
 
-fn read_request(words: &[&[u8]]) -> Option<Request>
-    ensures { result ≡ request_of RequestName.Read (map (λ word. word.now) words.now) }
+fn read_request(client: usize, words: &[&[u8]]) -> Option<Line>
+    ensures { result ≡ request_of client RequestName.Read (map (λ word. word.now) words.now) }
 {
     let lba = lba_at(words, 2)?;
     let count = count_at(words, 3)?;
     let fua = fua_at(words, 4)?;
-    Some(zeroed(Op::Read { lba, count, fua }))
+    Some(zeroed(client, Op::Read { lba, count, fua }))
 }
 
-fn write_request(words: &[&[u8]]) -> Option<Request>
-    ensures { result ≡ request_of RequestName.Write (map (λ word. word.now) words.now) }
+fn write_request(client: usize, words: &[&[u8]]) -> Option<Line>
+    ensures { result ≡ request_of client RequestName.Write (map (λ word. word.now) words.now) }
 {
     let lba = lba_at(words, 2)?;
     let count = count_at(words, 3)?;
     let fill = byte_at(words, 4)?;
     let fua = fua_at(words, 5)?;
-    Some(Request {
-        op: Op::Write { lba, count, fua },
-        fill,
+    let op = Op::Write { lba, count, fua };
+    Some(Line::Submit {
+        client,
+        request: Request { op, fill },
     })
 }
 
-/// An operation whose buffer is zeroed.
-fn zeroed(op: Op) -> Request
-    ensures { result ≡ zeroed op }
+/// A submission of an operation whose buffer is zeroed.
+fn zeroed(client: usize, op: Op) -> Line
+    ensures { result ≡ zeroed client op }
 {
-    Request { op, fill: 0 }
+    Line::Submit {
+        client,
+        request: Request { op, fill: 0 },
+    }
 }
 
 /// What a line asks for whose first word is a number.
@@ -201,8 +218,7 @@ fn submission_of(clients: usize, name: RequestName, words: &[&[u8]]) -> Option<L
     ensures { result ≡ submission_of clients name (map (λ word. word.now) words.now) }
 {
     let client = client_at(clients, words, 0)?;
-    let request = request_of(name, words)?;
-    Some(Line::Submit { client, request })
+    request_of(client, name, words)
 }
 
 /// The step of this name.

@@ -5,14 +5,14 @@ use crate::script::{Line, MAX_SCRIPT_BYTES, Request, parse_script};
 use crate::streams::BytesLeft;
 use block_unit::{BLOCK_BYTES, Unit};
 use bus_core::{Bus, Step};
-use scsi_cmd::{Buffer, Command, Op};
+use scsi_cmd::{Buffer, Command, Op, Task};
 use std::test::Fail;
 use stream_array::Pipe;
 
 #[test]
 fn lines_are_read(rt: HostRuntime) -> Result<(), Fail> {
     let text =
-        b"# a comment\n\n   \n  002   tur \n1 read 4294967295 65535 fua\n1 write 7 8 255\ndata 248\nretire 4 18\ntake 0\ndrain";
+        b"# a comment\n\n   \n  002   tur \n1 read 4294967295 65535 fua\n1 write 7 8 255\n0 abort 248\n2 reset\ndata 248\nretire 4 18\ntake 0\ndrain";
     let lines = parse_script(rt.alloc(), 3, text)??;
     let zeroed = |op| Request { op, fill: 0 };
     let expected = [
@@ -38,6 +38,14 @@ fn lines_are_read(rt: HostRuntime) -> Result<(), Fail> {
                 },
                 fill: 255,
             },
+        },
+        Line::Task {
+            client: 0,
+            task: Task::Abort { tag: 248 },
+        },
+        Line::Task {
+            client: 2,
+            task: Task::Reset,
         },
         Line::Data(248),
         Line::Retire(Pipe::DataOut, 18),

@@ -1,10 +1,10 @@
 //! The lines that `trace` prints beside those of `replay`: a step, and what it wrote.
 
 ghost use Rattle.std.specs.Prelude.{◌≡◌, ◌++◌, OnOk};
-ghost use Rattle.uasdisk.specs.Traced.{address_start, bell_line, bytes_line, chunk_line, context_line, fua_word, op_words, step_line, submit_line};
+ghost use Rattle.uasdisk.specs.Traced.{address_start, bell_line, bytes_line, chunk_line, context_line, fua_word, op_words, step_line, submit_line, task_step_line, task_words};
 
 use bus_core::Step;
-use scsi_cmd::Op;
+use scsi_cmd::{Op, Task};
 use std::alloc::{AllocError, Global};
 use stream_array::Pipe;
 
@@ -19,6 +19,11 @@ pub fn push_step(alloc: Global, text: &mut Vec<u8>, step: &Step) -> Result<(), A
             ticket,
             command,
         } => push_submit(alloc, text, *client, *tag, *ticket, &command.op),
+        Step::Task {
+            client,
+            ticket,
+            task,
+        } => push_task(alloc, text, *client, *ticket, task),
         Step::CommandPipe => text.extend_from_slice(b"command\n"),
         Step::Data(tag) => {
             let line = format!(in alloc; "data {tag}\n")?;
@@ -57,6 +62,35 @@ fn push_submit(
     text.extend_from_slice(start.as_bytes())?;
     push_words(alloc, text, op)?;
     text.extend_from_slice(b"\n")
+}
+
+/// Adds `task C TICKET WORDS`.
+fn push_task(
+    alloc: Global,
+    text: &mut Vec<u8>,
+    client: usize,
+    ticket: u64,
+    task: &Task,
+) -> Result<(), AllocError>
+    ensures { OnOk result (text.new.items ≡ text.old.items ++ task_step_line client ticket task.now) }
+{
+    let start = format!(in alloc; "task {client} {ticket} ")?;
+    text.extend_from_slice(start.as_bytes())?;
+    push_task_words(alloc, text, task)?;
+    text.extend_from_slice(b"\n")
+}
+
+/// Adds the words of a task management.
+fn push_task_words(alloc: Global, text: &mut Vec<u8>, task: &Task) -> Result<(), AllocError>
+    ensures { OnOk result (text.new.items ≡ text.old.items ++ task_words task.now) }
+{
+    match *task {
+        Task::Abort { tag } => {
+            let words = format!(in alloc; "abort {tag}")?;
+            text.extend_from_slice(words.as_bytes())
+        }
+        Task::Reset => text.extend_from_slice(b"reset"),
+    }
 }
 
 /// Adds the words of a command.

@@ -8,21 +8,24 @@ ghost use Rattle.frame_store.specs.Places.{IsPlace};
 ghost use Rattle.stream_array.specs.Map.{HasRing, HasStreams, place_address};
 
 use super::lines::{push_bell, push_bytes, push_chunk, push_context};
-use bus_core::{Bus, Outcome, Step};
-use frame_store::{Buffer, COMMAND_BYTES, Frames, Place, STATUS_BYTES};
+use bus_core::{Bus, MAX_CLIENTS, Outcome, Step};
+use frame_store::{Buffer, Frames, Place, STATUS_BYTES};
+use scsi_cmd::TAGS;
 use std::alloc::{AllocError, Global};
 use stream_array::{
     COMMAND_RING_PLACES, ENGINE_RING, ENGINE_RING_PLACES, EVENT_RING, EVENT_RING_PLACES, Lines,
     PIPE_SPAN, Pipe, RINGS, STREAM_RING_PLACES, STREAM_SPAN, STREAMS, find,
 };
+use uas_iu::{COMMAND_BYTES, TASK_BYTES};
 use xhci_trb::Trb;
 
 /// What a step may write, but for its event.
 #[derive(Clone, Copy)]
 enum Writes {
-    /// The unit of a submission, and its TDs from these ends of the rings on.
+    /// The unit of a submission, of so many bytes, and its TDs from these ends of the rings on.
     Submission {
         tag: u16,
+        len: usize,
         ends: Ends,
     },
     /// A chunk, by one of the TRBs in front of the tag's rings data-in and data-out.
@@ -67,9 +70,10 @@ impl Before {
     pub fn of(bus: &Bus, step: &Step) -> Before {
         let lines = bus.lines();
         let writes = match step {
-            Step::Submit { tag, .. } if is_stream(*tag) => Writes::Submission {
-                tag: *tag,
-                ends: Ends::of(lines, *tag),
+            Step::Submit { tag, .. } => Writes::submission(lines, *tag, COMMAND_BYTES),
+            Step::Task { client, .. } => match task_tag(*client) {
+                Some(tag) => Writes::submission(lines, tag, TASK_BYTES),
+                None => Writes::Nothing,
             },
             Step::Data(tag) if is_stream(*tag) => Writes::Chunk {
                 tag: *tag,
@@ -136,15 +140,8 @@ impl Before {
     ) -> Result<(), AllocError> {
         let lines = bus.lines();
         match self.writes {
-            Writes::Submission { tag, ends } if is_stream(tag) => {
-                push_unit(
-                    alloc,
-                    text,
-                    bus.frames(),
-                    tag,
-                    Buffer::Command,
-                    COMMAND_BYTES,
-                )?;
+            Writes::Submission { tag, len, ends } if is_stream(tag) => {
+                push_unit(alloc, text, bus.frames(), tag, Buffer::Command, len)?;
                 ends.push_tds(alloc, text, lines, tag)
             }
             Writes::Chunk { tag, fronts } if is_stream(tag) => {
@@ -165,6 +162,20 @@ impl Before {
             Writes::Command { place } => push_command(alloc, text, lines, place),
             Writes::Context { command } => push_moved(alloc, text, lines, command),
             _ => Ok(()),
+        }
+    }
+}
+
+impl Writes {
+    /// What a submission on a tag writes, whose unit has so many bytes.
+    fn submission(lines: &Lines, tag: u16, len: usize) -> Writes {
+        if !is_stream(tag) {
+            return Writes::Nothing;
+        }
+        Writes::Submission {
+            tag,
+            len,
+            ends: Ends::of(lines, tag),
         }
     }
 }
@@ -207,6 +218,15 @@ fn is_stream(tag: u16) -> bool
     ensures most { IsTrue result → tag ≤ STREAMS }
 {
     0 < tag && tag <= STREAMS
+}
+
+/// A client's tag for task management, the last of its own.
+fn task_tag(client: usize) -> Option<u16> {
+    if client < MAX_CLIENTS {
+        Some((TAGS * client + TAGS) as u16)
+    } else {
+        None
+    }
 }
 
 /// The place of the next TRB of a ring.

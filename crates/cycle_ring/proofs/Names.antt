@@ -4,7 +4,7 @@ use Rattle.std.proofs.Math.Nat.{mod-add-mod, mod-lt, div-add-mod}
 use Rattle.std.proofs.lemmas.Nat.{div-mul-add, mod-mul-add}
 use Rattle.std.proofs.lemmas.Bool.{le-ltb, lt-leb, le-leb, ltb-false, leb-true, leb-false, eqb-true, cases_Bool}
 use Rattle.cycle_ring.specs.Ring.{Ring, place_of, pointer_of, item_in, AddressesNameItems, NamedItemsHaveAddresses}
-use Rattle.cycle_ring.proofs.Turns.{wraps_once, place_ahead, place_behind}
+use Rattle.ring_ends.specs.TurnLaws.{wraps_once, place_ahead, place_behind}
 
 -- the item at the place of item k
 pub item_in-place : (m at k : ℕ) → k < m → item_in m (at % m) ((at + k) % m) ≡ k

@@ -1,5 +1,8 @@
 -- A segment's bytes and the ring that they show: what the steps of its ends do to both. Cited by the calls of the ring.
-use Rattle.std.proofs.Common.{◌≡◌, ◌≢◌, ℕ, zero, suc, ◌+◌, ◌-◌, ◌*◌, ◌/◌, ◌%◌, ◌^◌, ◌<◌, ◌≤◌, ◌⊎◌, ◌==◌, Bool, true, false, not, List, [], ◌∷◌, ◌++◌, length, length-append, length-drop, length-set, set, get_or, get_or-set_same, get_or-set_other, drop, replicate, Some, All, slice_get, slice_index_or, nat_le, if◌then◌else◌, refl, sym, ap, ap₂, ◌∙◌, arith, inl, inr}
+use Rattle.std.proofs.Common.{◌≡◌, ◌≢◌, ℕ, zero, suc, ◌+◌, ◌-◌, ◌*◌, ◌/◌, ◌%◌, ◌^◌, ◌<◌, ◌≤◌, ◌⊎◌, ◌==◌, Bool, true, false, not, List, []}
+use Rattle.std.proofs.Common.{◌∷◌, ◌++◌, length, length-append, length-drop, length-set, set, get_or, get_or-set_same, get_or-set_other}
+use Rattle.std.proofs.Common.{drop, replicate, Some, All, slice_get, slice_index_or, nat_le, if◌then◌else◌, refl, sym, ap, ap₂, ◌∙◌, arith}
+use Rattle.std.proofs.Common.{inl, inr}
 use Rattle.std.proofs.Math.Nat.{mod-lt, mod-eq_of_lt, add-mod_right, div-eq_of_lt}
 use Rattle.std.proofs.lemmas.Bool.{cases_lt, eq-eqb, ne_eqb}
 use Rattle.std.proofs.lemmas.List.{get_or-replicate, length-replicate}
@@ -10,13 +13,13 @@ use Rattle.xhci_trb.specs.declared.Trb.TheVariants.{Link}
 use Rattle.xhci_trb.specs.Words.{words_in}
 use Rattle.xhci_trb.specs.Text.{HasText, has_chain, text}
 use Rattle.xhci_trb.specs.Reader.{trb_in, cycle_in}
-use Rattle.cycle_ring.specs.declared.ends.End.{End}
+use Rattle.ring_ends.specs.declared.End.{End}
 use Rattle.cycle_ring.specs.Ring.{Ring, IsRing, opening, reclaimed, item_in}
-use Rattle.cycle_ring.specs.Counted.{turn_bit, counted, IsEnd, bit_from}
+use Rattle.ring_ends.specs.Counted.{turn_bit, counted, IsEnd, bit_from}
 use Rattle.cycle_ring.specs.Segment.{bytes_at, trbs_from, first_end, shown, IsText, HoldsTrbs, IsSegment}
-use Rattle.cycle_ring.proofs.Turns.{same_item, place_shift, turn_shift}
+use Rattle.ring_ends.specs.TurnLaws.{same_item, place_shift, turn_shift}
 use Rattle.cycle_ring.proofs.Names.{item_in-place}
-use Rattle.cycle_ring.proofs.Counted.{counted-end, IsEnd-next, turn_bit-next, turn_bit-ahead, cycle_in-byte}
+use Rattle.ring_ends.specs.EndLaws.{counted-end, IsEnd-next, turn_bit-next, turn_bit-ahead, cycle_in-byte}
 
 -- an item of a list, and the one behind a list
 pub item_of : (put : List Trb) (k : ℕ) → k < length put → (trb : Trb) × (slice_get put k ≡ Some trb)
@@ -353,7 +356,8 @@ bit-stale n places first dequeue enqueue end r k segment is behind below =
     rw (is.place, is.cycle) (segment.holds.stale k behind below)
 
 -- the bytes at an item's place
-pub text-item : (n : ℕ) (places : List (List ℕ)) (first : ℕ) (dequeue enqueue end : End) (r : Ring) (k : ℕ) (trb : Trb) → IsSegment n places first dequeue enqueue r
+pub text-item : (n : ℕ) (places : List (List ℕ)) (first : ℕ) (dequeue enqueue end : End) (r : Ring) (k : ℕ) (trb : Trb)
+    → IsSegment n places first dequeue enqueue r
     → IsEnd (n - 1) (r.at + k) end → slice_get r.put k ≡ Some trb → slice_index_or places end.place [] ≡ text trb end.cycle
 text-item n places first dequeue enqueue end r k trb segment is has =
     rw (is.place, is.cycle) ((segment.holds.item k trb has).bytes_are)

@@ -1,7 +1,7 @@
 -- How a ring's items move when items before them are freed.
 use Rattle.std.proofs.Common.{◌≡◌, ℕ, ◌+◌, ◌-◌, ◌*◌, ◌<◌, ◌==◌, ap, arith}
 use Rattle.cycle_ring.specs.Ring.{Ring, IsShifted, pointer_of, reclaimed}
-use Rattle.cycle_ring.proofs.Turns.{place_shift, turn_shift, same_item}
+use Rattle.ring_ends.specs.TurnLaws.{place_shift, turn_shift, same_item}
 
 -- item i of the ring with m items freed is item m + i of the ring before
 pub IsShifted-reclaimed : (n m : ℕ) (r : Ring) (i : ℕ) → 1 < n → IsShifted n m r (reclaimed n m r) i

@@ -1,8 +1,10 @@
 -- A ring of n places of which the last is a Link (xHCI 1.2, 4.9 and 4.11), as a counted list.
-use Rattle.std.specs.Prelude.{◌≡◌, ℕ, ◌+◌, ◌-◌, ◌*◌, ◌/◌, ◌%◌, ◌^◌, ◌<◌, ◌≤◌, ◌⊎◌, Bool, true, false, List, [], ◌∷◌, length, drop, Option, Some, None, slice_get, option_map, option_and_then, ◌==◌, not, nat_lt, nat_le, if◌then◌else◌, All}
+use Rattle.std.specs.Prelude.{◌≡◌, ℕ, ◌+◌, ◌-◌, ◌*◌, ◌/◌, ◌%◌, ◌^◌, ◌<◌, ◌≤◌, ◌⊎◌, Bool, true, false, List, [], ◌∷◌, length, drop, Option}
+use Rattle.std.specs.Prelude.{Some, None, slice_get, option_map, option_and_then, ◌==◌, not, nat_lt, nat_le, if◌then◌else◌, All}
 use Rattle.xhci_trb.specs.declared.Trb.{Trb}
 use Rattle.xhci_trb.specs.declared.Trb.TheVariants.{Normal, Link, StopEndpoint, SetDequeue}
 use Rattle.xhci_trb.specs.Text.{HasText, has_chain, text}
+use Rattle.ring_ends.specs.Counted.{distance}
 
 -- Where the ring starts, the counted place of the first TRB that isn't reclaimed (below 2 (n - 1), so
 -- that it has a place and a turn), the TRBs put and not reclaimed, and how many of them are consumed.
@@ -114,7 +116,7 @@ pub record IsRing (n : ℕ) (r : Ring) : Type 0 where
 -- The item that stands, or would stand, at this place, on a turn of that many places whose first item stands at `first`.
 -- Worked: of 19 places and the first item at 16, place 18 has item 2 and place 0 item 3.
 abbrev pub item_in : ℕ → ℕ → ℕ → ℕ
-item_in turn first place = if nat_le first place then place - first else (place + turn - first)
+item_in turn first place = distance turn first place
 
 -- the same by an address: none below the ring, inside a place, at the Link's or past it
 abbrev pub item_at : ℕ → Ring → ℕ → Option ℕ

@@ -5,9 +5,9 @@ use Rattle.xhci_trb.specs.declared.Trb.TheVariants.{Link}
 use Rattle.xhci_trb.specs.Words.{words_in}
 use Rattle.xhci_trb.specs.Text.{has_chain, text}
 use Rattle.xhci_trb.specs.Reader.{trb_in, cycle_in}
-use Rattle.cycle_ring.specs.declared.ends.End.{End}
+use Rattle.ring_ends.specs.declared.End.{End}
 use Rattle.cycle_ring.specs.Ring.{Ring, IsRing, item_in}
-use Rattle.cycle_ring.specs.Counted.{turn_bit, counted, bit_from, IsEnd}
+use Rattle.ring_ends.specs.Counted.{turn_bit, counted, bit_from, IsEnd}
 
 -- the bytes at the counted place j
 abbrev pub bytes_at : ℕ → List (List ℕ) → ℕ → List ℕ

@@ -34,18 +34,18 @@
 //! The crate stands on `xhci_trb` for the texts of TRBs.
 #![tactic(auto)]
 
-ghost use Rattle.std.specs.Prelude.{◌≡◌, ◌≢◌, ℕ, ◌+◌, ◌-◌, ◌*◌, ◌/◌, ◌%◌, ◌^◌, ◌<◌, ◌≤◌, ◌++◌, ◌↔◌, Bool, Some, None, All, length, slice_get, drop, ◌⊎◌, IsOk, IsSome, IfSome, IfOk, OnOk, OnErr, IsTrue};
+ghost use Rattle.std.specs.Prelude.{◌≡◌, ◌≢◌, ℕ, ◌+◌, ◌-◌, ◌*◌, ◌/◌, ◌%◌, ◌^◌, ◌<◌, ◌≤◌, ◌++◌, ◌↔◌, Bool, Some, None, All, length};
+ghost use Rattle.std.specs.Prelude.{slice_get, drop, ◌⊎◌, IsOk, IsSome, IfSome, IfOk, OnOk, OnErr, IsTrue};
 ghost use Rattle.xhci_trb.specs.declared.Trb.{Trb};
 ghost use Rattle.xhci_trb.specs.Text.{HasText, has_chain, text};
 
-use ends::{End, bit_from, cycle_bit, distance};
 use places::{behind_link, put_back, zeros};
+use ring_ends::{End, ahead, cycle_bit, distance};
 use std::alloc::{AllocError, Global};
 use std::marker::Model;
 use thiserror::Error;
 use xhci_trb::{Trb, decode};
 
-mod ends;
 pub mod laws;
 mod places;
 #[cfg(test)]
@@ -94,8 +94,10 @@ impl<const N: usize> Model for CycleRing<N> {
 }
 
 impl<const N: usize> CycleRing<N> {
-    ghost use Rattle.cycle_ring.specs.Ring.{Ring, IsRing, opening, place_of, cycle_of, pointer_of, front_of, reclaimed, IsConsumed, IsPending, IsShifted, IsInUse, item_image, link_image, link_behind, IsTd, IsEnqueuePlace, item_at, item_in, consumed_at, oldest_of};
-    ghost use Rattle.cycle_ring.specs.Counted.{IsEnd};
+    ghost use Rattle.cycle_ring.specs.Ring.{Ring, IsRing, opening, place_of, cycle_of, pointer_of, front_of, reclaimed, IsConsumed};
+    ghost use Rattle.cycle_ring.specs.Ring.{IsPending, IsShifted, IsInUse, item_image, link_image, link_behind, IsTd, IsEnqueuePlace};
+    ghost use Rattle.cycle_ring.specs.Ring.{item_at, item_in, consumed_at, oldest_of};
+    ghost use Rattle.ring_ends.specs.Counted.{IsEnd, turn_bit};
 
     /// An empty ring at this address, a multiple of 16 below `2^63` (4.9.2). Refused for want of memory
     /// alone.
@@ -118,6 +120,7 @@ impl<const N: usize> CycleRing<N> {
     }
 
     /// How many TRBs can still be put: N - 2 less those put and not reclaimed.
+    #[inline(always)]
     pub fn room(&self) -> usize
         ensures room { result + length self.now.put ≡ N - 2 }
         ensures standing { IsRing N self.now }
@@ -129,20 +132,25 @@ impl<const N: usize> CycleRing<N> {
     /// Puts a TD and gives the addresses of its first and last TRB (4.11). Asks 1 to N - 2 Normal TRBs of
     /// which all but the last have the Chain bit, or one command, and that each has a text. Refused
     /// where the room is too small; nothing is put then.
+    #[inline(always)]
     pub fn push_td(&mut self, trbs: &[Trb]) -> Result<Td, RingFull>
         requires td { IsTd trbs.now }
         requires texts { All HasText trbs.now }
         requires at_most { length trbs.now ≤ N - 2 }
         ensures room { IsOk result ↔ (length self.old.put + length trbs.now ≤ N - 2) }
         ensures put { OnOk result (self.new ≡ record self.old { put = self.old.put ++ trbs.now }) }
-        ensures td { IfOk result (λ td. td ≡ record { first = pointer_of N self.old (length self.old.put); last = pointer_of N self.old (length self.old.put + length trbs.now - 1) }) }
+        ensures td { IfOk result (λ td. td ≡ record {
+          first = pointer_of N self.old (length self.old.put);
+          last = pointer_of N self.old
+              (length self.old.put + length trbs.now - 1);
+        }) }
         ensures full { OnErr result (self.new ≡ self.old) }
     {
         if self.room() < trbs.len() {
             return Err(RingFull);
         }
         let start = self.enqueue;
-        let last = (start.place + trbs.len() - 1) % (N - 1);
+        let last = ahead(N - 1, start.place, trbs.len() - 1);
         let td = Td {
             first: self.pointer(start.place),
             last: self.pointer(last),
@@ -160,6 +168,7 @@ impl<const N: usize> CycleRing<N> {
     }
 
     /// The first pending TRB and its address, if there is one (4.9.2).
+    #[inline(always)]
     pub fn front(&self) -> Option<(u64, Trb)>
         ensures front { result ≡ front_of N self.now }
         ensures pending { IsSome result ↔ (self.now.got < length self.now.put) }
@@ -169,6 +178,7 @@ impl<const N: usize> CycleRing<N> {
     }
 
     /// The dequeue pointer and the consumer's cycle state. The pointer is never the Link's.
+    #[inline(always)]
     pub fn dequeue(&self) -> (u64, bool)
         ensures dequeue { result ≡ (pointer_of N self.now self.now.got, cycle_of N self.now self.now.got) }
         ensures aligned { result.0 % 16 ≡ 0 }
@@ -177,6 +187,7 @@ impl<const N: usize> CycleRing<N> {
     }
 
     /// Consumes the first pending TRB, and steps over the Link. Asks that there is one.
+    #[inline(always)]
     pub fn advance(&mut self)
         requires { self.old.got < length self.old.put }
         ensures { self.new ≡ record self.old { got = self.old.got + 1 } }
@@ -190,6 +201,7 @@ impl<const N: usize> CycleRing<N> {
     }
 
     /// The consumed TRB at an address, while it isn't reclaimed.
+    #[inline(always)]
     pub fn consumed(&self, pointer: u64) -> Option<Trb>
         ensures consumed { result ≡ consumed_at N self.now pointer }
         ensures known { IfSome result (λ trb. (k : ℕ) × IsConsumed N self.now k pointer × (slice_get self.now.put k ≡ Some trb)) }
@@ -202,6 +214,7 @@ impl<const N: usize> CycleRing<N> {
     }
 
     /// The first TRB that isn't reclaimed and its address, once it is consumed.
+    #[inline(always)]
     pub fn oldest(&self) -> Option<(u64, Trb)>
         ensures oldest { result ≡ oldest_of N self.now }
         ensures known { IfSome result (λ at. IsConsumed N self.now 0 at.0) }
@@ -255,6 +268,7 @@ impl<const N: usize> CycleRing<N> {
     }
 
     /// Frees the TRBs up to and with the one at this address. Asks a consumed TRB that isn't reclaimed.
+    #[inline(always)]
     pub fn reclaim(&mut self, pointer: u64)
         requires { (k : ℕ) × IsConsumed N self.old k pointer }
         ensures freed { (k : ℕ) → IsConsumed N self.old k pointer → self.new ≡ reclaimed N (k + 1) self.old }
@@ -281,6 +295,7 @@ impl<const N: usize> CycleRing<N> {
     }
 
     // How many TRBs are put and not reclaimed.
+    #[inline(always)]
     fn count(&self) -> usize
         ensures count { result ≡ length self.now.put }
         ensures standing { IsRing N self.now }
@@ -290,6 +305,7 @@ impl<const N: usize> CycleRing<N> {
     }
 
     // How many of them are consumed.
+    #[inline(always)]
     fn got(&self) -> usize
         ensures got { result ≡ self.now.got }
         ensures standing { IsRing N self.now }
@@ -299,20 +315,37 @@ impl<const N: usize> CycleRing<N> {
     }
 
     // The place of an item, and the cycle state with which both ends come to it.
+    #[inline(always)]
     fn end_at(&self, item: usize) -> End
         requires { item < N - 1 }
         ensures end { IsEnd (N - 1) (self.now.at + item) result }
         ensures within { result.place < N - 1 }
     {
-        let place = (self.first + item) % (N - 1);
-        let cycle = bit_from(self.first, self.dequeue.cycle, self.dequeue.place);
+        let place = ahead(N - 1, self.first, item);
+        let start = End {
+            place: self.first,
+            cycle: self.first_cycle(),
+        };
         End {
             place,
-            cycle: bit_from(self.first, cycle, place),
+            cycle: start.bit_at(place),
         }
     }
 
+    // The cycle state with which both ends come to the first place that isn't reclaimed.
+    #[inline(always)]
+    fn first_cycle(&self) -> bool
+        ensures { result ≡ turn_bit (N - 1) self.now.at }
+    {
+        let brought = End {
+            place: self.first,
+            cycle: self.dequeue.cycle,
+        };
+        brought.bit_at(self.dequeue.place)
+    }
+
     // Whether a place has the Cycle bit that an end brings there.
+    #[inline(always)]
     fn is_in_use(&self, end: End) -> bool
         requires { end.place < N - 1 }
         ensures { (k : ℕ) → k < N - 1 → IsEnd (N - 1) (self.now.at + k) end → IsTrue result ↔ (k < length self.now.put) }
@@ -321,6 +354,7 @@ impl<const N: usize> CycleRing<N> {
     }
 
     // The TRB of an item by its place, while it is there.
+    #[inline(always)]
     fn trb_at(&self, end: End) -> Option<Trb>
         requires { end.place < N - 1 }
         ensures { (k : ℕ) → k < N - 1 → IsEnd (N - 1) (self.now.at + k) end → result ≡ slice_get self.now.put k }
@@ -335,6 +369,7 @@ impl<const N: usize> CycleRing<N> {
     }
 
     // The item that stands, or would stand, at this place.
+    #[inline(always)]
     fn item_at(&self, place: usize) -> usize
         requires { place < N - 1 }
         ensures item { result ≡ item_in (N - 1) (self.now.at % (N - 1)) place }
@@ -346,6 +381,7 @@ impl<const N: usize> CycleRing<N> {
     }
 
     // The item that stands, or would stand, at this address.
+    #[inline(always)]
     fn item_of(&self, pointer: u64) -> Option<usize>
         ensures item { result ≡ item_at N self.now pointer }
         ensures found { IfSome result (λ k. (k < N - 1) × (pointer ≡ pointer_of N self.now k)) }
@@ -365,6 +401,7 @@ impl<const N: usize> CycleRing<N> {
         Some(self.item_at(place as usize))
     }
 
+    #[inline(always)]
     fn pointer(&self, place: usize) -> u64
         requires { place < N }
         ensures { result ≡ self.now.base + 16 * place }

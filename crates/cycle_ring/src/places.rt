@@ -5,11 +5,11 @@ ghost use Rattle.std.specs.Vec.{vec_len};
 ghost use Rattle.xhci_trb.specs.declared.Trb.{Trb};
 ghost use Rattle.xhci_trb.specs.declared.Trb.TheVariants.{Link};
 ghost use Rattle.xhci_trb.specs.Text.{HasText, text};
-ghost use Rattle.cycle_ring.specs.Counted.{IsEnd};
+ghost use Rattle.ring_ends.specs.Counted.{IsEnd};
 ghost use Rattle.cycle_ring.specs.Segment.{HoldsTrbs};
 
 use crate::NoMemory;
-use crate::ends::End;
+use ring_ends::End;
 use std::alloc::Global;
 use xhci_trb::laws::text_reads_back;
 use xhci_trb::{Trb, decode, encode};
@@ -26,6 +26,7 @@ pub(crate) fn zeros(alloc: Global, count: usize) -> Result<Vec<[u8; 16]>, NoMemo
 }
 
 /// Writes TRBs from the producer's end on, and gives its new end; there is room.
+#[inline(always)]
 pub(crate) fn put_back<const N: usize>(
     places: &mut Vec<[u8; 16]>,
     base: u64,
@@ -37,8 +38,10 @@ pub(crate) fn put_back<const N: usize>(
     requires texts { All HasText trbs.now }
     requires size { vec_len places.old ≡ N }
     requires within { start.place < N - 1 }
-    ensures holds { (at : ℕ) (put : List Trb) → HoldsTrbs N base places.old.items at put → length put + length trbs.now ≤ N - 2 → IsEnd (N - 1) (at + length put) start → HoldsTrbs N base places.new.items at (put ++ trbs.now) }
-    ensures end { (at : ℕ) (put : List Trb) → HoldsTrbs N base places.old.items at put → length put + length trbs.now ≤ N - 2 → IsEnd (N - 1) (at + length put) start → IsEnd (N - 1) (at + length put + length trbs.now) result }
+    ensures holds { (at : ℕ) (put : List Trb) → HoldsTrbs N base places.old.items at put → length put + length trbs.now ≤ N - 2
+        → IsEnd (N - 1) (at + length put) start → HoldsTrbs N base places.new.items at (put ++ trbs.now) }
+    ensures end { (at : ℕ) (put : List Trb) → HoldsTrbs N base places.old.items at put → length put + length trbs.now ≤ N - 2
+        → IsEnd (N - 1) (at + length put) start → IsEnd (N - 1) (at + length put + length trbs.now) result }
 {
     let mut end = start;
     for trb in trbs {
@@ -48,6 +51,7 @@ pub(crate) fn put_back<const N: usize>(
 }
 
 // Writes one TRB, and behind the last place before it the Link, which has that TRB's Cycle bit and Chain bit.
+#[inline(always)]
 fn put<const N: usize>(places: &mut Vec<[u8; 16]>, base: u64, end: End, trb: &Trb) -> End
     requires least_places { 4 ≤ N }
     requires base { base % 16 ≡ 0 }
@@ -56,7 +60,8 @@ fn put<const N: usize>(places: &mut Vec<[u8; 16]>, base: u64, end: End, trb: &Tr
     requires within { end.place < N - 1 }
     ensures size { vec_len places.new ≡ N }
     ensures within { result.place < N - 1 }
-    ensures holds { (at : ℕ) (put : List Trb) → HoldsTrbs N base places.old.items at put → length put < N - 2 → IsEnd (N - 1) (at + length put) end → HoldsTrbs N base places.new.items at (put ++ trb.now ∷ []) }
+    ensures holds { (at : ℕ) (put : List Trb) → HoldsTrbs N base places.old.items at put → length put < N - 2 → IsEnd (N - 1) (at + length put) end
+        → HoldsTrbs N base places.new.items at (put ++ trb.now ∷ []) }
     ensures end { (at : ℕ) (put : List Trb) → IsEnd (N - 1) (at + length put) end → IsEnd (N - 1) (at + length put + 1) result }
 {
     let cycle = end.cycle;

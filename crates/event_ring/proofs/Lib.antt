@@ -1,4 +1,2 @@
-pub mod Turns
 pub mod Shifts
-pub mod Counted
 pub mod Segment

@@ -1,5 +1,7 @@
 -- A segment's bytes and the ring that they show: what the ends' steps do to both. Cited by the calls of the ring.
-use Rattle.std.proofs.Common.{◌≡◌, ◌≢◌, ℕ, zero, suc, ◌+◌, ◌-◌, ◌*◌, ◌/◌, ◌%◌, ◌<◌, ◌≤◌, ◌⊎◌, ◌==◌, Bool, true, false, not, List, [], ◌∷◌, ◌++◌, length, length-append, length-drop, length-set, set, get_or, get_or-set_same, get_or-set_other, drop, replicate, Some, None, All, slice_get, slice_index_or, refl, sym, ap, ap₂, ◌∙◌, arith, inl, inr}
+use Rattle.std.proofs.Common.{◌≡◌, ◌≢◌, ℕ, zero, suc, ◌+◌, ◌-◌, ◌*◌, ◌/◌, ◌%◌, ◌<◌, ◌≤◌, ◌⊎◌, ◌==◌, Bool, true, false, not, List, [], ◌∷◌}
+use Rattle.std.proofs.Common.{◌++◌, length, length-append, length-drop, length-set, set, get_or, get_or-set_same, get_or-set_other, drop}
+use Rattle.std.proofs.Common.{replicate, Some, None, All, slice_get, slice_index_or, refl, sym, ap, ap₂, ◌∙◌, arith, inl, inr}
 use Rattle.std.proofs.Math.Nat.{mod-lt, mod-add-mod, mod-eq_of_lt, add-mod_right, div-eq_of_lt}
 use Rattle.std.proofs.lemmas.Bool.{cases_lt, le-leb, lt-leb}
 use Rattle.std.proofs.lemmas.List.{get_or-replicate, length-replicate}
@@ -11,13 +13,13 @@ use Rattle.xhci_trb.specs.Text.{text}
 use Rattle.xhci_trb.specs.Reader.{trb_in, cycle_in}
 use Rattle.event_ring.specs.declared.Event.{Event}
 use Rattle.event_ring.specs.declared.Event.TheVariants.{Transfer, Command}
-use Rattle.event_ring.specs.declared.ends.End.{End}
+use Rattle.ring_ends.specs.declared.End.{End}
 use Rattle.event_ring.specs.Events.{Events, IsWritable, trb_of, taken, opening}
-use Rattle.event_ring.specs.Counted.{turn_bit, counted, distance, IsEnd, next_end, bit_from}
+use Rattle.ring_ends.specs.Counted.{turn_bit, counted, distance, IsEnd, next_end, bit_from}
 use Rattle.event_ring.specs.Segment.{bytes_at, event_of, events_from, shown, IsText, IsSegment}
-use Rattle.event_ring.proofs.Turns.{wraps_once, same_item, place_shift, turn_shift, place_ahead, place_behind}
+use Rattle.ring_ends.specs.TurnLaws.{wraps_once, same_item, place_shift, turn_shift, place_ahead, place_behind}
 use Rattle.event_ring.proofs.Shifts.{IsRing-taken}
-use Rattle.event_ring.proofs.Counted.{counted-end, IsEnd-next, turn_bit-next, turn_bit-ahead, cycle_in-byte}
+use Rattle.ring_ends.specs.EndLaws.{counted-end, IsEnd-next, turn_bit-next, turn_bit-ahead, cycle_in-byte}
 
 -- steps from the first place of a turn to the place of item k
 pub distance-ahead : (m at k : ℕ) → k < m → distance m (at % m) ((at + k) % m) ≡ k
@@ -71,7 +73,14 @@ IsEnd-first n j some zeroth =
 pub IsSegment-opening : (n : ℕ) (first : End) → 16 ≤ n → n ≤ 4096 → first ≡ record { place = 0; cycle = true }
     → IsSegment n (replicate n (replicate 16 0)) first first opening
 IsSegment-opening n first least most is = record {
-  ring = record { least_places = least; most_places = most; at_below = omega arith; room_left = omega arith; writable = λ k event within. absurd (omega arith) };
+  ring = record {
+    least_places = least;
+    most_places = most;
+    at_below = omega arith;
+    room_left = omega arith;
+    writable = λ k event within. absurd
+        (omega arith);
+  };
   holds = record {
     size = length-replicate n (replicate 16 0);
     event = λ k event some. absurd (none-some event some);
@@ -136,7 +145,8 @@ IsSegment-posted n places dequeue enqueue r event bytes segment room writable is
               get_or-set_same places ((r.at + count) % n) bytes [] (omega (arith, segment.holds.size)) in
               rw (behind.0, there, ← end.cycle, ← behind.1) is_text
         ]);
-        stale = λ k from within. rw (end.place, bytes_at-other n places bytes r.at count k (omega arith) within (omega arith)) (segment.holds.stale k (omega arith) within);
+        stale = λ k from within. rw (end.place, bytes_at-other n places bytes r.at count k (omega arith) within (omega arith))
+            (segment.holds.stale k (omega arith) within);
       };
       consumer = segment.consumer;
       producer = let e : r.at + length (r.pending ++ event ∷ []) ≡ r.at + count + 1 = omega arith in

@@ -3,7 +3,7 @@ use Rattle.std.proofs.Common.{ℕ, ◌+◌, ◌<◌, ◌==◌, length-drop, ap, 
 use Rattle.std.proofs.Math.Nat.{mod-lt}
 use Rattle.std.proofs.lemmas.List.Elements.{All-drop}
 use Rattle.event_ring.specs.Events.{Events, IsRing, IsShifted, IsWritable, taken}
-use Rattle.event_ring.proofs.Turns.{place_shift, turn_shift}
+use Rattle.ring_ends.specs.TurnLaws.{place_shift, turn_shift}
 
 -- it is a ring again
 pub IsRing-taken : (n : ℕ) (r : Events) → IsRing n r → IsRing n (taken n r)

@@ -1,3 +1,2 @@
 pub mod Events
-pub mod Counted
 pub mod Segment

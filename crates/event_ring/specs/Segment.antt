@@ -7,9 +7,9 @@ use Rattle.xhci_trb.specs.Text.{text}
 use Rattle.xhci_trb.specs.Reader.{trb_in, cycle_in}
 use Rattle.event_ring.specs.declared.Event.{Event}
 use Rattle.event_ring.specs.declared.Event.TheVariants.{Transfer, Command}
-use Rattle.event_ring.specs.declared.ends.End.{End}
+use Rattle.ring_ends.specs.declared.End.{End}
 use Rattle.event_ring.specs.Events.{Events, IsRing, trb_of}
-use Rattle.event_ring.specs.Counted.{turn_bit, counted, distance, IsEnd}
+use Rattle.ring_ends.specs.Counted.{turn_bit, counted, distance, IsEnd}
 
 -- the bytes at the counted place j
 abbrev pub bytes_at : ℕ → List (List ℕ) → ℕ → List ℕ

@@ -26,19 +26,19 @@
 //! takes all memory, and no other call takes any. The crate stands on `xhci_trb` for the texts of TRBs.
 #![tactic(auto)]
 
-ghost use Rattle.std.specs.Prelude.{◌≡◌, ◌≢◌, ℕ, ◌+◌, ◌-◌, ◌*◌, ◌/◌, ◌%◌, ◌<◌, ◌≤◌, ◌++◌, [], ◌∷◌, ◌↔◌, length, replicate, slice_get, IsOk, IsSome, IfOk, OnSome, IfNone, OnOk, OnErr, IsTrue};
+ghost use Rattle.std.specs.Prelude.{◌≡◌, ◌≢◌, ℕ, ◌+◌, ◌-◌, ◌*◌, ◌/◌, ◌%◌, ◌<◌, ◌≤◌, ◌++◌, [], ◌∷◌, ◌↔◌, length, replicate, slice_get, IsOk};
+ghost use Rattle.std.specs.Prelude.{IsSome, IfOk, OnSome, IfNone, OnOk, OnErr, IsTrue};
 ghost use Rattle.xhci_trb.specs.declared.Trb.{Trb};
 ghost use Rattle.event_ring.specs.declared.Event.{Event};
 ghost use Rattle.event_ring.specs.Events.{trb_of, IsWritable};
 
-use ends::{End, cycle_bit, distance};
+use ring_ends::{End, cycle_bit, distance};
 use std::alloc::{AllocError, Global};
 use std::marker::Model;
 use thiserror::Error;
 use xhci_trb::laws::text_reads_back;
 use xhci_trb::{Trb, decode, encode};
 
-mod ends;
 #[cfg(test)]
 mod tests;
 
@@ -124,7 +124,7 @@ impl<const E: usize> Model for EventRing<E> {
 
 impl<const E: usize> EventRing<E> {
     ghost use Rattle.event_ring.specs.Events.{Events, IsRing, opening, place_of, cycle_of, taken, IsShifted, IsInUse, event_image};
-    ghost use Rattle.event_ring.specs.Counted.{distance};
+    ghost use Rattle.ring_ends.specs.Counted.{distance};
 
     /// An empty event ring (4.9.4). Refused for want of memory alone.
     pub fn new(alloc: Global) -> Result<Self, NoMemory>

@@ -4,7 +4,7 @@ use Rattle.std.proofs.lemmas.List.{get_or_read}
 use Rattle.xhci_trb.specs.declared.Trb.TheVariants.{Link}
 use Rattle.xhci_trb.specs.Text.{text, has_chain}
 use Rattle.cycle_ring.specs.Ring.{Ring}
-use Rattle.cycle_ring.specs.Counted.{turn_bit}
+use Rattle.ring_ends.specs.Counted.{turn_bit}
 use Rattle.cycle_ring.proofs.Segment.{IsEnd-inside, IsEnd-past, IsSegment-moved, item_of, within-end, shown-segment}
 use Rattle.cycle_ring.proofs.CycleRing.advance.Goals as goal
 
@@ -42,7 +42,8 @@ invariant_of-self-else-next g c =
     let item = item_of r.put r.got c.requires in
     let there = segment.holds.link r.got item.0 item.1 (omega (arith, segment.consumer.place)) in
     let read = get_or_read items (dequeue.place + 1) c.index.result.now (omega (arith, segment.holds.size)) c.index.ensures [] in
-    let link = read ∙ ap (λ (j : ℕ). get_or items j []) last ∙ there ∙ ap (λ (b : ℕ). text (Link b true (has_chain item.0) false) (turn_bit (g.row.N - 1) (r.at + r.got))) (sym base) in
+    let link = read ∙ ap (λ (j : ℕ). get_or items j []) last ∙ there
+    ∙ ap (λ (b : ℕ). text (Link b true (has_chain item.0) false) (turn_bit (g.row.N - 1) (r.at + r.got))) (sym base) in
     let toggled = c.behind_link-self-inside.ensures _ _ link in
     let past = IsEnd-past g.row.N (r.at + r.got) dequeue least segment.consumer c.if-next.false in
     let new = IsSegment-moved g.row.N _ _ _ _ _ r (r.got + 1) segment (omega (arith, c.requires)) (rw sum at past) in
@@ -62,7 +63,8 @@ returns-else-next g c =
     let item = item_of r.put r.got c.requires in
     let there = segment.holds.link r.got item.0 item.1 (omega (arith, segment.consumer.place)) in
     let read = get_or_read items (dequeue.place + 1) c.index.result.now (omega (arith, segment.holds.size)) c.index.ensures [] in
-    let link = read ∙ ap (λ (j : ℕ). get_or items j []) last ∙ there ∙ ap (λ (b : ℕ). text (Link b true (has_chain item.0) false) (turn_bit (g.row.N - 1) (r.at + r.got))) (sym base) in
+    let link = read ∙ ap (λ (j : ℕ). get_or items j []) last ∙ there
+    ∙ ap (λ (b : ℕ). text (Link b true (has_chain item.0) false) (turn_bit (g.row.N - 1) (r.at + r.got))) (sym base) in
     let toggled = c.behind_link-self-inside.ensures _ _ link in
     let past = IsEnd-past g.row.N (r.at + r.got) dequeue least segment.consumer c.if-next.false in
     let new = IsSegment-moved g.row.N _ _ _ _ _ r (r.got + 1) segment (omega (arith, c.requires)) (rw sum at past) in

@@ -2,7 +2,7 @@
 use Rattle.std.proofs.Common.{◌≡◌, ◌-◌, ◌%◌, ℕ, refl, sym, ap, ◌∙◌}
 use Rattle.cycle_ring.specs.Ring.{item_in}
 use Rattle.cycle_ring.proofs.Names.{item_in-stands}
-use Rattle.cycle_ring.proofs.Turns.{same_item}
+use Rattle.ring_ends.specs.TurnLaws.{same_item}
 use Rattle.cycle_ring.proofs.CycleRing.item_at.Goals as goal
 
 pub returns : goal.returns

@@ -39,9 +39,9 @@ returns-clause-td g c =
     let start = c.self.inside.enqueue in
     let some = IsTd-some c.args.trbs.now c.requires.td in
     let first = c.pointer.ensures ∙ ap (λ (place : ℕ). r.base + 16 * place) segment.producer.place in
-    let sum : start.place + length c.args.trbs.now - 1 ≡ start.place + (length c.args.trbs.now - 1) = omega arith in
     let count : r.at + length r.put + (length c.args.trbs.now - 1) ≡ r.at + (length r.put + length c.args.trbs.now - 1) = omega arith in
-    let last : (start.place + length c.args.trbs.now - 1) % (g.row.N - 1) ≡ (r.at + (length r.put + length c.args.trbs.now - 1)) % (g.row.N - 1) =
-    rw (sum, segment.producer.place, mod-add-mod (r.at + length r.put) (g.row.N - 1) (length c.args.trbs.now - 1), count) refl in
+    let stands : (start.place + (length c.args.trbs.now - 1)) % (g.row.N - 1) ≡ (r.at + (length r.put + length c.args.trbs.now - 1)) % (g.row.N - 1) =
+    rw (segment.producer.place, mod-add-mod (r.at + length r.put) (g.row.N - 1) (length c.args.trbs.now - 1), count) refl in
+    let last : c.ahead-last.result ≡ (r.at + (length r.put + length c.args.trbs.now - 1)) % (g.row.N - 1) = c.ahead-last.ensures ∙ stands in
     let behind = c.pointer-2.ensures ∙ ap (λ (place : ℕ). r.base + 16 * place) last in
     rw (first, behind) refl

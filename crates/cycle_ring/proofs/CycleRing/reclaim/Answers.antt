@@ -15,7 +15,8 @@ invariant_of-self g c =
     let within : k < g.row.N - 1 = omega (arith, consumed.0, segment.ring.consumed, segment.ring.room_left, segment.ring.least_places) in
     let found = c.item_of.ensures.every k within consumed.1 in
     let same : c.unwrap-count.result ≡ k = cc in
-    let new = IsSegment-reclaimed g.row.N (c.unwrap-count.result + 1) _ _ c.end_at.result.place _ _ r segment (omega (arith, same, consumed.0)) (c.end_at.ensures.end).place in
+    let new = IsSegment-reclaimed g.row.N (c.unwrap-count.result + 1) _ _ c.end_at.result.place _ _ r segment (omega (arith, same, consumed.0))
+    (c.end_at.ensures.end).place in
     rw (shown-segment g.row.N _ _ _ _ _ _ base new) new
 
 pub returns-clause-freed : goal.returns-clause-freed
@@ -26,7 +27,8 @@ returns-clause-freed g c k consumed =
     let within : k < g.row.N - 1 = omega (arith, consumed.0, segment.ring.consumed, segment.ring.room_left, segment.ring.least_places) in
     let found = c.item_of.ensures.every k within consumed.1 in
     let same : c.unwrap-count.result ≡ k = cc in
-    let new = IsSegment-reclaimed g.row.N (c.unwrap-count.result + 1) _ _ c.end_at.result.place _ _ r segment (omega (arith, same, consumed.0)) (c.end_at.ensures.end).place in
+    let new = IsSegment-reclaimed g.row.N (c.unwrap-count.result + 1) _ _ c.end_at.result.place _ _ r segment (omega (arith, same, consumed.0))
+    (c.end_at.ensures.end).place in
     rw (← same) (shown-segment g.row.N _ _ _ _ _ _ base new)
 
 pub returns-clause-shifted : goal.returns-clause-shifted
@@ -37,5 +39,6 @@ returns-clause-shifted g c k consumed i =
     let within : k < g.row.N - 1 = omega (arith, consumed.0, segment.ring.consumed, segment.ring.room_left, segment.ring.least_places) in
     let found = c.item_of.ensures.every k within consumed.1 in
     let same : c.unwrap-count.result ≡ k = cc in
-    let new = IsSegment-reclaimed g.row.N (c.unwrap-count.result + 1) _ _ c.end_at.result.place _ _ r segment (omega (arith, same, consumed.0)) (c.end_at.ensures.end).place in
+    let new = IsSegment-reclaimed g.row.N (c.unwrap-count.result + 1) _ _ c.end_at.result.place _ _ r segment (omega (arith, same, consumed.0))
+    (c.end_at.ensures.end).place in
     rw (shown-segment g.row.N _ _ _ _ _ _ base new, same) (IsShifted-reclaimed g.row.N (k + 1) r i (omega arith))

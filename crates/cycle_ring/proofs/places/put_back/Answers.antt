@@ -21,7 +21,8 @@ loop-trb-preserved g c = record {
       let so_far = c.loop-trb.invariant.holds at put holds (omega arith) is in
       let index = c.loop-trb.trb-index in
       let xs = c.args.trbs.now in
-      let size : length (put ++ take index xs) ≡ length put + index = length-append put (take index xs) ∙ ap (λ (n : ℕ). length put + n) (length-take-le index xs (omega arith)) in
+      let size : length (put ++ take index xs) ≡ length put + index =
+      length-append put (take index xs) ∙ ap (λ (n : ℕ). length put + n) (length-take-le index xs (omega arith)) in
       let sum : at + length put + index ≡ at + length (put ++ take index xs) = omega arith in
       let end = rw sum at so_far.1 in
       let written = c.put-end.ensures.holds at (put ++ take index xs) so_far.0 (omega arith) end in

@@ -1,7 +1,7 @@
 use Rattle.std.proofs.Common.{◌≡◌, ℕ, ◌+◌, ◌-◌, ◌<◌, ◌≤◌, List, ◌++◌, take, length}
 use Rattle.std.specs.Vec.{vec_len}
 use Rattle.xhci_trb.specs.declared.Trb.{Trb}
-use Rattle.cycle_ring.specs.Counted.{IsEnd}
+use Rattle.ring_ends.specs.Counted.{IsEnd}
 use Rattle.cycle_ring.specs.Segment.{HoldsTrbs}
 use Rattle.cycle_ring.proofs.places.put_back.Given as goal
 

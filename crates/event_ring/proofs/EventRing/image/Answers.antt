@@ -4,7 +4,7 @@ use Rattle.std.proofs.lemmas.Bool.{cases_lt, false≢true}
 use Rattle.std.proofs.Math.Nat.{mod-lt}
 use Rattle.std.proofs.lemmas.List.{get_or_read}
 use Rattle.std.proofs.lemmas.Option.{slice_get_past}
-use Rattle.event_ring.specs.Counted.{distance}
+use Rattle.ring_ends.specs.Counted.{distance}
 use Rattle.event_ring.proofs.Segment.{distance-ahead, distance-place, text-pending, item_of}
 use Rattle.event_ring.proofs.EventRing.image.Goals.{else-place-via-then-place+else-is_pending, else-place-via-else-place}
 use Rattle.event_ring.proofs.EventRing.image.Goals as goal
@@ -34,7 +34,8 @@ returns-clause-event g c k within at =
     let there : (r.at + k) % g.row.E < g.row.E = mod-lt (r.at + k) (omega arith) in
     elim c.else-place.branch [
       | else-place-via-then-place+else-is_pending w ↦
-          let behind : length r.pending ≤ k = past (length r.pending) k (λ less. true_false (w.is_pending.ensures.1 (omega (arith, same, less))) w.if-is_pending.false) in
+          let behind : length r.pending ≤ k =
+          past (length r.pending) k (λ less. true_false (w.is_pending.ensures.1 (omega (arith, same, less))) w.if-is_pending.false) in
           rw (slice_get_past r.pending k behind) refl
       | else-place-via-else-place w ↦ absurd (omega (arith, at, w.if-place.false))
     ]

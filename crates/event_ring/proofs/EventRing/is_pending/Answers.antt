@@ -5,7 +5,7 @@ use Rattle.std.proofs.lemmas.Bool.{cases_lt, false≢true}
 use Rattle.std.proofs.lemmas.List.{get_or_read}
 use Rattle.xhci_trb.specs.Words.{words_in}
 use Rattle.xhci_trb.specs.Reader.{cycle_in}
-use Rattle.event_ring.specs.Counted.{distance}
+use Rattle.ring_ends.specs.Counted.{distance}
 use Rattle.event_ring.proofs.Segment.{bit-pending, bit-stale}
 use Rattle.event_ring.proofs.EventRing.is_pending.Goals as goal
 

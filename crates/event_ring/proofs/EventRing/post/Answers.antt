@@ -17,7 +17,8 @@ pub invariant_of-self : goal.invariant_of-self
 invariant_of-self g c =
     let segment = rw c.self.view_is at c.self.invariant in
     let count = distance-segment g.row.E c.self.inside.places.items c.self.inside.dequeue c.self.inside.enqueue c.args.self.now segment in
-    let room : length c.args.self.now.pending < g.row.E - 1 = below _ _ (omega (arith, segment.ring.room_left)) (λ full. c.if-distance.false (c.distance.ensures ∙ count ∙ full)) in
+    let room : length c.args.self.now.pending < g.row.E - 1 =
+    below _ _ (omega (arith, segment.ring.room_left)) (λ full. c.if-distance.false (c.distance.ensures ∙ count ∙ full)) in
     let text = IsText-encoded c.args.event c.trb-trb.result c.encode.result c.self.inside.enqueue.cycle c.trb-trb.ensures c.encode.ensures.text c.text_reads_back.ensures.trb c.text_reads_back.ensures.cycle in
     let new = IsSegment-posted g.row.E _ _ _ _ c.args.event c.encode.result segment room c.requires text in
     rw (c.next-self-inside.ensures) (rw (shown-segment g.row.E _ _ _ _ new) new)
@@ -32,7 +33,8 @@ pub returns-clause-posted : goal.returns-clause-posted
 returns-clause-posted g c =
     let segment = rw c.self.view_is at c.self.invariant in
     let count = distance-segment g.row.E c.self.inside.places.items c.self.inside.dequeue c.self.inside.enqueue c.args.self.now segment in
-    let room : length c.args.self.now.pending < g.row.E - 1 = below _ _ (omega (arith, segment.ring.room_left)) (λ full. c.if-distance.false (c.distance.ensures ∙ count ∙ full)) in
+    let room : length c.args.self.now.pending < g.row.E - 1 =
+    below _ _ (omega (arith, segment.ring.room_left)) (λ full. c.if-distance.false (c.distance.ensures ∙ count ∙ full)) in
     let text = IsText-encoded c.args.event c.trb-trb.result c.encode.result c.self.inside.enqueue.cycle c.trb-trb.ensures c.encode.ensures.text c.text_reads_back.ensures.trb c.text_reads_back.ensures.cycle in
     let new = IsSegment-posted g.row.E _ _ _ _ c.args.event c.encode.result segment room c.requires text in
     rw (c.next-self-inside.ensures) (shown-segment g.row.E _ _ _ _ new)

@@ -1,12 +1,13 @@
--- The ends of a ring: an end's counted place, the place behind it, and the Cycle bits of the turn that it begins.
-use Rattle.std.proofs.Common.{◌≡◌, ℕ, ◌+◌, ◌-◌, ◌*◌, ◌/◌, ◌%◌, ◌<◌, ◌≤◌, ◌⊎◌, true, false, not, ◌==◌, List, slice_index, get_or-drop, refl, sym, ap, ◌∙◌, arith, inl, inr}
-use Rattle.std.proofs.Math.Nat.{mod-lt, div-add-mod}
+-- Laws of the ends of a ring: an end's counted place, the place behind it, and the Cycle bits of the turn that it begins.
+use Rattle.std.proofs.Common.{◌≡◌, ℕ, ◌+◌, ◌-◌, ◌*◌, ◌/◌, ◌%◌, ◌<◌, ◌≤◌, ◌⊎◌, true, false, not, ◌==◌, List, slice_index, get_or-drop, refl}
+use Rattle.std.proofs.Common.{sym, ap, ◌∙◌, arith, inl, inr}
+use Rattle.std.proofs.Math.Nat.{mod-lt, mod-eq_of_lt, add-mod_right, div-add-mod}
 use Rattle.std.proofs.lemmas.Nat.{div-mul-add, mod-mul-add}
 use Rattle.std.proofs.lemmas.Bool.{le-leb, lt-leb, cases_lt, cases_eq, eq-eqb, ne_eqb}
-use Rattle.event_ring.specs.Counted.{turn_bit, counted, IsEnd, next_end, bit_from}
+use Rattle.ring_ends.specs.Counted.{turn_bit, counted, IsEnd, next_end, bit_from}
 use Rattle.xhci_trb.specs.Words.{words_in}
 use Rattle.xhci_trb.specs.Reader.{cycle_in}
-use Rattle.event_ring.specs.declared.ends.End.{End}
+use Rattle.ring_ends.specs.declared.End.{End}
 
 -- a number by its turn and its place
 turn_of : (m q r j : ℕ) → r < m → j ≡ q * m + r → (j / m ≡ q) × (j % m ≡ r)
@@ -102,4 +103,12 @@ cycle_in-byte bytes =
     let low : (words_in bytes).control % 2 ≡ slice_index bytes 12 % 2 = omega (arith, get_or-drop 12 bytes 0 0) in
     ap (λ (x : ℕ). x == 1) low
 
-pub ruleset bit_of_byte = (cycle_in-byte)
+-- the place that so many steps of one place lead to: before the end of the turn, and past it
+pub ahead_below : (m from steps : ℕ) → from + steps < m → from + steps ≡ (from + steps) % m
+ahead_below m from steps below = sym (mod-eq_of_lt below)
+
+pub ahead_past : (m from steps : ℕ) → from < m → steps ≤ m → m ≤ from + steps → from + steps - m ≡ (from + steps) % m
+ahead_past m from steps first most past =
+    let rest : from + steps - m < m = omega arith in
+    let back : from + steps - m + m ≡ from + steps = omega arith in
+    sym (mod-eq_of_lt rest) ∙ sym (add-mod_right (from + steps - m) m) ∙ ap (λ (x : ℕ). x % m) back

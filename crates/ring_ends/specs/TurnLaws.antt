@@ -1,4 +1,4 @@
--- Places and turns of a ring whose turn has m places.
+-- Laws of places and turns, of a ring whose turn has m places.
 use Rattle.std.proofs.Common.{◌≡◌, ℕ, ◌+◌, ◌-◌, ◌*◌, ◌/◌, ◌%◌, ◌<◌, ◌≤◌, ◌⊎◌, sym, ap, ◌∙◌, arith, inl, inr}
 use Rattle.std.proofs.Math.Nat.{mod-add-mod, mod-lt, div-add-mod, mul-add-mod_self_left, mod-eq_of_lt, add-mod_right, mul-add-div}
 use Rattle.std.proofs.lemmas.Nat.{mod-mul-add}

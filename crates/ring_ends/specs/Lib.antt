@@ -1,0 +1,3 @@
+pub mod Counted
+pub mod EndLaws
+pub mod TurnLaws

@@ -1,5 +1,6 @@
 -- An array with one entry changed.
-use Rattle.std.proofs.Common.{◌≡◌, ℕ, ◌%◌, ◌^◌, ◌<◌, true, false, Some, None, is_some, length, slice_set, length-set, get_or-set_same, get_or-set_other, ap, ◌∙◌, sym, arith, inl, inr}
+use Rattle.std.proofs.Common.{◌≡◌, ℕ, ◌%◌, ◌^◌, ◌<◌, true, false, Some, None, is_some, length, slice_set, length-set, get_or-set_same}
+use Rattle.std.proofs.Common.{get_or-set_other, ap, ◌∙◌, sym, arith, inl, inr}
 use Rattle.std.proofs.lemmas.Bool.{cases_eq}
 use Rattle.stream_array.specs.declared.Dequeue.{Dequeue}
 use Rattle.stream_array.specs.Contexts.{Contexts, IsArray, entry_of}

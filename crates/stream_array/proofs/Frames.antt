@@ -1,5 +1,6 @@
 -- A ring that was changed, and the others.
-use Rattle.std.proofs.Common.{◌≡◌, ◌≢◌, ℕ, ◌-◌, ◌<◌, ◌≤◌, List, length, slice_set, length-set, get_or-set_same, get_or-set_other, refl, sym, ◌∙◌, arith, inl, inr}
+use Rattle.std.proofs.Common.{◌≡◌, ◌≢◌, ℕ, ◌-◌, ◌<◌, ◌≤◌, List, length, slice_set, length-set, get_or-set_same, get_or-set_other, refl}
+use Rattle.std.proofs.Common.{sym, ◌∙◌, arith, inl, inr}
 use Rattle.std.proofs.lemmas.Bool.{cases_eq, cases_lt}
 use Rattle.cycle_ring.specs.Ring.{Ring, opening}
 use Rattle.event_ring.specs.Events.{Events}
@@ -7,7 +8,8 @@ use Rattle.stream_array.specs.declared.Pipe.{Pipe}
 use Rattle.stream_array.specs.declared.Pipe.TheVariants.{Command, Status, DataIn, DataOut}
 use Rattle.stream_array.specs.Contexts.{Contexts, entry_of}
 use Rattle.stream_array.specs.Map.{HasRing, ring_base}
-use Rattle.stream_array.specs.Rings.{LinesState, IsLines, IsShown, ring_of, stream_ring, with_ring, ChangedRingIsThere, OtherRingsAreKept, OtherContextsAreKept, RingsStayInPlace, with_engine, with_events, EngineLeavesRings, EventsLeaveRings}
+use Rattle.stream_array.specs.Rings.{LinesState, IsLines, IsShown, ring_of, stream_ring, with_ring, ChangedRingIsThere, OtherRingsAreKept}
+use Rattle.stream_array.specs.Rings.{OtherContextsAreKept, RingsStayInPlace, with_engine, with_events, EngineLeavesRings, EventsLeaveRings}
 
 -- the ring that was changed
 pub ring_of_with_ring : ChangedRingIsThere

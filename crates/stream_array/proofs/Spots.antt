@@ -1,9 +1,11 @@
 -- The address map and its inverse.
-use Rattle.std.proofs.Common.{◌≡◌, ℕ, ◌+◌, ◌-◌, ◌*◌, ◌/◌, ◌%◌, ◌<◌, ◌≤◌, ◌==◌, ◌&&◌, true, Option, Some, None, nat_lt, nat_le, option_and_then, refl, arith, inl, inr}
+use Rattle.std.proofs.Common.{◌≡◌, ℕ, ◌+◌, ◌-◌, ◌*◌, ◌/◌, ◌%◌, ◌<◌, ◌≤◌, ◌==◌, ◌&&◌, true, Option, Some, None, nat_lt, nat_le}
+use Rattle.std.proofs.Common.{option_and_then, refl, arith, inl, inr}
 use Rattle.std.proofs.lemmas.Bool.{lt-ltb, le-ltb, le-leb, ltb-true, ltb-false, leb-true, eqb-true, and_parts, cases_Bool}
 use Rattle.stream_array.specs.declared.Pipe.{Pipe}
 use Rattle.stream_array.specs.declared.Pipe.TheVariants.{Command, Status, DataIn, DataOut}
-use Rattle.stream_array.specs.Map.{HasRing, IsPlace, has_ring, number_of, pipe_numbered, place_address, places_of, spot_in, spot_at, PlacesAreFound, FoundAreOfPlaces}
+use Rattle.stream_array.specs.Map.{HasRing, IsPlace, has_ring, number_of, pipe_numbered, place_address, places_of, spot_in, spot_at}
+use Rattle.stream_array.specs.Map.{PlacesAreFound, FoundAreOfPlaces}
 
 -- FROM A PLACE TO ITS ADDRESS AND BACK
 

@@ -1,6 +1,8 @@
 -- The contexts of an array and the entries that they show: a context's text reads back as its entry, so an array with one context
 -- written shows that entry, and all others as before. Cited by the array's `set` and by the contexts of new rings.
-use Rattle.std.proofs.Common.{◌≡◌, ℕ, ◌+◌, ◌*◌, ◌/◌, ◌%◌, ◌^◌, ◌<◌, ◌==◌, Bool, true, false, List, [], length-set, set, get_or, get_or-set_same, get_or-set_other, Option, Some, None, is_some, slice_set, refl, sym, ap, ◌∙◌, arith, inl, inr}
+use Rattle.std.proofs.Common.{◌≡◌, ℕ, ◌+◌, ◌*◌, ◌/◌, ◌%◌, ◌^◌, ◌<◌, ◌==◌, Bool, true, false, List, [], length-set, set, get_or}
+use Rattle.std.proofs.Common.{get_or-set_same, get_or-set_other, Option, Some, None, is_some, slice_set, refl, sym, ap, ◌∙◌, arith, inl}
+use Rattle.std.proofs.Common.{inr}
 use Rattle.std.proofs.Math.ListN.{get_or-map}
 use Rattle.std.proofs.lemmas.Bool.{cases_eq, eq-eqb}
 use Rattle.std.proofs.lemmas.List.{map-set}

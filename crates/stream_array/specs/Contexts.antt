@@ -1,5 +1,6 @@
 -- Stream contexts of a linear primary stream array (xHCI 1.2, 4.12 and 6.2.4).
-use Rattle.std.specs.Prelude.{◌≡◌, ℕ, ◌+◌, ◌*◌, ◌^◌, ◌%◌, ◌<◌, ◌≤◌, Bool, true, false, List, ◌++◌, length, replicate, Option, Some, None, slice_index_or, nat_lt, nat_le, ◌&&◌, if◌then◌else◌}
+use Rattle.std.specs.Prelude.{◌≡◌, ℕ, ◌+◌, ◌*◌, ◌^◌, ◌%◌, ◌<◌, ◌≤◌, Bool, true, false, List, ◌++◌, length, replicate, Option, Some, None}
+use Rattle.std.specs.Prelude.{slice_index_or, nat_lt, nat_le, ◌&&◌, if◌then◌else◌}
 use Rattle.std.specs.Int.{w64, to_le_bytes}
 use Rattle.xhci_trb.specs.Text.{bit}
 use Rattle.stream_array.specs.declared.Pipe.{Pipe}

@@ -2,7 +2,8 @@
 use Rattle.std.specs.Prelude.{◌≡◌, ℕ, ◌+◌, ◌-◌, ◌*◌, ◌/◌, ◌%◌, ◌<◌, ◌≤◌, ◌==◌, ◌&&◌, Bool, nat_lt, nat_le, if◌then◌else◌, Option, Some, None, option_and_then}
 use Rattle.stream_array.specs.declared.Pipe.{Pipe}
 use Rattle.stream_array.specs.declared.Pipe.TheVariants.{Command, Status, DataIn, DataOut}
-use Rattle.stream_array.specs.declared.TheConstants.{STREAMS, STREAM_RING_PLACES, COMMAND_RING_PLACES, ENGINE_RING_PLACES, EVENT_RING_PLACES, RINGS, PIPE_SPAN, STREAM_SPAN, ENGINE_RING, EVENT_RING}
+use Rattle.stream_array.specs.declared.TheConstants.{STREAMS, STREAM_RING_PLACES, COMMAND_RING_PLACES, ENGINE_RING_PLACES}
+use Rattle.stream_array.specs.declared.TheConstants.{EVENT_RING_PLACES, RINGS, PIPE_SPAN, STREAM_SPAN, ENGINE_RING, EVENT_RING}
 
 -- a pipe's number
 abbrev pub number_of : Pipe → ℕ

@@ -61,6 +61,7 @@ impl<const S: usize> StreamArray<S> {
 
     /// Sets a stream's dequeue pointer, a multiple of 16, and cycle state. Refused for stream 0, for
     /// streams from `S` on and for those without a ring; nothing changes then.
+    #[inline(always)]
     pub fn set(&mut self, stream: u16, pointer: u64, cycle: bool) -> Result<(), InvalidStream>
         requires { pointer % 16 ≡ 0 }
         ensures has_ring { IsOk result ↔ IsSome (entry_of self.old stream) }
@@ -83,6 +84,7 @@ impl<const S: usize> StreamArray<S> {
     }
 
     // A stream's context as it stands.
+    #[inline(always)]
     fn context(&self, stream: u16) -> Result<&[u8; 16], InvalidStream>
         ensures valid { IsOk result ↔ IsStream S stream }
         ensures text { IfOk result (λ bytes. bytes.now ≡ context_text (entry_of self.now stream)) }
@@ -111,6 +113,7 @@ fn opening(pipe: Pipe, stream: u16) -> [u8; 16]
 }
 
 // The context that holds a dequeue pointer, a multiple of 16, and its cycle state.
+#[inline(always)]
 fn text(dequeue: Dequeue) -> [u8; 16]
     requires { dequeue.pointer % 16 ≡ 0 }
     ensures { result ≡ context_text (Some dequeue) }
@@ -124,6 +127,7 @@ fn text(dequeue: Dequeue) -> [u8; 16]
 }
 
 // What a context holds: nothing where SCT isn't 1.
+#[inline(always)]
 fn read(bytes: &[u8; 16]) -> Option<Dequeue>
     ensures { result ≡ entry_in bytes.now }
 {

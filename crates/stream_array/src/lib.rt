@@ -20,6 +20,7 @@
 ghost use Rattle.std.specs.Prelude.{◌≡◌, ℕ, ◌+◌, ◌*◌, ◌^◌, ◌<◌, ◌≤◌, Some, None, IfSome, IsTrue};
 ghost use Rattle.stream_array.specs.declared.Pipe.{Pipe};
 ghost use Rattle.stream_array.specs.Map.{IsPlace, place_address, number_of, places_of, pipe_numbered, has_ring, spot_in, spot_at};
+ghost use Rattle.stream_array.specs.Targets.{target_of};
 
 pub use contexts::StreamArray;
 pub use lines::Lines;
@@ -125,6 +126,20 @@ impl Pipe {
         }
     }
 
+    /// The pipe's doorbell target, which is its endpoint's number too (xHCI 5.6).
+    pub fn target(self) -> u8
+        ensures target { result ≡ target_of self }
+        ensures bits { result ≤ 5 }
+    {
+        match self {
+            Pipe::Command => 2,
+            Pipe::Status => 3,
+            Pipe::DataOut => 4,
+            Pipe::DataIn => 5,
+        }
+    }
+
+    #[inline(always)]
     fn numbered(number: u64) -> Option<Pipe>
         ensures { result ≡ pipe_numbered number }
     {
@@ -137,6 +152,7 @@ impl Pipe {
         }
     }
 
+    #[inline(always)]
     fn has_ring(self, stream: u64) -> bool
         ensures has { result ≡ has_ring self stream }
         ensures below { IsTrue result → stream ≤ STREAMS }
@@ -147,6 +163,7 @@ impl Pipe {
         }
     }
 
+    #[inline(always)]
     fn places(self) -> usize
         ensures places { result ≡ places_of self }
     {
@@ -157,6 +174,7 @@ impl Pipe {
     }
 
     // The place at whose first byte an offset in the pipe's span is.
+    #[inline(always)]
     fn spot(self, inside: u64) -> Option<(Pipe, u16, usize)>
         ensures { result ≡ spot_in self inside }
     {
@@ -173,10 +191,12 @@ impl Pipe {
 /// The pipe, the stream (0 for the command pipe) and the place of the ring at whose place this address
 /// is the first byte, if there is one.
 #[tactic(auto, using(crate::proofs::Spots::spots))]
+#[inline(always)]
 pub fn find(pointer: u64) -> Option<(Pipe, u16, usize)>
     ensures spot { result ≡ spot_at pointer }
     ensures found { IfSome result (λ at. IsPlace at.0 at.1 at.2 × (pointer ≡ place_address at.0 at.1 at.2)) }
-    ensures every { (pipe : Pipe) (stream place : ℕ) → IsPlace pipe stream place → pointer ≡ place_address pipe stream place → result ≡ Some (pipe, stream, place) }
+    ensures every { (pipe : Pipe) (stream place : ℕ) → IsPlace pipe stream place → pointer ≡ place_address pipe stream place
+        → result ≡ Some (pipe, stream, place) }
 {
     if pointer < RINGS {
         return None;

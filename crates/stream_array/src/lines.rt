@@ -1,8 +1,10 @@
 // All rings of a controller with one interface, as host and controller are lent them.
 
-ghost use Rattle.std.specs.Prelude.{◌≡◌, ◌≢◌, ℕ, ◌+◌, ◌-◌, ◌<◌, ◌≤◌, ◌++◌, [], ◌∷◌, ◌↔◌, ◌⊎◌, Some, IfSome, All, length, slice_get, IsTrue, IsOk, IsSome, IfOk, OnOk, OnErr, OnSome, IfNone};
+ghost use Rattle.std.specs.Prelude.{◌≡◌, ◌≢◌, ℕ, ◌+◌, ◌-◌, ◌<◌, ◌≤◌, ◌++◌, [], ◌∷◌, ◌↔◌, ◌⊎◌, Some, IfSome, All, length, slice_get, IsTrue};
+ghost use Rattle.std.specs.Prelude.{IsOk, IsSome, IfOk, OnOk, OnErr, OnSome, IfNone};
 ghost use Rattle.xhci_trb.specs.Text.{HasText};
-ghost use Rattle.cycle_ring.specs.Ring.{IsRing, IsTd, place_of, pointer_of, cycle_of, front_of, reclaimed, item_image, link_image, IsConsumed, IsEnqueuePlace, IsPending, IsInUse, consumed_at, oldest_of};
+ghost use Rattle.cycle_ring.specs.Ring.{IsRing, IsTd, place_of, pointer_of, cycle_of, front_of, reclaimed, item_image, link_image};
+ghost use Rattle.cycle_ring.specs.Ring.{IsConsumed, IsEnqueuePlace, IsPending, IsInUse, consumed_at, oldest_of};
 ghost use Rattle.event_ring.specs.Events.{IsWritable, taken, event_image, place_of as event_place_of, IsInUse as IsEventInUse, IsRing as IsEventRing};
 ghost use Rattle.stream_array.specs.Map.{HasRing, HasStreams, places_of, ring_base};
 ghost use Rattle.stream_array.specs.Rings.{ring_of, with_ring, with_engine, with_events, ShowsRings, IsLines, IsOpeningLines};
@@ -38,7 +40,8 @@ impl Model for Lines {
 
     ghost view = { λ l. record { command = l.command; status = l.status; data_in = l.data_in; data_out = l.data_out; engine = l.engine; events = l.events } };
 
-    ghost invariant = { λ l. IsLines (record { command = l.command; status = l.status; data_in = l.data_in; data_out = l.data_out; engine = l.engine; events = l.events }) };
+    ghost invariant = { λ l. IsLines
+        (record { command = l.command; status = l.status; data_in = l.data_in; data_out = l.data_out; engine = l.engine; events = l.events }) };
 }
 
 impl Lines {
@@ -57,6 +60,7 @@ impl Lines {
     }
 
     /// The room of a ring.
+    #[inline(always)]
     pub fn room(&self, pipe: Pipe, stream: u16) -> usize
         requires { HasRing pipe stream }
         ensures room { result + length (ring_of self.now pipe stream).put ≡ places_of pipe - 2 }
@@ -73,14 +77,20 @@ impl Lines {
     }
 
     /// Puts a TD on a ring, as the ring's call does. Refused where its room is too small.
+    #[inline(always)]
     pub fn push_td(&mut self, pipe: Pipe, stream: u16, trbs: &[Trb]) -> Result<Td, RingFull>
         requires ring { HasRing pipe stream }
         requires td { IsTd trbs.now }
         requires texts { All HasText trbs.now }
         requires at_most { length trbs.now ≤ places_of pipe - 2 }
         ensures room { IsOk result ↔ (length (ring_of self.old pipe stream).put + length trbs.now ≤ places_of pipe - 2) }
-        ensures put { OnOk result (let ring = ring_of self.old pipe stream in self.new ≡ with_ring self.old pipe stream (record ring { put = ring.put ++ trbs.now })) }
-        ensures td { IfOk result (λ td. let ring = ring_of self.old pipe stream in td ≡ record { first = pointer_of (places_of pipe) ring (length ring.put); last = pointer_of (places_of pipe) ring (length ring.put + length trbs.now - 1) }) }
+        ensures put { OnOk result (let ring = ring_of self.old pipe stream in self.new ≡ with_ring self.old pipe stream
+            (record ring { put = ring.put ++ trbs.now })) }
+        ensures td { IfOk result (λ td. let ring = ring_of self.old pipe stream in td ≡ record {
+          first = pointer_of (places_of pipe) ring
+              (length ring.put);
+          last = pointer_of (places_of pipe) ring (length ring.put + length trbs.now - 1);
+        }) }
         ensures full { OnErr result (self.new ≡ self.old) }
     {
         match pipe {
@@ -94,7 +104,8 @@ impl Lines {
     /// The enqueue pointer and the producer's cycle state of a ring.
     pub fn place(&self, pipe: Pipe, stream: u16) -> (u64, bool)
         requires { HasRing pipe stream }
-        ensures place { let ring = ring_of self.now pipe stream in result ≡ (pointer_of (places_of pipe) ring (length ring.put), cycle_of (places_of pipe) ring (length ring.put)) }
+        ensures place { let ring = ring_of self.now pipe stream in result ≡
+            (pointer_of (places_of pipe) ring (length ring.put), cycle_of (places_of pipe) ring (length ring.put)) }
         ensures unused { (k : ℕ) → k < length (ring_of self.now pipe stream).put → pointer_of (places_of pipe) (ring_of self.now pipe stream) k ≢ result.0 }
         ensures lines { IsLines self.now }
     {
@@ -107,6 +118,7 @@ impl Lines {
     }
 
     /// The first pending TRB of a ring and its address, if there is one.
+    #[inline(always)]
     pub fn front(&self, pipe: Pipe, stream: u16) -> Option<(u64, Trb)>
         requires { HasRing pipe stream }
         ensures front { result ≡ front_of (places_of pipe) (ring_of self.now pipe stream) }
@@ -121,6 +133,7 @@ impl Lines {
     }
 
     /// Consumes the first pending TRB of a ring. Asks that there is one.
+    #[inline(always)]
     pub fn advance(&mut self, pipe: Pipe, stream: u16)
         requires ring { HasRing pipe stream }
         requires pending { (ring_of self.old pipe stream).got < length (ring_of self.old pipe stream).put }
@@ -145,7 +158,8 @@ impl Lines {
     ) -> Result<(), NotAPlace>
         requires { HasRing pipe stream }
         ensures accepted { IsOk result ↔ ((k : ℕ) × IsPending (places_of pipe) (ring_of self.old pipe stream) k pointer cycle) }
-        ensures set { (k : ℕ) → IsPending (places_of pipe) (ring_of self.old pipe stream) k pointer cycle → let ring = ring_of self.old pipe stream in self.new ≡ with_ring self.old pipe stream (record ring { got = k }) }
+        ensures set { (k : ℕ) → IsPending (places_of pipe) (ring_of self.old pipe stream) k pointer cycle
+            → let ring = ring_of self.old pipe stream in self.new ≡ with_ring self.old pipe stream (record ring { got = k }) }
         ensures refused { OnErr result (self.new ≡ self.old) }
     {
         match pipe {
@@ -157,10 +171,12 @@ impl Lines {
     }
 
     /// The consumed TRB of a ring at an address, while it isn't reclaimed.
+    #[inline(always)]
     pub fn consumed(&self, pipe: Pipe, stream: u16, pointer: u64) -> Option<Trb>
         requires { HasRing pipe stream }
         ensures consumed { result ≡ consumed_at (places_of pipe) (ring_of self.now pipe stream) pointer }
-        ensures known { IfSome result (λ trb. (k : ℕ) × IsConsumed (places_of pipe) (ring_of self.now pipe stream) k pointer × (slice_get (ring_of self.now pipe stream).put k ≡ Some trb)) }
+        ensures known { IfSome result (λ trb. (k : ℕ) × IsConsumed (places_of pipe) (ring_of self.now pipe stream) k pointer
+            × (slice_get (ring_of self.now pipe stream).put k ≡ Some trb)) }
     {
         match pipe {
             Pipe::Command => self.command.consumed(pointer),
@@ -171,6 +187,7 @@ impl Lines {
     }
 
     /// The first TRB of a ring that isn't reclaimed and its address, once it is consumed.
+    #[inline(always)]
     pub fn oldest(&self, pipe: Pipe, stream: u16) -> Option<(u64, Trb)>
         requires { HasRing pipe stream }
         ensures oldest { result ≡ oldest_of (places_of pipe) (ring_of self.now pipe stream) }
@@ -195,9 +212,12 @@ impl Lines {
         cycle: bool,
     ) -> Result<(), NotAPlace>
         requires { HasRing pipe stream }
-        ensures accepted { let ring = ring_of self.old pipe stream in IsOk result ↔ (IsEnqueuePlace (places_of pipe) ring pointer cycle ⊎ ((k : ℕ) × IsPending (places_of pipe) ring k pointer cycle)) }
-        ensures enqueue { let ring = ring_of self.old pipe stream in IsEnqueuePlace (places_of pipe) ring pointer cycle → IsOk result × (self.new ≡ with_ring self.old pipe stream (record ring { got = length ring.put })) }
-        ensures set { (k : ℕ) → IsPending (places_of pipe) (ring_of self.old pipe stream) k pointer cycle → let ring = ring_of self.old pipe stream in self.new ≡ with_ring self.old pipe stream (record ring { got = k }) }
+        ensures accepted { let ring = ring_of self.old pipe stream in IsOk result ↔ (IsEnqueuePlace (places_of pipe) ring pointer cycle
+            ⊎ ((k : ℕ) × IsPending (places_of pipe) ring k pointer cycle)) }
+        ensures enqueue { let ring = ring_of self.old pipe stream in IsEnqueuePlace (places_of pipe) ring pointer cycle → IsOk result
+            × (self.new ≡ with_ring self.old pipe stream (record ring { got = length ring.put })) }
+        ensures set { (k : ℕ) → IsPending (places_of pipe) (ring_of self.old pipe stream) k pointer cycle
+            → let ring = ring_of self.old pipe stream in self.new ≡ with_ring self.old pipe stream (record ring { got = k }) }
         ensures refused { OnErr result (self.new ≡ self.old) }
     {
         match pipe {
@@ -210,10 +230,12 @@ impl Lines {
 
     /// Frees the TRBs of a ring up to and with the one at this address. Asks a consumed TRB that isn't
     /// reclaimed.
+    #[inline(always)]
     pub fn reclaim(&mut self, pipe: Pipe, stream: u16, pointer: u64)
         requires ring { HasRing pipe stream }
         requires consumed { (k : ℕ) × IsConsumed (places_of pipe) (ring_of self.old pipe stream) k pointer }
-        ensures { (k : ℕ) → IsConsumed (places_of pipe) (ring_of self.old pipe stream) k pointer → self.new ≡ with_ring self.old pipe stream (reclaimed (places_of pipe) (k + 1) (ring_of self.old pipe stream)) }
+        ensures { (k : ℕ) → IsConsumed (places_of pipe) (ring_of self.old pipe stream) k pointer
+            → self.new ≡ with_ring self.old pipe stream (reclaimed (places_of pipe) (k + 1) (ring_of self.old pipe stream)) }
     {
         match pipe {
             Pipe::Command => self.command.reclaim(pointer),
@@ -226,8 +248,10 @@ impl Lines {
     /// The bytes at a place of a ring, as the ring's call gives them.
     pub fn image(&self, pipe: Pipe, stream: u16, place: usize) -> Option<[u8; 16]>
         requires { HasRing pipe stream }
-        ensures item { (k : ℕ) → k < places_of pipe - 1 → place ≡ place_of (places_of pipe) (ring_of self.now pipe stream) k → result ≡ item_image (places_of pipe) (ring_of self.now pipe stream) k }
-        ensures link { (k : ℕ) → k < places_of pipe - 1 → place_of (places_of pipe) (ring_of self.now pipe stream) k ≡ places_of pipe - 2 → place ≡ places_of pipe - 1 → result ≡ link_image (places_of pipe) (ring_of self.now pipe stream) k }
+        ensures item { (k : ℕ) → k < places_of pipe - 1 → place ≡ place_of (places_of pipe) (ring_of self.now pipe stream) k
+            → result ≡ item_image (places_of pipe) (ring_of self.now pipe stream) k }
+        ensures link { (k : ℕ) → k < places_of pipe - 1 → place_of (places_of pipe) (ring_of self.now pipe stream) k ≡ places_of pipe - 2
+            → place ≡ places_of pipe - 1 → result ≡ link_image (places_of pipe) (ring_of self.now pipe stream) k }
         ensures in_use { IsSome result → (k : ℕ) × IsInUse (places_of pipe) (ring_of self.now pipe stream) k place }
     {
         match pipe {
@@ -268,7 +292,11 @@ impl Lines {
         requires at_most { length trbs.now ≤ ENGINE_RING_PLACES - 2 }
         ensures room { IsOk result ↔ (length self.old.engine.put + length trbs.now ≤ ENGINE_RING_PLACES - 2) }
         ensures put { OnOk result (self.new ≡ with_engine self.old (record self.old.engine { put = self.old.engine.put ++ trbs.now })) }
-        ensures td { IfOk result (λ td. td ≡ record { first = pointer_of ENGINE_RING_PLACES self.old.engine (length self.old.engine.put); last = pointer_of ENGINE_RING_PLACES self.old.engine (length self.old.engine.put + length trbs.now - 1) }) }
+        ensures td { IfOk result (λ td. td ≡ record {
+          first = pointer_of ENGINE_RING_PLACES self.old.engine
+              (length self.old.engine.put);
+          last = pointer_of ENGINE_RING_PLACES self.old.engine (length self.old.engine.put + length trbs.now - 1);
+        }) }
         ensures full { OnErr result (self.new ≡ self.old) }
     {
         self.engine.push_td(trbs)
@@ -276,7 +304,11 @@ impl Lines {
 
     /// The enqueue pointer and the producer's cycle state of the controller's command ring.
     pub fn place_engine(&self) -> (u64, bool)
-        ensures place { result ≡ (pointer_of ENGINE_RING_PLACES self.now.engine (length self.now.engine.put), cycle_of ENGINE_RING_PLACES self.now.engine (length self.now.engine.put)) }
+        ensures place { result ≡ (
+          pointer_of ENGINE_RING_PLACES self.now.engine
+              (length self.now.engine.put),
+          cycle_of ENGINE_RING_PLACES self.now.engine (length self.now.engine.put),
+        ) }
         ensures unused { (k : ℕ) → k < length self.now.engine.put → pointer_of ENGINE_RING_PLACES self.now.engine k ≢ result.0 }
     {
         self.engine.place()
@@ -302,7 +334,8 @@ impl Lines {
     /// call refuses.
     pub fn set_dequeue_engine(&mut self, pointer: u64, cycle: bool) -> Result<(), NotAPlace>
         ensures accepted { IsOk result ↔ ((k : ℕ) × IsPending ENGINE_RING_PLACES self.old.engine k pointer cycle) }
-        ensures set { (k : ℕ) → IsPending ENGINE_RING_PLACES self.old.engine k pointer cycle → self.new ≡ with_engine self.old (record self.old.engine { got = k }) }
+        ensures set { (k : ℕ) → IsPending ENGINE_RING_PLACES self.old.engine k pointer cycle
+            → self.new ≡ with_engine self.old (record self.old.engine { got = k }) }
         ensures refused { OnErr result (self.new ≡ self.old) }
     {
         self.engine.set_dequeue(pointer, cycle)
@@ -311,7 +344,8 @@ impl Lines {
     /// The consumed command at an address, while it isn't reclaimed.
     pub fn consumed_engine(&self, pointer: u64) -> Option<Trb>
         ensures consumed { result ≡ consumed_at ENGINE_RING_PLACES self.now.engine pointer }
-        ensures known { IfSome result (λ trb. (k : ℕ) × IsConsumed ENGINE_RING_PLACES self.now.engine k pointer × (slice_get self.now.engine.put k ≡ Some trb)) }
+        ensures known { IfSome result (λ trb. (k : ℕ) × IsConsumed ENGINE_RING_PLACES self.now.engine k pointer
+            × (slice_get self.now.engine.put k ≡ Some trb)) }
     {
         self.engine.consumed(pointer)
     }
@@ -319,21 +353,25 @@ impl Lines {
     /// Frees the commands up to and with the one at this address. Asks a consumed one that isn't reclaimed.
     pub fn reclaim_engine(&mut self, pointer: u64)
         requires { (k : ℕ) × IsConsumed ENGINE_RING_PLACES self.old.engine k pointer }
-        ensures { (k : ℕ) → IsConsumed ENGINE_RING_PLACES self.old.engine k pointer → self.new ≡ with_engine self.old (reclaimed ENGINE_RING_PLACES (k + 1) self.old.engine) }
+        ensures { (k : ℕ) → IsConsumed ENGINE_RING_PLACES self.old.engine k pointer
+            → self.new ≡ with_engine self.old (reclaimed ENGINE_RING_PLACES (k + 1) self.old.engine) }
     {
         self.engine.reclaim(pointer);
     }
 
     /// The bytes at a place of the controller's command ring.
     pub fn image_engine(&self, place: usize) -> Option<[u8; 16]>
-        ensures item { (k : ℕ) → k < ENGINE_RING_PLACES - 1 → place ≡ place_of ENGINE_RING_PLACES self.now.engine k → result ≡ item_image ENGINE_RING_PLACES self.now.engine k }
-        ensures link { (k : ℕ) → k < ENGINE_RING_PLACES - 1 → place_of ENGINE_RING_PLACES self.now.engine k ≡ ENGINE_RING_PLACES - 2 → place ≡ ENGINE_RING_PLACES - 1 → result ≡ link_image ENGINE_RING_PLACES self.now.engine k }
+        ensures item { (k : ℕ) → k < ENGINE_RING_PLACES - 1 → place ≡ place_of ENGINE_RING_PLACES self.now.engine k
+            → result ≡ item_image ENGINE_RING_PLACES self.now.engine k }
+        ensures link { (k : ℕ) → k < ENGINE_RING_PLACES - 1 → place_of ENGINE_RING_PLACES self.now.engine k ≡ ENGINE_RING_PLACES - 2
+            → place ≡ ENGINE_RING_PLACES - 1 → result ≡ link_image ENGINE_RING_PLACES self.now.engine k }
         ensures in_use { IsSome result → (k : ℕ) × IsInUse ENGINE_RING_PLACES self.now.engine k place }
     {
         self.engine.image(place)
     }
 
     /// Posts an event. Asks that each field fits its bits. Refused where the event ring is full.
+    #[inline(always)]
     pub fn post(&mut self, event: Event) -> Result<(), EventRingFull>
         requires { IsWritable event }
         ensures room { IsOk result ↔ (length self.old.events.pending < EVENT_RING_PLACES - 1) }
@@ -344,6 +382,7 @@ impl Lines {
     }
 
     /// Takes the first pending event, if there is one.
+    #[inline(always)]
     pub fn take(&mut self) -> Option<Event>
         ensures first { result ≡ slice_get self.old.events.pending 0 }
         ensures taken { OnSome result (self.new ≡ with_events self.old (taken EVENT_RING_PLACES self.old.events)) }
@@ -353,6 +392,7 @@ impl Lines {
     }
 
     /// How many events are pending.
+    #[inline(always)]
     pub fn len(&self) -> usize
         ensures len { result ≡ length self.now.events.pending }
         ensures standing { IsEventRing EVENT_RING_PLACES self.now.events }
@@ -370,7 +410,8 @@ impl Lines {
 
     /// The bytes at a place of the event ring.
     pub fn image_event(&self, place: usize) -> Option<[u8; 16]>
-        ensures event { (k : ℕ) → k < EVENT_RING_PLACES → place ≡ event_place_of EVENT_RING_PLACES self.now.events k → result ≡ event_image EVENT_RING_PLACES self.now.events k }
+        ensures event { (k : ℕ) → k < EVENT_RING_PLACES → place ≡ event_place_of EVENT_RING_PLACES self.now.events k
+            → result ≡ event_image EVENT_RING_PLACES self.now.events k }
         ensures in_use { IsSome result → (k : ℕ) × IsEventInUse EVENT_RING_PLACES self.now.events k place }
     {
         self.events.image(place)

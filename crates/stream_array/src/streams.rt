@@ -2,7 +2,8 @@
 
 ghost use Rattle.std.specs.Prelude.{◌≡◌, ℕ, ◌+◌, ◌-◌, ◌*◌, ◌<◌, ◌≤◌, ◌++◌, ◌↔◌, ◌⊎◌, All, length, slice_set, IsOk, IsSome, IfOk, OnOk, OnErr};
 ghost use Rattle.xhci_trb.specs.Text.{HasText};
-ghost use Rattle.cycle_ring.specs.Ring.{IsRing, IsTd, opening, pointer_of, cycle_of, front_of, reclaimed, item_image, link_image, place_of, IsConsumed, IsEnqueuePlace, IsPending, IsInUse};
+ghost use Rattle.cycle_ring.specs.Ring.{IsRing, IsTd, opening, pointer_of, cycle_of, front_of, reclaimed, item_image, link_image, place_of};
+ghost use Rattle.cycle_ring.specs.Ring.{IsConsumed, IsEnqueuePlace, IsPending, IsInUse};
 ghost use Rattle.stream_array.specs.Map.{HasStreams, ring_base};
 ghost use Rattle.stream_array.specs.Rings.{stream_ring, IsShown};
 
@@ -54,6 +55,7 @@ impl Streams {
         &self.contexts
     }
 
+    #[inline(always)]
     pub(crate) fn ring(&self, stream: u16) -> &CycleRing<STREAM_RING_PLACES>
         requires some { 0 < stream }
         requires last { stream ≤ STREAMS }
@@ -63,6 +65,7 @@ impl Streams {
         &self.rings[place]
     }
 
+    #[inline(always)]
     pub(crate) fn push_td(&mut self, stream: u16, trbs: &[Trb]) -> Result<Td, RingFull>
         requires some { 0 < stream }
         requires last { stream ≤ STREAMS }
@@ -70,14 +73,20 @@ impl Streams {
         requires texts { All HasText trbs.now }
         requires at_most { length trbs.now ≤ STREAM_RING_PLACES - 2 }
         ensures room { IsOk result ↔ (length (stream_ring self.old stream).put + length trbs.now ≤ STREAM_RING_PLACES - 2) }
-        ensures put { OnOk result (let ring = stream_ring self.old stream in self.new ≡ slice_set self.old (stream - 1) (record ring { put = ring.put ++ trbs.now })) }
-        ensures td { IfOk result (λ td. let ring = stream_ring self.old stream in td ≡ record { first = pointer_of STREAM_RING_PLACES ring (length ring.put); last = pointer_of STREAM_RING_PLACES ring (length ring.put + length trbs.now - 1) }) }
+        ensures put { OnOk result (let ring = stream_ring self.old stream in self.new ≡ slice_set self.old (stream - 1)
+            (record ring { put = ring.put ++ trbs.now })) }
+        ensures td { IfOk result (λ td. let ring = stream_ring self.old stream in td ≡ record {
+          first = pointer_of STREAM_RING_PLACES ring
+              (length ring.put);
+          last = pointer_of STREAM_RING_PLACES ring (length ring.put + length trbs.now - 1);
+        }) }
         ensures full { OnErr result (self.new ≡ self.old) }
     {
         let ring = &mut self.rings[stream as usize - 1];
         ring.push_td(trbs)
     }
 
+    #[inline(always)]
     pub(crate) fn advance(&mut self, stream: u16)
         requires some { 0 < stream }
         requires last { stream ≤ STREAMS }
@@ -99,7 +108,8 @@ impl Streams {
         requires some { 0 < stream }
         requires last { stream ≤ STREAMS }
         ensures accepted { IsOk result ↔ ((k : ℕ) × IsPending STREAM_RING_PLACES (stream_ring self.old stream) k pointer cycle) }
-        ensures set { (k : ℕ) → IsPending STREAM_RING_PLACES (stream_ring self.old stream) k pointer cycle → let ring = stream_ring self.old stream in self.new ≡ slice_set self.old (stream - 1) (record ring { got = k }) }
+        ensures set { (k : ℕ) → IsPending STREAM_RING_PLACES (stream_ring self.old stream) k pointer cycle
+            → let ring = stream_ring self.old stream in self.new ≡ slice_set self.old (stream - 1) (record ring { got = k }) }
         ensures refused { OnErr result (self.new ≡ self.old) }
     {
         let ring = &mut self.rings[stream as usize - 1];
@@ -117,9 +127,12 @@ impl Streams {
     ) -> Result<(), NotAPlace>
         requires some { 0 < stream }
         requires last { stream ≤ STREAMS }
-        ensures accepted { let ring = stream_ring self.old stream in IsOk result ↔ (IsEnqueuePlace STREAM_RING_PLACES ring pointer cycle ⊎ ((k : ℕ) × IsPending STREAM_RING_PLACES ring k pointer cycle)) }
-        ensures enqueue { let ring = stream_ring self.old stream in IsEnqueuePlace STREAM_RING_PLACES ring pointer cycle → self.new ≡ slice_set self.old (stream - 1) (record ring { got = length ring.put }) }
-        ensures set { (k : ℕ) → IsPending STREAM_RING_PLACES (stream_ring self.old stream) k pointer cycle → let ring = stream_ring self.old stream in self.new ≡ slice_set self.old (stream - 1) (record ring { got = k }) }
+        ensures accepted { let ring = stream_ring self.old stream in IsOk result ↔ (IsEnqueuePlace STREAM_RING_PLACES ring pointer cycle
+            ⊎ ((k : ℕ) × IsPending STREAM_RING_PLACES ring k pointer cycle)) }
+        ensures enqueue { let ring = stream_ring self.old stream in IsEnqueuePlace STREAM_RING_PLACES ring pointer cycle
+            → self.new ≡ slice_set self.old (stream - 1) (record ring { got = length ring.put }) }
+        ensures set { (k : ℕ) → IsPending STREAM_RING_PLACES (stream_ring self.old stream) k pointer cycle
+            → let ring = stream_ring self.old stream in self.new ≡ slice_set self.old (stream - 1) (record ring { got = k }) }
         ensures refused { OnErr result (self.new ≡ self.old) }
     {
         let ring = &mut self.rings[stream as usize - 1];
@@ -129,11 +142,13 @@ impl Streams {
         Ok(())
     }
 
+    #[inline(always)]
     pub(crate) fn reclaim(&mut self, stream: u16, pointer: u64)
         requires some { 0 < stream }
         requires last { stream ≤ STREAMS }
         requires consumed { (k : ℕ) × IsConsumed STREAM_RING_PLACES (stream_ring self.old stream) k pointer }
-        ensures { (k : ℕ) → IsConsumed STREAM_RING_PLACES (stream_ring self.old stream) k pointer → self.new ≡ slice_set self.old (stream - 1) (reclaimed STREAM_RING_PLACES (k + 1) (stream_ring self.old stream)) }
+        ensures { (k : ℕ) → IsConsumed STREAM_RING_PLACES (stream_ring self.old stream) k pointer
+            → self.new ≡ slice_set self.old (stream - 1) (reclaimed STREAM_RING_PLACES (k + 1) (stream_ring self.old stream)) }
     {
         let ring = &mut self.rings[stream as usize - 1];
         ring.reclaim(pointer);

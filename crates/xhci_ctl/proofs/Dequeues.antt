@@ -1,5 +1,6 @@
 -- Where a ring's consumer's end may stand, and the ring that has it there. `engine::move_dequeue` cites it.
-use Rattle.std.proofs.Common.{◌≡◌, ℕ, ◌-◌, ◌<◌, ◌≤◌, ◌⊎◌, ◌↔◌, Bool, true, false, nat_le, length, Option, None, Some, option_and_then, Result, Ok, Err, refl, sym, arith, inl, inr}
+use Rattle.std.proofs.Common.{◌≡◌, ℕ, ◌-◌, ◌<◌, ◌≤◌, ◌⊎◌, ◌↔◌, Bool, true, false, nat_le, length, Option, None, Some, option_and_then}
+use Rattle.std.proofs.Common.{Result, Ok, Err, refl, sym, arith, inl, inr}
 use Rattle.std.specs.Prelude.{IsOk, OnErr, is_some}
 use Rattle.std.specs.Option.{option_map_or}
 use Rattle.std.specs.Result.{is_ok}
@@ -98,7 +99,8 @@ pub moved-dequeued : {L T E : Type 0} (named : AddressesNameItems) (only : Named
     → Moved n pointer ring cycle old new set result
     → (is_ok result ≡ is_some (dequeued_at n ring pointer cycle)) × (new ≡ option_map_or set (dequeued_at n ring pointer cycle) old)
 moved-dequeued named only n pointer ring cycle old new set (Ok value) is moved =
-    elim (moved.accepted.0 refl) as (λ _. (true ≡ is_some (dequeued_at n ring pointer cycle)) × (new ≡ option_map_or set (dequeued_at n ring pointer cycle) old)) [
+    elim (moved.accepted.0 refl) as (λ _. (true ≡ is_some (dequeued_at n ring pointer cycle))
+    × (new ≡ option_map_or set (dequeued_at n ring pointer cycle) old)) [
       | inl place ↦
           let there = dequeued-stands named n (length ring.put) pointer ring cycle is (stands-enqueue n pointer ring cycle is place) in
           rw there (refl, moved.enqueue place)

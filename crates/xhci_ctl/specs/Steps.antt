@@ -1,5 +1,6 @@
 -- What each step makes of rings, memory and device (xHCI 4.11, 6.4.2.1), and its answer.
-use Rattle.std.specs.Prelude.{ℕ, ◌+◌, ◌-◌, nat_lt, Bool, true, false, if◌then◌else◌, List, [], ◌∷◌, ◌++◌, length as list_length, Option, None, Some, is_some, option_and_then, Result, Ok, Err}
+use Rattle.std.specs.Prelude.{ℕ, ◌+◌, ◌-◌, nat_lt, Bool, true, false, if◌then◌else◌, List, [], ◌∷◌, ◌++◌, length as list_length, Option}
+use Rattle.std.specs.Prelude.{None, Some, is_some, option_and_then, Result, Ok, Err}
 use Rattle.std.specs.Option.{option_map_or}
 use Rattle.xhci_trb.specs.declared.Trb.{Trb}
 use Rattle.xhci_trb.specs.declared.Trb.TheVariants.{Normal, Link, StopEndpoint, SetDequeue, TransferEvent, CommandEvent}
@@ -23,7 +24,8 @@ use Rattle.uas_target.specs.declared.Took.{Took}
 use Rattle.uas_target.specs.declared.Took.TheVariants.{Began, Dropped}
 use Rattle.xhci_ctl.specs.declared.Acted.{Acted}
 use Rattle.xhci_ctl.specs.declared.Acted.TheVariants.{Acted as ActedOn, Idle}
-use Rattle.xhci_ctl.specs.declared.TheConstants.{COMMAND_ENDPOINT, DATA_IN_ENDPOINT, DATA_OUT_ENDPOINT, MOST_EVENTS, SHORT_PACKET, SLOT, STATUS_ENDPOINT, STATUS_LENGTH, SUCCESS}
+use Rattle.xhci_ctl.specs.declared.TheConstants.{COMMAND_ENDPOINT, DATA_IN_ENDPOINT, DATA_OUT_ENDPOINT, MOST_EVENTS, SHORT_PACKET, SLOT}
+use Rattle.xhci_ctl.specs.declared.TheConstants.{STATUS_ENDPOINT, STATUS_LENGTH, SUCCESS}
 use Rattle.xhci_ctl.specs.Pipes.{ControllerState, is_armed}
 
 -- everything that a step may change

@@ -3,7 +3,8 @@ ghost use Rattle.std.specs.Prelude.{◌≡◌, ◌<◌, ◌%◌, IfSome, is_some
 ghost use Rattle.std.specs.Option.{option_map_or};
 ghost use Rattle.stream_array.specs.Map.{HasRing, HasStreams, places_of};
 ghost use Rattle.stream_array.specs.Rings.{ring_of, with_ring};
-ghost use Rattle.xhci_ctl.specs.Engine.{commanded_pipe, dequeued_at, engine_acted, engine_front, executed, set_dequeue, stop_endpoint, stopped_on, stopped_pipe};
+ghost use Rattle.xhci_ctl.specs.Engine.{commanded_pipe, dequeued_at, engine_acted, engine_front, executed, set_dequeue, stop_endpoint};
+ghost use Rattle.xhci_ctl.specs.Engine.{stopped_on, stopped_pipe};
 
 use crate::pipes::{has_stream, pipe_at};
 use crate::{
@@ -159,7 +160,8 @@ fn commanded_pipe(endpoint: u8, slot: u8) -> Option<Pipe>
 fn move_dequeue(lines: &mut Lines, pipe: Pipe, stream: u16, pointer: u64, cycle: bool) -> bool
     requires { HasRing pipe stream }
     ensures moved { result ≡ is_some (dequeued_at (places_of pipe) (ring_of lines.old pipe stream) pointer cycle) }
-    ensures lines { lines.new ≡ option_map_or (λ ring. with_ring lines.old pipe stream ring) (dequeued_at (places_of pipe) (ring_of lines.old pipe stream) pointer cycle) lines.old }
+    ensures lines { lines.new ≡ option_map_or (λ ring. with_ring lines.old pipe stream ring)
+        (dequeued_at (places_of pipe) (ring_of lines.old pipe stream) pointer cycle) lines.old }
     ensures engine { lines.new.engine ≡ lines.old.engine }
     ensures events { lines.new.events ≡ lines.old.events }
 {

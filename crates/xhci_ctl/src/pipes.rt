@@ -125,7 +125,8 @@ impl Controller {
         self.is_open_on(pipe, stream) && lines.front(pipe, stream).is_some()
     }
 
-    fn is_open_on(&self, pipe: Pipe, stream: u16) -> bool
+    #[inline(always)]
+    pub(crate) fn is_open_on(&self, pipe: Pipe, stream: u16) -> bool
         ensures open { result ≡ is_open_on self.now pipe stream }
         ensures ring { result ≡ true → HasRing pipe stream }
     {

@@ -7,7 +7,8 @@ ghost use Rattle.frame_store.specs.Buffers.{IsNamed, written};
 ghost use Rattle.uas_target.specs.Device.{answered, gave, given, received, wanted};
 ghost use Rattle.uas_target.specs.declared.Phase.{Phase};
 ghost use Rattle.xhci_ctl.specs.Own.{IsOwnCommandFront, IsOwnDataFront, IsOwnStatusFront, IsTakeable};
-ghost use Rattle.xhci_ctl.specs.Steps.{armed_front, began_tag, commanded, completed, consumed, endpoint_of, gave_at, moved, on_front, room_front, sent_by, sides_of, took_at};
+ghost use Rattle.xhci_ctl.specs.Steps.{armed_front, began_tag, commanded, completed, consumed, endpoint_of, gave_at, moved, on_front};
+ghost use Rattle.xhci_ctl.specs.Steps.{room_front, sent_by, sides_of, took_at};
 
 use crate::{
     Acted, COMMAND_ENDPOINT, Controller, DATA_IN_ENDPOINT, DATA_OUT_ENDPOINT, MOST_EVENTS,
@@ -156,11 +157,13 @@ impl Controller {
     }
 
     // The TRB in front of an armed stream's ring and its address, while the event ring has room.
+    #[inline(always)]
     fn armed_front(&self, lines: &Lines, pipe: Pipe, stream: u16) -> Option<(u64, Trb)>
         ensures front { result ≡ armed_front self.now lines.now pipe stream }
         ensures pending { IfSome result (λ front. IsTakeable lines.now pipe stream front) }
     {
-        if self.armed(lines, pipe, stream) {
+        // A ring with nothing pending has no front, so that needs no test of its own.
+        if self.is_open_on(pipe, stream) {
             room_front(lines, pipe, stream)
         } else {
             None
@@ -169,6 +172,7 @@ impl Controller {
 }
 
 // The TRB in front of a ring and its address, while the event ring has room.
+#[inline(always)]
 fn room_front(lines: &Lines, pipe: Pipe, stream: u16) -> Option<(u64, Trb)>
     requires { HasRing pipe stream }
     ensures front { result ≡ room_front lines.now pipe stream }
@@ -182,6 +186,7 @@ fn room_front(lines: &Lines, pipe: Pipe, stream: u16) -> Option<(u64, Trb)>
 }
 
 // Consumes the TRB in front of a ring and posts its event.
+#[inline(always)]
 fn complete(lines: &mut Lines, pipe: Pipe, stream: u16, address: u64, residual: u32, code: u8)
     requires ring { HasRing pipe stream }
     requires pending { (ring_of lines.old pipe stream).got < length (ring_of lines.old pipe stream).put }
@@ -213,6 +218,7 @@ fn give(frames: &mut Frames, target: &mut Target, tag: u16, pointer: u64, size: 
 }
 
 // Consumes the TRB in front of a data stream, and posts its event where its TD ends with it.
+#[inline(always)]
 fn complete_chunk(lines: &mut Lines, pipe: Pipe, stream: u16, address: u64, chain: bool)
     requires ring { HasRing pipe stream }
     requires pending { (ring_of lines.old pipe stream).got < length (ring_of lines.old pipe stream).put }

@@ -6,7 +6,8 @@ use Rattle.xhci_trb.specs.declared.Trb.{Trb}
 use Rattle.xhci_trb.specs.declared.Trb.TheVariants.{Normal, Link, StopEndpoint, SetDequeue, TransferEvent, CommandEvent}
 use Rattle.xhci_trb.specs.declared.words.Words.{Words}
 use Rattle.xhci_trb.specs.Words.{FitsWords}
-use Rattle.xhci_trb.specs.Text.{bit, Fits, HasText, control_of, words_of, type_in, reserved_in_normal, reserved_in_link, reserved_in_stop, reserved_beside_endpoint, reserved_in_set_dequeue, reserved_in_command_event, fault_in, Holds}
+use Rattle.xhci_trb.specs.Text.{bit, Fits, HasText, control_of, words_of, type_in, reserved_in_normal, reserved_in_link, reserved_in_stop}
+use Rattle.xhci_trb.specs.Text.{reserved_beside_endpoint, reserved_in_set_dequeue, reserved_in_command_event, fault_in, Holds}
 use Rattle.xhci_trb.proofs.Bytes.{same_words}
 use Rattle.xhci_trb.specs.Reader.{bit_in, cycle_in, endpoint_in, slot_in, trb_in}
 
@@ -25,9 +26,11 @@ bit-parity n = elim (cases_lt (n % 2) 1) [
 -- each word of a TRB whose fields fit
 pub words_of-fits : (trb : Trb) (cycle : Bool) → Fits trb → FitsWords (words_of trb cycle)
 words_of-fits (Normal p l t f) c h = let b = bit-lt c in record { parameter = omega arith; status = omega arith; control = omega arith }
-words_of-fits (Link p t h i) c f = let b = bit-lt c in let b1 = bit-lt t in let b2 = bit-lt h in let b3 = bit-lt i in record { parameter = omega arith; status = omega arith; control = omega arith }
+words_of-fits (Link p t h i) c f = let b = bit-lt c in let b1 = bit-lt t in let b2 = bit-lt h in let b3 =
+    bit-lt i in record { parameter = omega arith; status = omega arith; control = omega arith }
 words_of-fits (StopEndpoint e s) c h = let b = bit-lt c in record { parameter = omega arith; status = omega arith; control = omega arith }
-words_of-fits (SetDequeue p d m e s) c h = let b = bit-lt c in let b1 = bit-lt d in record { parameter = omega arith; status = omega arith; control = omega arith }
+words_of-fits (SetDequeue p d m e s) c h = let b = bit-lt c in let b1 =
+    bit-lt d in record { parameter = omega arith; status = omega arith; control = omega arith }
 words_of-fits (TransferEvent p r k e s) c h = let b = bit-lt c in record { parameter = omega arith; status = omega arith; control = omega arith }
 words_of-fits (CommandEvent p k s) c h = let b = bit-lt c in record { parameter = omega arith; status = omega arith; control = omega arith }
 
@@ -75,7 +78,8 @@ cycle_in-words_of (TransferEvent p r k e s) c h = let b = bit-lt c in bit-test _
 cycle_in-words_of (CommandEvent p k s) c h = let b = bit-lt c in bit-test _ c (omega arith)
 
 -- the reader at each type
-trb_in-1 : (w : Words) → type_in w ≡ 1 → trb_in w ≡ Normal w.parameter (w.status % 2 ^ 17) (w.status / 2 ^ 17 % 2 ^ 5) (record { 0 = w.control / 2 % 2 ^ 6 + 2 ^ 6 * (w.control / 2 ^ 9 % 2) })
+trb_in-1 : (w : Words) → type_in w ≡ 1
+    → trb_in w ≡ Normal w.parameter (w.status % 2 ^ 17) (w.status / 2 ^ 17 % 2 ^ 5) (record { 0 = w.control / 2 % 2 ^ 6 + 2 ^ 6 * (w.control / 2 ^ 9 % 2) })
 unfolding trb_in
 trb_in-1 w t = rw t refl
 
@@ -87,7 +91,8 @@ trb_in-15 : (w : Words) → type_in w ≡ 15 → trb_in w ≡ StopEndpoint (endp
 unfolding trb_in
 trb_in-15 w t = rw t refl
 
-trb_in-16 : (w : Words) → type_in w ≡ 16 → trb_in w ≡ SetDequeue (16 * (w.parameter / 16)) (w.parameter % 2 == 1) (w.status / 2 ^ 16) (endpoint_in w) (slot_in w)
+trb_in-16 : (w : Words) → type_in w ≡ 16
+    → trb_in w ≡ SetDequeue (16 * (w.parameter / 16)) (w.parameter % 2 == 1) (w.status / 2 ^ 16) (endpoint_in w) (slot_in w)
 unfolding trb_in
 trb_in-16 w t = rw t refl
 

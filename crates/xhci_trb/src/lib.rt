@@ -183,6 +183,7 @@ pub fn encode(trb: &Trb, cycle: bool) -> [u8; 16]
 
 /// The TRB and the Cycle bit that 16 bytes hold (6.4), or the first of three faults: a type that is
 /// none of the six, a Normal length above 65,536, a reserved bit that is set.
+#[inline(always)]
 pub fn decode(bytes: &[u8; 16]) -> Result<(Trb, bool), TrbFault>
     ensures found { IfOk result (λ read. HasText read.0 × (bytes.now ≡ text read.0 read.1)) }
     ensures every_text { (trb : Trb) (cycle : Bool) → HasText trb → bytes.now ≡ text trb cycle → result ≡ Ok (trb, cycle) }

@@ -1,30 +1,49 @@
 // From three words to a TRB, or the first fault.
 
-ghost use Rattle.std.specs.Prelude.{◌≡◌, ◌+◌, ◌/◌, ◌%◌, ◌^◌, ◌<◌, ◌↔◌, IsTrue, Some, None, IfOk, OnOk, IfErr};
+ghost use Rattle.std.specs.Prelude.{◌≡◌, ◌≢◌, ◌+◌, ◌/◌, ◌%◌, ◌^◌, ◌<◌, ◌↔◌, IsTrue, Some, None, IfOk, OnOk, IfErr};
 ghost use Rattle.xhci_trb.specs.Text.{bit, type_in, fault_in, HasText, Holds};
 
 use crate::kinds::{COMMAND_EVENT, LINK, NORMAL, SET_DEQUEUE, STOP_ENDPOINT, TRANSFER_EVENT};
 use crate::words::{Words, field};
 use crate::{MAX_LENGTH, Trb, TrbFault, TrbFlags};
 
-/// The TRB that three words hold beside their Cycle bit, or the first fault.
+/// The TRB that three words hold beside their Cycle bit, or the first fault. A ring's items are read at each step, so the
+/// two types that most of them have are read in place.
+#[inline(always)]
 pub(crate) fn read_trb(words: Words) -> Result<Trb, TrbFault>
     ensures held { IfOk result (λ trb. Holds words trb (words.control % 2)) }
     ensures has_text { IfOk result HasText }
     ensures clean { OnOk result (fault_in words ≡ None) }
     ensures fault { IfErr result (λ fault. fault_in words ≡ Some fault) }
 {
+    let trb = match field(words.control, 10, 6) {
+        NORMAL => read_normal(words)?,
+        TRANSFER_EVENT => read_transfer_event(words)?,
+        _ => read_other(words)?,
+    };
+    Ok(trb)
+}
+
+// A TRB that is neither a Normal nor a Transfer Event.
+#[inline(never)]
+fn read_other(words: Words) -> Result<Trb, TrbFault>
+    requires no_normal { type_in words ≢ 1 }
+    requires no_transfer_event { type_in words ≢ 32 }
+    ensures held { IfOk result (λ trb. Holds words trb (words.control % 2)) }
+    ensures has_text { IfOk result HasText }
+    ensures clean { OnOk result (fault_in words ≡ None) }
+    ensures fault { IfErr result (λ fault. fault_in words ≡ Some fault) }
+{
     match field(words.control, 10, 6) {
-        NORMAL => read_normal(words),
         LINK => read_link(words),
         STOP_ENDPOINT => read_stop_endpoint(words),
         SET_DEQUEUE => read_set_dequeue(words),
-        TRANSFER_EVENT => read_transfer_event(words),
         COMMAND_EVENT => read_command_event(words),
         other => Err(TrbFault::UnknownType(other as u8)),
     }
 }
 
+#[inline(always)]
 fn read_normal(words: Words) -> Result<Trb, TrbFault>
     requires { type_in words ≡ 1 }
     ensures held { IfOk result (λ trb. Holds words trb (words.control % 2)) }
@@ -113,6 +132,7 @@ fn read_set_dequeue(words: Words) -> Result<Trb, TrbFault>
     })
 }
 
+#[inline(always)]
 fn read_transfer_event(words: Words) -> Result<Trb, TrbFault>
     requires { type_in words ≡ 32 }
     ensures held { IfOk result (λ trb. Holds words trb (words.control % 2)) }

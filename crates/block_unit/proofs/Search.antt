@@ -17,7 +17,8 @@ module _ (bad : List ℕ) (lba many next : ℕ) (point : IsPartitionPoint (λ bl
       and_left _ _ (lt-leb lba (get_or bad i 0) small)
 
   pub list_any-covers_past : length bad ≤ next → list_any (covers lba many) bad ≡ false
-  list_any-covers_past past = list_any_none (covers lba many) bad (All-from_get_or (λ block. covers lba many block ≡ false) bad 0 (λ i within. covers-before i (omega arith)))
+  list_any-covers_past past =
+      list_any_none (covers lba many) bad (All-from_get_or (λ block. covers lba many block ≡ false) bad 0 (λ i within. covers-before i (omega arith)))
 
   pub list_any-covers_at : IsNonDecreasing bad → next < length bad → list_any (covers lba many) bad ≡ ltb (get_or bad next 0) (lba + many)
   unfolding covers

@@ -1,6 +1,7 @@
 -- The value that contracts see in a `Unit`: two maps from block numbers to 512 bytes, kept as lists of bytes, and what each
 -- call makes of them.
-use Rattle.std.specs.Prelude.{ℕ, Bool, false, List, ◌++◌, ◌+◌, ◌*◌, ◌/◌, ◌%◌, ◌-◌, ◌≡◌, take, drop, length, filter, replicate, nat_le, nat_lt, ◌&&◌, ◌==◌, if◌then◌else◌}
+use Rattle.std.specs.Prelude.{ℕ, Bool, false, List, ◌++◌, ◌+◌, ◌*◌, ◌/◌, ◌%◌, ◌-◌, ◌≡◌, take, drop, length, filter, replicate, nat_le}
+use Rattle.std.specs.Prelude.{nat_lt, ◌&&◌, ◌==◌, if◌then◌else◌}
 use Rattle.std.specs.List.{list_any, range_with_len}
 
 -- a logical unit

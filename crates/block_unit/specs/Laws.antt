@@ -4,7 +4,8 @@ use Rattle.std.proofs.Common.{arith, ap, ◌∙◌, sym, inl, inr, length-append
 use Rattle.std.proofs.lemmas.Grind.{common_steps}
 use Rattle.std.proofs.lemmas.Bool.{cases_lt, le-leb, lt-leb, lt-ltb, le-ltb}
 use Rattle.std.proofs.lemmas.List.{same_lists, get_or-take, get_or-drop}
-use Rattle.block_unit.specs.BlockMaps.{BlockMaps, block_count, IsWhole, bytes_from, with_bytes, block_at, covers, blocks_read, written, blocks_covered, synced, with_attention}
+use Rattle.block_unit.specs.BlockMaps.{BlockMaps, block_count, IsWhole, bytes_from, with_bytes, block_at, covers, blocks_read, written}
+use Rattle.block_unit.specs.BlockMaps.{blocks_covered, synced, with_attention}
 
 -- both lists have 512 bytes for each block
 pub record IsSized (maps : BlockMaps) : Type 0 where
@@ -37,15 +38,18 @@ pub length-with_bytes : (bytes : List ℕ) (place : ℕ) (part : List ℕ) → p
 unfolding with_bytes
 length-with_bytes bytes place part within = simp (length-append, length-drop) (omega (arith, length-take-le place bytes (omega arith)))
 
-pub get_or-with_bytes_before : (bytes : List ℕ) (place : ℕ) (part : List ℕ) (i d : ℕ) → place + length part ≤ length bytes → i < place → get_or (with_bytes bytes place part) i d ≡ get_or bytes i d
+pub get_or-with_bytes_before : (bytes : List ℕ) (place : ℕ) (part : List ℕ) (i d : ℕ) → place + length part ≤ length bytes → i < place
+    → get_or (with_bytes bytes place part) i d ≡ get_or bytes i d
 unfolding with_bytes
 get_or-with_bytes_before bytes place part i d within before = grind (arith, common_steps)
 
-pub get_or-with_bytes_inside : (bytes : List ℕ) (place : ℕ) (part : List ℕ) (i d : ℕ) → place + length part ≤ length bytes → i < length part → get_or (with_bytes bytes place part) (place + i) d ≡ get_or part i d
+pub get_or-with_bytes_inside : (bytes : List ℕ) (place : ℕ) (part : List ℕ) (i d : ℕ) → place + length part ≤ length bytes → i < length part
+    → get_or (with_bytes bytes place part) (place + i) d ≡ get_or part i d
 unfolding with_bytes
 get_or-with_bytes_inside bytes place part i d within inside = grind (arith, common_steps)
 
-pub get_or-with_bytes_after : (bytes : List ℕ) (place : ℕ) (part : List ℕ) (i d : ℕ) → place + length part ≤ length bytes → place + length part ≤ i → get_or (with_bytes bytes place part) i d ≡ get_or bytes i d
+pub get_or-with_bytes_after : (bytes : List ℕ) (place : ℕ) (part : List ℕ) (i d : ℕ) → place + length part ≤ length bytes → place + length part ≤ i
+    → get_or (with_bytes bytes place part) i d ≡ get_or bytes i d
 unfolding with_bytes
 get_or-with_bytes_after bytes place part i d within after = grind (arith, common_steps)
 
@@ -56,7 +60,9 @@ unfolding block_at
 length-block_at bytes block many size inside = length-bytes_from bytes (512 * block) 512 (omega arith)
 
 -- after whole blocks were put into a list, a block among them is theirs, and each other one is as before
-pub block_at-with_bytes : (bytes : List ℕ) (lba : ℕ) (part : List ℕ) (many count block : ℕ) → length bytes ≡ 512 * count → length part ≡ 512 * many → lba + many ≤ count → block < count → block_at (with_bytes bytes (512 * lba) part) block ≡ (if covers lba many block then block_at part (block - lba) else block_at bytes block)
+pub block_at-with_bytes : (bytes : List ℕ) (lba : ℕ) (part : List ℕ) (many count block : ℕ) → length bytes ≡ 512 * count → length part ≡ 512 * many
+    → lba + many ≤ count → block < count
+    → block_at (with_bytes bytes (512 * lba) part) block ≡ (if covers lba many block then block_at part (block - lba) else block_at bytes block)
 unfolding block_at covers
 block_at-with_bytes bytes lba part many count block size part_size fits inside =
     let after = with_bytes bytes (512 * lba) part in
@@ -97,20 +103,25 @@ ReadsBlocks =
 -- a write puts its own blocks in place of those that it covers, and every other block is as before
 abbrev pub WritesBlocks : Type 0
 WritesBlocks =
-    (maps : BlockMaps) (lba : ℕ) (bytes : List ℕ) (through : Bool) (block : ℕ) → IsSized maps → IsWhole bytes → lba + block_count bytes ≤ maps.count → block < maps.count →
-    block_at (written maps lba bytes through).blocks block ≡ (if covers lba (block_count bytes) block then block_at bytes (block - lba) else block_at maps.blocks block)
+    (maps : BlockMaps) (lba : ℕ) (bytes : List ℕ) (through : Bool) (block : ℕ) → IsSized maps → IsWhole bytes → lba + block_count bytes ≤ maps.count
+    → block < maps.count →
+    block_at (written maps lba bytes through).blocks block ≡
+    (if covers lba (block_count bytes) block then block_at bytes (block - lba) else block_at maps.blocks block)
 
 -- the medium alike where the write goes through, and as before where it doesn't
 abbrev pub WritesMedium : Type 0
 WritesMedium =
-    (maps : BlockMaps) (lba : ℕ) (bytes : List ℕ) (through : Bool) (block : ℕ) → IsSized maps → IsWhole bytes → lba + block_count bytes ≤ maps.count → block < maps.count →
-    block_at (written maps lba bytes through).medium block ≡ (if through && covers lba (block_count bytes) block then block_at bytes (block - lba) else block_at maps.medium block)
+    (maps : BlockMaps) (lba : ℕ) (bytes : List ℕ) (through : Bool) (block : ℕ) → IsSized maps → IsWhole bytes → lba + block_count bytes ≤ maps.count
+    → block < maps.count →
+    block_at (written maps lba bytes through).medium block ≡
+    (if through && covers lba (block_count bytes) block then block_at bytes (block - lba) else block_at maps.medium block)
 
 -- a synchronization makes the medium's blocks that it covers the unit's, and leaves every other one
 abbrev pub SyncsMedium : Type 0
 SyncsMedium =
     (maps : BlockMaps) (lba many block : ℕ) → IsSized maps → lba + many ≤ maps.count → block < maps.count →
-    block_at (synced maps lba many).medium block ≡ (if covers lba (blocks_covered maps lba many) block then block_at maps.blocks block else block_at maps.medium block)
+    block_at (synced maps lba many).medium block ≡
+    (if covers lba (blocks_covered maps lba many) block then block_at maps.blocks block else block_at maps.medium block)
 
 pub block_at-blocks_read : ReadsBlocks
 unfolding block_at blocks_read
@@ -118,7 +129,8 @@ block_at-blocks_read maps lba many block sized fits inside =
     let part = bytes_from maps.blocks (512 * lba) (512 * many) in
     let length_part : length part ≡ 512 * many = length-bytes_from maps.blocks (512 * lba) (512 * many) (omega (arith, sized.blocks)) in
     let length_here : length (bytes_from part (512 * block) 512) ≡ 512 = length-bytes_from part (512 * block) 512 (omega arith) in
-    let length_there : length (bytes_from maps.blocks (512 * (lba + block)) 512) ≡ 512 = length-bytes_from maps.blocks (512 * (lba + block)) 512 (omega (arith, sized.blocks)) in
+    let length_there : length (bytes_from maps.blocks (512 * (lba + block)) 512) ≡ 512 =
+    length-bytes_from maps.blocks (512 * (lba + block)) 512 (omega (arith, sized.blocks)) in
     same_lists _ _ (length_here ∙ sym length_there) (λ i d below.
     get_or-bytes_from part (512 * block) 512 i d (omega arith)
     ∙ get_or-bytes_from maps.blocks (512 * lba) (512 * many) (512 * block + i) d (omega arith)
@@ -176,7 +188,8 @@ pub written-attention : (maps : BlockMaps) (lba : ℕ) (bytes : List ℕ) (throu
 unfolding written
 written-attention maps lba bytes through = refl
 
-pub IsSized-written : (maps : BlockMaps) (lba : ℕ) (bytes : List ℕ) (through : Bool) → IsSized maps → IsWhole bytes → lba + block_count bytes ≤ maps.count → IsSized (written maps lba bytes through)
+pub IsSized-written : (maps : BlockMaps) (lba : ℕ) (bytes : List ℕ) (through : Bool) → IsSized maps → IsWhole bytes → lba + block_count bytes ≤ maps.count
+    → IsSized (written maps lba bytes through)
 unfolding written
 IsSized-written maps lba bytes true sized whole fits = record {
   blocks = length-with_bytes maps.blocks (512 * lba) bytes (omega (arith, sized.blocks)) ∙ sized.blocks;

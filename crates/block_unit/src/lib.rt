@@ -23,7 +23,8 @@
 
 ghost use Rattle.std.specs.Prelude.{◌≡◌, ◌+◌, ◌*◌, ◌^◌, ◌<◌, ◌≤◌, ◌↔◌, true, false, length, All, IsOk, IfOk, OnOk, OnErr, IsErrOf};
 ghost use Rattle.std.specs.List.Sorted.{IsStrictlyIncreasing};
-ghost use Rattle.block_unit.specs.BlockMaps.{block_count, IsWhole, bad_below, blocks_read, fresh, imaged, is_whole_image, meets_bad, synced, with_attention, written};
+ghost use Rattle.block_unit.specs.BlockMaps.{block_count, IsWhole, bad_below, blocks_read, fresh, imaged, is_whole_image, meets_bad};
+ghost use Rattle.block_unit.specs.BlockMaps.{synced, with_attention, written};
 ghost use Rattle.block_unit.specs.declared.TheConstants.{BLOCK_BYTES, MAX_BLOCKS};
 ghost use Rattle.block_unit.specs.Laws.{ReadsBlocks, WritesBlocks, WritesMedium, SyncsMedium};
 

@@ -1,5 +1,6 @@
 -- What users of the definitions know without opening them.
-use Rattle.std.proofs.Common.{◌≡◌, ℕ, ◌+◌, ◌*◌, ◌<◌, ◌≤◌, Bool, true, false, not, ◌&&◌, is_some, cond, List, Some, None, Result, Ok, Err, refl, arith, sym, subst, ◌∙◌}
+use Rattle.std.proofs.Common.{◌≡◌, ℕ, ◌+◌, ◌*◌, ◌<◌, ◌≤◌, Bool, true, false, not, ◌&&◌, is_some, cond, List, Some, None, Result, Ok, Err}
+use Rattle.std.proofs.Common.{refl, arith, sym, subst, ◌∙◌}
 use Rattle.std.specs.Prelude.{nat_lt, ◌==◌}
 use Rattle.std.proofs.lemmas.Bool.{ltb-true, ltb-false, eqb-true, eqb-false}
 use Rattle.block_unit.specs.BlockMaps.{BlockMaps, with_attention, blocks_read, written}
@@ -17,7 +18,9 @@ use Rattle.scsi_cmd.specs.Work.{IsGivenAtOnce, checked_work, work_asked, work_by
 use Rattle.device_server.specs.declared.Answer.TheVariants.{Good, Check}
 use Rattle.device_server.specs.declared.Progress.{Progress}
 use Rattle.device_server.specs.declared.Progress.TheVariants.{Moving, Ended}
-use Rattle.device_server.specs.Server.{HasChunk, begun, chunk_blocks, chunk_fits, chunk_given, chunk_moved, first_progress, meets_bad_chunk, next_progress, progress_after, progress_after_blocks, progress_asked, synchronized, unit_asked, unit_taken}
+use Rattle.device_server.specs.Server.{HasChunk, begun, chunk_blocks, chunk_fits, chunk_given, chunk_moved, first_progress}
+use Rattle.device_server.specs.Server.{meets_bad_chunk, next_progress, progress_after, progress_after_blocks, progress_asked, synchronized}
+use Rattle.device_server.specs.Server.{unit_asked, unit_taken}
 
 -- THE NUMBER OF BLOCKS
 
@@ -42,7 +45,8 @@ unit_taken-count unit bytes chunk (Synchronizes lba count) = refl
 pub begun-count : (unit : BlockMaps) (reports : Bool) (asked : Result Work Sense) → (begun unit reports asked).0.count ≡ unit.count
 begun-count unit reports asked =
     elim (reports && unit.attention) as (λ b.
-    (cond {A = BlockMaps × Progress} b (with_attention unit false, Ended (Check reset_occurred)) (unit_asked unit asked, progress_asked asked)).0.count ≡ unit.count) [
+    (cond {A = BlockMaps × Progress} b (with_attention unit false, Ended (Check reset_occurred))
+    (unit_asked unit asked, progress_asked asked)).0.count ≡ unit.count) [
       | true ↦ with_attention-count unit false
       | false ↦ elim asked as (λ asks. (unit_asked unit asks).count ≡ unit.count) [
         | Ok work ↦ synchronized-count unit work
@@ -146,7 +150,8 @@ moved_blocks unit lba count chunk sense =
 
 given_blocks : (unit : BlockMaps) (lba count chunk : ℕ) → not (meets_bad_chunk unit lba count chunk) ≡ is_some (chunk_given unit chunk (Reads lba count))
 given_blocks unit lba count chunk =
-    elim (meets_bad_chunk unit lba count chunk) as (λ b. not b ≡ is_some {T = List ℕ} (cond b None (Some (blocks_read unit (lba + 8 * chunk) (chunk_blocks count chunk))))) [
+    elim (meets_bad_chunk unit lba count chunk) as
+    (λ b. not b ≡ is_some {T = List ℕ} (cond b None (Some (blocks_read unit (lba + 8 * chunk) (chunk_blocks count chunk))))) [
       | true ↦ refl
       | false ↦ refl
     ]

@@ -5,7 +5,8 @@ ghost use Rattle.scsi_cmd.specs.Sense.{unrecovered_read_error, write_error};
 ghost use Rattle.scsi_cmd.specs.Work.{IsWorkOn, work_bytes, work_direction};
 ghost use Rattle.scsi_cmd.specs.declared.Direction.{Direction};
 ghost use Rattle.scsi_cmd.specs.declared.Work.{Work};
-ghost use Rattle.device_server.specs.Server.{chunk_blocks, chunk_bytes, chunk_fits, chunk_given, chunk_moved, meets_bad_chunk, next_progress, progress_after, progress_after_blocks, unit_taken};
+ghost use Rattle.device_server.specs.Server.{chunk_blocks, chunk_bytes, chunk_fits, chunk_given, chunk_moved, meets_bad_chunk};
+ghost use Rattle.device_server.specs.Server.{next_progress, progress_after, progress_after_blocks, unit_taken};
 
 use crate::{Answer, CHUNK_BLOCKS, CHUNK_BYTES, Progress};
 use block_unit::{Bad, MAX_BLOCKS, Unit};

@@ -1,5 +1,6 @@
 -- Each step keeps the rule.
-use Rattle.std.proofs.Common.{◌≡◌, ◌≢◌, ℕ, zero, suc, ◌+◌, cond, ◌*◌, ◌^◌, ◌<◌, List, [], ◌∷◌, ◌++◌, ◌==◌, length, set, slice_index, sym, refl, ap, subst, ◌∙◌, sum_by, ⊎_elim, arith}
+use Rattle.std.proofs.Common.{◌≡◌, ◌≢◌, ℕ, zero, suc, ◌+◌, cond, ◌*◌, ◌^◌, ◌<◌, List, [], ◌∷◌, ◌++◌, ◌==◌, length, set, slice_index, sym}
+use Rattle.std.proofs.Common.{refl, ap, subst, ◌∙◌, sum_by, ⊎_elim, arith}
 use mathlib.Core.Option.{none, some, some-injective, some-ne-none}
 use lib.ListN.{get_elem?}
 use Rattle.std.specs.Int.{bit_at}
@@ -22,7 +23,8 @@ Idle views = (k : ℕ) (v : Past) → get_elem? views k ≡ some v → Unused v
 
 idle_set : (views : List Past) (id : ℕ) (w : Past) → Idle views → Unused w → Idle (set views id w)
 idle_set views id w idle mine k v at =
-    ⊎_elim (λ (here : (k ≡ id) × (w ≡ v)). subst Unused here.1 mine) (λ (else : (k ≢ id) × (get_elem? views k ≡ some v)). idle k v else.1) (at_set views id k w v at)
+    ⊎_elim (λ (here : (k ≡ id) × (w ≡ v)). subst Unused here.1 mine) (λ (else : (k ≢ id)
+    × (get_elem? views k ≡ some v)). idle k v else.1) (at_set views id k w v at)
 
 pub ring_allowed : (seats slots id word k : ℕ) (me : Me (Unit {0}) Past) → me.0.shares ≡ 1 → word < 4 → k < 64
     → Allows (IsCounted seats) slots id me word (λ n. bit_or n (2 ^ k)) (Rings (step slots word (2 ^ k) 0 none) me)
@@ -73,7 +75,8 @@ collect_allowed seats slots id word me one within s held homes at fits =
     )
 
 idle_more : (views : List Past) (w : Past) → Idle views → Unused w → Idle (views ++ w ∷ [])
-idle_more views w idle mine k v at = ⊎_elim (λ (there : get_elem? views k ≡ some v). idle k v there) (λ (last : w ≡ v). subst Unused last mine) (at_snoc views w v k at)
+idle_more views w idle mine k v at =
+    ⊎_elim (λ (there : get_elem? views k ≡ some v). idle k v there) (λ (last : w ≡ v). subst Unused last mine) (at_snoc views w v k at)
 
 -- a share goes to a new seat, which has done nothing
 pub deal_allowed : (seats id : ℕ) (v : Past) → 1 < v.shares → Splits (IsCounted seats) id v (one_share_less v) (one_share v)
@@ -111,7 +114,8 @@ gather_allowed seats id other v w some_share s held at apart there =
       idle = idle_set first other spent (idle_set s.views id all held.idle (λ none. absurd (omega arith))) (λ none. (refl, refl));
     }
 
-zero_but_one : (f : Past → ℕ) (views : List Past) → ((k : ℕ) (u : Past) → get_elem? views k ≡ some u → u.shares ≡ 0 → f u ≡ 0) → sum_by shares_of views ≡ 0 → sum_by f views ≡ 0
+zero_but_one : (f : Past → ℕ) (views : List Past) → ((k : ℕ) (u : Past) → get_elem? views k ≡ some u → u.shares ≡ 0 → f u ≡ 0) → sum_by shares_of views ≡ 0
+    → sum_by f views ≡ 0
 zero_but_one f [] idle all = refl
 zero_but_one f (x ∷ xs) idle all =
     let shares = sum_by-cons shares_of x xs in
@@ -145,7 +149,8 @@ counts_alone seats id v s held at every place below =
     omega arith
 
 -- four words are those that were read one by one
-pub four_words : (l : List ℕ) (a b c d : ℕ) → length l ≡ 4 → get_elem? l 0 ≡ some a → get_elem? l 1 ≡ some b → get_elem? l 2 ≡ some c → get_elem? l 3 ≡ some d → l ≡ a ∷ b ∷ c ∷ d ∷ []
+pub four_words : (l : List ℕ) (a b c d : ℕ) → length l ≡ 4 → get_elem? l 0 ≡ some a → get_elem? l 1 ≡ some b → get_elem? l 2 ≡ some c
+    → get_elem? l 3 ≡ some d → l ≡ a ∷ b ∷ c ∷ d ∷ []
 four_words [] a b c d n = absurd (omega arith)
 four_words (w ∷ []) a b c d n = absurd (omega arith)
 four_words (w ∷ x ∷ []) a b c d n = absurd (omega arith)

@@ -1,5 +1,6 @@
 -- Totals over the views of all seats, and one place's counts.
-use Rattle.std.proofs.Common.{◌≡◌, ◌≢◌, ℕ, zero, suc, ◌+◌, ◌*◌, ◌/◌, ◌%◌, ◌^◌, ◌<◌, ◌≤◌, Bool, true, false, cond, List, [], ◌∷◌, ◌++◌, ◌==◌, length, set, slice_index, sym, refl, ap, ◌∙◌, sum_by, zero-mul, one-mul, arith}
+use Rattle.std.proofs.Common.{◌≡◌, ◌≢◌, ℕ, zero, suc, ◌+◌, ◌*◌, ◌/◌, ◌%◌, ◌^◌, ◌<◌, ◌≤◌, Bool, true, false, cond, List, [], ◌∷◌, ◌++◌}
+use Rattle.std.proofs.Common.{◌==◌, length, set, slice_index, sym, refl, ap, ◌∙◌, sum_by, zero-mul, one-mul, arith}
 use mathlib.Core.Option.{some, some-injective, some-ne-none}
 use mathlib.Core.Logic.{dite}
 use native.Mathlib.Decide.{ℕ_discrete}
@@ -64,7 +65,9 @@ bit_else words word k place within low apart =
     (λ (w : place / 64 ≡ word).
     let other : place % 64 ≢ k = λ b. apart (omega arith) in
     let old : standing words place ≡ bit_at n (place % 64) = ap (λ (j : ℕ). bit_at (slice_index words j) (place % 64)) w in
-    let new : standing (set words word (bit_or n (2 ^ k))) place ≡ bit_at (bit_or n (2 ^ k)) (place % 64) = ap (λ (j : ℕ). bit_at (slice_index (set words word (bit_or n (2 ^ k))) j) (place % 64)) w ∙ ap (λ (m : ℕ). bit_at m (place % 64)) (get_or-set_same words word (bit_or n (2 ^ k)) 0 within) in
+    let new : standing (set words word (bit_or n (2 ^ k))) place ≡ bit_at (bit_or n (2 ^ k)) (place % 64) =
+    ap (λ (j : ℕ). bit_at (slice_index (set words word (bit_or n (2 ^ k))) j) (place % 64)) w
+    ∙ ap (λ (m : ℕ). bit_at m (place % 64)) (get_or-set_same words word (bit_or n (2 ^ k)) 0 within) in
     old ∙ sym (bit_kept n k (place % 64) other) ∙ sym new)
     (λ (w : place / 64 ≢ word). ap (λ (m : ℕ). bit_at m (place % 64)) (sym (get_or-set_other words word (place / 64) (bit_or n (2 ^ k)) 0 w)))
 
@@ -80,8 +83,11 @@ rung_counts words fresh word k place within low =
     let b : place % 64 ≡ k = omega arith in
     let here = rung_here place fresh (bit_at n k == 0) in
     let old : standing words place ≡ bit_at n k = ap (λ (j : ℕ). bit_at (slice_index words j) (place % 64)) w ∙ ap (bit_at n) b in
-    let new : standing (set words word (bit_or n (2 ^ k))) place ≡ bit_at (bit_or n (2 ^ k)) k = ap (λ (j : ℕ). bit_at (slice_index (set words word (bit_or n (2 ^ k))) j) (place % 64)) w ∙ ap (λ (m : ℕ). bit_at m (place % 64)) (get_or-set_same words word (bit_or n (2 ^ k)) 0 within) ∙ ap (bit_at (bit_or n (2 ^ k))) b in
-    let rang : times_rung place (rung_too fresh (64 * word + k) (bit_at n k == 0)) ≡ times_rung place (rung_too fresh place (bit_at n k == 0)) = ap (λ (q : ℕ). times_rung place (rung_too fresh q (bit_at n k == 0))) (sym same) in
+    let new : standing (set words word (bit_or n (2 ^ k))) place ≡ bit_at (bit_or n (2 ^ k)) k =
+    ap (λ (j : ℕ). bit_at (slice_index (set words word (bit_or n (2 ^ k))) j) (place % 64)) w
+    ∙ ap (λ (m : ℕ). bit_at m (place % 64)) (get_or-set_same words word (bit_or n (2 ^ k)) 0 within) ∙ ap (bit_at (bit_or n (2 ^ k))) b in
+    let rang : times_rung place (rung_too fresh (64 * word + k) (bit_at n k == 0)) ≡ times_rung place (rung_too fresh place (bit_at n k == 0)) =
+    ap (λ (q : ℕ). times_rung place (rung_too fresh q (bit_at n k == 0))) (sym same) in
     omega (arith, bit_rung n k))
     (λ (apart : place ≢ 64 * word + k).
     let kept = rung_else place (64 * word + k) fresh (bit_at n k == 0) (λ e. apart (sym e)) in
@@ -100,16 +106,20 @@ taken_counts words hauls word place within =
     (λ (w : place / 64 ≡ word).
     let gave : taken_at place haul ≡ bit_at n (place % 64) = grind (arith, nat_tests) in
     let old : standing words place ≡ bit_at n (place % 64) = ap (λ (j : ℕ). bit_at (slice_index words j) (place % 64)) w in
-    let new : standing (set words word 0) place ≡ 0 = ap (λ (j : ℕ). bit_at (slice_index (set words word 0) j) (place % 64)) w ∙ ap (λ (m : ℕ). bit_at m (place % 64)) (get_or-set_same words word 0 0 within) ∙ bit_at-zero (place % 64) in
+    let new : standing (set words word 0) place ≡ 0 =
+    ap (λ (j : ℕ). bit_at (slice_index (set words word 0) j) (place % 64)) w
+    ∙ ap (λ (m : ℕ). bit_at m (place % 64)) (get_or-set_same words word 0 0 within) ∙ bit_at-zero (place % 64) in
     omega arith)
     (λ (w : place / 64 ≢ word).
     let gave : taken_at place haul ≡ 0 = grind (arith, nat_tests) in
-    let same : standing (set words word 0) place ≡ standing words place = ap (λ (m : ℕ). bit_at m (place % 64)) (get_or-set_other words word (place / 64) 0 0 w) in
+    let same : standing (set words word 0) place ≡ standing words place =
+    ap (λ (m : ℕ). bit_at m (place % 64)) (get_or-set_other words word (place / 64) 0 0 w) in
     omega arith)
 
 same_power : (a b : ℕ) → 2 ^ a ≡ 2 ^ b → a ≡ b
 same_power a b e =
-    dite (ℕ_discrete b a) (λ (h : b ≡ a). sym h) (λ (h : b ≢ a). absurd (omega (arith, bit_at-pow_other a b h, bit_at-pow_same b, ap (λ (n : ℕ). bit_at n b) e)))
+    dite (ℕ_discrete b a) (λ (h : b ≡ a). sym h)
+    (λ (h : b ≢ a). absurd (omega (arith, bit_at-pow_other a b h, bit_at-pow_same b, ap (λ (n : ℕ). bit_at n b) e)))
 
 -- the test of the code is the test of the one bit
 pub clear_found : (n bit j k : ℕ) → bit ≡ 2 ^ j → bit ≡ 2 ^ k → (bit_at n k == 0) ≡ (bit_and n bit == 0)

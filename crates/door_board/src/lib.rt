@@ -215,7 +215,8 @@ impl Board {
     pub fn close(self, seats: Vec<Seat>) -> [u64; WORDS]
         requires every { length seats.items ≡ self.seats }
         requires own { All (IsSeatOf self) seats.items }
-        ensures { (place : ℕ) → place < 256 → sum_by (fresh_rings place) seats.items ≡ sum_by (collections place) seats.items + bit_at (slice_index result (place / 64)) (place % 64) }
+        ensures { (place : ℕ) → place < 256
+            → sum_by (fresh_rings place) seats.items ≡ sum_by (collections place) seats.items + bit_at (slice_index result (place / 64)) (place % 64) }
     {
         let last = self.gather(seats);
         let Board { table, seats: _ } = self;

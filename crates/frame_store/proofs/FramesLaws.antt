@@ -1,5 +1,6 @@
 -- Laws of the store.
-use Rattle.std.proofs.Common.{◌≡◌, ℕ, ◌-◌, ◌<◌, ◌≤◌, ◌↔◌, Option, Some, None, List, [], ◌∷◌, ◌++◌, take, drop, length, replicate, unwrap_or, option_map, refl, sym, ap, ◌∙◌, inl, inr, arith}
+use Rattle.std.proofs.Common.{◌≡◌, ℕ, ◌-◌, ◌<◌, ◌≤◌, ◌↔◌, Option, Some, None, List, [], ◌∷◌, ◌++◌, take, drop, length, replicate}
+use Rattle.std.proofs.Common.{unwrap_or, option_map, refl, sym, ap, ◌∙◌, inl, inr, arith}
 use Rattle.std.proofs.Math.ListN.{set}
 use Rattle.std.proofs.Math.Seq.{take-append_seam}
 use Rattle.std.specs.List.{length_refill}
@@ -12,7 +13,8 @@ use Rattle.frame_store.specs.declared.Place.{Place}
 use Rattle.frame_store.specs.declared.TagBuffers.{TagBuffers}
 use Rattle.frame_store.specs.Places.{room_of, place_at}
 use Rattle.frame_store.specs.Splice.{spliced}
-use Rattle.frame_store.specs.Buffers.{bytes_in, with_bytes_in, with_part, opening_buffers, no_buffers, held_for, with_held, bytes_of, with_bytes, Names, IsNamed, HasSizes, IsWhole, start_of, written, left_at}
+use Rattle.frame_store.specs.Buffers.{bytes_in, with_bytes_in, with_part, opening_buffers, no_buffers, held_for, with_held, bytes_of}
+use Rattle.frame_store.specs.Buffers.{with_bytes, Names, IsNamed, HasSizes, IsWhole, start_of, written, left_at}
 use Rattle.frame_store.proofs.PlacesLaws.{place_at-address_of, address_of-place_at}
 
 -- writing over a part keeps the length

@@ -1,5 +1,6 @@
 -- What the store holds for each tag, and which bytes an address names.
-use Rattle.std.specs.Prelude.{if◌then◌else◌, ℕ, ◌+◌, ◌-◌, ◌≡◌, ◌≤◌, ◌==◌, ◌⊎◌, List, [], take, drop, length, replicate, Option, None, option_map, unwrap_or, slice_index_or, slice_set}
+use Rattle.std.specs.Prelude.{if◌then◌else◌, ℕ, ◌+◌, ◌-◌, ◌≡◌, ◌≤◌, ◌==◌, ◌⊎◌, List, [], take, drop, length, replicate, Option, None}
+use Rattle.std.specs.Prelude.{option_map, unwrap_or, slice_index_or, slice_set}
 use Rattle.std.specs.Option.{option_map_or}
 use Rattle.frame_store.specs.declared.Buffer.{Buffer}
 use Rattle.frame_store.specs.declared.Buffer.TheVariants.{Command, Status, Window}

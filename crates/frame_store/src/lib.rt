@@ -20,7 +20,8 @@
 //! `specs/Places.antt`. The crate stands on std and `thiserror` alone.
 #![tactic(auto)]
 
-ghost use Rattle.std.specs.Prelude.{◌≡◌, ◌≢◌, ℕ, ◌+◌, ◌-◌, ◌*◌, ◌<◌, ◌≤◌, ◌↔◌, List, length, take, drop, vec_len, Option, None, Some, IsOk, IsErr, IsNone, IsSome, IfOk, IfErr, OnOk, OnErr};
+ghost use Rattle.std.specs.Prelude.{◌≡◌, ◌≢◌, ℕ, ◌+◌, ◌-◌, ◌*◌, ◌<◌, ◌≤◌, ◌↔◌, List, length, take, drop, vec_len, Option, None, Some, IsOk};
+ghost use Rattle.std.specs.Prelude.{IsErr, IsNone, IsSome, IfOk, IfErr, OnOk, OnErr};
 ghost use Rattle.std.specs.Borrow.{sem};
 
 mod buffers;
@@ -127,7 +128,8 @@ impl Model for Frames {
 impl Frames {
     ghost use Rattle.frame_store.specs.declared.FrameFault.TheVariants.{BadAddress, NotLent, AlreadyLent};
     ghost use Rattle.frame_store.specs.declared.Place.{Place};
-    ghost use Rattle.frame_store.specs.Buffers.{opening, held_for, with_lent, bytes_of, with_bytes, front_of, Names, IsNamed, IsWhole, bytes_at, written, left_at};
+    ghost use Rattle.frame_store.specs.Buffers.{opening, held_for, with_lent, bytes_of, with_bytes, front_of, Names, IsNamed, IsWhole};
+    ghost use Rattle.frame_store.specs.Buffers.{bytes_at, written, left_at};
     ghost use Rattle.frame_store.specs.FramesLending.{LendsFrom, LendsWindow};
 
     /// A store with zeroed small buffers and nothing lent. It takes all the memory that the store uses.

@@ -1,5 +1,7 @@
 -- What users of the definitions know without opening them.
-use Rattle.std.proofs.Common.{◌≡◌, ℕ, zero, suc, ◌+◌, ◌*◌, ◌/◌, ◌%◌, ◌^◌, ◌<◌, ◌≤◌, Bool, true, false, not, cond, is_some, List, [], ◌∷◌, ◌++◌, length, take, drop, Option, Some, None, IfSome, Result, Ok, Err, refl, arith, subst, sym, ap, ◌∙◌, length-append, length-take, length-take-le, length-drop}
+use Rattle.std.proofs.Common.{◌≡◌, ℕ, zero, suc, ◌+◌, ◌*◌, ◌/◌, ◌%◌, ◌^◌, ◌<◌, ◌≤◌, Bool, true, false, not, cond, is_some, List, [], ◌∷◌}
+use Rattle.std.proofs.Common.{◌++◌, length, take, drop, Option, Some, None, IfSome, Result, Ok, Err, refl, arith, subst, sym, ap, ◌∙◌}
+use Rattle.std.proofs.Common.{length-append, length-take, length-take-le, length-drop}
 use Rattle.std.specs.Prelude.{slice_set, slice_index, slice_index_or, option_and_then, nat_lt, ◌==◌, ◌||◌, nat_le, min, IsOk}
 use Rattle.std.proofs.lemmas.Bool.{eqb-true, ne_eqb, ltb-false}
 use Rattle.std.proofs.lemmas.List.{get_or_default, take-append-drop, drop-drop}
@@ -21,7 +23,8 @@ use Rattle.scsi_cmd.specs.Meaning.{asked, checked, has_invalid_field, named_op, 
 use Rattle.scsi_cmd.specs.Op.{cdb_bytes, direction_of, moved_bytes, way_of}
 use Rattle.scsi_cmd.specs.Sense.{invalid_field_in_cdb, invalid_operation_code, out_of_range, unit_not_supported}
 use Rattle.scsi_cmd.specs.Submission.{first_submit_fault, is_too_long}
-use Rattle.scsi_cmd.specs.Work.{IsGivenAtOnce, IsWorkOn, asked_without_unit, cdb_reports_attention, giving, inquiry_front, reports_attention, work_bytes, work_direction, work_of, work_without_unit}
+use Rattle.scsi_cmd.specs.Work.{IsGivenAtOnce, IsWorkOn, asked_without_unit, cdb_reports_attention, giving, inquiry_front}
+use Rattle.scsi_cmd.specs.Work.{reports_attention, work_bytes, work_direction, work_of, work_without_unit}
 
 -- PLACES THAT HOLD SOMETHING OR NOTHING
 
@@ -228,10 +231,11 @@ range_within : (lba count blocks : ℕ) → range_fault lba count blocks ≡ Non
 range_within lba count blocks none =
     elim (nat_le blocks lba) as (λ a. cond {A = Option Sense} (a || nat_lt blocks (lba + count)) (Some out_of_range) None ≡ None → lba + count ≤ blocks) [
       | true ↦ λ is. let no : ◌≡◌ {A = Option Sense} (Some out_of_range) None = is in let it : ⊥ = cc in absurd it
-      | false ↦ elim (nat_lt blocks (lba + count)) as (λ b. nat_lt blocks (lba + count) ≡ b → cond {A = Option Sense} b (Some out_of_range) None ≡ None → lba + count ≤ blocks) [
-        | true ↦ λ past is. let no : ◌≡◌ {A = Option Sense} (Some out_of_range) None = is in let it : ⊥ = cc in absurd it
-        | false ↦ λ within is. ltb-false blocks (lba + count) within
-      ] refl
+      | false ↦ elim (nat_lt blocks (lba + count)) as (λ b. nat_lt blocks (lba + count) ≡ b → cond {A = Option Sense} b (Some out_of_range) None ≡ None
+          → lba + count ≤ blocks) [
+            | true ↦ λ past is. let no : ◌≡◌ {A = Option Sense} (Some out_of_range) None = is in let it : ⊥ = cc in absurd it
+            | false ↦ λ within is. ltb-false blocks (lba + count) within
+          ] refl
     ] none
 
 transfer_within : (lba count blocks : ℕ) → cond (nat_lt 128 count) (Some invalid_field_in_cdb) (range_fault lba count blocks) ≡ None →

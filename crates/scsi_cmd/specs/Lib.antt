@@ -8,5 +8,6 @@ pub mod Work
 pub mod Buffers
 pub mod Faults
 pub mod Held
+pub mod Request
 pub mod Submission
 pub mod Laws

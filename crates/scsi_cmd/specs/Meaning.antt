@@ -1,5 +1,6 @@
 -- What 16 bytes ask of a unit of so many blocks: an operation, or the sense that tells the first fault.
-use Rattle.std.specs.Prelude.{ℕ, ◌+◌, ◌/◌, ◌^◌, Bool, false, not, ◌||◌, if◌then◌else◌, ◌==◌, nat_lt, nat_le, List, slice_index, Option, None, Some, Result, Ok, Err}
+use Rattle.std.specs.Prelude.{ℕ, ◌+◌, ◌/◌, ◌^◌, Bool, false, not, ◌||◌, if◌then◌else◌, ◌==◌, nat_lt, nat_le, List, slice_index, Option}
+use Rattle.std.specs.Prelude.{None, Some, Result, Ok, Err}
 use Rattle.scsi_cmd.specs.Fields.{field_of_two, field_of_four, is_bit_set}
 use Rattle.scsi_cmd.specs.Sense.{invalid_operation_code, invalid_field_in_cdb, out_of_range}
 use Rattle.scsi_cmd.specs.declared.Op.{Op}

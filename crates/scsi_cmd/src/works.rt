@@ -3,7 +3,8 @@ ghost use Rattle.std.specs.Prelude.{◌≡◌, ◌<◌, ◌≤◌, None, IfOk, l
 ghost use Rattle.scsi_cmd.specs.Data.{inquiry_bytes};
 ghost use Rattle.scsi_cmd.specs.Meaning.{op_fault};
 ghost use Rattle.scsi_cmd.specs.Op.{moved_bytes, way_of};
-ghost use Rattle.scsi_cmd.specs.Work.{IsWorkOn, asked_without_unit, cdb_reports_attention, checked_work, inquiry_front, is_inquiry, reports_attention, work_bytes, work_direction, work_of, work_without_unit};
+ghost use Rattle.scsi_cmd.specs.Work.{IsWorkOn, asked_without_unit, cdb_reports_attention, checked_work, inquiry_front, is_inquiry};
+ghost use Rattle.scsi_cmd.specs.Work.{reports_attention, work_bytes, work_direction, work_of, work_without_unit};
 
 use crate::cdbs::{INQUIRY, fault, parse};
 use crate::{INQUIRY_BYTES, Op, Sense, Work, capacity_data, inquiry_data};

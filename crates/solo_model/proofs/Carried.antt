@@ -61,7 +61,8 @@ length-heeded (Some noted) tasks = length-mapped (option_map (after_notes noted.
     length-mapped f [] = refl
     length-mapped f (x ∷ xs) = ap suc (length-mapped f xs)
 
-held_at-map : (f : TaggedTask → TaggedTask) (tasks : List (Option TaggedTask)) (slot : ℕ) → held_at (map (option_map f) tasks) slot ≡ option_map f (held_at tasks slot)
+held_at-map : (f : TaggedTask → TaggedTask) (tasks : List (Option TaggedTask)) (slot : ℕ)
+    → held_at (map (option_map f) tasks) slot ≡ option_map f (held_at tasks slot)
 held_at-map f [] slot = refl
 held_at-map f (task ∷ tasks) zero = refl
 held_at-map f (task ∷ tasks) (suc slot) = held_at-map f tasks slot
@@ -77,7 +78,8 @@ CarriedFrom unit tasks slot acted unit_now tasks_now held = MatchOption (option_
 
 pub carry-held : (state : SoloState) (slot : ℕ) (held : Option TaggedTask) (acted : Bool) (unit : BlockMaps) (tasks : List (Option TaggedTask)) →
     held_at state.tasks slot ≡ held → IsCarried state.unit (heeded (option_and_then noted_next held) state.tasks) slot acted unit tasks →
-    applied state (option_and_then (carried_at state (suc slot)) held) ≡ (record { unit = unit; tasks = tasks; least = state.least }, outcome acted)
+    applied state (option_and_then (carried_at state (suc slot)) held) ≡
+    (record { unit = unit; tasks = tasks; least_ticket = state.least_ticket }, outcome acted)
 carry-held state slot None acted unit tasks at is =
     let none = subst (CarriedFrom state.unit state.tasks slot acted unit tasks) at is in
     rw (none.0, none.1, none.2) refl
@@ -89,7 +91,7 @@ carry-held state slot (Some task) acted unit tasks at is =
         IsCarried state.unit (heeded (noted_next (record { ticket = ticket; request = request; buffer = buffer; phase = phase })) state.tasks)
         slot acted unit tasks →
         applied state (carried_at state (suc slot) (record { ticket = ticket; request = request; buffer = buffer; phase = phase }))
-        ≡ (record { unit = unit; tasks = tasks; least = state.least }, outcome acted)
+        ≡ (record { unit = unit; tasks = tasks; least_ticket = state.least_ticket }, outcome acted)
     by-fields ticket (Execute op) buffer Queued at is =
         let done = subst (CarriedFrom state.unit state.tasks slot acted unit tasks) at is in
         rw (done.0, done.1, done.2) refl
@@ -114,7 +116,7 @@ pub carry-step : (state : SoloState) (index slot : ℕ) (acted : Bool) (unit : B
     slot_under index ≡ Some slot →
     IsCarried state.unit (heeded (option_and_then noted_next (held_at state.tasks slot)) state.tasks) slot acted unit tasks →
     applied state (option_and_then (carried_at state index) (held_under state.tasks index))
-    ≡ (record { unit = unit; tasks = tasks; least = state.least }, outcome acted)
+    ≡ (record { unit = unit; tasks = tasks; least_ticket = state.least_ticket }, outcome acted)
 carry-step state index slot acted unit tasks under is =
     let place : index ≡ suc slot = index-of index slot under in
     rw place (carry-held state slot (held_at state.tasks slot) acted unit tasks refl is)

@@ -1,5 +1,7 @@
 -- The solo machine: one client, with no queue, event, pipe or ring.
-use Rattle.std.specs.Prelude.{◌≡◌, MatchOption, slice_set, ℕ, zero, suc, ◌+◌, ◌^◌, ◌<◌, nat_lt, Bool, true, false, ◌&&◌, if◌then◌else◌, List, [], ◌∷◌, ◌++◌, take, map, Option, Some, None, is_some, option_map, option_and_then, option_to_list, Result, Ok, Err, replicate}
+use Rattle.std.specs.Prelude.{◌≡◌, MatchOption, slice_set, ℕ, zero, suc, ◌+◌, ◌^◌, ◌<◌, nat_lt, Bool, true, false, ◌&&◌, if◌then◌else◌}
+use Rattle.std.specs.Prelude.{List, [], ◌∷◌, ◌++◌, take, map, Option, Some, None, is_some, option_map, option_and_then, option_to_list}
+use Rattle.std.specs.Prelude.{Result, Ok, Err, replicate}
 use Rattle.std.specs.Option.{option_map_or}
 use Rattle.std.specs.List.{filter_map}
 use Rattle.arrayvec.specs.ArrayVec.{ArrayVec}
@@ -24,11 +26,11 @@ use Rattle.scsi_cmd.specs.declared.TheConstants.{TAGS, TASK_SLOT}
 pub record SoloState : Type 0 where
   pub unit : BlockMaps
   pub tasks : List (Option TaggedTask)
-  pub least : ℕ
+  pub least_ticket : ℕ
 
 -- no task yet
 abbrev pub opening : BlockMaps → SoloState
-opening unit = record { unit = unit; tasks = replicate TAGS None; least = 0 }
+opening unit = record { unit = unit; tasks = replicate TAGS None; least_ticket = 0 }
 
 -- the slot of an index, where there is one: index 1 has slot 0 and index 8 slot 7, 0 and 9 have none
 abbrev pub slot_under : ℕ → Option ℕ
@@ -55,7 +57,7 @@ silently state = (state, None)
 
 abbrev pub submitted : SoloState → ℕ → ℕ → Command → Option SubmitFault → Option (SoloState × Option Reply)
 submitted state index ticket command None =
-    Some (silently (record (with_task state index (state.unit, queued ticket command)) { least = ticket + 1 }))
+    Some (silently (record (with_task state index (state.unit, queued ticket command)) { least_ticket = ticket + 1 }))
 submitted state index ticket command (Some fault) = None
 
 -- TASK MANAGEMENT
@@ -84,7 +86,8 @@ task_index = TASK_SLOT + 1
 
 abbrev pub managed : SoloState → ℕ → Task → Option SubmitFault → Option (SoloState × Option Reply)
 managed state ticket task None =
-    Some (silently (record (with_task state task_index (state.unit, queued_management ticket task (noted_tickets state.tasks task))) { least = ticket + 1 }))
+    Some (silently (record (with_task state task_index
+    (state.unit, queued_management ticket task (noted_tickets state.tasks task))) { least_ticket = ticket + 1 }))
 managed state ticket task (Some fault) = None
 
 -- the tasks once a task management that noted these tickets is carried: commands of such a ticket are gone
@@ -115,10 +118,10 @@ IsCarried unit tasks slot acted unit_now tasks_now = MatchOption (option_and_the
 abbrev pub solo_step : SoloState → Label → Option (SoloState × Option Reply)
 solo_step state (Submit index ticket command) =
     submitted state index ticket command
-    (first_submit_fault (is_command_index index) (is_some (held_under state.tasks index)) state.least ticket command)
+    (first_submit_fault (is_command_index index) (is_some (held_under state.tasks index)) state.least_ticket ticket command)
 solo_step state (TaskLabel ticket task) =
     managed state ticket task
-    (first_task_fault true (is_some (held_under state.tasks task_index)) state.least ticket (is_there state.tasks task))
+    (first_task_fault true (is_some (held_under state.tasks task_index)) state.least_ticket ticket (is_there state.tasks task))
 solo_step state (Carry index) = option_and_then (carried_at state index) (held_under state.tasks index)
 solo_step state (Move index) =
     option_map (λ after. silently (with_task state index after))

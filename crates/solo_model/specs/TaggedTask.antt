@@ -5,6 +5,7 @@ use Rattle.std.specs.List.{list_any}
 use Rattle.arrayvec.specs.ArrayVec.{ArrayVec}
 use Rattle.std.specs.Option.{option_map_or}
 use Rattle.block_unit.specs.BlockMaps.{BlockMaps, bytes_from, with_attention}
+use Rattle.scsi_cmd.specs.Request.{is_command}
 use Rattle.scsi_cmd.specs.declared.Op.{Op}
 use Rattle.scsi_cmd.specs.declared.Command.{Command}
 use Rattle.scsi_cmd.specs.declared.Reply.{Reply}
@@ -95,10 +96,6 @@ noted_in Gone request = None
 
 abbrev pub noted_next : TaggedTask → Option (ArrayVec ℕ)
 noted_next task = noted_in task.phase task.request
-
-abbrev pub is_command : Request → Bool
-is_command (Execute op) = true
-is_command (Manage what noted) = false
 
 -- its answer wasn't handed over, so the device can still end it
 abbrev pub can_go : Phase → Bool

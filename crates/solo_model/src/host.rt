@@ -1,5 +1,6 @@
 ghost use Rattle.std.specs.Prelude.{◌≡◌, ℕ, is_some};
-ghost use Rattle.solo_model.specs.TaggedTask.{aborted_by, after_notes, answered_by, buffer_in, can_be_ended, is_noted, noted_next, queued, queued_management, reply_of, request_in};
+ghost use Rattle.solo_model.specs.TaggedTask.{aborted_by, after_notes, answered_by, buffer_in, can_be_ended, is_noted, noted_next, queued};
+ghost use Rattle.solo_model.specs.TaggedTask.{queued_management, reply_of, request_in};
 
 use crate::{Phase, Submitted, TASK_SLOT, TaggedTask, Task};
 use arrayvec::ArrayVec;

@@ -103,7 +103,7 @@ pub struct NotARun;
 pub struct Solo {
     unit: Unit,
     tasks: [Option<TaggedTask>; TAGS],
-    least: u64,
+    least_ticket: u64,
 }
 
 impl Model for Solo {
@@ -113,7 +113,7 @@ impl Model for Solo {
 
     ghost use Rattle.solo_model.specs.Soundness.{IsSoundSolo};
 
-    ghost view = { λ solo. record { unit = solo.unit; tasks = solo.tasks; least = solo.least } };
+    ghost view = { λ solo. record { unit = solo.unit; tasks = solo.tasks; least_ticket = solo.least_ticket } };
 
     ghost invariant = { λ solo. IsSoundSolo solo.unit.count solo.tasks };
 }

@@ -1,9 +1,11 @@
-ghost use Rattle.std.specs.Prelude.{◌≡◌, ℕ, suc, ◌+◌, ◌^◌, ◌<◌, ◌≤◌, IfNone, IfSome, MatchOption, true, false, length, map, slice_set, option_and_then, option_map, is_some, option_to_list, ◌++◌, if◌then◌else◌};
+ghost use Rattle.std.specs.Prelude.{◌≡◌, ℕ, suc, ◌+◌, ◌^◌, ◌<◌, ◌≤◌, IfNone, IfSome, MatchOption, true, false, length, map, slice_set};
+ghost use Rattle.std.specs.Prelude.{option_and_then, option_map, is_some, option_to_list, ◌++◌, if◌then◌else◌};
 ghost use Rattle.arrayvec.specs.ArrayVec.{array_vec_len};
 ghost use Rattle.scsi_cmd.specs.Held.{AllHeld, held_at};
 ghost use Rattle.solo_model.specs.Soundness.{IsSound};
 ghost use Rattle.solo_model.specs.TaggedTask.{after_notes, carried, moved, noted_next, sent, reply_of};
-ghost use Rattle.solo_model.specs.Solo.{IsCarried, TicketFits, applied, heeded, is_command_index, is_there, noted_tickets, opening, slot_under, solo_step, tickets_of};
+ghost use Rattle.solo_model.specs.Solo.{IsCarried, TicketFits, applied, heeded, is_command_index, is_there, noted_tickets, opening};
+ghost use Rattle.solo_model.specs.Solo.{slot_under, solo_step, tickets_of};
 
 use crate::{
     Label, NotARun, Solo, TAGS, TASK_SLOT, TaggedTask, Task, carry, move_chunk, reply, send,
@@ -21,7 +23,7 @@ impl Solo {
         Solo {
             unit,
             tasks: std::array::from_fn(|_| None),
-            least: 0,
+            least_ticket: 0,
         }
     }
 
@@ -63,11 +65,19 @@ impl Solo {
             return Err(NotARun);
         };
         let in_use = self.tasks[slot].is_some();
-        if submit_fault(slot < TASK_SLOT, in_use, self.least, ticket, &command).is_some() {
+        if submit_fault(
+            slot < TASK_SLOT,
+            in_use,
+            self.least_ticket,
+            ticket,
+            &command,
+        )
+        .is_some()
+        {
             return Err(NotARun);
         }
         self.tasks[slot] = Some(TaggedTask::new(ticket, command));
-        self.least = ticket + 1;
+        self.least_ticket = ticket + 1;
         Ok(None)
     }
 
@@ -77,12 +87,12 @@ impl Solo {
     {
         let in_use = self.tasks[TASK_SLOT].is_some();
         let there = is_there(&self.tasks, &task);
-        if task_fault(true, in_use, self.least, ticket, there).is_some() {
+        if task_fault(true, in_use, self.least_ticket, ticket, there).is_some() {
             return Err(NotARun);
         }
         let noted = noted_tickets(&self.tasks, &task);
         self.tasks[TASK_SLOT] = Some(TaggedTask::management(ticket, task, noted));
-        self.least = ticket + 1;
+        self.least_ticket = ticket + 1;
         Ok(None)
     }
 

@@ -49,11 +49,12 @@ view_here (x ∷ xs) (suc k) v l at = view_here xs k v l at
 
 -- a client's seat stays one of the desk
 pub own_posting : (desk : MadeDesk) (seat : Customer) (k least : ℕ) (v : ClientView) → IsClientOf desk seat
-    → IsClientOf desk (record { client = seat.client; least = least; lines = with_view seat.lines k v })
+    → IsClientOf desk (record { client = seat.client; least_ticket = least; lines = with_view seat.lines k v })
 own_posting desk seat k least v own = (own.0, λ j d within. view_table seat.lines k j v d ∙ own.1 j d within)
 
 pub own_reaping : (desk : MadeDesk) (old new : Customer) (tag : ℕ) (y : Slip) → IsClientOf desk old → ReapsAt old new tag y → IsClientOf desk new
-own_reaping desk old new tag y own reaps = subst (IsClientOf desk) (sym reaps.6) (own_posting desk old ((tag - 1) % 8) old.least (Free (reaps.1 + 1)) own)
+own_reaping desk old new tag y own reaps =
+    subst (IsClientOf desk) (sym reaps.6) (own_posting desk old ((tag - 1) % 8) old.least_ticket (Free (reaps.1 + 1)) own)
 
 pub free_reaping : (old new : Customer) (tag : ℕ) (y : Slip) → ReapsAt old new tag y → IsFreeAt new tag
 free_reaping old new tag y reaps =

@@ -37,7 +37,7 @@ line_view lines k = view_or (slice_get lines k)
 
 -- what the clients' seats know of the tag at index t: line t mod 8 of client t div 8
 abbrev pub client_view : List Customer → ℕ → ClientView
-client_view seats t = line_view (slice_index_or seats (t / 8) record { client = 0; least = 0; lines = [] }).lines (t % 8)
+client_view seats t = line_view (slice_index_or seats (t / 8) record { client = 0; least_ticket = 0; lines = [] }).lines (t % 8)
 
 -- the line of index t of the pump that serves its client
 abbrev pub work_line : MadeDesk → List Server → ℕ → Option WorkLine

@@ -97,7 +97,7 @@ IsClaimOf line ticket claim = (x : Slip) × IsAsk (line.index + 1) ticket x
 -- What a client has: the least ticket that it may post next, and a line for each of its eight tags
 pub record Customer : Type 0 where
   pub client : ℕ
-  pub least : ℕ
+  pub least_ticket : ℕ
   pub lines : List ClientLine
 
 -- What a pump has: a line for each tag of the desk, none where the tag is another pump's or its line is out with a claim
@@ -109,7 +109,7 @@ pub record Server : Type 0 where
 abbrev pub IsCustomer : Customer → Type 0
 IsCustomer seat = (length seat.lines ≡ 8) × ((k : ℕ) (d : ClientLine) → k < 8 → (slice_index_or seat.lines k d).index ≡ 8 * seat.client + k)
     × (seat.client < 31)
-    × ((k : ℕ) (d : ClientLine) → k < 8 → next_ticket (slice_index_or seat.lines k d).view ≤ seat.least)
+    × ((k : ℕ) (d : ClientLine) → k < 8 → next_ticket (slice_index_or seat.lines k d).view ≤ seat.least_ticket)
 
 abbrev pub HasIndex : ℕ → Option WorkLine → Type 0
 HasIndex k None = Unit {0}
@@ -151,7 +151,7 @@ with_view (line ∷ lines) (suc k) v = line ∷ with_view lines k v
 
 -- the seat after a post
 abbrev pub posting : Customer → ℕ → ℕ → Slip → Customer
-posting seat tag ticket x = record { client = seat.client; least = ticket + 1; lines = with_view seat.lines ((tag - 1) % 8) (Open ticket x) }
+posting seat tag ticket x = record { client = seat.client; least_ticket = ticket + 1; lines = with_view seat.lines ((tag - 1) % 8) (Open ticket x) }
 
 -- a look that gave a slip: it ends the ticket that was open on the tag, and the tag is free after it
 abbrev pub ReapsAt : Customer → Customer → ℕ → Slip → Type 0
@@ -184,7 +184,7 @@ new_line table t = record { table = table; index = t; view = Free 0 }
 -- a client's seat on a new desk: it posted nothing, and all its tags are free
 pub record IsNewCustomer (table : TableId) (c : ℕ) (seat : Customer) : Type 0 where
   pub client : seat.client ≡ c
-  pub least : seat.least ≡ 0
+  pub least_ticket : seat.least_ticket ≡ 0
   pub count : length seat.lines ≡ 8
   pub lines : (k : ℕ) (d : ClientLine) → k < 8 → slice_index_or seat.lines k d ≡ new_line table (8 * c + k)
 

@@ -48,7 +48,7 @@ impl Desk {
     {
         let ClientSeat {
             client,
-            least: _,
+            least_ticket: _,
             lines,
         } = seat;
         let mut index = CLIENT_TAGS * client;

@@ -171,7 +171,7 @@ impl Claim {
 #[derive(Drop)]
 pub struct ClientSeat {
     client: usize,
-    least: u64,
+    least_ticket: u64,
     lines: Vec<Line>,
 }
 
@@ -180,9 +180,9 @@ impl Model for ClientSeat {
 
     ghost Value = { Customer };
 
-    ghost view = { λ s. record { client = s.client; least = s.least; lines = s.lines.items } };
+    ghost view = { λ s. record { client = s.client; least_ticket = s.least_ticket; lines = s.lines.items } };
 
-    ghost invariant = { λ s. IsCustomer record { client = s.client; least = s.least; lines = s.lines.items } };
+    ghost invariant = { λ s. IsCustomer record { client = s.client; least_ticket = s.least_ticket; lines = s.lines.items } };
 }
 
 impl ClientSeat {
@@ -251,7 +251,7 @@ impl Desk {
         requires tag { IsTagOf seat.old.client tag }
         requires free { IsFreeAt seat.old tag }
         requires ticket { ticket_in slip < 2 ^ 60 }
-        requires later { seat.old.least ≤ ticket_in slip }
+        requires later { seat.old.least_ticket ≤ ticket_in slip }
         requires ask { IsAsk tag (ticket_in slip) slip }
         ensures seat { seat.new ≡ posting seat.old tag (ticket_in slip) slip }
         ensures own { IsClientOf self.now seat.new }
@@ -259,7 +259,7 @@ impl Desk {
         let index = usize::from(tag) - 1;
         let ticket = slip.ticket();
         seat.lines[index % CLIENT_TAGS].post(self, index, ticket, slip);
-        seat.least = ticket + 1;
+        seat.least_ticket = ticket + 1;
     }
 
     /// The slip with which the pump finished the ticket that is open on a tag of the client, after which the tag is

@@ -106,7 +106,7 @@ impl Desk {
         }
         Ok(ClientSeat {
             client,
-            least: 0,
+            least_ticket: 0,
             lines,
         })
     }

@@ -135,7 +135,7 @@ fn slip_home(rt: HostRuntime) -> Result<(), Fail> {
         mut pumps,
     } = seats;
     let client = &mut clients[0];
-    assert!(rt; client.least == 0 && client.is_free(1));
+    assert!(rt; client.least_ticket == 0 && client.is_free(1));
     desk.post(client, 1, write(alloc, 1, 7, 0x5a)?);
     assert!(rt; served(alloc, &desk, &mut pumps[0], 1, 7, [0x5a, 0xa5])?);
     assert!(rt; answered(&desk, client, 1, 7, 0xa5));

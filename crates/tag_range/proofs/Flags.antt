@@ -1,5 +1,7 @@
 -- The flags of a mask: what its bit operations make of them.
-use Rattle.std.proofs.Common.{◌≡◌, ◌≢◌, ℕ, zero, suc, ◌+◌, ◌-◌, ◌*◌, ◌%◌, ◌^◌, ◌<◌, ◌≤◌, ◌==◌, Bool, true, false, not, cond, length, count_by, get_or, replicate, count_ones, bit_or, bit_and, refl, sym, ap, ◌∙◌, inl, inr, arith, position, Some, None}
+use Rattle.std.proofs.Common.{◌≡◌, ◌≢◌, ℕ, zero, suc, ◌+◌, ◌-◌, ◌*◌, ◌%◌, ◌^◌, ◌<◌, ◌≤◌, ◌==◌, Bool, true, false, not, cond, length}
+use Rattle.std.proofs.Common.{count_by, get_or, replicate, count_ones, bit_or, bit_and, refl, sym, ap, ◌∙◌, inl, inr, arith, position}
+use Rattle.std.proofs.Common.{Some, None}
 use Rattle.std.proofs.Math.ListN.{set}
 use Rattle.std.specs.Int.{bit_at, trailing_ones, w16}
 use Rattle.std.specs.List.{position_or_len}
@@ -8,7 +10,8 @@ use Rattle.std.proofs.lemmas.Simd.{bit_mask_l, ones-mask_l}
 use Rattle.std.proofs.lemmas.List.{same_lists, get_or-set_same, get_or-set_other, get_or-replicate, get_or_past, map-id, length-set, length-replicate}
 use Rattle.std.proofs.lemmas.List.FromFn.{length-map-range_with_len, get_or-map-range_with_len}
 use Rattle.std.proofs.lemmas.List.Sums.{position_or_len_is}
-use Rattle.std.proofs.lemmas.Nat.Bits.{bit_at-zero, bit_at-lt, bit_at_above, same_from_bits, bit_at-trailing_ones, bit_at_set_same, bit_at_set_other, bit_at_clear_same, bit_at_clear_other}
+use Rattle.std.proofs.lemmas.Nat.Bits.{bit_at-zero, bit_at-lt, bit_at_above, same_from_bits, bit_at-trailing_ones, bit_at_set_same}
+use Rattle.std.proofs.lemmas.Nat.Bits.{bit_at_set_other, bit_at_clear_same, bit_at_clear_other}
 use Rattle.std.proofs.lemmas.Nat.{pow_below, one_shl, or_lt}
 use Rattle.std.proofs.lemmas.Bool.{cases_eq, cases_lt, lt-ltb, le-ltb}
 use Rattle.tag_range.specs.Tags.{flags}
@@ -48,7 +51,8 @@ flags-zero n =
     get_or-flags n 0 k d within ∙ (rw bit_at-zero (sym (get_or-replicate n k false d within))))
 
 -- one bit changed is one flag set
-pub flags-changed : (n m m' k : ℕ) (b : Bool) → k < n → (bit_at m' k == 1) ≡ b → ((i : ℕ) → i < n → i ≢ k → bit_at m' i ≡ bit_at m i) → flags n m' ≡ set (flags n m) k b
+pub flags-changed : (n m m' k : ℕ) (b : Bool) → k < n → (bit_at m' k == 1) ≡ b → ((i : ℕ) → i < n → i ≢ k → bit_at m' i ≡ bit_at m i)
+    → flags n m' ≡ set (flags n m) k b
 flags-changed n m m' k b h here others =
     same_lists (flags n m') (set (flags n m) k b) (length-flags n m' ∙ sym (length-set (flags n m) k b ∙ length-flags n m))
     (λ i d below.

@@ -1,5 +1,6 @@
 -- The least free command tag, over what contracts see.
-use Rattle.std.proofs.Common.{◌≡◌, ℕ, ◌+◌, ◌-◌, ◌*◌, ◌<◌, ◌≤◌, ◌&&◌, Bool, true, false, not, cond, nat_lt, List, [], ◌∷◌, length, count_by, get_or, Some, Ok, position, refl, ap, ◌∙◌, inl, inr, arith}
+use Rattle.std.proofs.Common.{◌≡◌, ℕ, ◌+◌, ◌-◌, ◌*◌, ◌<◌, ◌≤◌, ◌&&◌, Bool, true, false, not, cond, nat_lt, List, [], ◌∷◌, length, count_by}
+use Rattle.std.proofs.Common.{get_or, Some, Ok, position, refl, ap, ◌∙◌, inl, inr, arith}
 use Rattle.std.proofs.Math.ListN.{set}
 use Rattle.std.specs.List.{position_or_len}
 use Rattle.std.proofs.lemmas.List.Sums.{sum_by-cons, count_by-le-length}
@@ -24,12 +25,14 @@ true_and : (b : Bool) → (true && b) ≡ b
 true_and true = refl
 true_and false = refl
 
-pub is_issued-command : (per : ℕ) (tags : ClientTags) (tag : ℕ) → per * tags.client < tag → tag < task_tag per tags.client → is_issued per tags tag ≡ get_or tags.out (entry_of per tags tag) false
+pub is_issued-command : (per : ℕ) (tags : ClientTags) (tag : ℕ) → per * tags.client < tag → tag < task_tag per tags.client
+    → is_issued per tags tag ≡ get_or tags.out (entry_of per tags tag) false
 is_issued-command per tags tag above below =
     let other : tag ≡ task_tag per tags.client → ⊥ = λ e. omega arith in
     rw (ne_eqb tag (task_tag per tags.client) other, lt-ltb (per * tags.client) tag above) (true_and _)
 
-pub least-free : (per : ℕ) (tags : ClientTags) (entry : ℕ) → length tags.out ≡ per - 1 → position not tags.out ≡ Some entry → IsLeastFree per tags (tag_at per tags.client (entry + 1))
+pub least-free : (per : ℕ) (tags : ClientTags) (entry : ℕ) → length tags.out ≡ per - 1 → position not tags.out ≡ Some entry
+    → IsLeastFree per tags (tag_at per tags.client (entry + 1))
 least-free per tags entry len found =
     let least = position-Some not tags.out entry false found in
     let above : per * tags.client < per * tags.client + (entry + 1) = omega arith in
@@ -46,9 +49,11 @@ least-free per tags entry len found =
     }
 
 -- a command tag that is out has an entry
-pub entry_of-issued : (per : ℕ) (tags : ClientTags) (tag : ℕ) → is_issued per tags tag ≡ true → (tag ≡ task_tag per tags.client → ⊥) → (per * tags.client < tag) × (entry_of per tags tag < length tags.out)
+pub entry_of-issued : (per : ℕ) (tags : ClientTags) (tag : ℕ) → is_issued per tags tag ≡ true → (tag ≡ task_tag per tags.client → ⊥)
+    → (per * tags.client < tag) × (entry_of per tags tag < length tags.out)
 entry_of-issued per tags tag out other =
-    let parts = and_parts (nat_lt (per * tags.client) tag) (get_or tags.out (entry_of per tags tag) false) (rw (ne_eqb tag (task_tag per tags.client) other) at out) in (
+    let parts = and_parts (nat_lt (per * tags.client) tag) (get_or tags.out (entry_of per tags tag) false)
+    (rw (ne_eqb tag (task_tag per tags.client) other) at out) in (
       ltb-true (per * tags.client) tag parts.0,
       elim (cases_lt (entry_of per tags tag) (length tags.out)) as (λ _. entry_of per tags tag < length tags.out) [
         | inl inside ↦ inside
@@ -57,12 +62,14 @@ entry_of-issued per tags tag out other =
     )
 
 -- a command that finds an entry and a ticket
-pub issue-entry : (per : ℕ) (tags : ClientTags) (entry : ℕ) → position not tags.out ≡ Some entry → tags.next < tickets → issue per tags ≡ (record tags { next = tags.next + 1; out = set tags.out entry true }, Ok (tag_at per tags.client (entry + 1), tags.next))
+pub issue-entry : (per : ℕ) (tags : ClientTags) (entry : ℕ) → position not tags.out ≡ Some entry → tags.next < tickets
+    → issue per tags ≡ (record tags { next = tags.next + 1; out = set tags.out entry true }, Ok (tag_at per tags.client (entry + 1), tags.next))
 issue-entry per tags entry found fresh =
     ap (issue_entry per tags) found ∙ (rw (ne_eqb tags.next tickets (λ e. omega arith)) refl)
 
 -- a tag that isn't the task management tag is freed at its entry
-pub free-command : (per : ℕ) (tags : ClientTags) (tag : ℕ) → (tag ≡ task_tag per tags.client → ⊥) → free per tags tag ≡ record tags { out = set tags.out (entry_of per tags tag) false }
+pub free-command : (per : ℕ) (tags : ClientTags) (tag : ℕ) → (tag ≡ task_tag per tags.client → ⊥)
+    → free per tags tag ≡ record tags { out = set tags.out (entry_of per tags tag) false }
 free-command per tags tag other = rw (ne_eqb tag (task_tag per tags.client) other) refl
 
 -- a tag above the client's is not out

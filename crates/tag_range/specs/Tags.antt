@@ -1,5 +1,6 @@
 -- The tags and tickets of one client, as functions of what it has out.
-use Rattle.std.specs.Prelude.{if◌then◌else◌, ℕ, ◌+◌, ◌-◌, ◌*◌, ◌^◌, ◌≡◌, ◌<◌, ◌==◌, ◌&&◌, Bool, true, false, not, nat_lt, List, map, replicate, count_by, Option, Some, None, Result, Ok, Err, slice_index_or, position, slice_set}
+use Rattle.std.specs.Prelude.{if◌then◌else◌, ℕ, ◌+◌, ◌-◌, ◌*◌, ◌^◌, ◌≡◌, ◌<◌, ◌==◌, ◌&&◌, Bool, true, false, not, nat_lt, List, map}
+use Rattle.std.specs.Prelude.{replicate, count_by, Option, Some, None, Result, Ok, Err, slice_index_or, position, slice_set}
 use Rattle.std.specs.Int.{bit_at}
 use Rattle.std.specs.List.{range_with_len}
 use Rattle.tag_range.specs.declared.Refused.{Refused}

@@ -20,7 +20,8 @@
 //! bits of one word. The crate stands on std and `thiserror` alone.
 #![tactic(auto)]
 
-ghost use Rattle.std.specs.Prelude.{◌≡◌, ◌≢◌, ℕ, ◌+◌, ◌-◌, ◌*◌, ◌<◌, ◌≤◌, ◌^◌, ◌↔◌, IsTrue, Result, Ok, Err, IfOk, IfErr, OnOk, OnErr, IsNone, IfSome, Option, None, Some, true, not, count_by, position};
+ghost use Rattle.std.specs.Prelude.{◌≡◌, ◌≢◌, ℕ, ◌+◌, ◌-◌, ◌*◌, ◌<◌, ◌≤◌, ◌^◌, ◌↔◌, IsTrue, Result, Ok, Err, IfOk, IfErr, OnOk, OnErr};
+ghost use Rattle.std.specs.Prelude.{IsNone, IfSome, Option, None, Some, true, not, count_by, position};
 ghost use Rattle.tag_range.specs.Tags.{flags, tickets};
 ghost use Rattle.tag_range.specs.declared.Refused.{Refused};
 ghost use Rattle.tag_range.specs.declared.Refused.TheVariants.{NoTag, TaskBusy, Worn};

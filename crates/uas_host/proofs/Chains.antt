@@ -1,5 +1,6 @@
 -- A data TD is a chain of TRBs that have texts.
-use Rattle.std.proofs.Common.{◌≡◌, ℕ, zero, suc, ◌+◌, ◌-◌, ◌*◌, ◌^◌, ◌<◌, ◌≤◌, All, List, [], ◌∷◌, ◌++◌, length, take, refl, arith, ap, sym, ◌∙◌, inl, append_assoc}
+use Rattle.std.proofs.Common.{◌≡◌, ℕ, zero, suc, ◌+◌, ◌-◌, ◌*◌, ◌^◌, ◌<◌, ◌≤◌, All, List, [], ◌∷◌, ◌++◌, length, take, refl, arith, ap, sym, ◌∙◌, inl}
+use Rattle.std.proofs.Common.{append_assoc}
 use Rattle.std.specs.Prelude.{slice_set}
 use Rattle.std.proofs.lemmas.List.{take_more_set}
 use Rattle.std.proofs.lemmas.List.Elements.{All-cons, All-nil}
@@ -55,6 +56,7 @@ next_trb trbs whole trb k count window bytes inside below is so_far =
     let next : count - (k + 1) ≡ more = omega arith in
     let then : window + 4096 * (k + 1) ≡ at + 4096 = omega arith in
     let rest : bytes - 4096 * (k + 1) ≡ left - 4096 = omega arith in
-    let old : take k trbs ++ (data_trb at left more ∷ data_trbs more (at + 4096) (left - 4096)) ≡ whole = sym (ap (λ n. take k trbs ++ data_trbs n at left) first) ∙ so_far in
+    let old : take k trbs ++ (data_trb at left more ∷ data_trbs more (at + 4096) (left - 4096)) ≡ whole =
+    sym (ap (λ n. take k trbs ++ data_trbs n at left) first) ∙ so_far in
     ap (λ list. list ++ data_trbs (count - (k + 1)) (window + 4096 * (k + 1)) (bytes - 4096 * (k + 1))) (take_more_set trbs k trb inside)
     ∙ (rw (next, then, rest, is) (append_assoc (take k trbs) (data_trb at left more ∷ []) (data_trbs more (at + 4096) (left - 4096))) ∙ old)

@@ -36,7 +36,8 @@ tickets_of-more (Some held ∷ rest) (suc slot) within = ap (λ tickets. held.ti
 
 -- the ticket of the next place is added
 pub tickets-next : (entries : List (Option HostEntry)) (slot : ℕ) (before after : List ℕ) (held : Option HostEntry) → slot < length entries →
-    held ≡ held_at entries slot → before ≡ tickets_of (take slot entries) → after ≡ before ++ tickets_of (held ∷ []) → after ≡ tickets_of (take (slot + 1) entries)
+    held ≡ held_at entries slot → before ≡ tickets_of (take slot entries) → after ≡ before ++ tickets_of (held ∷ []) →
+    after ≡ tickets_of (take (slot + 1) entries)
 tickets-next entries slot before after held within is so_far then =
     let next : slot + 1 ≡ suc slot = omega arith in
     rw next (then ∙ (ap (λ tickets. tickets ++ tickets_of (held ∷ [])) so_far

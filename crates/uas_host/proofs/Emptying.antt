@@ -1,5 +1,6 @@
 -- The engine's commands, and what a ring has once all its consumed TRBs are freed.
-use Rattle.std.proofs.Common.{◌≡◌, ℕ, zero, suc, Bool, true, false, ◌+◌, ◌-◌, ◌%◌, ◌<◌, List, [], ◌∷◌, length, drop, Option, Some, None, IsSome, refl, arith, ap, ◌∙◌, inl, inr}
+use Rattle.std.proofs.Common.{◌≡◌, ℕ, zero, suc, Bool, true, false, ◌-◌, ◌<◌, List, [], ◌∷◌, length, Option, Some, None, IsSome, refl}
+use Rattle.std.proofs.Common.{arith, ap, ◌∙◌, inl, inr}
 use Rattle.std.specs.Prelude.{nat_lt, slice_get, slice_set, option_and_then, option_map}
 use Rattle.std.proofs.lemmas.Bool.{cases_Bool, ltb-true, ltb-false}
 use Rattle.xhci_trb.specs.declared.Trb.{Trb}
@@ -9,6 +10,7 @@ use Rattle.stream_array.specs.declared.Pipe.TheVariants.{Command, Status, DataIn
 use Rattle.stream_array.specs.Map.{HasRing, HasStreams, places_of}
 use Rattle.stream_array.specs.Rings.{ChangedRingIsThere, IsLines, LinesState, ring_of, with_ring}
 use Rattle.uas_host.specs.Retirement.{emptied, with_first_freed}
+use Rattle.uas_host.proofs.Reclaiming.{reclaimed_further}
 
 -- THE ENGINE'S COMMAND AT AN ADDRESS
 
@@ -33,25 +35,6 @@ engine-item named r pointer is =
 
 -- A RING FREED TRB BY TRB
 
-dropped_further : (put : List Trb) (more : ℕ) → drop more (drop 1 put) ≡ drop (suc more) put
-dropped_further [] zero = refl
-dropped_further [] (suc more) = refl
-dropped_further (trb ∷ rest) more = refl
-
-reclaimed_further : (ring : Ring) (more : ℕ) → reclaimed 20 more (reclaimed 20 1 ring) ≡ reclaimed 20 (suc more) ring
-reclaimed_further ring more =
-    let at : ((ring.at + 1) % 38 + more) % 38 ≡ (ring.at + suc more) % 38 = omega arith in
-    let put = dropped_further ring.put more in
-    let got : ring.got - 1 - more ≡ ring.got - suc more = omega arith in
-    λ i. record { base = ring.base; at = at i; put = put i; got = got i }
-
-reclaimed_further-on : (pipe : Pipe) → HasStreams pipe → (ring : Ring) (more : ℕ) →
-    reclaimed (places_of pipe) more (reclaimed (places_of pipe) 1 ring) ≡ reclaimed (places_of pipe) (suc more) ring
-reclaimed_further-on Command has ring more = absurd has
-reclaimed_further-on Status has ring more = reclaimed_further ring more
-reclaimed_further-on DataIn has ring more = reclaimed_further ring more
-reclaimed_further-on DataOut has ring more = reclaimed_further ring more
-
 set_twice : (rings : List Ring) (at : ℕ) (one other : Ring) → slice_set (slice_set rings at one) at other ≡ slice_set rings at other
 set_twice [] at one other = refl
 set_twice (ring ∷ rest) zero one other = refl
@@ -74,8 +57,9 @@ freed_further : (lines : LinesState) (pipe : Pipe) (stream more : ℕ) → HasSt
 freed_further lines pipe stream zero has there = refl
 freed_further lines pipe stream (suc more) has there =
     ap (λ ring. with_ring (first_freed lines pipe stream) pipe stream (reclaimed (places_of pipe) (suc more) ring)) there
-    ∙ (ring_twice pipe lines stream (reclaimed (places_of pipe) 1 (ring_of lines pipe stream)) (reclaimed (places_of pipe) (suc more) (reclaimed (places_of pipe) 1 (ring_of lines pipe stream)))
-    ∙ ap (with_ring lines pipe stream) (reclaimed_further-on pipe has (ring_of lines pipe stream) (suc more)))
+    ∙ (ring_twice pipe lines stream (reclaimed (places_of pipe) 1 (ring_of lines pipe stream))
+    (reclaimed (places_of pipe) (suc more) (reclaimed (places_of pipe) 1 (ring_of lines pipe stream)))
+    ∙ ap (with_ring lines pipe stream) (reclaimed_further (places_of pipe) (ring_of lines pipe stream) (suc more)))
 
 -- the first consumed TRB is freed, and all are at last
 pub emptied-step : ChangedRingIsThere → (lines : LinesState) (pipe : Pipe) (stream : ℕ) → IsLines lines → HasRing pipe stream → HasStreams pipe →

@@ -1,5 +1,6 @@
 -- The consumed TRB at an address of a stream's ring.
-use Rattle.std.proofs.Common.{◌≡◌, ℕ, ◌+◌, ◌-◌, ◌/◌, ◌%◌, ◌<◌, ◌≤◌, ◌==◌, IfSome, Option, Some, None, nat_lt, nat_le, refl, arith, inl, inr, if◌then◌else◌, subst, sym}
+use Rattle.std.proofs.Common.{◌≡◌, ℕ, ◌+◌, ◌-◌, ◌/◌, ◌%◌, ◌<◌, ◌≤◌, ◌==◌, IfSome, Option, Some, None, nat_lt, nat_le, refl, arith, inl, inr, if◌then◌else◌}
+use Rattle.std.proofs.Common.{subst, sym}
 use Rattle.std.specs.Prelude.{option_and_then}
 use Rattle.std.proofs.lemmas.Bool.{ltb-true, ltb-false, leb-true, leb-false, eqb-true, cases_Bool}
 use Rattle.xhci_trb.specs.declared.Trb.{Trb}
@@ -18,7 +19,8 @@ stands at place below =
       | inr behind ↦ let under = leb-false (at % 19) place behind in rw behind (omega arith)
     ]
 
-named_inside : (item offset : ℕ) (r : Ring) → offset % 16 ≡ 0 → (if nat_le 19 (offset / 16) then None else Some (item_in 19 (r.at % 19) (offset / 16))) ≡ Some item →
+named_inside : (item offset : ℕ) (r : Ring) → offset % 16 ≡ 0 →
+    (if nat_le 19 (offset / 16) then None else Some (item_in 19 (r.at % 19) (offset / 16))) ≡ Some item →
     r.base + offset ≡ pointer_of 20 r item
 named_inside item offset r whole is =
     elim (cases_Bool (nat_le 19 (offset / 16))) as (λ _. r.base + offset ≡ pointer_of 20 r item) [
@@ -52,7 +54,8 @@ consumed_item-below r item trb is =
       | inr above ↦ let none : None ≡ Some trb = rw above at is in absurd (cc)
     ]
 
-consumed_at-item : (r : Ring) (pointer : ℕ) (trb : Trb) → consumed_at 20 r pointer ≡ Some trb → (item : ℕ) × (item_at 20 r pointer ≡ Some item) × IsConsumed 20 r item pointer
+consumed_at-item : (r : Ring) (pointer : ℕ) (trb : Trb) → consumed_at 20 r pointer ≡ Some trb → (item : ℕ) × (item_at 20 r pointer ≡ Some item)
+    × IsConsumed 20 r item pointer
 consumed_at-item r pointer trb is =
     elim (item_at 20 r pointer) as (λ o. item_at 20 r pointer ≡ o → option_and_then (consumed_item r) o ≡ Some trb →
     (item : ℕ) × (item_at 20 r pointer ≡ Some item) × IsConsumed 20 r item pointer) [

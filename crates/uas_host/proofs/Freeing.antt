@@ -1,5 +1,5 @@
 -- TRBs of the command pipe are freed one after another.
-use Rattle.std.proofs.Common.{◌≡◌, ℕ, zero, suc, ◌+◌, ◌-◌, ◌%◌, ◌<◌, false, List, [], ◌∷◌, take, drop, Some, None, refl, arith, sym, ap, ◌∙◌, inl, inr}
+use Rattle.std.proofs.Common.{◌≡◌, ℕ, zero, suc, ◌-◌, ◌<◌, false, List, [], ◌∷◌, take, drop, Some, None, refl, arith, sym, ap, ◌∙◌, inl, inr}
 use Rattle.std.specs.Prelude.{slice_get, nat_lt, option_map}
 use Rattle.std.proofs.lemmas.Bool.{cases_Bool}
 use Rattle.xhci_trb.specs.declared.Trb.{Trb}
@@ -8,26 +8,15 @@ use Rattle.stream_array.specs.declared.Pipe.TheVariants.{Command}
 use Rattle.stream_array.specs.Rings.{LinesState, with_ring}
 use Rattle.uas_host.specs.State.{HostState}
 use Rattle.uas_host.specs.Events.{commands_freed, done_before, is_awaited, with_commands_freed}
+use Rattle.uas_host.proofs.Reclaiming.{reclaimed_further}
 
 -- the lines with the first TRB of the command pipe freed
 abbrev first_freed : LinesState → LinesState
 first_freed lines = with_ring lines Command 0 (reclaimed 256 1 lines.command)
 
-dropped_further : (put : List Trb) (more : ℕ) → drop more (drop 1 put) ≡ drop (suc more) put
-dropped_further [] zero = refl
-dropped_further [] (suc more) = refl
-dropped_further (trb ∷ rest) more = refl
-
-reclaimed_further : (ring : Ring) (more : ℕ) → reclaimed 256 more (reclaimed 256 1 ring) ≡ reclaimed 256 (suc more) ring
-reclaimed_further ring more =
-    let at : ((ring.at + 1) % 510 + more) % 510 ≡ (ring.at + suc more) % 510 = omega arith in
-    let put = dropped_further ring.put more in
-    let got : ring.got - 1 - more ≡ ring.got - suc more = omega arith in
-    λ i. record { base = ring.base; at = at i; put = put i; got = got i }
-
 freed_further : (lines : LinesState) (more : ℕ) → with_commands_freed (first_freed lines) more ≡ with_commands_freed lines (suc more)
 freed_further lines zero = refl
-freed_further lines (suc more) = ap (λ ring. record lines { command = ring }) (reclaimed_further lines.command (suc more))
+freed_further lines (suc more) = ap (λ ring. record lines { command = ring }) (reclaimed_further 256 lines.command (suc more))
 
 done_first : (host : HostState) (put : List Trb) (got : ℕ) (trb : Trb) → 0 < got → slice_get put 0 ≡ Some trb → is_awaited host trb ≡ false →
     done_before host (take got put) ≡ suc (done_before host (take (got - 1) (drop 1 put)))
@@ -37,7 +26,8 @@ done_first host (first ∷ rest) (suc got) trb some is waits =
     let same : first ≡ trb = cc in let less : suc got - 1 ≡ got = omega arith in rw (same, waits, less) refl
 
 -- a TRB that the host doesn't wait for is freed
-pub commands_freed-step : (host : HostState) (lines : LinesState) (trb : Trb) → 0 < lines.command.got → slice_get lines.command.put 0 ≡ Some trb → is_awaited host trb ≡ false →
+pub commands_freed-step : (host : HostState) (lines : LinesState) (trb : Trb) → 0 < lines.command.got → slice_get lines.command.put 0 ≡ Some trb →
+    is_awaited host trb ≡ false →
     commands_freed host (first_freed lines) ≡ commands_freed host lines
 commands_freed-step host lines trb some is waits =
     freed_further lines (done_before host (take (lines.command.got - 1) (drop 1 lines.command.put)))

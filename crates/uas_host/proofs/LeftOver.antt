@@ -4,14 +4,14 @@ use Rattle.std.proofs.Common.{◌≡◌, ℕ, zero, suc, ◌+◌, ◌-◌, ◌*�
 use Rattle.std.proofs.Common.{Option, Some, None, IfSome, MatchOption, refl, arith, sym, ap, ◌∙◌, inl, inr}
 use Rattle.std.specs.Prelude.{◌==◌, ◌&&◌, ◌||◌, not, nat_lt, option_and_then, option_map, cond, slice_set, slice_index_or, if◌then◌else◌}
 use Rattle.std.specs.Option.{option_map_or}
-use Rattle.std.proofs.lemmas.Bool.{cases_eq, cases_Bool, lt-ltb, le-ltb, ltb-true, ltb-false}
+use Rattle.std.proofs.lemmas.Bool.{cases_eq, cases_Bool, lt-ltb, ltb-true, ltb-false}
 use Rattle.std.proofs.lemmas.List.{get_or-set_same, get_or-set_other}
 use Rattle.stream_array.specs.declared.Pipe.{Pipe}
 use Rattle.stream_array.specs.declared.Pipe.TheVariants.{Command, Status, DataIn, DataOut}
 use Rattle.scsi_cmd.specs.Held.{held_at}
 use Rattle.uas_host.specs.declared.TdState.{TdState}
 use Rattle.uas_host.specs.declared.TdState.TheVariants.{Pending, Seen}
-use Rattle.uas_host.specs.declared.Told.TheVariants.{Status as ToldStatus, Response as ToldResponse}
+use Rattle.uas_host.specs.declared.HostAnswer.TheVariants.{Status as AnsweredStatus, Response as AnsweredResponse}
 use Rattle.uas_host.specs.declared.Place.{Place}
 use Rattle.scsi_cmd.specs.declared.Op.{Op}
 use Rattle.scsi_cmd.specs.Op.{moved_bytes}
@@ -19,15 +19,17 @@ use Rattle.scsi_cmd.specs.declared.Task.{Task}
 use Rattle.scsi_cmd.specs.declared.TheConstants.{TASK_SLOT}
 use Rattle.uas_host.specs.declared.HostEntry.{HostEntry}
 use Rattle.uas_host.specs.declared.HostClient.{HostClient}
-use Rattle.uas_host.specs.declared.News.{News}
-use Rattle.uas_host.specs.declared.News.TheVariants.{CommandSeen, DataInSeen, DataOutSeen, Answered, Responded, TdRetired}
-use Rattle.uas_host.specs.State.{HostState, IsHost, client_of, is_command, is_left_over, is_pending, new_client, with_client}
+use Rattle.uas_host.specs.declared.Notice.{Notice}
+use Rattle.uas_host.specs.declared.Notice.TheVariants.{CommandSeen, DataInSeen, DataOutSeen, Answered, Responded, TdRetired}
+use Rattle.uas_host.specs.State.{HostState, client_of, is_left_over, is_pending, new_client, with_client}
 use Rattle.uas_host.specs.Submit.{data_td_for, new_entry, noted, submitted_client}
 use Rattle.uas_host.specs.Tasks.{managed, managed_client, noted_by, task_entry}
 use Rattle.uas_host.specs.Replies.{without}
 use Rattle.uas_host.specs.Seen.{after_response, completes, data_after, left_over_data, noted_in, goes_to_device, goes_to_host, is_td_left_over}
-use Rattle.uas_host.specs.Seen.{request_direction, seen, seen_data, with_seen}
-use Rattle.uas_host.specs.Left.{AreMarked, has_left_over, have_left_over, holds_left_over, is_held_left_over, is_marked, moves_left_over}
+use Rattle.scsi_cmd.specs.Request.{is_command, request_direction}
+use Rattle.uas_host.specs.Seen.{seen, seen_data, with_seen}
+use Rattle.marks.specs.Marks.{is_marked}
+use Rattle.uas_host.specs.Left.{AreMarked, has_left_over, have_left_over, holds_left_over, is_held_left_over, moves_left_over}
 use Rattle.uas_host.specs.Retirement.{is_left_over_on}
 use Rattle.uas_host.proofs.Seeing.{HasSeen}
 
@@ -83,14 +85,14 @@ answered-no_more held status still is =
     let same : data_after status held.data_td ≡ held.data_td = ap (λ b. cond b (left_over_data held.data_td) held.data_td) still in
     or_right (is_left_over held.status_td) (option_map_or is_left_over held.data_td false) (sym (ap (λ td. option_map_or is_left_over td false) same) ∙ is)
 
-pub seen-no_more : (news : News) (held : HostEntry) → moves_left_over news ≡ false → IfSome (seen news held) (LeavesNoMore held)
+pub seen-no_more : (notice : Notice) (held : HostEntry) → moves_left_over notice ≡ false → IfSome (seen notice held) (LeavesNoMore held)
 seen-no_more CommandSeen held still = where_so (is_pending held.command_td) held (record held { command_td = Seen }) (λ is. is)
 seen-no_more DataInSeen held still = data-no_more (goes_to_host (request_direction held.request)) held held.data_td
 seen-no_more DataOutSeen held still = data-no_more (goes_to_device (request_direction held.request)) held held.data_td
 seen-no_more (Answered status sense) held still = where_so (is_command held.request && is_pending held.status_td) held
-    (record held { told = ToldStatus status sense; status_td = Seen; data_td = data_after status held.data_td }) (answered-no_more held status still)
+    (record held { told = AnsweredStatus status sense; status_td = Seen; data_td = data_after status held.data_td }) (answered-no_more held status still)
 seen-no_more (Responded code) held still = where_so (not (is_command held.request) && is_pending held.status_td) held
-    (record held { told = ToldResponse code; status_td = Seen }) (or_right (is_left_over held.status_td) (option_map_or is_left_over held.data_td false))
+    (record held { told = AnsweredResponse code; status_td = Seen }) (or_right (is_left_over held.status_td) (option_map_or is_left_over held.data_td false))
 seen-no_more (TdRetired pipe) held still = absurd (cc)
 
 -- CLIENTS
@@ -107,7 +109,7 @@ held-set (held ∷ rest) zero now here (suc other) is = is
 held-set (held ∷ rest) (suc slot) now here zero is = is
 held-set (held ∷ rest) (suc slot) now here (suc other) is = held-set rest slot now here other is
 
-still-incomplete : (news : News) → moves_left_over news ≡ false → completes news ≡ false
+still-incomplete : (notice : Notice) → moves_left_over notice ≡ false → completes notice ≡ false
 still-incomplete CommandSeen still = refl
 still-incomplete DataInSeen still = refl
 still-incomplete DataOutSeen still = refl
@@ -115,31 +117,31 @@ still-incomplete (Answered status sense) still = refl
 still-incomplete (Responded code) still = still
 still-incomplete (TdRetired pipe) still = refl
 
-with_seen-no_more : (news : News) (client : HostClient) (slot : ℕ) (held now : HostEntry) → moves_left_over news ≡ false →
+with_seen-no_more : (notice : Notice) (client : HostClient) (slot : ℕ) (held now : HostEntry) → moves_left_over notice ≡ false →
     held_at client.entries slot ≡ Some held →
-    LeavesNoMore held now → LeavesNoMoreIn client.entries (with_seen news client slot now).entries
-with_seen-no_more news client slot held now still is less =
-    let so : (with_seen news client slot now).entries ≡ slice_set client.entries slot (Some now) =
+    LeavesNoMore held now → LeavesNoMoreIn client.entries (with_seen notice client slot now).entries
+with_seen-no_more notice client slot held now still is less =
+    let so : (with_seen notice client slot now).entries ≡ slice_set client.entries slot (Some now) =
     ap (λ b. cond b (after_response (noted_in now.request) (slice_set client.entries slot (Some now))) (slice_set client.entries slot (Some now)))
-    (still-incomplete news still) in
+    (still-incomplete notice still) in
     rw so (held-set client.entries slot (Some now) (rw is less))
 
 -- an event that can't change which TDs are left over
-pub has_seen-no_more : (news : News) (client : HostClient) (slot : ℕ) (now : HostClient) (saw : Bool) → moves_left_over news ≡ false →
-    HasSeen news client slot now saw → LeavesNoMoreIn client.entries now.entries
-has_seen-no_more news client slot now saw still seen_so =
+pub has_seen-no_more : (notice : Notice) (client : HostClient) (slot : ℕ) (now : HostClient) (saw : Bool) → moves_left_over notice ≡ false →
+    HasSeen notice client slot now saw → LeavesNoMoreIn client.entries now.entries
+has_seen-no_more notice client slot now saw still seen_so =
     elim (held_at client.entries slot) as (λ o. held_at client.entries slot ≡ o →
-    MatchOption (option_map (with_seen news client slot) (option_and_then (seen news) o)) ((saw ≡ false) × (now ≡ client))
+    MatchOption (option_map (with_seen notice client slot) (option_and_then (seen notice) o)) ((saw ≡ false) × (now ≡ client))
     (λ after. (saw ≡ true) × (now ≡ after)) →
     LeavesNoMoreIn client.entries now.entries) [
       | None ↦ λ is same. rw same.1 (λ slot is. is)
       | Some held ↦ λ is.
-          elim (seen news held) as (λ o. IfSome o (LeavesNoMore held) →
-          MatchOption (option_map (with_seen news client slot) o) ((saw ≡ false) × (now ≡ client)) (λ after. (saw ≡ true) × (now ≡ after)) →
+          elim (seen notice held) as (λ o. IfSome o (LeavesNoMore held) →
+          MatchOption (option_map (with_seen notice client slot) o) ((saw ≡ false) × (now ≡ client)) (λ after. (saw ≡ true) × (now ≡ after)) →
           LeavesNoMoreIn client.entries now.entries) [
             | None ↦ λ none same. rw same.1 (λ slot is. is)
-            | Some after ↦ λ less same. rw same.1 (with_seen-no_more news client slot held after still is less)
-          ] (seen-no_more news held still)
+            | Some after ↦ λ less same. rw same.1 (with_seen-no_more notice client slot held after still is less)
+          ] (seen-no_more notice held still)
     ] refl seen_so
 
 any-at : (entries : List (Option HostEntry)) (slot : ℕ) → holds_left_over (held_at entries slot) ≡ true → have_left_over entries ≡ true
@@ -150,9 +152,9 @@ any-at (held ∷ rest) (suc slot) is = or_right (holds_left_over held) (have_lef
 -- MARKS
 
 -- no client of a new host is marked, and none has anything left over
-pub AreMarked-none : (word clients : ℕ) → ((client : ℕ) → is_marked word client ≡ false) → AreMarked word (replicate clients new_client)
-AreMarked-none word clients none = record {
-  there = λ client within is. let no : true ≡ false = sym is ∙ none client in absurd (cc);
+pub AreMarked-none : (words : List ℕ) (clients : ℕ) → ((client : ℕ) → is_marked words client ≡ false) → AreMarked words (replicate clients new_client)
+AreMarked-none words clients none = record {
+  there = λ client is. let no : true ≡ false = sym is ∙ none client in absurd (cc);
   left_over = λ client slot within is.
       let here : ◌≡◌ {A = Bool} false true = sym (none-held clients client slot) ∙ is in absurd (cc);
 }
@@ -168,16 +170,15 @@ AreMarked-none word clients none = record {
     none-held (suc clients) (suc client) slot = none-held clients client slot
 
 -- a client changes, and it is marked exactly where a TD of it is left over; or no more of it is left over, and its mark stays
-pub AreMarked-settled : (word after : ℕ) (clients : List HostClient) (client : ℕ) (now : HostClient) (changed : Bool) → client < length clients →
-    length clients ≤ 31 →
-    AreMarked word clients → is_marked after client ≡ (if changed then have_left_over now.entries else is_marked word client) →
-    ((other : ℕ) → other < 32 → (other ≡ client → ⊥) → is_marked after other ≡ is_marked word other) →
+pub AreMarked-settled : (words after : List ℕ) (clients : List HostClient) (client : ℕ) (now : HostClient) (changed : Bool) → client < length clients →
+    AreMarked words clients → is_marked after client ≡ (if changed then have_left_over now.entries else is_marked words client) →
+    ((other : ℕ) → (other ≡ client → ⊥) → is_marked after other ≡ is_marked words other) →
     (changed ≡ false → LeavesNoMoreIn (slice_index_or clients client new_client).entries now.entries) → AreMarked after (slice_set clients client now)
-AreMarked-settled word after clients client now changed there most are here others less = record {
-  there = λ other within is.
+AreMarked-settled words after clients client now changed there are here others less = record {
+  there = λ other is.
       elim (cases_eq other client) as (λ _. other < length (slice_set clients client now)) [
         | inl same ↦ omega (arith, same, there, length-set clients client now)
-        | inr apart ↦ let inside = are.there other within (sym (others other within apart) ∙ is) in omega (arith, inside, length-set clients client now)
+        | inr apart ↦ let inside = are.there other (sym (others other apart) ∙ is) in omega (arith, inside, length-set clients client now)
       ];
   left_over = λ other slot within is.
       let inside : other < length clients = omega (arith, within, length-set clients client now) in
@@ -188,7 +189,7 @@ AreMarked-settled word after clients client now changed there most are here othe
             ∙ (sym (ap (λ n. holds_left_over (held_at (slice_index_or (slice_set clients client now) n new_client).entries slot)) same) ∙ is) in
             ap (is_marked after) same ∙ (here ∙ marked-here slot changed held less)
         | inr apart ↦
-            others other (omega (arith, inside, most)) apart
+            others other apart
             ∙ are.left_over other slot inside
             (sym (ap (λ (c : HostClient). holds_left_over (held_at c.entries slot)) (get_or-set_other clients client other now new_client apart)) ∙ is)
       ];
@@ -196,55 +197,55 @@ AreMarked-settled word after clients client now changed there most are here othe
   where
     marked-here : (slot : ℕ) (changed : Bool) → holds_left_over (held_at now.entries slot) ≡ true →
         (changed ≡ false → LeavesNoMoreIn (slice_index_or clients client new_client).entries now.entries) →
-        (if changed then have_left_over now.entries else is_marked word client) ≡ true
+        (if changed then have_left_over now.entries else is_marked words client) ≡ true
     marked-here slot true held less = any-at now.entries slot held
     marked-here slot false held less = are.left_over client slot there (less refl slot held)
 
 -- the marks stay, where no more is left over
-pub AreMarked-kept : (word : ℕ) (clients : List HostClient) (client : ℕ) (now : HostClient) → client < length clients → length clients ≤ 31 →
-    AreMarked word clients → LeavesNoMoreIn (slice_index_or clients client new_client).entries now.entries → AreMarked word (slice_set clients client now)
-AreMarked-kept word clients client now there most are less =
-    AreMarked-settled word word clients client now false there most are refl (λ other within apart. refl) (λ still. less)
+pub AreMarked-kept : (words : List ℕ) (clients : List HostClient) (client : ℕ) (now : HostClient) → client < length clients →
+    AreMarked words clients → LeavesNoMoreIn (slice_index_or clients client new_client).entries now.entries → AreMarked words (slice_set clients client now)
+AreMarked-kept words clients client now there are less =
+    AreMarked-settled words words clients client now false there are refl (λ other apart. refl) (λ still. less)
 
 -- the data TD of a command that was just submitted isn't left over
 data_td-none : (bytes : ℕ) → option_map_or is_left_over (data_td_for bytes) false ≡ false
 data_td-none bytes = elim (bytes == 0) as (λ b. option_map_or is_left_over (cond b None (Some Pending)) false ≡ false) [ true ↦ refl | false ↦ refl ]
 
 -- a command that was just submitted has no TD that is left over
-pub AreMarked-noted : (word : ℕ) (host : HostState) (client slot ticket : ℕ) (op : Op) → client < length host.clients → IsHost host →
-    AreMarked word host.clients →
-    AreMarked word (noted host client slot ticket op).clients
-AreMarked-noted word host client slot ticket op there is are =
-    AreMarked-kept word host.clients client (submitted_client (client_of host client) slot ticket op) there is.most are
+pub AreMarked-noted : (words : List ℕ) (host : HostState) (client slot ticket : ℕ) (op : Op) → client < length host.clients →
+    AreMarked words host.clients →
+    AreMarked words (noted host client slot ticket op).clients
+AreMarked-noted words host client slot ticket op there are =
+    AreMarked-kept words host.clients client (submitted_client (client_of host client) slot ticket op) there are
     (held-set (client_of host client).entries slot (Some (new_entry ticket op))
     (λ left. let no : true ≡ false = sym left ∙ data_td-none (moved_bytes op) in absurd (cc)))
 
 -- nor has a task management
-pub AreMarked-managed : (word : ℕ) (host : HostState) (client ticket : ℕ) (task : Task) → client < length host.clients → IsHost host →
-    AreMarked word host.clients →
-    AreMarked word (managed host client ticket task).clients
-AreMarked-managed word host client ticket task there is are =
-    AreMarked-kept word host.clients client (managed_client (client_of host client) ticket task) there is.most are
+pub AreMarked-managed : (words : List ℕ) (host : HostState) (client ticket : ℕ) (task : Task) → client < length host.clients →
+    AreMarked words host.clients →
+    AreMarked words (managed host client ticket task).clients
+AreMarked-managed words host client ticket task there are =
+    AreMarked-kept words host.clients client (managed_client (client_of host client) ticket task) there are
     (held-set (client_of host client).entries TASK_SLOT (Some (task_entry ticket task (record { items = noted_by (client_of host client) task })))
     (λ left. absurd (cc)))
 
 -- nor what is gone
-pub AreMarked-released : (word : ℕ) (host : HostState) (client slot : ℕ) (queue : List ℕ) → client < length host.clients → IsHost host →
-    AreMarked word host.clients →
-    AreMarked word (with_client host client (without (client_of host client) slot queue)).clients
-AreMarked-released word host client slot queue there is are =
-    AreMarked-kept word host.clients client (without (client_of host client) slot queue) there is.most are
+pub AreMarked-released : (words : List ℕ) (host : HostState) (client slot : ℕ) (queue : List ℕ) → client < length host.clients →
+    AreMarked words host.clients →
+    AreMarked words (with_client host client (without (client_of host client) slot queue)).clients
+AreMarked-released words host client slot queue there are =
+    AreMarked-kept words host.clients client (without (client_of host client) slot queue) there are
     (held-set (client_of host client).entries slot None (λ left. absurd (cc)))
 
 -- an event of a client was seen, or it waits for no such event
-pub AreMarked-seen : (word after : ℕ) (news : News) (host : HostState) (client slot : ℕ) (now : HostClient) (saw : Bool) → client < length host.clients →
-    IsHost host →
-    AreMarked word host.clients → HasSeen news (client_of host client) slot now saw →
-    is_marked after client ≡ (if moves_left_over news then have_left_over now.entries else is_marked word client) →
-    ((other : ℕ) → other < 32 → (other ≡ client → ⊥) → is_marked after other ≡ is_marked word other) → AreMarked after (with_client host client now).clients
-AreMarked-seen word after news host client slot now saw there is are seen_so here others =
-    AreMarked-settled word after host.clients client now (moves_left_over news) there is.most are here others
-    (λ still. has_seen-no_more news (client_of host client) slot now saw still seen_so)
+pub AreMarked-seen : (words after : List ℕ) (notice : Notice) (host : HostState) (client slot : ℕ) (now : HostClient) (saw : Bool)
+    → client < length host.clients →
+    AreMarked words host.clients → HasSeen notice (client_of host client) slot now saw →
+    is_marked after client ≡ (if moves_left_over notice then have_left_over now.entries else is_marked words client) →
+    ((other : ℕ) → (other ≡ client → ⊥) → is_marked after other ≡ is_marked words other) → AreMarked after (with_client host client now).clients
+AreMarked-seen words after notice host client slot now saw there are seen_so here others =
+    AreMarked-settled words after host.clients client now (moves_left_over notice) there are here others
+    (λ still. has_seen-no_more notice (client_of host client) slot now saw still seen_so)
 
 -- THE NEXT TD THAT IS LEFT OVER
 
@@ -270,9 +271,9 @@ left_over-found host pipe client slot tag there within is left =
     rw (next, under-tag host pipe (client * 8 + slot), owner, place, lt-ltb client (length host.clients) there) left
 
 -- the TD of a tag of a client that isn't marked
-unmarked-none : (word : ℕ) (host : HostState) (pipe : Pipe) (before : ℕ) → AreMarked word host.clients → is_marked word (before / 8) ≡ false →
+unmarked-none : (words : List ℕ) (host : HostState) (pipe : Pipe) (before : ℕ) → AreMarked words host.clients → is_marked words (before / 8) ≡ false →
     is_left_over_on host pipe (suc before) ≡ false
-unmarked-none word host pipe before are unmarked =
+unmarked-none words host pipe before are unmarked =
     under-tag host pipe before
     ∙ elim (nat_lt (before / 8) (length host.clients)) as (λ b. nat_lt (before / 8) (length host.clients) ≡ b →
     (if b then is_held_left_over pipe (held_at (client_of host (before / 8)).entries (before % 8)) else false) ≡ false) [
@@ -290,29 +291,25 @@ unmarked-none word host pipe before are unmarked =
 
 -- where the clients from one on to another aren't marked, and of that one the TDs of the slots up to one aren't left over, no TD
 -- of the tags between is
-pub left_over-passed : (word : ℕ) (host : HostState) (pipe : Pipe) (from client upto : ℕ) → AreMarked word host.clients → client < length host.clients →
+pub left_over-passed : (words : List ℕ) (host : HostState) (pipe : Pipe) (from client upto : ℕ) → AreMarked words host.clients → client < length host.clients →
     upto ≤ 8 →
-    ((other : ℕ) → from / 8 ≤ other → other < client → is_marked word other ≡ false) →
+    ((other : ℕ) → from / 8 ≤ other → other < client → is_marked words other ≡ false) →
     ((slot : ℕ) → from - client * 8 ≤ slot → slot < upto → is_held_left_over pipe (held_at (client_of host client).entries slot) ≡ false) →
     (other : ℕ) → from < other → other ≤ client * 8 + upto → is_left_over_on host pipe other ≡ false
-left_over-passed word host pipe from client upto are there most unmarked none zero after within = absurd (omega arith)
-left_over-passed word host pipe from client upto are there most unmarked none (suc before) after within =
+left_over-passed words host pipe from client upto are there most unmarked none zero after within = absurd (omega arith)
+left_over-passed words host pipe from client upto are there most unmarked none (suc before) after within =
     elim (cases_eq (before / 8) client) as (λ _. is_left_over_on host pipe (suc before) ≡ false) [
       | inl same ↦
           rw (under-tag host pipe before, same, lt-ltb client (length host.clients) there) (none (before % 8) (omega (arith, same)) (omega (arith, same)))
-      | inr apart ↦ unmarked-none word host pipe before are (unmarked (before / 8) (omega (arith, after)) (omega (arith, apart, within, most)))
+      | inr apart ↦ unmarked-none words host pipe before are (unmarked (before / 8) (omega (arith, after)) (omega (arith, apart, within, most)))
     ]
 
 -- where no client from one on is marked, no TD of a later tag is left over
-pub left_over-none : (word : ℕ) (host : HostState) (pipe : Pipe) (from : ℕ) → AreMarked word host.clients → length host.clients ≤ 31 →
-    ((other : ℕ) → from / 8 ≤ other → other < 32 → is_marked word other ≡ false) → (other : ℕ) → from < other → is_left_over_on host pipe other ≡ false
-left_over-none word host pipe from are most unmarked zero after = absurd (omega arith)
-left_over-none word host pipe from are most unmarked (suc before) after =
-    elim (cases_Bool (nat_lt (before / 8) 32)) as (λ _. is_left_over_on host pipe (suc before) ≡ false) [
-      | inl inside ↦ unmarked-none word host pipe before are (unmarked (before / 8) (omega (arith, after)) (ltb-true (before / 8) 32 inside))
-      | inr past ↦
-          rw (under-tag host pipe before, le-ltb (before / 8) (length host.clients) (omega (arith, ltb-false (before / 8) 32 past, most))) refl
-    ]
+pub left_over-none : (words : List ℕ) (host : HostState) (pipe : Pipe) (from : ℕ) → AreMarked words host.clients →
+    ((other : ℕ) → from / 8 ≤ other → is_marked words other ≡ false) → (other : ℕ) → from < other → is_left_over_on host pipe other ≡ false
+left_over-none words host pipe from are unmarked zero after = absurd (omega arith)
+left_over-none words host pipe from are unmarked (suc before) after =
+    unmarked-none words host pipe before are (unmarked (before / 8) (omega (arith, after)))
 
 -- of the tags up to one no TD is left over, nor of the tags from there up to another
 pub left_over-further : (host : HostState) (pipe : Pipe) (tag from upto : ℕ) →

@@ -3,6 +3,7 @@ pub mod Queues
 pub mod Sound
 pub mod Chains
 pub mod Seeing
+pub mod Reclaiming
 pub mod Freeing
 pub mod Ends
 pub mod Replying
@@ -10,5 +11,4 @@ pub mod Apart
 pub mod Changing
 pub mod Resuming
 pub mod Emptying
-pub mod Words
 pub mod LeftOver

@@ -1,5 +1,6 @@
 -- The queue of the slots of a client that are ready.
-use Rattle.std.proofs.Common.{◌≡◌, ℕ, zero, suc, ◌+◌, ◌<◌, ◌≤◌, Bool, true, false, List, [], ◌∷◌, ◌++◌, length, Option, Some, None, refl, arith, subst, sym, ap, ◌∙◌}
+use Rattle.std.proofs.Common.{◌≡◌, ℕ, zero, suc, ◌+◌, ◌<◌, ◌≤◌, Bool, true, false, List, [], ◌∷◌, ◌++◌, length, Option, Some, None, refl, arith, subst, sym}
+use Rattle.std.proofs.Common.{ap, ◌∙◌}
 use Rattle.std.specs.Prelude.{◌==◌, replicate, slice_set, sum_by}
 use Rattle.std.proofs.lemmas.Bool.{eqb-true, eqb-false, ne_eqb}
 use Rattle.std.proofs.lemmas.List.{get_or-set_same, get_or-set_other}
@@ -49,13 +50,15 @@ ready-set entries before after slot new within here others all = λ other.
     ] refl
 
 -- a write that readies no entry keeps the queue
-pub AreReady-set : (entries : List (Option HostEntry)) (queue : List ℕ) (slot : ℕ) (old new : Option HostEntry) → slot < length entries → held_at entries slot ≡ old →
+pub AreReady-set : (entries : List (Option HostEntry)) (queue : List ℕ) (slot : ℕ) (old new : Option HostEntry) → slot < length entries →
+    held_at entries slot ≡ old →
     readied_of new ≡ readied_of old → AreReady entries queue → AreReady (slice_set entries slot new) queue
 AreReady-set entries queue slot old new within is same all =
     ready-set entries queue queue slot new within (all slot ∙ (ap readied_of is ∙ sym same)) (λ other apart. refl) all
 
 -- a slot that is ready now is the last of the queue
-pub AreReady-push : (entries : List (Option HostEntry)) (queue : List ℕ) (slot : ℕ) (old new : Option HostEntry) (ready : Bool) → slot < length entries → held_at entries slot ≡ old →
+pub AreReady-push : (entries : List (Option HostEntry)) (queue : List ℕ) (slot : ℕ) (old new : Option HostEntry) (ready : Bool) → slot < length entries →
+    held_at entries slot ≡ old →
     readied_of old + one_if ready ≡ readied_of new → AreReady entries queue → AreReady (slice_set entries slot new) (queued_if ready queue slot)
 AreReady-push entries queue slot old new true within is now all =
     ready-set entries queue (queue ++ slot ∷ []) slot new within
@@ -65,7 +68,8 @@ AreReady-push entries queue slot old new false within is now all =
     AreReady-set entries queue slot old new within is (omega (arith, now)) all
 
 -- the first of the queue is ready
-pub AreReady-first : (entries : List (Option HostEntry)) (slot : ℕ) (rest : List ℕ) → AreReady entries (slot ∷ rest) → (readied_of (held_at entries slot) ≡ 1) × (times_in slot rest ≡ 0)
+pub AreReady-first : (entries : List (Option HostEntry)) (slot : ℕ) (rest : List ℕ) → AreReady entries (slot ∷ rest) →
+    (readied_of (held_at entries slot) ≡ 1) × (times_in slot rest ≡ 0)
 AreReady-first entries slot rest all =
     let here : one_if (slot == slot) + times_in slot rest ≡ readied_of (held_at entries slot) = all slot in
     let one = same_one slot in
@@ -73,7 +77,8 @@ AreReady-first entries slot rest all =
     (omega (arith, here, one, most), omega (arith, here, one, most))
 
 -- it leaves the queue when its entry is taken
-pub AreReady-pop : (entries : List (Option HostEntry)) (slot : ℕ) (rest : List ℕ) → slot < length entries → AreReady entries (slot ∷ rest) → AreReady (slice_set entries slot None) rest
+pub AreReady-pop : (entries : List (Option HostEntry)) (slot : ℕ) (rest : List ℕ) → slot < length entries → AreReady entries (slot ∷ rest) →
+    AreReady (slice_set entries slot None) rest
 AreReady-pop entries slot rest within all =
     ready-set entries (slot ∷ rest) rest slot None within (AreReady-first entries slot rest all).1
     (λ other apart. omega (arith, apart_none slot other apart)) all
@@ -89,7 +94,13 @@ queue_within [] entries all = omega arith
 queue_within (slot ∷ rest) entries all =
     let ready = (AreReady-first entries slot rest all).0 in
     let within = readied-within entries slot ready in
-    omega (arith, ready, sum_by-set readied_of entries slot None None within, queue_within rest (slice_set entries slot None) (AreReady-pop entries slot rest within all))
+    omega (
+      arith,
+      ready,
+      sum_by-set readied_of entries slot None None within,
+      queue_within rest (slice_set entries slot None)
+          (AreReady-pop entries slot rest within all),
+    )
 
 -- no more slots are in the queue than are there
 pub AreReady-length : (queue : List ℕ) (entries : List (Option HostEntry)) → AreReady entries queue → length queue ≤ length entries
@@ -103,7 +114,8 @@ pub record IsFirst (entries : List (Option HostEntry)) (slot : ℕ) (rest : List
   pub ready : readied_of (held_at entries slot) ≡ 1
   pub others : AreReady (slice_set entries slot None) rest
 
-pub AreReady-take : (entries : List (Option HostEntry)) (queue rest : List ℕ) (slot : ℕ) → AreReady entries queue → queue ≡ slot ∷ rest → IsFirst entries slot rest
+pub AreReady-take : (entries : List (Option HostEntry)) (queue rest : List ℕ) (slot : ℕ) → AreReady entries queue → queue ≡ slot ∷ rest →
+    IsFirst entries slot rest
 AreReady-take entries queue rest slot all is =
     let first : AreReady entries (slot ∷ rest) = λ s. ap (λ q. times_in s q) (sym is) ∙ all s in
     let ready = (AreReady-first entries slot rest first).0 in

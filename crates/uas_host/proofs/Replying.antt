@@ -1,14 +1,16 @@
 -- The slot that was ready first, and what is true of every host once its reply is given.
 use Rattle.std.proofs.Common.{◌≡◌, ℕ, ◌<◌, Bool, true, false, List, [], ◌∷◌, drop, length, length-set, Option, Some, None, IfSome, refl, arith, ap, ◌∙◌, sym}
 use Rattle.std.specs.Prelude.{◌&&◌, slice_get}
+use Rattle.scsi_cmd.specs.Request.{is_command}
 use Rattle.scsi_cmd.specs.Held.{held_at}
 use Rattle.uas_host.specs.declared.HostClient.{HostClient}
 use Rattle.scsi_cmd.specs.declared.Request.{Request}
 use Rattle.scsi_cmd.specs.declared.Request.TheVariants.{Execute, Manage}
 use Rattle.uas_host.specs.declared.TdState.{TdState}
 use Rattle.uas_host.specs.declared.TdState.TheVariants.{Pending, Seen, LeftOver, Retired}
-use Rattle.uas_host.specs.declared.Told.{Told}
-use Rattle.uas_host.specs.State.{HostState, IsHost, IsHostClient, WasTold, client_of, is_answer_to, is_command, is_data_over, is_given_up, is_over, is_seen, readied_of, with_client}
+use Rattle.uas_host.specs.declared.HostAnswer.{HostAnswer}
+use Rattle.uas_host.specs.State.{HostState, IsHost, IsHostClient, WasTold, client_of, is_answer_to, is_data_over, is_given_up, is_over, is_seen}
+use Rattle.uas_host.specs.State.{readied_of, with_client}
 use Rattle.uas_host.specs.Replies.{HasAnswer, IsReadySlot, has_answer, without}
 use Rattle.uas_host.proofs.Queues.{AreReady-take, IsFirst, readied-ready}
 use Rattle.uas_host.proofs.Sound.{AllHeld-set, IsHost-set}
@@ -19,7 +21,7 @@ first-slot [] slot is = absurd (cc)
 first-slot (first ∷ rest) slot is = let same : first ≡ slot = cc in ap (λ s. s ∷ rest) same
 
 -- what is ready, and was told as every entry was, has its reply
-ready-answered : (request : Request) (told : Told) (command status : TdState) (moved : Bool) → (is_seen command && (is_over status && moved)) ≡ true →
+ready-answered : (request : Request) (told : HostAnswer) (command status : TdState) (moved : Bool) → (is_seen command && (is_over status && moved)) ≡ true →
     (is_seen status ≡ true → is_answer_to request told ≡ true) → (is_given_up status ≡ true → is_command request ≡ true) → has_answer told status request ≡ true
 ready-answered (Execute op) told Seen Seen moved is answer command = rw (answer refl) refl
 ready-answered (Execute op) told Seen Retired moved is answer command = refl
@@ -60,7 +62,8 @@ first_ready-known host client (Some slot) there is first =
     }
 
 -- the entry of the first slot goes
-pub released-host : (host : HostState) (client slot : ℕ) → client < length host.clients → IsHost host → slice_get (client_of host client).ready.items 0 ≡ Some slot →
+pub released-host : (host : HostState) (client slot : ℕ) → client < length host.clients → IsHost host →
+    slice_get (client_of host client).ready.items 0 ≡ Some slot →
     IsHost (with_client host client (without (client_of host client) slot (drop 1 (client_of host client).ready.items)))
 released-host host client slot there is first =
     let held = client_of host client in

@@ -32,7 +32,8 @@ range-more first (suc count) =
 door_of : (lines : LinesState) (pipe : Pipe) (stream : ℕ) →
     map (door (target_of pipe)) (filter (λ stream. has_pending (ring_of lines pipe stream)) (stream ∷ [])) ≡ pending_door lines pipe stream
 door_of lines pipe stream =
-    elim (has_pending (ring_of lines pipe stream)) as (λ b. map (door (target_of pipe)) (cond b (stream ∷ []) []) ≡ cond b (door (target_of pipe) stream ∷ []) []) [
+    elim (has_pending (ring_of lines pipe stream)) as
+    (λ b. map (door (target_of pipe)) (cond b (stream ∷ []) []) ≡ cond b (door (target_of pipe) stream ∷ []) []) [
       | true ↦ refl
       | false ↦ refl
     ]
@@ -57,7 +58,8 @@ doors_below-next lines pipe stream first before after some so_far then =
     rw next
     (then ∙ (ap (λ doors. doors ++ pending_door lines pipe stream) so_far
     ∙ (append_assoc first (doors_below lines pipe (stream - 1)) (pending_door lines pipe stream)
-    ∙ ap (λ doors. first ++ doors) (ap (λ s. doors_below lines pipe (stream - 1) ++ pending_door lines pipe s) here ∙ sym (doors_below-more lines pipe (stream - 1))))))
+    ∙ ap (λ doors. first ++ doors) (ap (λ s. doors_below lines pipe (stream - 1) ++ pending_door lines pipe s) here
+    ∙ sym (doors_below-more lines pipe (stream - 1))))))
 
 pub doors_below-none : (lines : LinesState) (pipe : Pipe) → doors_below lines pipe 0 ≡ []
 unfolding doors_below

@@ -1,5 +1,6 @@
 -- What is true of every host is kept at an event.
-use Rattle.std.proofs.Common.{◌≡◌, ℕ, zero, suc, ◌<◌, ◌≤◌, Bool, true, false, List, [], ◌∷◌, length, length-set, Option, Some, None, IfSome, MatchOption, refl, arith, sym, ap, ◌∙◌, subst}
+use Rattle.std.proofs.Common.{◌≡◌, ℕ, zero, suc, ◌<◌, ◌≤◌, Bool, true, false, List, [], ◌∷◌, length, length-set, Option, Some, None, IfSome, MatchOption}
+use Rattle.std.proofs.Common.{refl, arith, sym, ap, ◌∙◌, subst}
 use Rattle.std.specs.Prelude.{◌&&◌, not, option_and_then, option_map, cond, slice_set}
 use Rattle.std.specs.Option.{option_map_or}
 use Rattle.std.proofs.lemmas.List.{set-get_or}
@@ -10,26 +11,30 @@ use Rattle.scsi_cmd.specs.declared.TheConstants.{TAGS}
 use Rattle.scsi_cmd.specs.Held.{AllHeld, held_at}
 use Rattle.uas_host.specs.declared.TdState.{TdState}
 use Rattle.uas_host.specs.declared.TdState.TheVariants.{Pending, Seen, LeftOver, Retired}
-use Rattle.uas_host.specs.declared.Told.TheVariants.{Status as ToldStatus, Response as ToldResponse}
+use Rattle.uas_host.specs.declared.HostAnswer.TheVariants.{Status as AnsweredStatus, Response as AnsweredResponse}
 use Rattle.scsi_cmd.specs.declared.Request.{Request}
 use Rattle.scsi_cmd.specs.declared.Request.TheVariants.{Execute, Manage}
 use Rattle.uas_host.specs.declared.HostEntry.{HostEntry}
 use Rattle.uas_host.specs.declared.HostClient.{HostClient}
-use Rattle.uas_host.specs.declared.News.{News}
-use Rattle.uas_host.specs.declared.News.TheVariants.{CommandSeen, DataInSeen, DataOutSeen, Answered, Responded, TdRetired}
+use Rattle.uas_host.specs.declared.Notice.{Notice}
+use Rattle.uas_host.specs.declared.Notice.TheVariants.{CommandSeen, DataInSeen, DataOutSeen, Answered, Responded, TdRetired}
 use Rattle.uas_host.specs.declared.Place.{Place}
-use Rattle.uas_host.specs.State.{HostState, IsHost, IsHostClient, WasTold, client_of, is_answer_to, is_command, is_given_up, is_left_over, is_over, is_pending, is_ready, is_seen, new_client, one_if, queued_if, readied_of, with_client}
-use Rattle.uas_host.specs.Seen.{after_response, client_seen, completes, data_after, doomed, entries_after, goes_to_device, goes_to_host, is_data_left_over, is_doomed, left_over_data, noted_in, place_seen, request_direction, seen, seen_data, with_seen}
+use Rattle.uas_host.specs.State.{HostState, IsHost, IsHostClient, WasTold, client_of, is_answer_to, is_given_up, is_left_over, is_over}
+use Rattle.uas_host.specs.State.{is_pending, is_ready, is_seen, new_client, one_if, queued_if, readied_of, with_client}
+use Rattle.scsi_cmd.specs.Request.{is_command, request_direction}
+use Rattle.uas_host.specs.Seen.{after_response, client_seen, completes, data_after, doomed, entries_after, goes_to_device, goes_to_host, is_data_left_over}
+use Rattle.uas_host.specs.Seen.{is_doomed, left_over_data, noted_in, place_seen, seen, seen_data, with_seen}
 use Rattle.uas_host.proofs.Queues.{AreReady-length, AreReady-push}
 use Rattle.uas_host.proofs.Sound.{AllHeld-set, IsHost-set}
 
 -- what is held, once it was seen
-pub saw_held : (news : News) (held : Option HostEntry) (entry now : HostEntry) (saw ready : Bool) → held ≡ Some entry →
-    MatchOption (seen news entry) ((saw ≡ false) × (now ≡ entry)) (λ after. (saw ≡ true) × (now ≡ after)) → saw ≡ true → ready ≡ is_ready now →
-    MatchOption (option_and_then (seen news) held) ((Some ready ≡ None) × (Some now ≡ held)) (λ after. (Some ready ≡ Some (is_ready after)) × (Some now ≡ Some after))
-saw_held news held entry now saw ready is told it_saw readied =
+pub saw_held : (notice : Notice) (held : Option HostEntry) (entry now : HostEntry) (saw ready : Bool) → held ≡ Some entry →
+    MatchOption (seen notice entry) ((saw ≡ false) × (now ≡ entry)) (λ after. (saw ≡ true) × (now ≡ after)) → saw ≡ true → ready ≡ is_ready now →
+    MatchOption (option_and_then (seen notice) held) ((Some ready ≡ None) × (Some now ≡ held))
+    (λ after. (Some ready ≡ Some (is_ready after)) × (Some now ≡ Some after))
+saw_held notice held entry now saw ready is told it_saw readied =
     rw is
-    (elim (seen news entry) as (λ o. MatchOption o ((saw ≡ false) × (now ≡ entry)) (λ after. (saw ≡ true) × (now ≡ after)) →
+    (elim (seen notice entry) as (λ o. MatchOption o ((saw ≡ false) × (now ≡ entry)) (λ after. (saw ≡ true) × (now ≡ after)) →
     MatchOption o ((Some ready ≡ None) × (Some now ≡ Some entry)) (λ after. (Some ready ≡ Some (is_ready after)) × (Some now ≡ Some after))) [
       | None ↦ λ no. let it : true ≡ false = sym it_saw ∙ no.0 in absurd (cc)
       | Some after ↦ λ so. (ap Some (readied ∙ ap is_ready so.1), ap Some so.1)
@@ -73,11 +78,11 @@ and_right : (a b : Bool) → (a && b) ≡ true → b ≡ true
 and_right true b is = is
 and_right false b is = absurd (cc)
 
-status-answers : (request : Request) (status : ℕ) (sense : ArrayVec ℕ) → is_command request ≡ true → is_answer_to request (ToldStatus status sense) ≡ true
+status-answers : (request : Request) (status : ℕ) (sense : ArrayVec ℕ) → is_command request ≡ true → is_answer_to request (AnsweredStatus status sense) ≡ true
 status-answers (Execute op) status sense is = refl
 status-answers (Manage task noted) status sense is = absurd (cc)
 
-response-answers : (request : Request) (code : ℕ) → not (is_command request) ≡ true → is_answer_to request (ToldResponse code) ≡ true
+response-answers : (request : Request) (code : ℕ) → not (is_command request) ≡ true → is_answer_to request (AnsweredResponse code) ≡ true
 response-answers (Execute op) code is = absurd (cc)
 response-answers (Manage task noted) code is = refl
 
@@ -111,7 +116,8 @@ kept_data right held (Some td) is = where_so (right && is_pending td) held (reco
 
 kept_status : (held : HostEntry) (status : ℕ) (sense : ArrayVec ℕ) → IfSome (seen (Answered status sense) held) (IsKept held)
 kept_status held status sense =
-    where_so (is_command held.request && is_pending held.status_td) held (record held { told = ToldStatus status sense; status_td = Seen; data_td = data_after status held.data_td })
+    where_so (is_command held.request && is_pending held.status_td) held
+    (record held { told = AnsweredStatus status sense; status_td = Seen; data_td = data_after status held.data_td })
     (λ is. record {
       unready = unready_status held (pending-not_over held.status_td (and_right (is_command held.request) (is_pending held.status_td) is));
       told = λ told. record {
@@ -122,7 +128,7 @@ kept_status held status sense =
 
 kept_response : (held : HostEntry) (code : ℕ) → IfSome (seen (Responded code) held) (IsKept held)
 kept_response held code =
-    where_so (not (is_command held.request) && is_pending held.status_td) held (record held { told = ToldResponse code; status_td = Seen })
+    where_so (not (is_command held.request) && is_pending held.status_td) held (record held { told = AnsweredResponse code; status_td = Seen })
     (λ is. record {
       unready = unready_status held (pending-not_over held.status_td (and_right (not (is_command held.request)) (is_pending held.status_td) is));
       told = λ told. record {
@@ -135,7 +141,8 @@ left_over-unready : (held : HostEntry) (td : Option TdState) → held.data_td �
 left_over-unready held None same is = absurd (cc)
 left_over-unready held (Some td) same is = unready_data held td same (left_over-not_over td is)
 
-kept_retired_data : (right : Bool) (held : HostEntry) → IfSome (cond (is_data_left_over right held) (Some (record held { data_td = Some Retired })) None) (IsKept held)
+kept_retired_data : (right : Bool) (held : HostEntry) →
+    IfSome (cond (is_data_left_over right held) (Some (record held { data_td = Some Retired })) None) (IsKept held)
 kept_retired_data right held = where_so (is_data_left_over right held) held (record held { data_td = Some Retired })
     (λ is. record {
       unready = left_over-unready held held.data_td refl (and_right right (option_map_or is_left_over held.data_td false) is);
@@ -155,7 +162,7 @@ kept_retired Status held = kept_retired_status held
 kept_retired DataIn held = kept_retired_data (goes_to_host (request_direction held.request)) held
 kept_retired DataOut held = kept_retired_data (goes_to_device (request_direction held.request)) held
 
-pub seen-kept : (news : News) (held : HostEntry) → IfSome (seen news held) (IsKept held)
+pub seen-kept : (notice : Notice) (held : HostEntry) → IfSome (seen notice held) (IsKept held)
 seen-kept CommandSeen held = kept_command held
 seen-kept DataInSeen held = kept_data (goes_to_host (request_direction held.request)) held held.data_td refl
 seen-kept DataOutSeen held = kept_data (goes_to_device (request_direction held.request)) held held.data_td refl
@@ -184,7 +191,8 @@ doomed-told noted held told =
       | false ↦ λ is. told
     ] refl
 
-doomed-at : (noted : List ℕ) (entries : List (Option HostEntry)) (slot : ℕ) → readied_of (held_at (after_response noted entries) slot) ≡ readied_of (held_at entries slot)
+doomed-at : (noted : List ℕ) (entries : List (Option HostEntry)) (slot : ℕ) →
+    readied_of (held_at (after_response noted entries) slot) ≡ readied_of (held_at entries slot)
 doomed-at noted [] slot = refl
 doomed-at noted (None ∷ rest) zero = refl
 doomed-at noted (Some held ∷ rest) zero = ap one_if (doomed-readied noted held)
@@ -200,10 +208,12 @@ length-doomed noted [] = refl
 length-doomed noted (held ∷ rest) = ap suc (length-doomed noted rest)
 
 -- a response leaves commands over
-entries_after-sound : (news : News) (request : Request) (client : HostClient) → IsHostClient client →
-    IsHostClient (record { entries = entries_after news request client.entries; least = client.least; ready = client.ready })
-entries_after-sound news request client sound =
-    elim (completes news) as (λ b. IsHostClient (record { entries = cond b (after_response (noted_in request) client.entries) client.entries; least = client.least; ready = client.ready })) [
+entries_after-sound : (notice : Notice) (request : Request) (client : HostClient) → IsHostClient client →
+    IsHostClient (record { entries = entries_after notice request client.entries; least_ticket = client.least_ticket; ready = client.ready })
+entries_after-sound notice request client sound =
+    elim (completes notice) as
+    (λ b. IsHostClient
+    (record { entries = cond b (after_response (noted_in request) client.entries) client.entries; least_ticket = client.least_ticket; ready = client.ready })) [
       | true ↦ record {
         slots = length-doomed (noted_in request) client.entries ∙ sound.slots;
         ready = λ slot. sound.ready slot ∙ sym (doomed-at (noted_in request) client.entries slot);
@@ -212,11 +222,12 @@ entries_after-sound news request client sound =
       | false ↦ record { slots = sound.slots; ready = sound.ready; told = sound.told }
     ]
 
-with_seen-sound : (news : News) (client : HostClient) (slot : ℕ) (held now : HostEntry) → slot < TAGS → held_at client.entries slot ≡ Some held → IsKept held now → WasTold held →
-    IsHostClient client → IsHostClient (with_seen news client slot now)
-with_seen-sound news client slot held now within is kept told sound = entries_after-sound news now.request (record {
+with_seen-sound : (notice : Notice) (client : HostClient) (slot : ℕ) (held now : HostEntry) → slot < TAGS → held_at client.entries slot ≡ Some held →
+    IsKept held now → WasTold held →
+    IsHostClient client → IsHostClient (with_seen notice client slot now)
+with_seen-sound notice client slot held now within is kept told sound = entries_after-sound notice now.request (record {
   entries = slice_set client.entries slot (Some now);
-  least = client.least;
+  least_ticket = client.least_ticket;
   ready = record { items = queued_if (is_ready now) client.ready.items slot };
 }) (record {
   slots = length-set client.entries slot (Some now) ∙ sound.slots;
@@ -231,47 +242,57 @@ held-at P [] slot held all is = absurd (cc)
 held-at P (place ∷ places) zero held all is = let here : IfSome place P = all.0 in subst (λ o. IfSome o P) is here
 held-at P (place ∷ places) (suc slot) held all is = held-at P places slot held all.1 is
 
-pub client_seen-sound : (news : News) (client : HostClient) (slot : ℕ) → slot < TAGS → IsHostClient client → IfSome (client_seen news client slot) IsHostClient
-client_seen-sound news client slot within sound =
-    elim (held_at client.entries slot) as (λ o. held_at client.entries slot ≡ o → IfSome (option_map (with_seen news client slot) (option_and_then (seen news) o)) IsHostClient) [
+pub client_seen-sound : (notice : Notice) (client : HostClient) (slot : ℕ) → slot < TAGS → IsHostClient client
+    → IfSome (client_seen notice client slot) IsHostClient
+client_seen-sound notice client slot within sound =
+    elim (held_at client.entries slot) as (λ o. held_at client.entries slot ≡ o →
+    IfSome (option_map (with_seen notice client slot) (option_and_then (seen notice) o)) IsHostClient) [
       | None ↦ λ is. tt
       | Some held ↦ λ is.
-          elim (seen news held) as (λ o. IfSome o (IsKept held) → IfSome (option_map (with_seen news client slot) o) IsHostClient) [
+          elim (seen notice held) as (λ o. IfSome o (IsKept held) → IfSome (option_map (with_seen notice client slot) o) IsHostClient) [
             | None ↦ λ none. tt
-            | Some now ↦ λ kept. with_seen-sound news client slot held now within is kept (held-at WasTold client.entries slot held sound.told is) sound
-          ] (seen-kept news held)
+            | Some now ↦ λ kept. with_seen-sound notice client slot held now within is kept (held-at WasTold client.entries slot held sound.told is) sound
+          ] (seen-kept notice held)
     ] refl
 
-pub client_seen-room : (news : News) (client : HostClient) (slot : ℕ) → slot < TAGS → IsHostClient client → IfSome (client_seen news client slot) (λ now. length now.ready.items ≤ TAGS)
-client_seen-room news client slot within sound =
-    elim (client_seen news client slot) as (λ o. IfSome o IsHostClient → IfSome o (λ now. length now.ready.items ≤ TAGS)) [
+pub client_seen-room : (notice : Notice) (client : HostClient) (slot : ℕ) → slot < TAGS → IsHostClient client →
+    IfSome (client_seen notice client slot) (λ now. length now.ready.items ≤ TAGS)
+client_seen-room notice client slot within sound =
+    elim (client_seen notice client slot) as (λ o. IfSome o IsHostClient → IfSome o (λ now. length now.ready.items ≤ TAGS)) [
       | None ↦ λ none. tt
       | Some now ↦ λ is. omega (arith, AreReady-length now.ready.items now.entries is.ready, is.slots)
-    ] (client_seen-sound news client slot within sound)
+    ] (client_seen-sound notice client slot within sound)
 
 -- THE HOST
 
 -- what is known once the host has seen an event of a client
-abbrev pub HasSeen : News → HostClient → ℕ → HostClient → Bool → Type 0
-HasSeen news client slot now saw = MatchOption (client_seen news client slot) ((saw ≡ false) × (now ≡ client)) (λ after. (saw ≡ true) × (now ≡ after))
+abbrev pub HasSeen : Notice → HostClient → ℕ → HostClient → Bool → Type 0
+HasSeen notice client slot now saw = MatchOption (client_seen notice client slot) ((saw ≡ false) × (now ≡ client)) (λ after. (saw ≡ true) × (now ≡ after))
 
-pub has_seen-host : (news : News) (host : HostState) (client slot : ℕ) (now : HostClient) (saw : Bool) → client < length host.clients → slot < TAGS → IsHost host →
-    HasSeen news (client_of host client) slot now saw → IsHost (with_client host client now)
-has_seen-host news host client slot now saw there within is seen_so =
+pub has_seen-host : (notice : Notice) (host : HostState) (client slot : ℕ) (now : HostClient) (saw : Bool) → client < length host.clients → slot < TAGS →
+    IsHost host →
+    HasSeen notice (client_of host client) slot now saw → IsHost (with_client host client now)
+has_seen-host notice host client slot now saw there within is seen_so =
     IsHost-set host client now is
-    (elim (client_seen news (client_of host client) slot) as (λ o. IfSome o IsHostClient →
+    (elim (client_seen notice (client_of host client) slot) as (λ o. IfSome o IsHostClient →
     MatchOption o ((saw ≡ false) × (now ≡ client_of host client)) (λ after. (saw ≡ true) × (now ≡ after)) → IsHostClient now) [
       | None ↦ λ none same. rw same.1 (is.clients client there)
       | Some after ↦ λ sound same. rw same.1 sound
-    ] (client_seen-sound news (client_of host client) slot within (is.clients client there)) seen_so)
+    ] (client_seen-sound notice (client_of host client) slot within (is.clients client there)) seen_so)
 
-pub place_seen-client : (news : News) (host : HostState) (place : Place) (now : HostClient) (saw : Bool) →
-    HasSeen news (client_of host place.client) place.slot now saw →
-    MatchOption (place_seen news host place) ((saw ≡ false) × (with_client host place.client now ≡ host)) (λ after. (saw ≡ true) × (with_client host place.client now ≡ after))
-place_seen-client news host place now saw seen_so =
-    elim (client_seen news (client_of host place.client) place.slot) as (λ o.
+pub place_seen-client : (notice : Notice) (host : HostState) (place : Place) (now : HostClient) (saw : Bool) →
+    HasSeen notice (client_of host place.client) place.slot now saw →
+    MatchOption (place_seen notice host place) ((saw ≡ false) × (with_client host place.client now ≡ host))
+    (λ after. (saw ≡ true) × (with_client host place.client now ≡ after))
+place_seen-client notice host place now saw seen_so =
+    elim (client_seen notice (client_of host place.client) place.slot) as (λ o.
     MatchOption o ((saw ≡ false) × (now ≡ client_of host place.client)) (λ after. (saw ≡ true) × (now ≡ after)) →
-    MatchOption (option_map (with_client host place.client) o) ((saw ≡ false) × (with_client host place.client now ≡ host)) (λ after. (saw ≡ true) × (with_client host place.client now ≡ after))) [
-      | None ↦ λ same. (same.0, ap (with_client host place.client) same.1 ∙ ap (λ clients. record { clients = clients; retirement = host.retirement }) (set-get_or host.clients place.client new_client))
+    MatchOption (option_map (with_client host place.client) o) ((saw ≡ false) × (with_client host place.client now ≡ host))
+    (λ after. (saw ≡ true) × (with_client host place.client now ≡ after))) [
+      | None ↦ λ same. (
+        same.0,
+        ap (with_client host place.client) same.1
+            ∙ ap (λ clients. record { clients = clients; retirement = host.retirement }) (set-get_or host.clients place.client new_client),
+      )
       | Some after ↦ λ same. (same.0, ap (with_client host place.client) same.1)
     ] seen_so

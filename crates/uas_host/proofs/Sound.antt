@@ -1,5 +1,6 @@
 -- What is true of every host is kept.
-use Rattle.std.proofs.Common.{ℕ, zero, suc, ◌<◌, ◌≤◌, List, [], ◌∷◌, length, length-set, replicate, Option, Some, None, IfSome, refl, arith, ◌∙◌, inl, inr, subst, sym}
+use Rattle.std.proofs.Common.{ℕ, zero, suc, ◌<◌, ◌≤◌, List, [], ◌∷◌, length, length-set, replicate, Option, Some, None, IfSome, refl, arith, ◌∙◌, inl, inr}
+use Rattle.std.proofs.Common.{subst, sym}
 use Rattle.std.specs.Prelude.{slice_set}
 use Rattle.std.proofs.lemmas.Bool.{cases_eq}
 use Rattle.std.proofs.lemmas.List.{get_or-set_same, get_or-set_other, get_or-replicate, length-replicate}
@@ -17,7 +18,8 @@ use Rattle.uas_host.proofs.Queues.{AreReady-none, AreReady-set}
 
 -- ENTRIES
 
-pub AllHeld-set : {T : Type 0} → (P : T → Type 0) (places : List (Option T)) (slot : ℕ) (now : Option T) → AllHeld P places → IfSome now P → AllHeld P (slice_set places slot now)
+pub AllHeld-set : {T : Type 0} → (P : T → Type 0) (places : List (Option T)) (slot : ℕ) (now : Option T) → AllHeld P places → IfSome now P →
+    AllHeld P (slice_set places slot now)
 AllHeld-set P [] slot now all here = all
 AllHeld-set P (place ∷ places) zero now all here = (here, all.1)
 AllHeld-set P (place ∷ places) (suc slot) now all here = (all.0, AllHeld-set P places slot now all.1 here)
@@ -53,11 +55,13 @@ pub opening-host : (clients : ℕ) → 1 ≤ clients → clients ≤ 31 → IsHo
 opening-host clients some most = record {
   some = omega (arith, some, length-replicate clients new_client);
   most = omega (arith, most, length-replicate clients new_client);
-  clients = λ client within. rw (get_or-replicate clients client new_client new_client (omega (arith, within, length-replicate clients new_client))) new_client-sound;
+  clients =
+      λ client within. rw (get_or-replicate clients client new_client new_client (omega (arith, within, length-replicate clients new_client))) new_client-sound;
   retirement = tt;
 }
 
-submitted-sound : (held : HostClient) (slot ticket : ℕ) (op : Op) → slot < TAGS → IsFree held slot → IsHostClient held → IsHostClient (submitted_client held slot ticket op)
+submitted-sound : (held : HostClient) (slot ticket : ℕ) (op : Op) → slot < TAGS → IsFree held slot → IsHostClient held →
+    IsHostClient (submitted_client held slot ticket op)
 submitted-sound held slot ticket op within free is = record {
   slots = length-set held.entries slot (Some (new_entry ticket op)) ∙ is.slots;
   ready = AreReady-set held.entries held.ready.items slot None (Some (new_entry ticket op)) (omega (arith, is.slots, within)) free refl is.ready;
@@ -73,10 +77,14 @@ managed-sound held ticket task free is =
       told = AllHeld-set WasTold held.entries TASK_SLOT (Some now) is.told (record { answer = λ seen. absurd (cc); command = λ given_up. absurd (cc) });
     }
 
-pub managed-host : (host : HostState) (client ticket : ℕ) (task : Task) → client < length host.clients → IsFree (client_of host client) TASK_SLOT → IsHost host → IsHost (managed host client ticket task)
+pub managed-host : (host : HostState) (client ticket : ℕ) (task : Task) → client < length host.clients → IsFree (client_of host client) TASK_SLOT →
+    IsHost host → IsHost (managed host client ticket task)
 managed-host host client ticket task there free is =
-    IsHost-set host client (managed_client (client_of host client) ticket task) is (managed-sound (client_of host client) ticket task free (is.clients client there))
+    IsHost-set host client (managed_client (client_of host client) ticket task) is
+    (managed-sound (client_of host client) ticket task free (is.clients client there))
 
-pub noted-host : (host : HostState) (client slot ticket : ℕ) (op : Op) → client < length host.clients → slot < TAGS → IsFree (client_of host client) slot → IsHost host → IsHost (noted host client slot ticket op)
+pub noted-host : (host : HostState) (client slot ticket : ℕ) (op : Op) → client < length host.clients → slot < TAGS → IsFree (client_of host client) slot →
+    IsHost host → IsHost (noted host client slot ticket op)
 noted-host host client slot ticket op there within free is =
-    IsHost-set host client (submitted_client (client_of host client) slot ticket op) is (submitted-sound (client_of host client) slot ticket op within free (is.clients client there))
+    IsHost-set host client (submitted_client (client_of host client) slot ticket op) is
+    (submitted-sound (client_of host client) slot ticket op within free (is.clients client there))

@@ -15,7 +15,8 @@ unfolding unit_text
 command_text-length tag lun cdb fits = omega (arith, fits.1, fits.2, length-append lun cdb)
 
 -- and a Task Management unit 16
-pub task_text-length : (tag function task_tag : ℕ) (lun : List ℕ) → Fits (Task tag function task_tag lun) → length (unit_text (Task tag function task_tag lun)) ≡ 16
+pub task_text-length : (tag function task_tag : ℕ) (lun : List ℕ) → Fits (Task tag function task_tag lun) →
+    length (unit_text (Task tag function task_tag lun)) ≡ 16
 unfolding unit_text
 task_text-length tag function task_tag lun fits = omega (arith, fits.2)
 

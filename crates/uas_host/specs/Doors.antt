@@ -4,18 +4,12 @@ use Rattle.scsi_cmd.specs.declared.Direction.{Direction}
 use Rattle.scsi_cmd.specs.declared.Direction.TheVariants.{Nothing, ToHost, ToDevice}
 use Rattle.stream_array.specs.declared.Pipe.{Pipe}
 use Rattle.stream_array.specs.declared.Pipe.TheVariants.{Command, Status, DataIn, DataOut}
+pub use Rattle.stream_array.specs.Targets.{target_of}
 
 -- A doorbell value: the target in bits 7:0, the stream in bits 31:16. Worked: data-in, stream 18, is 00120005h. The value 0
 -- is the controller's own doorbell.
 abbrev pub door : ℕ → ℕ → ℕ
 door target stream = target + 2 ^ 16 * stream
-
--- the doorbell target of a pipe, which is the number of its endpoint in an engine command too
-abbrev pub target_of : Pipe → ℕ
-target_of Command = 2
-target_of Status = 3
-target_of DataIn = 5
-target_of DataOut = 4
 
 -- the doorbell of a stream of a pipe, left out while the pipe is held
 abbrev pub door_unless : Bool → Pipe → ℕ → List ℕ

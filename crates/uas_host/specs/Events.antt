@@ -1,5 +1,6 @@
 -- An event (xHCI 4.11.3): which TD it is of, what it tells, and what the host makes of it.
-use Rattle.std.specs.Prelude.{◌≡◌, ℕ, zero, suc, ◌+◌, ◌-◌, ◌*◌, ◌/◌, ◌%◌, ◌≤◌, ◌==◌, nat_lt, nat_le, not, Bool, true, false, ◌&&◌, if◌then◌else◌, List, [], ◌∷◌, length, take, drop, slice_index, Option, Some, None, is_none, is_some, option_map, option_and_then}
+use Rattle.std.specs.Prelude.{◌≡◌, ℕ, zero, suc, ◌+◌, ◌-◌, ◌*◌, ◌/◌, ◌%◌, ◌≤◌, ◌==◌, nat_lt, nat_le, not, Bool, true, false, ◌&&◌, if◌then◌else◌, List, []}
+use Rattle.std.specs.Prelude.{◌∷◌, length, take, drop, slice_index, Option, Some, None, is_none, is_some, option_map, option_and_then}
 use Rattle.std.specs.Option.{option_map_or}
 use Rattle.xhci_trb.specs.declared.Trb.{Trb}
 use Rattle.xhci_trb.specs.declared.Trb.TheVariants.{Normal, Link, StopEndpoint, SetDequeue, TransferEvent, CommandEvent}
@@ -20,14 +21,16 @@ use Rattle.uas_iu.specs.Faults.{first_fault, identifier}
 use Rattle.uas_host.specs.declared.Handled.{Handled}
 use Rattle.uas_host.specs.declared.Handled.TheVariants.{Engine, Matched, Stray}
 use Rattle.uas_host.specs.declared.EndedTd.{EndedTd}
-use Rattle.uas_host.specs.declared.News.{News}
-use Rattle.uas_host.specs.declared.News.TheVariants.{CommandSeen, DataInSeen, DataOutSeen, Answered, Responded}
+use Rattle.uas_host.specs.declared.Notice.{Notice}
+use Rattle.uas_host.specs.declared.Notice.TheVariants.{CommandSeen, DataInSeen, DataOutSeen, Answered, Responded}
 use Rattle.uas_host.specs.declared.Retirement.{Retirement}
 use Rattle.uas_host.specs.declared.RetirementStage.{RetirementStage}
 use Rattle.uas_host.specs.declared.RetirementStage.TheVariants.{Stopping, Moving}
 use Rattle.uas_host.specs.State.{HostState, is_pending}
 use Rattle.uas_host.specs.Retirement.{moved_lines, resumed_doors, retired_host, stopped_lines, with_retirement}
-pub use Rattle.uas_host.specs.Seen.{after_response, client_seen, completes, data_after, doomed, entries_after, goes_to_device, goes_to_host, held_of, host_seen, is_data_left_over, is_doomed, is_td_left_over, left_over_data, left_over_td, noted_in, place_seen, request_direction, seen, seen_data, with_retired, with_seen}
+pub use Rattle.uas_host.specs.Seen.{after_response, client_seen, completes, data_after, doomed, entries_after, goes_to_device, goes_to_host, held_of}
+pub use Rattle.uas_host.specs.Seen.{host_seen, is_data_left_over, is_doomed, is_td_left_over, left_over_data, left_over_td, noted_in, place_seen, seen}
+pub use Rattle.uas_host.specs.Seen.{seen_data, with_retired, with_seen}
 
 -- WHICH TD
 
@@ -79,35 +82,35 @@ abbrev pub is_response_of : ℕ → List ℕ → Bool
 is_response_of tag bytes = is_none (first_fault bytes) && ((identifier bytes == 4) && (slice_index bytes 2 * 256 + slice_index bytes 3 == tag))
 
 -- the answer that a unit tells, if it is a Sense or a Response unit of this tag
-abbrev pub answer_by : ℕ → Iu → Option News
+abbrev pub answer_by : ℕ → Iu → Option Notice
 answer_by tag (CommandUnit told_tag lun cdb) = None
 answer_by tag (SenseUnit told_tag status sense) = if told_tag == tag then Some (Answered status sense) else None
 answer_by tag (ResponseUnit told_tag code) = if told_tag == tag then Some (Responded code) else None
 answer_by tag (TaskUnit told_tag function task_tag lun) = None
 
 -- the code that a Response unit tells, byte 7. Worked: 04 00 00 18 00 00 00 00 tells 00h of tag 24.
-abbrev pub response_of : ℕ → List ℕ → Option News
+abbrev pub response_of : ℕ → List ℕ → Option Notice
 response_of tag bytes = if is_response_of tag bytes then Some (Responded (slice_index bytes 7)) else None
 
 -- the status and the sense that a Sense unit tells: byte 6, and the bytes from 16 on
-abbrev pub answer_in : ℕ → List ℕ → Option News
+abbrev pub answer_in : ℕ → List ℕ → Option Notice
 answer_in tag bytes =
     if is_sense_of tag bytes then Some (Answered (slice_index bytes 6) (record { items = drop 16 bytes })) else response_of tag bytes
 
 -- Success is 1, Short Packet 13 (xHCI 6.4.5)
-abbrev pub succeeded : ℕ → News → Option News
-succeeded code news = if code == 1 then Some news else None
+abbrev pub succeeded : ℕ → Notice → Option Notice
+succeeded code notice = if code == 1 then Some notice else None
 
 -- What an event of a TD tells, by its residual and its code. A status TD has 112 bytes, of which the residual weren't
 -- written. Worked: residual 96 leaves the first 16 bytes of the status buffer; above 112 none is left.
-abbrev pub news_on : Pipe → List TagBuffers → ℕ → ℕ → ℕ → Option News
-news_on Command frames residual code tag = succeeded code CommandSeen
-news_on Status frames residual code tag = if code == 13 then answer_in tag (take (112 - residual) (held_for frames tag).status) else None
-news_on DataIn frames residual code tag = succeeded code DataInSeen
-news_on DataOut frames residual code tag = succeeded code DataOutSeen
+abbrev pub notice_on : Pipe → List TagBuffers → ℕ → ℕ → ℕ → Option Notice
+notice_on Command frames residual code tag = succeeded code CommandSeen
+notice_on Status frames residual code tag = if code == 13 then answer_in tag (take (112 - residual) (held_for frames tag).status) else None
+notice_on DataIn frames residual code tag = succeeded code DataInSeen
+notice_on DataOut frames residual code tag = succeeded code DataOutSeen
 
-abbrev pub news_of : List TagBuffers → ℕ → ℕ → EndedTd → Option News
-news_of frames residual code td = news_on td.pipe frames residual code td.tag
+abbrev pub notice_of : List TagBuffers → ℕ → ℕ → EndedTd → Option Notice
+notice_of frames residual code td = notice_on td.pipe frames residual code td.tag
 
 -- WHICH TRBS ARE FREE AGAIN
 
@@ -158,13 +161,13 @@ abbrev pub handled_seen : Sides → ℕ → EndedTd → Option HostState → Sid
 handled_seen sides pointer td None = (sides, Stray)
 handled_seen sides pointer td (Some host) = (record { host = host; lines = freed_on td.pipe host sides.lines td.tag pointer }, Matched td.tag)
 
-abbrev pub handled_news : Sides → ℕ → EndedTd → Option News → Sides × Handled
-handled_news sides pointer td None = (sides, Stray)
-handled_news sides pointer td (Some news) = handled_seen sides pointer td (host_seen news sides.host td.tag)
+abbrev pub handled_notice : Sides → ℕ → EndedTd → Option Notice → Sides × Handled
+handled_notice sides pointer td None = (sides, Stray)
+handled_notice sides pointer td (Some notice) = handled_seen sides pointer td (host_seen notice sides.host td.tag)
 
 abbrev pub handled_td : Sides → List TagBuffers → ℕ → ℕ → ℕ → Option EndedTd → Sides × Handled
 handled_td sides frames pointer residual code None = (sides, Stray)
-handled_td sides frames pointer residual code (Some td) = handled_news sides pointer td (news_of frames residual code td)
+handled_td sides frames pointer residual code (Some td) = handled_notice sides pointer td (notice_of frames residual code td)
 
 -- the engine's command under way is done: it is consumed, at this address, and its code is 1
 abbrev pub is_engine_done : LinesState → ℕ → ℕ → Bool
@@ -222,7 +225,8 @@ IsOnStream DataOut stream tag = tag ≡ stream
 -- What is known of a TD whose last TRB is at an address: its tag is one, and on a pipe with streams its ring has that TRB.
 abbrev pub IsConsumedAt : LinesState → Pipe → ℕ → ℕ → Type 0
 IsConsumedAt lines pipe stream pointer =
-    (item : ℕ) × (item_at (places_of pipe) (ring_of lines pipe stream) pointer ≡ Some item) × IsConsumed (places_of pipe) (ring_of lines pipe stream) item pointer
+    (item : ℕ) × (item_at (places_of pipe) (ring_of lines pipe stream) pointer ≡ Some item)
+    × IsConsumed (places_of pipe) (ring_of lines pipe stream) item pointer
 
 abbrev pub IsEndedOn : Pipe → LinesState → ℕ → ℕ → Type 0
 IsEndedOn Command lines tag pointer = Unit {0}

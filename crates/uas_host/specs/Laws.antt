@@ -15,4 +15,5 @@ RingsAreNoBuffers = (spot : Spot) (place : Place) (address : ℕ) → IsSpot spo
 -- the addresses in the TRBs are those of the tag's buffers
 abbrev pub TrbsNameBuffers : Type 0
 TrbsNameBuffers =
-    (tag : ℕ) → (command_buffer_of tag ≡ address_of (front_of Command tag)) × (status_buffer_of tag ≡ address_of (front_of Status tag)) × (window_of tag ≡ address_of (front_of Window tag))
+    (tag : ℕ) → (command_buffer_of tag ≡ address_of (front_of Command tag)) × (status_buffer_of tag ≡ address_of (front_of Status tag))
+    × (window_of tag ≡ address_of (front_of Window tag))

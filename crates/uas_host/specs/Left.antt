@@ -1,14 +1,14 @@
--- Which clients may have a TD that is left over, as a bit of a word for each.
+-- Which clients may have a TD that is left over, as a mark of each.
 use Rattle.std.specs.Prelude.{◌≡◌, ℕ, ◌<◌, ◌==◌, Bool, true, false, ◌||◌, List, length, Option, slice_index_or}
-use Rattle.std.specs.Int.{bit_at}
 use Rattle.std.specs.List.{list_any}
 use Rattle.std.specs.Option.{option_map_or}
 use Rattle.stream_array.specs.declared.Pipe.{Pipe}
+use Rattle.marks.specs.Marks.{is_marked}
 use Rattle.scsi_cmd.specs.Held.{held_at}
 use Rattle.uas_host.specs.declared.HostEntry.{HostEntry}
 use Rattle.uas_host.specs.declared.HostClient.{HostClient}
-use Rattle.uas_host.specs.declared.News.{News}
-use Rattle.uas_host.specs.declared.News.TheVariants.{CommandSeen, DataInSeen, DataOutSeen, Answered, Responded, TdRetired}
+use Rattle.uas_host.specs.declared.Notice.{Notice}
+use Rattle.uas_host.specs.declared.Notice.TheVariants.{CommandSeen, DataInSeen, DataOutSeen, Answered, Responded, TdRetired}
 use Rattle.uas_host.specs.State.{is_left_over, new_client}
 use Rattle.uas_host.specs.Seen.{is_td_left_over}
 
@@ -32,7 +32,7 @@ have_left_over entries = list_any holds_left_over entries
 
 -- what can change which TDs are left over: CHECK CONDITION, 02h, and the response COMPLETE, 00h, leave TDs over, and a
 -- retirement takes one away
-abbrev pub moves_left_over : News → Bool
+abbrev pub moves_left_over : Notice → Bool
 moves_left_over CommandSeen = false
 moves_left_over DataInSeen = false
 moves_left_over DataOutSeen = false
@@ -42,12 +42,8 @@ moves_left_over (TdRetired pipe) = true
 
 -- MARKED CLIENTS
 
--- client c is marked by bit c
-abbrev pub is_marked : ℕ → ℕ → Bool
-is_marked word client = bit_at word client == 1
-
 -- no number is marked that is no client's, and each client with a TD that is left over is
-pub record AreMarked (word : ℕ) (clients : List HostClient) : Type 0 where
-  pub there : (client : ℕ) → client < 32 → is_marked word client ≡ true → client < length clients
+pub record AreMarked (words : List ℕ) (clients : List HostClient) : Type 0 where
+  pub there : (client : ℕ) → is_marked words client ≡ true → client < length clients
   pub left_over : (client slot : ℕ) → client < length clients →
-      holds_left_over (held_at (slice_index_or clients client new_client).entries slot) ≡ true → is_marked word client ≡ true
+      holds_left_over (held_at (slice_index_or clients client new_client).entries slot) ≡ true → is_marked words client ≡ true

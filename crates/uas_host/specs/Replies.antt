@@ -1,5 +1,6 @@
 -- The reply that was ready first.
 use Rattle.std.specs.Prelude.{◌≡◌, ℕ, ◌<◌, true, false, ◌&&◌, ◌||◌, Bool, IsSome, length, List, [], ◌∷◌, Option, None, Some, option_and_then, slice_set}
+use Rattle.scsi_cmd.specs.Request.{is_command}
 use Rattle.scsi_cmd.specs.declared.Reply.{Reply}
 use Rattle.scsi_cmd.specs.declared.Reply.TheVariants.{Status as StatusReply, Aborted, Task as TaskReply}
 use Rattle.scsi_cmd.specs.Held.{held_at}
@@ -9,13 +10,13 @@ use Rattle.scsi_cmd.specs.declared.TheConstants.{TAGS}
 use Rattle.uas_host.specs.declared.TheConstants.{MAX_CLIENTS}
 use Rattle.uas_host.specs.declared.TdState.{TdState}
 use Rattle.uas_host.specs.declared.TdState.TheVariants.{Pending, Seen, LeftOver, Retired}
-use Rattle.uas_host.specs.declared.Told.{Told}
-use Rattle.uas_host.specs.declared.Told.TheVariants.{Untold, Status, Response}
+use Rattle.uas_host.specs.declared.HostAnswer.{HostAnswer}
+use Rattle.uas_host.specs.declared.HostAnswer.TheVariants.{Unanswered, Status, Response}
 use Rattle.scsi_cmd.specs.declared.Request.{Request}
 use Rattle.scsi_cmd.specs.declared.Request.TheVariants.{Execute, Manage}
 use Rattle.uas_host.specs.declared.HostEntry.{HostEntry}
 use Rattle.uas_host.specs.declared.HostClient.{HostClient}
-use Rattle.uas_host.specs.State.{HostState, client_of, is_command, is_response, is_retired, is_seen, is_status, with_client}
+use Rattle.uas_host.specs.State.{HostState, client_of, is_response, is_retired, is_seen, is_status, with_client}
 use Rattle.uas_host.specs.Tags.{tag_of}
 
 -- what a call for a reply changes, and the reply
@@ -29,22 +30,22 @@ abbrev pub no_reply : HostState → List TagBuffers → Given
 no_reply host frames = record { host = host; frames = frames; reply = None }
 
 -- the status that a command was told, with its buffer; none before it was told one
-abbrev pub status_reply : ℕ → ℕ → List ℕ → Told → Option Reply
-status_reply tag ticket buffer Untold = None
+abbrev pub status_reply : ℕ → ℕ → List ℕ → HostAnswer → Option Reply
+status_reply tag ticket buffer Unanswered = None
 status_reply tag ticket buffer (Status status sense) = Some (StatusReply tag ticket status sense buffer)
 status_reply tag ticket buffer (Response code) = None
 
 -- A command's reply with the vector that was lent: its status once that was seen, and that it was aborted where its status
 -- TD was retired.
-abbrev pub command_reply : ℕ → ℕ → Told → TdState → List ℕ → Option Reply
+abbrev pub command_reply : ℕ → ℕ → HostAnswer → TdState → List ℕ → Option Reply
 command_reply tag ticket told Pending buffer = None
 command_reply tag ticket told Seen buffer = status_reply tag ticket buffer told
 command_reply tag ticket told LeftOver buffer = None
 command_reply tag ticket told Retired buffer = Some (Aborted tag ticket buffer)
 
 -- a task management's reply: the code of its response
-abbrev pub task_reply : ℕ → ℕ → Told → Option Reply
-task_reply tag ticket Untold = None
+abbrev pub task_reply : ℕ → ℕ → HostAnswer → Option Reply
+task_reply tag ticket Unanswered = None
 task_reply tag ticket (Status status sense) = None
 task_reply tag ticket (Response code) = Some (TaskReply tag ticket code)
 
@@ -65,7 +66,7 @@ without_lent frames tag (TaskReply told_tag ticket code) = frames
 
 -- the client without the entry of a slot, and with these slots ready
 abbrev pub without : HostClient → ℕ → List ℕ → HostClient
-without held slot rest = record { entries = slice_set held.entries slot None; least = held.least; ready = record { items = rest } }
+without held slot rest = record { entries = slice_set held.entries slot None; least_ticket = held.least_ticket; ready = record { items = rest } }
 
 abbrev pub given : HostState → List TagBuffers → ℕ → ℕ → List ℕ → Option Reply → Given
 given host frames client slot rest None = no_reply host frames
@@ -92,7 +93,7 @@ replied host frames client = replied_first host frames client (client_of host cl
 
 -- an entry has its reply: a command's status TD was seen and told its status, or is retired, and a task management was told
 -- its response
-abbrev pub has_answer : Told → TdState → Request → Bool
+abbrev pub has_answer : HostAnswer → TdState → Request → Bool
 has_answer told td (Execute op) = (is_seen td && is_status told) || is_retired td
 has_answer told td (Manage task noted) = is_response told
 

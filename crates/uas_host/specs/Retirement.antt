@@ -1,5 +1,6 @@
 -- Retirement of a left-over TD (xHCI 4.6.9 and 4.6.10): Stop Endpoint, then Set TR Dequeue Pointer to the enqueue place.
-use Rattle.std.specs.Prelude.{ℕ, zero, suc, ◌+◌, ◌≤◌, ◌-◌, ◌==◌, nat_lt, Bool, false, ◌&&◌, if◌then◌else◌, List, [], ◌∷◌, ◌++◌, length, filter, map, Option, Some, None, is_none, option_map, unwrap_or}
+use Rattle.std.specs.Prelude.{ℕ, zero, suc, ◌+◌, ◌≤◌, ◌-◌, ◌==◌, nat_lt, Bool, false, ◌&&◌, if◌then◌else◌, List, [], ◌∷◌, ◌++◌, length, filter, map, Option}
+use Rattle.std.specs.Prelude.{Some, None, is_none, option_map, unwrap_or}
 use Rattle.std.specs.List.{range_with_len}
 use Rattle.std.specs.Option.{option_map_or}
 use Rattle.xhci_trb.specs.declared.Trb.{Trb}
@@ -9,7 +10,7 @@ use Rattle.stream_array.specs.declared.Pipe.{Pipe}
 use Rattle.stream_array.specs.declared.TheConstants.{ENGINE_RING_PLACES, STREAMS}
 use Rattle.stream_array.specs.Map.{number_of, places_of}
 use Rattle.stream_array.specs.Rings.{LinesState, ring_of, with_engine, with_ring}
-use Rattle.uas_host.specs.declared.News.TheVariants.{TdRetired}
+use Rattle.uas_host.specs.declared.Notice.TheVariants.{TdRetired}
 use Rattle.uas_host.specs.declared.Retirement.{Retirement}
 use Rattle.uas_host.specs.declared.RetirementStage.TheVariants.{Stopping}
 use Rattle.uas_host.specs.Doors.{door, target_of}

@@ -1,24 +1,25 @@
 -- What the host makes of what an event tells.
-use Rattle.std.specs.Prelude.{ℕ, ◌==◌, not, Bool, true, false, ◌&&◌, if◌then◌else◌, List, [], map, length, slice_set, Option, Some, None, option_map, option_and_then}
+use Rattle.std.specs.Prelude.{ℕ, ◌==◌, not, Bool, true, false, ◌&&◌, if◌then◌else◌, List, [], map, length, slice_set, Option, Some, None, option_map}
+use Rattle.std.specs.Prelude.{option_and_then}
 use Rattle.std.specs.Option.{option_map_or}
 use Rattle.std.specs.List.{list_any}
 use Rattle.stream_array.specs.declared.Pipe.{Pipe}
 use Rattle.stream_array.specs.declared.Pipe.TheVariants.{Command, Status, DataIn, DataOut}
 use Rattle.scsi_cmd.specs.declared.Direction.{Direction}
 use Rattle.scsi_cmd.specs.declared.Direction.TheVariants.{Nothing, ToHost, ToDevice}
-use Rattle.scsi_cmd.specs.Op.{direction_of}
+use Rattle.scsi_cmd.specs.Request.{is_command, request_direction}
 use Rattle.scsi_cmd.specs.Held.{held_at}
 use Rattle.uas_host.specs.declared.TdState.{TdState}
 use Rattle.uas_host.specs.declared.TdState.TheVariants.{Seen, LeftOver, Retired}
-use Rattle.uas_host.specs.declared.Told.TheVariants.{Status as ToldStatus, Response as ToldResponse}
+use Rattle.uas_host.specs.declared.HostAnswer.TheVariants.{Status as AnsweredStatus, Response as AnsweredResponse}
 use Rattle.scsi_cmd.specs.declared.Request.{Request}
 use Rattle.scsi_cmd.specs.declared.Request.TheVariants.{Execute, Manage}
 use Rattle.uas_host.specs.declared.HostEntry.{HostEntry}
 use Rattle.uas_host.specs.declared.HostClient.{HostClient}
-use Rattle.uas_host.specs.declared.News.{News}
-use Rattle.uas_host.specs.declared.News.TheVariants.{CommandSeen, DataInSeen, DataOutSeen, Answered, Responded, TdRetired}
+use Rattle.uas_host.specs.declared.Notice.{Notice}
+use Rattle.uas_host.specs.declared.Notice.TheVariants.{CommandSeen, DataInSeen, DataOutSeen, Answered, Responded, TdRetired}
 use Rattle.uas_host.specs.declared.Place.{Place}
-use Rattle.uas_host.specs.State.{HostState, client_of, is_command, is_left_over, is_pending, is_ready, queued_if, with_client}
+use Rattle.uas_host.specs.State.{HostState, client_of, is_left_over, is_pending, is_ready, queued_if, with_client}
 use Rattle.uas_host.specs.Tags.{place_of}
 
 -- TDS
@@ -42,11 +43,6 @@ abbrev pub goes_to_device : Direction → Bool
 goes_to_device Nothing = false
 goes_to_device ToHost = false
 goes_to_device ToDevice = true
-
--- a task management moves no data
-abbrev pub request_direction : Request → Direction
-request_direction (Execute op) = direction_of op
-request_direction (Manage task noted) = Nothing
 
 -- the data TD is seen, where it waits and the event is of its pipe
 abbrev pub seen_data : Bool → HostEntry → Option TdState → Option HostEntry
@@ -75,17 +71,17 @@ with_retired DataOut held = record held { data_td = Some Retired }
 
 -- The entry once the host has seen the event, or none where it waits for no such event: a status is a command's, a response
 -- a task management's.
-abbrev pub seen : News → HostEntry → Option HostEntry
+abbrev pub seen : Notice → HostEntry → Option HostEntry
 seen CommandSeen held = if is_pending held.command_td then Some (record held { command_td = Seen }) else None
 seen DataInSeen held = seen_data (goes_to_host (request_direction held.request)) held held.data_td
 seen DataOutSeen held = seen_data (goes_to_device (request_direction held.request)) held held.data_td
 seen (Answered status sense) held =
     if is_command held.request && is_pending held.status_td
-    then Some (record held { told = ToldStatus status sense; status_td = Seen; data_td = data_after status held.data_td })
+    then Some (record held { told = AnsweredStatus status sense; status_td = Seen; data_td = data_after status held.data_td })
     else None
 seen (Responded code) held =
     if not (is_command held.request) && is_pending held.status_td
-    then Some (record held { told = ToldResponse code; status_td = Seen })
+    then Some (record held { told = AnsweredResponse code; status_td = Seen })
     else None
 seen (TdRetired pipe) held = if is_td_left_over pipe held then Some (with_retired pipe held) else None
 
@@ -110,7 +106,7 @@ abbrev pub after_response : List ℕ → List (Option HostEntry) → List (Optio
 after_response noted entries = map (option_map (doomed noted)) entries
 
 -- the response COMPLETE is 00h
-abbrev pub completes : News → Bool
+abbrev pub completes : Notice → Bool
 completes CommandSeen = false
 completes DataInSeen = false
 completes DataOutSeen = false
@@ -121,26 +117,26 @@ completes (TdRetired pipe) = false
 -- ONE CLIENT AND THE HOST
 
 -- the entries once one of them was seen
-abbrev pub entries_after : News → Request → List (Option HostEntry) → List (Option HostEntry)
-entries_after news request entries = if completes news then after_response (noted_in request) entries else entries
+abbrev pub entries_after : Notice → Request → List (Option HostEntry) → List (Option HostEntry)
+entries_after notice request entries = if completes notice then after_response (noted_in request) entries else entries
 
 -- What is ready now is the last of the ready ones. No doomed command is ready by the response, as its status TD is left over.
-abbrev pub with_seen : News → HostClient → ℕ → HostEntry → HostClient
-with_seen news client slot now = record {
-  entries = entries_after news now.request (slice_set client.entries slot (Some now));
-  least = client.least;
+abbrev pub with_seen : Notice → HostClient → ℕ → HostEntry → HostClient
+with_seen notice client slot now = record {
+  entries = entries_after notice now.request (slice_set client.entries slot (Some now));
+  least_ticket = client.least_ticket;
   ready = record { items = queued_if (is_ready now) client.ready.items slot };
 }
 
-abbrev pub client_seen : News → HostClient → ℕ → Option HostClient
-client_seen news client slot = option_map (with_seen news client slot) (option_and_then (seen news) (held_at client.entries slot))
+abbrev pub client_seen : Notice → HostClient → ℕ → Option HostClient
+client_seen notice client slot = option_map (with_seen notice client slot) (option_and_then (seen notice) (held_at client.entries slot))
 
-abbrev pub place_seen : News → HostState → Place → Option HostState
-place_seen news host place = option_map (with_client host place.client) (client_seen news (client_of host place.client) place.slot)
+abbrev pub place_seen : Notice → HostState → Place → Option HostState
+place_seen notice host place = option_map (with_client host place.client) (client_seen notice (client_of host place.client) place.slot)
 
 -- the host once it has seen the event of a tag
-abbrev pub host_seen : News → HostState → ℕ → Option HostState
-host_seen news host tag = option_and_then (place_seen news host) (place_of (length host.clients) tag)
+abbrev pub host_seen : Notice → HostState → ℕ → Option HostState
+host_seen notice host tag = option_and_then (place_seen notice host) (place_of (length host.clients) tag)
 
 -- what the host has under a tag
 abbrev pub held_of : HostState → ℕ → Option HostEntry

@@ -1,13 +1,15 @@
 -- What a host knows, and what is true of it.
-use Rattle.std.specs.Prelude.{◌≡◌, ℕ, ◌+◌, ◌<◌, ◌≤◌, ◌==◌, Bool, true, false, cond, ◌&&◌, List, [], ◌∷◌, ◌++◌, length, replicate, Option, Some, None, IfSome, slice_set, slice_index_or}
+use Rattle.std.specs.Prelude.{◌≡◌, ℕ, ◌+◌, ◌<◌, ◌≤◌, ◌==◌, Bool, true, false, cond, ◌&&◌, List, [], ◌∷◌, ◌++◌, length, replicate, Option, Some, None}
+use Rattle.std.specs.Prelude.{IfSome, slice_set, slice_index_or}
 use Rattle.stream_array.specs.Map.{HasStreams}
+use Rattle.scsi_cmd.specs.Request.{is_command}
 use Rattle.scsi_cmd.specs.declared.TheConstants.{TAGS}
 use Rattle.scsi_cmd.specs.Held.{AllHeld, held_at}
 use Rattle.uas_host.specs.declared.TheConstants.{MAX_CLIENTS}
 use Rattle.uas_host.specs.declared.TdState.{TdState}
 use Rattle.uas_host.specs.declared.TdState.TheVariants.{Pending, Seen, LeftOver, Retired}
-use Rattle.uas_host.specs.declared.Told.{Told}
-use Rattle.uas_host.specs.declared.Told.TheVariants.{Untold, Status, Response}
+use Rattle.uas_host.specs.declared.HostAnswer.{HostAnswer}
+use Rattle.uas_host.specs.declared.HostAnswer.TheVariants.{Unanswered, Status, Response}
 use Rattle.scsi_cmd.specs.declared.Request.{Request}
 use Rattle.scsi_cmd.specs.declared.Request.TheVariants.{Execute, Manage}
 use Rattle.uas_host.specs.declared.HostEntry.{HostEntry}
@@ -21,7 +23,7 @@ pub record HostState : Type 0 where
 
 -- a client that has submitted nothing
 abbrev pub new_client : HostClient
-new_client = record { entries = replicate TAGS None; least = 0; ready = record { items = [] } }
+new_client = record { entries = replicate TAGS None; least_ticket = 0; ready = record { items = [] } }
 
 -- the host of so many clients that have submitted nothing
 abbrev pub opening : ℕ → HostState
@@ -103,22 +105,18 @@ queued_if ready queue slot = cond ready (queue ++ slot ∷ []) queue
 
 -- WHAT IS TRUE OF EVERY HOST
 
-abbrev pub is_command : Request → Bool
-is_command (Execute op) = true
-is_command (Manage task noted) = false
-
-abbrev pub is_status : Told → Bool
-is_status Untold = false
+abbrev pub is_status : HostAnswer → Bool
+is_status Unanswered = false
 is_status (Status status sense) = true
 is_status (Response code) = false
 
-abbrev pub is_response : Told → Bool
-is_response Untold = false
+abbrev pub is_response : HostAnswer → Bool
+is_response Unanswered = false
 is_response (Status status sense) = false
 is_response (Response code) = true
 
 -- a command is answered by a status, a task management by a response
-abbrev pub is_answer_to : Request → Told → Bool
+abbrev pub is_answer_to : Request → HostAnswer → Bool
 is_answer_to (Execute op) told = is_status told
 is_answer_to (Manage task noted) told = is_response told
 

@@ -16,7 +16,7 @@ use Rattle.frame_store.specs.Buffers.{held_for, with_held}
 use Rattle.stream_array.specs.Rings.{LinesState}
 use Rattle.uas_host.specs.declared.TdState.{TdState}
 use Rattle.uas_host.specs.declared.TdState.TheVariants.{Pending}
-use Rattle.uas_host.specs.declared.Told.TheVariants.{Untold}
+use Rattle.uas_host.specs.declared.HostAnswer.TheVariants.{Unanswered}
 use Rattle.scsi_cmd.specs.declared.Request.TheVariants.{Execute}
 use Rattle.uas_host.specs.declared.HostEntry.{HostEntry}
 use Rattle.uas_host.specs.declared.HostClient.{HostClient}
@@ -29,7 +29,7 @@ use Rattle.uas_host.specs.Tds.{HasTdRoom}
 -- the first fault of a submission under a command slot of the client, or under none of its own
 abbrev pub fault_at : HostClient → ℕ → Command → Option ℕ → Option SubmitFault
 fault_at held ticket command None = Some NotYours
-fault_at held ticket command (Some slot) = first_submit_fault true (is_some (held_at held.entries slot)) held.least ticket command
+fault_at held ticket command (Some slot) = first_submit_fault true (is_some (held_at held.entries slot)) held.least_ticket ticket command
 
 -- the first fault of a submission, or none
 abbrev pub host_fault : HostState → ℕ → ℕ → ℕ → Command → Option SubmitFault
@@ -46,7 +46,7 @@ abbrev pub new_entry : ℕ → Op → HostEntry
 new_entry ticket op = record {
   ticket = ticket;
   request = Execute op;
-  told = Untold;
+  told = Unanswered;
   command_td = Pending;
   status_td = Pending;
   data_td = data_td_for (moved_bytes op);
@@ -56,7 +56,7 @@ new_entry ticket op = record {
 abbrev pub submitted_client : HostClient → ℕ → ℕ → Op → HostClient
 submitted_client held slot ticket op = record {
   entries = slice_set held.entries slot (Some (new_entry ticket op));
-  least = ticket + 1;
+  least_ticket = ticket + 1;
   ready = held.ready;
 }
 

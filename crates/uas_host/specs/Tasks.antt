@@ -15,7 +15,7 @@ use Rattle.uas_iu.specs.Lun.{lun_text}
 use Rattle.frame_store.specs.declared.TagBuffers.{TagBuffers}
 use Rattle.frame_store.specs.Buffers.{held_for, with_held}
 use Rattle.uas_host.specs.declared.TdState.TheVariants.{Pending}
-use Rattle.uas_host.specs.declared.Told.TheVariants.{Untold}
+use Rattle.uas_host.specs.declared.HostAnswer.TheVariants.{Unanswered}
 use Rattle.scsi_cmd.specs.declared.Request.TheVariants.{Manage}
 use Rattle.uas_host.specs.declared.HostEntry.{HostEntry}
 use Rattle.uas_host.specs.declared.HostClient.{HostClient}
@@ -43,7 +43,7 @@ has_task clients client held Reset = true
 -- the first fault of a task management of a client that is there
 abbrev pub client_task_fault : ℕ → ℕ → HostClient → ℕ → Task → Option SubmitFault
 client_task_fault clients client held ticket task =
-    first_task_fault true (is_held_at held TASK_SLOT) held.least ticket (has_task clients client held task)
+    first_task_fault true (is_held_at held TASK_SLOT) held.least_ticket ticket (has_task clients client held task)
 
 -- the first fault of a task management, or none
 abbrev pub task_fault : HostState → ℕ → ℕ → Task → Option SubmitFault
@@ -71,7 +71,7 @@ abbrev pub task_entry : ℕ → Task → ArrayVec ℕ → HostEntry
 task_entry ticket task noted = record {
   ticket = ticket;
   request = Manage task noted;
-  told = Untold;
+  told = Unanswered;
   command_td = Pending;
   status_td = Pending;
   data_td = None;
@@ -81,7 +81,7 @@ task_entry ticket task noted = record {
 abbrev pub managed_client : HostClient → ℕ → Task → HostClient
 managed_client held ticket task = record {
   entries = slice_set held.entries TASK_SLOT (Some (task_entry ticket task (record { items = noted_by held task })));
-  least = ticket + 1;
+  least_ticket = ticket + 1;
   ready = held.ready;
 }
 

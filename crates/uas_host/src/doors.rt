@@ -2,26 +2,13 @@
 ghost use Rattle.std.specs.Prelude.{◌≡◌, ◌+◌, ◌++◌, ◌≤◌};
 ghost use Rattle.arrayvec.specs.ArrayVec.{array_vec_len};
 ghost use Rattle.stream_array.specs.Map.{HasRing, HasStreams};
-ghost use Rattle.uas_host.specs.Doors.{answer_doors, data_doors, door_unless, submission_doors, target_of};
+ghost use Rattle.uas_host.specs.Doors.{answer_doors, data_doors, door_unless, submission_doors};
 ghost use Rattle.uas_host.specs.Retirement.{is_held, pending_door, resumed_doors, same_pipe};
 
 use crate::{Host, MOST_DOORS};
 use arrayvec::ArrayVec;
 use scsi_cmd::Direction;
 use stream_array::{Lines, Pipe, STREAMS, doorbell};
-
-/// The doorbell target of a pipe, which is its endpoint's number too (xHCI 5.6).
-pub(crate) fn target(pipe: Pipe) -> u8
-    ensures target { result ≡ target_of pipe }
-    ensures bits { result ≤ 5 }
-{
-    match pipe {
-        Pipe::Command => 2,
-        Pipe::Status => 3,
-        Pipe::DataOut => 4,
-        Pipe::DataIn => 5,
-    }
-}
 
 fn is_same(one: Pipe, other: Pipe) -> bool
     ensures { result ≡ same_pipe one other }
@@ -47,17 +34,17 @@ impl Host {
         ensures len { array_vec_len doors.new ≤ array_vec_len doors.old + 1 }
     {
         if !self.is_held(pipe) {
-            doors.push(doorbell(target(pipe), tag));
+            doors.push(doorbell(pipe.target(), tag));
         }
     }
 
     /// Rings the data stream of a submission that moves data this way.
-    fn ring_data(&self, doors: &mut ArrayVec<u32, MOST_DOORS>, way: Direction, tag: u16)
+    fn ring_data(&self, doors: &mut ArrayVec<u32, MOST_DOORS>, direction: Direction, tag: u16)
         requires { array_vec_len doors.old ≤ 255 }
-        ensures doors { doors.new.items ≡ doors.old.items ++ data_doors (is_held self.now) way tag }
+        ensures doors { doors.new.items ≡ doors.old.items ++ data_doors (is_held self.now) direction tag }
         ensures len { array_vec_len doors.new ≤ array_vec_len doors.old + 1 }
     {
-        match way {
+        match direction {
             Direction::Nothing => {}
             Direction::ToHost => self.ring_stream(doors, Pipe::DataIn, tag),
             Direction::ToDevice => self.ring_stream(doors, Pipe::DataOut, tag),
@@ -70,15 +57,15 @@ impl Host {
         ensures { doors.new.items ≡ doors.old.items ++ answer_doors (is_held self.now) tag }
     {
         self.ring_stream(doors, Pipe::Status, tag);
-        doors.push(doorbell(target(Pipe::Command), 0));
+        doors.push(doorbell(Pipe::Command.target(), 0));
     }
 
     /// Rings the doorbells of a submission that moves data this way: data, status, command.
-    pub(crate) fn ring(&self, doors: &mut ArrayVec<u32, MOST_DOORS>, way: Direction, tag: u16)
+    pub(crate) fn ring(&self, doors: &mut ArrayVec<u32, MOST_DOORS>, direction: Direction, tag: u16)
         requires { array_vec_len doors.old ≤ 253 }
-        ensures { doors.new.items ≡ doors.old.items ++ submission_doors (is_held self.now) way tag }
+        ensures { doors.new.items ≡ doors.old.items ++ submission_doors (is_held self.now) direction tag }
     {
-        self.ring_data(doors, way, tag);
+        self.ring_data(doors, direction, tag);
         self.ring_answer(doors, tag);
     }
 }
@@ -91,7 +78,7 @@ fn ring_pending(lines: &Lines, doors: &mut ArrayVec<u32, MOST_DOORS>, pipe: Pipe
     ensures most { array_vec_len doors.new ≤ array_vec_len doors.old + 1 }
 {
     if lines.front(pipe, stream).is_some() {
-        doors.push(doorbell(target(pipe), stream));
+        doors.push(doorbell(pipe.target(), stream));
     }
 }
 

@@ -10,7 +10,7 @@ ghost use Rattle.uas_host.specs.State.{IsRetirement};
 use crate::doors::resume;
 use crate::retirements::{empty, move_to_enqueue, push_engine};
 use crate::tags::tag_under;
-use crate::{Handled, Host, MOST_DOORS, News, Retirement, RetirementStage};
+use crate::{Handled, Host, MOST_DOORS, Notice, Retirement, RetirementStage};
 use arrayvec::ArrayVec;
 use cycle_ring::laws::addresses_name_items;
 use stream_array::{Lines, doorbell};
@@ -88,12 +88,13 @@ impl Host {
         let tag = tag_under(place.client, place.slot);
         free_engine(lines, pointer);
         empty(lines, pipe, tag);
-        let _ = self.see_at(place, News::TdRetired(pipe));
+        let _ = self.see_at(place, Notice::TdRetired(pipe));
         self.retirement = None;
         resume(lines, doors, pipe);
     }
 
     /// Takes in a completion of the controller's command ring, with this pointer and this code.
+    #[inline(never)]
     pub(crate) fn on_completion(
         &mut self,
         lines: &mut Lines,
@@ -103,7 +104,8 @@ impl Host {
     ) -> Handled
         requires { array_vec_len doors.old ≤ 8 }
         ensures handled { let done = is_engine_done lines.old pointer code in
-            handled_engine (record { host = self.old; lines = lines.old }) pointer done self.old.retirement ≡ (record { host = self.new; lines = lines.new }, result) }
+            handled_engine (record { host = self.old; lines = lines.old }) pointer done self.old.retirement ≡
+            (record { host = self.new; lines = lines.new }, result) }
         ensures doors { doors.new.items ≡ doors.old.items ++ engine_doors lines.old pointer (is_engine_done lines.old pointer code) self.old.retirement }
     {
         if !is_done(lines, pointer, code) {

@@ -1,13 +1,13 @@
 // Events.
 ghost use Rattle.std.specs.Prelude.{◌≡◌, ◌++◌, ◌≤◌};
 ghost use Rattle.arrayvec.specs.ArrayVec.{array_vec_len};
-ghost use Rattle.uas_host.specs.Events.{ended_at, event_doors, handled, handled_td, news_of, news_on, succeeded, Sides};
+ghost use Rattle.uas_host.specs.Events.{ended_at, event_doors, handled, handled_td, notice_of, notice_on, succeeded, Sides};
 ghost use Rattle.stream_array.specs.declared.Pipe.{Pipe};
 
 use crate::ended::td_ended_at;
 use crate::engine::SUCCESS;
 use crate::units::read_answer;
-use crate::{EndedTd, Handled, Host, MOST_DOORS, News};
+use crate::{EndedTd, Handled, Host, MOST_DOORS, Notice};
 use arrayvec::ArrayVec;
 use event_ring::Event;
 use frame_store::{Frames, STATUS_BYTES};
@@ -19,17 +19,17 @@ const SHORT_PACKET: u8 = 13;
 const _: () = prove!(SHORT_PACKET == 13);
 
 /// What an event of a command or data TD tells.
-fn where_success(code: u8, news: News) -> Option<News>
-    ensures { result ≡ succeeded code news }
+fn where_success(code: u8, notice: Notice) -> Option<Notice>
+    ensures { result ≡ succeeded code notice }
 {
-    if code == SUCCESS { Some(news) } else { None }
+    if code == SUCCESS { Some(notice) } else { None }
 }
 
 /// What the status buffer of a tag tells, of which the residual wasn't written.
-fn answer_of(frames: &Frames, residual: u32, code: u8, tag: u16) -> Option<News>
+fn answer_of(frames: &Frames, residual: u32, code: u8, tag: u16) -> Option<Notice>
     requires first_tag { 1 ≤ tag }
     requires last_tag { tag ≤ 248 }
-    ensures { result ≡ news_on Pipe.Status frames.now residual code tag }
+    ensures { result ≡ notice_on Pipe.Status frames.now residual code tag }
 {
     if code != SHORT_PACKET {
         return None;
@@ -39,16 +39,16 @@ fn answer_of(frames: &Frames, residual: u32, code: u8, tag: u16) -> Option<News>
 }
 
 /// What an event of a TD tells.
-fn news_in(frames: &Frames, residual: u32, code: u8, td: EndedTd) -> Option<News>
+fn notice_in(frames: &Frames, residual: u32, code: u8, td: EndedTd) -> Option<Notice>
     requires first_tag { 1 ≤ td.tag }
     requires last_tag { td.tag ≤ 248 }
-    ensures { result ≡ news_of frames.now residual code td }
+    ensures { result ≡ notice_of frames.now residual code td }
 {
     match td.pipe {
-        Pipe::Command => where_success(code, News::CommandSeen),
+        Pipe::Command => where_success(code, Notice::CommandSeen),
         Pipe::Status => answer_of(frames, residual, code, td.tag),
-        Pipe::DataIn => where_success(code, News::DataInSeen),
-        Pipe::DataOut => where_success(code, News::DataOutSeen),
+        Pipe::DataIn => where_success(code, Notice::DataInSeen),
+        Pipe::DataOut => where_success(code, Notice::DataOutSeen),
     }
 }
 
@@ -62,15 +62,16 @@ impl Host {
         residual: u32,
         code: u8,
     ) -> Handled
-        ensures { handled_td (record { host = self.old; lines = lines.old }) frames.now pointer residual code (ended_at lines.old pointer) ≡ (record { host = self.new; lines = lines.new }, result) }
+        ensures { handled_td (record { host = self.old; lines = lines.old }) frames.now pointer residual code (ended_at lines.old pointer) ≡
+            (record { host = self.new; lines = lines.new }, result) }
     {
         let Some(td) = td_ended_at(lines, pointer) else {
             return Handled::Stray;
         };
-        let Some(news) = news_in(frames, residual, code, td) else {
+        let Some(notice) = notice_in(frames, residual, code, td) else {
             return Handled::Stray;
         };
-        if !self.see(td.tag, news) {
+        if !self.see(td.tag, notice) {
             return Handled::Stray;
         }
         self.free(lines, pointer, td);

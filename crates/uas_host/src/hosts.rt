@@ -5,10 +5,10 @@ ghost use Rattle.scsi_cmd.specs.declared.TheConstants.{TAGS, TASK_SLOT};
 ghost use Rattle.uas_host.specs.State.{IsHostClient, client_of, new_client, opening};
 ghost use Rattle.uas_host.specs.Submit.{IsFree, data_td_for, fault_at, host_fault, new_entry, noted, slot_of, submitted_client};
 
-use crate::marks::Marks;
 use crate::tags::command_slot_of;
-use crate::{Host, HostClient, HostEntry, MAX_CLIENTS, NoMemory, TdState, Told};
+use crate::{Host, HostAnswer, HostClient, HostEntry, MAX_CLIENTS, NoMemory, TdState};
 use arrayvec::ArrayVec;
+use marks::Marks;
 use scsi_cmd::{Command, Op, Request, SubmitFault, TAGS, moves, submit_fault};
 use std::alloc::Global;
 
@@ -20,7 +20,7 @@ impl HostEntry {
         HostEntry {
             ticket,
             request: Request::Execute(op),
-            told: Told::Untold,
+            told: HostAnswer::Unanswered,
             command_td: TdState::Pending,
             status_td: TdState::Pending,
             data_td: pending_where(moves(&op).1),
@@ -51,7 +51,7 @@ impl HostClient {
     {
         HostClient {
             entries: none_held(),
-            least: 0,
+            least_ticket: 0,
             ready: ArrayVec::new(),
         }
     }
@@ -62,7 +62,7 @@ impl HostClient {
         ensures { result ≡ fault_at self.now ticket command.now (Some slot) }
     {
         let in_use = self.entries[slot].is_some();
-        submit_fault(true, in_use, self.least, ticket, command)
+        submit_fault(true, in_use, self.least_ticket, ticket, command)
     }
 
     fn submit(&mut self, slot: usize, ticket: u64, op: Op)
@@ -71,7 +71,7 @@ impl HostClient {
         ensures { self.new ≡ submitted_client self.old slot ticket op }
     {
         self.entries[slot] = Some(HostEntry::new(ticket, op));
-        self.least = ticket + 1;
+        self.least_ticket = ticket + 1;
     }
 }
 

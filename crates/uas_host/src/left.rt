@@ -1,26 +1,28 @@
 // Which TDs are left over, found by the marks of the clients that may have some.
-ghost use Rattle.std.specs.Prelude.{◌≡◌, ℕ, ◌*◌, ◌<◌, ◌≤◌, true, false, IfSome, IfNone, length};
+ghost use Rattle.std.specs.Prelude.{◌≡◌, ℕ, ◌*◌, ◌<◌, ◌≤◌, true, false, IfSome, IfNone, if◌then◌else◌, length};
+ghost use Rattle.marks.specs.Marks.{is_marked};
 ghost use Rattle.scsi_cmd.specs.Held.{held_at};
 ghost use Rattle.scsi_cmd.specs.declared.TheConstants.{TAGS};
 ghost use Rattle.uas_host.specs.Left.{has_left_over, have_left_over, holds_left_over, is_held_left_over, moves_left_over};
 ghost use Rattle.uas_host.specs.Retirement.{is_left_over_on};
 
 use crate::tags::tag_under;
-use crate::{Host, HostClient, HostEntry, News};
+use crate::{CLIENT_WORDS, Host, HostClient, HostEntry, MAX_CLIENTS, Notice};
+use marks::Marks;
 use scsi_cmd::{CHECK_CONDITION, TAGS};
 use stream_array::Pipe;
 use uas_iu::TASK_COMPLETE;
 
-impl News {
+impl Notice {
     /// Whether it can change which TDs are left over.
     pub(crate) fn moves_left_over(&self) -> bool
         ensures { result ≡ moves_left_over self.now }
     {
         match self {
-            News::CommandSeen | News::DataInSeen | News::DataOutSeen => false,
-            News::Answered { status, .. } => *status == CHECK_CONDITION,
-            News::Responded { code } => *code == TASK_COMPLETE,
-            News::TdRetired(_) => true,
+            Notice::CommandSeen | Notice::DataInSeen | Notice::DataOutSeen => false,
+            Notice::Answered { status, .. } => *status == CHECK_CONDITION,
+            Notice::Responded { code } => *code == TASK_COMPLETE,
+            Notice::TdRetired(_) => true,
         }
     }
 }
@@ -58,7 +60,7 @@ fn is_held_left_over(held: &Option<HostEntry>, pipe: Pipe) -> bool
 }
 
 /// Whether a TD of one of the entries is left over.
-pub(crate) fn have_left_over(entries: &[Option<HostEntry>; TAGS]) -> bool
+fn have_left_over(entries: &[Option<HostEntry>; TAGS]) -> bool
     ensures { result ≡ have_left_over entries.now }
 {
     for slot in 0..TAGS {
@@ -67,6 +69,22 @@ pub(crate) fn have_left_over(entries: &[Option<HostEntry>; TAGS]) -> bool
         }
     }
     false
+}
+
+/// Marks a client exactly where a TD of it is left over; where that can't have changed, its mark stays.
+pub(crate) fn settle(
+    marks: &mut Marks<CLIENT_WORDS>,
+    client: usize,
+    changed: bool,
+    held: &HostClient,
+)
+    requires { client < MAX_CLIENTS }
+    ensures here { is_marked marks.new client ≡ (if changed then have_left_over held.now.entries else is_marked marks.old client) }
+    ensures others { (other : ℕ) → (other ≡ client → ⊥) → is_marked marks.new other ≡ is_marked marks.old other }
+{
+    if changed {
+        marks.set(client, have_left_over(&held.entries));
+    }
 }
 
 impl HostClient {

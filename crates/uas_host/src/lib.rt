@@ -29,14 +29,14 @@
 //! Retirement (xHCI 4.6.9, 4.6.10): a left-over TD is taken off its ring by Stop Endpoint and then Set TR Dequeue
 //! Pointer to the ring's enqueue place, one TD at a time. From its begin to the event of the second command the
 //! pipe is held: the host pushes TDs on it and rings no doorbell of it. Then it rings every stream of the pipe
-//! that has a pending TRB, by rising stream. A bit for each client says whether a TD of it may be left over, so that
-//! the next TD that is left over is found without a look at the clients that have none.
+//! that has a pending TRB, by rising stream. A client is marked where a TD of it may be left over, so that the next
+//! TD that is left over is found without a look at the clients that have none.
 //!
 //! What is promised: each call is one equation over the new host, rings, buffers, doorbells and answer
 //! (`specs/`). A refused submission changes nothing and hands the command back. [`Host::new`] takes all
 //! memory, and no other call takes any: a client's vector is moved and never copied. The host knows neither
 //! device nor controller. It stands on `stream_array` for the rings, on `frame_store` for the buffers, on
-//! `uas_iu` for the units and on `scsi_cmd` for commands and replies.
+//! `uas_iu` for the units, on `scsi_cmd` for commands and replies and on `marks` for the clients that may have a TD left over.
 #![tactic(auto)]
 
 mod asked;
@@ -48,7 +48,6 @@ mod freed;
 mod hosts;
 pub mod laws;
 mod left;
-mod marks;
 mod replies;
 mod retirements;
 mod seen;
@@ -60,8 +59,8 @@ mod tds;
 mod tests;
 mod units;
 
-use crate::marks::Marks;
 use arrayvec::ArrayVec;
+use marks::Marks;
 use scsi_cmd::{MAX_SENSE_BYTES, Request, TAGS};
 use std::alloc::AllocError;
 use std::marker::Model;
@@ -74,6 +73,11 @@ pub type NoMemory = AllocError;
 pub const MAX_CLIENTS: usize = 31;
 
 const _: () = prove!(MAX_CLIENTS == 31);
+
+/// Words of 64 marks, enough for a mark of each client.
+const CLIENT_WORDS: usize = 1;
+
+const _: () = prove!(CLIENT_WORDS == 1);
 
 /// How many doorbells one call can ring at most.
 pub const MOST_DOORS: usize = 256;
@@ -102,9 +106,9 @@ pub enum TdState {
 
 /// What the host was told of a command or of a task management.
 #[derive(Debug, Drop)]
-pub enum Told {
+pub enum HostAnswer {
     /// Nothing yet.
-    Untold,
+    Unanswered,
     /// The status and the sense of a Sense unit.
     Status {
         status: u8,
@@ -136,7 +140,7 @@ pub struct EndedTd {
 
 /// What an event tells.
 #[derive(Debug, Drop)]
-pub enum News {
+pub enum Notice {
     /// The command was received.
     CommandSeen,
     /// The data TD on the data-in pipe is done.
@@ -180,7 +184,7 @@ pub struct HostEntry {
     /// What the client asked for. A task management noted its tickets when it was submitted: an abort that of the command
     /// on the tag, a reset those of all commands of its client, by rising slot.
     pub request: Request,
-    pub told: Told,
+    pub told: HostAnswer,
     pub command_td: TdState,
     pub status_td: TdState,
     /// A command that moves no bytes has none, nor has a task management.
@@ -192,7 +196,7 @@ pub struct HostEntry {
 #[derive(Debug, Drop)]
 pub struct HostClient {
     pub entries: [Option<HostEntry>; TAGS],
-    pub least: u64,
+    pub least_ticket: u64,
     pub ready: ArrayVec<usize, TAGS>,
 }
 
@@ -201,7 +205,7 @@ pub struct HostClient {
 pub struct Host {
     clients: Vec<HostClient>,
     /// The clients that may have a TD that is left over.
-    marks: Marks,
+    marks: Marks<CLIENT_WORDS>,
     retirement: Option<Retirement>,
 }
 
@@ -214,5 +218,5 @@ impl Model for Host {
     ghost view = { λ host. record { clients = host.clients.items; retirement = host.retirement } };
 
     ghost invariant = { λ host. IsHost (record { clients = host.clients.items; retirement = host.retirement })
-        × AreMarked host.marks.word host.clients.items };
+        × AreMarked host.marks host.clients.items };
 }

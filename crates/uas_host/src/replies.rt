@@ -1,18 +1,25 @@
 // Replies.
 ghost use Rattle.std.specs.Prelude.{◌≡◌, ◌<◌, ◌≤◌, ◌&&◌, ◌||◌, drop, length, option_and_then, slice_get, IfSome, IsSome, None, Some, true};
+ghost use Rattle.scsi_cmd.specs.Request.{is_command};
 ghost use Rattle.scsi_cmd.specs.Held.{held_at};
 ghost use Rattle.scsi_cmd.specs.declared.TheConstants.{TAGS};
 ghost use Rattle.uas_host.specs.Replies.{command_reply, has_command, replied, reply_of, task_reply, without, HasAnswer, HasBuffer, IsReadySlot};
-ghost use Rattle.uas_host.specs.State.{client_of, is_command, is_response, is_retired, is_seen, is_status, with_client};
+ghost use Rattle.uas_host.specs.State.{client_of, is_response, is_retired, is_seen, is_status, with_client};
 ghost use Rattle.uas_host.specs.Tags.{tag_of};
 
 use crate::tags::tag_under;
-use crate::{Host, HostClient, HostEntry, TdState, Told};
+use crate::{Host, HostAnswer, HostClient, HostEntry, TdState};
 use frame_store::Frames;
 use scsi_cmd::{Buffer, Reply, Request};
 
 /// The reply of a command with its buffer. Asks that its status TD was seen and told its status, or is retired.
-fn command_reply(tag: u16, ticket: u64, told: Told, status_td: TdState, buffer: Buffer) -> Reply
+fn command_reply(
+    tag: u16,
+    ticket: u64,
+    told: HostAnswer,
+    status_td: TdState,
+    buffer: Buffer,
+) -> Reply
     requires { ((is_seen status_td && is_status told) || is_retired status_td) ≡ true }
     ensures { command_reply tag ticket told status_td buffer ≡ Some result }
 {
@@ -24,25 +31,25 @@ fn command_reply(tag: u16, ticket: u64, told: Told, status_td: TdState, buffer: 
         };
     }
     match told {
-        Told::Status { status, sense } => Reply::Status {
+        HostAnswer::Status { status, sense } => Reply::Status {
             tag,
             ticket,
             status,
             sense,
             buffer,
         },
-        Told::Untold | Told::Response { .. } => unreachable!(),
+        HostAnswer::Unanswered | HostAnswer::Response { .. } => unreachable!(),
     }
 }
 
 /// The reply of a task management. Asks that its response was told.
-fn task_reply(tag: u16, ticket: u64, told: Told) -> Reply
+fn task_reply(tag: u16, ticket: u64, told: HostAnswer) -> Reply
     requires { is_response told ≡ true }
     ensures { task_reply tag ticket told ≡ Some result }
 {
     match told {
-        Told::Response { code } => Reply::Task { tag, ticket, code },
-        Told::Untold | Told::Status { .. } => unreachable!(),
+        HostAnswer::Response { code } => Reply::Task { tag, ticket, code },
+        HostAnswer::Unanswered | HostAnswer::Status { .. } => unreachable!(),
     }
 }
 
@@ -102,6 +109,7 @@ impl HostClient {
     }
 
     /// The slot that was ready first is free again, and its entry is the reply.
+    #[inline(always)]
     fn release(&mut self, slot: usize, tag: u16, lent: Option<Buffer>) -> Reply
         requires slot { slot < TAGS }
         requires first { slice_get self.old.ready.items 0 ≡ Some slot }
@@ -137,6 +145,7 @@ impl Host {
     }
 
     /// The slot of a client that was ready first is free again, and its entry is the reply.
+    #[inline(always)]
     fn release(&mut self, client: usize, slot: usize, tag: u16, lent: Option<Buffer>) -> Reply
         requires ready { IsReadySlot self.old client slot }
         requires first { slice_get (client_of self.old client).ready.items 0 ≡ Some slot }

@@ -9,7 +9,6 @@ ghost use Rattle.uas_host.specs.Retirement.{emptied, move_trb, retirement_for, s
 ghost use Rattle.uas_host.specs.State.{IsRetirement};
 ghost use Rattle.uas_host.specs.Tags.{tag_of};
 
-use crate::doors::target;
 use crate::tags::place_of_tag;
 use crate::{Host, MOST_DOORS, Retirement, RetirementStage};
 use arrayvec::ArrayVec;
@@ -39,7 +38,7 @@ fn stop(pipe: Pipe) -> Trb
     ensures text { HasText result }
 {
     Trb::StopEndpoint {
-        endpoint: target(pipe),
+        endpoint: pipe.target(),
         slot: DEVICE_SLOT,
     }
 }
@@ -56,7 +55,7 @@ pub(crate) fn move_to_enqueue(lines: &Lines, pipe: Pipe, tag: u16) -> Trb
         pointer,
         cycle,
         stream: tag,
-        endpoint: target(pipe),
+        endpoint: pipe.target(),
         slot: DEVICE_SLOT,
     }
 }

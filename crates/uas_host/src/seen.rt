@@ -1,13 +1,16 @@
 // What the host makes of what an event tells.
 ghost use Rattle.std.specs.Prelude.{◌≡◌, ◌<◌, ◌≤◌, MatchOption, IfSome, Some, true, false, length, option_and_then, option_map};
 ghost use Rattle.scsi_cmd.specs.Held.{held_at};
+ghost use Rattle.scsi_cmd.specs.Request.{is_command, request_direction};
 ghost use Rattle.scsi_cmd.specs.declared.TheConstants.{TAGS};
-ghost use Rattle.uas_host.specs.Seen.{after_response, client_seen, completes, data_after, doomed, goes_to_device, goes_to_host, host_seen, is_data_left_over, is_doomed, is_td_left_over, left_over_data, noted_in, place_seen, request_direction, seen, seen_data, with_retired};
-ghost use Rattle.uas_host.specs.declared.News.TheVariants.{TdRetired};
-ghost use Rattle.uas_host.specs.State.{is_command, is_data_over, is_left_over, is_over, is_pending, is_ready, is_retired, is_seen};
+ghost use Rattle.uas_host.specs.Seen.{after_response, client_seen, completes, data_after, doomed, goes_to_device, goes_to_host, host_seen};
+ghost use Rattle.uas_host.specs.Seen.{is_data_left_over, is_doomed, is_td_left_over, left_over_data, noted_in, place_seen, seen, seen_data, with_retired};
+ghost use Rattle.uas_host.specs.declared.Notice.TheVariants.{TdRetired};
+ghost use Rattle.uas_host.specs.State.{is_data_over, is_left_over, is_over, is_pending, is_ready, is_retired, is_seen};
 
+use crate::left::settle;
 use crate::tags::place_of_tag;
-use crate::{Host, HostClient, HostEntry, News, Place, TdState, Told};
+use crate::{Host, HostAnswer, HostClient, HostEntry, Notice, Place, TdState};
 use arrayvec::ArrayVec;
 use scsi_cmd::{CHECK_CONDITION, Direction, Request, TAGS, TASK_SLOT, moves};
 use stream_array::Pipe;
@@ -93,7 +96,8 @@ impl HostEntry {
     /// The data TD is seen, where it waits and `right` says that the event is of its pipe; false, and nothing
     /// changes, where not.
     fn see_data(&mut self, right: bool) -> bool
-        ensures { MatchOption (seen_data right self.old self.old.data_td) ((result ≡ false) × (self.new ≡ self.old)) (λ now. (result ≡ true) × (self.new ≡ now)) }
+        ensures { MatchOption (seen_data right self.old self.old.data_td) ((result ≡ false) × (self.new ≡ self.old))
+            (λ now. (result ≡ true) × (self.new ≡ now)) }
     {
         match &mut self.data_td {
             Some(td) if right && td.is_pending() => {
@@ -172,55 +176,56 @@ impl HostEntry {
     }
 
     /// The host sees an event; false, and nothing changes, where it waits for no such event.
-    fn see(&mut self, news: News) -> bool
-        ensures { MatchOption (seen news self.old) ((result ≡ false) × (self.new ≡ self.old)) (λ now. (result ≡ true) × (self.new ≡ now)) }
+    fn see(&mut self, notice: Notice) -> bool
+        ensures { MatchOption (seen notice self.old) ((result ≡ false) × (self.new ≡ self.old)) (λ now. (result ≡ true) × (self.new ≡ now)) }
     {
-        match news {
-            News::CommandSeen => {
+        match notice {
+            Notice::CommandSeen => {
                 if !self.command_td.is_pending() {
                     return false;
                 }
                 self.command_td = TdState::Seen;
                 true
             }
-            News::DataInSeen => {
+            Notice::DataInSeen => {
                 let right = matches!(self.direction(), Direction::ToHost);
                 self.see_data(right)
             }
-            News::DataOutSeen => {
+            Notice::DataOutSeen => {
                 let right = matches!(self.direction(), Direction::ToDevice);
                 self.see_data(right)
             }
-            News::Answered { status, sense } => {
+            Notice::Answered { status, sense } => {
                 if !self.is_command() || !self.status_td.is_pending() {
                     return false;
                 }
                 settle_data(&mut self.data_td, status);
-                self.told = Told::Status { status, sense };
+                self.told = HostAnswer::Status { status, sense };
                 self.status_td = TdState::Seen;
                 true
             }
-            News::Responded { code } => {
+            Notice::Responded { code } => {
                 if self.is_command() || !self.status_td.is_pending() {
                     return false;
                 }
-                self.told = Told::Response { code };
+                self.told = HostAnswer::Response { code };
                 self.status_td = TdState::Seen;
                 true
             }
-            News::TdRetired(pipe) => self.retire(pipe),
+            Notice::TdRetired(pipe) => self.retire(pipe),
         }
     }
 }
 
 /// The host sees an event of what is held; whether its command is ready now. None, and nothing changes, where it
 /// waits for no such event.
-fn see_held(held: &mut Option<HostEntry>, news: News) -> Option<bool>
-    ensures { MatchOption (option_and_then (seen news) held.old) ((result ≡ None) × (held.new ≡ held.old)) (λ now. (result ≡ Some (is_ready now)) × (held.new ≡ Some now)) }
+fn see_held(held: &mut Option<HostEntry>, notice: Notice) -> Option<bool>
+    ensures { MatchOption (option_and_then (seen notice) held.old) ((result ≡ None) × (held.new ≡ held.old))
+        (λ now. (result ≡ Some (is_ready now)) × (held.new ≡ Some now)) }
 {
     match held {
         Some(entry) => {
-            if entry.see(news) {
+            if entry.see(notice) {
                 Some(entry.is_ready())
             } else {
                 None
@@ -258,24 +263,24 @@ fn noted_by(held: &Option<HostEntry>) -> ArrayVec<u64, TASK_SLOT>
     }
 }
 
-impl News {
+impl Notice {
     /// Whether it is the response COMPLETE.
     fn completes(&self) -> bool
         ensures { result ≡ completes self.now }
     {
-        matches!(self, News::Responded { code } if *code == TASK_COMPLETE)
+        matches!(self, Notice::Responded { code } if *code == TASK_COMPLETE)
     }
 }
 
 impl HostClient {
     /// The host sees an event of a slot; false, and nothing changes, where it waits for no such event.
-    fn see(&mut self, slot: usize, news: News) -> bool
+    fn see(&mut self, slot: usize, notice: Notice) -> bool
         requires slot { slot < TAGS }
-        requires room { IfSome (client_seen news self.old slot) (λ now. length now.ready.items ≤ TAGS) }
-        ensures { MatchOption (client_seen news self.old slot) ((result ≡ false) × (self.new ≡ self.old)) (λ now. (result ≡ true) × (self.new ≡ now)) }
+        requires room { IfSome (client_seen notice self.old slot) (λ now. length now.ready.items ≤ TAGS) }
+        ensures { MatchOption (client_seen notice self.old slot) ((result ≡ false) × (self.new ≡ self.old)) (λ now. (result ≡ true) × (self.new ≡ now)) }
     {
-        let completes = news.completes();
-        match see_held(&mut self.entries[slot], news) {
+        let completes = notice.completes();
+        match see_held(&mut self.entries[slot], notice) {
             None => false,
             Some(ready) => {
                 if completes {
@@ -293,25 +298,25 @@ impl HostClient {
 
 impl Host {
     /// The host sees an event of a place; false, and nothing changes, where it waits for no such event.
-    pub(crate) fn see_at(&mut self, place: Place, news: News) -> bool
+    pub(crate) fn see_at(&mut self, place: Place, notice: Notice) -> bool
         requires client { place.client < length self.old.clients }
         requires slot { place.slot < TAGS }
-        ensures { MatchOption (place_seen news self.old place) ((result ≡ false) × (self.new ≡ self.old)) (λ now. (result ≡ true) × (self.new ≡ now)) }
+        ensures { MatchOption (place_seen notice self.old place) ((result ≡ false) × (self.new ≡ self.old)) (λ now. (result ≡ true) × (self.new ≡ now)) }
     {
-        let changed = news.moves_left_over();
+        let changed = notice.moves_left_over();
         let held = &mut self.clients[place.client];
-        let saw = held.see(place.slot, news);
-        self.marks.settle(place.client, changed, held);
+        let saw = held.see(place.slot, notice);
+        settle(&mut self.marks, place.client, changed, held);
         saw
     }
 
     /// The host sees an event of a tag; false, and nothing changes, where it waits for no such event.
-    pub(crate) fn see(&mut self, tag: u16, news: News) -> bool
-        ensures { MatchOption (host_seen news self.old tag) ((result ≡ false) × (self.new ≡ self.old)) (λ now. (result ≡ true) × (self.new ≡ now)) }
+    pub(crate) fn see(&mut self, tag: u16, notice: Notice) -> bool
+        ensures { MatchOption (host_seen notice self.old tag) ((result ≡ false) × (self.new ≡ self.old)) (λ now. (result ≡ true) × (self.new ≡ now)) }
     {
         let Some(place) = place_of_tag(self.clients.len(), tag) else {
             return false;
         };
-        self.see_at(place, news)
+        self.see_at(place, notice)
     }
 }

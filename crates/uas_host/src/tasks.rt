@@ -7,13 +7,14 @@ ghost use Rattle.uas_host.specs.Retirement.{is_held};
 ghost use Rattle.uas_host.specs.State.{client_of};
 ghost use Rattle.uas_host.specs.Submit.{IsFree, slot_of};
 ghost use Rattle.uas_host.specs.Tags.{command_slot};
-ghost use Rattle.uas_host.specs.Tasks.{client_task_fault, has_task, is_held_at, managed, managed_client, noted_by, task_entry, task_fault, task_tag, tickets_of, with_task_unit};
+ghost use Rattle.uas_host.specs.Tasks.{client_task_fault, has_task, is_held_at, managed, managed_client, noted_by, task_entry, task_fault, task_tag};
+ghost use Rattle.uas_host.specs.Tasks.{tickets_of, with_task_unit};
 ghost use Rattle.uas_host.specs.Tds.{pushed_task, HasTaskRoom};
 
 use crate::tags::{command_slot_of, task_tag_of};
 use crate::tds::push_task;
 use crate::units::write_task;
-use crate::{Host, HostClient, HostEntry, MOST_DOORS, TdState, Told};
+use crate::{Host, HostAnswer, HostClient, HostEntry, MOST_DOORS, TdState};
 use arrayvec::ArrayVec;
 use frame_store::Frames;
 use scsi_cmd::{Request, SubmitFault, TAGS, TASK_SLOT, Task};
@@ -58,7 +59,7 @@ impl HostEntry {
         HostEntry {
             ticket,
             request: Request::Manage { task, noted },
-            told: Told::Untold,
+            told: HostAnswer::Unanswered,
             command_td: TdState::Pending,
             status_td: TdState::Pending,
             data_td: None,
@@ -85,7 +86,7 @@ impl HostClient {
     {
         let noted = self.noted_by(task);
         self.entries[TASK_SLOT] = Some(HostEntry::managing(ticket, task, noted));
-        self.least = ticket + 1;
+        self.least_ticket = ticket + 1;
     }
 }
 
@@ -117,7 +118,7 @@ impl Host {
         scsi_cmd::task_fault(
             true,
             held.entries[TASK_SLOT].is_some(),
-            held.least,
+            held.least_ticket,
             ticket,
             has_task,
         )

@@ -4,7 +4,8 @@ ghost use Rattle.scsi_cmd.specs.Op.{moved_bytes};
 ghost use Rattle.scsi_cmd.specs.declared.Direction.{Direction};
 ghost use Rattle.stream_array.specs.Map.{HasRing, HasStreams, places_of};
 ghost use Rattle.stream_array.specs.Rings.{ring_of};
-ghost use Rattle.uas_host.specs.Tds.{command_td, data_td, data_trb, data_trb_count, packets_left, pushed, pushed_task, put_on, status_td, task_td, with_data_td, HasDataRoom, HasRoom, HasTaskRoom, HasTdRoom, IsOnData};
+ghost use Rattle.uas_host.specs.Tds.{command_td, data_td, data_trb, data_trb_count, packets_left, pushed, pushed_task, put_on, status_td, task_td};
+ghost use Rattle.uas_host.specs.Tds.{with_data_td, HasDataRoom, HasRoom, HasTaskRoom, HasTdRoom, IsOnData};
 
 use frame_store::{COMMAND_BYTES, STATUS_BYTES};
 use scsi_cmd::{Direction, Op, moves};
@@ -151,6 +152,7 @@ fn data_trbs_of(tag: u16, bytes: usize) -> [Trb; MOST_DATA_TRBS]
 }
 
 /// Pushes a data TD on a pipe. Asks at least one byte and room for its TRBs.
+#[inline(always)]
 fn push_data(lines: &mut Lines, pipe: Pipe, tag: u16, bytes: usize)
     requires ring { HasRing pipe tag }
     requires streams { HasStreams pipe }
@@ -166,16 +168,16 @@ fn push_data(lines: &mut Lines, pipe: Pipe, tag: u16, bytes: usize)
 }
 
 /// Pushes the data TD on the pipe of its direction, where there is one.
-fn push_data_td(lines: &mut Lines, way: Direction, tag: u16, bytes: usize)
+fn push_data_td(lines: &mut Lines, direction: Direction, tag: u16, bytes: usize)
     requires some_tag { 0 < tag }
     requires last_tag { tag ≤ 248 }
-    requires some { IsOnData way bytes }
-    requires room { HasDataRoom lines.old way tag bytes }
-    ensures put { lines.new ≡ with_data_td lines.old way tag bytes }
+    requires some { IsOnData direction bytes }
+    requires room { HasDataRoom lines.old direction tag bytes }
+    ensures put { lines.new ≡ with_data_td lines.old direction tag bytes }
     ensures command { ring_of lines.new Pipe.Command 0 ≡ ring_of lines.old Pipe.Command 0 }
     ensures status { ring_of lines.new Pipe.Status tag ≡ ring_of lines.old Pipe.Status tag }
 {
-    match way {
+    match direction {
         Direction::Nothing => {}
         Direction::ToHost => push_data(lines, Pipe::DataIn, tag, bytes),
         Direction::ToDevice => push_data(lines, Pipe::DataOut, tag, bytes),
@@ -190,8 +192,8 @@ pub(crate) fn push_tds(lines: &mut Lines, tag: u16, op: &Op)
     requires room { HasTdRoom lines.old tag op.now }
     ensures { lines.new ≡ pushed lines.old tag op.now }
 {
-    let (way, bytes) = moves(op);
-    push_data_td(lines, way, tag, bytes);
+    let (direction, bytes) = moves(op);
+    push_data_td(lines, direction, tag, bytes);
     lines.push_td(Pipe::Status, tag, &status_trb(tag)).unwrap();
     lines.push_td(Pipe::Command, 0, &command_trb(tag)).unwrap();
 }

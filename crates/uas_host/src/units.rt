@@ -6,7 +6,7 @@ ghost use Rattle.uas_host.specs.Events.{answer_by, answer_in};
 ghost use Rattle.uas_host.specs.Submit.{command_text, lent};
 ghost use Rattle.uas_host.specs.Tasks.{aborted_tag, function_of, task_tag, task_text, with_task_unit};
 
-use crate::News;
+use crate::Notice;
 use crate::tags::task_tag_of;
 use arrayvec::ArrayVec;
 use frame_store::Frames;
@@ -107,7 +107,7 @@ pub(crate) fn write_task(frames: &mut Frames, client: u8, task: Task)
 }
 
 /// The answer that a unit tells, if it is a Sense or a Response unit of this tag.
-fn answer_by_unit(tag: u16, unit: Iu) -> Option<News>
+fn answer_by_unit(tag: u16, unit: Iu) -> Option<Notice>
     ensures { result ≡ answer_by tag unit }
 {
     match unit {
@@ -117,7 +117,7 @@ fn answer_by_unit(tag: u16, unit: Iu) -> Option<News>
             sense,
         } => {
             if told_tag == tag {
-                Some(News::Answered { status, sense })
+                Some(Notice::Answered { status, sense })
             } else {
                 None
             }
@@ -127,7 +127,7 @@ fn answer_by_unit(tag: u16, unit: Iu) -> Option<News>
             code,
         } => {
             if told_tag == tag {
-                Some(News::Responded { code })
+                Some(Notice::Responded { code })
             } else {
                 None
             }
@@ -137,7 +137,7 @@ fn answer_by_unit(tag: u16, unit: Iu) -> Option<News>
 }
 
 /// The answer that the bytes of a Sense or a Response unit of a tag tell, if they are one.
-pub(crate) fn read_answer(tag: u16, bytes: &[u8]) -> Option<News>
+pub(crate) fn read_answer(tag: u16, bytes: &[u8]) -> Option<Notice>
     ensures { result ≡ answer_in tag bytes.now }
 {
     match read(bytes) {

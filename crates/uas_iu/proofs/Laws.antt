@@ -1,5 +1,6 @@
 -- Laws of the unit grammar: a text has no fault, and determines its unit.
-use Rattle.std.proofs.Common.{◌≡◌, ℕ, ◌^◌, ◌<◌, ◌/◌, ◌%◌, List, ◌++◌, length, take, drop, get_or, arith, sym, ◌∙◌, ap, None, Result, Ok, Err, IfOk, length-append}
+use Rattle.std.proofs.Common.{◌≡◌, ℕ, ◌^◌, ◌<◌, ◌/◌, ◌%◌, List, ◌++◌, length, take, drop, get_or, arith, sym, ◌∙◌, ap, None, Result, Ok}
+use Rattle.std.proofs.Common.{Err, IfOk, length-append}
 use Rattle.std.specs.Result.{result_err}
 use Rattle.std.proofs.lemmas.List.{take_at, drop_at}
 use Rattle.std.proofs.lemmas.Grind.{common_steps}
@@ -43,7 +44,8 @@ unit_text-injective (Response tag code) (Response tag' code') fits fits' same =
 unit_text-injective (Task tag function task_tag lun) (Task tag' function' task_tag' lun') fits fits' same =
     let tags : tag ≡ tag' = number_by_bytes tag tag' fits.0 fits'.0 (ap (λ bytes. get_or bytes 2 0) same) (ap (λ bytes. get_or bytes 3 0) same) in
     let functions : function ≡ function' = ap (λ bytes. get_or bytes 4 0) same in
-    let task_tags : task_tag ≡ task_tag' = number_by_bytes task_tag task_tag' fits.1 fits'.1 (ap (λ bytes. get_or bytes 6 0) same) (ap (λ bytes. get_or bytes 7 0) same) in
+    let task_tags : task_tag ≡ task_tag' =
+    number_by_bytes task_tag task_tag' fits.1 fits'.1 (ap (λ bytes. get_or bytes 6 0) same) (ap (λ bytes. get_or bytes 7 0) same) in
     let luns : lun ≡ lun' = ap (drop 8) same in
     cc
 unit_text-injective unit other fits fits' same = absurd (omega (arith, ap (λ bytes. get_or bytes 0 0) same))

@@ -1,5 +1,6 @@
 -- What a call leaves alone: the tasks of other tags, the commands to other units, and the number of tags. Cited by the laws.
-use Rattle.std.proofs.Common.{◌≡◌, ℕ, zero, suc, Bool, true, false, not, ◌&&◌, ◌||◌, cond, List, length, map, Option, Some, None, IfSome, Result, Ok, Err, refl, ap, sym, ◌∙◌}
+use Rattle.std.proofs.Common.{◌≡◌, ℕ, zero, suc, Bool, true, false, not, ◌&&◌, ◌||◌, cond, List, length, map, Option, Some, None, IfSome, Result, Ok, Err}
+use Rattle.std.proofs.Common.{refl, ap, sym, ◌∙◌}
 use Rattle.std.specs.Prelude.{◌==◌, nat_le, is_some, slice_index}
 use Rattle.std.proofs.lemmas.Bool.{eqb-false, or_parts}
 use Rattle.std.proofs.lemmas.List.{get_or-set_other, length-map}
@@ -9,7 +10,8 @@ use Rattle.uas_iu.specs.Faults.{first_fault, identifier}
 use Rattle.uas_target.specs.declared.Overlap.{Overlap}
 use Rattle.uas_target.specs.declared.Took.{Took}
 use Rattle.uas_target.specs.declared.Took.TheVariants.{Began}
-use Rattle.uas_target.specs.Device.{Device, Receive, Give, Take, Send, aborted_on, dropped, executed, managed, on_its_tag, received, received_unit, received_unreadable, reset_on, task_of, with_code, with_response, with_units_and_task}
+use Rattle.uas_target.specs.Device.{Device, Receive, Give, Take, Send, aborted_on, dropped, executed, managed, on_its_tag, received, received_unit}
+use Rattle.uas_target.specs.Device.{received_unreadable, reset_on, task_of, with_code, with_response, with_units_and_task}
 use Rattle.uas_target.specs.Fields.{addressed, is_tag, tag_in, lun_in, cdb_in, function_in, task_tag_in}
 use Rattle.uas_target.specs.Laws.{OtherTagsAreKept, OtherUnitsAreKept, TagsAreKept}
 use Rattle.uas_target.specs.Tasks.{is_command_of, spared}
@@ -26,7 +28,8 @@ held_under-other places (suc slot) (suc other) now apart = get_or-set_other plac
 -- RECEIVING
 
 -- so it is of a device that is one of two
-either : (P : Device → Type 0) (test : Bool) (first second : Device × Result Took Overlap) → (test ≡ true → P first.0) → P second.0 → P (cond test first second).0
+either : (P : Device → Type 0) (test : Bool) (first second : Device × Result Took Overlap) → (test ≡ true → P first.0) → P second.0 →
+    P (cond test first second).0
 either P true first second one two = one refl
 either P false first second one two = two
 
@@ -47,7 +50,8 @@ received_so P device bytes same run told unreadable =
     let after = with_code tag (managed device (function_in bytes) (task_tag_in bytes) (lun_in bytes)) in
     either P (is_some (first_fault bytes)) (received_unreadable device bytes tag) (received_unit device bytes tag)
     (λ fault.
-    either P (nat_le 4 (length bytes) && is_tag tag && not (is_some (task_of device tag))) (with_response device tag 2, Ok (Began tag)) (dropped device) (λ is. unreadable) same)
+    either P (nat_le 4 (length bytes) && is_tag tag && not (is_some (task_of device tag))) (with_response device tag 2, Ok (Began tag)) (dropped device)
+    (λ is. unreadable) same)
     (either P (identifier bytes == 1) (on_its_tag device tag commanded) (cond (identifier bytes == 5) (on_its_tag device tag after) (dropped device))
     (λ is. on_its_tag_so P device commanded tag same run)
     (either P (identifier bytes == 5) (on_its_tag device tag after) (dropped device) (λ is. on_its_tag_so P device after tag same (told is)) same))
@@ -86,18 +90,22 @@ managed_reaches : (device : Device) (function named other : ℕ) (lun : List ℕ
 managed_reaches device function named other lun apart =
     let P : Device → Type 0 = λ after. task_of after other ≡ task_of device other in
     let number = slice_index lun 1 in
-    managed_so P device (aborted_on device number named (addressed device.units lun)) (reset_on device number (addressed device.units lun)) (function == 1) (function == 8) refl
+    managed_so P device (aborted_on device number named (addressed device.units lun)) (reset_on device number (addressed device.units lun)) (function == 1)
+    (function == 8) refl
     (λ abort.
     aborted_so P device number named (addressed device.units lun) refl
-    (held_under-other device.tasks named other _ (λ same. eqb-false named other (not_named (function == 1) (function == 8) (named == other) apart abort) (sym same))))
+    (held_under-other device.tasks named other _
+    (λ same. eqb-false named other (not_named (function == 1) (function == 8) (named == other) apart abort) (sym same))))
     (λ reset. absurd (not_both (function == 8) (or_parts (function == 8) (function == 1 && named == other) apart).0 reset))
 
-managed_units : (device : Device) (function named other : ℕ) (lun : List ℕ) → IfSome (task_of device other) (λ task. is_command_of (slice_index lun 1) task ≡ false) →
+managed_units : (device : Device) (function named other : ℕ) (lun : List ℕ) →
+    IfSome (task_of device other) (λ task. is_command_of (slice_index lun 1) task ≡ false) →
     task_of (managed device function named lun).0 other ≡ task_of device other
 managed_units device function named other lun spares =
     let P : Device → Type 0 = λ after. task_of after other ≡ task_of device other in
     let number = slice_index lun 1 in
-    managed_so P device (aborted_on device number named (addressed device.units lun)) (reset_on device number (addressed device.units lun)) (function == 1) (function == 8) refl
+    managed_so P device (aborted_on device number named (addressed device.units lun)) (reset_on device number (addressed device.units lun)) (function == 1)
+    (function == 8) refl
     (λ abort. aborted_so P device number named (addressed device.units lun) refl (held_under-spared device.tasks number named other spares))
     (λ reset.
     reset_so P device number (addressed device.units lun) refl
@@ -107,7 +115,8 @@ managed_tags : (device : Device) (function named : ℕ) (lun : List ℕ) → len
 managed_tags device function named lun =
     let P : Device → Type 0 = λ after. length after.tasks ≡ length device.tasks in
     let number = slice_index lun 1 in
-    managed_so P device (aborted_on device number named (addressed device.units lun)) (reset_on device number (addressed device.units lun)) (function == 1) (function == 8) refl
+    managed_so P device (aborted_on device number named (addressed device.units lun)) (reset_on device number (addressed device.units lun)) (function == 1)
+    (function == 8) refl
     (λ abort. aborted_so P device number named (addressed device.units lun) refl (length-with_held device.tasks named _))
     (λ reset. reset_so P device number (addressed device.units lun) refl (λ units. length-map device.tasks (spared number)))
 

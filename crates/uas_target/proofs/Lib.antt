@@ -4,4 +4,3 @@ pub mod Luns
 pub mod Received
 pub mod Managed
 pub mod Kept
-pub mod Words

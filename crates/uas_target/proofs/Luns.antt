@@ -12,7 +12,8 @@ by_zeros lun long zeros =
     let first = first_eight lun (omega arith) in
     let rest : drop 8 lun ≡ [] = drop_all 8 lun (omega arith) in
     first
-    ∙ (λ i. zeros.0 i ∷ slice_index lun 1 ∷ zeros.1.0 i ∷ zeros.1.1.0 i ∷ zeros.1.1.1.0 i ∷ zeros.1.1.1.1.0 i ∷ zeros.1.1.1.1.1.0 i ∷ zeros.1.1.1.1.1.1.0 i ∷ rest i)
+    ∙ (λ i. zeros.0 i ∷ slice_index lun 1 ∷ zeros.1.0 i ∷ zeros.1.1.0 i ∷ zeros.1.1.1.0 i ∷ zeros.1.1.1.1.0 i ∷ zeros.1.1.1.1.1.0 i ∷ zeros.1.1.1.1.1.1.0 i
+    ∷ rest i)
 
 is_plain_lun-text : (lun : List ℕ) (plain : Bool) → length lun ≡ 8 →
     plain ≡ list_any (λ place. not (slice_index lun place == 0)) (0 ∷ 2 ∷ 3 ∷ 4 ∷ 5 ∷ 6 ∷ 7 ∷ []) →

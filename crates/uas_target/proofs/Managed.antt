@@ -1,13 +1,13 @@
 -- What task management leaves of the tasks, and of the device. Cited by the answers of `manage` and its parts, and by Kept.
-use Rattle.std.proofs.Common.{◌≡◌, ℕ, zero, suc, ◌<◌, Bool, true, false, List, [], ◌∷◌, length, map, Option, Some, None, IfSome, MatchOption, refl, arith, ap, sym, ◌∙◌}
+use Rattle.std.proofs.Common.{◌≡◌, ℕ, zero, suc, ◌<◌, true, false, List, [], ◌∷◌, length, map, Option, Some, None, IfSome, refl, arith, ap, sym, ◌∙◌}
 use Rattle.std.specs.Prelude.{slice_get, slice_index, slice_index_or, slice_set}
 use Rattle.std.proofs.lemmas.List.{length-map, set-get_or}
-use Rattle.block_unit.specs.BlockMaps.{BlockMaps, with_attention}
+use Rattle.block_unit.specs.BlockMaps.{BlockMaps}
 use Rattle.scsi_cmd.specs.Held.{AllHeld, held_under, with_held_under}
 use Rattle.scsi_cmd.specs.Laws.{AllHeld-at}
 use Rattle.uas_target.specs.declared.DeviceTask.{DeviceTask}
 use Rattle.uas_target.specs.Soundness.{IsSoundDevice, IsSoundTask, counts_of}
-use Rattle.uas_target.specs.Device.{Device, aborted_on, reset_on}
+use Rattle.uas_target.specs.Device.{Device, aborted_on}
 use Rattle.uas_target.specs.Fields.{addressed}
 use Rattle.uas_target.specs.Tasks.{is_command_of, spared}
 use Rattle.uas_target.proofs.Sound.{IsSoundDevice-step}
@@ -59,7 +59,8 @@ IfSome-spared P number (Some task) so =
     ] refl
 
 -- wherever it stands
-pub held_under-spared : (places : List (Option DeviceTask)) (number tag other : ℕ) → IfSome (held_under places other) (λ task. is_command_of number task ≡ false) →
+pub held_under-spared : (places : List (Option DeviceTask)) (number tag other : ℕ) →
+    IfSome (held_under places other) (λ task. is_command_of number task ≡ false) →
     held_under (with_held_under places tag (spared number (held_under places tag))) other ≡ held_under places other
 held_under-spared places number zero other same = refl
 held_under-spared places number (suc slot) zero same = refl
@@ -154,11 +155,13 @@ no_none (unit ∷ units) (suc number) within is = no_none units number (omega ar
 pub aborted_there : (units : List BlockMaps) (held after : List (Option DeviceTask)) (number tag : ℕ) (lun : List ℕ) →
     (number < length units) × (number ≡ slice_index lun 1) × (addressed units lun ≡ slice_get units number) →
     after ≡ with_held_under held tag (spared number (held_under held tag)) →
-    ◌≡◌ {A = Device × ℕ} (record { units = units; tasks = after }, 0) (aborted_on (record { units = units; tasks = held }) (slice_index lun 1) tag (addressed units lun))
+    ◌≡◌ {A = Device × ℕ} (record { units = units; tasks = after }, 0)
+    (aborted_on (record { units = units; tasks = held }) (slice_index lun 1) tag (addressed units lun))
 aborted_there units held after number tag lun there is =
     let device : Device = record { units = units; tasks = held } in
     rw (there.2, ← there.1)
-    (elim (slice_get units number) as (λ unit. slice_get units number ≡ unit → ◌≡◌ {A = Device × ℕ} (record { units = units; tasks = after }, 0) (aborted_on device number tag unit)) [
+    (elim (slice_get units number) as (λ unit. slice_get units number ≡ unit →
+    ◌≡◌ {A = Device × ℕ} (record { units = units; tasks = after }, 0) (aborted_on device number tag unit)) [
       | None ↦ λ none. absurd (no_none units number there.0 none)
       | Some unit ↦ λ some. rw is refl
     ] refl)

@@ -33,19 +33,24 @@ tag_in-task tag function task_tag lun fits = two_bytes tag fits.0
 
 command_unit : (device : Device) (tag : ℕ) (lun cdb : List ℕ) → Fits (Command tag lun cdb) →
     received_unit device (unit_text (Command tag lun cdb)) (tag_in (unit_text (Command tag lun cdb)))
-    ≡ on_its_tag device tag (with_units_and_task device tag (executed device.units (lun_in (unit_text (Command tag lun cdb))) (cdb_in (unit_text (Command tag lun cdb)))))
+    ≡ on_its_tag device tag
+    (with_units_and_task device tag (executed device.units (lun_in (unit_text (Command tag lun cdb))) (cdb_in (unit_text (Command tag lun cdb)))))
 unfolding unit_text
 command_unit device tag lun cdb fits =
-    ap (λ n. on_its_tag device n (with_units_and_task device n (executed device.units (lun_in (unit_text (Command tag lun cdb))) (cdb_in (unit_text (Command tag lun cdb)))))) (tag_in-command tag lun cdb fits)
+    ap (λ n. on_its_tag device n
+    (with_units_and_task device n (executed device.units (lun_in (unit_text (Command tag lun cdb))) (cdb_in (unit_text (Command tag lun cdb))))))
+    (tag_in-command tag lun cdb fits)
 
 pub received-command : CommandsAreExecuted
 received-command device tag lun cdb fits =
     rw (first_fault-unit_text (Command tag lun cdb) fits)
     (command_unit device tag lun cdb fits
-    ∙ ap (λ l. on_its_tag device tag (with_units_and_task device tag (executed device.units l (cdb_in (unit_text (Command tag lun cdb)))))) (lun_in-command tag lun cdb fits)
+    ∙ ap (λ l. on_its_tag device tag (with_units_and_task device tag (executed device.units l (cdb_in (unit_text (Command tag lun cdb))))))
+    (lun_in-command tag lun cdb fits)
     ∙ ap (λ b. on_its_tag device tag (with_units_and_task device tag (executed device.units lun b))) (cdb_in-command tag lun cdb fits))
 
-task_tag_in-task : (tag function task_tag : ℕ) (lun : List ℕ) → Fits (Task tag function task_tag lun) → task_tag_in (unit_text (Task tag function task_tag lun)) ≡ task_tag
+task_tag_in-task : (tag function task_tag : ℕ) (lun : List ℕ) → Fits (Task tag function task_tag lun) →
+    task_tag_in (unit_text (Task tag function task_tag lun)) ≡ task_tag
 unfolding unit_text
 task_tag_in-task tag function task_tag lun fits = two_bytes task_tag fits.1
 
@@ -55,16 +60,22 @@ lun_in-task tag function task_tag lun fits = take_all 8 lun (omega (arith, fits.
 
 task_unit : (device : Device) (tag function task_tag : ℕ) (lun : List ℕ) → Fits (Task tag function task_tag lun) →
     received_unit device (unit_text (Task tag function task_tag lun)) (tag_in (unit_text (Task tag function task_tag lun)))
-    ≡ on_its_tag device tag (with_code tag (managed device function (task_tag_in (unit_text (Task tag function task_tag lun))) (lun_in (unit_text (Task tag function task_tag lun)))))
+    ≡ on_its_tag device tag
+    (with_code tag
+    (managed device function (task_tag_in (unit_text (Task tag function task_tag lun))) (lun_in (unit_text (Task tag function task_tag lun)))))
 unfolding unit_text
 task_unit device tag function task_tag lun fits =
-    ap (λ n. on_its_tag device n (with_code n (managed device function (task_tag_in (unit_text (Task tag function task_tag lun))) (lun_in (unit_text (Task tag function task_tag lun)))))) (tag_in-task tag function task_tag lun fits)
+    ap (λ n. on_its_tag device n
+    (with_code n
+    (managed device function (task_tag_in (unit_text (Task tag function task_tag lun))) (lun_in (unit_text (Task tag function task_tag lun))))))
+    (tag_in-task tag function task_tag lun fits)
 
 pub received-task : TasksAreManaged
 received-task device tag function task_tag lun fits =
     rw (first_fault-unit_text (Task tag function task_tag lun) fits)
     (task_unit device tag function task_tag lun fits
-    ∙ ap (λ n. on_its_tag device tag (with_code tag (managed device function n (lun_in (unit_text (Task tag function task_tag lun)))))) (task_tag_in-task tag function task_tag lun fits)
+    ∙ ap (λ n. on_its_tag device tag (with_code tag (managed device function n (lun_in (unit_text (Task tag function task_tag lun))))))
+    (task_tag_in-task tag function task_tag lun fits)
     ∙ ap (λ l. on_its_tag device tag (with_code tag (managed device function task_tag l))) (lun_in-task tag function task_tag lun fits))
 
 pub received-sense : SensesAreDropped

@@ -1,5 +1,6 @@
 -- Tasks stay sound. Cited by the answers of the receiver, of the chunks and of every call of a target.
-use Rattle.std.proofs.Common.{◌≡◌, ℕ, zero, suc, ◌<◌, Bool, true, false, ◌&&◌, cond, List, [], ◌∷◌, ◌++◌, length, take, drop, inl, inr, length-set, Option, Some, None, IfSome, Result, Ok, Err, refl, arith, ap, sym, ◌∙◌, subst}
+use Rattle.std.proofs.Common.{◌≡◌, ℕ, zero, suc, ◌<◌, Bool, true, false, ◌&&◌, cond, List, [], ◌∷◌, ◌++◌, length, take, drop, inl, inr, length-set, Option}
+use Rattle.std.proofs.Common.{Some, None, IfSome, Result, Ok, Err, refl, arith, ap, sym, ◌∙◌, subst}
 use Rattle.std.specs.Prelude.{◌==◌, slice_get, slice_index_or, IsOk}
 use Rattle.std.proofs.lemmas.Bool.{eqb-false, cases_lt, le-leb}
 use Rattle.std.proofs.lemmas.List.{length-map}
@@ -57,7 +58,8 @@ begun_asked_sound : (counts : List ℕ) (number : ℕ) (unit : BlockMaps) (repor
     IfSome (task_in (Some number) asks (begun unit reports (work_asked unit.count asks)).1) (IsSoundTask counts)
 begun_asked_sound counts number unit reports (Err sense) is in_range =
     elim (reports && unit.attention) as (λ b.
-    IfSome (task_in (Some number) (Err sense) (cond {A = BlockMaps × Progress} b (with_attention unit false, Ended (Check reset_occurred)) (unit, Ended (Check sense))).1) (IsSoundTask counts)) [
+    IfSome (task_in (Some number) (Err sense)
+    (cond {A = BlockMaps × Progress} b (with_attention unit false, Ended (Check reset_occurred)) (unit, Ended (Check sense))).1) (IsSoundTask counts)) [
       | true ↦ tt
       | false ↦ tt
     ]
@@ -108,7 +110,8 @@ on_in_range (unit ∷ units) (suc number) op read on = on_in_range units number 
 
 -- a task is sound after its next chunk
 pub left_sound : (units : List BlockMaps) (number chunk : ℕ) (op : Op) (read : BlockMaps) → IsOn (counts_of units) op (Some number) →
-    IfSome (task_in (Some number) (Ok op) (progress_after (slice_index_or units number read) chunk (work_of op (slice_index_or units number read).count))) (IsSoundTask (counts_of units))
+    IfSome (task_in (Some number) (Ok op) (progress_after (slice_index_or units number read) chunk (work_of op (slice_index_or units number read).count)))
+    (IsSoundTask (counts_of units))
 left_sound units number chunk op read on =
     let unit = slice_index_or units number read in
     HasChunk-sound (counts_of units) number unit.count op (progress_after unit chunk (work_of op unit.count))

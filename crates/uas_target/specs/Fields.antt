@@ -1,5 +1,6 @@
 -- The fields that the device reads of a received unit (INCITS 471, information units), and the unit that a LUN addresses (SAM).
-use Rattle.std.specs.Prelude.{ℕ, ◌*◌, ◌+◌, ◌==◌, nat_lt, nat_le, Bool, not, ◌&&◌, if◌then◌else◌, List, [], ◌∷◌, take, drop, slice_index, slice_get, Option, None}
+use Rattle.std.specs.Prelude.{ℕ, ◌*◌, ◌+◌, ◌==◌, nat_lt, nat_le, Bool, not, ◌&&◌, if◌then◌else◌, List, [], ◌∷◌, take, drop, slice_index, slice_get, Option}
+use Rattle.std.specs.Prelude.{None}
 use Rattle.std.specs.List.{list_any}
 use Rattle.uas_target.specs.declared.TheConstants.{GREATEST_TAG}
 

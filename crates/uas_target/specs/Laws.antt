@@ -17,7 +17,8 @@ use Rattle.device_server.specs.Server.{begun, chunk_bytes}
 use Rattle.uas_target.specs.declared.Phase.{Phase}
 use Rattle.uas_target.specs.declared.Phase.TheVariants.{Absent, Gives, Takes}
 use Rattle.uas_target.specs.Tasks.{begun_by, chunk_wanted, is_command_of, wanted_way}
-use Rattle.uas_target.specs.Device.{Device, Call, Receive, Give, Take, Send, called, device_after, dropped, executed, managed, on_its_tag, received, task_of, with_code, with_units_and_task}
+use Rattle.uas_target.specs.Device.{Device, Call, Receive, Give, Take, Send, called, device_after, dropped, executed, managed, on_its_tag, received}
+use Rattle.uas_target.specs.Device.{task_of, with_code, with_units_and_task}
 use Rattle.uas_target.specs.Fields.{function_in, lun_in, tag_in, task_tag_in}
 
 -- WHAT COMES OF THE TEXT OF A UNIT

@@ -1,5 +1,6 @@
 //! Laws of the device's definitions.
-ghost use Rattle.uas_target.specs.Laws.{BeginsAsAsked, CallsAreFolded, CommandsAreExecuted, OtherTagsAreKept, OtherUnitsAreKept, ResponsesAreDropped, SensesAreDropped, TagsAreKept, TasksAreManaged};
+ghost use Rattle.uas_target.specs.Laws.{BeginsAsAsked, CallsAreFolded, CommandsAreExecuted, OtherTagsAreKept, OtherUnitsAreKept, ResponsesAreDropped};
+ghost use Rattle.uas_target.specs.Laws.{SensesAreDropped, TagsAreKept, TasksAreManaged};
 
 /// Law: what comes of the text of each kind of unit.
 #[tactic(auto, using(crate::proofs::Received::of_texts))]

@@ -29,15 +29,14 @@
 //! [`Target::new`] takes all memory that the device ever has; no later call takes any. Finding a tag's task is one index; a
 //! reset alone goes over all tags.
 //!
-//! It stands on `uas_iu` for the units, `scsi_cmd` for what a CDB asks, `block_unit` for the blocks, and `device_server`
-//! for the steps of one command.
+//! It stands on `uas_iu` for the units, `scsi_cmd` for what a CDB asks, `block_unit` for the blocks, `device_server` for the
+//! steps of one command, and `marks` for the places that hold a task.
 #![tactic(auto)]
 
 mod calls;
 mod chunks;
 mod laws;
 mod management;
-mod marks;
 mod receiver;
 mod table;
 #[cfg(test)]

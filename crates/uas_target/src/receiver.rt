@@ -4,7 +4,8 @@ ghost use Rattle.std.specs.Result.{ForOk};
 ghost use Rattle.scsi_cmd.specs.Meaning.{asked, op_fault};
 ghost use Rattle.scsi_cmd.specs.Work.{IsWorkOn, asked_without_unit, work_asked, work_asked_without_unit};
 ghost use Rattle.device_server.specs.Server.{progress_asked};
-ghost use Rattle.uas_target.specs.Device.{Device, executed, managed, on_its_tag, received, received_unreadable, task_of, with_code, with_response, with_units_and_task};
+ghost use Rattle.uas_target.specs.Device.{Device, executed, managed, on_its_tag, received, received_unreadable, task_of, with_code, with_response};
+ghost use Rattle.uas_target.specs.Device.{with_units_and_task};
 ghost use Rattle.uas_target.specs.Fields.{addressed, is_tag, tag_in};
 ghost use Rattle.uas_target.specs.Soundness.{IsSoundTask, counts_of};
 ghost use Rattle.uas_target.specs.Tasks.{begun_by, task_in};
@@ -22,7 +23,8 @@ use uas_iu::{CDB_BYTES, INVALID_INFORMATION_UNIT, Iu, LUN_BYTES, lun_number, rea
 /// The number of the unit that a LUN addresses, where it is there (SAM, single level LUN structure).
 pub(crate) fn unit_number(units: &[Unit], lun: &[u8; LUN_BYTES]) -> Option<usize>
     ensures none { IfNone result (addressed units.now lun.now ≡ None) }
-    ensures some { IfSome result (λ number. (number < length units.now) × (number ≡ slice_index lun.now 1) × (addressed units.now lun.now ≡ slice_get units.now number)) }
+    ensures some { IfSome result
+        (λ number. (number < length units.now) × (number ≡ slice_index lun.now 1) × (addressed units.now lun.now ≡ slice_get units.now number)) }
 {
     let number = usize::from(lun_number(lun)?);
     if number < units.len() {

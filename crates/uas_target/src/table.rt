@@ -4,17 +4,22 @@ ghost use Rattle.scsi_cmd.specs.Held.{held_under, with_held_under};
 ghost use Rattle.uas_target.specs.Device.{task_of};
 ghost use Rattle.uas_target.specs.Fields.{is_tag};
 
-use crate::marks::Marks;
 use crate::{DeviceTask, GREATEST_TAG, Target};
+use marks::Marks;
 use std::alloc::{AllocError, Global};
 use std::marker::Model;
+
+/// Words of 64 marks, enough for a place of each tag.
+const TAG_WORDS: usize = 4;
+
+const _: () = prove!(TAG_WORDS == 4);
 
 /// A place for the task of each tag; contracts see the list of them, tag 1 first.
 #[derive(Debug, Drop)]
 pub(crate) struct TaskTable {
     places: Vec<Option<DeviceTask>>,
     /// The places that hold a task.
-    marks: Marks,
+    marks: Marks<TAG_WORDS>,
 }
 
 impl Model for TaskTable {
@@ -27,7 +32,7 @@ impl Model for TaskTable {
 
     ghost view = { λ table. table.places.items };
 
-    ghost invariant = { λ table. (length table.places.items ≡ GREATEST_TAG) × MarksHeld table.marks.words table.places.items };
+    ghost invariant = { λ table. (length table.places.items ≡ GREATEST_TAG) × MarksHeld table.marks table.places.items };
 }
 
 /// Whether a task may have this tag.

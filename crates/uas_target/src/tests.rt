@@ -156,7 +156,8 @@ answer 16: 03 00 00 02
 ";
 
 /// Block 9 of unit 0 is bad: the first chunks of a READ and of a WRITE of 16 blocks stand, the second ones change nothing
-/// (`refuse`, `keep`) and end the commands with 3/0C/00 and 3/11/00.
+/// (`refuse`, `keep`) and end the commands with 3/0C/00 and 3/11/00. The medium from a block on is told by `medium`: the first
+/// chunk of a WRITE with FUA stands there too.
 const BAD_BLOCK: &str = "\
 receive 32: 01 00 00 01 00 00 00 00 00 00 00 00 00 00 00 00 2a 00 00 00 00 00 00 00 10
 receive 32: 01 00 00 02 00 00 00 00 00 00 00 00 00 00 00 00 28 00 00 00 00 00 00 00 10
@@ -170,6 +171,16 @@ receive 32: 01 00 00 02 00 00 00 00 00 00 00 00 00 00 00 00 28 00 00 00 00 00 00
 give 2 4096*01
 keep 2 4096*ff
 answer 34: 03 00 00 02 00 00 02 00 00 00 00 00 00 00 00 12 70 00 03 00 00 00 00 0a 00 00 00 00 11
+medium 0 8192*00
+receive 32: 01 00 00 01 00 00 00 00 00 00 00 00 00 00 00 00 2a 08 00 00 00 00 00 00 10
+take 1 4096*02
+refuse 1 4096*02
+answer 34: 03 00 00 01 00 00 02 00 00 00 00 00 00 00 00 12 70 00 03 00 00 00 00 0a 00 00 00 00 0c
+medium 0 4096*02
+medium 8 4096*00
+receive 32: 01 00 00 02 00 00 00 00 00 00 00 00 00 00 00 00 28 00 00 00 00 00 00 00 08
+give 2 4096*02
+answer 16: 03 00 00 02
 ";
 
 /// What begins a task on each of ten tags: ended and moving commands to units 0, 1, 2 and 3, and bytes that are no unit.
@@ -317,12 +328,24 @@ fn move_chunk(rt: &impl Abort, target: &mut Target, tag: u16, good: bool, bytes:
     }
 }
 
+/// The medium of unit 0 has these bytes from a block on.
+fn medium_from(rt: &impl Abort, target: &Target, alloc: Global, rest: &str) -> Result<(), Fail> {
+    let (block, rest) = rest.split_once(" ").ok_or("no block")?;
+    let place = 512 * usize::from(block.parse::<u16>()?);
+    let want = bytes_of(alloc, rest)?;
+    let unit = target.unit(&lun_bytes(0)).ok_or("no unit")?;
+    let found = unit.medium().get(place..).ok_or("no such block")?;
+    assert!(rt; found.starts_with(&want), "medium {block} {rest}");
+    Ok(())
+}
+
 /// One line of what happens to a device.
 fn act(rt: &impl Abort, target: &mut Target, alloc: Global, line: &str) -> Result<(), Fail> {
     let (word, rest) = line.split_once(" ").ok_or("no word")?;
     match word {
         "receive" | "drop" | "overlap" => receive(rt, target, word, &bytes_of(alloc, rest)?),
         "answer" => end(rt, target, &bytes_of(alloc, rest)?),
+        "medium" => medium_from(rt, target, alloc, rest)?,
         _ => act_on_chunk(rt, target, alloc, word, rest)?,
     }
     Ok(())

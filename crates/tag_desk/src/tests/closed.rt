@@ -12,9 +12,9 @@ use std::test::Fail;
 fn asks(alloc: Global, desk: &Desk, seat: &mut ClientSeat, tag: u16, ticket: u64)
     requires own { IsClientOf desk.now seat.old }
     requires tag { IsTagOf seat.old.client tag × (tag % 8 ≢ 0) }
-    requires ticket { (seat.old.least ≤ ticket) × (ticket < 2 ^ 60) }
+    requires ticket { (seat.old.least_ticket ≤ ticket) × (ticket < 2 ^ 60) }
     ensures own { IsClientOf desk.now seat.new }
-    ensures same { (seat.new.client ≡ seat.old.client) × (seat.new.least ≤ ticket + 1) }
+    ensures same { (seat.new.client ≡ seat.old.client) × (seat.new.least_ticket ≤ ticket + 1) }
 {
     if seat.is_free(tag) {
         let command = Command {
@@ -42,7 +42,7 @@ fn serves(alloc: Global, desk: &Desk, seat: &mut WorkSeat, tag: u16, ticket: u64
 /// Tag 1 comes to be posted, 2 claimed, 3 done, and 4 free again.
 fn in_each_state(alloc: Global, desk: &Desk, client: &mut ClientSeat, pump: &mut WorkSeat)
     requires desk { (desk.now.clients ≡ 1) × (desk.now.pumps ≡ 1) }
-    requires client { IsClientOf desk.now client.old × (client.old.client ≡ 0) × (client.old.least ≡ 0) }
+    requires client { IsClientOf desk.now client.old × (client.old.client ≡ 0) × (client.old.least_ticket ≡ 0) }
     requires pump { IsPumpOf desk.now pump.old × (pump.old.pump ≡ 0) }
     ensures client { IsClientOf desk.now client.new × (client.new.client ≡ 0) }
     ensures pump { IsPumpOf desk.now pump.new × (pump.new.pump ≡ 0) }
@@ -100,7 +100,7 @@ fn closed_in_each_state(rt: HostRuntime) -> Result<(), Fail> {
         mut clients,
         mut pumps,
     } = seats;
-    assert!(rt; clients[0].least == 0);
+    assert!(rt; clients[0].least_ticket == 0);
     in_each_state(alloc, &desk, &mut clients[0], &mut pumps[0]);
     let left = closed(alloc, desk, Seats { clients, pumps }).expect(
         &rt,

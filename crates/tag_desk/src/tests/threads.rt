@@ -23,7 +23,7 @@ fn awaited(desk: &Desk, seat: &mut ClientSeat, tag: u16) -> Option<Slip>
     requires own { IsClientOf desk.now seat.old }
     requires tag { (1 ≤ tag) × ((tag - 1) / 8 ≡ seat.old.client) }
     ensures own { IsClientOf desk.now seat.new }
-    ensures same { (seat.new.client ≡ seat.old.client) × (seat.new.least ≡ seat.old.least) }
+    ensures same { (seat.new.client ≡ seat.old.client) × (seat.new.least_ticket ≡ seat.old.least_ticket) }
     ensures free { IfSome result (λ slip. IsFreeAt seat.new tag) }
 {
     for _ in 0..LOOKS {
@@ -47,7 +47,7 @@ fn client_turns(
     requires tag { (1 ≤ tag) × ((tag - 1) / 8 ≡ seat.old.client) × (tag % 8 ≢ 0) }
     requires turns { turns < 2 ^ 60 }
 {
-    if seat.least != 0 || !seat.is_free(tag) {
+    if seat.least_ticket != 0 || !seat.is_free(tag) {
         return Ok(0);
     }
     for ticket in 0..turns {

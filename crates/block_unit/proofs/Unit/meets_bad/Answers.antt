@@ -15,7 +15,8 @@ unfolding meets_bad
 returns-then-next-len c =
     let numbers = c.deref.result.now in
     let rises : IsNonDecreasing numbers = rw c.deref.ensures.value (non_decreasing_from_sorted _ (sorted_from_strictly_increasing _ c.self.invariant.4)) in
-    let point = IsPartitionPoint-from_clause (λ block. ltb block c.args.lba) _ _ c.partition_point-next.ensures.partitioned (IsPartitionedBy-ltb (λ n. n) _ c.args.lba rises) (λ a r q k. search rules) in
+    let point = IsPartitionPoint-from_clause (λ block. ltb block c.args.lba) _ _ c.partition_point-next.ensures.partitioned
+    (IsPartitionedBy-ltb (λ n. n) _ c.args.lba rises) (λ a r q k. search rules) in
     let within : c.partition_point-next.result < length numbers = omega arith in
     let found : c.index.result.now ≡ get_or numbers c.partition_point-next.result c.index.result.now = rw c.deref.ensures.value c.index.ensures in
     ap (λ n. ltb n (c.args.lba + c.args.count)) (get_or_read numbers _ _ within found 0)
@@ -28,7 +29,8 @@ unfolding meets_bad
 returns-else-next-len c =
     let numbers = c.deref.result.now in
     let rises : IsNonDecreasing numbers = rw c.deref.ensures.value (non_decreasing_from_sorted _ (sorted_from_strictly_increasing _ c.self.invariant.4)) in
-    let point = IsPartitionPoint-from_clause (λ block. ltb block c.args.lba) _ _ c.partition_point-next.ensures.partitioned (IsPartitionedBy-ltb (λ n. n) _ c.args.lba rises) (λ a r q k. search rules) in
+    let point = IsPartitionPoint-from_clause (λ block. ltb block c.args.lba) _ _ c.partition_point-next.ensures.partitioned
+    (IsPartitionedBy-ltb (λ n. n) _ c.args.lba rises) (λ a r q k. search rules) in
     le-ltb _ _ c.if-next-len.false
     ∙ sym (list_any-covers_past numbers c.args.lba c.args.count _ point (omega arith))
     ∙ ap (list_any (covers c.args.lba c.args.count)) c.deref.ensures.value

@@ -11,6 +11,7 @@ returns c = λ place below.
     let state = final.0 in
     let seats = c.gather-last.ensures.shares ∙ c.requires.every ∙ sym (ap (λ (v : MadeBoard). v.seats) c.self.view_is) ∙ sym c.self.invariant.2 in
     let counts = counts_alone c.self.inside.table.shared.key last.id last.me.0 state final.1.0 final.1.1 seats place below in
-    let words = final.2 ∙ four_words _ c.word.result c.word-2.result c.word-3.result c.word-4.result (ap length (sym final.2) ∙ final.1.0.width) c.word.ensures c.word-2.ensures c.word-3.ensures c.word-4.ensures in
+    let words = final.2 ∙ four_words _ c.word.result c.word-2.result c.word-3.result c.word-4.result (ap length (sym final.2)
+    ∙ final.1.0.width) c.word.ensures c.word-2.ensures c.word-3.ensures c.word-4.ensures in
     let bit = ap (λ (l : List ℕ). standing l place) words in
     omega (arith, c.gather-last.ensures.fresh place, c.gather-last.ensures.taken place)

@@ -12,6 +12,7 @@ pub returns-in-Some-clause-tasks : goal.returns-in-Some-clause-tasks
 returns-in-Some-clause-tasks c =
     let given : is_some c.reply.result ≡ true =
     ap is_some c.reply.ensures
-    ∙ answered-held (reply_of c.args.tag) c.args.tasks.now c.args.slot _ c.in-Some.task _ c.requires.slot (c.has_reply.ensures c.args.tag) c.if-not-has_reply.false
+    ∙ answered-held (reply_of c.args.tag) c.args.tasks.now c.args.slot _ c.in-Some.task _ c.requires.slot
+    (c.has_reply.ensures c.args.tag) c.if-not-has_reply.false
     (held_at-read _ _ _ _ c.requires.slot (sym c.take.ensures.value ∙ c.in-Some.is)) in
     rw (given, c.in-Some.ensures.after) refl

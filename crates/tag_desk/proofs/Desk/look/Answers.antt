@@ -28,7 +28,7 @@ returns-clause-slip c =
     match_option c.look.result
     (λ same. (λ i. record {
       client = seat.client;
-      least = seat.least;
+      least_ticket = seat.least_ticket;
       lines = (ap (set seat.lines.items k) same
           ∙ set_back seat.lines.items k line read) i;
     }) ∙ c.seat.view_is)
@@ -43,10 +43,10 @@ returns-clause-slip c =
       there,
       h.2,
       subst (λ t. IsEnd t n slip) named h.3,
-      (λ i. record { client = seat.client; least = seat.least; lines = lines i })
+      (λ i. record { client = seat.client; least_ticket = seat.least_ticket; lines = lines i })
           ∙ ap (λ (s : Customer). record {
             client = s.client;
-            least = s.least;
+            least_ticket = s.least_ticket;
             lines = with_view s.lines ((c.args.tag - 1) % 8) (Free
                 (n + 1));
           }) c.seat.view_is,
@@ -59,7 +59,7 @@ returns-clause-own c =
     let old = c.args.seat.now in
     let new = the_view (record {
       client = c.seat.inside.client;
-      least = c.seat.inside.least;
+      least_ticket = c.seat.inside.least_ticket;
       lines = with_item c.seat.inside.lines
           ((c.from-index.result - 1) % 8) c.look.new.self;
     }) in
@@ -73,7 +73,7 @@ returns-clause-free c =
     let old = c.args.seat.now in
     let new = the_view (record {
       client = c.seat.inside.client;
-      least = c.seat.inside.least;
+      least_ticket = c.seat.inside.least_ticket;
       lines = with_item c.seat.inside.lines
           ((c.from-index.result - 1) % 8) c.look.new.self;
     }) in

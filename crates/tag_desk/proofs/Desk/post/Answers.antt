@@ -16,7 +16,7 @@ returns-clause-seat c =
     let lines : set seat.lines.items k c.post.new.self ≡ with_view seat.lines.items ((c.args.tag - 1) % 8) (Open (ticket_in slip) slip) =
     ap (set seat.lines.items k) c.post.ensures ∙ within ∙ (λ i. with_view seat.lines.items ((c.from-index.ensures i - 1) % 8) (Open
     (c.ticket-ticket.ensures i) slip)) in
-    (λ i. record { client = seat.client; least = c.ticket-ticket.ensures i + 1; lines = lines i })
+    (λ i. record { client = seat.client; least_ticket = c.ticket-ticket.ensures i + 1; lines = lines i })
     ∙ ap (λ (s : Customer). posting s c.args.tag (ticket_in slip) slip) c.seat.view_is
 
 pub returns-clause-own : goal.returns-clause-own

@@ -28,13 +28,13 @@ loop-seat-preserved c =
     λ j below.
     let whose : (8 * seat.client + j) / 8 ≡ k = omega arith in
     let which : (8 * seat.client + j) % 8 ≡ j = omega arith in
-    let read : get_or clients.items k (record { client = 0; least = 0; lines = [] }) ≡ seat = get_or_default clients.items k (record {
+    let read : get_or clients.items k (record { client = 0; least_ticket = 0; lines = [] }) ≡ seat = get_or_default clients.items k (record {
       client = 0;
-      least =
+      least_ticket =
           0;
       lines = [];
     }) seat h ∙ sym item.1 in
-    (λ i. standing (line_view (get_or clients.items (whose i) (record { client = 0; least = 0; lines = [] })).lines (which i)) (work_line desk pumps
+    (λ i. standing (line_view (get_or clients.items (whose i) (record { client = 0; least_ticket = 0; lines = [] })).lines (which i)) (work_line desk pumps
     (8 * seat.client + j)))
     ∙ (λ i. standing (line_view (read i).lines j) (sym (c.loop-seat.invariant.others (8 * seat.client + j) (omega arith)) i)) in
     let ends : 8 * seat.client + 8 ≡ 8 * length (c.loop-seat.yielded ++ seat ∷ []) = omega (arith, more) in

@@ -8,13 +8,26 @@ use Rattle.tag_range.proofs.TagRange.is_issued.Goals as goal
 
 pub returns-then-index-2 : goal.returns-then-index-2
 returns-then-index-2 g c =
-    let tags : ClientTags = record { client = c.self.inside.client; next = c.self.inside.next; out = flags (g.row.PER - 1) c.self.inside.out; task_out = c.self.inside.task_out } in
+    let tags : ClientTags =
+    record { client = c.self.inside.client; next = c.self.inside.next; out = flags (g.row.PER - 1) c.self.inside.out; task_out = c.self.inside.task_out } in
     let entry : c.args.tag - c.tag_at-before.result - 1 ≡ c.args.tag - g.row.PER * c.self.inside.client - 1 = omega arith in
     let within : c.args.tag - g.row.PER * c.self.inside.client - 1 < g.row.PER - 1 = omega arith in
-    rw (← c.self.view_is, is_issued-command g.row.PER tags c.args.tag (omega arith) (omega arith), get_or-flags (g.row.PER - 1) c.self.inside.out _ false within, entry)
+    rw (
+      ← c.self.view_is,
+      is_issued-command g.row.PER tags c.args.tag (omega arith) (omega arith),
+      get_or-flags
+          (g.row.PER - 1) c.self.inside.out _ false within,
+      entry,
+    )
     (ap (λ bit. bit == 1) (shr_and_one c.self.inside.out _))
 
 pub returns-else-index-2 : goal.returns-else-index-2
 returns-else-index-2 g c =
-    let tags : ClientTags = record { client = c.self.inside.client; next = c.self.inside.next; out = flags (g.row.PER - 1) c.self.inside.out; task_out = c.self.inside.task_out } in
-    rw (← c.self.view_is, is_issued-past g.row.PER tags c.args.tag (length-flags (g.row.PER - 1) c.self.inside.out) (omega arith), le-ltb (c.args.tag - c.tag_at-before.result) g.row.PER (omega arith)) refl
+    let tags : ClientTags =
+    record { client = c.self.inside.client; next = c.self.inside.next; out = flags (g.row.PER - 1) c.self.inside.out; task_out = c.self.inside.task_out } in
+    rw (
+      ← c.self.view_is,
+      is_issued-past g.row.PER tags c.args.tag (length-flags (g.row.PER - 1) c.self.inside.out) (omega arith),
+      le-ltb
+          (c.args.tag - c.tag_at-before.result) g.row.PER (omega arith),
+    ) refl

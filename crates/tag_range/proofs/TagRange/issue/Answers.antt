@@ -15,7 +15,8 @@ invariant_of-self-2 g c = (
 
 pub returns-clause-step : goal.returns-clause-step
 returns-clause-step g c =
-    let tags : ClientTags = record { client = c.self.inside.client; next = c.self.inside.next; out = flags (g.row.PER - 1) c.self.inside.out; task_out = c.self.inside.task_out } in
+    let tags : ClientTags =
+    record { client = c.self.inside.client; next = c.self.inside.next; out = flags (g.row.PER - 1) c.self.inside.out; task_out = c.self.inside.task_out } in
     let given = c.in_ok-ticket.ensures.given in
     rw (
       ← c.self.view_is,
@@ -28,5 +29,7 @@ returns-clause-step g c =
 
 pub returns-clause-least_tag : goal.returns-clause-least_tag
 returns-clause-least_tag g c =
-    let tags : ClientTags = record { client = c.self.inside.client; next = c.self.inside.next; out = flags (g.row.PER - 1) c.self.inside.out; task_out = c.self.inside.task_out } in
-    rw (c.tag_at.ensures, ← c.self.view_is) (least-free g.row.PER tags c.in-Some.entry (length-flags (g.row.PER - 1) c.self.inside.out) (sym c.in-Some.ensures.value))
+    let tags : ClientTags =
+    record { client = c.self.inside.client; next = c.self.inside.next; out = flags (g.row.PER - 1) c.self.inside.out; task_out = c.self.inside.task_out } in
+    rw (c.tag_at.ensures, ← c.self.view_is)
+    (least-free g.row.PER tags c.in-Some.entry (length-flags (g.row.PER - 1) c.self.inside.out) (sym c.in-Some.ensures.value))

@@ -12,4 +12,5 @@ returns-clause-known c =
     let there : c.args.client < length host.clients = omega (arith, c.if-len-client.false, c.len.ensures) in
     let held : c.index.result.now ≡ client_of host c.args.client = c.index.ensures ∙ get_or_default host.clients c.args.client _ new_client there in
     rw (← c.self.view_is)
-    (first_ready-known host c.args.client c.first_ready.result there c.self.invariant.0 (c.first_ready.ensures ∙ ap (λ (client : HostClient). slice_get client.ready.items 0) held))
+    (first_ready-known host c.args.client c.first_ready.result there c.self.invariant.0 (c.first_ready.ensures
+    ∙ ap (λ (client : HostClient). slice_get client.ready.items 0) held))

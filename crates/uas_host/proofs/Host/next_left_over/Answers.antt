@@ -13,13 +13,13 @@ returns-in-Some-left_over_from-clause-next c =
     let host : HostState = record { clients = c.self.inside.clients.items; retirement = c.self.inside.retirement } in
     let client = c.in-Some.client in
     let slot = c.in-Some-left_over_from.slot in
-    let there : client < length host.clients = c.self.invariant.1.there client c.in-Some.ensures.next.1 c.in-Some.ensures.next.2 in
+    let there : client < length host.clients = c.self.invariant.1.there client c.in-Some.ensures.next.2 in
     let held : c.index.result.now ≡ client_of host client = c.index.ensures ∙ get_or_default host.clients client _ new_client there in
     let left : HostClient → ℕ → _ = λ (h : HostClient) (s : ℕ). is_held_left_over c.args.pipe (held_at h.entries s) in
     let found = c.in-Some-left_over_from.ensures.slot in
     let tag : c.tag_under.result ≡ client * 8 + slot + 1 = c.tag_under.ensures.tag in
     let passed : (other : ℕ) → c.loop-client.from < other → other ≤ client * 8 + slot → is_left_over_on host c.args.pipe other ≡ false =
-    left_over-passed c.self.inside.marks.word host c.args.pipe c.loop-client.from client slot c.self.invariant.1 there (omega (arith, found.1))
+    left_over-passed c.self.inside.marks host c.args.pipe c.loop-client.from client slot c.self.invariant.1 there (omega (arith, found.1))
     c.in-Some.ensures.next.3
     (λ s low high. ap (λ h. left h s) (sym held) ∙ found.3 s (omega (arith, low, c.saturating_sub-first.ensures)) high) in
     let before : (other : ℕ) → c.args.tag < other → other ≤ c.loop-client.from → is_left_over_on host c.args.pipe other ≡ false =
@@ -36,11 +36,11 @@ pub loop-client-preserved : goal.loop-client-preserved
 loop-client-preserved c =
     let host : HostState = record { clients = c.self.inside.clients.items; retirement = c.self.inside.retirement } in
     let client = c.in-Some.client in
-    let there : client < length host.clients = c.self.invariant.1.there client c.in-Some.ensures.next.1 c.in-Some.ensures.next.2 in
+    let there : client < length host.clients = c.self.invariant.1.there client c.in-Some.ensures.next.2 in
     let held : c.index.result.now ≡ client_of host client = c.index.ensures ∙ get_or_default host.clients client _ new_client there in
     let left : HostClient → ℕ → _ = λ (h : HostClient) (s : ℕ). is_held_left_over c.args.pipe (held_at h.entries s) in
     let passed : (other : ℕ) → c.loop-client.from < other → other ≤ client * 8 + 8 → is_left_over_on host c.args.pipe other ≡ false =
-    left_over-passed c.self.inside.marks.word host c.args.pipe c.loop-client.from client 8 c.self.invariant.1 there (omega arith) c.in-Some.ensures.next.3
+    left_over-passed c.self.inside.marks host c.args.pipe c.loop-client.from client 8 c.self.invariant.1 there (omega arith) c.in-Some.ensures.next.3
     (λ s low high. ap (λ h. left h s) (sym held) ∙ c.in_default-left_over_from.ensures.none s (omega (arith, low, c.saturating_sub-first.ensures)) high) in
     let before : (other : ℕ) → c.args.tag < other → other ≤ c.loop-client.from → is_left_over_on host c.args.pipe other ≡ false =
     λ other above within. ap (λ (h : HostState). is_left_over_on h c.args.pipe other) c.self.view_is ∙ c.loop-client.invariant.none other above within in
@@ -57,6 +57,6 @@ returns-clause-none c =
     λ other above within. ap (λ (h : HostState). is_left_over_on h c.args.pipe other) c.self.view_is ∙ c.loop-client.invariant.none other above within in
     rw (← c.self.view_is)
     (λ other above. left_over-further host c.args.pipe c.args.tag c.loop-client.from other before
-    (λ later past within. left_over-none c.self.inside.marks.word host c.args.pipe c.loop-client.from c.self.invariant.1 c.self.invariant.0.most
+    (λ later past within. left_over-none c.self.inside.marks host c.args.pipe c.loop-client.from c.self.invariant.1
     c.in_default.ensures.none later past)
     other above (omega arith))

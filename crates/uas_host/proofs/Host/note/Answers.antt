@@ -10,9 +10,11 @@ pub invariant_of-self : goal.invariant_of-self
 invariant_of-self c =
     let host : HostState = record { clients = c.self.inside.clients.items; retirement = c.self.inside.retirement } in
     let there : c.args.client < length host.clients = subst (λ (h : HostState). c.args.client < length h.clients) (sym c.self.view_is) c.requires.client in
-    let free : IsFree (client_of host c.args.client) c.args.slot = subst (λ (h : HostState). IsFree (client_of h c.args.client) c.args.slot) (sym c.self.view_is) c.requires.free in
-    let held : c.index_mut.result.now ≡ client_of host c.args.client = c.index_mut.ensures.value ∙ get_or_default host.clients c.args.client _ new_client there in
+    let free : IsFree (client_of host c.args.client) c.args.slot =
+    subst (λ (h : HostState). IsFree (client_of h c.args.client) c.args.slot) (sym c.self.view_is) c.requires.free in
+    let held : c.index_mut.result.now ≡ client_of host c.args.client =
+    c.index_mut.ensures.value ∙ get_or_default host.clients c.args.client _ new_client there in
     rw (c.submit.ensures, held) (
       noted-host host c.args.client c.args.slot c.args.ticket c.args.op there (omega (arith, c.requires.slot)) free c.self.invariant.0,
-      AreMarked-noted c.self.inside.marks.word host c.args.client c.args.slot c.args.ticket c.args.op there c.self.invariant.0 c.self.invariant.1,
+      AreMarked-noted c.self.inside.marks host c.args.client c.args.slot c.args.ticket c.args.op there c.self.invariant.1,
     )

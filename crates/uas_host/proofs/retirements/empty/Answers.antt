@@ -8,11 +8,13 @@ use Rattle.uas_host.proofs.retirements.empty.Goals as goal
 pub loop-pointer-preserved : goal.loop-pointer-preserved
 loop-pointer-preserved c =
     ap (λ lines. emptied lines c.args.pipe c.args.tag) (c.reclaim.ensures 0 c.in-Some.ensures.known)
-    ∙ (emptied-step c.one_ring_is_changed.ensures.changed c.loop-pointer.lines c.args.pipe c.args.tag c.in-Some.ensures.lines c.requires.ring c.requires.streams c.in-Some.ensures.known.0
+    ∙ (emptied-step c.one_ring_is_changed.ensures.changed c.loop-pointer.lines c.args.pipe c.args.tag c.in-Some.ensures.lines c.requires.ring
+    c.requires.streams c.in-Some.ensures.known.0
     ∙ c.loop-pointer.invariant)
 
 pub returns : goal.returns
 returns c =
     let lines = c.loop-pointer.lines in
-    let none = none-consumed (places_of c.args.pipe) (ring_of lines c.args.pipe c.args.tag) (sym c.in_default.is ∙ c.oldest.ensures.oldest) c.room.ensures.standing in
+    let none =
+    none-consumed (places_of c.args.pipe) (ring_of lines c.args.pipe c.args.tag) (sym c.in_default.is ∙ c.oldest.ensures.oldest) c.room.ensures.standing in
     sym (emptied-none lines c.args.pipe c.args.tag none) ∙ c.loop-pointer.invariant

@@ -11,6 +11,7 @@ returns-clause-found c =
     let bytes = c.args.bytes.now in
     let header = first_eight bytes (omega arith) in
     let zeros = none_set bytes (reserved_places 4) (sym c.is_any_set.ensures ∙ c.if-is_any_set.false) in
-    let tag_bytes = number_bytes (slice_index bytes 2) (slice_index bytes 3) _ (omega (arith, c.type_inv.bytes 2)) (omega (arith, c.type_inv.bytes 3)) c.number_at.ensures in
+    let tag_bytes = number_bytes (slice_index bytes 2) (slice_index bytes 3) _ (omega (arith, c.type_inv.bytes 2))
+    (omega (arith, c.type_inv.bytes 3)) c.number_at.ensures in
     let rest = drop_all 8 bytes (omega arith) in
     (search rules, cc)

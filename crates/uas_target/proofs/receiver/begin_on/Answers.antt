@@ -9,5 +9,13 @@ work_asked-work-requires-clause-range c = λ op is.
 
 pub returns-clause-sound : goal.returns-clause-sound
 returns-clause-sound c = λ counts is.
-    rw (c.task_in.ensures, c.begin-progress.ensures.progress, c.cdb_reports_attention.ensures, c.work_asked-work.ensures.work, c.parse-asked.ensures, c.blocks-3.ensures.count, c.blocks-2.ensures.count)
+    rw (
+      c.task_in.ensures,
+      c.begin-progress.ensures.progress,
+      c.cdb_reports_attention.ensures,
+      c.work_asked-work.ensures.work,
+      c.parse-asked.ensures,
+      c.blocks-3.ensures.count,
+      c.blocks-2.ensures.count,
+    )
     (begun_sound counts c.args.number c.args.unit.now c.args.cdb.now is)

@@ -6,5 +6,5 @@ abbrev pub invariant-loop : goal.invariant-loop
 invariant-loop l = record {
   own : IsClientOf l.desk l.seat;
   client : l.seat.client ≡ l.fn.seat.client;
-  least : l.seat.least ≡ l.fn.seat.least;
+  least_ticket : l.seat.least_ticket ≡ l.fn.seat.least_ticket;
 }

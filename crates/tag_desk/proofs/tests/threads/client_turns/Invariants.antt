@@ -6,6 +6,6 @@ abbrev pub invariant-loop-ticket : goal.invariant-loop-ticket
 invariant-loop-ticket l = record {
   own : IsClientOf l.desk l.seat;
   client : l.seat.client ≡ l.fn.seat.client;
-  least : l.seat.least ≤ l.ticket;
+  least_ticket : l.seat.least_ticket ≤ l.ticket;
   free : IsFreeAt l.seat l.tag;
 }

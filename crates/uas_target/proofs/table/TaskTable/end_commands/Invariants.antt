@@ -1,4 +1,4 @@
-use Rattle.std.proofs.Common.{◌≡◌, length}
+use Rattle.std.proofs.Common.{◌≡◌}
 use Rattle.uas_target.specs.Tasks.{spared}
 use Rattle.uas_target.proofs.Managed.{changed}
 use Rattle.uas_target.proofs.table.TaskTable.end_commands.Given as goal

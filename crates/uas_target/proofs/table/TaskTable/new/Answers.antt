@@ -1,6 +1,7 @@
 use Rattle.std.proofs.Common.{◌≡◌, ℕ, zero, suc, false, Option, None, List, length, replicate, is_some, refl, ap, sym, ◌∙◌}
 use Rattle.scsi_cmd.specs.Held.{held_at}
-use Rattle.uas_target.specs.Marks.{MarksHeld, is_marked}
+use Rattle.marks.specs.Marks.{is_marked}
+use Rattle.uas_target.specs.Marks.{MarksHeld}
 use Rattle.uas_target.proofs.table.TaskTable.new.Goals as goal
 
 -- places of which none holds anything
@@ -9,8 +10,10 @@ held_at-none zero place = refl
 held_at-none (suc count) zero = refl
 held_at-none (suc count) (suc place) = held_at-none count place
 
-unmarked : {T : Type 0} (words : List ℕ) (places : List (Option T)) (count : ℕ) → ((place : ℕ) → is_marked words place ≡ false) → places ≡ replicate count None → MarksHeld words places
-unmarked words places count none is place within = none place ∙ sym (ap is_some (ap (λ held. held_at held place) is ∙ held_at-none count place))
+unmarked : {T : Type 0} (words : List ℕ) (places : List (Option T)) (count : ℕ) → ((place : ℕ) → is_marked words place ≡ false) →
+    places ≡ replicate count None → MarksHeld words places
+unmarked words places count none is place = none place ∙ sym (ap is_some (ap (λ held. held_at held place) is ∙ held_at-none count place))
 
 pub invariant_of-result : goal.invariant_of-result
-invariant_of-result c = (ap length c.in_ok-from_array.ensures.items, unmarked c.new.result.words _ 248 c.new.ensures c.in_ok-from_array.ensures.items)
+invariant_of-result c =
+    (ap length c.in_ok-from_array.ensures.items, unmarked c.new.result _ 248 c.new.ensures c.in_ok-from_array.ensures.items)

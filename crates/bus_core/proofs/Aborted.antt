@@ -1,6 +1,5 @@
 -- What a task management leaves of the device's tasks as it is received (SAM, ABORT TASK and LOGICAL UNIT RESET). Cited by ManagedFits.
-use Rattle.std.proofs.Common.{◌≡◌, ℕ, zero, suc, ◌+◌, ◌*◌, ◌^◌, ◌<◌, ◌≤◌, Bool, true, false, cond, List, length, length-set, map, Option, Some, None, Ok, refl, arith, ap}
-use Rattle.std.proofs.Common.{sym, subst, ◌∙◌}
+use Rattle.std.proofs.Common.{◌≡◌, ℕ, zero, suc, ◌^◌, ◌<◌, ◌≤◌, Bool, true, false, cond, length, length-set, Some, None, Ok, refl, ap, sym, subst, ◌∙◌}
 use Rattle.std.specs.Prelude.{IfSome, slice_get, slice_set, ◌==◌, ◌&&◌}
 use Rattle.std.proofs.lemmas.Bool.{eqb-true, eqb-false, eq-eqb, ne_eqb, false≢true}
 use Rattle.std.proofs.lemmas.List.{length-map}
@@ -12,18 +11,13 @@ use Rattle.scsi_cmd.specs.declared.Request.TheVariants.{Execute, Manage}
 use Rattle.scsi_cmd.specs.declared.Task.{Task}
 use Rattle.scsi_cmd.specs.declared.Task.TheVariants.{Abort, Reset}
 use Rattle.scsi_cmd.specs.Held.{held_under, with_held_under}
-use Rattle.device_server.specs.declared.Progress.{Progress}
 use Rattle.device_server.specs.declared.Progress.TheVariants.{Moving, Ended}
 use Rattle.solo_model.specs.declared.Phase.{Phase}
 use Rattle.solo_model.specs.declared.Phase.TheVariants.{Queued, Begun, Sent, Gone}
 use Rattle.solo_model.specs.TaggedTask.{can_go, unit_managed}
 use Rattle.uas_iu.specs.Lun.{lun_text}
-use Rattle.uas_host.specs.declared.Place.{Place}
 use Rattle.uas_host.specs.Tags.{tag_of}
 use Rattle.uas_host.specs.Tasks.{aborted_tag, function_of}
-use Rattle.uas_target.specs.declared.DeviceTask.{DeviceTask}
-use Rattle.uas_target.specs.declared.Overlap.{Overlap}
-use Rattle.uas_target.specs.declared.Took.{Took}
 use Rattle.uas_target.specs.declared.Took.TheVariants.{Began}
 use Rattle.uas_target.specs.Device.{Device, managed, received, task_of, with_code, with_response, with_unit, without_command, without_commands_of}
 use Rattle.uas_target.specs.Fields.{is_tag}
@@ -91,7 +85,8 @@ done-task device number unit (Abort tag) other some within =
     elim (tag == other) as (λ b. (tag == other) ≡ b → held_under (with_held_under device.tasks tag (spared number (held_under device.tasks tag))) other
     ≡ cond b (spared number (held_under device.tasks other)) (held_under device.tasks other)) [
       | true ↦ λ is. let same : other ≡ tag = sym (eqb-true tag other is) in
-          subst (λ t. held_under (with_held_under device.tasks t (spared number (held_under device.tasks t))) other ≡ spared number (held_under device.tasks other))
+          subst
+          (λ t. held_under (with_held_under device.tasks t (spared number (held_under device.tasks t))) other ≡ spared number (held_under device.tasks other))
           same
           (held_under-with_same device.tasks other (spared number (held_under device.tasks other)) some within)
       | false ↦ λ is. held_under-with_other device.tasks tag other (spared number (held_under device.tasks tag))

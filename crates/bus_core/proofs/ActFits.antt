@@ -1,5 +1,5 @@
 -- A step of the device at one place: where the cell and the queues fit, the whole world fits.
-use Rattle.std.proofs.Common.{◌≡◌, ℕ, zero, suc, ◌/◌, ◌%◌, ◌<◌, ◌≤◌, Bool, true, false, cond, List, [], ◌∷◌, ◌++◌, length, length-set, Option, Some, None, refl}
+use Rattle.std.proofs.Common.{◌≡◌, ℕ, zero, suc, ◌/◌, ◌%◌, ◌<◌, Bool, true, false, cond, List, ◌++◌, length, length-set, Option, Some, None, refl}
 use Rattle.std.proofs.Common.{arith, ap, sym, subst, ◌∙◌}
 use Rattle.std.specs.Prelude.{nat_lt, slice_get, slice_set}
 use Rattle.std.specs.Option.{option_map_or}
@@ -26,7 +26,7 @@ use Rattle.bus_core.proofs.Framing.{AllFit-set, EndsStay, FitsPart-set, ChangesC
 use Rattle.bus_core.proofs.EventTexts.{KeepsOthers}
 use Rattle.bus_core.proofs.MatchedBounds.{held-place}
 use Rattle.bus_core.proofs.MatchedSteps.{IsHeld, matched-held}
-use Rattle.bus_core.proofs.Standing.{slice_get-back}
+use Rattle.bus_core.proofs.Standing.{slice_get-back, get-none}
 
 -- WHERE SOMETHING STANDS
 
@@ -98,8 +98,8 @@ acted-fits state before after place old new unit rest posted at fits acted match
     let changes : ChangesCell before after place.client place.slot at.client.held unit =
     acted-changes state before after place at.part unit new rest posted at.client acted in
     let part : FitsPart after place.client unit at.client.held (with_entry (record at.part { unit = unit }) place.slot new) =
-    FitsPart-set before after place.client place.slot at.part.unit unit at.client.held at.client.held at.part (Some new) at.part.least at.part.ready
-    at.client.fits at.is_place.slot changes acted.count at.client.fits.least at.client.fits.ready acted.cell in
+    FitsPart-set before after place.client place.slot at.part.unit unit at.client.held at.client.held at.part (Some new) at.part.least_ticket at.part.ready
+    at.client.fits at.is_place.slot changes acted.count at.client.fits.least_ticket at.client.fits.ready acted.cell in
     let long : length (acted_state state place at.part unit new rest posted).parts ≡ length state.parts =
     length-set state.parts place.client (with_entry (record at.part { unit = unit }) place.slot new) in
     record {
@@ -125,11 +125,6 @@ acted-fits state before after place old new unit rest posted at fits acted match
     }
 
 -- WHAT STANDS UNDER A TAG
-
-slice_get_none : {T : Type 0} (list : List T) (at : ℕ) → slice_get list at ≡ None → length list ≤ at
-slice_get_none [] at is = omega arith
-slice_get_none (first ∷ rest) zero is = absurd (none-some first (sym is))
-slice_get_none (first ∷ rest) (suc at) is = omega (arith, slice_get_none rest at is)
 
 -- a tag that names a place is its tag
 pub place_of-tag : (clients tag : ℕ) (place : Place) → place_of clients tag ≡ Some place → tag_of place ≡ tag
@@ -166,7 +161,7 @@ client-by : (state : Shared) (world : World) (place : Place) (fact : Entry → B
 client-by state world place fact P fits known within none each =
     elim (slice_get state.parts place.client) as (λ o. slice_get state.parts place.client ≡ o
     → P (task_of world.device (tag_of place)) (option_map_or (entry_fact fact place.slot) o false)) [
-      | None ↦ λ is. absurd (omega (arith, slice_get_none state.parts place.client is))
+      | None ↦ λ is. absurd (omega (arith, get-none state.parts place.client is))
       | Some part ↦ λ is. slot-by state world place fact part P fits is within none each
     ] refl
 

@@ -1,10 +1,12 @@
 -- What an act on a part is to the client's own solo machine.
-use Rattle.std.proofs.Common.{◌≡◌, ℕ, suc, true, false, cond, List, [], ◌∷◌, map, Option, Some, None, option_map, option_and_then, refl, arith, ap, sym, ◌∙◌, rules}
+use Rattle.std.proofs.Common.{◌≡◌, ℕ, suc, true, false, cond, List, [], ◌∷◌, map, Option, Some, None, option_map, option_and_then, refl, arith, ap, sym, ◌∙◌}
+use Rattle.std.proofs.Common.{rules}
 use Rattle.std.specs.Prelude.{nat_lt, is_some, ◌&&◌, slice_set}
 use Rattle.std.proofs.Math.ListN.{get_or-map}
 use Rattle.std.proofs.Math.Seq.{map-set_same}
 use Rattle.std.proofs.lemmas.Option.{none-some}
 use Rattle.std.proofs.lemmas.List.{map-set}
+use Rattle.scsi_cmd.specs.Request.{is_command}
 use Rattle.scsi_cmd.specs.declared.Command.{Command}
 use Rattle.scsi_cmd.specs.declared.Reply.{Reply}
 use Rattle.scsi_cmd.specs.declared.Request.{Request}
@@ -23,8 +25,8 @@ use Rattle.device_server.specs.declared.Progress.{Progress}
 use Rattle.device_server.specs.declared.Progress.TheVariants.{Moving, Ended}
 use Rattle.solo_model.specs.declared.Phase.{Phase}
 use Rattle.solo_model.specs.declared.Phase.TheVariants.{Queued, Begun, Sent, Gone}
-use Rattle.solo_model.specs.TaggedTask.{TaggedTask, aborted_by, after_notes, answered_by, can_go, carried, carried_from, moved, sent, is_command, is_noted, moved_from, moved_request}
-use Rattle.solo_model.specs.TaggedTask.{reply_from, request_begun, sent_from, unit_managed}
+use Rattle.solo_model.specs.TaggedTask.{TaggedTask, aborted_by, after_notes, answered_by, can_go, carried, carried_from, moved, sent, is_noted}
+use Rattle.solo_model.specs.TaggedTask.{moved_from, moved_request, reply_from, request_begun, sent_from, unit_managed}
 use Rattle.uas_host.specs.declared.Place.{Place}
 use Rattle.stream_array.specs.declared.Pipe.{Pipe}
 use Rattle.stream_array.specs.declared.Pipe.TheVariants.{Command as CommandPipeName, Status as StatusPipe, DataIn, DataOut}
@@ -33,9 +35,10 @@ use Rattle.bus_core.specs.Td.{Entry, passed_on, passed_td, retired_on, trbs_on, 
 use Rattle.bus_core.specs.declared.Completion.{Completion}
 use Rattle.bus_core.specs.declared.Completion.TheVariants.{CommandDone, DataDone, StatusDone, EngineDone}
 use Rattle.bus_core.specs.declared.Step.{Step}
-use Rattle.bus_core.specs.Part.{Part, Act, carry_act, move_act, send_act, event_act, seen_entry, event_place, seen_by, fault_at, submitted_part, take_act, pass_act, passed_slot, retire_act}
-use Rattle.bus_core.specs.Part.{carried_entry, carried_slot, data_td_after, entry_reply, moved_entry, moved_slot, new_entry, sent_entry, sent_slot, settled, taken, took_trb}
-use Rattle.bus_core.specs.Part.{after_answer, after_event, doomed, entries_after, noted_entry, slot_tag}
+use Rattle.bus_core.specs.Part.{Part, Act, carry_act, move_act, send_act, event_act, seen_entry, event_place, seen_by, fault_at, submitted_part, take_act}
+use Rattle.bus_core.specs.Part.{pass_act, passed_slot, retire_act}
+use Rattle.bus_core.specs.Part.{carried_entry, carried_slot, data_td_after, entry_reply, moved_entry, moved_slot, new_entry, sent_entry, sent_slot, settled}
+use Rattle.bus_core.specs.Part.{taken, took_trb, after_answer, after_event, doomed, entries_after, noted_entry, slot_tag}
 use Rattle.bus_core.specs.Isolation.{label_of, own_management, own_of, own_request, own_tag, own_task, renumbered, solo_of}
 
 -- the solo machine's step on a label, and no step where there is none
@@ -55,7 +58,8 @@ held_at-solo_of client entries slot = get_or-map (option_map (own_task client)) 
 
 -- an entry that keeps its task
 pub map-own_task : (client : ℕ) (entries : List (Option Entry)) (slot : ℕ) (now : Option Entry) →
-    map (option_map (own_task client)) (slice_set entries slot now) ≡ slice_set (map (option_map (own_task client)) entries) slot (option_map (own_task client) now)
+    map (option_map (own_task client)) (slice_set entries slot now)
+    ≡ slice_set (map (option_map (own_task client)) entries) slot (option_map (own_task client) now)
 map-own_task client entries slot now = map-set (option_map (own_task client)) entries slot now
 
 -- THE INDEX THAT AN ABORT NAMES: nothing that is done of a task reads it
@@ -131,13 +135,15 @@ after_notes-own client noted task =
     ])
 
 -- What a carried request does to the entries is what it does to the solo machine's tasks.
-pub own_task-noted : (client : ℕ) (noted : List ℕ) (entries : List (Option Entry)) → map (option_map (own_task client)) (map (option_map (noted_entry noted)) entries)
+pub own_task-noted : (client : ℕ) (noted : List ℕ) (entries : List (Option Entry)) →
+    map (option_map (own_task client)) (map (option_map (noted_entry noted)) entries)
     ≡ map (option_map (after_notes noted)) (map (option_map (own_task client)) entries)
 own_task-noted client noted [] = refl
 own_task-noted client noted (None ∷ entries) = ap (λ rest. None ∷ rest) (own_task-noted client noted entries)
 own_task-noted client noted (Some entry ∷ entries) =
     ap (λ rest. Some (own_of client (after_notes noted entry.task)) ∷ rest) (own_task-noted client noted entries)
-    ∙ ap (λ (task : TaggedTask). Some task ∷ map (option_map (after_notes noted)) (map (option_map (own_task client)) entries)) (sym (after_notes-own client noted entry.task))
+    ∙ ap (λ (task : TaggedTask). Some task ∷ map (option_map (after_notes noted)) (map (option_map (own_task client)) entries))
+    (sym (after_notes-own client noted entry.task))
 
 pub own_task-after : (client : ℕ) (request : Request) (entries : List (Option Entry)) →
     map (option_map (own_task client)) (entries_after request entries) ≡ after_request (own_request client request) (map (option_map (own_task client)) entries)
@@ -146,7 +152,8 @@ own_task-after client (Manage what noted) entries = own_task-noted client noted.
 
 -- the device receives the request under a slot
 carried_entry-own : (client : ℕ) (step : Step) (place : Place) (part : Part) (entry : Entry) (after : Option (BlockMaps × TaggedTask))
-    → held_at part.entries place.slot ≡ Some entry → carried part.unit entry.task ≡ after → IsOwnAct client step part (carried_entry part place.slot place entry after)
+    → held_at part.entries place.slot ≡ Some entry → carried part.unit entry.task ≡ after
+    → IsOwnAct client step part (carried_entry part place.slot place entry after)
 carried_entry-own client step place part entry None is none = refl
 carried_entry-own client step place part entry (Some after) is begun =
     rw (
@@ -169,7 +176,8 @@ carry_act-own client step place part = carried_slot-own client step place part (
 
 -- the device moves a chunk under a slot
 moved_entry-own : (client : ℕ) (step : Step) (place : Place) (part : Part) (entry : Entry) (after : Option (BlockMaps × TaggedTask))
-    → held_at part.entries place.slot ≡ Some entry → moved part.unit entry.task ≡ after → IsOwnAct client step part (moved_entry part place.slot place entry after)
+    → held_at part.entries place.slot ≡ Some entry → moved part.unit entry.task ≡ after
+    → IsOwnAct client step part (moved_entry part place.slot place entry after)
 moved_entry-own client step place part entry None is none = refl
 moved_entry-own client step place part entry (Some after) is went =
     rw (
@@ -221,7 +229,7 @@ seen_held-task client event (Some entry) seen is =
     ap (λ (task : TaggedTask). Some (own_of client task)) (seen_by-task event entry seen is)
 
 -- dooming commands keeps the tasks
-doomed-task : (noted : List ℕ) (entry : Entry) → (doomed noted entry).task ≡ entry.task
+pub doomed-task : (noted : List ℕ) (entry : Entry) → (doomed noted entry).task ≡ entry.task
 doomed-task noted entry = search rules
 
 doomed-own : (client : ℕ) (noted : List ℕ) (entries : List (Option Entry)) → map (option_map (own_task client)) (map (option_map (doomed noted)) entries)
@@ -355,11 +363,12 @@ pub take_act-own : (client : ℕ) (step : Step) (part : Part) → IsOwnAct clien
 take_act-own client step part = taken-own client step part part.ready
 
 -- an accepted submission is accepted by the client's own solo machine
-is_some-own : (client : ℕ) (held : Option Entry) → is_some (option_map (own_task client) held) ≡ is_some held
+pub is_some-own : (client : ℕ) (held : Option Entry) → is_some (option_map (own_task client) held) ≡ is_some held
 is_some-own client None = refl
 is_some-own client (Some entry) = refl
 
-pub submitted_part-own : (client : ℕ) (part : Part) (slot ticket : ℕ) (command : Command) → nat_lt slot TASK_SLOT ≡ true → fault_at part slot ticket command ≡ None →
+pub submitted_part-own : (client : ℕ) (part : Part) (slot ticket : ℕ) (command : Command) → nat_lt slot TASK_SLOT ≡ true
+    → fault_at part slot ticket command ≡ None →
     solo_step (solo_of client part) (SubmitLabel (suc slot) ticket command) ≡ Some (silently (solo_of client (submitted_part part slot ticket command)))
 submitted_part-own client part slot ticket command within none =
     rw (

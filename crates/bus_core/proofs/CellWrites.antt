@@ -36,17 +36,6 @@ index-past [] at none past = refl
 index-past (first ∷ rest) zero none past = absurd (omega arith)
 index-past (first ∷ rest) (suc at) none past = index-past rest at none (omega arith)
 
-pub get-within : {T : Type 0} (list : List T) (at : ℕ) (some : T) → slice_get list at ≡ Some some → at < length list
-get-within [] at some is = absurd (none-some some is)
-get-within (first ∷ rest) zero some is = omega arith
-get-within (first ∷ rest) (suc at) some is = omega (arith, get-within rest at some is)
-
--- what isn't in a list is past its end
-pub get-none : {T : Type 0} (list : List T) (at : ℕ) → slice_get list at ≡ None → length list ≤ at
-get-none [] at none = omega arith
-get-none (first ∷ rest) zero none = absurd (none-some first (sym none))
-get-none (first ∷ rest) (suc at) none = omega (arith, get-none rest at none)
-
 pub same_length : {T U : Type 0} (ones : List T) (others : List U) → ((at : ℕ) → is_some (slice_get ones at) ≡ is_some (slice_get others at))
     → length ones ≡ length others
 same_length [] [] same = refl

@@ -17,7 +17,7 @@ use Rattle.solo_model.specs.TaggedTask.{buffer_after, progress_left}
 use Rattle.uas_target.specs.Tasks.{task_in}
 use Rattle.uas_host.specs.declared.Place.{Place}
 use Rattle.uas_host.specs.declared.TdState.TheVariants.{Pending}
-use Rattle.uas_host.specs.declared.Told.TheVariants.{Untold}
+use Rattle.uas_host.specs.declared.HostAnswer.TheVariants.{Unanswered}
 use Rattle.uas_host.specs.Tags.{tag_of}
 use Rattle.uas_host.specs.Tds.{data_td, data_trb_count, status_td}
 use Rattle.bus_core.specs.declared.Td.{Td}
@@ -111,7 +111,7 @@ fits-chunk client place unit entry op chunk was now fits is data_in data_out lon
   held = ap (λ (c : Cell). c.held) is ∙ fits.held ∙ (λ i. Some (record {
     ticket = entry.task.ticket;
     request = Execute op;
-    told = Untold;
+    told = Unanswered;
     command_td = entry.command_td.state;
     status_td = entry.status_td.state;
     data_td = Some (sym (state-after (chunk_moved (progress_left unit chunk op)) chunk) i);

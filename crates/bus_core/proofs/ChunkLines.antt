@@ -7,7 +7,7 @@ use Rattle.std.proofs.lemmas.Bool.{eqb-true, ne_eqb}
 use Rattle.std.proofs.lemmas.List.{append-nil, get_or-set_same, get_or-set_other}
 use Rattle.scsi_cmd.specs.Buffers.{with_bytes_at}
 use Rattle.xhci_trb.specs.declared.Trb.{Trb}
-use Rattle.cycle_ring.specs.Ring.{Ring, opening, pointer_of}
+use Rattle.cycle_ring.specs.Ring.{Ring, pointer_of}
 use Rattle.event_ring.specs.declared.Event.{Event}
 use Rattle.event_ring.specs.declared.Event.TheVariants.{Transfer}
 use Rattle.stream_array.specs.declared.Pipe.TheVariants.{DataIn, DataOut}
@@ -28,6 +28,7 @@ use Rattle.bus_core.specs.Fits.{data_event, event_texts, last_pointer}
 use Rattle.bus_core.proofs.DataTrbs.{length-data_trbs}
 use Rattle.bus_core.proofs.ChunkWindows.{chunk-written}
 use Rattle.bus_core.proofs.ChunkEntries.{moving_td, td_after}
+use Rattle.bus_core.proofs.CellWrites.{stream_ring-other, stream_ring-same}
 use Rattle.bus_core.proofs.Framing.{EndsAlike}
 use Rattle.bus_core.proofs.MatchedEntries.{data_event_if}
 
@@ -46,92 +47,50 @@ pub record TakesTrb (before after : LinesState) (rings now : List Ring) (tag : �
   pub others : (other : ℕ) → 0 < other → (other ≡ tag → ⊥) → stream_ring now other ≡ stream_ring rings other
   pub events : after.events.pending ≡ before.events.pending ++ posted
 
-set-here : (rings : List Ring) (tag : ℕ) (ring : Ring) → 0 < tag → tag ≤ length rings → stream_ring (slice_set rings (tag - 1) ring) tag ≡ ring
-set-here rings tag ring some within = get_or-set_same rings (tag - 1) ring (opening 0) (omega arith)
+-- none was, or one was
+trb-left : (lines : LinesState) (rings : List Ring) (tag : ℕ) → TakesTrb lines lines rings rings tag false []
+trb-left lines rings tag = record {
+  command = refl;
+  engine = refl;
+  status = refl;
+  here = refl;
+  others = λ other there apart. refl;
+  events = sym (append-nil lines.events.pending);
+}
 
-set-others : (rings : List Ring) (tag : ℕ) (ring : Ring) → 0 < tag
-    → (other : ℕ) → 0 < other → (other ≡ tag → ⊥) → stream_ring (slice_set rings (tag - 1) ring) other ≡ stream_ring rings other
-set-others rings tag ring some other there apart = get_or-set_other rings (tag - 1) (other - 1) ring (opening 0) (λ same. apart (omega arith))
+trb-taken : (before after : LinesState) (rings : List Ring) (tag : ℕ) (posted : List Event) → 0 < tag → tag ≤ length rings
+    → after.command ≡ before.command → after.engine ≡ before.engine → after.status ≡ before.status
+    → after.events.pending ≡ before.events.pending ++ posted
+    → TakesTrb before after rings (slice_set rings (tag - 1) (record (stream_ring rings tag) { got = (stream_ring rings tag).got + 1 })) tag true posted
+trb-taken before after rings tag posted some within command engine status events = record {
+  command = command;
+  engine = engine;
+  status = status;
+  here = stream_ring-same rings tag (record (stream_ring rings tag) { got = (stream_ring rings tag).got + 1 }) some within;
+  others = λ other there apart.
+      stream_ring-other rings tag other (record (stream_ring rings tag) { got = (stream_ring rings tag).got + 1 }) some there apart;
+  events = events;
+}
 
 pub takes-in : (lines : LinesState) (tag address pointer size : ℕ) (took chain : Bool) → 0 < tag → tag ≤ length lines.data_in
     → let front : Front = record { address = address; pointer = pointer; length = size; chain = chain } in
     TakesTrb lines (after_chunk took lines DataIn tag front) lines.data_in (after_chunk took lines DataIn tag front).data_in tag took
     (chunk_events took chain (Transfer address 0 SUCCESS (endpoint_of DataIn) SLOT))
     × ((after_chunk took lines DataIn tag front).data_out ≡ lines.data_out)
-takes-in lines tag address pointer size false chain some within = (
-  record {
-    command = refl;
-    engine = refl;
-    status = refl;
-    here = refl;
-    others = λ other there apart. refl;
-    events = sym
-        (append-nil lines.events.pending);
-  },
-  refl,
-)
-takes-in lines tag address pointer size true true some within = (
-  record {
-    command = refl;
-    engine = refl;
-    status = refl;
-    here = set-here lines.data_in tag _ some within;
-    others = set-others lines.data_in tag _ some;
-    events = sym (append-nil lines.events.pending);
-  },
-  refl,
-)
-takes-in lines tag address pointer size true false some within = (
-  record {
-    command = refl;
-    engine = refl;
-    status = refl;
-    here = set-here lines.data_in tag _ some within;
-    others = set-others lines.data_in tag _ some;
-    events = refl;
-  },
-  refl,
-)
+takes-in lines tag address pointer size false chain some within = (trb-left lines lines.data_in tag, refl)
+takes-in lines tag address pointer size true true some within =
+    (trb-taken lines _ lines.data_in tag [] some within refl refl refl (sym (append-nil lines.events.pending)), refl)
+takes-in lines tag address pointer size true false some within = (trb-taken lines _ lines.data_in tag _ some within refl refl refl refl, refl)
 
 pub takes-out : (lines : LinesState) (tag address pointer size : ℕ) (took chain : Bool) → 0 < tag → tag ≤ length lines.data_out
     → let front : Front = record { address = address; pointer = pointer; length = size; chain = chain } in
     TakesTrb lines (after_chunk took lines DataOut tag front) lines.data_out (after_chunk took lines DataOut tag front).data_out tag took
     (chunk_events took chain (Transfer address 0 SUCCESS (endpoint_of DataOut) SLOT))
     × ((after_chunk took lines DataOut tag front).data_in ≡ lines.data_in)
-takes-out lines tag address pointer size false chain some within = (
-  record {
-    command = refl;
-    engine = refl;
-    status = refl;
-    here = refl;
-    others = λ other there apart. refl;
-    events = sym
-        (append-nil lines.events.pending);
-  },
-  refl,
-)
-takes-out lines tag address pointer size true true some within = (
-  record {
-    command = refl;
-    engine = refl;
-    status = refl;
-    here = set-here lines.data_out tag _ some within;
-    others = set-others lines.data_out tag _ some;
-    events = sym (append-nil lines.events.pending);
-  },
-  refl,
-)
-takes-out lines tag address pointer size true false some within = (
-  record {
-    command = refl;
-    engine = refl;
-    status = refl;
-    here = set-here lines.data_out tag _ some within;
-    others = set-others lines.data_out tag _ some;
-    events = refl;
-  },
-  refl,
-)
+takes-out lines tag address pointer size false chain some within = (trb-left lines lines.data_out tag, refl)
+takes-out lines tag address pointer size true true some within =
+    (trb-taken lines _ lines.data_out tag [] some within refl refl refl (sym (append-nil lines.events.pending)), refl)
+takes-out lines tag address pointer size true false some within = (trb-taken lines _ lines.data_out tag _ some within refl refl refl refl, refl)
 
 -- its enqueue place is where it was
 pub ends-after : (ring now : Ring) (got : ℕ) → now ≡ record ring { got = got } → EndsAlike ring now

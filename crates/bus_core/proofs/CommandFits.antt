@@ -1,6 +1,6 @@
 -- A step of the command pipe: the device receives the unit of the first message, a command's or a task management's.
-use Rattle.std.proofs.Common.{◌≡◌, ℕ, ◌+◌, ◌^◌, ◌<◌, ◌≤◌, Bool, true, false, cond, List, [], ◌∷◌, ◌++◌, length, length-append, Option, Some, None, Ok, refl, arith, ap}
-use Rattle.std.proofs.Common.{sym, subst, ◌∙◌, take}
+use Rattle.std.proofs.Common.{◌≡◌, ℕ, ◌^◌, ◌<◌, ◌≤◌, Bool, true, false, cond, List, [], ◌∷◌, ◌++◌, length, length-append, Option, Some, None, Ok, refl}
+use Rattle.std.proofs.Common.{arith, ap, sym, subst, ◌∙◌}
 use Rattle.std.specs.Prelude.{slice_get, slice_set, IfSome}
 use Rattle.std.proofs.lemmas.Bool.{lt-ltb, le-ltb}
 use Rattle.std.proofs.lemmas.List.{length-map, take_all}
@@ -31,10 +31,10 @@ use Rattle.uas_host.specs.declared.Place.{Place}
 use Rattle.uas_host.specs.Tags.{tag_of}
 use Rattle.uas_host.specs.Tds.{command_buffer_of}
 use Rattle.xhci_ctl.specs.declared.Acted.{Acted}
-use Rattle.xhci_ctl.specs.declared.Acted.TheVariants.{Acted as ActedOn, Idle}
+use Rattle.xhci_ctl.specs.declared.Acted.TheVariants.{Idle}
 use Rattle.xhci_ctl.specs.Own.{IsOwnCommand, IsOwnCommandFront}
 use Rattle.xhci_ctl.specs.Pipes.{has_pending}
-use Rattle.xhci_ctl.specs.Steps.{Sides, commanded, has_event_room, on_front, received_at}
+use Rattle.xhci_ctl.specs.Steps.{Sides, has_event_room, on_front, received_at}
 use Rattle.bus_core.specs.declared.Completion.TheVariants.{CommandDone}
 use Rattle.bus_core.specs.declared.Step.TheVariants.{CommandPipe}
 use Rattle.bus_core.specs.Td.{Entry, with_trb_taken}
@@ -54,6 +54,7 @@ use Rattle.bus_core.proofs.CommandFront.{carried_part, carried_state, carried-st
 use Rattle.bus_core.proofs.CommandFront.{received-queues, received_world, tag-bounds, unit_bytes-command}
 use Rattle.bus_core.proofs.DeviceSteps.{received-op}
 use Rattle.bus_core.proofs.EventTexts.{KeepsOthers}
+use Rattle.bus_core.proofs.CellEntries.{cell-phase}
 use Rattle.bus_core.proofs.ManagedFits.{carried-now, managed-fits, managed_now, managed_world, management-received}
 use Rattle.bus_core.proofs.MatchedNext.{matched-no_stray}
 use Rattle.bus_core.proofs.MatchedSteps.{shared_step-matched}
@@ -110,20 +111,12 @@ received_entry entry progress = record entry { task = record entry.task { phase 
 received-cell : (client count : ℕ) (place : Place) (entry : Entry) (cell : Cell) (op : Op) (progress : Progress) → entry.task.phase ≡ Queued
     → entry.task.request ≡ Execute op → HasChunk count op progress → FitsCell client count place entry cell
     → FitsCell client count place (received_entry entry progress) (record cell { task = task_in (Some client) (Ok op) progress })
-received-cell client count place entry cell op progress queued asks chunk fits = record {
-  held = fits.held ∙ ap (λ p. Some (record (host_side entry) { told = told_by entry.task.request p entry.status_td.state })) queued;
-  task = ap (λ r. begun_task (Some client) r progress) (sym asks);
-  status = fits.status;
-  data_in = fits.data_in;
-  data_out = fits.data_out;
-  lent = fits.lent;
-  bytes = fits.bytes;
-  unit = fits.unit;
-  answer = tt;
-  sound =
-      let whole : IsSoundOp count entry.task op = subst (λ r. IsSoundRequest count entry.task r) asks fits.sound in
-      subst (λ r. IsSoundRequest count (record entry.task { phase = Begun progress }) r) (sym asks) (record { whole = whole.whole; chunk = chunk });
-}
+received-cell client count place entry cell op progress queued asks chunk fits =
+    let whole : IsSoundOp count entry.task op = subst (λ r. IsSoundRequest count entry.task r) asks fits.sound in
+    cell-phase client count place entry cell (Begun progress) (with_trb_taken entry.command_td) cell.held (task_in (Some client) (Ok op) progress) fits
+    (fits.held ∙ ap (λ p. Some (record (host_side entry) { told = told_by entry.task.request p entry.status_td.state })) queued)
+    (ap (λ r. begun_task (Some client) r progress) (sym asks)) tt
+    (subst (λ r. IsSoundRequest count (record entry.task { phase = Begun progress }) r) (sym asks) (record { whole = whole.whole; chunk = chunk }))
 
 -- THE WORLD
 
@@ -131,7 +124,8 @@ received-others : (world : World) (place : Place) (after : BlockMaps × Progress
     → KeepsOthers world (received_world world (device_after world place after op)) place
 received-others world place after op other at inside apart =
     ap (λ t. record (cell_at world (record { client = other; slot = at })) { task = t })
-    (held_under-with_other world.device.tasks (tag_of place) (tag_of (record { client = other; slot = at })) (task_in (Some place.client) (Ok op) after.1) apart)
+    (held_under-with_other world.device.tasks (tag_of place) (tag_of (record { client = other; slot = at }))
+    (task_in (Some place.client) (Ok op) after.1) apart)
 
 received-acted : (state : Shared) (world : World) (place : Place) (rest : List Place) (entry : Entry) (op : Op) (at : IsPlaced state world place entry)
     → Fits state world → state.messages ≡ place ∷ rest → entry.task.phase ≡ Queued → entry.task.request ≡ Execute op
@@ -197,7 +191,8 @@ command-at : (state : Shared) (world : World) (place : Place) (rest : List Place
 command-at state world place rest entry (Execute op) at fits is standing queued here asks =
     let tag = tag-bounds state world place entry at fits in
     let after : BlockMaps × Progress = begins at.part.unit op in
-    command-by state (acted_state state place at.part (begins at.part.unit op).0 (received_entry entry (begins at.part.unit op).1) rest (CommandDone place ∷ []))
+    command-by state
+    (acted_state state place at.part (begins at.part.unit op).0 (received_entry entry (begins at.part.unit op).1) rest (CommandDone place ∷ []))
     world place rest (device_after world place (begins at.part.unit op) op) fits is tag.0 tag.1
     (command-received state world place entry op at fits queued asks here)
     (carried-stepped state place rest at.part entry is at.there at.held queued ∙ command-stepped state place rest at.part entry op asks)

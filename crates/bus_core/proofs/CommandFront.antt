@@ -1,10 +1,10 @@
 -- The TRB in front of the command pipe's ring: the bytes that it names, and what the controller does with it, whatever the device makes of
 -- them. Cited by CommandFits and ManagedFits.
-use Rattle.std.proofs.Common.{◌≡◌, ℕ, zero, suc, ◌+◌, ◌-◌, ◌*◌, ◌^◌, ◌<◌, ◌≤◌, Bool, true, false, cond, List, [], ◌∷◌, ◌++◌, take, drop, length, length-append}
-use Rattle.std.proofs.Common.{map, Option, Some, None, option_map, Ok, refl, arith, ap, sym, subst, ◌∙◌, inr}
+use Rattle.std.proofs.Common.{◌≡◌, ℕ, suc, ◌+◌, ◌^◌, ◌<◌, ◌≤◌, true, false, cond, List, [], ◌∷◌, ◌++◌, take, drop, length, length-append}
+use Rattle.std.proofs.Common.{map, Some, None, option_map, Ok, refl, arith, ap, sym, subst, ◌∙◌, inr}
 use Rattle.std.specs.Prelude.{slice_get, slice_set, IfSome, Result, ◌==◌}
-use Rattle.std.proofs.lemmas.Bool.{lt-ltb, le-ltb, le-leb, ne_eqb}
-use Rattle.std.proofs.lemmas.List.{take_all, length-map, append_assoc}
+use Rattle.std.proofs.lemmas.Bool.{lt-ltb, le-leb, ne_eqb}
+use Rattle.std.proofs.lemmas.List.{length-map, append_assoc}
 use Rattle.std.proofs.lemmas.Option.{slice_get_past, slice_get-map}
 use Rattle.cycle_ring.specs.Ring.{pointer_of, front_of}
 use Rattle.stream_array.specs.declared.TheConstants.{COMMAND_RING_PLACES}
@@ -15,7 +15,7 @@ use Rattle.frame_store.specs.declared.Buffer.TheVariants.{Command as CommandBuff
 use Rattle.frame_store.specs.Buffers.{IsWhole, Names, bytes_at, bytes_of, held_for, front_of as front_byte}
 use Rattle.frame_store.proofs.FramesLaws.{start_of-named}
 use Rattle.block_unit.specs.BlockMaps.{BlockMaps}
-use Rattle.scsi_cmd.specs.declared.TheConstants.{TAGS, TASK_SLOT}
+use Rattle.scsi_cmd.specs.declared.TheConstants.{TASK_SLOT}
 use Rattle.scsi_cmd.specs.Held.{held_at}
 use Rattle.solo_model.specs.TaggedTask.{TaggedTask, carried_from, carried_request}
 use Rattle.solo_model.specs.declared.Phase.TheVariants.{Queued}

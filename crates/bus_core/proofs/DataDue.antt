@@ -2,7 +2,7 @@
 use Rattle.std.proofs.Common.{◌≡◌, ℕ, Bool, true, false, ◌&&◌, cond, length, Option, Some, None, refl, arith, ap, sym, subst, ◌∙◌}
 use Rattle.std.specs.Prelude.{nat_lt}
 use Rattle.std.specs.Option.{option_map_or}
-use Rattle.std.proofs.lemmas.Bool.{false≢true, lt-ltb}
+use Rattle.std.proofs.lemmas.Bool.{false≢true, lt-ltb, and_parts}
 use Rattle.stream_array.specs.declared.Pipe.{Pipe}
 use Rattle.stream_array.specs.declared.Pipe.TheVariants.{DataIn, DataOut}
 use Rattle.stream_array.specs.Contexts.{has_stream}
@@ -39,7 +39,6 @@ use Rattle.bus_core.specs.World.{World, sides_in}
 use Rattle.bus_core.specs.Fits.{Fits}
 use Rattle.bus_core.specs.WorldSteps.{DataFit, DataFits, DataIsIdle}
 use Rattle.bus_core.specs.WorldDue.{DataAreDue, data_due_by}
-use Rattle.bus_core.proofs.MatchedPlaces.{and-true}
 use Rattle.bus_core.proofs.MatchedSteps.{IsDueAt, IsMovingBy, moving_phase, place_fact-due}
 use Rattle.bus_core.proofs.ActFits.{IsPlaced, by-tag, place_of-tag, placed}
 use Rattle.bus_core.proofs.ChunkEntries.{moving_entry}
@@ -68,10 +67,10 @@ data-fits-at : (state : Shared) (world : World) (place : Place) (entry : Entry) 
     → place_of (length state.parts) (tag_of place) ≡ Some place → due state (Data (tag_of place)) ≡ true → data_is_due state (tag_of place) entry ≡ true
     → DataFits state world (tag_of place)
 data-fits-at state world place entry stands fits named is_due so =
-    let moving = and-true (is_moving entry.task.phase) _ so in
+    let moving = and_parts (is_moving entry.task.phase) _ so in
     let phase : IsMovingBy entry.task.phase = moving_phase entry.task.phase moving.0 in
     let at : IsChunkAt state world place stands.part = chunk-at state world place stands.part entry phase.chunk fits stands.there stands.held phase.is in
-    let rung = (and-true (is_data_open state (tag_of place) (request_direction entry.task.request))
+    let rung = (and_parts (is_data_open state (tag_of place) (request_direction entry.task.request))
     (has_data_trb (data_trbs entry.task.request) entry.data_td) moving.1).0 in
     by-direction at (direction_of at.op) refl fits named is_due
     (subst (λ (e : Entry). is_data_open state (tag_of place) (request_direction e.task.request) ≡ true) (entry-moving at entry stands.held) rung)

@@ -1,17 +1,20 @@
 -- A chunk that the device gives, and one that it takes, on the world of rings.
-use Rattle.std.proofs.Common.{◌≡◌, ℕ, ◌+◌, ◌-◌, ◌*◌, ◌<◌, ◌≤◌, Bool, true, not, List, [], length, Option, Some, None, Ok, IfSome, is_some, refl, arith, ap, sym}
-use Rattle.std.proofs.Common.{subst, ◌∙◌}
+use Rattle.std.proofs.Common.{◌≡◌, ℕ, ◌+◌, ◌-◌, ◌*◌, ◌<◌, ◌≤◌, Bool, true, not, ◌&&◌, List, [], length, Option, Some, None, Ok, IfSome, is_some}
+use Rattle.std.proofs.Common.{refl, arith, ap, sym, subst, ◌∙◌}
 use Rattle.std.specs.Prelude.{slice_set, ◌==◌}
 use Rattle.std.specs.Option.{option_map_or}
+use Rattle.std.proofs.lemmas.Bool.{and_from}
 use Rattle.block_unit.specs.BlockMaps.{BlockMaps}
 use Rattle.xhci_trb.specs.declared.Trb.{Trb}
 use Rattle.cycle_ring.specs.Ring.{Ring, front_of, pointer_of}
 use Rattle.event_ring.specs.declared.Event.{Event}
 use Rattle.event_ring.specs.declared.Event.TheVariants.{Transfer}
+use Rattle.stream_array.specs.declared.Pipe.{Pipe}
 use Rattle.stream_array.specs.declared.Pipe.TheVariants.{DataIn, DataOut}
 use Rattle.stream_array.specs.declared.TheConstants.{STREAM_RING_PLACES}
 use Rattle.stream_array.specs.Contexts.{has_stream}
-use Rattle.stream_array.specs.Rings.{stream_ring}
+use Rattle.stream_array.specs.Map.{places_of}
+use Rattle.stream_array.specs.Rings.{ring_of, stream_ring}
 use Rattle.frame_store.specs.Buffers.{bytes_at, written}
 use Rattle.scsi_cmd.specs.Laws.{length-with_bytes_at}
 use Rattle.scsi_cmd.specs.Work.{work_of}
@@ -30,8 +33,10 @@ use Rattle.uas_host.specs.Tags.{place_of, tag_of}
 use Rattle.uas_host.specs.Tds.{data_td, data_trb, data_trb_count, window_of}
 use Rattle.xhci_ctl.specs.declared.TheConstants.{SUCCESS, SLOT}
 use Rattle.xhci_ctl.specs.Own.{IsOwnData, IsOwnDataFront}
-use Rattle.xhci_ctl.specs.Pipes.{has_pending, is_open}
-use Rattle.xhci_ctl.specs.Steps.{Front, after_chunk, armed_front, endpoint_of, gave_at, moved, moved_by, took_at}
+use Rattle.xhci_ctl.specs.declared.Acted.{Acted}
+use Rattle.xhci_ctl.specs.declared.PipeState.{PipeState}
+use Rattle.xhci_ctl.specs.Pipes.{has_pending, is_open, is_open_on}
+use Rattle.xhci_ctl.specs.Steps.{Front, Sides, after_chunk, armed_front, endpoint_of, gave_at, moved, moved_by, on_front, took_at}
 use Rattle.bus_core.specs.declared.Step.TheVariants.{Data}
 use Rattle.bus_core.specs.Part.{Part}
 use Rattle.bus_core.specs.Shared.{Shared, due, shared_step}
@@ -49,8 +54,57 @@ use Rattle.bus_core.proofs.ChunkLines.{texts-in, texts-out}
 use Rattle.bus_core.proofs.DataWorlds.{MovesChunk}
 use Rattle.bus_core.proofs.Framing.{ends-same}
 use Rattle.bus_core.proofs.CommandFits.{event-room}
-use Rattle.bus_core.proofs.DataSteps.{IsChunkAt, IsInLent, all_three, armed-front, chunk_size, fits-after, has_stream-tag, in-lent, own-data_trb}
-use Rattle.bus_core.proofs.DataSteps.{pending-td, step-front}
+use Rattle.bus_core.proofs.DataSteps.{IsChunkAt, IsInLent, armed-front, chunk_size, fits-after, has_stream-tag, in-lent, own-data_trb, pending-td, step-front}
+
+-- A CHUNK ON EITHER PIPE
+
+-- what the controller finds in front of the ring
+abbrev front_on : World → Pipe → Place → Op → ℕ → Front
+front_on world pipe place op chunk =
+    data_front (pointer_of STREAM_RING_PLACES (ring_of world.lines pipe (tag_of place)) chunk) (tag_of place) (moved_bytes op) chunk
+
+-- what is posted after the chunk
+abbrev events_on : World → Pipe → Place → BlockMaps → Op → ℕ → List Event
+events_on world pipe place unit op chunk =
+    chunk_events (chunk_moved (progress_left unit chunk op)) (not (chunk + 1 == data_trb_count (moved_bytes op)))
+    (Transfer (pointer_of STREAM_RING_PLACES (ring_of world.lines pipe (tag_of place)) chunk) 0 SUCCESS (endpoint_of pipe) SLOT)
+
+front-of : {state : Shared} {world : World} {place : Place} {part : Part} (at : IsChunkAt state world place part) (ring : Ring)
+    → HoldsTrbs ring (data_td (tag_of place) (moved_bytes at.op)) at.chunk
+    → front_of STREAM_RING_PLACES ring
+    ≡ Some (
+      pointer_of STREAM_RING_PLACES ring at.chunk,
+      data_trb (window_of (tag_of place) + 4096 * at.chunk) (moved_bytes at.op - 4096 * at.chunk) (data_trb_count (moved_bytes at.op) - 1 - at.chunk),
+    )
+front-of {state} {world} {place} {part} at ring holds = front_of-data_td ring (tag_of place) (moved_bytes at.op) at.chunk holds.0 holds.1 at.below
+
+own-of : {state : Shared} {world : World} {place : Place} {part : Part} (at : IsChunkAt state world place part) (ring : Ring)
+    → HoldsTrbs ring (data_td (tag_of place) (moved_bytes at.op)) at.chunk
+    → IfSome (front_of STREAM_RING_PLACES ring) (λ front. IsOwnData world.frames (chunk_size at.op at.chunk) front.1)
+own-of {state} {world} {place} {part} at ring holds =
+    subst (λ (f : Option (ℕ × Trb)). IfSome f (λ front. IsOwnData world.frames (chunk_size at.op at.chunk) front.1)) (sym (front-of at ring holds))
+    (own-data_trb world.frames (window_of (tag_of place) + 4096 * at.chunk) (moved_bytes at.op - 4096 * at.chunk)
+    (data_trb_count (moved_bytes at.op) - 1 - at.chunk) (in-lent at).named)
+
+-- the stream of the tag is open where its pipe has it open
+open-of : {state : Shared} {world : World} {place : Place} {part : Part} (at : IsChunkAt state world place part) (pipe : PipeState)
+    → is_open pipe (tag_of place) ≡ true → (has_stream (tag_of place) && is_open pipe (tag_of place)) ≡ true
+open-of {state} {world} {place} {part} at pipe rung =
+    and_from (has_stream (tag_of place)) (is_open pipe (tag_of place)) (has_stream-tag (tag_of place) (omega arith) at.last_tag) rung
+
+-- so the step is on that TRB
+moved-on : {state : Shared} {world : World} {place : Place} {part : Part} (at : IsChunkAt state world place part) → Fits state world → (pipe : Pipe)
+    (step : Front → Sides × Acted) → HoldsTrbs (ring_of world.lines pipe (tag_of place)) (data_td (tag_of place) (moved_bytes at.op)) at.chunk
+    → places_of pipe ≡ STREAM_RING_PLACES → is_open_on world.controller pipe (tag_of place) ≡ true
+    → on_front (sides_in world) step (armed_front world.controller world.lines pipe (tag_of place)) ≡ step (front_on world pipe place at.op at.chunk)
+moved-on {state} {world} {place} {part} at fits pipe step holds places rung =
+    let ring : Ring = ring_of world.lines pipe (tag_of place) in
+    let armed = and_from (is_open_on world.controller pipe (tag_of place)) (has_pending ring) rung
+    (pending-td ring (tag_of place) (moved_bytes at.op) at.chunk holds at.below) in
+    step-front (sides_in world) step (armed_front world.controller world.lines pipe (tag_of place))
+    (pointer_of STREAM_RING_PLACES ring at.chunk) (tag_of place) (moved_bytes at.op) at.chunk at.below
+    (armed-front world.controller world.lines pipe (tag_of place) _ armed (event-room state world fits)
+    (ap (λ n. front_of n (ring_of world.lines pipe (tag_of place))) places ∙ front-of at ring holds))
 
 -- DATA-IN
 
@@ -65,13 +119,9 @@ rings-in {state} {world} {place} {part} at way = (
       (data_out_td d (Some (moving_td at.chunk)))) way at.here.data_out,
 )
 
-abbrev in_front : World → Place → Op → ℕ → Front
-in_front world place op chunk =
-    data_front (pointer_of STREAM_RING_PLACES (stream_ring world.lines.data_in (tag_of place)) chunk) (tag_of place) (moved_bytes op) chunk
-
 abbrev given_world : World → Place → BlockMaps → Op → ℕ → World
 given_world world place unit op chunk = record world {
-  lines = after_chunk (chunk_moved (progress_left unit chunk op)) world.lines DataIn (tag_of place) (in_front world place op chunk);
+  lines = after_chunk (chunk_moved (progress_left unit chunk op)) world.lines DataIn (tag_of place) (front_on world DataIn place op chunk);
   frames = option_map_or (λ bytes. written world.frames (window_of (tag_of place) + 4096 * chunk) (chunk_size op chunk) bytes)
       (chunk_given unit chunk (work_of op unit.count)) world.frames;
   device = record {
@@ -86,40 +136,19 @@ wanted-in {state} {world} {place} {part} at way =
     let lent : IsInLent state world place part at = in-lent at in
     wanted-moving world.device place.client (tag_of place) at.chunk at.op lent.task ∙ chunk_wanted-gives at.op at.chunk way
 
-front-in : {state : Shared} {world : World} {place : Place} {part : Part} (at : IsChunkAt state world place part) → direction_of at.op ≡ ToHost
-    → front_of STREAM_RING_PLACES (stream_ring world.lines.data_in (tag_of place))
-    ≡ Some (
-      pointer_of STREAM_RING_PLACES (stream_ring world.lines.data_in (tag_of place)) at.chunk,
-      data_trb (window_of (tag_of place) + 4096 * at.chunk) (moved_bytes at.op - 4096 * at.chunk) (data_trb_count (moved_bytes at.op) - 1 - at.chunk),
-    )
-front-in {state} {world} {place} {part} at way =
-    let rings = rings-in at way in
-    front_of-data_td (stream_ring world.lines.data_in (tag_of place)) (tag_of place) (moved_bytes at.op) at.chunk rings.0.0 rings.0.1 at.below
-
 pub own-in : {state : Shared} {world : World} {place : Place} {part : Part} (at : IsChunkAt state world place part) → direction_of at.op ≡ ToHost
     → IsOwnDataFront world.lines world.frames (tag_of place) (Gives (chunk_size at.op at.chunk))
-own-in {state} {world} {place} {part} at way =
-    let lent : IsInLent state world place part at = in-lent at in
-    subst (λ (f : Option (ℕ × Trb)). IfSome f (λ front. IsOwnData world.frames (chunk_size at.op at.chunk) front.1)) (sym (front-in at way))
-    (own-data_trb world.frames (window_of (tag_of place) + 4096 * at.chunk) (moved_bytes at.op - 4096 * at.chunk)
-    (data_trb_count (moved_bytes at.op) - 1 - at.chunk) lent.named)
+own-in {state} {world} {place} {part} at way = own-of at (stream_ring world.lines.data_in (tag_of place)) (rings-in at way).0
 
 moved-in : {state : Shared} {world : World} {place : Place} {part : Part} (at : IsChunkAt state world place part) → Fits state world
     → direction_of at.op ≡ ToHost
     → is_open state.data_in (tag_of place) ≡ true
     → moved world.controller (sides_in world) (tag_of place)
-    ≡ gave_at (sides_in world) (tag_of place) (chunk_size at.op at.chunk) (in_front world place at.op at.chunk)
+    ≡ gave_at (sides_in world) (tag_of place) (chunk_size at.op at.chunk) (front_on world DataIn place at.op at.chunk)
 moved-in {state} {world} {place} {part} at fits way rung =
-    let rings = rings-in at way in
-    let ring : Ring = stream_ring world.lines.data_in (tag_of place) in
-    let armed = all_three (has_stream (tag_of place)) (is_open world.controller.data_in (tag_of place)) (has_pending ring)
-    (has_stream-tag (tag_of place) (omega arith) at.last_tag)
-    (ap (λ p. is_open p (tag_of place)) fits.data_in ∙ rung) (pending-td ring (tag_of place) (moved_bytes at.op) at.chunk rings.0 at.below) in
     ap (moved_by world.controller (sides_in world) (tag_of place)) (wanted-in at way)
-    ∙ step-front (sides_in world) (gave_at (sides_in world) (tag_of place) (chunk_size at.op at.chunk))
-    (armed_front world.controller world.lines DataIn (tag_of place))
-    (pointer_of STREAM_RING_PLACES ring at.chunk) (tag_of place) (moved_bytes at.op) at.chunk at.below
-    (armed-front world.controller world.lines DataIn (tag_of place) _ armed (event-room state world fits) (front-in at way))
+    ∙ moved-on at fits DataIn (gave_at (sides_in world) (tag_of place) (chunk_size at.op at.chunk)) (rings-in at way).0 refl
+    (open-of at world.controller.data_in (ap (λ p. is_open p (tag_of place)) fits.data_in ∙ rung))
 
 given-is : {state : Shared} {world : World} {place : Place} {part : Part} (at : IsChunkAt state world place part) → direction_of at.op ≡ ToHost
     → IsGiven part.unit at.entry.task.buffer at.chunk at.op
@@ -139,22 +168,16 @@ data_world-in {state} {world} {place} {part} at fits way rung =
     let took_is : is_some (given world.device (tag_of place)) ≡ chunk_moved (progress_left part.unit at.chunk at.op) = ap is_some bytes_is ∙ sym gives.taken in
     ap (λ m. with_sides world m.0) (moved-in at fits way rung)
     ∙ (λ i. record world {
-      lines = after_chunk (took_is i) world.lines DataIn (tag_of place) (in_front world place at.op at.chunk);
+      lines = after_chunk (took_is i) world.lines DataIn (tag_of place) (front_on world DataIn place at.op at.chunk);
       frames = option_map_or (λ bytes. written world.frames (window_of (tag_of place) + 4096 * at.chunk) (chunk_size at.op at.chunk) bytes)
           (bytes_is i) world.frames;
       device = device_is i;
     })
 
--- what is posted after a chunk
-abbrev in_events : World → Place → BlockMaps → Op → ℕ → List Event
-in_events world place unit op chunk =
-    chunk_events (chunk_moved (progress_left unit chunk op)) (not (chunk + 1 == data_trb_count (moved_bytes op)))
-    (Transfer (pointer_of STREAM_RING_PLACES (stream_ring world.lines.data_in (tag_of place)) chunk) 0 SUCCESS (endpoint_of DataIn) SLOT)
-
 takes-given : {state : Shared} {world : World} {place : Place} {part : Part} (at : IsChunkAt state world place part) → Fits state world
     → TakesTrb world.lines (given_world world place part.unit at.op at.chunk).lines world.lines.data_in
     (given_world world place part.unit at.op at.chunk).lines.data_in (tag_of place)
-    (chunk_moved (progress_left part.unit at.chunk at.op)) (in_events world place part.unit at.op at.chunk)
+    (chunk_moved (progress_left part.unit at.chunk at.op)) (events_on world DataIn place part.unit at.op at.chunk)
     × ((given_world world place part.unit at.op at.chunk).lines.data_out ≡ world.lines.data_out)
 takes-given {state} {world} {place} {part} at fits =
     takes-in world.lines (tag_of place) (pointer_of STREAM_RING_PLACES (stream_ring world.lines.data_in (tag_of place)) at.chunk)
@@ -175,7 +198,7 @@ moves-given : {state : Shared} {world : World} {place : Place} {part : Part} (at
     → direction_of at.op ≡ ToHost
     → MovesChunk world (given_world world place part.unit at.op at.chunk) place (unit_after part.unit at.entry.task.buffer at.chunk at.op)
     (task_in (Some place.client) (Ok at.op) (progress_left part.unit at.chunk at.op)) (buffer_after part.unit at.entry.task.buffer at.chunk at.op)
-    (in_events world place part.unit at.op at.chunk)
+    (events_on world DataIn place part.unit at.op at.chunk)
 moves-given {state} {world} {place} {part} at fits way =
     let gives : IsGiven part.unit at.entry.task.buffer at.chunk at.op = given-is at way in
     let lines = takes-given at fits in
@@ -247,13 +270,9 @@ rings-out {state} {world} {place} {part} at way = (
       (data_in_td d (Some (moving_td at.chunk)))) way at.here.data_in,
 )
 
-abbrev out_front : World → Place → Op → ℕ → Front
-out_front world place op chunk =
-    data_front (pointer_of STREAM_RING_PLACES (stream_ring world.lines.data_out (tag_of place)) chunk) (tag_of place) (moved_bytes op) chunk
-
 abbrev taken_world : World → Place → BlockMaps → List ℕ → Op → ℕ → World
 taken_world world place unit buffer op chunk = record world {
-  lines = after_chunk (chunk_moved (progress_left unit chunk op)) world.lines DataOut (tag_of place) (out_front world place op chunk);
+  lines = after_chunk (chunk_moved (progress_left unit chunk op)) world.lines DataOut (tag_of place) (front_on world DataOut place op chunk);
   device = record {
     units = slice_set world.device.units place.client (unit_after unit buffer chunk op);
     tasks = with_held_under world.device.tasks (tag_of place) (task_in (Some place.client) (Ok op) (progress_left unit chunk op));
@@ -266,40 +285,19 @@ wanted-out {state} {world} {place} {part} at way =
     let lent : IsInLent state world place part at = in-lent at in
     wanted-moving world.device place.client (tag_of place) at.chunk at.op lent.task ∙ chunk_wanted-takes at.op at.chunk way
 
-front-out : {state : Shared} {world : World} {place : Place} {part : Part} (at : IsChunkAt state world place part) → direction_of at.op ≡ ToDevice
-    → front_of STREAM_RING_PLACES (stream_ring world.lines.data_out (tag_of place))
-    ≡ Some (
-      pointer_of STREAM_RING_PLACES (stream_ring world.lines.data_out (tag_of place)) at.chunk,
-      data_trb (window_of (tag_of place) + 4096 * at.chunk) (moved_bytes at.op - 4096 * at.chunk) (data_trb_count (moved_bytes at.op) - 1 - at.chunk),
-    )
-front-out {state} {world} {place} {part} at way =
-    let rings = rings-out at way in
-    front_of-data_td (stream_ring world.lines.data_out (tag_of place)) (tag_of place) (moved_bytes at.op) at.chunk rings.0.0 rings.0.1 at.below
-
 pub own-out : {state : Shared} {world : World} {place : Place} {part : Part} (at : IsChunkAt state world place part) → direction_of at.op ≡ ToDevice
     → IsOwnDataFront world.lines world.frames (tag_of place) (Takes (chunk_size at.op at.chunk))
-own-out {state} {world} {place} {part} at way =
-    let lent : IsInLent state world place part at = in-lent at in
-    subst (λ (f : Option (ℕ × Trb)). IfSome f (λ front. IsOwnData world.frames (chunk_size at.op at.chunk) front.1)) (sym (front-out at way))
-    (own-data_trb world.frames (window_of (tag_of place) + 4096 * at.chunk) (moved_bytes at.op - 4096 * at.chunk)
-    (data_trb_count (moved_bytes at.op) - 1 - at.chunk) lent.named)
+own-out {state} {world} {place} {part} at way = own-of at (stream_ring world.lines.data_out (tag_of place)) (rings-out at way).0
 
 moved-out : {state : Shared} {world : World} {place : Place} {part : Part} (at : IsChunkAt state world place part) → Fits state world
     → direction_of at.op ≡ ToDevice
     → is_open state.data_out (tag_of place) ≡ true
     → moved world.controller (sides_in world) (tag_of place)
-    ≡ took_at (sides_in world) (tag_of place) (chunk_size at.op at.chunk) (out_front world place at.op at.chunk)
+    ≡ took_at (sides_in world) (tag_of place) (chunk_size at.op at.chunk) (front_on world DataOut place at.op at.chunk)
 moved-out {state} {world} {place} {part} at fits way rung =
-    let rings = rings-out at way in
-    let ring : Ring = stream_ring world.lines.data_out (tag_of place) in
-    let armed = all_three (has_stream (tag_of place)) (is_open world.controller.data_out (tag_of place)) (has_pending ring)
-    (has_stream-tag (tag_of place) (omega arith) at.last_tag)
-    (ap (λ p. is_open p (tag_of place)) fits.data_out ∙ rung) (pending-td ring (tag_of place) (moved_bytes at.op) at.chunk rings.0 at.below) in
     ap (moved_by world.controller (sides_in world) (tag_of place)) (wanted-out at way)
-    ∙ step-front (sides_in world) (took_at (sides_in world) (tag_of place) (chunk_size at.op at.chunk))
-    (armed_front world.controller world.lines DataOut (tag_of place))
-    (pointer_of STREAM_RING_PLACES ring at.chunk) (tag_of place) (moved_bytes at.op) at.chunk at.below
-    (armed-front world.controller world.lines DataOut (tag_of place) _ armed (event-room state world fits) (front-out at way))
+    ∙ moved-on at fits DataOut (took_at (sides_in world) (tag_of place) (chunk_size at.op at.chunk)) (rings-out at way).0 refl
+    (open-of at world.controller.data_out (ap (λ p. is_open p (tag_of place)) fits.data_out ∙ rung))
 
 taken-is : {state : Shared} {world : World} {place : Place} {part : Part} (at : IsChunkAt state world place part) → direction_of at.op ≡ ToDevice
     → IsTaken part.unit at.entry.task.buffer at.chunk (chunk_size at.op at.chunk) at.op
@@ -334,19 +332,14 @@ data_world-out {state} {world} {place} {part} at fits way rung =
     let device_is = device-out at fits way in
     ap (λ m. with_sides world m.0) (moved-out at fits way rung)
     ∙ (λ i. record world {
-      lines = after_chunk (took_is i) world.lines DataOut (tag_of place) (out_front world place at.op at.chunk);
+      lines = after_chunk (took_is i) world.lines DataOut (tag_of place) (front_on world DataOut place at.op at.chunk);
       device = device_is i;
     })
-
-abbrev out_events : World → Place → BlockMaps → Op → ℕ → List Event
-out_events world place unit op chunk =
-    chunk_events (chunk_moved (progress_left unit chunk op)) (not (chunk + 1 == data_trb_count (moved_bytes op)))
-    (Transfer (pointer_of STREAM_RING_PLACES (stream_ring world.lines.data_out (tag_of place)) chunk) 0 SUCCESS (endpoint_of DataOut) SLOT)
 
 takes-taken : {state : Shared} {world : World} {place : Place} {part : Part} (at : IsChunkAt state world place part) → Fits state world
     → TakesTrb world.lines (taken_world world place part.unit at.entry.task.buffer at.op at.chunk).lines world.lines.data_out
     (taken_world world place part.unit at.entry.task.buffer at.op at.chunk).lines.data_out (tag_of place)
-    (chunk_moved (progress_left part.unit at.chunk at.op)) (out_events world place part.unit at.op at.chunk)
+    (chunk_moved (progress_left part.unit at.chunk at.op)) (events_on world DataOut place part.unit at.op at.chunk)
     × ((taken_world world place part.unit at.entry.task.buffer at.op at.chunk).lines.data_in ≡ world.lines.data_in)
 takes-taken {state} {world} {place} {part} at fits =
     takes-out world.lines (tag_of place) (pointer_of STREAM_RING_PLACES (stream_ring world.lines.data_out (tag_of place)) at.chunk)
@@ -357,7 +350,7 @@ moves-taken : {state : Shared} {world : World} {place : Place} {part : Part} (at
     → direction_of at.op ≡ ToDevice
     → MovesChunk world (taken_world world place part.unit at.entry.task.buffer at.op at.chunk) place (unit_after part.unit at.entry.task.buffer at.chunk at.op)
     (task_in (Some place.client) (Ok at.op) (progress_left part.unit at.chunk at.op)) (buffer_after part.unit at.entry.task.buffer at.chunk at.op)
-    (out_events world place part.unit at.op at.chunk)
+    (events_on world DataOut place part.unit at.op at.chunk)
 moves-taken {state} {world} {place} {part} at fits way =
     let lines = takes-taken at fits in
     let same : at.entry.task.buffer ≡ buffer_after part.unit at.entry.task.buffer at.chunk at.op = sym (taken-is at way).bytes in

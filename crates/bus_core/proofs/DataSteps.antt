@@ -1,5 +1,5 @@
 -- A step of a data stream on the world of rings is the shared machine's.
-use Rattle.std.proofs.Common.{◌≡◌, ℕ, zero, suc, ◌+◌, ◌-◌, ◌*◌, ◌<◌, ◌≤◌, Bool, true, ◌&&◌, cond, List, length, Option, Some, None, Ok, refl, arith}
+use Rattle.std.proofs.Common.{◌≡◌, ℕ, zero, suc, ◌+◌, ◌-◌, ◌*◌, ◌<◌, ◌≤◌, Bool, true, cond, List, length, Option, Some, None, Ok, refl, arith}
 use Rattle.std.proofs.Common.{ap, sym, subst, ◌∙◌, inr}
 use Rattle.std.specs.Prelude.{slice_get, min}
 use Rattle.std.specs.Option.{option_map_or}
@@ -50,7 +50,8 @@ use Rattle.bus_core.proofs.DataTrbs.{data_front, front_in-data_trb, length-data_
 use Rattle.bus_core.proofs.ChunkWindows.{chunk_place, names-chunk}
 use Rattle.bus_core.proofs.ChunkEntries.{IsChunked, chunk_entry, chunked, fits-chunk, moving_entry, moving_td, td_after}
 use Rattle.bus_core.proofs.ChunkLines.{carried_places-data}
-use Rattle.bus_core.proofs.DataWorlds.{MovesChunk, cell-moved, fits-moved, moved_state, slice_get-within}
+use Rattle.bus_core.proofs.DataWorlds.{MovesChunk, cell-moved, fits-moved, moved_state}
+use Rattle.bus_core.proofs.Standing.{get-within}
 
 -- THE PLACE
 
@@ -77,7 +78,7 @@ pub chunk-at : (state : Shared) (world : World) (place : Place) (part : Part) (e
     → IsChunkAt state world place part
 chunk-at state world place part entry chunk fits there held moving =
     let found : IsFound world place.client part = found_part world state.parts place.client part fits.clients there in
-    let client : place.client < length state.parts = slice_get-within state.parts place.client part there in
+    let client : place.client < length state.parts = get-within state.parts place.client part there in
     let within : place.slot < TAGS = omega (arith, held-within part.entries place.slot entry held, found.fits.slots) in
     let here : FitsCell place.client part.unit.count place entry (cell_at world place) =
     subst (λ o. FitsHeld place.client part.unit.count place o (cell_at world place)) held (cell-found state world place part fits there within) in
@@ -144,9 +145,6 @@ fits-after state world after place part at posted fits named is_due moves data_i
 
 pub has_stream-tag : (tag : ℕ) → 0 < tag → tag ≤ 248 → has_stream tag ≡ true
 has_stream-tag tag some within = rw (lt-ltb 0 tag some, le-leb tag 248 within) refl
-
-pub all_three : (a b c : Bool) → a ≡ true → b ≡ true → c ≡ true → ((a && b) && c) ≡ true
-all_three a b c one two three = rw (one, two, three) refl
 
 pub pending-td : (ring : Ring) (tag bytes chunk : ℕ) → HoldsTrbs ring (data_td tag bytes) chunk → chunk < data_trb_count bytes → has_pending ring ≡ true
 pending-td ring tag bytes chunk holds below =

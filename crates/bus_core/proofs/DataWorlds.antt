@@ -1,8 +1,7 @@
 -- A world in which one place moved a chunk fits the state in which it did.
-use Rattle.std.proofs.Common.{◌≡◌, ℕ, zero, suc, ◌+◌, ◌*◌, ◌<◌, ◌≤◌, List, [], ◌∷◌, ◌++◌, length, length-set, map, Option, Some, refl, arith, ap, sym, ◌∙◌}
+use Rattle.std.proofs.Common.{◌≡◌, ℕ, ◌+◌, ◌*◌, ◌<◌, ◌≤◌, List, [], ◌++◌, length, length-set, map, Option, Some, refl, arith, ap, sym, ◌∙◌}
 use Rattle.std.specs.Prelude.{slice_get, slice_set}
 use Rattle.std.proofs.lemmas.List.{append-nil}
-use Rattle.std.proofs.lemmas.Option.{none-some}
 use Rattle.block_unit.specs.BlockMaps.{BlockMaps}
 use Rattle.cycle_ring.specs.Ring.{Ring}
 use Rattle.event_ring.specs.declared.Event.{Event}
@@ -27,7 +26,7 @@ use Rattle.bus_core.specs.Matched.{IsMatched, carried_places, data_events}
 use Rattle.bus_core.specs.World.{World, cell_at}
 use Rattle.bus_core.specs.Cells.{FitsCell}
 use Rattle.bus_core.specs.Fits.{Fits, FitsQueues, IsSoundWorld, command_trb, event_texts, place_in}
-use Rattle.bus_core.proofs.Standing.{held_under-with_same, held_under-with_other, slice_get-back}
+use Rattle.bus_core.proofs.Standing.{held_under-with_same, held_under-with_other, slice_get-back, get-within}
 use Rattle.bus_core.proofs.Framing.{AllFit-set, EndsAlike, EndsStay, FitsPart-set, ChangesCell, IsFound, ends-same, engine-changed, unused-kept}
 use Rattle.bus_core.proofs.EventTexts.{carried_places-append, event_texts-append, event_texts-one, KeepsOthers}
 
@@ -108,12 +107,6 @@ changes-cell before after place unit task lent posted held moves is = record {
   others = keeps-others before after place unit task lent posted moves;
 }
 
--- what is found is within
-pub slice_get-within : {T : Type 0} (list : List T) (at : ℕ) (now : T) → slice_get list at ≡ Some now → at < length list
-slice_get-within [] at now is = absurd (none-some now is)
-slice_get-within (first ∷ rest) zero now is = omega arith
-slice_get-within (first ∷ rest) (suc at) now is = omega (arith, slice_get-within rest at now is)
-
 -- the state after a chunk
 abbrev pub moved_state : Shared → Place → Part → BlockMaps → Entry → List Completion → Shared
 moved_state state place part unit entry posted = record state {
@@ -178,14 +171,14 @@ fits-moved state before after place part unit entry task lent posted done fits f
       clients = AllFit-set before after state.parts place.client place.slot unit found.held part
           (with_entry (record part { unit = unit }) place.slot entry) fits.clients there within changes
           (FitsPart-set before after place.client place.slot part.unit unit found.held found.held part
-          (Some entry) part.least part.ready found.fits within changes count found.fits.least found.fits.ready here);
+          (Some entry) part.least_ticket part.ready found.fits within changes count found.fits.least_ticket found.fits.ready here);
       others = λ other past.
-          let within_parts : place.client < length state.parts = slice_get-within state.parts place.client part there in
+          let within_parts : place.client < length state.parts = get-within state.parts place.client part there in
           let past_all : TAGS * length state.parts < other = omega (arith, past, parts) in
           let apart : other ≡ tag_of place → ⊥ = λ same. omega (arith, same, past_all, within_parts, within) in
           ap (λ ts. held_under ts other) moves.tasks ∙ held_under-with_other before.device.tasks (tag_of place) other task apart ∙ fits.others other past_all;
       unused = λ other past.
-          let within_parts : place.client < length state.parts = slice_get-within state.parts place.client part there in
+          let within_parts : place.client < length state.parts = get-within state.parts place.client part there in
           let past_all : TAGS * length state.parts < other = omega (arith, past, parts) in
           unused-kept before after place other (keeps-others before after place unit task lent posted moves) (omega (arith, past_all))
           (λ same. omega (arith, same, past_all, within_parts, within)) (fits.unused other past_all);

@@ -4,10 +4,11 @@ use Rattle.std.proofs.Common.{◌≡◌, ℕ, ◌<◌, true, false, ◌&&◌, Li
 use Rattle.std.specs.Prelude.{if◌then◌else◌}
 use Rattle.std.proofs.Math.ListN.{get_or-map}
 use Rattle.std.proofs.lemmas.List.{length-map}
-use Rattle.std.proofs.lemmas.Bool.{false≢true}
+use Rattle.std.proofs.lemmas.Bool.{and_parts}
 use Rattle.block_unit.specs.BlockMaps.{BlockMaps}
 use Rattle.xhci_trb.specs.declared.Trb.{Trb}
 use Rattle.cycle_ring.specs.Ring.{Ring}
+use Rattle.scsi_cmd.specs.Request.{is_command}
 use Rattle.scsi_cmd.specs.declared.Direction.{Direction}
 use Rattle.scsi_cmd.specs.declared.Direction.TheVariants.{Nothing, ToHost, ToDevice}
 use Rattle.scsi_cmd.specs.declared.Request.{Request}
@@ -16,48 +17,37 @@ use Rattle.scsi_cmd.specs.declared.TheConstants.{TAGS}
 use Rattle.scsi_cmd.specs.Held.{held_at}
 use Rattle.solo_model.specs.declared.Phase.{Phase}
 use Rattle.solo_model.specs.declared.Phase.TheVariants.{Queued, Begun, Sent, Gone}
-use Rattle.solo_model.specs.TaggedTask.{is_command, is_noted}
+use Rattle.solo_model.specs.TaggedTask.{is_noted}
 use Rattle.uas_host.specs.declared.Place.{Place}
 use Rattle.uas_host.specs.declared.TdState.{TdState}
 use Rattle.uas_host.specs.declared.TdState.TheVariants.{Pending, Seen, LeftOver, Retired}
 use Rattle.uas_host.specs.declared.HostClient.{HostClient}
 use Rattle.uas_host.specs.Seen.{after_response, doomed as host_doomed, is_doomed as is_host_doomed, left_over_data as host_left_over_data}
-use Rattle.uas_host.specs.State.{is_command as is_host_command, is_pending as is_host_pending}
+use Rattle.uas_host.specs.State.{is_pending}
 use Rattle.uas_host.specs.Tags.{tag_of}
 use Rattle.uas_host.specs.Tds.{data_td, status_td}
 use Rattle.bus_core.specs.declared.Td.{Td}
-use Rattle.bus_core.specs.Td.{Entry, is_pending, left_over_data, left_over_td, request_direction}
+use Rattle.bus_core.specs.Td.{Entry, left_over_data, left_over_td, request_direction}
 use Rattle.bus_core.specs.Part.{Part, doomed, is_doomed}
 use Rattle.bus_core.specs.Matched.{request_bytes}
 use Rattle.bus_core.specs.World.{World, Cell, cell_at}
 use Rattle.bus_core.specs.Cells.{FitsCell, FitsHeld, HoldsData, data_in_td, data_out_td, host_side, state_of, told_by}
 use Rattle.bus_core.specs.Fits.{FitsPart, place_in}
+use Rattle.bus_core.proofs.CellEntries.{cell-tds}
 use Rattle.bus_core.proofs.HostSees.{left_over-state}
-use Rattle.bus_core.proofs.MatchedPlaces.{and-true}
+use Rattle.bus_core.proofs.MatchedEntries.{pending-is}
 use Rattle.bus_core.proofs.SeenRings.{holds-left, holds-left_data}
 
 -- THE SAME ARE DOOMED
 
-is_command-same : (request : Request) → is_host_command request ≡ is_command request
-is_command-same (Execute op) = refl
-is_command-same (Manage what noted) = refl
-
-is_pending-same : (state : TdState) → is_host_pending state ≡ is_pending state
-is_pending-same Pending = refl
-is_pending-same Seen = refl
-is_pending-same LeftOver = refl
-is_pending-same Retired = refl
-
 is_doomed-side : (noted : List ℕ) (entry : Entry) → is_host_doomed noted (host_side entry) ≡ is_doomed noted entry
-is_doomed-side noted entry =
-    ap (λ b. b && (is_host_pending entry.status_td.state && is_noted noted entry.task.ticket)) (is_command-same entry.task.request)
-    ∙ ap (λ b. is_command entry.task.request && (b && is_noted noted entry.task.ticket)) (is_pending-same entry.status_td.state)
+is_doomed-side noted entry = refl
 
 -- a doomed entry's status TD is pending
 doomed-pends : (noted : List ℕ) (entry : Entry) → is_doomed noted entry ≡ true → is_pending entry.status_td.state ≡ true
 doomed-pends noted entry is =
-    (and-true (is_pending entry.status_td.state) (is_noted noted entry.task.ticket)
-    (and-true (is_command entry.task.request) (is_pending entry.status_td.state && is_noted noted entry.task.ticket) is).1).0
+    (and_parts (is_pending entry.status_td.state) (is_noted noted entry.task.ticket)
+    (and_parts (is_command entry.task.request) (is_pending entry.status_td.state && is_noted noted entry.task.ticket) is).1).0
 
 -- THE HOST'S SIDE OF IT
 
@@ -74,12 +64,6 @@ told-untold request Queued = refl
 told-untold request (Begun progress) = refl
 told-untold request (Sent answer) = refl
 told-untold request Gone = refl
-
-pending-is : (state : TdState) → is_pending state ≡ true → state ≡ Pending
-pending-is Pending is = refl
-pending-is Seen is = absurd (false≢true is)
-pending-is LeftOver is = absurd (false≢true is)
-pending-is Retired is = absurd (false≢true is)
 
 left-data : (td : Option Td) → host_left_over_data (option_map state_of td) ≡ option_map state_of (left_over_data td)
 left-data None = refl
@@ -135,33 +119,16 @@ cell-left : (noted : List ℕ) (client count : ℕ) (place : Place) (entry : Ent
 cell-left noted client count place entry cell fits held =
     let trbs : List Trb = data_td (tag_of place) (request_bytes entry.task.request) in
     let way : Direction = request_direction entry.task.request in
-    record {
-      held = held;
-      task = fits.task;
-      status = holds-left cell.status (status_td (tag_of place)) entry.status_td.state entry.status_td.consumed fits.status;
-      data_in = in-left cell.data_in trbs way entry.data_td fits.data_in;
-      data_out = out-left cell.data_out trbs way entry.data_td fits.data_out;
-      lent = fits.lent;
-      bytes = fits.bytes;
-      unit = fits.unit;
-      answer = fits.answer;
-      sound = fits.sound;
-    }
+    cell-tds client count place entry cell entry.command_td (left_over_td entry.status_td) (left_over_data entry.data_td)
+    (option_map (host_doomed noted) cell.held) cell.status cell.data_in cell.data_out fits held
+    (holds-left cell.status (status_td (tag_of place)) entry.status_td.state entry.status_td.consumed fits.status)
+    (in-left cell.data_in trbs way entry.data_td fits.data_in) (out-left cell.data_out trbs way entry.data_td fits.data_out)
 
 cell-stays : (noted : List ℕ) (client count : ℕ) (place : Place) (entry : Entry) (cell : Cell) → FitsCell client count place entry cell
     → option_map (host_doomed noted) cell.held ≡ Some (host_side entry) → FitsCell client count place entry (doomed_cell noted cell)
-cell-stays noted client count place entry cell fits held = record {
-  held = held;
-  task = fits.task;
-  status = fits.status;
-  data_in = fits.data_in;
-  data_out = fits.data_out;
-  lent = fits.lent;
-  bytes = fits.bytes;
-  unit = fits.unit;
-  answer = fits.answer;
-  sound = fits.sound;
-}
+cell-stays noted client count place entry cell fits held =
+    cell-tds client count place entry cell entry.command_td entry.status_td entry.data_td (option_map (host_doomed noted) cell.held)
+    cell.status cell.data_in cell.data_out fits held fits.status fits.data_in fits.data_out
 
 cell-doomed : (noted : List ℕ) (client count : ℕ) (place : Place) (entry : Entry) (cell : Cell) → FitsCell client count place entry cell
     → FitsCell client count place (doomed noted entry) (doomed_cell noted cell)
@@ -201,7 +168,7 @@ pub FitsPart-doomed : (before after : World) (client : ℕ) (unit : BlockMaps) (
 FitsPart-doomed before after client unit held part noted fits cells = record {
   number = fits.number;
   unit_same = fits.unit_same;
-  least = fits.least;
+  least_ticket = fits.least_ticket;
   ready = fits.ready;
   slots = length-map part.entries (option_map (doomed noted)) ∙ fits.slots;
   cells = λ slot within.

@@ -13,8 +13,9 @@ use Rattle.bus_core.specs.Shared.{Shared, has_ready, is_some_of}
 use Rattle.bus_core.specs.World.{World}
 use Rattle.bus_core.specs.Fits.{Fits, event_texts}
 use Rattle.bus_core.specs.WorldDue.{EventsAreDue, TakesAreDue}
-use Rattle.bus_core.proofs.CellWrites.{clients-length, get-none, index-past}
+use Rattle.bus_core.proofs.CellWrites.{clients-length, index-past}
 use Rattle.bus_core.proofs.Framing.{found}
+use Rattle.bus_core.proofs.Standing.{get-none}
 use Rattle.bus_core.proofs.Taking.{ready-found}
 
 -- each event that waits has its text

@@ -4,7 +4,7 @@ use Rattle.std.proofs.Common.{◌≡◌, ℕ, zero, suc, ◌<◌, ◌≤◌, Boo
 use Rattle.std.proofs.Common.{option_map, refl, arith, ap, sym, subst, ◌∙◌}
 use Rattle.std.specs.Prelude.{nat_lt, slice_set, slice_index_or}
 use Rattle.std.specs.Option.{option_map_or}
-use Rattle.std.proofs.lemmas.Bool.{false≢true, ltb-true}
+use Rattle.std.proofs.lemmas.Bool.{false≢true, ltb-true, and_parts}
 use Rattle.xhci_trb.specs.declared.Trb.{Trb}
 use Rattle.cycle_ring.specs.Ring.{Ring, opening}
 use Rattle.stream_array.specs.declared.Pipe.{Pipe}
@@ -15,19 +15,20 @@ use Rattle.scsi_cmd.specs.declared.Direction.{Direction}
 use Rattle.scsi_cmd.specs.declared.Direction.TheVariants.{Nothing, ToHost, ToDevice}
 use Rattle.uas_host.specs.declared.HostEntry.{HostEntry}
 use Rattle.uas_host.specs.declared.Place.{Place}
-use Rattle.uas_host.specs.declared.TdState.{TdState}
-use Rattle.uas_host.specs.declared.TdState.TheVariants.{Pending, Seen, LeftOver, Retired}
+use Rattle.uas_host.specs.declared.TdState.TheVariants.{LeftOver}
 use Rattle.uas_host.specs.Tags.{tag_of}
 use Rattle.uas_host.specs.Tds.{data_td, data_trb_count, status_td, window_of}
 use Rattle.bus_core.specs.declared.Td.{Td}
-use Rattle.bus_core.specs.Td.{Entry, data_in_td, data_out_td, has_data_trb, has_trb_on, is_in_ring, is_left_over, is_left_over_on, is_td_left_over}
+use Rattle.bus_core.specs.Td.{Entry, data_in_td, data_out_td, has_data_trb, has_trb_on, is_in_ring, is_left_over_on, is_td_left_over}
 use Rattle.bus_core.specs.Td.{request_direction, td_on, trbs_on, with_td_on}
 use Rattle.bus_core.specs.Shared.{Shared}
 use Rattle.bus_core.specs.Matched.{request_bytes, under}
 use Rattle.bus_core.specs.World.{Cell, World, cell_at}
 use Rattle.bus_core.specs.Cells.{FitsCell, HoldsData, HoldsIn, HoldsTd, HoldsTrbs, host_side}
-use Rattle.bus_core.proofs.EventTds.{data_trbs-count, length-data_trbs}
-use Rattle.bus_core.proofs.MatchedPlaces.{and-true}
+use Rattle.bus_core.proofs.CellEntries.{cell-tds}
+use Rattle.bus_core.proofs.DataTrbs.{length-data_trbs}
+use Rattle.bus_core.proofs.EventTds.{data_trbs-count}
+use Rattle.bus_core.proofs.MatchedLeftOver.{left-state}
 
 -- WHAT IS LEFT OVER
 
@@ -45,12 +46,6 @@ stands_by state place fact (Some entry) is so = record { entry = entry; held = i
 pub stands-with : (state : Shared) (place : Place) (fact : Entry → Bool) → option_map_or fact (under state.parts place) false ≡ true
     → StandsWith state place fact
 stands-with state place fact so = stands_by state place fact (under state.parts place) refl so
-
-pub left-state : (state : TdState) → is_left_over state ≡ true → state ≡ LeftOver
-left-state Pending so = absurd (false≢true so)
-left-state Seen so = absurd (false≢true so)
-left-state LeftOver so = refl
-left-state Retired so = absurd (false≢true so)
 
 -- the TRBs of an entry's TD on a pipe
 abbrev pub td_trbs : Pipe → ℕ → Entry → List Trb
@@ -129,7 +124,7 @@ left-on client count DataOut place entry cell fits so =
 pub left-unconsumed : (pipe : Pipe) (entry : Entry) (td : Td) → td_on pipe entry ≡ Some td → has_trb_on pipe entry ≡ true → td.consumed < trbs_on pipe entry
 left-unconsumed pipe entry td on has =
     let one : (is_in_ring td.state && nat_lt td.consumed (trbs_on pipe entry)) ≡ true = ap (has_data_trb (trbs_on pipe entry)) (sym on) ∙ has in
-    ltb-true td.consumed (trbs_on pipe entry) (and-true (is_in_ring td.state) (nat_lt td.consumed (trbs_on pipe entry)) one).1
+    ltb-true td.consumed (trbs_on pipe entry) (and_parts (is_in_ring td.state) (nat_lt td.consumed (trbs_on pipe entry)) one).1
 
 -- THE CELL WITH A CHANGE OF THAT TD AND OF ITS RING
 
@@ -174,44 +169,19 @@ pub cell-changed : (client count : ℕ) (pipe : Pipe) (place : Place) (entry : E
     → held ≡ Some (host_side (with_td_on change pipe entry))
     → FitsCell client count place (with_td_on change pipe entry) (record (with_cell_ring pipe cell ring) { held = held })
 cell-changed client count Command place entry cell change ring held fits so holds is = absurd (false≢true so)
-cell-changed client count Status place entry cell change ring held fits so holds is = record {
-  held = is;
-  task = fits.task;
-  status = holds entry.status_td refl (left-state entry.status_td.state so);
-  data_in = fits.data_in;
-  data_out = fits.data_out;
-  lent = fits.lent;
-  bytes = fits.bytes;
-  unit = fits.unit;
-  answer = fits.answer;
-  sound = fits.sound;
-}
-cell-changed client count DataIn place entry cell change ring held fits so holds is = record {
-  held = is;
-  task = fits.task;
-  status = fits.status;
-  data_in = in-changed ring (data_td (tag_of place) (request_bytes entry.task.request)) change (request_direction entry.task.request) entry.data_td so holds;
-  data_out = out-kept cell.data_out (data_td (tag_of place) (request_bytes entry.task.request)) change (request_direction entry.task.request) entry.data_td
-      so fits.data_out;
-  lent = fits.lent;
-  bytes = fits.bytes;
-  unit = fits.unit;
-  answer = fits.answer;
-  sound = fits.sound;
-}
-cell-changed client count DataOut place entry cell change ring held fits so holds is = record {
-  held = is;
-  task = fits.task;
-  status = fits.status;
-  data_in = in-kept cell.data_in (data_td (tag_of place) (request_bytes entry.task.request)) change (request_direction entry.task.request) entry.data_td
-      so fits.data_in;
-  data_out = out-changed ring (data_td (tag_of place) (request_bytes entry.task.request)) change (request_direction entry.task.request) entry.data_td so holds;
-  lent = fits.lent;
-  bytes = fits.bytes;
-  unit = fits.unit;
-  answer = fits.answer;
-  sound = fits.sound;
-}
+cell-changed client count Status place entry cell change ring held fits so holds is =
+    cell-tds client count place entry cell entry.command_td (change entry.status_td) entry.data_td held ring cell.data_in cell.data_out fits is
+    (holds entry.status_td refl (left-state entry.status_td.state so)) fits.data_in fits.data_out
+cell-changed client count DataIn place entry cell change ring held fits so holds is =
+    let trbs : List Trb = data_td (tag_of place) (request_bytes entry.task.request) in
+    let way : Direction = request_direction entry.task.request in
+    cell-tds client count place entry cell entry.command_td entry.status_td (option_map change entry.data_td) held cell.status ring cell.data_out fits is
+    fits.status (in-changed ring trbs change way entry.data_td so holds) (out-kept cell.data_out trbs change way entry.data_td so fits.data_out)
+cell-changed client count DataOut place entry cell change ring held fits so holds is =
+    let trbs : List Trb = data_td (tag_of place) (request_bytes entry.task.request) in
+    let way : Direction = request_direction entry.task.request in
+    cell-tds client count place entry cell entry.command_td entry.status_td (option_map change entry.data_td) held cell.status cell.data_in ring fits is
+    fits.status (in-kept cell.data_in trbs change way entry.data_td so fits.data_in) (out-changed ring trbs change way entry.data_td so holds)
 
 -- RINGS THAT DIFFER IN WHAT IS CONSUMED
 

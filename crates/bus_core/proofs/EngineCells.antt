@@ -34,9 +34,10 @@ use Rattle.bus_core.specs.World.{World, Cell, cell_at}
 use Rattle.bus_core.specs.Cells.{FitsCell, FitsHeld, HoldsTrbs, IsEmptyCell}
 use Rattle.bus_core.specs.Fits.{AreUnused, Fits, FitsClient, FitsEngine, FitsPart, FitsQueues, IsSoundWorld, data_event, engine_event, event_texts, place_in}
 use Rattle.bus_core.specs.Fits.{status_event}
-use Rattle.bus_core.proofs.CellWrites.{get-none, stream_ring-other}
+use Rattle.bus_core.proofs.CellWrites.{stream_ring-other}
 use Rattle.bus_core.proofs.Framing.{AllFit, AllFit-set, ChangesCell, found}
 use Rattle.bus_core.proofs.MatchedPlaces.{one_self}
+use Rattle.bus_core.proofs.Standing.{get-none}
 
 -- A PLACE AND ITS CELL
 
@@ -77,7 +78,7 @@ part-kept : (before after : World) (client : ℕ) (unit : BlockMaps) (held : Hos
 part-kept before after client unit held part fits kept = record {
   number = fits.number;
   unit_same = fits.unit_same;
-  least = fits.least;
+  least_ticket = fits.least_ticket;
   ready = fits.ready;
   slots = fits.slots;
   cells = λ slot within. subst (λ c. FitsHeld client unit.count (place_in client slot) (held_at part.entries slot) c) (sym (kept slot))
@@ -298,11 +299,3 @@ carried-last (CommandDone other ∷ rest) place = ap (λ places. other ∷ place
 carried-last (DataDone other ∷ rest) place = carried-last rest place
 carried-last (StatusDone other ∷ rest) place = carried-last rest place
 carried-last (EngineDone other ∷ rest) place = carried-last rest place
-
--- each event that waits has one text
-pub texts-length : (world : World) (k : ℕ) (events : List Completion) → length (event_texts world k events) ≡ length events
-texts-length world k [] = refl
-texts-length world k (CommandDone place ∷ rest) = ap suc (texts-length world (suc k) rest)
-texts-length world k (DataDone place ∷ rest) = ap suc (texts-length world k rest)
-texts-length world k (StatusDone place ∷ rest) = ap suc (texts-length world k rest)
-texts-length world k (EngineDone place ∷ rest) = ap suc (texts-length world k rest)

@@ -1,7 +1,6 @@
 -- Where the steps of a retirement are due: Engine where the controller's command ring has a pending TRB, Retire where the host
 -- finds the TD left over and no retirement under way. Cited by the laws of where steps are due and by the answers of the bus.
-use Rattle.std.proofs.Common.{◌≡◌, ℕ, Bool, true, false, ◌&&◌, List, [], ◌∷◌, length, Option, Some, None}
-use Rattle.std.proofs.Common.{option_map, refl, ap, sym, ◌∙◌}
+use Rattle.std.proofs.Common.{◌≡◌, ℕ, Bool, true, false, ◌&&◌, List, [], ◌∷◌, length, Option, Some, None, option_map, refl, ap, sym, ◌∙◌}
 use Rattle.std.specs.Prelude.{nat_lt, is_none, is_some, option_and_then, if◌then◌else◌}
 use Rattle.std.specs.Option.{option_map_or}
 use Rattle.std.proofs.lemmas.Bool.{false≢true}
@@ -12,8 +11,6 @@ use Rattle.stream_array.specs.declared.Pipe.TheVariants.{Command, Status, DataIn
 use Rattle.stream_array.specs.Rings.{LinesState}
 use Rattle.scsi_cmd.specs.declared.Direction.{Direction}
 use Rattle.scsi_cmd.specs.declared.Direction.TheVariants.{Nothing, ToHost, ToDevice}
-use Rattle.scsi_cmd.specs.declared.Request.{Request}
-use Rattle.scsi_cmd.specs.declared.Request.TheVariants.{Execute, Manage}
 use Rattle.scsi_cmd.specs.Held.{held_at}
 use Rattle.uas_host.specs.declared.HostEntry.{HostEntry}
 use Rattle.uas_host.specs.declared.Place.{Place}
@@ -21,9 +18,9 @@ use Rattle.uas_host.specs.declared.TdState.{TdState}
 use Rattle.uas_host.specs.declared.TdState.TheVariants.{Pending, Seen, LeftOver, Retired}
 use Rattle.uas_host.specs.declared.Retirement.{Retirement as HostRetirement}
 use Rattle.uas_host.specs.declared.RetirementStage.TheVariants.{Stopping}
-use Rattle.uas_host.specs.State.{client_of, is_left_over as is_host_left_over}
+use Rattle.uas_host.specs.State.{client_of, is_left_over}
 use Rattle.uas_host.specs.Retirement.{is_left_over_on as is_host_left_over_on, stop_trb, move_trb}
-use Rattle.uas_host.specs.Seen.{goes_to_device, goes_to_host, is_td_left_over as is_host_td_left_over, request_direction as host_direction}
+use Rattle.uas_host.specs.Seen.{goes_to_device, goes_to_host, is_td_left_over as is_host_td_left_over}
 use Rattle.uas_host.specs.Tags.{place_of, tag_of}
 use Rattle.xhci_ctl.specs.Pipes.{has_pending}
 use Rattle.bus_core.specs.declared.Retirement.{Retirement}
@@ -31,7 +28,7 @@ use Rattle.bus_core.specs.declared.RetirementStage.{RetirementStage}
 use Rattle.bus_core.specs.declared.RetirementStage.TheVariants.{StopAsked, StopAnswered, MoveAsked, MoveAnswered}
 use Rattle.bus_core.specs.declared.Td.{Td}
 use Rattle.bus_core.specs.Bus.{IsPlace}
-use Rattle.bus_core.specs.Td.{Entry, data_in_td, data_out_td, is_left_over, is_left_over_on, is_td_left_over, request_direction}
+use Rattle.bus_core.specs.Td.{Entry, data_in_td, data_out_td, is_left_over_on, is_td_left_over, request_direction}
 use Rattle.bus_core.specs.declared.Step.TheVariants.{Retire}
 use Rattle.bus_core.specs.Shared.{Shared, due, entry_fact, is_asked, part_fact, place_fact}
 use Rattle.bus_core.specs.World.{World, Cell}
@@ -65,27 +62,17 @@ engines-are-due state world fits = command-pends world.lines state.retirement fi
 
 -- RETIRE
 
-left_over-same : (state : TdState) → is_host_left_over state ≡ is_left_over state
-left_over-same Pending = refl
-left_over-same Seen = refl
-left_over-same LeftOver = refl
-left_over-same Retired = refl
-
-direction-side : (request : Request) → host_direction request ≡ request_direction request
-direction-side (Execute op) = refl
-direction-side (Manage what noted) = refl
-
-data-left : (td : Option Td) → option_map_or is_host_left_over (option_map state_of td) false ≡ is_td_left_over td
+data-left : (td : Option Td) → option_map_or is_left_over (option_map state_of td) false ≡ is_td_left_over td
 data-left None = refl
-data-left (Some td) = left_over-same td.state
+data-left (Some td) = refl
 
-in-left : (way : Direction) (td : Option Td) → (goes_to_host way && option_map_or is_host_left_over (option_map state_of td) false)
+in-left : (way : Direction) (td : Option Td) → (goes_to_host way && option_map_or is_left_over (option_map state_of td) false)
     ≡ is_td_left_over (data_in_td way td)
 in-left Nothing td = refl
 in-left ToHost td = data-left td
 in-left ToDevice td = refl
 
-out-left : (way : Direction) (td : Option Td) → (goes_to_device way && option_map_or is_host_left_over (option_map state_of td) false)
+out-left : (way : Direction) (td : Option Td) → (goes_to_device way && option_map_or is_left_over (option_map state_of td) false)
     ≡ is_td_left_over (data_out_td way td)
 out-left Nothing td = refl
 out-left ToHost td = refl
@@ -94,13 +81,9 @@ out-left ToDevice td = data-left td
 -- the host finds a TD left over exactly where it is
 pub left_over-side : (pipe : Pipe) (entry : Entry) → is_host_td_left_over pipe (host_side entry) ≡ is_left_over_on pipe entry
 left_over-side Command entry = refl
-left_over-side Status entry = left_over-same entry.status_td.state
-left_over-side DataIn entry =
-    ap (λ w. goes_to_host w && option_map_or is_host_left_over (option_map state_of entry.data_td) false) (direction-side entry.task.request)
-    ∙ in-left (request_direction entry.task.request) entry.data_td
-left_over-side DataOut entry =
-    ap (λ w. goes_to_device w && option_map_or is_host_left_over (option_map state_of entry.data_td) false) (direction-side entry.task.request)
-    ∙ out-left (request_direction entry.task.request) entry.data_td
+left_over-side Status entry = refl
+left_over-side DataIn entry = in-left (request_direction entry.task.request) entry.data_td
+left_over-side DataOut entry = out-left (request_direction entry.task.request) entry.data_td
 
 left_over-at : (state : Shared) (world : World) (pipe : Pipe) (place : Place) → Fits state world → IsPlace (length state.parts) place
     → part_fact state place.client (entry_fact (is_left_over_on pipe) place.slot)

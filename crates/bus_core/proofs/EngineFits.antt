@@ -50,14 +50,13 @@ use Rattle.bus_core.specs.Fits.{Fits, FitsQueues, HoldsCommand, HoldsCommandOf, 
 use Rattle.bus_core.specs.Fits.{host_retirement, place_in, status_event}
 use Rattle.bus_core.specs.WorldSteps.{EngineFits, EngineIsIdle, EnginesFit, engine_world}
 use Rattle.bus_core.proofs.ActFits.{IsPlaced, placed}
-use Rattle.bus_core.proofs.EngineCells.{KeepsRings, ReadsAlike, WritesOne, carried-last, kept-fits, texts-alike, texts-last, texts-length, with_ring-keeps}
-use Rattle.bus_core.proofs.EngineCells.{written-fits}
+use Rattle.bus_core.proofs.EngineCells.{KeepsRings, ReadsAlike, WritesOne, carried-last, kept-fits, texts-alike, texts-last, with_ring-keeps, written-fits}
 use Rattle.bus_core.proofs.EngineCellWrites.{IsLeftOn, StandsWith, cell-changed, cell_ring, left-on, left-unconsumed, length-td_trbs, ring-of-cell}
 use Rattle.bus_core.proofs.EngineCellWrites.{stands-with, td_trbs, trbs_on-most, uncounted, uncounted-set, with_cell_ring}
 use Rattle.bus_core.proofs.EngineDue.{engines-are-due}
 use Rattle.bus_core.proofs.CellWrites.{stream_ring-same}
+use Rattle.bus_core.proofs.CommandFront.{event-room}
 use Rattle.bus_core.proofs.Framing.{ChangesCell, FitsPart-set}
-use Rattle.bus_core.proofs.MatchedBounds.{matched-room}
 use Rattle.bus_core.proofs.MatchedSteps.{shared_step-matched}
 use Rattle.bus_core.proofs.Standing.{slice_get-back}
 
@@ -452,8 +451,8 @@ moved-writes state world pipe place at fits =
       device = refl;
       rings = record { status = keeps.status; data_in = keeps.data_in; data_out = keeps.data_out };
       client = FitsPart-set world (moved_world world pipe place) place.client place.slot at.at.part.unit at.at.part.unit at.at.client.held at.at.client.held
-          at.at.part (Some (passed_on pipe at.entry)) at.at.part.least at.at.part.ready at.at.client.fits at.at.is_place.slot changes refl
-          at.at.client.fits.least at.at.client.fits.ready (moved-cell state world pipe place at fits);
+          at.at.part (Some (passed_on pipe at.entry)) at.at.part.least_ticket at.at.part.ready at.at.client.fits at.at.is_place.slot changes refl
+          at.at.client.fits.least_ticket at.at.client.fits.ready (moved-cell state world pipe place at fits);
     }
 
 -- the command names the same place
@@ -510,12 +509,6 @@ move-fits state world pipe place at fits matched sound =
     }) matched sound
 
 -- THE STEP
-
--- no queue outgrows the places
-event-room : (state : Shared) (world : World) → Fits state world → has_event_room world.lines ≡ true
-event-room state world fits =
-    let long : length world.lines.events.pending ≡ length state.events = ap length fits.queues.texts ∙ texts-length world 0 state.events in
-    lt-ltb (length world.lines.events.pending) 1023 (omega (arith, long, (matched-room state fits.matched).events, fits.most_clients))
 
 -- the world with what a step of the command ring made
 abbrev world_with : World → (ControllerState × LinesState) × Acted → World

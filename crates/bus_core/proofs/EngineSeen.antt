@@ -1,7 +1,6 @@
 -- The event of the controller's own command: after Stop Endpoint the host puts Set TR Dequeue Pointer, and after that the TD is retired
 -- and the pipe's streams are rung. Cited by the law of events.
-use Rattle.std.proofs.Common.{◌≡◌, ℕ, ◌+◌, ◌-◌, true, ◌&&◌, cond, List, [], ◌∷◌, ◌++◌, drop, length, map, Option, Some}
-use Rattle.std.proofs.Common.{refl, arith, ap, sym, subst, ◌∙◌}
+use Rattle.std.proofs.Common.{◌≡◌, ℕ, ◌+◌, ◌-◌, true, ◌&&◌, cond, List, [], ◌∷◌, ◌++◌, drop, length, map, Option, Some, refl, arith, ap, sym, subst, ◌∙◌}
 use Rattle.std.specs.Prelude.{◌==◌, is_some, slice_get}
 use Rattle.std.specs.Option.{option_map_or}
 use Rattle.xhci_trb.specs.declared.Trb.{Trb}

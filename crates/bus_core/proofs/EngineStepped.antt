@@ -8,7 +8,7 @@ use Rattle.std.specs.Option.{option_map_or}
 use Rattle.std.proofs.lemmas.Bool.{false≢true}
 use Rattle.arrayvec.specs.ArrayVec.{ArrayVec}
 use Rattle.stream_array.specs.declared.Pipe.{Pipe}
-use Rattle.stream_array.specs.Rings.{IsLines, LinesState, ring_of}
+use Rattle.stream_array.specs.Rings.{IsLines, LinesState}
 use Rattle.stream_array.specs.declared.TheConstants.{STREAMS}
 use Rattle.event_ring.specs.declared.Event.{Event}
 use Rattle.event_ring.specs.declared.Event.TheVariants.{Transfer, Command as CommandCompletion}
@@ -16,7 +16,7 @@ use Rattle.uas_host.specs.declared.Retirement.{Retirement as HostRetirement}
 use Rattle.uas_host.specs.declared.RetirementStage.TheVariants.{Moving}
 use Rattle.uas_host.specs.Doors.{door, target_of}
 use Rattle.uas_host.specs.Events.{Sides as EventSides, engine_doors, event_doors, is_engine_done, stage_doors}
-use Rattle.uas_host.specs.Retirement.{has_pending, moved_lines, resumed_doors, retirement_for, stop_trb, with_engine_command, with_retirement}
+use Rattle.uas_host.specs.Retirement.{moved_lines, retirement_for, stop_trb, with_engine_command, with_retirement}
 use Rattle.uas_host.specs.State.{HostState, IsHost}
 use Rattle.xhci_ctl.specs.declared.Acted.{Acted}
 use Rattle.xhci_ctl.specs.Engine.{engine_acted}
@@ -34,6 +34,7 @@ use Rattle.bus_core.proofs.EngineFits.{engine-is-idle, engines-fit}
 use Rattle.bus_core.proofs.OutcomeMarks.{engine-marked, retire-marked}
 use Rattle.bus_core.proofs.RetireFits.{retire-is-idle, retirements-fit}
 use Rattle.bus_core.proofs.Stepped.{place-named, stepped}
+use Rattle.bus_core.proofs.StreamDoors.{resumed_doors-rung}
 use Rattle.bus_core.proofs.Taken.{IsTaken, due-taken, idle-taken}
 
 -- ENGINE
@@ -155,16 +156,12 @@ no-doors : (pipe : Pipe) → IsResumed pipe []
 unfolding resumed_by
 no-doors pipe = (λ stream. false, ap (map (door (target_of pipe))) (none-passes 1 STREAMS))
 
-resumed-doors : (lines : LinesState) (pipe : Pipe) → IsResumed pipe (resumed_doors lines pipe)
-unfolding resumed_by resumed_doors
-resumed-doors lines pipe = (λ stream. has_pending (ring_of lines pipe stream), refl)
-
 engine-resumed : (lines : LinesState) (pointer : ℕ) (done : Bool) (retirement : HostRetirement) → retirement.stage ≡ Moving
     → IsResumed retirement.pipe (engine_doors lines pointer done (Some retirement))
 engine-resumed lines pointer false retirement moves = no-doors retirement.pipe
 engine-resumed lines pointer true retirement moves =
     subst (λ stage. IsResumed retirement.pipe (stage_doors lines pointer retirement stage)) (sym moves)
-    (resumed-doors (moved_lines lines pointer retirement) retirement.pipe)
+    (resumed_doors-rung (moved_lines lines pointer retirement) retirement.pipe)
 
 -- the doorbells of an event, while Set TR Dequeue Pointer is under way, are of streams of its pipe, by rising stream
 pub event-resumed : (sides : EventSides) (event : Event) (retirement : HostRetirement) (doors : List ℕ) → sides.host.retirement ≡ Some retirement

@@ -4,7 +4,7 @@ use Rattle.std.proofs.Common.{◌≡◌, ℕ, zero, suc, ◌+◌, ◌-◌, ◌*�
 use Rattle.std.proofs.Common.{None, refl, arith, ap, sym, subst, ◌∙◌}
 use Rattle.std.specs.Prelude.{◌==◌, nat_lt, min, is_some, slice_get, option_map, option_and_then, if◌then◌else◌}
 use Rattle.std.proofs.Math.Nat.{mod-lt}
-use Rattle.std.proofs.lemmas.Bool.{lt-ltb, le-ltb, le-leb, ltb-true, eqb-true, ne_eqb, false≢true}
+use Rattle.std.proofs.lemmas.Bool.{lt-ltb, le-ltb, le-leb, ltb-true, eqb-true, ne_eqb, false≢true, and_parts}
 use Rattle.std.proofs.lemmas.Option.{none-some, slice_get-map, slice_get_within}
 use Rattle.xhci_trb.specs.declared.Trb.{Trb}
 use Rattle.xhci_trb.specs.declared.Trb.TheVariants.{Normal}
@@ -25,6 +25,7 @@ use Rattle.scsi_cmd.specs.declared.Direction.{Direction}
 use Rattle.scsi_cmd.specs.declared.Direction.TheVariants.{Nothing, ToHost, ToDevice}
 use Rattle.scsi_cmd.specs.declared.Request.{Request}
 use Rattle.scsi_cmd.specs.declared.Request.TheVariants.{Execute, Manage}
+use Rattle.uas_host.specs.State.{is_pending}
 use Rattle.uas_host.specs.declared.Place.{Place}
 use Rattle.uas_host.specs.Tags.{tag_of}
 use Rattle.uas_host.specs.Tds.{status_buffer_of, window_of, data_trb, data_trbs, data_trb_count, data_td, status_td}
@@ -33,14 +34,15 @@ use Rattle.xhci_ctl.specs.declared.TheConstants.{SUCCESS, SHORT_PACKET, SLOT, ST
 use Rattle.xhci_ctl.specs.Steps.{endpoint_of}
 use Rattle.bus_core.specs.declared.Td.{Td}
 use Rattle.bus_core.specs.declared.Completion.TheVariants.{CommandDone, DataDone, StatusDone}
-use Rattle.bus_core.specs.Td.{Entry, is_pending, is_awaited, data_trbs as trbs_of}
+use Rattle.bus_core.specs.Td.{Entry, is_awaited, data_trbs as trbs_of}
 use Rattle.bus_core.specs.Bus.{IsPlace}
 use Rattle.bus_core.specs.Shared.{Shared, request_direction}
 use Rattle.bus_core.specs.Matched.{under, request_bytes, carried_places, data_events, status_events, pipe_places, awaits_data, IsMatchedEntry, IsOwnEvent}
 use Rattle.bus_core.specs.World.{World, cell_at}
 use Rattle.bus_core.specs.Cells.{HoldsTrbs, HoldsIn, HoldsTd, HoldsData, data_in_td, data_out_td, FitsCell, FitsHeld}
 use Rattle.bus_core.specs.Fits.{command_trb, last_pointer, data_event, status_event, unit_len, FitsPart, Fits}
-use Rattle.bus_core.proofs.MatchedPlaces.{IsFound, under-found, and-true}
+use Rattle.bus_core.proofs.DataTrbs.{length-data_trbs}
+use Rattle.bus_core.proofs.MatchedPlaces.{IsFound, under-found}
 use Rattle.bus_core.proofs.MatchedEntries.{awaited-pends}
 use Rattle.bus_core.proofs.MatchedBounds.{held-place, matched-room}
 use Rattle.bus_core.proofs.MatchedSteps.{matched-held}
@@ -153,10 +155,6 @@ spent-status ring tag holds =
       ends = refl;
     }
 
-pub length-data_trbs : (n pointer left : ℕ) → length (data_trbs n pointer left) ≡ n
-length-data_trbs zero pointer left = refl
-length-data_trbs (suc n) pointer left = ap suc (length-data_trbs n (pointer + 4096) (left - 4096))
-
 -- the last of some data TRBs has no CH
 record EndsAt (at : ℕ) (trbs : List Trb) : Type 0 where
   trb : Trb
@@ -214,7 +212,7 @@ fits-cell state world place entry all is =
 
 pub holds-awaited : (ring : Ring) (trbs : List Trb) (td : Td) (n : ℕ) → HoldsTd ring trbs td → is_awaited td n ≡ true → HoldsTrbs ring trbs n
 holds-awaited ring trbs td n holds awaited =
-    let taken : td.consumed ≡ n = eqb-true td.consumed n (and-true (is_pending td.state) (td.consumed == n) awaited).1 in
+    let taken : td.consumed ≡ n = eqb-true td.consumed n (and_parts (is_pending td.state) (td.consumed == n) awaited).1 in
     let on : HoldsTrbs ring trbs td.consumed = subst (HoldsIn ring trbs td.consumed) (awaited-pends td n awaited) holds in
     (on.0, on.1 ∙ taken)
 

@@ -1,7 +1,7 @@
--- The frame of every step on the world of rings: one cell changed, with its client's record and unit, so all others fit as
--- before. The streams of nobody stay empty, and the controller's own command ring fits as before where the enqueue place of no
+-- The frame of every step on the world of rings: one cell changed, or several of one client, with the client's record and unit, so all
+-- others fit as before. The streams of nobody stay empty, and the controller's own command ring fits as before where the enqueue place of no
 -- TD that is left over moved. Cited by the proofs of all steps.
-use Rattle.std.proofs.Common.{◌≡◌, ℕ, ◌+◌, ◌-◌, ◌*◌, ◌/◌, ◌%◌, ◌<◌, true, false, List, [], ◌∷◌, length, length-set, Option, Some, None, IfSome, refl, arith}
+use Rattle.std.proofs.Common.{◌≡◌, ℕ, ◌+◌, ◌-◌, ◌*◌, ◌/◌, ◌%◌, ◌<◌, true, false, List, [], ◌∷◌, length, length-set, Option, Some, None, refl, arith}
 use Rattle.std.proofs.Common.{option_map, ap, sym, subst, ◌∙◌}
 use Rattle.std.specs.Prelude.{slice_get, slice_set, ◌==◌}
 use Rattle.std.specs.Option.{option_map_or}
@@ -32,6 +32,7 @@ use Rattle.bus_core.specs.Matched.{IsMatched, IsRetiring, is_left_over_at}
 use Rattle.bus_core.specs.World.{World, Cell, cell_at}
 use Rattle.bus_core.specs.Cells.{FitsHeld, HoldsTrbs}
 use Rattle.bus_core.specs.Fits.{AreUnused, FitsPart, FitsClient, FitsEngine, HoldsCommand, HoldsCommandOf, host_retirement, place_in}
+use Rattle.bus_core.proofs.MatchedRetirement.{retiring-of}
 use Rattle.bus_core.proofs.Routes.{slice_get-slice_set_same, slice_get-slice_set_other}
 
 -- TAGS
@@ -165,9 +166,6 @@ moves-at state before after place r retiring within others ends =
           (others r.place.client r.place.slot inside (eqb-false (tag_of r.place) (tag_of place) is)))
     ] refl)
 
-retiring-of : (state : Shared) (r : Retirement) → IsMatched state → state.retirement ≡ Some r → IsRetiring state r
-retiring-of state r all is = subst (λ o. IfSome o (IsRetiring state)) is all.retiring
-
 -- a step at one place leaves the controller's command ring as it was, where it moves no enqueue place of a TD that is left over
 pub engine-changed : (state now : Shared) (before after : World) (place : Place) → IsMatched state → FitsEngine state before
     → now.retirement ≡ state.retirement → after.host.retirement ≡ before.host.retirement → after.lines.engine ≡ before.lines.engine → place.slot < TAGS
@@ -178,13 +176,17 @@ engine-changed state now before after place all fits stays host same within othe
 
 -- ONE CLIENT
 
+-- all its cells are the same
+abbrev pub CellsStay : World → World → ℕ → Type 0
+CellsStay before after client = (slot : ℕ) → slot < TAGS → cell_at after (place_in client slot) ≡ cell_at before (place_in client slot)
+
 -- another client's part fits as before
 FitsPart-kept : (before after : World) (client : ℕ) (unit : BlockMaps) (held : HostClient) (part : Part) → FitsPart before client unit held part
-    → ((slot : ℕ) → slot < TAGS → cell_at after (place_in client slot) ≡ cell_at before (place_in client slot)) → FitsPart after client unit held part
+    → CellsStay before after client → FitsPart after client unit held part
 FitsPart-kept before after client unit held part fits kept = record {
   number = fits.number;
   unit_same = fits.unit_same;
-  least = fits.least;
+  least_ticket = fits.least_ticket;
   ready = fits.ready;
   slots = fits.slots;
   cells = λ slot within. rw (kept slot within) (fits.cells slot within);
@@ -194,14 +196,14 @@ FitsPart-kept before after client unit held part fits kept = record {
 pub FitsPart-set : (before after : World) (client slot : ℕ) (unit unit_now : BlockMaps) (held held_now : HostClient) (part : Part) (now : Option Entry)
     (least : ℕ) (queue : List ℕ)
     → FitsPart before client unit held part → slot < TAGS → ChangesCell before after client slot held_now unit_now
-    → unit_now.count ≡ unit.count → least ≡ held_now.least → queue ≡ held_now.ready.items
+    → unit_now.count ≡ unit.count → least ≡ held_now.least_ticket → queue ≡ held_now.ready.items
     → FitsHeld client unit.count (place_in client slot) now (cell_at after (place_in client slot))
     → FitsPart after client unit_now held_now
-    (record { number = part.number; unit = unit_now; entries = slice_set part.entries slot now; least = least; ready = queue })
+    (record { number = part.number; unit = unit_now; entries = slice_set part.entries slot now; least_ticket = least; ready = queue })
 FitsPart-set before after client slot unit unit_now held held_now part now least queue fits within changes count least_is queue_is here = record {
   number = fits.number;
   unit_same = refl;
-  least = least_is;
+  least_ticket = least_is;
   ready = queue_is;
   slots = length-set part.entries slot now ∙ fits.slots;
   cells = λ at inside.
@@ -222,14 +224,15 @@ FitsPart-set before after client slot unit unit_now held held_now part now least
 -- ALL CLIENTS
 
 FitsClient-kept : (before after : World) (client : ℕ) (unit : Option BlockMaps) (held : Option HostClient) (part : Option Part)
-    → FitsClient before client unit held part
-    → ((slot : ℕ) → slot < TAGS → cell_at after (place_in client slot) ≡ cell_at before (place_in client slot)) → FitsClient after client unit held part
+    → FitsClient before client unit held part → ((there : Part) → part ≡ Some there → CellsStay before after client)
+    → FitsClient after client unit held part
 FitsClient-kept before after client None None None fits kept = tt
 FitsClient-kept before after client None None (Some part) fits kept = absurd fits
 FitsClient-kept before after client None (Some held) part fits kept = absurd fits
 FitsClient-kept before after client (Some unit) None part fits kept = absurd fits
 FitsClient-kept before after client (Some unit) (Some held) None fits kept = absurd fits
-FitsClient-kept before after client (Some unit) (Some held) (Some part) fits kept = FitsPart-kept before after client unit held part fits kept
+FitsClient-kept before after client (Some unit) (Some held) (Some part) fits kept =
+    FitsPart-kept before after client unit held part fits (kept part refl)
 
 -- the unit and the host's record of a client that is there
 pub record IsFound (world : World) (client : ℕ) (part : Part) : Type 0 where
@@ -264,11 +267,17 @@ FitsClient-at world client unit unit_is held held_is part part_is one two three 
     subst (λ u. FitsClient world client u held part) (sym one)
     (subst (λ h. FitsClient world client unit_is h part) (sym two) (subst (λ p. FitsClient world client unit_is held_is p) (sym three) fits))
 
--- one client was written, under one of its tags: all fit again
-pub AllFit-set : (before after : World) (parts : List Part) (client slot : ℕ) (unit : BlockMaps) (held : HostClient) (was part : Part)
-    → AllFit before parts → slice_get parts client ≡ Some was → slot < TAGS → ChangesCell before after client slot held unit
+-- the client's record and unit were written, and no cell of another client that is there
+pub record ChangesClient (before after : World) (parts : List Part) (client : ℕ) (held : HostClient) (unit : BlockMaps) : Type 0 where
+  pub hosts : after.host.clients ≡ slice_set before.host.clients client held
+  pub units : after.device.units ≡ slice_set before.device.units client unit
+  pub others : (other : ℕ) (there : Part) → (other ≡ client → ⊥) → slice_get parts other ≡ Some there → CellsStay before after other
+
+-- so all fit again where what the client has now fits
+pub AllFit-client : (before after : World) (parts : List Part) (client : ℕ) (unit : BlockMaps) (held : HostClient) (was part : Part)
+    → AllFit before parts → slice_get parts client ≡ Some was → ChangesClient before after parts client held unit
     → FitsPart after client unit held part → AllFit after (slice_set parts client part)
-AllFit-set before after parts client slot unit held was part all is within changes fits other =
+AllFit-client before after parts client unit held was part all is changes fits other =
     let it = found before parts client was all is in
     elim (client == other) as (λ b. (client == other) ≡ b → FitsClient after other (slice_get after.device.units other)
     (slice_get after.host.clients other) (slice_get (slice_set parts client part) other)) [
@@ -288,5 +297,16 @@ AllFit-set before after parts client slot unit held was part all is within chang
           (ap (λ hs. slice_get hs other) changes.hosts ∙ slice_get-slice_set_other before.host.clients client other held apart)
           (slice_get-slice_set_other parts client other part apart)
           (FitsClient-kept before after other (slice_get before.device.units other) (slice_get before.host.clients other) (slice_get parts other) (all other)
-          (λ at inside. changes.others other at inside (tags-apart other client at slot inside within (λ same. apart (sym same)))))
+          (λ there found_is. changes.others other there (λ same. apart (sym same)) found_is))
     ] refl
+
+-- also where it was written under one of its tags
+pub AllFit-set : (before after : World) (parts : List Part) (client slot : ℕ) (unit : BlockMaps) (held : HostClient) (was part : Part)
+    → AllFit before parts → slice_get parts client ≡ Some was → slot < TAGS → ChangesCell before after client slot held unit
+    → FitsPart after client unit held part → AllFit after (slice_set parts client part)
+AllFit-set before after parts client slot unit held was part all is within changes fits =
+    AllFit-client before after parts client unit held was part all is (record {
+      hosts = changes.hosts;
+      units = changes.units;
+      others = λ other there apart found_is at inside. changes.others other at inside (tags-apart other client at slot inside within apart);
+    }) fits

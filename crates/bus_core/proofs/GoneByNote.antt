@@ -22,7 +22,8 @@ use Rattle.bus_core.specs.Shared.{Shared, managed_or, managed_to, shared_step}
 use Rattle.bus_core.specs.Ordered.{HasNoted, NotedBy, names, under}
 use Rattle.bus_core.specs.Reach.{EndsEarlierNamed, GoneByNote, NotedAtSubmission, RequestsStay, task_place}
 use Rattle.bus_core.proofs.KeptRequests.{IsTakenOn}
-use Rattle.bus_core.proofs.OrderedMessages.{found-under, under-there}
+use Rattle.bus_core.proofs.MatchedPlaces.{under-found}
+use Rattle.bus_core.proofs.OrderedMessages.{under-there}
 use Rattle.bus_core.proofs.OthersStay.{Ends, shared_step-owners}
 use Rattle.bus_core.proofs.Routes.{slice_get-slice_set_same}
 
@@ -30,8 +31,8 @@ use Rattle.bus_core.proofs.Routes.{slice_get-slice_set_same}
 taken-on : (state : Shared) (step : Step) (place : Place) (old now : Entry) → under state.parts place ≡ Some old
     → under (shared_step state step).0.parts place ≡ Some now → IsTakenOn (Ends state step place.client) old now
 taken-on state step place old now was is =
-    let before = found-under state.parts place old was in
-    let after = found-under (shared_step state step).0.parts place now is in
+    let before = under-found state.parts place old was in
+    let after = under-found (shared_step state step).0.parts place now is in
     (shared_step-owners state step).kept place.client before.part after.part before.there after.there place.slot old now before.held after.held
 
 pub gone-noted : GoneByNote
@@ -64,7 +65,7 @@ ends-named place old management request what noted part asks noted_by held withi
 
 pub ends-earlier : EndsEarlierNamed
 ends-earlier state place old ordered was within ended =
-    let found = found-under state.parts place old was in
+    let found = under-found state.parts place old was in
     let there : slice_get state.parts ended.head.client ≡ Some found.part = ap (λ client. slice_get state.parts client) ended.client ∙ found.there in
     let held : held_at found.part.entries ended.head.slot ≡ Some ended.management = sym (under-there state.parts ended.head found.part there) ∙ ended.held in
     ends-named place old ended.management ended.management.task.request ended.what ended.noted found.part ended.request

@@ -1,19 +1,18 @@
 -- What the host makes of an event that it awaits: its entry becomes the host's side of what the shared machine's becomes, and once a response
 -- came, each entry of the client the host's side of what the shared machine leaves of it. Cited by the proofs of the events.
-use Rattle.std.proofs.Common.{◌≡◌, ℕ, zero, suc, ◌+◌, ◌-◌, ◌*◌, ◌/◌, ◌%◌, ◌<◌, ◌≤◌, true, false, ◌&&◌, List, [], ◌∷◌, take, length, Option, Some, None}
-use Rattle.std.proofs.Common.{option_map}
+use Rattle.std.proofs.Common.{◌≡◌, ℕ, zero, suc, ◌+◌, ◌-◌, ◌<◌, ◌≤◌, true, false, ◌&&◌, List, [], ◌∷◌, take, length, Option, Some, None, option_map}
 use Rattle.std.proofs.Common.{refl, arith, ap, sym, ◌∙◌}
-use Rattle.std.specs.Prelude.{nat_lt, slice_index, slice_set, option_and_then, ◌==◌, if◌then◌else◌, not}
-use Rattle.std.proofs.lemmas.Bool.{lt-ltb, eq-eqb, ne_eqb}
+use Rattle.std.specs.Prelude.{slice_index, slice_set, option_and_then, ◌==◌, if◌then◌else◌, not}
+use Rattle.std.proofs.lemmas.Bool.{eq-eqb, ne_eqb}
 use Rattle.frame_store.specs.declared.TagBuffers.{TagBuffers}
 use Rattle.frame_store.specs.Buffers.{held_for}
+use Rattle.scsi_cmd.specs.Request.{is_command}
 use Rattle.scsi_cmd.specs.declared.Direction.TheVariants.{ToHost, ToDevice}
-use Rattle.scsi_cmd.specs.declared.Request.{Request}
 use Rattle.scsi_cmd.specs.declared.Request.TheVariants.{Execute, Manage}
 use Rattle.scsi_cmd.specs.declared.Op.{Op}
 use Rattle.scsi_cmd.specs.declared.Task.{Task}
 use Rattle.arrayvec.specs.ArrayVec.{ArrayVec}
-use Rattle.scsi_cmd.specs.declared.TheConstants.{TAGS, TASK_SLOT}
+use Rattle.scsi_cmd.specs.declared.TheConstants.{TASK_SLOT}
 use Rattle.scsi_cmd.specs.Held.{held_at}
 use Rattle.device_server.specs.declared.Answer.{Answer}
 use Rattle.device_server.specs.declared.Answer.TheVariants.{Good, Check}
@@ -26,73 +25,55 @@ use Rattle.stream_array.specs.declared.Pipe.TheVariants.{Status}
 use Rattle.uas_host.specs.declared.Place.{Place}
 use Rattle.uas_host.specs.declared.TdState.{TdState}
 use Rattle.uas_host.specs.declared.TdState.TheVariants.{Pending, Seen, LeftOver, Retired}
-use Rattle.uas_host.specs.declared.Told.TheVariants.{Response as ToldResponse, Status as ToldStatus}
-use Rattle.uas_host.specs.declared.News.{News}
-use Rattle.uas_host.specs.declared.News.TheVariants.{CommandSeen, DataInSeen, DataOutSeen, Answered, Responded}
+use Rattle.uas_host.specs.declared.HostAnswer.TheVariants.{Response as AnsweredResponse, Status as AnsweredStatus}
+use Rattle.uas_host.specs.declared.Notice.{Notice}
+use Rattle.uas_host.specs.declared.Notice.TheVariants.{CommandSeen, DataInSeen, DataOutSeen, Answered, Responded}
 use Rattle.uas_host.specs.declared.HostEntry.{HostEntry}
 use Rattle.uas_host.specs.declared.HostClient.{HostClient}
 use Rattle.uas_host.specs.Seen.{after_response, completes, noted_in}
-use Rattle.uas_host.specs.State.{HostState, client_of, with_client, is_pending as is_host_pending, is_seen as is_host_seen, is_over as is_host_over}
-use Rattle.uas_host.specs.State.{is_command, queued_if}
-use Rattle.uas_host.specs.State.{is_data_over as is_host_data_over, is_ready as is_host_ready}
-use Rattle.uas_host.specs.Tags.{place_of, tag_of}
-use Rattle.uas_host.specs.Events.{answer_in, data_after, goes_to_host, goes_to_device, request_direction as host_direction, seen, seen_data, host_seen}
-use Rattle.uas_host.specs.Events.{place_seen, with_seen, left_over_td as host_left_over, news_on}
+use Rattle.uas_host.specs.State.{HostState, client_of, with_client, is_pending, is_seen, is_over}
+use Rattle.uas_host.specs.State.{queued_if, is_data_over as is_host_data_over, is_ready as is_host_ready}
+use Rattle.uas_host.specs.Tags.{tag_of}
+use Rattle.uas_host.specs.Events.{answer_in, data_after, goes_to_host, goes_to_device, seen, seen_data, host_seen}
+use Rattle.uas_host.specs.Events.{place_seen, with_seen, left_over_td as host_left_over, notice_on}
 use Rattle.uas_host.proofs.Texts.{answer_by-text}
 use Rattle.xhci_ctl.specs.declared.TheConstants.{SHORT_PACKET, STATUS_LENGTH}
 use Rattle.bus_core.specs.declared.Td.{Td}
 use Rattle.bus_core.specs.Bus.{IsPlace}
-use Rattle.bus_core.specs.Td.{Entry, is_seen, is_over, is_data_over, is_ready, with_event_seen, left_over_td, data_after_answer, data_after_status}
+use Rattle.bus_core.specs.Td.{Entry, is_data_over, is_ready, with_event_seen, left_over_td, data_after_answer, data_after_status}
 use Rattle.bus_core.specs.Shared.{request_direction}
 use Rattle.bus_core.specs.Wire.{answer_text}
 use Rattle.bus_core.specs.Cells.{host_side, state_of, told_by}
 use Rattle.bus_core.specs.Fits.{unit_len}
+use Rattle.bus_core.proofs.MatchedEngine.{place_of-tag_of}
 
 -- READY
 
-is_seen-same : (state : TdState) → is_host_seen state ≡ is_seen state
-is_seen-same Pending = refl
-is_seen-same Seen = refl
-is_seen-same LeftOver = refl
-is_seen-same Retired = refl
-
-is_over-same : (state : TdState) → is_host_over state ≡ is_over state
-is_over-same Pending = refl
-is_over-same Seen = refl
-is_over-same LeftOver = refl
-is_over-same Retired = refl
-
 is_data_over-side : (td : Option Td) → is_host_data_over (option_map state_of td) ≡ is_data_over td
 is_data_over-side None = refl
-is_data_over-side (Some td) = is_over-same td.state
+is_data_over-side (Some td) = refl
 
 pub is_ready-side : (entry : Entry) → is_host_ready (host_side entry) ≡ is_ready entry
 is_ready-side entry =
-    ap (λ b. b && (is_host_over entry.status_td.state && is_host_data_over (option_map state_of entry.data_td))) (is_seen-same entry.command_td.state)
-    ∙ ap (λ b. is_seen entry.command_td.state && (b && is_host_data_over (option_map state_of entry.data_td))) (is_over-same entry.status_td.state)
-    ∙ ap (λ b. is_seen entry.command_td.state && (is_over entry.status_td.state && b)) (is_data_over-side entry.data_td)
+    ap (λ b. is_seen entry.command_td.state && (is_over entry.status_td.state && b)) (is_data_over-side entry.data_td)
 
 -- ONE ENTRY
 
 pub command_seen-side : (entry : Entry) → entry.command_td.state ≡ Pending
     → seen CommandSeen (host_side entry) ≡ Some (host_side (record entry { command_td = with_event_seen entry.command_td }))
-command_seen-side entry pends = ap (λ s. if is_host_pending s then Some (record (host_side entry) { command_td = Seen }) else None) pends
-
-direction-same : (request : Request) → host_direction request ≡ request_direction request
-direction-same (Execute op) = refl
-direction-same (Manage what noted) = refl
+command_seen-side entry pends = ap (λ s. if is_pending s then Some (record (host_side entry) { command_td = Seen }) else None) pends
 
 pub data_in_seen-side : (entry : Entry) (td : Td) → entry.data_td ≡ Some td → td.state ≡ Pending → request_direction entry.task.request ≡ ToHost
     → seen DataInSeen (host_side entry) ≡ Some (host_side (record entry { data_td = Some (with_event_seen td) }))
 data_in_seen-side entry td is pends way =
-    ap (λ w. seen_data (goes_to_host w) (host_side entry) (option_map state_of entry.data_td)) (direction-same entry.task.request ∙ way)
+    ap (λ w. seen_data (goes_to_host w) (host_side entry) (option_map state_of entry.data_td)) way
     ∙ ap (λ t. seen_data true (host_side entry) (option_map state_of t)) is
     ∙ ap (λ s. seen_data true (host_side entry) (Some s)) pends
 
 pub data_out_seen-side : (entry : Entry) (td : Td) → entry.data_td ≡ Some td → td.state ≡ Pending → request_direction entry.task.request ≡ ToDevice
     → seen DataOutSeen (host_side entry) ≡ Some (host_side (record entry { data_td = Some (with_event_seen td) }))
 data_out_seen-side entry td is pends way =
-    ap (λ w. seen_data (goes_to_device w) (host_side entry) (option_map state_of entry.data_td)) (direction-same entry.task.request ∙ way)
+    ap (λ w. seen_data (goes_to_device w) (host_side entry) (option_map state_of entry.data_td)) way
     ∙ ap (λ t. seen_data true (host_side entry) (option_map state_of t)) is
     ∙ ap (λ s. seen_data true (host_side entry) (Some s)) pends
 
@@ -116,17 +97,17 @@ pub status_seen-side : (entry : Entry) (op : Op) (answer : Answer) → entry.tas
     → entry.status_td.state ≡ Pending
     → seen (Answered (status_of answer) (record { items = sense_of answer })) (host_side entry) ≡ Some (host_side (status_seen entry))
 status_seen-side entry op answer asks sent pends =
-    let told : told_by entry.task.request entry.task.phase Seen ≡ ToldStatus (status_of answer) (record { items = sense_of answer }) =
+    let told : told_by entry.task.request entry.task.phase Seen ≡ AnsweredStatus (status_of answer) (record { items = sense_of answer }) =
     ap (λ p. told_by entry.task.request p Seen) sent ∙ ap (λ r. told_by r (Sent answer) Seen) asks in
     let left : data_after (status_of answer) (option_map state_of entry.data_td) ≡ option_map state_of (data_after_status entry.task.phase entry.data_td) =
     data_after-side answer entry.data_td ∙ ap (λ p. option_map state_of (data_after_status p entry.data_td)) (sym sent) in
     let now : HostEntry = record (host_side entry) {
-      told = ToldStatus (status_of answer) (record { items = sense_of answer });
+      told = AnsweredStatus (status_of answer) (record { items = sense_of answer });
       status_td = Seen;
       data_td = data_after (status_of answer) (option_map state_of entry.data_td);
     } in
-    ap (λ r. if is_command r && is_host_pending entry.status_td.state then Some now else None) asks
-    ∙ ap (λ s. if is_host_pending s then Some now else None) pends
+    ap (λ r. if is_command r && is_pending entry.status_td.state then Some now else None) asks
+    ∙ ap (λ s. if is_pending s then Some now else None) pends
     ∙ ap (λ t. Some (record now { told = t })) (sym told)
     ∙ ap (λ d. Some (record now { told = told_by entry.task.request entry.task.phase Seen; data_td = d })) left
 
@@ -134,41 +115,29 @@ status_seen-side entry op answer asks sent pends =
 pub response_seen-side : (entry : Entry) (what : Task) (noted : ArrayVec ℕ) → entry.task.request ≡ Manage what noted → entry.task.phase ≡ Sent Good
     → entry.status_td.state ≡ Pending → seen (Responded 0) (host_side entry) ≡ Some (host_side (status_seen entry))
 response_seen-side entry what noted asks sent pends =
-    let told : told_by entry.task.request entry.task.phase Seen ≡ ToldResponse 0 =
+    let told : told_by entry.task.request entry.task.phase Seen ≡ AnsweredResponse 0 =
     ap (λ p. told_by entry.task.request p Seen) sent ∙ ap (λ r. told_by r (Sent Good) Seen) asks in
     let left : data_after_status entry.task.phase entry.data_td ≡ entry.data_td = ap (λ p. data_after_status p entry.data_td) sent in
-    let now : HostEntry = record (host_side entry) { told = ToldResponse 0; status_td = Seen } in
-    ap (λ r. if not (is_command r) && is_host_pending entry.status_td.state then Some now else None) asks
-    ∙ ap (λ s. if is_host_pending s then Some now else None) pends
+    let now : HostEntry = record (host_side entry) { told = AnsweredResponse 0; status_td = Seen } in
+    ap (λ r. if not (is_command r) && is_pending entry.status_td.state then Some now else None) asks
+    ∙ ap (λ s. if is_pending s then Some now else None) pends
     ∙ ap (λ t. Some (record now { told = t })) (sym told)
     ∙ ap (λ td. Some (record now { told = told_by entry.task.request entry.task.phase Seen; data_td = option_map state_of td })) (sym left)
 
 -- THE HOST
 
--- a place that is there is the one that its tag names
-pub place_of-tag_of : (clients : ℕ) (place : Place) → IsPlace clients place → place_of clients (tag_of place) ≡ Some place
-place_of-tag_of clients place there =
-    let slot_within = there.slot in
-    let tag : tag_of place ≡ suc (place.client * TAGS + place.slot) = omega arith in
-    let client : (place.client * TAGS + place.slot) / TAGS ≡ place.client = omega arith in
-    let slot : (place.client * TAGS + place.slot) % TAGS ≡ place.slot = omega arith in
-    ap (place_of clients) tag
-    ∙ ap (λ c. if nat_lt c clients then Some (record { client = c; slot = (place.client * TAGS + place.slot) % TAGS }) else None) client
-    ∙ ap (λ s. if nat_lt place.client clients then Some (record { client = place.client; slot = s }) else None) slot
-    ∙ ap (λ b. if b then Some place else None) (lt-ltb place.client clients there.client)
-
 -- a client with this entry in a slot, the last of the ready ones where it is ready
 abbrev pub client_with : HostClient → ℕ → HostEntry → HostClient
 client_with client slot now = record {
   entries = slice_set client.entries slot (Some now);
-  least = client.least;
+  least_ticket = client.least_ticket;
   ready = record { items = queued_if (is_host_ready now) client.ready.items slot };
 }
 
--- no other entry changes at news that aren't a response
-with_seen-quiet : (news : News) (client : HostClient) (slot : ℕ) (now : HostEntry) → completes news ≡ false
-    → with_seen news client slot now ≡ client_with client slot now
-with_seen-quiet news client slot now quiet =
+-- no other entry changes at notice that aren't a response
+with_seen-quiet : (notice : Notice) (client : HostClient) (slot : ℕ) (now : HostEntry) → completes notice ≡ false
+    → with_seen notice client slot now ≡ client_with client slot now
+with_seen-quiet notice client slot now quiet =
     ap (λ b. record (client_with client slot now) {
       entries = if b then after_response (noted_in now.request) (slice_set client.entries slot (Some now)) else slice_set client.entries slot (Some now);
     }) quiet
@@ -177,15 +146,15 @@ with_seen-quiet news client slot now quiet =
 abbrev pub host_with : HostState → Place → Entry → HostState
 host_with host place now = with_client host place.client (client_with (client_of host place.client) place.slot (host_side now))
 
-pub host_seen-is : (host : HostState) (place : Place) (entry now : Entry) (news : News) → completes news ≡ false → IsPlace (length host.clients) place
-    → held_at (client_of host place.client).entries place.slot ≡ Some (host_side entry) → seen news (host_side entry) ≡ Some (host_side now)
-    → host_seen news host (tag_of place) ≡ Some (host_with host place now)
-host_seen-is host place entry now news quiet there held sees =
-    ap (option_and_then (place_seen news host)) (place_of-tag_of (length host.clients) place there)
+pub host_seen-is : (host : HostState) (place : Place) (entry now : Entry) (notice : Notice) → completes notice ≡ false → IsPlace (length host.clients) place
+    → held_at (client_of host place.client).entries place.slot ≡ Some (host_side entry) → seen notice (host_side entry) ≡ Some (host_side now)
+    → host_seen notice host (tag_of place) ≡ Some (host_with host place now)
+host_seen-is host place entry now notice quiet there held sees =
+    ap (option_and_then (place_seen notice host)) (place_of-tag_of (length host.clients) place there)
     ∙ ap (λ h. option_map (with_client host place.client)
-    (option_map (with_seen news (client_of host place.client) place.slot) (option_and_then (seen news) h))) held
-    ∙ ap (λ h. option_map (with_client host place.client) (option_map (with_seen news (client_of host place.client) place.slot) h)) sees
-    ∙ ap (λ c. Some (with_client host place.client c)) (with_seen-quiet news (client_of host place.client) place.slot (host_side now) quiet)
+    (option_map (with_seen notice (client_of host place.client) place.slot) (option_and_then (seen notice) h))) held
+    ∙ ap (λ h. option_map (with_client host place.client) (option_map (with_seen notice (client_of host place.client) place.slot) h)) sees
+    ∙ ap (λ c. Some (with_client host place.client c)) (with_seen-quiet notice (client_of host place.client) place.slot (host_side now) quiet)
 
 -- THE NEWS OF A STATUS EVENT
 
@@ -234,11 +203,11 @@ answer_in-text tag op answer most =
     sym (answer_by-text tag unit fits (first_fault-unit_text unit fits))
     ∙ ap (λ b. if b then Some (Answered (status_of answer) (record { items = sense_of answer })) else None) same
 
-pub status_news-is : (frames : List TagBuffers) (slot tag : ℕ) (op : Op) (answer : Answer) → slot < TASK_SLOT → tag ≤ 248
+pub status_notice-is : (frames : List TagBuffers) (slot tag : ℕ) (op : Op) (answer : Answer) → slot < TASK_SLOT → tag ≤ 248
     → take (length (answer_text tag (Execute op) answer)) (held_for frames tag).status ≡ answer_text tag (Execute op) answer
-    → news_on Status frames (STATUS_LENGTH - unit_len slot (held_for frames tag).status) SHORT_PACKET tag
+    → notice_on Status frames (STATUS_LENGTH - unit_len slot (held_for frames tag).status) SHORT_PACKET tag
     ≡ Some (Answered (status_of answer) (record { items = sense_of answer }))
-status_news-is frames slot tag op answer less most is =
+status_notice-is frames slot tag op answer less most is =
     let len = unit_len-answer slot tag op answer (held_for frames tag).status less is in
     let bounds = text-bounds tag op answer in
     let left : 112 - (112 - unit_len slot (held_for frames tag).status) ≡ length (answer_text tag (Execute op) answer) = omega (arith, len, bounds.1) in
@@ -259,10 +228,10 @@ response_in-text tag what noted answer most =
     sym (answer_by-text tag unit fits (first_fault-unit_text unit fits)) ∙ ap (λ b. if b then Some (Responded 0) else None) same
 
 -- of the last slot: 8 bytes, of which the last tells the code
-pub response_news-is : (frames : List TagBuffers) (slot tag : ℕ) (what : Task) (noted : ArrayVec ℕ) (answer : Answer) → slot ≡ TASK_SLOT → tag ≤ 248
+pub response_notice-is : (frames : List TagBuffers) (slot tag : ℕ) (what : Task) (noted : ArrayVec ℕ) (answer : Answer) → slot ≡ TASK_SLOT → tag ≤ 248
     → take (length (answer_text tag (Manage what noted) answer)) (held_for frames tag).status ≡ answer_text tag (Manage what noted) answer
-    → news_on Status frames (STATUS_LENGTH - unit_len slot (held_for frames tag).status) SHORT_PACKET tag ≡ Some (Responded 0)
-response_news-is frames slot tag what noted answer last most is =
+    → notice_on Status frames (STATUS_LENGTH - unit_len slot (held_for frames tag).status) SHORT_PACKET tag ≡ Some (Responded 0)
+response_notice-is frames slot tag what noted answer last most is =
     let len : unit_len slot (held_for frames tag).status ≡ 8 =
     ap (λ b. if b then 8 else 16 + slice_index (held_for frames tag).status 15) (eq-eqb slot TASK_SLOT last) in
     let left : 112 - (112 - unit_len slot (held_for frames tag).status) ≡ length (answer_text tag (Manage what noted) answer) =

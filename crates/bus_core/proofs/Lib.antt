@@ -24,6 +24,7 @@ pub mod MatchedPlaces
 pub mod MatchedTds
 pub mod MatchedOpening
 pub mod MatchedEntries
+pub mod MatchedEnds
 pub mod MatchedLeftOver
 pub mod MatchedRetirement
 pub mod MatchedFlows
@@ -54,6 +55,7 @@ pub mod OutcomeMarks
 pub mod ActFits
 pub mod CommandFront
 pub mod Aborted
+pub mod CellEntries
 pub mod ManagedFits
 pub mod CommandFits
 pub mod StatusFits
@@ -75,7 +77,6 @@ pub mod DataDue
 pub mod HostSees
 pub mod SeenWorlds
 pub mod SeenRings
-pub mod ClientFraming
 pub mod DoomedCells
 pub mod SeenResponses
 pub mod SeenStreams

@@ -1,25 +1,24 @@
 -- A task management of a client is one of its own solo machine: it finds the same command, notes the same tickets and has the same fault. Cited by
 -- Routes and Refusals.
 use Rattle.std.proofs.Common.{◌≡◌, ℕ, zero, suc, ◌<◌, true, false, cond, List, [], ◌∷◌, ◌∙◌, map, Option, Some, None, option_map, refl, ap, sym}
-use Rattle.std.specs.Prelude.{nat_lt, is_some, take, slice_get, length}
-use Rattle.std.specs.List.{filter_map}
+use Rattle.std.specs.Prelude.{nat_lt, is_some, take}
 use Rattle.std.proofs.lemmas.Bool.{lt-ltb, ltb-true}
 use Rattle.std.proofs.lemmas.Option.{none-some}
 use Rattle.scsi_cmd.specs.declared.Task.{Task}
 use Rattle.scsi_cmd.specs.declared.Task.TheVariants.{Abort, Reset}
-use Rattle.scsi_cmd.specs.declared.SubmitFault.{SubmitFault}
 use Rattle.scsi_cmd.specs.declared.TheConstants.{TASK_SLOT}
 use Rattle.scsi_cmd.specs.Held.{held_at, held_under}
 use Rattle.scsi_cmd.specs.Submission.{first_task_fault}
 use Rattle.solo_model.specs.declared.Label.TheVariants.{Task as TaskLabel}
 use Rattle.solo_model.specs.TaggedTask.{TaggedTask}
-use Rattle.solo_model.specs.Solo.{command_under, is_command_index, is_there as is_solo_there, managed, noted_tickets as solo_noted, silently, solo_step, task_index, tickets_of as solo_tickets}
+use Rattle.solo_model.specs.Solo.{command_under, is_there as is_solo_there, managed, noted_tickets as solo_noted, silently, solo_step}
+use Rattle.solo_model.specs.Solo.{tickets_of as solo_tickets}
 use Rattle.uas_host.specs.Tags.{command_slot}
 use Rattle.bus_core.specs.Td.{Entry}
 use Rattle.bus_core.specs.Part.{Part, is_there, managed_part, named_entry, named_slot, noted_tickets, task_fault_at, tickets_of}
 use Rattle.bus_core.specs.Isolation.{own_management, own_tag, own_task, solo_of}
 use Rattle.bus_core.specs.Refusals.{solo_task_fault}
-use Rattle.bus_core.proofs.Acts.{held_at-solo_of, map-own_task}
+use Rattle.bus_core.proofs.Acts.{held_at-solo_of, map-own_task, is_some-own}
 use Rattle.bus_core.proofs.OwnSlots.{command_slot-own, own-command_slot}
 
 -- THE COMMAND THAT AN ABORT NAMES
@@ -62,10 +61,6 @@ take-own client zero entries = refl
 take-own client (suc count) [] = refl
 take-own client (suc count) (entry ∷ entries) = ap (λ rest. option_map (own_task client) entry ∷ rest) (take-own client count entries)
 
-is_some-own : (client : ℕ) (held : Option Entry) → is_some (option_map (own_task client) held) ≡ is_some held
-is_some-own client None = refl
-is_some-own client (Some entry) = refl
-
 -- WHAT IS MANAGED
 
 pub is_there-own : (clients client : ℕ) (part : Part) (task : Task) → client < clients
@@ -88,7 +83,7 @@ pub task_fault-own : (clients client ticket : ℕ) (part : Part) (task : Task) �
     → solo_task_fault (solo_of client part) ticket (own_management client task) ≡ task_fault_at part (named_slot clients client task) ticket task
 task_fault-own clients client ticket part task there =
     rw (is_there-own clients client part task there, held_at-solo_of client part.entries TASK_SLOT)
-    (ap (λ b. first_task_fault true b part.least ticket (is_there part (named_slot clients client task) task))
+    (ap (λ b. first_task_fault true b part.least_ticket ticket (is_there part (named_slot clients client task) task))
     (is_some-own client (held_at part.entries TASK_SLOT)))
 
 -- an accepted task management is accepted by the client's own solo machine

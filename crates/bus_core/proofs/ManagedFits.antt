@@ -1,42 +1,41 @@
 -- The device receives a task management: the world after it fits the shared machine after it. The tasks of one client change, each as its entry
 -- does, and those of all others stay. Cited by CommandFits.
-use Rattle.std.proofs.Common.{◌≡◌, ℕ, suc, ◌+◌, ◌-◌, ◌*◌, ◌^◌, ◌<◌, ◌≤◌, Bool, true, false, cond, List, [], ◌∷◌, ◌++◌, take, length, length-set, map, Option, Some, None}
+use Rattle.std.proofs.Common.{◌≡◌, ℕ, ◌<◌, ◌≤◌, Bool, true, false, cond, List, ◌∷◌, length, length-set, map, Option, Some, None}
 use Rattle.std.proofs.Common.{option_map, Ok, refl, arith, ap, sym, subst, ◌∙◌}
 use Rattle.std.specs.Prelude.{IfSome, slice_get, slice_set, ◌==◌, ◌&&◌}
 use Rattle.std.specs.Option.{option_map_or}
 use Rattle.std.proofs.lemmas.Bool.{and_parts, eqb-true, eqb-false}
-use Rattle.std.proofs.lemmas.List.{get_or-map, get_or-set_same, get_or-set_other, length-map}
+use Rattle.std.proofs.lemmas.List.{get_or-set_same, get_or-set_other, length-map}
 use Rattle.arrayvec.specs.ArrayVec.{ArrayVec}
 use Rattle.block_unit.specs.BlockMaps.{BlockMaps}
 use Rattle.stream_array.specs.declared.Pipe.{Pipe}
 use Rattle.stream_array.specs.declared.Pipe.TheVariants.{Command, Status, DataIn, DataOut}
 use Rattle.stream_array.specs.Rings.{ring_of}
 use Rattle.frame_store.specs.Buffers.{bytes_at, held_for}
+use Rattle.scsi_cmd.specs.Request.{is_command}
 use Rattle.scsi_cmd.specs.declared.Op.{Op}
 use Rattle.scsi_cmd.specs.declared.Request.{Request}
 use Rattle.scsi_cmd.specs.declared.Request.TheVariants.{Execute, Manage}
 use Rattle.scsi_cmd.specs.declared.Task.{Task}
 use Rattle.scsi_cmd.specs.declared.TheConstants.{TAGS, TASK_SLOT}
-use Rattle.scsi_cmd.specs.Held.{held_at, held_under}
+use Rattle.scsi_cmd.specs.Held.{held_at}
 use Rattle.device_server.specs.declared.Answer.TheVariants.{Good}
-use Rattle.device_server.specs.declared.Progress.TheVariants.{Moving, Ended}
+use Rattle.device_server.specs.declared.Progress.TheVariants.{Ended}
 use Rattle.solo_model.specs.declared.Phase.{Phase}
 use Rattle.solo_model.specs.declared.Phase.TheVariants.{Queued, Begun, Sent, Gone}
 use Rattle.solo_model.specs.Soundness.{IsSoundOp, IsSoundRequest}
-use Rattle.solo_model.specs.TaggedTask.{TaggedTask, after_notes, can_go, carried_request, is_command, is_noted, unit_managed}
+use Rattle.solo_model.specs.TaggedTask.{TaggedTask, after_notes, can_go, carried_request, is_noted, unit_managed}
 use Rattle.uas_target.specs.declared.DeviceAnswer.TheVariants.{Response}
 use Rattle.uas_target.specs.declared.DeviceTask.{DeviceTask}
 use Rattle.uas_target.specs.declared.DeviceTask.TheVariants.{Ended as EndedTask}
 use Rattle.uas_target.specs.declared.Took.TheVariants.{Began}
 use Rattle.uas_target.specs.Device.{Device, received, task_of}
 use Rattle.uas_target.specs.Tasks.{is_command_of, spared}
-use Rattle.uas_host.specs.declared.HostClient.{HostClient}
 use Rattle.uas_host.specs.declared.Place.{Place}
 use Rattle.uas_host.specs.declared.TdState.{TdState}
-use Rattle.uas_host.specs.declared.Told.TheVariants.{Untold}
+use Rattle.uas_host.specs.declared.HostAnswer.TheVariants.{Unanswered}
 use Rattle.uas_host.specs.Tags.{tag_of}
 use Rattle.uas_host.specs.Tds.{command_buffer_of}
-use Rattle.bus_core.specs.declared.Retirement.{Retirement}
 use Rattle.bus_core.specs.Td.{Entry, with_trb_taken}
 use Rattle.bus_core.specs.Ordered.{names}
 use Rattle.bus_core.specs.Hosts.{device_task, phase_task}
@@ -45,22 +44,21 @@ use Rattle.bus_core.specs.Shared.{Shared}
 use Rattle.bus_core.specs.Matched.{held_in, IsMatched, IsMatchedAt, IsRequestIn, under}
 use Rattle.bus_core.specs.World.{World, Cell, cell_at}
 use Rattle.bus_core.specs.Cells.{FitsCell, FitsHeld, HasUnitIn, host_side, IsEmptyCell, told_by}
-use Rattle.bus_core.specs.Fits.{AreUnused, Fits, FitsClient, FitsPart, IsSoundWorld, place_in, unit_bytes}
+use Rattle.bus_core.specs.Fits.{AreUnused, Fits, FitsPart, IsSoundWorld, place_in, unit_bytes}
 use Rattle.bus_core.proofs.Aborted.{done-kept, done-length, done-task, done-units, done_device, managed_device, phase_after, phase_task-foreign, reaches}
 use Rattle.bus_core.proofs.Aborted.{reaches-named, received-managed, spared-noted, unit_managed-count}
 use Rattle.bus_core.proofs.ActFits.{IsPlaced}
-use Rattle.bus_core.proofs.CellWrites.{get-none}
-use Rattle.bus_core.proofs.CommandFront.{carried_part, carried_state, command-bytes, received-ends, received-queues, received_world, tag-bounds}
-use Rattle.bus_core.proofs.Framing.{AllFit, EndsAlike, IsFound, engine-kept, found, move_trb-kept, slots-apart, tags-apart}
+use Rattle.bus_core.proofs.CellEntries.{cell-phase}
+use Rattle.bus_core.proofs.CommandFront.{carried_part, carried_state, command-bytes, received-queues, received_world, tag-bounds}
+use Rattle.bus_core.proofs.Framing.{AllFit, AllFit-client, EndsAlike, IsFound, engine-kept, found, move_trb-kept, tags-apart}
 use Rattle.bus_core.proofs.OrderedEntries.{held-changed}
-use Rattle.bus_core.proofs.OrderedManaged.{IsNotedAsReceived, noted-as_received, of_client}
-use Rattle.bus_core.proofs.Routes.{slice_get-slice_set_same, slice_get-slice_set_other}
+use Rattle.bus_core.proofs.OrderedManaged.{IsNotedAsReceived, of_client}
 use Rattle.bus_core.proofs.Standing.{held_under-with_same, held_under-with_other, slice_get-back}
 
 -- THE CELL OF A COMMAND
 
 -- the host was told nothing of what can still be ended
-untold : (request : Request) (phase : Phase) (state : TdState) → can_go phase ≡ true → told_by request phase state ≡ Untold
+untold : (request : Request) (phase : Phase) (state : TdState) → can_go phase ≡ true → told_by request phase state ≡ Unanswered
 untold request Queued state can = refl
 untold request (Begun progress) state can = refl
 untold request (Sent answer) state can = let no : false ≡ true = can in let it : ⊥ = cc in absurd it
@@ -70,36 +68,17 @@ untold request Gone state can = let no : false ≡ true = can in let it : ⊥ = 
 gone-cell : (client count : ℕ) (place : Place) (entry : Entry) (cell : Cell) (op : Op) → entry.task.request ≡ Execute op → can_go entry.task.phase ≡ true
     → FitsCell client count place entry cell
     → FitsCell client count place (record entry { task = record entry.task { phase = Gone } }) (record cell { task = None })
-gone-cell client count place entry cell op asks can fits = record {
-  held = fits.held ∙ ap (λ told. Some (record (host_side entry) { told = told })) (untold entry.task.request entry.task.phase entry.status_td.state can);
-  task = refl;
-  status = fits.status;
-  data_in = fits.data_in;
-  data_out = fits.data_out;
-  lent = fits.lent;
-  bytes = fits.bytes;
-  unit = fits.unit;
-  answer = tt;
-  sound =
-      let whole : IsSoundOp count entry.task op = subst (λ r. IsSoundRequest count entry.task r) asks fits.sound in
-      subst (λ r. IsSoundRequest count (record entry.task { phase = Gone }) r) (sym asks) (record { whole = whole.whole; chunk = tt });
-}
+gone-cell client count place entry cell op asks can fits =
+    let whole : IsSoundOp count entry.task op = subst (λ r. IsSoundRequest count entry.task r) asks fits.sound in
+    cell-phase client count place entry cell Gone entry.command_td cell.held None fits
+    (fits.held ∙ ap (λ told. Some (record (host_side entry) { told = told })) (untold entry.task.request entry.task.phase entry.status_td.state can)) refl tt
+    (subst (λ r. IsSoundRequest count (record entry.task { phase = Gone }) r) (sym asks) (record { whole = whole.whole; chunk = tt }))
 
 -- one of which the device has as much as before
 same-cell : (client count : ℕ) (place : Place) (entry : Entry) (cell : Cell) (task : Option DeviceTask) → task ≡ device_task client entry
     → FitsCell client count place entry cell → FitsCell client count place entry (record cell { task = task })
-same-cell client count place entry cell task is fits = record {
-  held = fits.held;
-  task = is;
-  status = fits.status;
-  data_in = fits.data_in;
-  data_out = fits.data_out;
-  lent = fits.lent;
-  bytes = fits.bytes;
-  unit = fits.unit;
-  answer = fits.answer;
-  sound = fits.sound;
-}
+same-cell client count place entry cell task is fits =
+    cell-phase client count place entry cell entry.task.phase entry.command_td cell.held task fits fits.held is fits.answer fits.sound
 
 after-cell : (client count : ℕ) (place : Place) (entry : Entry) (cell : Cell) (op : Op) (task : Option DeviceTask) (gone : Bool)
     → entry.task.request ≡ Execute op → (gone ≡ true → can_go entry.task.phase ≡ true)
@@ -136,18 +115,11 @@ answered_entry entry =
 management-cell : (client count : ℕ) (place : Place) (entry : Entry) (cell : Cell) (what : Task) (noted : ArrayVec ℕ) → entry.task.phase ≡ Queued
     → entry.task.request ≡ Manage what noted → FitsCell client count place entry cell
     → FitsCell client count place (answered_entry entry) (record cell { task = Some (EndedTask None (Response 0)) })
-management-cell client count place entry cell what noted queued asks fits = record {
-  held = fits.held ∙ ap (λ p. Some (record (host_side entry) { told = told_by entry.task.request p entry.status_td.state })) queued;
-  task = ap (λ r. phase_task (Some client) r (Begun (Ended Good))) (sym asks);
-  status = fits.status;
-  data_in = fits.data_in;
-  data_out = fits.data_out;
-  lent = fits.lent;
-  bytes = fits.bytes;
-  unit = fits.unit;
-  answer = tt;
-  sound = subst (λ r. IsSoundRequest count (record entry.task { phase = Begun (Ended Good) }) r) (sym asks) tt;
-}
+management-cell client count place entry cell what noted queued asks fits =
+    cell-phase client count place entry cell (Begun (Ended Good)) (with_trb_taken entry.command_td) cell.held (Some (EndedTask None (Response 0))) fits
+    (fits.held ∙ ap (λ p. Some (record (host_side entry) { told = told_by entry.task.request p entry.status_td.state })) queued)
+    (ap (λ r. phase_task (Some client) r (Begun (Ended Good))) (sym asks)) tt
+    (subst (λ r. IsSoundRequest count (record entry.task { phase = Begun (Ended Good) }) r) (sym asks) tt)
 
 -- THE DEVICE'S TASKS
 
@@ -284,7 +256,7 @@ part-fits state world place entry what noted at fits queued asks last knows =
     record {
       number = at.client.fits.number;
       unit_same = refl;
-      least = at.client.fits.least;
+      least_ticket = at.client.fits.least_ticket;
       ready = at.client.fits.ready;
       slots = length-set (map (option_map (noted_entry noted.items)) at.part.entries) place.slot (Some (answered_entry entry)) ∙ long ∙ at.client.fits.slots;
       cells = λ slot inside.
@@ -321,68 +293,18 @@ part-fits state world place entry what noted at fits queued asks last knows =
 
 -- ALL CLIENTS
 
-others-fit : (before after : World) (other : ℕ) (unit : Option BlockMaps) (held : Option HostClient) (part : Option Part)
-    → FitsClient before other unit held part
-    → ((found : Part) → part ≡ Some found → (slot : ℕ) → slot < TAGS → cell_at after (place_in other slot) ≡ cell_at before (place_in other slot))
-    → FitsClient after other unit held part
-others-fit before after other None None None fits kept = tt
-others-fit before after other None None (Some part) fits kept = absurd fits
-others-fit before after other None (Some held) part fits kept = absurd fits
-others-fit before after other (Some unit) None part fits kept = absurd fits
-others-fit before after other (Some unit) (Some held) None fits kept = absurd fits
-others-fit before after other (Some unit) (Some held) (Some part) fits kept = record {
-  number = fits.number;
-  unit_same = fits.unit_same;
-  least = fits.least;
-  ready = fits.ready;
-  slots = fits.slots;
-  cells = λ slot within. rw (kept part refl slot within) (fits.cells slot within);
-}
-
-client-at : (world : World) (client : ℕ) (unit unit_is : Option BlockMaps) (held held_is : Option HostClient) (part part_is : Option Part)
-    → unit ≡ unit_is → held ≡ held_is → part ≡ part_is → FitsClient world client unit_is held_is part_is → FitsClient world client unit held part
-client-at world client unit unit_is held held_is part part_is one two three fits =
-    subst (λ u. FitsClient world client u held part) (sym one)
-    (subst (λ h. FitsClient world client unit_is h part) (sym two) (subst (λ p. FitsClient world client unit_is held_is p) (sym three) fits))
-
 all-fit : (state : Shared) (world : World) (place : Place) (entry : Entry) (what : Task) (noted : ArrayVec ℕ) (at : IsPlaced state world place entry)
     → Fits state world → FitsPart (managed_world world place at.part.unit what) place.client (unit_managed at.part.unit what) at.client.held
     (managed_now at.part place.slot entry what noted)
     → AllFit (managed_world world place at.part.unit what) (slice_set state.parts place.client (managed_now at.part place.slot entry what noted))
-all-fit state world place entry what noted at fits own other =
-    let after : World = managed_world world place at.part.unit what in
-    let now : Part = managed_now at.part place.slot entry what noted in
-    let units = done-units world.device place.client at.part.unit what at.client.unit_is in
-    elim (place.client == other) as (λ b. (place.client == other) ≡ b → FitsClient (managed_world world place at.part.unit what) other
-    (slice_get (done_device world.device place.client at.part.unit what).units other) (slice_get world.host.clients other)
-    (slice_get (slice_set state.parts place.client (managed_now at.part place.slot entry what noted)) other)) [
-      | true ↦ λ same.
-          subst (λ c. FitsClient (managed_world world place at.part.unit what) c
-          (slice_get (done_device world.device place.client at.part.unit what).units c) (slice_get world.host.clients c)
-          (slice_get (slice_set state.parts place.client (managed_now at.part place.slot entry what noted)) c))
-          (eqb-true place.client other same)
-          (client-at (managed_world world place at.part.unit what) place.client
-          (slice_get (done_device world.device place.client at.part.unit what).units place.client) (Some (unit_managed at.part.unit what))
-          (slice_get world.host.clients place.client) (Some at.client.held)
-          (slice_get (slice_set state.parts place.client (managed_now at.part place.slot entry what noted)) place.client)
-          (Some (managed_now at.part place.slot entry what noted))
-          (ap (λ us. slice_get us place.client) units
-          ∙ slice_get-slice_set_same world.device.units place.client at.part.unit (unit_managed at.part.unit what) at.client.unit_is)
-          at.client.held_is
-          (slice_get-slice_set_same state.parts place.client at.part (managed_now at.part place.slot entry what noted) at.there) own)
-      | false ↦ λ differs. let apart : place.client ≡ other → ⊥ = eqb-false place.client other differs in
-          client-at (managed_world world place at.part.unit what) other
-          (slice_get (done_device world.device place.client at.part.unit what).units other) (slice_get world.device.units other)
-          (slice_get world.host.clients other) (slice_get world.host.clients other)
-          (slice_get (slice_set state.parts place.client (managed_now at.part place.slot entry what noted)) other) (slice_get state.parts other)
-          (ap (λ us. slice_get us other) units
-          ∙ slice_get-slice_set_other world.device.units place.client other (unit_managed at.part.unit what) apart)
-          refl
-          (slice_get-slice_set_other state.parts place.client other (managed_now at.part place.slot entry what noted) apart)
-          (others-fit world (managed_world world place at.part.unit what) other (slice_get world.device.units other) (slice_get world.host.clients other)
-          (slice_get state.parts other) (fits.clients other)
-          (λ part is slot within. other-cells state world place at.part.unit what other slot part fits at.is_place.slot (λ same. apart (sym same)) is within))
-    ] refl
+all-fit state world place entry what noted at fits own =
+    AllFit-client world (managed_world world place at.part.unit what) state.parts place.client (unit_managed at.part.unit what) at.client.held at.part
+    (managed_now at.part place.slot entry what noted) fits.clients at.there (record {
+      hosts = sym (slice_get-back world.host.clients place.client at.client.held at.client.held_is);
+      units = done-units world.device place.client at.part.unit what at.client.unit_is;
+      others = λ other there apart is slot within.
+          other-cells state world place at.part.unit what other slot there fits at.is_place.slot apart is within;
+    }) own
 
 -- THE WORLD
 

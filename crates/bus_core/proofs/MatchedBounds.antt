@@ -125,7 +125,7 @@ pub held-place : (state : Shared) (place : Place) (entry : Entry) → IsMatched 
 held-place state place entry all is = slots-place state.parts place entry all.slots is
 
 -- what is counted somewhere stands there
-some-place : (state : Shared) (place : Place) (count : Option Entry → ℕ) → count None ≡ 0 → IsMatched state → 1 ≤ count (under state.parts place) →
+pub some-place : (state : Shared) (place : Place) (count : Option Entry → ℕ) → count None ≡ 0 → IsMatched state → 1 ≤ count (under state.parts place) →
     IsPlace (length state.parts) place
 some-place state place count none all some =
     elim (under state.parts place) as (λ held. under state.parts place ≡ held → 1 ≤ count held → IsPlace (length state.parts) place) [

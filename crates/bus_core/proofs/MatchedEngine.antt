@@ -4,9 +4,8 @@ use Rattle.std.proofs.Common.{IfSome, refl, arith, ap, sym, subst, ◌∙◌}
 use Rattle.std.specs.Prelude.{◌%◌, nat_lt, slice_get, slice_set, option_and_then, is_none, filter, if◌then◌else◌}
 use Rattle.std.specs.List.{range_with_len}
 use Rattle.std.specs.Option.{option_map_or}
-use Rattle.std.proofs.lemmas.Bool.{lt-ltb, false≢true, and_from, and_left}
+use Rattle.std.proofs.lemmas.Bool.{lt-ltb, false≢true, and_from, and_left, and_parts}
 use Rattle.std.proofs.lemmas.List.{append-nil}
-use Rattle.std.proofs.lemmas.Option.{none-some}
 use Rattle.stream_array.specs.declared.Pipe.{Pipe}
 use Rattle.stream_array.specs.declared.Pipe.TheVariants.{Command, Status, DataIn, DataOut}
 use Rattle.stream_array.specs.Map.{HasStreams}
@@ -35,7 +34,7 @@ use Rattle.bus_core.specs.Shared.{routed_to, engine_did, engine_step, retire_ste
 use Rattle.bus_core.specs.Matched.{same_place, times, held_in, under, command_events, data_events, status_events, retired_places, answered_place}
 use Rattle.bus_core.specs.Matched.{answered_places, is_left_over_at, has_trb_at, is_whole_on, was_moved, is_passed, HaveSlots, IsMatchedEntry, IsMatchedAt}
 use Rattle.bus_core.specs.Matched.{IsAtStage, IsRetiring, FlowsAt, IsMatched}
-use Rattle.bus_core.proofs.MatchedPlaces.{and-true, same_place-self, same_place-true, command_events-append, data_events-append, status_events-append}
+use Rattle.bus_core.proofs.MatchedPlaces.{same_place-self, same_place-true, command_events-append, data_events-append, status_events-append}
 use Rattle.bus_core.proofs.MatchedPlaces.{retired_places-append, IsFound, under-found, IsWritten, under-written, under-other, clients-written, AreMatched}
 use Rattle.bus_core.proofs.MatchedPlaces.{AreMatched-same, IsCounted, counted-of, matched-places}
 use Rattle.bus_core.proofs.MatchedBounds.{slots-place, held-place}
@@ -44,8 +43,8 @@ use Rattle.bus_core.proofs.MatchedLeftOver.{retired-gone}
 use Rattle.bus_core.proofs.MatchedRetirement.{retiring-of, same_pipe-self, same_pipe-true, held-is, held-none, passed-is, passed-before, passed-none}
 use Rattle.bus_core.proofs.MatchedRetirement.{IsAnswered, first-engine_event}
 use Rattle.bus_core.proofs.MatchedFlows.{pipes-same, left_of, trb_of}
-use Rattle.bus_core.proofs.MatchedActs.{NamesAlone, acted_state, acted-written, acted-counted, IsDueAt, place_fact-due, seen_state, seen-written}
-use Rattle.bus_core.proofs.MatchedActs.{seen-counted}
+use Rattle.bus_core.proofs.MatchedActs.{NamesAlone, acted_state, acted-written, acted-counted, IsDueAt, place_fact-due, seen_state, seen-written, seen-counted}
+use Rattle.bus_core.proofs.Standing.{slice_get-back}
 
 -- THE PIPES
 
@@ -101,12 +100,6 @@ places-kept old new parts messages events all = AreMatched-same old new parts (�
   sent = ap (status_events place) events;
 }) all
 
--- a write of what is there already
-slice_set-self : {T : Type 0} (list : List T) (at : ℕ) (x : T) → slice_get list at ≡ Some x → slice_set list at x ≡ list
-slice_set-self [] at x is = absurd (none-some x is)
-slice_set-self (first ∷ rest) zero x is = let same : first ≡ x = cc in ap (λ y. y ∷ rest) (sym same)
-slice_set-self (first ∷ rest) (suc at) x is = ap (λ ys. first ∷ ys) (slice_set-self rest at x is)
-
 -- THE TD THAT IS LEFT OVER
 
 left-held : (pipe : Pipe) (held : Option Entry) → left_of pipe held ≡ true → (entry : Entry) × (held ≡ Some entry) × (is_left_over_on pipe entry ≡ true)
@@ -157,7 +150,7 @@ stopped-matched state r is asked all =
     let there : slice_get base.parts r.place.client ≡ Some part = ap (λ parts. slice_get parts r.place.client) facts.parts ∙ at.found.there in
     let now : Shared = (acted_on base r.place.client (stop_act r.place part)).0 in
     let parts : now.parts ≡ state.parts =
-    ap (λ parts. slice_set parts r.place.client part) facts.parts ∙ slice_set-self state.parts r.place.client part at.found.there in
+    ap (λ parts. slice_set parts r.place.client part) facts.parts ∙ slice_get-back state.parts r.place.client part at.found.there in
     let events : now.events ≡ state.events ++ EngineDone r.place ∷ [] = ap (λ es. es ++ EngineDone r.place ∷ []) facts.events in
     let places : AreMatched now = stop-event state r.place now parts facts.messages events (matched-places state (counted-of state all)) in
     let own : pipe_of now r.pipe ≡ stopped_pipe = pipes-same piped now refl refl refl r.pipe ∙ facts.own retiring.streams in
@@ -216,7 +209,7 @@ changed-own : (old new : Shared) (r : Retirement) (now : Entry) → IsWritten ol
     (same_pipe r.pipe pipe && same_place r.place place) ≡ true → (test : Pipe → Entry → Bool) →
     option_map_or (test pipe) (under new.parts place) false ≡ test r.pipe now
 changed-own old new r now written pipe place own test =
-    let both = and-true (same_pipe r.pipe pipe) (same_place r.place place) own in
+    let both = and_parts (same_pipe r.pipe pipe) (same_place r.place place) own in
     let at : r.place ≡ place = same_place-true r.place place both.1 in
     let on : r.pipe ≡ pipe = same_pipe-true r.pipe pipe both.0 in
     ap (λ p. option_map_or (test pipe) (under new.parts p) false) (sym at)
@@ -351,7 +344,7 @@ begun-matched state pipe place entry none held left all =
 pub retire_step-matched : (state : Shared) (pipe : Pipe) (tag : ℕ) → due state (Retire pipe tag) ≡ true → IsMatched state →
     IsCounted (retire_step state pipe (place_of (length state.parts) tag)).0
 retire_step-matched state pipe tag is_due all =
-    let both = and-true (is_none state.retirement) (place_fact state tag (is_left_over_on pipe)) is_due in
+    let both = and_parts (is_none state.retirement) (place_fact state tag (is_left_over_on pipe)) is_due in
     let at : IsDueAt state tag (is_left_over_on pipe) = place_fact-due state tag (is_left_over_on pipe) both.1 in
     subst (λ found. IsCounted (retire_step state pipe found).0) (sym at.named)
     (begun-matched state pipe at.place at.entry (is_none-true state.retirement both.0) at.held at.so all)
@@ -419,8 +412,8 @@ fact-under : (test : Entry → Bool) (place : Place) (found : Option Part) →
 fact-under test place None = refl
 fact-under test place (Some part) = refl
 
-tag-places : (clients : ℕ) (place : Place) → IsPlace clients place → place_of clients (tag_of place) ≡ Some place
-tag-places clients place there =
+pub place_of-tag_of : (clients : ℕ) (place : Place) → IsPlace clients place → place_of clients (tag_of place) ≡ Some place
+place_of-tag_of clients place there =
     let slot_within = there.slot in
     let tag : tag_of place ≡ suc (place.client * 8 + place.slot) = omega arith in
     let client : (place.client * 8 + place.slot) / 8 ≡ place.client = omega arith in
@@ -433,7 +426,8 @@ tag-places clients place there =
 place-fact : (state : Shared) (place : Place) (test : Entry → Bool) → IsPlace (length state.parts) place →
     place_fact state (tag_of place) test ≡ option_map_or test (under state.parts place) false
 place-fact state place test there =
-    ap (λ found. option_map_or (λ (p : Place). part_fact state p.client (entry_fact test p.slot)) found false) (tag-places (length state.parts) place there)
+    ap (λ found. option_map_or (λ (p : Place). part_fact state p.client (entry_fact test p.slot)) found false)
+    (place_of-tag_of (length state.parts) place there)
     ∙ fact-under test place (slice_get state.parts place.client)
 
 -- where a TRB of a pipe may be taken, a stream of it is rung as the pipe is held no more

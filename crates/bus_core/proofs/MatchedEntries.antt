@@ -1,48 +1,36 @@
 -- What the device's and the host's steps make of one entry, counted exactly: cited by MatchedActs, MatchedSteps and MatchedLeftOver.
 use Rattle.std.proofs.Common.{◌≡◌, ℕ, ◌+◌, ◌/◌, ◌<◌, ◌≤◌, Bool, true, false, ◌&&◌, cond, List, [], ◌∷◌, Option, Some, None, refl, arith, ap, sym, subst, ◌∙◌}
-use Rattle.std.specs.Prelude.{◌==◌, nat_lt, option_to_list, is_some, not, length}
-use Rattle.std.proofs.lemmas.Bool.{ltb-true, ltb-false, eqb-true, eqb-false, ne_eqb, false≢true}
-use Rattle.std.proofs.lemmas.Option.{none-some}
+use Rattle.std.specs.Prelude.{◌==◌, nat_lt, option_to_list, is_some}
+use Rattle.std.proofs.lemmas.Bool.{ltb-true, eqb-true, ne_eqb, false≢true, and_parts}
 use Rattle.block_unit.specs.BlockMaps.{BlockMaps}
-use Rattle.stream_array.specs.declared.Pipe.{Pipe}
-use Rattle.stream_array.specs.declared.Pipe.TheVariants.{Command as CommandPipe, Status, DataIn, DataOut}
-use Rattle.scsi_cmd.specs.declared.Command.{Command}
-use Rattle.scsi_cmd.specs.declared.SubmitFault.TheVariants.{InUse, BadLength, TooLong, OutOfTurn, NoSuchTask}
+use Rattle.scsi_cmd.specs.Request.{is_command}
 use Rattle.scsi_cmd.specs.declared.Op.{Op}
-use Rattle.scsi_cmd.specs.declared.Op.TheVariants.{TestUnitReady, Inquiry, ReadCapacity, Read, Write, Sync}
 use Rattle.scsi_cmd.specs.Op.{moved_bytes}
 use Rattle.scsi_cmd.specs.declared.Request.{Request}
 use Rattle.scsi_cmd.specs.declared.Request.TheVariants.{Execute, Manage}
-use Rattle.scsi_cmd.specs.Submission.{is_too_long, first_submit_fault, first_task_fault}
 use Rattle.scsi_cmd.specs.Work.{reports_attention}
-use Rattle.scsi_cmd.specs.declared.Direction.{Direction}
-use Rattle.scsi_cmd.specs.declared.Direction.TheVariants.{Nothing, ToHost, ToDevice}
 use Rattle.device_server.specs.declared.Answer.{Answer}
 use Rattle.device_server.specs.declared.Answer.TheVariants.{Good, Check}
 use Rattle.device_server.specs.declared.Progress.TheVariants.{Moving, Ended}
 use Rattle.device_server.specs.Laws.{after_chunk, begun_progress}
 use Rattle.solo_model.specs.declared.Phase.{Phase}
 use Rattle.solo_model.specs.declared.Phase.TheVariants.{Queued, Begun, Sent, Gone}
-use Rattle.solo_model.specs.TaggedTask.{TaggedTask, aborted_by, answered_by, buffer_after, carried_request, is_command, progress_left, reply_from, reply_of}
-use Rattle.scsi_cmd.specs.declared.Reply.{Reply}
-use Rattle.scsi_cmd.specs.declared.Reply.TheVariants.{Aborted}
-use Rattle.scsi_cmd.specs.declared.Task.{Task}
-use Rattle.scsi_cmd.specs.declared.TheConstants.{TASK_SLOT}
+use Rattle.solo_model.specs.TaggedTask.{TaggedTask, buffer_after, carried_request, progress_left}
+use Rattle.uas_host.specs.State.{is_over, is_pending, is_seen}
 use Rattle.uas_host.specs.declared.Place.{Place}
 use Rattle.uas_host.specs.declared.TdState.{TdState}
 use Rattle.uas_host.specs.declared.TdState.TheVariants.{Pending, Seen, LeftOver, Retired}
 use Rattle.bus_core.specs.declared.Td.{Td}
 use Rattle.bus_core.specs.declared.Completion.{Completion}
 use Rattle.bus_core.specs.declared.Completion.TheVariants.{CommandDone, DataDone, StatusDone, EngineDone}
-use Rattle.bus_core.specs.Td.{is_in_ring, Entry, pushed, is_pending, is_seen, is_over, is_data_over, has_trb, is_awaited, is_ready, data_trbs, with_trb_taken}
-use Rattle.bus_core.specs.Td.{with_event_seen, left_over_td, left_over_data, data_after_answer, data_after_status, is_left_over, is_td_left_over}
-use Rattle.bus_core.specs.Td.{is_left_over_on, data_in_td, data_out_td, request_direction}
-use Rattle.bus_core.specs.Part.{data_td_after, entries_after, took_trb, is_last_trb, event_place, seen_by, seen_data_td, data_td_for, new_entry, new_management}
+use Rattle.bus_core.specs.Td.{is_in_ring, Entry, pushed, is_data_over, has_trb, is_awaited, is_ready, data_trbs, with_trb_taken}
+use Rattle.bus_core.specs.Td.{with_event_seen, left_over_td, left_over_data, data_after_answer, data_after_status}
+use Rattle.bus_core.specs.Part.{data_td_after, entries_after, took_trb, is_last_trb, event_place, seen_by, seen_data_td}
 use Rattle.bus_core.specs.Soundness.{one_if, awaited_data}
 use Rattle.bus_core.specs.Matched.{same_place, times, command_events, data_events, status_events, waiting_command, awaited_command, awaited_status}
-use Rattle.bus_core.specs.Matched.{awaited_data_of, IsCommandTd, IsStatusTd, IsMovingTd, IsWholeTd, IsShortTd, IsWithinTd, IsAnsweredTd, IsDataTd, IsMatchedEntry}
-use Rattle.bus_core.specs.Matched.{IsManagedPhase, IsPhaseOf, IsAwaitedOrSeen, IsGivenUp, awaits_data, awaits_event, retired_places}
-use Rattle.bus_core.proofs.MatchedPlaces.{one_self, and-true}
+use Rattle.bus_core.specs.Matched.{awaited_data_of, IsCommandTd, IsStatusTd, IsMovingTd, IsWholeTd, IsShortTd, IsWithinTd, IsAnsweredTd, IsDataTd}
+use Rattle.bus_core.specs.Matched.{IsMatchedEntry, IsManagedPhase, IsPhaseOf, IsAwaitedOrSeen, IsGivenUp, awaits_data, awaits_event, retired_places}
+use Rattle.bus_core.proofs.MatchedPlaces.{one_self}
 use Rattle.bus_core.proofs.MatchedTds.{TdGoesOn, TdsGoOn, td-same, td-taken, td-seen, td-left}
 
 -- an entry that became another one: the messages popped and the events posted for its place
@@ -78,10 +66,10 @@ entries_after-command (Manage what noted) entries command = absurd (false≢true
 -- a command TD whose TRB is in the ring is one of a queued command
 pub has_trb-queued : (phase : Phase) (td : Td) → IsCommandTd phase td → has_trb td 1 ≡ true → phase ≡ Queued
 has_trb-queued Queued td is has = refl
-has_trb-queued (Begun (Moving chunk)) td is has = absurd (omega (arith, is, ltb-true td.consumed 1 (and-true _ (nat_lt td.consumed 1) has).1))
-has_trb-queued (Begun (Ended answer)) td is has = absurd (omega (arith, is, ltb-true td.consumed 1 (and-true _ (nat_lt td.consumed 1) has).1))
-has_trb-queued (Sent answer) td is has = absurd (omega (arith, is, ltb-true td.consumed 1 (and-true _ (nat_lt td.consumed 1) has).1))
-has_trb-queued Gone td is has = absurd (omega (arith, is, ltb-true td.consumed 1 (and-true _ (nat_lt td.consumed 1) has).1))
+has_trb-queued (Begun (Moving chunk)) td is has = absurd (omega (arith, is, ltb-true td.consumed 1 (and_parts _ (nat_lt td.consumed 1) has).1))
+has_trb-queued (Begun (Ended answer)) td is has = absurd (omega (arith, is, ltb-true td.consumed 1 (and_parts _ (nat_lt td.consumed 1) has).1))
+has_trb-queued (Sent answer) td is has = absurd (omega (arith, is, ltb-true td.consumed 1 (and_parts _ (nat_lt td.consumed 1) has).1))
+has_trb-queued Gone td is has = absurd (omega (arith, is, ltb-true td.consumed 1 (and_parts _ (nat_lt td.consumed 1) has).1))
 
 -- a TD that lacks a TRB is short
 moving-short : (trbs chunk : ℕ) (td : Option Td) → IsMovingTd trbs chunk td → IsShortTd trbs td
@@ -199,7 +187,7 @@ td-over true (Some td) = refl
 td-over false (Some td) = refl
 
 -- a TD with a TRB left isn't awaited
-unawaited : (td : Td) (trbs : ℕ) → (td.consumed ≡ trbs → ⊥) → one_if (is_awaited td trbs) ≡ 0
+pub unawaited : (td : Td) (trbs : ℕ) → (td.consumed ≡ trbs → ⊥) → one_if (is_awaited td trbs) ≡ 0
 unawaited td trbs apart =
     ap (λ b. one_if (is_pending td.state && b)) (ne_eqb td.consumed trbs apart)
     ∙ elim (is_pending td.state) as (λ b. one_if (b && false) ≡ 0) [
@@ -426,8 +414,8 @@ pub record IsSeenAs (event : Completion) (old new : Entry) : Type 0 where
   pub tds : TdsGoOn old new
 
 -- a TD that is awaited is pending, and has no TRB left
-awaited-spent : (td : Td) (trbs : ℕ) → is_awaited td trbs ≡ true → td.consumed ≡ trbs
-awaited-spent td trbs is = eqb-true td.consumed trbs (and-true (is_pending td.state) (td.consumed == trbs) is).1
+pub awaited-spent : (td : Td) (trbs : ℕ) → is_awaited td trbs ≡ true → td.consumed ≡ trbs
+awaited-spent td trbs is = eqb-true td.consumed trbs (and_parts (is_pending td.state) (td.consumed == trbs) is).1
 
 -- a TD whose one TRB was taken has none left
 pub taken-none : (td : Td) → td.consumed ≡ 1 → one_if (has_trb td 1) ≡ 0
@@ -437,14 +425,14 @@ taken-none td is =
       | false ↦ refl
     ]
 
+pub pending-is : (state : TdState) → is_pending state ≡ true → state ≡ Pending
+pending-is Pending is = refl
+pending-is Seen is = absurd (false≢true is)
+pending-is LeftOver is = absurd (false≢true is)
+pending-is Retired is = absurd (false≢true is)
+
 pub awaited-pends : (td : Td) (trbs : ℕ) → is_awaited td trbs ≡ true → td.state ≡ Pending
-awaited-pends td trbs is = pending td.state (and-true (is_pending td.state) (td.consumed == trbs) is).0
-  where
-    pending : (state : TdState) → is_pending state ≡ true → state ≡ Pending
-    pending Pending so = refl
-    pending Seen so = absurd (false≢true so)
-    pending LeftOver so = absurd (false≢true so)
-    pending Retired so = absurd (false≢true so)
+awaited-pends td trbs is = pending-is td.state (and_parts (is_pending td.state) (td.consumed == trbs) is).0
 
 -- a TD as it is pushed isn't awaited
 pushed-unawaited : (td : Td) → td ≡ pushed → is_awaited td 1 ≡ true → ⊥
@@ -571,7 +559,7 @@ left-unawaited trbs td =
 short-unawaited : (trbs : ℕ) (td : Td) → IsShortTd trbs (Some td) → one_if (is_awaited td trbs) ≡ 0
 short-unawaited trbs td is =
     elim (is_awaited td trbs) as (λ b. is_awaited td trbs ≡ b → one_if b ≡ 0) [
-      | true ↦ λ awaited. absurd (omega (arith, awaited-spent td trbs awaited, is (and-true (is_pending td.state) (td.consumed == trbs) awaited).0))
+      | true ↦ λ awaited. absurd (omega (arith, awaited-spent td trbs awaited, is (and_parts (is_pending td.state) (td.consumed == trbs) awaited).0))
       | false ↦ λ awaited. refl
     ] refl
 
@@ -681,231 +669,3 @@ event-seen (CommandDone place) entry awaits sound =
 event-seen (DataDone place) entry awaits sound = data-awaits place entry entry.data_td refl awaits sound
 event-seen (StatusDone place) entry awaits sound = record { new = status_seen entry; step = status-seen place entry awaits sound }
 event-seen (EngineDone place) entry awaits sound = absurd (false≢true awaits)
-
--- TAKE
-
-over-pends : (state : TdState) → is_over state ≡ true → is_pending state ≡ false
-over-pends Pending is = absurd (false≢true is)
-over-pends Seen is = refl
-over-pends LeftOver is = absurd (false≢true is)
-over-pends Retired is = refl
-
-seen-is : (state : TdState) → is_seen state ≡ true → state ≡ Seen
-seen-is Pending is = absurd (false≢true is)
-seen-is Seen is = refl
-seen-is LeftOver is = absurd (false≢true is)
-seen-is Retired is = absurd (false≢true is)
-
-unpending-unawaited : (td : Td) (trbs : ℕ) → is_pending td.state ≡ false → one_if (is_awaited td trbs) ≡ 0
-unpending-unawaited td trbs is = ap (λ b. one_if (b && (td.consumed == trbs))) is
-
-over-data : (trbs : ℕ) (td : Option Td) → is_data_over td ≡ true → awaited_data trbs td ≡ 0
-over-data trbs None is = refl
-over-data trbs (Some td) is = unpending-unawaited td trbs (over-pends td.state is)
-
--- what is over isn't left over
-over-left : (state : TdState) → is_over state ≡ true → is_left_over state ≡ false
-over-left Pending is = refl
-over-left Seen is = refl
-over-left LeftOver is = absurd (false≢true is)
-over-left Retired is = refl
-
-over-left_data : (td : Option Td) → is_data_over td ≡ true → is_td_left_over td ≡ false
-over-left_data None is = refl
-over-left_data (Some td) is = over-left td.state is
-
-pub over-left_in : (way : Direction) (td : Option Td) → is_td_left_over td ≡ false → is_td_left_over (data_in_td way td) ≡ false
-over-left_in Nothing td none = refl
-over-left_in ToHost td none = none
-over-left_in ToDevice td none = refl
-
-pub over-left_out : (way : Direction) (td : Option Td) → is_td_left_over td ≡ false → is_td_left_over (data_out_td way td) ≡ false
-over-left_out Nothing td none = refl
-over-left_out ToHost td none = refl
-over-left_out ToDevice td none = none
-
--- no TD of an entry that is ready is left over
-pub ready-left : (pipe : Pipe) (entry : Entry) → is_ready entry ≡ true → is_left_over_on pipe entry ≡ false
-ready-left pipe entry ready =
-    let first = and-true (is_seen entry.command_td.state) (is_over entry.status_td.state && is_data_over entry.data_td) ready in
-    let rest = and-true (is_over entry.status_td.state) (is_data_over entry.data_td) first.1 in
-    on pipe rest.0 (over-left_data entry.data_td rest.1)
-  where
-    on : (pipe : Pipe) → is_over entry.status_td.state ≡ true → is_td_left_over entry.data_td ≡ false → is_left_over_on pipe entry ≡ false
-    on CommandPipe status none = refl
-    on Status status none = over-left entry.status_td.state status
-    on DataIn status none = over-left_in (request_direction entry.task.request) entry.data_td none
-    on DataOut status none = over-left_out (request_direction entry.task.request) entry.data_td none
-
--- an answer that was handed over
-pub record IsSentBy (phase : Phase) : Type 0 where
-  pub answer : Answer
-  pub is : phase ≡ Sent answer
-
-pushed-over : (td : Td) → td ≡ pushed → is_over td.state ≡ true → ⊥
-pushed-over td is over = false≢true (sym (ap (λ (t : Td). is_over t.state) is) ∙ over)
-
--- the device is done with it: its answer was handed over, or it is a command that a task management ended
-abbrev pub IsDone : Request → Phase → Type 0
-IsDone request Queued = ⊥
-IsDone request (Begun progress) = ⊥
-IsDone request (Sent answer) = Unit {0}
-IsDone request Gone = is_command request ≡ true
-
-gone-command : (request : Request) → IsPhaseOf request Gone → is_command request ≡ true
-gone-command (Execute op) is = refl
-gone-command (Manage what noted) is = absurd is
-
-over-done : (request : Request) (phase : Phase) (td : Td) → IsPhaseOf request phase → IsStatusTd phase td → is_over td.state ≡ true → IsDone request phase
-over-done request Queued td answers is over = absurd (pushed-over td is over)
-over-done request (Begun progress) td answers is over = absurd (pushed-over td is over)
-over-done request (Sent answer) td answers is over = tt
-over-done request Gone td answers is over = gone-command request answers
-
--- so it has a reply
-pub record HasReply (tag : ℕ) (task : TaggedTask) : Type 0 where
-  pub reply : Reply
-  pub is : reply_of tag task ≡ Some reply
-
-pub done-reply : (tag : ℕ) (task : TaggedTask) → IsDone task.request task.phase → HasReply tag task
-done-reply tag task done = from task.phase task.request refl refl done
-  where
-    gone : (request : Request) → task.phase ≡ Gone → task.request ≡ request → is_command request ≡ true → HasReply tag task
-    gone (Execute op) at asks is = record {
-      reply = Aborted tag task.ticket task.buffer;
-      is = ap (λ phase. reply_from tag task phase) at ∙ ap (λ request. aborted_by tag task.ticket task.buffer request) asks;
-    }
-    gone (Manage what noted) at asks is = absurd (false≢true is)
-
-    from : (phase : Phase) (request : Request) → task.phase ≡ phase → task.request ≡ request → IsDone request phase → HasReply tag task
-    from Queued request at asks is = absurd is
-    from (Begun progress) request at asks is = absurd is
-    from (Sent answer) request at asks is = record {
-      reply = answered_by tag task.ticket task.buffer answer task.request;
-      is = ap (λ phase. reply_from tag task phase) at;
-    }
-    from Gone request at asks is = gone request at asks is
-
--- an entry that waits for nothing more, and that the device is done with
-pub record IsQuiet (entry : Entry) : Type 0 where
-  pub messages : waiting_command (Some entry) ≡ 0
-  pub carried : awaited_command (Some entry) ≡ 0
-  pub moved : awaited_data_of (Some entry) ≡ 0
-  pub sent : awaited_status (Some entry) ≡ 0
-  pub done : IsDone entry.task.request entry.task.phase
-
-pub ready-quiet : (slot : ℕ) (entry : Entry) → is_ready entry ≡ true → IsMatchedEntry slot entry → IsQuiet entry
-ready-quiet slot entry ready sound =
-    let first : (is_seen entry.command_td.state ≡ true) × ((is_over entry.status_td.state && is_data_over entry.data_td) ≡ true) = and-true
-    (is_seen entry.command_td.state) _ ready in
-    let rest : (is_over entry.status_td.state ≡ true) × (is_data_over entry.data_td ≡ true) = and-true (is_over entry.status_td.state)
-    (is_data_over entry.data_td) first.1 in
-    let seen : entry.command_td.state ≡ Seen = seen-is entry.command_td.state first.0 in
-    record {
-      messages = ap (λ state. one_if (has_trb (record entry.command_td { state = state }) 1)) seen;
-      carried = unpending-unawaited entry.command_td 1 (ap (λ state. is_pending state) seen);
-      moved = over-data (data_trbs entry.task.request) entry.data_td rest.1;
-      sent = unpending-unawaited entry.status_td 1 (over-pends entry.status_td.state rest.0);
-      done = over-done entry.task.request entry.task.phase entry.status_td sound.answers sound.status rest.0;
-    }
-
--- SUBMIT
-
--- a data TD is pushed where bytes are moved
-submitted-chunks : (bytes : ℕ) → IsMovingTd ((bytes + 4095) / 4096) 0 (data_td_for bytes)
-submitted-chunks bytes =
-    elim (bytes == 0) as (λ b. (bytes == 0) ≡ b → IsMovingTd ((bytes + 4095) / 4096) 0 (cond b None (Some pushed))) [
-      | true ↦ λ is. tt
-      | false ↦ λ is. let apart : bytes ≡ 0 → ⊥ = eqb-false bytes 0 is in (refl, refl, omega arith)
-    ] refl
-
-submitted-moves : (bytes : ℕ) → is_some (data_td_for bytes) ≡ nat_lt 0 bytes
-submitted-moves bytes =
-    elim (bytes == 0) as (λ b. (bytes == 0) ≡ b → is_some (cond b (let none : Option Td = None in none) (Some pushed)) ≡ nat_lt 0 bytes) [
-      | true ↦ λ is. rw (eqb-true bytes 0 is) refl
-      | false ↦ λ is. let apart : bytes ≡ 0 → ⊥ = eqb-false bytes 0 is in
-          elim (nat_lt 0 bytes) as (λ b. nat_lt 0 bytes ≡ b → true ≡ b) [
-            | true ↦ λ less. refl
-            | false ↦ λ less. absurd (omega (arith, ltb-false 0 bytes less))
-          ] refl
-    ] refl
-
--- what isn't too long moves at most 65,536 bytes
-pub short-small : (op : Op) → is_too_long op ≡ false → moved_bytes op ≤ 65536
-short-small TestUnitReady is = omega arith
-short-small (Inquiry allocation) is = omega arith
-short-small ReadCapacity is = omega arith
-short-small (Read lba count fua) is = omega (arith, ltb-false 128 count is)
-short-small (Write lba count fua) is = omega (arith, ltb-false 128 count is)
-short-small (Sync lba count) is = omega arith
-
--- a submission without a fault is for a free slot, and isn't too long
-pub record IsUnfaulted (in_use : Bool) (op : Op) : Type 0 where
-  pub free : in_use ≡ false
-  pub short : is_too_long op ≡ false
-
-unfaulted_if : (in_use misfits long late : Bool) (least : ℕ) (op : Op) → is_too_long op ≡ long →
-    cond in_use (Some InUse) (cond misfits (Some BadLength) (cond long (Some TooLong) (cond late (Some (OutOfTurn least)) None))) ≡ None → IsUnfaulted in_use op
-unfaulted_if true misfits long late least op is none = absurd (none-some InUse (sym none))
-unfaulted_if false true long late least op is none = absurd (none-some BadLength (sym none))
-unfaulted_if false false true late least op is none = absurd (none-some TooLong (sym none))
-unfaulted_if false false false late least op is none = record { free = refl; short = is }
-
-pub unfaulted : (in_use : Bool) (least ticket : ℕ) (command : Command) → first_submit_fault true in_use least ticket command ≡ None
-    → IsUnfaulted in_use command.op
-unfaulted in_use least ticket command none =
-    unfaulted_if in_use (not (length command.buffer == moved_bytes command.op)) (is_too_long command.op) (nat_lt ticket least) least command.op refl none
-
--- the entry of a request that was just submitted
-pub record IsSubmitted (slot : ℕ) (entry : Entry) : Type 0 where
-  pub messages : waiting_command (Some entry) ≡ 1
-  pub carried : awaited_command (Some entry) ≡ 0
-  pub moved : awaited_data_of (Some entry) ≡ 0
-  pub sent : awaited_status (Some entry) ≡ 0
-  pub ready : one_if (is_ready entry) ≡ 0
-  pub sound : IsMatchedEntry slot entry
-
-pub moving-unawaited : (trbs chunk : ℕ) (td : Option Td) → IsMovingTd trbs chunk td → awaited_data trbs td ≡ 0
-moving-unawaited trbs chunk None is = refl
-moving-unawaited trbs chunk (Some td) is = unawaited td trbs (λ same. omega (arith, is.1, is.2))
-
-pub submit-stepped : (slot ticket : ℕ) (command : Command) → slot < TASK_SLOT → is_too_long command.op ≡ false → IsSubmitted slot (new_entry ticket command)
-submit-stepped slot ticket command within short =
-    let chunks : IsMovingTd ((moved_bytes command.op + 4095) / 4096) 0 (data_td_for (moved_bytes command.op)) = submitted-chunks (moved_bytes command.op) in
-    record {
-      messages = refl;
-      carried = refl;
-      moved = moving-unawaited ((moved_bytes command.op + 4095) / 4096) 0 (data_td_for (moved_bytes command.op)) chunks;
-      sent = refl;
-      ready = refl;
-      sound = record {
-        asks = within;
-        answers = tt;
-        command = refl;
-        status = refl;
-        chunks = chunks;
-        moves = submitted-moves (moved_bytes command.op);
-        small = short-small command.op short;
-      };
-    }
-
--- TASK MANAGEMENT
-
-pub manage-stepped : (ticket : ℕ) (task : Task) (noted : List ℕ) → IsSubmitted TASK_SLOT (new_management ticket task noted)
-manage-stepped ticket task noted = record {
-  messages = refl;
-  carried = refl;
-  moved = refl;
-  sent = refl;
-  ready = refl;
-  sound = record { asks = refl; answers = tt; command = refl; status = refl; chunks = tt; moves = refl; small = omega arith };
-}
-
--- one without a fault is for a free slot
-task_unfaulted_if : (in_use late none_there : Bool) (least : ℕ) →
-    cond in_use (Some InUse) (cond late (Some (OutOfTurn least)) (cond none_there (Some NoSuchTask) None)) ≡ None → in_use ≡ false
-task_unfaulted_if true late none_there least none = absurd (none-some InUse (sym none))
-task_unfaulted_if false late none_there least none = refl
-
-pub task-unfaulted : (in_use : Bool) (least ticket : ℕ) (has_task : Bool) → first_task_fault true in_use least ticket has_task ≡ None → in_use ≡ false
-task-unfaulted in_use least ticket has_task none = task_unfaulted_if in_use (nat_lt ticket least) (not has_task) least none

@@ -2,7 +2,7 @@
 -- MatchedRetirement.
 use Rattle.std.proofs.Common.{◌≡◌, ℕ, true, false, ◌&&◌, [], ◌∷◌, Option, Some, None, option_map, refl, arith, ap, sym, subst, ◌∙◌}
 use Rattle.std.specs.Prelude.{◌==◌, nat_lt, if◌then◌else◌}
-use Rattle.std.proofs.lemmas.Bool.{eq-eqb, ltb-true, false≢true, and_right}
+use Rattle.std.proofs.lemmas.Bool.{ltb-true, false≢true, and_right}
 use Rattle.stream_array.specs.declared.Pipe.{Pipe}
 use Rattle.stream_array.specs.declared.Pipe.TheVariants.{Command, Status, DataIn, DataOut}
 use Rattle.scsi_cmd.specs.declared.Direction.{Direction}
@@ -12,22 +12,25 @@ use Rattle.device_server.specs.declared.Answer.TheVariants.{Good, Check}
 use Rattle.device_server.specs.declared.Progress.TheVariants.{Moving, Ended}
 use Rattle.solo_model.specs.declared.Phase.{Phase}
 use Rattle.solo_model.specs.declared.Phase.TheVariants.{Queued, Begun, Sent, Gone}
+use Rattle.uas_host.specs.State.{is_left_over, is_over, is_pending, is_seen}
 use Rattle.uas_host.specs.declared.Place.{Place}
 use Rattle.uas_host.specs.declared.TdState.{TdState}
 use Rattle.uas_host.specs.declared.TdState.TheVariants.{Pending, Seen, LeftOver, Retired}
 use Rattle.uas_host.specs.Retirement.{same_pipe}
 use Rattle.bus_core.specs.declared.Td.{Td}
 use Rattle.bus_core.specs.declared.Completion.TheVariants.{EngineDone}
-use Rattle.bus_core.specs.Td.{Entry, pushed, is_pending, is_seen, is_over, is_data_over, is_in_ring, is_left_over, is_td_left_over, is_left_over_on}
+use Rattle.bus_core.specs.Td.{Entry, pushed, is_data_over, is_in_ring, is_td_left_over, is_left_over_on}
 use Rattle.bus_core.specs.Td.{is_awaited, has_trb, has_data_trb, has_trb_on, data_trbs, trbs_on, data_in_td, data_out_td, request_direction, with_td_on}
 use Rattle.bus_core.specs.Td.{passed_td, passed_on, retired_td, retired_on}
 use Rattle.bus_core.specs.Soundness.{one_if}
 use Rattle.bus_core.specs.Matched.{is_whole, is_whole_on, IsAwaitedOrSeen, IsGivenUp, IsStatusTd, IsAnsweredTd, IsDataTd, IsMatchedEntry}
+use Rattle.bus_core.proofs.MatchedEnds.{over-left_in, over-left_out}
 use Rattle.bus_core.proofs.MatchedEntries.{IsStepped, IsCountedOut, IsLeft, last_false, middle_false}
+use Rattle.bus_core.proofs.MatchedPlaces.{self_equal}
 
 -- ONE TD
 
-left-state : (state : TdState) → is_left_over state ≡ true → state ≡ LeftOver
+pub left-state : (state : TdState) → is_left_over state ≡ true → state ≡ LeftOver
 left-state Pending is = absurd (false≢true is)
 left-state Seen is = absurd (false≢true is)
 left-state LeftOver is = refl
@@ -117,15 +120,41 @@ left-over None left = absurd (false≢true left)
 left-over (Some td) left = ap (λ state. is_over state) (left-state td.state left)
 
 -- the data TD that is left over is on the pipe of its direction
-left-in : (way : Direction) (td : Option Td) → is_td_left_over (data_in_td way td) ≡ true → (way ≡ ToHost) × (is_td_left_over td ≡ true)
+pub left-in : (way : Direction) (td : Option Td) → is_td_left_over (data_in_td way td) ≡ true → (way ≡ ToHost) × (is_td_left_over td ≡ true)
 left-in Nothing td left = absurd (false≢true left)
 left-in ToHost td left = (refl, left)
 left-in ToDevice td left = absurd (false≢true left)
 
-left-out : (way : Direction) (td : Option Td) → is_td_left_over (data_out_td way td) ≡ true → (way ≡ ToDevice) × (is_td_left_over td ≡ true)
+pub left-out : (way : Direction) (td : Option Td) → is_td_left_over (data_out_td way td) ≡ true → (way ≡ ToDevice) × (is_td_left_over td ≡ true)
 left-out Nothing td left = absurd (false≢true left)
 left-out ToHost td left = absurd (false≢true left)
 left-out ToDevice td left = (refl, left)
+
+-- AN ENTRY OF WHICH ONE TD BECAME ANOTHER ONE
+
+data-sound : (slot : ℕ) (entry : Entry) (td : Option Td) → IsLeft (data_trbs entry.task.request) entry.task.phase entry.data_td td
+    → IsMatchedEntry slot entry → IsMatchedEntry slot (record entry { data_td = td })
+data-sound slot entry td now sound = record {
+  asks = sound.asks;
+  answers = sound.answers;
+  command = sound.command;
+  status = sound.status;
+  chunks = now.chunks;
+  moves = now.there ∙ sound.moves;
+  small = sound.small;
+}
+
+status-sound : (slot : ℕ) (entry : Entry) (td : Td) → IsStatusTd entry.task.phase td
+    → IsMatchedEntry slot entry → IsMatchedEntry slot (record entry { status_td = td })
+status-sound slot entry td now sound = record {
+  asks = sound.asks;
+  answers = sound.answers;
+  command = sound.command;
+  status = now;
+  chunks = sound.chunks;
+  moves = sound.moves;
+  small = sound.small;
+}
 
 -- PASSED
 
@@ -144,15 +173,7 @@ data-passed place entry left sound =
       moved = omega (arith, now.awaited);
       sent = omega arith;
       ready = ap (λ b. is_seen entry.command_td.state && (is_over entry.status_td.state && b)) (passed-over trbs entry.data_td);
-      sound = record {
-        asks = sound.asks;
-        answers = sound.answers;
-        command = sound.command;
-        status = sound.status;
-        chunks = now.chunks;
-        moves = now.there ∙ sound.moves;
-        small = sound.small;
-      };
+      sound = data-sound place.slot entry (option_map (passed_td trbs) entry.data_td) now sound;
     }
 
 -- the controller was moved past the TD
@@ -165,15 +186,7 @@ passed-stepped Status place entry left sound = record {
   moved = omega arith;
   sent = omega (arith, left-unawaited entry.status_td 1 left, left-unawaited (passed_td 1 entry.status_td) 1 left);
   ready = refl;
-  sound = record {
-    asks = sound.asks;
-    answers = sound.answers;
-    command = sound.command;
-    status = passed-status entry.task.phase entry.status_td left sound.status;
-    chunks = sound.chunks;
-    moves = sound.moves;
-    small = sound.small;
-  };
+  sound = status-sound place.slot entry (passed_td 1 entry.status_td) (passed-status entry.task.phase entry.status_td left sound.status) sound;
 }
 passed-stepped DataIn place entry left sound = data-passed place entry (left-in (request_direction entry.task.request) entry.data_td left).1 sound
 passed-stepped DataOut place entry left sound = data-passed place entry (left-out (request_direction entry.task.request) entry.data_td left).1 sound
@@ -196,15 +209,7 @@ data-retired place entry left sound =
       sent = omega arith;
       ready = ap (λ b. one_if (is_seen entry.command_td.state && (is_over entry.status_td.state && b))) (left-over entry.data_td left)
           ∙ last_false (is_seen entry.command_td.state) (is_over entry.status_td.state);
-      sound = record {
-        asks = sound.asks;
-        answers = sound.answers;
-        command = sound.command;
-        status = sound.status;
-        chunks = now.chunks;
-        moves = now.there ∙ sound.moves;
-        small = sound.small;
-      };
+      sound = data-sound place.slot entry (option_map retired_td entry.data_td) now sound;
     }
 
 -- the host retires the TD: the entry wasn't ready
@@ -218,15 +223,7 @@ retired-counted Status place entry left sound = record {
   sent = omega (arith, left-unawaited entry.status_td 1 left);
   ready = ap (λ state. one_if (is_seen entry.command_td.state && (is_over state && is_data_over entry.data_td))) (left-state entry.status_td.state left)
       ∙ middle_false (is_seen entry.command_td.state) (is_data_over entry.data_td);
-  sound = record {
-    asks = sound.asks;
-    answers = sound.answers;
-    command = sound.command;
-    status = retired-status entry.task.phase entry.status_td left sound.status;
-    chunks = sound.chunks;
-    moves = sound.moves;
-    small = sound.small;
-  };
+  sound = status-sound place.slot entry (retired_td entry.status_td) (retired-status entry.task.phase entry.status_td left sound.status) sound;
 }
 retired-counted DataIn place entry left sound = data-retired place entry (left-in (request_direction entry.task.request) entry.data_td left).1 sound
 retired-counted DataOut place entry left sound = data-retired place entry (left-out (request_direction entry.task.request) entry.data_td left).1 sound
@@ -310,13 +307,9 @@ passed-empty pipe entry =
     let trbs : ℕ = trbs_on pipe entry in
     changed-empty (passed_td trbs) pipe entry (λ td. and_right (is_in_ring td.state) (nat_lt trbs trbs) (ltb-self trbs))
 
--- all of them were taken or passed
-self_whole : (n : ℕ) → (n == n) ≡ true
-self_whole n = eq-eqb n n refl
-
 data-whole : (trbs : ℕ) (td : Option Td) → is_td_left_over td ≡ true → is_whole trbs (option_map (passed_td trbs) td) ≡ true
 data-whole trbs None left = absurd (false≢true left)
-data-whole trbs (Some td) left = self_whole trbs
+data-whole trbs (Some td) left = self_equal trbs
 
 pub passed-whole : (pipe : Pipe) (entry : Entry) → is_left_over_on pipe entry ≡ true → is_whole_on pipe (passed_on pipe entry) ≡ true
 passed-whole Command entry left = absurd (false≢true left)
@@ -368,18 +361,8 @@ gone : (td : Option Td) → is_td_left_over (option_map retired_td td) ≡ false
 gone None = refl
 gone (Some td) = refl
 
-in-gone : (way : Direction) (td : Option Td) → is_td_left_over td ≡ false → is_td_left_over (data_in_td way td) ≡ false
-in-gone Nothing td is = refl
-in-gone ToHost td is = is
-in-gone ToDevice td is = refl
-
-out-gone : (way : Direction) (td : Option Td) → is_td_left_over td ≡ false → is_td_left_over (data_out_td way td) ≡ false
-out-gone Nothing td is = refl
-out-gone ToHost td is = refl
-out-gone ToDevice td is = is
-
 pub retired-gone : (pipe : Pipe) (entry : Entry) → is_left_over_on pipe (with_td_on retired_td pipe entry) ≡ false
 retired-gone Command entry = refl
 retired-gone Status entry = refl
-retired-gone DataIn entry = in-gone (request_direction entry.task.request) (option_map retired_td entry.data_td) (gone entry.data_td)
-retired-gone DataOut entry = out-gone (request_direction entry.task.request) (option_map retired_td entry.data_td) (gone entry.data_td)
+retired-gone DataIn entry = over-left_in (request_direction entry.task.request) (option_map retired_td entry.data_td) (gone entry.data_td)
+retired-gone DataOut entry = over-left_out (request_direction entry.task.request) (option_map retired_td entry.data_td) (gone entry.data_td)

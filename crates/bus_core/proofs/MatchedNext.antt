@@ -2,7 +2,7 @@
 use Rattle.std.proofs.Common.{◌≡◌, ℕ, zero, suc, ◌+◌, ◌/◌, ◌<◌, ◌≤◌, true, false, cond, List, [], ◌∷◌, ◌++◌, length, Option, Some, None, IfSome, refl, arith}
 use Rattle.std.proofs.Common.{ap, sym, subst, ◌∙◌}
 use Rattle.std.specs.Prelude.{nat_lt, slice_get, slice_set, is_some}
-use Rattle.std.proofs.lemmas.Bool.{ltb-true, ltb-false}
+use Rattle.std.proofs.lemmas.Bool.{ltb-true, ltb-false, and_parts}
 use Rattle.std.proofs.lemmas.List.{append-nil, get_or-set_same}
 use Rattle.std.proofs.lemmas.Option.{none-some}
 use Rattle.block_unit.specs.BlockMaps.{BlockMaps}
@@ -31,11 +31,12 @@ use Rattle.bus_core.specs.Matched.{HasDataTrbs, HaveDataTrbs, CarryActs, EventAc
 use Rattle.bus_core.proofs.NumberOfClients.{length-parts}
 use Rattle.bus_core.proofs.Opening.{length-new_parts}
 use Rattle.bus_core.proofs.MatchedPlaces.{retired_places-append, times-append, command_events-append, data_events-append, status_events-append, one_self}
-use Rattle.bus_core.proofs.MatchedPlaces.{and-true, held-within}
+use Rattle.bus_core.proofs.MatchedPlaces.{held-within}
 use Rattle.bus_core.proofs.MatchedActs.{under-there}
 use Rattle.bus_core.proofs.Routes.{slice_get-slice_set_same}
 use Rattle.bus_core.proofs.MatchedRetirement.{own-engine_event}
-use Rattle.bus_core.proofs.MatchedEntries.{awaited-pends, taken-none, short-small, unfaulted, has_trb-queued, moving-unawaited, HasSeen, event-seen}
+use Rattle.bus_core.proofs.MatchedEntries.{awaited-pends, taken-none, has_trb-queued, HasSeen, event-seen}
+use Rattle.bus_core.proofs.MatchedEnds.{short-small, unfaulted, moving-unawaited}
 use Rattle.bus_core.proofs.MatchedBounds.{held-place, times_pipe, matched-once}
 use Rattle.bus_core.proofs.MatchedSteps.{IsHeld, matched-held, HasWaiting, message-waiting, carry_step-is, HasAwaiting, times_alike, times_alike-first}
 use Rattle.bus_core.proofs.MatchedSteps.{event-awaited, event_step-held, told_part, told_state, told-own, IsDueAt, place_fact-due, IsMovingBy, moving_phase}
@@ -196,14 +197,14 @@ matched-frees state all place rest is =
 
 -- WHERE A STEP IS DUE NO EVENT OF ITS TD WAITS
 
-same_named : (found : Option Place) (one other : Place) → found ≡ Some one → found ≡ Some other → one ≡ other
+pub same_named : (found : Option Place) (one other : Place) → found ≡ Some one → found ≡ Some other → one ≡ other
 same_named found one other is so = cc
 
 pub matched-no_data_event : (state : Shared) → IsMatched state → NoDataEventWaits state
 matched-no_data_event state all tag place named is_due =
     let at : IsDueAt state tag (data_is_due state tag) = place_fact-due state tag (data_is_due state tag) is_due in
     let held : IsHeld state at.place at.entry = matched-held state at.place at.entry all at.held in
-    let moving : IsMovingBy at.entry.task.phase = moving_phase at.entry.task.phase (and-true (is_moving at.entry.task.phase) _ at.so).0 in
+    let moving : IsMovingBy at.entry.task.phase = moving_phase at.entry.task.phase (and_parts (is_moving at.entry.task.phase) _ at.so).0 in
     let chunks : IsMovingTd (data_trbs at.entry.task.request) moving.chunk at.entry.data_td =
     subst (λ p. IsDataTd (data_trbs at.entry.task.request) p at.entry.data_td) moving.is held.here.sound.chunks in
     subst (λ p. data_events p state.events ≡ 0) (same_named (place_of (length state.parts) tag) at.place place at.named named)
@@ -213,7 +214,7 @@ pub matched-no_status_event : (state : Shared) → IsMatched state → NoStatusE
 matched-no_status_event state all tag place named is_due =
     let at : IsDueAt state tag (status_is_due state tag) = place_fact-due state tag (status_is_due state tag) is_due in
     let held : IsHeld state at.place at.entry = matched-held state at.place at.entry all at.held in
-    let ended : IsEndedBy at.entry.task.phase = ended_phase at.entry.task.phase (and-true (is_ended at.entry.task.phase) _ at.so).0 in
+    let ended : IsEndedBy at.entry.task.phase = ended_phase at.entry.task.phase (and_parts (is_ended at.entry.task.phase) _ at.so).0 in
     let status : at.entry.status_td ≡ pushed = subst (λ p. IsStatusTd p at.entry.status_td) ended.is held.here.sound.status in
     subst (λ p. status_events p state.events ≡ 0) (same_named (place_of (length state.parts) tag) at.place place at.named named)
     (held.here.sent ∙ ap (λ td. one_if (is_awaited td 1)) status)

@@ -1,21 +1,13 @@
 -- Nothing waits at the start.
-use Rattle.std.proofs.Common.{◌≡◌, ℕ, zero, suc, true, List, [], ◌∷◌, Option, None, refl, ap, sym, ◌∙◌}
-use Rattle.std.specs.Prelude.{replicate}
+use Rattle.std.proofs.Common.{◌≡◌, ℕ, zero, suc, true, List, [], ◌∷◌, None, refl, ap, sym, ◌∙◌}
 use Rattle.std.proofs.lemmas.Bool.{false≢true}
 use Rattle.block_unit.specs.BlockMaps.{BlockMaps}
 use Rattle.stream_array.specs.declared.Pipe.{Pipe}
 use Rattle.stream_array.specs.declared.Pipe.TheVariants.{Command, Status, DataIn, DataOut}
-use Rattle.scsi_cmd.specs.Held.{held_at}
-use Rattle.bus_core.specs.Td.{Entry}
 use Rattle.bus_core.specs.Shared.{new_parts, opening, pipe_of}
 use Rattle.bus_core.specs.Matched.{under, times_ready, HaveSlots, IsMatched}
 use Rattle.bus_core.proofs.MatchedFlows.{left_of}
-use Rattle.bus_core.proofs.Ordered.{opening-ordered}
-
-held-none : (n slot : ℕ) → held_at (replicate n (let none : Option Entry = None in none)) slot ≡ None
-held-none zero slot = refl
-held-none (suc n) zero = refl
-held-none (suc n) (suc slot) = held-none n slot
+use Rattle.bus_core.proofs.Ordered.{opening-ordered, none-held}
 
 slots-new : (number : ℕ) (units : List BlockMaps) → HaveSlots (new_parts number units)
 slots-new number [] client = tt
@@ -24,7 +16,7 @@ slots-new number (unit ∷ units) (suc client) = slots-new (suc number) units cl
 
 under-new : (number : ℕ) (units : List BlockMaps) (client slot : ℕ) → under (new_parts number units) (record { client = client; slot = slot }) ≡ None
 under-new number [] client slot = refl
-under-new number (unit ∷ units) zero slot = held-none 8 slot
+under-new number (unit ∷ units) zero slot = none-held 8 slot
 under-new number (unit ∷ units) (suc client) slot = under-new (suc number) units client slot
 
 ready-new : (number : ℕ) (units : List BlockMaps) (client slot : ℕ) → times_ready (new_parts number units) (record { client = client; slot = slot }) ≡ 0

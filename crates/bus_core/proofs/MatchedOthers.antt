@@ -1,37 +1,39 @@
 -- A change of each entry of one client, as a task management makes it where it is received and where its response is seen: where it leaves what is counted of
 -- each entry, and each TD goes on, what is matched stays so. Cited by MatchedSteps.
-use Rattle.std.proofs.Common.{◌≡◌, ℕ, zero, suc, ◌<◌, true, false, ◌&&◌, List, [], ◌∷◌, Option, Some, None, IfSome, option_map, length, length-set}
+use Rattle.std.proofs.Common.{◌≡◌, ℕ, ◌<◌, true, false, ◌&&◌, List, Option, Some, None, IfSome, option_map, length, length-set}
 use Rattle.std.proofs.Common.{refl, arith, ap, sym, subst, ◌∙◌, map}
 use Rattle.std.specs.Prelude.{slice_get, slice_set, ◌==◌, if◌then◌else◌}
 use Rattle.std.specs.Option.{option_map_or}
-use Rattle.std.proofs.lemmas.Bool.{eq-eqb, false≢true}
+use Rattle.std.proofs.lemmas.Bool.{eq-eqb, false≢true, and_parts}
 use Rattle.std.proofs.lemmas.List.{length-map}
 use Rattle.stream_array.specs.declared.Pipe.{Pipe}
+use Rattle.scsi_cmd.specs.Request.{is_command}
 use Rattle.scsi_cmd.specs.Held.{held_at}
 use Rattle.scsi_cmd.specs.declared.Op.{Op}
 use Rattle.scsi_cmd.specs.declared.Request.TheVariants.{Execute}
 use Rattle.device_server.specs.declared.Answer.TheVariants.{Good, Check}
 use Rattle.device_server.specs.declared.Progress.{Progress}
 use Rattle.device_server.specs.declared.Progress.TheVariants.{Moving, Ended}
-use Rattle.solo_model.specs.TaggedTask.{can_be_ended, can_go, is_command, is_noted}
+use Rattle.solo_model.specs.TaggedTask.{can_be_ended, can_go, is_noted}
 use Rattle.solo_model.specs.declared.Phase.{Phase}
 use Rattle.solo_model.specs.declared.Phase.TheVariants.{Queued, Begun, Sent, Gone}
+use Rattle.uas_host.specs.State.{is_over, is_pending, is_seen}
 use Rattle.uas_host.specs.declared.Place.{Place}
-use Rattle.uas_host.specs.declared.TdState.{TdState}
-use Rattle.uas_host.specs.declared.TdState.TheVariants.{Pending, Seen, LeftOver, Retired}
+use Rattle.uas_host.specs.declared.TdState.TheVariants.{Pending, LeftOver}
 use Rattle.bus_core.specs.declared.Td.{Td}
-use Rattle.bus_core.specs.Td.{Entry, data_trbs, is_awaited, is_data_over, is_over, is_pending, is_ready, is_seen, left_over_data, left_over_td}
+use Rattle.bus_core.specs.Td.{Entry, data_trbs, is_awaited, is_data_over, is_ready, left_over_data, left_over_td}
 use Rattle.bus_core.specs.Part.{Part, doomed, is_doomed, noted_entry}
 use Rattle.bus_core.specs.Shared.{Shared}
 use Rattle.bus_core.specs.Ordered.{is_queued}
 use Rattle.bus_core.specs.Soundness.{one_if, awaited_data, readied_of}
 use Rattle.bus_core.specs.Matched.{held_in, under, waiting_command, awaited_command, awaited_status, awaited_data_of, readied_in, times_ready, HaveSlots}
 use Rattle.bus_core.specs.Matched.{IsPhaseOf, IsGivenUp, IsShortTd, IsWithinTd, IsDataTd, IsCommandTd, IsStatusTd, IsMatchedAt, IsMatchedEntry}
-use Rattle.bus_core.proofs.MatchedPlaces.{and-true, part-set, IsCounted}
+use Rattle.bus_core.proofs.MatchedPlaces.{part-set, IsCounted}
 use Rattle.bus_core.proofs.MatchedTds.{TdGoesOn, TdsGoOn, td-same, td-left, tds-on, same-goes}
 use Rattle.bus_core.proofs.MatchedFlows.{pipes-same, left_of, trb_of, whole_of, HeldGoesOn, goes-on, IsCounted-kept}
-use Rattle.bus_core.proofs.MatchedEntries.{asked_op, moving-within, left-within, check-awaited, check-there}
+use Rattle.bus_core.proofs.MatchedEntries.{asked_op, moving-within, left-within, check-awaited, check-there, pending-is}
 use Rattle.bus_core.proofs.MatchedActs.{times_ready-there, under-there}
+use Rattle.bus_core.proofs.OrderedEntries.{held-changed}
 
 -- ONE ENTRY
 
@@ -103,18 +105,12 @@ changed_part change part = record part { entries = map (option_map change) part.
 abbrev pub changed_state : Shared → ℕ → (Entry → Entry) → Part → Shared
 changed_state state client change part = record state { parts = slice_set state.parts client (changed_part change part) }
 
-pub held-mapped : (change : Entry → Entry) (entries : List (Option Entry)) (slot : ℕ) →
-    held_at (map (option_map change) entries) slot ≡ option_map change (held_at entries slot)
-held-mapped change [] slot = refl
-held-mapped change (held ∷ rest) zero = refl
-held-mapped change (held ∷ rest) (suc slot) = held-mapped change rest slot
-
 under-alike : (state : Shared) (client : ℕ) (change : Entry → Entry) (part : Part) → slice_get state.parts client ≡ Some part → AreAlike change part.entries →
     (place : Place) → AreHeldAlike place.slot (under state.parts place) (under (changed_state state client change part).parts place)
 under-alike state client change part there each place =
     part-set (λ found. AreHeldAlike place.slot (under state.parts place) (option_map_or (held_in place) found None)) state.parts client place.client part
     (changed_part change part) there
-    (λ same was. subst (λ held. AreHeldAlike place.slot (under state.parts place) held) (sym (held-mapped change part.entries place.slot))
+    (λ same was. subst (λ held. AreHeldAlike place.slot (under state.parts place) held) (sym (held-changed change part.entries place.slot))
     (subst (λ held. AreHeldAlike place.slot held (option_map change (held_at part.entries place.slot)))
     (sym (under-there state.parts place part (held_at part.entries place.slot) (sym (ap (λ c. slice_get state.parts c) same) ∙ there) refl))
     (held_alike-changed place.slot change (held_at part.entries place.slot) (λ entry is. each place.slot entry is))))
@@ -218,8 +214,8 @@ noted-alike noted slot entry received sound =
     elim (can_be_ended entry.task && is_noted noted entry.task.ticket) as (λ b. (can_be_ended entry.task && is_noted noted entry.task.ticket) ≡ b →
     IsAlike slot entry (record entry { task = if b then record entry.task { phase = Gone } else entry.task })) [
       | true ↦ λ is.
-          let first = and-true (can_be_ended entry.task) (is_noted noted entry.task.ticket) is in
-          let command = and-true (is_command entry.task.request) (can_go entry.task.phase) first.0 in
+          let first = and_parts (can_be_ended entry.task) (is_noted noted entry.task.ticket) is in
+          let command = and_parts (is_command entry.task.request) (can_go entry.task.phase) first.0 in
           gone-alike slot entry command.0 (received command.0 first.1) command.1 sound
       | false ↦ λ is. alike-self slot entry sound
     ] refl
@@ -239,12 +235,6 @@ unawaited-short trbs (Some td) within none = λ pends. less (λ same. one_apart 
 
     one_apart : one_if (is_awaited td trbs) ≡ 1 → ⊥
     one_apart one = omega (arith, one, none)
-
-pending-is : (state : TdState) → is_pending state ≡ true → state ≡ Pending
-pending-is Pending is = refl
-pending-is Seen is = absurd (false≢true is)
-pending-is LeftOver is = absurd (false≢true is)
-pending-is Retired is = absurd (false≢true is)
 
 -- a pending TD is left over
 left-is : (td : Td) → td.state ≡ Pending → left_over_td td ≡ record td { state = LeftOver }
@@ -302,8 +292,8 @@ pub doomed-alike : (noted : List ℕ) (slot : ℕ) (entry : Entry) →
 doomed-alike noted slot entry over sound =
     elim (is_doomed noted entry) as (λ b. is_doomed noted entry ≡ b → IsAlike slot entry (if b then left_entry entry else entry)) [
       | true ↦ λ is.
-          let first = and-true (is_command entry.task.request) (is_pending entry.status_td.state && is_noted noted entry.task.ticket) is in
-          let rest = and-true (is_pending entry.status_td.state) (is_noted noted entry.task.ticket) first.1 in
+          let first = and_parts (is_command entry.task.request) (is_pending entry.status_td.state && is_noted noted entry.task.ticket) is in
+          let rest = and_parts (is_pending entry.status_td.state) (is_noted noted entry.task.ticket) first.1 in
           let given : IsGivenUpEntry entry = over first.0 rest.1 rest.0 in
           left-alike slot entry given.gone rest.0 given.unawaited sound
       | false ↦ λ is. alike-self slot entry sound

@@ -1,9 +1,9 @@
 -- Places, how often they are named, and what a write to one place leaves of the others.
-use Rattle.std.proofs.Common.{◌≡◌, ℕ, zero, suc, ◌+◌, ◌<◌, ◌≤◌, Bool, true, false, ◌&&◌, List, [], ◌∷◌, ◌++◌, length, length-set, Option, Some, None, IfSome}
+use Rattle.std.proofs.Common.{◌≡◌, ℕ, zero, suc, ◌+◌, ◌<◌, ◌≤◌, Bool, true, false, List, [], ◌∷◌, ◌++◌, length, length-set, Option, Some, None, IfSome}
 use Rattle.std.proofs.Common.{refl, arith, ap, sym, subst, ◌∙◌}
 use Rattle.std.specs.Prelude.{◌==◌, slice_get, slice_set}
 use Rattle.std.specs.Option.{option_map_or}
-use Rattle.std.proofs.lemmas.Bool.{eqb-true, eqb-false, ne_eqb, false≢true}
+use Rattle.std.proofs.lemmas.Bool.{eqb-true, eqb-false, ne_eqb, false≢true, and_parts}
 use Rattle.std.proofs.lemmas.List.{get_or-set_same, get_or-set_other}
 use Rattle.std.proofs.lemmas.Option.{none-some}
 use Rattle.scsi_cmd.specs.Held.{held_at}
@@ -22,7 +22,7 @@ use Rattle.bus_core.proofs.Routes.{slice_get-slice_set_same, slice_get-slice_set
 
 -- PLACES
 
-self_equal : (n : ℕ) → (n == n) ≡ true
+pub self_equal : (n : ℕ) → (n == n) ≡ true
 self_equal n = elim (n == n) as (λ b. (n == n) ≡ b → (n == n) ≡ true) [
   | true ↦ λ is. is
   | false ↦ λ is. absurd (eqb-false n n is refl)
@@ -42,17 +42,10 @@ pub one_if-true : (b : Bool) → 1 ≤ one_if b → b ≡ true
 one_if-true true some = refl
 one_if-true false some = absurd (omega (arith, some))
 
-both_true : (a b : Bool) → (a && b) ≡ true → (a ≡ true) × (b ≡ true)
-both_true true b is = (refl, is)
-both_true false b is = absurd (false≢true is)
-
-pub and-true : (a b : Bool) → (a && b) ≡ true → (a ≡ true) × (b ≡ true)
-and-true a b is = both_true a b is
-
 pub same_place-true : (place other : Place) → same_place place other ≡ true → place ≡ other
 same_place-true place other is =
     let parts : ((place.client == other.client) ≡ true) × ((place.slot == other.slot) ≡ true) =
-    both_true (place.client == other.client) (place.slot == other.slot) is in
+    and_parts (place.client == other.client) (place.slot == other.slot) is in
     let client = eqb-true place.client other.client parts.0 in
     let slot = eqb-true place.slot other.slot parts.1 in
     λ i. record { client = client i; slot = slot i }

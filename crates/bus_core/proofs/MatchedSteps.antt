@@ -3,11 +3,12 @@ use Rattle.std.proofs.Common.{◌≡◌, ℕ, ◌<◌, ◌≤◌, true, false, c
 use Rattle.std.proofs.Common.{subst, ◌∙◌, option_map}
 use Rattle.std.specs.Prelude.{slice_get, slice_set, option_and_then, ◌&&◌, if◌then◌else◌}
 use Rattle.std.specs.Option.{option_map_or}
-use Rattle.std.proofs.lemmas.Bool.{and_left, false≢true}
+use Rattle.std.proofs.lemmas.Bool.{and_left, false≢true, and_parts}
 use Rattle.std.proofs.lemmas.List.{append-nil, get_or-set_other, set-set}
 use Rattle.arrayvec.specs.ArrayVec.{ArrayVec}
 use Rattle.block_unit.specs.BlockMaps.{BlockMaps}
 use Rattle.stream_array.specs.declared.Pipe.{Pipe}
+use Rattle.scsi_cmd.specs.Request.{is_command}
 use Rattle.scsi_cmd.specs.declared.Task.{Task}
 use Rattle.scsi_cmd.specs.declared.TheConstants.{TASK_SLOT}
 use Rattle.scsi_cmd.specs.declared.Op.{Op}
@@ -17,10 +18,11 @@ use Rattle.scsi_cmd.specs.declared.Request.TheVariants.{Execute, Manage}
 use Rattle.scsi_cmd.specs.Held.{held_at}
 use Rattle.device_server.specs.declared.Answer.{Answer}
 use Rattle.device_server.specs.declared.Progress.TheVariants.{Moving, Ended}
-use Rattle.solo_model.specs.TaggedTask.{TaggedTask, can_be_ended, can_go, carried_from, carried_request, is_command, is_noted, moved_from, moved_request, reply_of}
-use Rattle.solo_model.specs.TaggedTask.{sent_from, unit_after}
+use Rattle.solo_model.specs.TaggedTask.{TaggedTask, can_be_ended, can_go, carried_from, carried_request, is_noted, moved_from, moved_request}
+use Rattle.solo_model.specs.TaggedTask.{reply_of, sent_from, unit_after}
 use Rattle.solo_model.specs.declared.Phase.{Phase}
 use Rattle.solo_model.specs.declared.Phase.TheVariants.{Queued, Begun, Sent, Gone}
+use Rattle.uas_host.specs.State.{is_pending}
 use Rattle.uas_host.specs.declared.Place.{Place}
 use Rattle.uas_host.specs.Tags.{place_of, command_slot}
 use Rattle.bus_core.specs.declared.Completion.{Completion}
@@ -30,10 +32,10 @@ use Rattle.bus_core.specs.declared.Td.{Td}
 use Rattle.bus_core.specs.declared.Mark.TheVariants.{Carry}
 use Rattle.bus_core.specs.declared.Completion.TheVariants.{CommandDone, DataDone, StatusDone, EngineDone}
 use Rattle.bus_core.specs.declared.Step.TheVariants.{Submit, Task as TaskStep, CommandPipe, Data, Status, Engine, Event, Retire, Take}
-use Rattle.bus_core.specs.Td.{Entry, has_trb, is_awaited, is_ready, data_trbs, has_trb_on, is_left_over_on, is_pending, left_over_data, left_over_td}
+use Rattle.bus_core.specs.Td.{Entry, has_trb, is_awaited, is_ready, data_trbs, has_trb_on, is_left_over_on, left_over_data, left_over_td}
 use Rattle.bus_core.specs.Part.{Part, Act, with_entry, carry_act, carried_slot, carried_entry, entries_after, noted_entry, is_last_trb, took_trb, move_act}
-use Rattle.bus_core.specs.Part.{moved_slot, moved_entry, send_act, sent_slot, sent_entry, event_act, event_place, seen_by, seen_entry, after_answer, after_event}
-use Rattle.bus_core.specs.Part.{doomed, ready_after, take_act, taken, settled, entry_reply, slot_tag}
+use Rattle.bus_core.specs.Part.{moved_slot, moved_entry, send_act, sent_slot, sent_entry, event_act, event_place, seen_by, seen_entry, after_answer}
+use Rattle.bus_core.specs.Part.{after_event, doomed, ready_after, take_act, taken, settled, entry_reply, slot_tag}
 use Rattle.bus_core.specs.Replay.{replayed}
 use Rattle.bus_core.specs.Shared.{Shared, idle, shared_step, acted_on, carry_step, routed_to, routed_by_tag, due_step, due, has_ready, is_some_of, routed}
 use Rattle.bus_core.specs.Shared.{event_step, is_moving, is_ended, data_is_due, status_is_due, event_seen}
@@ -41,22 +43,24 @@ use Rattle.bus_core.specs.Soundness.{one_if, awaited_data, readied_of, times_in}
 use Rattle.bus_core.specs.Matched.{times, held_in, under, command_events, data_events, status_events, waiting_command, awaited_command}
 use Rattle.bus_core.specs.Matched.{awaited_status, awaited_data_of, awaits_data, awaits_event, IsRequestIn, IsMatchedAt, IsMatched, retired_places}
 use Rattle.bus_core.specs.Matched.{is_td_event, is_whole_on}
-use Rattle.bus_core.proofs.MatchedPlaces.{one_self, and-true, one_if-true, one_if-most, one_equal, one_apart, command_events-append, data_events-append}
+use Rattle.bus_core.proofs.MatchedPlaces.{one_self, one_if-true, one_if-most, one_equal, one_apart, command_events-append, data_events-append}
 use Rattle.bus_core.proofs.MatchedPlaces.{status_events-append, held-within, IsWritten, times_ready-written, AreMatched-written, clients-written, IsCounted}
 use Rattle.bus_core.proofs.MatchedPlaces.{counted-of, matched-of, matched-places}
 use Rattle.bus_core.proofs.MatchedEntries.{carried_to, has_trb-queued, carry-stepped, moved_to, moved_events, IsDataEvent, data_event-is, move-stepped}
-use Rattle.bus_core.proofs.MatchedEntries.{sent_to, send-stepped, HasSeen, IsSeenAs, event-seen, IsQuiet, ready-quiet, HasReply, done-reply}
-use Rattle.bus_core.proofs.MatchedEntries.{moving_op, chunk_task, entries_after-command, carry-tds, move-tds, send-tds, ready-left}
+use Rattle.bus_core.proofs.MatchedEntries.{sent_to, send-stepped, HasSeen, IsSeenAs, event-seen}
+use Rattle.bus_core.proofs.MatchedEntries.{moving_op, chunk_task, entries_after-command, carry-tds, move-tds, send-tds}
+use Rattle.bus_core.proofs.MatchedEnds.{IsQuiet, ready-quiet, HasReply, done-reply, ready-left}
 use Rattle.bus_core.proofs.Routes.{slice_get-slice_set_same}
 use Rattle.bus_core.proofs.MatchedTds.{none-goes}
 use Rattle.bus_core.proofs.MatchedFlows.{pipes-same, HeldGoesOn, written-goes, goes-on, IsCounted-kept}
 pub use Rattle.bus_core.proofs.MatchedActs.{IsHeld, matched-held, times_ready-there, IsDueAt, place_fact-due, seen_part, seen_state, seen-written}
 use Rattle.bus_core.proofs.MatchedActs.{NamesAlone, acted_state, acted-matched, under-there, seen-matched}
-use Rattle.bus_core.proofs.MatchedOthers.{AreAlike, changed_part, changed_state, held-mapped, alike-counted, noted-alike, doomed-alike}
+use Rattle.bus_core.proofs.MatchedOthers.{AreAlike, changed_part, changed_state, alike-counted, noted-alike, doomed-alike}
 use Rattle.bus_core.proofs.MatchedSubmissions.{submitted_under-matched, task_step-matched}
 use Rattle.bus_core.proofs.MatchedEngine.{engine_step-matched, retire_step-matched, engine_event-matched}
 use Rattle.bus_core.proofs.OrderedManaged.{of_client, noted-as_received, noted-as_seen}
 use Rattle.bus_core.proofs.Ordered.{shared_step-ordered}
+use Rattle.bus_core.proofs.OrderedEntries.{held-changed}
 
 -- CARRY
 
@@ -162,7 +166,7 @@ management-received state place rest part entry what noted there held asks queue
     let bases : IsCounted base = alike-counted state place.client change part there each counted in
     let base_there : slice_get base.parts place.client ≡ Some now_part = slice_get-slice_set_same state.parts place.client part now_part there in
     let base_held : held_at now_part.entries place.slot ≡ Some entry =
-    held-mapped change part.entries place.slot ∙ ap (option_map change) held ∙ ap Some (managed-same noted.items entry (ap (λ r. is_command r) asks)) in
+    held-changed change part.entries place.slot ∙ ap (option_map change) held ∙ ap Some (managed-same noted.items entry (ap (λ r. is_command r) asks)) in
     let base_here : IsMatchedAt base place (Some entry) = other-sound base place now_part place.slot entry base_there base_held bases in
     let acted : Shared = acted_state base place now_part after.0 (carried_to entry after.1) rest posted in
     let step : (carry_step state (place ∷ rest)).0 ≡ acted =
@@ -233,9 +237,10 @@ move_step-held state tag place part entry chunk op named there held moving asks 
     ∙ ap (λ r. acted_on state place.client (moved_entry part place.slot place entry (moved_request part.unit entry.task chunk r))) asks
 
 -- a chunk of what stands at a place
-chunk-counted : (state : Shared) (tag : ℕ) (place : Place) (part : Part) (entry : Entry) (chunk : ℕ) (op : Op) → place_of (length state.parts) tag ≡ Some place →
-    slice_get state.parts place.client ≡ Some part → held_at part.entries place.slot ≡ Some entry → entry.task.phase ≡ Begun (Moving chunk) →
-    entry.task.request ≡ Execute op → IsMatchedAt state place (Some entry) → IsCounted state
+chunk-counted : (state : Shared) (tag : ℕ) (place : Place) (part : Part) (entry : Entry) (chunk : ℕ) (op : Op) →
+    place_of (length state.parts) tag ≡ Some place → slice_get state.parts place.client ≡ Some part
+    → held_at part.entries place.slot ≡ Some entry → entry.task.phase ≡ Begun (Moving chunk) → entry.task.request ≡ Execute op
+    → IsMatchedAt state place (Some entry) → IsCounted state
     → IsCounted (routed_by_tag state move_act (place_of (length state.parts) tag)).0
 chunk-counted state tag place part entry chunk op named there held moving asks here all =
     let task : TaggedTask = chunk_task part.unit entry.task chunk op in
@@ -254,7 +259,7 @@ move_step-matched state tag is_due all =
     let at : IsDueAt state tag (data_is_due state tag) = place_fact-due state tag (data_is_due state tag) is_due in
     let entry : Entry = at.entry in
     let held : IsHeld state at.place entry = matched-held state at.place entry all at.held in
-    let moving : IsMovingBy entry.task.phase = moving_phase entry.task.phase (and-true (is_moving entry.task.phase) _ at.so).0 in
+    let moving : IsMovingBy entry.task.phase = moving_phase entry.task.phase (and_parts (is_moving entry.task.phase) _ at.so).0 in
     let asks : (op : Op) × (entry.task.request ≡ Execute op) = moving_op entry.task.request entry.task.phase moving.chunk moving.is held.here.sound.answers in
     chunk-counted state tag at.place held.found.part entry moving.chunk asks.0 at.named held.found.there held.found.held moving.is asks.1 held.here
     (counted-of state all)
@@ -299,8 +304,9 @@ send_step-matched state tag is_due all =
     let entry : Entry = at.entry in
     let held : IsHeld state place entry = matched-held state place entry all at.held in
     let part : Part = held.found.part in
-    let ended : IsEndedBy entry.task.phase = ended_phase entry.task.phase (and-true (is_ended entry.task.phase) _ at.so).0 in
-    subst (λ (now : Shared × Outcome). IsCounted now.0) (sym (send_step-held state tag place part entry ended.answer at.named held.found.there held.found.held ended.is))
+    let ended : IsEndedBy entry.task.phase = ended_phase entry.task.phase (and_parts (is_ended entry.task.phase) _ at.so).0 in
+    subst (λ (now : Shared × Outcome). IsCounted now.0)
+    (sym (send_step-held state tag place part entry ended.answer at.named held.found.there held.found.held ended.is))
     (acted-matched state place part part.unit entry (sent_to entry ended.answer) [] state.messages (StatusDone place ∷ []) held.found.there held.found.held refl
     (send-alone place) refl (send-tds place.slot entry ended.answer ended.is held.here.sound)
     (send-stepped place entry ended.answer ended.is held.here.sound) held.here (counted-of state all))
@@ -410,7 +416,7 @@ told-own (CommandDone place) request entries slot new asks held = held
 told-own (DataDone place) request entries slot new asks held = held
 told-own (StatusDone place) (Execute op) entries slot new asks held = held
 told-own (StatusDone place) (Manage what noted) entries slot new asks held =
-    held-mapped (doomed noted.items) entries slot ∙ ap (option_map (doomed noted.items)) held
+    held-changed (doomed noted.items) entries slot ∙ ap (option_map (doomed noted.items)) held
     ∙ ap Some (undoomed-same noted.items new (ap (λ r. is_command r) asks))
 told-own (EngineDone place) request entries slot new asks held = held
 

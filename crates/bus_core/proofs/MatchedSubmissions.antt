@@ -1,7 +1,6 @@
 -- A submission, of a command or of a task management, keeps what waits matched: its entry is new, under a free slot, and where its TDs have TRBs their streams
 -- were rung. Cited by MatchedSteps.
-use Rattle.std.proofs.Common.{◌≡◌, ℕ, ◌<◌, Bool, true, false, cond, List, [], ◌∷◌, ◌++◌, length, Option, Some, None, IfSome, refl, arith, ap, sym}
-use Rattle.std.proofs.Common.{subst, ◌∙◌}
+use Rattle.std.proofs.Common.{◌≡◌, ℕ, ◌<◌, Bool, true, false, cond, List, [], ◌∷◌, ◌++◌, length, Option, Some, None, IfSome, refl, arith, ap, sym, subst, ◌∙◌}
 use Rattle.std.specs.Prelude.{nat_lt, slice_get, slice_set, is_some, ◌==◌}
 use Rattle.std.proofs.lemmas.Bool.{ltb-true, false≢true}
 use Rattle.stream_array.specs.declared.Pipe.{Pipe}
@@ -30,14 +29,15 @@ use Rattle.bus_core.specs.Matched.{is_left_over_at, has_trb_at, is_whole_at}
 use Rattle.bus_core.specs.Pipes.{rung_unless}
 use Rattle.bus_core.proofs.MatchedPlaces.{one_self, times-append, same_place-true, IsWritten, under-written, under-other, times_ready-written, clients-written}
 use Rattle.bus_core.proofs.MatchedPlaces.{AreMatched-written, IsCounted, counted-of, matched-places}
-use Rattle.bus_core.proofs.MatchedEntries.{IsUnfaulted, unfaulted, IsSubmitted, submit-stepped, manage-stepped, task-unfaulted, over-left_in, over-left_out}
+use Rattle.bus_core.proofs.MatchedEnds.{IsUnfaulted, unfaulted, IsSubmitted, submit-stepped, manage-stepped, task-unfaulted, over-left_in, over-left_out}
 use Rattle.bus_core.proofs.MatchedFlows.{left_of, trb_of, whole_of, GoOn, IsCounted-kept}
 use Rattle.bus_core.proofs.MatchedActs.{times_ready-there, under-there}
 use Rattle.bus_core.proofs.Routes.{placed_slot-within}
+use Rattle.bus_core.proofs.Standing.{not_some}
 
 -- A REQUEST IS ADDED
 
-rung-events : (state : Shared) (way : Direction) (tag : ℕ) → (with_streams_rung state way tag).events ≡ state.events
+pub rung-events : (state : Shared) (way : Direction) (tag : ℕ) → (with_streams_rung state way tag).events ≡ state.events
 rung-events state Nothing tag = refl
 rung-events state ToHost tag = refl
 rung-events state ToDevice tag = refl
@@ -56,8 +56,9 @@ pub record IsAdded (part now : Part) (slot : ℕ) (entry : Entry) : Type 0 where
 abbrev added_state : Shared → Direction → ℕ → Place → Part → Shared
 added_state state way tag place now = submitted_state state way tag (slice_set state.parts place.client now) (state.messages ++ place ∷ [])
 
-added-written : (state : Shared) (way : Direction) (tag : ℕ) (place : Place) (part now : Part) (entry : Entry) → slice_get state.parts place.client ≡ Some part →
-    IsAdded part now place.slot entry → IsWritten state (added_state state way tag place now) place (Some entry)
+added-written : (state : Shared) (way : Direction) (tag : ℕ) (place : Place) (part now : Part) (entry : Entry)
+    → slice_get state.parts place.client ≡ Some part → IsAdded part now place.slot entry
+    → IsWritten state (added_state state way tag place now) place (Some entry)
 added-written state way tag place part now entry there added =
     let events : (added_state state way tag place now).events ≡ state.events = rung-events state way tag in
     record {
@@ -79,11 +80,7 @@ added-written state way tag place part now entry there added =
 -- a place of this client where nothing stands
 none-under : (state : Shared) (place : Place) (part : Part) → slice_get state.parts place.client ≡ Some part →
     is_some (held_at part.entries place.slot) ≡ false → under state.parts place ≡ None
-none-under state place part there free = under-there state.parts place part None there (none (held_at part.entries place.slot) free)
-  where
-    none : (held : Option Entry) → is_some held ≡ false → held ≡ None
-    none None is = refl
-    none (Some entry) is = absurd (false≢true (sym is))
+none-under state place part there free = under-there state.parts place part None there (not_some (held_at part.entries place.slot) free)
 
 none-matched : (state : Shared) (place : Place) (part : Part) → slice_get state.parts place.client ≡ Some part
     → is_some (held_at part.entries place.slot) ≡ false → IsMatched state →
@@ -101,31 +98,31 @@ rung-runs : (held : Bool) (pipe : PipeState) (tag : ℕ) → pipe.runs ≡ true 
 rung-runs true pipe tag is = is
 rung-runs false pipe tag is = refl
 
+-- a submission leaves a pipe as it was, or rings it unless it is held
+submitted-pipe : (P : PipeState → Type 0) (state : Shared) (way : Direction) (tag : ℕ) (parts : List Part) (messages : List Place) (pipe : Pipe) →
+    P (pipe_of state pipe) → P (rung_unless (is_held state pipe) (pipe_of state pipe) tag) →
+    P (pipe_of (submitted_state state way tag parts messages) pipe)
+submitted-pipe P state way tag parts messages CommandName was rung = was
+submitted-pipe P state Nothing tag parts messages StatusName was rung = rung
+submitted-pipe P state ToHost tag parts messages StatusName was rung = rung
+submitted-pipe P state ToDevice tag parts messages StatusName was rung = rung
+submitted-pipe P state Nothing tag parts messages DataIn was rung = was
+submitted-pipe P state ToHost tag parts messages DataIn was rung = rung
+submitted-pipe P state ToDevice tag parts messages DataIn was rung = was
+submitted-pipe P state Nothing tag parts messages DataOut was rung = was
+submitted-pipe P state ToHost tag parts messages DataOut was rung = was
+submitted-pipe P state ToDevice tag parts messages DataOut was rung = rung
+
 submitted-held : (state : Shared) (way : Direction) (tag : ℕ) (parts : List Part) (messages : List Place) (pipe : Pipe) → is_held state pipe ≡ true →
     (pipe_of (submitted_state state way tag parts messages) pipe).runs ≡ (pipe_of state pipe).runs
-submitted-held state way tag parts messages CommandName held = refl
-submitted-held state Nothing tag parts messages StatusName held = rung-held (is_held state StatusName) state.status tag held
-submitted-held state ToHost tag parts messages StatusName held = rung-held (is_held state StatusName) state.status tag held
-submitted-held state ToDevice tag parts messages StatusName held = rung-held (is_held state StatusName) state.status tag held
-submitted-held state Nothing tag parts messages DataIn held = refl
-submitted-held state ToHost tag parts messages DataIn held = rung-held (is_held state DataIn) state.data_in tag held
-submitted-held state ToDevice tag parts messages DataIn held = refl
-submitted-held state Nothing tag parts messages DataOut held = refl
-submitted-held state ToHost tag parts messages DataOut held = refl
-submitted-held state ToDevice tag parts messages DataOut held = rung-held (is_held state DataOut) state.data_out tag held
+submitted-held state way tag parts messages pipe held =
+    submitted-pipe (λ p. p.runs ≡ (pipe_of state pipe).runs) state way tag parts messages pipe refl
+    (rung-held (is_held state pipe) (pipe_of state pipe) tag held)
 
 submitted-runs : (state : Shared) (way : Direction) (tag : ℕ) (parts : List Part) (messages : List Place) (pipe : Pipe) →
     (pipe_of state pipe).runs ≡ true → (pipe_of (submitted_state state way tag parts messages) pipe).runs ≡ true
-submitted-runs state way tag parts messages CommandName runs = refl
-submitted-runs state Nothing tag parts messages StatusName runs = rung-runs (is_held state StatusName) state.status tag runs
-submitted-runs state ToHost tag parts messages StatusName runs = rung-runs (is_held state StatusName) state.status tag runs
-submitted-runs state ToDevice tag parts messages StatusName runs = rung-runs (is_held state StatusName) state.status tag runs
-submitted-runs state Nothing tag parts messages DataIn runs = runs
-submitted-runs state ToHost tag parts messages DataIn runs = rung-runs (is_held state DataIn) state.data_in tag runs
-submitted-runs state ToDevice tag parts messages DataIn runs = runs
-submitted-runs state Nothing tag parts messages DataOut runs = runs
-submitted-runs state ToHost tag parts messages DataOut runs = runs
-submitted-runs state ToDevice tag parts messages DataOut runs = rung-runs (is_held state DataOut) state.data_out tag runs
+submitted-runs state way tag parts messages pipe runs =
+    submitted-pipe (λ p. p.runs ≡ true) state way tag parts messages pipe runs (rung-runs (is_held state pipe) (pipe_of state pipe) tag runs)
 
 -- the TDs of this direction on a pipe that isn't held: their pipe was rung
 abbrev submitted_trb : Direction → Pipe → Option Td → Bool
@@ -258,7 +255,7 @@ accepted-matched state part place tag ticket command there within slot fine all 
     (record { rung = λ pipe has. new-trb pipe ticket command has; none_left = λ pipe. new-left pipe ticket command }) fine.free
     (submit-stepped place.slot ticket command slot fine.short) all
 
-slots-there : (state : Shared) (client : ℕ) (part : Part) → IsMatched state → slice_get state.parts client ≡ Some part → length part.entries ≡ 8
+pub slots-there : (state : Shared) (client : ℕ) (part : Part) → IsMatched state → slice_get state.parts client ≡ Some part → length part.entries ≡ 8
 slots-there state client part all there = subst (λ found. IfSome found (λ part. length part.entries ≡ 8)) there (all.slots client)
 
 answered-matched : (state : Shared) (part : Part) (place : Place) (tag ticket : ℕ) (command : Command) (fault : Option SubmitFault)
@@ -266,7 +263,8 @@ answered-matched : (state : Shared) (part : Part) (place : Place) (tag ticket : 
     place.slot < length part.entries → place.slot < TASK_SLOT → fault_at part place.slot ticket command ≡ fault → IsMatched state
     → IsCounted (answered state part place tag ticket command fault).0
 answered-matched state part place tag ticket command None there within slot is all =
-    accepted-matched state part place tag ticket command there within slot (unfaulted (is_some (held_at part.entries place.slot)) part.least ticket command is) all
+    accepted-matched state part place tag ticket command there within slot
+    (unfaulted (is_some (held_at part.entries place.slot)) part.least_ticket ticket command is) all
 answered-matched state part place tag ticket command (Some fault) there within slot is all = counted-of state all
 
 submitted_to-matched : (state : Shared) (place : Place) (tag ticket : ℕ) (command : Command) (found : Option Part)
@@ -309,7 +307,7 @@ managed_or-matched state part client slot ticket task None there is all =
     added-matched state Nothing (tag_of place) place part (managed_part part slot ticket task) None (new_management ticket task noted) there
     (record { within = omega (arith, slots-there state client part all there); entries = refl; ready = refl })
     (record { rung = λ pipe has. management-trb pipe ticket task noted has; none_left = λ pipe. management-left pipe ticket task noted })
-    (task-unfaulted (is_some (held_at part.entries TASK_SLOT)) part.least ticket (is_there part slot task) is)
+    (task-unfaulted (is_some (held_at part.entries TASK_SLOT)) part.least_ticket ticket (is_there part slot task) is)
     (manage-stepped ticket task noted) all
 managed_or-matched state part client slot ticket task (Some fault) there is all = counted-of state all
 

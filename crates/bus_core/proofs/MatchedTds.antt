@@ -1,19 +1,19 @@
 -- What a step makes of the TDs of one entry, told of each pipe: cited by MatchedEntries and MatchedFlows.
 use Rattle.std.proofs.Common.{◌≡◌, ℕ, ◌+◌, Bool, true, false, ◌&&◌, Option, Some, refl, arith, ap, sym, subst, ◌∙◌}
 use Rattle.std.specs.Prelude.{◌==◌, nat_lt}
-use Rattle.std.proofs.lemmas.Bool.{lt-ltb, ltb-true, false≢true, and_from}
+use Rattle.std.proofs.lemmas.Bool.{lt-ltb, ltb-true, false≢true, and_from, and_parts}
 use Rattle.stream_array.specs.declared.Pipe.{Pipe}
 use Rattle.stream_array.specs.declared.Pipe.TheVariants.{Command, Status, DataIn, DataOut}
 use Rattle.scsi_cmd.specs.declared.Direction.{Direction}
 use Rattle.scsi_cmd.specs.declared.Direction.TheVariants.{Nothing, ToHost, ToDevice}
 use Rattle.scsi_cmd.specs.declared.Request.{Request}
+use Rattle.uas_host.specs.State.{is_left_over}
 use Rattle.uas_host.specs.declared.TdState.{TdState}
 use Rattle.uas_host.specs.declared.TdState.TheVariants.{Pending, Seen, LeftOver, Retired}
 use Rattle.bus_core.specs.declared.Td.{Td}
-use Rattle.bus_core.specs.Td.{Entry, is_in_ring, is_left_over, is_td_left_over, is_left_over_on, has_data_trb, has_trb_on, data_trbs, data_in_td, data_out_td}
+use Rattle.bus_core.specs.Td.{Entry, is_in_ring, is_td_left_over, is_left_over_on, has_data_trb, has_trb_on, data_trbs, data_in_td, data_out_td}
 use Rattle.bus_core.specs.Td.{request_direction, with_trb_taken, with_event_seen, left_over_td}
 use Rattle.bus_core.specs.Matched.{IsShortTd, is_whole, is_whole_on}
-use Rattle.bus_core.proofs.MatchedPlaces.{and-true}
 
 -- A TD that is left over stays so, and whole if it is; no TRB joins those that the controller may take; and a TD that is left over now has one, if it
 -- had one where it was left over before.
@@ -51,7 +51,7 @@ td-taken trbs td pends =
     let none : is_left_over td.state ≡ false = ap (λ state. is_left_over state) pends in
     none-goes (is_left_over td.state) (is_in_ring td.state && nat_lt td.consumed trbs) (td.consumed == trbs) (is_left_over td.state)
     (is_in_ring td.state && nat_lt (td.consumed + 1) trbs) (td.consumed + 1 == trbs) none none
-    (λ has. let parts = and-true (is_in_ring td.state) (nat_lt (td.consumed + 1) trbs) has in
+    (λ has. let parts = and_parts (is_in_ring td.state) (nat_lt (td.consumed + 1) trbs) has in
     and_from (is_in_ring td.state) (nat_lt td.consumed trbs) parts.0 (lt-ltb td.consumed trbs (omega (arith, ltb-true (td.consumed + 1) trbs parts.1))))
 
 -- the event of a pending TD was seen

@@ -27,7 +27,8 @@ with_pipe-parts state DataOut now = refl
 routed-parts : (state : Shared) (client : ℕ) (act : Part → Act) → length (routed state client act).0.parts ≡ length state.parts
 routed-parts state client act = search rules
 
-engine_did-parts : (state : Shared) (retirement : Retirement) (stage : RetirementStage) → length (engine_did state retirement stage).0.parts ≡ length state.parts
+engine_did-parts : (state : Shared) (retirement : Retirement) (stage : RetirementStage) →
+    length (engine_did state retirement stage).0.parts ≡ length state.parts
 engine_did-parts state retirement StopAsked =
     routed-parts (at_stage (with_pipe state retirement.pipe stopped_pipe) retirement StopAnswered) retirement.place.client (stop_act retirement.place)
     ∙ with_pipe-parts state retirement.pipe stopped_pipe
@@ -40,7 +41,8 @@ engine_step-parts : (state : Shared) (retirement : Option Retirement) → length
 engine_step-parts state None = refl
 engine_step-parts state (Some retirement) = engine_did-parts state retirement retirement.stage
 
-stage_seen-parts : (state : Shared) (retirement : Retirement) (stage : RetirementStage) → length (stage_seen state retirement stage).0.parts ≡ length state.parts
+stage_seen-parts : (state : Shared) (retirement : Retirement) (stage : RetirementStage) →
+    length (stage_seen state retirement stage).0.parts ≡ length state.parts
 stage_seen-parts state retirement StopAsked = refl
 stage_seen-parts state retirement StopAnswered = refl
 stage_seen-parts state retirement MoveAsked = refl

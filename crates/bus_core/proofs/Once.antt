@@ -1,7 +1,6 @@
 -- Each ticket is accepted once and settled once.
 use Rattle.std.proofs.Common.{◌≡◌, ◌⊎◌, inl, inr, ℕ, zero, suc, ◌+◌, ◌<◌, ◌≤◌, List, [], ◌∷◌, ◌++◌, map, Option, Some, None, option_map, option_and_then}
-use Rattle.std.proofs.Common.{Bool, true, false, ◌&&◌, cond}
-use Rattle.std.proofs.Common.{refl, arith, ap, sym, ◌∙◌, subst, rules}
+use Rattle.std.proofs.Common.{Bool, true, false, ◌&&◌, cond, refl, arith, ap, sym, ◌∙◌, subst, rules}
 use Rattle.std.specs.Prelude.{All, slice_set, slice_get, is_some, replicate}
 use Rattle.std.proofs.Math.ListN.{get_or-map}
 use Rattle.std.proofs.Math.Seq.{map-set_same}
@@ -17,15 +16,13 @@ use Rattle.scsi_cmd.specs.declared.Request.TheVariants.{Execute, Manage}
 use Rattle.scsi_cmd.specs.declared.Task.{Task as SoloTask}
 use Rattle.scsi_cmd.specs.declared.TheConstants.{TASK_SLOT}
 use Rattle.solo_model.specs.declared.Phase.TheVariants.{Gone}
-use Rattle.solo_model.specs.TaggedTask.{TaggedTask}
+use Rattle.solo_model.specs.TaggedTask.{TaggedTask, after_notes, can_be_ended, carried, is_noted, moved, queued, queued_management, reply_of, sent}
 use Rattle.solo_model.specs.declared.Label.{Label}
 use Rattle.solo_model.specs.declared.Label.TheVariants.{Submit, Task, Carry, Move, Send, Settle}
 use Rattle.scsi_cmd.specs.Held.{held_at}
-use Rattle.solo_model.specs.TaggedTask.{after_notes, can_be_ended, carried, is_noted, moved, queued, queued_management, reply_of, sent}
 use Rattle.scsi_cmd.specs.Submission.{first_submit_fault, first_task_fault}
 use Rattle.solo_model.specs.Solo.{SoloState, solo_step, solo_run, silently, submitted, is_command_index, with_task, without_task, with_reply}
-use Rattle.solo_model.specs.Solo.{after_request, carried_at, is_there, managed, noted_tickets, task_index, with_request_carried}
-use Rattle.solo_model.specs.Solo.{opening as solo_opening}
+use Rattle.solo_model.specs.Solo.{after_request, carried_at, is_there, managed, noted_tickets, task_index, with_request_carried, opening as solo_opening}
 use Rattle.bus_core.specs.declared.Step.{Step}
 use Rattle.bus_core.specs.Replay.{replay}
 use Rattle.bus_core.specs.Isolation.{own_labels, own_replies, own_state}
@@ -160,7 +157,7 @@ made_of f (Some b) c is then = let same : f b ≡ c = cc in then b refl same
 -- a step that no ticket can tell
 pub record IsSilent (state : SoloState) (after : SoloState × Option Reply) : Type 0 where
   pub tickets_same : tickets after.0 ≡ tickets state
-  pub least_same : after.0.least ≡ state.least
+  pub least_same : after.0.least_ticket ≡ state.least_ticket
   pub reply : after.1 ≡ None
 
 -- a task that keeps its ticket
@@ -244,8 +241,8 @@ send-silent state (suc slot) after is =
 pub record IsGivenOut (state : SoloState) (ticket : ℕ) (after : SoloState × Option Reply) : Type 0 where
   pub slot : ℕ
   pub tickets_now : tickets after.0 ≡ slice_set (tickets state) slot (Some ticket)
-  pub least_now : after.0.least ≡ ticket + 1
-  pub least_before : state.least ≤ ticket
+  pub least_now : after.0.least_ticket ≡ ticket + 1
+  pub least_before : state.least_ticket ≤ ticket
   pub reply : after.1 ≡ None
 
 -- without a fault the ticket isn't below the least
@@ -257,17 +254,18 @@ submit-given_out : (state : SoloState) (index ticket : ℕ) (command : Command) 
     IsGivenOut state ticket after
 submit-given_out state zero ticket command after is = absurd (none-some after is)
 submit-given_out state (suc slot) ticket command after is =
-    let fault = first_submit_fault (is_command_index (suc slot)) (is_some (held_at state.tasks slot)) state.least ticket command in
+    let fault = first_submit_fault (is_command_index (suc slot)) (is_some (held_at state.tasks slot)) state.least_ticket ticket command in
     elim fault as (λ f. fault ≡ f → submitted state (suc slot) ticket command f ≡ Some after → IsGivenOut state ticket after) [
       | Some first ↦ λ found none. absurd (none-some after none)
       | None ↦ λ none some.
-          let made : SoloState × Option Reply = silently (record (with_task state (suc slot) (state.unit, queued ticket command)) { least = ticket + 1 }) in
+          let made : SoloState × Option Reply =
+          silently (record (with_task state (suc slot) (state.unit, queued ticket command)) { least_ticket = ticket + 1 }) in
           let same : made ≡ after = same_Some made after some in
           subst (IsGivenOut state ticket) same (record {
             slot = slot;
             tickets_now = map-set (option_map ticket_of) state.tasks slot (Some (queued ticket command));
             least_now = refl;
-            least_before = no_fault-least (is_command_index (suc slot)) (is_some (held_at state.tasks slot)) state.least ticket command none;
+            least_before = no_fault-least (is_command_index (suc slot)) (is_some (held_at state.tasks slot)) state.least_ticket ticket command none;
             reply = refl;
           })
     ] refl is
@@ -278,18 +276,18 @@ no_task_fault-least yours in_use least ticket there none = grind (arith, common_
 task-given_out : (state : SoloState) (ticket : ℕ) (task : SoloTask) (after : SoloState × Option Reply) → solo_step state (Task ticket task) ≡ Some after →
     IsGivenOut state ticket after
 task-given_out state ticket task after is =
-    let fault = first_task_fault true (is_some (held_at state.tasks TASK_SLOT)) state.least ticket (is_there state.tasks task) in
+    let fault = first_task_fault true (is_some (held_at state.tasks TASK_SLOT)) state.least_ticket ticket (is_there state.tasks task) in
     elim fault as (λ f. fault ≡ f → managed state ticket task f ≡ Some after → IsGivenOut state ticket after) [
       | Some first ↦ λ found none. absurd (none-some after none)
       | None ↦ λ none some.
           let submitted_task : TaggedTask = queued_management ticket task (noted_tickets state.tasks task) in
-          let made : SoloState × Option Reply = silently (record (with_task state task_index (state.unit, submitted_task)) { least = ticket + 1 }) in
+          let made : SoloState × Option Reply = silently (record (with_task state task_index (state.unit, submitted_task)) { least_ticket = ticket + 1 }) in
           let same : made ≡ after = same_Some made after some in
           subst (IsGivenOut state ticket) same (record {
             slot = TASK_SLOT;
             tickets_now = map-set (option_map ticket_of) state.tasks TASK_SLOT (Some submitted_task);
             least_now = refl;
-            least_before = no_task_fault-least true (is_some (held_at state.tasks TASK_SLOT)) state.least ticket (is_there state.tasks task) none;
+            least_before = no_task_fault-least true (is_some (held_at state.tasks TASK_SLOT)) state.least_ticket ticket (is_there state.tasks task) none;
             reply = refl;
           })
     ] refl is
@@ -300,7 +298,7 @@ pub record IsAnswered (state : SoloState) (after : SoloState × Option Reply) : 
   pub answer : Reply
   pub held : held_at (tickets state) slot ≡ Some (reply_ticket answer)
   pub tickets_now : tickets after.0 ≡ slice_set (tickets state) slot None
-  pub least_same : after.0.least ≡ state.least
+  pub least_same : after.0.least_ticket ≡ state.least_ticket
   pub reply : after.1 ≡ Some answer
 
 settle-answered : (state : SoloState) (index : ℕ) (after : SoloState × Option Reply) → solo_step state (Settle index) ≡ Some after → IsAnswered state after
@@ -347,60 +345,76 @@ answered-rest after answer labels last replies some is =
     answered-found (solo_run after.0 labels) after answer labels last replies refl (subst P some is)
 
 -- what is so of the tickets goes on where no ticket is told
-AreOnce-silent : (state : SoloState) (after : SoloState × Option Reply) (accepted settled : List ℕ) → AreOnce (tickets state) state.least accepted settled →
-    IsSilent state after → AreOnce (tickets after.0) after.0.least accepted settled
+AreOnce-silent : (state : SoloState) (after : SoloState × Option Reply) (accepted settled : List ℕ)
+    → AreOnce (tickets state) state.least_ticket accepted settled →
+    IsSilent state after → AreOnce (tickets after.0) after.0.least_ticket accepted settled
 AreOnce-silent state after accepted settled once silent = rw (silent.tickets_same, silent.least_same) once
 
 -- the same, where a ticket is given out
 AreOnce-given : (state : SoloState) (after : SoloState × Option Reply) (ticket : ℕ) (accepted settled : List ℕ)
-    → AreOnce (tickets state) state.least accepted settled →
-    IsGivenOut state ticket after → AreOnce (tickets after.0) after.0.least (accepted ++ ticket ∷ []) settled
+    → AreOnce (tickets state) state.least_ticket accepted settled →
+    IsGivenOut state ticket after → AreOnce (tickets after.0) after.0.least_ticket (accepted ++ ticket ∷ []) settled
 AreOnce-given state after ticket accepted settled once given =
-    rw (given.tickets_now, given.least_now) (AreOnce-submit (tickets state) state.least accepted settled given.slot ticket once given.least_before)
+    rw (given.tickets_now, given.least_now) (AreOnce-submit (tickets state) state.least_ticket accepted settled given.slot ticket once given.least_before)
 
 -- the same, where one is settled
-AreOnce-answered : (state : SoloState) (after : SoloState × Option Reply) (accepted settled : List ℕ) → AreOnce (tickets state) state.least accepted settled →
-    (told : IsAnswered state after) → AreOnce (tickets after.0) after.0.least accepted (settled ++ reply_ticket told.answer ∷ [])
+AreOnce-answered : (state : SoloState) (after : SoloState × Option Reply) (accepted settled : List ℕ)
+    → AreOnce (tickets state) state.least_ticket accepted settled →
+    (told : IsAnswered state after) → AreOnce (tickets after.0) after.0.least_ticket accepted (settled ++ reply_ticket told.answer ∷ [])
 AreOnce-answered state after accepted settled once told =
-    rw (told.tickets_now, told.least_same) (AreOnce-settle (tickets state) state.least accepted settled told.slot (reply_ticket told.answer) once told.held)
+    rw (told.tickets_now, told.least_same)
+    (AreOnce-settle (tickets state) state.least_ticket accepted settled told.slot (reply_ticket told.answer) once told.held)
+
+-- what is so of the rest of a run, from any state after its first step
+abbrev RestIsOnce : List Label → SoloState → List Reply → List ℕ → List ℕ → Type 0
+RestIsOnce labels last replies accepted settled =
+    (after : SoloState) → AreOnce (tickets after) after.least_ticket accepted settled → solo_run after labels ≡ Some (last, replies)
+    → SettlesOnce accepted settled labels replies
+
+-- a first step that tells no ticket
+silent-once : (state : SoloState) (label : Label) (labels : List Label) (last : SoloState) (replies : List Reply) (accepted settled : List ℕ)
+    → AreOnce (tickets state) state.least_ticket accepted settled
+    → ((after : SoloState × Option Reply) → solo_step state label ≡ Some after → IsSilent state after)
+    → RestIsOnce labels last replies accepted settled → solo_run state (label ∷ labels) ≡ Some (last, replies)
+    → SettlesOnce accepted settled labels replies
+silent-once state label labels last replies accepted settled once silent rest is =
+    option_and_then_some (λ after. option_map (with_reply after.1) (solo_run after.0 labels)) (solo_step state label) (last, replies) is
+    (λ after step run.
+    let quiet : IsSilent state after = silent after step in
+    rest after.0 (AreOnce-silent state after accepted settled once quiet) (silent-rest after labels last replies quiet.reply run))
+
+-- one that gives a ticket out
+given-once : (state : SoloState) (label : Label) (labels : List Label) (last : SoloState) (replies : List Reply) (accepted settled : List ℕ) (ticket : ℕ)
+    → AreOnce (tickets state) state.least_ticket accepted settled
+    → ((after : SoloState × Option Reply) → solo_step state label ≡ Some after → IsGivenOut state ticket after)
+    → RestIsOnce labels last replies (accepted ++ ticket ∷ []) settled → solo_run state (label ∷ labels) ≡ Some (last, replies)
+    → All (λ earlier. earlier < ticket) accepted × SettlesOnce (accepted ++ ticket ∷ []) settled labels replies
+given-once state label labels last replies accepted settled ticket once gives rest is =
+    option_and_then_some (λ after. option_map (with_reply after.1) (solo_run after.0 labels)) (solo_step state label) (last, replies) is
+    (λ after step run.
+    let given : IsGivenOut state ticket after = gives after step in (
+      All-weaker (λ t. t < state.least_ticket) (λ t. t < ticket) (λ t below. omega (arith, given.least_before)) accepted once.accepted_below,
+      rest after.0 (AreOnce-given state after ticket accepted settled once given) (silent-rest after labels last replies given.reply run),
+    ))
 
 pub run-once : (state : SoloState) (labels : List Label) (last : SoloState) (replies : List Reply) (accepted settled : List ℕ) →
-    AreOnce (tickets state) state.least accepted settled → solo_run state labels ≡ Some (last, replies) → SettlesOnce accepted settled labels replies
+    AreOnce (tickets state) state.least_ticket accepted settled → solo_run state labels ≡ Some (last, replies) → SettlesOnce accepted settled labels replies
 run-once state [] last replies accepted settled once is = let none = some_pair_parts state last [] replies is in sym none.1
 run-once state (Submit index ticket command ∷ labels) last replies accepted settled once is =
-    option_and_then_some (λ after. option_map (with_reply after.1) (solo_run after.0 labels)) (solo_step state (Submit index ticket command))
-    (last, replies) is (λ after step rest.
-    let given = submit-given_out state index ticket command after step in
-    let now = AreOnce-given state after ticket accepted settled once given in (
-      All-weaker (λ t. t < state.least) (λ t. t < ticket) (λ t below. omega (arith, given.least_before)) accepted once.accepted_below,
-      run-once after.0 labels last replies (accepted ++ ticket ∷ []) settled now (silent-rest after labels last replies given.reply rest),
-    ))
+    given-once state (Submit index ticket command) labels last replies accepted settled ticket once (submit-given_out state index ticket command)
+    (λ after now run. run-once after labels last replies (accepted ++ ticket ∷ []) settled now run) is
 run-once state (Task ticket task ∷ labels) last replies accepted settled once is =
-    option_and_then_some (λ after. option_map (with_reply after.1) (solo_run after.0 labels)) (solo_step state (Task ticket task))
-    (last, replies) is (λ after step rest.
-    let given = task-given_out state ticket task after step in
-    let now = AreOnce-given state after ticket accepted settled once given in (
-      All-weaker (λ t. t < state.least) (λ t. t < ticket) (λ t below. omega (arith, given.least_before)) accepted once.accepted_below,
-      run-once after.0 labels last replies (accepted ++ ticket ∷ []) settled now (silent-rest after labels last replies given.reply rest),
-    ))
+    given-once state (Task ticket task) labels last replies accepted settled ticket once (task-given_out state ticket task)
+    (λ after now run. run-once after labels last replies (accepted ++ ticket ∷ []) settled now run) is
 run-once state (Carry index ∷ labels) last replies accepted settled once is =
-    option_and_then_some (λ after. option_map (with_reply after.1) (solo_run after.0 labels)) (solo_step state (Carry index)) (last, replies) is
-    (λ after step rest.
-    let silent = carry-silent state index after step in
-    run-once after.0 labels last replies accepted settled (AreOnce-silent state after accepted settled once silent)
-    (silent-rest after labels last replies silent.reply rest))
+    silent-once state (Carry index) labels last replies accepted settled once (carry-silent state index)
+    (λ after now run. run-once after labels last replies accepted settled now run) is
 run-once state (Move index ∷ labels) last replies accepted settled once is =
-    option_and_then_some (λ after. option_map (with_reply after.1) (solo_run after.0 labels)) (solo_step state (Move index)) (last, replies) is
-    (λ after step rest.
-    let silent = move-silent state index after step in
-    run-once after.0 labels last replies accepted settled (AreOnce-silent state after accepted settled once silent)
-    (silent-rest after labels last replies silent.reply rest))
+    silent-once state (Move index) labels last replies accepted settled once (move-silent state index)
+    (λ after now run. run-once after labels last replies accepted settled now run) is
 run-once state (Send index ∷ labels) last replies accepted settled once is =
-    option_and_then_some (λ after. option_map (with_reply after.1) (solo_run after.0 labels)) (solo_step state (Send index)) (last, replies) is
-    (λ after step rest.
-    let silent = send-silent state index after step in
-    run-once after.0 labels last replies accepted settled (AreOnce-silent state after accepted settled once silent)
-    (silent-rest after labels last replies silent.reply rest))
+    silent-once state (Send index) labels last replies accepted settled once (send-silent state index)
+    (λ after now run. run-once after labels last replies accepted settled now run) is
 run-once state (Settle index ∷ labels) last replies accepted settled once is =
     option_and_then_some (λ after. option_map (with_reply after.1) (solo_run after.0 labels)) (solo_step state (Settle index)) (last, replies) is
     (λ after step rest.

@@ -106,7 +106,7 @@ part-opening : (units : List BlockMaps) (lines : LinesState) (client : ℕ) (uni
 part-opening units lines client unit new few = record {
   number = refl;
   unit_same = refl;
-  least = refl;
+  least_ticket = refl;
   ready = refl;
   slots = refl;
   cells = λ slot within.

@@ -1,6 +1,6 @@
 -- Each step of the shared machine keeps the order facts, and they hold at the start. Cited by the law order_is_kept, by
 -- MatchedSteps and by MatchedOpening.
-use Rattle.std.proofs.Common.{◌≡◌, ℕ, zero, suc, ◌<◌, ◌≤◌, ◌+◌, Bool, true, false, cond, List, [], ◌∷◌, ◌++◌, length, replicate, Option, Some, None, IfSome}
+use Rattle.std.proofs.Common.{◌≡◌, ℕ, zero, suc, ◌<◌, ◌≤◌, ◌+◌, true, false, cond, List, [], ◌∷◌, ◌++◌, length, replicate, Option, Some, None}
 use Rattle.std.proofs.Common.{refl, arith, ap, sym, subst, ◌∙◌, append-nil}
 use Rattle.std.specs.Prelude.{◌==◌, ◌&&◌, nat_lt, is_some, slice_get, slice_set, option_and_then, option_to_list}
 use Rattle.std.specs.Option.{option_map_or}
@@ -11,14 +11,13 @@ use Rattle.block_unit.specs.BlockMaps.{BlockMaps}
 use Rattle.scsi_cmd.specs.Held.{held_at}
 use Rattle.scsi_cmd.specs.Op.{direction_of}
 use Rattle.scsi_cmd.specs.declared.Command.{Command}
-use Rattle.scsi_cmd.specs.declared.Direction.{Direction}
-use Rattle.scsi_cmd.specs.declared.Direction.TheVariants.{Nothing, ToHost, ToDevice}
 use Rattle.scsi_cmd.specs.declared.Reply.{Reply}
 use Rattle.scsi_cmd.specs.declared.SubmitFault.{SubmitFault}
 use Rattle.scsi_cmd.specs.declared.Task.{Task}
 use Rattle.scsi_cmd.specs.declared.TheConstants.{TASK_SLOT}
 use Rattle.stream_array.specs.declared.Pipe.{Pipe}
 use Rattle.stream_array.specs.declared.Pipe.TheVariants.{Command as CommandPipeName, Status as StatusPipe, DataIn, DataOut}
+use Rattle.uas_host.specs.State.{is_over, is_pending, is_seen}
 use Rattle.uas_host.specs.Tags.{command_slot, place_of}
 use Rattle.uas_host.specs.declared.Place.{Place}
 use Rattle.uas_host.specs.declared.TdState.{TdState}
@@ -35,18 +34,20 @@ use Rattle.bus_core.specs.declared.RetirementStage.TheVariants.{StopAsked, StopA
 use Rattle.bus_core.specs.declared.Step.{Step}
 use Rattle.bus_core.specs.declared.Step.TheVariants.{Submit, Task as TaskStep, CommandPipe, Data, Status, Engine, Event, Retire, Take}
 use Rattle.bus_core.specs.declared.Td.{Td}
-use Rattle.bus_core.specs.Td.{Entry, data_trbs, is_awaited, is_data_over, is_in_ring, is_over, is_pending, is_ready, is_seen}
-use Rattle.bus_core.specs.Part.{Act, Part, carry_act, entry_reply, event_act, fault_at, managed_part, move_act, named_slot, new_entry, new_management}
-use Rattle.bus_core.specs.Part.{new_part}
+use Rattle.bus_core.specs.Td.{Entry, data_trbs, is_awaited, is_data_over, is_in_ring, is_ready}
+use Rattle.bus_core.specs.Part.{Act, Part, carry_act, entry_reply, event_act, fault_at, managed_part, move_act, named_slot, new_entry, new_management, new_part}
 use Rattle.bus_core.specs.Part.{noted_tickets, nothing, pass_act, retire_act, send_act, settled, slot_tag, stop_act, submitted_part, take_act, taken}
 use Rattle.bus_core.specs.Part.{task_fault_at}
 use Rattle.bus_core.specs.Shared.{Shared, accepted, acted_on, answered, at_stage, carry_step, due, due_step, engine_did, engine_seen, engine_step, event_seen}
 use Rattle.bus_core.specs.Shared.{event_step, idle, managed, managed_or, managed_to, new_parts, opening, pipe_of, retire_step, routed, routed_by_tag}
-use Rattle.bus_core.specs.Shared.{routed_to, shared_step, stage_seen, streams_pending, submitted_to, submitted_under, with_pipe, with_streams_rung}
-use Rattle.bus_core.specs.Soundness.{awaited_data, one_if, times_in}
+use Rattle.bus_core.specs.Shared.{routed_to, shared_step, stage_seen, streams_pending, submitted_to, submitted_under, with_pipe}
+use Rattle.bus_core.specs.Soundness.{one_if, times_in}
 use Rattle.bus_core.specs.Ordered.{AreBehind, AreRising, IsLater, IsOrdered, IsOrderedPart, under}
 use Rattle.bus_core.specs.Matched.{IsMatched, IsMatchedAt, readied_in, times, times_ready}
-use Rattle.bus_core.proofs.OrderedActs.{IsKeptBy, event_act-kept, move_act-kept, news-behind, nothing-kept, pass_act-kept, retire_act-kept, send_act-kept}
+use Rattle.bus_core.proofs.MatchedEnds.{over-pends, over-data}
+use Rattle.bus_core.proofs.MatchedPlaces.{one_if-true}
+use Rattle.bus_core.proofs.MatchedSubmissions.{rung-events, slots-there}
+use Rattle.bus_core.proofs.OrderedActs.{IsKeptBy, event_act-kept, move_act-kept, notice-behind, nothing-kept, pass_act-kept, retire_act-kept, send_act-kept}
 use Rattle.bus_core.proofs.OrderedActs.{stop_act-kept}
 use Rattle.bus_core.proofs.OrderedCarry.{carry_act-kept}
 use Rattle.bus_core.proofs.OrderedEvents.{behind-rest, behind-same, named_in}
@@ -55,7 +56,8 @@ use Rattle.bus_core.proofs.OrderedMessages.{IsSame, IsSame-self, IsSameAt, onwar
 use Rattle.bus_core.proofs.OrderedParts.{left-ordered}
 use Rattle.bus_core.proofs.OrderedSubmissions.{IsInTurn, managed-ordered, submit-turn, submitted-ordered, task-turn}
 use Rattle.bus_core.proofs.OwnSlots.{command_slot-own}
-use Rattle.bus_core.proofs.Routes.{there, slice_get-slice_set_same}
+use Rattle.bus_core.proofs.Routes.{slice_get-slice_set_same}
+use Rattle.bus_core.proofs.Standing.{not_some, get-within}
 
 -- ENTRIES TAKEN ON
 
@@ -72,7 +74,7 @@ acted-ordered state client part act found kept old =
       parts = part-written IsOrderedPart state.parts client part act.part found old.parts kept.ordered;
       messages = rising-same state.parts parts state.messages (λ place named. same place) old.messages;
       events = behind-same state.parts parts (state.events ++ option_to_list act.event) (λ place named. same place)
-          (news-behind state act.event kept.news old.events);
+          (notice-behind state act.event kept.notice old.events);
     }
 
 routed-ordered : (state : Shared) (client : ℕ) (act : Part → Act) → IsOrdered state
@@ -188,18 +190,8 @@ seen-reclaimed Seen is = refl
 seen-reclaimed LeftOver is = absurd (false≢true is)
 seen-reclaimed Retired is = absurd (false≢true is)
 
-over-idle : (state : TdState) → is_over state ≡ true → is_pending state ≡ false
-over-idle Pending is = absurd (false≢true is)
-over-idle Seen is = refl
-over-idle LeftOver is = absurd (false≢true is)
-over-idle Retired is = refl
-
 over-unawaited : (trbs : ℕ) (td : Td) → is_over td.state ≡ true → one_if (is_awaited td trbs) ≡ 0
-over-unawaited trbs td is = ap one_if (and_left (is_pending td.state) (td.consumed == trbs) (over-idle td.state is))
-
-over-data : (trbs : ℕ) (td : Option Td) → is_data_over td ≡ true → awaited_data trbs td ≡ 0
-over-data trbs None is = refl
-over-data trbs (Some td) is = over-unawaited trbs td is
+over-unawaited trbs td is = ap one_if (and_left (is_pending td.state) (td.consumed == trbs) (over-pends td.state is))
 
 -- an entry that is ready waits for nothing
 unnamed-ready : (state : Shared) (place : Place) (entry : Entry) → IsMatchedAt state place (Some entry) → is_ready entry ≡ true → IsUnnamed state place
@@ -218,10 +210,6 @@ unnamed-ready state place entry at ready =
       );
     }
 
-one-true : (b : Bool) → 1 ≤ one_if b → b ≡ true
-one-true true some = refl
-one-true false some = absurd (omega (arith, some))
-
 -- the slot that was ready first
 unnamed-first : (state : Shared) (place : Place) (part : Part) (rest : List ℕ) (held : Option Entry) → slice_get state.parts place.client ≡ Some part
     → part.ready ≡ place.slot ∷ rest → IsMatchedAt state place held → IsUnnamed state place
@@ -230,7 +218,7 @@ unnamed-first state place part rest (Some entry) found queue at =
     let counted : times_ready state.parts place ≡ times_in place.slot (place.slot ∷ rest) =
     ap (λ one. option_map_or (readied_in place) one 0) found ∙ ap (λ ready. times_in place.slot ready) queue in
     let one : one_if (place.slot == place.slot) ≡ 1 = ap one_if (eq-eqb place.slot place.slot refl) in
-    unnamed-ready state place entry at (one-true (is_ready entry) (omega (arith, counted, one, at.ready)))
+    unnamed-ready state place entry at (one_if-true (is_ready entry) (omega (arith, counted, one, at.ready)))
 
 -- a write to a slot that nothing names leaves what is named
 same-elsewhere : (parts : List Part) (client slot : ℕ) (part now : Part) (place : Place) → slice_get parts client ≡ Some part
@@ -303,7 +291,7 @@ record IsAddedAt (state new : Shared) (place : Place) (part now : Part) (entry :
   found : slice_get state.parts place.client ≡ Some part
   free : held_at part.entries place.slot ≡ None
   within : place.slot < length part.entries
-  next : part.least ≤ entry.task.ticket
+  next : part.least_ticket ≤ entry.task.ticket
   entries : now.entries ≡ slice_set part.entries place.slot (Some entry)
   ordered : IsOrderedPart place.client now
   parts : new.parts ≡ slice_set state.parts place.client now
@@ -323,7 +311,7 @@ added-later state new place part now entry is all same other named client =
     ∙ get_or-set_same part.entries place.slot (Some entry) None is.within in
     let held : held_at part.entries other.slot ≡ Some waits.entry =
     sym (under-there state.parts other part (ap (λ c. slice_get state.parts c) client ∙ is.found)) ∙ waits.is in
-    let below : waits.entry.task.ticket < part.least = (all.ordered.parts place.client part is.found).tickets.below other.slot waits.entry held in
+    let below : waits.entry.task.ticket < part.least_ticket = (all.ordered.parts place.client part is.found).tickets.below other.slot waits.entry held in
     let kept = same other named in
     omega (arith, below, is.next, ticket-here parts place entry added, kept.ticket, ticket-here state.parts other waits.entry waits.is)
 
@@ -349,27 +337,15 @@ added-state state new place part now entry is all =
           (event-apart state place.client place.slot other unnamed named)) all.ordered.events));
     }
 
-free-none : (held : Option Entry) → is_some held ≡ false → held ≡ None
-free-none None is = refl
-free-none (Some entry) is = absurd (false≢true (sym is))
-
-slots-there : (state : Shared) (client : ℕ) (part : Part) → IsMatched state → slice_get state.parts client ≡ Some part → length part.entries ≡ 8
-slots-there state client part all found = subst (λ one. IfSome one (λ part. length part.entries ≡ 8)) found (all.slots client)
-
-rung-events : (state : Shared) (way : Direction) (tag : ℕ) → (with_streams_rung state way tag).events ≡ state.events
-rung-events state Nothing tag = refl
-rung-events state ToHost tag = refl
-rung-events state ToDevice tag = refl
-
 answered-ordered : (state : Shared) (part : Part) (place : Place) (tag ticket : ℕ) (command : Command) (fault : Option SubmitFault)
     → slice_get state.parts place.client ≡ Some part → place.slot < length part.entries → fault_at part place.slot ticket command ≡ fault → IsMatched state
     → IsOrdered (answered state part place tag ticket command fault).0
 answered-ordered state part place tag ticket command None found within is all =
-    let turn : IsInTurn (is_some (held_at part.entries place.slot)) part.least ticket = submit-turn _ part.least ticket command is in
+    let turn : IsInTurn (is_some (held_at part.entries place.slot)) part.least_ticket ticket = submit-turn _ part.least_ticket ticket command is in
     added-state state (accepted state part place tag ticket command).0 place part (submitted_part part place.slot ticket command)
     (new_entry ticket command) (record {
       found = found;
-      free = free-none (held_at part.entries place.slot) turn.free;
+      free = not_some (held_at part.entries place.slot) turn.free;
       within = within;
       next = turn.next;
       entries = refl;
@@ -403,16 +379,16 @@ managed_or-ordered : (state : Shared) (part : Part) (client ticket : ℕ) (task 
 managed_or-ordered state part client ticket task None found is all =
     let place : Place = record { client = client; slot = TASK_SLOT } in
     let named : Option ℕ = named_slot (length state.parts) client task in
-    let turn : IsInTurn (is_some (held_at part.entries TASK_SLOT)) part.least ticket = task-turn _ part.least ticket _ is in
+    let turn : IsInTurn (is_some (held_at part.entries TASK_SLOT)) part.least_ticket ticket = task-turn _ part.least_ticket ticket _ is in
     let within : TASK_SLOT < length part.entries = omega (arith, slots-there state client part all found) in
     added-state state (managed state part place named ticket task).0 place part (managed_part part named ticket task)
     (new_management ticket task (noted_tickets part named task)) (record {
       found = found;
-      free = free-none (held_at part.entries TASK_SLOT) turn.free;
+      free = not_some (held_at part.entries TASK_SLOT) turn.free;
       within = within;
       next = turn.next;
       entries = refl;
-      ordered = managed-ordered (length state.parts) client part ticket task (there state.parts client part found) within turn.next
+      ordered = managed-ordered (length state.parts) client part ticket task (get-within state.parts client part found) within turn.next
           (all.ordered.parts client part found);
       parts = refl;
       messages = refl;
@@ -452,7 +428,7 @@ shared_step-ordered state step all =
 
 -- THE START
 
-none-held : (n slot : ℕ) → held_at (replicate n (let none : Option Entry = None in none)) slot ≡ None
+pub none-held : (n slot : ℕ) → held_at (replicate n (let none : Option Entry = None in none)) slot ≡ None
 none-held zero slot = refl
 none-held (suc n) zero = refl
 none-held (suc n) (suc slot) = none-held n slot

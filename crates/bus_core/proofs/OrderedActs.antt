@@ -1,6 +1,6 @@
 -- Each act of the device and of the host on a client's part keeps its order facts, and what it posts isn't behind a response that noted it. Cited by
 -- OrderedCarry and Ordered.
-use Rattle.std.proofs.Common.{◌≡◌, ℕ, ◌<◌, ◌≤◌, Bool, true, false, cond, List, ◌++◌, Option, Some, None, refl, ap, sym, subst, ◌∙◌, rules, append-nil}
+use Rattle.std.proofs.Common.{◌≡◌, ℕ, ◌<◌, ◌≤◌, Bool, true, false, cond, List, ◌++◌, Option, Some, None, refl, ap, sym, subst, ◌∙◌, append-nil}
 use Rattle.std.specs.Prelude.{◌==◌, slice_get, slice_set, option_and_then, option_to_list}
 use Rattle.std.specs.Option.{option_map_or}
 use Rattle.std.proofs.lemmas.Bool.{and_parts, eqb-true, false≢true, false_from_ne_true}
@@ -11,8 +11,7 @@ use Rattle.scsi_cmd.specs.declared.Request.{Request}
 use Rattle.scsi_cmd.specs.declared.Request.TheVariants.{Execute, Manage}
 use Rattle.scsi_cmd.specs.declared.TheConstants.{TASK_SLOT}
 use Rattle.device_server.specs.declared.Progress.TheVariants.{Moving, Ended}
-use Rattle.solo_model.specs.TaggedTask.{TaggedTask, can_go, moved, moved_from, moved_request}
-use Rattle.solo_model.specs.TaggedTask.{sent, sent_from}
+use Rattle.solo_model.specs.TaggedTask.{TaggedTask, can_go, moved, moved_from, moved_request, sent, sent_from}
 use Rattle.solo_model.specs.declared.Phase.{Phase}
 use Rattle.solo_model.specs.declared.Phase.TheVariants.{Queued, Begun, Sent, Gone}
 use Rattle.stream_array.specs.declared.Pipe.{Pipe}
@@ -26,9 +25,8 @@ use Rattle.bus_core.specs.Part.{send_act, sent_entry, sent_slot, stop_act, took_
 use Rattle.bus_core.specs.Shared.{Shared}
 use Rattle.bus_core.specs.Ordered.{AreBehind, IsOrderedPart, IsUnnoted, is_noted_by, is_queued, notes_ticket, ticket_at, under}
 use Rattle.bus_core.specs.Matched.{IsMatched, IsRequestIn, status_events}
-use Rattle.bus_core.proofs.Acts.{retired_on-task, seen_by-task, with_td_on-task}
-use Rattle.bus_core.proofs.OrderedEntries.{AreNext, AreNext-changed, AreNext-written, IsNext-self, IsOnward, IsOnward-then, IsStill, kept-still}
-use Rattle.bus_core.proofs.OrderedEntries.{IsNext-weaker}
+use Rattle.bus_core.proofs.Acts.{retired_on-task, seen_by-task, with_td_on-task, doomed-task}
+use Rattle.bus_core.proofs.OrderedEntries.{AreNext, AreNext-changed, AreNext-written, IsNext-self, IsOnward, IsOnward-then, IsStill, kept-still, IsNext-weaker}
 use Rattle.bus_core.proofs.OrderedEvents.{behind-more}
 use Rattle.bus_core.proofs.OrderedManaged.{here, management-at, noted-ended, of_client, status-there, ticket-here}
 use Rattle.bus_core.proofs.OrderedMessages.{notes_at, under-there}
@@ -37,28 +35,29 @@ use Rattle.bus_core.proofs.OrderedParts.{still-ordered}
 -- NEWS
 
 -- an event that is posted is of nothing that a response before it noted
-abbrev pub AreNews : Shared → Option Completion → Type 0
-AreNews state None = Unit {0}
-AreNews state (Some event) = (place : Place) → 1 ≤ status_events place state.events → IsUnnoted state.parts place event
+abbrev pub AreNotices : Shared → Option Completion → Type 0
+AreNotices state None = Unit {0}
+AreNotices state (Some event) = (place : Place) → 1 ≤ status_events place state.events → IsUnnoted state.parts place event
 
-pub news-behind : (state : Shared) (event : Option Completion) → AreNews state event → AreBehind state.parts state.events
+pub notice-behind : (state : Shared) (event : Option Completion) → AreNotices state event → AreBehind state.parts state.events
     → AreBehind state.parts (state.events ++ option_to_list event)
-news-behind state None news is = subst (λ events. AreBehind state.parts events) (sym (append-nil state.events)) is
-news-behind state (Some event) news is = behind-more state.parts event state.events news is
+notice-behind state None notice is = subst (λ events. AreBehind state.parts events) (sym (append-nil state.events)) is
+notice-behind state (Some event) notice is = behind-more state.parts event state.events notice is
 
 -- an act that takes the client's entries on
 pub record IsKeptBy (state : Shared) (client : ℕ) (part : Part) (act : Act) : Type 0 where
   pub onward : AreNext IsOnward part.entries act.part.entries
   pub ordered : IsOrderedPart client act.part
-  pub news : AreNews state act.event
+  pub notice : AreNotices state act.event
 
 -- one in which nothing is received
-pub still-kept : (state : Shared) (client : ℕ) (part : Part) (act : Act) → act.part.least ≡ part.least → AreNext IsStill part.entries act.part.entries
-    → AreNews state act.event → IsOrderedPart client part → IsKeptBy state client part act
-still-kept state client part act least each news old = record {
+pub still-kept : (state : Shared) (client : ℕ) (part : Part) (act : Act) → act.part.least_ticket ≡ part.least_ticket
+    → AreNext IsStill part.entries act.part.entries
+    → AreNotices state act.event → IsOrderedPart client part → IsKeptBy state client part act
+still-kept state client part act least each notice old = record {
   onward = λ slot. IsNext-weaker IsStill IsOnward (λ was now still. still.onward) (held_at part.entries slot) (held_at act.part.entries slot) (each slot);
   ordered = still-ordered client part act.part least each old;
-  news = news;
+  notice = notice;
 }
 
 self-still : (entry : Entry) → IsStill entry entry
@@ -166,9 +165,9 @@ written-still : (entries : List (Option Entry)) (slot : ℕ) (was now : Entry) �
     → AreNext IsStill entries (slice_set entries slot (Some now))
 written-still entries slot was now held still = AreNext-written IsStill entries entries slot was now held still (all-still entries)
 
-posted-news : (state : Shared) (b : Bool) (event : Completion) → AreNews state (Some event) → AreNews state (cond b (Some event) None)
-posted-news state true event news = news
-posted-news state false event news = tt
+posted-notice : (state : Shared) (b : Bool) (event : Completion) → AreNotices state (Some event) → AreNotices state (cond b (Some event) None)
+posted-notice state true event notice = notice
+posted-notice state false event notice = tt
 
 move-kept : (state : Shared) (place : Place) (part : Part) (entry : Entry) (after : Option (BlockMaps × TaggedTask)) → IsMatched state
     → slice_get state.parts place.client ≡ Some part → held_at part.entries place.slot ≡ Some entry → moved part.unit entry.task ≡ after
@@ -180,7 +179,7 @@ move-kept state place part entry (Some after) all there held is =
     let found : under state.parts place ≡ Some entry = under-there state.parts place part there ∙ held in
     still-kept state place.client part (moved_entry part place.slot place entry (Some after)) refl
     (written-still part.entries place.slot entry now held (going-still entry now on))
-    (posted-news state (is_last_trb (took_trb after.1.phase) (data_trbs entry.task.request) entry.data_td) (DataDone place)
+    (posted-notice state (is_last_trb (took_trb after.1.phase) (data_trbs entry.task.request) entry.data_td) (DataDone place)
     (going-unnoted state place entry all found on.goes))
     (all.ordered.parts place.client part there)
 
@@ -221,9 +220,6 @@ still-then : (was now next : Entry) → IsStill was now → next.task ≡ now.ta
 still-then was now next still same =
     let kept = kept-still now next same in
     record { onward = IsOnward-then was now next still.onward kept.onward; queued = λ is. kept.queued (still.queued is) }
-
-doomed-task : (noted : List ℕ) (entry : Entry) → (doomed noted entry).task ≡ entry.task
-doomed-task noted entry = search rules
 
 answer-still : (request : Request) (entries after : List (Option Entry)) → AreNext IsStill entries after → AreNext IsStill entries (after_answer request after)
 answer-still (Execute op) entries after each = each

@@ -7,12 +7,13 @@ use Rattle.std.proofs.lemmas.List.{get_or-set_other}
 use Rattle.std.proofs.lemmas.Option.{none-some, same_Some}
 use Rattle.arrayvec.specs.ArrayVec.{ArrayVec}
 use Rattle.block_unit.specs.BlockMaps.{BlockMaps}
+use Rattle.scsi_cmd.specs.Request.{is_command}
 use Rattle.scsi_cmd.specs.Held.{held_at}
 use Rattle.scsi_cmd.specs.declared.Request.{Request}
 use Rattle.scsi_cmd.specs.declared.Request.TheVariants.{Execute, Manage}
 use Rattle.scsi_cmd.specs.declared.Task.{Task}
 use Rattle.scsi_cmd.specs.declared.TheConstants.{TASK_SLOT}
-use Rattle.solo_model.specs.TaggedTask.{TaggedTask, can_be_ended, can_go, carried, carried_from, carried_request, is_command, is_noted}
+use Rattle.solo_model.specs.TaggedTask.{TaggedTask, can_be_ended, can_go, carried, carried_from, carried_request, is_noted}
 use Rattle.solo_model.specs.declared.Phase.{Phase}
 use Rattle.solo_model.specs.declared.Phase.TheVariants.{Queued, Begun, Sent, Gone}
 use Rattle.uas_host.specs.declared.Place.{Place}
@@ -211,7 +212,7 @@ carried-kept state place rest part entry (Some after) is begun =
       onward = each;
       ordered = onward-ordered place.client part (received_part part place.slot entry after.0 now) refl each
           (received-first state place rest part entry after.0 now is) (is.all.ordered.parts place.client part is.there);
-      news = λ other named. tt;
+      notice = λ other named. tt;
     }
 
 carry_slot-kept : (state : Shared) (place : Place) (rest : List Place) (part : Part) (held : Option Entry) → IsMatched state → state.messages ≡ place ∷ rest

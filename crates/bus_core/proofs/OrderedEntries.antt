@@ -1,8 +1,7 @@
 -- What a step of the device or of the host makes of a client's entries, as far as their order goes: each keeps its ticket and its request, none that was
 -- received is queued again, and none that is done with goes on. Cited by OrderedMessages, OrderedParts,
 -- OrderedActs and OrderedCarry.
-use Rattle.std.proofs.Common.{◌≡◌, ℕ, zero, suc, ◌<◌, true, false, List, [], ◌∷◌, map, length, Option, Some, None, option_map, refl, arith, ap, sym, subst}
-use Rattle.std.proofs.Common.{◌∙◌}
+use Rattle.std.proofs.Common.{◌≡◌, ℕ, ◌<◌, true, false, List, map, length, Option, Some, None, option_map, refl, ap, sym, subst, ◌∙◌}
 use Rattle.std.specs.Prelude.{◌==◌, slice_set}
 use Rattle.std.proofs.Math.ListN.{get_or-map}
 use Rattle.std.proofs.lemmas.Bool.{eqb-true, eqb-false}
@@ -12,6 +11,7 @@ use Rattle.scsi_cmd.specs.Held.{held_at}
 use Rattle.solo_model.specs.TaggedTask.{TaggedTask, can_go}
 use Rattle.bus_core.specs.Td.{Entry}
 use Rattle.bus_core.specs.Ordered.{is_queued}
+use Rattle.bus_core.proofs.MatchedPlaces.{held-within}
 
 -- ONE ENTRY
 
@@ -102,18 +102,12 @@ next-before Holds (Some other) (Some now) was is at =
 
 -- A WRITE
 
--- a slot that holds something is one of the slots
-pub held-there : (entries : List (Option Entry)) (slot : ℕ) (entry : Entry) → held_at entries slot ≡ Some entry → slot < length entries
-held-there [] slot entry is = absurd (none-some entry is)
-held-there (held ∷ rest) zero entry is = omega arith
-held-there (held ∷ rest) (suc slot) entry is = omega (arith, held-there rest slot entry is)
-
 -- one slot is written, over entries that are each another one's next
 pub AreNext-written : (Holds : Entry → Entry → Type 0) (entries after : List (Option Entry)) (slot : ℕ) (was now : Entry) → held_at entries slot ≡ Some was
     → Holds was now → AreNext Holds entries after → AreNext Holds entries (slice_set after slot (Some now))
 AreNext-written Holds entries after slot was now held so each other =
     let there = next-before Holds (held_at entries slot) (held_at after slot) was (each slot) held in
-    let within : slot < length after = held-there after slot there.now there.held_now in
+    let within : slot < length after = held-within after slot there.now there.held_now in
     elim (other == slot) as (λ b. (other == slot) ≡ b → IsNext Holds (held_at entries other) (held_at (slice_set after slot (Some now)) other)) [
       | true ↦ λ is. let same : slot ≡ other = sym (eqb-true other slot is) in
           subst (λ at. IsNext Holds (held_at entries at) (held_at (slice_set after slot (Some now)) at)) same

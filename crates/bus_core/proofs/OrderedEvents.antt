@@ -9,7 +9,8 @@ use Rattle.bus_core.specs.Part.{Part}
 use Rattle.bus_core.specs.Soundness.{one_if}
 use Rattle.bus_core.specs.Ordered.{ticket_at, is_noted_by, IsUnnoted, AreUnnoted, AreBehind}
 use Rattle.bus_core.specs.Matched.{same_place, data_events, status_events}
-use Rattle.bus_core.proofs.OrderedMessages.{one_place, place_same, notes_at, IsSameAt}
+use Rattle.bus_core.proofs.MatchedPlaces.{one_self, same_place-true}
+use Rattle.bus_core.proofs.OrderedMessages.{notes_at, IsSameAt}
 
 -- how many events are of a place's data or status TD
 abbrev pub named_in : Place → List Completion → ℕ
@@ -27,11 +28,11 @@ unnoted-same : (parts after : List Part) (place : Place) (events : List Completi
 unnoted-same parts after place [] same each is = tt
 unnoted-same parts after place (CommandDone other ∷ rest) same each is = (tt, unnoted-same parts after place rest same each is.1)
 unnoted-same parts after place (DataDone other ∷ rest) same each is = (
-  noted-same parts after place other same (each other (omega (arith, one_place other))) ∙ is.0,
+  noted-same parts after place other same (each other (omega (arith, one_self other))) ∙ is.0,
   unnoted-same parts after place rest same (λ one named. each one (omega (arith, named))) is.1,
 )
 unnoted-same parts after place (StatusDone other ∷ rest) same each is = (
-  noted-same parts after place other same (each other (omega (arith, one_place other))) ∙ is.0,
+  noted-same parts after place other same (each other (omega (arith, one_self other))) ∙ is.0,
   unnoted-same parts after place rest same (λ one named. each one (omega (arith, named))) is.1,
 )
 unnoted-same parts after place (EngineDone other ∷ rest) same each is = (tt, unnoted-same parts after place rest same each is.1)
@@ -43,7 +44,7 @@ behind-same parts after (CommandDone place ∷ rest) each is = behind-same parts
 behind-same parts after (DataDone place ∷ rest) each is = behind-same parts after rest (λ other named. each other (omega (arith, named))) is
 behind-same parts after (StatusDone place ∷ rest) each is =
     let others : (other : Place) → 1 ≤ named_in other rest → IsSameAt parts after other = λ other named. each other (omega (arith, named)) in
-    (unnoted-same parts after place rest (each place (omega (arith, one_place place))) others is.0, behind-same parts after rest others is.1)
+    (unnoted-same parts after place rest (each place (omega (arith, one_self place))) others is.0, behind-same parts after rest others is.1)
 behind-same parts after (EngineDone place ∷ rest) each is = behind-same parts after rest each is
 
 -- one more event, of nothing that a response before it noted
@@ -65,7 +66,7 @@ behind-more parts last [] unnoted is = behind-alone parts last
 behind-more parts last (CommandDone place ∷ rest) unnoted is = behind-more parts last rest unnoted is
 behind-more parts last (DataDone place ∷ rest) unnoted is = behind-more parts last rest unnoted is
 behind-more parts last (StatusDone place ∷ rest) unnoted is = (
-  unnoted-more parts place last rest (unnoted place (omega (arith, one_place place))) is.0,
+  unnoted-more parts place last rest (unnoted place (omega (arith, one_self place))) is.0,
   behind-more parts last rest (λ other named. unnoted other (omega (arith, named))) is.1,
 )
 behind-more parts last (EngineDone place ∷ rest) unnoted is = behind-more parts last rest unnoted is
@@ -82,7 +83,7 @@ noted-apart : (parts : List Part) (place first other : Place) → is_noted_by pa
     → one_if (same_place first other) ≡ 0
 noted-apart parts place first other unnoted noted =
     elim (same_place first other) as (λ b. same_place first other ≡ b → one_if b ≡ 0) [
-      | true ↦ λ at. absurd (false≢true (sym unnoted ∙ ap (λ p. is_noted_by parts place p) (place_same first other at) ∙ noted))
+      | true ↦ λ at. absurd (false≢true (sym unnoted ∙ ap (λ p. is_noted_by parts place p) (same_place-true first other at) ∙ noted))
       | false ↦ λ at. refl
     ] refl
 

@@ -1,7 +1,7 @@
 -- What a task management noted, as the device receives it and as its response is seen: of the commands that it names those that the device has received, and
 -- none of them goes on; and behind its response waits no event of one. Cited by OrderedActs, OrderedCarry
 -- and Ordered, and by CommandFits, MatchedSteps and SeenStreams.
-use Rattle.std.proofs.Common.{◌≡◌, ℕ, ◌<◌, ◌≤◌, Bool, true, false, List, ◌∷◌, Option, Some, None, refl, arith, ap, sym, subst, ◌∙◌}
+use Rattle.std.proofs.Common.{◌≡◌, ℕ, ◌<◌, ◌≤◌, true, false, List, ◌∷◌, Option, Some, None, refl, arith, ap, sym, subst, ◌∙◌}
 use Rattle.std.specs.Prelude.{◌==◌, ◌&&◌, nat_lt, slice_get}
 use Rattle.std.specs.Option.{option_map_or}
 use Rattle.std.proofs.lemmas.Bool.{and_parts, and_from, and_left, and_right, eqb-true, eq-eqb, ne_eqb, false≢true, lt-ltb, ltb-true, false_from_ne_true}
@@ -14,20 +14,22 @@ use Rattle.scsi_cmd.specs.declared.TheConstants.{TASK_SLOT}
 use Rattle.solo_model.specs.TaggedTask.{can_go, is_noted}
 use Rattle.solo_model.specs.declared.Phase.{Phase}
 use Rattle.solo_model.specs.declared.Phase.TheVariants.{Queued, Begun, Sent, Gone}
+use Rattle.uas_host.specs.State.{is_pending}
 use Rattle.uas_host.specs.declared.Place.{Place}
 use Rattle.uas_host.specs.declared.TdState.{TdState}
 use Rattle.uas_host.specs.declared.TdState.TheVariants.{Pending, Seen, LeftOver, Retired}
 use Rattle.bus_core.specs.declared.Td.{Td}
 use Rattle.bus_core.specs.declared.Completion.{Completion}
 use Rattle.bus_core.specs.declared.Completion.TheVariants.{StatusDone}
-use Rattle.bus_core.specs.Td.{Entry, has_trb, is_awaited, is_in_ring, is_pending, pushed}
+use Rattle.bus_core.specs.Td.{Entry, has_trb, is_awaited, pushed}
 use Rattle.bus_core.specs.Part.{Part}
 use Rattle.bus_core.specs.Shared.{Shared}
 use Rattle.bus_core.specs.Soundness.{one_if}
 use Rattle.bus_core.specs.Ordered.{AreBehind, AreRising, HasNoted, NotedBy, is_noted_by, is_queued, names, notes_ticket, ticket_at, under}
-use Rattle.bus_core.specs.Matched.{same_place, times, data_events, status_events, IsCommandTd, IsGivenUp, IsMatched, IsMatchedAt}
-use Rattle.bus_core.specs.Matched.{IsRequestIn, IsStatusTd}
-use Rattle.bus_core.proofs.OrderedMessages.{found-under, later-behind, one_place, under-there}
+use Rattle.bus_core.specs.Matched.{same_place, times, data_events, status_events, IsCommandTd, IsGivenUp, IsMatched, IsMatchedAt, IsRequestIn, IsStatusTd}
+use Rattle.bus_core.proofs.MatchedEntries.{taken-none}
+use Rattle.bus_core.proofs.MatchedPlaces.{one_self, under-found, one_if-true}
+use Rattle.bus_core.proofs.OrderedMessages.{later-behind, under-there}
 use Rattle.bus_core.proofs.OrderedEvents.{unnoted-none}
 
 -- WHAT STANDS AT A PLACE
@@ -57,14 +59,11 @@ queued-message state place entry all is queued =
     let at = here state place entry all is in
     at.messages ∙ queued-waits entry.task.phase entry.command_td at.sound.command queued
 
-taken-waits : (td : Td) → td.consumed ≡ 1 → one_if (has_trb td 1) ≡ 0
-taken-waits td is = ap one_if (and_right (is_in_ring td.state) (nat_lt td.consumed 1) (ap (λ n. nat_lt n 1) is))
-
 waits-queued : (phase : Phase) (td : Td) → IsCommandTd phase td → 1 ≤ one_if (has_trb td 1) → is_queued phase ≡ true
 waits-queued Queued td is waits = refl
-waits-queued (Begun progress) td is waits = absurd (omega (arith, waits, taken-waits td is))
-waits-queued (Sent answer) td is waits = absurd (omega (arith, waits, taken-waits td is))
-waits-queued Gone td is waits = absurd (omega (arith, waits, taken-waits td is))
+waits-queued (Begun progress) td is waits = absurd (omega (arith, waits, taken-none td is))
+waits-queued (Sent answer) td is waits = absurd (omega (arith, waits, taken-none td is))
+waits-queued Gone td is waits = absurd (omega (arith, waits, taken-none td is))
 
 -- an entry that a message is of
 pub record HasMessage (state : Shared) (place : Place) : Type 0 where
@@ -108,10 +107,6 @@ given-up consumed Retired is awaited = false≢true awaited
 pushed-idle : (td : Td) → td ≡ pushed → one_if (is_awaited td 1) ≡ 0
 pushed-idle td is = ap (λ (t : Td). one_if (is_awaited t 1)) is
 
-one-true : (b : Bool) → 1 ≤ one_if b → b ≡ true
-one-true true some = refl
-one-true false some = absurd (omega (arith, some))
-
 -- the device has handed over the answer
 pub record IsHandedOver (phase : Phase) : Type 0 where
   pub received : is_queued phase ≡ false
@@ -121,7 +116,7 @@ awaited-sent : (phase : Phase) (td : Td) → IsStatusTd phase td → 1 ≤ one_i
 awaited-sent Queued td is awaited = absurd (omega (arith, awaited, pushed-idle td is))
 awaited-sent (Begun progress) td is awaited = absurd (omega (arith, awaited, pushed-idle td is))
 awaited-sent (Sent answer) td is awaited = record { received = refl; ended = refl }
-awaited-sent Gone td is awaited = absurd (given-up td.consumed td.state is (one-true (is_awaited td 1) awaited))
+awaited-sent Gone td is awaited = absurd (given-up td.consumed td.state is (one_if-true (is_awaited td 1) awaited))
 
 -- an entry whose status event waits
 pub record HasStatusEvent (state : Shared) (place : Place) : Type 0 where
@@ -151,7 +146,7 @@ pub record IsManagementAt (state : Shared) (place : Place) (management : Entry) 
 pub management-at : (state : Shared) (place : Place) (management : Entry) (what : Task) (noted : ArrayVec ℕ) → IsMatched state
     → under state.parts place ≡ Some management → management.task.request ≡ Manage what noted → IsManagementAt state place management what noted
 management-at state place management what noted all is asks =
-    let found = found-under state.parts place management is in
+    let found = under-found state.parts place management is in
     record {
       part = found.part;
       there = found.there;
@@ -186,7 +181,7 @@ noted-as_received state place rest management what noted all is held asks slot e
     let in_part : held_at at.part.entries slot ≡ Some entry = of-part state place management what noted slot entry at there in
     let exact = at.has.exact slot entry within in_part in
     let apart : place.slot ≡ slot → ⊥ = λ same. omega (arith, same, at.slot, within) in
-    let waits = message-there state place all (omega (arith, ap (times place) is, one_place place)) in
+    let waits = message-there state place all (omega (arith, ap (times place) is, one_self place)) in
     let queued : is_queued management.task.phase ≡ true =
     subst (λ (e : Entry). is_queued e.task.phase ≡ true) (same_Some waits.entry management (sym waits.is ∙ held)) waits.queued in
     record {
@@ -253,7 +248,7 @@ noted-as_seen state place rest management what noted all is held asks slot entry
     let entry_at = here state other entry all there in
     let unawaited : one_if (is_awaited entry.status_td 1) ≡ 0 =
     omega (arith, entry_at.sent, ap (status_events other) is, none.1, apart-place place other apart) in
-    let over = noted-ended state place management what noted all (omega (arith, ap (status_events place) is, one_place place)) held asks slot entry within
+    let over = noted-ended state place management what noted all (omega (arith, ap (status_events place) is, one_self place)) held asks slot entry within
     there noted_is in
     record {
       gone = ended-gone entry.task.phase entry.status_td over entry_at.sound.status pends unawaited;

@@ -3,8 +3,8 @@
 use Rattle.std.proofs.Common.{◌≡◌, ℕ, ◌≤◌, Bool, true, false, List, [], ◌∷◌, ◌++◌, Option, Some, None, refl, arith, ap, sym, subst, ◌∙◌}
 use Rattle.std.specs.Prelude.{◌==◌, slice_get, slice_set}
 use Rattle.std.specs.Option.{option_map_or}
-use Rattle.std.proofs.lemmas.Bool.{eqb-true, eqb-false, eq-eqb, and_parts, and_from}
-use Rattle.std.proofs.lemmas.Option.{none-some, same_Some}
+use Rattle.std.proofs.lemmas.Bool.{eqb-true, eqb-false}
+use Rattle.std.proofs.lemmas.Option.{same_Some}
 use Rattle.scsi_cmd.specs.Held.{held_at}
 use Rattle.uas_host.specs.declared.Place.{Place}
 use Rattle.bus_core.specs.Td.{Entry}
@@ -12,24 +12,9 @@ use Rattle.bus_core.specs.Part.{Part}
 use Rattle.bus_core.specs.Soundness.{one_if}
 use Rattle.bus_core.specs.Ordered.{held_in, under, notes_ticket, IsLater, AreLater, AreRising}
 use Rattle.bus_core.specs.Matched.{same_place, times}
+use Rattle.bus_core.proofs.MatchedPlaces.{one_self, same_place-true}
 use Rattle.bus_core.proofs.OrderedEntries.{IsOnward, IsNext}
 use Rattle.bus_core.proofs.Routes.{slice_get-slice_set_same, slice_get-slice_set_other}
-
--- PLACES
-
-self_place : (place : Place) → same_place place place ≡ true
-self_place place =
-    and_from (place.client == place.client) (place.slot == place.slot) (eq-eqb place.client place.client refl) (eq-eqb place.slot place.slot refl)
-
-pub one_place : (place : Place) → one_if (same_place place place) ≡ 1
-one_place place = ap one_if (self_place place)
-
-pub place_same : (place other : Place) → same_place place other ≡ true → place ≡ other
-place_same place other is =
-    let parts = and_parts (place.client == other.client) (place.slot == other.slot) is in
-    let client : place.client ≡ other.client = eqb-true place.client other.client parts.0 in
-    let slot : place.slot ≡ other.slot = eqb-true place.slot other.slot parts.1 in
-    λ i. record { client = client i; slot = slot i }
 
 -- A WRITE TO ONE PART
 
@@ -62,20 +47,6 @@ under-wrote P parts client part now place there here each =
           subst (λ found. P (under parts place) (option_map_or (held_in place) found None))
           (sym (slice_get-slice_set_other parts client place.client now (eqb-false client place.client at))) (each (under parts place))
     ] refl
-
--- where something stands its client is there
-pub record IsFoundAt (parts : List Part) (place : Place) (entry : Entry) : Type 0 where
-  pub part : Part
-  pub there : slice_get parts place.client ≡ Some part
-  pub held : held_at part.entries place.slot ≡ Some entry
-
-pub found-under : (parts : List Part) (place : Place) (entry : Entry) → under parts place ≡ Some entry → IsFoundAt parts place entry
-found-under parts place entry is =
-    elim (slice_get parts place.client) as (λ found.
-    slice_get parts place.client ≡ found → option_map_or (held_in place) found None ≡ Some entry → IsFoundAt parts place entry) [
-      | None ↦ λ there held. absurd (none-some entry held)
-      | Some part ↦ λ there held. record { part = part; there = there; held = held }
-    ] refl is
 
 pub under-there : (parts : List Part) (place : Place) (part : Part) → slice_get parts place.client ≡ Some part
     → under parts place ≡ held_at part.entries place.slot
@@ -116,7 +87,7 @@ later-same : (parts after : List Part) (place : Place) (messages : List Place) �
     → ((other : Place) → 1 ≤ times other messages → IsSameAt parts after other) → AreLater parts place messages → AreLater after place messages
 later-same parts after place [] same each is = tt
 later-same parts after place (other ∷ rest) same each is =
-    let other_same = each other (omega (arith, one_place other)) in (
+    let other_same = each other (omega (arith, one_self other)) in (
       λ client. omega (arith, is.0 client, same.ticket, other_same.ticket),
       later-same parts after place rest same (λ one named. each one (omega (arith, named))) is.1,
     )
@@ -126,7 +97,7 @@ pub rising-same : (parts after : List Part) (messages : List Place) → ((place 
 rising-same parts after [] each is = tt
 rising-same parts after (place ∷ rest) each is =
     let after_first : (other : Place) → 1 ≤ times other rest → IsSameAt parts after other = λ other named. each other (omega (arith, named)) in
-    (later-same parts after place rest (each place (omega (arith, one_place place))) after_first is.0, rising-same parts after rest after_first is.1)
+    (later-same parts after place rest (each place (omega (arith, one_self place))) after_first is.0, rising-same parts after rest after_first is.1)
 
 -- one more message, later than each before it
 later-more : (parts : List Part) (place last : Place) (messages : List Place) → IsLater parts place last → AreLater parts place messages
@@ -138,7 +109,7 @@ pub rising-more : (parts : List Part) (last : Place) (messages : List Place) →
     → AreRising parts messages → AreRising parts (messages ++ last ∷ [])
 rising-more parts last [] less is = (tt, tt)
 rising-more parts last (place ∷ rest) less is = (
-  later-more parts place last rest (less place (omega (arith, one_place place))) is.0,
+  later-more parts place last rest (less place (omega (arith, one_self place))) is.0,
   rising-more parts last rest (λ other named. less other (omega (arith, named))) is.1,
 )
 
@@ -148,6 +119,6 @@ pub later-behind : (parts : List Part) (place : Place) (rest : List Place) (othe
 later-behind parts place [] other is named = absurd (omega (arith, named))
 later-behind parts place (first ∷ rest) other is named =
     elim (same_place first other) as (λ b. same_place first other ≡ b → IsLater parts place other) [
-      | true ↦ λ at. subst (λ p. IsLater parts place p) (place_same first other at) is.0
+      | true ↦ λ at. subst (λ p. IsLater parts place p) (same_place-true first other at) is.0
       | false ↦ λ at. later-behind parts place rest other is.1 (omega (arith, named, ap one_if at))
     ] refl

@@ -56,7 +56,7 @@ from_slot : (part now : Part) (slot : ℕ) (entry : Entry) → AreNext IsOnward 
     → IsAfter IsOnward (held_at part.entries slot) entry
 from_slot part now slot entry each held = next-after IsOnward (held_at part.entries slot) (held_at now.entries slot) entry (each slot) held
 
-onward-tickets : (part now : Part) → now.least ≡ part.least → AreNext IsOnward part.entries now.entries → HasTickets part → HasTickets now
+onward-tickets : (part now : Part) → now.least_ticket ≡ part.least_ticket → AreNext IsOnward part.entries now.entries → HasTickets part → HasTickets now
 onward-tickets part now least each old = record {
   below = λ slot entry held.
       let from = from_slot part now slot entry each held in
@@ -119,7 +119,8 @@ onward-request client part now slot was is (Manage what noted) each newly held_w
     onward-noted_by client part now slot was is what noted each newly held_was held_is onward asks old
 
 -- entries that were taken on keep the order, where what was received by the step came first
-pub onward-ordered : (client : ℕ) (part now : Part) → now.least ≡ part.least → AreNext IsOnward part.entries now.entries → IsReceivedFirst part now
+pub onward-ordered : (client : ℕ) (part now : Part) → now.least_ticket ≡ part.least_ticket → AreNext IsOnward part.entries now.entries
+    → IsReceivedFirst part now
     → IsOrderedPart client part → IsOrderedPart client now
 onward-ordered client part now least each newly old = record {
   tickets = onward-tickets part now least each old.tickets;
@@ -132,7 +133,7 @@ onward-ordered client part now least each newly old = record {
 }
 
 -- the same, where no request is received
-pub still-ordered : (client : ℕ) (part now : Part) → now.least ≡ part.least → AreNext IsStill part.entries now.entries → IsOrderedPart client part
+pub still-ordered : (client : ℕ) (part now : Part) → now.least_ticket ≡ part.least_ticket → AreNext IsStill part.entries now.entries → IsOrderedPart client part
     → IsOrderedPart client now
 still-ordered client part now least each old =
     onward-ordered client part now least
@@ -196,11 +197,11 @@ added_there entries slot new other entry within is =
 -- an entry that is queued under a ticket which comes next
 pub record IsAdded (part : Part) (slot : ℕ) (new : Entry) : Type 0 where
   pub within : slot < length part.entries
-  pub next : part.least ≤ new.task.ticket
+  pub next : part.least_ticket ≤ new.task.ticket
   pub queued : is_queued new.task.phase ≡ true
 
 abbrev pub added_part : Part → ℕ → Entry → Part
-added_part part slot new = record part { entries = slice_set part.entries slot (Some new); least = new.task.ticket + 1 }
+added_part part slot new = record part { entries = slice_set part.entries slot (Some new); least_ticket = new.task.ticket + 1 }
 
 added-tickets : (part : Part) (slot : ℕ) (new : Entry) → IsAdded part slot new → HasTickets part → HasTickets (added_part part slot new)
 added-tickets part slot new is old = record {
@@ -240,7 +241,7 @@ is_noted-later noted least ticket earlier later = list_any_none (λ other. other
 added-noted_by : (client : ℕ) (part : Part) (slot at : ℕ) (new management : Entry) (what : Task) (noted : List ℕ) → IsAdded part slot new → HasTickets part
     → held_at part.entries at ≡ Some management → HasNoted client part management what noted → HasNoted client (added_part part slot new) management what noted
 added-noted_by client part slot at new management what noted is tickets held old =
-    let before : management.task.ticket < part.least = tickets.below at management held in
+    let before : management.task.ticket < part.least_ticket = tickets.below at management held in
     let unnoted : is_noted noted new.task.ticket ≡ false =
     is_noted-later noted management.task.ticket new.task.ticket old.earlier (omega (arith, before, is.next)) in
     let later : nat_lt new.task.ticket management.task.ticket ≡ false = le-ltb _ _ (omega (arith, before, is.next)) in

@@ -16,8 +16,7 @@ use Rattle.scsi_cmd.specs.declared.TheConstants.{TASK_SLOT}
 use Rattle.solo_model.specs.TaggedTask.{is_noted}
 use Rattle.uas_host.specs.Tags.{command_slot, tag_of}
 use Rattle.bus_core.specs.Td.{Entry}
-use Rattle.bus_core.specs.Part.{Part, managed_part, named_entry, named_slot, new_entry, new_management, noted_tickets, submitted_part}
-use Rattle.bus_core.specs.Part.{tickets_of}
+use Rattle.bus_core.specs.Part.{Part, managed_part, named_entry, named_slot, new_entry, new_management, noted_tickets, submitted_part, tickets_of}
 use Rattle.bus_core.specs.Ordered.{HasNoted, HasTickets, IsOrderedPart, names}
 use Rattle.bus_core.proofs.OrderedParts.{added-ordered, added_part}
 use Rattle.bus_core.proofs.OwnSlots.{command_slot-own, own-command_slot}
@@ -93,22 +92,22 @@ ticket-noted (Some first ∷ entries) (suc slot) entry is =
     ]
 
 -- an abort notes the ticket of what it names
-named-below : (part : Part) (slot : Option ℕ) → HasTickets part → All (λ ticket. ticket < part.least) (tickets_of (named_entry part slot ∷ []))
-named-below part None tickets = tickets-below part.least (None ∷ []) (λ slot entry is. absurd (nothing-there slot entry is))
+named-below : (part : Part) (slot : Option ℕ) → HasTickets part → All (λ ticket. ticket < part.least_ticket) (tickets_of (named_entry part slot ∷ []))
+named-below part None tickets = tickets-below part.least_ticket (None ∷ []) (λ slot entry is. absurd (nothing-there slot entry is))
   where
     nothing-there : (slot : ℕ) (entry : Entry) → held_at (let none : Option Entry = None in none ∷ []) slot ≡ Some entry → ⊥
     nothing-there zero entry is = none-some entry is
     nothing-there (suc slot) entry is = none-some entry is
-named-below part (Some named) tickets = tickets-below part.least (held_at part.entries named ∷ []) alone
+named-below part (Some named) tickets = tickets-below part.least_ticket (held_at part.entries named ∷ []) alone
   where
-    alone : (slot : ℕ) (entry : Entry) → held_at (held_at part.entries named ∷ []) slot ≡ Some entry → entry.task.ticket < part.least
+    alone : (slot : ℕ) (entry : Entry) → held_at (held_at part.entries named ∷ []) slot ≡ Some entry → entry.task.ticket < part.least_ticket
     alone zero entry is = tickets.below named entry is
     alone (suc slot) entry is = absurd (none-some entry is)
 
-noted-below : (part : Part) (slot : Option ℕ) (task : Task) → HasTickets part → All (λ ticket. ticket < part.least) (noted_tickets part slot task)
+noted-below : (part : Part) (slot : Option ℕ) (task : Task) → HasTickets part → All (λ ticket. ticket < part.least_ticket) (noted_tickets part slot task)
 noted-below part slot (Abort tag) tickets = named-below part slot tickets
 noted-below part slot Reset tickets =
-    tickets-below part.least (take TASK_SLOT part.entries) (λ at entry is. tickets.below at entry (held-take TASK_SLOT part.entries at entry is))
+    tickets-below part.least_ticket (take TASK_SLOT part.entries) (λ at entry is. tickets.below at entry (held-take TASK_SLOT part.entries at entry is))
 
 -- the slot of a tag is that of its place
 slot-tag : (clients client tag slot : ℕ) → command_slot clients client tag ≡ Some slot → (tag == tag_of (record { client = client; slot = slot })) ≡ true
@@ -160,7 +159,7 @@ and_true true b is = is
 and_true false b is = refl
 
 -- as it is submitted
-noted-added : (clients client : ℕ) (part : Part) (ticket : ℕ) (task : Task) → client < clients → HasTickets part → part.least ≤ ticket
+noted-added : (clients client : ℕ) (part : Part) (ticket : ℕ) (task : Task) → client < clients → HasTickets part → part.least_ticket ≤ ticket
     → HasNoted client (added_part part TASK_SLOT (new_management ticket task (noted_tickets part (named_slot clients client task) task)))
     (new_management ticket task (noted_tickets part (named_slot clients client task) task)) task (noted_tickets part (named_slot clients client task) task)
 noted-added clients client part ticket task there tickets next =
@@ -177,7 +176,8 @@ noted-added clients client part ticket task there tickets next =
       ended = λ received. absurd (false≢true (sym received));
     }
 
-pub managed-ordered : (clients client : ℕ) (part : Part) (ticket : ℕ) (task : Task) → client < clients → TASK_SLOT < length part.entries → part.least ≤ ticket
+pub managed-ordered : (clients client : ℕ) (part : Part) (ticket : ℕ) (task : Task) → client < clients → TASK_SLOT < length part.entries
+    → part.least_ticket ≤ ticket
     → IsOrderedPart client part → IsOrderedPart client (managed_part part (named_slot clients client task) ticket task)
 managed-ordered clients client part ticket task there within next old =
     added-ordered client part TASK_SLOT (new_management ticket task (noted_tickets part (named_slot clients client task) task))
@@ -185,7 +185,7 @@ managed-ordered clients client part ticket task there within next old =
 
 -- A COMMAND
 
-pub submitted-ordered : (client : ℕ) (part : Part) (slot ticket : ℕ) (command : Command) → slot < length part.entries → part.least ≤ ticket
+pub submitted-ordered : (client : ℕ) (part : Part) (slot ticket : ℕ) (command : Command) → slot < length part.entries → part.least_ticket ≤ ticket
     → IsOrderedPart client part → IsOrderedPart client (submitted_part part slot ticket command)
 submitted-ordered client part slot ticket command within next old =
     added-ordered client part slot (new_entry ticket command) (record { within = within; next = next; queued = refl }) tt old

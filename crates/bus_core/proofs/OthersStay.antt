@@ -1,7 +1,6 @@
 -- A step of the shared machine changes no part but its owner's, and keeps what stands there. Cited by the law others_stay and by GoneByNote.
 use Rattle.std.proofs.Common.{◌≡◌, ℕ, true, false, cond, List, [], ◌∷◌, Option, Some, None, refl, ap, sym, subst, ◌∙◌}
 use Rattle.std.specs.Prelude.{is_some, length, slice_get, slice_set}
-use Rattle.std.proofs.lemmas.Bool.{false≢true}
 use Rattle.std.proofs.lemmas.Option.{none-some, same_Some}
 use Rattle.scsi_cmd.specs.Held.{held_at}
 use Rattle.scsi_cmd.specs.declared.Command.{Command}
@@ -9,11 +8,9 @@ use Rattle.scsi_cmd.specs.declared.SubmitFault.{SubmitFault}
 use Rattle.scsi_cmd.specs.declared.Task.{Task}
 use Rattle.scsi_cmd.specs.declared.TheConstants.{TASK_SLOT}
 use Rattle.stream_array.specs.declared.Pipe.{Pipe}
-use Rattle.stream_array.specs.declared.Pipe.TheVariants.{Command as CommandPipeName, Status as StatusPipe, DataIn, DataOut}
 use Rattle.uas_host.specs.Tags.{command_slot, place_of}
 use Rattle.uas_host.specs.declared.Place.{Place}
 use Rattle.xhci_ctl.specs.Engine.{stopped_pipe}
-use Rattle.xhci_ctl.specs.declared.PipeState.{PipeState}
 use Rattle.bus_core.specs.Pipes.{all_rung}
 use Rattle.bus_core.specs.declared.Completion.{Completion}
 use Rattle.bus_core.specs.declared.Completion.TheVariants.{CommandDone, DataDone, StatusDone, EngineDone}
@@ -23,7 +20,6 @@ use Rattle.bus_core.specs.declared.RetirementStage.{RetirementStage}
 use Rattle.bus_core.specs.declared.RetirementStage.TheVariants.{StopAsked, StopAnswered, MoveAsked, MoveAnswered}
 use Rattle.bus_core.specs.declared.Step.{Step}
 use Rattle.bus_core.specs.declared.Step.TheVariants.{Submit, Task as TaskStep, CommandPipe, Data, Status, Engine, Event, Retire, Take}
-use Rattle.bus_core.specs.Td.{Entry}
 use Rattle.bus_core.specs.Part.{Act, Part, carry_act, event_act, fault_at, is_there, managed_part, move_act, named_slot, new_entry, new_management}
 use Rattle.bus_core.specs.Part.{noted_tickets, pass_act, retire_act, send_act, stop_act, submitted_part, take_act, task_fault_at}
 use Rattle.bus_core.specs.Shared.{Shared, accepted, acted_on, answered, at_stage, carry_step, due, due_step, engine_did, engine_seen, engine_step, event_seen}
@@ -34,7 +30,8 @@ use Rattle.bus_core.proofs.KeptRequests.{AreKept, AreKept-self, NotesEnd, carry_
 use Rattle.bus_core.proofs.KeptRequests.{retire_act-kept, send_act-kept, stop_act-kept, take_act-kept}
 use Rattle.bus_core.proofs.OrderedMessages.{part-written, under-there}
 use Rattle.bus_core.proofs.OrderedSubmissions.{submit-turn, task-turn}
-use Rattle.bus_core.proofs.Routes.{slice_get-slice_set_other}
+use Rattle.bus_core.proofs.Routes.{slice_get-slice_set_other, with_pipe-own}
+use Rattle.bus_core.proofs.Standing.{not_some}
 
 -- WHAT A STEP DOES TO THE PARTS
 
@@ -73,11 +70,6 @@ written MayEnd parts owner part now after there wrote owns each = record {
       (λ before stood. subst (λ (p : Part). AreKept (MayEnd owner) p.entries now.entries) (same_Some part before (sym there ∙ stood)) each)
       client found (sym (ap (λ list. slice_get list client) wrote) ∙ is_found) was is_was;
 }
-
--- a slot that isn't in use holds nothing
-is_some-none : (held : Option Entry) → is_some held ≡ false → held ≡ None
-is_some-none None is = refl
-is_some-none (Some entry) is = absurd (false≢true (sym is))
 
 -- THE ROUTERS
 
@@ -142,8 +134,8 @@ submitted-owners : (MayEnd : ℕ → ℕ → Type 0) (state : Shared) (part : Pa
 submitted-owners MayEnd state part place tag ticket command None there none =
     written MayEnd state.parts place.client part (submitted_part part place.slot ticket command) (accepted state part place tag ticket command) there refl refl
     (filled-kept (MayEnd place.client) part.entries place.slot (new_entry ticket command)
-    (is_some-none (held_at part.entries place.slot)
-    (submit-turn (is_some (held_at part.entries place.slot)) part.least ticket command none).free))
+    (not_some (held_at part.entries place.slot)
+    (submit-turn (is_some (held_at part.entries place.slot)) part.least_ticket ticket command none).free))
 submitted-owners MayEnd state part place tag ticket command (Some fault) there is =
     unchanged MayEnd state.parts (answered state part place tag ticket command (Some fault)) refl
 
@@ -170,8 +162,8 @@ managed_or-owners MayEnd state part client slot ticket task None there none =
     written MayEnd state.parts client part (managed_part part slot ticket task)
     (managed state part (record { client = client; slot = TASK_SLOT }) slot ticket task) there refl refl
     (filled-kept (MayEnd client) part.entries TASK_SLOT (new_management ticket task (noted_tickets part slot task))
-    (is_some-none (held_at part.entries TASK_SLOT)
-    (task-turn (is_some (held_at part.entries TASK_SLOT)) part.least ticket (is_there part slot task) none).free))
+    (not_some (held_at part.entries TASK_SLOT)
+    (task-turn (is_some (held_at part.entries TASK_SLOT)) part.least_ticket ticket (is_there part slot task) none).free))
 managed_or-owners MayEnd state part client slot ticket task (Some fault) there is =
     unchanged MayEnd state.parts (managed_or state part (record { client = client; slot = TASK_SLOT }) slot ticket task (Some fault)) refl
 
@@ -185,18 +177,11 @@ managed_to-owners MayEnd state client slot ticket task (Some part) is =
 
 -- RETIREMENT
 
--- the pipes are nothing of the parts
-with_pipe-parts : (state : Shared) (pipe : Pipe) (now : PipeState) → (with_pipe state pipe now).parts ≡ state.parts
-with_pipe-parts state CommandPipeName now = refl
-with_pipe-parts state StatusPipe now = refl
-with_pipe-parts state DataIn now = refl
-with_pipe-parts state DataOut now = refl
-
 resumed-owners : (MayEnd : ℕ → ℕ → Type 0) (parts : List Part) (pipe : Pipe) (after : Shared × Outcome) → IsOwners MayEnd parts after
     → IsOwners MayEnd parts (resumed pipe after)
 resumed-owners MayEnd parts pipe after old =
     let same : (resumed pipe after).0.parts ≡ after.0.parts =
-    with_pipe-parts after.0 pipe (all_rung (pipe_of after.0 pipe) (streams_pending after.0 pipe)) in
+    with_pipe-own after.0 pipe (all_rung (pipe_of after.0 pipe) (streams_pending after.0 pipe)) in
     record {
       nobody = λ is. same ∙ old.nobody is;
       others = λ owner client is apart. ap (λ list. slice_get list client) same ∙ old.others owner client is apart;
@@ -206,7 +191,7 @@ resumed-owners MayEnd parts pipe after old =
 engine_did-owners : (MayEnd : ℕ → ℕ → Type 0) (state : Shared) (retirement : Retirement) (stage : RetirementStage)
     → IsOwners MayEnd state.parts (engine_did state retirement stage)
 engine_did-owners MayEnd state retirement StopAsked =
-    subst (λ parts. IsOwners MayEnd parts (engine_did state retirement StopAsked)) (with_pipe-parts state retirement.pipe stopped_pipe)
+    subst (λ parts. IsOwners MayEnd parts (engine_did state retirement StopAsked)) (with_pipe-own state retirement.pipe stopped_pipe)
     (routed-owners MayEnd (at_stage (with_pipe state retirement.pipe stopped_pipe) retirement StopAnswered) retirement.place.client
     (stop_act retirement.place) (λ part is. stop_act-kept (MayEnd retirement.place.client) retirement.place part))
 engine_did-owners MayEnd state retirement StopAnswered = unchanged MayEnd state.parts (engine_did state retirement StopAnswered) refl

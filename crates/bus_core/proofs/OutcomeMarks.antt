@@ -1,5 +1,5 @@
 -- The outcome of a step that is due in a matched state, by the place that it acts on.
-use Rattle.std.proofs.Common.{◌≡◌, ℕ, suc, ◌≤◌, cond, length, Option, Some, arith, ap, sym, subst, ◌∙◌, true, false, List, [], ◌∷◌, None, refl}
+use Rattle.std.proofs.Common.{◌≡◌, ℕ, suc, ◌≤◌, cond, length, Some, arith, ap, sym, subst, ◌∙◌, true, false, List, [], ◌∷◌, None, refl}
 use Rattle.std.specs.Prelude.{option_and_then, slice_get}
 use Rattle.scsi_cmd.specs.declared.Op.{Op}
 use Rattle.scsi_cmd.specs.declared.Request.TheVariants.{Execute}
@@ -15,13 +15,13 @@ use Rattle.bus_core.specs.Shared.{data_is_due, status_is_due, ringing, routed, w
 use Rattle.bus_core.specs.Shared.{stage_seen, engine_seen}
 use Rattle.bus_core.specs.Matched.{times, IsOwnMessage, retired_places, is_td_event, IsOwnTdEvent, IsMatched}
 use Rattle.bus_core.specs.WorldDue.{marked, CommandsAreMarked, DataAreMarked, StatusesAreMarked, EventsAreQuiet, EnginesAreMarked, RetirementsAreMarked}
-use Rattle.bus_core.proofs.MatchedPlaces.{one_self, and-true}
+use Rattle.bus_core.proofs.MatchedPlaces.{one_self}
 use Rattle.bus_core.proofs.MatchedEntries.{HasSeen, moving_op, event-seen}
 use Rattle.bus_core.proofs.MatchedSteps.{IsHeld, matched-held, carry_step-is, times_alike, times_alike-first, IsDueAt, place_fact-due, IsMovingBy}
 use Rattle.bus_core.proofs.MatchedSteps.{moving_phase, IsEndedBy, ended_phase, event_seen-td}
-use Rattle.bus_core.proofs.MatchedNext.{own-message, own-td_event}
+use Rattle.bus_core.proofs.MatchedNext.{own-message, own-td_event, same_named}
 use Rattle.std.specs.Option.{option_map_or}
-use Rattle.std.proofs.lemmas.Bool.{false≢true}
+use Rattle.std.proofs.lemmas.Bool.{false≢true, and_parts}
 use Rattle.xhci_ctl.specs.Engine.{stopped_pipe}
 use Rattle.bus_core.specs.declared.Completion.{Completion}
 use Rattle.bus_core.specs.declared.Completion.TheVariants.{CommandDone, DataDone, StatusDone, EngineDone}
@@ -82,7 +82,8 @@ engine_event-marked state place rest all first =
     at r is MoveAnswered answered =
         let held : HasLeft state r = has-left state r (retiring-of state r all is) in
         let base : Shared = record state { events = rest; retirement = None } in
-        let done : Shared × Outcome = acted_on base r.place.client (seen_entry (EngineDone r.place) held.found.part r.place.slot (Some (with_td_on retired_td r.pipe held.entry))) in
+        let done : Shared × Outcome = acted_on base r.place.client
+        (seen_entry (EngineDone r.place) held.found.part r.place.slot (Some (with_td_on retired_td r.pipe held.entry))) in
         record {
           doors = (resumed r.pipe done).1.doors;
           is = ap (λ after. record ((routed base r.place.client (retire_act r.pipe r.place)).1) { doors = (resumed r.pipe after).1.doors })
@@ -133,19 +134,16 @@ retire-marked state pipe tag place named is_due =
     ap (λ b. (cond b (retire_step state pipe (place_of (length state.parts) tag)) (state, idle)).1) is_due
     ∙ ap (λ found. (retire_step state pipe found).1) named
 
--- a tag names one place
-same_place_named : (found : Option Place) (one other : Place) → found ≡ Some one → found ≡ Some other → one ≡ other
-same_place_named found one other is so = cc
-
 -- a chunk
 pub move-marked : DataAreMarked
 move-marked state tag place all named is_due =
     let at : IsDueAt state tag (data_is_due state tag) = place_fact-due state tag (data_is_due state tag) is_due in
     let held : IsHeld state at.place at.entry = matched-held state at.place at.entry all at.held in
-    let moving : IsMovingBy at.entry.task.phase = moving_phase at.entry.task.phase (and-true (is_moving at.entry.task.phase) _ at.so).0 in
+    let moving : IsMovingBy at.entry.task.phase = moving_phase at.entry.task.phase (and_parts (is_moving at.entry.task.phase) _ at.so).0 in
     let slot : ℕ = at.place.slot in
     let part : Part = held.found.part in
-    let asks : (op : Op) × (at.entry.task.request ≡ Execute op) = moving_op at.entry.task.request at.entry.task.phase moving.chunk moving.is held.here.sound.answers in
+    let asks : (op : Op) × (at.entry.task.request ≡ Execute op) =
+    moving_op at.entry.task.request at.entry.task.phase moving.chunk moving.is held.here.sound.answers in
     let done : (shared_step state (Data tag)).1 ≡ marked at.place.client (Move (suc slot)) =
     ap (λ b. (cond b (routed_by_tag state move_act (place_of (length state.parts) tag)) (state, idle)).1) is_due
     ∙ ap (λ p. (routed_by_tag state move_act p).1) at.named
@@ -154,14 +152,14 @@ move-marked state tag place all named is_due =
     ∙ ap (λ phase. (acted_on state at.place.client (moved_entry part slot at.place at.entry (moved_from part.unit at.entry.task phase))).1) moving.is
     ∙ ap (λ r. (acted_on state at.place.client (moved_entry part slot at.place at.entry (moved_request part.unit at.entry.task moving.chunk r))).1) asks.1 in
     subst (λ (p : Place). (shared_step state (Data tag)).1 ≡ marked p.client (Move (suc p.slot)))
-    (same_place_named (place_of (length state.parts) tag) at.place place at.named named) done
+    (same_named (place_of (length state.parts) tag) at.place place at.named named) done
 
 -- an answer
 pub send-marked : StatusesAreMarked
 send-marked state tag place all named is_due =
     let at : IsDueAt state tag (status_is_due state tag) = place_fact-due state tag (status_is_due state tag) is_due in
     let held : IsHeld state at.place at.entry = matched-held state at.place at.entry all at.held in
-    let ended : IsEndedBy at.entry.task.phase = ended_phase at.entry.task.phase (and-true (is_ended at.entry.task.phase) _ at.so).0 in
+    let ended : IsEndedBy at.entry.task.phase = ended_phase at.entry.task.phase (and_parts (is_ended at.entry.task.phase) _ at.so).0 in
     let slot : ℕ = at.place.slot in
     let done : (shared_step state (StatusStep tag)).1 ≡ marked at.place.client (Send (suc slot)) =
     ap (λ b. (cond b (routed_by_tag state send_act (place_of (length state.parts) tag)) (state, idle)).1) is_due
@@ -170,4 +168,4 @@ send-marked state tag place all named is_due =
     ∙ ap (λ found. (acted_on state at.place.client (sent_slot held.found.part slot at.place found)).1) held.found.held
     ∙ ap (λ phase. (acted_on state at.place.client (sent_entry held.found.part slot at.place at.entry (sent_from at.entry.task phase))).1) ended.is in
     subst (λ (p : Place). (shared_step state (StatusStep tag)).1 ≡ marked p.client (Send (suc p.slot)))
-    (same_place_named (place_of (length state.parts) tag) at.place place at.named named) done
+    (same_named (place_of (length state.parts) tag) at.place place at.named named) done

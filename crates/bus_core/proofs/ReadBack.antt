@@ -53,22 +53,21 @@ use Rattle.bus_core.specs.Shared.{Shared, request_direction}
 use Rattle.bus_core.specs.Wire.{answer_text}
 use Rattle.bus_core.specs.Hosts.{phase_task, device_task, told_answer, phase_by, phase_received, HasTaken}
 use Rattle.bus_core.specs.Matched.{times, under, held_in, carried_places, IsOwnEngineEvent, IsOwnEvent, request_bytes, IsCommandTd}
-use Rattle.bus_core.specs.Matched.{IsAwaitedOrSeen, IsGivenUp, IsPhaseOf, IsStatusTd}
-use Rattle.bus_core.specs.Matched.{IsMatchedEntry, IsMatched}
+use Rattle.bus_core.specs.Matched.{IsAwaitedOrSeen, IsGivenUp, IsPhaseOf, IsStatusTd, IsMatchedEntry, IsMatched}
 use Rattle.bus_core.specs.World.{World, Cell, cell_at}
 use Rattle.bus_core.specs.Cells.{state_of, host_side, HoldsIn, HoldsTd, HoldsData, data_in_td, data_out_td, HasAnswerIn, HasNoBytes, lent_for, FitsCell}
 use Rattle.bus_core.specs.Cells.{FitsHeld}
 use Rattle.bus_core.specs.Fits.{HoldsCommand, HoldsCommandOf, command_trb, engine_event, event_texts, host_retirement, host_stage, place_in, FitsPart}
 use Rattle.bus_core.specs.Fits.{FitsClient, Fits}
 use Rattle.bus_core.specs.Decoded.{message_in, decoded_messages, completion_on, completion_of_td, completion_of, decoded_events, consumed_in, decoded_td}
-use Rattle.bus_core.specs.Decoded.{decoded_retirement, stage_by}
-use Rattle.bus_core.specs.Decoded.{data_ring}
+use Rattle.bus_core.specs.Decoded.{decoded_retirement, stage_by, data_ring}
 use Rattle.bus_core.specs.Decoded.{decoded_held, decoded_cell, decoded_slot, decoded_entries, decoded_part, decoded_parts}
 use Rattle.bus_core.specs.WorldSteps.{WorldReadsBack}
-use Rattle.bus_core.proofs.HostSees.{place_of-tag_of}
+use Rattle.bus_core.proofs.DataTrbs.{length-data_trbs}
 use Rattle.bus_core.proofs.MatchedNext.{times-member, times_alike-member, own-event, matched-no_stray, matched-counted}
-use Rattle.bus_core.proofs.EventTds.{length-data_trbs, data_trbs-count, moved-goes, command_tag-trb, tag_of-most, IsStreamText, IsDataText, HasDataText}
+use Rattle.bus_core.proofs.EventTds.{data_trbs-count, moved-goes, command_tag-trb, tag_of-most, IsStreamText, IsDataText, HasDataText}
 use Rattle.bus_core.proofs.EventTds.{status_text, status_residual, data_text, command_text, data_text-waits, status_text-waits, command_text-waits}
+use Rattle.bus_core.proofs.MatchedEngine.{place_of-tag_of}
 
 -- THE PHASE
 
@@ -237,7 +236,7 @@ decoded_part-back state world client unit held part all there fits =
       number = sym fits.number i;
       unit = sym fits.unit_same i;
       entries = entries_are i;
-      least = sym fits.least i;
+      least_ticket = sym fits.least_ticket i;
       ready = sym fits.ready i;
     })
 

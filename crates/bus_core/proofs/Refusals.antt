@@ -1,10 +1,9 @@
 -- What a submission is refused for.
-use Rattle.std.proofs.Common.{◌≡◌, ℕ, zero, suc, ◌<◌, ◌≤◌, ◌/◌, ◌%◌, true, false, cond, List, [], ◌∷◌, Option, Some, None, option_map, refl, arith, ap, sym}
-use Rattle.std.proofs.Common.{◌∙◌, subst, rules}
-use Rattle.std.specs.Prelude.{nat_lt, ◌==◌, ◌&&◌, length, slice_get, is_some}
+use Rattle.std.proofs.Common.{◌≡◌, ℕ, zero, suc, ◌<◌, ◌≤◌, true, false, cond, List, [], ◌∷◌, Option, Some, None, refl, arith, ap, sym, ◌∙◌, subst, rules}
+use Rattle.std.specs.Prelude.{nat_lt, length, slice_get, is_some}
 use Rattle.std.specs.Option.{option_map_or}
-use Rattle.std.proofs.lemmas.Option.{none-some, cond_some, option_and_then_some, some_pair_parts}
-use Rattle.std.proofs.lemmas.Bool.{and_parts, ltb-true, le-ltb, lt-ltb, eqb-true, eq-eqb}
+use Rattle.std.proofs.lemmas.Option.{none-some, some_pair_parts}
+use Rattle.std.proofs.lemmas.Bool.{ltb-true, le-ltb, lt-ltb}
 use Rattle.block_unit.specs.BlockMaps.{BlockMaps}
 use Rattle.scsi_cmd.specs.declared.Command.{Command}
 use Rattle.scsi_cmd.specs.declared.Reply.{Reply}
@@ -19,28 +18,22 @@ use Rattle.solo_model.specs.Solo.{SoloState, opening as solo_opening}
 use Rattle.uas_host.specs.declared.Place.{Place}
 use Rattle.bus_core.specs.declared.Step.{Step}
 use Rattle.bus_core.specs.declared.Step.TheVariants.{Submit, Task as TaskStep, CommandPipe, Data, Status, Engine, Event, Retire, Take}
-use Rattle.bus_core.specs.Td.{Entry}
-use Rattle.uas_host.specs.Tags.{place_of, own_slot, command_slot}
+use Rattle.uas_host.specs.Tags.{command_slot}
 use Rattle.bus_core.specs.Part.{Part, fault_at, named_slot, task_fault_at}
 use Rattle.bus_core.specs.Shared.{Shared, managed_or, managed_to, opening, refusal, submitted_under, shared_step, task_refusal}
 use Rattle.bus_core.specs.Replay.{replay, replayed}
-use Rattle.bus_core.specs.Isolation.{own_label, own_reply, own_state, own_tag, own_task, solo_of, nobody}
+use Rattle.bus_core.specs.Isolation.{own_label, own_reply, own_state, own_tag, solo_of, nobody}
 use Rattle.bus_core.specs.Refusals.{solo_fault, own_fault, own_task_fault, fault_alone, handed_back, after_label, RefusedAsOwn, AllRefusedAsOwn, TasksAreOwned}
-use Rattle.bus_core.proofs.Acts.{solo_try, held_at-solo_of}
+use Rattle.bus_core.proofs.Acts.{solo_try, held_at-solo_of, is_some-own}
 use Rattle.bus_core.proofs.OwnSlots.{IsOwnSlot, command_slot-own, own-command_slot}
 use Rattle.bus_core.proofs.Managed.{task_fault-own}
-use Rattle.bus_core.proofs.Routes.{shared_step-own, there}
+use Rattle.bus_core.proofs.Routes.{shared_step-own}
 use Rattle.bus_core.proofs.NumberOfClients.{length-parts}
 use Rattle.bus_core.proofs.Opening.{length-new_parts}
 use Rattle.bus_core.proofs.FirstBlocks.{opening-solo}
+use Rattle.bus_core.proofs.Standing.{get-none, get-within}
 
 -- FAULTS
-
--- a client that isn't in a list is past its end
-slice_get-none : {T : Type 0} (list : List T) (at : ℕ) → slice_get list at ≡ None → length list ≤ at
-slice_get-none [] at none = omega arith
-slice_get-none (first ∷ rest) zero none = absurd (none-some first (sym none))
-slice_get-none (first ∷ rest) (suc at) none = let below = slice_get-none rest at none in omega arith
 
 -- the fault that the shared machine finds for a submission, under this slot of this part
 abbrev pub shared_fault : Option Part → ℕ → Command → Option ℕ → Option SubmitFault
@@ -57,7 +50,7 @@ not_yours clients client tag ticket own command none =
       | true ↦ λ there. elim (own_tag client tag) as (λ index. own_tag client tag ≡ index → solo_fault own index ticket command ≡ Some NotYours) [
         | zero ↦ λ index. refl
         | suc slot ↦ λ index. elim (nat_lt slot 7) as
-            (λ b. nat_lt slot 7 ≡ b → first_submit_fault b (is_some (held_under own.tasks (suc slot))) own.least ticket command ≡ Some NotYours) [
+            (λ b. nat_lt slot 7 ≡ b → first_submit_fault b (is_some (held_under own.tasks (suc slot))) own.least_ticket ticket command ≡ Some NotYours) [
               | false ↦ λ is. refl
               | true ↦ λ within. absurd (none-some slot (sym none
                   ∙ own-command_slot clients client tag slot (record { there = ltb-true _ _ there; within = ltb-true _ _ within; index = index })))
@@ -65,21 +58,17 @@ not_yours clients client tag ticket own command none =
       ] refl
     ] refl
 
-is_some-own_task : (client : ℕ) (held : Option Entry) → is_some (option_map (own_task client) held) ≡ is_some held
-is_some-own_task client None = refl
-is_some-own_task client (Some entry) = refl
-
 -- a slot: the solo machine has under the index what the entry has
 slot_fault : (state : Shared) (client tag ticket slot : ℕ) (command : Command) (found : Option Part) → slice_get state.parts client ≡ found →
     IsOwnSlot (length state.parts) client tag slot →
     own_fault (length state.parts) (option_map_or (solo_of client) found nobody) client tag ticket command ≡ shared_fault found ticket command (Some slot)
-slot_fault state client tag ticket slot command None found own = let past = slice_get-none state.parts client found in absurd (omega (arith, own.there))
+slot_fault state client tag ticket slot command None found own = let past = get-none state.parts client found in absurd (omega (arith, own.there))
 slot_fault state client tag ticket slot command (Some part) found own =
     let there : nat_lt client (length state.parts) ≡ true = lt-ltb _ _ own.there in
     let within : nat_lt slot 7 ≡ true = lt-ltb _ _ own.within in
     let index = own.index in
     rw (there, index, within, held_at-solo_of client part.entries slot)
-    (ap (λ b. first_submit_fault true b part.least ticket command) (is_some-own_task client (held_at part.entries slot)))
+    (ap (λ b. first_submit_fault true b part.least_ticket ticket command) (is_some-own client (held_at part.entries slot)))
 
 -- the shared machine's fault is the client's own
 pub own_fault-shared : (state : Shared) (client tag ticket : ℕ) (command : Command) (slot : Option ℕ) → command_slot (length state.parts) client tag ≡ slot →
@@ -125,11 +114,11 @@ task_fault-found : (state : Shared) (client ticket : ℕ) (task : Task) (found :
     → own_task_fault (length state.parts) (option_map_or (solo_of client) found nobody) client ticket task
     ≡ shared_task_fault (length state.parts) found client ticket task
 task_fault-found state client ticket task None found =
-    let past : length state.parts ≤ client = slice_get-none state.parts client found in
+    let past : length state.parts ≤ client = get-none state.parts client found in
     let beyond : nat_lt client (length state.parts) ≡ false = le-ltb _ _ past in
     rw beyond refl
 task_fault-found state client ticket task (Some part) found =
-    let here : client < length state.parts = there state.parts client part found in
+    let here : client < length state.parts = get-within state.parts client part found in
     let within : nat_lt client (length state.parts) ≡ true = lt-ltb _ _ here in
     rw within (task_fault-own (length state.parts) client ticket part task here)
 
@@ -147,14 +136,16 @@ pub task-refused : (state : Shared) (client ticket : ℕ) (task : Task) →
     (shared_step state (TaskStep client ticket task)).1.refused
     ≡ fault_alone (own_task_fault (length state.parts) (own_state state client) client ticket task)
 task-refused state client ticket task =
-    managed_to-refused state (record { client = client; slot = TASK_SLOT }) (named_slot (length state.parts) client task) ticket task (slice_get state.parts client)
+    managed_to-refused state (record { client = client; slot = TASK_SLOT }) (named_slot (length state.parts) client task) ticket task
+    (slice_get state.parts client)
     ∙ ap fault_alone (sym (task_fault-found state client ticket task (slice_get state.parts client) refl))
 
 pub task-unchanged : (state : Shared) (client ticket : ℕ) (task : Task) (fault : SubmitFault) →
     own_task_fault (length state.parts) (own_state state client) client ticket task ≡ Some fault →
     shared_step state (TaskStep client ticket task) ≡ (state, task_refusal client fault)
 task-unchanged state client ticket task fault is =
-    managed_to-unchanged state (record { client = client; slot = TASK_SLOT }) (named_slot (length state.parts) client task) ticket task (slice_get state.parts client) fault
+    managed_to-unchanged state (record { client = client; slot = TASK_SLOT }) (named_slot (length state.parts) client task) ticket task
+    (slice_get state.parts client) fault
     (sym (task_fault-found state client ticket task (slice_get state.parts client) refl) ∙ is)
 
 managed_or-owned : (state : Shared) (part : Part) (place : Place) (slot : Option ℕ) (ticket : ℕ) (task : Task) (fault : Option SubmitFault)
@@ -169,7 +160,8 @@ managed_to-owned state place slot ticket task (Some part) = managed_or-owned sta
 
 pub task-owned : TasksAreOwned
 task-owned state client ticket task =
-    managed_to-owned state (record { client = client; slot = TASK_SLOT }) (named_slot (length state.parts) client task) ticket task (slice_get state.parts client)
+    managed_to-owned state (record { client = client; slot = TASK_SLOT }) (named_slot (length state.parts) client task) ticket task
+    (slice_get state.parts client)
 
 -- OVER WHOLE REPLAYS
 

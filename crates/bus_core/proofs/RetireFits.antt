@@ -2,7 +2,7 @@
 -- changes. Cited by the law of retirements and by the answers of the bus.
 use Rattle.std.proofs.Common.{◌≡◌, ℕ, true, cond, List, [], ◌∷◌, ◌++◌, length, Option, Some, None, option_map, refl, arith, ap, sym, subst, ◌∙◌}
 use Rattle.std.specs.Prelude.{is_none}
-use Rattle.std.proofs.lemmas.Bool.{false≢true}
+use Rattle.std.proofs.lemmas.Bool.{false≢true, and_parts}
 use Rattle.xhci_trb.specs.declared.Trb.{Trb}
 use Rattle.stream_array.specs.declared.Pipe.{Pipe}
 use Rattle.uas_host.specs.declared.Place.{Place}
@@ -22,7 +22,6 @@ use Rattle.bus_core.specs.WorldSteps.{RetireIsIdle, RetirementsFit, retire_world
 use Rattle.bus_core.proofs.CellWrites.{clients-length}
 use Rattle.bus_core.proofs.EngineCells.{ReadsAlike, kept-fits, texts-alike}
 use Rattle.bus_core.proofs.EngineDue.{retire-due}
-use Rattle.bus_core.proofs.MatchedPlaces.{and-true}
 use Rattle.bus_core.proofs.MatchedSteps.{IsDueAt, place_fact-due, shared_step-matched}
 
 pub none-is : {T : Type 0} (found : Option T) → is_none found ≡ true → found ≡ None
@@ -77,7 +76,7 @@ begun-stepped state pipe tag place is_due named =
 
 pub retirements-fit : RetirementsFit
 retirements-fit state world pipe tag fits is_due =
-    let both = and-true (is_none state.retirement) (place_fact state tag (is_left_over_on pipe)) is_due in
+    let both = and_parts (is_none state.retirement) (place_fact state tag (is_left_over_on pipe)) is_due in
     let found : IsDueAt state tag (is_left_over_on pipe) = place_fact-due state tag (is_left_over_on pipe) both.1 in
     let none : state.retirement ≡ None = none-is state.retirement both.0 in
     let empty : HoldsTrbs world.lines.engine [] 0 = subst (HoldsCommandOf world.lines) none fits.engine.commands in

@@ -25,7 +25,7 @@ use Rattle.solo_model.specs.declared.Phase.{Phase}
 use Rattle.solo_model.specs.declared.Phase.TheVariants.{Queued, Begun, Sent, Gone}
 use Rattle.uas_host.specs.declared.Handled.TheVariants.{Engine}
 use Rattle.uas_host.specs.declared.HostClient.{HostClient}
-use Rattle.uas_host.specs.declared.News.TheVariants.{TdRetired}
+use Rattle.uas_host.specs.declared.Notice.TheVariants.{TdRetired}
 use Rattle.uas_host.specs.declared.Place.{Place}
 use Rattle.uas_host.specs.declared.Retirement.{Retirement as HostRetirement}
 use Rattle.uas_host.specs.declared.RetirementStage.TheVariants.{Moving}
@@ -34,7 +34,7 @@ use Rattle.uas_host.specs.declared.TdState.TheVariants.{LeftOver, Retired}
 use Rattle.uas_host.specs.Doors.{door, target_of}
 use Rattle.uas_host.specs.Retirement.{emptied, move_trb, moved_lines, resumed_doors, retired_host, with_first_freed}
 use Rattle.uas_host.specs.Seen.{seen, with_retired, with_seen}
-use Rattle.uas_host.specs.State.{HostState, client_of, with_client}
+use Rattle.uas_host.specs.State.{HostState, client_of, with_client, is_pending}
 use Rattle.uas_host.specs.Tags.{tag_of}
 use Rattle.bus_core.specs.declared.Completion.{Completion}
 use Rattle.bus_core.specs.declared.Completion.TheVariants.{EngineDone}
@@ -44,8 +44,8 @@ use Rattle.bus_core.specs.declared.RetirementStage.TheVariants.{StopAsked, StopA
 use Rattle.bus_core.specs.declared.Td.{Td}
 use Rattle.bus_core.specs.Bus.{IsPlace}
 use Rattle.bus_core.specs.Pipes.{all_rung}
-use Rattle.bus_core.specs.Td.{Entry, data_in_td, data_out_td, is_left_over_on, is_pending, is_ready, is_td_left_over, request_direction, retired_on}
-use Rattle.bus_core.specs.Td.{retired_td, td_on, trbs_on, with_td_on}
+use Rattle.bus_core.specs.Td.{Entry, data_in_td, data_out_td, is_left_over_on, is_td_left_over, request_direction, retired_on}
+use Rattle.bus_core.specs.Td.{data_trbs, retired_td, td_on, trbs_on, with_td_on}
 use Rattle.bus_core.specs.Part.{Part, ready_after, retire_act, seen_entry}
 use Rattle.bus_core.specs.Shared.{Shared, acted_on, engine_seen, pipe_of, resumed, ringing, routed_to, streams_pending, with_pipe}
 use Rattle.bus_core.specs.Soundness.{awaited_data, one_if}
@@ -56,25 +56,25 @@ use Rattle.bus_core.specs.Cells.{FitsCell, HoldsTrbs, host_side, state_of, told_
 use Rattle.xhci_ctl.specs.declared.PipeState.{PipeState}
 use Rattle.bus_core.specs.Fits.{Fits, HoldsCommandOf, IsSoundWorld, data_event, engine_event, event_texts, host_retirement, place_in, status_event}
 use Rattle.bus_core.specs.WorldSteps.{EventFits, rung_all, without_event}
-use Rattle.bus_core.proofs.CellWrites.{client_of-found, entry_at-other, entry_at-same, get-within, stream_ring-same}
+use Rattle.bus_core.proofs.CellWrites.{client_of-found, entry_at-other, entry_at-same, stream_ring-same}
 use Rattle.bus_core.proofs.EngineCells.{KeepsRings, ReadsAlike, WritesOne, with_ring-keeps, written-all, written-fits, written-unused}
-use Rattle.bus_core.proofs.EngineCellWrites.{IsLeftOn, cell-changed, cell_ring, left-on, left-state, length-td_trbs, td_trbs, with_cell_ring}
+use Rattle.bus_core.proofs.EngineCellWrites.{IsLeftOn, cell-changed, cell_ring, left-on, length-td_trbs, td_trbs, with_cell_ring}
 use Rattle.bus_core.proofs.EngineDue.{left_over-side}
 use Rattle.bus_core.proofs.EngineFits.{IsUnderWay, PipeApart, SamePipes, pipe-apart, tag-streams, under-way, under_way}
 use Rattle.bus_core.proofs.EventTds.{data_trbs-count}
 use Rattle.bus_core.proofs.EventTexts.{other-tags}
 use Rattle.bus_core.proofs.Framing.{ChangesCell, FitsPart-set}
-use Rattle.bus_core.proofs.HostSees.{client_with, host_with, is_ready-side}
-use Rattle.bus_core.proofs.MatchedBounds.{held-place}
+use Rattle.bus_core.proofs.HostSees.{client_with, host_with}
+use Rattle.bus_core.proofs.MatchedBounds.{some-place}
 use Rattle.bus_core.proofs.MatchedPlaces.{same_place-true}
 use Rattle.bus_core.proofs.MatchedSteps.{seen_part}
 use Rattle.bus_core.proofs.Resumed.{StreamsFit, resumed-pipes, resumed-same}
 use Rattle.bus_core.proofs.SeenStreams.{HasEventFit}
-use Rattle.bus_core.proofs.Standing.{slice_get-back}
+use Rattle.bus_core.proofs.Standing.{slice_get-back, get-within}
 use Rattle.bus_core.proofs.EngineSeen.{IsEngineFirst, doors-are, engine-freed, engine-queues, engine_pointer, event-done, event-stepped, freed_lines}
 use Rattle.bus_core.proofs.EngineSeen.{handled-is, handled_world, stop-seen}
-use Rattle.bus_core.proofs.Framing.{IsFound}
-use Rattle.bus_core.proofs.Taking.{ready-found}
+use Rattle.bus_core.proofs.MatchedLeftOver.{left-in, left-out, left-state}
+use Rattle.bus_core.proofs.SeenWorlds.{queue-same}
 
 -- THE HOST RETIRES THE TD
 
@@ -158,29 +158,20 @@ ring-of-freed world DataIn place streams = refl
 ring-of-freed world DataOut place streams = refl
 
 -- a TD that is there has a TRB
+data-some : (slot : ℕ) (entry : Entry) → is_td_left_over entry.data_td ≡ true → IsMatchedEntry slot entry → 1 ≤ data_trbs entry.task.request
+data-some slot entry left sound =
+    let some : 0 < request_bytes entry.task.request = ltb-true 0 (request_bytes entry.task.request) (sym sound.moves ∙ there entry.data_td left) in
+    omega (arith, some, data_trbs-count entry.task.request)
+  where
+    there : (td : Option Td) → is_td_left_over td ≡ true → is_some td ≡ true
+    there None left = absurd (false≢true left)
+    there (Some td) left = refl
+
 trbs-some : (pipe : Pipe) (slot : ℕ) (entry : Entry) → is_left_over_on pipe entry ≡ true → IsMatchedEntry slot entry → 1 ≤ trbs_on pipe entry
 trbs-some Command slot entry so sound = absurd (false≢true so)
 trbs-some Status slot entry so sound = omega arith
-trbs-some DataIn slot entry so sound =
-    let there : is_some entry.data_td ≡ true = in-some (request_direction entry.task.request) entry.data_td so in
-    let some : 0 < request_bytes entry.task.request = ltb-true 0 (request_bytes entry.task.request) (sym sound.moves ∙ there) in
-    omega (arith, some, data_trbs-count entry.task.request)
-  where
-    in-some : (way : Direction) (td : Option Td) → is_td_left_over (data_in_td way td) ≡ true → is_some td ≡ true
-    in-some Nothing td so = absurd (false≢true so)
-    in-some ToHost None so = absurd (false≢true so)
-    in-some ToHost (Some td) so = refl
-    in-some ToDevice td so = absurd (false≢true so)
-trbs-some DataOut slot entry so sound =
-    let there : is_some entry.data_td ≡ true = out-some (request_direction entry.task.request) entry.data_td so in
-    let some : 0 < request_bytes entry.task.request = ltb-true 0 (request_bytes entry.task.request) (sym sound.moves ∙ there) in
-    omega (arith, some, data_trbs-count entry.task.request)
-  where
-    out-some : (way : Direction) (td : Option Td) → is_td_left_over (data_out_td way td) ≡ true → is_some td ≡ true
-    out-some Nothing td so = absurd (false≢true so)
-    out-some ToHost td so = absurd (false≢true so)
-    out-some ToDevice None so = absurd (false≢true so)
-    out-some ToDevice (Some td) so = refl
+trbs-some DataIn slot entry so sound = data-some slot entry (left-in (request_direction entry.task.request) entry.data_td so).1 sound
+trbs-some DataOut slot entry so sound = data-some slot entry (left-out (request_direction entry.task.request) entry.data_td so).1 sound
 
 -- once the controller was moved, all TRBs of the TD are consumed
 whole-once-moved : (state : Shared) (world : World) (pipe : Pipe) (place : Place) (td : Td) → (at : IsUnderWay state world pipe place MoveAnswered)
@@ -272,12 +263,6 @@ retired-cell state world pipe place fits at emptied =
     (cell_at (retired_world world pipe place at.entry) place).held at.at.cell at.left
     (λ td on left. (emptied.empty, emptied.whole td on)) held)
 
-queue-same : (world : World) (client slot : ℕ) (part : Part) (now : Entry) → IsFound world client part
-    → ready_after part.ready slot now ≡ (client_with (client_of world.host client) slot (host_side now)).ready.items
-queue-same world client slot part now it =
-    ap (λ q. cond (is_ready now) (q ++ slot ∷ []) q) (sym (ready-found world client part it))
-    ∙ ap (λ b. cond b ((client_of world.host client).ready.items ++ slot ∷ []) (client_of world.host client).ready.items) (sym (is_ready-side now))
-
 -- the client's record of the host
 abbrev client_after : World → Pipe → Place → Entry → HostClient
 client_after world pipe place entry = client_with (client_of world.host place.client) place.slot (host_side (retired_entry pipe entry))
@@ -303,15 +288,16 @@ retired-writes state now world pipe place fits at emptied parts =
           let data_out = keeps.data_out (tag_of (place_in other slot)) (omega arith) apart in
           λ i. record (cell_at world (place_in other slot)) { held = held i; status = status i; data_in = data_in i; data_out = data_out i };
     } in
-    let least : at.at.part.least ≡ (client_after world pipe place at.entry).least =
-    at.at.client.fits.least ∙ ap (λ (c : HostClient). c.least) (sym (client_of-found world.host place.client at.at.client.held at.at.client.held_is)) in
+    let least : at.at.part.least_ticket ≡ (client_after world pipe place at.entry).least_ticket =
+    at.at.client.fits.least_ticket
+    ∙ ap (λ (c : HostClient). c.least_ticket) (sym (client_of-found world.host place.client at.at.client.held at.at.client.held_is)) in
     record {
       parts = parts;
       changes = changes;
       device = refl;
       rings = record { status = keeps.status; data_in = keeps.data_in; data_out = keeps.data_out };
       client = FitsPart-set world after place.client place.slot at.at.part.unit at.at.part.unit at.at.client.held (client_after world pipe place at.entry)
-          at.at.part (Some (retired_entry pipe at.entry)) at.at.part.least (ready_after at.at.part.ready place.slot (retired_entry pipe at.entry))
+          at.at.part (Some (retired_entry pipe at.entry)) at.at.part.least_ticket (ready_after at.at.part.ready place.slot (retired_entry pipe at.entry))
           at.at.client.fits at.at.is_place.slot changes refl least
           (queue-same world place.client place.slot at.at.part (retired_entry pipe at.entry) at.at.client)
           (retired-cell state world pipe place fits at emptied);
@@ -319,27 +305,10 @@ retired-writes state now world pipe place fits at emptied parts =
 
 -- WHAT OTHER EVENTS READ
 
--- what is counted somewhere stands there
-some-place : (state : Shared) (place : Place) (count : Option Entry → ℕ) → count None ≡ 0 → IsMatched state → 1 ≤ count (under state.parts place)
-    → IsPlace (length state.parts) place
-some-place state place count none all some =
-    elim (under state.parts place) as (λ held. under state.parts place ≡ held → 1 ≤ count held → IsPlace (length state.parts) place) [
-      | None ↦ λ is named. absurd (omega (arith, none, named))
-      | Some entry ↦ λ is named. held-place state place entry all is
-    ] refl some
-
 -- no event of a TD that is left over waits
-in-unawaited : (way : Direction) (td : Option Td) (trbs : ℕ) → is_td_left_over (data_in_td way td) ≡ true → awaited_data trbs td ≡ 0
-in-unawaited Nothing td trbs so = absurd (false≢true so)
-in-unawaited ToHost None trbs so = absurd (false≢true so)
-in-unawaited ToHost (Some td) trbs so = ap (λ s. one_if (is_pending s && (td.consumed == trbs))) (left-state td.state so)
-in-unawaited ToDevice td trbs so = absurd (false≢true so)
-
-out-unawaited : (way : Direction) (td : Option Td) (trbs : ℕ) → is_td_left_over (data_out_td way td) ≡ true → awaited_data trbs td ≡ 0
-out-unawaited Nothing td trbs so = absurd (false≢true so)
-out-unawaited ToHost td trbs so = absurd (false≢true so)
-out-unawaited ToDevice None trbs so = absurd (false≢true so)
-out-unawaited ToDevice (Some td) trbs so = ap (λ s. one_if (is_pending s && (td.consumed == trbs))) (left-state td.state so)
+data-unawaited : (td : Option Td) (trbs : ℕ) → is_td_left_over td ≡ true → awaited_data trbs td ≡ 0
+data-unawaited None trbs so = absurd (false≢true so)
+data-unawaited (Some td) trbs so = ap (λ s. one_if (is_pending s && (td.consumed == trbs))) (left-state td.state so)
 
 -- another place that an event is of has other rings
 apart-or : {T : Type 0} (one other : Place) (x y : T) → one.slot < TAGS → other.slot < TAGS → (one ≡ other → ⊥)
@@ -397,8 +366,8 @@ retired-reads state world DataIn place rest first fits = record {
   none = first.alone;
   command_base = refl;
   moved = data-kept state world DataIn place rest first.at.entry first fits
-      (ap awaited_data_of first.at.held ∙ in-unawaited (request_direction first.at.entry.task.request) first.at.entry.data_td
-      (trbs_on DataIn first.at.entry) first.at.left)
+      (ap awaited_data_of first.at.held ∙ data-unawaited first.at.entry.data_td (trbs_on DataIn first.at.entry)
+      (left-in (request_direction first.at.entry.task.request) first.at.entry.data_td first.at.left).1)
       first.at.at.is_place.slot;
   sent = λ other some. refl;
 }
@@ -406,8 +375,8 @@ retired-reads state world DataOut place rest first fits = record {
   none = first.alone;
   command_base = refl;
   moved = data-kept state world DataOut place rest first.at.entry first fits
-      (ap awaited_data_of first.at.held ∙ out-unawaited (request_direction first.at.entry.task.request) first.at.entry.data_td
-      (trbs_on DataOut first.at.entry) first.at.left)
+      (ap awaited_data_of first.at.held ∙ data-unawaited first.at.entry.data_td (trbs_on DataOut first.at.entry)
+      (left-out (request_direction first.at.entry.task.request) first.at.entry.data_td first.at.left).1)
       first.at.at.is_place.slot;
   sent = λ other some. refl;
 }

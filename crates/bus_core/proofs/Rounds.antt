@@ -1,5 +1,5 @@
 -- A round, one try after another.
-use Rattle.std.proofs.Common.{◌≡◌, ℕ, zero, suc, ◌+◌, ◌-◌, ◌*◌, ◌<◌, ◌≤◌, false, List, [], ◌∷◌, ◌++◌, map, add-one, refl, arith, ap, sym, subst, length, ◌∙◌, rules}
+use Rattle.std.proofs.Common.{◌≡◌, ℕ, zero, suc, ◌+◌, ◌-◌, ◌<◌, ◌≤◌, false, List, [], ◌∷◌, ◌++◌, map, add-one, refl, arith, ap, sym, subst, length, ◌∙◌, rules}
 use Rattle.std.specs.Prelude.{◌==◌}
 use Rattle.std.specs.List.{range_with_len}
 use Rattle.bus_core.specs.declared.Step.{Step}
@@ -7,9 +7,8 @@ use Rattle.stream_array.specs.declared.Pipe.{Pipe}
 use Rattle.stream_array.specs.declared.Pipe.TheVariants.{Status, DataIn, DataOut}
 use Rattle.bus_core.specs.declared.Step.TheVariants.{CommandPipe, Data, Status as StatusStep, Engine, Event}
 use Rattle.bus_core.specs.Shared.{Shared, due}
-use Rattle.scsi_cmd.specs.declared.TheConstants.{TAGS}
 use Rattle.bus_core.specs.Drain.{all_tags, retirements, tried, tried_one, tries, round, rounds}
-use Rattle.bus_core.proofs.Drains.{tried-left, tried-parts, tried_one-parts}
+use Rattle.bus_core.proofs.Drains.{tried-left, tried-parts}
 use Rattle.std.proofs.lemmas.Bool.{ne_eqb}
 
 pub tried-append : (now : Shared × ℕ) (steps more : List Step) → tried now (steps ++ more) ≡ tried (tried now steps) more
@@ -17,7 +16,9 @@ tried-append now [] more = refl
 tried-append now (step ∷ steps) more = tried-append (tried_one now step) steps more
 
 -- one more try of a kind
-pub tried-suc : (kind : ℕ → Step) (now : Shared × ℕ) (count first : ℕ) → tried now (map kind (range_with_len first (suc count))) ≡ tried_one (tried now (map kind (range_with_len first count))) (kind (first + count))
+pub tried-suc : (kind : ℕ → Step) (now : Shared × ℕ) (count first : ℕ) →
+    tried now (map kind (range_with_len first (suc count)))
+    ≡ tried_one (tried now (map kind (range_with_len first count))) (kind (first + count))
 tried-suc kind now zero first = let e : first ≡ first + 0 = omega arith in ap (λ n. tried_one now (kind n)) e
 tried-suc kind now (suc count) first =
     let e : first + 1 + count ≡ first + suc count = omega arith in
@@ -47,7 +48,8 @@ joined : (now before after : Shared × ℕ) (steps more : List Step) → before 
 joined now before after steps more is on = on ∙ ap (λ s. tried s more) is ∙ sym (tried-append now steps more)
 
 -- a round by its eight parts, each of which knows its own number of tags
-pub round-by : (now one two three four five six seven eight : Shared × ℕ) → one ≡ tried_one now CommandPipe → two ≡ tried_one one Engine → three ≡ tried_one two Event
+pub round-by : (now one two three four five six seven eight : Shared × ℕ) →
+    one ≡ tried_one now CommandPipe → two ≡ tried_one one Engine → three ≡ tried_one two Event
     → four ≡ tried three (map Data (all_tags (length three.0.parts))) → five ≡ tried four (map StatusStep (all_tags (length four.0.parts)))
     → six ≡ tried five (retirements (length five.0.parts) Status) → seven ≡ tried six (retirements (length six.0.parts) DataIn)
     → eight ≡ tried seven (retirements (length seven.0.parts) DataOut) → eight ≡ round now
@@ -62,7 +64,8 @@ round-by now one two three four five six seven eight command engine event data_t
     let seventh = led clients (of_pipe DataIn) six seven sixth.1 on_data_in in
     let eighth = led clients (of_pipe DataOut) seven eight seventh.1 on_data_out in
     let steps : List Step = map Data (all_tags clients) in
-    joined now seven eight (CommandPipe ∷ Engine ∷ Event ∷ steps ++ map StatusStep (all_tags clients) ++ retirements clients Status ++ retirements clients DataIn)
+    joined now seven eight
+    (CommandPipe ∷ Engine ∷ Event ∷ steps ++ map StatusStep (all_tags clients) ++ retirements clients Status ++ retirements clients DataIn)
     (retirements clients DataOut)
     (joined now six seven (CommandPipe ∷ Engine ∷ Event ∷ steps ++ map StatusStep (all_tags clients) ++ retirements clients Status) (retirements clients DataIn)
     (joined now five six (CommandPipe ∷ Engine ∷ Event ∷ steps ++ map StatusStep (all_tags clients)) (retirements clients Status)
@@ -75,11 +78,13 @@ pub round-left : (now after : Shared × ℕ) → after ≡ round now → after.1
 round-left now after is = subst (λ (s : Shared × ℕ). s.1 ≤ now.1) (sym is) (tried-left now (tries (length now.0.parts)))
 
 -- one more tag was tried
-pub tried-next : (kind : ℕ → Step) (now : Shared × ℕ) (count : ℕ) (at after : Shared × ℕ) → at ≡ tried now (map kind (range_with_len 1 count)) → after ≡ tried_one at (kind (count + 1)) →
-    after ≡ tried now (map kind (range_with_len 1 (count + 1)))
+pub tried-next : (kind : ℕ → Step) (now : Shared × ℕ) (count : ℕ) (at after : Shared × ℕ) →
+    at ≡ tried now (map kind (range_with_len 1 count)) → after ≡ tried_one at (kind (count + 1)) → after ≡ tried now (map kind (range_with_len 1 (count + 1)))
 tried-next kind now count at after at-is after-is =
     let e : 1 + count ≡ count + 1 = omega arith in
-    rw add-one (after-is ∙ ap (λ n. tried_one n (kind (count + 1))) at-is ∙ ap (λ n. tried_one (tried now (map kind (range_with_len 1 count))) (kind n)) (sym e) ∙ sym (tried-suc kind now count 1))
+    rw add-one (after-is ∙ ap (λ n. tried_one n (kind (count + 1))) at-is
+    ∙ ap (λ n. tried_one (tried now (map kind (range_with_len 1 count))) (kind n)) (sym e)
+    ∙ sym (tried-suc kind now count 1))
 
 -- a try that isn't due leaves all as it is
 pub tried_one-quiet : (now : Shared × ℕ) (step : Step) → due now.0 step ≡ false → tried_one now step ≡ now
@@ -96,8 +101,10 @@ tried-skip kind now count (suc more) at is quiet =
     ∙ ap (λ n. tried now (map kind (range_with_len 1 n))) same
 
 -- the next tag that is tried, and those before it that aren't due
-pub tried-on : (kind : ℕ → Step) (now : Shared × ℕ) (count next : ℕ) (at after : Shared × ℕ) → at ≡ tried now (map kind (range_with_len 1 count)) → count < next
-    → ((other : ℕ) → count < other → other < next → due at.0 (kind other) ≡ false) → after ≡ tried_one at (kind next) → after ≡ tried now (map kind (range_with_len 1 next))
+pub tried-on : (kind : ℕ → Step) (now : Shared × ℕ) (count next : ℕ) (at after : Shared × ℕ)
+    → at ≡ tried now (map kind (range_with_len 1 count)) → count < next
+    → ((other : ℕ) → count < other → other < next → due at.0 (kind other) ≡ false)
+    → after ≡ tried_one at (kind next) → after ≡ tried now (map kind (range_with_len 1 next))
 tried-on kind now count next at after is above quiet after-is =
     let more : ℕ = next - 1 - count in
     let before : suc (count + more) ≡ next = omega arith in
@@ -115,7 +122,8 @@ tried-off kind now count all at is within quiet =
     ∙ ap (λ n. tried now (map kind (range_with_len 1 n))) whole
 
 -- a round that isn't the last
-pub rounds-on : (more : ℕ) (now : Shared × ℕ) → ((round now).1 == 0) ≡ false → ((round now).1 == now.1) ≡ false → rounds (suc (suc more)) now ≡ rounds (suc more) (round now)
+pub rounds-on : (more : ℕ) (now : Shared × ℕ) → ((round now).1 == 0) ≡ false → ((round now).1 == now.1) ≡ false
+    → rounds (suc (suc more)) now ≡ rounds (suc more) (round now)
 unfolding rounds
 rounds-on more now some fewer = rw (some, fewer) refl
 

@@ -1,5 +1,5 @@
 -- What a step of the shared machine is to each client's own solo machine.
-use Rattle.std.proofs.Common.{◌≡◌, ℕ, zero, suc, ◌<◌, true, false, cond, List, [], ◌∷◌, Option, Some, None, option_map, refl, arith, ap, subst, rules}
+use Rattle.std.proofs.Common.{◌≡◌, ℕ, zero, suc, true, false, cond, List, [], ◌∷◌, Option, Some, None, option_map, refl, ap, subst, rules}
 use Rattle.std.specs.Prelude.{nat_lt, ◌==◌, slice_get, slice_set, length, option_and_then}
 use Rattle.std.proofs.lemmas.Bool.{eqb-true, eqb-false}
 use Rattle.std.proofs.lemmas.Option.{none-some}
@@ -26,14 +26,17 @@ use Rattle.bus_core.specs.declared.Step.TheVariants.{Submit, Task as TaskStep, C
 use Rattle.bus_core.specs.declared.Mark.TheVariants.{Quiet}
 use Rattle.bus_core.specs.declared.Outcome.{Outcome}
 use Rattle.uas_host.specs.Tags.{place_of, own_slot, command_slot}
-use Rattle.bus_core.specs.Part.{Part, Act, fault_at, submitted_part, carry_act, move_act, send_act, event_act, take_act, stop_act, pass_act, retire_act, managed_part, named_slot, task_fault_at}
+use Rattle.bus_core.specs.Part.{Part, Act, fault_at, submitted_part, carry_act, move_act, send_act, event_act, take_act, stop_act, pass_act, retire_act}
+use Rattle.bus_core.specs.Part.{managed_part, named_slot, task_fault_at}
 use Rattle.bus_core.specs.Shared.{Shared, idle, unmoved, refusal, due, acted_on, routed, routed_to, routed_by_tag, accepted, answered, submitted_to}
 use Rattle.bus_core.specs.Shared.{submitted_under, carry_step, event_step, event_seen, due_step, shared_step}
-use Rattle.bus_core.specs.Shared.{at_stage, engine_did, engine_seen, engine_step, pipe_of, resumed, retire_step, ringing, stage_seen, streams_pending, with_pipe}
-use Rattle.bus_core.specs.Shared.{managed, managed_or, managed_to, task_refusal}
+use Rattle.bus_core.specs.Shared.{at_stage, engine_did, engine_seen, engine_step, pipe_of, resumed, retire_step, ringing, stage_seen, streams_pending}
+use Rattle.bus_core.specs.Shared.{with_pipe, managed, managed_or, managed_to, task_refusal}
 use Rattle.bus_core.specs.Isolation.{label_of, nobody, own_label, own_reply, renumbered, solo_of, own_state}
 use Rattle.bus_core.proofs.Managed.{managed_part-own}
-use Rattle.bus_core.proofs.Acts.{solo_try, IsOwnAct, carry_act-own, move_act-own, send_act-own, event_act-own, take_act-own, submitted_part-own, pass_act-own, retire_act-own}
+use Rattle.bus_core.proofs.Acts.{solo_try, IsOwnAct, carry_act-own, move_act-own, send_act-own, event_act-own, take_act-own, submitted_part-own, pass_act-own}
+use Rattle.bus_core.proofs.Acts.{retire_act-own}
+use Rattle.bus_core.proofs.Standing.{get-within}
 
 -- what each client's own solo machine makes of a step of the shared machine
 abbrev pub IsOwnStep : ℕ → Step → Shared → Shared × Outcome → Type 0
@@ -120,7 +123,7 @@ carry_step-own client step old (place ∷ rest) =
 -- RETIREMENT
 
 -- what a step makes of pipes no client can tell
-with_pipe-own : (state : Shared) (pipe : Pipe) (now : PipeState) → (with_pipe state pipe now).parts ≡ state.parts
+pub with_pipe-own : (state : Shared) (pipe : Pipe) (now : PipeState) → (with_pipe state pipe now).parts ≡ state.parts
 with_pipe-own state CommandPipeName now = refl
 with_pipe-own state StatusPipe now = refl
 with_pipe-own state DataIn now = refl
@@ -230,12 +233,6 @@ submitted_under-own client old owner tag ticket command place (Some slot) is =
 
 -- TASK MANAGEMENT
 
--- a client that is in a list is before its end
-pub there : {T : Type 0} (list : List T) (at : ℕ) (was : T) → slice_get list at ≡ Some was → at < length list
-there [] at was is = absurd (none-some was is)
-there (first ∷ rest) zero was is = omega arith
-there (first ∷ rest) (suc at) was is = let below = there rest at was is in omega (arith, below)
-
 -- a task management is accepted, or refused and Quiet
 managed_or-own : (client : ℕ) (old : Shared) (part : Part) (owner ticket : ℕ) (task : Task) (fault : Option SubmitFault) → slice_get old.parts owner ≡ Some part
     → task_fault_at part (named_slot (length old.parts) owner task) ticket task ≡ fault
@@ -245,7 +242,7 @@ managed_or-own client old part owner ticket task None found none =
     let slot = named_slot (length old.parts) owner task in
     let after = managed old part (record { client = owner; slot = TASK_SLOT }) slot ticket task in
     written-own client (TaskStep owner ticket task) old after.0 owner after.1 part (managed_part part slot ticket task) found refl refl
-    (managed_part-own (length old.parts) owner ticket part task (there old.parts owner part found) none)
+    (managed_part-own (length old.parts) owner ticket part task (get-within old.parts owner part found) none)
 managed_or-own client old part owner ticket task (Some fault) found some =
     quiet-own client (TaskStep owner ticket task) old old (task_refusal owner fault) refl refl refl
 

@@ -15,9 +15,9 @@ use Rattle.stream_array.specs.Rings.{LinesState, with_ring}
 use Rattle.scsi_cmd.specs.Held.{held_at}
 use Rattle.uas_host.specs.declared.Handled.TheVariants.{Matched}
 use Rattle.uas_host.specs.declared.HostEntry.{HostEntry}
-use Rattle.uas_host.specs.declared.News.TheVariants.{CommandSeen}
+use Rattle.uas_host.specs.declared.Notice.TheVariants.{CommandSeen}
 use Rattle.uas_host.specs.declared.Place.{Place}
-use Rattle.uas_host.specs.State.{HostState, client_of, is_pending as is_host_pending}
+use Rattle.uas_host.specs.State.{HostState, client_of, is_pending}
 use Rattle.uas_host.specs.Tags.{tag_of}
 use Rattle.uas_host.specs.Events.{awaits_command, done_before, is_awaited as is_awaited_by, with_commands_freed}
 use Rattle.xhci_ctl.specs.declared.TheConstants.{SUCCESS, SLOT}
@@ -36,8 +36,9 @@ use Rattle.bus_core.proofs.CellWrites.{clients-length}
 use Rattle.bus_core.proofs.EventTds.{HasCell, command_tag-trb, command_text-waits, fits-cell}
 use Rattle.bus_core.proofs.EventTexts.{AreWithin, event_texts-shifted, events-within, one-reads}
 use Rattle.bus_core.proofs.Framing.{EndsStay}
-use Rattle.bus_core.proofs.HostSees.{command_seen-side, host_with, place_of-tag_of}
+use Rattle.bus_core.proofs.HostSees.{command_seen-side, host_with}
 use Rattle.bus_core.proofs.MatchedBounds.{held-place, matched-once}
+use Rattle.bus_core.proofs.MatchedEngine.{place_of-tag_of}
 use Rattle.bus_core.proofs.MatchedEntries.{awaited-pends}
 use Rattle.bus_core.proofs.MatchedNext.{matched-pending, times-member}
 use Rattle.bus_core.proofs.MatchedPlaces.{one_self}
@@ -49,13 +50,13 @@ use Rattle.bus_core.proofs.SeenWorlds.{FreesOne, IsSeenAt, event-fits, handled-i
 
 -- the command TD of a place is pending, or isn't
 is_awaited-trb : (host : HostState) (place : Place) (held : HostEntry) → tag_of place ≤ 248 → IsPlace (length host.clients) place
-    → held_at (client_of host place.client).entries place.slot ≡ Some held → is_awaited_by host (command_trb place) ≡ is_host_pending held.command_td
+    → held_at (client_of host place.client).entries place.slot ≡ Some held → is_awaited_by host (command_trb place) ≡ is_pending held.command_td
 is_awaited-trb host place held most there is =
     ap (λ tag. option_map_or (awaits_command host) tag false) (command_tag-trb place most)
-    ∙ ap (λ at. option_map_or (λ (h : HostEntry). is_host_pending h.command_td)
+    ∙ ap (λ at. option_map_or (λ (h : HostEntry). is_pending h.command_td)
     (option_and_then (λ (p : Place). held_at (client_of host p.client).entries p.slot) at) false)
     (place_of-tag_of (length host.clients) place there)
-    ∙ ap (λ h. option_map_or (λ (h : HostEntry). is_host_pending h.command_td) h false) is
+    ∙ ap (λ h. option_map_or (λ (h : HostEntry). is_pending h.command_td) h false) is
 
 -- the first TRB is freed, and the next stays
 done_before-next : (host : HostState) (n : ℕ) (places : List Place)
@@ -155,7 +156,7 @@ next-awaited state world place rest at next fits is =
     is_awaited-trb (host_with world.host place (command_seen at.entry)) next (host_side other.entry) cell.tag
     (there-after state world place next (command_seen at.entry) fits there)
     (ap (λ (c : Cell). c.held) kept ∙ cell.fits.held)
-    ∙ ap is_host_pending other.pending
+    ∙ ap is_pending other.pending
 
 first-seen : (state : Shared) (world : World) (place : Place) (rest : List Completion) (at : IsSeenAt state world (CommandDone place) rest) → Fits state world
     → is_awaited_by (host_with world.host place (command_seen at.entry)) (command_trb place) ≡ false

@@ -1,16 +1,12 @@
 -- The host sees the response to a task management: the status stream of its tag is free again, the commands that it ended are doomed, and the
 -- world after it fits. Several cells of one client change at once. Cited by the event of a status stream.
-use Rattle.std.proofs.Common.{◌≡◌, ℕ, suc, ◌<◌, cond, List, [], ◌∷◌, ◌++◌, length, length-set, Some, None, option_map, refl, arith, ap}
-use Rattle.std.proofs.Common.{sym, subst, ◌∙◌}
+use Rattle.std.proofs.Common.{◌≡◌, ℕ, suc, ◌<◌, cond, List, [], ◌∷◌, ◌++◌, length, length-set, Some, None, option_map, refl, arith, ap, sym, subst, ◌∙◌}
 use Rattle.std.specs.Prelude.{slice_set, option_and_then}
 use Rattle.std.proofs.Math.ListN.{get_or-map}
 use Rattle.std.proofs.lemmas.List.{get_or-set_same, get_or-set_other}
 use Rattle.arrayvec.specs.ArrayVec.{ArrayVec}
-use Rattle.cycle_ring.specs.Ring.{consumed_at}
-use Rattle.stream_array.specs.declared.Pipe.{Pipe}
-use Rattle.stream_array.specs.declared.Pipe.TheVariants.{Command, Status, DataIn, DataOut}
-use Rattle.stream_array.specs.Map.{places_of, spot_at}
-use Rattle.stream_array.specs.Rings.{LinesState, ring_of, stream_ring}
+use Rattle.stream_array.specs.declared.Pipe.TheVariants.{Status}
+use Rattle.stream_array.specs.Rings.{LinesState, stream_ring}
 use Rattle.scsi_cmd.specs.declared.Request.TheVariants.{Manage}
 use Rattle.scsi_cmd.specs.declared.Task.{Task}
 use Rattle.scsi_cmd.specs.declared.TheConstants.{TASK_SLOT}
@@ -19,42 +15,40 @@ use Rattle.device_server.specs.declared.Answer.{Answer}
 use Rattle.device_server.specs.declared.Answer.TheVariants.{Good, Check}
 use Rattle.solo_model.specs.declared.Phase.{Phase}
 use Rattle.solo_model.specs.declared.Phase.TheVariants.{Sent}
-use Rattle.uas_host.specs.declared.EndedTd.{EndedTd}
 use Rattle.uas_host.specs.declared.Handled.TheVariants.{Matched}
 use Rattle.uas_host.specs.declared.HostClient.{HostClient}
-use Rattle.uas_host.specs.declared.News.TheVariants.{Responded}
+use Rattle.uas_host.specs.declared.Notice.TheVariants.{Responded}
 use Rattle.uas_host.specs.declared.Place.{Place}
 use Rattle.uas_host.specs.Seen.{doomed as host_doomed, noted_in}
 use Rattle.uas_host.specs.State.{HostState, client_of, new_client, with_client}
 use Rattle.uas_host.specs.Tags.{tag_of}
-use Rattle.uas_host.specs.Events.{ended_at, ended_on, ended_td, event_doors, freed_on, handled, handled_news, handled_seen, handled_td, host_seen, news_of}
-use Rattle.uas_host.specs.Events.{place_seen, seen, with_freed, with_seen}
+use Rattle.uas_host.specs.Events.{ended_at, event_doors, freed_on, handled, handled_td, host_seen, notice_of, place_seen, seen, with_freed, with_seen}
 use Rattle.bus_core.specs.declared.Completion.{Completion}
 use Rattle.bus_core.specs.declared.Completion.TheVariants.{CommandDone, DataDone, StatusDone, EngineDone}
 use Rattle.bus_core.specs.declared.Step.TheVariants.{Event as EventStep}
 use Rattle.bus_core.specs.Bus.{IsPlace}
-use Rattle.bus_core.specs.Td.{Entry, data_after_status, is_ready, with_event_seen}
+use Rattle.bus_core.specs.Td.{Entry, data_after_status, with_event_seen}
 use Rattle.bus_core.specs.Part.{Part, after_answer, ready_after}
 use Rattle.bus_core.specs.Shared.{Shared, shared_step}
-use Rattle.bus_core.specs.Matched.{IsManagedPhase, IsMatched, IsPhaseOf, IsRequestIn, status_events}
+use Rattle.bus_core.specs.Matched.{IsManagedPhase, IsMatched, IsPhaseOf, IsRequestIn}
 use Rattle.bus_core.specs.World.{World, cell_at}
 use Rattle.bus_core.specs.Cells.{HasAnswerIn, host_side}
 use Rattle.bus_core.specs.Fits.{Fits, FitsEngine, FitsPart, FitsQueues, IsSoundWorld, engine_event, event_texts, place_in}
 use Rattle.bus_core.specs.WorldSteps.{EventFits, event_sides, without_event}
-use Rattle.bus_core.proofs.CellWrites.{client_of-found, clients-length, get-within}
-use Rattle.bus_core.proofs.ClientFraming.{AllFit-client, ChangesClient}
+use Rattle.bus_core.proofs.CellWrites.{client_of-found, clients-length}
 use Rattle.bus_core.proofs.DoomedCells.{FitsPart-doomed, doomed_cell, doomed_client, doomed_part}
 use Rattle.bus_core.proofs.EventTds.{HasCell, IsSpent, cell-status_spent, data_text, status_text, status_text-is}
 use Rattle.bus_core.proofs.EventTexts.{command_event}
-use Rattle.bus_core.proofs.Framing.{ChangesCell, FitsPart-set, IsFound, engine-changed, tags-apart, unused-kept}
-use Rattle.bus_core.proofs.HostSees.{client_with, is_ready-side, place_of-tag_of, response_news-is, response_seen-side, status_seen}
+use Rattle.bus_core.proofs.Framing.{AllFit-client, ChangesCell, ChangesClient, FitsPart-set, engine-changed, tags-apart, unused-kept}
+use Rattle.bus_core.proofs.HostSees.{client_with, response_notice-is, response_seen-side, status_seen}
 use Rattle.bus_core.proofs.MatchedBounds.{matched-once}
-use Rattle.bus_core.proofs.MatchedEntries.{IsSentBy, awaited-pends}
+use Rattle.bus_core.proofs.MatchedEntries.{awaited-pends}
+use Rattle.bus_core.proofs.MatchedEnds.{IsSentBy}
+use Rattle.bus_core.proofs.MatchedEngine.{place_of-tag_of}
 use Rattle.bus_core.proofs.MatchedSteps.{seen_part, seen_state, shared_step-matched}
 use Rattle.bus_core.proofs.SeenRings.{awaited-sent, event-handled, status-alone, status-ends, status-frees, status_lines, stream-queues}
-use Rattle.bus_core.proofs.SeenWorlds.{FreesOne, IsSeenAt, answered_state, seen-answered, seen-cell, seen-others, seen_world}
-use Rattle.bus_core.proofs.Standing.{slice_get-back}
-use Rattle.bus_core.proofs.Taking.{ready-found}
+use Rattle.bus_core.proofs.SeenWorlds.{FreesOne, IsSeenAt, answered_state, handled-as, queue-same, seen-answered, seen-cell, seen-others, seen_world}
+use Rattle.bus_core.proofs.Standing.{slice_get-back, get-within}
 
 -- THE WORLD AFTER IT
 
@@ -86,25 +80,11 @@ host_seen-response host place entry now what noted asks there held sees =
     ∙ ap (λ h. option_map (with_client host place.client) (option_map (with_seen (Responded 0) (client_of host place.client) place.slot) h)) sees
     ∙ ap (λ c. Some (with_client host place.client c)) (with_seen-response (client_of host place.client) place.slot now what noted asks)
 
--- the event ring is no other ring
-ring-events : (lines : LinesState) (pipe : Pipe) (stream : ℕ) → ring_of (without_event lines) pipe stream ≡ ring_of lines pipe stream
-ring-events lines Command stream = refl
-ring-events lines Status stream = refl
-ring-events lines DataIn stream = refl
-ring-events lines DataOut stream = refl
-
-ended-events : (lines : LinesState) (pointer : ℕ) → ended_at (without_event lines) pointer ≡ ended_at lines pointer
-ended-events lines pointer =
-    elim (spot_at pointer) as (λ o. option_and_then (ended_on (without_event lines) pointer) o ≡ option_and_then (ended_on lines pointer) o) [
-      | None ↦ refl
-      | Some at ↦ ap (λ r. option_and_then (ended_td at.0 at.1) (consumed_at (places_of at.0) r pointer)) (ring-events lines at.0 at.1)
-    ]
-
 -- an event of a status stream that tells the response
 handled-response : (world : World) (place : Place) (entry now : Entry) (what : Task) (noted : ArrayVec ℕ) (pointer residual code : ℕ)
     → now.task.request ≡ Manage what noted → IsPlace (length world.host.clients) place → (cell_at world place).held ≡ Some (host_side entry)
     → ended_at world.lines pointer ≡ Some (record { pipe = Status; tag = tag_of place })
-    → news_of world.frames residual code (record { pipe = Status; tag = tag_of place }) ≡ Some (Responded 0)
+    → notice_of world.frames residual code (record { pipe = Status; tag = tag_of place }) ≡ Some (Responded 0)
     → seen (Responded 0) (host_side entry) ≡ Some (host_side now)
     → handled_td (event_sides world) world.frames pointer residual code (ended_at (without_event world.lines) pointer)
     ≡ (
@@ -115,10 +95,7 @@ handled-response : (world : World) (place : Place) (entry now : Entry) (what : T
       Matched (tag_of place),
     )
 handled-response world place entry now what noted pointer residual code asks there held ended tells sees =
-    let td : EndedTd = record { pipe = Status; tag = tag_of place } in
-    ap (handled_td (event_sides world) world.frames pointer residual code) (ended-events world.lines pointer ∙ ended)
-    ∙ ap (handled_news (event_sides world) pointer (record { pipe = Status; tag = tag_of place })) tells
-    ∙ ap (handled_seen (event_sides world) pointer (record { pipe = Status; tag = tag_of place }))
+    handled-as world place Status pointer residual code (Responded 0) (host_answered world.host place now noted.items) ended tells
     (host_seen-response world.host place entry now what noted asks there held sees)
 
 -- THE CELLS
@@ -161,13 +138,6 @@ texts-host world host k (EngineDone place ∷ rest) = ap (λ es. engine_event wo
 
 -- ALL TOGETHER
 
--- the task management is the last of the ready ones where it is ready
-queue-answered : (world : World) (client slot : ℕ) (part : Part) (now : Entry) → IsFound world client part
-    → ready_after part.ready slot now ≡ (client_with (client_of world.host client) slot (host_side now)).ready.items
-queue-answered world client slot part now it =
-    ap (λ q. cond (is_ready now) (q ++ slot ∷ []) q) (sym (ready-found world client part it))
-    ∙ ap (λ b. cond b ((client_of world.host client).ready.items ++ slot ∷ []) (client_of world.host client).ready.items) (sym (is_ready-side now))
-
 -- the client fits: first its management's cell, then all of them
 part-answered : (state : Shared) (world : World) (place : Place) (rest : List Completion) (at : IsSeenAt state world (StatusDone place) rest)
     (noted : List ℕ) → Fits state world → FreesOne world (status_lines world (tag_of place)) place (status_seen at.entry)
@@ -185,12 +155,12 @@ part-answered state world place rest at noted fits frees =
       units = sym (slice_get-back world.device.units place.client at.part.unit at.it.unit_is);
       others = seen-others state world (StatusDone place) rest lines now at frees;
     } in
-    let least_is : at.part.least ≡ held_now.least =
-    at.it.fits.least ∙ ap (λ (c : HostClient). c.least) (sym (client_of-found world.host place.client at.it.held at.it.held_is)) in
+    let least_is : at.part.least_ticket ≡ held_now.least_ticket =
+    at.it.fits.least_ticket ∙ ap (λ (c : HostClient). c.least_ticket) (sym (client_of-found world.host place.client at.it.held at.it.held_is)) in
     FitsPart-doomed one (answered_world world lines place now noted) place.client at.part.unit held_now (seen_part at.part place.slot now) noted
-    (FitsPart-set world one place.client place.slot at.part.unit at.part.unit at.it.held held_now at.part (Some now) at.part.least
+    (FitsPart-set world one place.client place.slot at.part.unit at.part.unit at.it.held held_now at.part (Some now) at.part.least_ticket
     (ready_after at.part.ready place.slot now) at.it.fits at.is_place.slot changes refl least_is
-    (queue-answered world place.client place.slot at.part now at.it)
+    (queue-same world place.client place.slot at.part now at.it)
     (seen-cell state world (StatusDone place) rest lines at at.entry.command_td (with_event_seen at.entry.status_td)
     (data_after_status at.entry.task.phase at.entry.data_td) fits frees))
     (λ slot within. cells-answered world lines place now noted slot there)
@@ -231,11 +201,11 @@ fits-answered state world place rest at noted fits frees matched sound =
     let engine : FitsEngine (seen_state state place at.part now rest) one =
     engine-changed state (seen_state state place at.part now rest) world one place fits.matched fits.engine
     refl refl frees.engine at.is_place.slot others (status-ends state world place rest at) in
-    let changes : ChangesClient world (answered_world world (status_lines world (tag_of place)) place (status_seen at.entry) noted) place.client
-    (client_answered world.host place (status_seen at.entry) noted) at.part.unit = record {
+    let changes : ChangesClient world (answered_world world (status_lines world (tag_of place)) place (status_seen at.entry) noted) state.parts
+    place.client (client_answered world.host place (status_seen at.entry) noted) at.part.unit = record {
       hosts = refl;
       units = sym (slice_get-back world.device.units place.client at.part.unit at.it.unit_is);
-      others = λ other slot within apart.
+      others = λ other there apart found_is slot within.
           others-answered world lines place now noted other slot apart
           ∙ others other slot within (tags-apart other place.client slot place.slot within at.is_place.slot apart);
     } in
@@ -282,7 +252,7 @@ response-fits state world place rest at what noted asks fits =
     subst (λ n. IsPlace n place) (sym (clients-length world state.parts fits.clients)) at.is_place in
     let does = ap (handled (event_sides world) world.frames) text.is
     ∙ handled-response world place at.entry (status_seen at.entry) what noted text.pointer _ _ asks there at.cell.held text.ended
-    (response_news-is world.frames place.slot tag what noted Good last at.most holds_answer)
+    (response_notice-is world.frames place.slot tag what noted Good last at.most holds_answer)
     (response_seen-side at.entry what noted asks sent (awaited-pends at.entry.status_td 1 at.awaits))
     ∙ ap (λ item. (
       record {

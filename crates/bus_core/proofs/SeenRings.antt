@@ -1,10 +1,9 @@
 -- An event of a stream is seen: its TD's ring is free again, the queues fit, and what the host made of it is what was claimed. Cited by the
 -- proofs of status, data and command events.
-use Rattle.std.proofs.Common.{◌≡◌, ℕ, ◌+◌, ◌-◌, ◌<◌, ◌≤◌, true, List, [], ◌∷◌, ◌++◌, drop, length, map, Option, Some, None, refl, arith, ap, sym, subst}
-use Rattle.std.proofs.Common.{◌∙◌}
-use Rattle.std.specs.Prelude.{slice_get, slice_set, ◌==◌}
+use Rattle.std.proofs.Common.{◌≡◌, ℕ, ◌+◌, ◌-◌, ◌<◌, ◌≤◌, true, List, [], ◌∷◌, ◌++◌, drop, length, map, Option, Some, None, refl, arith, ap, sym, subst, ◌∙◌}
+use Rattle.std.specs.Prelude.{slice_get, slice_set}
 use Rattle.std.proofs.Math.Seq.{drop-length}
-use Rattle.std.proofs.lemmas.Bool.{eqb-true, false≢true}
+use Rattle.std.proofs.lemmas.Bool.{false≢true}
 use Rattle.std.proofs.lemmas.List.{append-nil}
 use Rattle.xhci_trb.specs.declared.Trb.{Trb}
 use Rattle.cycle_ring.specs.Ring.{Ring, reclaimed}
@@ -29,11 +28,10 @@ use Rattle.bus_core.specs.declared.Td.{Td}
 use Rattle.bus_core.specs.declared.Completion.{Completion}
 use Rattle.bus_core.specs.declared.Completion.TheVariants.{CommandDone, DataDone, StatusDone, EngineDone}
 use Rattle.bus_core.specs.declared.Step.TheVariants.{Event as EventStep}
-use Rattle.bus_core.specs.Td.{Entry, data_after_answer, data_after_status, is_awaited, is_left_over, is_pending}
-use Rattle.bus_core.specs.Td.{left_over_data, left_over_td}
+use Rattle.bus_core.specs.Td.{Entry, data_after_answer, data_after_status, is_awaited, left_over_data, left_over_td}
 use Rattle.bus_core.specs.Part.{event_place}
 use Rattle.bus_core.specs.Shared.{Shared, request_direction, shared_step}
-use Rattle.bus_core.specs.Matched.{IsStatusTd, carried_places, data_events, is_td_event, request_bytes, status_events}
+use Rattle.bus_core.specs.Matched.{IsStatusTd, carried_places, data_events, is_td_event, request_bytes, status_events, IsGivenUp}
 use Rattle.bus_core.specs.World.{World, cell_at}
 use Rattle.bus_core.specs.Cells.{HoldsData, HoldsIn, HoldsTd, HoldsTrbs, data_in_td, data_out_td}
 use Rattle.bus_core.specs.Fits.{Fits, FitsQueues, IsSoundWorld, command_trb, event_texts}
@@ -41,14 +39,14 @@ use Rattle.bus_core.specs.WorldSteps.{EventFits, event_sides, handled_for, rung_
 use Rattle.bus_core.proofs.CellWrites.{stream_ring-same, stream_ring-other}
 use Rattle.bus_core.proofs.EventTexts.{AreWithin, KeepsData, KeepsStatus, event_texts-kept, events-within, one-reads}
 use Rattle.bus_core.proofs.Framing.{EndsStay}
-use Rattle.bus_core.proofs.MatchedEntries.{IsSentBy, awaited-pends}
-use Rattle.bus_core.proofs.MatchedPlaces.{and-true, one_self}
+use Rattle.bus_core.proofs.MatchedEntries.{awaited-pends, awaited-spent}
+use Rattle.bus_core.proofs.MatchedEnds.{IsSentBy}
+use Rattle.bus_core.proofs.MatchedPlaces.{one_self}
 use Rattle.bus_core.proofs.MatchedSteps.{seen_state}
 use Rattle.bus_core.proofs.SeenWorlds.{FreesOne, IsSeenAt, left-on, seen-others, seen-quiet, seen_world}
 use Rattle.bus_core.proofs.EventTds.{IsSpent}
 use Rattle.bus_core.proofs.HostSees.{host_with, status_seen}
-use Rattle.uas_host.specs.State.{HostState}
-use Rattle.bus_core.specs.Matched.{IsGivenUp}
+use Rattle.uas_host.specs.State.{HostState, is_left_over}
 
 -- A RING IS FREE AGAIN
 
@@ -58,9 +56,6 @@ reclaimed-whole ring spent =
     let some = spent.some in
     let all : length ring.put - 1 + 1 ≡ length ring.put = omega arith in
     (ap (λ n. drop n ring.put) all ∙ drop-length ring.put, omega (arith, spent.taken))
-
-pub awaited-taken : (td : Td) (trbs : ℕ) → is_awaited td trbs ≡ true → td.consumed ≡ trbs
-awaited-taken td trbs is = eqb-true td.consumed trbs (and-true (is_pending td.state) (td.consumed == trbs) is).1
 
 -- a stream's ring without the TD that stood on it
 abbrev pub freed_ring : List Ring → ℕ → Ring
@@ -152,7 +147,7 @@ awaited-sent (Begun progress) td is awaited = absurd (false≢true (sym (ap (λ 
 awaited-sent (Sent answer) td is awaited = record { answer = answer; is = refl }
 awaited-sent Gone td is awaited =
     let none : td.consumed ≡ 0 = subst (IsGivenUp td.consumed) (awaited-pends td 1 awaited) is in
-    absurd (omega (arith, none, awaited-taken td 1 awaited))
+    absurd (omega (arith, none, awaited-spent td 1 awaited))
 
 -- a TD that is left over stays where it is
 pub holds-left : (ring : Ring) (trbs : List Trb) (state : TdState) (consumed : ℕ) → HoldsIn ring trbs consumed state
@@ -196,7 +191,7 @@ status-frees state world place rest at answer fits sent spent = record {
   data_out_others = λ tag some apart. refl;
   status = (
     freed-holds world.lines.status (tag_of place) (omega arith) (omega (arith, at.most, fits.sound.lines.status)) spent,
-    awaited-taken at.entry.status_td 1 at.awaits,
+    awaited-spent at.entry.status_td 1 at.awaits,
   );
   data_in = subst (λ p. HoldsData (cell_at world place).data_in (data_td (tag_of place) (request_bytes at.entry.task.request))
       (data_in_td (request_direction at.entry.task.request) (data_after_status p at.entry.data_td))) (sym sent)

@@ -1,11 +1,11 @@
 -- The host sees an event of a stream, status or data, and the world after it fits. Cited by the step that takes an event.
-use Rattle.std.proofs.Common.{◌≡◌, ℕ, ◌-◌, ◌<◌, true, cond, List, [], ◌∷◌, length, Option, Some, None, refl, arith, ap, sym, subst}
-use Rattle.std.proofs.Common.{◌∙◌}
+use Rattle.std.proofs.Common.{◌≡◌, ℕ, ◌<◌, true, false, cond, List, [], ◌∷◌, length, Option, Some, None, refl, arith, ap, sym, subst, ◌∙◌}
 use Rattle.std.specs.Prelude.{slice_get}
 use Rattle.std.proofs.lemmas.Bool.{false≢true}
 use Rattle.xhci_trb.specs.declared.Trb.{Trb}
 use Rattle.cycle_ring.specs.Ring.{Ring}
 use Rattle.event_ring.specs.declared.Event.{Event}
+use Rattle.stream_array.specs.declared.Pipe.{Pipe}
 use Rattle.stream_array.specs.declared.Pipe.TheVariants.{Command, Status, DataIn, DataOut}
 use Rattle.stream_array.specs.Rings.{LinesState, stream_ring, with_ring}
 use Rattle.scsi_cmd.specs.declared.Direction.{Direction}
@@ -16,35 +16,38 @@ use Rattle.uas_host.specs.declared.Handled.TheVariants.{Matched}
 use Rattle.uas_host.specs.declared.Place.{Place}
 use Rattle.uas_host.specs.Tags.{tag_of}
 use Rattle.uas_host.specs.Tds.{data_td, data_trb_count, window_of}
-use Rattle.uas_host.specs.Events.{event_doors, handled, with_freed}
+use Rattle.uas_host.specs.declared.Notice.{Notice}
+use Rattle.uas_host.specs.declared.Notice.TheVariants.{DataInSeen, DataOutSeen}
+use Rattle.uas_host.specs.Events.{completes, event_doors, freed_on, handled, notice_of, seen, with_freed}
+use Rattle.xhci_ctl.specs.declared.TheConstants.{SUCCESS}
 use Rattle.bus_core.specs.declared.Td.{Td}
 use Rattle.bus_core.specs.declared.Completion.{Completion}
 use Rattle.bus_core.specs.declared.Completion.TheVariants.{DataDone, StatusDone}
 use Rattle.bus_core.specs.Bus.{IsPlace}
-use Rattle.bus_core.specs.Td.{Entry, data_after_status, data_trbs, is_awaited, is_td_left_over}
-use Rattle.bus_core.specs.Td.{with_event_seen}
-use Rattle.bus_core.specs.Part.{seen_data_td}
+use Rattle.bus_core.specs.Td.{Entry, data_after_status, data_trbs, is_awaited, is_td_left_over, with_event_seen}
+use Rattle.bus_core.specs.Part.{seen_data_td, after_answer}
 use Rattle.bus_core.specs.Shared.{Shared, request_direction}
-use Rattle.bus_core.specs.Matched.{awaits_data, data_events, request_bytes, status_events}
+use Rattle.bus_core.specs.Matched.{awaits_data, request_bytes, IsRequestIn}
 use Rattle.bus_core.specs.World.{World, cell_at}
-use Rattle.bus_core.specs.Cells.{HasAnswerIn, HoldsData, HoldsTd, HoldsTrbs, data_in_td, data_out_td}
-use Rattle.bus_core.specs.Fits.{Fits, event_texts}
+use Rattle.bus_core.specs.Cells.{HasAnswerIn, HoldsData, HoldsTd, HoldsTrbs, data_in_td, data_out_td, host_side}
+use Rattle.bus_core.specs.Fits.{Fits, FitsQueues, event_texts}
 use Rattle.bus_core.specs.WorldSteps.{EventFits, event_sides, without_event}
 use Rattle.bus_core.proofs.CellWrites.{clients-length, stream_ring-other}
-use Rattle.bus_core.proofs.EventTds.{HasCell, IsDataText, IsSpent, IsSpentBy, cell-data_spent, cell-status_spent, data_text, data_text-is, data_trbs-count}
-use Rattle.bus_core.proofs.EventTds.{length-data_trbs, status_text, status_text-is}
+use Rattle.bus_core.proofs.DataTrbs.{length-data_trbs}
+use Rattle.bus_core.proofs.EventTds.{HasCell, IsDataText, IsSpent, IsStreamText, IsSpentBy, cell-data_spent, cell-status_spent, data_text, data_text-is}
+use Rattle.bus_core.proofs.EventTds.{data_trbs-count, status_text, status_text-is}
 use Rattle.bus_core.proofs.Framing.{EndsStay}
-use Rattle.bus_core.proofs.HostSees.{data_in_seen-side, data_out_seen-side, host_with, status_news-is, status_seen, status_seen-side}
+use Rattle.bus_core.proofs.HostSees.{data_in_seen-side, data_out_seen-side, host_with, status_notice-is, status_seen, status_seen-side}
 use Rattle.bus_core.proofs.MatchedBounds.{matched-once}
-use Rattle.bus_core.proofs.MatchedEntries.{IsSentBy, awaited-pends}
+use Rattle.bus_core.proofs.MatchedSteps.{seen_state}
+use Rattle.bus_core.proofs.MatchedEntries.{awaited-pends, awaited-spent}
+use Rattle.bus_core.proofs.MatchedEnds.{IsSentBy}
 use Rattle.bus_core.proofs.SeenWorlds.{FreesOne, IsSeenAt, event-fits, handled-is, left-on, seen-at, seen_world}
 use Rattle.scsi_cmd.specs.declared.Op.{Op}
 use Rattle.scsi_cmd.specs.declared.Request.{Request}
 use Rattle.scsi_cmd.specs.declared.Request.TheVariants.{Execute, Manage}
 use Rattle.scsi_cmd.specs.declared.TheConstants.{TASK_SLOT}
-use Rattle.bus_core.specs.Part.{after_answer}
-use Rattle.bus_core.specs.Matched.{IsRequestIn}
-use Rattle.bus_core.proofs.SeenRings.{awaited-sent, awaited-taken, data-alone, freed-holds, freed_ring, pending-stays, status-alone, status-ends, status-frees}
+use Rattle.bus_core.proofs.SeenRings.{awaited-sent, data-alone, freed-holds, freed_ring, pending-stays, status-alone, status-ends, status-frees}
 use Rattle.bus_core.proofs.SeenRings.{status_lines, stream-queues}
 use Rattle.bus_core.proofs.SeenResponses.{response-fits}
 pub use Rattle.bus_core.proofs.SeenRings.{HasEventFit, event-done}
@@ -69,7 +72,7 @@ command-status state world place rest at op asks fits =
     subst (λ n. IsPlace n place) (sym (clients-length world state.parts fits.clients)) at.is_place in
     let does = ap (handled (event_sides world) world.frames) text.is
     ∙ handled-is world place at.entry (status_seen at.entry) Status text.pointer _ _ _ refl there at.cell.held text.ended
-    (status_news-is world.frames place.slot tag op answer less at.most holds_answer) (status_seen-side at.entry op answer asks answered.is
+    (status_notice-is world.frames place.slot tag op answer less at.most holds_answer) (status_seen-side at.entry op answer asks answered.is
     (awaited-pends at.entry.status_td 1 at.awaits))
     ∙ ap (λ item. (
       record { host = host_with world.host place (status_seen at.entry); lines = with_freed (without_event world.lines) Status tag item },
@@ -127,7 +130,7 @@ data-holds : (ring : Ring) (tag : ℕ) (entry : Entry) (moved : HasDataTd entry)
     → HoldsTd ring (data_td tag (request_bytes entry.task.request)) (with_event_seen moved.td)
 data-holds ring tag entry moved free = (
   free,
-  awaited-taken moved.td (data_trbs entry.task.request) moved.awaited ∙ data_trbs-count entry.task.request
+  awaited-spent moved.td (data_trbs entry.task.request) moved.awaited ∙ data_trbs-count entry.task.request
       ∙ sym (length-data_trbs (data_trb_count (request_bytes entry.task.request)) (window_of tag) (request_bytes entry.task.request)),
 )
 
@@ -211,6 +214,28 @@ host-there : (state : Shared) (world : World) (place : Place) → Fits state wor
     → IsPlace (length world.host.clients) place
 host-there state world place fits there = subst (λ n. IsPlace n place) (sym (clients-length world state.parts fits.clients)) there
 
+-- by the pipe on which it was
+data-on : (state : Shared) (world : World) (place : Place) (rest : List Completion) (at : IsSeenAt state world (DataDone place) rest)
+    (moved : HasDataTd at.entry) (pipe : Pipe) (notice : Notice) (lines : LinesState) → Fits state world
+    → (text : IsStreamText world.lines (data_text world place) 0 SUCCESS pipe (tag_of place))
+    → completes notice ≡ false → notice_of world.frames 0 SUCCESS (record { pipe = pipe; tag = tag_of place }) ≡ Some notice
+    → seen notice (host_side at.entry) ≡ Some (host_side (data_seen at.entry moved.td))
+    → freed_on pipe (host_with world.host place (data_seen at.entry moved.td)) (without_event world.lines) (tag_of place) text.pointer ≡ lines
+    → FreesOne world lines place (data_seen at.entry moved.td)
+    → EndsStay state world (seen_world world lines place (data_seen at.entry moved.td)) place
+    → FitsQueues (seen_state state place at.part (data_seen at.entry moved.td) rest) (seen_world world lines place (data_seen at.entry moved.td))
+    → EventFits state world (data_text world place) (DataDone place)
+data-on state world place rest at moved pipe notice lines fits text quiet tells sees lines_is frees ends queues =
+    let now : Entry = data_seen at.entry moved.td in
+    let does = ap (handled (event_sides world) world.frames) text.is
+    ∙ handled-is world place at.entry (data_seen at.entry moved.td) pipe text.pointer 0 SUCCESS notice quiet
+    (host-there state world place fits at.is_place) at.cell.held text.ended tells sees
+    ∙ ap (λ ls. (record { host = host_with world.host place (data_seen at.entry moved.td); lines = ls }, Matched (tag_of place))) lines_is in
+    event-done state world (data_text world place) (DataDone place) rest lines now at.is refl
+    (ap (event_doors (event_sides world)) text.is) does
+    (event-fits state world (DataDone place) rest lines at at.entry.command_td at.entry.status_td
+    (Some (with_event_seen moved.td)) fits refl (λ entries. refl) (seen-data at.entry moved) frees ends queues)
+
 data-by : (state : Shared) (world : World) (place : Place) (rest : List Completion) (way : Direction) (at : IsSeenAt state world (DataDone place) rest)
     (moved : HasDataTd at.entry)
     → Fits state world → request_direction at.entry.task.request ≡ way → IsDataText way world place → IsSpentBy way world place
@@ -218,50 +243,20 @@ data-by : (state : Shared) (world : World) (place : Place) (rest : List Completi
 data-by state world place rest Nothing at moved fits way text spent = absurd text
 data-by state world place rest ToHost at moved fits way text spent =
     let tag : ℕ = tag_of place in
-    let now : Entry = data_seen at.entry moved.td in
     let frees : FreesOne world (in_lines world tag) place (data_seen at.entry moved.td) = in-frees state world place rest at moved fits way spent in
-    let does = ap (handled (event_sides world) world.frames) text.is
-    ∙ handled-is world place at.entry (data_seen at.entry moved.td) DataIn text.pointer _ _ _ refl
-    (host-there state world place fits at.is_place) at.cell.held text.ended
-    refl (data_in_seen-side at.entry moved.td moved.is (awaited-pends moved.td (data_trbs at.entry.task.request) moved.awaited) way)
-    ∙ ap (λ item. (
-      record {
-        host = host_with world.host place (data_seen at.entry moved.td);
-        lines = with_freed
-            (without_event world.lines) DataIn tag item;
-      },
-      Matched tag,
-    )) text.item in
-    event-done state world (data_text world place) (DataDone place) rest (in_lines world tag) now at.is refl
-    (ap (event_doors (event_sides world)) text.is) does
-    (event-fits state world (DataDone place) rest (in_lines world tag) at at.entry.command_td at.entry.status_td
-    (Some (with_event_seen moved.td)) fits refl (λ entries. refl)
-    (seen-data at.entry moved) frees (in-ends state world place rest at moved way)
-    (stream-queues state world (DataDone place) rest (in_lines world tag) now at fits refl refl refl refl frees
-    (λ some. absurd (data-alone state place rest at.is (matched-once state fits.matched place).data_events some)) (λ some. (refl, refl))))
+    data-on state world place rest at moved DataIn DataInSeen (in_lines world tag) fits text refl refl
+    (data_in_seen-side at.entry moved.td moved.is (awaited-pends moved.td (data_trbs at.entry.task.request) moved.awaited) way)
+    (ap (with_freed (without_event world.lines) DataIn tag) text.item) frees (in-ends state world place rest at moved way)
+    (stream-queues state world (DataDone place) rest (in_lines world tag) (data_seen at.entry moved.td) at fits refl refl refl refl frees
+    (λ some. absurd (data-alone state place rest at.is (matched-once state fits.matched place).data_events some)) (λ some. (refl, refl)))
 data-by state world place rest ToDevice at moved fits way text spent =
     let tag : ℕ = tag_of place in
-    let now : Entry = data_seen at.entry moved.td in
     let frees : FreesOne world (out_lines world tag) place (data_seen at.entry moved.td) = out-frees state world place rest at moved fits way spent.0 in
-    let does = ap (handled (event_sides world) world.frames) text.is
-    ∙ handled-is world place at.entry (data_seen at.entry moved.td) DataOut text.pointer _ _ _ refl
-    (host-there state world place fits at.is_place) at.cell.held text.ended
-    refl (data_out_seen-side at.entry moved.td moved.is (awaited-pends moved.td (data_trbs at.entry.task.request) moved.awaited) way)
-    ∙ ap (λ item. (
-      record {
-        host = host_with world.host place (data_seen at.entry moved.td);
-        lines = with_freed
-            (without_event world.lines) DataOut tag item;
-      },
-      Matched tag,
-    )) text.item in
-    event-done state world (data_text world place) (DataDone place) rest (out_lines world tag) now at.is refl
-    (ap (event_doors (event_sides world)) text.is) does
-    (event-fits state world (DataDone place) rest (out_lines world tag) at at.entry.command_td at.entry.status_td
-    (Some (with_event_seen moved.td)) fits refl (λ entries. refl)
-    (seen-data at.entry moved) frees (out-ends state world place rest at moved way)
-    (stream-queues state world (DataDone place) rest (out_lines world tag) now at fits refl refl refl refl frees
-    (λ some. absurd (data-alone state place rest at.is (matched-once state fits.matched place).data_events some)) (λ some. (refl, refl))))
+    data-on state world place rest at moved DataOut DataOutSeen (out_lines world tag) fits text refl refl
+    (data_out_seen-side at.entry moved.td moved.is (awaited-pends moved.td (data_trbs at.entry.task.request) moved.awaited) way)
+    (ap (with_freed (without_event world.lines) DataOut tag) text.item) frees (out-ends state world place rest at moved way)
+    (stream-queues state world (DataDone place) rest (out_lines world tag) (data_seen at.entry moved.td) at fits refl refl refl refl frees
+    (λ some. absurd (data-alone state place rest at.is (matched-once state fits.matched place).data_events some)) (λ some. (refl, refl)))
 
 pub data-fits : (state : Shared) (world : World) (place : Place) (rest : List Completion) → Fits state world → state.events ≡ DataDone place ∷ rest
     → HasEventFit state world (DataDone place)

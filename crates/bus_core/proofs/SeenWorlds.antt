@@ -13,13 +13,13 @@ use Rattle.scsi_cmd.specs.declared.Request.{Request}
 use Rattle.scsi_cmd.specs.Held.{held_at}
 use Rattle.uas_host.specs.declared.EndedTd.{EndedTd}
 use Rattle.uas_host.specs.declared.Handled.TheVariants.{Matched}
-use Rattle.uas_host.specs.declared.News.{News}
+use Rattle.uas_host.specs.declared.Notice.{Notice}
 use Rattle.uas_host.specs.declared.Place.{Place}
 use Rattle.uas_host.specs.declared.HostClient.{HostClient}
-use Rattle.uas_host.specs.State.{client_of}
+use Rattle.uas_host.specs.State.{HostState, client_of}
 use Rattle.uas_host.specs.Tags.{tag_of}
 use Rattle.uas_host.specs.Tds.{data_td, status_td}
-use Rattle.uas_host.specs.Events.{ended_at, ended_on, ended_td, freed_on, handled_td, handled_news, handled_seen, news_of, seen}
+use Rattle.uas_host.specs.Events.{host_seen, ended_at, ended_on, ended_td, freed_on, handled_td, handled_notice, handled_seen, notice_of, seen}
 use Rattle.uas_host.specs.Seen.{completes}
 use Rattle.bus_core.specs.declared.Td.{Td}
 use Rattle.bus_core.specs.declared.Completion.{Completion}
@@ -31,17 +31,18 @@ use Rattle.bus_core.specs.Td.{Entry, is_left_over_on, is_ready}
 use Rattle.bus_core.specs.Part.{Act, Part, after_event, event_act, event_place, ready_after, seen_by, seen_entry}
 use Rattle.bus_core.specs.Shared.{Shared, acted_on, event_step, idle, is_some_of, request_direction, routed, routed_to, shared_step}
 use Rattle.bus_core.specs.Matched.{IsMatched, IsMatchedEntry, IsOwnEvent, IsOwnTdEvent, awaits_event, held_in, is_left_over_at, is_td_event, request_bytes}
-use Rattle.bus_core.specs.World.{World, cell_at}
+use Rattle.bus_core.specs.World.{Cell, World, cell_at}
 use Rattle.bus_core.specs.Cells.{FitsCell, FitsHeld, HoldsData, HoldsTd, data_in_td, data_out_td, host_side}
 use Rattle.bus_core.specs.Fits.{Fits, FitsQueues, IsSoundWorld, place_in}
 use Rattle.bus_core.specs.WorldSteps.{event_sides, without_event}
-use Rattle.bus_core.proofs.CellWrites.{client_of-found, entry_at-same, entry_at-other, get-within}
+use Rattle.bus_core.proofs.CellEntries.{cell-tds, with_tds}
+use Rattle.bus_core.proofs.CellWrites.{client_of-found, entry_at-same, entry_at-other}
 use Rattle.bus_core.proofs.EventTexts.{KeepsOthers}
 use Rattle.bus_core.proofs.Framing.{AllFit-set, EndsStay, FitsPart-set, ChangesCell, IsFound, engine-changed, found, unused-kept}
 use Rattle.bus_core.proofs.HostSees.{client_with, host_with, host_seen-is, is_ready-side}
 use Rattle.bus_core.proofs.MatchedNext.{matched-no_stray}
 use Rattle.bus_core.proofs.MatchedSteps.{IsHeld, matched-held, seen_part, seen_state, shared_step-matched}
-use Rattle.bus_core.proofs.Standing.{slice_get-back}
+use Rattle.bus_core.proofs.Standing.{slice_get-back, get-within}
 use Rattle.bus_core.proofs.Taking.{ready-found}
 
 -- AN EVENT THAT WAITS
@@ -180,10 +181,6 @@ pub record FreesOne (world : World) (lines : LinesState) (place : Place) (now : 
   pub data_out : HoldsData (stream_ring lines.data_out (tag_of place)) (data_td (tag_of place) (request_bytes now.task.request))
       (data_out_td (request_direction now.task.request) now.data_td)
 
--- the entry with other TDs
-abbrev pub with_tds : Entry → Td → Td → Option Td → Entry
-with_tds entry command status moved = record entry { command_td = command; status_td = status; data_td = moved }
-
 pub seen-others : (state : Shared) (world : World) (done : Completion) (rest : List Completion) (lines : LinesState) (now : Entry)
     → IsSeenAt state world done rest
     → FreesOne world lines (event_place done) now → KeepsOthers world (seen_world world lines (event_place done) now) (event_place done)
@@ -212,23 +209,17 @@ pub seen-cell : (state : Shared) (world : World) (done : Completion) (rest : Lis
 seen-cell state world done rest lines at command status moved fits frees =
     let there = get-within world.host.clients (event_place done).client at.it.held at.it.held_is in
     let now : Entry = with_tds at.entry command status moved in
-    record {
-      held = entry_at-same world.host (event_place done).client (event_place done).slot
-          (client_with (client_of world.host (event_place done).client) (event_place done).slot (host_side now))
-          (client_of world.host (event_place done).client).entries
-          (Some (host_side now)) there (omega (arith, at.is_place.slot, (fits.sound.host.clients (event_place done).client there).slots)) refl;
-      task = at.cell.task;
-      status = frees.status;
-      data_in = frees.data_in;
-      data_out = frees.data_out;
-      lent = at.cell.lent;
-      bytes = at.cell.bytes;
-      unit = at.cell.unit;
-      answer = at.cell.answer;
-      sound = at.cell.sound;
-    }
+    let after : Cell = cell_at (seen_world world lines (event_place done) (with_tds at.entry command status moved)) (event_place done) in
+    cell-tds (event_place done).client at.part.unit.count (event_place done) at.entry (cell_at world (event_place done)) command status moved
+    after.held after.status after.data_in after.data_out at.cell
+    (entry_at-same world.host (event_place done).client (event_place done).slot
+    (client_with (client_of world.host (event_place done).client) (event_place done).slot (host_side now))
+    (client_of world.host (event_place done).client).entries
+    (Some (host_side now)) there (omega (arith, at.is_place.slot, (fits.sound.host.clients (event_place done).client there).slots)) refl)
+    frees.status frees.data_in frees.data_out
 
-queue-same : (world : World) (client slot : ℕ) (part : Part) (now : Entry) → IsFound world client part
+-- what became ready is the last of its client's ready ones
+pub queue-same : (world : World) (client slot : ℕ) (part : Part) (now : Entry) → IsFound world client part
     → ready_after part.ready slot now ≡ (client_with (client_of world.host client) slot (host_side now)).ready.items
 queue-same world client slot part now it =
     ap (λ q. cond (is_ready now) (q ++ slot ∷ []) q) (sym (ready-found world client part it))
@@ -259,8 +250,8 @@ event-fits state world done rest lines at command status moved fits of_td one se
       units = sym (slice_get-back world.device.units client at.part.unit at.it.unit_is);
       others = others;
     } in
-    let least_is : at.part.least ≡ held_now.least =
-    at.it.fits.least ∙ ap (λ (c : HostClient). c.least) (sym (client_of-found world.host client at.it.held at.it.held_is)) in
+    let least_is : at.part.least_ticket ≡ held_now.least_ticket =
+    at.it.fits.least_ticket ∙ ap (λ (c : HostClient). c.least_ticket) (sym (client_of-found world.host client at.it.held at.it.held_is)) in
     subst (λ s. Fits s after) (sym stepped) (record {
       some_client = omega (arith, fits.some_client, long);
       most_clients = omega (arith, fits.most_clients, long);
@@ -274,7 +265,7 @@ event-fits state world done rest lines at command status moved fits of_td one se
       matched = subst IsMatched stepped (shared_step-matched state EventStep fits.matched);
       clients = AllFit-set world after state.parts client slot at.part.unit held_now at.part (seen_part at.part slot now)
           fits.clients at.there at.is_place.slot changes
-          (FitsPart-set world after client slot at.part.unit at.part.unit at.it.held held_now at.part (Some now) at.part.least
+          (FitsPart-set world after client slot at.part.unit at.part.unit at.it.held held_now at.part (Some now) at.part.least_ticket
           (ready_after at.part.ready slot now)
           at.it.fits at.is_place.slot changes refl least_is (queue-same world client slot at.part now at.it)
           (seen-cell state world done rest lines at command status moved fits frees));
@@ -300,12 +291,25 @@ ended_at-events lines pointer =
       | Some at ↦ ap (λ r. option_and_then (ended_td at.0 at.1) (consumed_at (places_of at.0) r pointer)) (ring_of-events lines at.0 at.1)
     ]
 
--- an event of a TD that the host awaits: what it sees, and the rings that it frees
-pub handled-is : (world : World) (place : Place) (entry now : Entry) (pipe : Pipe) (pointer residual code : ℕ) (news : News)
-    → completes news ≡ false → IsPlace (length world.host.clients) place → (cell_at world place).held ≡ Some (host_side entry)
+-- an event of a TD of which the host sees the notice: the rings that it frees
+pub handled-as : (world : World) (place : Place) (pipe : Pipe) (pointer residual code : ℕ) (notice : Notice) (host : HostState)
     → ended_at world.lines pointer ≡ Some (record { pipe = pipe; tag = tag_of place })
-    → news_of world.frames residual code (record { pipe = pipe; tag = tag_of place }) ≡ Some news
-    → seen news (host_side entry) ≡ Some (host_side now)
+    → notice_of world.frames residual code (record { pipe = pipe; tag = tag_of place }) ≡ Some notice
+    → host_seen notice world.host (tag_of place) ≡ Some host
+    → handled_td (event_sides world) world.frames pointer residual code (ended_at (without_event world.lines) pointer)
+    ≡ (record { host = host; lines = freed_on pipe host (without_event world.lines) (tag_of place) pointer }, Matched (tag_of place))
+handled-as world place pipe pointer residual code notice host ended tells sees =
+    let td : EndedTd = record { pipe = pipe; tag = tag_of place } in
+    ap (handled_td (event_sides world) world.frames pointer residual code) (ended_at-events world.lines pointer ∙ ended)
+    ∙ ap (handled_notice (event_sides world) pointer (record { pipe = pipe; tag = tag_of place })) tells
+    ∙ ap (handled_seen (event_sides world) pointer (record { pipe = pipe; tag = tag_of place })) sees
+
+-- an event of a TD that the host awaits
+pub handled-is : (world : World) (place : Place) (entry now : Entry) (pipe : Pipe) (pointer residual code : ℕ) (notice : Notice)
+    → completes notice ≡ false → IsPlace (length world.host.clients) place → (cell_at world place).held ≡ Some (host_side entry)
+    → ended_at world.lines pointer ≡ Some (record { pipe = pipe; tag = tag_of place })
+    → notice_of world.frames residual code (record { pipe = pipe; tag = tag_of place }) ≡ Some notice
+    → seen notice (host_side entry) ≡ Some (host_side now)
     → handled_td (event_sides world) world.frames pointer residual code (ended_at (without_event world.lines) pointer)
     ≡ (
       record {
@@ -315,8 +319,6 @@ pub handled-is : (world : World) (place : Place) (entry now : Entry) (pipe : Pip
       },
       Matched (tag_of place),
     )
-handled-is world place entry now pipe pointer residual code news quiet there held ended tells sees =
-    let td : EndedTd = record { pipe = pipe; tag = tag_of place } in
-    ap (handled_td (event_sides world) world.frames pointer residual code) (ended_at-events world.lines pointer ∙ ended)
-    ∙ ap (handled_news (event_sides world) pointer td) tells
-    ∙ ap (handled_seen (event_sides world) pointer td) (host_seen-is world.host place entry now news quiet there held sees)
+handled-is world place entry now pipe pointer residual code notice quiet there held ended tells sees =
+    handled-as world place pipe pointer residual code notice (host_with world.host place now) ended tells
+    (host_seen-is world.host place entry now notice quiet there held sees)

@@ -1,6 +1,8 @@
--- Places of a list, once one was written.
-use Rattle.std.proofs.Common.{◌≡◌, ℕ, zero, suc, ◌<◌, ◌≤◌, List, [], ◌∷◌, length, Option, Some, None, refl, arith, ap, sym}
+-- Places of a list: what stands there, and what a write leaves.
+use Rattle.std.proofs.Common.{◌≡◌, ℕ, zero, suc, ◌<◌, ◌≤◌, false, List, [], ◌∷◌, length, Option, Some, None, is_some, refl, arith, ap, sym}
 use Rattle.std.specs.Prelude.{slice_get, slice_set}
+use Rattle.std.proofs.lemmas.Bool.{false≢true}
+use Rattle.std.proofs.lemmas.Option.{none-some}
 use Rattle.std.proofs.lemmas.List.{get_or-set_same, get_or-set_other}
 use Rattle.scsi_cmd.specs.Held.{held_under, with_held_under}
 
@@ -22,3 +24,18 @@ pub slice_get-back : {T : Type 0} (list : List T) (at : ℕ) (now : T) → slice
 slice_get-back {T} [] at now is = refl
 slice_get-back (first ∷ rest) zero now is = let same : first ≡ now = cc in ap (λ x. x ∷ rest) (sym same)
 slice_get-back (first ∷ rest) (suc at) now is = ap (λ xs. first ∷ xs) (slice_get-back rest at now is)
+
+pub get-within : {T : Type 0} (list : List T) (at : ℕ) (some : T) → slice_get list at ≡ Some some → at < length list
+get-within [] at some is = absurd (none-some some is)
+get-within (first ∷ rest) zero some is = omega arith
+get-within (first ∷ rest) (suc at) some is = omega (arith, get-within rest at some is)
+
+-- what isn't in a list is past its end
+pub get-none : {T : Type 0} (list : List T) (at : ℕ) → slice_get list at ≡ None → length list ≤ at
+get-none [] at none = omega arith
+get-none (first ∷ rest) zero none = absurd (none-some first (sym none))
+get-none (first ∷ rest) (suc at) none = omega (arith, get-none rest at none)
+
+pub not_some : {T : Type 0} (held : Option T) → is_some held ≡ false → held ≡ None
+not_some None is = refl
+not_some (Some x) is = absurd (false≢true (sym is))

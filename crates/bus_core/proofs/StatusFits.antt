@@ -5,7 +5,7 @@ use Rattle.std.proofs.Common.{option_map, refl, arith, ap, sym, subst, ◌∙◌
 use Rattle.std.specs.Prelude.{nat_lt, slice_get, option_and_then, IfSome}
 use Rattle.std.specs.Option.{option_map_or}
 use Rattle.std.proofs.Math.Seq.{take-append_seam}
-use Rattle.std.proofs.lemmas.Bool.{eq-eqb, lt-ltb, le-leb, ne_eqb}
+use Rattle.std.proofs.lemmas.Bool.{eq-eqb, lt-ltb, le-leb, ne_eqb, and_parts}
 use Rattle.std.proofs.lemmas.List.{append-nil, get_or-set_same, get_or-set_other}
 use Rattle.xhci_trb.specs.declared.Trb.TheVariants.{Normal}
 use Rattle.cycle_ring.specs.Ring.{Ring, pointer_of, front_of, opening}
@@ -27,14 +27,13 @@ use Rattle.scsi_cmd.specs.declared.TheConstants.{TAGS, TASK_SLOT}
 use Rattle.scsi_cmd.specs.declared.Direction.{Direction}
 use Rattle.scsi_cmd.specs.declared.Direction.TheVariants.{Nothing, ToHost, ToDevice}
 use Rattle.scsi_cmd.specs.Op.{direction_of, moved_bytes}
-use Rattle.device_server.specs.Server.{chunk_bytes}
+use Rattle.device_server.specs.Server.{chunk_bytes, status_of, sense_of}
 use Rattle.scsi_cmd.specs.declared.Request.{Request}
 use Rattle.scsi_cmd.specs.declared.Request.TheVariants.{Execute, Manage}
 use Rattle.scsi_cmd.specs.Held.{held_at}
 use Rattle.device_server.specs.declared.Answer.{Answer}
 use Rattle.device_server.specs.declared.Answer.TheVariants.{Good, Check}
 use Rattle.device_server.specs.declared.Progress.TheVariants.{Moving, Ended}
-use Rattle.device_server.specs.Server.{status_of, sense_of}
 use Rattle.solo_model.specs.declared.Phase.{Phase}
 use Rattle.solo_model.specs.declared.Phase.TheVariants.{Queued, Begun, Sent, Gone}
 use Rattle.solo_model.specs.Soundness.{IsSoundRequest}
@@ -74,7 +73,6 @@ use Rattle.bus_core.proofs.EventTexts.{KeepsOthers, carried_places-append, event
 use Rattle.bus_core.proofs.Framing.{EndsStay}
 use Rattle.bus_core.proofs.MatchedEntries.{sent_to}
 use Rattle.bus_core.proofs.MatchedNext.{matched-no_status_event}
-use Rattle.bus_core.proofs.MatchedPlaces.{and-true}
 use Rattle.bus_core.proofs.MatchedSteps.{IsDueAt, place_fact-due, IsEndedBy, ended_phase, send_step-held, shared_step-matched}
 use Rattle.bus_core.proofs.Standing.{held_under-with_same, held_under-with_other, slice_get-back}
 
@@ -425,9 +423,9 @@ status_fits state world tag fits is_due =
     let found : IsDueAt state tag (status_is_due state tag) = place_fact-due state tag (status_is_due state tag) is_due in
     let same : tag_of found.place ≡ tag = place_of-tag (length state.parts) tag found.place found.named in
     let at : IsPlaced state world found.place found.entry = placed state world found.place found.entry fits found.held in
-    let both = and-true (is_ended found.entry.task.phase) (is_open state.status tag && has_trb found.entry.status_td 1) found.so in
+    let both = and_parts (is_ended found.entry.task.phase) (is_open state.status tag && has_trb found.entry.status_td 1) found.so in
     let ended : IsEndedBy found.entry.task.phase = ended_phase found.entry.task.phase both.0 in
-    let opened : is_open state.status tag ≡ true = (and-true (is_open state.status tag) (has_trb found.entry.status_td 1) both.1).0 in
+    let opened : is_open state.status tag ≡ true = (and_parts (is_open state.status tag) (has_trb found.entry.status_td 1) both.1).0 in
     subst (λ t. StatusFits state world t) same
     (status-at state world found.place found.entry ended.answer at fits
     (subst (λ t. due state (StatusStep t) ≡ true) (sym same) is_due)

@@ -10,7 +10,8 @@ pub shared_step-isolated : (state : Shared) (step : Step) (client : ℕ) → IsI
 shared_step-isolated state step client = replayed-isolated state (step ∷ []) client
 
 -- so is what is made of a step
-pub step_isolated : (old new : Shared) (step : Step) (outcome : Outcome) (client : ℕ) → shared_step old step ≡ (new, outcome) → IsIsolatedStep old step outcome new client
+pub step_isolated : (old new : Shared) (step : Step) (outcome : Outcome) (client : ℕ) → shared_step old step ≡ (new, outcome)
+    → IsIsolatedStep old step outcome new client
 step_isolated old new step outcome client is =
     let P : Shared × Outcome → Type 0 = λ after. IsIsolatedStep old step after.1 after.0 client in
     subst P is (shared_step-isolated old step client)

@@ -20,10 +20,9 @@ use Rattle.scsi_cmd.specs.declared.Request.{Request}
 use Rattle.scsi_cmd.specs.declared.Request.TheVariants.{Execute, Manage}
 use Rattle.scsi_cmd.specs.Held.{held_at}
 use Rattle.device_server.specs.declared.Answer.{Answer}
-use Rattle.solo_model.specs.TaggedTask.{TaggedTask}
+use Rattle.solo_model.specs.TaggedTask.{TaggedTask, aborted_by, answered_by, reply_from}
 use Rattle.solo_model.specs.declared.Phase.{Phase}
 use Rattle.solo_model.specs.declared.Phase.TheVariants.{Queued, Begun, Sent, Gone}
-use Rattle.solo_model.specs.TaggedTask.{aborted_by, answered_by, reply_from}
 use Rattle.uas_host.specs.Replies.{Given, replied}
 use Rattle.uas_host.specs.declared.Place.{Place}
 use Rattle.uas_host.specs.declared.Handled.{Handled}

@@ -1,16 +1,13 @@
--- The doorbells of a pipe's streams, kept as one bit for each stream: what a bit that is set changes, and that the bits of the
+-- The doorbells of a pipe's streams, kept as a mark of each stream: what a mark that is set changes, and that the marks of the
 -- streams whose doorbells were given bring those doorbells back. Cited by the functions of src/doorbells.rt and by their callers.
-use Rattle.std.proofs.Common.{◌≡◌, ◌≢◌, ℕ, zero, suc, ◌+◌, ◌-◌, ◌*◌, ◌/◌, ◌%◌, ◌^◌, ◌<◌, ◌≤◌, ◌==◌, ◌||◌, Bool, true, false, cond}
-use Rattle.std.proofs.Common.{List, [], ◌∷◌, ◌++◌, length, map, set, get_or, refl, arith, append-nil, sym, ap, subst, ◌∙◌, w64}
-use Rattle.std.specs.Int.{bit_at}
-use Rattle.std.specs.Int.RustNames.{bit_or}
+use Rattle.std.proofs.Common.{◌≡◌, ℕ, zero, suc, ◌+◌, ◌-◌, ◌*◌, ◌^◌, ◌<◌, ◌≤◌, ◌==◌, ◌||◌, Bool, true, false, cond}
+use Rattle.std.proofs.Common.{List, [], ◌∷◌, ◌++◌, length, map, take, get_or, refl, arith, append-nil, sym, ap, subst, ◌∙◌}
 use Rattle.std.specs.List.{All, filter, list_any, range_with_len}
 use Rattle.std.proofs.Math.Dec.{eqb, ltb}
 use Rattle.std.proofs.lemmas.Bool.{eq-eqb, lt-ltb, ne_eqb}
-use Rattle.std.proofs.lemmas.List.{get_or-set_same, get_or-set_other, map-append}
+use Rattle.std.proofs.lemmas.List.{map-append}
 use Rattle.std.proofs.lemmas.List.Elements.{All-filter, All-from_get_or, All-get_or, All-map, filter-append, filter_agree}
 use Rattle.std.proofs.lemmas.List.FromFn.{get_or-range_with_len, length-range_with_len}
-use Rattle.std.proofs.lemmas.Nat.Bits.{bit_at_set_other, bit_at_set_same}
 use mathlib.Core.Logic.{dite}
 use native.Mathlib.Decide.{ℕ_discrete}
 use Rattle.stream_array.specs.declared.Pipe.{Pipe}
@@ -21,43 +18,43 @@ use Rattle.block_unit.proofs.Rising.{RisesFrom, RisesFrom-weaker, filter-rising}
 use Rattle.uas_host.specs.Doors.{door, target_of}
 use Rattle.uas_host.specs.Retirement.{has_pending, resumed_doors}
 use Rattle.xhci_ctl.specs.Doorbells.{stream_in}
-use Rattle.bus_core.specs.Doorbells.{IsResumed, doors_among, is_marked, resumed_by}
+use Rattle.marks.specs.Marks.{is_marked}
+use Rattle.bus_core.specs.Doorbells.{IsResumed, doors_among, resumed_by}
 
--- ONE BIT
+-- ONE MARK
 
-abbrev marked_words : List ℕ → ℕ → List ℕ
-marked_words words stream = set words (stream / 64) (bit_or (get_or words (stream / 64) 0) (1 * 2 ^ (stream % 64) % 2 ^ 64))
-
-marked-here : (words : List ℕ) (stream : ℕ) → stream / 64 < length words → is_marked (marked_words words stream) stream ≡ true
-marked-here words stream within =
-    let bits : ℕ = bit_or (get_or words (stream / 64) 0) (1 * 2 ^ (stream % 64) % 2 ^ 64) in
-    ap (λ word. bit_at word (stream % 64) == 1) (get_or-set_same words (stream / 64) bits 0 within)
-    ∙ ap (λ bit. bit == 1) (bit_at_set_same w64 (get_or words (stream / 64) 0) (stream % 64) (omega arith))
-
-marked-there : (words : List ℕ) (stream other : ℕ) → stream / 64 < length words → other ≢ stream
-    → is_marked (marked_words words stream) other ≡ is_marked words other
-marked-there words stream other within apart =
-    let word : ℕ = get_or words (stream / 64) 0 in
-    let bits : ℕ = bit_or word (1 * 2 ^ (stream % 64) % 2 ^ 64) in
-    dite (ℕ_discrete (other / 64) (stream / 64))
-    (λ (same : other / 64 ≡ stream / 64).
-    let bit : other % 64 ≢ stream % 64 = λ e. apart (omega arith) in
-    ap (λ at. bit_at (get_or (marked_words words stream) at 0) (other % 64) == 1) same
-    ∙ ap (λ w. bit_at w (other % 64) == 1) (get_or-set_same words (stream / 64) bits 0 within)
-    ∙ ap (λ b. b == 1) (bit_at_set_other w64 word (stream % 64) (omega arith) (other % 64) bit)
-    ∙ ap (λ at. bit_at (get_or words at 0) (other % 64) == 1) (sym same))
-    (λ (else : other / 64 ≢ stream / 64). ap (λ w. bit_at w (other % 64) == 1) (get_or-set_other words (stream / 64) (other / 64) bits 0 else))
-
--- the bit of a stream is set, and no other bit changes
-pub marked-is : (words : List ℕ) (stream other : ℕ) → stream / 64 < length words
-    → is_marked (marked_words words stream) other ≡ (other == stream || is_marked words other)
-marked-is words stream other within =
+-- a stream is marked, and no other mark changes
+marked-is : (words after : List ℕ) (stream other : ℕ) → is_marked after stream ≡ true
+    → ((other : ℕ) → (other ≡ stream → ⊥) → is_marked after other ≡ is_marked words other)
+    → is_marked after other ≡ (other == stream || is_marked words other)
+marked-is words after stream other here others =
     dite (ℕ_discrete other stream)
-    (λ (same : other ≡ stream).
-    ap (λ o. is_marked (marked_words words stream) o) same ∙ marked-here words stream within
-    ∙ sym (ap (λ b. b || is_marked words other) (eq-eqb other stream same)))
-    (λ (apart : other ≢ stream).
-    marked-there words stream other within apart ∙ sym (ap (λ b. b || is_marked words other) (ne_eqb other stream apart)))
+    (λ (same : other ≡ stream). ap (is_marked after) same ∙ (here ∙ sym (ap (λ b. b || is_marked words other) (eq-eqb other stream same))))
+    (λ (apart : other ≡ stream → ⊥). others other apart ∙ sym (ap (λ b. b || is_marked words other) (ne_eqb other stream apart)))
+
+or-swap : (a b c : Bool) → (a || (b || c)) ≡ (b || (a || c))
+or-swap true true c = refl
+or-swap true false c = refl
+or-swap false b c = refl
+
+any-taken : (stream : ℕ) (values : List ℕ) (k : ℕ) → k < length values → list_any (eqb stream) (map stream_in (take (suc k) values))
+    ≡ (stream == stream_in (get_or values k 0) || list_any (eqb stream) (map stream_in (take k values)))
+any-taken stream [] k within = absurd (omega arith)
+any-taken stream (value ∷ rest) zero within = refl
+any-taken stream (value ∷ rest) (suc k) within =
+    ap (λ b. stream == stream_in value || b) (any-taken stream rest k (omega (arith, within)))
+    ∙ or-swap (stream == stream_in value) (stream == stream_in (get_or rest k 0)) (list_any (eqb stream) (map stream_in (take k rest)))
+
+-- the stream of one value more is marked
+pub marked-next : (words after values : List ℕ) (k other : ℕ) → k < length values → is_marked after (stream_in (get_or values k 0)) ≡ true
+    → ((other : ℕ) → (other ≡ stream_in (get_or values k 0) → ⊥) → is_marked after other ≡ is_marked words other)
+    → is_marked words other ≡ list_any (eqb other) (map stream_in (take k values))
+    → is_marked after other ≡ list_any (eqb other) (map stream_in (take (k + 1) values))
+marked-next words after values k other within here others so_far =
+    let next : suc k ≡ k + 1 = omega arith in
+    marked-is words after (stream_in (get_or values k 0)) other here others
+    ∙ (ap (λ b. other == stream_in (get_or values k 0) || b) so_far
+    ∙ (sym (any-taken other values k within) ∙ ap (λ n. list_any (eqb other) (map stream_in (take n values))) next))
 
 -- STREAMS THAT PASS A TEST
 
@@ -115,7 +112,7 @@ doors-back count pipe words values test is marked =
     ∙ passing-contained test 1 count)
     ∙ sym is
 
--- bits that are set for exactly the streams of these doorbells bring the doorbells back
+-- marks of exactly the streams of these doorbells bring the doorbells back
 pub resumed-back : (pipe : Pipe) (words values : List ℕ) → IsResumed pipe values
     → ((stream : ℕ) → is_marked words stream ≡ list_any (eqb stream) (map stream_in values)) → resumed_by pipe (is_marked words) ≡ values
 unfolding resumed_by

@@ -18,7 +18,8 @@ use Rattle.bus_core.specs.Fits.{Fits, place_in}
 use Rattle.bus_core.specs.WorldSteps.{FaultsAgree, fault_in}
 use Rattle.bus_core.proofs.Framing.{IsFound, found}
 use Rattle.bus_core.proofs.OwnSlots.{IsOwnSlot, command_slot-own}
-use Rattle.bus_core.proofs.CellWrites.{client_of-found, clients-length, get-none, FitsHeld-some}
+use Rattle.bus_core.proofs.CellWrites.{client_of-found, clients-length, FitsHeld-some}
+use Rattle.bus_core.proofs.Standing.{get-none}
 
 -- the host's client of a part that is there finds the part's fault
 pub fault_at-found : (world : World) (client slot ticket : ℕ) (command : Command) (part : Part) (it : IsFound world client part) → slot < TAGS
@@ -28,9 +29,9 @@ fault_at-found world client slot ticket command part it within =
     let same : is_some (held_at (client_of world.host client).entries slot) ≡ is_some (held_at part.entries slot) =
     FitsHeld-some client part.unit.count (place_in client slot) (held_at part.entries slot) (cell_at world (place_in client slot))
     (it.fits.cells slot within) in
-    ap (λ used. first_submit_fault true used (client_of world.host client).least ticket command) same
-    ∙ ap (λ (c : HostClient). first_submit_fault true (is_some (held_at part.entries slot)) c.least ticket command) is
-    ∙ ap (λ least. first_submit_fault true (is_some (held_at part.entries slot)) least ticket command) (sym it.fits.least)
+    ap (λ used. first_submit_fault true used (client_of world.host client).least_ticket ticket command) same
+    ∙ ap (λ (c : HostClient). first_submit_fault true (is_some (held_at part.entries slot)) c.least_ticket ticket command) is
+    ∙ ap (λ least. first_submit_fault true (is_some (held_at part.entries slot)) least ticket command) (sym it.fits.least_ticket)
 
 answered-fault : (state : Shared) (part : Part) (place : Place) (tag ticket : ℕ) (command : Command) (fault : Option SubmitFault)
     → option_map fault_in (answered state part place tag ticket command fault).1.refused ≡ fault

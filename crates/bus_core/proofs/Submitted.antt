@@ -159,7 +159,7 @@ cleared world client tag ticket command host lines frames old new answer (Some f
     (it.0, it.1, it.2, it.3, ap (λ (d : ArrayVec ℕ). d.items) it.4 ∙ empty)
 
 -- a submission rings three doorbells at most
-few-unless : (held : Bool) (pipe : Pipe) (tag : ℕ) → length (door_unless held pipe tag) ≤ 1
+pub few-unless : (held : Bool) (pipe : Pipe) (tag : ℕ) → length (door_unless held pipe tag) ≤ 1
 few-unless true pipe tag = omega arith
 few-unless false pipe tag = omega arith
 

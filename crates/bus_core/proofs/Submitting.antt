@@ -46,16 +46,16 @@ use Rattle.bus_core.specs.World.{World, cell_at}
 use Rattle.bus_core.specs.Cells.{HoldsTrbs, HoldsData, data_in_td, data_out_td, state_of, host_side, FitsHeld, FitsCell, IsEmptyCell}
 use Rattle.bus_core.specs.Fits.{Fits, FitsQueues, IsSoundWorld, command_trb, event_texts, place_in}
 use Rattle.bus_core.specs.WorldSteps.{SubmissionsFit, SubmitFits, submit_world, rung_all}
-use Rattle.bus_core.proofs.CellWrites.{get-none, stream_ring-same, stream_ring-other, held_for-same, held_for-other, client_of-found, entry_at-same}
-use Rattle.bus_core.proofs.CellWrites.{entry_at-other, clients-length, get-within}
+use Rattle.bus_core.proofs.CellWrites.{stream_ring-same, stream_ring-other, held_for-same, held_for-other, client_of-found, entry_at-same}
+use Rattle.bus_core.proofs.CellWrites.{entry_at-other, clients-length}
 use Rattle.bus_core.proofs.EventTexts.{KeepsOthers, event_texts-one}
 use Rattle.bus_core.proofs.Framing.{AllFit-set, EndsStay, FitsPart-set, ChangesCell, IsFound, engine-changed, found, held-host, unused-kept}
 use Rattle.bus_core.proofs.MatchedBounds.{matched-room}
-use Rattle.bus_core.proofs.MatchedEntries.{unfaulted, IsUnfaulted}
+use Rattle.bus_core.proofs.MatchedEnds.{unfaulted, IsUnfaulted}
 use Rattle.bus_core.proofs.MatchedNext.{accepted-trbs}
 use Rattle.bus_core.proofs.MatchedSteps.{shared_step-matched}
 use Rattle.bus_core.proofs.OwnSlots.{IsOwnSlot, command_slot-own}
-use Rattle.bus_core.proofs.Standing.{slice_get-back}
+use Rattle.bus_core.proofs.Standing.{slice_get-back, get-within, get-none, not_some}
 use Rattle.bus_core.proofs.SubmissionFaults.{fault_at-found}
 
 -- WHAT IS ACCEPTED
@@ -244,7 +244,7 @@ holds_pushed ring tag bytes holds =
       | false ↦ λ is. holds
     ] refl
 
-put_empty : (rings : List Ring) (tag : ℕ) (trbs : List Trb) → 0 < tag → tag ≤ length rings → HoldsTrbs (stream_ring rings tag) [] 0
+pub put_empty : (rings : List Ring) (tag : ℕ) (trbs : List Trb) → 0 < tag → tag ≤ length rings → HoldsTrbs (stream_ring rings tag) [] 0
     → HoldsTrbs (stream_ring (slice_set rings (tag - 1) (ring_put rings tag trbs)) tag) trbs 0
 put_empty rings tag trbs some within holds =
     let is = stream_ring-same rings tag (ring_put rings tag trbs) some within in
@@ -306,16 +306,12 @@ record IsFreeAt (state : Shared) (world : World) (client slot ticket : ℕ) (com
   whole : length command.buffer ≡ moved_bytes command.op
   matched : IsMatchedAt state (place_in client slot) None
 
-not_some : {T : Type 0} (held : Option T) → is_some held ≡ false → held ≡ None
-not_some None is = refl
-not_some (Some x) is = absurd (false≢true (sym is))
-
 free-at : (state : Shared) (world : World) (client tag ticket : ℕ) (command : Command) (at : IsAccepted state client tag ticket command) → Fits state world
     → IsFreeAt state world client at.slot ticket command at.part
 free-at state world client tag ticket command at fits =
     let it : IsFound world client at.part = found world state.parts client at.part fits.clients at.there in
     let free : IsUnfaulted (is_some (held_at at.part.entries at.slot)) command.op = unfaulted
-    (is_some (held_at at.part.entries at.slot)) at.part.least ticket command at.unfaulted in
+    (is_some (held_at at.part.entries at.slot)) at.part.least_ticket ticket command at.unfaulted in
     let none : held_at at.part.entries at.slot ≡ None = not_some (held_at at.part.entries at.slot) free.free in
     let within : at.slot < TAGS = omega (arith, at.own.within) in
     record {
@@ -327,8 +323,8 @@ free-at state world client tag ticket command at fits =
       none = none;
       empty = subst (λ held. FitsHeld client at.part.unit.count (place_in client at.slot) held (cell_at world (place_in client at.slot))) none
           (it.fits.cells at.slot within);
-      short = accepted-trbs (is_some (held_at at.part.entries at.slot)) at.part.least ticket command at.unfaulted;
-      whole = submit_fault-none true (is_some (held_at at.part.entries at.slot)) at.part.least ticket command
+      short = accepted-trbs (is_some (held_at at.part.entries at.slot)) at.part.least_ticket ticket command at.unfaulted;
+      whole = submit_fault-none true (is_some (held_at at.part.entries at.slot)) at.part.least_ticket ticket command
           (ap (λ (f : Option SubmitFault). is_some f) at.unfaulted);
       matched = subst (λ held. IsMatchedAt state (place_in client at.slot) held)
           (ap (λ found. option_map_or (held_in (place_in client at.slot)) found None) at.there ∙ none) (fits.matched.places (place_in client at.slot));

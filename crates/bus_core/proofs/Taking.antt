@@ -4,7 +4,7 @@ use Rattle.std.proofs.Common.{◌≡◌, ℕ, ◌<◌, ◌≤◌, true, false, c
 use Rattle.std.proofs.Common.{subst, ◌∙◌}
 use Rattle.std.specs.Prelude.{slice_get, option_and_then, ◌&&◌}
 use Rattle.std.specs.Option.{option_map_or}
-use Rattle.std.proofs.lemmas.Bool.{false≢true}
+use Rattle.std.proofs.lemmas.Bool.{false≢true, and_parts}
 use Rattle.std.proofs.lemmas.List.{append-nil}
 use Rattle.xhci_trb.specs.declared.Trb.{Trb}
 use Rattle.cycle_ring.specs.Ring.{Ring}
@@ -29,16 +29,16 @@ use Rattle.solo_model.specs.TaggedTask.{aborted_by, answered_by, reply_from}
 use Rattle.uas_host.specs.declared.Place.{Place}
 use Rattle.uas_host.specs.declared.TdState.{TdState}
 use Rattle.uas_host.specs.declared.TdState.TheVariants.{Pending, Seen, LeftOver, Retired}
-use Rattle.uas_host.specs.declared.Told.TheVariants.{Response as ToldResponse, Status as ToldStatus}
+use Rattle.uas_host.specs.declared.HostAnswer.TheVariants.{Response as AnsweredResponse, Status as AnsweredStatus}
 use Rattle.uas_host.specs.declared.HostClient.{HostClient}
-use Rattle.uas_host.specs.State.{client_of, new_client, with_client}
+use Rattle.uas_host.specs.State.{client_of, new_client, with_client, is_over, is_seen}
 use Rattle.uas_host.specs.Replies.{Given, command_reply, given, no_reply, replied, replied_first, reply_of, reply_to, slot_reply, status_reply, task_reply}
 use Rattle.uas_host.specs.Replies.{without, without_lent}
 use Rattle.uas_host.specs.Tags.{tag_of}
 use Rattle.uas_host.specs.Tds.{data_td, status_td}
 use Rattle.bus_core.specs.declared.Td.{Td}
 use Rattle.bus_core.specs.declared.Step.TheVariants.{Take}
-use Rattle.bus_core.specs.Td.{Entry, is_over, is_data_over, is_seen, pushed}
+use Rattle.bus_core.specs.Td.{Entry, is_data_over}
 use Rattle.bus_core.specs.Part.{Part, entry_reply, settled, slot_tag, take_act, taken}
 use Rattle.bus_core.specs.Shared.{Shared, acted_on, due, due_step, has_ready, idle, is_some_of, request_direction, routed, routed_to, shared_step}
 use Rattle.bus_core.specs.Soundness.{readied_of, times_in}
@@ -48,14 +48,13 @@ use Rattle.bus_core.specs.World.{World, cell_at}
 use Rattle.bus_core.specs.Cells.{HoldsIn, HoldsTrbs, HoldsData, FitsCell, FitsHeld, IsEmptyCell, data_in_td, data_out_td, host_side, lent_for, told_by}
 use Rattle.bus_core.specs.Fits.{Fits, FitsQueues, IsSoundWorld, command_trb, event_texts, place_in}
 use Rattle.bus_core.specs.WorldSteps.{TakeFits, TakesFit, TakeIsIdle, take_world}
-use Rattle.bus_core.proofs.CellWrites.{client_of-found, entry_at-same, entry_at-other, clients-length, get-none, get-within, held_for-same, held_for-other}
-use Rattle.bus_core.proofs.CellWrites.{index-past}
+use Rattle.bus_core.proofs.CellWrites.{client_of-found, entry_at-same, entry_at-other, clients-length, held_for-same, held_for-other, index-past}
 use Rattle.bus_core.proofs.EventTexts.{KeepsOthers, event_texts-one}
 use Rattle.bus_core.proofs.Framing.{AllFit-set, FitsPart-set, ChangesCell, IsFound, engine-kept, found}
-use Rattle.bus_core.proofs.MatchedPlaces.{and-true, held-within}
-use Rattle.bus_core.proofs.MatchedSteps.{IsFirstReady, first-ready, IsHeld, matched-held, settled_part, settled_state, times_ready-there}
-use Rattle.bus_core.proofs.MatchedSteps.{shared_step-matched}
-use Rattle.bus_core.proofs.Standing.{slice_get-back}
+use Rattle.bus_core.proofs.MatchedEnds.{pushed-over}
+use Rattle.bus_core.proofs.MatchedPlaces.{held-within}
+use Rattle.bus_core.proofs.MatchedSteps.{IsFirstReady, first-ready, IsHeld, matched-held, settled_part, settled_state, times_ready-there, shared_step-matched}
+use Rattle.bus_core.proofs.Standing.{slice_get-back, get-within, get-none}
 
 -- WHERE NOTHING IS READY
 
@@ -109,8 +108,8 @@ ready-at state world client slot rest part fits there queue =
     let held : held_at part.entries slot ≡ Some first.entry = sym (ap (λ found. option_map_or (held_in place) found None) there) ∙ first.is in
     let it : IsFound world client part = found world state.parts client part fits.clients there in
     let within : slot < TAGS = omega (arith, held-within part.entries slot first.entry held, it.fits.slots) in
-    let over = and-true (is_over first.entry.status_td.state) (is_data_over first.entry.data_td)
-    (and-true (is_seen first.entry.command_td.state) (is_over first.entry.status_td.state && is_data_over first.entry.data_td) first.ready).1 in
+    let over = and_parts (is_over first.entry.status_td.state) (is_data_over first.entry.data_td)
+    (and_parts (is_seen first.entry.command_td.state) (is_over first.entry.status_td.state && is_data_over first.entry.data_td) first.ready).1 in
     record {
       there = there;
       queue = queue;
@@ -152,9 +151,6 @@ over-retired consumed Seen given over = absurd given
 over-retired consumed LeftOver given over = absurd (false≢true over)
 over-retired consumed Retired given over = refl
 
-pushed-over : (td : Td) → td ≡ pushed → is_over td.state ≡ true → ⊥
-pushed-over td is over = false≢true (sym (ap (λ (t : Td). is_over t.state) is) ∙ over)
-
 -- the host's reply to a command, by its status TD
 command-host : (tag : ℕ) (entry : Entry) (op : Op) (state : TdState) → entry.task.request ≡ Execute op → entry.status_td.state ≡ state
     → reply_of tag (lent_for entry.task.request entry.task.buffer) (host_side entry)
@@ -166,7 +162,7 @@ command-host tag entry op state asks is =
 status-replied : (tag : ℕ) (entry : Entry) (op : Op) (answer : Answer) → entry.task.request ≡ Execute op → entry.task.phase ≡ Sent answer
     → entry.status_td.state ≡ Seen → IsReplied tag entry
 status-replied tag entry op answer asks sent seen =
-    let told : told_by entry.task.request entry.task.phase Seen ≡ ToldStatus (status_of answer) (record { items = sense_of answer }) =
+    let told : told_by entry.task.request entry.task.phase Seen ≡ AnsweredStatus (status_of answer) (record { items = sense_of answer }) =
     ap (λ p. told_by entry.task.request p Seen) sent ∙ ap (λ r. told_by r (Sent answer) Seen) asks in
     record {
       reply = StatusReply tag entry.task.ticket (status_of answer) (record { items = sense_of answer }) entry.task.buffer;
@@ -188,7 +184,7 @@ aborted-replied tag entry op asks gone retired = record {
 task-replied : (tag : ℕ) (entry : Entry) (what : Task) (noted : ArrayVec ℕ) (answer : Answer) → entry.task.request ≡ Manage what noted
     → entry.task.phase ≡ Sent answer → entry.status_td.state ≡ Seen → IsReplied tag entry
 task-replied tag entry what noted answer asks sent seen =
-    let told : told_by entry.task.request entry.task.phase entry.status_td.state ≡ ToldResponse 0 =
+    let told : told_by entry.task.request entry.task.phase entry.status_td.state ≡ AnsweredResponse 0 =
     ap (told_by entry.task.request entry.task.phase) seen ∙ ap (λ p. told_by entry.task.request p Seen) sent ∙ ap (λ r. told_by r (Sent answer) Seen) asks in
     record {
       reply = TaskReply tag entry.task.ticket 0;
@@ -369,8 +365,8 @@ take-fits state world client slot rest part at fits matched sound =
       units = sym (slice_get-back world.device.units client part.unit at.it.unit_is);
       others = take-others world client slot rest at.entry.task.request part at.it;
     } in
-    let least_is : part.least ≡ held_now.least =
-    at.it.fits.least ∙ ap (λ (c : HostClient). c.least) (sym (client_of-found world.host client at.it.held at.it.held_is)) in
+    let least_is : part.least_ticket ≡ held_now.least_ticket =
+    at.it.fits.least_ticket ∙ ap (λ (c : HostClient). c.least_ticket) (sym (client_of-found world.host client at.it.held at.it.held_is)) in
     record {
       some_client = omega (arith, fits.some_client, long);
       most_clients = omega (arith, fits.most_clients, long);
@@ -383,7 +379,7 @@ take-fits state world client slot rest part at fits matched sound =
       matched = matched;
       clients = AllFit-set world after state.parts client slot part.unit held_now part (settled_part part slot rest)
           fits.clients at.there at.within changes
-          (FitsPart-set world after client slot part.unit part.unit at.it.held held_now part None part.least rest
+          (FitsPart-set world after client slot part.unit part.unit at.it.held held_now part None part.least_ticket rest
           at.it.fits at.within changes refl least_is refl (take-cell state world client slot rest part at fits few));
       others = λ other over. fits.others other (omega (arith, over, long));
       unused = λ other over. fits.unused other (omega (arith, over, long));

@@ -1,12 +1,11 @@
 -- The host finds the fault of a task management that the shared machine finds, and notes the tickets that it notes. Cited by TaskSubmitting,
 -- TaskSubmitted and the law of task managements.
-use Rattle.std.proofs.Common.{◌≡◌, ℕ, zero, suc, ◌+◌, ◌-◌, ◌*◌, ◌%◌, ◌^◌, ◌<◌, ◌≤◌, Bool, true, false, List, [], ◌∷◌, length, map, take, Option, Some, None, is_some}
-use Rattle.std.proofs.Common.{option_map, refl, arith, ap, sym, subst, ◌∙◌, cond}
+use Rattle.std.proofs.Common.{◌≡◌, ℕ, zero, suc, ◌^◌, ◌<◌, ◌≤◌, Bool, true, false, List, [], ◌∷◌, length, map, take, Option, Some, None, is_some}
+use Rattle.std.proofs.Common.{option_map, refl, arith, ap, sym, ◌∙◌, cond}
 use Rattle.std.specs.Prelude.{slice_get, nat_lt}
 use Rattle.std.specs.Option.{option_map_or}
 use Rattle.std.proofs.lemmas.Bool.{lt-ltb, le-ltb, false≢true}
 use Rattle.std.proofs.lemmas.Option.{none-some}
-use Rattle.arrayvec.specs.ArrayVec.{ArrayVec}
 use Rattle.scsi_cmd.specs.declared.SubmitFault.{SubmitFault}
 use Rattle.scsi_cmd.specs.declared.SubmitFault.TheVariants.{InUse, NotYours, NoSuchTask, OutOfTurn}
 use Rattle.scsi_cmd.specs.declared.Task.{Task}
@@ -20,7 +19,7 @@ use Rattle.uas_host.specs.declared.HostEntry.{HostEntry}
 use Rattle.uas_host.specs.State.{client_of}
 use Rattle.uas_host.specs.Submit.{slot_of}
 use Rattle.uas_host.specs.Tags.{command_slot}
-use Rattle.uas_host.specs.Tasks.{aborted_tag, client_task_fault, has_task, is_held_at, noted_by, task_fault, tickets_of as host_tickets_of}
+use Rattle.uas_host.specs.Tasks.{aborted_tag, client_task_fault, has_task, is_held_at, noted_by, tickets_of as host_tickets_of}
 use Rattle.bus_core.specs.Td.{Entry}
 use Rattle.bus_core.specs.Part.{Part, is_there, named_entry, named_slot, noted_tickets, task_fault_at, tickets_of}
 use Rattle.bus_core.specs.Shared.{Shared, managed_or, managed_to}
@@ -29,8 +28,9 @@ use Rattle.bus_core.specs.Cells.{FitsHeld, host_side}
 use Rattle.bus_core.specs.Fits.{Fits, IsSoundWorld, place_in}
 use Rattle.bus_core.specs.WorldSteps.{TaskFaultsAgree, fault_in}
 use Rattle.bus_core.proofs.Framing.{IsFound, found}
-use Rattle.bus_core.proofs.CellWrites.{client_of-found, clients-length, get-none, get-within, FitsHeld-some}
+use Rattle.bus_core.proofs.CellWrites.{client_of-found, clients-length, FitsHeld-some}
 use Rattle.bus_core.proofs.OwnSlots.{IsOwnSlot, command_slot-own}
+use Rattle.bus_core.proofs.Standing.{get-within, get-none}
 
 -- WHAT IS HELD
 
@@ -66,14 +66,14 @@ pub task_fault-found : (world : World) (clients client ticket : ℕ) (task : Tas
 task_fault-found world clients client ticket task part it =
     let is : client_of world.host client ≡ it.held = client_of-found world.host client it.held it.held_is in
     let there : Bool = is_there part (named_slot clients client task) task in
-    ap (λ has. first_task_fault true (is_held_at (client_of world.host client) TASK_SLOT) (client_of world.host client).least ticket has)
+    ap (λ has. first_task_fault true (is_held_at (client_of world.host client) TASK_SLOT) (client_of world.host client).least_ticket ticket has)
     (there-alike world clients client task part it)
-    ∙ ap (λ used. first_task_fault true used (client_of world.host client).least ticket (is_there part (named_slot clients client task) task))
+    ∙ ap (λ used. first_task_fault true used (client_of world.host client).least_ticket ticket (is_there part (named_slot clients client task) task))
     (held-alike world client TASK_SLOT part it (omega arith))
-    ∙ ap (λ (c : HostClient). first_task_fault true (is_some (held_at part.entries TASK_SLOT)) c.least ticket
+    ∙ ap (λ (c : HostClient). first_task_fault true (is_some (held_at part.entries TASK_SLOT)) c.least_ticket ticket
     (is_there part (named_slot clients client task) task)) is
     ∙ ap (λ least. first_task_fault true (is_some (held_at part.entries TASK_SLOT)) least ticket (is_there part (named_slot clients client task) task))
-    (sym it.fits.least)
+    (sym it.fits.least_ticket)
 
 managed_or-fault : (state : Shared) (part : Part) (place : Place) (slot : Option ℕ) (ticket : ℕ) (task : Task) (fault : Option SubmitFault)
     → option_map fault_in (managed_or state part place slot ticket task fault).1.refused ≡ fault

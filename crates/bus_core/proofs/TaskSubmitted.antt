@@ -1,5 +1,5 @@
 -- A task management of the host, on a world that fits a state, is the shared machine's. Cited by the answers of `Bus::manage`.
-use Rattle.std.proofs.Common.{◌≡◌, ℕ, ◌+◌, ◌^◌, ◌<◌, ◌≤◌, Bool, true, false, List, [], ◌∷◌, ◌++◌, length, length-append, Option, Some, None, MatchOption, Result}
+use Rattle.std.proofs.Common.{◌≡◌, ℕ, ◌^◌, ◌<◌, ◌≤◌, Bool, List, [], ◌∷◌, ◌++◌, length, length-append, Option, Some, None, MatchOption, Result}
 use Rattle.std.proofs.Common.{Ok, Err, refl, arith, ap, sym, subst, ◌∙◌}
 use Rattle.std.specs.Prelude.{slice_get, option_map}
 use Rattle.arrayvec.specs.ArrayVec.{ArrayVec}
@@ -27,6 +27,7 @@ use Rattle.bus_core.specs.WorldSteps.{TaskFits, TasksFit, WorldReadsBack, fault_
 use Rattle.bus_core.specs.Owners.{managed_as}
 use Rattle.bus_core.proofs.Framing.{held-host}
 use Rattle.bus_core.proofs.ReadBack.{decoded-back}
+use Rattle.bus_core.proofs.Submitted.{few-unless}
 use Rattle.bus_core.proofs.TaskFaults.{task_faults-agree}
 use Rattle.bus_core.proofs.TaskSubmitting.{tasks-fit}
 
@@ -135,11 +136,6 @@ cleared world client ticket task host lines frames old new answer None empty it 
     (it.0, it.1, it.2, it.3, it.4 ∙ ap (λ ds. ds ++ answer_doors (is_host_held world.host) (task_tag client)) empty)
 cleared world client ticket task host lines frames old new answer (Some fault) empty it =
     (it.0, it.1, it.2, it.3, ap (λ (d : ArrayVec ℕ). d.items) it.4 ∙ empty)
-
--- a task management rings two doorbells at most
-few-unless : (held : Bool) (pipe : Pipe) (tag : ℕ) → length (door_unless held pipe tag) ≤ 1
-few-unless true pipe tag = omega arith
-few-unless false pipe tag = omega arith
 
 few-doors : (held : Pipe → Bool) (tag : ℕ) → length (answer_doors held tag) ≤ 2
 few-doors held tag =

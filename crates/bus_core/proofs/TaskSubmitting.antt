@@ -1,8 +1,8 @@
 -- A task management without a fault: its rings have room, and the world after it fits the shared machine after it. Cited by TaskSubmitted
 -- and by the law of task managements.
-use Rattle.std.proofs.Common.{◌≡◌, ℕ, ◌+◌, ◌-◌, ◌*◌, ◌%◌, ◌^◌, ◌<◌, ◌≤◌, Bool, true, false, List, [], ◌∷◌, ◌++◌, drop, take, length, length-set, map, Option, Some}
+use Rattle.std.proofs.Common.{◌≡◌, ℕ, ◌+◌, ◌*◌, ◌^◌, ◌<◌, ◌≤◌, true, false, List, [], ◌∷◌, ◌++◌, drop, take, length, length-set, map, Option, Some}
 use Rattle.std.proofs.Common.{None, is_some, refl, arith, ap, sym, subst, ◌∙◌}
-use Rattle.std.specs.Prelude.{slice_get, slice_set, nat_lt, cond}
+use Rattle.std.specs.Prelude.{slice_get, nat_lt, cond}
 use Rattle.std.specs.Option.{option_map_or}
 use Rattle.std.proofs.lemmas.Bool.{le-leb, le-ltb, lt-ltb, false≢true}
 use Rattle.std.proofs.lemmas.List.{append_assoc, length-map, map-append, take_at}
@@ -15,17 +15,16 @@ use Rattle.stream_array.specs.Rings.{stream_ring}
 use Rattle.frame_store.specs.declared.TagBuffers.{TagBuffers}
 use Rattle.frame_store.specs.Buffers.{held_for}
 use Rattle.scsi_cmd.specs.declared.Direction.TheVariants.{Nothing}
-use Rattle.scsi_cmd.specs.declared.SubmitFault.{SubmitFault}
 use Rattle.scsi_cmd.specs.declared.SubmitFault.TheVariants.{NotYours}
 use Rattle.scsi_cmd.specs.declared.Task.{Task}
-use Rattle.scsi_cmd.specs.declared.TheConstants.{TAGS, TASK_SLOT}
+use Rattle.scsi_cmd.specs.declared.TheConstants.{TASK_SLOT}
 use Rattle.scsi_cmd.specs.Held.{held_at}
 use Rattle.uas_iu.specs.declared.Iu.TheVariants.{Task as TaskUnit}
 use Rattle.uas_iu.specs.Lun.{lun_text}
 use Rattle.uas_iu.proofs.Laws.{length-unit_text}
 use Rattle.uas_host.specs.declared.Place.{Place}
 use Rattle.uas_host.specs.declared.HostClient.{HostClient}
-use Rattle.uas_host.specs.Doors.{answer_doors, submission_doors}
+use Rattle.uas_host.specs.Doors.{answer_doors}
 use Rattle.uas_host.specs.State.{client_of}
 use Rattle.uas_host.specs.Tags.{tag_of}
 use Rattle.uas_host.specs.Tasks.{aborted_tag, client_task_fault, function_of, managed_client, noted_by, task_entry, task_fault, task_tag, task_text}
@@ -33,22 +32,21 @@ use Rattle.uas_host.specs.Tds.{HasTaskRoom, status_td, task_td}
 use Rattle.xhci_ctl.specs.Pipes.{ControllerState}
 use Rattle.bus_core.specs.declared.Step.TheVariants.{Task as TaskStep}
 use Rattle.bus_core.specs.Pipes.{rung_unless}
-use Rattle.bus_core.specs.Td.{Entry, is_left_over_on}
+use Rattle.bus_core.specs.Td.{is_left_over_on}
 use Rattle.bus_core.specs.Part.{Part, is_there, managed_part, named_slot, new_management, noted_tickets, task_fault_at}
 use Rattle.bus_core.specs.Shared.{Shared, is_held, managed, managed_or, managed_to, task_step}
-use Rattle.bus_core.specs.Matched.{HasRingRoom, held_in, carried_places, IsMatchedAt, IsMatched, pipe_places}
+use Rattle.bus_core.specs.Matched.{held_in, carried_places, IsMatchedAt, IsMatched, pipe_places}
 use Rattle.bus_core.specs.World.{World, cell_at}
-use Rattle.bus_core.specs.Cells.{HoldsTrbs, host_side, FitsHeld, FitsCell, IsEmptyCell}
-use Rattle.bus_core.specs.Fits.{Fits, FitsQueues, IsSoundWorld, command_trb, event_texts, place_in}
+use Rattle.bus_core.specs.Cells.{FitsHeld, FitsCell, IsEmptyCell}
+use Rattle.bus_core.specs.Fits.{Fits, FitsQueues, IsSoundWorld, command_trb, place_in}
 use Rattle.bus_core.specs.WorldSteps.{TasksFit, TaskFits, rung_all, task_world}
-use Rattle.bus_core.proofs.CellWrites.{clients-length, client_of-found, entry_at-other, entry_at-same, get-none, get-within, held_for-other, held_for-same}
-use Rattle.bus_core.proofs.CellWrites.{stream_ring-other, stream_ring-same}
+use Rattle.bus_core.proofs.CellWrites.{clients-length, client_of-found, entry_at-other, entry_at-same, held_for-other, held_for-same, stream_ring-other}
 use Rattle.bus_core.proofs.EventTexts.{AreWithin, KeepsOthers, event_texts-kept, events-within, one-reads}
 use Rattle.bus_core.proofs.Framing.{AllFit-set, EndsStay, FitsPart-set, ChangesCell, IsFound, engine-changed, found, held-host, unused-kept}
 use Rattle.bus_core.proofs.MatchedBounds.{matched-room}
 use Rattle.bus_core.proofs.MatchedSteps.{shared_step-matched}
-use Rattle.bus_core.proofs.Standing.{slice_get-back}
-use Rattle.bus_core.proofs.Submitting.{rung_all-is}
+use Rattle.bus_core.proofs.Standing.{slice_get-back, get-within, get-none, not_some}
+use Rattle.bus_core.proofs.Submitting.{rung_all-is, put_empty}
 use Rattle.bus_core.proofs.TaskFaults.{IsUnfaultedTask, named-short, noted-alike, task_fault-found, unfaulted_task}
 
 -- WHAT IS ACCEPTED
@@ -115,13 +113,6 @@ text-fits client task few short =
 abbrev ring_put : List Ring → ℕ → List Trb → Ring
 ring_put rings tag trbs = record (stream_ring rings tag) { put = (stream_ring rings tag).put ++ trbs }
 
--- an empty ring has what is put on it
-put-holds : (rings : List Ring) (tag : ℕ) (trbs : List Trb) → 0 < tag → tag ≤ length rings → HoldsTrbs (stream_ring rings tag) [] 0
-    → HoldsTrbs (stream_ring (slice_set rings (tag - 1) (ring_put rings tag trbs)) tag) trbs 0
-put-holds rings tag trbs some within holds =
-    let is = stream_ring-same rings tag (ring_put rings tag trbs) some within in
-    (ap (λ (r : Ring). r.put) is ∙ ap (λ ts. ts ++ trbs) holds.0, ap (λ (r : Ring). r.got) is ∙ holds.1)
-
 -- THE CELL
 
 -- what a task management finds
@@ -135,17 +126,14 @@ record IsTaskFree (state : Shared) (world : World) (client : ℕ) (task : Task) 
   short : aborted_tag task < 2 ^ 16
   matched : IsMatchedAt state (place_in client TASK_SLOT) None
 
-not_some : {T : Type 0} (held : Option T) → is_some held ≡ false → held ≡ None
-not_some None is = refl
-not_some (Some x) is = absurd (false≢true (sym is))
-
 free-at : (state : Shared) (world : World) (client ticket : ℕ) (task : Task) (at : IsAcceptedTask state client ticket task) → Fits state world
     → IsTaskFree state world client task at.part
 free-at state world client ticket task at fits =
     let part : Part = at.part in
     let it : IsFound world client at.part = found world state.parts client at.part fits.clients at.there in
     let free : IsUnfaultedTask (is_some (held_at at.part.entries TASK_SLOT)) (is_there at.part (slot_named state client task) task) =
-    unfaulted_task (is_some (held_at at.part.entries TASK_SLOT)) (is_there at.part (slot_named state client task) task) at.part.least ticket at.unfaulted in
+    unfaulted_task (is_some (held_at at.part.entries TASK_SLOT))
+    (is_there at.part (slot_named state client task) task) at.part.least_ticket ticket at.unfaulted in
     let none : held_at at.part.entries TASK_SLOT ≡ None = not_some (held_at at.part.entries TASK_SLOT) free.free in
     let few : client < 31 = omega (arith, get-within state.parts client at.part at.there, fits.most_clients) in
     record {
@@ -199,7 +187,7 @@ task-cell state world client ticket task part free fits =
           (Some (task_entry ticket task (record { items = noted_by (client_of world.host client) task }))) there slots refl
           ∙ ap (λ noted. Some (task_entry ticket task (record { items = noted }))) free.noted;
       task = free.empty.task;
-      status = put-holds world.lines.status (task_tag client) (status_td (task_tag client)) some (omega (arith, most, fits.sound.lines.status))
+      status = put_empty world.lines.status (task_tag client) (status_td (task_tag client)) some (omega (arith, most, fits.sound.lines.status))
           free.empty.status;
       data_in = free.empty.data_in;
       data_out = free.empty.data_out;

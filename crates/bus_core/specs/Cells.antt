@@ -14,8 +14,8 @@ use Rattle.solo_model.specs.Soundness.{IsSound}
 use Rattle.uas_host.specs.declared.Place.{Place}
 use Rattle.uas_host.specs.declared.TdState.{TdState}
 use Rattle.uas_host.specs.declared.TdState.TheVariants.{Pending, Seen, LeftOver, Retired}
-use Rattle.uas_host.specs.declared.Told.{Told}
-use Rattle.uas_host.specs.declared.Told.TheVariants.{Untold, Status as ToldStatus, Response as ToldResponse}
+use Rattle.uas_host.specs.declared.HostAnswer.{HostAnswer}
+use Rattle.uas_host.specs.declared.HostAnswer.TheVariants.{Unanswered, Status as AnsweredStatus, Response as AnsweredResponse}
 use Rattle.uas_host.specs.declared.HostEntry.{HostEntry}
 use Rattle.uas_host.specs.Tags.{tag_of}
 use Rattle.uas_host.specs.Tasks.{aborted_tag}
@@ -35,22 +35,22 @@ abbrev pub state_of : Td → TdState
 state_of td = td.state
 
 -- a command is told its status and sense, a task management its code, COMPLETE, 00h
-abbrev pub told_of : Request → Answer → Told
-told_of (Execute op) answer = ToldStatus (status_of answer) (record { items = sense_of answer })
-told_of (Manage what noted) answer = ToldResponse 0
+abbrev pub told_of : Request → Answer → HostAnswer
+told_of (Execute op) answer = AnsweredStatus (status_of answer) (record { items = sense_of answer })
+told_of (Manage what noted) answer = AnsweredResponse 0
 
 -- the host was told the answer once it has seen the status event
-abbrev pub told_sent : Request → Answer → TdState → Told
-told_sent request answer Pending = Untold
+abbrev pub told_sent : Request → Answer → TdState → HostAnswer
+told_sent request answer Pending = Unanswered
 told_sent request answer Seen = told_of request answer
-told_sent request answer LeftOver = Untold
-told_sent request answer Retired = Untold
+told_sent request answer LeftOver = Unanswered
+told_sent request answer Retired = Unanswered
 
-abbrev pub told_by : Request → Phase → TdState → Told
-told_by request Queued state = Untold
-told_by request (Begun progress) state = Untold
+abbrev pub told_by : Request → Phase → TdState → HostAnswer
+told_by request Queued state = Unanswered
+told_by request (Begun progress) state = Unanswered
 told_by request (Sent answer) state = told_sent request answer state
-told_by request Gone state = Untold
+told_by request Gone state = Unanswered
 
 abbrev pub host_side : Entry → HostEntry
 host_side entry = record {

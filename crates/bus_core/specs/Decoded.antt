@@ -112,7 +112,7 @@ decoded_part world messages client held unit = record {
   number = client;
   unit = unit;
   entries = decoded_entries world messages client;
-  least = held.least;
+  least_ticket = held.least_ticket;
   ready = held.ready.items;
 }
 

@@ -1,7 +1,7 @@
 -- The doorbells of one step: few one by one, or those of a pipe's streams (xHCI 4.7, 5.6).
-use Rattle.std.specs.Prelude.{◌≡◌, ℕ, ◌/◌, ◌%◌, ◌==◌, Bool, List, filter, map, slice_index}
-use Rattle.std.specs.Int.{bit_at}
+use Rattle.std.specs.Prelude.{◌≡◌, ℕ, Bool, List, filter, map}
 use Rattle.std.specs.List.{range_with_len}
+use Rattle.marks.specs.Marks.{is_marked}
 use Rattle.stream_array.specs.declared.Pipe.{Pipe}
 use Rattle.stream_array.specs.declared.TheConstants.{STREAMS}
 use Rattle.uas_host.specs.Doors.{door, target_of}
@@ -19,10 +19,6 @@ resumed_by pipe test = doors_among STREAMS pipe test
 -- they are the doorbells of some streams of the pipe, by rising stream
 abbrev pub IsResumed : Pipe → List ℕ → Type 0
 IsResumed pipe values = (test : ℕ → Bool) × (values ≡ resumed_by pipe test)
-
--- the bit of a stream is set
-abbrev pub is_marked : List ℕ → ℕ → Bool
-is_marked words stream = bit_at (slice_index words (stream / 64)) (stream % 64) == 1
 
 -- the values of doorbells, in order
 abbrev pub values_of : Rung → List ℕ

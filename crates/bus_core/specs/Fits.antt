@@ -127,7 +127,7 @@ place_in client slot = record { client = client; slot = slot }
 pub record FitsPart (world : World) (client : ℕ) (unit : BlockMaps) (held : HostClient) (part : Part) : Type 0 where
   pub number : part.number ≡ client
   pub unit_same : part.unit ≡ unit
-  pub least : part.least ≡ held.least
+  pub least_ticket : part.least_ticket ≡ held.least_ticket
   pub ready : part.ready ≡ held.ready.items
   pub slots : length part.entries ≡ TAGS
   pub cells : (slot : ℕ) → slot < TAGS → FitsHeld client unit.count (place_in client slot) (held_at part.entries slot) (cell_at world (place_in client slot))

@@ -10,7 +10,8 @@ use Rattle.scsi_cmd.specs.declared.Task.{Task}
 use Rattle.scsi_cmd.specs.declared.Task.TheVariants.{Abort, Reset}
 use Rattle.scsi_cmd.specs.declared.TheConstants.{TAGS}
 use Rattle.solo_model.specs.declared.Label.{Label}
-use Rattle.solo_model.specs.declared.Label.TheVariants.{Submit as SubmitLabel, Task as TaskLabel, Carry as CarryLabel, Move as MoveLabel, Send as SendLabel, Settle as SettleLabel}
+use Rattle.solo_model.specs.declared.Label.TheVariants.{Submit as SubmitLabel, Task as TaskLabel, Carry as CarryLabel, Move as MoveLabel}
+use Rattle.solo_model.specs.declared.Label.TheVariants.{Send as SendLabel, Settle as SettleLabel}
 use Rattle.solo_model.specs.TaggedTask.{TaggedTask}
 use Rattle.solo_model.specs.Solo.{SoloState, solo_run}
 use Rattle.bus_core.specs.declared.Step.{Step}
@@ -104,11 +105,11 @@ own_task client entry = own_of client entry.task
 
 -- a part as a state of the client's solo machine: it forgets the TDs and the ready slots
 abbrev pub solo_of : ℕ → Part → SoloState
-solo_of client part = record { unit = part.unit; tasks = map (option_map (own_task client)) part.entries; least = part.least }
+solo_of client part = record { unit = part.unit; tasks = map (option_map (own_task client)) part.entries; least_ticket = part.least_ticket }
 
 -- a client that isn't there has nothing
 abbrev pub nobody : SoloState
-nobody = record { unit = record { count = 0; blocks = []; medium = []; attention = false; bad = [] }; tasks = []; least = 0 }
+nobody = record { unit = record { count = 0; blocks = []; medium = []; attention = false; bad = [] }; tasks = []; least_ticket = 0 }
 
 -- the client's part of the shared machine as a state of the solo machine
 abbrev pub own_state : Shared → ℕ → SoloState

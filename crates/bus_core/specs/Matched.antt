@@ -15,6 +15,7 @@ use Rattle.solo_model.specs.declared.Phase.{Phase}
 use Rattle.solo_model.specs.declared.Phase.TheVariants.{Queued, Begun, Sent, Gone}
 use Rattle.device_server.specs.declared.Progress.TheVariants.{Moving, Ended}
 use Rattle.scsi_cmd.specs.Held.{held_at}
+use Rattle.uas_host.specs.State.{is_pending}
 use Rattle.bus_core.specs.declared.TheConstants.{MAX_CLIENTS}
 use Rattle.uas_host.specs.declared.Place.{Place}
 use Rattle.uas_host.specs.declared.TdState.{TdState}
@@ -25,7 +26,7 @@ use Rattle.bus_core.specs.declared.Completion.TheVariants.{CommandDone, DataDone
 use Rattle.bus_core.specs.declared.Step.{Step}
 use Rattle.bus_core.specs.declared.Step.TheVariants.{CommandPipe, Data, Status, Event}
 use Rattle.bus_core.specs.declared.Mark.TheVariants.{Carry}
-use Rattle.bus_core.specs.Td.{Entry, pushed, is_pending, has_trb, is_awaited, data_trbs, trbs_on, td_on, has_trb_on, is_left_over_on}
+use Rattle.bus_core.specs.Td.{Entry, pushed, has_trb, is_awaited, data_trbs, trbs_on, td_on, has_trb_on, is_left_over_on}
 use Rattle.bus_core.specs.declared.Retirement.{Retirement}
 use Rattle.bus_core.specs.declared.RetirementStage.{RetirementStage}
 use Rattle.bus_core.specs.declared.RetirementStage.TheVariants.{StopAsked, StopAnswered, MoveAsked, MoveAnswered}

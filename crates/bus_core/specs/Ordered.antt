@@ -48,7 +48,7 @@ names client slot Reset = true
 
 -- every ticket is below the least that may come, and no two slots have one ticket
 pub record HasTickets (part : Part) : Type 0 where
-  pub below : (slot : ℕ) (entry : Entry) → held_at part.entries slot ≡ Some entry → entry.task.ticket < part.least
+  pub below : (slot : ℕ) (entry : Entry) → held_at part.entries slot ≡ Some entry → entry.task.ticket < part.least_ticket
   pub apart : (one other : ℕ) (first second : Entry) → held_at part.entries one ≡ Some first → held_at part.entries other ≡ Some second
       → first.task.ticket ≡ second.task.ticket → one ≡ other
 

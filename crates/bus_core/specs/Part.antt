@@ -2,6 +2,7 @@
 use Rattle.std.specs.Prelude.{ℕ, suc, ◌+◌, ◌==◌, Bool, true, false, List, [], ◌∷◌, ◌++◌, if◌then◌else◌, Option, Some, None, is_some, option_and_then, slice_set}
 use Rattle.std.specs.Prelude.{map, option_map, replicate, take, ◌&&◌}
 use Rattle.block_unit.specs.BlockMaps.{BlockMaps}
+use Rattle.scsi_cmd.specs.Request.{is_command}
 use Rattle.scsi_cmd.specs.declared.Command.{Command}
 use Rattle.stream_array.specs.declared.Pipe.{Pipe}
 use Rattle.scsi_cmd.specs.declared.Reply.{Reply}
@@ -17,8 +18,9 @@ use Rattle.solo_model.specs.declared.Phase.{Phase}
 use Rattle.solo_model.specs.declared.Phase.TheVariants.{Queued, Begun, Sent, Gone}
 use Rattle.device_server.specs.Server.{chunk_moved}
 use Rattle.scsi_cmd.specs.Held.{held_at}
-use Rattle.solo_model.specs.TaggedTask.{after_notes, is_command, is_noted, queued, queued_management, carried, moved, sent, reply_of}
+use Rattle.solo_model.specs.TaggedTask.{after_notes, is_noted, queued, queued_management, carried, moved, sent, reply_of}
 use Rattle.scsi_cmd.specs.Submission.{first_submit_fault, first_task_fault}
+use Rattle.uas_host.specs.State.{is_pending}
 use Rattle.uas_host.specs.declared.Place.{Place}
 use Rattle.bus_core.specs.declared.Td.{Td}
 use Rattle.bus_core.specs.Td.{Entry}
@@ -27,25 +29,26 @@ use Rattle.bus_core.specs.declared.Completion.TheVariants.{CommandDone, DataDone
 use Rattle.bus_core.specs.declared.Mark.{Mark}
 use Rattle.bus_core.specs.declared.Mark.TheVariants.{Carry, Move, Send, Settle, Quiet}
 use Rattle.uas_host.specs.Tags.{command_slot, tag_of}
-use Rattle.bus_core.specs.Td.{pushed, data_trbs, is_awaited, is_pending, left_over_data, left_over_td, with_trb_taken, with_event_seen, data_after_status, is_ready, passed_on, retired_on}
+use Rattle.bus_core.specs.Td.{pushed, data_trbs, is_awaited, left_over_data, left_over_td, with_trb_taken, with_event_seen}
+use Rattle.bus_core.specs.Td.{data_after_status, is_ready, passed_on, retired_on}
 
 -- a client's number, unit, entries by slot, least ticket, and ready slots in order
 pub record Part : Type 0 where
   pub number : ℕ
   pub unit : BlockMaps
   pub entries : List (Option Entry)
-  pub least : ℕ
+  pub least_ticket : ℕ
   pub ready : List ℕ
 
 -- the part of a client that has submitted nothing
 abbrev pub new_part : ℕ → BlockMaps → Part
-new_part number unit = record { number = number; unit = unit; entries = replicate TAGS None; least = 0; ready = [] }
+new_part number unit = record { number = number; unit = unit; entries = replicate TAGS None; least_ticket = 0; ready = [] }
 
 -- the part with this under a slot
 abbrev pub with_entry : Part → ℕ → Entry → Part
 with_entry part slot entry = record part { entries = slice_set part.entries slot (Some entry) }
 
--- What a step does to one client's part, and its news: the event that the controller posts, the mark, the reply.
+-- What a step does to one client's part, and its notice: the event that the controller posts, the mark, the reply.
 pub record Act : Type 0 where
   pub part : Part
   pub event : Option Completion
@@ -73,10 +76,10 @@ new_entry ticket command = record {
 
 -- the first fault of a submission under a command slot of the client
 abbrev pub fault_at : Part → ℕ → ℕ → Command → Option SubmitFault
-fault_at part slot ticket command = first_submit_fault true (is_some (held_at part.entries slot)) part.least ticket command
+fault_at part slot ticket command = first_submit_fault true (is_some (held_at part.entries slot)) part.least_ticket ticket command
 
 abbrev pub submitted_part : Part → ℕ → ℕ → Command → Part
-submitted_part part slot ticket command = record (with_entry part slot (new_entry ticket command)) { least = ticket + 1 }
+submitted_part part slot ticket command = record (with_entry part slot (new_entry ticket command)) { least_ticket = ticket + 1 }
 
 -- TASK MANAGEMENT (SAM, ABORT TASK and LOGICAL UNIT RESET)
 
@@ -108,7 +111,7 @@ noted_tickets part slot Reset = tickets_of (take TASK_SLOT part.entries)
 -- the first fault of a task management of a client that is there
 abbrev pub task_fault_at : Part → Option ℕ → ℕ → Task → Option SubmitFault
 task_fault_at part slot ticket task =
-    first_task_fault true (is_some (held_at part.entries TASK_SLOT)) part.least ticket (is_there part slot task)
+    first_task_fault true (is_some (held_at part.entries TASK_SLOT)) part.least_ticket ticket (is_there part slot task)
 
 -- the entry of a task management that was just submitted
 abbrev pub new_management : ℕ → Task → List ℕ → Entry
@@ -117,7 +120,7 @@ new_management ticket task noted =
 
 abbrev pub managed_part : Part → Option ℕ → ℕ → Task → Part
 managed_part part slot ticket task =
-    record (with_entry part TASK_SLOT (new_management ticket task (noted_tickets part slot task))) { least = ticket + 1 }
+    record (with_entry part TASK_SLOT (new_management ticket task (noted_tickets part slot task))) { least_ticket = ticket + 1 }
 
 -- CARRY
 

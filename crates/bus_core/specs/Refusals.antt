@@ -20,7 +20,7 @@ use Rattle.bus_core.specs.Isolation.{own_label, own_management, own_state, own_t
 -- the fault of a submission under this index: it reads what the client has there, and its least ticket
 abbrev pub solo_fault : SoloState → ℕ → ℕ → Command → Option SubmitFault
 solo_fault own index ticket command =
-    first_submit_fault (is_command_index index) (is_some (held_under own.tasks index)) own.least ticket command
+    first_submit_fault (is_command_index index) (is_some (held_under own.tasks index)) own.least_ticket ticket command
 
 -- The first fault of a client's submission, or none: it reads the client's own state, and how many clients there are.
 -- Checked by hand: of 3 clients client 2 may submit under 17 to 23; under 16 and 24 it is NotYours, and so is all of client 3.
@@ -32,7 +32,7 @@ own_fault clients own client tag ticket command =
 -- and tag 9 or 24 is no such task of its.
 abbrev pub solo_task_fault : SoloState → ℕ → Task → Option SubmitFault
 solo_task_fault own ticket task =
-    first_task_fault true (is_some (held_under own.tasks task_index)) own.least ticket (is_there own.tasks task)
+    first_task_fault true (is_some (held_under own.tasks task_index)) own.least_ticket ticket (is_there own.tasks task)
 
 abbrev pub own_task_fault : ℕ → SoloState → ℕ → ℕ → Task → Option SubmitFault
 own_task_fault clients own client ticket task =

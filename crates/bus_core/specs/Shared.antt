@@ -1,5 +1,6 @@
 -- The shared machine: many clients over one controller and one device, without rings or bytes.
-use Rattle.std.specs.Prelude.{ℕ, suc, Bool, true, false, ◌&&◌, if◌then◌else◌, List, [], ◌∷◌, ◌++◌, filter, map, length, slice_get, slice_set, Option, Some, None, is_none}
+use Rattle.std.specs.Prelude.{ℕ, suc, Bool, true, false, ◌&&◌, if◌then◌else◌, List, [], ◌∷◌, ◌++◌, filter, map, length, slice_get}
+use Rattle.std.specs.Prelude.{slice_set, Option, Some, None, is_none}
 use Rattle.std.specs.Prelude.{option_to_list}
 use Rattle.std.specs.List.{range_with_len}
 use Rattle.std.specs.Option.{option_map_or}
@@ -43,7 +44,8 @@ use Rattle.bus_core.specs.Td.{has_trb, has_trb_on, data_trbs, is_left_over_on}
 use Rattle.bus_core.specs.Pipes.{all_rung, rung_unless}
 use Rattle.xhci_ctl.specs.Pipes.{new_pipe, is_open}
 use Rattle.xhci_ctl.specs.Engine.{stopped_pipe}
-use Rattle.bus_core.specs.Part.{Part, Act, new_part, fault_at, submitted_part, carry_act, move_act, send_act, event_act, event_place, take_act, stop_act, pass_act, retire_act, managed_part, named_slot, task_fault_at}
+use Rattle.bus_core.specs.Part.{Part, Act, new_part, fault_at, submitted_part, carry_act, move_act, send_act, event_act, event_place}
+use Rattle.bus_core.specs.Part.{take_act, stop_act, pass_act, retire_act, managed_part, named_slot, task_fault_at}
 
 -- each client's part by number; the messages in the command pipe and the events not yet taken, the oldest first; the
 -- pipes 2 to 4; and the retirement under way

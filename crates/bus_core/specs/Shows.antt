@@ -120,7 +120,8 @@ commands_of lines (Some retirement) = commands_at lines retirement.pipe retireme
 -- THE WHOLE
 
 -- The command pipe's ring has a TRB with the tag's buffer for each message, the controller's command ring the command of the
--- retirement that wasn't executed yet, the event ring an event for each event, and the streams of each place that is there what is left of its TDs; all in order.
+-- retirement that wasn't executed yet, the event ring an event for each event, and the streams of each place that is there what is left of
+-- its TDs; all in order.
 pub record ShowsShared (state : Shared) (lines : LinesState) : Type 0 where
   pub messages : pending_in lines.command ≡ map command_trb state.messages
   pub commands : pending_in lines.engine ≡ commands_of lines state.retirement

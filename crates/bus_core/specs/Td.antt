@@ -4,7 +4,8 @@ use Rattle.stream_array.specs.declared.Pipe.{Pipe}
 use Rattle.stream_array.specs.declared.Pipe.TheVariants.{Command, Status, DataIn, DataOut}
 use Rattle.scsi_cmd.specs.declared.Direction.{Direction}
 use Rattle.scsi_cmd.specs.declared.Direction.TheVariants.{Nothing, ToHost, ToDevice}
-use Rattle.scsi_cmd.specs.Op.{direction_of, moved_bytes}
+use Rattle.scsi_cmd.specs.Op.{moved_bytes}
+pub use Rattle.scsi_cmd.specs.Request.{request_direction}
 use Rattle.solo_model.specs.TaggedTask.{TaggedTask}
 use Rattle.scsi_cmd.specs.declared.Request.{Request}
 use Rattle.scsi_cmd.specs.declared.Request.TheVariants.{Execute, Manage}
@@ -12,6 +13,7 @@ use Rattle.solo_model.specs.declared.Phase.{Phase}
 use Rattle.solo_model.specs.declared.Phase.TheVariants.{Queued, Begun, Sent, Gone}
 use Rattle.device_server.specs.declared.Answer.{Answer}
 use Rattle.device_server.specs.declared.Answer.TheVariants.{Good, Check}
+use Rattle.uas_host.specs.State.{is_left_over, is_over, is_pending, is_seen}
 use Rattle.uas_host.specs.declared.TdState.{TdState}
 use Rattle.uas_host.specs.declared.TdState.TheVariants.{Pending, Seen, LeftOver, Retired}
 use Rattle.bus_core.specs.declared.Td.{Td}
@@ -26,25 +28,6 @@ pub record Entry : Type 0 where
 -- a TD as it is pushed
 abbrev pub pushed : Td
 pushed = record { state = Pending; consumed = 0 }
-
-abbrev pub is_pending : TdState → Bool
-is_pending Pending = true
-is_pending Seen = false
-is_pending LeftOver = false
-is_pending Retired = false
-
--- the host waits for nothing more of it
-abbrev pub is_over : TdState → Bool
-is_over Pending = false
-is_over Seen = true
-is_over LeftOver = false
-is_over Retired = true
-
-abbrev pub is_seen : TdState → Bool
-is_seen Pending = false
-is_seen Seen = true
-is_seen LeftOver = false
-is_seen Retired = false
 
 -- the TRBs of a data TD: 4,096 bytes each, the last one what is left; a task management moves no data
 abbrev pub data_trbs : Request → ℕ
@@ -104,11 +87,6 @@ is_ready entry = is_seen entry.command_td.state && (is_over entry.status_td.stat
 
 -- THE TD ON A PIPE
 
--- a task management moves no data
-abbrev pub request_direction : Request → Direction
-request_direction (Execute op) = direction_of op
-request_direction (Manage what noted) = Nothing
-
 -- the data TD is on the pipe of its direction
 abbrev pub data_in_td : Direction → Option Td → Option Td
 data_in_td Nothing td = None
@@ -143,12 +121,6 @@ abbrev pub has_trb_on : Pipe → Entry → Bool
 has_trb_on pipe entry = has_data_trb (trbs_on pipe entry) (td_on pipe entry)
 
 -- LEFT OVER, AND RETIRED
-
-abbrev pub is_left_over : TdState → Bool
-is_left_over Pending = false
-is_left_over Seen = false
-is_left_over LeftOver = true
-is_left_over Retired = false
 
 abbrev pub is_td_left_over : Option Td → Bool
 is_td_left_over None = false

@@ -1,14 +1,15 @@
 //! The doorbells of one step, and how they are kept.
 //!
 //! A submission rings at most three. A pipe that is held no more rings each of its streams that has a pending TRB, which may be
-//! all 248, by rising stream. So those are kept as one bit for each stream: stream s has the bit s % 64 of the word s / 64.
-ghost use Rattle.std.specs.Prelude.{◌≡◌, ℕ, ◌<◌, ◌≤◌, ◌==◌, ◌||◌, [], length};
+//! all 248, by rising stream. So those are kept as a mark of each stream.
+ghost use Rattle.std.specs.Prelude.{◌≡◌, ◌≤◌, [], length};
+ghost use Rattle.marks.specs.Marks.{is_marked};
 ghost use Rattle.stream_array.specs.Map.{HasStreams};
-ghost use Rattle.uas_host.specs.Doors.{target_of};
-ghost use Rattle.bus_core.specs.Doorbells.{IsResumed, is_marked, resumed_by};
+ghost use Rattle.bus_core.specs.Doorbells.{IsResumed, resumed_by};
 
 use crate::MOST_DOORBELLS;
 use arrayvec::ArrayVec;
+use marks::Marks;
 use std::marker::Model;
 use stream_array::{Pipe, STREAMS, doorbell};
 
@@ -17,7 +18,7 @@ pub const MOST_RESUMED: usize = 248;
 
 const _: () = prove!(MOST_RESUMED == 248);
 
-/// Words of one bit for each stream, 64 in a word.
+/// Words of 64 marks, enough for a mark of each stream.
 const STREAM_WORDS: usize = 4;
 
 const _: () = prove!(STREAM_WORDS == 4);
@@ -27,10 +28,10 @@ const _: () = prove!(STREAM_WORDS == 4);
 enum Rung {
     /// One by one, in order.
     Single(ArrayVec<u32, MOST_DOORBELLS>),
-    /// Those of the pipe's streams whose bits are set, by rising stream.
+    /// Those of the pipe's streams that are marked, by rising stream.
     Resumed {
         pipe: Pipe,
-        streams: [u64; STREAM_WORDS],
+        streams: Marks<STREAM_WORDS>,
     },
 }
 
@@ -70,6 +71,9 @@ impl Doorbells {
         requires { length values.now ≤ MOST_DOORBELLS }
         ensures { result ≡ values.now }
     {
+        if values.is_empty() {
+            return Doorbells::none();
+        }
         let mut few = ArrayVec::new();
         few.try_extend_from_slice(values).unwrap();
         Doorbells {
@@ -83,9 +87,9 @@ impl Doorbells {
         requires rung { IsResumed pipe values.now }
         ensures { result ≡ values.now }
     {
-        let mut streams = [0; STREAM_WORDS];
+        let mut streams = Marks::new();
         for value in values {
-            mark(&mut streams, (*value >> 16) as usize);
+            streams.set((*value >> 16) as usize, true);
         }
         Doorbells {
             rung: Rung::Resumed { pipe, streams },
@@ -113,44 +117,15 @@ fn copied(values: &[u32]) -> ArrayVec<u32, MOST_RESUMED>
     list
 }
 
-/// The doorbells of the streams of a pipe whose bits are set.
-fn listed(pipe: Pipe, streams: &[u64; STREAM_WORDS]) -> ArrayVec<u32, MOST_RESUMED>
+/// The doorbells of the streams of a pipe that are marked.
+fn listed(pipe: Pipe, streams: &Marks<STREAM_WORDS>) -> ArrayVec<u32, MOST_RESUMED>
     ensures { result.items ≡ resumed_by pipe (is_marked streams.now) }
 {
     let mut list = ArrayVec::new();
     for stream in 1..STREAMS + 1 {
-        if is_marked(streams, stream) {
-            list.push(doorbell(target(pipe), stream));
+        if streams.is_marked(usize::from(stream)) {
+            list.push(doorbell(pipe.target(), stream));
         }
     }
     list
-}
-
-/// Sets the bit of a stream.
-fn mark(streams: &mut [u64; STREAM_WORDS], stream: usize)
-    requires { stream < 256 }
-    ensures { (other : ℕ) → is_marked streams.new other ≡ (other == stream || is_marked streams.old other) }
-{
-    streams[stream / 64] |= 1 << (stream % 64);
-}
-
-/// Whether the bit of a stream is set.
-fn is_marked(streams: &[u64; STREAM_WORDS], stream: u16) -> bool
-    requires { stream < 256 }
-    ensures { result ≡ is_marked streams.now stream }
-{
-    let word = streams[usize::from(stream / 64)];
-    (word >> (stream % 64)) & 1 == 1
-}
-
-/// The doorbell target of a pipe (xHCI 5.6).
-fn target(pipe: Pipe) -> u8
-    ensures { result ≡ target_of pipe }
-{
-    match pipe {
-        Pipe::Command => 2,
-        Pipe::Status => 3,
-        Pipe::DataOut => 4,
-        Pipe::DataIn => 5,
-    }
 }

@@ -2,7 +2,8 @@
 ghost use Rattle.bus_core.specs.FirstBlocks.{OpensAsSolo, OpensAsNobody, ReplayIsSoloRun, FirstBlocksDecide};
 ghost use Rattle.bus_core.specs.Once.{SoloSettlesOnce, ReplaySettlesOnce};
 ghost use Rattle.bus_core.specs.Reach.{EndsEarlierNamed, GoneByNote, NobodyStays, NotedAtSubmission, OthersStay, RequestsStay};
-ghost use Rattle.bus_core.specs.Refusals.{RefusalsAreOwn, SubmissionsAreOwned, RefusedChangesNothing, OnlySubmissionsAreRefused, RefusedTaskChangesNothing, ReplayRefusesAsOwn, TaskRefusalsAreOwn, TasksAreOwned};
+ghost use Rattle.bus_core.specs.Refusals.{RefusalsAreOwn, SubmissionsAreOwned, RefusedChangesNothing, OnlySubmissionsAreRefused};
+ghost use Rattle.bus_core.specs.Refusals.{RefusedTaskChangesNothing, ReplayRefusesAsOwn, TaskRefusalsAreOwn, TasksAreOwned};
 ghost use Rattle.bus_core.specs.StepIsolation.{EachStepIsIsolated};
 
 /// On a new bus each client's part is a new solo machine on its unit; a client that isn't there has nothing.

@@ -1,5 +1,7 @@
 //! The laws of the shared machine, which hold of its definitions.
-ghost use Rattle.bus_core.specs.Laws.{HeadlineHolds, WorldsAgree, ActsWhereDue, IdleChangesNothing, StepKeepsClients, QuietLeavesNothingDue, UnquietSpendsLimit, QuietSparesLimit, DrainIsRun, DrainKeepsClients, TakeBringsNextLen};
+ghost use Rattle.bus_core.specs.Laws.{HeadlineHolds, WorldsAgree, ActsWhereDue, IdleChangesNothing, StepKeepsClients};
+ghost use Rattle.bus_core.specs.Laws.{QuietLeavesNothingDue, UnquietSpendsLimit, QuietSparesLimit, DrainIsRun, DrainKeepsClients};
+ghost use Rattle.bus_core.specs.Laws.{TakeBringsNextLen};
 
 /// Isolation: a client's own labels are a run of the solo machine, with its own replies.
 pub fn isolated()

@@ -1,24 +1,26 @@
 //! The bus and its steps, each by one call of host or controller.
-ghost use Rattle.std.specs.Prelude.{◌≡◌, ℕ, suc, ◌*◌, ◌<◌, ◌≤◌, IfSome, IfNone, length, ◌^◌, IfOk, slice_get, vec_len};
+ghost use Rattle.std.specs.Prelude.{◌≡◌, ℕ, suc, true, ◌*◌, ◌<◌, ◌≤◌, IfSome, IfNone, length, ◌^◌, IfOk, slice_get, vec_len};
+ghost use Rattle.std.specs.Option.{option_map_or};
 ghost use Rattle.stream_array.specs.Rings.{IsLines};
 ghost use Rattle.frame_store.specs.Buffers.{IsWhole};
 ghost use Rattle.uas_host.specs.State.{IsHost};
 ghost use Rattle.scsi_cmd.specs.declared.TheConstants.{TAGS};
 ghost use Rattle.bus_core.specs.Bus.{HasTicket};
 ghost use Rattle.bus_core.specs.Drain.{AreNotLeftOver, AreQuiet};
-ghost use Rattle.bus_core.specs.Owners.{acted_as};
-ghost use Rattle.bus_core.specs.Shared.{due, opening, shared_step};
+ghost use Rattle.bus_core.specs.Owners.{acted_as, replying, submitted_as};
+ghost use Rattle.bus_core.specs.Shared.{due, idle, opening, ringing, shared_step};
 ghost use Rattle.bus_core.specs.declared.Mark.{Mark};
 ghost use Rattle.bus_core.specs.Shows.{PointAhead, ShowsShared};
 ghost use Rattle.bus_core.specs.StepIsolation.{IsIsolatedStep};
 
 use crate::doors::ring;
+use crate::outcomes::handled_of;
 use crate::owners::owner_of;
 use crate::{Bus, Doorbells, MAX_CLIENTS, Outcome, Step};
 use arrayvec::ArrayVec;
 use block_unit::Unit;
 use frame_store::Frames;
-use scsi_cmd::{Command, Task};
+use scsi_cmd::{Command, Reply, SubmitFault, Task};
 use std::alloc::{AllocError, Global};
 use stream_array::{Lines, Pipe};
 use uas_host::{Handled, Host, RetirementStage};
@@ -191,7 +193,10 @@ impl Bus {
                 tag,
                 ticket,
                 command,
-            } => self.submit(client, tag, ticket, command),
+            } => {
+                let (answer, doors) = self.submit(client, tag, ticket, command);
+                Outcome::submitted(client, tag, answer, doors)
+            }
             Step::Task {
                 client,
                 ticket,
@@ -201,18 +206,30 @@ impl Bus {
             Step::Data(tag) => Outcome::moved(self.move_chunk(tag)),
             Step::Status(tag) => Outcome::sent(self.send(tag)),
             Step::Engine => self.execute(),
-            Step::Event => self.see(),
+            Step::Event => Outcome::seen(self.see()),
             Step::Retire(pipe, tag) => self.retire(pipe, tag),
-            Step::Take(client) => self.take(client),
+            Step::Take(client) => {
+                if self.take_is_due(client) {
+                    Outcome::replying(client, self.take(client))
+                } else {
+                    Outcome::idle()
+                }
+            }
         }
     }
 
     /// A client submits a command: the host writes its unit, lends its buffer and pushes its TDs, and the doorbells that it
-    /// names are rung, in their order. A refused submission names none.
+    /// names are rung, in their order. A refused submission names none. The host's answer, and these doorbells.
     #[inline(never)]
-    fn submit(&mut self, client: usize, tag: u16, ticket: u64, command: Command) -> Outcome
+    fn submit(
+        &mut self,
+        client: usize,
+        tag: u16,
+        ticket: u64,
+        command: Command,
+    ) -> (Result<(), (SubmitFault, Command)>, Doorbells)
         requires { ticket < 2 ^ 60 }
-        ensures { shared_step self.old (Step.Submit client tag ticket command) ≡ (self.new, result) }
+        ensures { shared_step self.old (Step.Submit client tag ticket command) ≡ (self.new, submitted_as client tag result.1 result.0) }
     {
         self.doors.clear();
         let submitted = self.host.submit(
@@ -226,7 +243,7 @@ impl Bus {
         );
         ring(&mut self.controller, &self.doors);
         stand(&self.host, &self.lines, &self.frames);
-        Outcome::submitted(client, tag, submitted, Doorbells::single(&self.doors))
+        (submitted, Doorbells::single(&self.doors))
     }
 
     /// A client submits a task management: the host notes the tickets that it is to end, writes its unit and pushes its TDs, and the
@@ -298,14 +315,12 @@ impl Bus {
     }
 
     /// The host takes the oldest event. It rings no doorbell at an event of a TD; at one of a retirement it rings the controller's own, or,
-    /// when the TD is retired, those of the pipe's streams with pending TRBs.
+    /// when the TD is retired, those of the pipe's streams with pending TRBs. The client that the event was of, and these doorbells.
     #[inline(never)]
-    pub(crate) fn see(&mut self) -> Outcome
-        ensures { shared_step self.old Step.Event ≡ (self.new, result) }
+    pub(crate) fn see(&mut self) -> Option<(usize, Doorbells)>
+        ensures { shared_step self.old Step.Event ≡ (self.new, option_map_or (λ seen. ringing seen.0 seen.1) result idle) }
     {
-        let Some(event) = self.lines.take() else {
-            return Outcome::idle();
-        };
+        let event = self.lines.take()?;
         let retirement = self.host.retirement();
         self.doors.clear();
         let handled = self
@@ -319,7 +334,7 @@ impl Bus {
             }
             _ => Doorbells::single(&self.doors),
         };
-        Outcome::handled(retirement, handled, rung)
+        handled_of(retirement, handled, rung)
     }
 
     /// The host begins to retire a TD that is left over.
@@ -351,17 +366,15 @@ impl Bus {
         self.host.next_left_over(pipe, tag)
     }
 
-    /// A client takes the reply that was ready first.
+    /// A client takes the reply that was ready first. Asks that there is one.
     #[inline(never)]
-    fn take(&mut self, client: usize) -> Outcome
-        ensures { shared_step self.old (Step.Take client) ≡ (self.new, result) }
+    fn take(&mut self, client: usize) -> Option<Reply>
+        requires { due self.old (Step.Take client) ≡ true }
+        ensures { shared_step self.old (Step.Take client) ≡ (self.new, replying client result) }
     {
-        if !self.take_is_due(client) {
-            return Outcome::idle();
-        }
         let reply = self.host.take_reply(&mut self.frames, client);
         stand(&self.host, &self.lines, &self.frames);
-        Outcome::replying(client, reply)
+        reply
     }
 }
 

@@ -1,4 +1,5 @@
 ghost use Rattle.std.specs.Prelude.{◌≡◌};
+ghost use Rattle.std.specs.Option.{option_map_or};
 ghost use Rattle.bus_core.specs.Owners.{acted_as, executed_as, handled_as, managed_as, replying, submitted_as};
 ghost use Rattle.bus_core.specs.declared.Mark.{Mark};
 ghost use Rattle.bus_core.specs.Shared.{acceptance, idle, refusal, ringing, task_refusal};
@@ -103,22 +104,14 @@ impl Outcome {
         }
     }
 
-    /// The outcome of an event, with the doorbells that were rung at it.
+    /// The outcome of an event: the client that it was of and the doorbells that were rung at it, or none.
     #[inline(always)]
-    pub(crate) fn handled(
-        retirement: Option<Retirement>,
-        handled: Handled,
-        doors: Doorbells,
-    ) -> Outcome
-        ensures { result ≡ handled_as retirement doors handled }
+    pub(crate) fn seen(seen: Option<(usize, Doorbells)>) -> Outcome
+        ensures { result ≡ option_map_or (λ seen. ringing seen.0 seen.1) seen idle }
     {
-        match (handled, retirement) {
-            (Handled::Matched(tag), _) => Outcome::ringing(owner_of(tag), doors),
-            (Handled::Engine, Some(retirement)) => {
-                Outcome::ringing(retirement.place.client, doors)
-            }
-            // Each event that waits is of a TD that the host awaits, or of the retirement (`EventsFit`).
-            (Handled::Engine, None) | (Handled::Stray, _) => Outcome::idle(),
+        match seen {
+            Some((client, doors)) => Outcome::ringing(client, doors),
+            None => Outcome::idle(),
         }
     }
 
@@ -217,5 +210,22 @@ impl Outcome {
             refused: None,
             doors,
         }
+    }
+}
+
+/// The client that an event was of, with the doorbells that were rung at it.
+#[inline(always)]
+pub(crate) fn handled_of(
+    retirement: Option<Retirement>,
+    handled: Handled,
+    doors: Doorbells,
+) -> Option<(usize, Doorbells)>
+    ensures { option_map_or (λ seen. ringing seen.0 seen.1) result idle ≡ handled_as retirement doors handled }
+{
+    match (handled, retirement) {
+        (Handled::Matched(tag), _) => Some((owner_of(tag), doors)),
+        (Handled::Engine, Some(retirement)) => Some((retirement.place.client, doors)),
+        // Each event that waits is of a TD that the host awaits, or of the retirement (`EventsFit`).
+        (Handled::Engine, None) | (Handled::Stray, _) => None,
     }
 }

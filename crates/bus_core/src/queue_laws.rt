@@ -1,7 +1,10 @@
 //! The laws of what waits in the shared machine, which hold of its definitions.
 //!
 //! Each message and each event is of one TD, and each TD of at most one of each kind; so no queue outgrows the places.
-ghost use Rattle.bus_core.specs.Matched.{OpeningIsMatched, StepKeepsMatches, OrderIsKept, FromMatches, HasRoom, RingsHaveRoom, AreNamedOnce, HasNoStray, CarryActs, EventActs, NoDataEventWaits, NoStatusEventWaits, HaveDataTrbs, ArePendingCommands, HaveCommandTrbs, EventFreesFirst, AcceptedFits, OverReplays, ReplaysHaveRoom, IsMatched};
+ghost use Rattle.bus_core.specs.Matched.{OpeningIsMatched, StepKeepsMatches, OrderIsKept, FromMatches, HasRoom, RingsHaveRoom};
+ghost use Rattle.bus_core.specs.Matched.{AreNamedOnce, HasNoStray, CarryActs, EventActs, NoDataEventWaits, NoStatusEventWaits};
+ghost use Rattle.bus_core.specs.Matched.{HaveDataTrbs, ArePendingCommands, HaveCommandTrbs, EventFreesFirst, AcceptedFits, OverReplays};
+ghost use Rattle.bus_core.specs.Matched.{ReplaysHaveRoom, IsMatched};
 
 /// At the start nothing stands anywhere, and nothing waits.
 pub fn matches_at_start()

@@ -1,5 +1,7 @@
 //! The laws of the world of rings on where a step is due and what its outcome is.
-ghost use Rattle.bus_core.specs.WorldDue.{CommandsAreDue, CommandsAreMarked, DataAreDue, DataAreMarked, EnginesAreDue, EnginesAreMarked, EventsAreDue, EventsAreQuiet, RetirementsAreDue, RetirementsAreMarked, StatusesAreDue, StatusesAreMarked, TakesAreDue};
+ghost use Rattle.bus_core.specs.WorldDue.{CommandsAreDue, CommandsAreMarked, DataAreDue, DataAreMarked, EnginesAreDue, EnginesAreMarked};
+ghost use Rattle.bus_core.specs.WorldDue.{EventsAreDue, EventsAreQuiet, RetirementsAreDue, RetirementsAreMarked, StatusesAreDue};
+ghost use Rattle.bus_core.specs.WorldDue.{StatusesAreMarked, TakesAreDue};
 
 /// A step of the command pipe is due where its ring has a pending TRB, and that TRB is the host's own.
 pub fn commands_are_due()

@@ -1,6 +1,8 @@
 //! The laws of the world of rings: where rings, buffers, host and device fit a state of the shared machine, each step of
 //! host and controller is the shared machine's step.
-ghost use Rattle.bus_core.specs.WorldSteps.{CommandsFit, DataFit, DataIsIdle, EngineIsIdle, EnginesFit, EventsFit, FaultsAgree, NoCommandIsIdle, OpeningFits, RetireIsIdle, RetirementsFit, StatusIsIdle, StatusesFit, SubmissionsFit, TakeIsIdle, TakesFit, TaskFaultsAgree, TasksFit, WorldReadsBack};
+ghost use Rattle.bus_core.specs.WorldSteps.{CommandsFit, DataFit, DataIsIdle, EngineIsIdle, EnginesFit, EventsFit, FaultsAgree};
+ghost use Rattle.bus_core.specs.WorldSteps.{NoCommandIsIdle, OpeningFits, RetireIsIdle, RetirementsFit, StatusIsIdle, StatusesFit};
+ghost use Rattle.bus_core.specs.WorldSteps.{SubmissionsFit, TakeIsIdle, TakesFit, TaskFaultsAgree, TasksFit, WorldReadsBack};
 
 /// A world that fits a state tells that state.
 pub fn worlds_read_back()

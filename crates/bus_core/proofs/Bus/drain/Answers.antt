@@ -5,7 +5,8 @@ use Rattle.bus_core.proofs.Bus.drain.Goals as goal
 pub loop-limit-preserved : goal.loop-limit-preserved
 loop-limit-preserved c = record {
   rest =
-      rounds-next c.loop-limit.more (c.loop-limit.self, c.loop-limit.left) _ c.round-after.ensures.round (λ e. omega arith) (λ e. omega arith) (λ e. omega arith)
+      rounds-next c.loop-limit.more (c.loop-limit.self, c.loop-limit.left) _ c.round-after.ensures.round (λ e. omega arith) (λ e. omega arith)
+      (λ e. omega arith)
       ∙ c.loop-limit.invariant.rest;
   within = omega (arith, c.round-after.ensures.less, c.loop-limit.invariant.within);
 }

@@ -25,7 +25,7 @@ invariant_of-self c =
 
 pub returns : goal.returns
 returns c =
-    rw (c.submitted.ensures, c.single.ensures, c.deref-2.ensures.0, c.ring.ensures, c.deref.ensures.0)
+    rw (c.single.ensures, c.deref-2.ensures.0, c.ring.ensures, c.deref.ensures.0)
     (submitted-on c.args.self.now (world_of c.self.inside.host c.self.inside.controller c.self.inside.target c.self.inside.lines c.self.inside.frames)
     c.args.client c.args.tag c.args.ticket c.args.command c.submit-submitted.new.self c.submit-submitted.new.lines c.submit-submitted.new.frames
     c.submit-submitted.new.doors.items

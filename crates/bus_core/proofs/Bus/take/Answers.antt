@@ -1,4 +1,3 @@
-use Rattle.std.proofs.Common.{sym}
 use Rattle.bus_core.specs.World.{world_of}
 use Rattle.bus_core.proofs.Stepped.{fits-as}
 use Rattle.bus_core.proofs.Taken.{take-taken}
@@ -8,13 +7,12 @@ pub invariant_of-self : goal.invariant_of-self
 invariant_of-self c =
     (take-taken c.args.self.now (world_of c.self.inside.host c.self.inside.controller c.self.inside.target c.self.inside.lines c.self.inside.frames)
     c.args.client c.take_reply-reply.new.self c.take_reply-reply.new.frames c.take_reply-reply.result
-    (fits-as c.args.self.now _ c.self.view_is c.self.invariant) (sym c.if-not-take_is_due.ensures) c.take_reply-reply.ensures
+    (fits-as c.args.self.now _ c.self.view_is c.self.invariant) c.requires c.take_reply-reply.ensures
     c.stand.ensures.host c.stand.ensures.lines c.stand.ensures.frames).fits
 
 pub returns : goal.returns
 returns c =
-    rw c.replying.ensures
     (take-taken c.args.self.now (world_of c.self.inside.host c.self.inside.controller c.self.inside.target c.self.inside.lines c.self.inside.frames)
     c.args.client c.take_reply-reply.new.self c.take_reply-reply.new.frames c.take_reply-reply.result
-    (fits-as c.args.self.now _ c.self.view_is c.self.invariant) (sym c.if-not-take_is_due.ensures) c.take_reply-reply.ensures
+    (fits-as c.args.self.now _ c.self.view_is c.self.invariant) c.requires c.take_reply-reply.ensures
     c.stand.ensures.host c.stand.ensures.lines c.stand.ensures.frames).shared

@@ -9,8 +9,8 @@ use Rattle.bus_core.proofs.Bus.try_retirements.Goals as goal
 pub loop-next-preserved : goal.loop-next-preserved
 loop-next-preserved c = record {
   so_far =
-      tried-on (Retire c.args.pipe) (c.args.self.now, c.args.left) c.loop-next.tag c.in-Some.next (c.loop-next.self, c.loop-next.left) _ c.loop-next.invariant.so_far
-      c.in-Some.ensures.next.0 (λ other above below. c.in-Some.ensures.next.2 other above below) c.try_retirement_of-left.ensures;
+      tried-on (Retire c.args.pipe) (c.args.self.now, c.args.left) c.loop-next.tag c.in-Some.next (c.loop-next.self, c.loop-next.left) _
+      c.loop-next.invariant.so_far c.in-Some.ensures.next.0 (λ other above below. c.in-Some.ensures.next.2 other above below) c.try_retirement_of-left.ensures;
   parts =
       ap (λ (now : Shared × ℕ). length now.0.parts) c.try_retirement_of-left.ensures
       ∙ tried_one-parts (c.loop-next.self, c.loop-next.left) (Retire c.args.pipe c.in-Some.next) ∙ c.loop-next.invariant.parts;

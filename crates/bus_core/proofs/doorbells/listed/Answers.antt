@@ -1,6 +1,7 @@
 use Rattle.std.proofs.Common.{◌≡◌, ◌-◌, ◌∙◌, ap, arith, sym, length}
 use Rattle.stream_array.specs.declared.TheConstants.{STREAMS}
-use Rattle.bus_core.specs.Doorbells.{doors_among, is_marked}
+use Rattle.marks.specs.Marks.{is_marked}
+use Rattle.bus_core.specs.Doorbells.{doors_among}
 use Rattle.bus_core.proofs.StreamDoors.{doors-all, doors-kept, doors-rung}
 use Rattle.bus_core.proofs.doorbells.listed.Goals as goal
 use Rattle.bus_core.proofs.doorbells.listed.Goals.{then-is_marked, else-is_marked}
@@ -10,17 +11,18 @@ loop-stream-preserved c =
     let stream = c.loop-stream.stream in
     let test = is_marked c.args.streams.now in
     let before = c.loop-stream.list.items in
+    let asked : test stream ≡ c.is_marked.result = ap test (omega (arith, c.from.ensures)) ∙ sym c.is_marked.ensures in
     elim c.if-is_marked.branch [
       | then-is_marked w ↦ let is : c.if-is_marked.list.items ≡ w.push.new.self.items = ap (λ l. l.items) w.list-is in record {
         doors = is
             ∙ doors-rung stream c.args.pipe test before w.push.new.self.items w.target.result w.doorbell.result c.loop-stream.auto.stream
-            c.loop-stream.invariant.doors (sym c.is_marked.ensures ∙ w.if-is_marked.true) w.target.ensures w.doorbell.ensures w.push.ensures.items;
+            c.loop-stream.invariant.doors (asked ∙ w.if-is_marked.true) w.target.ensures.target w.doorbell.ensures w.push.ensures.items;
         most = omega (arith, c.loop-stream.invariant.most, w.push.ensures.len, ap length is);
       }
       | else-is_marked w ↦ let is : c.if-is_marked.list.items ≡ before = ap (λ l. l.items) w.list-is in record {
         doors = is
             ∙ doors-kept stream c.args.pipe test before c.loop-stream.auto.stream c.loop-stream.invariant.doors
-            (sym c.is_marked.ensures ∙ w.if-is_marked.false);
+            (asked ∙ w.if-is_marked.false);
         most = omega (arith, c.loop-stream.invariant.most, ap length is);
       }
     ]

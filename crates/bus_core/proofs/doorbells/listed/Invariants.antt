@@ -1,5 +1,6 @@
 use Rattle.std.proofs.Common.{◌≡◌, ◌+◌, ◌-◌, ◌≤◌, length}
-use Rattle.bus_core.specs.Doorbells.{doors_among, is_marked}
+use Rattle.marks.specs.Marks.{is_marked}
+use Rattle.bus_core.specs.Doorbells.{doors_among}
 use Rattle.bus_core.proofs.doorbells.listed.Given as goal
 
 -- the doorbells of the streams so far, at most one for each

@@ -2,11 +2,15 @@ use Rattle.std.proofs.Common.{arith, ap, ◌∙◌, map, take_all}
 use Rattle.std.proofs.Math.Dec.{eqb}
 use Rattle.std.specs.List.{list_any}
 use Rattle.xhci_ctl.specs.Doorbells.{stream_in}
-use Rattle.bus_core.proofs.StreamDoors.{resumed-back, stream-below}
+use Rattle.bus_core.proofs.StreamDoors.{marked-next, resumed-back, stream-below}
 use Rattle.bus_core.proofs.doorbells.Doorbells.resumed.Goals as goal
 
-pub mark-requires : goal.mark-requires
-mark-requires c = omega (arith, stream-below c.args.pipe c.args.values.now c.loop-value.value-index c.requires.rung c.loop-value-test.true)
+pub set-requires : goal.set-requires
+set-requires c = omega (arith, stream-below c.args.pipe c.args.values.now c.loop-value.value-index c.requires.rung c.loop-value-test.true)
+
+pub loop-value-preserved : goal.loop-value-preserved
+loop-value-preserved c = λ stream. marked-next c.loop-value.streams c.set.new.self c.args.values.now c.loop-value.value-index stream c.loop-value-test.true
+    c.set.ensures.here c.set.ensures.others (c.loop-value.invariant stream)
 
 pub returns : goal.returns
 returns c =

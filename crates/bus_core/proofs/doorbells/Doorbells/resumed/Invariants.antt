@@ -2,9 +2,9 @@ use Rattle.std.proofs.Common.{◌≡◌, ℕ, map, take}
 use Rattle.std.proofs.Math.Dec.{eqb}
 use Rattle.std.specs.List.{list_any}
 use Rattle.xhci_ctl.specs.Doorbells.{stream_in}
-use Rattle.bus_core.specs.Doorbells.{is_marked}
+use Rattle.marks.specs.Marks.{is_marked}
 use Rattle.bus_core.proofs.doorbells.Doorbells.resumed.Given as goal
 
--- the bits of the streams of the values so far are set, and no other
+-- the streams of the values so far are marked, and no other
 abbrev pub invariant-loop-value : goal.invariant-loop-value
 invariant-loop-value l = (stream : ℕ) → is_marked l.streams stream ≡ list_any (eqb stream) (map stream_in (take l.value-index l.values))

@@ -9,7 +9,8 @@ use Rattle.bus_core.specs.declared.Outcome.{Outcome}
 use Rattle.bus_core.specs.Shared.{Shared, shared_step}
 use Rattle.bus_core.specs.Replay.{replayed}
 use Rattle.bus_core.specs.Isolation.{own_label, own_labels}
-use Rattle.uasdisk.specs.Headline.{Said, News, line_of, text_of, news_said, all_news_said, news_to, all_news, own_line, own_lines, shown, shown_then}
+use Rattle.uasdisk.specs.Headline.{Said, Delivery, line_of, text_of, deliveries_said, all_deliveries_said, deliveries_to, all_deliveries}
+use Rattle.uasdisk.specs.Headline.{own_line, own_lines, shown, shown_then}
 use Rattle.uasdisk.specs.Headline.{solo_lines}
 
 -- THE REPLAY
@@ -40,17 +41,17 @@ text_of-append [] more = refl
 text_of-append (one ∷ said) more =
     ap (λ (t : List ℕ). line_of one ++ t) (text_of-append said more) ∙ sym (append_assoc (line_of one) (text_of said) (text_of more))
 
-pub all_news_said-append : (said more : List Said) → all_news_said (said ++ more) ≡ all_news_said said ++ all_news_said more
-all_news_said-append [] more = refl
-all_news_said-append (one ∷ said) more =
-    ap (λ (t : List News). news_said one ++ t) (all_news_said-append said more)
-    ∙ sym (append_assoc (news_said one) (all_news_said said) (all_news_said more))
+pub all_deliveries_said-append : (said more : List Said) → all_deliveries_said (said ++ more) ≡ all_deliveries_said said ++ all_deliveries_said more
+all_deliveries_said-append [] more = refl
+all_deliveries_said-append (one ∷ said) more =
+    ap (λ (t : List Delivery). deliveries_said one ++ t) (all_deliveries_said-append said more)
+    ∙ sym (append_assoc (deliveries_said one) (all_deliveries_said said) (all_deliveries_said more))
 
-pub all_news-append : (outcomes more : List Outcome) → all_news (outcomes ++ more) ≡ all_news outcomes ++ all_news more
-all_news-append [] more = refl
-all_news-append (one ∷ outcomes) more =
-    ap (λ (t : List News). news_to one one.owner ++ t) (all_news-append outcomes more)
-    ∙ sym (append_assoc (news_to one one.owner) (all_news outcomes) (all_news more))
+pub all_deliveries-append : (outcomes more : List Outcome) → all_deliveries (outcomes ++ more) ≡ all_deliveries outcomes ++ all_deliveries more
+all_deliveries-append [] more = refl
+all_deliveries-append (one ∷ outcomes) more =
+    ap (λ (t : List Delivery). deliveries_to one one.owner ++ t) (all_deliveries-append outcomes more)
+    ∙ sym (append_assoc (deliveries_to one one.owner) (all_deliveries outcomes) (all_deliveries more))
 
 pub own_lines-append : (client : ℕ) (said more : List Said) → own_lines client (said ++ more) ≡ own_lines client said ++ own_lines client more
 own_lines-append client [] more = refl

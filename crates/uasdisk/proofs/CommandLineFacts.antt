@@ -36,7 +36,8 @@ both_found f h same (Some x) n w (Some y) names rest =
 -- what the two subcommands of images ask for
 pub asked_of-make : (name : Text) (rows : List Row) → name ≡ codes "make"
     → asked_of name rows ≡ option_and_then (λ file. option_map (make file) (blocks_of rows)) (file_of rows)
-asked_of-make name rows is = subst (λ (t : Text). asked_of t rows ≡ option_and_then (λ file. option_map (make file) (blocks_of rows)) (file_of rows)) (sym is) refl
+asked_of-make name rows is =
+    subst (λ (t : Text). asked_of t rows ≡ option_and_then (λ file. option_map (make file) (blocks_of rows)) (file_of rows)) (sym is) refl
 
 pub asked_of-info : (name : Text) (rows : List Row) → name ≡ codes "info" → asked_of name rows ≡ option_map info (file_of rows)
 asked_of-info name rows is = subst (λ (t : Text). asked_of t rows ≡ option_map info (file_of rows)) (sym is) refl

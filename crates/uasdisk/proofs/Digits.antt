@@ -13,6 +13,8 @@ value_le value (digit ∷ digits) = omega (arith, value_le (with_digit value dig
 pub value_too_large : (most value i : ℕ) (digits : List ℕ) → i < length digits → fold with_digit value (drop i digits) ≡ value_of digits
     → most < with_digit value (get_or digits i 0) → leb (value_of digits) most ≡ false
 value_too_large most value i digits inside same large =
-    let split : fold with_digit value (drop i digits) ≡ fold with_digit (with_digit value (get_or digits i 0)) (drop (suc i) digits) = ap (fold with_digit value) (drop-cons digits i 0 inside) in
-    let grown : with_digit value (get_or digits i 0) ≤ fold with_digit (with_digit value (get_or digits i 0)) (drop (suc i) digits) = value_le (with_digit value (get_or digits i 0)) (drop (suc i) digits) in
+    let split : fold with_digit value (drop i digits) ≡ fold with_digit (with_digit value (get_or digits i 0)) (drop (suc i) digits) =
+    ap (fold with_digit value) (drop-cons digits i 0 inside) in
+    let grown : with_digit value (get_or digits i 0) ≤ fold with_digit (with_digit value (get_or digits i 0)) (drop (suc i) digits) =
+    value_le (with_digit value (get_or digits i 0)) (drop (suc i) digits) in
     lt-leb (value_of digits) most (omega (arith, split, grown, same))

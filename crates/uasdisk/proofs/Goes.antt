@@ -14,9 +14,10 @@ use Rattle.bus_core.specs.Replay.{replayed}
 use Rattle.bus_core.specs.Laws.{HeadlineHolds}
 use Rattle.bus_core.specs.Isolation.{own_label, own_labels, own_reply, own_replies, own_state}
 use Rattle.uasdisk.specs.Told.{Telling, is_brought_in, ticket_of}
-use Rattle.uasdisk.specs.Headline.{Said, News, line_of, text_of, news_said, all_news_said, news_to, all_news, own_line, own_lines, is_to_host_under}
+use Rattle.uasdisk.specs.Headline.{Said, Delivery, line_of, text_of, deliveries_said, all_deliveries_said, deliveries_to, all_deliveries}
+use Rattle.uasdisk.specs.Headline.{own_line, own_lines, is_to_host_under}
 use Rattle.uasdisk.specs.Headline.{has_to_host, shown, shown_then, solo_lines}
-use Rattle.uasdisk.proofs.Appended.{replayed-state, replayed-outcomes, own_labels-append, text_of-append, all_news_said-append, all_news-append}
+use Rattle.uasdisk.proofs.Appended.{replayed-state, replayed-outcomes, own_labels-append, text_of-append, all_deliveries_said-append, all_deliveries-append}
 use Rattle.uasdisk.proofs.Appended.{own_lines-append, solo_lines-append}
 
 -- WHAT IS NOTED
@@ -44,7 +45,7 @@ pub record Goes (old new : Telling) : Type 0 where
   pub said : List Said
   pub machine : (replayed old.machine steps).0 ≡ new.machine
   pub text : new.text ≡ old.text ++ text_of said
-  pub news : all_news_said said ≡ all_news (replayed old.machine steps).1
+  pub deliveries : all_deliveries_said said ≡ all_deliveries (replayed old.machine steps).1
   pub noted : IsNoted old → IsNoted new
   pub own : IsNoted old → (client : ℕ) (before : List Label) → Knows client before old
       → (own_lines client said ≡ solo_lines (own_state old.machine client) before (labels_in old.machine steps client))
@@ -57,7 +58,7 @@ goes_nowhere run = record {
   said = [];
   machine = refl;
   text = sym (append-nil run.text);
-  news = refl;
+  deliveries = refl;
   noted = λ is. is;
   own = λ is client before knows. (refl, λ ticket. knows ticket ∙ ap (has_to_host ticket) (sym (append-nil before)));
 }
@@ -77,10 +78,10 @@ goes_on isolated old middle new one two = record {
   machine = replayed-state old.machine one.steps two.steps ∙ ap (λ (m : Shared). (replayed m two.steps).0) one.machine ∙ two.machine;
   text = two.text ∙ ap (λ (t : List ℕ). t ++ text_of two.said) one.text ∙ append_assoc old.text (text_of one.said) (text_of two.said)
       ∙ ap (λ (t : List ℕ). old.text ++ t) (sym (text_of-append one.said two.said));
-  news = all_news_said-append one.said two.said ∙ ap₂ (λ (a b : List News). a ++ b) one.news two.news
-      ∙ sym (all_news-append (replayed old.machine one.steps).1 (replayed middle.machine two.steps).1)
-      ∙ ap (λ (m : Shared). all_news ((replayed old.machine one.steps).1 ++ (replayed m two.steps).1)) (sym one.machine)
-      ∙ ap all_news (sym (replayed-outcomes old.machine one.steps two.steps));
+  deliveries = all_deliveries_said-append one.said two.said ∙ ap₂ (λ (a b : List Delivery). a ++ b) one.deliveries two.deliveries
+      ∙ sym (all_deliveries-append (replayed old.machine one.steps).1 (replayed middle.machine two.steps).1)
+      ∙ ap (λ (m : Shared). all_deliveries ((replayed old.machine one.steps).1 ++ (replayed m two.steps).1)) (sym one.machine)
+      ∙ ap all_deliveries (sym (replayed-outcomes old.machine one.steps two.steps));
   noted = λ is. two.noted (one.noted is);
   own = λ is client before knows.
       let first = one.own is client before knows in
@@ -105,14 +106,14 @@ goes_on isolated old middle new one two = record {
 -- A LINE THAT TELLS OF NO STEP
 
 pub goes_saying : (old new : Telling) (said : Said) → new.machine ≡ old.machine → new.brings_in ≡ old.brings_in
-    → (IsNoted old → IsNoted new) → new.text ≡ old.text ++ line_of said → news_said said ≡ [] → ((client : ℕ) → own_line client said ≡ None)
+    → (IsNoted old → IsNoted new) → new.text ≡ old.text ++ line_of said → deliveries_said said ≡ [] → ((client : ℕ) → own_line client said ≡ None)
     → Goes old new
 goes_saying old new said machine brings noted text silent nobody = record {
   steps = [];
   said = said ∷ [];
   machine = sym machine;
   text = text ∙ ap (λ (t : List ℕ). old.text ++ t) (sym (append-nil (line_of said)));
-  news = append-nil (news_said said) ∙ silent;
+  deliveries = append-nil (deliveries_said said) ∙ silent;
   noted = noted;
   own = λ is client before knows. (
     append-nil (option_to_list (own_line client said)) ∙ ap option_to_list (nobody client),
@@ -198,7 +199,7 @@ shown_same brings_in client before (Some reply) knows = ap (λ (b : Bool). Some 
 pub record StepGoes (old new : Telling) (step : Step) (said : List Said) : Type 0 where
   pub machine : (shared_step old.machine step).0 ≡ new.machine
   pub text : new.text ≡ old.text ++ text_of said
-  pub news : all_news_said said ≡ news_to (shared_step old.machine step).1 (shared_step old.machine step).1.owner
+  pub deliveries : all_deliveries_said said ≡ deliveries_to (shared_step old.machine step).1 (shared_step old.machine step).1.owner
   pub noted : IsNoted old → IsNoted new
   pub own : (client : ℕ) → own_lines client said
       ≡ option_to_list (option_map (shown_by old.brings_in client) (own_reply client (shared_step old.machine step).1))
@@ -211,7 +212,7 @@ goes_by_step isolated old new step said it = record {
   said = said;
   machine = it.machine;
   text = it.text;
-  news = it.news ∙ sym (append-nil (news_to (shared_step old.machine step).1 (shared_step old.machine step).1.owner));
+  deliveries = it.deliveries ∙ sym (append-nil (deliveries_to (shared_step old.machine step).1 (shared_step old.machine step).1.owner));
   noted = it.noted;
   own = λ is client before knows.
       let outcome : Outcome = (shared_step old.machine step).1 in (

@@ -74,7 +74,8 @@ flags_of run client tags is found =
 pub ranges_noted : (run new : Telling) (client : ℕ) (tags now : ClientTags) → slice_get run.ranges client ≡ Some tags → now.next ≡ tags.next
     → new.ranges ≡ slice_set run.ranges client now → new.brings_in ≡ run.brings_in → IsNoted run → IsNoted new
 ranges_noted run new client tags now found next wrote same is other =
-    rw (wrote, same) (elim (client == other) as (λ b. (client == other) ≡ b → IsNotedOf (slice_get (slice_set run.ranges client now) other) (slice_get run.brings_in other)) [
+    rw (wrote, same) (elim (client == other) as (λ b. (client == other) ≡ b
+    → IsNotedOf (slice_get (slice_set run.ranges client now) other) (slice_get run.brings_in other)) [
       | true ↦ λ equal.
           let it : client ≡ other = eqb-true client other equal in
           let flags = flags_of run client tags is found in

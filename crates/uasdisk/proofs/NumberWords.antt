@@ -1,5 +1,5 @@
 -- A number of a command line, as a getter of the words' parser reads it.
-use Rattle.std.proofs.Common.{◌≡◌, ◌∙◌, ℕ, ◌<◌, ◌≤◌, ◌&&◌, ◌^◌, Bool, cond, true, false, List, fold, length, Option, Some, None, Result, Ok, Err}
+use Rattle.std.proofs.Common.{◌≡◌, ◌∙◌, ℕ, ◌<◌, ◌≤◌, ◌&&◌, ◌^◌, Bool, option_map, cond, true, false, List, fold, length, Option, Some, None, Result, Ok, Err}
 use Rattle.std.proofs.Common.{refl, ap, ap₂, sym, zero, suc, rules, arith}
 use Rattle.std.specs.Prelude.{nat_le, not, ◌==◌, option_and_then}
 use Rattle.std.specs.List.{list_all}
@@ -8,11 +8,11 @@ use Rattle.std.specs.Char.{is_ascii_digit}
 use Rattle.std.specs.Str.Parse.{ExplainsUnsignedError, HasUnsignedDigitsIfOk, IsNumeral, ParsesUnsigned, digits_value, without_leading_plus}
 use Rattle.std.proofs.lemmas.Str.Parse.{IsNumeralModel, numerals_by_fold}
 use Rattle.std.proofs.lemmas.Bool.{leb-true, eqb-true, eqb-false}
-use Rattle.clap.specs.Words.{ReadsOne, one_of, one_text, rows_of}
+use Rattle.clap.specs.Words.{ReadsOne, TriesOne, one_of, one_text, rows_of}
 use Rattle.clap.specs.declared.parser.matches.Found.{Found}
 use Rattle.clap.proofs.WalkLemmas.{one_text-rows}
 use Rattle.uasdisk.specs.Words.{is_number, number_in, value_of, with_digit}
-use Rattle.uasdisk.specs.CommandLine.{number_of}
+use Rattle.uasdisk.specs.CommandLine.{number_of, optional_number}
 
 abbrev pub within : ℕ → ℕ → ℕ → Option ℕ
 within least most n = cond (nat_le least n && nat_le n most) (Some n) None
@@ -74,6 +74,24 @@ one_number {E} G k least most (Some t) None only fits none value =
 one_number {E} G k least most (Some t) (Some n) only fits none value =
     parsed_number {E = E} k least most t (Ok n) (only t (Ok n) (value t refl)) fits
 
+-- what an option's number comes to, of the number that it names
+abbrev pub optional_within : ℕ → ℕ → Option ℕ → Option (Option ℕ)
+optional_within least most None = Some None
+optional_within least most (Some n) = option_map (λ (number : ℕ). Some number) (within least most n)
+
+-- what `try_get_one` gives of a text
+tried_number : {E : Type 0} (G : List ℕ → Result ℕ E → Type 0) (k least most : ℕ) (one : Option (List ℕ)) (r : Result (Option ℕ) E)
+    → ((u : List ℕ) (x : Result ℕ E) → G u x → ParsesUnsigned k 10 u x) → most < 2 ^ k
+    → (one ≡ None → r ≡ Ok None) → ((t : List ℕ) → one ≡ Some t → TriesOne G t r)
+    → optional_number least most one ≡ option_and_then (optional_within least most) (result_ok r)
+tried_number {E} G k least most None r only fits none value =
+    ap (λ (x : Result (Option ℕ) E). option_and_then (optional_within least most) (result_ok x)) (sym (none refl))
+tried_number {E} G k least most (Some t) (Ok None) only fits none value = absurd (value t refl)
+tried_number {E} G k least most (Some t) (Ok (Some n)) only fits none value =
+    ap (option_map (λ (number : ℕ). Some number)) (parsed_number {E = E} k least most t (Ok n) (only t (Ok n) (value t refl)) fits)
+tried_number {E} G k least most (Some t) (Err e) only fits none value =
+    ap (option_map (λ (number : ℕ). Some number)) (parsed_number {E = E} k least most t (Err e) (only t (Err e) (value t refl)) fits)
+
 -- and of an argument, by its rows
 pub number_read : (k least most : ℕ) (id : List ℕ) (f : Found) (r : Option ℕ) → most < 2 ^ k
     → (one_text f id ≡ None → r ≡ None)
@@ -83,3 +101,11 @@ pub number_read : (k least most : ℕ) (id : List ℕ) (f : Found) (r : Option �
 number_read k least most id f r fits none value =
     ap (option_and_then (number_of least most)) (sym (one_text-rows f id))
     ∙ one_number (λ bs x. ParsesUnsigned k 10 bs x × ExplainsUnsignedError 10 bs x × HasUnsignedDigitsIfOk bs x) k least most _ r (λ u x g. g.0) fits none value
+
+-- and of an option, by its rows
+pub option_read : {E : Type 0} (G : List ℕ → Result ℕ E → Type 0) (k least most : ℕ) (id : List ℕ) (f : Found) (r : Result (Option ℕ) E)
+    → ((u : List ℕ) (x : Result ℕ E) → G u x → ParsesUnsigned k 10 u x) → most < 2 ^ k
+    → (one_text f id ≡ None → r ≡ Ok None) → ((t : List ℕ) → one_text f id ≡ Some t → TriesOne G t r)
+    → optional_number least most (one_of id (rows_of f)) ≡ option_and_then (optional_within least most) (result_ok r)
+option_read G k least most id f r only fits none value =
+    ap (optional_number least most) (sym (one_text-rows f id)) ∙ tried_number G k least most _ r only fits none value

@@ -25,9 +25,11 @@ use Rattle.bus_core.specs.declared.RetirementStage.TheVariants.{StopAsked, StopA
 use Rattle.bus_core.specs.Td.{Entry}
 use Rattle.uas_host.specs.Tags.{place_of, command_slot}
 use Rattle.bus_core.specs.Part.{Part, Act, carry_act, carried_slot, carried_entry, move_act, moved_slot, moved_entry, send_act, sent_slot, sent_entry}
-use Rattle.bus_core.specs.Part.{event_act, event_place, seen_entry, seen_by, take_act, fault_at, named_slot, task_fault_at, stop_act, pass_act, passed_slot, retire_act}
+use Rattle.bus_core.specs.Part.{event_act, event_place, seen_entry, seen_by, take_act, fault_at, named_slot, task_fault_at, stop_act}
+use Rattle.bus_core.specs.Part.{pass_act, passed_slot, retire_act}
 use Rattle.bus_core.specs.Shared.{Shared, idle, due, due_step, shared_step, routed, routed_to, routed_by_tag, carry_step, event_step, submitted_under}
-use Rattle.bus_core.specs.Shared.{submitted_to, answered, managed_or, managed_to, event_seen, engine_step, engine_did, engine_seen, stage_seen, at_stage, retire_step, resumed}
+use Rattle.bus_core.specs.Shared.{submitted_to, answered, managed_or, managed_to, event_seen, engine_step, engine_did, engine_seen}
+use Rattle.bus_core.specs.Shared.{stage_seen, at_stage, retire_step, resumed}
 use Rattle.bus_core.specs.Td.{retired_on}
 use Rattle.std.specs.Prelude.{option_and_then, length}
 

@@ -1,5 +1,5 @@
 -- What the plain command lines ask for.
-use Rattle.std.proofs.Common.{◌≡◌, ◌∙◌, ◌<◌, ◌≤◌, ◌^◌, ◌&&◌, ℕ, ◌==◌, Bool, cond, not, true, false, true≢false, List, [], ◌∷◌, length, Some, None}
+use Rattle.std.proofs.Common.{◌≡◌, ◌∙◌, ◌<◌, ◌≤◌, ◌^◌, ◌&&◌, ℕ, ◌==◌, Bool, cond, not, true, false, true≢false, List, [], ◌∷◌, length, Option, Some, None}
 use Rattle.std.proofs.Common.{Result, Ok, Err, IfOk, option_map, refl, ap, ap₂, sym, subst, inl, inr, arith, lt-ltb}
 use Rattle.std.specs.Prelude.{codes, pos, nat_lt, nat_le, int_le, option_and_then, MatchResult}
 use Rattle.std.specs.List.{list_all}
@@ -14,15 +14,16 @@ use Rattle.clap.proofs.OnLiterals.{clap_on_literals}
 use Rattle.clap.specs.Faults.{check_fault, defaults_fault, entered_fault, level_fault, settle_fault, walk_fault}
 use Rattle.clap.specs.Kinds.{or_else}
 use Rattle.clap.specs.Simple.{Shape, built, entered, label_of}
-use Rattle.clap.specs.Walk.{answers_to, finished, nothing_held, settled, walk, walk_from}
+use Rattle.clap.specs.Walk.{answers_to, finished, nothing_held, rows_after, settled, walk, walk_from}
 use Rattle.std.specs.Option.{option_map_or}
 use Rattle.std.specs.Prelude.{find}
 use Rattle.uasdisk.specs.declared.words.Run.{Run}
 use Rattle.uasdisk.specs.Words.{is_number, number_in, value_of}
-use Rattle.uasdisk.specs.CommandLine.{Asked, AsksPlainly, asked_by, asked_for, asked_in, dump, fill, info, make, program_app, refusals, replay, trace}
+use Rattle.uasdisk.specs.CommandLine.{Asked, AsksPlainly, asked_by, asked_for, asked_in, program_app, refusals, script_of}
+use Rattle.uasdisk.specs.CommandLine.{dump, fill, info, make, replay, trace}
 use Rattle.uasdisk.proofs.NumberWords.{numeral-is_number, numerals}
 use Rattle.uasdisk.proofs.CommandLineFacts.{nothing_refused}
-use Rattle.uasdisk.proofs.WalkSteps.{fault-end, fault-plain, walked-plain}
+use Rattle.uasdisk.proofs.WalkSteps.{fault-bad, fault-end, fault-plain, fault-value, walked-bad, walked-plain, walked-value}
 
 info_asks : (p : Text) (d : ℕ) (ds : Text) → (d == 45) ≡ false → asked_for (p ∷ codes "info" ∷ (d ∷ ds) ∷ []) ≡ Some (info (d ∷ ds))
 unfolding asked_for clap_on_literals
@@ -53,25 +54,19 @@ make_passes : (p : Text) (d : ℕ) (ds : Text) (e : ℕ) (es : Text) → (d == 4
 unfolding clap_on_literals
 make_passes p d ds e es plain n = simp (plain, n.hyphen, n.plus, n.some, n.first, n.rest, n.fits, n.low, n.high)
 
+-- what the numbers of a subcommand that runs a script ask for
+abbrev asked_by_numbers : (ℕ → ℕ → Option ℕ → Asked) → Option ℕ → Option ℕ → Option (Option ℕ) → Option Asked
+asked_by_numbers run clients blocks bad = option_and_then (λ c. option_and_then (λ b. option_map (run c b) bad) blocks) clients
+
 replay_asks : (p : Text) (d : ℕ) (ds : Text) (e : ℕ) (es : Text) → (d == 45) ≡ false → (d == 43) ≡ false → (e == 45) ≡ false → (e == 43) ≡ false
-    → asked_for (p ∷ codes "replay" ∷ (d ∷ ds) ∷ (e ∷ es) ∷ []) ≡ option_and_then (λ clients. option_map (replay clients) (number_in 1 65536 (e ∷ es))) (number_in 1 31 (d ∷ ds))
+    → asked_for (p ∷ codes "replay" ∷ (d ∷ ds) ∷ (e ∷ es) ∷ []) ≡ asked_by_numbers replay (number_in 1 31 (d ∷ ds)) (number_in 1 65536 (e ∷ es)) (Some None)
 unfolding asked_for clap_on_literals
 replay_asks p d ds e es hyphen plus hyphen' plus' = simp (hyphen, plus, hyphen', plus')
 
-replay_passes : (p : Text) (d : ℕ) (ds : Text) (e : ℕ) (es : Text) → IsIn 1 31 d ds → IsIn 1 65536 e es
-    → fault_of program_app (p ∷ codes "replay" ∷ (d ∷ ds) ∷ (e ∷ es) ∷ []) ≡ []
-unfolding clap_on_literals
-replay_passes p d ds e es m n = simp (m.hyphen, m.plus, m.some, m.first, m.rest, m.fits, m.low, m.high, n.hyphen, n.plus, n.some, n.first, n.rest, n.fits, n.low, n.high)
-
 trace_asks : (p : Text) (d : ℕ) (ds : Text) (e : ℕ) (es : Text) → (d == 45) ≡ false → (d == 43) ≡ false → (e == 45) ≡ false → (e == 43) ≡ false
-    → asked_for (p ∷ codes "trace" ∷ (d ∷ ds) ∷ (e ∷ es) ∷ []) ≡ option_and_then (λ clients. option_map (trace clients) (number_in 1 65536 (e ∷ es))) (number_in 1 31 (d ∷ ds))
+    → asked_for (p ∷ codes "trace" ∷ (d ∷ ds) ∷ (e ∷ es) ∷ []) ≡ asked_by_numbers trace (number_in 1 31 (d ∷ ds)) (number_in 1 65536 (e ∷ es)) (Some None)
 unfolding asked_for clap_on_literals
 trace_asks p d ds e es hyphen plus hyphen' plus' = simp (hyphen, plus, hyphen', plus')
-
-trace_passes : (p : Text) (d : ℕ) (ds : Text) (e : ℕ) (es : Text) → IsIn 1 31 d ds → IsIn 1 65536 e es
-    → fault_of program_app (p ∷ codes "trace" ∷ (d ∷ ds) ∷ (e ∷ es) ∷ []) ≡ []
-unfolding clap_on_literals
-trace_passes p d ds e es m n = simp (m.hyphen, m.plus, m.some, m.first, m.rest, m.fits, m.low, m.high, n.hyphen, n.plus, n.some, n.first, n.rest, n.fits, n.low, n.high)
 
 -- the words after `dump` and `fill` are those of the subcommand
 dump_enters : (p a b c : Text) → fault_of program_app (p ∷ codes "dump" ∷ a ∷ b ∷ c ∷ [])
@@ -168,6 +163,124 @@ fill_faults d ds e es f fs h hs plain m n o =
     (fill_last d ds e es f fs h hs plain m.hyphen n.hyphen o)
     (fill_defaults d ds e es f fs h hs plain m.hyphen n.hyphen o.hyphen) (fill_given d ds e es f fs h hs plain m.hyphen n.hyphen o.hyphen)
 
+-- A subcommand of this name that runs a script, built. `replay` and `trace` differ in their names alone.
+abbrev script_shape : Text → Shape
+script_shape name = record (option_map_or (λ s. s) (find (λ s. answers_to (codes "replay") (label_of s)) (built program_app).subs) (built program_app).top) {
+  name = name;
+}
+
+-- CLIENTS BLOCKS
+abbrev numbers : (d : ℕ) (ds : Text) (e : ℕ) (es : Text) → List Text
+numbers d ds e es = (d ∷ ds) ∷ (e ∷ es) ∷ []
+
+numbers_walk : (name : Text) (d : ℕ) (ds : Text) (e : ℕ) (es : Text) → IsIn 1 31 d ds → (e == 45) ≡ false
+    → walk_fault (script_shape name) [] (walk_from nothing_held) (numbers d ds e es) ≡ []
+numbers_walk name d ds e es m hyphen =
+    simp (fault-plain d ds m.hyphen) (simp (fault-plain e es hyphen) (simp fault-end
+    (simp (m.hyphen, m.plus, m.some, m.first, m.rest, m.fits, m.low, m.high))))
+
+numbers_last : (name : Text) (d : ℕ) (ds : Text) (e : ℕ) (es : Text) → (d == 45) ≡ false → IsIn 1 65536 e es
+    → settle_fault (script_shape name).rules (script_shape name).args_override_self
+    (walk (script_shape name).rules [] nothing_held (numbers d ds e es)).held ≡ []
+numbers_last name d ds e es hyphen n =
+    simp (walked-plain d ds hyphen, walked-plain e es n.hyphen) (simp (n.hyphen, n.plus, n.some, n.first, n.rest, n.fits, n.low, n.high))
+
+numbers_defaults : (name : Text) (d : ℕ) (ds : Text) (e : ℕ) (es : Text) → (d == 45) ≡ false → (e == 45) ≡ false
+    → defaults_fault (settled (script_shape name).rules (walk (script_shape name).rules [] nothing_held (numbers d ds e es)).held).rows
+    (script_shape name).rules ≡ []
+unfolding defaults_fault
+numbers_defaults name d ds e es hyphen hyphen' = simp (walked-plain d ds hyphen, walked-plain e es hyphen')
+
+numbers_checked : (name : Text) (d : ℕ) (ds : Text) (e : ℕ) (es : Text) → (d == 45) ≡ false → (e == 45) ≡ false
+    → check_fault (script_shape name) (finished (script_shape name).rules (walk (script_shape name).rules [] nothing_held (numbers d ds e es)).held)
+    false ≡ []
+numbers_checked name d ds e es hyphen hyphen' = simp (walked-plain d ds hyphen, walked-plain e es hyphen')
+
+numbers_faults : (name : Text) (d : ℕ) (ds : Text) (e : ℕ) (es : Text) → IsIn 1 31 d ds → IsIn 1 65536 e es
+    → level_fault (script_shape name) [] nothing_held (numbers d ds e es) false [] ≡ []
+numbers_faults name d ds e es m n =
+    level_nothing (script_shape name) (numbers d ds e es) (numbers_walk name d ds e es m n.hyphen) (numbers_last name d ds e es m.hyphen n)
+    (numbers_defaults name d ds e es m.hyphen n.hyphen) (numbers_checked name d ds e es m.hyphen n.hyphen)
+
+replay_enters : (p a b : Text) → fault_of program_app (p ∷ codes "replay" ∷ a ∷ b ∷ [])
+    ≡ or_else (entered_fault (built program_app) (Some (codes "replay", a ∷ b ∷ []))) []
+unfolding clap_on_literals
+replay_enters p a b = refl
+
+trace_enters : (p a b : Text) → fault_of program_app (p ∷ codes "trace" ∷ a ∷ b ∷ [])
+    ≡ or_else (entered_fault (built program_app) (Some (codes "trace", a ∷ b ∷ []))) []
+unfolding clap_on_literals
+trace_enters p a b = refl
+
+-- CLIENTS BLOCKS --bad LBA
+abbrev with_bad : (d : ℕ) (ds : Text) (e : ℕ) (es : Text) (f : ℕ) (fs : Text) → List Text
+with_bad d ds e es f fs = (d ∷ ds) ∷ (e ∷ es) ∷ codes "--bad" ∷ (f ∷ fs) ∷ []
+
+replay_bad_enters : (p a b c d : Text) → fault_of program_app (p ∷ codes "replay" ∷ a ∷ b ∷ c ∷ d ∷ [])
+    ≡ or_else (entered_fault (built program_app) (Some (codes "replay", a ∷ b ∷ c ∷ d ∷ []))) []
+unfolding clap_on_literals
+replay_bad_enters p a b c d = refl
+
+replay_bad_entered : (p a b c d : Text) → asked_for (p ∷ codes "replay" ∷ a ∷ b ∷ c ∷ d ∷ [])
+    ≡ asked_in (entered (built program_app) (Some (codes "replay", a ∷ b ∷ c ∷ d ∷ [])))
+unfolding asked_for clap_on_literals
+replay_bad_entered p a b c d = refl
+
+trace_bad_enters : (p a b c d : Text) → fault_of program_app (p ∷ codes "trace" ∷ a ∷ b ∷ c ∷ d ∷ [])
+    ≡ or_else (entered_fault (built program_app) (Some (codes "trace", a ∷ b ∷ c ∷ d ∷ []))) []
+unfolding clap_on_literals
+trace_bad_enters p a b c d = refl
+
+trace_bad_entered : (p a b c d : Text) → asked_for (p ∷ codes "trace" ∷ a ∷ b ∷ c ∷ d ∷ [])
+    ≡ asked_in (entered (built program_app) (Some (codes "trace", a ∷ b ∷ c ∷ d ∷ [])))
+unfolding asked_for clap_on_literals
+trace_bad_entered p a b c d = refl
+
+bad_rows : (run : ℕ → ℕ → Option ℕ → Asked) (name : Text) (d : ℕ) (ds : Text) (e : ℕ) (es : Text) (f : ℕ) (fs : Text)
+    → (d == 45) ≡ false → (d == 43) ≡ false → (e == 45) ≡ false → (e == 43) ≡ false → (f == 45) ≡ false → (f == 43) ≡ false
+    → script_of run (rows_after (script_shape name).rules [] (with_bad d ds e es f fs))
+    ≡ asked_by_numbers run (number_in 1 31 (d ∷ ds)) (number_in 1 65536 (e ∷ es)) (option_map (λ n. Some n) (number_in 0 65535 (f ∷ fs)))
+bad_rows run name d ds e es f fs hyphen plus hyphen' plus' hyphen″ plus″ =
+    simp (walked-plain d ds hyphen, walked-plain e es hyphen', walked-bad, walked-value f fs hyphen″)
+    (simp hyphen (simp plus (simp hyphen' (simp plus' (simp hyphen″ (simp plus″))))))
+
+bad_walk : (name : Text) (d : ℕ) (ds : Text) (e : ℕ) (es : Text) (f : ℕ) (fs : Text) → IsIn 1 31 d ds → IsIn 1 65536 e es → (f == 45) ≡ false
+    → walk_fault (script_shape name) [] (walk_from nothing_held) (with_bad d ds e es f fs) ≡ []
+bad_walk name d ds e es f fs m n hyphen =
+    simp (fault-plain d ds m.hyphen) (simp (fault-plain e es n.hyphen) (simp fault-bad (simp (fault-value f fs hyphen) (simp fault-end
+    (simp (m.hyphen, m.plus, m.some, m.first, m.rest, m.fits, m.low, m.high) (simp (n.hyphen, n.plus, n.some, n.first, n.rest, n.fits, n.low, n.high)))))))
+
+bad_last : (name : Text) (d : ℕ) (ds : Text) (e : ℕ) (es : Text) (f : ℕ) (fs : Text) → (d == 45) ≡ false → (e == 45) ≡ false → IsIn 0 65535 f fs
+    → settle_fault (script_shape name).rules (script_shape name).args_override_self
+    (walk (script_shape name).rules [] nothing_held (with_bad d ds e es f fs)).held ≡ []
+bad_last name d ds e es f fs hyphen hyphen' o =
+    simp (walked-plain d ds hyphen, walked-plain e es hyphen', walked-bad, walked-value f fs o.hyphen)
+    (simp (o.hyphen, o.plus, o.some, o.first, o.rest, o.fits, o.low, o.high))
+
+bad_defaults : (name : Text) (d : ℕ) (ds : Text) (e : ℕ) (es : Text) (f : ℕ) (fs : Text) → (d == 45) ≡ false → (e == 45) ≡ false → (f == 45) ≡ false
+    → defaults_fault (settled (script_shape name).rules (walk (script_shape name).rules [] nothing_held (with_bad d ds e es f fs)).held).rows
+    (script_shape name).rules ≡ []
+unfolding defaults_fault
+bad_defaults name d ds e es f fs hyphen hyphen' hyphen″ =
+    simp (walked-plain d ds hyphen, walked-plain e es hyphen', walked-bad, walked-value f fs hyphen″)
+
+bad_given : (name : Text) (d : ℕ) (ds : Text) (e : ℕ) (es : Text) (f : ℕ) (fs : Text) → (d == 45) ≡ false → (e == 45) ≡ false → (f == 45) ≡ false
+    → check_fault (script_shape name) (finished (script_shape name).rules (walk (script_shape name).rules [] nothing_held (with_bad d ds e es f fs)).held)
+    false ≡ []
+bad_given name d ds e es f fs hyphen hyphen' hyphen″ =
+    simp (walked-plain d ds hyphen, walked-plain e es hyphen', walked-bad, walked-value f fs hyphen″)
+
+bad_faults : (name : Text) (d : ℕ) (ds : Text) (e : ℕ) (es : Text) (f : ℕ) (fs : Text) → IsIn 1 31 d ds → IsIn 1 65536 e es → IsIn 0 65535 f fs
+    → level_fault (script_shape name) [] nothing_held (with_bad d ds e es f fs) false [] ≡ []
+bad_faults name d ds e es f fs m n o =
+    level_nothing (script_shape name) (with_bad d ds e es f fs) (bad_walk name d ds e es f fs m n o.hyphen)
+    (bad_last name d ds e es f fs m.hyphen n.hyphen o)
+    (bad_defaults name d ds e es f fs m.hyphen n.hyphen o.hyphen) (bad_given name d ds e es f fs m.hyphen n.hyphen o.hyphen)
+
+numbers_ask : (run : ℕ → ℕ → Option ℕ → Asked) (clients blocks bad : ℕ) (a b c : Option ℕ) → a ≡ Some clients → b ≡ Some blocks → c ≡ Some bad
+    → asked_by_numbers run a b (option_map (λ n. Some n) c) ≡ Some (run clients blocks (Some bad))
+numbers_ask run clients blocks bad a b c p q r = rw (p, q, r) refl
+
 not-true : (b : Bool) → not b ≡ true → b ≡ false
 not-true true is = sym is
 not-true false is = refl
@@ -215,7 +328,7 @@ number_is_in least most n (d ∷ ds) small is = (d, ds, refl, in_range least mos
 
 -- the program asks for what its words plainly ask for, and refuses nothing
 pub plain_asks : (asked : Asked) (words : List Text) → AsksPlainly asked words → (asked_for words ≡ Some asked) × (fault_of program_app words ≡ [])
-plain_asks (replay clients blocks) words plain =
+plain_asks (replay clients blocks None) words plain =
     let m = number_is_in 1 31 clients plain.1 (omega arith) plain.4 in
     let n = number_is_in 1 65536 blocks plain.2 (omega arith) plain.5 in
     let is : words ≡ plain.0 ∷ codes "replay" ∷ (m.0 ∷ m.1) ∷ (n.0 ∷ n.1) ∷ [] =
@@ -223,10 +336,28 @@ plain_asks (replay clients blocks) words plain =
     let first : number_in 1 31 (m.0 ∷ m.1) ≡ Some clients = ap (number_in 1 31) (sym m.2) ∙ plain.4 in
     let second : number_in 1 65536 (n.0 ∷ n.1) ≡ Some blocks = ap (number_in 1 65536) (sym n.2) ∙ plain.5 in (
       ap asked_for is ∙ (replay_asks plain.0 m.0 m.1 n.0 n.1 m.3.hyphen m.3.plus n.3.hyphen n.3.plus
-          ∙ (ap (option_and_then (λ c. option_map (replay c) (number_in 1 65536 (n.0 ∷ n.1)))) first ∙ ap (option_map (replay clients)) second)),
-      ap (fault_of program_app) is ∙ replay_passes plain.0 m.0 m.1 n.0 n.1 m.3 n.3,
+          ∙ (ap (λ (o : Option ℕ). asked_by_numbers replay o (number_in 1 65536 (n.0 ∷ n.1)) (Some None)) first
+          ∙ ap (λ (o : Option ℕ). asked_by_numbers replay (Some clients) o (Some None)) second)),
+      ap (fault_of program_app) is ∙ (replay_enters plain.0 (m.0 ∷ m.1) (n.0 ∷ n.1)
+          ∙ ap (λ (k : Kinds). or_else k []) (numbers_faults (codes "replay") m.0 m.1 n.0 n.1 m.3 n.3)),
     )
-plain_asks (trace clients blocks) words plain =
+plain_asks (replay clients blocks (Some bad)) words plain =
+    let m = number_is_in 1 31 clients plain.1 (omega arith) plain.5 in
+    let n = number_is_in 1 65536 blocks plain.2 (omega arith) plain.6 in
+    let o = number_is_in 0 65535 bad plain.3 (omega arith) plain.7 in
+    let is : words ≡ plain.0 ∷ codes "replay" ∷ with_bad m.0 m.1 n.0 n.1 o.0 o.1 =
+    plain.4 ∙ (ap₂ (λ (a b : Text). plain.0 ∷ codes "replay" ∷ a ∷ b ∷ codes "--bad" ∷ plain.3 ∷ []) m.2 n.2
+    ∙ ap (λ (c : Text). plain.0 ∷ codes "replay" ∷ (m.0 ∷ m.1) ∷ (n.0 ∷ n.1) ∷ codes "--bad" ∷ c ∷ []) o.2) in
+    let first : number_in 1 31 (m.0 ∷ m.1) ≡ Some clients = ap (number_in 1 31) (sym m.2) ∙ plain.5 in
+    let second : number_in 1 65536 (n.0 ∷ n.1) ≡ Some blocks = ap (number_in 1 65536) (sym n.2) ∙ plain.6 in
+    let third : number_in 0 65535 (o.0 ∷ o.1) ≡ Some bad = ap (number_in 0 65535) (sym o.2) ∙ plain.7 in (
+      ap asked_for is ∙ (replay_bad_entered plain.0 (m.0 ∷ m.1) (n.0 ∷ n.1) (codes "--bad") (o.0 ∷ o.1)
+          ∙ (bad_rows replay (codes "replay") m.0 m.1 n.0 n.1 o.0 o.1 m.3.hyphen m.3.plus n.3.hyphen n.3.plus o.3.hyphen o.3.plus
+          ∙ numbers_ask replay clients blocks bad _ _ _ first second third)),
+      ap (fault_of program_app) is ∙ (replay_bad_enters plain.0 (m.0 ∷ m.1) (n.0 ∷ n.1) (codes "--bad") (o.0 ∷ o.1)
+          ∙ ap (λ (k : Kinds). or_else k []) (bad_faults (codes "replay") m.0 m.1 n.0 n.1 o.0 o.1 m.3 n.3 o.3)),
+    )
+plain_asks (trace clients blocks None) words plain =
     let m = number_is_in 1 31 clients plain.1 (omega arith) plain.4 in
     let n = number_is_in 1 65536 blocks plain.2 (omega arith) plain.5 in
     let is : words ≡ plain.0 ∷ codes "trace" ∷ (m.0 ∷ m.1) ∷ (n.0 ∷ n.1) ∷ [] =
@@ -234,8 +365,26 @@ plain_asks (trace clients blocks) words plain =
     let first : number_in 1 31 (m.0 ∷ m.1) ≡ Some clients = ap (number_in 1 31) (sym m.2) ∙ plain.4 in
     let second : number_in 1 65536 (n.0 ∷ n.1) ≡ Some blocks = ap (number_in 1 65536) (sym n.2) ∙ plain.5 in (
       ap asked_for is ∙ (trace_asks plain.0 m.0 m.1 n.0 n.1 m.3.hyphen m.3.plus n.3.hyphen n.3.plus
-          ∙ (ap (option_and_then (λ c. option_map (trace c) (number_in 1 65536 (n.0 ∷ n.1)))) first ∙ ap (option_map (trace clients)) second)),
-      ap (fault_of program_app) is ∙ trace_passes plain.0 m.0 m.1 n.0 n.1 m.3 n.3,
+          ∙ (ap (λ (o : Option ℕ). asked_by_numbers trace o (number_in 1 65536 (n.0 ∷ n.1)) (Some None)) first
+          ∙ ap (λ (o : Option ℕ). asked_by_numbers trace (Some clients) o (Some None)) second)),
+      ap (fault_of program_app) is ∙ (trace_enters plain.0 (m.0 ∷ m.1) (n.0 ∷ n.1)
+          ∙ ap (λ (k : Kinds). or_else k []) (numbers_faults (codes "trace") m.0 m.1 n.0 n.1 m.3 n.3)),
+    )
+plain_asks (trace clients blocks (Some bad)) words plain =
+    let m = number_is_in 1 31 clients plain.1 (omega arith) plain.5 in
+    let n = number_is_in 1 65536 blocks plain.2 (omega arith) plain.6 in
+    let o = number_is_in 0 65535 bad plain.3 (omega arith) plain.7 in
+    let is : words ≡ plain.0 ∷ codes "trace" ∷ with_bad m.0 m.1 n.0 n.1 o.0 o.1 =
+    plain.4 ∙ (ap₂ (λ (a b : Text). plain.0 ∷ codes "trace" ∷ a ∷ b ∷ codes "--bad" ∷ plain.3 ∷ []) m.2 n.2
+    ∙ ap (λ (c : Text). plain.0 ∷ codes "trace" ∷ (m.0 ∷ m.1) ∷ (n.0 ∷ n.1) ∷ codes "--bad" ∷ c ∷ []) o.2) in
+    let first : number_in 1 31 (m.0 ∷ m.1) ≡ Some clients = ap (number_in 1 31) (sym m.2) ∙ plain.5 in
+    let second : number_in 1 65536 (n.0 ∷ n.1) ≡ Some blocks = ap (number_in 1 65536) (sym n.2) ∙ plain.6 in
+    let third : number_in 0 65535 (o.0 ∷ o.1) ≡ Some bad = ap (number_in 0 65535) (sym o.2) ∙ plain.7 in (
+      ap asked_for is ∙ (trace_bad_entered plain.0 (m.0 ∷ m.1) (n.0 ∷ n.1) (codes "--bad") (o.0 ∷ o.1)
+          ∙ (bad_rows trace (codes "trace") m.0 m.1 n.0 n.1 o.0 o.1 m.3.hyphen m.3.plus n.3.hyphen n.3.plus o.3.hyphen o.3.plus
+          ∙ numbers_ask trace clients blocks bad _ _ _ first second third)),
+      ap (fault_of program_app) is ∙ (trace_bad_enters plain.0 (m.0 ∷ m.1) (n.0 ∷ n.1) (codes "--bad") (o.0 ∷ o.1)
+          ∙ ap (λ (k : Kinds). or_else k []) (bad_faults (codes "trace") m.0 m.1 n.0 n.1 o.0 o.1 m.3 n.3 o.3)),
     )
 plain_asks (make [] blocks) words plain = absurd (true≢false (sym plain.3))
 plain_asks (make (d ∷ ds) blocks) words plain =

@@ -29,19 +29,20 @@ use Rattle.uasdisk.specs.declared.script.Line.{Line}
 use Rattle.uasdisk.specs.declared.script.Line.TheVariants as line
 use Rattle.uasdisk.specs.Printed.{refused_name, fault_name}
 use Rattle.uasdisk.specs.Told.{Telling, drain_limit, step_of, is_due, drained_machine, is_to_host, command_of, refused_run, freed_run, handed_over}
-use Rattle.uasdisk.specs.Told.{took_to_host, noted_run, is_brought_in, issued_run, with_range, submitted_by, submitted, managed_run, managed_by, managed, tag_of, ticket_of, replied}
+use Rattle.uasdisk.specs.Told.{took_to_host, noted_run, is_brought_in, issued_run, with_range, submitted_by, submitted, managed_run}
+use Rattle.uasdisk.specs.Told.{managed_by, managed, tag_of, ticket_of, replied}
 use Rattle.uasdisk.specs.Told.{taken, idle_run, stepped, taken_or_idle, taken_times, all_taken_by, taken_below, all_taken, drained_run, told_line}
-use Rattle.uasdisk.specs.Headline.{Said, line_of, replied as said_reply, refused_by_bus, refused_by_tags, idle as said_idle, news_to, own_lines}
+use Rattle.uasdisk.specs.Headline.{Said, line_of, replied as said_reply, refused_by_bus, refused_by_tags, idle as said_idle, deliveries_to, own_lines}
 use Rattle.uasdisk.proofs.Outcomes.{Untold, IsInner, inner_untold, IsTaken, take_told, MarksSubmission, IsSubmitted, submit_told, IsManaged, task_told}
 use Rattle.uasdisk.proofs.Goes.{Goes, IsNoted, goes_nowhere, goes_on, goes_saying, goes_by_step, is_to_host_by, shown_by, or-false}
 use Rattle.uasdisk.proofs.Notes.{flags_of, noted_after, ranges_noted, ticket_noted, freed_noted}
 
 -- NO NEWS
 
-untold_news : (outcome : Outcome) → Untold outcome → [] ≡ news_to outcome outcome.owner
-untold_news outcome untold = go outcome.owner
+untold_deliveries : (outcome : Outcome) → Untold outcome → [] ≡ deliveries_to outcome outcome.owner
+untold_deliveries outcome untold = go outcome.owner
   where
-    go : (owner : Option ℕ) → [] ≡ news_to outcome owner
+    go : (owner : Option ℕ) → [] ≡ deliveries_to outcome owner
     go None = refl
     go (Some client) = rw (untold.reply, untold.refused) refl
 
@@ -128,7 +129,7 @@ untold_goes isolated run taken is untold =
     goes_by_step isolated run (at_machine run (shared_step run.machine taken).0) taken [] (record {
       machine = refl;
       text = sym (append-nil run.text);
-      news = untold_news (shared_step run.machine taken).1 untold;
+      deliveries = untold_deliveries (shared_step run.machine taken).1 untold;
       noted = λ noted. noted;
       own = λ client. unshown run.brings_in client (shared_step run.machine taken).1 untold.reply;
       notes = λ noted client ticket. same_notes (is_brought_in run.brings_in client ticket) client ticket taken (shared_step run.machine taken).1 is;
@@ -186,7 +187,7 @@ taken_goes isolated run client = go (due run.machine (step.Take client)) refl
         goes_by_step isolated run (replied (at_machine run (takes run client).0) client (Some reply)) (step.Take client) (said ∷ []) (record {
           machine = refl;
           text = ap (λ (t : List ℕ). run.text ++ t) (sym (append-nil (line_of said)));
-          news = rw (told.owner, given, told.refused) refl;
+          deliveries = rw (told.owner, given, told.refused) refl;
           noted = λ noted. freed_noted (at_machine run (takes run client).0) client (tag_of reply) noted;
           own = λ other. reply_shown run.brings_in client other reply outcome told.owner given;
           notes = λ noted other ticket. same_notes (is_brought_in run.brings_in other ticket) other ticket (step.Take client) outcome tt;
@@ -371,14 +372,15 @@ given_goes isolated run client request tags now tag found next = go (shared_step
         client (is_to_host (direction_of request.op))) (step.Submit client tag tags.next (command_of request)) [] (record {
           machine = refl;
           text = sym (append-nil run.text);
-          news = untold_news outcome (record { reply = told.reply; refused = none });
+          deliveries = untold_deliveries outcome (record { reply = told.reply; refused = none });
           noted = ticket_noted run (noted_run (submitted_by_tags run client tag tags.next request now)
               client (is_to_host (direction_of request.op))) client tags now (is_to_host (direction_of request.op)) found next refl refl;
           own = λ other. unshown run.brings_in other outcome told.reply;
           notes = λ noted other ticket.
               let flags = flags_of run client tags noted found in
               noted_after run.brings_in client (is_to_host (direction_of request.op)) flags.flags flags.is other ticket
-              ∙ ap (λ (n : ℕ). is_brought_in run.brings_in other ticket || cond (client == other) (cond (n == ticket) (is_to_host (direction_of request.op)) false) false)
+              ∙ ap (λ (n : ℕ). is_brought_in run.brings_in other ticket || cond (client == other)
+              (cond (n == ticket) (is_to_host (direction_of request.op)) false) false)
               flags.count
               ∙ ap (λ (b : Bool). is_brought_in run.brings_in other ticket || b)
               (label_noted client other tags.next marked.0 ticket (command_of request) tag outcome told.owner marked.1);
@@ -392,7 +394,7 @@ given_goes isolated run client request tags now tag found next = go (shared_step
         (refused_by_bus client refusal.fault ∷ []) (record {
           machine = refl;
           text = ap (λ (t : List ℕ). run.text ++ t) (sym (append-nil (line_of (refused_by_bus client refusal.fault))));
-          news = rw (told.owner, told.reply, some) refl;
+          deliveries = rw (told.owner, told.reply, some) refl;
           noted = λ noted. freed_noted before client tag (ticket_noted run before client tags now false found next refl refl noted);
           own = λ other. unshown run.brings_in other outcome told.reply;
           notes = λ noted other ticket.
@@ -412,7 +414,8 @@ submitted_goes isolated run client request = go (slice_get run.ranges client) re
   where
     worn : (tags : ClientTags) (entry : ℕ) → slice_get run.ranges client ≡ Some tags → (b : Bool)
         → Goes run (issued_run (with_range run client
-        (cond {A = ClientTags × Result (ℕ × ℕ) Refused} b (tags, Err Worn) (one_more tags entry, Ok (tag_at TAGS tags.client (entry + 1), tags.next))).0) client request
+        (cond {A = ClientTags
+        × Result (ℕ × ℕ) Refused} b (tags, Err Worn) (one_more tags entry, Ok (tag_at TAGS tags.client (entry + 1), tags.next))).0) client request
         (cond {A = ClientTags × Result (ℕ × ℕ) Refused} b (tags, Err Worn) (one_more tags entry, Ok (tag_at TAGS tags.client (entry + 1), tags.next))).1)
     worn tags entry found true = refused_goes run client tags tags Worn found refl
     worn tags entry found false =
@@ -473,7 +476,7 @@ given_task_goes isolated run client task tags now tag found next = go (manages r
         goes_by_step isolated run before taken [] (record {
           machine = refl;
           text = sym (append-nil run.text);
-          news = untold_news outcome (record { reply = told.reply; refused = none });
+          deliveries = untold_deliveries outcome (record { reply = told.reply; refused = none });
           noted = ticket_noted run before client tags now false found next refl refl;
           own = λ other. unshown run.brings_in other outcome told.reply;
           notes = notes;
@@ -483,7 +486,7 @@ given_task_goes isolated run client task tags now tag found next = go (manages r
         (refused_by_bus client refusal.fault ∷ []) (record {
           machine = refl;
           text = ap (λ (t : List ℕ). run.text ++ t) (sym (append-nil (line_of (refused_by_bus client refusal.fault))));
-          news = rw (told.owner, told.reply, some) refl;
+          deliveries = rw (told.owner, told.reply, some) refl;
           noted = λ noted. freed_noted before client tag (ticket_noted run before client tags now false found next refl refl noted);
           own = λ other. unshown run.brings_in other outcome told.reply;
           notes = notes;
@@ -506,7 +509,8 @@ managed_goes isolated run client task = go (slice_get run.ranges client) refl
 
     busy : (tags : ClientTags) → slice_get run.ranges client ≡ Some tags → (b : Bool)
         → Goes run (managed_run (with_range run client (cond {A = ClientTags × Result (ℕ × ℕ) Refused} b (tags, Err TaskBusy)
-        (cond {A = ClientTags × Result (ℕ × ℕ) Refused} (is_worn tags) (tags, Err Worn) (task_out tags, Ok (task_tag TAGS tags.client, tags.next)))).0) client task
+        (cond {A = ClientTags
+        × Result (ℕ × ℕ) Refused} (is_worn tags) (tags, Err Worn) (task_out tags, Ok (task_tag TAGS tags.client, tags.next)))).0) client task
         (cond {A = ClientTags × Result (ℕ × ℕ) Refused} b (tags, Err TaskBusy)
         (cond {A = ClientTags × Result (ℕ × ℕ) Refused} (is_worn tags) (tags, Err Worn) (task_out tags, Ok (task_tag TAGS tags.client, tags.next)))).1)
     busy tags found true = refused_goes run client tags tags TaskBusy found refl

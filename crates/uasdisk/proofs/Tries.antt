@@ -14,7 +14,8 @@ tried-append now [] more = refl
 tried-append now (step ∷ steps) more = tried-append (tried_one now step) steps more
 
 -- one more try of a kind
-pub tried-suc : (kind : ℕ → Step) (now : Shared × ℕ) (count first : ℕ) → tried now (map kind (range_with_len first (suc count))) ≡ tried_one (tried now (map kind (range_with_len first count))) (kind (first + count))
+pub tried-suc : (kind : ℕ → Step) (now : Shared × ℕ) (count first : ℕ)
+    → tried now (map kind (range_with_len first (suc count))) ≡ tried_one (tried now (map kind (range_with_len first count))) (kind (first + count))
 tried-suc kind now zero first = let e : first ≡ first + 0 = omega arith in ap (λ n. tried_one now (kind n)) e
 tried-suc kind now (suc count) first =
     let e : first + 1 + count ≡ first + suc count = omega arith in
@@ -50,14 +51,17 @@ round-parts now tags count moves sends on_status on_data_in after counted moves-
     ∙ ap (λ n. tried now (tries_of n)) counted
 
 -- one more tag was tried
-pub tried-next : (kind : ℕ → Step) (now : Shared × ℕ) (count : ℕ) (at after : Shared × ℕ) → at ≡ tried now (map kind (range_with_len 1 count)) → after ≡ tried_one at (kind (count + 1)) →
+pub tried-next : (kind : ℕ → Step) (now : Shared × ℕ) (count : ℕ) (at after : Shared × ℕ) → at ≡ tried now (map kind (range_with_len 1 count))
+    → after ≡ tried_one at (kind (count + 1)) →
     after ≡ tried now (map kind (range_with_len 1 (count + 1)))
 tried-next kind now count at after at-is after-is =
     let e : 1 + count ≡ count + 1 = omega arith in
-    rw add-one (after-is ∙ ap (λ n. tried_one n (kind (count + 1))) at-is ∙ ap (λ n. tried_one (tried now (map kind (range_with_len 1 count))) (kind n)) (sym e) ∙ sym (tried-suc kind now count 1))
+    rw add-one (after-is ∙ ap (λ n. tried_one n (kind (count + 1))) at-is
+    ∙ ap (λ n. tried_one (tried now (map kind (range_with_len 1 count))) (kind n)) (sym e) ∙ sym (tried-suc kind now count 1))
 
 -- a round that isn't the last
-pub rounds-on : (more : ℕ) (now : Shared × ℕ) → ((round now).1 == 0) ≡ false → ((round now).1 == now.1) ≡ false → rounds (suc (suc more)) now ≡ rounds (suc more) (round now)
+pub rounds-on : (more : ℕ) (now : Shared × ℕ) → ((round now).1 == 0) ≡ false → ((round now).1 == now.1) ≡ false
+    → rounds (suc (suc more)) now ≡ rounds (suc more) (round now)
 unfolding rounds
 rounds-on more now some fewer = rw (some, fewer) refl
 

@@ -18,7 +18,7 @@ unfolding told
 told_by opens units lines it = record {
   machine = sym it.machine;
   text = it.text;
-  news = it.news;
+  deliveries = it.deliveries;
   own = λ client unit found.
       (it.own (opening_noted units) client [] (opening_knows units client)).0
       ∙ ap (λ (s : SoloState). solo_lines s [] (labels_in (opening units) it.steps client)) (opens units client unit found);

@@ -17,20 +17,20 @@ use Rattle.uasdisk.specs.declared.words.Run.{Run}
 use Rattle.uasdisk.specs.declared.words.Run.TheVariants.{Replay, Trace, Make, Info, Dump, Fill}
 use Rattle.uasdisk.specs.Words.{number_in}
 
--- What is asked for, with a file's name as its text: to run a script of so many clients and blocks, to run one and show its
--- steps, to make an image of so many blocks, to tell the size of one, to print its blocks from a number on, so many of them, or
--- to fill them with a byte.
+-- What is asked for, with a file's name as its text: to run a script of so many clients and blocks, and of the block that is bad in
+-- every unit, if one is; to run one and show its steps; to make an image of so many blocks, to tell the size of one, to print its
+-- blocks from a number on, so many of them, or to fill them with a byte.
 pub data Asked : Type 0 where
-  replay : ℕ → ℕ → Asked
-  trace : ℕ → ℕ → Asked
+  replay : ℕ → ℕ → Option ℕ → Asked
+  trace : ℕ → ℕ → Option ℕ → Asked
   make : Text → ℕ → Asked
   info : Text → Asked
   dump : Text → ℕ → ℕ → Asked
   fill : Text → ℕ → ℕ → ℕ → Asked
 
 abbrev pub asked_by : Run → Asked
-asked_by (Replay clients blocks) = replay clients blocks
-asked_by (Trace clients blocks) = trace clients blocks
+asked_by (Replay clients blocks bad) = replay clients blocks bad
+asked_by (Trace clients blocks bad) = trace clients blocks bad
 asked_by (Make file blocks) = make file.now blocks
 asked_by (Info file) = info file.now
 asked_by (Dump file extent) = dump file.now extent.lba extent.count
@@ -49,6 +49,19 @@ clients_of rows = option_and_then (number_of 1 MAX_CLIENTS) (one_of (codes "CLIE
 -- BLOCKS is a number from 1 to 65,536
 abbrev pub blocks_of : List Row → Option ℕ
 blocks_of rows = option_and_then (number_of 1 MAX_BLOCKS) (one_of (codes "BLOCKS") rows)
+
+-- the greatest number of a block that a unit can have
+abbrev pub last_block : ℕ
+last_block = 65535
+
+-- What an option's number comes to: none where the option isn't there. A word that is no number of this range comes to nothing.
+abbrev pub optional_number : ℕ → ℕ → Option Text → Option (Option ℕ)
+optional_number least most None = Some None
+optional_number least most (Some word) = option_map (λ number. Some number) (number_of least most word)
+
+-- `--bad LBA` may stand or not, and LBA is a number from 0 to 65,535
+abbrev pub bad_of : List Row → Option (Option ℕ)
+bad_of rows = optional_number 0 last_block (one_of (codes "bad") rows)
 
 -- the greatest number of a block that a CDB can name, which needs no block of the unit
 abbrev pub max_lba : ℕ
@@ -70,6 +83,11 @@ byte_of rows = option_and_then (number_of 0 255) (one_of (codes "BYTE") rows)
 abbrev pub file_of : List Row → Option Text
 file_of rows = first_of (codes "FILE") rows
 
+-- CLIENTS BLOCKS [--bad LBA]
+abbrev pub script_of : (ℕ → ℕ → Option ℕ → Asked) → List Row → Option Asked
+script_of run rows =
+    option_and_then (λ clients. option_and_then (λ blocks. option_map (run clients blocks) (bad_of rows)) (blocks_of rows)) (clients_of rows)
+
 -- FILE LBA COUNT
 abbrev pub dump_of : List Row → Option Asked
 dump_of rows = option_and_then (λ file. option_and_then (λ lba. option_map (dump file lba) (count_of rows)) (lba_of rows)) (file_of rows)
@@ -84,9 +102,9 @@ fill_of rows =
 abbrev pub asked_of : Text → List Row → Option Asked
 asked_of name rows =
     if bytes_eq name (codes "replay")
-    then option_and_then (λ clients. option_map (replay clients) (blocks_of rows)) (clients_of rows)
+    then script_of replay rows
     else (if bytes_eq name (codes "trace")
-    then option_and_then (λ clients. option_map (trace clients) (blocks_of rows)) (clients_of rows)
+    then script_of trace rows
     else (if bytes_eq name (codes "make")
     then option_and_then (λ file. option_map (make file) (blocks_of rows)) (file_of rows)
     else (if bytes_eq name (codes "info") then option_map info (file_of rows)
@@ -123,9 +141,18 @@ count_rule = number_rule (codes "COUNT") 1 MOST_BLOCKS_MOVED
 abbrev pub byte_rule : Rule
 byte_rule = number_rule (codes "BYTE") 0 255
 
--- a subcommand that runs a script: NAME CLIENTS BLOCKS
+-- the option `--bad LBA`
+abbrev pub bad_rule : Rule
+bad_rule = record (new_rule (codes "bad")) {
+  long = Some (codes "bad");
+  action = Some Set;
+  value_names = 1;
+  parser = Some (parser.Signed (pos 0) (pos last_block));
+}
+
+-- a subcommand that runs a script: NAME CLIENTS BLOCKS [--bad LBA]
 abbrev pub script_app : Text → App
-script_app name = with_rule (with_rule (new_app name) clients_rule) blocks_rule
+script_app name = with_rule (with_rule (with_rule (new_app name) clients_rule) blocks_rule) bad_rule
 
 abbrev pub replay_app : App
 replay_app = script_app (codes "replay")
@@ -179,12 +206,18 @@ abbrev pub is_plain_name : Text → Bool
 is_plain_name [] = false
 is_plain_name (byte ∷ bytes) = not (byte == 45)
 
--- The words ask for a run in their plain form: a subcommand and its arguments, each number in decimal digits.
+-- the words ask to run a script by the subcommand of this name: `NAME CLIENTS BLOCKS`, or `NAME CLIENTS BLOCKS --bad LBA`
+abbrev pub AsksScript : Text → ℕ → ℕ → Option ℕ → List Text → Type 0
+AsksScript name clients blocks None words = (program first second : Text) × (words ≡ program ∷ name ∷ first ∷ second ∷ [])
+    × (number_in 1 MAX_CLIENTS first ≡ Some clients) × (number_in 1 MAX_BLOCKS second ≡ Some blocks)
+AsksScript name clients blocks (Some bad) words =
+    (program first second third : Text) × (words ≡ program ∷ name ∷ first ∷ second ∷ codes "--bad" ∷ third ∷ [])
+    × (number_in 1 MAX_CLIENTS first ≡ Some clients) × (number_in 1 MAX_BLOCKS second ≡ Some blocks) × (number_in 0 last_block third ≡ Some bad)
+
+-- The words ask for a run in their plain form: a subcommand and its arguments, each number in decimal digits, and an option after them.
 abbrev pub AsksPlainly : Asked → List Text → Type 0
-AsksPlainly (replay clients blocks) words = (program first second : Text) × (words ≡ program ∷ codes "replay" ∷ first ∷ second ∷ [])
-    × (number_in 1 MAX_CLIENTS first ≡ Some clients) × (number_in 1 MAX_BLOCKS second ≡ Some blocks)
-AsksPlainly (trace clients blocks) words = (program first second : Text) × (words ≡ program ∷ codes "trace" ∷ first ∷ second ∷ [])
-    × (number_in 1 MAX_CLIENTS first ≡ Some clients) × (number_in 1 MAX_BLOCKS second ≡ Some blocks)
+AsksPlainly (replay clients blocks bad) words = AsksScript (codes "replay") clients blocks bad words
+AsksPlainly (trace clients blocks bad) words = AsksScript (codes "trace") clients blocks bad words
 AsksPlainly (make file blocks) words = (program second : Text) × (words ≡ program ∷ codes "make" ∷ file ∷ second ∷ [])
     × (is_plain_name file ≡ true) × (number_in 1 MAX_BLOCKS second ≡ Some blocks)
 AsksPlainly (info file) words = (program : Text) × (words ≡ program ∷ codes "info" ∷ file ∷ []) × (is_plain_name file ≡ true)
@@ -199,8 +232,8 @@ AsksPlainly (fill file lba count byte) words =
 
 -- A run ends with 0, 3 or 4, and one that submits commands with 1 too.
 abbrev pub MayEndRun : Asked → ℕ → Type 0
-MayEndRun (replay clients blocks) status = (status ≤ 1) ⊎ ((status ≡ 3) ⊎ (status ≡ 4))
-MayEndRun (trace clients blocks) status = (status ≤ 1) ⊎ ((status ≡ 3) ⊎ (status ≡ 4))
+MayEndRun (replay clients blocks bad) status = (status ≤ 1) ⊎ ((status ≡ 3) ⊎ (status ≡ 4))
+MayEndRun (trace clients blocks bad) status = (status ≤ 1) ⊎ ((status ≡ 3) ⊎ (status ≡ 4))
 MayEndRun (make file blocks) status = (status ≡ 0) ⊎ ((status ≡ 3) ⊎ (status ≡ 4))
 MayEndRun (info file) status = (status ≡ 0) ⊎ ((status ≡ 3) ⊎ (status ≡ 4))
 MayEndRun (dump file lba count) status = (status ≤ 1) ⊎ ((status ≡ 3) ⊎ (status ≡ 4))

@@ -30,11 +30,12 @@ pub record World : Type 0 where
   pub input : Option (List ℕ)
   pub output : Option (List ℕ)
 
--- `replay CLIENTS BLOCKS`: the script on standard input is told on standard output, of so many clients and blocks.
-pub record ReplayEnds (clients blocks : ℕ) (host : Host) (old new : World) (status : ℕ) : Type 0 where
+-- `replay CLIENTS BLOCKS [--bad LBA]`: the script on standard input is told on standard output, of so many clients and blocks, and of the
+-- block that is bad in every unit, if one is.
+pub record ReplayEnds (clients blocks : ℕ) (bad : Option ℕ) (host : Host) (old new : World) (status : ℕ) : Type 0 where
   pub statuses : (status ≤ 1) ⊎ ((status ≡ 3) ⊎ (status ≡ 4))
   pub told : status ≤ 1 → IfSome old.input (λ bytes.
-      Tells (zeroed_units clients blocks) (script clients bytes) old.output new.output status)
+      Tells (zeroed_units clients blocks bad) (script clients bytes) old.output new.output status)
   pub read : status ≤ 1 → IsTrue host.has_input × IsAtEnd new.input
   pub fault : status ≡ 3 →
       ((IfSome old.input (λ bytes. IsErr (script clients bytes)) ⊎ IsTrue host.input_can_fail) × Keeps old.output new.output)
@@ -42,11 +43,11 @@ pub record ReplayEnds (clients blocks : ℕ) (host : Host) (old new : World) (st
   pub memory : status ≡ 4 → Keeps old.output new.output
   pub files : new.holds ≡ old.holds
 
--- `trace CLIENTS BLOCKS`: as `replay`, but that standard output gets its text while the script runs.
-pub record TraceEnds (clients blocks : ℕ) (host : Host) (old new : World) (status : ℕ) : Type 0 where
+-- `trace CLIENTS BLOCKS [--bad LBA]`: as `replay`, but that standard output gets its text while the script runs.
+pub record TraceEnds (clients blocks : ℕ) (bad : Option ℕ) (host : Host) (old new : World) (status : ℕ) : Type 0 where
   pub statuses : (status ≤ 1) ⊎ ((status ≡ 3) ⊎ (status ≡ 4))
   pub traced : status ≤ 1 → IfSome old.input (λ bytes.
-      Traces (zeroed_units clients blocks) (script clients bytes) status)
+      Traces (zeroed_units clients blocks bad) (script clients bytes) status)
   pub read : status ≤ 1 → IsTrue host.has_input × IsAtEnd new.input
   pub fault : status ≡ 3 →
       ((IfSome old.input (λ bytes. IsErr (script clients bytes)) ⊎ IsTrue host.input_can_fail) × Keeps old.output new.output)
@@ -107,8 +108,8 @@ pub record FillEnds (file : Text) (lba count byte : ℕ) (host : Host) (old new 
 
 -- how what the words ask for ends
 abbrev pub Ends : Asked → Host → World → World → ℕ → Type 0
-Ends (replay clients blocks) host old new status = ReplayEnds clients blocks host old new status
-Ends (trace clients blocks) host old new status = TraceEnds clients blocks host old new status
+Ends (replay clients blocks bad) host old new status = ReplayEnds clients blocks bad host old new status
+Ends (trace clients blocks bad) host old new status = TraceEnds clients blocks bad host old new status
 Ends (make file blocks) host old new status = MakeEnds file blocks host old new status
 Ends (info file) host old new status = InfoEnds file host old new status
 Ends (dump file lba count) host old new status = DumpEnds file lba count host old new status

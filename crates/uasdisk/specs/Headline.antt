@@ -38,33 +38,33 @@ abbrev pub text_of : List Said → List ℕ
 text_of [] = []
 text_of (said ∷ rest) = line_of said ++ text_of rest
 
--- NEWS: what a step of the bus tells a client
+-- DELIVERIES: what a step of the bus tells a client
 
-pub data News : Type 0 where
-  reply_to : ℕ → Reply → News
-  refusal_to : ℕ → SubmitFault → News
+pub data Delivery : Type 0 where
+  reply_to : ℕ → Reply → Delivery
+  refusal_to : ℕ → SubmitFault → Delivery
 
--- the news in a line: a client's own tags and an idle step are none
-abbrev pub news_said : Said → List News
-news_said (replied client brings_in reply) = reply_to client reply ∷ []
-news_said (refused_by_bus client fault) = refusal_to client fault ∷ []
-news_said (refused_by_tags client refused) = []
-news_said idle = []
+-- what is delivered in a line: a client's own tags and an idle step are none
+abbrev pub deliveries_said : Said → List Delivery
+deliveries_said (replied client brings_in reply) = reply_to client reply ∷ []
+deliveries_said (refused_by_bus client fault) = refusal_to client fault ∷ []
+deliveries_said (refused_by_tags client refused) = []
+deliveries_said idle = []
 
-abbrev pub all_news_said : List Said → List News
-all_news_said [] = []
-all_news_said (said ∷ rest) = news_said said ++ all_news_said rest
+abbrev pub all_deliveries_said : List Said → List Delivery
+all_deliveries_said [] = []
+all_deliveries_said (said ∷ rest) = deliveries_said said ++ all_deliveries_said rest
 
--- the news in an outcome, which is to its owner
-abbrev pub news_to : Outcome → Option ℕ → List News
-news_to outcome None = []
-news_to outcome (Some client) =
+-- what is delivered in an outcome, which is to its owner
+abbrev pub deliveries_to : Outcome → Option ℕ → List Delivery
+deliveries_to outcome None = []
+deliveries_to outcome (Some client) =
     option_to_list (option_map (reply_to client) outcome.reply)
     ++ option_to_list (option_map (λ refused. refusal_to client refused.fault) outcome.refused)
 
-abbrev pub all_news : List Outcome → List News
-all_news [] = []
-all_news (outcome ∷ outcomes) = news_to outcome outcome.owner ++ all_news outcomes
+abbrev pub all_deliveries : List Outcome → List Delivery
+all_deliveries [] = []
+all_deliveries (outcome ∷ outcomes) = deliveries_to outcome outcome.owner ++ all_deliveries outcomes
 
 -- A CLIENT'S OWN LINES
 
@@ -127,7 +127,7 @@ reply_lines_to client (said ∷ rest) = option_to_list (reply_line_to client sai
 pub record IsToldBy (units : List BlockMaps) (lines : List Line) (steps : List Step) (said : List Said) : Type 0 where
   pub machine : (whole_run units lines).machine ≡ (replay units steps).0
   pub text : (told units lines).0 ≡ text_of said
-  pub news : all_news_said said ≡ all_news (replay units steps).1
+  pub deliveries : all_deliveries_said said ≡ all_deliveries (replay units steps).1
   pub own : (client : ℕ) (unit : BlockMaps) → slice_get units client ≡ Some unit
       → own_lines client said ≡ solo_lines (solo_opening unit) [] (own_labels client steps (replay units steps).1)
 

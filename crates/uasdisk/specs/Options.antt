@@ -1,5 +1,5 @@
 -- What the words of the command line ask for.
-use Rattle.std.specs.Prelude.{ℕ, ◌≤◌}
+use Rattle.std.specs.Prelude.{ℕ, ◌≤◌, ◌<◌, IfSome}
 use Rattle.block_unit.specs.declared.TheConstants.{MAX_BLOCKS}
 use Rattle.bus_core.specs.declared.TheConstants.{MAX_CLIENTS}
 use Rattle.scsi_cmd.specs.declared.TheConstants.{MOST_BLOCKS_MOVED}
@@ -14,14 +14,18 @@ AreClients clients = (1 ≤ clients) × (clients ≤ MAX_CLIENTS)
 abbrev pub AreBlocks : ℕ → Type 0
 AreBlocks blocks = (1 ≤ blocks) × (blocks ≤ MAX_BLOCKS)
 
+-- a unit's blocks have numbers from 0 to 65,535
+abbrev pub IsBlock : ℕ → Type 0
+IsBlock block = block < MAX_BLOCKS
+
 -- one READ or WRITE is of 1 to 128 blocks
 abbrev pub IsMoved : ℕ → Type 0
 IsMoved count = (1 ≤ count) × (count ≤ MOST_BLOCKS_MOVED)
 
 -- each number is in its range
 abbrev pub IsInRange : Run → Type 0
-IsInRange (Replay clients blocks) = AreClients clients × AreBlocks blocks
-IsInRange (Trace clients blocks) = AreClients clients × AreBlocks blocks
+IsInRange (Replay clients blocks bad) = AreClients clients × AreBlocks blocks × IfSome bad IsBlock
+IsInRange (Trace clients blocks bad) = AreClients clients × AreBlocks blocks × IfSome bad IsBlock
 IsInRange (Make file blocks) = AreBlocks blocks
 IsInRange (Info file) = Unit {0}
 IsInRange (Dump file extent) = IsMoved extent.count

@@ -18,7 +18,6 @@ use Rattle.uasdisk.specs.declared.script.LineFault.{LineFault}
 use Rattle.uasdisk.specs.declared.script.LineFault.TheVariants.{NotAscii, UnknownWord, WrongNumberOfWords, NumberOutOfRange}
 use Rattle.uasdisk.specs.declared.script.ScriptFault.{ScriptFault}
 use Rattle.uasdisk.specs.declared.script.ScriptFault.TheVariants.{TooLong, Line as FaultyLine}
-use Rattle.uasdisk.specs.declared.script.Request.{Request}
 use Rattle.uasdisk.specs.declared.script.RequestName.{RequestName}
 use Rattle.uasdisk.specs.declared.script.RequestName.TheVariants.{Tur as TurName, Inquiry as InquiryName, Capacity as CapacityName, Read as ReadName}
 use Rattle.uasdisk.specs.declared.script.RequestName.TheVariants.{Write as WriteName, Sync as SyncName, Abort as AbortName, Reset as ResetName}

@@ -1,5 +1,5 @@
 -- What a script tells: the text that its run prints, and a number.
-use Rattle.std.specs.Prelude.{ℕ, zero, suc, Bool, true, false, ◌||◌, if◌then◌else◌, List, [], ◌∷◌, ◌++◌, length, fold, replicate, slice_get}
+use Rattle.std.specs.Prelude.{ℕ, zero, suc, Bool, true, false, ◌||◌, if◌then◌else◌, List, [], ◌∷◌, ◌++◌, length, fold, replicate, slice_get, option_to_list}
 use Rattle.std.specs.Prelude.{slice_set, slice_index_or, Option, Some, None, Result, Ok, Err}
 use Rattle.std.specs.Option.{option_map_or}
 use Rattle.block_unit.specs.BlockMaps.{BlockMaps, fresh}
@@ -38,9 +38,9 @@ pub record Telling : Type 0 where
   pub text : List ℕ
   pub failed : Bool
 
--- so many units of zeroed blocks
-abbrev pub zeroed_units : ℕ → ℕ → List BlockMaps
-zeroed_units clients blocks = replicate clients (fresh blocks [])
+-- so many units of zeroed blocks, in each of which this block is bad where the unit has it
+abbrev pub zeroed_units : ℕ → ℕ → Option ℕ → List BlockMaps
+zeroed_units clients blocks bad = replicate clients (fresh blocks (option_to_list bad))
 
 -- the tags of the clients below this number, none of them out
 abbrev pub opening_ranges : ℕ → List ClientTags

@@ -1,6 +1,7 @@
 //! Image files: the bytes of a unit's blocks, in their order.
 
-ghost use Rattle.std.specs.Prelude.{◌≡◌, ℕ, ◌+◌, ◌-◌, ◌*◌, ◌≤◌, ◌<◌, ◌++◌, ◌⊎◌, length, true, false, Ok, Err, IsTrue, IsErr, IfOk, IfErr, OnOk, IfSome, MatchResult};
+ghost use Rattle.std.specs.Prelude.{◌≡◌, ℕ, ◌+◌, ◌-◌, ◌*◌, ◌≤◌, ◌<◌, ◌++◌, ◌⊎◌, length, true, false, Ok, Err, IsTrue, IsErr, IfOk, IfErr};
+ghost use Rattle.std.specs.Prelude.{OnOk, IfSome, MatchResult};
 ghost use Rattle.std.specs.Io.KnownBytes.{Consumes, Appends, Keeps, IsAtEnd};
 ghost use Rattle.std.specs.String.{string_bytes};
 ghost use Rattle.uasdisk.specs.Images.{blocks_in, info_text, made_text, made_image, max_image_bytes};
@@ -71,7 +72,8 @@ pub fn run_info<S: Source, O: Sink, W: Write>(
     ensures done { result ≡ 0 → IfSome (S.left source.old) (λ bytes.
         InfoPrints (blocks_in bytes) (O.written output.old) (O.written output.new)) }
     ensures there { result ≡ 0 → IsTrue (S.is_there source.old) }
-    ensures fault { result ≡ 3 → (((IfSome (S.left source.old) (λ bytes. IsErr (blocks_in bytes)) × IsTrue (S.is_there source.old)) ⊎ IsTrue (S.can_fail source.old))
+    ensures fault { result ≡ 3
+        → (((IfSome (S.left source.old) (λ bytes. IsErr (blocks_in bytes)) × IsTrue (S.is_there source.old)) ⊎ IsTrue (S.can_fail source.old))
         × Keeps (O.written output.old) (O.written output.new)) ⊎ IsTrue (O.can_fail output.old) }
     ensures memory { result ≡ 4 → Keeps (O.written output.old) (O.written output.new) }
     ensures quiet { result ≡ 0 → faults.new ≡ faults.old }

@@ -1,13 +1,15 @@
 //! The program: disks of many clients over USB Attached SCSI, from the words of a command line to an exit status.
 //!
 //! ```text
-//! uasdisk replay CLIENTS BLOCKS < script     runs a script on zeroed units, one for each client
-//! uasdisk trace CLIENTS BLOCKS < script      the same, and prints each step with the bytes that it wrote
-//! uasdisk make FILE BLOCKS                   makes an image of zeroed blocks
-//! uasdisk info FILE                          tells how many blocks an image has
-//! uasdisk dump FILE LBA COUNT                prints blocks of an image, by one READ
-//! uasdisk fill FILE LBA COUNT BYTE           fills blocks of an image with a byte, by one WRITE
+//! uasdisk replay CLIENTS BLOCKS [--bad LBA] < script     runs a script on zeroed units, one for each client
+//! uasdisk trace CLIENTS BLOCKS [--bad LBA] < script      the same, and prints each step with the bytes that it wrote
+//! uasdisk make FILE BLOCKS                               makes an image of zeroed blocks
+//! uasdisk info FILE                                      tells how many blocks an image has
+//! uasdisk dump FILE LBA COUNT                            prints blocks of an image, by one READ
+//! uasdisk fill FILE LBA COUNT BYTE                       fills blocks of an image with a byte, by one WRITE
 //! ```
+//!
+//! With `--bad LBA` the block of this number can neither be read nor written, in every unit that has it.
 //!
 //! A line of a script submits a command or a task management for a client, takes one step of the bus, or drains it; what
 //! replies and refusals came of it is printed. A command on an image is submitted, drained and answered on a bus of its own. The exit status is 0

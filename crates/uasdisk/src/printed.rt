@@ -3,7 +3,8 @@
 ghost use Rattle.std.specs.Prelude.{◌≡◌, ℕ, ◌≤◌, ◌++◌, [], length, take, codes, IfOk, OnOk, vec_len};
 ghost use Rattle.hex.specs.Hex.{encode_lower};
 ghost use Rattle.std.specs.String.{string_bytes};
-ghost use Rattle.uasdisk.specs.Printed.{line_start, shown_bytes, good_line, hex_at, sense_line, check_line, aborted_line, task_line, bytes_in, reply_line, is_failure, fault_name, refused_name, refusal_line, idle_line};
+ghost use Rattle.uasdisk.specs.Printed.{line_start, shown_bytes, good_line, hex_at, sense_line, check_line, aborted_line, task_line};
+ghost use Rattle.uasdisk.specs.Printed.{bytes_in, reply_line, is_failure, fault_name, refused_name, refusal_line, idle_line};
 
 use scsi_cmd::{GOOD, Reply, SubmitFault};
 use std::alloc::{AllocError, Global};

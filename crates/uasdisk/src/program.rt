@@ -55,18 +55,32 @@ pub fn run_words<F: Files, S: Source, O: Sink, W: Write>(
     ensures quiet { may_show_progress ≡ false → result ≡ 0 → faults.new ≡ faults.old }
 {
     match run_of(alloc, words) {
-        Ok(Run::Replay { clients, blocks }) => run_script(
+        Ok(
+            Run::Replay {
+                clients,
+                blocks,
+                bad,
+            },
+        ) => run_script(
             alloc,
             usize::from(clients),
             blocks,
+            bad,
             input,
             output,
             faults,
         ),
-        Ok(Run::Trace { clients, blocks }) => run_trace(
+        Ok(
+            Run::Trace {
+                clients,
+                blocks,
+                bad,
+            },
+        ) => run_trace(
             alloc,
             usize::from(clients),
             blocks,
+            bad,
             input,
             output,
             faults,

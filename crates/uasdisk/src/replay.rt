@@ -2,7 +2,8 @@
 
 ghost use Rattle.bus_core.specs.declared.TheConstants.{MAX_CLIENTS};
 ghost use Rattle.block_unit.specs.declared.TheConstants.{MAX_BLOCKS};
-ghost use Rattle.std.specs.Prelude.{◌≡◌, ℕ, ◌+◌, ◌*◌, ◌≤◌, ◌<◌, ◌^◌, ◌++◌, ◌∷◌, [], Bool, List, length, fold, replicate, slice_index_or, false, IfOk, OnOk, vec_len};
+ghost use Rattle.std.specs.Prelude.{◌≡◌, ℕ, ◌+◌, ◌*◌, ◌≤◌, ◌<◌, ◌^◌, ◌++◌, ◌∷◌, [], Bool, List, option_to_list, length, fold, replicate};
+ghost use Rattle.std.specs.Prelude.{slice_index_or, false, IfOk, OnOk, vec_len};
 ghost use Rattle.scsi_cmd.specs.Op.{direction_of};
 ghost use Rattle.uasdisk.specs.Told.{zeroed_units, opening_ranges, tag_of, ticket_of, command_of, is_to_host, took_to_host, told};
 
@@ -93,19 +94,26 @@ impl Model for ScriptRun {
 
 impl ScriptRun {
     ghost use Rattle.bus_core.specs.Bus.{HasTicket};
-    ghost use Rattle.uasdisk.specs.Told.{zeroed_units, opening_run, step_of, is_due, drained_machine, refused_run, freed_run, handed_over, noted_run, is_brought_in, issued_run, submitted, managed_run, managed, replied, taken, idle_run, stepped, taken_or_idle, all_taken_by, all_taken, drained_run, told_line};
+    ghost use Rattle.uasdisk.specs.Told.{zeroed_units, opening_run, step_of, is_due, drained_machine, refused_run, freed_run, handed_over};
+    ghost use Rattle.uasdisk.specs.Told.{noted_run, is_brought_in, issued_run, submitted, managed_run, managed, replied, taken, idle_run};
+    ghost use Rattle.uasdisk.specs.Told.{stepped, taken_or_idle, all_taken_by, all_taken, drained_run, told_line};
 
     /// The run before its first line, of 1 to 31 clients on units of 1 to 65,536 zeroed blocks.
-    pub fn new(alloc: Global, clients: usize, blocks: u32) -> Result<ScriptRun, AllocError>
+    pub fn new(
+        alloc: Global,
+        clients: usize,
+        blocks: u32,
+        bad: Option<u32>,
+    ) -> Result<ScriptRun, AllocError>
         requires some_clients { 1 ≤ clients }
         requires most_clients { clients ≤ MAX_CLIENTS }
         requires some_blocks { 1 ≤ blocks }
         requires most_blocks { blocks ≤ MAX_BLOCKS }
-        ensures { IfOk result (λ run. run ≡ opening_run (zeroed_units clients blocks)) }
+        ensures { IfOk result (λ run. run ≡ opening_run (zeroed_units clients blocks bad)) }
     {
         Ok(ScriptRun {
             alloc,
-            bus: Bus::new(alloc, zeroed_units(alloc, clients, blocks)?)?,
+            bus: Bus::new(alloc, zeroed_units(alloc, clients, blocks, bad)?)?,
             ranges: opening_ranges(alloc, clients)?,
             brings_in: opening_notes(alloc, clients)?,
             text: Vec::new(alloc),
@@ -387,17 +395,33 @@ impl ScriptRun {
     }
 }
 
-/// So many units of zeroed blocks.
-fn zeroed_units(alloc: Global, clients: usize, blocks: u32) -> Result<Vec<Unit>, AllocError>
+/// So many units of zeroed blocks, in each of which this block is bad where the unit has it.
+fn zeroed_units(
+    alloc: Global,
+    clients: usize,
+    blocks: u32,
+    bad: Option<u32>,
+) -> Result<Vec<Unit>, AllocError>
     requires some { 1 ≤ blocks }
     requires most { blocks ≤ MAX_BLOCKS }
-    ensures { IfOk result (λ units. units.items ≡ zeroed_units clients blocks) }
+    ensures { IfOk result (λ units. units.items ≡ zeroed_units clients blocks bad) }
 {
     let mut units = Vec::new(alloc);
     for _ in 0..clients {
-        units.push(Unit::new(alloc, blocks, Vec::new(alloc))?)?;
+        units.push(Unit::new(alloc, blocks, bad_blocks(alloc, bad)?)?)?;
     }
     Ok(units)
+}
+
+/// The numbers of a unit's bad blocks.
+fn bad_blocks(alloc: Global, bad: Option<u32>) -> Result<Vec<u32>, AllocError>
+    ensures { IfOk result (λ blocks. blocks.items ≡ option_to_list bad) }
+{
+    let mut blocks = Vec::new(alloc);
+    if let Some(block) = bad {
+        blocks.push(block)?;
+    }
+    Ok(blocks)
 }
 
 /// The tags of so many clients, none of them out.
@@ -480,17 +504,18 @@ pub fn told(
     alloc: Global,
     clients: usize,
     blocks: u32,
+    bad: Option<u32>,
     lines: &[Line],
 ) -> Result<(Vec<u8>, u8), AllocError>
     requires some_clients { 1 ≤ clients }
     requires most_clients { clients ≤ MAX_CLIENTS }
     requires some_blocks { 1 ≤ blocks }
     requires most_blocks { blocks ≤ MAX_BLOCKS }
-    ensures text { IfOk result (λ given. given.0.items ≡ (told (zeroed_units clients blocks) lines.now).0) }
+    ensures text { IfOk result (λ given. given.0.items ≡ (told (zeroed_units clients blocks bad) lines.now).0) }
     ensures status { IfOk result (λ given. given.1 ≤ 1) }
-    ensures number { IfOk result (λ given. given.1 ≡ (told (zeroed_units clients blocks) lines.now).1) }
+    ensures number { IfOk result (λ given. given.1 ≡ (told (zeroed_units clients blocks bad) lines.now).1) }
 {
-    let mut run = ScriptRun::new(alloc, clients, blocks)?;
+    let mut run = ScriptRun::new(alloc, clients, blocks, bad)?;
     run.lines(lines)?;
     run.drain()?;
     let ScriptRun { text, failed, .. } = run;

@@ -37,7 +37,8 @@ pub fn run_dump<S: Source, O: Sink, W: Write>(
     ensures told { result ≤ 1 → IfSome (S.left source.old) (λ bytes.
         AnswersOf (blocks_in bytes) (dumped (imaged bytes []) extent.lba extent.count) (O.written output.old) (O.written output.new) result) }
     ensures there { result ≤ 1 → IsTrue (S.is_there source.old) }
-    ensures fault { result ≡ 3 → (((IfSome (S.left source.old) (λ bytes. IsErr (blocks_in bytes)) × IsTrue (S.is_there source.old)) ⊎ IsTrue (S.can_fail source.old))
+    ensures fault { result ≡ 3
+        → (((IfSome (S.left source.old) (λ bytes. IsErr (blocks_in bytes)) × IsTrue (S.is_there source.old)) ⊎ IsTrue (S.can_fail source.old))
         × Keeps (O.written output.old) (O.written output.new)) ⊎ IsTrue (O.can_fail output.old) }
     ensures memory { result ≡ 4 → Keeps (O.written output.old) (O.written output.new) }
     ensures quiet { result ≤ 1 → faults.new ≡ faults.old }

@@ -15,13 +15,15 @@ use crate::streams::{Sink, Source, read_at_most};
 use std::alloc::Global;
 use std::io::Write;
 
-/// The run `replay`: reads a script of 1 to 31 clients and runs it on units of 1 to 65,536 zeroed blocks. The whole script
-/// is read before anything is run. It answers the exit status: 1 where a command ended other than GOOD or was refused,
-/// 3 at a fault of the script, the reader or the writer, 4 for want of memory, else 0.
+/// The run `replay`: reads a script of 1 to 31 clients and runs it on units of 1 to 65,536 zeroed blocks, of which the block `bad`,
+/// if one is given, is bad in every unit that has it. The whole script is read before anything is run. It answers the exit
+/// status: 1 where a command ended other than GOOD or was refused, 3 at a fault of the script, the reader or the writer, 4 for
+/// want of memory, else 0.
 pub fn run_script<S: Source, O: Sink, W: Write>(
     alloc: Global,
     clients: usize,
     blocks: u32,
+    bad: Option<u32>,
     reader: &mut S,
     writer: &mut O,
     faults: &mut W,
@@ -32,7 +34,7 @@ pub fn run_script<S: Source, O: Sink, W: Write>(
     requires most_blocks { blocks ≤ MAX_BLOCKS }
     ensures statuses { (result ≤ 1) ⊎ ((result ≡ 3) ⊎ (result ≡ 4)) }
     ensures told { result ≤ 1 → IfSome (S.left reader.old) (λ bytes.
-        Tells (zeroed_units clients blocks) (script clients bytes) (O.written writer.old) (O.written writer.new) result) }
+        Tells (zeroed_units clients blocks bad) (script clients bytes) (O.written writer.old) (O.written writer.new) result) }
     ensures read { result ≤ 1 → IsAtEnd (S.left reader.new) }
     ensures there { result ≤ 1 → IsTrue (S.is_there reader.old) }
     ensures fault { result ≡ 3 →
@@ -41,7 +43,7 @@ pub fn run_script<S: Source, O: Sink, W: Write>(
     ensures memory { result ≡ 4 → Keeps (O.written writer.old) (O.written writer.new) }
     ensures quiet { result ≤ 1 → faults.new ≡ faults.old }
 {
-    match tell_script(alloc, clients, blocks, reader, writer) {
+    match tell_script(alloc, clients, blocks, bad, reader, writer) {
         Ok(status) => status,
         Err(fault) => fault.tell(faults),
     }
@@ -51,6 +53,7 @@ fn tell_script<S: Source, O: Sink>(
     alloc: Global,
     clients: usize,
     blocks: u32,
+    bad: Option<u32>,
     reader: &mut S,
     writer: &mut O,
 ) -> Result<u8, RunFault>
@@ -60,14 +63,14 @@ fn tell_script<S: Source, O: Sink>(
     requires most_blocks { blocks ≤ MAX_BLOCKS }
     ensures status { IfOk result (λ status. status ≤ 1) }
     ensures told { IfOk result (λ status. IfSome (S.left reader.old) (λ bytes.
-        Tells (zeroed_units clients blocks) (script clients bytes) (O.written writer.old) (O.written writer.new) status)) }
+        Tells (zeroed_units clients blocks bad) (script clients bytes) (O.written writer.old) (O.written writer.new) status)) }
     ensures read { OnOk result (IsAtEnd (S.left reader.new)) }
     ensures there { OnOk result (IsTrue (S.is_there reader.old)) }
     ensures fault { IfErr result (ReplayGivesUp clients (S.left reader.old) (S.can_fail reader.old) (O.can_fail writer.old)
         (O.written writer.old) (O.written writer.new)) }
 {
     let lines = read_script(alloc, clients, reader)?;
-    let (text, status) = told(alloc, clients, blocks, &lines).map_err(|_| RunFault::NoMemory)?;
+    let (text, status) = told(alloc, clients, blocks, bad, &lines).map_err(|_| RunFault::NoMemory)?;
     writer.write(&text).map_err(output_fault)?;
     Ok(status)
 }

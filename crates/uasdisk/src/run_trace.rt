@@ -15,13 +15,15 @@ use crate::streams::{Sink, Source};
 use std::alloc::Global;
 use std::io::Write;
 
-/// The run `trace`: reads a script of 1 to 31 clients, runs it on units of 1 to 65,536 zeroed blocks and prints each step with what
-/// it wrote. The whole script is read before anything is run. It answers the exit status that `replay` answers: 1 where a command
-/// ended other than GOOD or was refused, 3 at a fault of the script, the reader or the writer, 4 for want of memory, else 0.
+/// The run `trace`: reads a script of 1 to 31 clients, runs it on units of 1 to 65,536 zeroed blocks, of which the block `bad`, if one is
+/// given, is bad in every unit that has it, and prints each step with what it wrote. The whole script is read before anything is
+/// run. It answers the exit status that `replay` answers: 1 where a command ended other than GOOD or was refused, 3 at a fault of
+/// the script, the reader or the writer, 4 for want of memory, else 0.
 pub fn run_trace<S: Source, O: Sink, W: Write>(
     alloc: Global,
     clients: usize,
     blocks: u32,
+    bad: Option<u32>,
     reader: &mut S,
     writer: &mut O,
     faults: &mut W,
@@ -32,7 +34,7 @@ pub fn run_trace<S: Source, O: Sink, W: Write>(
     requires most_blocks { blocks ≤ MAX_BLOCKS }
     ensures statuses { (result ≤ 1) ⊎ ((result ≡ 3) ⊎ (result ≡ 4)) }
     ensures traced { result ≤ 1 → IfSome (S.left reader.old) (λ bytes.
-        Traces (zeroed_units clients blocks) (script clients bytes) result) }
+        Traces (zeroed_units clients blocks bad) (script clients bytes) result) }
     ensures read { result ≤ 1 → IsAtEnd (S.left reader.new) }
     ensures there { result ≤ 1 → IsTrue (S.is_there reader.old) }
     ensures fault { result ≡ 3 →
@@ -40,7 +42,7 @@ pub fn run_trace<S: Source, O: Sink, W: Write>(
         × Keeps (O.written writer.old) (O.written writer.new)) ⊎ IsTrue (O.can_fail writer.old) }
     ensures quiet { result ≤ 1 → faults.new ≡ faults.old }
 {
-    match trace_script(alloc, clients, blocks, reader, writer) {
+    match trace_script(alloc, clients, blocks, bad, reader, writer) {
         Ok(status) => status,
         Err(fault) => fault.tell(faults),
     }
@@ -50,6 +52,7 @@ fn trace_script<S: Source, O: Sink>(
     alloc: Global,
     clients: usize,
     blocks: u32,
+    bad: Option<u32>,
     reader: &mut S,
     writer: &mut O,
 ) -> Result<u8, RunFault>
@@ -59,12 +62,12 @@ fn trace_script<S: Source, O: Sink>(
     requires most_blocks { blocks ≤ MAX_BLOCKS }
     ensures status { IfOk result (λ status. status ≤ 1) }
     ensures traced { IfOk result (λ status. IfSome (S.left reader.old) (λ bytes.
-        Traces (zeroed_units clients blocks) (script clients bytes) status)) }
+        Traces (zeroed_units clients blocks bad) (script clients bytes) status)) }
     ensures read { OnOk result (IsAtEnd (S.left reader.new)) }
     ensures there { OnOk result (IsTrue (S.is_there reader.old)) }
     ensures fault { IfErr result (TraceGivesUp clients (S.left reader.old) (S.can_fail reader.old) (O.can_fail writer.old)
         (O.written writer.old) (O.written writer.new)) }
 {
     let lines = read_script(alloc, clients, reader)?;
-    trace(alloc, clients, blocks, &lines, writer)
+    trace(alloc, clients, blocks, bad, &lines, writer)
 }

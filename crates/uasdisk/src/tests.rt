@@ -8,6 +8,7 @@ use std::alloc::{AllocError, Global};
 use std::io;
 use std::io::{Error, ErrorKind, Read, Write};
 
+mod bad_blocks;
 mod failing;
 mod faults;
 mod images;
@@ -31,7 +32,15 @@ fn run<S: Source>(alloc: Global, clients: usize, blocks: u32, source: &mut S) ->
 {
     let mut output = BytesTaken(Vec::new(alloc));
     let mut faults = Vec::new(alloc);
-    let status = run_script(alloc, clients, blocks, source, &mut output, &mut faults);
+    let status = run_script(
+        alloc,
+        clients,
+        blocks,
+        None,
+        source,
+        &mut output,
+        &mut faults,
+    );
     let BytesTaken(output) = output;
     Ran {
         status,

@@ -4,7 +4,10 @@ ghost use Rattle.std.specs.Prelude.{◌≡◌, false, Some, IfOk, IfSome, MatchR
 ghost use Rattle.std.specs.String.{string_bytes};
 ghost use Rattle.clap.specs.Words.{FailsBy, app_of, found_of, kind_of, rows_of, rule_of, subcommand_rows_of};
 ghost use Rattle.uasdisk.specs.Options.{IsInRange};
-ghost use Rattle.uasdisk.specs.CommandLine.{Asked, AsksPlainly, asked_by, asked_for, asked_in, blocks_of, blocks_rule, byte_of, byte_rule, clients_of, count_of, count_rule, dump_app, dump_of, extent_app, file_of, file_rule, fill_app, fill_of, info_app, lba_of, lba_rule, make_app, number_rule, program_app, refusals, replay_app, script_app, top_app, trace_app};
+ghost use Rattle.uasdisk.specs.CommandLine.{Asked, AsksPlainly, asked_by, asked_for, asked_in, bad_of, bad_rule, blocks_of, blocks_rule};
+ghost use Rattle.uasdisk.specs.CommandLine.{byte_of, byte_rule, clients_of, count_of, count_rule, dump_app, dump_of, extent_app, file_of};
+ghost use Rattle.uasdisk.specs.CommandLine.{file_rule, fill_app, fill_of, info_app, lba_of, lba_rule, make_app, number_rule, program_app};
+ghost use Rattle.uasdisk.specs.CommandLine.{refusals, replay_app, script_app, top_app, trace_app};
 
 use crate::alone::Extent;
 use block_unit::MAX_BLOCKS;
@@ -20,6 +23,11 @@ const MOST_CLIENTS: u32 = MAX_CLIENTS as u32;
 const _: () = prove!(MOST_CLIENTS == 31);
 
 const _: () = prove!(MAX_BLOCKS == 65_536);
+
+/// The greatest number of a block that a unit can have.
+const LAST_BLOCK: u32 = MAX_BLOCKS - 1;
+
+const _: () = prove!(LAST_BLOCK == 65_535);
 
 /// The most blocks that one command moves, as a word of the command line.
 const MOST_MOVED: u32 = MOST_BLOCKS_MOVED as u32;
@@ -37,15 +45,17 @@ pub const VERSION: &str = "0.1.0, proved with rattle-kit-13b logic dac8208d650f1
 /// What the program is to do.
 #[derive(Clone, Copy, Debug, PartialEq, Eq)]
 pub enum Run<'a> {
-    /// Run a script of 1 to 31 clients on units of 1 to 65,536 zeroed blocks.
+    /// Run a script of 1 to 31 clients on units of 1 to 65,536 zeroed blocks. One block, 0 to 65,535, may be bad in every unit.
     Replay {
         clients: u8,
         blocks: u32,
+        bad: Option<u32>,
     },
     /// Run a script as `Replay` does, and show each step.
     Trace {
         clients: u8,
         blocks: u32,
+        bad: Option<u32>,
     },
     /// Make an image file of 1 to 65,536 zeroed blocks.
     Make {
@@ -161,7 +171,8 @@ fn script_command<'a>(
         .arg(blocks(
             alloc,
             "How many blocks of 512 bytes each unit has: 1 to 65536",
-        ))
+        ))?
+        .arg(bad(alloc, "A block that is bad in every unit: 0 to 65535"))
 }
 
 fn make_command<'a>(alloc: Global) -> Result<Command<'a>, AllocError>
@@ -240,6 +251,18 @@ fn blocks<'a>(alloc: Global, help: &'a str) -> Arg<'a>
     number(alloc, "BLOCKS", 1, MAX_BLOCKS, help)
 }
 
+fn bad<'a>(alloc: Global, help: &'a str) -> Arg<'a>
+    ensures rule { rule_of result ≡ bad_rule }
+    ensures local { result.global ≡ false }
+{
+    Arg::new(alloc, "bad")
+        .long("bad")
+        .value_name("LBA")
+        .action(ArgAction::Set)
+        .value_parser(clap::value_parser!(u32).range(0..=i64::from(LAST_BLOCK)))
+        .help(help)
+}
+
 fn lba<'a>(alloc: Global, help: &'a str) -> Arg<'a>
     ensures rule { rule_of result ≡ lba_rule }
     ensures local { result.global ≡ false }
@@ -282,12 +305,22 @@ fn asked<'a>(matches: &ArgMatches<'a>) -> Option<Run<'a>>
         "replay" => {
             let clients = clients_in(words)?;
             let blocks = blocks_in(words)?;
-            Some(Run::Replay { clients, blocks })
+            let bad = bad_in(words)?;
+            Some(Run::Replay {
+                clients,
+                blocks,
+                bad,
+            })
         }
         "trace" => {
             let clients = clients_in(words)?;
             let blocks = blocks_in(words)?;
-            Some(Run::Trace { clients, blocks })
+            let bad = bad_in(words)?;
+            Some(Run::Trace {
+                clients,
+                blocks,
+                bad,
+            })
         }
         "make" => {
             let file = words.get_str("FILE")?;
@@ -352,6 +385,18 @@ fn blocks_in(words: &ArgMatches<'_>) -> Option<u32>
         Some(blocks)
     } else {
         None
+    }
+}
+
+/// The block that `--bad` names, where it stands. None where its word is no number of the range.
+fn bad_in(words: &ArgMatches<'_>) -> Option<Option<u32>>
+    ensures { result ≡ bad_of (rows_of (found_of words.now)) }
+{
+    match words.try_get_one::<u32>("bad") {
+        Ok(None) => Some(None),
+        Ok(Some(block)) if block <= LAST_BLOCK => Some(Some(block)),
+        Ok(Some(_)) => None,
+        Err(_) => None,
     }
 }
 

@@ -11,7 +11,8 @@ ghost use Rattle.std.specs.List.{range_with_len};
 ghost use Rattle.bus_core.specs.Bus.{HasTicket};
 ghost use Rattle.bus_core.specs.Drain.{round, tried, tried_one};
 ghost use Rattle.bus_core.specs.declared.Step.TheVariants.{Data, Retire, Status};
-ghost use Rattle.uasdisk.specs.Told.{all_taken, all_taken_by, drained_machine, drained_run, issued_run, managed, managed_run, opening_run, step_of, stepped, submitted, taken, taken_or_idle, told, told_line, zeroed_units};
+ghost use Rattle.uasdisk.specs.Told.{all_taken, all_taken_by, drained_machine, drained_run, issued_run, managed, managed_run, opening_run};
+ghost use Rattle.uasdisk.specs.Told.{step_of, stepped, submitted, taken, taken_or_idle, told, told_line, zeroed_units};
 ghost use Rattle.uasdisk.specs.Traced.{StopsBy};
 ghost use Rattle.uasdisk.specs.declared.status.RunFault.{RunFault};
 
@@ -44,16 +45,21 @@ struct TracedRun {
 
 impl TracedRun {
     /// The run before its first line.
-    fn new(alloc: Global, clients: usize, blocks: u32) -> Result<TracedRun, RunFault>
+    fn new(
+        alloc: Global,
+        clients: usize,
+        blocks: u32,
+        bad: Option<u32>,
+    ) -> Result<TracedRun, RunFault>
         requires some_clients { 1 ≤ clients }
         requires most_clients { clients ≤ MAX_CLIENTS }
         requires some_blocks { 1 ≤ blocks }
         requires most_blocks { blocks ≤ MAX_BLOCKS }
-        ensures run { IfOk result (λ traced. traced.run ≡ opening_run (zeroed_units clients blocks)) }
+        ensures run { IfOk result (λ traced. traced.run ≡ opening_run (zeroed_units clients blocks bad)) }
         ensures fault { IfErr result (λ fault. fault ≡ RunFault.NoMemory) }
     {
         Ok(TracedRun {
-            run: ScriptRun::new(alloc, clients, blocks).map_err(|_| RunFault::NoMemory)?,
+            run: ScriptRun::new(alloc, clients, blocks, bad).map_err(|_| RunFault::NoMemory)?,
             printed: 0,
             posted: 0,
             text: Vec::new(alloc),
@@ -359,7 +365,8 @@ impl TracedRun {
         left: usize,
     ) -> Result<usize, RunFault>
         requires { tags ≤ 248 }
-        ensures machine { IfOk result (λ after. (self.new.run.machine, after) ≡ tried (self.old.run.machine, left) (map (Retire pipe) (range_with_len 1 tags))) }
+        ensures machine { IfOk result (λ after. (self.new.run.machine, after) ≡ tried (self.old.run.machine, left)
+            (map (Retire pipe) (range_with_len 1 tags))) }
         ensures rest { OnOk result (self.new.run ≡ record self.old.run { machine = self.new.run.machine }) }
         ensures same { O.can_fail writer.new ≡ O.can_fail writer.old }
         ensures fault { IfErr result (StopsBy (O.can_fail writer.old)) }
@@ -460,6 +467,7 @@ pub fn trace<O: Sink>(
     alloc: Global,
     clients: usize,
     blocks: u32,
+    bad: Option<u32>,
     lines: &[Line],
     writer: &mut O,
 ) -> Result<u8, RunFault>
@@ -468,10 +476,10 @@ pub fn trace<O: Sink>(
     requires some_blocks { 1 ≤ blocks }
     requires most_blocks { blocks ≤ MAX_BLOCKS }
     ensures status { IfOk result (λ status. status ≤ 1) }
-    ensures number { IfOk result (λ status. status ≡ (told (zeroed_units clients blocks) lines.now).1) }
+    ensures number { IfOk result (λ status. status ≡ (told (zeroed_units clients blocks bad) lines.now).1) }
     ensures fault { IfErr result (StopsBy (O.can_fail writer.old)) }
 {
-    let mut run = TracedRun::new(alloc, clients, blocks)?;
+    let mut run = TracedRun::new(alloc, clients, blocks, bad)?;
     run.lines(writer, lines)?;
     run.drain(writer)?;
     Ok(if run.run.failed { COMMAND_FAILED } else { DONE })

@@ -2,7 +2,9 @@
 
 ghost use Rattle.std.specs.Prelude.{◌≡◌, ℕ, ◌≤◌, ◌<◌, map, IfSome, length};
 ghost use Rattle.std.specs.Str.{bytes_eq};
-ghost use Rattle.uasdisk.specs.Script.{number_at, fua_at, client_at, tag_at, pipe_at, lba_at, count_at, byte_at, request_named, request_has, zeroed, request_of, submission_of, submission, step_named, step_has, step_of, named_step, line_of_words};
+ghost use Rattle.uasdisk.specs.Script.{number_at, fua_at, client_at, tag_at, pipe_at, lba_at, count_at, byte_at, request_named};
+ghost use Rattle.uasdisk.specs.Script.{request_has, zeroed, request_of, submission_of, submission, step_named, step_has, step_of};
+ghost use Rattle.uasdisk.specs.Script.{named_step, line_of_words};
 
 use super::words::{is_number, number_in};
 use super::{Line, LineFault, Request, RequestName, StepName};

@@ -65,6 +65,7 @@ fn writers_that_fail(rt: HostRuntime) {
             alloc(),
             1,
             100,
+            None,
             &mut BytesLeft(b"event"),
             &mut room(bytes),
             &mut faults,
@@ -118,6 +119,7 @@ fn writers_at_their_end(rt: HostRuntime) {
             rt.alloc(),
             1,
             100,
+            None,
             &mut BytesLeft(idle),
             &mut room(5),
             &mut faults
@@ -145,6 +147,7 @@ fn writers_at_their_end(rt: HostRuntime) {
             rt.alloc(),
             1,
             100,
+            None,
             &mut BytesLeft(idle),
             &mut unflushed,
             &mut faults
@@ -157,6 +160,7 @@ fn writers_at_their_end(rt: HostRuntime) {
             rt.alloc(),
             1,
             100,
+            None,
             &mut BytesLeft(b"jump"),
             &mut taken,
             &mut none

@@ -160,14 +160,15 @@ Options:
             "uasdisk replay --help",
             "Reads a script from standard input and runs it on zeroed units
 
-Usage: uasdisk replay <CLIENTS> <BLOCKS>
+Usage: uasdisk replay [OPTIONS] <CLIENTS> <BLOCKS>
 
 Arguments:
   <CLIENTS>  How many clients there are, each with a unit of its own: 1 to 31
   <BLOCKS>   How many blocks of 512 bytes each unit has: 1 to 65536
 
 Options:
-  -h, --help  Print help
+      --bad <LBA>  A block that is bad in every unit: 0 to 65535
+  -h, --help       Print help
 
 Example:
   uasdisk replay 2 100 < examples/two-clients.script

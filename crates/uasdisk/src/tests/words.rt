@@ -16,7 +16,16 @@ pub fn words_of(alloc: Global, line: &str) -> Result<Vec<String>, AllocError> {
 
 #[test]
 fn words_that_ask_for_a_run(rt: HostRuntime) -> Result<(), Fail> {
-    let replay = |clients, blocks| Run::Replay { clients, blocks };
+    let replay = |clients, blocks| Run::Replay {
+        clients,
+        blocks,
+        bad: None,
+    };
+    let bad = |block| Run::Replay {
+        clients: 1,
+        blocks: 100,
+        bad: Some(block),
+    };
     let make = |file, blocks| Run::Make { file, blocks };
     let info = |file| Run::Info { file };
     let fill = |lba, count, byte| Run::Fill {
@@ -32,6 +41,29 @@ fn words_that_ask_for_a_run(rt: HostRuntime) -> Result<(), Fail> {
         ("./uasdisk replay 2 100", replay(2, 100)),
         ("uasdisk replay 007 +100", replay(7, 100)),
         ("uasdisk replay -- 2 100", replay(2, 100)),
+        ("uasdisk replay 1 100 --bad 12", bad(12)),
+        ("uasdisk replay 1 100 --bad 0", bad(0)),
+        ("uasdisk replay 1 100 --bad 65535", bad(65_535)),
+        ("uasdisk replay 1 100 --bad=12", bad(12)),
+        ("uasdisk replay 1 --bad 12 100", bad(12)),
+        ("uasdisk replay --bad 12 1 100", bad(12)),
+        ("uasdisk replay --bad 12 -- 1 100", bad(12)),
+        (
+            "uasdisk trace 2 300",
+            Run::Trace {
+                clients: 2,
+                blocks: 300,
+                bad: None,
+            },
+        ),
+        (
+            "uasdisk trace 2 300 --bad 12",
+            Run::Trace {
+                clients: 2,
+                blocks: 300,
+                bad: Some(12),
+            },
+        ),
         ("uasdisk make d 2", make("d", 2)),
         ("uasdisk make d 1", make("d", 1)),
         ("uasdisk make 5 65536", make("5", 65_536)),
@@ -58,7 +90,7 @@ fn words_that_ask_for_a_run(rt: HostRuntime) -> Result<(), Fail> {
 }
 
 /// Words that are refused, the kind of the error, and the exit status that clap has for it.
-static REFUSED: [(&str, ErrorKind, i32); 38] = [
+static REFUSED: [(&str, ErrorKind, i32); 48] = [
     (
         "uasdisk",
         ErrorKind::DisplayHelpOnMissingArgumentOrSubcommand,
@@ -94,6 +126,36 @@ static REFUSED: [(&str, ErrorKind, i32); 38] = [
     ("uasdisk replay 1 65537", ErrorKind::ValueValidation, 2),
     ("uasdisk replay 1 4294967297", ErrorKind::ValueValidation, 2),
     ("uasdisk replay -- 1 -1", ErrorKind::ValueValidation, 2),
+    (
+        "uasdisk replay 1 9 --bad 65536",
+        ErrorKind::ValueValidation,
+        2,
+    ),
+    (
+        "uasdisk replay 1 9 --bad 4294967308",
+        ErrorKind::ValueValidation,
+        2,
+    ),
+    ("uasdisk replay 1 9 --bad x", ErrorKind::ValueValidation, 2),
+    ("uasdisk replay 1 9 --bad=-1", ErrorKind::ValueValidation, 2),
+    (
+        "uasdisk trace 1 9 --bad 65536",
+        ErrorKind::ValueValidation,
+        2,
+    ),
+    ("uasdisk replay 1 9 --bad -1", ErrorKind::UnknownArgument, 2),
+    ("uasdisk replay 1 9 --bad", ErrorKind::InvalidValue, 2),
+    (
+        "uasdisk replay 1 9 --bad 1 --bad 1",
+        ErrorKind::ArgumentConflict,
+        2,
+    ),
+    (
+        "uasdisk replay --bad 1 9",
+        ErrorKind::MissingRequiredArgument,
+        2,
+    ),
+    ("uasdisk make d 9 --bad 1", ErrorKind::UnknownArgument, 2),
     ("uasdisk make d 0", ErrorKind::ValueValidation, 2),
     ("uasdisk make d 65537", ErrorKind::ValueValidation, 2),
     ("uasdisk fill d 0 1", ErrorKind::MissingRequiredArgument, 2),

@@ -1,7 +1,8 @@
 //! The lines that `trace` prints beside those of `replay`: a step, and what it wrote.
 
 ghost use Rattle.std.specs.Prelude.{◌≡◌, ◌++◌, OnOk};
-ghost use Rattle.uasdisk.specs.Traced.{address_start, bell_line, bytes_line, chunk_line, context_line, fua_word, op_words, step_line, submit_line, task_step_line, task_words};
+ghost use Rattle.uasdisk.specs.Traced.{address_start, bell_line, bytes_line, chunk_line, context_line, fua_word, op_words, step_line};
+ghost use Rattle.uasdisk.specs.Traced.{submit_line, task_step_line, task_words};
 
 use bus_core::Step;
 use scsi_cmd::{Op, Task};

@@ -1,0 +1,8 @@
+-- What C sees: records in place of values, and numbers in place of faults.
+pub mod TrbRecord
+pub mod UnitRecord
+pub mod OperationRecord
+pub mod Units
+pub mod Handed
+pub mod DeviceCall
+pub mod BusCall

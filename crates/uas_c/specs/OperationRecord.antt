@@ -1,0 +1,92 @@
+-- An operation and sense data as C's records, and what came of a CDB.
+use Rattle.std.specs.Prelude.{◌≡◌, ℕ, Bool, true, false, if◌then◌else◌, ◌==◌, ◌&&◌, nat_le, nat_lt, Option, None, Some, Result, Ok, Err}
+use Rattle.scsi_cmd.specs.Op.{moved_bytes, direction_of}
+use Rattle.scsi_cmd.specs.declared.Op.{Op}
+use Rattle.scsi_cmd.specs.declared.Op.TheVariants.{TestUnitReady, Inquiry, ReadCapacity, Read, Write, Sync}
+use Rattle.scsi_cmd.specs.declared.Direction.{Direction}
+use Rattle.scsi_cmd.specs.declared.Direction.TheVariants.{Nothing, ToHost, ToDevice}
+use Rattle.scsi_cmd.specs.declared.Sense.{Sense}
+use Rattle.uas_c.specs.declared.scsi.UasOperation.{UasOperation}
+use Rattle.uas_c.specs.declared.scsi.UasSense.{UasSense}
+use Rattle.uas_c.specs.declared.scsi.OperationFault.{OperationFault}
+use Rattle.uas_c.specs.declared.scsi.OperationFault.TheVariants.{UnknownOpcode, Unfit}
+
+-- yes or no as a byte
+abbrev pub yes : Bool → ℕ
+yes true = 1
+yes false = 0
+
+-- which way data goes, as a byte
+abbrev pub way_number : Direction → ℕ
+way_number Nothing = 0
+way_number ToHost = 1
+way_number ToDevice = 2
+
+-- the operation's code and fields; a field that it doesn't have is 0, and so are the bytes and the way
+abbrev pub operation_fields : Op → UasOperation
+operation_fields TestUnitReady = record { lba = 0; count = 0; bytes = 0; opcode = 0x00; fua = 0; direction = 0; reserved = 0 }
+operation_fields (Inquiry allocation) =
+    record { lba = 0; count = allocation; bytes = 0; opcode = 0x12; fua = 0; direction = 0; reserved = 0 }
+operation_fields ReadCapacity = record { lba = 0; count = 0; bytes = 0; opcode = 0x25; fua = 0; direction = 0; reserved = 0 }
+operation_fields (Read lba count fua) =
+    record { lba = lba; count = count; bytes = 0; opcode = 0x28; fua = yes fua; direction = 0; reserved = 0 }
+operation_fields (Write lba count fua) =
+    record { lba = lba; count = count; bytes = 0; opcode = 0x2a; fua = yes fua; direction = 0; reserved = 0 }
+operation_fields (Sync lba count) =
+    record { lba = lba; count = count; bytes = 0; opcode = 0x35; fua = 0; direction = 0; reserved = 0 }
+
+-- the record of an operation
+abbrev pub operation_record : Op → UasOperation
+operation_record op =
+    record (operation_fields op) { bytes = moved_bytes op; direction = way_number (direction_of op) }
+
+-- the operation that a record names by its code
+abbrev pub named_operation : UasOperation → Option Op
+named_operation r =
+    if r.opcode == 0x00 then Some TestUnitReady
+    else (if r.opcode == 0x12 then Some (Inquiry r.count)
+    else (if r.opcode == 0x25 then Some ReadCapacity
+    else (if r.opcode == 0x28 then Some (Read r.lba r.count (r.fua == 1))
+    else (if r.opcode == 0x2a then Some (Write r.lba r.count (r.fua == 1))
+    else (if r.opcode == 0x35 then Some (Sync r.lba r.count)
+    else None)))))
+
+-- an operation's own fields fit: a count two bytes, and FUA is 0 or 1
+abbrev pub operation_fits : UasOperation → Op → Bool
+operation_fits r TestUnitReady = true
+operation_fits r (Inquiry allocation) = nat_le r.count 65535
+operation_fits r ReadCapacity = true
+operation_fits r (Read lba count fua) = nat_le r.count 65535 && nat_lt r.fua 2
+operation_fits r (Write lba count fua) = nat_le r.count 65535 && nat_lt r.fua 2
+operation_fits r (Sync lba count) = nat_le r.count 65535
+
+abbrev pub fault_number : OperationFault → ℕ
+fault_number UnknownOpcode = 2
+fault_number Unfit = 3
+
+-- the fault of a record that is to name an operation: 2 another code, 3 a field that doesn't fit
+abbrev pub operation_fault : UasOperation → ℕ
+operation_fault r = of_named (named_operation r)
+  where
+    of_named : Option Op → ℕ
+    of_named None = 2
+    of_named (Some op) = if operation_fits r op then 0 else 3
+
+-- the record of sense data
+abbrev pub sense_record : Sense → UasSense
+sense_record sense = record { key = sense.key; asc = sense.asc; ascq = sense.ascq; reserved = 0 }
+
+-- the sense data of a record
+abbrev pub sense_in : UasSense → Sense
+sense_in r = record { key = r.key; asc = r.asc; ascq = r.ascq }
+
+-- what a CDB that asks this leaves of the number and the two records: one of them is written
+abbrev pub Parsed : Result Op Sense → ℕ → UasOperation × UasOperation → UasSense × UasSense → Type 0
+Parsed (Ok op) number operation sense =
+    (number ≡ 0) × (operation.1 ≡ operation_record op) × (sense.1 ≡ sense.0)
+Parsed (Err fault) number operation sense =
+    (number ≡ 1) × (operation.1 ≡ operation.0) × (sense.1 ≡ sense_record fault)
+
+-- READ CAPACITY data needs a last block
+abbrev pub capacity_fault : ℕ → ℕ
+capacity_fault blocks = if blocks == 0 then 1 else 0

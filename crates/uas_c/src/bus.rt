@@ -1,0 +1,413 @@
+//! The bus for C: host, controller and device as one machine of steps, over one call with a door.
+ghost use Rattle.std.specs.Prelude.{◌≡◌, ℕ, List, ◌<◌, ◌^◌, ◌-◌, ◌==◌, if◌then◌else◌, IfSome, option_map, length, min};
+ghost use Rattle.bus_core.specs.Bus.{HasTicket};
+ghost use Rattle.bus_core.specs.Drain.{drained};
+ghost use Rattle.uas_c.specs.BusCall.{after_due, after_reply, after_step, after_submit, after_task, bus_answer, bus_call_numbered, bus_refused, overlaid};
+ghost use Rattle.uas_c.specs.BusCall.{pipe_numbered, refusal_told, show_number, step_numbered, task_numbered, unit_of, with_buffer, with_drain, with_owner};
+ghost use Rattle.uas_c.specs.BusCall.{with_reply};
+ghost use Rattle.uas_c.specs.DeviceCall.{number_of};
+
+mod handle;
+
+use crate::device::{Refusal as DeviceRefusal, show};
+use crate::scsi::{UasOperation, read_operation};
+use crate::unit::padded;
+use block_unit::Unit;
+use bus_core::{Bus, Refusal, Step};
+use scsi_cmd::{Buffer, Command, Reply, Task};
+use std::alloc::Global;
+use std::marker::Model;
+use stream_array::Pipe;
+use uas_iu::MAX_SENSE_BYTES;
+
+/// What a call of the bus asks and answers. C writes `call` and what that call reads; the call writes what it answers.
+#[repr(C)]
+#[derive(Clone, Copy)]
+pub struct UasBusDoor {
+    /// Of SUBMIT and TASK, below 2^60. Out of REPLY.
+    pub ticket: u64,
+    /// Of DRAIN: the most steps. Out: how many were taken.
+    pub steps: u64,
+    /// Of SUBMIT. Of BLOCKS and MEDIUM the first block alone.
+    pub operation: UasOperation,
+    /// Of SUBMIT, TASK, REPLY, BLOCKS and MEDIUM. Out of STEP: its owner, where it has one.
+    pub client: u32,
+    /// Out of REPLY: bytes of its buffer.
+    pub length: u32,
+    /// Of SUBMIT, ABORT TASK, STEP and DUE. Out of REPLY.
+    pub tag: u16,
+    /// The call, 1 to 5 and 7 to 9.
+    pub call: u8,
+    /// Of STEP and DUE: 1 command pipe, 2 data, 3 status, 4 engine, 5 event, 6 retire.
+    pub step: u8,
+    /// Of step 6: 1 status, 2 data in, 3 data out.
+    pub pipe: u8,
+    /// Of TASK: 1 ABORT TASK of `tag`, 8 LOGICAL UNIT RESET.
+    pub function: u8,
+    /// Out of STEP, DUE and REPLY: 0 or 1. Out of DRAIN: 1 where none is due any more.
+    pub acted: u8,
+    /// Out of STEP: 0 or 1.
+    pub has_owner: u8,
+    /// Out of REPLY: 1 a status, 2 aborted, 3 a task management's response.
+    pub reply: u8,
+    /// Out of REPLY: the SCSI status of 1, the response code of 3.
+    pub status: u8,
+    /// Out of REPLY: bytes of sense data.
+    pub sense_length: u8,
+    pub reserved: [u8; 5],
+    /// Out of REPLY 1.
+    pub sense: [u8; MAX_SENSE_BYTES],
+}
+
+/// A bus, and the memory that its submissions' buffers come from.
+#[derive(Drop)]
+pub(crate) struct KeptBus {
+    bus: Bus,
+    alloc: Global,
+}
+
+impl Model for KeptBus {
+    ghost use Rattle.bus_core.specs.Shared.{Shared};
+
+    ghost Value = { Shared };
+
+    ghost view = { λ kept. kept.bus };
+}
+
+/// A call, by its number.
+#[derive(Clone, Copy)]
+enum BusCall {
+    Submit,
+    Task,
+    Step,
+    Due,
+    Drain,
+    Reply,
+    Blocks,
+    Medium,
+}
+
+/// Bytes of the longest buffer of a reply.
+const LONGEST_BUFFER: usize = 65_536;
+
+const NO_MEMORY: u8 = 16;
+
+const NO_CALL: u8 = 17;
+
+const NO_STEP: u8 = 18;
+
+const NO_OPERATION: u8 = 19;
+
+const NO_TICKET: u8 = 20;
+
+const NO_ROOM: u8 = 21;
+
+const NO_FUNCTION: u8 = 22;
+
+const NO_CLIENT: u8 = 23;
+
+const NO_BLOCKS: u8 = 24;
+
+/// Tickets are below this.
+const TICKETS: u64 = 1 << 60;
+
+fn call_numbered(number: u8) -> Option<BusCall>
+    ensures { result ≡ bus_call_numbered number }
+{
+    match number {
+        1 => Some(BusCall::Submit),
+        2 => Some(BusCall::Task),
+        3 => Some(BusCall::Step),
+        4 => Some(BusCall::Due),
+        5 => Some(BusCall::Drain),
+        7 => Some(BusCall::Reply),
+        8 => Some(BusCall::Blocks),
+        9 => Some(BusCall::Medium),
+        _ => None,
+    }
+}
+
+/// The call that a door names: the number of its refusal, or 0.
+pub(crate) fn serve(kept: &mut KeptBus, door: &mut UasBusDoor, bytes: &mut [u8]) -> u8
+    ensures { (result, (kept.new, (door.new, bytes.new))) ≡ bus_answer result kept.old door.old bytes.old }
+{
+    let Some(call) = call_numbered(door.call) else {
+        return NO_CALL;
+    };
+    match call {
+        BusCall::Submit => submit(&mut kept.bus, kept.alloc, door, bytes),
+        BusCall::Task => manage(&mut kept.bus, door),
+        BusCall::Step => take_step(&mut kept.bus, door),
+        BusCall::Due => show_due(&kept.bus, door),
+        BusCall::Drain => drain(&mut kept.bus, door),
+        BusCall::Reply => take_reply(&mut kept.bus, door, bytes),
+        BusCall::Blocks => show_number(show(
+            contents_of(&kept.bus, door.client),
+            door.operation.lba,
+            bytes,
+        )),
+        BusCall::Medium => show_number(show(
+            medium_of(&kept.bus, door.client),
+            door.operation.lba,
+            bytes,
+        )),
+    }
+}
+
+/// A submission: ticket and operation are judged here, all else by the bus.
+fn submit(bus: &mut Bus, alloc: Global, door: &UasBusDoor, bytes: &[u8]) -> u8
+    ensures { (result, (bus.new, (door.now, bytes.now)))
+        ≡ (if result == 16 then bus_refused 16 bus.old door.now bytes.now else after_submit bus.old door.now bytes.now) }
+{
+    if door.ticket >= TICKETS {
+        return NO_TICKET;
+    }
+    let Ok(op) = read_operation(&door.operation) else {
+        return NO_OPERATION;
+    };
+    let Ok(buffer) = Vec::from_slice(alloc, bytes) else {
+        return NO_MEMORY;
+    };
+    let outcome = bus.step(Step::Submit {
+        client: door.client as usize,
+        tag: door.tag,
+        ticket: door.ticket,
+        command: Command {
+            op,
+            buffer: Buffer::from_vec(buffer),
+        },
+    });
+    refusal_number(&outcome.refused)
+}
+
+fn refusal_number(refused: &Option<Refusal>) -> u8
+    ensures told { result ≡ refusal_told refused.now }
+    ensures least { result < 16 }
+{
+    match refused {
+        Some(refusal) => refusal.fault.number(),
+        None => 0,
+    }
+}
+
+fn manage(bus: &mut Bus, door: &UasBusDoor) -> u8
+    ensures { (bytes : List ℕ) → (result, (bus.new, (door.now, bytes))) ≡ after_task bus.old door.now bytes }
+{
+    if door.ticket >= TICKETS {
+        return NO_TICKET;
+    }
+    let Some(task) = task_numbered(door) else {
+        return NO_FUNCTION;
+    };
+    let outcome = bus.step(Step::Task {
+        client: door.client as usize,
+        ticket: door.ticket,
+        task,
+    });
+    refusal_number(&outcome.refused)
+}
+
+fn task_numbered(door: &UasBusDoor) -> Option<Task>
+    ensures { result ≡ task_numbered door.now }
+{
+    match door.function {
+        1 => Some(Task::Abort { tag: door.tag }),
+        8 => Some(Task::Reset),
+        _ => None,
+    }
+}
+
+fn pipe_numbered(number: u8) -> Option<Pipe>
+    ensures { result ≡ pipe_numbered number }
+{
+    match number {
+        1 => Some(Pipe::Status),
+        2 => Some(Pipe::DataIn),
+        3 => Some(Pipe::DataOut),
+        _ => None,
+    }
+}
+
+/// The step that a door names.
+fn step_numbered(door: &UasBusDoor) -> Option<Step>
+    ensures step { result ≡ step_numbered door.now }
+    ensures ticket { IfSome result HasTicket }
+{
+    match door.step {
+        1 => Some(Step::CommandPipe),
+        2 => Some(Step::Data(door.tag)),
+        3 => Some(Step::Status(door.tag)),
+        4 => Some(Step::Engine),
+        5 => Some(Step::Event),
+        6 => match pipe_numbered(door.pipe) {
+            Some(pipe) => Some(Step::Retire(pipe, door.tag)),
+            None => None,
+        },
+        _ => None,
+    }
+}
+
+fn take_step(bus: &mut Bus, door: &mut UasBusDoor) -> u8
+    ensures { (bytes : List ℕ) → (result, (bus.new, (door.new, bytes))) ≡ after_step bus.old door.old bytes }
+{
+    let Some(step) = step_numbered(door) else {
+        return NO_STEP;
+    };
+    let outcome = bus.step(step);
+    show_owner(door, outcome.owner);
+    door.acted = u8::from(outcome.acted);
+    0
+}
+
+/// Tells a step's owner.
+fn show_owner(door: &mut UasBusDoor, owner: Option<usize>)
+    ensures { door.new ≡ with_owner door.old owner }
+{
+    match owner {
+        Some(owner) if owner <= u32::MAX as usize => {
+            door.has_owner = 1;
+            door.client = owner as u32;
+        }
+        _ => door.has_owner = 0,
+    }
+}
+
+fn show_due(bus: &Bus, door: &mut UasBusDoor) -> u8
+    ensures { (bytes : List ℕ) → (result, (bus.now, (door.new, bytes))) ≡ after_due bus.now door.old bytes }
+{
+    let Some(step) = step_numbered(door) else {
+        return NO_STEP;
+    };
+    door.acted = u8::from(bus.due(&step));
+    0
+}
+
+fn drain(bus: &mut Bus, door: &mut UasBusDoor) -> u8
+    ensures fault { result ≡ 0 }
+    ensures bus { bus.new ≡ (drained bus.old door.old.steps).state }
+    ensures door { door.new ≡ with_drain door.old (drained bus.old door.old.steps) }
+{
+    let (taken, quiet) = bus.drain(door.steps as usize);
+    door.steps = taken as u64;
+    door.acted = u8::from(quiet);
+    0
+}
+
+/// Takes the oldest reply of a client.
+fn take_reply(bus: &mut Bus, door: &mut UasBusDoor, bytes: &mut [u8]) -> u8
+    ensures { (result, (bus.new, (door.new, bytes.new))) ≡ after_reply bus.old door.old bytes.old }
+{
+    if bytes.len() < LONGEST_BUFFER {
+        return NO_ROOM;
+    }
+    let outcome = bus.step(Step::Take(door.client as usize));
+    match &outcome.reply {
+        Some(reply) => show_reply(reply, door, bytes),
+        None => door.acted = 0,
+    }
+    0
+}
+
+fn show_reply(reply: &Reply, door: &mut UasBusDoor, bytes: &mut [u8])
+    ensures door { door.new ≡ with_reply door.old reply.now }
+    ensures bytes { bytes.new ≡ with_buffer bytes.old reply.now }
+{
+    door.acted = 1;
+    match reply {
+        Reply::Status {
+            tag,
+            ticket,
+            status,
+            sense,
+            buffer,
+        } => {
+            door.reply = 1;
+            door.tag = *tag;
+            door.ticket = *ticket;
+            door.status = *status;
+            door.sense_length = sense.len() as u8;
+            door.sense = padded(sense);
+            door.length = show_buffer(buffer, bytes);
+        }
+        Reply::Aborted {
+            tag,
+            ticket,
+            buffer,
+        } => {
+            door.reply = 2;
+            door.tag = *tag;
+            door.ticket = *ticket;
+            door.status = 0;
+            door.sense_length = 0;
+            door.length = show_buffer(buffer, bytes);
+        }
+        Reply::Task { tag, ticket, code } => {
+            door.reply = 3;
+            door.tag = *tag;
+            door.ticket = *ticket;
+            door.status = *code;
+            door.sense_length = 0;
+            door.length = 0;
+        }
+    }
+}
+
+/// Copies a reply's buffer to the front of `bytes`, as far as they reach, and tells its length.
+fn show_buffer(buffer: &Buffer, bytes: &mut [u8]) -> u32
+    ensures length { result ≡ min (length buffer.now) (2 ^ 32 - 1) }
+    ensures bytes { bytes.new ≡ overlaid buffer.now bytes.old }
+{
+    let count = buffer.len().min(bytes.len());
+    bytes[..count].copy_from_slice(&buffer.as_slice()[..count]);
+    buffer.len().min(u32::MAX as usize) as u32
+}
+
+/// The unit of a client of the bus.
+fn unit_of(bus: &Bus, client: u32) -> Option<&Unit>
+    ensures { option_map (λ unit. unit.now) result ≡ unit_of bus.now client }
+{
+    let client = client as usize;
+    if client < bus.clients() {
+        Some(bus.unit(client))
+    } else {
+        None
+    }
+}
+
+fn contents_of(bus: &Bus, client: u32) -> Option<&[u8]>
+    ensures { option_map (λ all. all.now) result ≡ option_map (λ unit. unit.blocks) (unit_of bus.now client) }
+{
+    match unit_of(bus, client) {
+        Some(unit) => Some(unit.contents()),
+        None => None,
+    }
+}
+
+fn medium_of(bus: &Bus, client: u32) -> Option<&[u8]>
+    ensures { option_map (λ all. all.now) result ≡ option_map (λ unit. unit.medium) (unit_of bus.now client) }
+{
+    match unit_of(bus, client) {
+        Some(unit) => Some(unit.medium()),
+        None => None,
+    }
+}
+
+/// The bus's number of what a look at blocks may be refused with.
+fn show_number(shown: Result<(), DeviceRefusal>) -> u8
+    ensures { result ≡ show_number (number_of shown) }
+{
+    match shown {
+        Ok(()) => 0,
+        Err(DeviceRefusal::Unit) => NO_CLIENT,
+        Err(DeviceRefusal::Length) => NO_ROOM,
+        Err(DeviceRefusal::Range) => NO_BLOCKS,
+        Err(refusal) => refusal.number(),
+    }
+}
+
+/// A bus with the memory for its submissions.
+pub(crate) fn kept(bus: Bus, alloc: Global) -> KeptBus
+    ensures { result ≡ bus }
+{
+    KeptBus { bus, alloc }
+}

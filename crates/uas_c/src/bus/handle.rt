@@ -1,0 +1,101 @@
+//! The bus's handle in C: made, called and freed.
+ghost use Rattle.std.specs.Prelude.{◌≡◌, ℕ, List, ◌<◌, ◌^◌, true, IfOk};
+ghost use types.Logic.{sem};
+ghost use base.Fraction.{full_share};
+ghost use denote.RawPtr.{lies_at, room_at};
+ghost use Rattle.bus_core.specs.Shared.{Shared};
+ghost use Rattle.uas_c.specs.BusCall.{bus_answer, zeroed_bus};
+ghost use Rattle.uas_c.specs.Handed.{handed};
+ghost use Rattle.uas_c.specs.Units.{units_number, units_told};
+ghost use Rattle.uas_c.specs.contracts.bus.KeptBus.{the_row as bus_row};
+ghost use Rattle.uas_c.specs.contracts.bus.UasBusDoor.{the_row as door_row};
+ghost use Rattle.uas_c.specs.declared.bus.UasBusDoor.{UasBusDoor};
+
+use crate::bus::{KeptBus, UasBusDoor, kept, serve};
+use crate::units::{UnitsFault, zeroed_units};
+use bus_core::Bus;
+use std::alloc::Global;
+
+/// The bus's name in C, which knows no more of it.
+#[repr(C)]
+pub struct UasBus {
+    hidden: u8,
+}
+
+/// Makes a bus of zeroed units of so many blocks each, one for each client. 1 want of memory, 2 no client or more than 31, 3 a
+/// unit of no blocks or of more than 65,536: then `bus` is as it was.
+#[unsafe(no_mangle)]
+pub extern "C" fn uas_bus_new(alloc: Global, blocks: &[u32], bus: &mut *mut UasBus) -> u8
+    ensures fault { units_told result blocks.now ≡ true }
+    ensures refused { 0 < result → bus.new ≡ bus.old }
+{
+    match made(alloc, blocks) {
+        Ok(made) => {
+            *bus = hand_out(made);
+            0
+        }
+        Err(fault) => fault.number(),
+    }
+}
+
+fn made(alloc: Global, blocks: &[u32]) -> Result<Box<KeptBus, Global>, UnitsFault>
+    ensures bus { IfOk result (λ bus. bus.value ≡ zeroed_bus blocks.now) }
+    ensures fault { units_told (units_number result) blocks.now ≡ true }
+{
+    match Box::new(alloc, built(alloc, blocks)?) {
+        Ok(bus) => Ok(bus),
+        Err(_) => Err(UnitsFault::NoMemory),
+    }
+}
+
+fn built(alloc: Global, blocks: &[u32]) -> Result<KeptBus, UnitsFault>
+    ensures bus { IfOk result (λ bus. bus ≡ zeroed_bus blocks.now) }
+    ensures fault { units_told (units_number result) blocks.now ≡ true }
+{
+    let units = zeroed_units(alloc, blocks)?;
+    match Bus::new(alloc, units) {
+        Ok(bus) => Ok(kept(bus, alloc)),
+        Err(_) => Err(UnitsFault::NoMemory),
+    }
+}
+
+/// The pointer by which C has a bus.
+fn hand_out(bus: Box<KeptBus, Global>) -> *mut UasBus {
+    Box::into_raw(bus) as *mut UasBus
+}
+
+/// One call of a bus: `bytes` are `length` bytes, and the bus and its door are the caller's alone. What it does and answers is
+/// `bus_answer`.
+#[unsafe(no_mangle)]
+pub unsafe extern "C" fn uas_bus_call(
+    bus: *mut UasBus,
+    door: *mut UasBusDoor,
+    bytes: *mut u8,
+    length: usize,
+) -> u8
+    ghost had: { Shared × (UasBusDoor × List ℕ) }
+    requires* { sem 𝓛 (handed bus_row door_row bus door bytes length had) ∗ ⌜ length < 2 ^ 63 ⌝ }
+    ensures* { sem 𝓛 (handed bus_row door_row bus door bytes length (bus_answer result had.0 had.1.0 had.1.1).1)
+        ∗ ⌜ result ≡ (bus_answer result had.0 had.1.0 had.1.1).0 ⌝ }
+{
+    serve(
+        unsafe { &mut *(bus as *mut KeptBus) },
+        unsafe { &mut *door },
+        unsafe { std::slice::from_raw_parts_mut(bytes, length) },
+    )
+}
+
+/// Ends a bus: it gives back all memory that it holds but its own block, which is left as room and which the caller frees.
+#[unsafe(no_mangle)]
+pub unsafe extern "C" fn uas_bus_close(bus: *mut UasBus)
+    ghost value: { Shared }
+    requires* { sem 𝓛 (lies_at bus_row full_share bus value) }
+    ensures* { sem 𝓛 (room_at bus_row bus) }
+{
+    release(unsafe { std::ptr::read(bus as *mut KeptBus) });
+}
+
+/// Gives back what a bus holds.
+fn release(bus: KeptBus) {
+    drop(bus);
+}

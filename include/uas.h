@@ -1,0 +1,659 @@
+/* uas.h: USB Attached SCSI over xHCI streams for C, from a verified library (link libuas.a).
+ *
+ *   codecs   TRBs, information units, CDBs, sense and data: bytes to fields and back
+ *   device   uas_device: units in, units and data out, for up to 31 logical units of 512 byte blocks
+ *   bus      uas_bus: host, xHCI controller and device as one machine of atomic steps
+ *
+ * A call's value is its fault: 0 for done, else a number named below. A refused call changes nothing, what it would have written
+ * included; of several faults it answers the first that holds, in the order in which they are listed. Numbers in structs are in
+ * the machine's order; `reserved` is 0 where the library writes it and isn't looked at where it reads it.
+ *
+ * What the caller must uphold; all else is tested and answered by a fault:
+ *
+ *   1. No pointer is null; the data of an inline function alone may be, where its length is 0. A pointer is aligned for its type,
+ *      and behind it is as much memory as the type, the array bound or the length beside it says: never less.
+ *   2. During a call nothing else reads or writes what the call may write, and nothing writes what it reads: no two of its
+ *      arguments overlap.
+ *   3. A uas_device or uas_bus pointer comes from uas_device_new or uas_bus_new and wasn't given to its free yet.
+ *   4. A handle is in one call at a time, in the thread that made it. Calls without a handle may run in any thread.
+ *   5. The program's malloc, realloc and free are one allocator's, and align as the C standard asks (16 bytes on x86-64). Memory
+ *      is taken in uas_device_new, uas_bus_new and for the data of uas_bus_submit alone.
+ *   6. A call finds 64 KiB of stack. None is made from a signal handler, nor in the child of a fork of a program with threads.
+ *
+ * Sections are those of xHCI 1.2, of INCITS 471 (UAS), and of SPC, SBC and SAM by name. */
+#ifndef UAS_H
+#define UAS_H
+
+#include <stdbool.h>
+#include <stddef.h>
+#include <stdint.h>
+#include <stdlib.h>
+
+#ifdef __cplusplus
+extern "C" {
+#define UAS_ASSERT(what) static_assert(what, #what)
+#define UAS_ZEROED { }
+#else
+#define UAS_ASSERT(what) _Static_assert(what, #what)
+#define UAS_ZEROED { 0 }
+#endif
+
+enum {
+    UAS_BLOCK_BYTES = 512,
+    UAS_MOST_BLOCKS = 65536,     /* of a logical unit */
+    UAS_MOST_BLOCKS_MOVED = 128, /* by one READ or WRITE */
+    UAS_MOST_DATA_BYTES = 65536, /* of one command */
+    UAS_MOST_UNITS = 31,         /* logical units of a device, clients of a bus */
+    UAS_GREATEST_TAG = 248,      /* of a task; the least is 1 */
+    UAS_MOST_UNIT_BYTES = 112,   /* of an information unit */
+    UAS_MOST_SENSE_BYTES = 96    /* in an information unit */
+};
+
+/* The address that a call gets for its data: some address where it has no bytes. What is const here isn't written. */
+static inline uint8_t *uas_bytes(const uint8_t *data, size_t length)
+{
+    static uint8_t none;
+    return length > 0 ? (uint8_t *)(uintptr_t)data : &none;
+}
+
+/* ---- TRBs (xHCI 6.4) ---- */
+
+/* The type of a TRB (6.4.6). */
+enum {
+    UAS_TRB_NORMAL = 1,          /* 6.4.1.1 */
+    UAS_TRB_LINK = 6,            /* 6.4.4.1 */
+    UAS_TRB_STOP_ENDPOINT = 15,  /* 6.4.3.8 */
+    UAS_TRB_SET_DEQUEUE = 16,    /* 6.4.3.9, Set TR Dequeue Pointer */
+    UAS_TRB_TRANSFER_EVENT = 32, /* 6.4.2.1 */
+    UAS_TRB_COMMAND_EVENT = 33   /* 6.4.2.2, Command Completion Event */
+};
+
+/* The flags of a Normal TRB. */
+enum {
+    UAS_TRB_ENT = 1,  /* evaluate next TRB */
+    UAS_TRB_ISP = 2,  /* interrupt on short packet */
+    UAS_TRB_NS = 4,   /* no snoop */
+    UAS_TRB_CH = 8,   /* chain */
+    UAS_TRB_IOC = 16, /* interrupt on completion */
+    UAS_TRB_IDT = 32, /* immediate data */
+    UAS_TRB_BEI = 64  /* block event interrupt */
+};
+
+/* A TRB. A field that its type doesn't have is written as 0 and not looked at. */
+struct uas_trb {
+    uint64_t pointer;      /* Normal; Transfer Event; a multiple of 16: Link, Set TR Dequeue Pointer, Command Completion Event */
+    uint32_t length;       /* Normal: bytes, at most 65,536; Transfer Event: bytes that weren't moved, below 2^24 */
+    uint16_t stream;       /* Set TR Dequeue Pointer */
+    uint8_t type;          /* UAS_TRB_NORMAL to UAS_TRB_COMMAND_EVENT */
+    uint8_t cycle;         /* the Cycle bit, 0 or 1 */
+    uint8_t td_size;       /* Normal: packets still to come, at most 31 */
+    uint8_t flags;         /* Normal: a sum of the flags above */
+    uint8_t toggle;        /* Link: Toggle Cycle, 0 or 1 */
+    uint8_t chain;         /* Link, 0 or 1 */
+    uint8_t ioc;           /* Link: interrupt on completion, 0 or 1 */
+    uint8_t dequeue_cycle; /* Set TR Dequeue Pointer: DCS, 0 or 1; the stream context type (SCT) is always 1 */
+    uint8_t endpoint;      /* Stop Endpoint, Set TR Dequeue Pointer, Transfer Event: the endpoint ID, at most 31 */
+    uint8_t slot;          /* the same and Command Completion Event */
+    uint8_t code;          /* both events: the completion code (6.4.5) */
+    uint8_t reserved[7];
+};
+UAS_ASSERT(sizeof(struct uas_trb) == 32);
+UAS_ASSERT(offsetof(struct uas_trb, type) == 14 && offsetof(struct uas_trb, code) == 24);
+
+enum {
+    UAS_TRB_UNKNOWN_TYPE = 1, /* none of the six types */
+    UAS_TRB_LENGTH_OVER = 2,  /* a Normal TRB of more than 65,536 bytes */
+    UAS_TRB_RESERVED_SET = 3, /* a bit without a field is set, or SCT isn't 1 */
+    UAS_TRB_UNFIT = 4         /* a field doesn't fit its bits, a pointer isn't a multiple of 16, a 0-or-1 field is neither */
+};
+
+/* Writes the 16 bytes of a TRB.
+ * Faults: UAS_TRB_UNKNOWN_TYPE, UAS_TRB_UNFIT. */
+uint8_t uas_trb_encode(const struct uas_trb *trb, uint8_t bytes[16]);
+
+/* Reads a TRB. uas_trb_encode of what it gives writes the same 16 bytes.
+ * Faults: UAS_TRB_UNKNOWN_TYPE, UAS_TRB_LENGTH_OVER, UAS_TRB_RESERVED_SET. */
+uint8_t uas_trb_decode(const uint8_t bytes[16], struct uas_trb *trb);
+
+/* ---- Information units (INCITS 471, information units) ---- */
+
+/* Byte 0 of an information unit. */
+enum {
+    UAS_UNIT_COMMAND = 1,  /* 32 bytes */
+    UAS_UNIT_SENSE = 3,    /* 16 bytes and the sense data */
+    UAS_UNIT_RESPONSE = 4, /* 8 bytes */
+    UAS_UNIT_TASK = 5      /* Task Management, 16 bytes */
+};
+
+/* Task management functions. */
+enum { UAS_ABORT_TASK = 1, UAS_LOGICAL_UNIT_RESET = 8 };
+
+/* Response codes. */
+enum {
+    UAS_RESPONSE_COMPLETE = 0,
+    UAS_RESPONSE_INVALID_UNIT = 2, /* what came was no information unit */
+    UAS_RESPONSE_NOT_SUPPORTED = 4,
+    UAS_RESPONSE_INCORRECT_LUN = 9
+};
+
+/* SCSI statuses (SAM). */
+enum { UAS_GOOD = 0x00, UAS_CHECK_CONDITION = 0x02 };
+
+/* An information unit. A field that it doesn't have is written as 0 and not looked at. */
+struct uas_unit {
+    uint8_t id;           /* UAS_UNIT_COMMAND to UAS_UNIT_TASK */
+    uint8_t status;       /* Sense: a SCSI status */
+    uint8_t code;         /* Response */
+    uint8_t function;     /* Task Management */
+    uint16_t tag;
+    uint16_t task_tag;    /* Task Management: the tag of the task to be managed */
+    uint8_t lun[8];       /* Command, Task Management: unit c below 256 is 0, c and six zeros (SAM, single level LUN structure) */
+    uint8_t cdb[16];      /* Command */
+    uint8_t sense_length; /* Sense: at most 96 */
+    uint8_t sense[96];    /* its first sense_length bytes */
+    uint8_t reserved[3];
+};
+UAS_ASSERT(sizeof(struct uas_unit) == 132);
+UAS_ASSERT(offsetof(struct uas_unit, lun) == 8 && offsetof(struct uas_unit, sense) == 33);
+
+enum {
+    UAS_UNIT_UNKNOWN_ID = 1,   /* byte 0 is none of the four */
+    UAS_UNIT_SHORT = 2,        /* no byte, or fewer than the unit has */
+    UAS_UNIT_LONG = 3,         /* more bytes than the unit can have */
+    UAS_UNIT_RESERVED_SET = 4, /* a byte that has to be 0 isn't */
+    UAS_UNIT_LENGTH_FIELD = 5, /* additional CDB bytes, or a sense length that isn't what follows it */
+    UAS_UNIT_UNFIT = 6,        /* sense_length is above 96 */
+    UAS_UNIT_NO_ROOM = 7       /* the unit has more bytes than `room` */
+};
+
+/* Reads a unit from `length` bytes. uas_unit_write of what it gives writes the same bytes.
+ * Faults: UAS_UNIT_UNKNOWN_ID, _SHORT, _LONG, _RESERVED_SET, _LENGTH_FIELD; no byte at all is _SHORT. */
+uint8_t uas_unit_read(const uint8_t *bytes, size_t length, struct uas_unit *unit);
+
+/* Writes a unit into the first *length of `room` bytes; the others stay.
+ * Faults: UAS_UNIT_UNKNOWN_ID, UAS_UNIT_UNFIT, UAS_UNIT_NO_ROOM. */
+uint8_t uas_unit_write(const struct uas_unit *unit, uint8_t *bytes, size_t room, size_t *length);
+
+/* ---- CDBs, sense and data (SPC, SBC) ---- */
+
+/* Operation codes. */
+enum {
+    UAS_TEST_UNIT_READY = 0x00,     /* SPC */
+    UAS_INQUIRY = 0x12,             /* SPC */
+    UAS_READ_CAPACITY_10 = 0x25,    /* SBC */
+    UAS_READ_10 = 0x28,             /* SBC */
+    UAS_WRITE_10 = 0x2a,            /* SBC */
+    UAS_SYNCHRONIZE_CACHE_10 = 0x35 /* SBC */
+};
+
+enum { UAS_NO_DATA = 0, UAS_TO_HOST = 1, UAS_TO_DEVICE = 2 };
+
+/* What a CDB asks for. A field that its command doesn't have is written as 0 and not looked at. */
+struct uas_operation {
+    uint32_t lba;       /* READ, WRITE, SYNCHRONIZE CACHE: the first block */
+    uint32_t count;     /* the same: blocks (0: none; SYNCHRONIZE CACHE: all from lba on); INQUIRY: the allocation length */
+    uint32_t bytes;     /* what the command moves: written by uas_cdb_parse, looked at nowhere */
+    uint8_t opcode;     /* UAS_TEST_UNIT_READY to UAS_SYNCHRONIZE_CACHE_10 */
+    uint8_t fua;        /* READ, WRITE: force unit access, 0 or 1 */
+    uint8_t direction;  /* UAS_NO_DATA, UAS_TO_HOST, UAS_TO_DEVICE: as `bytes` */
+    uint8_t reserved;
+};
+UAS_ASSERT(sizeof(struct uas_operation) == 16 && offsetof(struct uas_operation, opcode) == 12);
+
+/* Sense key, additional sense code and its qualifier (SPC). The library answers these:
+ *   3/0c/00 write error               5/24/00 invalid field in CDB
+ *   3/11/00 unrecovered read error    5/25/00 logical unit not supported
+ *   5/20/00 invalid operation code    6/29/03 bus device reset function occurred
+ *   5/21/00 block out of range */
+struct uas_sense {
+    uint8_t key;
+    uint8_t asc;
+    uint8_t ascq;
+    uint8_t reserved;
+};
+UAS_ASSERT(sizeof(struct uas_sense) == 4);
+
+enum {
+    UAS_CDB_CHECK = 1,          /* CHECK CONDITION with the sense that was written */
+    UAS_CDB_UNKNOWN_OPCODE = 2, /* none of the six */
+    UAS_CDB_UNFIT = 3           /* count above 65,535, or fua neither 0 nor 1 */
+};
+
+/* What a CDB asks of a unit of so many blocks: *operation is written, or, with the fault UAS_CDB_CHECK, *sense alone. First come
+ * operation codes, then fields (EVPD, a page, protection, more than 128 blocks to READ or WRITE), then blocks. */
+uint8_t uas_cdb_parse(const uint8_t cdb[16], uint32_t blocks, struct uas_operation *operation, struct uas_sense *sense);
+
+/* The CDB of an operation, padded with zeros.
+ * Faults: UAS_CDB_UNKNOWN_OPCODE, UAS_CDB_UNFIT. */
+uint8_t uas_cdb_write(const struct uas_operation *operation, uint8_t cdb[16]);
+
+/* Sense data in the fixed format (SPC). No fault. */
+void uas_sense_data(const struct uas_sense *sense, uint8_t bytes[18]);
+
+/* Standard INQUIRY data (SPC), of a unit that is there or isn't. No fault. */
+void uas_inquiry_data(bool present, uint8_t bytes[36]);
+
+enum { UAS_CAPACITY_NO_BLOCKS = 1 };
+
+/* READ CAPACITY(10) data (SBC).
+ * Fault: UAS_CAPACITY_NO_BLOCKS where `blocks` is 0. */
+uint8_t uas_capacity_data(uint32_t blocks, uint8_t bytes[8]);
+
+/* ---- The device (INCITS 471, SAM) ----
+ *
+ *                receive                        give, take                  sent
+ *     no task ------------> UAS_GIVES, UAS_TAKES ----------> UAS_ENDS ----------> no task
+ *        |                                                      ^
+ *        +------------------------------------------------------+
+ *          receive: no data, a fault, an attention, task management, bytes that are no unit
+ *
+ * A task is named by its tag, 1 to 248. uas_device_wants tells what the device does next on a tag: it gives or takes a chunk of
+ * data (at most 8 blocks), or it ends, and uas_device_status tells the unit that answers. Data is moved on the blocks of that
+ * moment. A logical unit keeps its blocks, and its medium, to which a WRITE with FUA and SYNCHRONIZE CACHE bring them. */
+typedef struct uas_device uas_device;
+
+enum {
+    UAS_NO_MEMORY = 1,
+    UAS_DEVICE_UNITS = 2, /* no unit, or more than 31 */
+    UAS_DEVICE_BLOCKS = 3 /* a unit of no block, or of more than 65,536 */
+};
+
+/* A device of `units` logical units, unit c of blocks[c] zeroed blocks, without a task. *device is for uas_device_free.
+ * Faults: UAS_DEVICE_UNITS, UAS_DEVICE_BLOCKS, UAS_NO_MEMORY. */
+uint8_t uas_device_new(const uint32_t *blocks, size_t units, uas_device **device);
+
+/* Gives back all memory that the device holds, but the block of malloc that the pointer is of. For uas_device_free alone. */
+void uas_device_close(uas_device *device);
+
+/* Gives all its memory back. No fault. */
+static inline void uas_device_free(uas_device *device)
+{
+    uas_device_close(device);
+    free(device);
+}
+
+/* Which call of the device. */
+enum {
+    UAS_DEVICE_CALL_RECEIVE = 1,
+    UAS_DEVICE_CALL_WANTS = 2,
+    UAS_DEVICE_CALL_GIVE = 3,
+    UAS_DEVICE_CALL_TAKE = 4,
+    UAS_DEVICE_CALL_STATUS = 5,
+    UAS_DEVICE_CALL_SENT = 6,
+    UAS_DEVICE_CALL_SIZE = 7,
+    UAS_DEVICE_CALL_BLOCKS = 8,
+    UAS_DEVICE_CALL_MEDIUM = 9
+};
+
+/* What the device does next on a tag. */
+enum { UAS_ABSENT = 0, UAS_GIVES = 1, UAS_TAKES = 2, UAS_ENDS = 3 };
+
+enum {
+    UAS_DEVICE_CALL = 1,    /* there is no such call */
+    UAS_DEVICE_OVERLAP = 2, /* the tag of the unit has a task */
+    UAS_DEVICE_PHASE = 3,   /* the tag isn't at this */
+    UAS_DEVICE_LENGTH = 4,  /* data isn't as long as the chunk, is shorter than the unit, or is no multiple of 512 */
+    UAS_DEVICE_UNIT = 5,    /* there is no such logical unit */
+    UAS_DEVICE_RANGE = 6    /* blocks beyond the unit's last */
+};
+
+/* What goes in and comes out beside the data, where a call has it. */
+struct uas_device_door {
+    uint8_t call;     /* in: UAS_DEVICE_CALL_... */
+    uint8_t phase;    /* out of WANTS */
+    uint8_t good;     /* out of GIVE, TAKE: 1, or 0 at a bad block; out of RECEIVE: 1 where a task began */
+    uint8_t reserved;
+    uint16_t tag;     /* in; out of RECEIVE where a task began */
+    uint16_t unit;    /* in of SIZE, BLOCKS, MEDIUM: the number of the logical unit */
+    uint32_t lba;     /* in of BLOCKS, MEDIUM */
+    uint32_t length;  /* out of WANTS: bytes of the chunk; of STATUS: bytes of the unit; of SIZE: blocks */
+};
+UAS_ASSERT(sizeof(struct uas_device_door) == 16 && offsetof(struct uas_device_door, length) == 12);
+
+/* Any call of the device; those below are easier to use. Where a call has no data, `length` may be 0.
+ * Fault: UAS_DEVICE_CALL, and those of the call. */
+uint8_t uas_device_call(uas_device *device, struct uas_device_door *door, uint8_t *data, size_t length);
+
+/* The device receives the bytes of a unit, or any others. *tag is the tag on which a task began, or 0: nothing came of it.
+ * Bytes that are no unit are answered on a free tag that bytes 2 and 3 name, else dropped, as are Sense and Response units.
+ * Fault: UAS_DEVICE_OVERLAP. */
+static inline uint8_t uas_device_receive(uas_device *device, const uint8_t *bytes, size_t length, uint16_t *tag)
+{
+    struct uas_device_door door = UAS_ZEROED;
+    door.call = UAS_DEVICE_CALL_RECEIVE;
+    uint8_t fault = uas_device_call(device, &door, uas_bytes(bytes, length), length);
+    if (fault == 0)
+        *tag = door.good ? door.tag : 0;
+    return fault;
+}
+
+/* What the device does next on a tag; *length is the bytes of the chunk that it gives or takes. No fault. */
+static inline uint8_t uas_device_wants(uas_device *device, uint16_t tag, uint8_t *phase, uint32_t *length)
+{
+    struct uas_device_door door = UAS_ZEROED;
+    door.call = UAS_DEVICE_CALL_WANTS;
+    door.tag = tag;
+    uint8_t fault = uas_device_call(device, &door, uas_bytes(NULL, 0), 0);
+    if (fault == 0) {
+        *phase = door.phase;
+        *length = door.length;
+    }
+    return fault;
+}
+
+/* Fills `data`, which is as long as the chunk. *good is false at a bad block: data is as it was, and the command has ended with
+ * 3/11/00.
+ * Faults: UAS_DEVICE_PHASE, UAS_DEVICE_LENGTH. */
+static inline uint8_t uas_device_give(uas_device *device, uint16_t tag, uint8_t *data, size_t length, bool *good)
+{
+    struct uas_device_door door = UAS_ZEROED;
+    door.call = UAS_DEVICE_CALL_GIVE;
+    door.tag = tag;
+    uint8_t fault = uas_device_call(device, &door, uas_bytes(data, length), length);
+    if (fault == 0)
+        *good = door.good != 0;
+    return fault;
+}
+
+/* Takes `data`, which is as long as the chunk. *good is false at a bad block: the blocks are as they were, and the command has
+ * ended with 3/0c/00.
+ * Faults: UAS_DEVICE_PHASE, UAS_DEVICE_LENGTH. */
+static inline uint8_t uas_device_take(uas_device *device, uint16_t tag, const uint8_t *data, size_t length, bool *good)
+{
+    struct uas_device_door door = UAS_ZEROED;
+    door.call = UAS_DEVICE_CALL_TAKE;
+    door.tag = tag;
+    uint8_t fault = uas_device_call(device, &door, uas_bytes(data, length), length);
+    if (fault == 0)
+        *good = door.good != 0;
+    return fault;
+}
+
+/* Writes the unit that answers a task into the first *length of `room` bytes: Sense, or Response. 112 bytes always do.
+ * Faults: UAS_DEVICE_PHASE, UAS_DEVICE_LENGTH. */
+static inline uint8_t uas_device_status(uas_device *device, uint16_t tag, uint8_t *bytes, size_t room, uint32_t *length)
+{
+    struct uas_device_door door = UAS_ZEROED;
+    door.call = UAS_DEVICE_CALL_STATUS;
+    door.tag = tag;
+    uint8_t fault = uas_device_call(device, &door, uas_bytes(bytes, room), room);
+    if (fault == 0)
+        *length = door.length;
+    return fault;
+}
+
+/* The answer was sent: the tag has no task any more.
+ * Fault: UAS_DEVICE_PHASE. */
+static inline uint8_t uas_device_sent(uas_device *device, uint16_t tag)
+{
+    struct uas_device_door door = UAS_ZEROED;
+    door.call = UAS_DEVICE_CALL_SENT;
+    door.tag = tag;
+    return uas_device_call(device, &door, uas_bytes(NULL, 0), 0);
+}
+
+/* How many blocks a logical unit has.
+ * Fault: UAS_DEVICE_UNIT. */
+static inline uint8_t uas_device_size(uas_device *device, uint16_t unit, uint32_t *blocks)
+{
+    struct uas_device_door door = UAS_ZEROED;
+    door.call = UAS_DEVICE_CALL_SIZE;
+    door.unit = unit;
+    uint8_t fault = uas_device_call(device, &door, uas_bytes(NULL, 0), 0);
+    if (fault == 0)
+        *blocks = door.length;
+    return fault;
+}
+
+static inline uint8_t uas_device_copy(uas_device *device, uint8_t call, uint16_t unit, uint32_t lba, uint8_t *data, size_t length)
+{
+    struct uas_device_door door = UAS_ZEROED;
+    door.call = call;
+    door.unit = unit;
+    door.lba = lba;
+    return uas_device_call(device, &door, uas_bytes(data, length), length);
+}
+
+/* The blocks of a logical unit from `lba` on, as a READ of this moment would give them. Needs no task.
+ * Faults: UAS_DEVICE_UNIT, UAS_DEVICE_LENGTH (no multiple of 512), UAS_DEVICE_RANGE. */
+static inline uint8_t uas_device_blocks(uas_device *device, uint16_t unit, uint32_t lba, uint8_t *data, size_t length)
+{
+    return uas_device_copy(device, UAS_DEVICE_CALL_BLOCKS, unit, lba, data, length);
+}
+
+/* The same of the medium. */
+static inline uint8_t uas_device_medium(uas_device *device, uint16_t unit, uint32_t lba, uint8_t *data, size_t length)
+{
+    return uas_device_copy(device, UAS_DEVICE_CALL_MEDIUM, unit, lba, data, length);
+}
+
+/* ---- The bus (xHCI 4.6, 4.11, 4.12; INCITS 471) ----
+ *
+ *   client --submit--> command pipe --step--> device --step--> data
+ *                                                |
+ *   client <--reply-- ready <--step-- event <--step-- status
+ *
+ * Up to 31 clients, each with a logical unit of its own. Client c has the tags 8c + 1 to 8c + 7 for commands, and 8c + 8 under
+ * which its task management goes. A ticket names a submission: it is below 2^60, and rises for each client. What was submitted
+ * goes on by steps, in any order; a step that isn't due changes nothing. uas_bus_drain takes what is due until nothing is.
+ * A client's replies, blocks and medium are those of a disk that it had alone, whatever the others do, for every list of steps. */
+typedef struct uas_bus uas_bus;
+
+enum {
+    UAS_BUS_CLIENTS = 2, /* no client, or more than 31 */
+    UAS_BUS_BLOCKS = 3   /* a unit of no block, or of more than 65,536 */
+};
+
+/* A bus of `clients` clients, client c with a unit of blocks[c] zeroed blocks. *bus is for uas_bus_free.
+ * Faults: UAS_BUS_CLIENTS, UAS_BUS_BLOCKS, UAS_NO_MEMORY. */
+uint8_t uas_bus_new(const uint32_t *blocks, size_t clients, uas_bus **bus);
+
+/* Gives back all memory that the bus holds, but the block of malloc that the pointer is of. For uas_bus_free alone. */
+void uas_bus_close(uas_bus *bus);
+
+/* Gives all its memory back, and that of commands that got no reply. No fault. */
+static inline void uas_bus_free(uas_bus *bus)
+{
+    uas_bus_close(bus);
+    free(bus);
+}
+
+/* Which call of the bus. */
+enum {
+    UAS_BUS_CALL_SUBMIT = 1,
+    UAS_BUS_CALL_TASK = 2,
+    UAS_BUS_CALL_STEP = 3,
+    UAS_BUS_CALL_DUE = 4,
+    UAS_BUS_CALL_DRAIN = 5,
+    UAS_BUS_CALL_REPLY = 7,
+    UAS_BUS_CALL_BLOCKS = 8,
+    UAS_BUS_CALL_MEDIUM = 9
+};
+
+/* Steps. */
+enum {
+    UAS_STEP_COMMAND = 1, /* the device receives the oldest unit of the command pipe */
+    UAS_STEP_DATA = 2,    /* the controller moves a chunk of the tag's data */
+    UAS_STEP_STATUS = 3,  /* the controller moves the tag's status */
+    UAS_STEP_ENGINE = 4,  /* the controller executes the oldest command of its own ring (4.6.9, 4.6.10) */
+    UAS_STEP_EVENT = 5,   /* the host takes the oldest event */
+    UAS_STEP_RETIRE = 6   /* the host begins to take the tag's TD, which nothing will complete, off a pipe */
+};
+
+/* Pipes of UAS_STEP_RETIRE. */
+enum { UAS_PIPE_STATUS = 1, UAS_PIPE_DATA_IN = 2, UAS_PIPE_DATA_OUT = 3 };
+
+/* Kinds of reply. */
+enum {
+    UAS_REPLY_STATUS = 1,  /* a command's status, and its data */
+    UAS_REPLY_ABORTED = 2, /* a task management ended the command; its data as filled so far */
+    UAS_REPLY_TASK = 3     /* a task management's response */
+};
+
+enum {
+    UAS_BUS_NOT_YOURS = 1,    /* no such client, or the tag is no command tag of it */
+    UAS_BUS_IN_USE = 2,       /* something is under the tag, or under the tag of task management */
+    UAS_BUS_BAD_LENGTH = 3,   /* the data isn't as long as what the command moves */
+    UAS_BUS_TOO_LONG = 4,     /* a READ or WRITE of more than 128 blocks */
+    UAS_BUS_OUT_OF_TURN = 5,  /* the ticket isn't above the client's last accepted one */
+    UAS_BUS_NO_SUCH_TASK = 6, /* no command of the client is under the tag to abort */
+    UAS_BUS_NO_MEMORY = 16,
+    UAS_BUS_CALL = 17,      /* there is no such call */
+    UAS_BUS_STEP = 18,      /* there is no such step, or no such pipe */
+    UAS_BUS_OPERATION = 19, /* an unknown operation code, count above 65,535, or fua neither 0 nor 1 */
+    UAS_BUS_TICKET = 20,    /* 2^60 or more */
+    UAS_BUS_LENGTH = 21,    /* less than 65,536 bytes for a reply's data, or no multiple of 512 */
+    UAS_BUS_FUNCTION = 22,  /* neither UAS_ABORT_TASK nor UAS_LOGICAL_UNIT_RESET */
+    UAS_BUS_CLIENT = 23,    /* there is no such client */
+    UAS_BUS_RANGE = 24      /* blocks beyond the unit's last */
+};
+
+/* What goes in and comes out beside the data, where a call has it. */
+struct uas_bus_door {
+    uint64_t ticket;                /* in of SUBMIT, TASK; out of REPLY */
+    uint64_t steps;                 /* in of DRAIN: the most steps; out: how many acted */
+    struct uas_operation operation; /* in of SUBMIT; of BLOCKS and MEDIUM its lba */
+    uint32_t client;                /* in of SUBMIT, TASK, REPLY, BLOCKS, MEDIUM; out of STEP: whose step it was */
+    uint32_t length;                /* out of REPLY: bytes of its data */
+    uint16_t tag;                   /* in of SUBMIT, TASK, STEP, DUE; out of REPLY */
+    uint8_t call;                   /* in: UAS_BUS_CALL_... */
+    uint8_t step;                   /* in of STEP, DUE */
+    uint8_t pipe;                   /* in of STEP, DUE with UAS_STEP_RETIRE */
+    uint8_t function;               /* in of TASK: UAS_ABORT_TASK of `tag`, UAS_LOGICAL_UNIT_RESET */
+    uint8_t acted;                  /* out of STEP, DUE: 0 or 1; of DRAIN: 1 where nothing is due; of REPLY: 1 where one was ready */
+    uint8_t has_owner;              /* out of STEP: 1 where `client` tells whose step it was */
+    uint8_t reply;                  /* out of REPLY: UAS_REPLY_... */
+    uint8_t status;                 /* out of REPLY: the SCSI status, or a task management's response code */
+    uint8_t sense_length;           /* out of REPLY */
+    uint8_t reserved[5];
+    uint8_t sense[96];              /* out of REPLY: its first sense_length bytes */
+};
+UAS_ASSERT(sizeof(struct uas_bus_door) == 152 && offsetof(struct uas_bus_door, operation) == 16);
+UAS_ASSERT(offsetof(struct uas_bus_door, call) == 42 && offsetof(struct uas_bus_door, sense) == 56);
+
+/* Any call of the bus; those below are easier to use. Where a call has no data, `length` may be 0.
+ * Fault: UAS_BUS_CALL, and those of the call. */
+uint8_t uas_bus_call(uas_bus *bus, struct uas_bus_door *door, uint8_t *data, size_t length);
+
+/* A client submits a command under one of its command tags. `data` is as long as what the command moves (READ and WRITE 512
+ * bytes a block, INQUIRY the least of count and 36, READ CAPACITY 8) and is copied; of a READ it is what the reply brings where
+ * no chunk came.
+ * Faults: UAS_BUS_TICKET, UAS_BUS_OPERATION, UAS_BUS_NO_MEMORY, UAS_BUS_NOT_YOURS to UAS_BUS_OUT_OF_TURN. */
+static inline uint8_t uas_bus_submit(uas_bus *bus, uint32_t client, uint16_t tag, uint64_t ticket,
+                                     const struct uas_operation *operation, const uint8_t *data, size_t length)
+{
+    struct uas_bus_door door = UAS_ZEROED;
+    door.call = UAS_BUS_CALL_SUBMIT;
+    door.client = client;
+    door.tag = tag;
+    door.ticket = ticket;
+    door.operation = *operation;
+    return uas_bus_call(bus, &door, uas_bytes(data, length), length);
+}
+
+/* A client submits a task management: UAS_ABORT_TASK of its command under `tag`, or UAS_LOGICAL_UNIT_RESET of its unit. It ends
+ * the commands that it names and that were submitted before it; each is then replied to as aborted.
+ * Faults: UAS_BUS_TICKET, UAS_BUS_FUNCTION, UAS_BUS_NOT_YOURS, UAS_BUS_IN_USE, UAS_BUS_OUT_OF_TURN, UAS_BUS_NO_SUCH_TASK. */
+static inline uint8_t uas_bus_task(uas_bus *bus, uint32_t client, uint64_t ticket, uint8_t function, uint16_t tag)
+{
+    struct uas_bus_door door = UAS_ZEROED;
+    door.call = UAS_BUS_CALL_TASK;
+    door.client = client;
+    door.ticket = ticket;
+    door.function = function;
+    door.tag = tag;
+    return uas_bus_call(bus, &door, uas_bytes(NULL, 0), 0);
+}
+
+/* Takes one step, if it is due. `tag` is looked at by the steps DATA, STATUS and RETIRE, `pipe` by RETIRE. *owner is the client
+ * whose step it was, or -1 where it was nobody's.
+ * Fault: UAS_BUS_STEP. */
+static inline uint8_t uas_bus_step(uas_bus *bus, uint8_t step, uint8_t pipe, uint16_t tag, bool *acted, int *owner)
+{
+    struct uas_bus_door door = UAS_ZEROED;
+    door.call = UAS_BUS_CALL_STEP;
+    door.step = step;
+    door.pipe = pipe;
+    door.tag = tag;
+    uint8_t fault = uas_bus_call(bus, &door, uas_bytes(NULL, 0), 0);
+    if (fault == 0) {
+        *acted = door.acted != 0;
+        *owner = door.has_owner ? (int)door.client : -1;
+    }
+    return fault;
+}
+
+/* Whether a step would act.
+ * Fault: UAS_BUS_STEP. */
+static inline uint8_t uas_bus_due(uas_bus *bus, uint8_t step, uint8_t pipe, uint16_t tag, bool *due)
+{
+    struct uas_bus_door door = UAS_ZEROED;
+    door.call = UAS_BUS_CALL_DUE;
+    door.step = step;
+    door.pipe = pipe;
+    door.tag = tag;
+    uint8_t fault = uas_bus_call(bus, &door, uas_bytes(NULL, 0), 0);
+    if (fault == 0)
+        *due = door.acted != 0;
+    return fault;
+}
+
+/* Takes steps until none is due, but at most `most`. *taken is how many acted; *quiet is false where `most` did. No fault. */
+static inline uint8_t uas_bus_drain(uas_bus *bus, uint64_t most, uint64_t *taken, bool *quiet)
+{
+    struct uas_bus_door door = UAS_ZEROED;
+    door.call = UAS_BUS_CALL_DRAIN;
+    door.steps = most;
+    uint8_t fault = uas_bus_call(bus, &door, uas_bytes(NULL, 0), 0);
+    if (fault == 0) {
+        *taken = door.steps;
+        *quiet = door.acted != 0;
+    }
+    return fault;
+}
+
+/* The client takes its oldest reply that is ready, which frees its tag. `data` has room for UAS_MOST_DATA_BYTES. reply->acted is 1
+ * where there was one; then ticket, tag, reply, status, length and sense are written, and the first reply->length bytes of data.
+ * A client that isn't there has none.
+ * Fault: UAS_BUS_LENGTH. */
+static inline uint8_t uas_bus_reply(uas_bus *bus, uint32_t client, uint8_t *data, size_t length, struct uas_bus_door *reply)
+{
+    struct uas_bus_door door = UAS_ZEROED;
+    door.call = UAS_BUS_CALL_REPLY;
+    door.client = client;
+    uint8_t fault = uas_bus_call(bus, &door, uas_bytes(data, length), length);
+    if (fault == 0)
+        *reply = door;
+    return fault;
+}
+
+static inline uint8_t uas_bus_copy(uas_bus *bus, uint8_t call, uint32_t client, uint32_t lba, uint8_t *data, size_t length)
+{
+    struct uas_bus_door door = UAS_ZEROED;
+    door.call = call;
+    door.client = client;
+    door.operation.lba = lba;
+    return uas_bus_call(bus, &door, uas_bytes(data, length), length);
+}
+
+/* The blocks of a client's unit from `lba` on, as a READ of this moment would give them.
+ * Faults: UAS_BUS_CLIENT, UAS_BUS_LENGTH (no multiple of 512), UAS_BUS_RANGE. */
+static inline uint8_t uas_bus_blocks(uas_bus *bus, uint32_t client, uint32_t lba, uint8_t *data, size_t length)
+{
+    return uas_bus_copy(bus, UAS_BUS_CALL_BLOCKS, client, lba, data, length);
+}
+
+/* The same of the medium. */
+static inline uint8_t uas_bus_medium(uas_bus *bus, uint32_t client, uint32_t lba, uint8_t *data, size_t length)
+{
+    return uas_bus_copy(bus, UAS_BUS_CALL_MEDIUM, client, lba, data, length);
+}
+
+#undef UAS_ASSERT
+#undef UAS_ZEROED
+
+#ifdef __cplusplus
+}
+#endif
+
+#endif

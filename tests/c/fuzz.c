@@ -1,0 +1,829 @@
+/* Random inputs, each compared with a second implementation or with the bus itself in another setting.
+ *
+ *   fuzz KIND COUNT SEED    KIND is trb, unit, cdb, device or bus
+ *
+ * It takes all memory at the start. The last line tells how often each fault was answered; a fault that is never answered in
+ * 100,000 inputs or more is a failure too. */
+#include "check.h"
+#include "second_bus.h"
+#include "uas.h"
+
+static uint64_t state;
+
+static uint64_t drawn(void)
+{
+    state ^= state << 13;
+    state ^= state >> 7;
+    state ^= state << 17;
+    return state * 0x2545f4914f6cdd1d >> 16;
+}
+
+static uint32_t below(uint32_t bound)
+{
+    return (uint32_t)(drawn() % bound);
+}
+
+static bool one_in(uint32_t count)
+{
+    return below(count) == 0;
+}
+
+static void draw_bytes(uint8_t *bytes, size_t length)
+{
+    for (size_t i = 0; i < length; i++)
+        bytes[i] = (uint8_t)drawn();
+}
+
+/* Sets a few bits or bytes to others. */
+static void spoil(uint8_t *bytes, size_t length)
+{
+    for (uint32_t times = 1 + below(3); length > 0 && times > 0; times--) {
+        size_t at = below((uint32_t)length);
+        bytes[at] = one_in(2) ? (uint8_t)(bytes[at] ^ 1u << below(8)) : (uint8_t)drawn();
+    }
+}
+
+/* How often each fault came. */
+static unsigned long seen[32];
+
+static uint8_t saw(uint8_t fault)
+{
+    seen[fault < 32 ? fault : 31]++;
+    return fault;
+}
+
+static unsigned long input;
+
+static bool agree(bool good, const char *what, int line)
+{
+    if (good)
+        return true;
+    if (failed++ < 20)
+        fprintf(stderr, "fuzz.c:%d: input %lu: %s\n", line, input, what);
+    return false;
+}
+
+#define AGREE(good) agree((good), #good, __LINE__)
+
+static uint8_t small_or_any(uint32_t most)
+{
+    return (uint8_t)(one_in(16) ? drawn() : below(most + 1));
+}
+
+/* ---- TRBs ---- */
+
+static const uint8_t trb_types[] = { 1, 6, 15, 16, 32, 33 };
+
+static void draw_trb(struct uas_trb *trb)
+{
+    draw_bytes((uint8_t *)trb, sizeof *trb);
+    trb->type = one_in(16) ? (uint8_t)drawn() : trb_types[below(6)];
+    trb->cycle = small_or_any(1);
+    trb->td_size = small_or_any(31);
+    trb->flags = small_or_any(127);
+    trb->toggle = small_or_any(1);
+    trb->chain = small_or_any(1);
+    trb->ioc = small_or_any(1);
+    trb->dequeue_cycle = small_or_any(1);
+    trb->endpoint = small_or_any(31);
+    if (!one_in(8))
+        trb->pointer &= ~(uint64_t)15;
+    switch (below(4)) {
+    case 0:
+        trb->length %= 65536;
+        break;
+    case 1:
+        trb->length = 65530 + below(16);
+        break;
+    case 2:
+        trb->length = (1u << 24) - 8 + below(16);
+        break;
+    default:
+        trb->length %= 1u << 24;
+    }
+}
+
+static void fuzz_trb(struct guarded memory, struct guarded out)
+{
+    struct uas_trb drawn_trb, second, before;
+    struct uas_trb *trb = (struct uas_trb *)(void *)at_end(out, sizeof *trb);
+    uint8_t *bytes = at_end(memory, 16), text[16], kept[16];
+
+    draw_trb(&drawn_trb);
+    draw_bytes(kept, 16);
+    memcpy(bytes, kept, 16);
+    memcpy(text, kept, 16);
+    *trb = drawn_trb;
+    uint8_t fault = saw(uas_trb_encode(trb, bytes));
+    AGREE(fault == second_trb_encode(&drawn_trb, text));
+    AGREE(memcmp(bytes, text, 16) == 0);
+    AGREE(memcmp(trb, &drawn_trb, sizeof *trb) == 0);
+
+    if (fault != 0 || one_in(3)) {
+        draw_bytes(bytes, 16);
+        uint8_t high = one_in(2) ? 3 : 0;
+        bytes[13] = (uint8_t)(trb_types[below(6)] << 2 | (bytes[13] & high));
+    } else if (one_in(2))
+        spoil(bytes, 16);
+    memcpy(text, bytes, 16);
+    draw_trb(&before);
+    second = *trb = before;
+    fault = saw(uas_trb_decode(bytes, trb));
+    AGREE(fault == second_trb_decode(bytes, &second));
+    AGREE(memcmp(trb, &second, sizeof *trb) == 0);
+    if (fault == 0) {
+        AGREE(uas_trb_encode(trb, bytes) == 0);
+        AGREE(memcmp(bytes, text, 16) == 0);
+    }
+}
+
+/* ---- Information units ---- */
+
+static void draw_unit(struct uas_unit *unit)
+{
+    static const uint8_t ids[] = { 1, 3, 4, 5 };
+    draw_bytes((uint8_t *)unit, sizeof *unit);
+    unit->id = one_in(16) ? (uint8_t)drawn() : ids[below(4)];
+    unit->sense_length = one_in(16) ? (uint8_t)(90 + below(16)) : (uint8_t)below(97);
+}
+
+static void fuzz_unit(struct guarded memory, struct guarded out)
+{
+    struct uas_unit before, second;
+    struct uas_unit *unit = (struct uas_unit *)(void *)at_end(out, sizeof *unit);
+    uint8_t text[160], kept[160];
+    size_t room = one_in(2) ? 112 : below(120), length = 7777, second_length = 7777;
+    uint8_t *bytes = at_end(memory, room);
+
+    draw_unit(&before);
+    *unit = before;
+    draw_bytes(kept, room);
+    memcpy(bytes, kept, room);
+    memcpy(text, kept, room);
+    uint8_t fault = saw(uas_unit_write(unit, bytes, room, &length));
+    AGREE(fault == second_unit_write(&before, text, room, &second_length));
+    AGREE(length == second_length);
+    AGREE(memcmp(bytes, text, room) == 0);
+    AGREE(memcmp(unit, &before, sizeof *unit) == 0);
+
+    if (fault != 0 || one_in(4)) {
+        length = below(130);
+        draw_bytes(text, length);
+        for (size_t i = 0; i < length; i++)
+            if (!one_in(64))
+                text[i] = 0;
+        if (length > 0)
+            text[0] = (uint8_t)below(7);
+    } else if (one_in(2))
+        spoil(text, length);
+    if (one_in(16))
+        length = length > 0 ? length - 1 : length;
+    else if (one_in(16))
+        text[length++] = (uint8_t)below(2);
+    bytes = at_end(memory, length);
+    memcpy(bytes, text, length);
+    draw_unit(&before);
+    second = *unit = before;
+    fault = saw(uas_unit_read(bytes, length, unit));
+    AGREE(fault == second_unit_read(bytes, length, &second));
+    AGREE(memcmp(unit, &second, sizeof *unit) == 0);
+    AGREE(memcmp(bytes, text, length) == 0);
+    if (fault == 0) {
+        size_t again = 0;
+        AGREE(uas_unit_write(unit, bytes, length, &again) == 0);
+        AGREE(again == length && memcmp(bytes, text, length) == 0);
+    }
+}
+
+/* ---- CDBs ---- */
+
+static const uint8_t opcodes[] = { 0x00, 0x12, 0x25, 0x28, 0x2a, 0x35 };
+
+static void draw_operation(struct uas_operation *operation, uint32_t blocks)
+{
+    draw_bytes((uint8_t *)operation, sizeof *operation);
+    operation->opcode = one_in(32) ? (uint8_t)drawn() : opcodes[below(6)];
+    operation->fua = small_or_any(1);
+    if (!one_in(16)) {
+        operation->lba = one_in(8) ? blocks - 2 + below(4) : below(blocks + 1);
+        operation->count = one_in(8) ? 120 + below(16) : below(20);
+    } else
+        operation->count = one_in(2) ? 65530 + below(12) : (uint32_t)drawn();
+}
+
+static void fuzz_cdb(struct guarded memory, struct guarded out)
+{
+    struct uas_operation before, second;
+    struct uas_operation *operation = (struct uas_operation *)(void *)at_end(out, sizeof *operation);
+    struct uas_sense sense, second_sense;
+    uint8_t *cdb = at_end(memory, 16), text[36], given[36];
+    uint32_t blocks = one_in(4) ? (uint32_t)drawn() : below(200);
+
+    draw_operation(&before, blocks);
+    *operation = before;
+    draw_bytes(cdb, 16);
+    memcpy(text, cdb, 16);
+    uint8_t fault = saw(uas_cdb_write(operation, cdb));
+    AGREE(fault == second_cdb_write(&before, text));
+    AGREE(memcmp(cdb, text, 16) == 0);
+
+    if (fault != 0 || one_in(8)) {
+        draw_bytes(cdb, 16);
+        cdb[0] = one_in(4) ? cdb[0] : opcodes[below(6)];
+    } else if (one_in(2))
+        spoil(cdb, one_in(2) ? 9 : 16);
+    draw_bytes((uint8_t *)&before, sizeof before);
+    draw_bytes((uint8_t *)&sense, sizeof sense);
+    second = *operation = before;
+    second_sense = sense;
+    fault = saw(uas_cdb_parse(cdb, blocks, operation, &sense));
+    AGREE(fault == second_cdb_parse(cdb, blocks, &second, &second_sense));
+    AGREE(memcmp(operation, &second, sizeof second) == 0);
+    AGREE(memcmp(&sense, &second_sense, sizeof sense) == 0);
+
+    draw_bytes((uint8_t *)&sense, sizeof sense);
+    uas_sense_data(&sense, at_end(memory, 18));
+    second_sense_data(&sense, text);
+    AGREE(memcmp(at_end(memory, 18), text, 18) == 0);
+    bool present = one_in(2);
+    uas_inquiry_data(present, at_end(memory, 36));
+    second_inquiry_data(present, text);
+    AGREE(memcmp(at_end(memory, 36), text, 36) == 0);
+    draw_bytes(given, 8);
+    memcpy(at_end(memory, 8), given, 8);
+    fault = uas_capacity_data(blocks, at_end(memory, 8));
+    AGREE(fault == (blocks == 0 ? UAS_CAPACITY_NO_BLOCKS : 0));
+    if (blocks != 0)
+        second_capacity_data(blocks, given);
+    AGREE(memcmp(at_end(memory, 8), given, 8) == 0);
+}
+
+/* ---- The device ---- */
+
+static struct second_device model;
+static uas_device *device;
+
+static void renew_device(void)
+{
+    static const uint32_t sizes[] = { 1, 8, 9, 17, SECOND_BLOCKS };
+    if (device != NULL)
+        uas_device_free(device);
+    memset(&model, 0, sizeof model);
+    model.units = SECOND_UNITS;
+    for (int i = 0; i < SECOND_UNITS; i++)
+        model.blocks[i] = sizes[below(5)];
+    if (uas_device_new(model.blocks, SECOND_UNITS, &device) != 0) {
+        fprintf(stderr, "no device\n");
+        exit(2);
+    }
+}
+
+static uint16_t draw_tag(void)
+{
+    static const uint16_t odd[] = { 0, 7, 247, 248, 249, 256, 65535 };
+    return one_in(12) ? odd[below(7)] : (uint16_t)(1 + below(6));
+}
+
+/* The bytes of a unit, mostly one that asks for something; how many. */
+static size_t draw_received(uint8_t *bytes)
+{
+    struct uas_unit unit;
+    struct uas_operation operation;
+    size_t length = 0;
+    draw_unit(&unit);
+    unit.tag = draw_tag();
+    memset(unit.lun, 0, sizeof unit.lun);
+    unit.lun[1] = (uint8_t)below(SECOND_UNITS + 1);
+    if (one_in(64))
+        spoil(unit.lun, sizeof unit.lun);
+    if (!one_in(16))
+        unit.id = one_in(6) ? UAS_UNIT_TASK : UAS_UNIT_COMMAND;
+    unit.task_tag = draw_tag();
+    unit.function = one_in(8) ? (uint8_t)drawn() : one_in(4) ? 8 : 1;
+    draw_operation(&operation, model.blocks[unit.lun[1] % SECOND_UNITS]);
+    uas_cdb_write(&operation, unit.cdb);
+    if (one_in(32))
+        spoil(unit.cdb, sizeof unit.cdb);
+    if (uas_unit_write(&unit, bytes, 112, &length) != 0 || one_in(32)) {
+        length = below(113);
+        draw_bytes(bytes, length);
+    }
+    if (one_in(32))
+        spoil(bytes, length);
+    if (one_in(32) && length > 0)
+        length--;
+    return length;
+}
+
+/* How long the data of a call is. */
+static size_t draw_length(uint8_t call, uint16_t tag)
+{
+    uint32_t chunk;
+    second_wants(&model, tag, &chunk);
+    if (call == UAS_DEVICE_CALL_STATUS)
+        return one_in(4) ? below(40) : 112;
+    if (call == UAS_DEVICE_CALL_BLOCKS || call == UAS_DEVICE_CALL_MEDIUM)
+        return one_in(16) ? below(2000) : 512 * (size_t)below(one_in(4) ? SECOND_BLOCKS + 2 : 12);
+    return one_in(16) ? below(5000) : chunk;
+}
+
+static uint8_t wanted_copy(const struct uas_device_door *door, uint8_t *data, size_t length)
+{
+    if (door->unit >= SECOND_UNITS)
+        return UAS_DEVICE_UNIT;
+    if (length % 512 != 0)
+        return UAS_DEVICE_LENGTH;
+    uint32_t blocks = model.blocks[door->unit];
+    if (door->lba > blocks || length / 512 > blocks - door->lba)
+        return UAS_DEVICE_RANGE;
+    memcpy(data, (door->call == UAS_DEVICE_CALL_BLOCKS ? model.now : model.medium)[door->unit] + 512 * (size_t)door->lba, length);
+    return 0;
+}
+
+static uint8_t wanted_chunk(struct uas_device_door *door, uint8_t *data, size_t length)
+{
+    uint32_t chunk;
+    uint8_t phase = second_wants(&model, door->tag, &chunk);
+    if (phase != (door->call == UAS_DEVICE_CALL_GIVE ? UAS_GIVES : UAS_TAKES))
+        return UAS_DEVICE_PHASE;
+    if (length != chunk)
+        return UAS_DEVICE_LENGTH;
+    second_move(&model, door->tag, data, length);
+    door->good = 1;
+    return 0;
+}
+
+static uint8_t wanted_status(struct uas_device_door *door, uint8_t *data, size_t length)
+{
+    uint32_t chunk;
+    size_t written;
+    if (second_wants(&model, door->tag, &chunk) != UAS_ENDS)
+        return UAS_DEVICE_PHASE;
+    if (second_unit_write(&model.tasks[door->tag].answer, data, length, &written) != 0)
+        return UAS_DEVICE_LENGTH;
+    door->length = (uint32_t)written;
+    return 0;
+}
+
+/* What a call of the device is to do to its door and its data. */
+static uint8_t wanted_call(struct uas_device_door *door, uint8_t *data, size_t length)
+{
+    uint16_t began;
+    uint32_t chunk;
+    switch (door->call) {
+    case UAS_DEVICE_CALL_RECEIVE:
+        if (second_receive(&model, data, length, &began) != 0)
+            return UAS_DEVICE_OVERLAP;
+        door->good = began != 0;
+        if (began != 0)
+            door->tag = began;
+        return 0;
+    case UAS_DEVICE_CALL_WANTS:
+        door->phase = second_wants(&model, door->tag, &chunk);
+        door->length = chunk;
+        return 0;
+    case UAS_DEVICE_CALL_GIVE:
+    case UAS_DEVICE_CALL_TAKE:
+        return wanted_chunk(door, data, length);
+    case UAS_DEVICE_CALL_STATUS:
+        return wanted_status(door, data, length);
+    case UAS_DEVICE_CALL_SENT:
+        if (second_wants(&model, door->tag, &chunk) != UAS_ENDS)
+            return UAS_DEVICE_PHASE;
+        model.tasks[door->tag].phase = UAS_ABSENT;
+        return 0;
+    case UAS_DEVICE_CALL_SIZE:
+        if (door->unit >= SECOND_UNITS)
+            return UAS_DEVICE_UNIT;
+        door->length = model.blocks[door->unit];
+        return 0;
+    case UAS_DEVICE_CALL_BLOCKS:
+    case UAS_DEVICE_CALL_MEDIUM:
+        return wanted_copy(door, data, length);
+    default:
+        return UAS_DEVICE_CALL;
+    }
+}
+
+static uint8_t draw_call(uint16_t tag)
+{
+    uint32_t chunk;
+    uint8_t phase = second_wants(&model, tag, &chunk);
+    if (one_in(3))
+        return one_in(32) ? (uint8_t)drawn() : (uint8_t)(1 + below(9));
+    if (phase == UAS_GIVES)
+        return UAS_DEVICE_CALL_GIVE;
+    if (phase == UAS_TAKES)
+        return UAS_DEVICE_CALL_TAKE;
+    if (phase == UAS_ENDS)
+        return one_in(2) ? UAS_DEVICE_CALL_STATUS : UAS_DEVICE_CALL_SENT;
+    return UAS_DEVICE_CALL_RECEIVE;
+}
+
+static void fuzz_device(struct guarded memory, struct guarded out)
+{
+    static uint8_t wanted[512 * (SECOND_BLOCKS + 2)];
+    struct uas_device_door *door = (struct uas_device_door *)(void *)at_end(out, sizeof *door), second;
+    size_t length;
+    if (device == NULL || input % 50000 == 0)
+        renew_device();
+    draw_bytes((uint8_t *)door, sizeof *door);
+    door->tag = draw_tag();
+    door->call = draw_call(door->tag);
+    door->unit = one_in(16) ? door->unit : (uint16_t)below(SECOND_UNITS);
+    door->lba = one_in(16) ? door->lba : below(one_in(2) ? SECOND_BLOCKS + 2 : 4);
+    if (door->call == UAS_DEVICE_CALL_RECEIVE)
+        length = draw_received(wanted);
+    else {
+        length = draw_length(door->call, door->tag);
+        memset(wanted, (int)below(256), length);
+        draw_bytes(wanted, length < 8 ? length : 8);
+    }
+    uint8_t *data = at_end(memory, length);
+    memcpy(data, wanted, length);
+    second = *door;
+    uint8_t fault = saw(uas_device_call(device, door, data, length));
+    AGREE(fault == wanted_call(&second, wanted, length));
+    AGREE(memcmp(door, &second, sizeof second) == 0);
+    AGREE(memcmp(data, wanted, length) == 0);
+}
+
+/* ---- The bus ----
+ *
+ * One bus takes single steps, a second one the same with drains in place of their steps, and for each client a bus of its own
+ * takes that client's steps. All tell the client the same, and what the second implementation does. */
+
+enum { CLIENTS = SECOND_UNITS, MOST_DATA = 129 * 512 };
+
+static struct second_bus model_bus;
+static uas_bus *stepped, *drained, *alone[CLIENTS];
+static uint32_t bus_blocks[CLIENTS];
+
+static bool in_use(uint32_t client, uint32_t index)
+{
+    return model_bus.entries[8 * client + index].used;
+}
+
+static void free_buses(void)
+{
+    if (stepped == NULL)
+        return;
+    uas_bus_free(stepped);
+    uas_bus_free(drained);
+    for (int i = 0; i < CLIENTS; i++)
+        uas_bus_free(alone[i]);
+}
+
+static void renew_buses(void)
+{
+    static const uint32_t sizes[] = { 1, 8, 24, 200 };
+    uint8_t fault = 0;
+    free_buses();
+    for (int i = 0; i < CLIENTS; i++)
+        bus_blocks[i] = sizes[below(4)];
+    second_bus_open(&model_bus, bus_blocks, CLIENTS);
+    fault |= uas_bus_new(bus_blocks, CLIENTS, &stepped);
+    fault |= uas_bus_new(bus_blocks, CLIENTS, &drained);
+    for (int i = 0; i < CLIENTS; i++)
+        fault |= uas_bus_new(&bus_blocks[i], 1, &alone[i]);
+    if (fault != 0) {
+        fprintf(stderr, "no bus\n");
+        exit(2);
+    }
+}
+
+/* The tag as its client's own bus has it. */
+static uint16_t own_tag(uint16_t tag, uint32_t client)
+{
+    return (uint16_t)(tag - 8 * client);
+}
+
+/* A step of the first bus, and of its owner's; whether it acted. `twice`: of the second bus too. */
+static bool bus_step(uint8_t step, uint8_t pipe, uint16_t tag, bool twice)
+{
+    bool due = false, acted = false, other = false;
+    int owner = -1, other_owner = -1;
+    AGREE(uas_bus_due(stepped, step, pipe, tag, &due) == 0);
+    AGREE(saw(uas_bus_step(stepped, step, pipe, tag, &acted, &owner)) == 0);
+    AGREE(acted == due && acted == (owner >= 0));
+    AGREE(owner == second_step(&model_bus, step, pipe, tag));
+    if (twice) {
+        AGREE(uas_bus_step(drained, step, pipe, tag, &other, &other_owner) == 0);
+        AGREE(other == acted && other_owner == owner);
+    }
+    if (acted && owner >= 0 && owner < CLIENTS) {
+        AGREE(uas_bus_step(alone[owner], step, pipe, own_tag(tag, (uint32_t)owner), &other, &other_owner) == 0);
+        AGREE(other && other_owner == 0);
+    }
+    return acted;
+}
+
+/* One round of a drain, by steps, at most *left of them. */
+static bool drain_round(uint64_t *left)
+{
+    static const uint8_t first[] = { UAS_STEP_COMMAND, UAS_STEP_ENGINE, UAS_STEP_EVENT };
+    bool any = false;
+    for (int i = 0; i < 3 && *left > 0; i++)
+        if (bus_step(first[i], 0, 0, false))
+            any = true, --*left;
+    for (uint8_t step = UAS_STEP_DATA; step <= UAS_STEP_STATUS; step++)
+        for (uint16_t tag = 1; tag <= 8 * CLIENTS && *left > 0; tag++)
+            if (bus_step(step, 0, tag, false))
+                any = true, --*left;
+    for (uint8_t pipe = UAS_PIPE_STATUS; pipe <= UAS_PIPE_DATA_OUT; pipe++)
+        for (uint16_t tag = 1; tag <= 8 * CLIENTS && *left > 0; tag++)
+            if (bus_step(UAS_STEP_RETIRE, pipe, tag, false))
+                any = true, --*left;
+    return any;
+}
+
+static void bus_drain(void)
+{
+    uint64_t most = one_in(3) ? below(40) : 100000, left = most, taken = 7777;
+    bool quiet = false, any = true;
+    while (left > 0 && any)
+        any = drain_round(&left);
+    AGREE(uas_bus_drain(drained, most, &taken, &quiet) == 0);
+    AGREE(taken == most - left);
+    AGREE(quiet == (left > 0));
+}
+
+static uint8_t wanted_submission(uint32_t client, uint16_t tag, uint64_t ticket, const struct uas_operation *operation, size_t length)
+{
+    uint8_t cdb[16];
+    size_t moved = 0;
+    bool many = (operation->opcode == UAS_READ_10 || operation->opcode == UAS_WRITE_10);
+    if (ticket >> 60 != 0)
+        return UAS_BUS_TICKET;
+    if (second_cdb_write(operation, cdb) != 0)
+        return UAS_BUS_OPERATION;
+    if (client >= CLIENTS || tag < 8 * client + 1 || tag > 8 * client + 7)
+        return UAS_BUS_NOT_YOURS;
+    if (in_use(client, tag - 8 * client))
+        return UAS_BUS_IN_USE;
+    if (operation->opcode == UAS_INQUIRY)
+        moved = operation->count < 36 ? operation->count : 36;
+    else if (operation->opcode == UAS_READ_CAPACITY_10)
+        moved = 8;
+    else if (many)
+        moved = 512 * (size_t)operation->count;
+    if (length != moved)
+        return UAS_BUS_BAD_LENGTH;
+    if (many && operation->count > 128)
+        return UAS_BUS_TOO_LONG;
+    return ticket < model_bus.least[client] ? UAS_BUS_OUT_OF_TURN : 0;
+}
+
+static uint64_t draw_ticket(uint32_t client)
+{
+    if (one_in(64))
+        return (uint64_t)1 << 60 | drawn();
+    if (client < CLIENTS && !one_in(32))
+        return model_bus.least[client] + below(3);
+    return below(1000);
+}
+
+static void bus_submit(struct guarded memory)
+{
+    static uint8_t kept[MOST_DATA];
+    struct uas_operation operation;
+    uint32_t client = one_in(64) ? CLIENTS + below(3) : below(CLIENTS);
+    uint16_t tag = one_in(32) ? draw_tag() : (uint16_t)(8 * client + 1 + below(7));
+    uint64_t ticket = draw_ticket(client);
+    draw_operation(&operation, bus_blocks[client % CLIENTS]);
+    if (operation.count > 65535 && !one_in(8))
+        operation.count %= 130;
+    if (operation.fua > 1 && !one_in(8))
+        operation.fua = 0;
+    if (operation.opcode == UAS_READ_10 || operation.opcode == UAS_WRITE_10)
+        if (operation.count <= 65535 && operation.count > 129)
+            operation.count = 129;
+    size_t length = operation.count <= 129 ? 512 * (size_t)operation.count : 0;
+    if (operation.opcode == UAS_INQUIRY)
+        length = operation.count < 36 ? operation.count : 36;
+    else if (operation.opcode == UAS_READ_CAPACITY_10)
+        length = 8;
+    else if (operation.opcode != UAS_READ_10 && operation.opcode != UAS_WRITE_10)
+        length = 0;
+    if (one_in(32))
+        length = below(MOST_DATA);
+    uint8_t *data = at_end(memory, length);
+    memset(data, (int)below(256), length);
+    draw_bytes(data, length < 8 ? length : 8);
+    memcpy(kept, data, length);
+    uint8_t wanted = wanted_submission(client, tag, ticket, &operation, length);
+    AGREE(saw(uas_bus_submit(stepped, client, tag, ticket, &operation, data, length)) == wanted);
+    AGREE(uas_bus_submit(drained, client, tag, ticket, &operation, data, length) == wanted);
+    AGREE(memcmp(data, kept, length) == 0);
+    if (wanted == 0) {
+        AGREE(uas_bus_submit(alone[client], 0, own_tag(tag, client), ticket, &operation, data, length) == 0);
+        second_submit(&model_bus, tag, ticket, &operation, data, length);
+    }
+}
+
+static void bus_task(void)
+{
+    uint32_t client = one_in(32) ? CLIENTS + below(3) : below(CLIENTS);
+    uint64_t ticket = draw_ticket(client);
+    uint8_t function = one_in(32) ? (uint8_t)drawn() : one_in(3) ? UAS_LOGICAL_UNIT_RESET : UAS_ABORT_TASK;
+    uint16_t tag = one_in(16) ? draw_tag() : (uint16_t)(8 * client + 1 + below(7));
+    uint8_t wanted = 0;
+    if (ticket >> 60 != 0)
+        wanted = UAS_BUS_TICKET;
+    else if (function != UAS_ABORT_TASK && function != UAS_LOGICAL_UNIT_RESET)
+        wanted = UAS_BUS_FUNCTION;
+    else if (client >= CLIENTS)
+        wanted = UAS_BUS_NOT_YOURS;
+    else if (in_use(client, 8))
+        wanted = UAS_BUS_IN_USE;
+    else if (ticket < model_bus.least[client])
+        wanted = UAS_BUS_OUT_OF_TURN;
+    else if (function == UAS_ABORT_TASK && (tag < 8 * client + 1 || tag > 8 * client + 7 || !in_use(client, tag - 8 * client)))
+        wanted = UAS_BUS_NO_SUCH_TASK;
+    AGREE(saw(uas_bus_task(stepped, client, ticket, function, tag)) == wanted);
+    AGREE(uas_bus_task(drained, client, ticket, function, tag) == wanted);
+    if (wanted == 0) {
+        AGREE(uas_bus_task(alone[client], 0, ticket, function, own_tag(tag, client)) == 0);
+        second_task(&model_bus, (int)client, ticket, function, tag);
+    }
+}
+
+/* What the second implementation replies. */
+static void wanted_reply(uint32_t client, const struct uas_bus_door *reply, const uint8_t *data)
+{
+    struct uas_bus_door wanted = *reply;
+    const uint8_t *bytes = second_reply(&model_bus, (int)client, &wanted);
+    AGREE(memcmp(&wanted, reply, sizeof wanted) == 0);
+    AGREE(bytes == NULL || wanted.length > MOST_DATA || memcmp(bytes, data, wanted.length) == 0);
+}
+
+/* A client takes its next reply, from all three buses. */
+static void bus_reply(struct guarded memory)
+{
+    static uint8_t others[UAS_MOST_DATA_BYTES], kept[UAS_MOST_DATA_BYTES + 64];
+    uint32_t client = one_in(64) ? CLIENTS + below(3) : below(CLIENTS);
+    struct uas_bus_door reply, other;
+    size_t room = UAS_MOST_DATA_BYTES + (one_in(4) ? below(64) : 0);
+    uint8_t *data = at_end(memory, room);
+    if (kept[0] == 0)
+        memset(kept, 0xee, sizeof kept);
+    memset(&reply, 0, sizeof reply);
+    memset(&other, 0, sizeof other);
+    memcpy(data, kept, room);
+    if (one_in(16))
+        AGREE(saw(uas_bus_reply(stepped, client, data, below(UAS_MOST_DATA_BYTES), &reply)) == UAS_BUS_LENGTH);
+    AGREE(uas_bus_reply(stepped, client, data, room, &reply) == 0);
+    size_t length = reply.acted ? reply.length : 0;
+    if (!AGREE(length <= UAS_MOST_DATA_BYTES))
+        return;
+    AGREE(memcmp(data + length, kept, room - length) == 0);
+    AGREE(uas_bus_reply(drained, client, others, sizeof others, &other) == 0);
+    AGREE(memcmp(&other, &reply, sizeof other) == 0 && memcmp(others, data, length) == 0);
+    if (client >= CLIENTS) {
+        AGREE(!reply.acted);
+        return;
+    }
+    wanted_reply(client, &reply, data);
+    AGREE(uas_bus_reply(alone[client], 0, others, sizeof others, &other) == 0);
+    if (reply.acted) {
+        other.tag = (uint16_t)(other.tag + 8 * client);
+        seen[24 + (reply.reply & 7)]++;
+    }
+    other.client = reply.client;
+    AGREE(memcmp(&other, &reply, sizeof other) == 0 && memcmp(others, data, length) == 0);
+}
+
+static void bus_blocks_agree(struct guarded memory)
+{
+    static uint8_t others[(SECOND_BLOCKS + 1) * 512];
+    uint32_t client = below(CLIENTS);
+    uint32_t lba = below(bus_blocks[client] + 1), count = below(bus_blocks[client] - lba + 1);
+    uint8_t *data = at_end(memory, 512 * (size_t)count);
+    size_t length = 512 * (size_t)count, from = 512 * (size_t)lba;
+    AGREE(uas_bus_blocks(stepped, client, lba, data, length) == 0);
+    AGREE(memcmp(data, model_bus.device.now[client] + from, length) == 0);
+    AGREE(uas_bus_blocks(alone[client], 0, lba, others, length) == 0);
+    AGREE(memcmp(data, others, length) == 0);
+    AGREE(uas_bus_medium(drained, client, lba, data, length) == 0);
+    AGREE(memcmp(data, model_bus.device.medium[client] + from, length) == 0);
+    AGREE(uas_bus_medium(alone[client], 0, lba, others, length) == 0);
+    AGREE(memcmp(data, others, length) == 0);
+    AGREE(saw(uas_bus_blocks(stepped, client, bus_blocks[client] - count, others, 512 * (size_t)(count + 1))) == UAS_BUS_RANGE);
+    AGREE(saw(uas_bus_medium(stepped, client, 0, others, 1 + below(511))) == UAS_BUS_LENGTH);
+    AGREE(saw(uas_bus_blocks(stepped, CLIENTS + below(5), 0, others, 512)) == UAS_BUS_CLIENT);
+}
+
+/* Any door at all, of calls that are none, and of steps that are none. */
+static void bus_junk(struct guarded out)
+{
+    struct uas_bus_door *door = (struct uas_bus_door *)(void *)at_end(out, sizeof *door), before;
+    uint8_t none[1] = { 0 };
+    draw_bytes((uint8_t *)door, sizeof *door);
+    bool no_call = one_in(2);
+    if (no_call)
+        door->call = one_in(2) ? one_in(2) ? 0 : 6 : (uint8_t)(10 + below(246));
+    else {
+        door->call = one_in(2) ? UAS_BUS_CALL_STEP : UAS_BUS_CALL_DUE;
+        if (one_in(2))
+            door->step = one_in(2) ? 0 : (uint8_t)(7 + below(249));
+        else {
+            door->step = UAS_STEP_RETIRE;
+            door->pipe = one_in(2) ? 0 : (uint8_t)(4 + below(252));
+        }
+    }
+    before = *door;
+    AGREE(saw(uas_bus_call(stepped, door, none, 0)) == (no_call ? UAS_BUS_CALL : UAS_BUS_STEP));
+    AGREE(memcmp(door, &before, sizeof before) == 0);
+}
+
+/* A tag that something is under, where there is one. */
+static uint16_t busy_tag(void)
+{
+    for (int tries = 0; tries < 8; tries++) {
+        uint32_t client = below(CLIENTS), index = 1 + below(8);
+        if (in_use(client, index))
+            return (uint16_t)(8 * client + index);
+    }
+    return draw_tag();
+}
+
+static void fuzz_bus(struct guarded memory, struct guarded out)
+{
+    if (stepped == NULL || input % 50000 == 0)
+        renew_buses();
+    uint32_t which = below(100);
+    if (which < 12)
+        bus_submit(memory);
+    else if (which < 14)
+        bus_task();
+    else if (which < 26)
+        bus_reply(memory);
+    else if (which < 27)
+        bus_junk(out);
+    else if (one_in(256))
+        bus_drain();
+    else if (one_in(32))
+        bus_blocks_agree(memory);
+    else {
+        static const uint8_t steps[] = { 1, 1, 2, 2, 2, 3, 3, 4, 5, 5, 5, 5, 6 };
+        uint8_t step = steps[below(13)];
+        uint8_t pipe = (uint8_t)(UAS_PIPE_STATUS + below(3));
+        uint16_t tag = one_in(16) ? draw_tag() : busy_tag();
+        bus_step(step, pipe, tag, true);
+    }
+}
+
+/* ---- */
+
+struct kind {
+    const char *name;
+    void (*fuzz)(struct guarded memory, struct guarded out);
+    uint32_t faults; /* one bit for each number that must come */
+};
+
+static const struct kind kinds[] = {
+    { "trb", fuzz_trb, 0x1f },
+    { "unit", fuzz_unit, 0xff },
+    { "cdb", fuzz_cdb, 0x0f },
+    { "device", fuzz_device, 0x7f },
+    /* Want of memory (16) doesn't come; 25 to 27 are the kinds of reply. */
+    { "bus", fuzz_bus, 0x7f | 0x01fe0000 | 0x0e000000 },
+};
+
+static int usage(void)
+{
+    fprintf(stderr, "usage: fuzz trb|unit|cdb|device|bus COUNT SEED\n");
+    return 2;
+}
+
+int main(int words, char **word)
+{
+    const struct kind *kind = NULL;
+    if (words != 4)
+        return usage();
+    for (size_t i = 0; i < sizeof kinds / sizeof kinds[0]; i++)
+        if (strcmp(word[1], kinds[i].name) == 0)
+            kind = &kinds[i];
+    if (kind == NULL)
+        return usage();
+    unsigned long count = strtoul(word[2], NULL, 10);
+    state = strtoul(word[3], NULL, 10) * 0x9e3779b97f4a7c15 + 1;
+    struct guarded memory = guard(512 * (SECOND_BLOCKS + 2)), out = guard(512);
+    for (input = 0; input < count && failed < 20; input++)
+        kind->fuzz(memory, out);
+    if (device != NULL)
+        uas_device_free(device);
+    free_buses();
+    printf("fuzz %s: %lu inputs, seed %s, %lu disagreements; faults", kind->name, input, word[3], failed);
+    bool missed = false;
+    for (int i = 0; i < 32; i++) {
+        if (seen[i] > 0)
+            printf(" %d:%lu", i, seen[i]);
+        else if (count >= 100000 && (kind->faults >> i & 1) != 0) {
+            printf(" %d:never", i);
+            missed = true;
+        }
+    }
+    printf("\n");
+    return failed > 0 || missed ? 1 : 0;
+}

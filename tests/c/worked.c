@@ -1,0 +1,1010 @@
+/* Cases worked out by hand from the standards' tables: bytes of TRBs, units, CDBs and data, commands on the device, and a script of
+ * two clients on the bus. */
+#include "check.h"
+#include "uas.h"
+
+/* ---- TRBs ---- */
+
+static void trb_is(struct uas_trb trb, const char *text)
+{
+    uint8_t bytes[16] = { 0 }, wanted[16];
+    struct uas_trb read;
+    memset(&read, 0xee, sizeof read);
+    CHECK(uas_trb_encode(&trb, bytes) == 0);
+    CHECK_BYTES(bytes, sizeof bytes, text);
+    from_hex(text, wanted, sizeof wanted);
+    CHECK(uas_trb_decode(wanted, &read) == 0);
+    CHECK(memcmp(&read, &trb, sizeof trb) == 0);
+}
+
+static void trb_texts(void)
+{
+    /* A command TRB and a status TRB of tag 1, and the event of a Sense unit of 16 bytes: 112 - 16 weren't moved, short packet. */
+    trb_is((struct uas_trb){ .type = UAS_TRB_NORMAL, .cycle = 1, .pointer = 0x10000100, .length = 32, .flags = UAS_TRB_IOC },
+           "00 01 00 10 00 00 00 00 20 00 00 00 21 04 00 00");
+    trb_is((struct uas_trb){ .type = UAS_TRB_NORMAL, .cycle = 1, .pointer = 0x20000100, .length = 112, .flags = UAS_TRB_ISP | UAS_TRB_IOC },
+           "00 01 00 20 00 00 00 00 70 00 00 00 25 04 00 00");
+    trb_is((struct uas_trb){ .type = UAS_TRB_TRANSFER_EVENT, .cycle = 1, .pointer = 0x42001000, .length = 96, .code = 13, .endpoint = 3, .slot = 1 },
+           "00 10 00 42 00 00 00 00 60 00 00 0d 01 80 03 01");
+    /* Data TRBs of a READ of 128 blocks: the first, the ninth (28 packets after it), the last; and the first with Cycle 0. */
+    trb_is((struct uas_trb){ .type = UAS_TRB_NORMAL, .cycle = 1, .pointer = 0x100010000, .length = 4096, .td_size = 31, .flags = UAS_TRB_CH },
+           "00 00 01 00 01 00 00 00 00 10 3e 00 11 04 00 00");
+    trb_is((struct uas_trb){ .type = UAS_TRB_NORMAL, .cycle = 1, .pointer = 0x100018000, .length = 4096, .td_size = 28, .flags = UAS_TRB_CH },
+           "00 80 01 00 01 00 00 00 00 10 38 00 11 04 00 00");
+    trb_is((struct uas_trb){ .type = UAS_TRB_NORMAL, .cycle = 1, .pointer = 0x10001f000, .length = 4096, .flags = UAS_TRB_IOC },
+           "00 f0 01 00 01 00 00 00 00 10 00 00 21 04 00 00");
+    trb_is((struct uas_trb){ .type = UAS_TRB_NORMAL, .pointer = 0x100010000, .length = 4096, .td_size = 31, .flags = UAS_TRB_CH },
+           "00 00 01 00 01 00 00 00 00 10 3e 00 10 04 00 00");
+    /* All flags; 65,536 bytes. */
+    trb_is((struct uas_trb){ .type = UAS_TRB_NORMAL, .pointer = 0xffffffffffffffff, .length = 65536, .td_size = 31, .flags = 127 },
+           "ff ff ff ff ff ff ff ff 00 00 3f 00 7e 06 00 00");
+    /* A Link inside a TD. */
+    trb_is((struct uas_trb){ .type = UAS_TRB_LINK, .cycle = 1, .pointer = 0x43001000, .toggle = 1, .chain = 1 },
+           "00 10 00 43 00 00 00 00 00 00 00 00 13 18 00 00");
+    trb_is((struct uas_trb){ .type = UAS_TRB_LINK, .pointer = 0x43001000, .toggle = 1, .ioc = 1 },
+           "00 10 00 43 00 00 00 00 00 00 00 00 22 18 00 00");
+    /* A retirement's two commands and the event of the second. */
+    trb_is((struct uas_trb){ .type = UAS_TRB_STOP_ENDPOINT, .cycle = 1, .endpoint = 5, .slot = 1 },
+           "00 00 00 00 00 00 00 00 00 00 00 00 01 3c 05 01");
+    trb_is((struct uas_trb){ .type = UAS_TRB_SET_DEQUEUE, .cycle = 1, .pointer = 0x43012030, .dequeue_cycle = 1, .stream = 18, .endpoint = 5, .slot = 1 },
+           "33 20 01 43 00 00 00 00 00 00 12 00 01 40 05 01");
+    trb_is((struct uas_trb){ .type = UAS_TRB_COMMAND_EVENT, .cycle = 1, .pointer = 0x50000010, .code = 1, .slot = 1 },
+           "10 00 00 50 00 00 00 00 00 00 00 01 01 84 00 01");
+}
+
+static void trb_misread(const char *text, uint8_t fault)
+{
+    uint8_t bytes[16];
+    struct uas_trb read, before;
+    memset(&read, 0xee, sizeof read);
+    before = read;
+    CHECK(from_hex(text, bytes, sizeof bytes) == 16);
+    if (!CHECK(uas_trb_decode(bytes, &read) == fault))
+        fprintf(stderr, "    %s\n", text);
+    CHECK(memcmp(&read, &before, sizeof read) == 0);
+}
+
+static void trb_unwritten(struct uas_trb trb, uint8_t fault)
+{
+    uint8_t bytes[16];
+    memset(bytes, 0xee, sizeof bytes);
+    CHECK(uas_trb_encode(&trb, bytes) == fault);
+    CHECK_BYTES(bytes, sizeof bytes, "ee x16");
+}
+
+static void trb_faults(void)
+{
+    trb_misread("00 x16", UAS_TRB_UNKNOWN_TYPE);
+    trb_misread("00 x12 00 08 00 00", UAS_TRB_UNKNOWN_TYPE);          /* type 2, Setup Stage */
+    trb_misread("00 x8 01 00 01 00 00 04 00 00", UAS_TRB_LENGTH_OVER); /* 65,537 bytes */
+    trb_misread("00 x8 01 00 41 00 00 04 00 00", UAS_TRB_LENGTH_OVER); /* and an interrupter target */
+    trb_misread("00 x8 00 00 41 00 00 04 00 00", UAS_TRB_RESERVED_SET); /* an interrupter target */
+    trb_misread("00 x8 00 00 00 00 80 04 00 00", UAS_TRB_RESERVED_SET); /* control bit 7 */
+    trb_misread("01 00 x12 18 00 00", UAS_TRB_RESERVED_SET);            /* a Link to no multiple of 16 */
+    trb_misread("31 20 01 43 00 00 00 00 00 00 12 00 01 40 05 01", UAS_TRB_RESERVED_SET); /* SCT 0 */
+    trb_misread("00 x12 01 3c 25 01", UAS_TRB_RESERVED_SET);            /* endpoint bit 5 */
+    trb_unwritten((struct uas_trb){ .type = 0 }, UAS_TRB_UNKNOWN_TYPE);
+    trb_unwritten((struct uas_trb){ .type = 2 }, UAS_TRB_UNKNOWN_TYPE);
+    trb_unwritten((struct uas_trb){ .type = UAS_TRB_NORMAL, .td_size = 32 }, UAS_TRB_UNFIT);
+    trb_unwritten((struct uas_trb){ .type = UAS_TRB_NORMAL, .flags = 128 }, UAS_TRB_UNFIT);
+    trb_unwritten((struct uas_trb){ .type = UAS_TRB_NORMAL, .cycle = 2 }, UAS_TRB_UNFIT);
+    trb_unwritten((struct uas_trb){ .type = UAS_TRB_NORMAL, .length = 65537 }, UAS_TRB_UNFIT);
+    trb_unwritten((struct uas_trb){ .type = UAS_TRB_NORMAL, .length = 1u << 17 }, UAS_TRB_UNFIT);
+    trb_unwritten((struct uas_trb){ .type = UAS_TRB_LINK, .pointer = 8 }, UAS_TRB_UNFIT);
+    trb_unwritten((struct uas_trb){ .type = UAS_TRB_LINK, .toggle = 2 }, UAS_TRB_UNFIT);
+    trb_unwritten((struct uas_trb){ .type = UAS_TRB_SET_DEQUEUE, .endpoint = 32 }, UAS_TRB_UNFIT);
+    trb_unwritten((struct uas_trb){ .type = UAS_TRB_TRANSFER_EVENT, .length = 1u << 24 }, UAS_TRB_UNFIT);
+    trb_unwritten((struct uas_trb){ .type = UAS_TRB_COMMAND_EVENT, .pointer = 1 }, UAS_TRB_UNFIT);
+}
+
+/* ---- Information units ---- */
+
+static void unit_is(struct uas_unit unit, const char *text)
+{
+    uint8_t bytes[112], wanted[112];
+    size_t length = 0, count = from_hex(text, wanted, sizeof wanted);
+    struct uas_unit read;
+    memset(&read, 0xee, sizeof read);
+    memset(bytes, 0xee, sizeof bytes);
+    CHECK(uas_unit_write(&unit, bytes, sizeof bytes, &length) == 0);
+    CHECK_BYTES(bytes, length, text);
+    for (size_t i = count; i < sizeof bytes; i++)
+        if (bytes[i] != 0xee)
+            CHECK(!"bytes behind the unit stay");
+    CHECK(uas_unit_read(wanted, count, &read) == 0);
+    CHECK(memcmp(&read, &unit, sizeof unit) == 0);
+    /* Just enough room, and one byte too few. */
+    CHECK(uas_unit_write(&unit, bytes, count, &length) == 0 && length == count);
+    memset(bytes, 0xee, sizeof bytes);
+    length = 7777;
+    CHECK(uas_unit_write(&unit, bytes, count - 1, &length) == UAS_UNIT_NO_ROOM);
+    CHECK(length == 7777);
+    CHECK_BYTES(bytes, sizeof bytes, "ee x112");
+}
+
+static const struct uas_sense out_of_range = { 5, 0x21, 0, 0 };
+
+static void unit_texts(void)
+{
+    /* TEST UNIT READY on tag 1, INQUIRY of 36 by client 2 on tag 18, and the answer GOOD. */
+    unit_is((struct uas_unit){ .id = UAS_UNIT_COMMAND, .tag = 1 }, "01 00 00 01 00 x28");
+    unit_is((struct uas_unit){ .id = UAS_UNIT_COMMAND, .tag = 18, .lun = { 0, 2 }, .cdb = { 0x12, 0, 0, 0, 0x24 } },
+            "01 00 00 12 00 00 00 00 00 02 00 00 00 00 00 00 12 00 00 00 24 00 00 x10");
+    unit_is((struct uas_unit){ .id = UAS_UNIT_SENSE, .tag = 1 }, "03 00 00 01 00 x12");
+    /* A READ beyond the last block on tag 18. */
+    struct uas_unit check = { .id = UAS_UNIT_SENSE, .tag = 18, .status = UAS_CHECK_CONDITION, .sense_length = 18 };
+    uas_sense_data(&out_of_range, check.sense);
+    unit_is(check, "03 00 00 12 00 00 02 00 x7 00 12 70 00 05 00 00 00 00 0a 00 00 00 00 21 00 00 00 00 00");
+    /* ABORT TASK of tag 18 by tag 24, and its answer. */
+    unit_is((struct uas_unit){ .id = UAS_UNIT_TASK, .tag = 24, .function = UAS_ABORT_TASK, .task_tag = 18, .lun = { 0, 2 } },
+            "05 00 00 18 01 00 00 12 00 02 00 x6");
+    unit_is((struct uas_unit){ .id = UAS_UNIT_RESPONSE, .tag = 24 }, "04 00 00 18 00 00 00 00");
+    unit_is((struct uas_unit){ .id = UAS_UNIT_RESPONSE, .tag = 0x1234, .code = UAS_RESPONSE_INVALID_UNIT }, "04 00 12 34 00 00 00 02");
+    /* All the sense that there is room for. */
+    struct uas_unit most = { .id = UAS_UNIT_SENSE, .tag = 0xffff, .status = 0x28, .sense_length = 96 };
+    memset(most.sense, 0xab, sizeof most.sense);
+    unit_is(most, "03 00 ff ff 00 00 28 00 x7 00 60 ab x96");
+}
+
+static void unit_misread(const char *text, uint8_t fault)
+{
+    uint8_t bytes[200];
+    struct uas_unit read, before;
+    memset(&read, 0xee, sizeof read);
+    before = read;
+    size_t length = from_hex(text, bytes, sizeof bytes);
+    if (!CHECK(uas_unit_read(bytes, length, &read) == fault))
+        fprintf(stderr, "    %s\n", text);
+    CHECK(memcmp(&read, &before, sizeof read) == 0);
+}
+
+static void unit_faults(void)
+{
+    unit_misread("", UAS_UNIT_SHORT);
+    unit_misread("00", UAS_UNIT_UNKNOWN_ID);
+    unit_misread("02 00 x31", UAS_UNIT_UNKNOWN_ID);
+    unit_misread("01 00 00 12 00 x27", UAS_UNIT_SHORT);
+    unit_misread("01 00 x32", UAS_UNIT_LONG);
+    unit_misread("01 01 00 12 00 x28", UAS_UNIT_RESERVED_SET);
+    unit_misread("01 00 00 12 08 00 x27", UAS_UNIT_RESERVED_SET); /* priority */
+    unit_misread("01 00 00 12 00 00 04 00 x25", UAS_UNIT_LENGTH_FIELD);
+    unit_misread("01 00 00 12 00 00 04 01 00 x24", UAS_UNIT_RESERVED_SET);
+    unit_misread("03 00 x14", UAS_UNIT_SHORT);
+    unit_misread("03 00 00 01 00 x11 61 00 x97", UAS_UNIT_LONG);
+    unit_misread("03 00 00 01 00 01 00 00 x9", UAS_UNIT_RESERVED_SET); /* a status qualifier */
+    unit_misread("03 00 00 01 00 x11 01", UAS_UNIT_LENGTH_FIELD);
+    unit_misread("03 00 00 01 00 x13", UAS_UNIT_LENGTH_FIELD);
+    unit_misread("04 00 00 18 00 00 00", UAS_UNIT_SHORT);
+    unit_misread("04 00 00 18 00 00 01 00", UAS_UNIT_RESERVED_SET);
+    unit_misread("04 00 00 18 00 x5", UAS_UNIT_LONG);
+    unit_misread("05 00 00 18 01 01 00 12 00 x8", UAS_UNIT_RESERVED_SET);
+    unit_misread("05 00 x14", UAS_UNIT_SHORT);
+
+    uint8_t bytes[128];
+    size_t length = 7777;
+    struct uas_unit unit = { .id = UAS_UNIT_SENSE, .sense_length = 97 };
+    memset(bytes, 0xee, sizeof bytes);
+    CHECK(uas_unit_write(&unit, bytes, sizeof bytes, &length) == UAS_UNIT_UNFIT);
+    unit.id = 2;
+    CHECK(uas_unit_write(&unit, bytes, sizeof bytes, &length) == UAS_UNIT_UNKNOWN_ID);
+    unit.id = 0;
+    CHECK(uas_unit_write(&unit, bytes, sizeof bytes, &length) == UAS_UNIT_UNKNOWN_ID);
+    CHECK(length == 7777);
+    CHECK_BYTES(bytes, sizeof bytes, "ee x128");
+}
+
+/* ---- CDBs, sense and data ---- */
+
+static void cdb_is(struct uas_operation operation, uint32_t blocks, const char *text)
+{
+    uint8_t cdb[16] = { 0xee }, wanted[16];
+    struct uas_operation asked;
+    struct uas_sense sense = { 0xee, 0xee, 0xee, 0xee };
+    memset(&asked, 0xee, sizeof asked);
+    CHECK(uas_cdb_write(&operation, cdb) == 0);
+    CHECK_BYTES(cdb, sizeof cdb, text);
+    from_hex(text, wanted, sizeof wanted);
+    CHECK(uas_cdb_parse(wanted, blocks, &asked, &sense) == 0);
+    CHECK(memcmp(&asked, &operation, sizeof asked) == 0);
+    CHECK_BYTES((uint8_t *)&sense, sizeof sense, "ee x4");
+}
+
+static void cdb_texts(void)
+{
+    cdb_is((struct uas_operation){ .opcode = UAS_TEST_UNIT_READY }, 100, "00 x16");
+    cdb_is((struct uas_operation){ .opcode = UAS_INQUIRY, .count = 36, .bytes = 36, .direction = UAS_TO_HOST }, 100, "12 00 00 00 24 00 x11");
+    cdb_is((struct uas_operation){ .opcode = UAS_INQUIRY, .count = 5, .bytes = 5, .direction = UAS_TO_HOST }, 100, "12 00 00 00 05 00 x11");
+    cdb_is((struct uas_operation){ .opcode = UAS_INQUIRY }, 100, "12 00 x15");
+    cdb_is((struct uas_operation){ .opcode = UAS_INQUIRY, .count = 65535, .bytes = 36, .direction = UAS_TO_HOST }, 100, "12 00 00 ff ff 00 x11");
+    cdb_is((struct uas_operation){ .opcode = UAS_READ_CAPACITY_10, .bytes = 8, .direction = UAS_TO_HOST }, 1, "25 00 x15");
+    cdb_is((struct uas_operation){ .opcode = UAS_READ_10, .lba = 0xff80, .count = 128, .bytes = 65536, .direction = UAS_TO_HOST }, 65536,
+           "28 00 00 00 ff 80 00 00 80 00 x7");
+    cdb_is((struct uas_operation){ .opcode = UAS_READ_10, .lba = 99, .fua = 1 }, 100, "28 08 00 00 00 63 00 x10");
+    cdb_is((struct uas_operation){ .opcode = UAS_WRITE_10, .lba = 0x102, .count = 3, .bytes = 1536, .fua = 1, .direction = UAS_TO_DEVICE }, 65536,
+           "2a 08 00 00 01 02 00 00 03 00 x7");
+    cdb_is((struct uas_operation){ .opcode = UAS_SYNCHRONIZE_CACHE_10, .lba = 1, .count = 99 }, 100, "35 00 00 00 00 01 00 00 63 00 x7");
+}
+
+static void cdb_checks(const char *text, uint32_t blocks, uint8_t asc)
+{
+    uint8_t cdb[16];
+    struct uas_operation asked, before;
+    struct uas_sense sense = { 0xee, 0xee, 0xee, 0xee };
+    memset(&asked, 0xee, sizeof asked);
+    before = asked;
+    CHECK(from_hex(text, cdb, sizeof cdb) == 16);
+    CHECK(uas_cdb_parse(cdb, blocks, &asked, &sense) == UAS_CDB_CHECK);
+    if (!CHECK(sense.key == 5 && sense.asc == asc && sense.ascq == 0 && sense.reserved == 0))
+        fprintf(stderr, "    %s: %02x/%02x/%02x\n", text, sense.key, sense.asc, sense.ascq);
+    CHECK(memcmp(&asked, &before, sizeof asked) == 0);
+}
+
+static void cdb_faults(void)
+{
+    cdb_checks("03 00 x15", 100, 0x20);                       /* REQUEST SENSE */
+    cdb_checks("88 00 x15", 100, 0x20);                       /* READ(16) */
+    cdb_checks("12 01 00 00 24 00 x11", 100, 0x24);           /* EVPD */
+    cdb_checks("12 00 80 00 24 00 x11", 100, 0x24);           /* a page */
+    cdb_checks("28 20 00 x6 01 00 x7", 100, 0x24);            /* protection */
+    cdb_checks("2a 00 00 x5 00 81 00 x7", 65536, 0x24);       /* 129 blocks */
+    cdb_checks("28 00 ff ff ff ff 00 00 81 00 x7", 10, 0x24); /* the field first */
+    cdb_checks("28 00 00 00 00 63 00 00 02 00 x7", 100, 0x21);
+    cdb_checks("28 00 00 00 00 64 00 00 00 00 x7", 100, 0x21); /* no block, at block 100 of 100 */
+    cdb_checks("35 00 00 00 00 64 00 00 00 00 x7", 100, 0x21);
+    cdb_checks("35 00 00 00 00 01 00 00 64 00 x7", 100, 0x21);
+    cdb_checks("28 00 ff ff ff ff 00 00 01 00 x7", 65536, 0x21);
+
+    /* DPO, the immediate bit and bits without a field are ignored. */
+    uint8_t cdb[16];
+    struct uas_operation asked;
+    struct uas_sense sense;
+    from_hex("28 10 00 00 00 01 ff 00 01 ff x7", cdb, sizeof cdb);
+    CHECK(uas_cdb_parse(cdb, 2, &asked, &sense) == 0 && asked.lba == 1 && asked.count == 1 && asked.fua == 0);
+    from_hex("35 02 00 00 00 01 ff 00 01 ff x7", cdb, sizeof cdb);
+    CHECK(uas_cdb_parse(cdb, 2, &asked, &sense) == 0 && asked.direction == UAS_NO_DATA);
+
+    struct uas_operation operation = { .opcode = UAS_READ_10, .count = 65536 };
+    memset(cdb, 0xee, sizeof cdb);
+    CHECK(uas_cdb_write(&operation, cdb) == UAS_CDB_UNFIT);
+    operation = (struct uas_operation){ .opcode = UAS_READ_10, .fua = 2 };
+    CHECK(uas_cdb_write(&operation, cdb) == UAS_CDB_UNFIT);
+    operation.opcode = 0x88;
+    CHECK(uas_cdb_write(&operation, cdb) == UAS_CDB_UNKNOWN_OPCODE);
+    CHECK_BYTES(cdb, sizeof cdb, "ee x16");
+    /* More than a READ may move has a CDB; the device answers it. */
+    operation = (struct uas_operation){ .opcode = UAS_READ_10, .count = 65535 };
+    CHECK(uas_cdb_write(&operation, cdb) == 0);
+    CHECK_BYTES(cdb, sizeof cdb, "28 00 x6 ff ff 00 x7");
+}
+
+static void data_texts(void)
+{
+    uint8_t bytes[36];
+    const struct uas_sense reset = { 6, 0x29, 3, 0xff };
+    uas_sense_data(&reset, bytes);
+    CHECK_BYTES(bytes, 18, "70 00 06 00 00 00 00 0a 00 00 00 00 29 03 00 00 00 00");
+    uas_inquiry_data(true, bytes);
+    CHECK_BYTES(bytes, 36, "000006021f000002 53494d4449534b20 5541532053494d204449534b20202020 30303031");
+    uas_inquiry_data(false, bytes);
+    CHECK_BYTES(bytes, 36, "7f0006021f000002 53494d4449534b20 5541532053494d204449534b20202020 30303031");
+    CHECK(uas_capacity_data(100, bytes) == 0);
+    CHECK_BYTES(bytes, 8, "00 00 00 63 00 00 02 00");
+    CHECK(uas_capacity_data(0, bytes) == UAS_CAPACITY_NO_BLOCKS);
+    CHECK_BYTES(bytes, 8, "00 00 00 63 00 00 02 00");
+    CHECK(uas_capacity_data(0xffffffff, bytes) == 0);
+    CHECK_BYTES(bytes, 8, "ff ff ff fe 00 00 02 00");
+}
+
+/* ---- The device ---- */
+
+static uas_device *new_device(size_t units, uint32_t blocks)
+{
+    uint32_t all[UAS_MOST_UNITS];
+    uas_device *device = NULL;
+    for (size_t i = 0; i < units; i++)
+        all[i] = blocks;
+    if (uas_device_new(all, units, &device) != 0 || device == NULL) {
+        fprintf(stderr, "no device\n");
+        exit(2);
+    }
+    return device;
+}
+
+static uint8_t received(uas_device *device, const char *text, uint16_t *tag)
+{
+    uint8_t bytes[128];
+    size_t length = from_hex(text, bytes, sizeof bytes);
+    return uas_device_receive(device, bytes, length, tag);
+}
+
+/* The bytes of a Command unit of this operation. */
+static void command_text(uint16_t tag, uint8_t unit, struct uas_operation operation, uint8_t bytes[32])
+{
+    struct uas_unit command = { .id = UAS_UNIT_COMMAND, .tag = tag, .lun = { 0, unit } };
+    size_t length = 0;
+    CHECK(uas_cdb_write(&operation, command.cdb) == 0);
+    CHECK(uas_unit_write(&command, bytes, 32, &length) == 0 && length == 32);
+}
+
+static void begins(uas_device *device, uint16_t tag, uint8_t unit, struct uas_operation operation)
+{
+    uint8_t bytes[32];
+    uint16_t began = 0;
+    command_text(tag, unit, operation, bytes);
+    CHECK(uas_device_receive(device, bytes, sizeof bytes, &began) == 0);
+    CHECK(began == tag);
+}
+
+static void is_at(uas_device *device, uint16_t tag, uint8_t phase, uint32_t length)
+{
+    uint8_t got = 0xee;
+    uint32_t bytes = 7777;
+    CHECK(uas_device_wants(device, tag, &got, &bytes) == 0);
+    CHECK(got == phase);
+    if (phase == UAS_GIVES || phase == UAS_TAKES)
+        CHECK(bytes == length);
+}
+
+/* The task ends with this unit; then it is gone. */
+static void ends(uas_device *device, uint16_t tag, const char *text)
+{
+    uint8_t bytes[112];
+    uint32_t length = 0;
+    is_at(device, tag, UAS_ENDS, 0);
+    CHECK(uas_device_status(device, tag, bytes, sizeof bytes, &length) == 0);
+    CHECK_BYTES(bytes, length, text);
+    CHECK(uas_device_sent(device, tag) == 0);
+    is_at(device, tag, UAS_ABSENT, 0);
+}
+
+static void gives(uas_device *device, uint16_t tag, uint8_t *data, uint32_t length)
+{
+    bool good = false;
+    is_at(device, tag, UAS_GIVES, length);
+    CHECK(uas_device_give(device, tag, data, length, &good) == 0 && good);
+}
+
+static void takes(uas_device *device, uint16_t tag, const uint8_t *data, uint32_t length)
+{
+    bool good = false;
+    is_at(device, tag, UAS_TAKES, length);
+    CHECK(uas_device_take(device, tag, data, length, &good) == 0 && good);
+}
+
+static bool all_are(const uint8_t *bytes, size_t length, uint8_t byte)
+{
+    for (size_t i = 0; i < length; i++)
+        if (bytes[i] != byte)
+            return false;
+    return true;
+}
+
+static const struct uas_operation ready = { .opcode = UAS_TEST_UNIT_READY };
+
+static void device_new_faults(void)
+{
+    uint32_t blocks[32];
+    uas_device *device = NULL;
+    for (int i = 0; i < 32; i++)
+        blocks[i] = 1;
+    CHECK(uas_device_new(blocks, 0, &device) == UAS_DEVICE_UNITS);
+    CHECK(uas_device_new(blocks, 32, &device) == UAS_DEVICE_UNITS);
+    blocks[30] = 0;
+    CHECK(uas_device_new(blocks, 31, &device) == UAS_DEVICE_BLOCKS);
+    blocks[30] = 65537;
+    CHECK(uas_device_new(blocks, 31, &device) == UAS_DEVICE_BLOCKS);
+    CHECK(device == NULL);
+    blocks[30] = 65536;
+    CHECK(uas_device_new(blocks, 31, &device) == 0 && device != NULL);
+    uint32_t size = 0;
+    CHECK(uas_device_size(device, 30, &size) == 0 && size == 65536);
+    CHECK(uas_device_size(device, 0, &size) == 0 && size == 1);
+    CHECK(uas_device_size(device, 31, &size) == UAS_DEVICE_UNIT && size == 1);
+    uas_device_free(device);
+}
+
+static void device_answers(void)
+{
+    uint8_t data[36];
+    uint16_t tag = 0;
+    uas_device *device = new_device(3, 100);
+    is_at(device, 1, UAS_ABSENT, 0);
+    is_at(device, 0, UAS_ABSENT, 0);
+    is_at(device, 65535, UAS_ABSENT, 0);
+    CHECK(received(device, "01 00 00 01 00 x28", &tag) == 0 && tag == 1);
+    ends(device, 1, "03 00 00 01 00 x12");
+
+    begins(device, 18, 2, (struct uas_operation){ .opcode = UAS_INQUIRY, .count = 36 });
+    gives(device, 18, data, 36);
+    CHECK_BYTES(data, 36, "000006021f000002 53494d4449534b20 5541532053494d204449534b20202020 30303031");
+    ends(device, 18, "03 00 00 12 00 x12");
+    begins(device, 18, 2, (struct uas_operation){ .opcode = UAS_INQUIRY, .count = 5 });
+    gives(device, 18, data, 5);
+    CHECK_BYTES(data, 5, "00 00 06 02 1f");
+    ends(device, 18, "03 00 00 12 00 x12");
+    begins(device, 18, 2, (struct uas_operation){ .opcode = UAS_INQUIRY });
+    ends(device, 18, "03 00 00 12 00 x12");
+
+    begins(device, 248, 0, (struct uas_operation){ .opcode = UAS_READ_CAPACITY_10 });
+    gives(device, 248, data, 8);
+    CHECK_BYTES(data, 8, "00 00 00 63 00 00 02 00");
+    ends(device, 248, "03 00 00 f8 00 x12");
+
+    /* Blocks 99 and 100 of 100; no block at block 100, and at block 99. */
+    begins(device, 18, 2, (struct uas_operation){ .opcode = UAS_READ_10, .lba = 99, .count = 2 });
+    ends(device, 18, "03 00 00 12 00 00 02 00 x7 00 12 70 00 05 00 00 00 00 0a 00 00 00 00 21 00 00 00 00 00");
+    begins(device, 18, 2, (struct uas_operation){ .opcode = UAS_READ_10, .lba = 100 });
+    ends(device, 18, "03 00 00 12 00 00 02 00 x7 00 12 70 00 05 00 00 00 00 0a 00 00 00 00 21 00 00 00 00 00");
+    begins(device, 18, 2, (struct uas_operation){ .opcode = UAS_READ_10, .lba = 99 });
+    ends(device, 18, "03 00 00 12 00 x12");
+
+    /* A unit that isn't there: 5/25/00, and INQUIRY data that says so. */
+    begins(device, 18, 3, ready);
+    ends(device, 18, "03 00 00 12 00 00 02 00 x7 00 12 70 00 05 00 00 00 00 0a 00 00 00 00 25 00 00 00 00 00");
+    begins(device, 18, 3, (struct uas_operation){ .opcode = UAS_INQUIRY, .count = 1 });
+    gives(device, 18, data, 1);
+    CHECK(data[0] == 0x7f);
+    ends(device, 18, "03 00 00 12 00 x12");
+    uas_device_free(device);
+}
+
+static void device_moves(void)
+{
+    static uint8_t data[16 * 512], blocks[100 * 512];
+    bool good = true;
+    uas_device *device = new_device(2, 100);
+
+    /* WRITE of 9 blocks at 3: a chunk of 8 and one of 1. */
+    memset(data, 0xaa, sizeof data);
+    begins(device, 1, 1, (struct uas_operation){ .opcode = UAS_WRITE_10, .lba = 3, .count = 9 });
+    CHECK(uas_device_take(device, 1, data, 4095, &good) == UAS_DEVICE_LENGTH);
+    CHECK(uas_device_give(device, 1, data, 4096, &good) == UAS_DEVICE_PHASE);
+    takes(device, 1, data, 4096);
+    takes(device, 1, data, 512);
+    ends(device, 1, "03 00 00 01 00 x12");
+    CHECK(uas_device_blocks(device, 1, 0, blocks, sizeof blocks) == 0);
+    CHECK(all_are(blocks, 3 * 512, 0) && all_are(blocks + 3 * 512, 9 * 512, 0xaa) && all_are(blocks + 12 * 512, 88 * 512, 0));
+    CHECK(uas_device_medium(device, 1, 0, blocks, sizeof blocks) == 0);
+    CHECK(all_are(blocks, sizeof blocks, 0));
+    CHECK(uas_device_blocks(device, 0, 0, blocks, sizeof blocks) == 0);
+    CHECK(all_are(blocks, sizeof blocks, 0));
+
+    /* READ of it, on another tag. */
+    begins(device, 2, 1, (struct uas_operation){ .opcode = UAS_READ_10, .lba = 2, .count = 10 });
+    gives(device, 2, data, 4096);
+    CHECK(all_are(data, 512, 0) && all_are(data + 512, 7 * 512, 0xaa));
+    gives(device, 2, data, 1024);
+    CHECK(all_are(data, 1024, 0xaa));
+    ends(device, 2, "03 00 00 02 00 x12");
+
+    /* SYNCHRONIZE CACHE from block 4 on, then WRITE with FUA of block 3. */
+    begins(device, 1, 1, (struct uas_operation){ .opcode = UAS_SYNCHRONIZE_CACHE_10, .lba = 4 });
+    ends(device, 1, "03 00 00 01 00 x12");
+    memset(data, 0x55, 512);
+    begins(device, 1, 1, (struct uas_operation){ .opcode = UAS_WRITE_10, .lba = 0, .count = 1, .fua = 1 });
+    takes(device, 1, data, 512);
+    ends(device, 1, "03 00 00 01 00 x12");
+    CHECK(uas_device_medium(device, 1, 0, blocks, sizeof blocks) == 0);
+    CHECK(all_are(blocks, 512, 0x55) && all_are(blocks + 512, 3 * 512, 0));
+    CHECK(all_are(blocks + 4 * 512, 8 * 512, 0xaa) && all_are(blocks + 12 * 512, 88 * 512, 0));
+
+    /* A READ gives the blocks of its own moment: two chunks, and a WRITE between them. */
+    memset(data, 0x11, sizeof data);
+    begins(device, 1, 0, (struct uas_operation){ .opcode = UAS_READ_10, .count = 16 });
+    begins(device, 2, 0, (struct uas_operation){ .opcode = UAS_WRITE_10, .count = 16 });
+    takes(device, 2, data, 4096);
+    gives(device, 1, data, 4096);
+    gives(device, 1, data + 4096, 4096);
+    CHECK(all_are(data, 4096, 0x11) && all_are(data + 4096, 4096, 0));
+    takes(device, 2, data, 4096);
+    ends(device, 1, "03 00 00 01 00 x12");
+    ends(device, 2, "03 00 00 02 00 x12");
+    uas_device_free(device);
+}
+
+static void device_manages(void)
+{
+    uint8_t data[4096] = { 0 };
+    uint16_t tag = 7;
+    uas_device *device = new_device(3, 100);
+
+    /* ABORT TASK of tag 18 by tag 24. Its READ has moved two chunks of three. */
+    begins(device, 18, 2, (struct uas_operation){ .opcode = UAS_READ_10, .count = 24 });
+    begins(device, 17, 2, (struct uas_operation){ .opcode = UAS_READ_10, .count = 24 });
+    begins(device, 1, 0, ready);
+    gives(device, 18, data, 4096);
+    gives(device, 18, data, 4096);
+    CHECK(received(device, "05 00 00 18 01 00 00 12 00 02 00 x6", &tag) == 0 && tag == 24);
+    is_at(device, 18, UAS_ABSENT, 0);
+    is_at(device, 17, UAS_GIVES, 4096);
+    ends(device, 24, "04 00 00 18 00 00 00 00");
+    /* It answers COMPLETE where there is no such task too. */
+    CHECK(received(device, "05 00 00 18 01 00 00 12 00 02 00 x6", &tag) == 0 && tag == 24);
+    ends(device, 24, "04 00 00 18 00 00 00 00");
+    /* Nor does it end a task of another unit. */
+    CHECK(received(device, "05 00 00 18 01 00 00 11 00 01 00 x6", &tag) == 0);
+    is_at(device, 17, UAS_GIVES, 4096);
+    ends(device, 24, "04 00 00 18 00 00 00 00");
+
+    /* LOGICAL UNIT RESET of unit 2: its tasks go, INQUIRY is answered, the next command is told, the one after it is good. */
+    CHECK(received(device, "05 00 00 18 08 00 00 00 00 02 00 x6", &tag) == 0 && tag == 24);
+    ends(device, 24, "04 00 00 18 00 00 00 00");
+    is_at(device, 17, UAS_ABSENT, 0);
+    ends(device, 1, "03 00 00 01 00 x12");
+    begins(device, 17, 2, (struct uas_operation){ .opcode = UAS_INQUIRY, .count = 5 });
+    gives(device, 17, data, 5);
+    ends(device, 17, "03 00 00 11 00 x12");
+    begins(device, 17, 2, ready);
+    ends(device, 17, "03 00 00 11 00 00 02 00 x7 00 12 70 00 06 00 00 00 00 0a 00 00 00 00 29 03 00 00 00 00");
+    begins(device, 17, 2, ready);
+    ends(device, 17, "03 00 00 11 00 x12");
+
+    /* Another function, and a unit that isn't there. */
+    CHECK(received(device, "05 00 00 18 04 00 00 00 00 02 00 x6", &tag) == 0);
+    ends(device, 24, "04 00 00 18 00 00 00 04");
+    CHECK(received(device, "05 00 00 18 08 00 00 00 00 03 00 x6", &tag) == 0);
+    ends(device, 24, "04 00 00 18 00 00 00 09");
+    uas_device_free(device);
+}
+
+static void device_refuses(void)
+{
+    uint8_t data[1024], bytes[112];
+    uint16_t tag = 7;
+    uint32_t length = 7777;
+    bool good = true;
+    uas_device *device = new_device(1, 10);
+
+    /* Overlapped tags: nothing changes, the tag of the caller neither. */
+    begins(device, 18, 0, (struct uas_operation){ .opcode = UAS_READ_10, .count = 2 });
+    CHECK(received(device, "01 00 00 12 00 x28", &tag) == UAS_DEVICE_OVERLAP);
+    CHECK(received(device, "05 00 00 12 08 00 x11", &tag) == UAS_DEVICE_OVERLAP);
+    CHECK(tag == 7);
+    is_at(device, 18, UAS_GIVES, 1024);
+    CHECK(uas_device_status(device, 18, bytes, sizeof bytes, &length) == UAS_DEVICE_PHASE);
+    CHECK(uas_device_sent(device, 18) == UAS_DEVICE_PHASE);
+    CHECK(uas_device_take(device, 18, data, 1024, &good) == UAS_DEVICE_PHASE);
+    memset(data, 0xee, sizeof data);
+    CHECK(uas_device_give(device, 18, data, 1023, &good) == UAS_DEVICE_LENGTH);
+    CHECK(uas_device_give(device, 18, data, 0, &good) == UAS_DEVICE_LENGTH);
+    CHECK(uas_device_give(device, 17, data, 1024, &good) == UAS_DEVICE_PHASE);
+    CHECK(all_are(data, sizeof data, 0xee));
+    gives(device, 18, data, 1024);
+    memset(bytes, 0xee, sizeof bytes);
+    CHECK(uas_device_status(device, 18, bytes, 15, &length) == UAS_DEVICE_LENGTH && length == 7777);
+    CHECK(all_are(bytes, sizeof bytes, 0xee));
+    CHECK(uas_device_status(device, 18, bytes, 16, &length) == 0 && length == 16);
+    ends(device, 18, "03 00 00 12 00 x12");
+    CHECK(uas_device_sent(device, 18) == UAS_DEVICE_PHASE);
+
+    /* Bytes that are no unit: 31 of a Command are answered on their tag, the rest is dropped. */
+    CHECK(received(device, "01 00 00 12 00 x27", &tag) == 0 && tag == 18);
+    CHECK(received(device, "01 00 00 12 00 x27", &tag) == 0 && tag == 0);
+    ends(device, 18, "04 00 00 12 00 00 00 02");
+    tag = 7;
+    CHECK(received(device, "", &tag) == 0 && tag == 0);
+    tag = 7;
+    CHECK(uas_device_receive(device, NULL, 0, &tag) == 0 && tag == 0);
+    CHECK(uas_device_blocks(device, 0, 1, NULL, 0) == 0);
+    CHECK(received(device, "01 00 00", &tag) == 0 && tag == 0);
+    CHECK(received(device, "01 00 00 00 00 x28", &tag) == 0 && tag == 0);
+    CHECK(received(device, "01 00 00 f9 00 x28", &tag) == 0 && tag == 0);
+    CHECK(received(device, "03 00 00 01 00 x12", &tag) == 0 && tag == 0);
+    CHECK(received(device, "04 00 00 01 00 x4", &tag) == 0 && tag == 0);
+    is_at(device, 1, UAS_ABSENT, 0);
+
+    /* Blocks that aren't there. */
+    memset(data, 0xee, sizeof data);
+    CHECK(uas_device_blocks(device, 0, 9, data, 1024) == UAS_DEVICE_RANGE);
+    CHECK(uas_device_medium(device, 0, 11, data, 0) == UAS_DEVICE_RANGE);
+    CHECK(uas_device_blocks(device, 0, 0xffffffff, data, 512) == UAS_DEVICE_RANGE);
+    CHECK(uas_device_blocks(device, 0, 0, data, 511) == UAS_DEVICE_LENGTH);
+    CHECK(uas_device_medium(device, 1, 0, data, 512) == UAS_DEVICE_UNIT);
+    CHECK(all_are(data, sizeof data, 0xee));
+    CHECK(uas_device_blocks(device, 0, 10, data, 0) == 0);
+    CHECK(uas_device_blocks(device, 0, 9, data, 512) == 0 && all_are(data, 512, 0));
+
+    struct uas_device_door door;
+    memset(&door, 0xee, sizeof door);
+    door.call = 0;
+    CHECK(uas_device_call(device, &door, data, 0) == UAS_DEVICE_CALL);
+    door.call = 10;
+    CHECK(uas_device_call(device, &door, data, 0) == UAS_DEVICE_CALL);
+    door.call = 0xee;
+    CHECK(all_are((const uint8_t *)&door, sizeof door, 0xee));
+    uas_device_free(device);
+}
+
+/* ---- The bus ---- */
+
+static uint8_t bytes_of_replies[UAS_MOST_DATA_BYTES];
+
+static uas_bus *new_bus(size_t clients, uint32_t blocks)
+{
+    uint32_t all[UAS_MOST_UNITS];
+    uas_bus *bus = NULL;
+    for (size_t i = 0; i < clients; i++)
+        all[i] = blocks;
+    if (uas_bus_new(all, clients, &bus) != 0 || bus == NULL) {
+        fprintf(stderr, "no bus\n");
+        exit(2);
+    }
+    return bus;
+}
+
+/* Submits with a buffer of `length` times `byte`. */
+static uint8_t submitted(uas_bus *bus, uint32_t client, uint16_t tag, uint64_t ticket, struct uas_operation operation, uint8_t byte, size_t length)
+{
+    static uint8_t data[129 * 512];
+    memset(data, byte, length);
+    return uas_bus_submit(bus, client, tag, ticket, &operation, data, length);
+}
+
+/* The steps that are due act, in this order: c command, g engine, e event; dN, sN data and status of tag N; rPN retirement on pipe P (s, i, o). */
+static void acts(uas_bus *bus, const char *steps)
+{
+    for (const char *at = steps; *at != '\0';) {
+        uint8_t step = 0, pipe = 0;
+        char *end = NULL;
+        uint16_t tag = 0;
+        bool due = false, acted = false;
+        int owner = -2;
+        switch (*at++) {
+        case 'c':
+            step = UAS_STEP_COMMAND;
+            break;
+        case 'g':
+            step = UAS_STEP_ENGINE;
+            break;
+        case 'e':
+            step = UAS_STEP_EVENT;
+            break;
+        case 'd':
+            step = UAS_STEP_DATA;
+            break;
+        case 's':
+            step = UAS_STEP_STATUS;
+            break;
+        case 'r':
+            step = UAS_STEP_RETIRE;
+            pipe = *at == 's' ? UAS_PIPE_STATUS : *at == 'i' ? UAS_PIPE_DATA_IN : UAS_PIPE_DATA_OUT;
+            at++;
+            break;
+        default:
+            continue;
+        }
+        if (step == UAS_STEP_DATA || step == UAS_STEP_STATUS || step == UAS_STEP_RETIRE) {
+            tag = (uint16_t)strtoul(at, &end, 10);
+            at = end;
+        }
+        CHECK(uas_bus_due(bus, step, pipe, tag, &due) == 0);
+        CHECK(uas_bus_step(bus, step, pipe, tag, &acted, &owner) == 0);
+        bool tagged = step == UAS_STEP_DATA || step == UAS_STEP_STATUS || step == UAS_STEP_RETIRE;
+        if (!CHECK(due && acted && (tagged ? owner == (tag - 1) / 8 : owner >= 0)))
+            fprintf(stderr, "    at \"%s\" of \"%s\"\n", at, steps);
+    }
+}
+
+static void is_idle(uas_bus *bus, uint8_t step, uint8_t pipe, uint16_t tag)
+{
+    bool due = true, acted = true;
+    int owner = 7;
+    CHECK(uas_bus_due(bus, step, pipe, tag, &due) == 0 && !due);
+    CHECK(uas_bus_step(bus, step, pipe, tag, &acted, &owner) == 0 && !acted && owner == -1);
+}
+
+static void drains(uas_bus *bus)
+{
+    uint64_t taken = 0;
+    bool quiet = false;
+    CHECK(uas_bus_drain(bus, 100000, &taken, &quiet) == 0 && quiet);
+}
+
+/* The client's next reply; its data is in bytes_of_replies. */
+static void replies(uas_bus *bus, uint32_t client, uint64_t ticket, uint16_t tag, uint8_t reply, uint8_t status, uint32_t length)
+{
+    struct uas_bus_door got;
+    memset(bytes_of_replies, 0xee, sizeof bytes_of_replies);
+    memset(&got, 0xee, sizeof got);
+    CHECK(uas_bus_reply(bus, client, bytes_of_replies, sizeof bytes_of_replies - 1, &got) == UAS_BUS_LENGTH);
+    CHECK(all_are((const uint8_t *)&got, sizeof got, 0xee));
+    CHECK(all_are(bytes_of_replies, sizeof bytes_of_replies, 0xee));
+    CHECK(uas_bus_reply(bus, client, bytes_of_replies, sizeof bytes_of_replies, &got) == 0);
+    CHECK(got.acted == 1 && got.ticket == ticket && got.tag == tag && got.reply == reply && got.status == status && got.length == length);
+    if (reply == UAS_REPLY_STATUS && status == UAS_CHECK_CONDITION)
+        CHECK(got.sense_length == 18);
+    else
+        CHECK(got.sense_length == 0);
+    if (length < sizeof bytes_of_replies)
+        CHECK(all_are(bytes_of_replies + length, sizeof bytes_of_replies - length, 0xee));
+}
+
+/* The same with CHECK CONDITION and this sense. */
+static void replies_check(uas_bus *bus, uint32_t client, uint64_t ticket, uint16_t tag, uint32_t length, const char *sense)
+{
+    struct uas_bus_door got;
+    memset(&got, 0xee, sizeof got);
+    CHECK(uas_bus_reply(bus, client, bytes_of_replies, sizeof bytes_of_replies, &got) == 0);
+    CHECK(got.acted == 1 && got.ticket == ticket && got.tag == tag && got.reply == UAS_REPLY_STATUS && got.length == length);
+    CHECK(got.status == UAS_CHECK_CONDITION);
+    CHECK_BYTES(got.sense, got.sense_length, sense);
+}
+
+static void no_reply(uas_bus *bus, uint32_t client)
+{
+    struct uas_bus_door got;
+    CHECK(uas_bus_reply(bus, client, bytes_of_replies, sizeof bytes_of_replies, &got) == 0 && got.acted == 0);
+}
+
+static struct uas_operation reads(uint32_t lba, uint32_t count)
+{
+    return (struct uas_operation){ .opcode = UAS_READ_10, .lba = lba, .count = count };
+}
+
+static struct uas_operation writes(uint32_t lba, uint32_t count)
+{
+    return (struct uas_operation){ .opcode = UAS_WRITE_10, .lba = lba, .count = count };
+}
+
+/* Two clients write and read the same block numbers, each of its own unit. */
+static void bus_of_two(void)
+{
+    uas_bus *bus = new_bus(2, 100);
+    CHECK(submitted(bus, 0, 1, 0, writes(0, 8), 0xaa, 4096) == 0);
+    drains(bus);
+    replies(bus, 0, 0, 1, UAS_REPLY_STATUS, UAS_GOOD, 4096);
+    CHECK(submitted(bus, 0, 1, 1, reads(0, 1), 0x77, 512) == 0);
+    CHECK(submitted(bus, 1, 9, 0, reads(0, 1), 0x77, 512) == 0);
+    CHECK(submitted(bus, 1, 10, 1, (struct uas_operation){ .opcode = UAS_INQUIRY, .count = 36 }, 0, 36) == 0);
+    drains(bus);
+    replies(bus, 0, 1, 1, UAS_REPLY_STATUS, UAS_GOOD, 512);
+    CHECK(all_are(bytes_of_replies, 512, 0xaa));
+    no_reply(bus, 0);
+    replies(bus, 1, 0, 9, UAS_REPLY_STATUS, UAS_GOOD, 512);
+    CHECK(all_are(bytes_of_replies, 512, 0));
+    replies(bus, 1, 1, 10, UAS_REPLY_STATUS, UAS_GOOD, 36);
+    CHECK_BYTES(bytes_of_replies, 36, "000006021f000002 53494d4449534b20 5541532053494d204449534b20202020 30303031");
+    no_reply(bus, 1);
+    uint8_t blocks[1024];
+    CHECK(uas_bus_blocks(bus, 0, 7, blocks, 1024) == 0 && all_are(blocks, 512, 0xaa) && all_are(blocks + 512, 512, 0));
+    CHECK(uas_bus_medium(bus, 0, 7, blocks, 1024) == 0 && all_are(blocks, 1024, 0));
+    CHECK(uas_bus_blocks(bus, 1, 7, blocks, 1024) == 0 && all_are(blocks, 1024, 0));
+    uas_bus_free(bus);
+}
+
+/* A READ of 16 blocks between the chunks of a WRITE of the same blocks. */
+static void bus_read_sees_write(void)
+{
+    uas_bus *bus = new_bus(2, 100);
+    CHECK(submitted(bus, 0, 1, 0, writes(0, 16), 1, 8192) == 0);
+    CHECK(submitted(bus, 0, 2, 1, reads(0, 16), 0x77, 8192) == 0);
+    CHECK(submitted(bus, 1, 9, 0, writes(0, 16), 9, 8192) == 0);
+    acts(bus, "c c c d1 d9 d2 d2 d9 d1");
+    is_idle(bus, UAS_STEP_DATA, 0, 1);
+    drains(bus);
+    replies(bus, 0, 0, 1, UAS_REPLY_STATUS, UAS_GOOD, 8192);
+    replies(bus, 0, 1, 2, UAS_REPLY_STATUS, UAS_GOOD, 8192);
+    CHECK(all_are(bytes_of_replies, 4096, 1) && all_are(bytes_of_replies + 4096, 4096, 0));
+    uas_bus_free(bus);
+}
+
+/* A READ beyond the last block: its data TD is retired before the reply. */
+static void bus_out_of_range(void)
+{
+    uas_bus *bus = new_bus(3, 100);
+    CHECK(submitted(bus, 2, 18, 0, reads(99, 2), 0x77, 1024) == 0);
+    acts(bus, "c s18 e e");
+    no_reply(bus, 2);
+    is_idle(bus, UAS_STEP_RETIRE, UAS_PIPE_STATUS, 18);
+    is_idle(bus, UAS_STEP_RETIRE, UAS_PIPE_DATA_OUT, 18);
+    acts(bus, "ri18 g e g e");
+    replies_check(bus, 2, 0, 18, 1024, "70 00 05 00 00 00 00 0a 00 00 00 00 21 00 00 00 00 00");
+    CHECK(all_are(bytes_of_replies, 1024, 0x77));
+    uas_bus_free(bus);
+}
+
+/* A READ of three chunks is aborted after two. */
+static void bus_abort(void)
+{
+    uas_bus *bus = new_bus(3, 100);
+    CHECK(submitted(bus, 2, 17, 0, reads(0, 24), 0x77, 24 * 512) == 0);
+    acts(bus, "c d17 d17");
+    CHECK(uas_bus_task(bus, 2, 1, UAS_ABORT_TASK, 17) == 0);
+    CHECK(uas_bus_task(bus, 2, 2, UAS_LOGICAL_UNIT_RESET, 0) == UAS_BUS_IN_USE);
+    drains(bus);
+    replies(bus, 2, 1, 24, UAS_REPLY_TASK, UAS_RESPONSE_COMPLETE, 0);
+    replies(bus, 2, 0, 17, UAS_REPLY_ABORTED, 0, 24 * 512);
+    CHECK(all_are(bytes_of_replies, 8192, 0) && all_are(bytes_of_replies + 8192, 4096, 0x77));
+    no_reply(bus, 2);
+    uas_bus_free(bus);
+}
+
+/* LOGICAL UNIT RESET while a WRITE is under way; what comes after it is told, once, of the reset. */
+static void bus_reset(void)
+{
+    uas_bus *bus = new_bus(2, 100);
+    uint8_t blocks[9 * 512];
+    CHECK(submitted(bus, 1, 9, 0, writes(0, 24), 170, 24 * 512) == 0);
+    CHECK(uas_bus_task(bus, 1, 1, UAS_LOGICAL_UNIT_RESET, 0) == 0);
+    CHECK(submitted(bus, 1, 10, 2, (struct uas_operation){ .opcode = UAS_INQUIRY, .count = 5 }, 0, 5) == 0);
+    CHECK(submitted(bus, 1, 11, 3, ready, 0, 0) == 0);
+    CHECK(submitted(bus, 1, 12, 4, ready, 0, 0) == 0);
+    CHECK(submitted(bus, 0, 1, 0, reads(0, 1), 0x77, 512) == 0);
+    drains(bus);
+    replies(bus, 0, 0, 1, UAS_REPLY_STATUS, UAS_GOOD, 512);
+    replies(bus, 1, 1, 16, UAS_REPLY_TASK, UAS_RESPONSE_COMPLETE, 0);
+    replies(bus, 1, 2, 10, UAS_REPLY_STATUS, UAS_GOOD, 5);
+    CHECK_BYTES(bytes_of_replies, 5, "00 00 06 02 1f");
+    replies_check(bus, 1, 3, 11, 0, "70 00 06 00 00 00 00 0a 00 00 00 00 29 03 00 00 00 00");
+    replies(bus, 1, 4, 12, UAS_REPLY_STATUS, UAS_GOOD, 0);
+    replies(bus, 1, 0, 9, UAS_REPLY_ABORTED, 0, 24 * 512);
+    no_reply(bus, 1);
+    CHECK(uas_bus_blocks(bus, 1, 0, blocks, sizeof blocks) == 0);
+    CHECK(all_are(blocks, 8 * 512, 0xaa) && all_are(blocks + 8 * 512, 512, 0));
+    uas_bus_free(bus);
+}
+
+/* An abort never reaches a later command on the same tag. */
+static void bus_reused_tag(void)
+{
+    uas_bus *bus = new_bus(3, 100);
+    CHECK(submitted(bus, 2, 18, 0, ready, 0, 0) == 0);
+    acts(bus, "c s18");
+    CHECK(uas_bus_task(bus, 2, 1, UAS_ABORT_TASK, 18) == 0);
+    acts(bus, "e e");
+    replies(bus, 2, 0, 18, UAS_REPLY_STATUS, UAS_GOOD, 0);
+    CHECK(submitted(bus, 2, 18, 2, ready, 0, 0) == 0);
+    acts(bus, "c s24 c s18 e e e e");
+    replies(bus, 2, 1, 24, UAS_REPLY_TASK, UAS_RESPONSE_COMPLETE, 0);
+    replies(bus, 2, 2, 18, UAS_REPLY_STATUS, UAS_GOOD, 0);
+    no_reply(bus, 2);
+    uas_bus_free(bus);
+}
+
+/* A TD of client 2 is retired beside a READ of client 3 on the same pipe: while the pipe is held nothing moves on it, and then the READ
+ * goes on with its tenth TRB. */
+static void bus_retirement_beside_read(void)
+{
+    uas_bus *bus = new_bus(4, 200);
+    CHECK(submitted(bus, 2, 17, 0, ready, 0, 0) == 0);
+    CHECK(submitted(bus, 2, 18, 1, reads(0, 24), 0x77, 24 * 512) == 0);
+    CHECK(submitted(bus, 3, 25, 0, ready, 0, 0) == 0);
+    CHECK(submitted(bus, 3, 26, 1, reads(0, 128), 0x77, 65536) == 0);
+    acts(bus, "c c c c d26 d26 d26 d26 d26 d26 d26 d26 d26");
+    CHECK(uas_bus_task(bus, 2, 2, UAS_ABORT_TASK, 18) == 0);
+    acts(bus, "c s24 e e e e e e ri18");
+    is_idle(bus, UAS_STEP_RETIRE, UAS_PIPE_STATUS, 18);
+    acts(bus, "g");
+    is_idle(bus, UAS_STEP_DATA, 0, 26);
+    acts(bus, "e g");
+    is_idle(bus, UAS_STEP_DATA, 0, 26);
+    acts(bus, "e d26");
+    drains(bus);
+    replies(bus, 2, 2, 24, UAS_REPLY_TASK, UAS_RESPONSE_COMPLETE, 0);
+    replies(bus, 2, 0, 17, UAS_REPLY_STATUS, UAS_GOOD, 0);
+    replies(bus, 2, 1, 18, UAS_REPLY_ABORTED, 0, 24 * 512);
+    CHECK(all_are(bytes_of_replies, 24 * 512, 0x77));
+    replies(bus, 3, 0, 25, UAS_REPLY_STATUS, UAS_GOOD, 0);
+    replies(bus, 3, 1, 26, UAS_REPLY_STATUS, UAS_GOOD, 65536);
+    CHECK(all_are(bytes_of_replies, 65536, 0));
+    uas_bus_free(bus);
+}
+
+static void bus_refuses(void)
+{
+    uas_bus *bus = new_bus(2, 100);
+    uint8_t data[1024];
+    uint64_t taken = 7777;
+    bool quiet = true;
+    struct uas_operation odd = { .opcode = 0x88 };
+    CHECK(submitted(bus, 0, 1, 0, odd, 0, 0) == UAS_BUS_OPERATION);
+    CHECK(submitted(bus, 0, 1, 0, reads(0, 65536), 0, 512) == UAS_BUS_OPERATION);
+    CHECK(submitted(bus, 0, 1, (uint64_t)1 << 60, odd, 0, 0) == UAS_BUS_TICKET);
+    CHECK(submitted(bus, 2, 17, 0, ready, 0, 0) == UAS_BUS_NOT_YOURS);
+    CHECK(submitted(bus, 0, 9, 0, ready, 0, 0) == UAS_BUS_NOT_YOURS);
+    CHECK(submitted(bus, 0, 8, 0, ready, 0, 0) == UAS_BUS_NOT_YOURS);
+    CHECK(submitted(bus, 0, 0, 0, ready, 0, 0) == UAS_BUS_NOT_YOURS);
+    CHECK(submitted(bus, 0, 1, 0, reads(0, 1), 0, 511) == UAS_BUS_BAD_LENGTH);
+    CHECK(submitted(bus, 0, 1, 0, reads(0, 129), 0, 129 * 512) == UAS_BUS_TOO_LONG);
+    CHECK(submitted(bus, 0, 1, 0, reads(0, 129), 0, 129 * 512 - 1) == UAS_BUS_BAD_LENGTH);
+    drains(bus);
+    CHECK(uas_bus_drain(bus, 0, &taken, &quiet) == 0 && taken == 0 && !quiet);
+    no_reply(bus, 0);
+
+    CHECK(submitted(bus, 0, 1, 5, ready, 0, 0) == 0);
+    CHECK(submitted(bus, 0, 1, 6, ready, 0, 0) == UAS_BUS_IN_USE);
+    CHECK(submitted(bus, 0, 2, 5, ready, 0, 0) == UAS_BUS_OUT_OF_TURN);
+    CHECK(uas_bus_submit(bus, 1, 9, 0, &ready, NULL, 0) == 0);
+    CHECK(uas_bus_task(bus, 0, 4, UAS_ABORT_TASK, 1) == UAS_BUS_OUT_OF_TURN);
+    CHECK(uas_bus_task(bus, 0, 6, UAS_ABORT_TASK, 2) == UAS_BUS_NO_SUCH_TASK);
+    CHECK(uas_bus_task(bus, 0, 6, UAS_ABORT_TASK, 9) == UAS_BUS_NO_SUCH_TASK);
+    CHECK(uas_bus_task(bus, 0, 6, 2, 1) == UAS_BUS_FUNCTION);
+    CHECK(uas_bus_task(bus, 0, (uint64_t)1 << 60, 2, 1) == UAS_BUS_TICKET);
+    CHECK(uas_bus_task(bus, 2, 6, UAS_LOGICAL_UNIT_RESET, 0) == UAS_BUS_NOT_YOURS);
+    /* Each takes four steps: carried, its status moved, two events. */
+    CHECK(uas_bus_drain(bus, 3, &taken, &quiet) == 0 && taken == 3 && !quiet);
+    drains(bus);
+    replies(bus, 0, 5, 1, UAS_REPLY_STATUS, UAS_GOOD, 0);
+    replies(bus, 1, 0, 9, UAS_REPLY_STATUS, UAS_GOOD, 0);
+
+    is_idle(bus, UAS_STEP_COMMAND, 0, 0);
+    is_idle(bus, UAS_STEP_DATA, 0, 65535);
+    is_idle(bus, UAS_STEP_STATUS, 0, 0);
+    is_idle(bus, UAS_STEP_ENGINE, 0, 0);
+    is_idle(bus, UAS_STEP_EVENT, 0, 0);
+    is_idle(bus, UAS_STEP_RETIRE, UAS_PIPE_DATA_IN, 1);
+    bool acted = true;
+    int owner = 7;
+    CHECK(uas_bus_step(bus, 0, 0, 0, &acted, &owner) == UAS_BUS_STEP);
+    CHECK(uas_bus_step(bus, 7, 0, 0, &acted, &owner) == UAS_BUS_STEP);
+    CHECK(uas_bus_step(bus, UAS_STEP_RETIRE, 0, 1, &acted, &owner) == UAS_BUS_STEP);
+    CHECK(uas_bus_due(bus, UAS_STEP_RETIRE, 4, 1, &acted) == UAS_BUS_STEP);
+    CHECK(acted && owner == 7);
+
+    memset(data, 0xee, sizeof data);
+    struct uas_bus_door got;
+    no_reply(bus, 2);
+    no_reply(bus, 0xffffffff);
+    CHECK(uas_bus_reply(bus, 2, data, 0, &got) == UAS_BUS_LENGTH);
+    CHECK(uas_bus_blocks(bus, 2, 0, data, 512) == UAS_BUS_CLIENT);
+    CHECK(uas_bus_blocks(bus, 0, 99, data, 1024) == UAS_BUS_RANGE);
+    CHECK(uas_bus_medium(bus, 0, 0xffffffff, data, 512) == UAS_BUS_RANGE);
+    CHECK(uas_bus_medium(bus, 0, 0, data, 513) == UAS_BUS_LENGTH);
+    CHECK(all_are(data, sizeof data, 0xee));
+    memset(&got, 0xee, sizeof got);
+    got.call = 6;
+    CHECK(uas_bus_call(bus, &got, data, 0) == UAS_BUS_CALL);
+    got.call = 10;
+    CHECK(uas_bus_call(bus, &got, data, 0) == UAS_BUS_CALL);
+    got.call = 0xee;
+    CHECK(all_are((const uint8_t *)&got, sizeof got, 0xee));
+    uas_bus_free(bus);
+}
+
+static void bus_new_faults(void)
+{
+    uint32_t blocks[32];
+    uas_bus *bus = NULL;
+    for (int i = 0; i < 32; i++)
+        blocks[i] = 1;
+    CHECK(uas_bus_new(blocks, 0, &bus) == UAS_BUS_CLIENTS);
+    CHECK(uas_bus_new(blocks, 32, &bus) == UAS_BUS_CLIENTS);
+    blocks[30] = 0;
+    CHECK(uas_bus_new(blocks, 31, &bus) == UAS_BUS_BLOCKS);
+    blocks[30] = 65537;
+    CHECK(uas_bus_new(blocks, 31, &bus) == UAS_BUS_BLOCKS);
+    CHECK(bus == NULL);
+    blocks[30] = 65536;
+    CHECK(uas_bus_new(blocks, 31, &bus) == 0 && bus != NULL);
+    CHECK(submitted(bus, 30, 241, 0, (struct uas_operation){ .opcode = UAS_READ_CAPACITY_10 }, 0, 8) == 0);
+    drains(bus);
+    replies(bus, 30, 0, 241, UAS_REPLY_STATUS, UAS_GOOD, 8);
+    CHECK_BYTES(bytes_of_replies, 8, "00 00 ff ff 00 00 02 00");
+    uas_bus_free(bus);
+}
+
+int main(void)
+{
+    trb_texts();
+    trb_faults();
+    unit_texts();
+    unit_faults();
+    cdb_texts();
+    cdb_faults();
+    data_texts();
+    device_new_faults();
+    device_answers();
+    device_moves();
+    device_manages();
+    device_refuses();
+    bus_new_faults();
+    bus_of_two();
+    bus_read_sees_write();
+    bus_out_of_range();
+    bus_abort();
+    bus_reset();
+    bus_reused_tag();
+    bus_retirement_beside_read();
+    bus_refuses();
+    return tell("worked");
+}

@@ -1,21 +1,12 @@
 -- An address and the item that it names.
 use Rattle.std.proofs.Common.{◌≡◌, ℕ, ◌+◌, ◌-◌, ◌*◌, ◌/◌, ◌%◌, ◌<◌, ◌==◌, Some, None, nat_lt, nat_le, refl, arith, inl, inr, if◌then◌else◌}
-use Rattle.std.proofs.Math.Nat.{mod-add-mod, mod-lt, div-add-mod}
+use Rattle.std.proofs.Math.Nat.{mod-lt, div-add-mod}
 use Rattle.std.proofs.lemmas.Nat.{div-mul-add, mod-mul-add}
-use Rattle.std.proofs.lemmas.Bool.{le-ltb, lt-leb, le-leb, ltb-false, leb-true, leb-false, eqb-true, cases_Bool}
+use Rattle.std.proofs.lemmas.Bool.{le-ltb, lt-leb, ltb-false, leb-false, eqb-true, cases_Bool}
 use Rattle.cycle_ring.specs.Ring.{Ring, place_of, pointer_of, item_in, AddressesNameItems, NamedItemsHaveAddresses}
-use Rattle.ring_ends.specs.TurnLaws.{wraps_once, place_ahead, place_behind}
+use Rattle.ring_ends.specs.EndLaws.{distance-ahead, distance-place}
 
--- the item at the place of item k
-pub item_in-place : (m at k : ℕ) → k < m → item_in m (at % m) ((at + k) % m) ≡ k
-item_in-place m at k below =
-    let first : at % m < m = mod-lt at (omega arith) in
-    let place : (at % m + k) % m ≡ (at + k) % m = mod-add-mod at m k in
-    elim (wraps_once m (at % m + k) (omega arith)) as (λ _. item_in m (at % m) ((at + k) % m) ≡ k) [
-      | inl low ↦ rw (le-leb (at % m) ((at + k) % m) (omega arith)) (omega arith)
-      | inr high ↦ rw (lt-leb (at % m) ((at + k) % m) (omega arith)) (omega arith)
-    ]
-
+-- the address of an item names it
 pub item_at-pointer_of : AddressesNameItems
 item_at-pointer_of n k r places below =
     let turn : 0 < n - 1 = omega arith in
@@ -27,21 +18,8 @@ item_at-pointer_of n k r places below =
       mod-mul-add (place_of n r k) 16 0 (omega arith),
       div-mul-add (place_of n r k) 16 0 (omega arith),
       lt-leb (n - 1) (place_of n r k) within,
-      item_in-place (n - 1) r.at k below,
+      distance-ahead (n - 1) r.at k below,
     ) refl
-
--- the item that is named at a place stands there
-pub item_in-stands : (m at place : ℕ) → place < m → (item_in m (at % m) place < m) × ((at + item_in m (at % m) place) % m ≡ place)
-item_in-stands m at place below =
-    let first : at % m < m = mod-lt at (omega arith) in
-    elim (cases_Bool (nat_le (at % m) place)) as (λ _. (item_in m (at % m) place < m) × ((at + item_in m (at % m) place) % m ≡ place)) [
-      | inl ahead ↦
-          let above = leb-true (at % m) place ahead in
-          rw ahead (omega arith, place_ahead m at place (place - at % m) below (omega arith))
-      | inr behind ↦
-          let under = leb-false (at % m) place behind in
-          rw behind (omega arith, place_behind m at place (place + m - at % m) below (omega arith))
-    ]
 
 -- what is left of an address's three tests
 only_inside : (n k offset : ℕ) (r : Ring) → 0 < n - 1 → offset % 16 ≡ 0
@@ -53,7 +31,7 @@ only_inside n k offset r turn whole is =
       | inr inside ↦
           let some : Some (item_in (n - 1) (r.at % (n - 1)) (offset / 16)) ≡ Some k = rw inside at is in
           let same : item_in (n - 1) (r.at % (n - 1)) (offset / 16) ≡ k = cc in
-          let stands = item_in-stands (n - 1) r.at (offset / 16) (leb-false (n - 1) (offset / 16) inside) in
+          let stands = distance-place (n - 1) r.at (offset / 16) (leb-false (n - 1) (offset / 16) inside) in
           let split : 16 * (offset / 16) + offset % 16 ≡ offset = div-add-mod offset 16 in
           rw (← same) (stands.0, omega (arith, stands.1))
     ]

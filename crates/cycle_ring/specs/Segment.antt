@@ -1,22 +1,12 @@
 -- The bytes of a ring's segment, and the TRBs that they hold (xHCI 1.2, 4.9.2 and 4.11.5).
-use Rattle.std.specs.Prelude.{◌≡◌, ℕ, zero, suc, ◌+◌, ◌-◌, ◌%◌, ◌<◌, ◌≤◌, Bool, true, false, not, List, [], ◌∷◌, length, Some, slice_get, slice_index_or}
+use Rattle.std.specs.Prelude.{◌≡◌, ℕ, ◌+◌, ◌-◌, ◌%◌, true, false, List, [], length, Some, slice_get, slice_index_or}
 use Rattle.xhci_trb.specs.declared.Trb.{Trb}
 use Rattle.xhci_trb.specs.declared.Trb.TheVariants.{Link}
-use Rattle.xhci_trb.specs.Words.{words_in}
 use Rattle.xhci_trb.specs.Text.{has_chain, text}
-use Rattle.xhci_trb.specs.Reader.{trb_in, cycle_in}
 use Rattle.ring_ends.specs.declared.End.{End}
 use Rattle.cycle_ring.specs.Ring.{Ring, IsRing, item_in}
 use Rattle.ring_ends.specs.Counted.{turn_bit, counted, bit_from, IsEnd}
-
--- the bytes at the counted place j
-abbrev pub bytes_at : ℕ → List (List ℕ) → ℕ → List ℕ
-bytes_at n places j = slice_index_or places (j % (n - 1)) []
-
--- the TRBs that so many places hold from the counted place j on
-unfoldable pub trbs_from : ℕ → List (List ℕ) → ℕ → ℕ → List Trb
-trbs_from n places j zero = []
-trbs_from n places j (suc count) = trb_in (words_in (bytes_at n places j)) ∷ trbs_from n places (j + 1) count
+use Rattle.ring_ends.specs.Held.{trbs_from, Holds}
 
 -- The first place that isn't reclaimed, with its Cycle bit: the consumer stands on the same turn, so its cycle state
 -- is that bit where it is at or behind the place, and the other where it has passed the Link.
@@ -28,23 +18,15 @@ abbrev pub shown : ℕ → ℕ → List (List ℕ) → ℕ → End → End → R
 shown n base places first dequeue enqueue = record {
   base = base;
   at = counted (n - 1) (first_end first dequeue);
-  put = trbs_from n places (counted (n - 1) (first_end first dequeue)) (item_in (n - 1) first enqueue.place);
+  put = trbs_from (n - 1) places (counted (n - 1) (first_end first dequeue)) (item_in (n - 1) first enqueue.place);
   got = item_in (n - 1) first dequeue.place;
 }
 
--- these bytes are the text of the TRB with this Cycle bit, and read as it
-pub record IsText (bytes : List ℕ) (trb : Trb) (cycle : Bool) : Type 0 where
-  pub bytes_are : bytes ≡ text trb cycle
-  pub reads : trb_in (words_in bytes) ≡ trb
-  pub bit : cycle_in (words_in bytes) ≡ cycle
-
--- The bytes hold TRBs from the counted place `at` on: each at its place with the Cycle bit of its turn. Every other
--- place of the turn has the other bit, left from the turn before or 0 from the start. Behind the last place
--- before it the Link is written, with the Cycle bit and the Chain bit of the TRB there (4.11.5.1).
+-- The bytes hold TRBs from the counted place `at` on. Behind the last place before it the Link is written, with the Cycle
+-- bit and the Chain bit of the TRB there (4.11.5.1).
 pub record HoldsTrbs (n base : ℕ) (places : List (List ℕ)) (at : ℕ) (put : List Trb) : Type 0 where
   pub size : length places ≡ n
-  pub item : (k : ℕ) (trb : Trb) → slice_get put k ≡ Some trb → IsText (bytes_at n places (at + k)) trb (turn_bit (n - 1) (at + k))
-  pub stale : (k : ℕ) → length put ≤ k → k < n - 1 → cycle_in (words_in (bytes_at n places (at + k))) ≡ not (turn_bit (n - 1) (at + k))
+  pub trbs : Holds (n - 1) places at put
   pub link : (k : ℕ) (trb : Trb) → slice_get put k ≡ Some trb → (at + k) % (n - 1) ≡ n - 2
       → slice_index_or places (n - 1) [] ≡ text (Link base true (has_chain trb) false) (turn_bit (n - 1) (at + k))
 

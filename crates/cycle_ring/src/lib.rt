@@ -39,8 +39,8 @@ ghost use Rattle.std.specs.Prelude.{slice_get, drop, ◌⊎◌, IsOk, IsSome, If
 ghost use Rattle.xhci_trb.specs.declared.Trb.{Trb};
 ghost use Rattle.xhci_trb.specs.Text.{HasText, has_chain, text};
 
-use places::{behind_link, put_back, zeros};
-use ring_ends::{End, ahead, cycle_bit, distance};
+use places::{behind_link, put_back};
+use ring_ends::{End, ahead, cycle_bit, distance, zeros};
 use std::alloc::{AllocError, Global};
 use std::marker::Model;
 use thiserror::Error;

@@ -1,6 +1,6 @@
 //! The bytes of a ring's segment: TRBs behind the others, and the Link (xHCI 1.2, 4.9.2 and 4.11.5).
 
-ghost use Rattle.std.specs.Prelude.{◌≡◌, ℕ, ◌+◌, ◌-◌, ◌%◌, ◌^◌, ◌<◌, ◌≤◌, ◌++◌, [], ◌∷◌, Bool, true, false, not, List, length, replicate, All, IfOk};
+ghost use Rattle.std.specs.Prelude.{◌≡◌, ℕ, ◌+◌, ◌-◌, ◌%◌, ◌^◌, ◌<◌, ◌≤◌, ◌++◌, [], ◌∷◌, Bool, true, false, not, List, length, All};
 ghost use Rattle.std.specs.Vec.{vec_len};
 ghost use Rattle.xhci_trb.specs.declared.Trb.{Trb};
 ghost use Rattle.xhci_trb.specs.declared.Trb.TheVariants.{Link};
@@ -8,22 +8,9 @@ ghost use Rattle.xhci_trb.specs.Text.{HasText, text};
 ghost use Rattle.ring_ends.specs.Counted.{IsEnd};
 ghost use Rattle.cycle_ring.specs.Segment.{HoldsTrbs};
 
-use crate::NoMemory;
 use ring_ends::End;
-use std::alloc::Global;
 use xhci_trb::laws::text_reads_back;
 use xhci_trb::{Trb, decode, encode};
-
-/// That many places of zeros.
-pub(crate) fn zeros(alloc: Global, count: usize) -> Result<Vec<[u8; 16]>, NoMemory>
-    ensures { IfOk result (λ places. places.items ≡ replicate count (replicate 16 0)) }
-{
-    let mut places = Vec::with_capacity(alloc, count)?;
-    for _ in 0..count {
-        places.push([0; 16])?;
-    }
-    Ok(places)
-}
 
 /// Writes TRBs from the producer's end on, and gives its new end; there is room.
 #[inline(always)]

@@ -7,15 +7,19 @@ use std::process::Abort;
 use std::test::Fail;
 use xhci_trb::{Trb, TrbFlags};
 
-// One of 4,096 bytes of a data TD.
-fn chained(pointer: u64, td_size: u8) -> Trb
-    requires { td_size < 32 }
+// The window of a data TD.
+const WINDOW: u64 = 0x1_0001_0000;
+
+// The TRB of 4,096 bytes of a data TD at an offset of its window.
+fn chained(offset: u64, td_size: u8) -> Trb
+    requires within { offset < 0x1_0000 }
+    requires to_come { td_size < 32 }
     ensures kind { IsNormal result }
     ensures chain { has_chain result ≡ true }
     ensures text { HasText result }
 {
     Trb::Normal {
-        pointer,
+        pointer: WINDOW + offset,
         length: 4096,
         td_size,
         flags: TrbFlags::CH,
@@ -23,13 +27,14 @@ fn chained(pointer: u64, td_size: u8) -> Trb
 }
 
 // The last of a data TD.
-fn last(pointer: u64) -> Trb
+fn last(offset: u64) -> Trb
+    requires { offset < 0x1_0000 }
     ensures kind { IsNormal result }
     ensures chain { has_chain result ≡ false }
     ensures text { HasText result }
 {
     Trb::Normal {
-        pointer,
+        pointer: WINDOW + offset,
         length: 4096,
         td_size: 0,
         flags: TrbFlags::IOC,
@@ -41,24 +46,23 @@ fn long_read() -> [Trb; 16]
     ensures td { IsTd result }
     ensures texts { All HasText result }
 {
-    let window = 0x1_0001_0000;
     [
-        chained(window, 31),
-        chained(window + 0x1000, 31),
-        chained(window + 0x2000, 31),
-        chained(window + 0x3000, 31),
-        chained(window + 0x4000, 31),
-        chained(window + 0x5000, 31),
-        chained(window + 0x6000, 31),
-        chained(window + 0x7000, 31),
-        chained(window + 0x8000, 28),
-        chained(window + 0x9000, 24),
-        chained(window + 0xa000, 20),
-        chained(window + 0xb000, 16),
-        chained(window + 0xc000, 12),
-        chained(window + 0xd000, 8),
-        chained(window + 0xe000, 4),
-        last(window + 0xf000),
+        chained(0, 31),
+        chained(0x1000, 31),
+        chained(0x2000, 31),
+        chained(0x3000, 31),
+        chained(0x4000, 31),
+        chained(0x5000, 31),
+        chained(0x6000, 31),
+        chained(0x7000, 31),
+        chained(0x8000, 28),
+        chained(0x9000, 24),
+        chained(0xa000, 20),
+        chained(0xb000, 16),
+        chained(0xc000, 12),
+        chained(0xd000, 8),
+        chained(0xe000, 4),
+        last(0xf000),
     ]
 }
 

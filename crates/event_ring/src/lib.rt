@@ -26,13 +26,15 @@
 //! takes all memory, and no other call takes any. The crate stands on `xhci_trb` for the texts of TRBs.
 #![tactic(auto)]
 
-ghost use Rattle.std.specs.Prelude.{◌≡◌, ◌≢◌, ℕ, ◌+◌, ◌-◌, ◌*◌, ◌/◌, ◌%◌, ◌<◌, ◌≤◌, ◌++◌, [], ◌∷◌, ◌↔◌, length, replicate, slice_get, IsOk};
+ghost use Rattle.std.specs.Prelude.{◌≡◌, ◌≢◌, ℕ, ◌+◌, ◌-◌, ◌*◌, ◌/◌, ◌%◌, ◌<◌, ◌≤◌, ◌++◌, [], ◌∷◌, ◌↔◌, length, slice_get, IsOk};
 ghost use Rattle.std.specs.Prelude.{IsSome, IfOk, OnSome, IfNone, OnOk, OnErr, IsTrue};
 ghost use Rattle.xhci_trb.specs.declared.Trb.{Trb};
 ghost use Rattle.event_ring.specs.declared.Event.{Event};
-ghost use Rattle.event_ring.specs.Events.{trb_of, IsWritable};
+ghost use Rattle.event_ring.specs.Events.{Events, trb_of, IsWritable};
+ghost use Rattle.event_ring.specs.Segment.{shown, IsSegment};
+ghost use Rattle.ring_ends.specs.Counted.{distance};
 
-use ring_ends::{End, cycle_bit, distance};
+use ring_ends::{End, cycle_bit, distance, zeros};
 use std::alloc::{AllocError, Global};
 use std::marker::Model;
 use thiserror::Error;
@@ -112,9 +114,6 @@ pub struct EventRing<const E: usize> {
 }
 
 impl<const E: usize> Model for EventRing<E> {
-    ghost use Rattle.event_ring.specs.Events.{Events};
-    ghost use Rattle.event_ring.specs.Segment.{shown, IsSegment};
-
     ghost Value = { Events };
 
     ghost view = { λ r. shown E r.places.items r.dequeue r.enqueue };
@@ -123,8 +122,7 @@ impl<const E: usize> Model for EventRing<E> {
 }
 
 impl<const E: usize> EventRing<E> {
-    ghost use Rattle.event_ring.specs.Events.{Events, IsRing, opening, place_of, cycle_of, taken, IsShifted, IsInUse, event_image};
-    ghost use Rattle.ring_ends.specs.Counted.{distance};
+    ghost use Rattle.event_ring.specs.Events.{IsRing, opening, place_of, cycle_of, taken, IsShifted, IsInUse, event_image};
 
     /// An empty event ring (4.9.4). Refused for want of memory alone.
     pub fn new(alloc: Global) -> Result<Self, NoMemory>
@@ -219,17 +217,6 @@ impl<const E: usize> EventRing<E> {
     {
         cycle_bit(&self.places[place]) == self.dequeue.bit_at(place)
     }
-}
-
-// That many places of zeros.
-fn zeros(alloc: Global, count: usize) -> Result<Vec<[u8; 16]>, NoMemory>
-    ensures { IfOk result (λ places. places.items ≡ replicate count (replicate 16 0)) }
-{
-    let mut places = Vec::with_capacity(alloc, count)?;
-    for _ in 0..count {
-        places.push([0; 16])?;
-    }
-    Ok(places)
 }
 
 // The event of a TRB that is one.

@@ -46,7 +46,7 @@ fn event_of_an_engine_command(rt: HostRuntime) -> Result<(), Fail> {
 }
 
 // Posts and takes through three turns, one event pending beside the next: each is at the next place,
-// with the Cycle bit of its turn, and they come out in order.
+// with the Cycle bit of its turn, and they come out in order. None is pending at the end.
 fn three_turns<const E: usize>(rt: &impl Abort, ring: &mut EventRing<E>) {
     let _pending = ring.len();
     let places = E as u64;
@@ -62,15 +62,7 @@ fn three_turns<const E: usize>(rt: &impl Abort, ring: &mut EventRing<E>) {
         }
         assert_eq!(rt; ring.take(), Some(transfer(count)));
     }
-}
-
-#[test]
-fn turns_of_a_small_and_a_large_ring(rt: HostRuntime) -> Result<(), Fail> {
-    let mut small = EventRing::<16>::new(rt.alloc())?;
-    three_turns(&rt, &mut small);
-    let mut large = EventRing::<1024>::new(rt.alloc())?;
-    three_turns(&rt, &mut large);
-    Ok(())
+    assert_eq!(rt; ring.take(), Some(transfer(3 * places)));
 }
 
 fn fill<const E: usize>(rt: &impl Abort, ring: &mut EventRing<E>) {
@@ -85,16 +77,13 @@ fn fill<const E: usize>(rt: &impl Abort, ring: &mut EventRing<E>) {
 }
 
 #[test]
-fn full_rings(rt: HostRuntime) -> Result<(), Fail> {
+fn turns_of_a_small_and_a_large_ring(rt: HostRuntime) -> Result<(), Fail> {
     let mut small = EventRing::<16>::new(rt.alloc())?;
+    three_turns(&rt, &mut small);
     fill(&rt, &mut small);
     let mut large = EventRing::<1024>::new(rt.alloc())?;
+    three_turns(&rt, &mut large);
     fill(&rt, &mut large);
-    Ok(())
-}
-
-#[test]
-fn the_refusal_says_why(rt: HostRuntime) -> Result<(), Fail> {
     let full = format!(in rt.alloc(); "{EventRingFull}")?;
     assert_eq!(rt; full.as_str(), "the event ring is full");
     Ok(())

@@ -1,12 +1,13 @@
 -- Laws of the ends of a ring: an end's counted place, the place behind it, and the Cycle bits of the turn that it begins.
 use Rattle.std.proofs.Common.{◌≡◌, ℕ, ◌+◌, ◌-◌, ◌*◌, ◌/◌, ◌%◌, ◌<◌, ◌≤◌, ◌⊎◌, true, false, not, ◌==◌, List, slice_index, get_or-drop, refl}
 use Rattle.std.proofs.Common.{sym, ap, ◌∙◌, arith, inl, inr}
-use Rattle.std.proofs.Math.Nat.{mod-lt, mod-eq_of_lt, add-mod_right, div-add-mod}
+use Rattle.std.proofs.Math.Nat.{mod-lt, mod-eq_of_lt, mod-add-mod, add-mod_right, div-add-mod, div-eq_of_lt}
 use Rattle.std.proofs.lemmas.Nat.{div-mul-add, mod-mul-add}
 use Rattle.std.proofs.lemmas.Bool.{le-leb, lt-leb, cases_lt, cases_eq, eq-eqb, ne_eqb}
-use Rattle.ring_ends.specs.Counted.{turn_bit, counted, IsEnd, next_end, bit_from}
+use Rattle.ring_ends.specs.Counted.{turn_bit, counted, distance, IsEnd, next_end, bit_from}
 use Rattle.xhci_trb.specs.Words.{words_in}
 use Rattle.xhci_trb.specs.Reader.{cycle_in}
+use Rattle.ring_ends.specs.TurnLaws.{wraps_once, place_ahead, place_behind}
 use Rattle.ring_ends.specs.declared.End.{End}
 
 -- a number by its turn and its place
@@ -112,3 +113,40 @@ ahead_past m from steps first most past =
     let rest : from + steps - m < m = omega arith in
     let back : from + steps - m + m ≡ from + steps = omega arith in
     sym (mod-eq_of_lt rest) ∙ sym (add-mod_right (from + steps - m) m) ∙ ap (λ (x : ℕ). x % m) back
+
+-- the first end of a ring of zeros
+pub IsEnd-first : (m j : ℕ) → 0 < m → j ≡ 0 → IsEnd m j (record { place = 0; cycle = true })
+IsEnd-first m j some zeroth =
+    let place : j % m ≡ 0 = mod-eq_of_lt (omega arith) ∙ zeroth in
+    let turn : j / m ≡ 0 = div-eq_of_lt (omega arith) in
+    record { place = sym place; cycle = sym (ap (λ (q : ℕ). q % 2 == 0) turn) }
+
+-- steps from the first place of a turn to the place of item k
+pub distance-ahead : (m at k : ℕ) → k < m → distance m (at % m) ((at + k) % m) ≡ k
+distance-ahead m at k below =
+    let first : at % m < m = mod-lt at (omega arith) in
+    let place : (at % m + k) % m ≡ (at + k) % m = mod-add-mod at m k in
+    elim (wraps_once m (at % m + k) (omega arith)) as (λ _. distance m (at % m) ((at + k) % m) ≡ k) [
+      | inl low ↦ rw (le-leb (at % m) ((at + k) % m) (omega arith)) (omega arith)
+      | inr high ↦ rw (lt-leb (at % m) ((at + k) % m) (omega arith)) (omega arith)
+    ]
+
+-- the item so many steps ahead stands at the place
+pub distance-place : (m at place : ℕ) → place < m → (distance m (at % m) place < m) × ((at + distance m (at % m) place) % m ≡ place)
+distance-place m at place below =
+    let first : at % m < m = mod-lt at (omega arith) in
+    elim (cases_lt place (at % m)) as (λ _. (distance m (at % m) place < m) × ((at + distance m (at % m) place) % m ≡ place)) [
+      | inl behind ↦ rw (lt-leb (at % m) place behind) (omega arith, place_behind m at place (place + m - at % m) below (omega arith))
+      | inr ahead ↦ rw (le-leb (at % m) place ahead) (omega arith, place_ahead m at place (place - at % m) below (omega arith))
+    ]
+
+-- an end at a place, by the Cycle bit of the turn that begins at another end
+pub IsEnd-place : (m at place : ℕ) (start : End) → place < m → IsEnd m at start
+    → IsEnd m (at + distance m (at % m) place) (record { place = place; cycle = bit_from start.place start.cycle place })
+IsEnd-place m at place start below is =
+    let there = distance-place m at place below in
+    let ahead = turn_bit-ahead m at (distance m (at % m) place) there.0 in
+    record {
+      place = sym there.1;
+      cycle = rw (is.place, is.cycle) (ap (bit_from (at % m) (turn_bit m at)) (sym there.1) ∙ sym ahead);
+    }

@@ -1,3 +1,5 @@
 pub mod Counted
 pub mod EndLaws
 pub mod TurnLaws
+pub mod Held
+pub mod HeldLaws

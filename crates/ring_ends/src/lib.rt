@@ -5,19 +5,17 @@
 //! place `j mod m` of turn `j div m`, and its Cycle bit is 1 on even turns: nothing has to count the turns.
 //!
 //! What is promised: each function is its definition (`specs/Counted.antt`), and the laws that both rings of this repository
-//! are proved with stand beside it (`specs/EndLaws.antt`, `specs/TurnLaws.antt`). The crate stands on `xhci_trb` for the place of the
-//! Cycle bit, and takes no memory.
+//! are proved with stand beside it: of ends and turns (`specs/EndLaws.antt`, `specs/TurnLaws.antt`), and of the TRBs that a segment's
+//! places hold with the Cycle bits of their turns (`specs/Held.antt`, `specs/HeldLaws.antt`). The crate stands on `xhci_trb` for the
+//! texts of TRBs; `zeros` alone takes memory.
 #![tactic(auto)]
 
-ghost use Rattle.std.specs.Prelude.{◌≡◌, ◌+◌, ◌%◌, ◌<◌, ◌≤◌, true};
+ghost use Rattle.std.specs.Prelude.{◌≡◌, ◌+◌, ◌%◌, ◌<◌, ◌≤◌, IfOk, replicate, true};
 ghost use Rattle.xhci_trb.specs.Words.{words_in};
 ghost use Rattle.xhci_trb.specs.Reader.{cycle_in};
 ghost use Rattle.ring_ends.specs.Counted.{distance, next_end, bit_from};
 
-/// The most places of a ring's turn: those of an event ring of one segment as large as this repository makes one.
-pub const MOST_PLACES: usize = 4096;
-
-const _: () = prove!(MOST_PLACES == 4096);
+use std::alloc::{AllocError, Global};
 
 /// The place that an end names, and the cycle state with which it came there.
 #[derive(Clone, Copy, PartialEq, Eq, Debug)]
@@ -69,6 +67,11 @@ impl End {
     }
 }
 
+/// The most places of a ring's turn: those of an event ring of one segment as large as this repository makes one.
+pub const MOST_PLACES: usize = 4096;
+
+const _: () = prove!(MOST_PLACES == 4096);
+
 /// How many steps of one place lead from a place to another, on turns of that many places.
 #[inline(always)]
 pub fn distance(turn: usize, from: usize, to: usize) -> usize
@@ -95,6 +98,17 @@ pub fn ahead(turn: usize, from: usize, steps: usize) -> usize
 {
     let place = from + steps;
     if place < turn { place } else { place - turn }
+}
+
+/// That many places of zeros.
+pub fn zeros(alloc: Global, count: usize) -> Result<Vec<[u8; 16]>, AllocError>
+    ensures { IfOk result (λ places. places.items ≡ replicate count (replicate 16 0)) }
+{
+    let mut places = Vec::with_capacity(alloc, count)?;
+    for _ in 0..count {
+        places.push([0; 16])?;
+    }
+    Ok(places)
 }
 
 /// The Cycle bit of 16 bytes (6.4): bit 0 of the control word, the low byte of which is byte 12.

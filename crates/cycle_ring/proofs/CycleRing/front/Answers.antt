@@ -2,7 +2,7 @@
 use Rattle.std.proofs.Common.{refl, sym, ◌∙◌, arith}
 use Rattle.std.proofs.lemmas.Bool.{false≢true}
 use Rattle.std.proofs.lemmas.Option.{none-some, slice_get_within}
-use Rattle.cycle_ring.proofs.Segment.{item_of}
+use Rattle.ring_ends.specs.HeldLaws.{item_of}
 use Rattle.cycle_ring.proofs.CycleRing.front.Goals as goal
 
 pub returns-in_err-trb-clause-pending : goal.returns-in_err-trb-clause-pending

@@ -1,7 +1,7 @@
 -- The item that is named at a place stands there; two items of a turn differ in place.
 use Rattle.std.proofs.Common.{◌≡◌, ◌-◌, ◌%◌, ℕ, refl, sym, ap, ◌∙◌}
 use Rattle.cycle_ring.specs.Ring.{item_in}
-use Rattle.cycle_ring.proofs.Names.{item_in-stands}
+use Rattle.ring_ends.specs.EndLaws.{distance-place}
 use Rattle.ring_ends.specs.TurnLaws.{same_item}
 use Rattle.cycle_ring.proofs.CycleRing.item_at.Goals as goal
 
@@ -12,7 +12,7 @@ returns g c =
     let at = c.args.self.now.at in
     let place = c.args.place in
     let named : c.distance.result ≡ item_in m (at % m) place = c.distance.ensures ∙ ap (λ (first : ℕ). item_in m first place) segment.start in
-    let stands = item_in-stands m at place c.requires in
+    let stands = distance-place m at place c.requires in
     rw named (record {
       item = refl;
       bound = stands.0;

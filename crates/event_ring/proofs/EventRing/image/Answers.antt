@@ -1,25 +1,24 @@
 -- The bytes at a place whose event is pending are its text.
-use Rattle.std.proofs.Common.{◌≡◌, ℕ, ◌+◌, ◌%◌, ◌<◌, ◌≤◌, Some, length, [], get_or, refl, sym, ap, ◌∙◌, arith, inl, inr, Bool, true, false}
+use Rattle.std.proofs.Common.{◌≡◌, ℕ, ◌+◌, ◌%◌, ◌<◌, ◌≤◌, Some, length, refl, sym, ap, ◌∙◌, arith, inl, inr, Bool, true, false}
 use Rattle.std.proofs.lemmas.Bool.{cases_lt, false≢true}
 use Rattle.std.proofs.Math.Nat.{mod-lt}
-use Rattle.std.proofs.lemmas.List.{get_or_read}
 use Rattle.std.proofs.lemmas.Option.{slice_get_past}
-use Rattle.ring_ends.specs.Counted.{distance}
-use Rattle.event_ring.proofs.Segment.{distance-ahead, distance-place, text-pending, item_of}
+use Rattle.ring_ends.specs.declared.End.{End}
+use Rattle.ring_ends.specs.Counted.{distance, turn_bit, IsEnd}
+use Rattle.ring_ends.specs.EndLaws.{distance-ahead, distance-place}
+use Rattle.event_ring.proofs.Segment.{text-pending}
 use Rattle.event_ring.proofs.EventRing.image.Goals.{else-place-via-then-place+else-is_pending, else-place-via-else-place}
 use Rattle.event_ring.proofs.EventRing.image.Goals as goal
 
 pub returns-then-is_pending-clause-event : goal.returns-then-is_pending-clause-event
 returns-then-is_pending-clause-event g c k within at =
-    let segment = rw c.self.view_is at c.self.invariant in
-    let r = c.args.self.now in
-    let items = c.self.inside.places.items in
     let pending = c.is_pending.ensures.0 c.if-is_pending.true in
-    let same = ap (distance g.row.E (r.at % g.row.E)) at ∙ distance-ahead g.row.E r.at k within in
-    let item = item_of r.pending k (omega (arith, pending, same)) in
-    let inside : c.args.place < length items = omega (arith, segment.holds.size) in
-    let read = get_or_read items c.args.place c.index.result.now inside c.index.ensures [] in
-    rw (item.1) (ap Some (read ∙ ap (λ (j : ℕ). get_or items j []) at ∙ text-pending g.row.E items _ _ r k item.0 segment item.1))
+    let same = ap (distance g.row.E (c.args.self.now.at % g.row.E)) at ∙ distance-ahead g.row.E c.args.self.now.at k within in
+    let here : End = record { place = c.args.place; cycle = turn_bit g.row.E (c.args.self.now.at + k) } in
+    let is : IsEnd g.row.E (c.args.self.now.at + k) here = record { place = at; cycle = refl } in
+    let segment = rw c.self.view_is at c.self.invariant in
+    let event = text-pending g.row.E _ _ _ here _ k _ segment is (omega (arith, pending, same)) c.if-place.true c.index.ensures in
+    rw (event.1) (ap Some event.2)
 
 pub returns-then-is_pending-clause-in_use : goal.returns-then-is_pending-clause-in_use
 returns-then-is_pending-clause-in_use g c some =

@@ -1,7 +1,7 @@
 -- The consumer's end goes one place on.
 use Rattle.std.proofs.Common.{refl, sym, ◌∙◌, arith}
 use Rattle.std.proofs.lemmas.Option.{slice_get_within}
-use Rattle.event_ring.proofs.Segment.{IsSegment-taken, shown-segment, without_first}
+use Rattle.event_ring.proofs.Segment.{IsSegment-taken, shown-segment, shows-segment, without_first}
 use Rattle.event_ring.proofs.Shifts.{IsShifted-taken}
 use Rattle.event_ring.proofs.EventRing.take.Goals as goal
 
@@ -14,7 +14,7 @@ invariant_of-self g c =
     let segment = rw c.self.view_is at c.self.invariant in
     let some = slice_get_within c.args.self.now.pending 0 _ (sym c.front.ensures ∙ c.in_ok-event.was) in
     let new = IsSegment-taken g.row.E _ _ _ _ segment some in
-    rw (c.next-self-inside.ensures) (rw (shown-segment g.row.E _ _ _ _ new) new)
+    rw (c.next-self-inside.ensures) (shows-segment g.row.E _ _ _ _ new)
 
 pub returns-clause-taken : goal.returns-clause-taken
 returns-clause-taken g c =

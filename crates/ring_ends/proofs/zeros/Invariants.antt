@@ -1,5 +1,5 @@
 use Rattle.std.proofs.Common.{◌≡◌, replicate}
-use Rattle.cycle_ring.proofs.places.zeros.Given as goal
+use Rattle.ring_ends.proofs.zeros.Given as goal
 
 abbrev pub invariant-loop : goal.invariant-loop
 invariant-loop l = l.places.items ≡ replicate l.counter (replicate 16 0)

@@ -5,8 +5,17 @@ use Rattle.std.proofs.lemmas.Bool.{cases_lt, cases_Bool, and_from, and_left, and
 use Rattle.std.proofs.lemmas.List.Elements.{All-from_get_or}
 use Rattle.std.proofs.lemmas.List.Folds.{list_any_at, list_any_none}
 use Rattle.std.specs.List.{list_any}
-use Rattle.std.specs.List.Sorted.{IsNonDecreasing, IsPartitionPoint}
+use Rattle.std.proofs.lemmas.List.Sorted.{IsPartitionedBy-ltb}
+use Rattle.std.proofs.lemmas.Map.Keys.{non_decreasing_from_sorted, sorted_from_strictly_increasing}
+use Rattle.std.specs.List.Sorted.{IsNonDecreasing, IsPartitionPoint, IsPartitionedBy, IsStrictlyIncreasing}
 use Rattle.block_unit.specs.BlockMaps.{covers}
+
+-- numbers that rise, each once, have those below the first block in front
+pub rising_numbers : (numbers bad : List ℕ) (lba : ℕ) → numbers ≡ bad → IsStrictlyIncreasing bad
+    → IsNonDecreasing numbers × IsPartitionedBy (λ block. ltb block lba) numbers
+rising_numbers numbers bad lba same rising =
+    let rises : IsNonDecreasing numbers = rw same (non_decreasing_from_sorted _ (sorted_from_strictly_increasing _ rising)) in
+    (rises, IsPartitionedBy-ltb (λ n. n) numbers lba rises)
 
 module _ (bad : List ℕ) (lba many next : ℕ) (point : IsPartitionPoint (λ block. ltb block lba ≡ true) (λ block. ltb block lba ≡ false) bad next) where
   -- the numbers before the point are too small

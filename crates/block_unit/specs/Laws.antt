@@ -200,21 +200,22 @@ IsSized-written maps lba bytes false sized whole fits = record {
   medium = sized.medium;
 }
 
-pub synced-count : (maps : BlockMaps) (lba many : ℕ) → (synced maps lba many).count ≡ maps.count
+synced-keeps : (maps : BlockMaps) (lba many : ℕ) → ((synced maps lba many).count ≡ maps.count) × ((synced maps lba many).blocks ≡ maps.blocks)
+    × ((synced maps lba many).bad ≡ maps.bad) × ((synced maps lba many).attention ≡ maps.attention)
 unfolding synced
-synced-count maps lba many = refl
+synced-keeps maps lba many = (refl, refl, refl, refl)
+
+pub synced-count : (maps : BlockMaps) (lba many : ℕ) → (synced maps lba many).count ≡ maps.count
+synced-count maps lba many = (synced-keeps maps lba many).0
 
 pub synced-blocks : (maps : BlockMaps) (lba many : ℕ) → (synced maps lba many).blocks ≡ maps.blocks
-unfolding synced
-synced-blocks maps lba many = refl
+synced-blocks maps lba many = (synced-keeps maps lba many).1
 
 pub synced-bad : (maps : BlockMaps) (lba many : ℕ) → (synced maps lba many).bad ≡ maps.bad
-unfolding synced
-synced-bad maps lba many = refl
+synced-bad maps lba many = (synced-keeps maps lba many).2
 
 pub synced-attention : (maps : BlockMaps) (lba many : ℕ) → (synced maps lba many).attention ≡ maps.attention
-unfolding synced
-synced-attention maps lba many = refl
+synced-attention maps lba many = (synced-keeps maps lba many).3
 
 pub IsSized-synced : (maps : BlockMaps) (lba many : ℕ) → IsSized maps → lba + many ≤ maps.count → IsSized (synced maps lba many)
 unfolding synced
@@ -227,25 +228,26 @@ IsSized-synced maps lba many sized fits =
       medium = length-with_bytes maps.medium (512 * lba) (blocks_read maps lba covered) (omega (arith, sized.medium)) ∙ sized.medium;
     }
 
-pub with_attention-count : (maps : BlockMaps) (flag : Bool) → (with_attention maps flag).count ≡ maps.count
+with_attention-is : (maps : BlockMaps) (flag : Bool) → ((with_attention maps flag).count ≡ maps.count)
+    × ((with_attention maps flag).blocks ≡ maps.blocks) × ((with_attention maps flag).medium ≡ maps.medium)
+    × ((with_attention maps flag).bad ≡ maps.bad) × ((with_attention maps flag).attention ≡ flag)
 unfolding with_attention
-with_attention-count maps flag = refl
+with_attention-is maps flag = (refl, refl, refl, refl, refl)
+
+pub with_attention-count : (maps : BlockMaps) (flag : Bool) → (with_attention maps flag).count ≡ maps.count
+with_attention-count maps flag = (with_attention-is maps flag).0
 
 pub with_attention-blocks : (maps : BlockMaps) (flag : Bool) → (with_attention maps flag).blocks ≡ maps.blocks
-unfolding with_attention
-with_attention-blocks maps flag = refl
+with_attention-blocks maps flag = (with_attention-is maps flag).1
 
 pub with_attention-medium : (maps : BlockMaps) (flag : Bool) → (with_attention maps flag).medium ≡ maps.medium
-unfolding with_attention
-with_attention-medium maps flag = refl
+with_attention-medium maps flag = (with_attention-is maps flag).2
 
 pub with_attention-bad : (maps : BlockMaps) (flag : Bool) → (with_attention maps flag).bad ≡ maps.bad
-unfolding with_attention
-with_attention-bad maps flag = refl
+with_attention-bad maps flag = (with_attention-is maps flag).3
 
 pub with_attention-attention : (maps : BlockMaps) (flag : Bool) → (with_attention maps flag).attention ≡ flag
-unfolding with_attention
-with_attention-attention maps flag = refl
+with_attention-attention maps flag = (with_attention-is maps flag).4
 
 pub IsSized-with_attention : (maps : BlockMaps) (flag : Bool) → IsSized maps → IsSized (with_attention maps flag)
 unfolding with_attention

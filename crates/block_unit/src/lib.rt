@@ -38,12 +38,10 @@ mod tests;
 /// How many bytes a block has.
 pub const BLOCK_BYTES: usize = 512;
 
-const _: () = prove!(BLOCK_BYTES == 512);
-
 /// How many blocks a unit has at most.
 pub const MAX_BLOCKS: u32 = 65_536;
 
-const _: () = prove!(MAX_BLOCKS == 65_536);
+const _: () = prove!(BLOCK_BYTES == 512 && MAX_BLOCKS == 65_536);
 
 /// One of the blocks is bad.
 #[derive(Clone, Copy, Debug, PartialEq, Eq, Error)]
@@ -56,9 +54,9 @@ pub enum ImageFault {
     #[error("the image is empty, or its last block is not whole")]
     NotWhole = 1,
     #[error("the image has more than {MAX_BLOCKS} blocks")]
-    TooLarge = 2,
+    TooLarge,
     #[error("no memory")]
-    NoMemory = 3,
+    NoMemory,
 }
 
 /// The blocks, the medium, the attention and the bad blocks of one logical unit.

@@ -81,19 +81,12 @@ fn bad_block_refuses(rt: HostRuntime) -> Result<(), Fail> {
 
 #[test]
 fn faults_say_why(rt: HostRuntime) -> Result<(), Fail> {
-    let texts = [
-        (
-            ImageFault::NotWhole,
-            "the image is empty, or its last block is not whole",
-        ),
-        (ImageFault::TooLarge, "the image has more than 65536 blocks"),
-        (ImageFault::NoMemory, "no memory"),
-    ];
-    for (fault, text) in texts {
-        let told = format!(in rt.alloc(); "{fault}")?;
-        assert_eq!(rt; told.as_str(), text);
-    }
-    let told = format!(in rt.alloc(); "{Bad}")?;
-    assert_eq!(rt; told.as_str(), "one of the blocks is bad");
+    use ImageFault::{NoMemory, NotWhole, TooLarge};
+    let told = format!(in rt.alloc(); "{NotWhole}; {TooLarge}; {NoMemory}; {Bad}")?;
+    assert_eq!(rt;
+        told.as_str(),
+        "the image is empty, or its last block is not whole; the image has more than 65536 blocks; no memory; \
+         one of the blocks is bad"
+    );
     Ok(())
 }

@@ -29,16 +29,6 @@ pub use chunks::{chunk_len, give_chunk, take_chunk};
 use scsi_cmd::Sense;
 pub use steps::{begin, progress_asked, status_and_sense};
 
-/// The most blocks of one chunk.
-pub const CHUNK_BLOCKS: u16 = 8;
-
-const _: () = prove!(CHUNK_BLOCKS == 8);
-
-/// The most bytes of one chunk.
-pub const CHUNK_BYTES: usize = 4096;
-
-const _: () = prove!(CHUNK_BYTES == 4096);
-
 /// How a command ended.
 #[derive(Clone, Copy, Debug, PartialEq, Eq)]
 pub enum Answer {
@@ -56,3 +46,11 @@ pub enum Progress {
     /// It has its answer.
     Ended(Answer),
 }
+
+/// The most blocks of one chunk.
+pub const CHUNK_BLOCKS: u16 = 8;
+
+/// The most bytes of one chunk.
+pub const CHUNK_BYTES: usize = 4096;
+
+const _: () = prove!(CHUNK_BLOCKS == 8 && CHUNK_BYTES == 4096);

@@ -108,7 +108,8 @@ with_lent-same : (lent : Option (List ℕ)) → option_map (λ _. unwrap_or lent
 with_lent-same None = refl
 with_lent-same (Some old) = refl
 
-with_bytes_in-same : (held : TagBuffers) (b : Buffer) → with_bytes_in held b (bytes_in held b) ≡ held
+-- what stands in a buffer, put there, changes nothing
+pub with_bytes_in-same : (held : TagBuffers) (b : Buffer) → with_bytes_in held b (bytes_in held b) ≡ held
 with_bytes_in-same held Command = refl
 with_bytes_in-same held Status = refl
 with_bytes_in-same held Window = ap (λ (lent : Option (List ℕ)). record held { lent = lent }) (with_lent-same held.lent)

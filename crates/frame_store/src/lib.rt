@@ -40,22 +40,18 @@ pub type NoMemory = AllocError;
 /// How many tags have buffers: 1 to this number.
 pub const TAGS: usize = 248;
 
-const _: () = prove!(TAGS == 248);
-
 /// The bytes of a command buffer.
 pub const COMMAND_BYTES: usize = 32;
-
-const _: () = prove!(COMMAND_BYTES == 32);
 
 /// The bytes of a status buffer.
 pub const STATUS_BYTES: usize = 112;
 
-const _: () = prove!(STATUS_BYTES == 112);
-
 /// The most bytes that a lent vector has.
 pub const WINDOW_BYTES: usize = 65_536;
 
-const _: () = prove!(WINDOW_BYTES == 65_536);
+const _: () = prove!(TAGS == 248);
+
+const _: () = prove!(COMMAND_BYTES == 32 && STATUS_BYTES == 112 && WINDOW_BYTES == 65_536);
 
 /// Why the store refused a call.
 #[derive(Clone, Copy, Debug, Drop, Error, PartialEq, Eq)]
@@ -63,9 +59,9 @@ pub enum FrameFault {
     #[error("a byte is in no buffer, or two are in different ones")]
     BadAddress = 1,
     #[error("the tag has no vector lent")]
-    NotLent = 2,
+    NotLent,
     #[error("the tag has a vector lent already")]
-    AlreadyLent = 3,
+    AlreadyLent,
 }
 
 /// The three buffers of a tag.
@@ -110,19 +106,6 @@ pub struct TagBuffers {
 #[derive(Debug, Drop)]
 pub struct Frames {
     tags: Vec<TagBuffers>,
-}
-
-impl Model for Frames {
-    ghost use Rattle.std.specs.Prelude.{List};
-    ghost use Rattle.frame_store.specs.declared.TagBuffers.{TagBuffers};
-
-    ghost Value = { List TagBuffers };
-
-    ghost use Rattle.frame_store.specs.Buffers.{IsWhole};
-
-    ghost view = { λ f. f.tags.items };
-
-    ghost invariant = { λ f. IsWhole f.tags.items };
 }
 
 impl Frames {
@@ -266,6 +249,19 @@ impl Frames {
     {
         self.window(address, bytes.len()).copy_from_slice(bytes);
     }
+}
+
+impl Model for Frames {
+    ghost use Rattle.std.specs.Prelude.{List};
+    ghost use Rattle.frame_store.specs.declared.TagBuffers.{TagBuffers};
+
+    ghost Value = { List TagBuffers };
+
+    ghost use Rattle.frame_store.specs.Buffers.{IsWhole};
+
+    ghost view = { λ f. f.tags.items };
+
+    ghost invariant = { λ f. IsWhole f.tags.items };
 }
 
 #[cfg(test)]

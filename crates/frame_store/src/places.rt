@@ -7,23 +7,19 @@ use crate::{Buffer, COMMAND_BYTES, Place, STATUS_BYTES, TAGS, Tag, WINDOW_BYTES}
 // Where the buffers of tag 0 would begin, and how far those of two tags lie apart.
 const COMMAND_BASE: u64 = 0x1000_0000;
 
-const _: () = prove!(COMMAND_BASE == 0x1000_0000);
-
 const STATUS_BASE: u64 = 0x2000_0000;
-
-const _: () = prove!(STATUS_BASE == 0x2000_0000);
 
 const WINDOW_BASE: u64 = 0x1_0000_0000;
 
-const _: () = prove!(WINDOW_BASE == 0x1_0000_0000);
-
 const BUFFER_STRIDE: u64 = 0x100;
-
-const _: () = prove!(BUFFER_STRIDE == 0x100);
 
 const WINDOW_STRIDE: u64 = 0x1_0000;
 
-const _: () = prove!(WINDOW_STRIDE == 0x1_0000);
+const _: () = prove!(COMMAND_BASE == 0x1000_0000 && STATUS_BASE == 0x2000_0000);
+
+const _: () = prove!(WINDOW_BASE == 0x1_0000_0000);
+
+const _: () = prove!(BUFFER_STRIDE == 0x100 && WINDOW_STRIDE == 0x1_0000);
 
 impl Buffer {
     ghost use Rattle.frame_store.specs.Places.{base_of, stride_of, room_of, buffer_at};

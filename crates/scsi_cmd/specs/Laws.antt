@@ -134,25 +134,21 @@ asked-cdb_bytes (Write lba count true) blocks = simp (two_bytes-read, halves-rea
 asked-cdb_bytes (Write lba count false) blocks = simp (two_bytes-read, halves-read)
 asked-cdb_bytes (Sync lba count) blocks = simp (two_bytes-read, halves-read)
 
--- a CDB has 16 bytes
-pub length-cdb_bytes : (op : Op) → length (cdb_bytes op) ≡ 16
+-- a CDB has 16 bytes, and reports an attention where its operation does
+cdb_bytes-facts : (op : Op) → (length (cdb_bytes op) ≡ 16) × (cdb_reports_attention (cdb_bytes op) ≡ reports_attention op)
 unfolding cdb_bytes
-length-cdb_bytes TestUnitReady = refl
-length-cdb_bytes (Inquiry allocation) = refl
-length-cdb_bytes ReadCapacity = refl
-length-cdb_bytes (Read lba count fua) = refl
-length-cdb_bytes (Write lba count fua) = refl
-length-cdb_bytes (Sync lba count) = refl
+cdb_bytes-facts TestUnitReady = (refl, refl)
+cdb_bytes-facts (Inquiry allocation) = (refl, refl)
+cdb_bytes-facts ReadCapacity = (refl, refl)
+cdb_bytes-facts (Read lba count fua) = (refl, refl)
+cdb_bytes-facts (Write lba count fua) = (refl, refl)
+cdb_bytes-facts (Sync lba count) = (refl, refl)
 
--- the CDB of an operation reports an attention where the operation does
+pub length-cdb_bytes : (op : Op) → length (cdb_bytes op) ≡ 16
+length-cdb_bytes op = (cdb_bytes-facts op).0
+
 pub cdb_reports_attention-cdb_bytes : (op : Op) → cdb_reports_attention (cdb_bytes op) ≡ reports_attention op
-unfolding cdb_bytes
-cdb_reports_attention-cdb_bytes TestUnitReady = refl
-cdb_reports_attention-cdb_bytes (Inquiry allocation) = refl
-cdb_reports_attention-cdb_bytes ReadCapacity = refl
-cdb_reports_attention-cdb_bytes (Read lba count fua) = refl
-cdb_reports_attention-cdb_bytes (Write lba count fua) = refl
-cdb_reports_attention-cdb_bytes (Sync lba count) = refl
+cdb_reports_attention-cdb_bytes op = (cdb_bytes-facts op).1
 
 pub checked-none : (op : Op) (blocks : ℕ) → op_fault op blocks ≡ None → checked op blocks ≡ Ok op
 checked-none op blocks none = rw none refl

@@ -9,5 +9,6 @@ pub mod Buffers
 pub mod Faults
 pub mod Held
 pub mod Request
+pub mod Replies
 pub mod Submission
 pub mod Laws

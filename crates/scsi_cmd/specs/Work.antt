@@ -68,12 +68,8 @@ cdb_reports_attention cdb = not (is_inquiry cdb)
 
 -- the same of an operation
 abbrev pub reports_attention : Op → Bool
-reports_attention TestUnitReady = true
 reports_attention (Inquiry allocation) = false
-reports_attention ReadCapacity = true
-reports_attention (Read lba count fua) = true
-reports_attention (Write lba count fua) = true
-reports_attention (Sync lba count) = true
+reports_attention other = true
 
 -- WHAT A WORK MOVES
 

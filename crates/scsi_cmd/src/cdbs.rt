@@ -72,6 +72,7 @@ fn block_command(code: u8, fua: bool, lba: u32, count: u16) -> [u8; 16]
 /// code; a page, protection or more than 128 blocks; a block that isn't there. DPO, the immediate bit and all
 /// bits without a field are ignored.
 #[tactic(auto, unfolding(crate::specs::Meaning::asked))]
+#[inline(always)]
 pub fn parse(bytes: &[u8; 16], blocks: u32) -> Result<Op, Sense>
     ensures { result ≡ asked bytes.now blocks }
 {
@@ -87,6 +88,7 @@ pub fn parse(bytes: &[u8; 16], blocks: u32) -> Result<Op, Sense>
     }
 }
 
+#[inline(always)]
 fn named(bytes: &[u8; 16]) -> Option<Op>
     ensures { result ≡ named_op bytes.now }
 {

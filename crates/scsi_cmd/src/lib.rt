@@ -23,6 +23,7 @@ ghost use Rattle.scsi_cmd.specs.contracts.Buffer.{the_row};
 ghost use Rattle.scsi_cmd.specs.Sense.{sense_bytes};
 ghost use Rattle.scsi_cmd.specs.Buffers.{with_bytes_at, written_at};
 ghost use Rattle.scsi_cmd.specs.Faults.{fault_number};
+ghost use Rattle.scsi_cmd.specs.Replies.{reply_tag, reply_ticket};
 
 mod cdbs;
 mod data;
@@ -44,47 +45,26 @@ pub use works::{
 /// Bytes of a block.
 pub const BLOCK_BYTES: usize = 512;
 
-const _: () = prove!(BLOCK_BYTES == 512);
-
 /// The most blocks of one READ or WRITE (65,536 bytes).
 pub const MOST_BLOCKS_MOVED: u16 = 128;
 
-const _: () = prove!(MOST_BLOCKS_MOVED == 128);
+const _: () = prove!(BLOCK_BYTES == 512 && MOST_BLOCKS_MOVED == 128);
 
 /// Tags of a client.
 pub const TAGS: usize = 8;
 
-const _: () = prove!(TAGS == 8);
-
 /// The slot (index less 1) of the tag for task management; those below it are for commands.
 pub const TASK_SLOT: usize = 7;
 
-const _: () = prove!(TASK_SLOT == 7);
-
-/// Bytes of the standard INQUIRY data (SPC).
-pub const INQUIRY_BYTES: usize = 36;
-
-const _: () = prove!(INQUIRY_BYTES == 36);
-
-/// Bytes of sense data in the fixed format (SPC).
-pub const SENSE_BYTES: usize = 18;
-
-const _: () = prove!(SENSE_BYTES == 18);
-
-/// The most bytes of sense data in a reply.
-pub const MAX_SENSE_BYTES: usize = 96;
-
-const _: () = prove!(MAX_SENSE_BYTES == 96);
+const _: () = prove!(TAGS == 8 && TASK_SLOT == 7);
 
 /// The status GOOD (SAM).
 pub const GOOD: u8 = 0x00;
 
-const _: () = prove!(GOOD == 0x00);
-
 /// The status CHECK CONDITION (SAM).
 pub const CHECK_CONDITION: u8 = 0x02;
 
-const _: () = prove!(CHECK_CONDITION == 0x02);
+const _: () = prove!(GOOD == 0x00 && CHECK_CONDITION == 0x02);
 
 /// An operation on one logical unit, as its CDB asks for it.
 #[derive(Clone, Copy, Debug, PartialEq, Eq)]
@@ -165,55 +145,49 @@ pub struct Sense {
     pub ascq: u8,
 }
 
+/// Bytes of the standard INQUIRY data (SPC).
+pub const INQUIRY_BYTES: usize = 36;
+
+/// Bytes of sense data in the fixed format (SPC).
+pub const SENSE_BYTES: usize = 18;
+
+/// The most bytes of sense data in a reply.
+pub const MAX_SENSE_BYTES: usize = 96;
+
+const _: () = prove!(INQUIRY_BYTES == 36 && SENSE_BYTES == 18 && MAX_SENSE_BYTES == 96);
+
+/// A sense of a key, a code and a qualifier.
+macro_rules! sense {
+    ($key:literal, $asc:literal, $ascq:literal) => {
+        Sense {
+            key: $key,
+            asc: $asc,
+            ascq: $ascq,
+        }
+    };
+}
+
 impl Sense {
     /// The operation code is none of the six.
-    pub const INVALID_OPERATION_CODE: Sense = Sense {
-        key: 0x5,
-        asc: 0x20,
-        ascq: 0x00,
-    };
+    pub const INVALID_OPERATION_CODE: Sense = sense!(0x5, 0x20, 0x00);
 
     /// A field of the CDB has a value that isn't supported.
-    pub const INVALID_FIELD_IN_CDB: Sense = Sense {
-        key: 0x5,
-        asc: 0x24,
-        ascq: 0x00,
-    };
+    pub const INVALID_FIELD_IN_CDB: Sense = sense!(0x5, 0x24, 0x00);
 
     /// A block isn't on the unit.
-    pub const OUT_OF_RANGE: Sense = Sense {
-        key: 0x5,
-        asc: 0x21,
-        ascq: 0x00,
-    };
+    pub const OUT_OF_RANGE: Sense = sense!(0x5, 0x21, 0x00);
 
     /// No unit has this number.
-    pub const UNIT_NOT_SUPPORTED: Sense = Sense {
-        key: 0x5,
-        asc: 0x25,
-        ascq: 0x00,
-    };
+    pub const UNIT_NOT_SUPPORTED: Sense = sense!(0x5, 0x25, 0x00);
 
     /// The unit was reset.
-    pub const RESET_OCCURRED: Sense = Sense {
-        key: 0x6,
-        asc: 0x29,
-        ascq: 0x03,
-    };
+    pub const RESET_OCCURRED: Sense = sense!(0x6, 0x29, 0x03);
 
     /// A block could not be read.
-    pub const UNRECOVERED_READ_ERROR: Sense = Sense {
-        key: 0x3,
-        asc: 0x11,
-        ascq: 0x00,
-    };
+    pub const UNRECOVERED_READ_ERROR: Sense = sense!(0x3, 0x11, 0x00);
 
     /// A block could not be written.
-    pub const WRITE_ERROR: Sense = Sense {
-        key: 0x3,
-        asc: 0x0c,
-        ascq: 0x00,
-    };
+    pub const WRITE_ERROR: Sense = sense!(0x3, 0x0c, 0x00);
 
     /// The 18 bytes in the fixed format (SPC, fixed format sense data).
     pub fn bytes(&self) -> [u8; 18]
@@ -251,28 +225,12 @@ pub struct Buffer {
     bytes: Vec<u8>,
 }
 
-impl Model for Buffer {
-    ghost use Rattle.std.specs.Prelude.{ℕ, List};
-
-    ghost Value = { List ℕ };
-
-    ghost view = { λ buffer. buffer.bytes.items };
-}
-
 impl Buffer {
     /// The buffer of these bytes; takes no memory.
     pub fn from_vec(bytes: Vec<u8>) -> Buffer
         ensures { result ≡ bytes.items }
     {
         Self { bytes }
-    }
-
-    /// The bytes again; takes no memory.
-    pub fn into_vec(self) -> Vec<u8>
-        ensures { result.items ≡ self }
-    {
-        let Buffer { bytes } = self;
-        bytes
     }
 
     /// A buffer of no bytes; takes no memory.
@@ -338,6 +296,22 @@ impl Buffer {
     {
         self.as_slice() == other.as_slice()
     }
+
+    /// The bytes again; takes no memory.
+    pub fn into_vec(self) -> Vec<u8>
+        ensures { result.items ≡ self }
+    {
+        let Buffer { bytes } = self;
+        bytes
+    }
+}
+
+impl Model for Buffer {
+    ghost use Rattle.std.specs.Prelude.{ℕ, List};
+
+    ghost Value = { List ℕ };
+
+    ghost view = { λ buffer. buffer.bytes.items };
 }
 
 /// What a task is asked to do.
@@ -422,6 +396,29 @@ impl SubmitFault {
             SubmitFault::TooLong => 4,
             SubmitFault::OutOfTurn(_) => 5,
             SubmitFault::NoSuchTask => 6,
+        }
+    }
+}
+
+impl Reply {
+    /// The tag that it brings back.
+    pub fn tag(&self) -> u16
+        ensures { result ≡ reply_tag self.now }
+    {
+        match self {
+            Reply::Status { tag, .. } | Reply::Aborted { tag, .. } | Reply::Task { tag, .. } =>
+                *tag,
+        }
+    }
+
+    /// The ticket that it answers.
+    pub fn ticket(&self) -> u64
+        ensures { result ≡ reply_ticket self.now }
+    {
+        match self {
+            Reply::Status { ticket, .. }
+            | Reply::Aborted { ticket, .. }
+            | Reply::Task { ticket, .. } => *ticket,
         }
     }
 }

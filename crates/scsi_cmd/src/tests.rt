@@ -1,6 +1,7 @@
 use crate::{
     Buffer, Direction, Op, Sense, SubmitFault, capacity_data, cdb, inquiry_data, moves, parse,
 };
+use std::process::Abort;
 use std::test::Fail;
 
 /// INQUIRY of 36 bytes, and READ(10) with FUA of 2 blocks from 0x01020304 on.
@@ -90,36 +91,46 @@ fn out_of_range_read(rt: HostRuntime) {
     assert_eq!(rt; Sense::from_bytes(&sense), Some(Sense::OUT_OF_RANGE));
 }
 
-/// Each fault of a CDB, with the later ones beside it, on 100 blocks: another operation code; EVPD, a page, a protect
-/// field or 129 blocks; a block that isn't there.
+/// On 100 blocks, a CDB of these first bytes and seven zeros has the fault of this additional sense code.
+fn assert_fault(rt: &impl Abort, first: [u8; 9], asc: u8) {
+    let mut bytes = [0; 16];
+    bytes[..9].copy_from_slice(&first);
+    let sense = Sense {
+        key: 0x5,
+        asc,
+        ascq: 0x00,
+    };
+    assert_eq!(rt; parse(&bytes, 100), Err(sense), "{first:?}");
+}
+
+/// Another operation code, and then EVPD, a page, a protect field or 129 blocks, with the later faults beside each.
 #[test]
-fn cdb_faults_in_order(rt: HostRuntime) {
-    let code = (0x20, 0x00);
-    let field = (0x24, 0x00);
-    let range = (0x21, 0x00);
-    for (first, (asc, ascq)) in [
-        ([0x08, 0xff, 0xff, 0xff, 0xff, 0xff, 0, 0xff, 0xff], code),
-        ([0x03, 0, 0, 0, 0, 0, 0, 0, 0], code),
-        ([0x12, 0x01, 0, 0, 36, 0, 0, 0, 0], field),
-        ([0x12, 0, 0x80, 0, 36, 0, 0, 0, 0], field),
-        ([0x28, 0x20, 0, 0, 0, 100, 0, 0, 1], field),
-        ([0x2a, 0x80, 0, 0, 0, 0, 0, 0, 1], field),
-        ([0x28, 0, 0, 0, 0, 100, 0, 0, 129], field),
-        ([0x2a, 0, 0xff, 0, 0, 0, 0, 1, 0], field),
-        ([0x28, 0, 0, 0, 0, 100, 0, 0, 128], range),
-        ([0x2a, 0, 0, 0, 0, 98, 0, 0, 3], range),
-        ([0x2a, 0, 0xff, 0xff, 0xff, 0xff, 0, 0, 1], range),
-        ([0x35, 0, 0, 0, 0, 100, 0, 0, 0], range),
-        ([0x35, 0, 0, 0, 0, 99, 0, 0, 2], range),
+fn codes_and_fields(rt: HostRuntime) {
+    for (first, asc) in [
+        ([0x08, 0xff, 0xff, 0xff, 0xff, 0xff, 0, 0xff, 0xff], 0x20),
+        ([0x03, 0, 0, 0, 0, 0, 0, 0, 0], 0x20),
+        ([0x12, 0x01, 0, 0, 36, 0, 0, 0, 0], 0x24),
+        ([0x12, 0, 0x80, 0, 36, 0, 0, 0, 0], 0x24),
+        ([0x28, 0x20, 0, 0, 0, 100, 0, 0, 1], 0x24),
+        ([0x2a, 0x80, 0, 0, 0, 0, 0, 0, 1], 0x24),
+        ([0x28, 0, 0, 0, 0, 100, 0, 0, 129], 0x24),
+        ([0x2a, 0, 0xff, 0, 0, 0, 0, 1, 0], 0x24),
     ] {
-        let mut bytes = [0; 16];
-        bytes[..9].copy_from_slice(&first);
-        let sense = Sense {
-            key: 0x5,
-            asc,
-            ascq,
-        };
-        assert_eq!(rt; parse(&bytes, 100), Err(sense), "{first:?}");
+        assert_fault(&rt, first, asc);
+    }
+}
+
+/// A block that isn't there.
+#[test]
+fn blocks_out_of_range(rt: HostRuntime) {
+    for first in [
+        [0x28, 0, 0, 0, 0, 100, 0, 0, 128],
+        [0x2a, 0, 0, 0, 0, 98, 0, 0, 3],
+        [0x2a, 0, 0xff, 0xff, 0xff, 0xff, 0, 0, 1],
+        [0x35, 0, 0, 0, 0, 100, 0, 0, 0],
+        [0x35, 0, 0, 0, 0, 99, 0, 0, 2],
+    ] {
+        assert_fault(&rt, first, 0x21);
     }
     let last = [0x28, 0, 0, 0, 0, 98, 0, 0, 2, 0, 0, 0, 0, 0, 0, 0];
     assert!(rt; parse(&last, 100).is_ok());
@@ -152,7 +163,6 @@ fn senses(rt: HostRuntime) {
     ] {
         assert_eq!(rt; sense, Sense { key, asc, ascq });
     }
-    assert_eq!(rt; SubmitFault::OutOfTurn(7).number(), 5);
 }
 
 /// A buffer is filled in part and copied.
@@ -171,22 +181,23 @@ fn buffers(rt: HostRuntime) -> Result<(), Fail> {
     Ok(())
 }
 
+/// Each refusal by its number and its text.
 #[test]
-fn faults_say_why(rt: HostRuntime) -> Result<(), Fail> {
-    let texts = [
-        (SubmitFault::NotYours, "no command tag of this client"),
-        (SubmitFault::InUse, "tag in use"),
+fn refusals(rt: HostRuntime) -> Result<(), Fail> {
+    for (number, fault, text) in [
+        (1, SubmitFault::NotYours, "no command tag of this client"),
+        (2, SubmitFault::InUse, "tag in use"),
         (
+            3,
             SubmitFault::BadLength,
             "buffer of another length than the operation moves",
         ),
-        (SubmitFault::TooLong, "more than 128 blocks"),
-        (SubmitFault::OutOfTurn(7), "ticket below 7"),
-        (SubmitFault::NoSuchTask, "no such task"),
-    ];
-    for (fault, text) in texts {
-        let told = format!(in rt.alloc(); "{fault}")?;
-        assert_eq!(rt; told.as_str(), text);
+        (4, SubmitFault::TooLong, "more than 128 blocks"),
+        (5, SubmitFault::OutOfTurn(7), "ticket below 7"),
+        (6, SubmitFault::NoSuchTask, "no such task"),
+    ] {
+        assert_eq!(rt; fault.number(), number);
+        assert_eq!(rt; format!(in rt.alloc(); "{fault}")?.as_str(), text);
     }
     Ok(())
 }

@@ -11,6 +11,7 @@ use crate::{INQUIRY_BYTES, Op, Sense, Work, capacity_data, inquiry_data};
 use arrayvec::ArrayVec;
 
 /// The work of an operation on a unit of so many blocks, at least 1.
+#[inline(always)]
 pub fn work_of(op: &Op, blocks: u32) -> Work
     requires { 0 < blocks }
     ensures work { result ≡ work_of op.now blocks }

@@ -1,3 +1,3 @@
 pub mod Carried
 pub mod Kept
-pub mod Mapped
+pub mod Filtered

@@ -1,8 +1,7 @@
 -- The solo machine: one client, with no queue, event, pipe or ring.
-use Rattle.std.specs.Prelude.{◌≡◌, MatchOption, slice_set, ℕ, zero, suc, ◌+◌, ◌^◌, ◌<◌, nat_lt, Bool, true, false, ◌&&◌, if◌then◌else◌}
-use Rattle.std.specs.Prelude.{List, [], ◌∷◌, ◌++◌, take, map, Option, Some, None, is_some, option_map, option_and_then, option_to_list}
+use Rattle.std.specs.Prelude.{◌≡◌, MatchOption, slice_set, ℕ, zero, suc, ◌+◌, ◌^◌, ◌<◌, nat_lt, Bool, true, false, if◌then◌else◌}
+use Rattle.std.specs.Prelude.{List, [], ◌∷◌, take, map, Option, Some, None, is_some, option_map, option_and_then}
 use Rattle.std.specs.Prelude.{Result, Ok, Err, replicate}
-use Rattle.std.specs.Option.{option_map_or}
 use Rattle.std.specs.List.{filter_map}
 use Rattle.arrayvec.specs.ArrayVec.{ArrayVec}
 use Rattle.block_unit.specs.BlockMaps.{BlockMaps}

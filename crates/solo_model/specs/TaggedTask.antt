@@ -1,6 +1,6 @@
 -- One task, from its submission to its reply. The solo machine and the shared machine are made of these functions, and the
 -- device's part of them is the device server's.
-use Rattle.std.specs.Prelude.{ℕ, ◌*◌, ◌==◌, Bool, true, false, ◌&&◌, if◌then◌else◌, List, [], Option, Some, None}
+use Rattle.std.specs.Prelude.{◌≡◌, ℕ, ◌*◌, ◌==◌, Bool, true, false, ◌&&◌, if◌then◌else◌, List, [], Option, Some, None, MatchOption}
 use Rattle.std.specs.List.{list_any}
 use Rattle.arrayvec.specs.ArrayVec.{ArrayVec}
 use Rattle.std.specs.Option.{option_map_or}
@@ -73,6 +73,11 @@ carried_request unit task request = in_progress task (request_begun unit request
   where
     in_progress : TaggedTask → BlockMaps × Progress → BlockMaps × TaggedTask
     in_progress task after = (after.0, record task { phase = Begun after.1 })
+
+-- a step on a unit and a task did what is asked, or there is none and it did nothing
+abbrev pub IsStep : Option (BlockMaps × TaggedTask) → Bool → BlockMaps → TaggedTask → BlockMaps → TaggedTask → Type 0
+IsStep after acted unit task unit_now task_now = MatchOption after ((acted ≡ false) × (unit_now ≡ unit) × (task_now ≡ task))
+    (λ step. (acted ≡ true) × (unit_now ≡ step.0) × (task_now ≡ step.1))
 
 -- only a queued task is carried
 abbrev pub carried_from : BlockMaps → TaggedTask → Phase → Option (BlockMaps × TaggedTask)

@@ -9,7 +9,7 @@ ghost use Rattle.scsi_cmd.specs.Work.{IsWorkOn, work_bytes, work_direction};
 ghost use Rattle.scsi_cmd.specs.declared.Direction.{Direction};
 ghost use Rattle.device_server.specs.Server.{chunk_bytes, chunk_given, progress_after, unit_taken};
 ghost use Rattle.solo_model.specs.Soundness.{IsSound};
-ghost use Rattle.solo_model.specs.TaggedTask.{buffer_after, carried, moved, progress_left, request_begun, request_in, sent, unit_after};
+ghost use Rattle.solo_model.specs.TaggedTask.{IsStep, buffer_after, carried, moved, progress_left, request_begun, request_in, sent, unit_after};
 
 use crate::{Phase, Submitted, TaggedTask, Task};
 use block_unit::Unit;
@@ -19,9 +19,7 @@ use scsi_cmd::{Buffer, Command, Direction, Op, Work, checked_work, reports_atten
 /// The device receives a queued task and begins it; false, and nothing changes, where it isn't queued.
 pub fn carry(unit: &mut Unit, task: &mut TaggedTask) -> bool
     requires { IsSound unit.old.count task.old }
-    ensures carried { MatchOption (carried unit.old task.old)
-        ((result ≡ false) × (unit.new ≡ unit.old) × (task.new ≡ task.old))
-        (λ after. (result ≡ true) × (unit.new ≡ after.0) × (task.new ≡ after.1)) }
+    ensures carried { IsStep (carried unit.old task.old) result unit.old task.old unit.new task.new }
     ensures sound { IsSound unit.new.count task.new }
     ensures count { unit.new.count ≡ unit.old.count }
 {
@@ -57,9 +55,7 @@ fn begin_submitted(unit: &mut Unit, submitted: &Submitted) -> Progress
 /// where it moves none.
 pub fn move_chunk(unit: &mut Unit, task: &mut TaggedTask) -> bool
     requires { IsSound unit.old.count task.old }
-    ensures moved { MatchOption (moved unit.old task.old)
-        ((result ≡ false) × (unit.new ≡ unit.old) × (task.new ≡ task.old))
-        (λ after. (result ≡ true) × (unit.new ≡ after.0) × (task.new ≡ after.1)) }
+    ensures moved { IsStep (moved unit.old task.old) result unit.old task.old unit.new task.new }
     ensures sound { IsSound unit.new.count task.new }
     ensures count { unit.new.count ≡ unit.old.count }
 {

@@ -274,9 +274,7 @@ fn carry_slot(unit: &mut Unit, tasks: &mut [Option<TaggedTask>], slot: usize) ->
 fn carry_at(unit: &mut Unit, tasks: &mut [Option<TaggedTask>], slot: usize) -> bool
     requires slot { slot < length tasks.old }
     requires sound { AllHeld (IsSound unit.old.count) tasks.old }
-    ensures carried { MatchOption (option_and_then (carried unit.old) (held_at tasks.old slot))
-        ((result ≡ false) × (unit.new ≡ unit.old) × (tasks.new ≡ tasks.old))
-        (λ after. (result ≡ true) × (unit.new ≡ after.0) × (tasks.new ≡ slice_set tasks.old slot (Some after.1))) }
+    ensures carried { IsCarried unit.old tasks.old slot result unit.new tasks.new }
     ensures sound { AllHeld (IsSound unit.new.count) tasks.new }
 {
     match &mut tasks[slot] {

@@ -1,3 +1,4 @@
+ghost use Rattle.std.specs.Prelude.{◌≤◌};
 ghost use Rattle.solo_model.specs.Solo.{TicketFits};
 
 use super::*;
@@ -42,6 +43,25 @@ fn follows(solo: &mut Solo, labels: &[(Kind, u16, bool)]) -> bool {
     true
 }
 
+/// A client whose unit has so many blocks of zeros.
+fn solo_of(alloc: Global, blocks: u32) -> Result<Solo, AllocError>
+    requires some { 1 ≤ blocks }
+    requires most { blocks ≤ 100 }
+{
+    Ok(Solo::new(Unit::new(alloc, blocks, Vec::new(alloc))?))
+}
+
+/// A READ of so many blocks into a buffer that has this byte everywhere.
+fn read_of(alloc: Global, lba: u32, count: u16, byte: u8) -> Result<Command, AllocError> {
+    let fua = false;
+    command_of(
+        alloc,
+        Op::Read { lba, count, fua },
+        byte,
+        512 * usize::from(count),
+    )
+}
+
 fn submits(solo: &mut Solo, index: u16, ticket: u32, command: Command) -> bool {
     solo.apply(Label::Submit(index, u64::from(ticket), command))
         .is_ok()
@@ -51,16 +71,31 @@ fn settled(solo: &mut Solo, index: u16) -> Option<Reply> {
     solo.apply(Label::Settle(index)).unwrap_or(None)
 }
 
+/// The ticket, the status, the sense and the buffer of the reply to the command under this index.
+fn told(solo: &mut Solo, index: u16) -> Option<(u64, u8, ArrayVec<u8, 96>, Buffer)> {
+    match settled(solo, index)? {
+        Reply::Status { tag, .. } if tag != index => None,
+        Reply::Status {
+            ticket,
+            status,
+            sense,
+            buffer,
+            ..
+        } => Some((ticket, status, sense, buffer)),
+        _ => None,
+    }
+}
+
 /// A WRITE of 16 blocks of 01 on index 1 and a READ of the same on index 2, zeros before. The read's first chunk moves
 /// after the write's first, and its second before the write's second, so it has 4,096 bytes 01 and 4,096 zeros. A
 /// device that copied all blocks as it received the READ would give zeros alone. Between the steps stand labels that are
 /// no step at that moment.
 #[test]
 fn read_sees_write(rt: HostRuntime) -> Result<(), Fail> {
-    let mut solo = Solo::new(Unit::new(rt.alloc(), 16, Vec::new(rt.alloc()))?);
+    let mut solo = solo_of(rt.alloc(), 16)?;
     let (lba, count, fua) = (0, 16, false);
     let write = command_of(rt.alloc(), Op::Write { lba, count, fua }, 0x01, 8192)?;
-    let read = command_of(rt.alloc(), Op::Read { lba, count, fua }, 0x00, 8192)?;
+    let read = read_of(rt.alloc(), 0, 16, 0x00)?;
     assert!(rt; submits(&mut solo, 1, 0, write));
     assert!(rt; submits(&mut solo, 2, 1, read));
     let labels = [
@@ -78,19 +113,10 @@ fn read_sees_write(rt: HostRuntime) -> Result<(), Fail> {
         (Kind::Send, 2, true),
     ];
     assert!(rt; follows(&mut solo, &labels));
-    let Some(
-        Reply::Status {
-            tag,
-            ticket,
-            status,
-            sense,
-            buffer,
-        },
-    ) = settled(&mut solo, 2)
-    else {
+    let Some((ticket, status, sense, buffer)) = told(&mut solo, 2) else {
         panic!(rt; "no reply")
     };
-    assert_eq!(rt; (tag, ticket, status, sense.len()), (2, 1, 0x00, 0));
+    assert_eq!(rt; (ticket, status, sense.len()), (1, 0x00, 0));
     let mut bytes = [0x00; 8192];
     bytes[..4096].copy_from_slice(&[0x01; 4096]);
     assert_eq!(rt; buffer.as_slice(), bytes.as_slice());
@@ -104,9 +130,8 @@ fn read_sees_write(rt: HostRuntime) -> Result<(), Fail> {
 /// later command under the same index is left alone by an abort that noted the ticket of an earlier one.
 #[test]
 fn aborted_read(rt: HostRuntime) -> Result<(), Fail> {
-    let mut solo = Solo::new(Unit::new(rt.alloc(), 24, Vec::new(rt.alloc()))?);
-    let (lba, count, fua) = (0, 24, false);
-    let read = command_of(rt.alloc(), Op::Read { lba, count, fua }, 0xee, 12_288)?;
+    let mut solo = solo_of(rt.alloc(), 24)?;
+    let read = read_of(rt.alloc(), 0, 24, 0xee)?;
     assert!(rt; submits(&mut solo, 1, 0, read));
     let begun = [
         (Kind::Carry, 1, true),
@@ -142,7 +167,7 @@ fn aborted_read(rt: HostRuntime) -> Result<(), Fail> {
 /// doesn't report and the next command does.
 #[test]
 fn noted_tickets_alone(rt: HostRuntime) -> Result<(), Fail> {
-    let mut solo = Solo::new(Unit::new(rt.alloc(), 8, Vec::new(rt.alloc()))?);
+    let mut solo = solo_of(rt.alloc(), 8)?;
     let ready = command_of(rt.alloc(), Op::TestUnitReady, 0, 0)?;
     assert!(rt; submits(&mut solo, 2, 0, ready));
     let sent = [(Kind::Carry, 2, true), (Kind::Send, 2, true)];
@@ -169,25 +194,13 @@ fn noted_tickets_alone(rt: HostRuntime) -> Result<(), Fail> {
 /// A READ of blocks 99 and 100 of 100 ends with 5/21/00 and moves nothing.
 #[test]
 fn out_of_range_read(rt: HostRuntime) -> Result<(), Fail> {
-    let mut solo = Solo::new(Unit::new(rt.alloc(), 100, Vec::new(rt.alloc()))?);
-    let (lba, count, fua) = (99, 2, false);
-    let read = command_of(rt.alloc(), Op::Read { lba, count, fua }, 0xee, 1024)?;
+    let mut solo = solo_of(rt.alloc(), 100)?;
+    let read = read_of(rt.alloc(), 99, 2, 0xee)?;
     assert!(rt; submits(&mut solo, 7, 3, read));
-    let labels = [
-        (Kind::Carry, 7, true),
-        (Kind::Move, 7, false),
-        (Kind::Send, 7, true),
-    ];
-    assert!(rt; follows(&mut solo, &labels));
-    let Some(
-        Reply::Status {
-            status,
-            sense,
-            buffer,
-            ..
-        },
-    ) = settled(&mut solo, 7)
-    else {
+    let moves_nothing = [(Kind::Carry, 7, true), (Kind::Move, 7, false)];
+    assert!(rt; follows(&mut solo, &moves_nothing));
+    assert!(rt; solo.apply(Label::Send(7)).is_ok());
+    let Some((_, status, sense, buffer)) = told(&mut solo, 7) else {
         panic!(rt; "no reply")
     };
     assert_eq!(rt; status, 0x02);
@@ -202,6 +215,11 @@ fn out_of_range_read(rt: HostRuntime) -> Result<(), Fail> {
     Ok(())
 }
 
+/// The fault of a submission with this ticket, by a client whose least ticket is 5.
+fn refusal(yours: bool, in_use: bool, ticket: u64, command: &Command) -> Option<SubmitFault> {
+    submit_fault(yours, in_use, 5, ticket, command)
+}
+
 /// Each fault of a submission, with every later one beside it; READ of 129 blocks with 66,048 bytes and of one block
 /// with 511 bytes among them.
 #[test]
@@ -212,40 +230,26 @@ fn submission_faults(rt: HostRuntime) -> Result<(), Fail> {
         count: 129,
         fua,
     };
-    let bad_and_long = command_of(rt.alloc(), long, 0, 511)?;
-    assert_eq!(rt;
-        submit_fault(false, true, 5, 4, &bad_and_long),
-        Some(SubmitFault::NotYours)
-    );
-    assert_eq!(rt;
-        submit_fault(true, true, 5, 4, &bad_and_long),
-        Some(SubmitFault::InUse)
-    );
-    assert_eq!(rt;
-        submit_fault(true, false, 5, 4, &bad_and_long),
-        Some(SubmitFault::BadLength)
-    );
+    let bad = command_of(rt.alloc(), long, 0, 511)?;
+    assert_eq!(rt; refusal(false, true, 4, &bad), Some(SubmitFault::NotYours));
+    assert_eq!(rt; refusal(true, true, 4, &bad), Some(SubmitFault::InUse));
+    assert_eq!(rt; refusal(true, false, 4, &bad), Some(SubmitFault::BadLength));
     let too_long = command_of(rt.alloc(), long, 0, 66_048)?;
     assert_eq!(rt;
-        submit_fault(true, false, 5, 4, &too_long),
+        refusal(true, false, 4, &too_long),
         Some(SubmitFault::TooLong)
     );
     let bad_length = command_of(rt.alloc(), Op::Read { lba, count: 1, fua }, 0, 511)?;
     assert_eq!(rt;
-        submit_fault(true, false, 0, 0, &bad_length),
+        refusal(true, false, 5, &bad_length),
         Some(SubmitFault::BadLength)
     );
-    let one_block = command_of(rt.alloc(), Op::Read { lba, count: 1, fua }, 0, 512)?;
+    let one_block = read_of(rt.alloc(), 0, 1, 0)?;
     assert_eq!(rt;
-        submit_fault(true, false, 5, 4, &one_block),
+        refusal(true, false, 4, &one_block),
         Some(SubmitFault::OutOfTurn(5))
     );
-    assert_eq!(rt; submit_fault(true, false, 5, 5, &one_block), None);
-    Ok(())
-}
-
-#[test]
-fn fault_says_why(rt: HostRuntime) -> Result<(), Fail> {
+    assert_eq!(rt; refusal(true, false, 5, &one_block), None);
     let told = format!(in rt.alloc(); "{NotARun}")?;
     assert_eq!(rt; told.as_str(), "not a run");
     Ok(())

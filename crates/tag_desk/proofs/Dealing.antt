@@ -5,7 +5,7 @@ use mathlib.Core.Option.{some, some-injective, some-ne-none}
 use lib.ListN.{get_elem?}
 use lib.ListN.{replicate}
 use Rattle.std.proofs.Math.ListN.{length-set, length-replicate}
-use Rattle.atomic_table.specs.Table.{Splits, Joins, opening}
+use Rattle.atomic_table.specs.Table.{State, Splits, Joins, opening}
 use Rattle.atomic_table.proofs.Lists.{at_set, set_else}
 use Rattle.tag_desk.specs.declared.Slip.{Slip}
 use Rattle.tag_desk.specs.declared.rule.ClientView.{ClientView}
@@ -86,24 +86,30 @@ reworked_else b t owner k (Work j w) other h = (h.0, updated_else b.work t j own
 reworked_else b t owner k (Both j v w) other h = (h.0, h.1, updated_else b.work t j owner (λ e. other (ap b.work (sym e) ∙ h.2)) ∙ h.2, h.3, h.4)
 reworked_else b t owner k Spent other h = tt
 
+-- the rule is kept where no more than the seats change, and one is the pump's of a tag
+reseated : (tags t owner : ℕ) (s : State (Option Slip) View) (views : List View) (held : IsDesk tags s)
+    → ((k : ℕ) (v : View) → get_elem? views k ≡ some v → Knows (reworked held.books t owner) k v)
+    → IsDesk tags record { words = s.words; homes = s.homes; views = views }
+reseated tags t owner s views held knows = record {
+  books = reworked held.books t owner;
+  width = held.width;
+  depth = held.depth;
+  fresh = held.fresh;
+  each_tag = held.each_tag;
+  each_seat = knows;
+}
+
 -- a tag's seat is cut into its client's and its pump's
 pub part_allowed : (tags id t : ℕ) (v : ClientView) (w : WorkView) → Splits (IsDesk tags) id (Both t v w) (Client t v) (Work t w)
 part_allowed tags id t v w s held at =
     let b : Books = held.books in
     let know = held.each_seat id (Both t v w) at in
     let new : ℕ = length s.views in
-    record {
-      books = reworked b t new;
-      width = held.width;
-      depth = held.depth;
-      fresh = held.fresh;
-      each_tag = held.each_tag;
-      each_seat =
-          seats_added (Knows (reworked b t new)) s.views id (Client t v) (Work t w)
-          (know.0, know.1, know.3)
-          (know.0, updated_here b.work t t new refl, know.4)
-          (λ k u other there. reworked_else b t new k u (λ same. other (sym same ∙ know.2)) (held.each_seat k u there));
-    }
+    reseated tags t new s (set s.views id (Client t v) ++ Work t w ∷ []) held
+    (seats_added (Knows (reworked b t new)) s.views id (Client t v) (Work t w)
+    (know.0, know.1, know.3)
+    (know.0, updated_here b.work t t new refl, know.4)
+    (λ k u other there. reworked_else b t new k u (λ same. other (sym same ∙ know.2)) (held.each_seat k u there)))
 
 -- a tag's two seats are united
 pub unite_allowed : (tags id other t : ℕ) (v : ClientView) (w : WorkView) → Joins (IsDesk tags) id (Client t v) other (Work t w) (Both t v w) Spent
@@ -111,20 +117,13 @@ unite_allowed tags id other t v w s held at apart there =
     let b : Books = held.books in
     let mine = held.each_seat id (Client t v) at in
     let its = held.each_seat other (Work t w) (sym (set_else s.views id other (Both t v w) apart) ∙ there) in
-    record {
-      books = reworked b t id;
-      width = held.width;
-      depth = held.depth;
-      fresh = held.fresh;
-      each_tag = held.each_tag;
-      each_seat =
-          seats_set (Knows (reworked b t id)) (set s.views id (Both t v w)) other Spent tt
-          (λ k u far at'.
-          seats_set (λ j x. j ≢ other → Knows (reworked b t id) j x) s.views id (Both t v w)
-          (λ _. (mine.0, mine.1, updated_here b.work t t id refl, mine.2, its.2))
-          (λ j x near at'' far'. reworked_else b t id j x (λ same. far' (sym same ∙ its.1)) (held.each_seat j x at''))
-          k u at' far);
-    }
+    reseated tags t id s (set (set s.views id (Both t v w)) other Spent) held
+    (seats_set (Knows (reworked b t id)) (set s.views id (Both t v w)) other Spent tt
+    (λ k u far at'.
+    seats_set (λ j x. j ≢ other → Knows (reworked b t id) j x) s.views id (Both t v w)
+    (λ _. (mine.0, mine.1, updated_here b.work t t id refl, mine.2, its.2))
+    (λ j x near at'' far'. reworked_else b t id j x (λ same. far' (sym same ∙ its.1)) (held.each_seat j x at''))
+    k u at' far))
 
 zero_at : (n t : ℕ) → get_or (replicate {A = ℕ} n 0) t 0 ≡ 0
 zero_at zero t = refl

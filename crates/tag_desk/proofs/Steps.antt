@@ -5,7 +5,7 @@ use mathlib.Core.Option.{some, some-injective}
 use mathlib.Core.Option as maybe
 use prog.Atomic.{either}
 use lib.ListN.{get_elem?}
-use Rattle.atomic_table.specs.Table.{State, Act, keeps, takes, gives, step, stepped, carried_after, Valid, Allows}
+use Rattle.atomic_table.specs.Table.{State, Step, Act, keeps, takes, gives, step, stepped, carried_after, Valid, Allows}
 use Rattle.atomic_table.proofs.Lists.{exchanged}
 use Rattle.tag_desk.specs.declared.Slip.{Slip}
 use Rattle.tag_desk.specs.declared.rule.ClientView.{ClientView}
@@ -16,9 +16,9 @@ use Rattle.tag_desk.specs.declared.rule.View.{View}
 use Rattle.tag_desk.specs.declared.rule.View.TheVariants.{Client, Work, Both, Spent}
 use Rattle.tag_desk.specs.Slips.{IsAsk, IsEnd}
 use Rattle.tag_desk.specs.Rule.{Stage, undealt, free, posted, taken, done, ClientKnows, WorkKnows, IsAt, IsDesk, Place, Sat, Lifts, Posts, Takes}
-use Rattle.tag_desk.specs.Rule.{Finishes, Looks, Settles, IsSettled, posted_word, done_word}
+use Rattle.tag_desk.specs.Rule.{Books, Knows, Finishes, Looks, Settles, IsSettled, posted_word, done_word}
 use Rattle.tag_desk.specs.Seats.{IsHome}
-use Rattle.tag_desk.proofs.Moves.{moved, unmoved, updated_here}
+use Rattle.tag_desk.proofs.Moves.{moved, unmoved, restaged, updated_here}
 
 -- ---- what stays known of the other seat
 
@@ -74,47 +74,44 @@ done_by_word t word n slot (done m y) is at =
 
 -- ---- the steps
 
-pub post_allowed : (tags slots t id n last : ℕ) (x : Slip) → t < tags → last ≤ n → IsAsk (t + 1) n x
-    → Allows (IsDesk tags) slots id (Client t (Free last), (t, Some x) ∷ []) t (λ _. 4 * n + 1) (Posts (step slots t (4 * n + 1) 0 maybe.none) (
-      Client t
-          (Free last),
-      (t, Some x) ∷ [],
-    ))
-post_allowed tags slots t id n last x within late ask s held homes at fits =
-    let know = held.each_seat id (Client t (Free last)) at in
-    let q : (4 * n + 1) / 4 ≡ n = omega arith in
-    let b = held.books in (
-      Client t (Open ((4 * n + 1) / 4) x),
-      gives,
-      tt,
-      moved tags s held t id (4 * n + 1) (some (Some x)) (posted n x) (Client t (Open ((4 * n + 1) / 4) x)) within know.0
-          (refl, refl, ask)
-          (know.0, know.1, subst (ClientKnows (Open ((4 * n + 1) / 4) x)) (sym (updated_here b.stage t t (posted n x) refl)) (sym q, refl))
-          (λ k other v own _. absurd (other (sym own ∙ know.1)))
-          (λ k other w own h. work_at_free w (b.stage t) n x (last, know.2, late) h),
-      refl,
-    )
+-- a seat gives its slot back with a slip in it, and the word is written
+abbrev Stores : ℕ → ℕ → ℕ → ℕ → View → ℕ → Slip → (Step (Option Slip) → Sat → ℕ → Sat → Type 0) → Type 0
+Stores tags slots t id old word z Told =
+    Allows (IsDesk tags) slots id (old, (t, Some z) ∷ []) t (λ _. word) (Told (step slots t word 0 maybe.none) (old, (t, Some z) ∷ []))
 
-pub finish_allowed : (tags slots t id n : ℕ) (y : Slip) → t < tags → IsEnd (t + 1) n y
-    → Allows (IsDesk tags) slots id (Work t (Claimed n), (t, Some y) ∷ []) t (λ _. 4 * n + 3) (Finishes (step slots t (4 * n + 3) 0 maybe.none) (
-      Work t
-          (Claimed n),
-      (t, Some y) ∷ [],
+-- which is allowed where the books say so once the tag is at its next stage
+stored : (tags slots t id word : ℕ) (old new : View) (z : Slip) (x : Stage) (Told : Step (Option Slip) → Sat → ℕ → Sat → Type 0) → t < tags
+    → ((found : ℕ) → Told (step slots t word 0 maybe.none) (old, (t, Some z) ∷ []) found (new, [])) → IsAt t word (some (some (Some z))) x
+    → ((b : Books) → Knows b id old → (t < b.dealt) × Knows (restaged b t x) id new
+    × ((k : ℕ) → k ≢ id → (v : ClientView) → b.client t ≡ k → ClientKnows v (b.stage t) → ClientKnows v x)
+    × ((k : ℕ) → k ≢ id → (w : WorkView) → b.work t ≡ k → WorkKnows w (b.stage t) → WorkKnows w x))
+    → Stores tags slots t id old word z Told
+stored tags slots t id word old new z x Told within tells is next s held homes at fits =
+    let known = next held.books (held.each_seat id old at) in
+    (new, gives, tt, moved tags s held t id word (some (Some z)) x new within known.0 is known.1 known.2 known.3, tells (slice_index s.words t))
+
+pub post_allowed : (tags slots t id n last : ℕ) (x : Slip) → t < tags → last ≤ n → IsAsk (t + 1) n x
+    → Stores tags slots t id (Client t (Free last)) (4 * n + 1) x Posts
+post_allowed tags slots t id n last x within late ask =
+    let q : (4 * n + 1) / 4 ≡ n = omega arith in
+    let new : View = Client t (Open ((4 * n + 1) / 4) x) in
+    stored tags slots t id (4 * n + 1) (Client t (Free last)) new x (posted n x) Posts within (λ found. refl) (refl, refl, ask) (λ b know. (
+      know.0,
+      (know.0, know.1, subst (ClientKnows (Open ((4 * n + 1) / 4) x)) (sym (updated_here b.stage t t (posted n x) refl)) (sym q, refl)),
+      (λ k other v own _. absurd (other (sym own ∙ know.1))),
+      (λ k other w own h. work_at_free w (b.stage t) n x (last, know.2, late) h),
     ))
-finish_allowed tags slots t id n y within end s held homes at fits =
-    let know = held.each_seat id (Work t (Claimed n)) at in
+
+pub finish_allowed : (tags slots t id n : ℕ) (y : Slip) → t < tags → IsEnd (t + 1) n y → Stores tags slots t id (Work t (Claimed n)) (4 * n + 3) y Finishes
+finish_allowed tags slots t id n y within end =
     let q : (4 * n + 3) / 4 ≡ n = omega arith in
-    let b = held.books in (
-      Work t (Finished ((4 * n + 3) / 4) y),
-      gives,
-      tt,
-      moved tags s held t id (4 * n + 3) (some (Some y)) (done n y) (Work t (Finished ((4 * n + 3) / 4) y)) within know.0
-          (refl, refl, end)
-          (know.0, know.1, subst (WorkKnows (Finished ((4 * n + 3) / 4) y)) (sym (updated_here b.stage t t (done n y) refl)) (sym q, refl))
-          (λ k other v own h. client_at_taken v (b.stage t) n y know.2 h)
-          (λ k other w own _. absurd (other (sym own ∙ know.1))),
-      refl,
-    )
+    stored tags slots t id (4 * n + 3) (Work t (Claimed n)) (Work t (Finished ((4 * n + 3) / 4) y)) y (done n y) Finishes within (λ found. refl)
+    (refl, refl, end) (λ b know. (
+      know.0,
+      (know.0, know.1, subst (WorkKnows (Finished ((4 * n + 3) / 4) y)) (sym (updated_here b.stage t t (done n y) refl)) (sym q, refl)),
+      (λ k other v own h. client_at_taken v (b.stage t) n y know.2 h),
+      (λ k other w own _. absurd (other (sym own ∙ know.1))),
+    ))
 
 -- what a compare-exchange of a seat may come to
 abbrev Comes : ℕ → State (Option Slip) View → ℕ → ℕ → Sat → (Sat → Type 0) → ℕ → Type 0

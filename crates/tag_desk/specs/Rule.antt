@@ -150,19 +150,16 @@ IsSettled (Open n x) Idle found z = (found ≡ posted_word n) × (z ≡ x)
 IsSettled (Open n x) (Claimed m) found z = ⊥
 IsSettled (Open n x) (Finished m y) found z = ((found ≡ posted_word n) × (m < n) × (z ≡ x)) ⊎ ((found ≡ done_word n) × (m ≡ n) × (z ≡ y))
 
+-- what a view knows of its tag as the client's, and as the pump's
 abbrev pub client_in : View → ClientView
-client_in (Dealer from) = Waiting
 client_in (Client t v) = v
-client_in (Work t w) = Waiting
 client_in (Both t v w) = v
-client_in Spent = Waiting
+client_in other = Waiting
 
 abbrev pub work_in : View → WorkView
-work_in (Dealer from) = Idle
-work_in (Client t v) = Idle
 work_in (Work t w) = w
 work_in (Both t v w) = w
-work_in Spent = Idle
+work_in other = Idle
 
 -- the word index of the seat's tag
 abbrev pub index_in : View → ℕ

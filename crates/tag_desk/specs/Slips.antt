@@ -1,19 +1,8 @@
 -- Which slips a client posts, and which a pump finishes with.
 use Rattle.std.specs.Prelude.{◌≡◌, ◌≢◌, ℕ, ◌%◌}
-use Rattle.scsi_cmd.specs.declared.Reply.{Reply}
-use Rattle.scsi_cmd.specs.declared.Reply.TheVariants.{Status, Aborted, Task}
+use Rattle.scsi_cmd.specs.Replies.{reply_tag, reply_ticket}
 use Rattle.tag_desk.specs.declared.Slip.{Slip}
 use Rattle.tag_desk.specs.declared.Slip.TheVariants.{Ask, AskTask, Answer, Refused, Unserved}
-
-abbrev pub reply_tag : Reply → ℕ
-reply_tag (Status tag ticket status sense buffer) = tag
-reply_tag (Aborted tag ticket buffer) = tag
-reply_tag (Task tag ticket code) = tag
-
-abbrev pub reply_ticket : Reply → ℕ
-reply_ticket (Status tag ticket status sense buffer) = ticket
-reply_ticket (Aborted tag ticket buffer) = ticket
-reply_ticket (Task tag ticket code) = ticket
 
 -- a client posts commands on its first seven tags and task managements on its eighth, each with its ticket
 abbrev pub IsAsk : ℕ → ℕ → Slip → Type 0

@@ -43,7 +43,7 @@ mod rule;
 
 use lines::{Line, Work};
 use remains::Lists;
-pub use remains::{Left, TagSlip, TagSlips, TagTicket, TagTickets};
+pub use remains::{Left, TagList, TagSlip, TagSlips, TagTicket, TagTickets};
 use scsi_cmd::{Buffer, Command, Reply, SubmitFault, Task};
 use std::alloc::{AllocError, Global};
 use std::marker::Model;
@@ -93,13 +93,9 @@ impl Slip {
         match self {
             Slip::Ask { ticket, .. }
             | Slip::AskTask { ticket, .. }
-            | Slip::Answer(
-                Reply::Status { ticket, .. }
-                | Reply::Aborted { ticket, .. }
-                | Reply::Task { ticket, .. },
-            )
             | Slip::Refused { ticket, .. }
             | Slip::Unserved { ticket, .. } => *ticket,
+            Slip::Answer(reply) => reply.ticket(),
         }
     }
 }

@@ -21,81 +21,47 @@ pub struct TagTicket {
     pub ticket: u64,
 }
 
-/// Tags with their slips, which contracts see as a list.
+/// Entries of tags, which contracts see as a list.
 #[derive(Debug, Drop)]
-pub struct TagSlips {
-    slips: Vec<TagSlip>,
+pub struct TagList<T> {
+    entries: Vec<T>,
 }
 
-impl Model for TagSlips {
+/// Tags with their slips.
+pub type TagSlips = TagList<TagSlip>;
+
+/// Tags with their tickets.
+pub type TagTickets = TagList<TagTicket>;
+
+impl<T> Model for TagList<T> {
     ghost use Rattle.std.specs.Prelude.{List};
-    ghost use Rattle.tag_desk.specs.declared.remains.TagSlip.{TagSlip};
 
-    ghost Value = { List TagSlip };
+    ghost Value = { List T };
 
-    ghost view = { λ list. list.slips.items };
+    ghost view = { λ list. list.entries.items };
 }
 
-impl TagSlips {
+impl<T> TagList<T> {
     /// The list of these; takes no memory.
-    pub fn from_vec(slips: Vec<TagSlip>) -> TagSlips
-        ensures { result ≡ slips.items }
+    pub fn from_vec(entries: Vec<T>) -> TagList<T>
+        ensures { result ≡ entries.items }
     {
-        TagSlips { slips }
+        TagList { entries }
     }
 
-    /// Its tags and slips, in order.
-    pub fn as_slice(&self) -> &[TagSlip]
+    /// Its entries, in order.
+    pub fn as_slice(&self) -> &[T]
         ensures { result.now ≡ self.now }
     {
-        self.slips.as_slice()
+        self.entries.as_slice()
     }
 
-    /// The tags and slips themselves; takes no memory.
-    pub fn into_vec(self) -> Vec<TagSlip>
+    /// The entries themselves; takes no memory.
+    pub fn into_vec(self) -> Vec<T>
         ensures { result.items ≡ self }
     {
-        let TagSlips { slips } = self;
-        slips
-    }
-}
-
-/// Tags with their tickets, which contracts see as a list.
-#[derive(Debug, Drop)]
-pub struct TagTickets {
-    tickets: Vec<TagTicket>,
-}
-
-impl Model for TagTickets {
-    ghost use Rattle.std.specs.Prelude.{List};
-    ghost use Rattle.tag_desk.specs.declared.remains.TagTicket.{TagTicket};
-
-    ghost Value = { List TagTicket };
-
-    ghost view = { λ list. list.tickets.items };
-}
-
-impl TagTickets {
-    /// The list of these; takes no memory.
-    pub fn from_vec(tickets: Vec<TagTicket>) -> TagTickets
-        ensures { result ≡ tickets.items }
-    {
-        TagTickets { tickets }
-    }
-
-    /// Its tags and tickets, in order.
-    pub fn as_slice(&self) -> &[TagTicket]
-        ensures { result.now ≡ self.now }
-    {
-        self.tickets.as_slice()
-    }
-
-    /// The tags and tickets themselves; takes no memory.
-    pub fn into_vec(self) -> Vec<TagTicket>
-        ensures { result.items ≡ self }
-    {
-        let TagTickets { tickets } = self;
-        tickets
+        let TagList { entries } = self;
+        entries
     }
 }
 

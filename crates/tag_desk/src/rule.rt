@@ -1,4 +1,7 @@
 //! The table of words and slots under the desk, what its seats know, and what each step tells.
+ghost use Rattle.tag_desk.specs.declared.rule.View.TheVariants.{Spent};
+ghost use Rattle.tag_desk.specs.Rule.{Lifts, Posts, Takes, Finishes, Looks, Settles, dealt_less, dealt, clients_part, pumps_part, united};
+
 use crate::Slip;
 use atomic_table::{Join, Play, Split, Table, TableRule};
 use std::alloc::Global;
@@ -42,58 +45,36 @@ impl TableRule<Option<Slip>, View, usize> for Desked {
 
 pub(crate) struct Lift;
 
-impl Play<Option<Slip>, View> for Lift {
-    ghost use Rattle.tag_desk.specs.Rule.{Lifts};
-
-    ghost then = { Lifts };
-}
-
 pub(crate) struct Post;
-
-impl Play<Option<Slip>, View> for Post {
-    ghost use Rattle.tag_desk.specs.Rule.{Posts};
-
-    ghost then = { Posts };
-}
 
 pub(crate) struct Take;
 
-impl Play<Option<Slip>, View> for Take {
-    ghost use Rattle.tag_desk.specs.Rule.{Takes};
-
-    ghost then = { Takes };
-}
-
 pub(crate) struct Finish;
-
-impl Play<Option<Slip>, View> for Finish {
-    ghost use Rattle.tag_desk.specs.Rule.{Finishes};
-
-    ghost then = { Finishes };
-}
 
 pub(crate) struct Look;
 
-impl Play<Option<Slip>, View> for Look {
-    ghost use Rattle.tag_desk.specs.Rule.{Looks};
-
-    ghost then = { Looks };
-}
-
 pub(crate) struct Settle;
 
-impl Play<Option<Slip>, View> for Settle {
-    ghost use Rattle.tag_desk.specs.Rule.{Settles};
+impl Play<Option<Slip>, View> for Lift {
+    ghost then = { Lifts };
+}
 
-    ghost then = { Settles };
+impl Play<Option<Slip>, View> for Post {
+    ghost then = { Posts };
+}
+
+impl Play<Option<Slip>, View> for Take {
+    ghost then = { Takes };
+}
+
+impl Play<Option<Slip>, View> for Finish {
+    ghost then = { Finishes };
 }
 
 /// The dealer deals its next tag, whole.
 pub(crate) struct Deal;
 
 impl Split<View> for Deal {
-    ghost use Rattle.tag_desk.specs.Rule.{dealt_less, dealt};
-
     ghost left = { dealt_less };
 
     ghost right = { dealt };
@@ -103,8 +84,6 @@ impl Split<View> for Deal {
 pub(crate) struct Part;
 
 impl Split<View> for Part {
-    ghost use Rattle.tag_desk.specs.Rule.{clients_part, pumps_part};
-
     ghost left = { clients_part };
 
     ghost right = { pumps_part };
@@ -113,12 +92,17 @@ impl Split<View> for Part {
 pub(crate) struct Unite;
 
 impl Join<View> for Unite {
-    ghost use Rattle.tag_desk.specs.declared.rule.View.TheVariants.{Spent};
-    ghost use Rattle.tag_desk.specs.Rule.{united};
-
     ghost both = { united };
 
     ghost spent = { Spent };
+}
+
+impl Play<Option<Slip>, View> for Look {
+    ghost then = { Looks };
+}
+
+impl Play<Option<Slip>, View> for Settle {
+    ghost then = { Settles };
 }
 
 pub(crate) type Words = Table<Option<Slip>, View, usize, Desked, Global>;

@@ -5,7 +5,7 @@ ghost use Rattle.tag_desk.specs.Seats.{IsClientOf, IsPumpOf, IsTagOf, IsServed};
 mod closed;
 mod threads;
 
-use crate::{Claim, ClientSeat, Desk, Seats, Slip, WorkSeat};
+use crate::{Claim, ClientSeat, Desk, Slip, WorkSeat};
 use arrayvec::ArrayVec;
 use closed::made;
 use scsi_cmd::{Buffer, Command, GOOD, Op, Reply};
@@ -129,15 +129,11 @@ fn answered(desk: &Desk, seat: &mut ClientSeat, tag: u16, ticket: u64, byte: u8)
 #[test]
 fn slip_home(rt: HostRuntime) -> Result<(), Fail> {
     let alloc = rt.alloc();
-    let (desk, seats) = made(alloc)?;
-    let Seats {
-        mut clients,
-        mut pumps,
-    } = seats;
-    let client = &mut clients[0];
+    let (desk, mut seats) = made(alloc)?;
+    let client = &mut seats.clients[0];
     assert!(rt; client.least_ticket == 0 && client.is_free(1));
     desk.post(client, 1, write(alloc, 1, 7, 0x5a)?);
-    assert!(rt; served(alloc, &desk, &mut pumps[0], 1, 7, [0x5a, 0xa5])?);
+    assert!(rt; served(alloc, &desk, &mut seats.pumps[0], 1, 7, [0x5a, 0xa5])?);
     assert!(rt; answered(&desk, client, 1, 7, 0xa5));
     Ok(())
 }

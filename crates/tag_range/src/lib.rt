@@ -46,9 +46,9 @@ pub enum Refused {
     #[error("every command tag of the client is out")]
     NoTag = 1,
     #[error("the client's task management tag is out")]
-    TaskBusy = 2,
+    TaskBusy,
     #[error("the client's last ticket was given out")]
-    Worn = 3,
+    Worn,
 }
 
 /// The tags and the tickets of one client that has `PER` tags, the last of them for task management.
@@ -200,7 +200,16 @@ fn next_ticket(next: &mut Ticket) -> Result<Ticket, Refused>
 #[cfg(test)]
 mod tests {
     use super::*;
+    use std::alloc::{AllocError, Global};
     use std::test::Fail;
+
+    /// What a refusal says; nothing for a tag that was issued.
+    fn told(alloc: Global, issued: Result<(Tag, Ticket), Refused>) -> Result<String, AllocError> {
+        match issued {
+            Ok(_) => Ok(String::new(alloc)),
+            Err(refused) => format!(in alloc; "{refused}"),
+        }
+    }
 
     #[test]
     fn tags_run_out(rt: HostRuntime) -> Result<(), Fail> {
@@ -210,10 +219,12 @@ mod tests {
             assert_eq!(rt; zero.issue()?, expected);
         }
         assert_eq!(rt; zero.outstanding(), 7);
-        assert_eq!(rt; zero.issue(), Err(Refused::NoTag));
+        let no_tag = told(rt.alloc(), zero.issue())?;
+        assert_eq!(rt; no_tag.as_str(), "every command tag of the client is out");
         assert_eq!(rt; one.issue()?, (9, 0));
         assert_eq!(rt; zero.issue_task()?, (8, 7));
-        assert_eq!(rt; zero.issue_task(), Err(Refused::TaskBusy));
+        let busy = told(rt.alloc(), zero.issue_task())?;
+        assert_eq!(rt; busy.as_str(), "the client's task management tag is out");
         assert_eq!(rt; zero.outstanding(), 8);
         Ok(())
     }
@@ -250,20 +261,6 @@ mod tests {
     }
 
     #[test]
-    fn refusals_say_why(rt: HostRuntime) -> Result<(), Fail> {
-        let texts = [
-            (Refused::NoTag, "every command tag of the client is out"),
-            (Refused::TaskBusy, "the client's task management tag is out"),
-            (Refused::Worn, "the client's last ticket was given out"),
-        ];
-        for (refused, text) in texts {
-            let told = format!(in rt.alloc(); "{refused}")?;
-            assert_eq!(rt; told.as_str(), text);
-        }
-        Ok(())
-    }
-
-    #[test]
     fn the_last_ticket(rt: HostRuntime) -> Result<(), Fail> {
         let mut range = TagRange::<8> {
             client: 0,
@@ -272,8 +269,10 @@ mod tests {
             task_out: false,
         };
         assert_eq!(rt; range.issue()?, (1, 1_152_921_504_606_846_975));
-        assert_eq!(rt; range.issue(), Err(Refused::Worn));
-        assert_eq!(rt; range.issue_task(), Err(Refused::Worn));
+        for issued in [range.issue(), range.issue_task()] {
+            let worn = told(rt.alloc(), issued)?;
+            assert_eq!(rt; worn.as_str(), "the client's last ticket was given out");
+        }
         Ok(())
     }
 }

@@ -1,5 +1,6 @@
 -- The text of a TRB (xHCI 1.2, 6.4): its fields at their places, and what is no text.
-use Rattle.std.specs.Prelude.{◌≡◌, ℕ, ◌+◌, ◌*◌, ◌/◌, ◌%◌, ◌^◌, ◌<◌, ◌≤◌, Bool, true, false, List, Option, Some, None, ◌==◌, nat_lt, if◌then◌else◌}
+use Rattle.std.specs.Prelude.{◌≡◌, ℕ, ◌+◌, ◌*◌, ◌/◌, ◌%◌, ◌^◌, ◌<◌, ◌≤◌, ◌==◌, nat_lt, if◌then◌else◌}
+use Rattle.std.specs.Prelude.{Bool, true, false, List, Option, Some, None, Result, Ok, Err}
 use Rattle.xhci_trb.specs.declared.Trb.{Trb}
 use Rattle.xhci_trb.specs.declared.Trb.TheVariants.{Normal, Link, StopEndpoint, SetDequeue, TransferEvent, CommandEvent}
 use Rattle.xhci_trb.specs.declared.TrbFault.{TrbFault}
@@ -126,6 +127,17 @@ pub record Holds (w : Words) (trb : Trb) (cycle : ℕ) : Type 0 where
   pub parameter : parameter_of trb ≡ w.parameter
   pub status : status_of trb ≡ w.status
   pub control : control_of trb + cycle ≡ w.control
+
+-- the TRB that three words hold beside their Cycle bit, where they have no fault
+pub record IsTrbIn (w : Words) (trb : Trb) : Type 0 where
+  pub held : Holds w trb (w.control % 2)
+  pub has_text : HasText trb
+  pub clean : fault_in w ≡ None
+
+-- what is read from three words: their TRB, or their first fault
+abbrev pub IsReading : Words → Result Trb TrbFault → Type 0
+IsReading w (Ok trb) = IsTrbIn w trb
+IsReading w (Err fault) = fault_in w ≡ Some fault
 
 -- the Chain bit (4.11): the next TRB is of the same TD
 abbrev pub has_chain : Trb → Bool

@@ -55,19 +55,15 @@ bitflag_items! {
     }
 }
 
-const _: () = prove!(TrbFlags::ENT.0 == 1);
-
-const _: () = prove!(TrbFlags::ISP.0 == 2);
-
-const _: () = prove!(TrbFlags::NS.0 == 4);
-
-const _: () = prove!(TrbFlags::CH.0 == 8);
-
-const _: () = prove!(TrbFlags::IOC.0 == 16);
-
-const _: () = prove!(TrbFlags::IDT.0 == 32);
-
-const _: () = prove!(TrbFlags::BEI.0 == 64);
+const _: () = prove!(
+    TrbFlags::ENT.0 == 1
+        && TrbFlags::ISP.0 == 2
+        && TrbFlags::NS.0 == 4
+        && TrbFlags::CH.0 == 8
+        && TrbFlags::IOC.0 == 16
+        && TrbFlags::IDT.0 == 32
+        && TrbFlags::BEI.0 == 64
+);
 
 impl Flags for TrbFlags {
     type Bits = u8;
@@ -143,19 +139,6 @@ pub enum Trb {
     },
 }
 
-impl Trb {
-    /// Whether the Chain bit is set: the next TRB is of the same TD (4.11).
-    pub fn has_chain(&self) -> bool
-        ensures { result ≡ has_chain self.now }
-    {
-        match *self {
-            Trb::Normal { flags, .. } => flags.0 / TrbFlags::CH.0 % 2 == 1,
-            Trb::Link { chain, .. } => chain,
-            _ => false,
-        }
-    }
-}
-
 /// Why 16 bytes are no text: the first of these that holds.
 #[derive(Clone, Copy, PartialEq, Eq, Debug, Error)]
 pub enum TrbFault {
@@ -168,6 +151,19 @@ pub enum TrbFault {
     /// A bit outside the named fields is set, or SCT isn't 1.
     #[error("reserved TRB bit set")]
     ReservedSet,
+}
+
+impl Trb {
+    /// Whether the Chain bit is set: the next TRB is of the same TD (4.11).
+    pub fn has_chain(&self) -> bool
+        ensures { result ≡ has_chain self.now }
+    {
+        match *self {
+            Trb::Normal { flags, .. } => flags.0 / TrbFlags::CH.0 % 2 == 1,
+            Trb::Link { chain, .. } => chain,
+            _ => false,
+        }
+    }
 }
 
 /// The 16 bytes of a TRB with its Cycle bit (6.4). Asks that each field fits its bits: a Normal

@@ -1,7 +1,7 @@
 // From three words to a TRB, or the first fault.
 
-ghost use Rattle.std.specs.Prelude.{◌≡◌, ◌≢◌, ◌+◌, ◌/◌, ◌%◌, ◌^◌, ◌<◌, ◌↔◌, IsTrue, Some, None, IfOk, OnOk, IfErr};
-ghost use Rattle.xhci_trb.specs.Text.{bit, type_in, fault_in, HasText, Holds};
+ghost use Rattle.std.specs.Prelude.{◌≡◌, ◌≢◌, ◌+◌, ◌/◌, ◌%◌, ◌^◌, ◌<◌, ◌↔◌, IsTrue};
+ghost use Rattle.xhci_trb.specs.Text.{bit, type_in, IsReading};
 
 use crate::kinds::{COMMAND_EVENT, LINK, NORMAL, SET_DEQUEUE, STOP_ENDPOINT, TRANSFER_EVENT};
 use crate::words::{Words, field};
@@ -11,10 +11,7 @@ use crate::{MAX_LENGTH, Trb, TrbFault, TrbFlags};
 /// two types that most of them have are read in place.
 #[inline(always)]
 pub(crate) fn read_trb(words: Words) -> Result<Trb, TrbFault>
-    ensures held { IfOk result (λ trb. Holds words trb (words.control % 2)) }
-    ensures has_text { IfOk result HasText }
-    ensures clean { OnOk result (fault_in words ≡ None) }
-    ensures fault { IfErr result (λ fault. fault_in words ≡ Some fault) }
+    ensures { IsReading words result }
 {
     let trb = match field(words.control, 10, 6) {
         NORMAL => read_normal(words)?,
@@ -29,10 +26,7 @@ pub(crate) fn read_trb(words: Words) -> Result<Trb, TrbFault>
 fn read_other(words: Words) -> Result<Trb, TrbFault>
     requires no_normal { type_in words ≢ 1 }
     requires no_transfer_event { type_in words ≢ 32 }
-    ensures held { IfOk result (λ trb. Holds words trb (words.control % 2)) }
-    ensures has_text { IfOk result HasText }
-    ensures clean { OnOk result (fault_in words ≡ None) }
-    ensures fault { IfErr result (λ fault. fault_in words ≡ Some fault) }
+    ensures { IsReading words result }
 {
     match field(words.control, 10, 6) {
         LINK => read_link(words),
@@ -46,10 +40,7 @@ fn read_other(words: Words) -> Result<Trb, TrbFault>
 #[inline(always)]
 fn read_normal(words: Words) -> Result<Trb, TrbFault>
     requires { type_in words ≡ 1 }
-    ensures held { IfOk result (λ trb. Holds words trb (words.control % 2)) }
-    ensures has_text { IfOk result HasText }
-    ensures clean { OnOk result (fault_in words ≡ None) }
-    ensures fault { IfErr result (λ fault. fault_in words ≡ Some fault) }
+    ensures { IsReading words result }
 {
     let length = field(words.status, 0, 17);
     if length > MAX_LENGTH {
@@ -71,10 +62,7 @@ fn read_normal(words: Words) -> Result<Trb, TrbFault>
 
 fn read_link(words: Words) -> Result<Trb, TrbFault>
     requires { type_in words ≡ 6 }
-    ensures held { IfOk result (λ trb. Holds words trb (words.control % 2)) }
-    ensures has_text { IfOk result HasText }
-    ensures clean { OnOk result (fault_in words ≡ None) }
-    ensures fault { IfErr result (λ fault. fault_in words ≡ Some fault) }
+    ensures { IsReading words result }
 {
     let control = words.control;
     if words.parameter % 16 != 0
@@ -95,10 +83,7 @@ fn read_link(words: Words) -> Result<Trb, TrbFault>
 
 fn read_stop_endpoint(words: Words) -> Result<Trb, TrbFault>
     requires { type_in words ≡ 15 }
-    ensures held { IfOk result (λ trb. Holds words trb (words.control % 2)) }
-    ensures has_text { IfOk result HasText }
-    ensures clean { OnOk result (fault_in words ≡ None) }
-    ensures fault { IfErr result (λ fault. fault_in words ≡ Some fault) }
+    ensures { IsReading words result }
 {
     if words.parameter != 0 || words.status != 0 || !is_clear_beside_endpoint(words.control) {
         return Err(TrbFault::ReservedSet);
@@ -111,10 +96,7 @@ fn read_stop_endpoint(words: Words) -> Result<Trb, TrbFault>
 
 fn read_set_dequeue(words: Words) -> Result<Trb, TrbFault>
     requires { type_in words ≡ 16 }
-    ensures held { IfOk result (λ trb. Holds words trb (words.control % 2)) }
-    ensures has_text { IfOk result HasText }
-    ensures clean { OnOk result (fault_in words ≡ None) }
-    ensures fault { IfErr result (λ fault. fault_in words ≡ Some fault) }
+    ensures { IsReading words result }
 {
     let low = (words.parameter % 16) as u32;
     if field(low, 1, 3) != 1
@@ -135,10 +117,7 @@ fn read_set_dequeue(words: Words) -> Result<Trb, TrbFault>
 #[inline(always)]
 fn read_transfer_event(words: Words) -> Result<Trb, TrbFault>
     requires { type_in words ≡ 32 }
-    ensures held { IfOk result (λ trb. Holds words trb (words.control % 2)) }
-    ensures has_text { IfOk result HasText }
-    ensures clean { OnOk result (fault_in words ≡ None) }
-    ensures fault { IfErr result (λ fault. fault_in words ≡ Some fault) }
+    ensures { IsReading words result }
 {
     if !is_clear_beside_endpoint(words.control) {
         return Err(TrbFault::ReservedSet);
@@ -154,10 +133,7 @@ fn read_transfer_event(words: Words) -> Result<Trb, TrbFault>
 
 fn read_command_event(words: Words) -> Result<Trb, TrbFault>
     requires { type_in words ≡ 33 }
-    ensures held { IfOk result (λ trb. Holds words trb (words.control % 2)) }
-    ensures has_text { IfOk result HasText }
-    ensures clean { OnOk result (fault_in words ≡ None) }
-    ensures fault { IfErr result (λ fault. fault_in words ≡ Some fault) }
+    ensures { IsReading words result }
 {
     let control = words.control;
     if words.parameter % 16 != 0

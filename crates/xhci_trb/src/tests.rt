@@ -1,138 +1,12 @@
+ghost use Rattle.std.specs.Prelude.{◌≡◌};
 ghost use Rattle.xhci_trb.specs.Text.{HasText};
+ghost use Rattle.xhci_trb.specs.declared.Trb.TheVariants.{Normal};
 
 use crate::{Trb, TrbFault, TrbFlags, decode, encode};
 use bitflags::Flags;
+use std::alloc::{AllocError, Global};
 use std::process::Abort;
 use std::test::Fail;
-
-// The TRB with Cycle bit 1 is written as these bytes and read from them.
-fn both_ways(rt: &impl Abort, trb: Trb, bytes: &[u8; 16])
-    requires { HasText trb }
-{
-    assert_eq!(rt; &encode(&trb, true), bytes);
-    assert_eq!(rt; decode(bytes), Ok((trb, true)));
-}
-
-#[test]
-fn command_and_status_trbs_of_tag_1(rt: HostRuntime) {
-    let command = Trb::Normal {
-        pointer: 0x1000_0100,
-        length: 0x20,
-        td_size: 0,
-        flags: TrbFlags::IOC,
-    };
-    both_ways(
-        &rt,
-        command,
-        b"\x00\x01\x00\x10\x00\x00\x00\x00\x20\x00\x00\x00\x21\x04\x00\x00",
-    );
-    let status = Trb::Normal {
-        pointer: 0x2000_0100,
-        length: 0x70,
-        td_size: 0,
-        flags: TrbFlags(2 + 16),
-    };
-    both_ways(
-        &rt,
-        status,
-        b"\x00\x01\x00\x20\x00\x00\x00\x00\x70\x00\x00\x00\x25\x04\x00\x00",
-    );
-}
-
-#[test]
-fn event_of_a_sense_unit_of_16_bytes(rt: HostRuntime) {
-    let event = Trb::TransferEvent {
-        pointer: 0x4200_1000,
-        residual: 0x60,
-        code: 13,
-        endpoint: 3,
-        slot: 1,
-    };
-    both_ways(
-        &rt,
-        event,
-        b"\x00\x10\x00\x42\x00\x00\x00\x00\x60\x00\x00\x0d\x01\x80\x03\x01",
-    );
-}
-
-#[test]
-fn first_data_trb_of_a_read_of_128_blocks(rt: HostRuntime) {
-    let first = Trb::Normal {
-        pointer: 0x1_0001_0000,
-        length: 4096,
-        td_size: 31,
-        flags: TrbFlags::CH,
-    };
-    both_ways(
-        &rt,
-        first,
-        b"\x00\x00\x01\x00\x01\x00\x00\x00\x00\x10\x3e\x00\x11\x04\x00\x00",
-    );
-    assert!(rt; first.has_chain());
-}
-
-#[test]
-fn link_inside_a_td(rt: HostRuntime) {
-    let link = Trb::Link {
-        pointer: 0x4300_1000,
-        toggle: true,
-        chain: true,
-        ioc: false,
-    };
-    both_ways(
-        &rt,
-        link,
-        b"\x00\x10\x00\x43\x00\x00\x00\x00\x00\x00\x00\x00\x13\x18\x00\x00",
-    );
-    assert!(rt; link.has_chain());
-}
-
-#[test]
-fn the_two_engine_commands(rt: HostRuntime) {
-    let stop = Trb::StopEndpoint {
-        endpoint: 5,
-        slot: 1,
-    };
-    both_ways(
-        &rt,
-        stop,
-        b"\x00\x00\x00\x00\x00\x00\x00\x00\x00\x00\x00\x00\x01\x3c\x05\x01",
-    );
-    assert!(rt; !stop.has_chain());
-    let set = Trb::SetDequeue {
-        pointer: 0x4301_2030,
-        cycle: true,
-        stream: 18,
-        endpoint: 5,
-        slot: 1,
-    };
-    both_ways(
-        &rt,
-        set,
-        b"\x33\x20\x01\x43\x00\x00\x00\x00\x00\x00\x12\x00\x01\x40\x05\x01",
-    );
-    let done = Trb::CommandEvent {
-        pointer: 0x5000_0010,
-        code: 1,
-        slot: 1,
-    };
-    both_ways(
-        &rt,
-        done,
-        b"\x10\x00\x00\x50\x00\x00\x00\x00\x00\x00\x00\x01\x01\x84\x00\x01",
-    );
-}
-
-#[test]
-fn cycle_bit_0(rt: HostRuntime) {
-    let stop = Trb::StopEndpoint {
-        endpoint: 5,
-        slot: 1,
-    };
-    let bytes = b"\x00\x00\x00\x00\x00\x00\x00\x00\x00\x00\x00\x00\x00\x3c\x05\x01";
-    assert_eq!(rt; &encode(&stop, false), bytes);
-    assert_eq!(rt; decode(bytes), Ok((stop, false)));
-}
 
 // The bytes of three words.
 fn bytes_of(parameter: u64, status: u32, control: u32) -> [u8; 16] {
@@ -143,89 +17,149 @@ fn bytes_of(parameter: u64, status: u32, control: u32) -> [u8; 16] {
     bytes
 }
 
-// Row trb-faults.
-#[test]
-fn zeros_and_lengths(rt: HostRuntime) {
-    assert_eq!(rt; decode(&[0; 16]), Err(TrbFault::UnknownType(0)));
-    assert_eq!(rt;
-        decode(&bytes_of(0, 65537, 0x400)),
-        Err(TrbFault::LengthOver)
-    );
-    let longest = Trb::Normal {
-        pointer: 0,
-        length: 65536,
-        td_size: 0,
-        flags: TrbFlags(0),
-    };
-    assert_eq!(rt; decode(&bytes_of(0, 65536, 0x400)), Ok((longest, false)));
-    // the length comes before a reserved bit, here of the interrupter target
-    assert_eq!(rt;
-        decode(&bytes_of(0, 0x0041_0001, 0x400)),
-        Err(TrbFault::LengthOver)
-    );
+// The TRB with Cycle bit 1 is written as these words and read from them.
+fn both_ways(rt: &impl Abort, trb: Trb, words: (u64, u32, u32))
+    requires { HasText trb }
+{
+    let bytes = bytes_of(words.0, words.1, words.2);
+    assert_eq!(rt; encode(&trb, true), bytes);
+    assert_eq!(rt; decode(&bytes), Ok((trb, true)));
 }
 
-// Each reserved field of each TRB, by its lowest and its highest bit.
+fn normal(pointer: u64, length: u32, td_size: u8, flags: u8) -> Trb
+    ensures { result ≡ Normal pointer length td_size record { 0 = flags } }
+{
+    Trb::Normal {
+        pointer,
+        length,
+        td_size,
+        flags: TrbFlags(flags),
+    }
+}
+
+// Those of a command and a status on tag 1, and the first one of the data of a READ of 128 blocks.
+#[test]
+fn normal_trbs(rt: HostRuntime) {
+    both_ways(
+        &rt,
+        normal(0x1000_0100, 32, 0, 16),
+        (0x1000_0100, 32, 0x421),
+    );
+    both_ways(
+        &rt,
+        normal(0x2000_0100, 112, 0, 2 + 16),
+        (0x2000_0100, 112, 0x425),
+    );
+    let first = normal(0x1_0001_0000, 4096, 31, 8);
+    both_ways(&rt, first, (0x1_0001_0000, 0x3e_1000, 0x411));
+    assert!(rt; first.has_chain());
+}
+
+// The event of a command of the engine, a Link inside a TD, the command that moves the consumer of stream 18, and the event
+// of a Sense unit of 16 bytes.
+#[test]
+fn other_trbs(rt: HostRuntime) {
+    let done = Trb::CommandEvent {
+        pointer: 0x5000_0010,
+        code: 1,
+        slot: 1,
+    };
+    both_ways(&rt, done, (0x5000_0010, 0x0100_0000, 0x0100_8401));
+    let link = Trb::Link {
+        pointer: 0x4300_1000,
+        toggle: true,
+        chain: true,
+        ioc: false,
+    };
+    both_ways(&rt, link, (0x4300_1000, 0, 0x1813));
+    assert!(rt; link.has_chain());
+    let set = Trb::SetDequeue {
+        pointer: 0x4301_2030,
+        cycle: true,
+        stream: 18,
+        endpoint: 5,
+        slot: 1,
+    };
+    both_ways(&rt, set, (0x4301_2033, 0x12_0000, 0x0105_4001));
+    assert!(rt; !set.has_chain());
+    let sense = Trb::TransferEvent {
+        pointer: 0x4200_1000,
+        residual: 0x60,
+        code: 13,
+        endpoint: 3,
+        slot: 1,
+    };
+    both_ways(&rt, sense, (0x4200_1000, 0x0d00_0060, 0x0103_8001));
+}
+
+// Stop Endpoint with either Cycle bit, byte for byte.
+#[test]
+fn stop_endpoint(rt: HostRuntime) {
+    let stop = Trb::StopEndpoint {
+        endpoint: 5,
+        slot: 1,
+    };
+    both_ways(&rt, stop, (0, 0, 0x0105_3c01));
+    let bytes = b"\x00\x00\x00\x00\x00\x00\x00\x00\x00\x00\x00\x00\x00\x3c\x05\x01";
+    assert_eq!(rt; &encode(&stop, false), bytes);
+    assert_eq!(rt; decode(bytes), Ok((stop, false)));
+}
+
+// What decoding says: the fault, or the TRB.
+fn told(alloc: Global, parameter: u64, status: u32, control: u32) -> Result<String, AllocError> {
+    match decode(&bytes_of(parameter, status, control)) {
+        Ok((trb, _)) => format!(in alloc; "{trb:?}"),
+        Err(fault) => format!(in alloc; "{fault}"),
+    }
+}
+
+#[test]
+fn types_and_lengths(rt: HostRuntime) -> Result<(), Fail> {
+    for (status, control, text) in [
+        (0, 0, "TRB type 0 is not known"),
+        (0, 0xfc00, "TRB type 63 is not known"),
+        (65537, 0x400, "TRB transfer length above 65536"),
+        // the length comes before a reserved bit, here of the interrupter target
+        (0x0041_0001, 0x400, "TRB transfer length above 65536"),
+        (0x0040_0001, 0x400, "reserved TRB bit set"),
+    ] {
+        let found = told(rt.alloc(), 0, status, control)?;
+        assert_eq!(rt; found.as_str(), text);
+    }
+    let longest = decode(&bytes_of(0, 65536, 0x400));
+    assert_eq!(rt; longest, Ok((normal(0, 65536, 0, 0), false)));
+    Ok(())
+}
+
+// Each reserved field of each TRB, by its lowest and its highest bit; SCT of a dequeue pointer by all three. Of the 128
+// bits of a text the status has those from 64 on, the control word those from 96 on.
 #[test]
 fn reserved_fields(rt: HostRuntime) {
-    let reserved: [(u64, u32, u32); 45] = [
+    for (parameter, control, reserved) in [
         // Normal: interrupter target, control 8:7, 31:16
-        (0, 1 << 22, 0x400),
-        (0, 1 << 31, 0x400),
-        (0, 0, 0x480),
-        (0, 0, 0x500),
-        (0, 0, 0x1_0400),
-        (0, 0, 0x8000_0400),
+        (0, 0x400, [86, 95, 103, 104, 112, 127].as_slice()),
         // Link: parameter 3:0, status, control 3:2, 9:6, 31:16
-        (1, 0, 0x1800),
-        (8, 0, 0x1800),
-        (0, 1, 0x1800),
-        (0, 1 << 31, 0x1800),
-        (0, 0, 0x1804),
-        (0, 0, 0x1808),
-        (0, 0, 0x1840),
-        (0, 0, 0x1a00),
-        (0, 0, 0x1_1800),
-        (0, 0, 0x8000_1800),
+        (
+            0,
+            0x1800,
+            [0, 3, 64, 95, 98, 99, 102, 105, 112, 127].as_slice(),
+        ),
         // Stop Endpoint: parameter, status, control 9:1, 23:21
-        (1, 0, 0x3c00),
-        (1 << 63, 0, 0x3c00),
-        (0, 1, 0x3c00),
-        (0, 1 << 31, 0x3c00),
-        (0, 0, 0x3c02),
-        (0, 0, 0x3e00),
-        (0, 0, 0x20_3c00),
-        (0, 0, 0x80_3c00),
-        // Set TR Dequeue Pointer: SCT 0, 3 and 5, status 15:0, control 9:1, 23:21
-        (0, 0, 0x4000),
-        (6, 0, 0x4000),
-        (10, 0, 0x4000),
-        (2, 1, 0x4000),
-        (2, 1 << 15, 0x4000),
-        (2, 0, 0x4002),
-        (2, 0, 0x4200),
-        (2, 0, 0x20_4000),
-        (2, 0, 0x80_4000),
+        (0, 0x3c00, [0, 63, 64, 95, 97, 105, 117, 119].as_slice()),
+        // Set TR Dequeue Pointer: SCT, status 15:0, control 9:1, 23:21
+        (2, 0x4000, [1, 2, 3, 64, 79, 97, 105, 117, 119].as_slice()),
         // Transfer Event: control 9:1, 23:21
-        (0, 0, 0x8002),
-        (0, 0, 0x8200),
-        (0, 0, 0x20_8000),
-        (0, 0, 0x80_8000),
+        (0, 0x8000, [97, 105, 117, 119].as_slice()),
         // Command Completion Event: parameter 3:0, status 23:0, control 9:1, 23:16
-        (1, 0, 0x8400),
-        (8, 0, 0x8400),
-        (0, 1, 0x8400),
-        (0, 1 << 23, 0x8400),
-        (0, 0, 0x8402),
-        (0, 0, 0x8600),
-        (0, 0, 0x1_8400),
-        (0, 0, 0x80_8400),
-    ];
-    for (parameter, status, control) in reserved {
-        assert_eq!(rt;
-            decode(&bytes_of(parameter, status, control)),
-            Err(TrbFault::ReservedSet)
-        );
+        (0, 0x8400, [0, 3, 64, 87, 97, 105, 112, 119].as_slice()),
+    ] {
+        for bit in reserved {
+            let mut bytes = bytes_of(parameter, 0, control);
+            if let Some(byte) = bytes.get_mut(*bit / 8) {
+                *byte ^= 1 << (*bit % 8);
+            }
+            assert_eq!(rt; decode(&bytes), Err(TrbFault::ReservedSet), "{bit}");
+        }
     }
 }
 
@@ -234,12 +168,7 @@ fn flag_at(rt: &impl Abort, name: &str, control: u32) {
     let found = TrbFlags::from_name(name);
     assert!(rt; found.is_some());
     let read = decode(&bytes_of(0, 0, control));
-    let alone = Trb::Normal {
-        pointer: 0,
-        length: 0,
-        td_size: 0,
-        flags: found.unwrap_or(TrbFlags(0)),
-    };
+    let alone = normal(0, 0, 0, found.unwrap_or(TrbFlags(0)).0);
     assert_eq!(rt; read, Ok((alone, false)));
 }
 
@@ -279,18 +208,4 @@ fn every_low_control_half(rt: HostRuntime) {
             Err(fault) => assert_eq!(rt; standard(control), Some(fault)),
         }
     }
-}
-
-#[test]
-fn faults_say_why(rt: HostRuntime) -> Result<(), Fail> {
-    let texts = [
-        (TrbFault::UnknownType(63), "TRB type 63 is not known"),
-        (TrbFault::LengthOver, "TRB transfer length above 65536"),
-        (TrbFault::ReservedSet, "reserved TRB bit set"),
-    ];
-    for (fault, text) in texts {
-        let told = format!(in rt.alloc(); "{fault}")?;
-        assert_eq!(rt; told.as_str(), text);
-    }
-    Ok(())
 }

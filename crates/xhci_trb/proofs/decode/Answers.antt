@@ -24,7 +24,7 @@ no_fault bytes w fault trb cycle read faulty has is_text =
 
 pub returns-in_err-trb-clause-every_text : goal.returns-in_err-trb-clause-every_text
 returns-in_err-trb-clause-every_text c trb cycle has is_text =
-    absurd (no_fault c.args.bytes.now c.read_words-words.result _ trb cycle c.read_words-words.ensures c.in_err-trb.ensures.fault has is_text)
+    absurd (no_fault c.args.bytes.now c.read_words-words.result _ trb cycle c.read_words-words.ensures c.in_err-trb.ensures has is_text)
 
 pub returns-clause-found : goal.returns-clause-found
 returns-clause-found c =

@@ -3,9 +3,7 @@ use Rattle.scsi_cmd.specs.Laws.{AllHeld-held, AllHeld-set, held_at-read}
 use Rattle.solo_model.proofs.machine.carry_at.Goals as goal
 
 pub carry-requires : goal.carry-requires
-carry-requires c =
-    AllHeld-held (IsSound c.args.unit.now.count) c.args.tasks.now c.args.slot _ c.requires.sound (held_at-read _ _ _ _ c.requires.slot c.in-Some.is)
+carry-requires c = AllHeld-held (IsSound c.args.unit.now.count) _ _ _ c.requires.sound (held_at-read _ _ _ _ c.requires.slot c.in-Some.is)
 
 pub returns-in-Some-clause-sound : goal.returns-in-Some-clause-sound
-returns-in-Some-clause-sound c =
-    AllHeld-set (IsSound c.carry.new.unit.count) c.args.tasks.now c.args.slot _ (rw c.carry.ensures.count c.requires.sound) c.carry.ensures.sound
+returns-in-Some-clause-sound c = AllHeld-set (IsSound c.carry.new.unit.count) _ _ _ (rw c.carry.ensures.count c.requires.sound) c.carry.ensures.sound

@@ -1,4 +1,3 @@
-use Rattle.std.proofs.Common.{◌≡◌, ◌∙◌, ap, sym}
 use Rattle.solo_model.proofs.Carried.{sound-all}
 use Rattle.solo_model.proofs.machine.carry_slot.Goals as goal
 

@@ -1,9 +1,9 @@
-use Rattle.std.proofs.Common.{◌≡◌, ◌∙◌, ◌+◌, ap, arith, length, take, length-take-le, ◌++◌}
+use Rattle.std.proofs.Common.{◌≡◌, ◌∙◌, ap, arith, length, take, length-take-le, ◌++◌}
 use Rattle.std.specs.Prelude.{option_map, option_to_list}
 use Rattle.std.proofs.Math.Seq.{take-length}
 use Rattle.solo_model.specs.TaggedTask.{TaggedTask}
 use Rattle.solo_model.specs.Solo.{tickets_of}
-use Rattle.solo_model.proofs.Mapped.{filtered-length, filtered-more}
+use Rattle.solo_model.proofs.Filtered.{filtered-length, filtered-more}
 use Rattle.solo_model.proofs.machine.tickets_in.Goals as goal
 
 pub note-requires : goal.note-requires
@@ -19,8 +19,8 @@ note-requires c =
 
 pub loop-task-preserved : goal.loop-task-preserved
 loop-task-preserved c =
-    filtered-more (option_map (λ (task : TaggedTask). task.ticket)) c.loop-task.task-index c.args.tasks.now c.task-item.result c.note.new.tickets.items c.ticket_of.result
-    c.loop-task-test.true (c.note.ensures ∙ ap (λ before. before ++ option_to_list c.ticket_of.result) c.loop-task.invariant)
+    filtered-more (option_map (λ (task : TaggedTask). task.ticket)) c.loop-task.task-index c.args.tasks.now c.task-item.result c.note.new.tickets.items
+    c.ticket_of.result c.loop-task-test.true (c.note.ensures ∙ ap (λ before. before ++ option_to_list c.ticket_of.result) c.loop-task.invariant)
     (c.ticket_of.ensures ∙ ap (option_map (λ (task : TaggedTask). task.ticket)) c.task-item.is)
 
 pub returns : goal.returns

@@ -70,11 +70,4 @@ returns-clause-own c =
 
 pub returns-clause-free : goal.returns-clause-free
 returns-clause-free c =
-    let old = c.args.seat.now in
-    let new = the_view (record {
-      client = c.seat.inside.client;
-      least_ticket = c.seat.inside.least_ticket;
-      lines = with_item c.seat.inside.lines
-          ((c.from-index.result - 1) % 8) c.look.new.self;
-    }) in
-    if_some (new ≡ old) c.look.result (λ slip reaps. free_reaping old new c.args.tag slip reaps) (returns-clause-slip c)
+    if_some _ c.look.result (λ slip reaps. free_reaping c.args.seat.now _ c.args.tag slip reaps) (returns-clause-slip c)

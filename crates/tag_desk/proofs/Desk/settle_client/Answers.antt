@@ -23,21 +23,17 @@ settle-requires-clause-table c =
 
 pub add-requires : goal.add-requires
 add-requires c =
-    let lines = c.seat.inside.lines in
     let made = c.into_iter-line-iterator.ensures.into_iter_gives in
-    let len = lines.ok.0 in
-    let item = YieldsList-turn (YieldsList-from_vec lines.items made.0
-    (cc)) c.loop-line.yielded c.loop-line.line-iterator c.loop-line.yielded_by c.next.result c.next.new.self c.in-Some.line c.in-Some.is c.next.ensures.steps in
-    let h = item.0 in
-    let whole = c.seat.invariant.0 in
-    less_room (0 + (8 - length c.loop-line.yielded)) 1 c.loop-line.lists (omega arith) (c.loop-line.invariant.room 0 c.requires.room)
+    let item = YieldsList-turn (YieldsList-from_vec c.seat.inside.lines.items made.0 (let len = c.seat.inside.lines.ok.0 in cc))
+    c.loop-line.yielded c.loop-line.line-iterator c.loop-line.yielded_by c.next.result c.next.new.self c.in-Some.line c.in-Some.is c.next.ensures.steps in
+    let fits = let h = item.0 in let whole = c.seat.invariant.0 in less_room (0 + (8 - length c.loop-line.yielded)) 1 c.loop-line.lists (omega arith) in
+    fits (c.loop-line.invariant.room 0 c.requires.room)
 
 pub loop-line-preserved : goal.loop-line-preserved
 loop-line-preserved c =
-    let lines = c.seat.inside.lines in
     let made = c.into_iter-line-iterator.ensures.into_iter_gives in
-    let len = lines.ok.0 in
-    let item = YieldsList-turn (YieldsList-from_vec lines.items made.0
+    let len = c.seat.inside.lines.ok.0 in
+    let item = YieldsList-turn (YieldsList-from_vec c.seat.inside.lines.items made.0
     (cc)) c.loop-line.yielded c.loop-line.line-iterator c.loop-line.yielded_by c.next.result c.next.new.self c.in-Some.line c.in-Some.is c.next.ensures.steps in
     let h = item.0 in
     let whole = c.seat.invariant.0 in

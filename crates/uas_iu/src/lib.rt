@@ -28,99 +28,82 @@ mod writer;
 
 use arrayvec::ArrayVec;
 pub use lun::{lun_bytes, lun_number};
-pub use reader::read;
+pub use reader::{answer_head, read};
 use thiserror::Error;
-pub use writer::write;
+pub use writer::{write, write_sense};
 
 /// Byte 0 of a Command unit.
 pub const COMMAND_ID: u8 = 0x01;
 
-const _: () = prove!(COMMAND_ID == 0x01);
-
 /// Byte 0 of a Sense unit.
 pub const SENSE_ID: u8 = 0x03;
-
-const _: () = prove!(SENSE_ID == 0x03);
 
 /// Byte 0 of a Response unit.
 pub const RESPONSE_ID: u8 = 0x04;
 
-const _: () = prove!(RESPONSE_ID == 0x04);
-
 /// Byte 0 of a Task Management unit.
 pub const TASK_ID: u8 = 0x05;
 
-const _: () = prove!(TASK_ID == 0x05);
+const _: () = prove!(COMMAND_ID == 0x01 && SENSE_ID == 0x03);
 
-/// The bytes of a logical unit number.
-pub const LUN_BYTES: usize = 8;
-
-const _: () = prove!(LUN_BYTES == 8);
-
-/// The bytes of a CDB's place, which a shorter CDB fills from the front.
-pub const CDB_BYTES: usize = 16;
-
-const _: () = prove!(CDB_BYTES == 16);
+const _: () = prove!(RESPONSE_ID == 0x04 && TASK_ID == 0x05);
 
 /// The bytes of a Command unit.
 pub const COMMAND_BYTES: usize = 32;
 
-const _: () = prove!(COMMAND_BYTES == 32);
-
 /// The bytes of a Sense unit before its sense.
 pub const SENSE_HEADER_BYTES: usize = 16;
-
-const _: () = prove!(SENSE_HEADER_BYTES == 16);
 
 /// The greatest number of sense bytes.
 pub const MAX_SENSE_BYTES: usize = 96;
 
-const _: () = prove!(MAX_SENSE_BYTES == 96);
-
 /// The bytes of a Response unit.
 pub const RESPONSE_BYTES: usize = 8;
-
-const _: () = prove!(RESPONSE_BYTES == 8);
 
 /// The bytes of a Task Management unit.
 pub const TASK_BYTES: usize = 16;
 
-const _: () = prove!(TASK_BYTES == 16);
-
 /// The bytes of the longest unit, a Sense unit with all its sense.
 pub const MAX_UNIT_BYTES: usize = 112;
 
-const _: () = prove!(MAX_UNIT_BYTES == 112);
+/// The bytes of a logical unit number.
+pub const LUN_BYTES: usize = 8;
+
+/// The bytes of a CDB's place, which a shorter CDB fills from the front.
+pub const CDB_BYTES: usize = 16;
+
+const _: () = prove!(COMMAND_BYTES == 32 && SENSE_HEADER_BYTES == 16 && MAX_SENSE_BYTES == 96);
+
+const _: () = prove!(RESPONSE_BYTES == 8 && TASK_BYTES == 16 && MAX_UNIT_BYTES == 112);
+
+const _: () = prove!(LUN_BYTES == 8 && CDB_BYTES == 16);
 
 /// Response code: the task management function was carried out.
 pub const TASK_COMPLETE: u8 = 0x00;
 
-const _: () = prove!(TASK_COMPLETE == 0x00);
-
 /// Response code: the unit that came could not be read.
 pub const INVALID_INFORMATION_UNIT: u8 = 0x02;
-
-const _: () = prove!(INVALID_INFORMATION_UNIT == 0x02);
 
 /// Response code: the task management function is not supported.
 pub const NOT_SUPPORTED: u8 = 0x04;
 
-const _: () = prove!(NOT_SUPPORTED == 0x04);
-
 /// Response code: there is no such logical unit.
 pub const INCORRECT_LUN: u8 = 0x09;
 
-const _: () = prove!(INCORRECT_LUN == 0x09);
+const _: () = prove!(
+    TASK_COMPLETE == 0x00
+        && INVALID_INFORMATION_UNIT == 0x02
+        && NOT_SUPPORTED == 0x04
+        && INCORRECT_LUN == 0x09
+);
 
 /// Task management function: end the task with a given tag.
 pub const ABORT_TASK: u8 = 0x01;
 
-const _: () = prove!(ABORT_TASK == 0x01);
-
 /// Task management function: end all tasks of a logical unit and reset it.
 pub const LOGICAL_UNIT_RESET: u8 = 0x08;
 
-const _: () = prove!(LOGICAL_UNIT_RESET == 0x08);
+const _: () = prove!(ABORT_TASK == 0x01 && LOGICAL_UNIT_RESET == 0x08);
 
 /// An information unit. A `tag` names the task that it belongs to, and a `lun` is the eight bytes of
 /// a logical unit number, as [`lun_bytes`] gives them.
@@ -150,6 +133,15 @@ pub enum Iu {
         task_tag: u16,
         lun: [u8; LUN_BYTES],
     },
+}
+
+/// What a unit from the device tells, but for the sense.
+#[derive(Clone, Copy, Debug, PartialEq, Eq)]
+pub enum AnswerHead {
+    /// A Sense unit's.
+    Sense { tag: u16, status: u8 },
+    /// A Response unit's.
+    Response { tag: u16, code: u8 },
 }
 
 /// Why bytes are no information unit. They are tested in this order, and the first that holds is

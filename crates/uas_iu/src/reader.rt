@@ -1,14 +1,15 @@
 //! From bytes to the unit whose text they are, or to their first fault.
-ghost use Rattle.std.specs.Prelude.{◌≡◌, ◌+◌, ◌*◌, ◌≤◌, ◌++◌, not, ◌==◌, length, drop, slice_index, Ok, IfOk};
+ghost use Rattle.std.specs.Prelude.{◌≡◌, ◌+◌, ◌*◌, ◌≤◌, ◌++◌, not, ◌==◌, false, length, drop, slice_index, IfNone, Ok, IfOk};
 ghost use Rattle.std.specs.List.{list_any};
 ghost use Rattle.std.specs.Result.{result_err};
-ghost use Rattle.uas_iu.specs.Faults.{first_fault, identifier};
+ghost use Rattle.uas_iu.specs.Faults.{first_fault, identifier, reserved_places};
+ghost use Rattle.uas_iu.specs.Heads.{answer_head};
 ghost use Rattle.uas_iu.specs.Units.{Fits, IsTextOf, unit_text};
 ghost use Rattle.uas_iu.specs.declared.Iu.{Iu};
 
 use crate::{
-    COMMAND_BYTES, COMMAND_ID, Iu, IuFault, MAX_UNIT_BYTES, RESPONSE_BYTES, RESPONSE_ID,
-    SENSE_HEADER_BYTES, SENSE_ID, TASK_BYTES, TASK_ID,
+    AnswerHead, COMMAND_BYTES, COMMAND_ID, Iu, IuFault, MAX_UNIT_BYTES, RESPONSE_BYTES,
+    RESPONSE_ID, SENSE_HEADER_BYTES, SENSE_ID, TASK_BYTES, TASK_ID,
 };
 use arrayvec::ArrayVec;
 
@@ -55,6 +56,21 @@ pub fn read(bytes: &[u8]) -> Result<Iu, IuFault>
     };
     match *id {
         COMMAND_ID => read_command(bytes),
+        id => read_other(id, bytes),
+    }
+}
+
+/// The unit of bytes that aren't a Command unit's: those are read in place, and others by a call.
+#[tactic(auto, unfolding(crate::specs::Faults::first_fault))]
+#[inline(never)]
+fn read_other(id: u8, bytes: &[u8]) -> Result<Iu, IuFault>
+    requires some { 1 ≤ length bytes.now }
+    requires id { identifier bytes.now ≡ id }
+    requires other { id == 1 ≡ false }
+    ensures fault { result_err result ≡ first_fault bytes.now }
+    ensures found { IfOk result (λ unit. IsTextOf bytes.now unit) }
+{
+    match id {
         SENSE_ID => read_sense(bytes),
         RESPONSE_ID => read_response(bytes),
         TASK_ID => read_task(bytes),
@@ -88,24 +104,39 @@ fn read_command(bytes: &[u8]) -> Result<Iu, IuFault>
     })
 }
 
-#[tactic(auto, unfolding(crate::specs::Faults::first_fault, crate::specs::Units::unit_text))]
+/// The first fault of bytes with the identifier of a Sense unit.
+#[tactic(auto, unfolding(crate::specs::Faults::first_fault))]
 #[inline(always)]
+fn sense_fault(bytes: &[u8]) -> Option<IuFault>
+    requires { identifier bytes.now ≡ 3 }
+    ensures fault { result ≡ first_fault bytes.now }
+    ensures size { IfNone result ((16 ≤ length bytes.now) × (length bytes.now ≤ 112)
+        × (16 + (slice_index bytes.now 14 * 256 + slice_index bytes.now 15) ≡ length bytes.now)) }
+    ensures zeros { IfNone result (list_any (λ place. not (slice_index bytes.now place == 0)) (reserved_places 3) ≡ false) }
+{
+    if bytes.len() < SENSE_HEADER_BYTES {
+        return Some(IuFault::Short);
+    }
+    if bytes.len() > MAX_UNIT_BYTES {
+        return Some(IuFault::Long);
+    }
+    if is_any_set(bytes, &SENSE_ZEROS) {
+        return Some(IuFault::ReservedSet);
+    }
+    if SENSE_HEADER_BYTES + usize::from(number_at(bytes, SENSE_LENGTH_PLACE)) != bytes.len() {
+        return Some(IuFault::LengthField);
+    }
+    None
+}
+
+#[tactic(auto, unfolding(crate::specs::Faults::first_fault, crate::specs::Units::unit_text))]
 fn read_sense(bytes: &[u8]) -> Result<Iu, IuFault>
     requires { identifier bytes.now ≡ 3 }
     ensures fault { result_err result ≡ first_fault bytes.now }
     ensures found { IfOk result (λ unit. IsTextOf bytes.now unit) }
 {
-    if bytes.len() < SENSE_HEADER_BYTES {
-        return Err(IuFault::Short);
-    }
-    if bytes.len() > MAX_UNIT_BYTES {
-        return Err(IuFault::Long);
-    }
-    if is_any_set(bytes, &SENSE_ZEROS) {
-        return Err(IuFault::ReservedSet);
-    }
-    if SENSE_HEADER_BYTES + usize::from(number_at(bytes, SENSE_LENGTH_PLACE)) != bytes.len() {
-        return Err(IuFault::LengthField);
+    if let Some(fault) = sense_fault(bytes) {
+        return Err(fault);
     }
     let mut sense = ArrayVec::new();
     for byte in &bytes[SENSE_HEADER_BYTES..] {
@@ -118,20 +149,34 @@ fn read_sense(bytes: &[u8]) -> Result<Iu, IuFault>
     })
 }
 
+/// The first fault of bytes with the identifier of a Response unit.
+#[tactic(auto, unfolding(crate::specs::Faults::first_fault))]
+fn response_fault(bytes: &[u8]) -> Option<IuFault>
+    requires { identifier bytes.now ≡ 4 }
+    ensures fault { result ≡ first_fault bytes.now }
+    ensures size { IfNone result (length bytes.now ≡ 8) }
+    ensures zeros { IfNone result (list_any (λ place. not (slice_index bytes.now place == 0)) (reserved_places 4) ≡ false) }
+{
+    if bytes.len() < RESPONSE_BYTES {
+        return Some(IuFault::Short);
+    }
+    if bytes.len() > RESPONSE_BYTES {
+        return Some(IuFault::Long);
+    }
+    if is_any_set(bytes, &RESPONSE_ZEROS) {
+        return Some(IuFault::ReservedSet);
+    }
+    None
+}
+
 #[tactic(auto, unfolding(crate::specs::Faults::first_fault, crate::specs::Units::unit_text))]
 fn read_response(bytes: &[u8]) -> Result<Iu, IuFault>
     requires { identifier bytes.now ≡ 4 }
     ensures fault { result_err result ≡ first_fault bytes.now }
     ensures found { IfOk result (λ unit. IsTextOf bytes.now unit) }
 {
-    if bytes.len() < RESPONSE_BYTES {
-        return Err(IuFault::Short);
-    }
-    if bytes.len() > RESPONSE_BYTES {
-        return Err(IuFault::Long);
-    }
-    if is_any_set(bytes, &RESPONSE_ZEROS) {
-        return Err(IuFault::ReservedSet);
+    if let Some(fault) = response_fault(bytes) {
+        return Err(fault);
     }
     Ok(Iu::Response {
         tag: number_at(bytes, TAG_PLACE),
@@ -160,6 +205,26 @@ fn read_task(bytes: &[u8]) -> Result<Iu, IuFault>
         task_tag: number_at(bytes, TASK_TAG_PLACE),
         lun: array_at(bytes, LUN_PLACE),
     })
+}
+
+/// The tag of a Sense or a Response unit with its status or its code, where the bytes are one. The sense of a Sense unit
+/// is all that comes after its first 16 bytes, and is left there.
+#[tactic(auto, unfolding(crate::specs::Faults::first_fault))]
+#[inline(always)]
+pub fn answer_head(bytes: &[u8]) -> Option<AnswerHead>
+    ensures { result ≡ answer_head bytes.now }
+{
+    match bytes {
+        [SENSE_ID, ..] if sense_fault(bytes).is_none() => Some(AnswerHead::Sense {
+            tag: number_at(bytes, TAG_PLACE),
+            status: bytes[STATUS_PLACE],
+        }),
+        [RESPONSE_ID, ..] if response_fault(bytes).is_none() => Some(AnswerHead::Response {
+            tag: number_at(bytes, TAG_PLACE),
+            code: bytes[CODE_PLACE],
+        }),
+        _ => None,
+    }
 }
 
 /// Whether a byte at one of `places` is not 0.

@@ -1,5 +1,6 @@
 //! Worked units, and each fault at each identifier.
 use super::*;
+use std::alloc::{AllocError, Global};
 use std::process::Abort;
 use std::test::Fail;
 
@@ -185,6 +186,35 @@ fn length_fields(rt: HostRuntime) {
     assert_fault(&rt, &sense, IuFault::LengthField);
 }
 
+/// What the fault of these bytes says; nothing where they are a unit.
+fn told(alloc: Global, text: &[u8]) -> Result<String, AllocError> {
+    let Err(fault) = read(text) else {
+        return Ok(String::new(alloc));
+    };
+    format!(in alloc; "{fault}")
+}
+
+#[test]
+fn faults_say_why(rt: HostRuntime) -> Result<(), Fail> {
+    let mut text = [0; 33];
+    assert_eq!(rt; told(rt.alloc(), &text)?.as_str(), "unknown identifier");
+    text[0] = 0x01;
+    assert_eq!(rt; told(rt.alloc(), &text)?.as_str(), "too many bytes");
+    assert_eq!(rt; told(rt.alloc(), &text[..31])?.as_str(), "too few bytes");
+    assert_eq!(rt; told(rt.alloc(), &text[..32])?.as_str(), "");
+    text[6] = 0x04;
+    assert_eq!(rt;
+        told(rt.alloc(), &text[..32])?.as_str(),
+        "wrong length field"
+    );
+    text[4] = 0x80;
+    assert_eq!(rt;
+        told(rt.alloc(), &text[..32])?.as_str(),
+        "reserved byte set"
+    );
+    Ok(())
+}
+
 // Where two faults hold, the first of their order is told.
 #[test]
 fn order_of_faults(rt: HostRuntime) {
@@ -214,20 +244,4 @@ fn unit_numbers(rt: HostRuntime) {
         lun_number(&[0x00, 0x1e, 0x00, 0x00, 0x00, 0x00, 0x00, 0x01]),
         None
     );
-}
-
-#[test]
-fn faults_say_why(rt: HostRuntime) -> Result<(), Fail> {
-    let texts = [
-        (IuFault::UnknownId, "unknown identifier"),
-        (IuFault::Short, "too few bytes"),
-        (IuFault::Long, "too many bytes"),
-        (IuFault::ReservedSet, "reserved byte set"),
-        (IuFault::LengthField, "wrong length field"),
-    ];
-    for (fault, text) in texts {
-        let told = format!(in rt.alloc(); "{fault}")?;
-        assert_eq!(rt; told.as_str(), text);
-    }
-    Ok(())
 }

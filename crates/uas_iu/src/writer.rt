@@ -2,8 +2,9 @@
 ghost use Rattle.std.specs.Prelude.{◌≡◌, ◌+◌, ◌≤◌, ◌++◌, length};
 ghost use Rattle.arrayvec.specs.ArrayVec.{array_vec_len};
 ghost use Rattle.uas_iu.specs.Units.{Fits, unit_text};
+ghost use Rattle.uas_iu.specs.declared.Iu.TheVariants.{Sense};
 
-use crate::{COMMAND_ID, Iu, MAX_UNIT_BYTES, RESPONSE_ID, SENSE_ID, TASK_ID};
+use crate::{COMMAND_ID, Iu, MAX_SENSE_BYTES, MAX_UNIT_BYTES, RESPONSE_ID, SENSE_ID, TASK_ID};
 use arrayvec::ArrayVec;
 
 /// Writes the bytes of `unit` into `out`, which is asked to be empty and has room for every unit
@@ -23,14 +24,7 @@ pub fn write(unit: &Iu, out: &mut ArrayVec<u8, MAX_UNIT_BYTES>)
             put(out, lun);
             put(out, cdb);
         }
-        Iu::Sense { tag, status, sense } => {
-            put(out, &[SENSE_ID, 0]);
-            put(out, &tag.to_be_bytes());
-            put(out, &[0, 0, *status]);
-            put(out, &[0; 7]);
-            put(out, &(sense.len() as u16).to_be_bytes());
-            put(out, sense);
-        }
+        Iu::Sense { tag, status, sense } => write_sense(*tag, *status, sense, out),
         Iu::Response { tag, code } => {
             put(out, &[RESPONSE_ID, 0]);
             put(out, &tag.to_be_bytes());
@@ -49,6 +43,24 @@ pub fn write(unit: &Iu, out: &mut ArrayVec<u8, MAX_UNIT_BYTES>)
             put(out, lun);
         }
     }
+}
+
+/// Writes the bytes of the Sense unit of this tag, status and sense into `out`, which is asked to be empty, as [`write`]
+/// does.
+#[tactic(auto, unfolding(crate::specs::Units::unit_text))]
+#[inline(always)]
+pub fn write_sense(tag: u16, status: u8, sense: &[u8], out: &mut ArrayVec<u8, MAX_UNIT_BYTES>)
+    requires empty { array_vec_len out.old ≡ 0 }
+    requires room { length sense.now ≤ MAX_SENSE_BYTES }
+    ensures text { out.new.items ≡ unit_text (Sense tag status (record { items = sense.now })) }
+    ensures fits { Fits (Sense tag status (record { items = sense.now })) }
+{
+    put(out, &[SENSE_ID, 0]);
+    put(out, &tag.to_be_bytes());
+    put(out, &[0, 0, status]);
+    put(out, &[0; 7]);
+    put(out, &(sense.len() as u16).to_be_bytes());
+    put(out, sense);
 }
 
 /// Appends `bytes`, for which there is room.

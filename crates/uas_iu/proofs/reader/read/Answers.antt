@@ -7,7 +7,3 @@ use Rattle.uas_iu.proofs.Laws.{every_text_found}
 pub returns-in_default-clause-only : goal.returns-in_default-clause-only
 unfolding first_fault
 returns-in_default-clause-only c = every_text_found c.args.bytes.now _ (grind (arith, common_steps)) tt
-
-pub returns-in_default-id-clause-only : goal.returns-in_default-id-clause-only
-unfolding first_fault
-returns-in_default-id-clause-only c = every_text_found c.args.bytes.now _ (grind (arith, common_steps)) tt

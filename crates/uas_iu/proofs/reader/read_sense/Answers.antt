@@ -1,4 +1,4 @@
-use Rattle.std.proofs.Common.{arith, sym, ◌∙◌}
+use Rattle.std.proofs.Common.{◌≡◌, ◌+◌, ◌*◌, ◌≤◌, arith, length, slice_index}
 use Rattle.std.proofs.lemmas.Grind.{common_steps}
 use Rattle.uas_iu.specs.Faults.{reserved_places}
 use Rattle.uas_iu.specs.Units.{unit_text}
@@ -9,6 +9,9 @@ pub returns-clause-found : goal.returns-clause-found
 unfolding unit_text
 returns-clause-found c =
     let bytes = c.args.bytes.now in
-    let header = first_eight bytes (omega arith) in
-    let zeros = none_set bytes (reserved_places 3) (sym c.is_any_set.ensures ∙ c.if-is_any_set.false) in
+    let least : 16 ≤ length bytes = c.in_default.ensures.size.0 in
+    let most : length bytes ≤ 112 = c.in_default.ensures.size.1 in
+    let whole : 16 + (slice_index bytes 14 * 256 + slice_index bytes 15) ≡ length bytes = c.in_default.ensures.size.2 in
+    let header = first_eight bytes (omega (arith, least)) in
+    let zeros = none_set bytes (reserved_places 3) c.in_default.ensures.zeros in
     grind (arith, common_steps)

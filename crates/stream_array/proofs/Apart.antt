@@ -13,28 +13,15 @@ record Bounds (pipe : Pipe) (stream place : ℕ) : Type 0 where
 
 bounds : (pipe : Pipe) (stream place : ℕ) → IsPlace pipe stream place → Bounds pipe stream place
 bounds Command stream place h = record { least = omega arith; most = omega arith; streams = omega arith; places = omega arith }
-bounds Status stream place h = record { least = omega arith; most = omega arith; streams = omega arith; places = omega arith }
-bounds DataIn stream place h = record { least = omega arith; most = omega arith; streams = omega arith; places = omega arith }
-bounds DataOut stream place h = record { least = omega arith; most = omega arith; streams = omega arith; places = omega arith }
+bounds pipe stream place h = record { least = omega arith; most = omega arith; streams = omega arith; places = omega arith }
 
 -- a pipe by its number
 same_pipe : (p q : Pipe) → number_of p ≡ number_of q → p ≡ q
 same_pipe Command Command e = refl
-same_pipe Command Status e = absurd (omega arith)
-same_pipe Command DataIn e = absurd (omega arith)
-same_pipe Command DataOut e = absurd (omega arith)
-same_pipe Status Command e = absurd (omega arith)
 same_pipe Status Status e = refl
-same_pipe Status DataIn e = absurd (omega arith)
-same_pipe Status DataOut e = absurd (omega arith)
-same_pipe DataIn Command e = absurd (omega arith)
-same_pipe DataIn Status e = absurd (omega arith)
 same_pipe DataIn DataIn e = refl
-same_pipe DataIn DataOut e = absurd (omega arith)
-same_pipe DataOut Command e = absurd (omega arith)
-same_pipe DataOut Status e = absurd (omega arith)
-same_pipe DataOut DataIn e = absurd (omega arith)
 same_pipe DataOut DataOut e = refl
+same_pipe p q e = absurd (omega arith)
 
 -- two places with a byte in common are one
 pub same_spot : (a b : Spot) (address : ℕ) → IsSpot a → IsSpot b → IsByteOf a address → IsByteOf b address → a ≡ b

@@ -1,6 +1,6 @@
 -- A ring that was changed, and the others.
 use Rattle.std.proofs.Common.{◌≡◌, ◌≢◌, ℕ, ◌-◌, ◌<◌, ◌≤◌, List, length, slice_set, length-set, get_or-set_same, get_or-set_other, refl}
-use Rattle.std.proofs.Common.{sym, ◌∙◌, arith, inl, inr}
+use Rattle.std.proofs.Common.{sym, ap, ◌∙◌, arith, inl, inr}
 use Rattle.std.proofs.lemmas.Bool.{cases_eq, cases_lt}
 use Rattle.cycle_ring.specs.Ring.{Ring, opening}
 use Rattle.event_ring.specs.Events.{Events}
@@ -27,21 +27,10 @@ stream_ring-other rings stream another r some also differ =
 -- any other ring
 pub ring_of-others : OtherRingsAreKept
 ring_of-others l Command Command stream another r has also apart = absurd (apart refl (omega arith))
-ring_of-others l Command Status stream another r has also apart = refl
-ring_of-others l Command DataIn stream another r has also apart = refl
-ring_of-others l Command DataOut stream another r has also apart = refl
-ring_of-others l Status Command stream another r has also apart = refl
 ring_of-others l Status Status stream another r has also apart = stream_ring-other l.status stream another r has.0 also.0 (apart refl)
-ring_of-others l Status DataIn stream another r has also apart = refl
-ring_of-others l Status DataOut stream another r has also apart = refl
-ring_of-others l DataIn Command stream another r has also apart = refl
-ring_of-others l DataIn Status stream another r has also apart = refl
 ring_of-others l DataIn DataIn stream another r has also apart = stream_ring-other l.data_in stream another r has.0 also.0 (apart refl)
-ring_of-others l DataIn DataOut stream another r has also apart = refl
-ring_of-others l DataOut Command stream another r has also apart = refl
-ring_of-others l DataOut Status stream another r has also apart = refl
-ring_of-others l DataOut DataIn stream another r has also apart = refl
 ring_of-others l DataOut DataOut stream another r has also apart = stream_ring-other l.data_out stream another r has.0 also.0 (apart refl)
+ring_of-others l pipe other stream another r has also apart = refl
 
 -- contexts of the same rings, and of rings of which one was changed
 entry_of-shown : (rings : List Ring) (old new : Contexts) (stream another : ℕ) (r : Ring) → 0 < stream → stream ≢ another
@@ -101,60 +90,45 @@ stream_ring-base rings stream another base r some last also changed kept =
 base_kept : (l : LinesState) (pipe other : Pipe) (stream another : ℕ) (r : Ring) → IsLines l → HasRing pipe stream → HasRing other another
     → r.base ≡ ring_base pipe stream → (ring_of (with_ring l pipe stream r) other another).base ≡ ring_base other another
 base_kept l Command Command stream another r lines has also e = omega arith
-base_kept l Command Status stream another r lines has also e = lines.base Status another also
-base_kept l Command DataIn stream another r lines has also e = lines.base DataIn another also
-base_kept l Command DataOut stream another r lines has also e = lines.base DataOut another also
-base_kept l Status Command stream another r lines has also e = lines.base Command another also
 base_kept l Status Status stream another r lines has also e =
     stream_ring-base l.status stream another _ r has.0 (omega (arith, lines.status)) also.0 (λ same. omega arith) (lines.base Status another also)
-base_kept l Status DataIn stream another r lines has also e = lines.base DataIn another also
-base_kept l Status DataOut stream another r lines has also e = lines.base DataOut another also
-base_kept l DataIn Command stream another r lines has also e = lines.base Command another also
-base_kept l DataIn Status stream another r lines has also e = lines.base Status another also
 base_kept l DataIn DataIn stream another r lines has also e =
     stream_ring-base l.data_in stream another _ r has.0 (omega (arith, lines.data_in)) also.0 (λ same. omega arith) (lines.base DataIn another also)
-base_kept l DataIn DataOut stream another r lines has also e = lines.base DataOut another also
-base_kept l DataOut Command stream another r lines has also e = lines.base Command another also
-base_kept l DataOut Status stream another r lines has also e = lines.base Status another also
-base_kept l DataOut DataIn stream another r lines has also e = lines.base DataIn another also
 base_kept l DataOut DataOut stream another r lines has also e =
     stream_ring-base l.data_out stream another _ r has.0 (omega (arith, lines.data_out)) also.0 (λ same. omega arith) (lines.base DataOut another also)
+base_kept l pipe other stream another r lines has also e = lines.base other another also
+
+-- as many rings as before, and the controller's command ring as it was
+sizes_kept : (l : LinesState) (pipe : Pipe) (stream : ℕ) (r : Ring) → (length (with_ring l pipe stream r).status ≡ length l.status)
+    × (length (with_ring l pipe stream r).data_in ≡ length l.data_in) × (length (with_ring l pipe stream r).data_out ≡ length l.data_out)
+    × ((with_ring l pipe stream r).engine ≡ l.engine)
+sizes_kept l Command stream r = (refl, refl, refl, refl)
+sizes_kept l Status stream r = (length-set l.status (stream - 1) r, refl, refl, refl)
+sizes_kept l DataIn stream r = (refl, length-set l.data_in (stream - 1) r, refl, refl)
+sizes_kept l DataOut stream r = (refl, refl, length-set l.data_out (stream - 1) r, refl)
 
 pub IsLines-with_ring : RingsStayInPlace
-IsLines-with_ring l Command stream r lines has e = record {
-  status = lines.status;
-  data_in = lines.data_in;
-  data_out = lines.data_out;
-  base = λ other another also. base_kept l Command other stream another r lines has also e;
-  engine = lines.engine;
-}
-IsLines-with_ring l Status stream r lines has e = record {
-  status = length-set l.status (stream - 1) r ∙ lines.status;
-  data_in = lines.data_in;
-  data_out = lines.data_out;
-  base = λ other another also. base_kept l Status other stream another r lines has also e;
-  engine = lines.engine;
-}
-IsLines-with_ring l DataIn stream r lines has e = record {
-  status = lines.status;
-  data_in = length-set l.data_in (stream - 1) r ∙ lines.data_in;
-  data_out = lines.data_out;
-  base = λ other another also. base_kept l DataIn other stream another r lines has also e;
-  engine = lines.engine;
-}
-IsLines-with_ring l DataOut stream r lines has e = record {
-  status = lines.status;
-  data_in = lines.data_in;
-  data_out = length-set l.data_out (stream - 1) r ∙ lines.data_out;
-  base = λ other another also. base_kept l DataOut other stream another r lines has also e;
-  engine = lines.engine;
-}
+IsLines-with_ring l pipe stream r lines has e =
+    let sizes = sizes_kept l pipe stream r in
+    record {
+      status = sizes.0 ∙ lines.status;
+      data_in = sizes.1 ∙ lines.data_in;
+      data_out = sizes.2 ∙ lines.data_out;
+      base = λ other another also. base_kept l pipe other stream another r lines has also e;
+      engine = ap (λ (engine : Ring). engine.base) sizes.3 ∙ lines.engine;
+    }
 
+-- the same rings on the four pipes
+rings_by_pipe : (new old : LinesState) (pipe : Pipe) (stream : ℕ) → new.command ≡ old.command → new.status ≡ old.status → new.data_in ≡ old.data_in
+    → new.data_out ≡ old.data_out → ring_of new pipe stream ≡ ring_of old pipe stream
+rings_by_pipe new old Command stream command status data_in data_out = command
+rings_by_pipe new old Status stream command status data_in data_out = ap (λ (rings : List Ring). stream_ring rings stream) status
+rings_by_pipe new old DataIn stream command status data_in data_out = ap (λ (rings : List Ring). stream_ring rings stream) data_in
+rings_by_pipe new old DataOut stream command status data_in data_out = ap (λ (rings : List Ring). stream_ring rings stream) data_out
+
+-- the controller's command ring and the event ring beside them
 ring_of-with_engine : (l : LinesState) (r : Ring) (pipe : Pipe) (stream : ℕ) → ring_of (with_engine l r) pipe stream ≡ ring_of l pipe stream
-ring_of-with_engine l r Command stream = refl
-ring_of-with_engine l r Status stream = refl
-ring_of-with_engine l r DataIn stream = refl
-ring_of-with_engine l r DataOut stream = refl
+ring_of-with_engine l r pipe stream = rings_by_pipe (with_engine l r) l pipe stream refl refl refl refl
 
 pub with_engine-kept : EngineLeavesRings
 with_engine-kept l r lines e = (
@@ -169,10 +143,7 @@ with_engine-kept l r lines e = (
 )
 
 ring_of-with_events : (l : LinesState) (e : Events) (pipe : Pipe) (stream : ℕ) → ring_of (with_events l e) pipe stream ≡ ring_of l pipe stream
-ring_of-with_events l e Command stream = refl
-ring_of-with_events l e Status stream = refl
-ring_of-with_events l e DataIn stream = refl
-ring_of-with_events l e DataOut stream = refl
+ring_of-with_events l e pipe stream = rings_by_pipe (with_events l e) l pipe stream refl refl refl refl
 
 pub with_events-kept : EventsLeaveRings
 with_events-kept l e lines = (

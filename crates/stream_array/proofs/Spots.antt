@@ -1,6 +1,6 @@
 -- The address map and its inverse.
 use Rattle.std.proofs.Common.{◌≡◌, ℕ, ◌+◌, ◌-◌, ◌*◌, ◌/◌, ◌%◌, ◌<◌, ◌≤◌, ◌==◌, ◌&&◌, true, Option, Some, None, nat_lt, nat_le}
-use Rattle.std.proofs.Common.{option_and_then, refl, arith, inl, inr}
+use Rattle.std.proofs.Common.{option_and_then, if◌then◌else◌, refl, ◌∙◌, arith, inl, inr}
 use Rattle.std.proofs.lemmas.Bool.{lt-ltb, le-ltb, le-leb, ltb-true, ltb-false, leb-true, eqb-true, and_parts, cases_Bool}
 use Rattle.stream_array.specs.declared.Pipe.{Pipe}
 use Rattle.stream_array.specs.declared.Pipe.TheVariants.{Command, Status, DataIn, DataOut}
@@ -87,27 +87,20 @@ spot_in-is pipe inside at found =
 same_number : (found pipe : Pipe) (number : ℕ) → Some found ≡ Some pipe → number ≡ number_of found → number ≡ number_of pipe
 same_number found pipe number some is = let same : found ≡ pipe = cc in rw (← same) is
 
+-- one number tried, and then the others
+number_tried : (number this : ℕ) (named pipe : Pipe) (others : Option Pipe) → this ≡ number_of named → (others ≡ Some pipe → number ≡ number_of pipe)
+    → (if number == this then Some named else others) ≡ Some pipe → number ≡ number_of pipe
+number_tried number this named pipe others numbered else_so found =
+    elim (cases_Bool (number == this)) as (λ _. number ≡ number_of pipe) [
+      | inl same ↦ same_number named pipe number (rw same at found) (eqb-true number this same ∙ numbered)
+      | inr not_this ↦ else_so (rw not_this at found)
+    ]
+
 pipe_numbered-is : (number : ℕ) (pipe : Pipe) → pipe_numbered number ≡ Some pipe → number ≡ number_of pipe
 pipe_numbered-is number pipe found =
-    elim (cases_Bool (number == 1)) as (λ _. number ≡ number_of pipe) [
-      | inl one ↦ same_number Command pipe number (rw one at found) (eqb-true number 1 one)
-      | inr not_one ↦
-          let found_2 = rw not_one at found in
-          elim (cases_Bool (number == 2)) as (λ _. number ≡ number_of pipe) [
-            | inl two ↦ same_number Status pipe number (rw two at found_2) (eqb-true number 2 two)
-            | inr not_two ↦
-                let found_3 = rw not_two at found_2 in
-                elim (cases_Bool (number == 3)) as (λ _. number ≡ number_of pipe) [
-                  | inl three ↦ same_number DataIn pipe number (rw three at found_3) (eqb-true number 3 three)
-                  | inr not_three ↦
-                      let found_4 = rw not_three at found_3 in
-                      elim (cases_Bool (number == 4)) as (λ _. number ≡ number_of pipe) [
-                        | inl four ↦ same_number DataOut pipe number (rw four at found_4) (eqb-true number 4 four)
-                        | inr not_four ↦ let none : None ≡ Some pipe = rw not_four at found_4 in absurd (cc)
-                      ]
-                ]
-          ]
-    ]
+    number_tried number 1 Command pipe _ refl
+    (number_tried number 2 Status pipe _ refl (number_tried number 3 DataIn pipe _ refl (number_tried number 4 DataOut pipe None refl (λ none. absurd (cc)))))
+    found
 
 spot_of : (pointer : ℕ) (pipe : Option Pipe) (at : Pipe × ℕ × ℕ) → pipe_numbered ((pointer - 0x40000000) / 0x1000000) ≡ pipe
     → 0x40000000 ≤ pointer

@@ -37,61 +37,6 @@ mod tests;
 /// Want of memory, the one refusal of a constructor.
 pub type NoMemory = AllocError;
 
-/// Streams that have a ring on a pipe with streams: 1 to 248.
-pub const STREAMS: u16 = 248;
-
-const _: () = prove!(STREAMS == 248);
-
-/// Entries of a stream array (MaxPStreams 7, 4.12).
-pub const STREAM_ENTRIES: usize = 256;
-
-const _: () = prove!(STREAM_ENTRIES == 256);
-
-/// Places of a stream's ring.
-pub const STREAM_RING_PLACES: usize = 20;
-
-const _: () = prove!(STREAM_RING_PLACES == 20);
-
-/// Places of the command pipe's ring.
-pub const COMMAND_RING_PLACES: usize = 256;
-
-const _: () = prove!(COMMAND_RING_PLACES == 256);
-
-/// Places of the controller's command ring.
-pub const ENGINE_RING_PLACES: usize = 16;
-
-const _: () = prove!(ENGINE_RING_PLACES == 16);
-
-/// Places of the event ring.
-pub const EVENT_RING_PLACES: usize = 1024;
-
-const _: () = prove!(EVENT_RING_PLACES == 1024);
-
-/// Where the pipes' rings would begin for a pipe 0.
-pub const RINGS: u64 = 0x4000_0000;
-
-const _: () = prove!(RINGS == 0x4000_0000);
-
-/// The bytes from one pipe's rings to the next pipe's.
-pub const PIPE_SPAN: u64 = 0x0100_0000;
-
-const _: () = prove!(PIPE_SPAN == 0x0100_0000);
-
-/// The bytes from one stream's ring to the next stream's.
-pub const STREAM_SPAN: u64 = 0x1000;
-
-const _: () = prove!(STREAM_SPAN == 0x1000);
-
-/// Where the controller's command ring begins.
-pub const ENGINE_RING: u64 = 0x5000_0000;
-
-const _: () = prove!(ENGINE_RING == 0x5000_0000);
-
-/// Where the event ring begins.
-pub const EVENT_RING: u64 = 0x6000_0000;
-
-const _: () = prove!(EVENT_RING == 0x6000_0000);
-
 /// The four pipes of a UAS interface.
 #[derive(Clone, Copy, PartialEq, Eq, Debug)]
 pub enum Pipe {
@@ -112,6 +57,49 @@ pub struct Dequeue {
 #[derive(Clone, Copy, PartialEq, Eq, Debug, Error)]
 #[error("no such stream")]
 pub struct InvalidStream;
+
+/// Streams that have a ring on a pipe with streams: 1 to 248.
+pub const STREAMS: u16 = 248;
+
+/// Entries of a stream array (MaxPStreams 7, 4.12).
+pub const STREAM_ENTRIES: usize = 256;
+
+/// Places of a stream's ring.
+pub const STREAM_RING_PLACES: usize = 20;
+
+const _: () = prove!(STREAMS == 248 && STREAM_ENTRIES == 256 && STREAM_RING_PLACES == 20);
+
+/// Places of the command pipe's ring.
+pub const COMMAND_RING_PLACES: usize = 256;
+
+/// Places of the controller's command ring.
+pub const ENGINE_RING_PLACES: usize = 16;
+
+/// Places of the event ring.
+pub const EVENT_RING_PLACES: usize = 1024;
+
+const _: () = prove!(
+    COMMAND_RING_PLACES == 256 && ENGINE_RING_PLACES == 16 && EVENT_RING_PLACES == 1024
+);
+
+/// Where the pipes' rings would begin for a pipe 0.
+pub const RINGS: u64 = 0x4000_0000;
+
+/// The bytes from one pipe's rings to the next pipe's.
+pub const PIPE_SPAN: u64 = 0x0100_0000;
+
+/// The bytes from one stream's ring to the next stream's.
+pub const STREAM_SPAN: u64 = 0x1000;
+
+const _: () = prove!(RINGS == 0x4000_0000 && PIPE_SPAN == 0x0100_0000 && STREAM_SPAN == 0x1000);
+
+/// Where the controller's command ring begins.
+pub const ENGINE_RING: u64 = 0x5000_0000;
+
+/// Where the event ring begins.
+pub const EVENT_RING: u64 = 0x6000_0000;
+
+const _: () = prove!(ENGINE_RING == 0x5000_0000 && EVENT_RING == 0x6000_0000);
 
 impl Pipe {
     /// The pipe's number, 1 to 4.

@@ -182,19 +182,6 @@ fn freed(rt: &impl Abort, lines: &Lines, pipe: Pipe, stream: u16)
     assert!(rt; lines.image(pipe, stream, 0).is_none());
 }
 
-const COMMAND: Trb = Trb::Normal {
-    pointer: 0x1000_0100,
-    length: 0x20,
-    td_size: 0,
-    flags: TrbFlags::IOC,
-};
-
-const STATUS: Trb = Trb::Normal {
-    pointer: 0x2000_0100,
-    length: 0x70,
-    td_size: 0,
-    flags: TrbFlags(2 + 16),
-};
 // The first of two TRBs of 4,096 bytes each, and the last: 4 packets of 1,024 bytes are still to come.
 const FIRST: Trb = Trb::Normal {
     pointer: 0x1_0001_0000,
@@ -210,31 +197,55 @@ const LAST: Trb = Trb::Normal {
     flags: TrbFlags::IOC,
 };
 
+// A TD is put on a new ring at `base`, stands there, and its first TRB is moved and freed.
+fn passes(
+    rt: &impl Abort,
+    lines: &mut Lines,
+    pipe: Pipe,
+    stream: u16,
+    base: u64,
+    trbs: &[Trb],
+    bytes: &[u8; 16],
+)
+    requires ring { HasRing pipe stream }
+    requires td { IsTd trbs.now }
+    requires texts { All HasText trbs.now }
+    requires at_most { length trbs.now ≤ 18 }
+{
+    put(rt, lines, pipe, stream, base, trbs);
+    stands(rt, lines, pipe, stream, base, bytes);
+    moved(rt, lines, pipe, stream);
+    freed(rt, lines, pipe, stream);
+}
+
 fn one_on_the_command_pipe(rt: &impl Abort, lines: &mut Lines) {
-    put(rt, lines, Pipe::Command, 0, 0x4100_0000, &[COMMAND]);
+    let command = Trb::Normal {
+        pointer: 0x1000_0100,
+        length: 0x20,
+        td_size: 0,
+        flags: TrbFlags::IOC,
+    };
     let bytes = b"\x00\x01\x00\x10\x00\x00\x00\x00\x20\x00\x00\x00\x21\x04\x00\x00";
-    stands(rt, lines, Pipe::Command, 0, 0x4100_0000, bytes);
-    moved(rt, lines, Pipe::Command, 0);
-    freed(rt, lines, Pipe::Command, 0);
+    passes(rt, lines, Pipe::Command, 0, 0x4100_0000, &[command], bytes);
 }
 
 fn one_on_the_status_pipe(rt: &impl Abort, lines: &mut Lines) {
-    put(rt, lines, Pipe::Status, 1, 0x4200_1000, &[STATUS]);
+    let status = Trb::Normal {
+        pointer: 0x2000_0100,
+        length: 0x70,
+        td_size: 0,
+        flags: TrbFlags(2 + 16),
+    };
     let bytes = b"\x00\x01\x00\x20\x00\x00\x00\x00\x70\x00\x00\x00\x25\x04\x00\x00";
-    stands(rt, lines, Pipe::Status, 1, 0x4200_1000, bytes);
-    moved(rt, lines, Pipe::Status, 1);
-    freed(rt, lines, Pipe::Status, 1);
+    passes(rt, lines, Pipe::Status, 1, 0x4200_1000, &[status], bytes);
 }
 
 fn two_on_a_data_pipe(rt: &impl Abort, lines: &mut Lines, pipe: Pipe, stream: u16, base: u64)
     requires ring { HasRing pipe stream }
     requires streams { HasStreams pipe }
 {
-    put(rt, lines, pipe, stream, base, &[FIRST, LAST]);
     let bytes = b"\x00\x00\x01\x00\x01\x00\x00\x00\x00\x10\x08\x00\x11\x04\x00\x00";
-    stands(rt, lines, pipe, stream, base, bytes);
-    moved(rt, lines, pipe, stream);
-    freed(rt, lines, pipe, stream);
+    passes(rt, lines, pipe, stream, base, &[FIRST, LAST], bytes);
 }
 
 #[test]

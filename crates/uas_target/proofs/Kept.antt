@@ -58,11 +58,11 @@ received_so P device bytes same run told unreadable =
 
 -- TASK MANAGEMENT
 
-managed_so : (P : Device → Type 0) (device : Device) (abort reset : Device × ℕ) (is_abort is_reset : Bool) → P device → (is_abort ≡ true → P abort.0) →
+one_of_three : (P : Device → Type 0) (device : Device) (abort reset : Device × ℕ) (is_abort is_reset : Bool) → P device → (is_abort ≡ true → P abort.0) →
     (is_reset ≡ true → P reset.0) → P (cond is_abort abort (cond is_reset reset (device, 4))).0
-managed_so P device abort reset true is_reset same one two = one refl
-managed_so P device abort reset false true same one two = two refl
-managed_so P device abort reset false false same one two = same
+one_of_three P device abort reset true is_reset same one two = one refl
+one_of_three P device abort reset false true same one two = two refl
+one_of_three P device abort reset false false same one two = same
 
 aborted_so : (P : Device → Type 0) (device : Device) (number tag : ℕ) (unit : Option BlockMaps) → P device →
     P (record device { tasks = with_held_under device.tasks tag (spared number (held_under device.tasks tag)) }) → P (aborted_on device number tag unit).0
@@ -74,6 +74,17 @@ reset_so : (P : Device → Type 0) (device : Device) (number : ℕ) (unit : Opti
     ((units : List BlockMaps) → P (record { units = units; tasks = map (spared number) device.tasks })) → P (reset_on device number unit).0
 reset_so P device number None same so = same
 reset_so P device number (Some unit) same so = so _
+
+-- a task management function leaves the device, spares all but the command that an abort names, or all but those to a unit
+managed_so : (P : Device → Type 0) (device : Device) (function named : ℕ) (lun : List ℕ) → P device →
+    ((function == 1) ≡ true → P (record device { tasks = with_held_under device.tasks named (spared (slice_index lun 1) (held_under device.tasks named)) })) →
+    ((function == 8) ≡ true → (units : List BlockMaps) → P (record { units = units; tasks = map (spared (slice_index lun 1)) device.tasks })) →
+    P (managed device function named lun).0
+managed_so P device function named lun same aborted reset =
+    let number = slice_index lun 1 in
+    let unit = addressed device.units lun in
+    one_of_three P device (aborted_on device number named unit) (reset_on device number unit) (function == 1) (function == 8) same
+    (λ is. aborted_so P device number named unit same (aborted is)) (λ is. reset_so P device number unit same (reset is))
 
 -- a test that is false isn't true
 not_both : (b : Bool) → b ≡ false → b ≡ true → ⊥
@@ -88,37 +99,26 @@ not_named false reset same is holds = let it : ◌≡◌ {A = Bool} false true =
 managed_reaches : (device : Device) (function named other : ℕ) (lun : List ℕ) → (function == 8 || (function == 1 && named == other)) ≡ false →
     task_of (managed device function named lun).0 other ≡ task_of device other
 managed_reaches device function named other lun apart =
-    let P : Device → Type 0 = λ after. task_of after other ≡ task_of device other in
-    let number = slice_index lun 1 in
-    managed_so P device (aborted_on device number named (addressed device.units lun)) (reset_on device number (addressed device.units lun)) (function == 1)
-    (function == 8) refl
+    managed_so (λ after. task_of after other ≡ task_of device other) device function named lun refl
     (λ abort.
-    aborted_so P device number named (addressed device.units lun) refl
-    (held_under-other device.tasks named other _
-    (λ same. eqb-false named other (not_named (function == 1) (function == 8) (named == other) apart abort) (sym same))))
+    held_under-other device.tasks named other _
+    (λ same. eqb-false named other (not_named (function == 1) (function == 8) (named == other) apart abort) (sym same)))
     (λ reset. absurd (not_both (function == 8) (or_parts (function == 8) (function == 1 && named == other) apart).0 reset))
 
 managed_units : (device : Device) (function named other : ℕ) (lun : List ℕ) →
     IfSome (task_of device other) (λ task. is_command_of (slice_index lun 1) task ≡ false) →
     task_of (managed device function named lun).0 other ≡ task_of device other
 managed_units device function named other lun spares =
-    let P : Device → Type 0 = λ after. task_of after other ≡ task_of device other in
     let number = slice_index lun 1 in
-    managed_so P device (aborted_on device number named (addressed device.units lun)) (reset_on device number (addressed device.units lun)) (function == 1)
-    (function == 8) refl
-    (λ abort. aborted_so P device number named (addressed device.units lun) refl (held_under-spared device.tasks number named other spares))
-    (λ reset.
-    reset_so P device number (addressed device.units lun) refl
-    (λ units. held_under-map (spared number) device.tasks other refl ∙ spared-same number (task_of device other) spares))
+    managed_so (λ after. task_of after other ≡ task_of device other) device function named lun refl
+    (λ abort. held_under-spared device.tasks number named other spares)
+    (λ reset units. held_under-map (spared number) device.tasks other refl ∙ spared-same number (task_of device other) spares)
 
 managed_tags : (device : Device) (function named : ℕ) (lun : List ℕ) → length (managed device function named lun).0.tasks ≡ length device.tasks
 managed_tags device function named lun =
-    let P : Device → Type 0 = λ after. length after.tasks ≡ length device.tasks in
-    let number = slice_index lun 1 in
-    managed_so P device (aborted_on device number named (addressed device.units lun)) (reset_on device number (addressed device.units lun)) (function == 1)
-    (function == 8) refl
-    (λ abort. aborted_so P device number named (addressed device.units lun) refl (length-with_held device.tasks named _))
-    (λ reset. reset_so P device number (addressed device.units lun) refl (λ units. length-map device.tasks (spared number)))
+    managed_so (λ after. length after.tasks ≡ length device.tasks) device function named lun refl
+    (λ abort. length-with_held device.tasks named _)
+    (λ reset units. length-map device.tasks (spared (slice_index lun 1)))
 
 -- THE LAWS
 

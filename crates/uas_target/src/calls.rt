@@ -1,19 +1,23 @@
 //! The calls on a tag's task.
-ghost use Rattle.std.specs.Prelude.{◌≡◌, ◌≤◌, IfOk, is_some, length, option_map, vec_len};
+ghost use Rattle.std.specs.Prelude.{◌≡◌, ◌≤◌, IfOk, MatchOption, false, true, is_some, length, option_map, vec_len};
+ghost use Rattle.arrayvec.specs.ArrayVec.{array_vec_len};
 ghost use Rattle.std.specs.Option.{unwrap_or};
-ghost use Rattle.uas_target.specs.Device.{answered, fits, gave, given, opening, took, wanted, without_task};
+ghost use Rattle.uas_iu.specs.Units.{IsTextOf};
 ghost use Rattle.uas_target.specs.Fields.{addressed};
 ghost use Rattle.uas_target.specs.Soundness.{IsChunk};
 ghost use Rattle.uas_target.specs.Tasks.{answer_unit};
+ghost use Rattle.uas_target.specs.Device.{answered, fits, gave, given, opening, took, wanted, without_task};
 
 use crate::chunks::{chunk_wants, give_task, take_task};
 use crate::receiver::unit_number;
 use crate::table::TaskTable;
 use crate::{DeviceAnswer, DeviceTask, MAX_UNITS, Phase, Target};
+use arrayvec::ArrayVec;
 use block_unit::Unit;
-use device_server::status_and_sense;
+use device_server::{Answer, status_and_sense};
+use scsi_cmd::{CHECK_CONDITION, GOOD};
 use std::alloc::{AllocError, Global};
-use uas_iu::{Iu, LUN_BYTES};
+use uas_iu::{Iu, LUN_BYTES, MAX_UNIT_BYTES, write, write_sense};
 
 impl Target {
     /// A device of these logical units, 1 to 31, without a task. The error is want of memory.
@@ -81,6 +85,21 @@ impl Target {
         Some(unit_of(tag, &answer))
     }
 
+    /// Writes the unit that answers the task of a tag, once it has ended, into `text`, which is asked to be empty. False,
+    /// and nothing is written, where it hasn't.
+    #[inline(always)]
+    pub fn write_status(&self, tag: u16, text: &mut ArrayVec<u8, MAX_UNIT_BYTES>) -> bool
+        requires { array_vec_len text.old ≡ 0 }
+        ensures { MatchOption (answered self.now tag) ((result ≡ false) × (text.new ≡ text.old))
+            (λ unit. (result ≡ true) × IsTextOf text.new.items unit) }
+    {
+        let Some(DeviceTask::Ended { answer, .. }) = self.tasks.get(tag) else {
+            return false;
+        };
+        write_answer(tag, &answer, text);
+        true
+    }
+
     /// The answer of a tag whose task has ended was sent: the device has no task of it any more.
     pub fn sent(&mut self, tag: u16)
         requires { wanted self.old tag ≡ Phase.Ends }
@@ -109,5 +128,20 @@ fn unit_of(tag: u16, answer: &DeviceAnswer) -> Iu
             Iu::Sense { tag, status, sense }
         }
         DeviceAnswer::Response(code) => Iu::Response { tag, code: *code },
+    }
+}
+
+/// Writes the unit that tells an answer into `text`, which is asked to be empty.
+#[inline(always)]
+fn write_answer(tag: u16, answer: &DeviceAnswer, text: &mut ArrayVec<u8, MAX_UNIT_BYTES>)
+    requires { array_vec_len text.old ≡ 0 }
+    ensures { IsTextOf text.new.items (answer_unit tag answer.now) }
+{
+    match answer {
+        DeviceAnswer::Status(Answer::Good) => write_sense(tag, GOOD, &[], text),
+        DeviceAnswer::Status(Answer::Check(sense)) => {
+            write_sense(tag, CHECK_CONDITION, &sense.bytes(), text);
+        }
+        DeviceAnswer::Response(code) => write(&Iu::Response { tag, code: *code }, text),
     }
 }

@@ -55,12 +55,10 @@ use thiserror::Error;
 /// The greatest tag that a task may have; the least is 1.
 pub const GREATEST_TAG: u16 = 248;
 
-const _: () = prove!(GREATEST_TAG == 248);
-
 /// The most logical units of a device.
 pub const MAX_UNITS: usize = 31;
 
-const _: () = prove!(MAX_UNITS == 31);
+const _: () = prove!(GREATEST_TAG == 248 && MAX_UNITS == 31);
 
 /// How a task ended.
 #[derive(Clone, Copy, Debug, PartialEq, Eq)]

@@ -309,6 +309,9 @@ fn end(rt: &impl Abort, target: &mut Target, want: &[u8]) {
         write(&unit, &mut bytes);
     }
     assert_eq!(rt; bytes.as_slice(), want, "on tag {tag}");
+    let mut written = ArrayVec::new();
+    assert!(rt; target.write_status(tag, &mut written));
+    assert_eq!(rt; written.as_slice(), want, "on tag {tag}");
     match target.wants(tag) {
         Phase::Ends => target.sent(tag),
         _ => panic!(rt; "tag {tag} has not ended"),
@@ -431,11 +434,6 @@ fn want_of_memory(rt: HostRuntime) -> Result<(), Fail> {
     receive(&rt, &mut target, "", b"\x01\x00\x00\x05");
     end(&rt, &mut target, b"\x04\x00\x00\x05\x00\x00\x00\x02");
     assert_eq!(rt; target.wants(5), Phase::Absent);
-    Ok(())
-}
-
-#[test]
-fn fault_says_why(rt: HostRuntime) -> Result<(), Fail> {
     let told = format!(in rt.alloc(); "{Overlap}")?;
     assert_eq!(rt; told.as_str(), "the tag has a task");
     Ok(())

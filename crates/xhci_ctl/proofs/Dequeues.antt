@@ -87,29 +87,24 @@ may-stand n k pointer ring cycle stands =
       | inr other ↦ inr (k, (stands.consumed, omega (arith, stands.put), stands.address, stands.state))
     ]
 
--- what a call that moves the end tells, against the ring that has it there: old and new lines, and what putting a ring there makes
-pub record Moved {L T E : Type 0} (n pointer : ℕ) (ring : Ring) (cycle : Bool) (old new : L) (set : Ring → L) (result : Result T E) : Type 0 where
-  pub accepted : IsOk result ↔ MayStand n ring pointer cycle
-  pub enqueue : IsEnqueuePlace n ring pointer cycle → new ≡ set (record ring { got = length ring.put })
-  pub pending : (k : ℕ) → IsPending n ring k pointer cycle → new ≡ set (record ring { got = k })
-  pub refused : OnErr result (new ≡ old)
-
+-- What a call that moves the end tells, against the ring that has it there: old and new lines, and what putting a ring there makes.
 pub moved-dequeued : {L T E : Type 0} (named : AddressesNameItems) (only : NamedItemsHaveAddresses) (n pointer : ℕ) (ring : Ring)
-    (cycle : Bool) (old new : L) (set : Ring → L) (result : Result T E) → IsRing n ring
-    → Moved n pointer ring cycle old new set result
+    (cycle : Bool) (old new : L) (set : Ring → L) (result : Result T E) → IsRing n ring → (IsOk result ↔ MayStand n ring pointer cycle)
+    → (IsEnqueuePlace n ring pointer cycle → new ≡ set (record ring { got = length ring.put }))
+    → ((k : ℕ) → IsPending n ring k pointer cycle → new ≡ set (record ring { got = k })) → OnErr result (new ≡ old)
     → (is_ok result ≡ is_some (dequeued_at n ring pointer cycle)) × (new ≡ option_map_or set (dequeued_at n ring pointer cycle) old)
-moved-dequeued named only n pointer ring cycle old new set (Ok value) is moved =
-    elim (moved.accepted.0 refl) as (λ _. (true ≡ is_some (dequeued_at n ring pointer cycle))
+moved-dequeued named only n pointer ring cycle old new set (Ok value) is accepted enqueue pending refused =
+    elim (accepted.0 refl) as (λ _. (true ≡ is_some (dequeued_at n ring pointer cycle))
     × (new ≡ option_map_or set (dequeued_at n ring pointer cycle) old)) [
       | inl place ↦
           let there = dequeued-stands named n (length ring.put) pointer ring cycle is (stands-enqueue n pointer ring cycle is place) in
-          rw there (refl, moved.enqueue place)
-      | inr (k, pending) ↦
-          let there = dequeued-stands named n k pointer ring cycle is (stands-pending n k pointer ring cycle pending) in
-          rw there (refl, moved.pending k pending)
+          rw there (refl, enqueue place)
+      | inr (k, stands) ↦
+          let there = dequeued-stands named n k pointer ring cycle is (stands-pending n k pointer ring cycle stands) in
+          rw there (refl, pending k stands)
     ]
-moved-dequeued named only n pointer ring cycle old new set (Err error) is moved =
+moved-dequeued named only n pointer ring cycle old new set (Err error) is accepted enqueue pending refused =
     let nowhere =
     dequeued-none only n pointer ring cycle is
-    (λ k stands. let other : false ≡ true = moved.accepted.1 (may-stand n k pointer ring cycle stands) in absurd (cc)) in
-    rw nowhere (refl, moved.refused)
+    (λ k stands. let other : false ≡ true = accepted.1 (may-stand n k pointer ring cycle stands) in absurd (cc)) in
+    rw nowhere (refl, refused)

@@ -1,14 +1,13 @@
 -- Bytes of the store that are written back as they were.
-use Rattle.std.proofs.Common.{◌≡◌, ℕ, zero, suc, List, [], ◌∷◌, ◌++◌, ◌-◌, take, drop, length, Option, Some, None, unwrap_or, option_map, refl, ap, ◌∙◌}
+use Rattle.std.proofs.Common.{◌≡◌, ℕ, zero, suc, List, [], ◌∷◌, ◌++◌, take, drop, length, Option, Some, None, unwrap_or, refl, sym, ap, ◌∙◌}
 use Rattle.std.proofs.Math.Seq.{take-append_seam}
 use Rattle.std.specs.List.{refill}
 use Rattle.std.specs.Option.{option_map_or}
-use Rattle.std.proofs.lemmas.List.{take-append-drop, set-get_or}
-use Rattle.frame_store.specs.declared.Buffer.{Buffer}
-use Rattle.frame_store.specs.declared.Buffer.TheVariants.{Command, Status, Window}
+use Rattle.std.proofs.lemmas.List.{take-append-drop}
 use Rattle.frame_store.specs.declared.TagBuffers.{TagBuffers}
 use Rattle.frame_store.specs.Splice.{spliced}
-use Rattle.frame_store.specs.Buffers.{bytes_in, with_bytes_in, no_buffers, held_for, with_held, written, bytes_at, start_of}
+use Rattle.frame_store.specs.Buffers.{bytes_of, with_bytes_in, held_for, with_held, written, bytes_at, start_of}
+use Rattle.frame_store.proofs.FramesLaws.{spliced-none, with_bytes-none}
 
 taken-back : (count : ℕ) (bytes : List ℕ) → take count bytes ++ drop (length (take count bytes)) bytes ≡ bytes
 taken-back zero bytes = refl
@@ -21,23 +20,14 @@ spliced-same old from count =
     ap (λ (rest : List ℕ). take from old ++ rest) (taken-back count (drop from old)) ∙ take-append-drop from old in
     ap (λ (bytes : List ℕ). refill (length old) old bytes) whole ∙ take-append_seam old (drop (length old) old)
 
-lent-same : (lent : Option (List ℕ)) → option_map (λ _. unwrap_or lent []) lent ≡ lent
-lent-same None = refl
-lent-same (Some bytes) = refl
-
-with_bytes_in-same : (held : TagBuffers) (buffer : Buffer) → with_bytes_in held buffer (bytes_in held buffer) ≡ held
-with_bytes_in-same held Command = refl
-with_bytes_in-same held Status = refl
-with_bytes_in-same held Window = ap (λ (lent : Option (List ℕ)). record held { lent = lent }) (lent-same held.lent)
-
 -- what stands there, written there, changes nothing
 pub written-same : (frames : List TagBuffers) (address count : ℕ) → written frames address count (bytes_at frames address count) ≡ frames
 written-same frames address count =
     let place = start_of address count in
-    let held = held_for frames place.tag in
-    ap (λ (bytes : List ℕ). with_held frames place.tag (with_bytes_in held place.buffer bytes)) (spliced-same (bytes_in held place.buffer) place.offset count)
-    ∙ ap (λ (same : TagBuffers). with_held frames place.tag same) (with_bytes_in-same held place.buffer)
-    ∙ set-get_or frames (place.tag - 1) no_buffers
+    let old = bytes_of frames place in
+    ap (λ (bytes : List ℕ). with_held frames place.tag (with_bytes_in (held_for frames place.tag) place.buffer bytes))
+    (spliced-same old place.offset count ∙ sym (spliced-none old place.offset))
+    ∙ with_bytes-none frames place
 
 -- bytes that may have been given, written there
 pub written_back : (frames : List TagBuffers) (address count : ℕ) (bytes : Option (List ℕ))

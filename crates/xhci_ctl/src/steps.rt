@@ -18,7 +18,6 @@ use arrayvec::ArrayVec;
 use event_ring::Event;
 use frame_store::Frames;
 use stream_array::{Lines, Pipe};
-use uas_iu::write;
 use uas_target::{Overlap, Phase, Target, Took};
 use xhci_trb::Trb;
 
@@ -138,9 +137,6 @@ impl Controller {
         let Phase::Ends = target.wants(tag) else {
             return Acted::Idle;
         };
-        let Some(unit) = target.status_of(tag) else {
-            return Acted::Idle;
-        };
         let Some((address, trb)) = self.armed_front(lines, Pipe::Status, tag) else {
             return Acted::Idle;
         };
@@ -148,7 +144,9 @@ impl Controller {
             return Acted::Idle;
         };
         let mut text = ArrayVec::new();
-        write(&unit, &mut text);
+        if !target.write_status(tag, &mut text) {
+            return Acted::Idle;
+        }
         frames.write(pointer, &text);
         target.sent(tag);
         let residual = STATUS_LENGTH - text.len() as u32;

@@ -178,8 +178,7 @@ impl Bench {
         requires some { 0 < tag }
         requires most { tag ≤ 248 }
     {
-        let answer = self.target.status_of(tag);
-        assert!(rt; is_own_status(&self.lines, &self.frames, tag, answer));
+        assert!(rt; is_own_status(&self.lines, &self.frames, tag, self.target.status_of(tag)));
         self.controller
             .status_step(&mut self.lines, &mut self.frames, &mut self.target, tag)
     }

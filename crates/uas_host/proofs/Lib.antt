@@ -12,3 +12,4 @@ pub mod Changing
 pub mod Resuming
 pub mod Emptying
 pub mod LeftOver
+pub mod Transfers

@@ -44,8 +44,3 @@ answer_by-text tag (Sense told status sense) fits sound =
 answer_by-text tag (Response told code) fits sound =
     let number : told / 256 % 256 * 256 + told % 256 ≡ told = omega (arith, fits) in rw (sound, number) refl
 answer_by-text tag (Task told function task_tag lun) fits sound = rw sound refl
-
--- bytes that are read as a unit tell what the unit tells
-pub answer_by-read : (tag : ℕ) (bytes : List ℕ) (unit : Iu) → IsTextOf bytes unit → None ≡ first_fault bytes → answer_by tag unit ≡ answer_in tag bytes
-answer_by-read tag bytes unit is sound =
-    rw is.1 (answer_by-text tag unit is.0 (sym (ap first_fault is.1) ∙ sym sound))

@@ -101,13 +101,17 @@ answer_in tag bytes =
 abbrev pub succeeded : ℕ → Notice → Option Notice
 succeeded code notice = if code == 1 then Some notice else None
 
+-- what an event of a TD tells, by its code and the bytes that were written of its status buffer
+abbrev pub told_on : Pipe → List ℕ → ℕ → ℕ → Option Notice
+told_on Command unit code tag = succeeded code CommandSeen
+told_on Status unit code tag = if code == 13 then answer_in tag unit else None
+told_on DataIn unit code tag = succeeded code DataInSeen
+told_on DataOut unit code tag = succeeded code DataOutSeen
+
 -- What an event of a TD tells, by its residual and its code. A status TD has 112 bytes, of which the residual weren't
 -- written. Worked: residual 96 leaves the first 16 bytes of the status buffer; above 112 none is left.
 abbrev pub notice_on : Pipe → List TagBuffers → ℕ → ℕ → ℕ → Option Notice
-notice_on Command frames residual code tag = succeeded code CommandSeen
-notice_on Status frames residual code tag = if code == 13 then answer_in tag (take (112 - residual) (held_for frames tag).status) else None
-notice_on DataIn frames residual code tag = succeeded code DataInSeen
-notice_on DataOut frames residual code tag = succeeded code DataOutSeen
+notice_on pipe frames residual code tag = told_on pipe (take (112 - residual) (held_for frames tag).status) code tag
 
 abbrev pub notice_of : List TagBuffers → ℕ → ℕ → EndedTd → Option Notice
 notice_of frames residual code td = notice_on td.pipe frames residual code td.tag

@@ -5,6 +5,7 @@ pub mod Doors
 pub mod Submit
 pub mod Tasks
 pub mod Seen
+pub mod Sights
 pub mod Left
 pub mod Retirement
 pub mod Events

@@ -6,7 +6,7 @@ use Rattle.std.specs.List.{list_any}
 use Rattle.stream_array.specs.declared.Pipe.{Pipe}
 use Rattle.stream_array.specs.declared.Pipe.TheVariants.{Command, Status, DataIn, DataOut}
 use Rattle.scsi_cmd.specs.declared.Direction.{Direction}
-use Rattle.scsi_cmd.specs.declared.Direction.TheVariants.{Nothing, ToHost, ToDevice}
+use Rattle.scsi_cmd.specs.declared.Direction.TheVariants.{ToHost, ToDevice}
 use Rattle.scsi_cmd.specs.Request.{is_command, request_direction}
 use Rattle.scsi_cmd.specs.Held.{held_at}
 use Rattle.uas_host.specs.declared.TdState.{TdState}
@@ -34,15 +34,17 @@ left_over_data td = option_map left_over_td td
 abbrev pub data_after : ℕ → Option TdState → Option TdState
 data_after status td = if status == 2 then left_over_data td else td
 
+-- data of this direction goes over this pipe
+abbrev pub is_way_of : Pipe → Direction → Bool
+is_way_of DataIn ToHost = true
+is_way_of DataOut ToDevice = true
+is_way_of _ _ = false
+
 abbrev pub goes_to_host : Direction → Bool
-goes_to_host Nothing = false
-goes_to_host ToHost = true
-goes_to_host ToDevice = false
+goes_to_host way = is_way_of DataIn way
 
 abbrev pub goes_to_device : Direction → Bool
-goes_to_device Nothing = false
-goes_to_device ToHost = false
-goes_to_device ToDevice = true
+goes_to_device way = is_way_of DataOut way
 
 -- the data TD is seen, where it waits and the event is of its pipe
 abbrev pub seen_data : Bool → HostEntry → Option TdState → Option HostEntry
@@ -107,12 +109,8 @@ after_response noted entries = map (option_map (doomed noted)) entries
 
 -- the response COMPLETE is 00h
 abbrev pub completes : Notice → Bool
-completes CommandSeen = false
-completes DataInSeen = false
-completes DataOutSeen = false
-completes (Answered status sense) = false
 completes (Responded code) = code == 0
-completes (TdRetired pipe) = false
+completes _ = false
 
 -- ONE CLIENT AND THE HOST
 

@@ -9,7 +9,7 @@ use Rattle.uas_host.specs.declared.TheConstants.{MAX_CLIENTS}
 use Rattle.uas_host.specs.declared.TdState.{TdState}
 use Rattle.uas_host.specs.declared.TdState.TheVariants.{Pending, Seen, LeftOver, Retired}
 use Rattle.uas_host.specs.declared.HostAnswer.{HostAnswer}
-use Rattle.uas_host.specs.declared.HostAnswer.TheVariants.{Unanswered, Status, Response}
+use Rattle.uas_host.specs.declared.HostAnswer.TheVariants.{Status, Response}
 use Rattle.scsi_cmd.specs.declared.Request.{Request}
 use Rattle.scsi_cmd.specs.declared.Request.TheVariants.{Execute, Manage}
 use Rattle.uas_host.specs.declared.HostEntry.{HostEntry}
@@ -39,37 +39,37 @@ with_client host client now = record { clients = slice_set host.clients client n
 
 -- TDS
 
--- the host waits for its event
-abbrev pub is_pending : TdState → Bool
-is_pending Pending = true
-is_pending Seen = false
-is_pending LeftOver = false
-is_pending Retired = false
-
-abbrev pub is_seen : TdState → Bool
-is_seen Pending = false
-is_seen Seen = true
-is_seen LeftOver = false
-is_seen Retired = false
-
-abbrev pub is_left_over : TdState → Bool
-is_left_over Pending = false
-is_left_over Seen = false
-is_left_over LeftOver = true
-is_left_over Retired = false
-
-abbrev pub is_retired : TdState → Bool
-is_retired Pending = false
-is_retired Seen = false
-is_retired LeftOver = false
-is_retired Retired = true
+abbrev pub same_state : TdState → TdState → Bool
+same_state Pending Pending = true
+same_state Seen Seen = true
+same_state LeftOver LeftOver = true
+same_state Retired Retired = true
+same_state _ _ = false
 
 -- nothing more is to be done about it
 abbrev pub is_over : TdState → Bool
-is_over Pending = false
 is_over Seen = true
-is_over LeftOver = false
 is_over Retired = true
+is_over _ = false
+
+-- the host waits for its event
+abbrev pub is_pending : TdState → Bool
+is_pending td = same_state Pending td
+
+abbrev pub is_seen : TdState → Bool
+is_seen td = same_state Seen td
+
+abbrev pub is_left_over : TdState → Bool
+is_left_over td = same_state LeftOver td
+
+abbrev pub is_retired : TdState → Bool
+is_retired td = same_state Retired td
+
+-- its event doesn't come: it was left over, and may be retired
+abbrev pub is_given_up : TdState → Bool
+is_given_up LeftOver = true
+is_given_up Retired = true
+is_given_up _ = false
 
 -- a command without data has no data TD
 abbrev pub is_data_over : Option TdState → Bool
@@ -106,26 +106,17 @@ queued_if ready queue slot = cond ready (queue ++ slot ∷ []) queue
 -- WHAT IS TRUE OF EVERY HOST
 
 abbrev pub is_status : HostAnswer → Bool
-is_status Unanswered = false
 is_status (Status status sense) = true
-is_status (Response code) = false
+is_status _ = false
 
 abbrev pub is_response : HostAnswer → Bool
-is_response Unanswered = false
-is_response (Status status sense) = false
 is_response (Response code) = true
+is_response _ = false
 
 -- a command is answered by a status, a task management by a response
 abbrev pub is_answer_to : Request → HostAnswer → Bool
 is_answer_to (Execute op) told = is_status told
 is_answer_to (Manage task noted) told = is_response told
-
--- its event doesn't come: it was left over, and may be retired
-abbrev pub is_given_up : TdState → Bool
-is_given_up Pending = false
-is_given_up Seen = false
-is_given_up LeftOver = true
-is_given_up Retired = true
 
 -- a status TD that was seen told the answer, and a task management's is never given up
 pub record WasTold (held : HostEntry) : Type 0 where

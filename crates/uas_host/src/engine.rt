@@ -9,8 +9,9 @@ ghost use Rattle.uas_host.specs.State.{IsRetirement};
 
 use crate::doors::resume;
 use crate::retirements::{empty, move_to_enqueue, push_engine};
+use crate::seen::Sight;
 use crate::tags::tag_under;
-use crate::{Handled, Host, MOST_DOORS, Notice, Retirement, RetirementStage};
+use crate::{Handled, Host, MOST_DOORS, Retirement, RetirementStage};
 use arrayvec::ArrayVec;
 use cycle_ring::laws::addresses_name_items;
 use stream_array::{Lines, doorbell};
@@ -40,27 +41,18 @@ fn free_engine(lines: &mut Lines, pointer: u64)
 
 impl Host {
     /// Stop Endpoint is done: Set TR Dequeue Pointer to the ring's enqueue place follows it.
-    fn stopped(
-        &mut self,
-        lines: &mut Lines,
-        doors: &mut ArrayVec<u32, MOST_DOORS>,
-        pointer: u64,
-        retirement: Retirement,
-    )
+    fn stopped(&mut self, lines: &mut Lines, pointer: u64, retirement: Retirement)
         requires retirement { IsRetirement (length self.old.clients) retirement }
         requires clients { length self.old.clients ≤ 31 }
         requires consumed { IsSome (consumed_at ENGINE_RING_PLACES lines.old.engine pointer) }
-        requires doors { array_vec_len doors.old ≤ 8 }
         ensures host { self.new ≡ with_retirement self.old (record retirement { stage = RetirementStage.Moving }) }
         ensures lines { lines.new ≡ stopped_lines lines.old pointer retirement }
-        ensures doors { doors.new.items ≡ doors.old.items ++ 0 ∷ [] }
     {
         let Retirement { pipe, place, .. } = retirement;
         let tag = tag_under(place.client, place.slot);
         let command = move_to_enqueue(lines, pipe, tag);
         free_engine(lines, pointer);
         push_engine(lines, command);
-        doors.push(doorbell(0, 0));
         self.retirement = Some(Retirement {
             pipe,
             place,
@@ -69,28 +61,19 @@ impl Host {
     }
 
     /// Set TR Dequeue Pointer is done: the TD is retired, and the pipe is held no more.
-    fn moved(
-        &mut self,
-        lines: &mut Lines,
-        doors: &mut ArrayVec<u32, MOST_DOORS>,
-        pointer: u64,
-        retirement: Retirement,
-    )
+    fn moved(&mut self, lines: &mut Lines, pointer: u64, retirement: Retirement)
         requires retirement { IsRetirement (length self.old.clients) retirement }
         requires clients { length self.old.clients ≤ 31 }
         requires consumed { IsSome (consumed_at ENGINE_RING_PLACES lines.old.engine pointer) }
-        requires doors { array_vec_len doors.old ≤ 8 }
         ensures host { self.new ≡ retired_host self.old retirement }
         ensures lines { lines.new ≡ moved_lines lines.old pointer retirement }
-        ensures doors { doors.new.items ≡ doors.old.items ++ stage_doors lines.old pointer retirement RetirementStage.Moving }
     {
         let Retirement { pipe, place, .. } = retirement;
         let tag = tag_under(place.client, place.slot);
         free_engine(lines, pointer);
         empty(lines, pipe, tag);
-        let _ = self.see_at(place, Notice::TdRetired(pipe));
+        let _ = self.see_at(place, Sight::TdRetired(pipe), &[]);
         self.retirement = None;
-        resume(lines, doors, pipe);
     }
 
     /// Takes in a completion of the controller's command ring, with this pointer and this code.
@@ -115,8 +98,14 @@ impl Host {
             return Handled::Stray;
         };
         match retirement.stage {
-            RetirementStage::Stopping => self.stopped(lines, doors, pointer, retirement),
-            RetirementStage::Moving => self.moved(lines, doors, pointer, retirement),
+            RetirementStage::Stopping => {
+                self.stopped(lines, pointer, retirement);
+                doors.push(doorbell(0, 0));
+            }
+            RetirementStage::Moving => {
+                self.moved(lines, pointer, retirement);
+                resume(lines, doors, retirement.pipe);
+            }
         }
         Handled::Engine
     }

@@ -1,17 +1,20 @@
 // Events.
-ghost use Rattle.std.specs.Prelude.{◌≡◌, ◌++◌, ◌≤◌};
+ghost use Rattle.std.specs.Prelude.{◌≡◌, ◌-◌, ◌++◌, ◌≤◌, List, ℕ, drop, length, option_map, take};
 ghost use Rattle.arrayvec.specs.ArrayVec.{array_vec_len};
-ghost use Rattle.uas_host.specs.Events.{ended_at, event_doors, handled, handled_td, notice_of, notice_on, succeeded, Sides};
-ghost use Rattle.stream_array.specs.declared.Pipe.{Pipe};
+ghost use Rattle.frame_store.specs.Buffers.{held_for};
+ghost use Rattle.uas_host.specs.Events.{ended_at, event_doors, handled, handled_td, succeeded, told_on, Sides};
+ghost use Rattle.uas_host.specs.Sights.{notice_by};
 
 use crate::ended::td_ended_at;
 use crate::engine::SUCCESS;
+use crate::seen::Sight;
 use crate::units::read_answer;
-use crate::{EndedTd, Handled, Host, MOST_DOORS, Notice};
+use crate::{EndedTd, Handled, Host, MOST_DOORS};
 use arrayvec::ArrayVec;
 use event_ring::Event;
 use frame_store::{Frames, STATUS_BYTES};
 use stream_array::{Lines, Pipe};
+use uas_iu::SENSE_HEADER_BYTES;
 
 /// Completion code Short Packet (xHCI 6.4.5).
 const SHORT_PACKET: u8 = 13;
@@ -19,36 +22,40 @@ const SHORT_PACKET: u8 = 13;
 const _: () = prove!(SHORT_PACKET == 13);
 
 /// What an event of a command or data TD tells.
-fn where_success(code: u8, notice: Notice) -> Option<Notice>
-    ensures { result ≡ succeeded code notice }
+fn where_success(code: u8, sight: Sight) -> Option<Sight>
+    ensures { (sense : List ℕ) → option_map (notice_by sense) result ≡ succeeded code (notice_by sense sight) }
 {
-    if code == SUCCESS { Some(notice) } else { None }
+    if code == SUCCESS { Some(sight) } else { None }
 }
 
-/// What the status buffer of a tag tells, of which the residual wasn't written.
-fn answer_of(frames: &Frames, residual: u32, code: u8, tag: u16) -> Option<Notice>
+/// What was written of the status buffer of a tag.
+fn status_unit(frames: &Frames, residual: u32, tag: u16) -> &[u8]
     requires first_tag { 1 ≤ tag }
     requires last_tag { tag ≤ 248 }
-    ensures { result ≡ notice_on Pipe.Status frames.now residual code tag }
+    ensures unit { result.now ≡ take (112 - residual) (held_for frames.now tag).status }
+    ensures most { length result.now ≤ 112 }
 {
-    if code != SHORT_PACKET {
-        return None;
-    }
     let written = STATUS_BYTES.saturating_sub(residual as usize);
-    read_answer(tag, &frames.status(tag)[..written])
+    &frames.status(tag)[..written]
 }
 
-/// What an event of a TD tells.
-fn notice_in(frames: &Frames, residual: u32, code: u8, td: EndedTd) -> Option<Notice>
-    requires first_tag { 1 ≤ td.tag }
-    requires last_tag { td.tag ≤ 248 }
-    ensures { result ≡ notice_of frames.now residual code td }
+/// The sense of a Sense unit: what comes after its first 16 bytes.
+fn sense_of(unit: &[u8]) -> &[u8]
+    ensures { result.now ≡ drop 16 unit.now }
+{
+    unit.get(SENSE_HEADER_BYTES..).unwrap_or(&[])
+}
+
+/// What an event of a TD tells, whose status unit is `unit`.
+fn sight_in(unit: &[u8], code: u8, td: EndedTd) -> Option<Sight>
+    ensures { option_map (notice_by (drop 16 unit.now)) result ≡ told_on td.pipe unit.now code td.tag }
 {
     match td.pipe {
-        Pipe::Command => where_success(code, Notice::CommandSeen),
-        Pipe::Status => answer_of(frames, residual, code, td.tag),
-        Pipe::DataIn => where_success(code, Notice::DataInSeen),
-        Pipe::DataOut => where_success(code, Notice::DataOutSeen),
+        Pipe::Command => where_success(code, Sight::CommandSeen),
+        Pipe::Status if code == SHORT_PACKET => read_answer(td.tag, unit),
+        Pipe::Status => None,
+        Pipe::DataIn => where_success(code, Sight::DataInSeen),
+        Pipe::DataOut => where_success(code, Sight::DataOutSeen),
     }
 }
 
@@ -68,10 +75,11 @@ impl Host {
         let Some(td) = td_ended_at(lines, pointer) else {
             return Handled::Stray;
         };
-        let Some(notice) = notice_in(frames, residual, code, td) else {
+        let unit = status_unit(frames, residual, td.tag);
+        let Some(sight) = sight_in(unit, code, td) else {
             return Handled::Stray;
         };
-        if !self.see(td.tag, notice) {
+        if !self.see(td.tag, sight, sense_of(unit)) {
             return Handled::Stray;
         }
         self.free(lines, pointer, td);

@@ -1,5 +1,6 @@
 // A host and its clients.
 ghost use Rattle.std.specs.Prelude.{◌≡◌, ◌+◌, ◌<◌, ◌≤◌, ◌^◌, IfOk, MatchResult, None, Some, length, replicate};
+ghost use Rattle.scsi_cmd.specs.Op.{moved_bytes};
 ghost use Rattle.scsi_cmd.specs.declared.Op.{Op};
 ghost use Rattle.scsi_cmd.specs.declared.TheConstants.{TAGS, TASK_SLOT};
 ghost use Rattle.uas_host.specs.State.{IsHostClient, client_of, new_client, opening};
@@ -13,8 +14,9 @@ use scsi_cmd::{Command, Op, Request, SubmitFault, TAGS, moves, submit_fault};
 use std::alloc::Global;
 
 impl HostEntry {
-    /// What the host has under a tag once an operation was submitted.
-    fn new(ticket: u64, op: Op) -> HostEntry
+    /// What the host has under a tag once an operation was submitted, by the state of its data TD.
+    fn new(ticket: u64, op: Op, data_td: Option<TdState>) -> HostEntry
+        requires { data_td ≡ data_td_for (moved_bytes op) }
         ensures { result ≡ new_entry ticket op }
     {
         HostEntry {
@@ -23,7 +25,7 @@ impl HostEntry {
             told: HostAnswer::Unanswered,
             command_td: TdState::Pending,
             status_td: TdState::Pending,
-            data_td: pending_where(moves(&op).1),
+            data_td,
         }
     }
 }
@@ -70,7 +72,9 @@ impl HostClient {
         requires ticket { ticket < 2 ^ 60 }
         ensures { self.new ≡ submitted_client self.old slot ticket op }
     {
-        self.entries[slot] = Some(HostEntry::new(ticket, op));
+        // Found out beforehand, so that the entry is made in one piece.
+        let data_td = pending_where(moves(&op).1);
+        self.entries[slot] = Some(HostEntry::new(ticket, op, data_td));
         self.least_ticket = ticket + 1;
     }
 }

@@ -1,28 +1,30 @@
 // Which TDs are left over, found by the marks of the clients that may have some.
-ghost use Rattle.std.specs.Prelude.{◌≡◌, ℕ, ◌*◌, ◌<◌, ◌≤◌, true, false, IfSome, IfNone, if◌then◌else◌, length};
+ghost use Rattle.std.specs.Prelude.{◌≡◌, ℕ, ◌*◌, ◌<◌, ◌≤◌, List, true, false, IfSome, IfNone, if◌then◌else◌, length};
 ghost use Rattle.marks.specs.Marks.{is_marked};
 ghost use Rattle.scsi_cmd.specs.Held.{held_at};
 ghost use Rattle.scsi_cmd.specs.declared.TheConstants.{TAGS};
 ghost use Rattle.uas_host.specs.Left.{has_left_over, have_left_over, holds_left_over, is_held_left_over, moves_left_over};
 ghost use Rattle.uas_host.specs.Retirement.{is_left_over_on};
+ghost use Rattle.uas_host.specs.Sights.{notice_by};
 
+use crate::seen::Sight;
 use crate::tags::tag_under;
-use crate::{CLIENT_WORDS, Host, HostClient, HostEntry, MAX_CLIENTS, Notice};
+use crate::{CLIENT_WORDS, Host, HostClient, HostEntry, MAX_CLIENTS};
 use marks::Marks;
 use scsi_cmd::{CHECK_CONDITION, TAGS};
 use stream_array::Pipe;
 use uas_iu::TASK_COMPLETE;
 
-impl Notice {
+impl Sight {
     /// Whether it can change which TDs are left over.
-    pub(crate) fn moves_left_over(&self) -> bool
-        ensures { result ≡ moves_left_over self.now }
+    pub(crate) fn moves_left_over(self) -> bool
+        ensures { (sense : List ℕ) → result ≡ moves_left_over (notice_by sense self) }
     {
         match self {
-            Notice::CommandSeen | Notice::DataInSeen | Notice::DataOutSeen => false,
-            Notice::Answered { status, .. } => *status == CHECK_CONDITION,
-            Notice::Responded { code } => *code == TASK_COMPLETE,
-            Notice::TdRetired(_) => true,
+            Sight::CommandSeen | Sight::DataInSeen | Sight::DataOutSeen => false,
+            Sight::Answered { status } => status == CHECK_CONDITION,
+            Sight::Responded { code } => code == TASK_COMPLETE,
+            Sight::TdRetired(_) => true,
         }
     }
 }

@@ -72,17 +72,13 @@ pub type NoMemory = AllocError;
 /// The most clients of a host.
 pub const MAX_CLIENTS: usize = 31;
 
-const _: () = prove!(MAX_CLIENTS == 31);
-
 /// Words of 64 marks, enough for a mark of each client.
 const CLIENT_WORDS: usize = 1;
-
-const _: () = prove!(CLIENT_WORDS == 1);
 
 /// How many doorbells one call can ring at most.
 pub const MOST_DOORS: usize = 256;
 
-const _: () = prove!(MOST_DOORS == 256);
+const _: () = prove!(MAX_CLIENTS == 31 && CLIENT_WORDS == 1 && MOST_DOORS == 256);
 
 /// A client and a slot, the index of a tag less 1.
 #[derive(Clone, Copy, Debug, PartialEq, Eq)]

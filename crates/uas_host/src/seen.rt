@@ -1,20 +1,44 @@
 // What the host makes of what an event tells.
-ghost use Rattle.std.specs.Prelude.{◌≡◌, ◌<◌, ◌≤◌, MatchOption, IfSome, Some, true, false, length, option_and_then, option_map};
+ghost use Rattle.std.specs.Prelude.{◌≡◌, ℕ, ◌<◌, ◌≤◌, List, MatchOption, IfSome, Some, true, false, length, option_and_then, option_map};
 ghost use Rattle.scsi_cmd.specs.Held.{held_at};
 ghost use Rattle.scsi_cmd.specs.Request.{is_command, request_direction};
-ghost use Rattle.scsi_cmd.specs.declared.TheConstants.{TAGS};
+ghost use Rattle.scsi_cmd.specs.declared.TheConstants.{MAX_SENSE_BYTES, TAGS};
 ghost use Rattle.uas_host.specs.Seen.{after_response, client_seen, completes, data_after, doomed, goes_to_device, goes_to_host, host_seen};
 ghost use Rattle.uas_host.specs.Seen.{is_data_left_over, is_doomed, is_td_left_over, left_over_data, noted_in, place_seen, seen, seen_data, with_retired};
-ghost use Rattle.uas_host.specs.declared.Notice.TheVariants.{TdRetired};
+ghost use Rattle.uas_host.specs.Sights.{notice_by};
+ghost use Rattle.uas_host.specs.declared.Notice.TheVariants.{Answered, TdRetired};
 ghost use Rattle.uas_host.specs.State.{is_data_over, is_left_over, is_over, is_pending, is_ready, is_retired, is_seen};
 
 use crate::left::settle;
 use crate::tags::place_of_tag;
-use crate::{Host, HostAnswer, HostClient, HostEntry, Notice, Place, TdState};
+use crate::{Host, HostAnswer, HostClient, HostEntry, Place, TdState};
 use arrayvec::ArrayVec;
-use scsi_cmd::{CHECK_CONDITION, Direction, Request, TAGS, TASK_SLOT, moves};
+use scsi_cmd::{CHECK_CONDITION, Direction, MAX_SENSE_BYTES, Request, TAGS, TASK_SLOT, moves};
 use stream_array::Pipe;
 use uas_iu::TASK_COMPLETE;
+
+/// What an event tells, but for the sense of a status, which stays in the status buffer.
+#[derive(Clone, Copy)]
+pub(crate) enum Sight {
+    CommandSeen,
+    DataInSeen,
+    DataOutSeen,
+    Answered { status: u8 },
+    Responded { code: u8 },
+    TdRetired(Pipe),
+}
+
+/// Sense as it is held.
+fn held_sense(bytes: &[u8]) -> ArrayVec<u8, MAX_SENSE_BYTES>
+    requires { length bytes.now ≤ MAX_SENSE_BYTES }
+    ensures { result.items ≡ bytes.now }
+{
+    let mut sense = ArrayVec::new();
+    if !bytes.is_empty() {
+        sense.try_extend_from_slice(bytes).unwrap();
+    }
+    sense
+}
 
 impl TdState {
     pub(crate) fn is_pending(self) -> bool
@@ -175,36 +199,48 @@ impl HostEntry {
         tickets
     }
 
-    /// The host sees an event; false, and nothing changes, where it waits for no such event.
-    fn see(&mut self, notice: Notice) -> bool
-        ensures { MatchOption (seen notice self.old) ((result ≡ false) × (self.new ≡ self.old)) (λ now. (result ≡ true) × (self.new ≡ now)) }
+    /// The status and the sense of a command come; false, and nothing changes, where it waits for none.
+    fn answer(&mut self, status: u8, sense: &[u8]) -> bool
+        requires { length sense.now ≤ MAX_SENSE_BYTES }
+        ensures { MatchOption (seen (Answered status (record { items = sense.now })) self.old) ((result ≡ false) × (self.new ≡ self.old))
+            (λ now. (result ≡ true) × (self.new ≡ now)) }
     {
-        match notice {
-            Notice::CommandSeen => {
+        if !self.is_command() || !self.status_td.is_pending() {
+            return false;
+        }
+        settle_data(&mut self.data_td, status);
+        self.told = HostAnswer::Status {
+            status,
+            sense: held_sense(sense),
+        };
+        self.status_td = TdState::Seen;
+        true
+    }
+
+    /// The host sees an event; false, and nothing changes, where it waits for no such event.
+    fn see(&mut self, sight: Sight, sense: &[u8]) -> bool
+        requires { length sense.now ≤ MAX_SENSE_BYTES }
+        ensures { MatchOption (seen (notice_by sense.now sight) self.old) ((result ≡ false) × (self.new ≡ self.old))
+            (λ now. (result ≡ true) × (self.new ≡ now)) }
+    {
+        match sight {
+            Sight::CommandSeen => {
                 if !self.command_td.is_pending() {
                     return false;
                 }
                 self.command_td = TdState::Seen;
                 true
             }
-            Notice::DataInSeen => {
+            Sight::DataInSeen => {
                 let right = matches!(self.direction(), Direction::ToHost);
                 self.see_data(right)
             }
-            Notice::DataOutSeen => {
+            Sight::DataOutSeen => {
                 let right = matches!(self.direction(), Direction::ToDevice);
                 self.see_data(right)
             }
-            Notice::Answered { status, sense } => {
-                if !self.is_command() || !self.status_td.is_pending() {
-                    return false;
-                }
-                settle_data(&mut self.data_td, status);
-                self.told = HostAnswer::Status { status, sense };
-                self.status_td = TdState::Seen;
-                true
-            }
-            Notice::Responded { code } => {
+            Sight::Answered { status } => self.answer(status, sense),
+            Sight::Responded { code } => {
                 if self.is_command() || !self.status_td.is_pending() {
                     return false;
                 }
@@ -212,20 +248,21 @@ impl HostEntry {
                 self.status_td = TdState::Seen;
                 true
             }
-            Notice::TdRetired(pipe) => self.retire(pipe),
+            Sight::TdRetired(pipe) => self.retire(pipe),
         }
     }
 }
 
 /// The host sees an event of what is held; whether its command is ready now. None, and nothing changes, where it
 /// waits for no such event.
-fn see_held(held: &mut Option<HostEntry>, notice: Notice) -> Option<bool>
-    ensures { MatchOption (option_and_then (seen notice) held.old) ((result ≡ None) × (held.new ≡ held.old))
+fn see_held(held: &mut Option<HostEntry>, sight: Sight, sense: &[u8]) -> Option<bool>
+    requires { length sense.now ≤ MAX_SENSE_BYTES }
+    ensures { MatchOption (option_and_then (seen (notice_by sense.now sight)) held.old) ((result ≡ None) × (held.new ≡ held.old))
         (λ now. (result ≡ Some (is_ready now)) × (held.new ≡ Some now)) }
 {
     match held {
         Some(entry) => {
-            if entry.see(notice) {
+            if entry.see(sight, sense) {
                 Some(entry.is_ready())
             } else {
                 None
@@ -263,24 +300,26 @@ fn noted_by(held: &Option<HostEntry>) -> ArrayVec<u64, TASK_SLOT>
     }
 }
 
-impl Notice {
+impl Sight {
     /// Whether it is the response COMPLETE.
-    fn completes(&self) -> bool
-        ensures { result ≡ completes self.now }
+    fn completes(self) -> bool
+        ensures { (sense : List ℕ) → result ≡ completes (notice_by sense self) }
     {
-        matches!(self, Notice::Responded { code } if *code == TASK_COMPLETE)
+        matches!(self, Sight::Responded { code } if code == TASK_COMPLETE)
     }
 }
 
 impl HostClient {
     /// The host sees an event of a slot; false, and nothing changes, where it waits for no such event.
-    fn see(&mut self, slot: usize, notice: Notice) -> bool
+    fn see(&mut self, slot: usize, sight: Sight, sense: &[u8]) -> bool
         requires slot { slot < TAGS }
-        requires room { IfSome (client_seen notice self.old slot) (λ now. length now.ready.items ≤ TAGS) }
-        ensures { MatchOption (client_seen notice self.old slot) ((result ≡ false) × (self.new ≡ self.old)) (λ now. (result ≡ true) × (self.new ≡ now)) }
+        requires sense { length sense.now ≤ MAX_SENSE_BYTES }
+        requires room { IfSome (client_seen (notice_by sense.now sight) self.old slot) (λ now. length now.ready.items ≤ TAGS) }
+        ensures { MatchOption (client_seen (notice_by sense.now sight) self.old slot) ((result ≡ false) × (self.new ≡ self.old))
+            (λ now. (result ≡ true) × (self.new ≡ now)) }
     {
-        let completes = notice.completes();
-        match see_held(&mut self.entries[slot], notice) {
+        let completes = sight.completes();
+        match see_held(&mut self.entries[slot], sight, sense) {
             None => false,
             Some(ready) => {
                 if completes {
@@ -298,25 +337,29 @@ impl HostClient {
 
 impl Host {
     /// The host sees an event of a place; false, and nothing changes, where it waits for no such event.
-    pub(crate) fn see_at(&mut self, place: Place, notice: Notice) -> bool
+    pub(crate) fn see_at(&mut self, place: Place, sight: Sight, sense: &[u8]) -> bool
         requires client { place.client < length self.old.clients }
         requires slot { place.slot < TAGS }
-        ensures { MatchOption (place_seen notice self.old place) ((result ≡ false) × (self.new ≡ self.old)) (λ now. (result ≡ true) × (self.new ≡ now)) }
+        requires sense { length sense.now ≤ MAX_SENSE_BYTES }
+        ensures { MatchOption (place_seen (notice_by sense.now sight) self.old place) ((result ≡ false) × (self.new ≡ self.old))
+            (λ now. (result ≡ true) × (self.new ≡ now)) }
     {
-        let changed = notice.moves_left_over();
+        let changed = sight.moves_left_over();
         let held = &mut self.clients[place.client];
-        let saw = held.see(place.slot, notice);
+        let saw = held.see(place.slot, sight, sense);
         settle(&mut self.marks, place.client, changed, held);
         saw
     }
 
     /// The host sees an event of a tag; false, and nothing changes, where it waits for no such event.
-    pub(crate) fn see(&mut self, tag: u16, notice: Notice) -> bool
-        ensures { MatchOption (host_seen notice self.old tag) ((result ≡ false) × (self.new ≡ self.old)) (λ now. (result ≡ true) × (self.new ≡ now)) }
+    pub(crate) fn see(&mut self, tag: u16, sight: Sight, sense: &[u8]) -> bool
+        requires { length sense.now ≤ MAX_SENSE_BYTES }
+        ensures { MatchOption (host_seen (notice_by sense.now sight) self.old tag) ((result ≡ false) × (self.new ≡ self.old))
+            (λ now. (result ≡ true) × (self.new ≡ now)) }
     {
         let Some(place) = place_of_tag(self.clients.len(), tag) else {
             return false;
         };
-        self.see_at(place, notice)
+        self.see_at(place, sight, sense)
     }
 }

@@ -1,11 +1,12 @@
 // The TDs of a command and of a task management as TRBs, and their way onto the rings.
-ghost use Rattle.std.specs.Prelude.{◌≡◌, ◌+◌, ◌-◌, ◌*◌, ◌<◌, ◌≤◌, ◌^◌, length, take};
+ghost use Rattle.std.specs.Prelude.{◌≡◌, ◌+◌, ◌-◌, ◌*◌, ◌<◌, ◌≤◌, ◌^◌, [], ◌∷◌, length, take};
 ghost use Rattle.scsi_cmd.specs.Op.{moved_bytes};
 ghost use Rattle.scsi_cmd.specs.declared.Direction.{Direction};
+ghost use Rattle.xhci_trb.specs.declared.Trb.TheVariants as Trb;
 ghost use Rattle.stream_array.specs.Map.{HasRing, HasStreams, places_of};
 ghost use Rattle.stream_array.specs.Rings.{ring_of};
 ghost use Rattle.uas_host.specs.Tds.{command_td, data_td, data_trb, data_trb_count, packets_left, pushed, pushed_task, put_on, status_td, task_td};
-ghost use Rattle.uas_host.specs.Tds.{with_data_td, HasDataRoom, HasRoom, HasTaskRoom, HasTdRoom, IsOnData};
+ghost use Rattle.uas_host.specs.Tds.{window_of, with_data_td, HasDataRoom, HasRoom, HasTaskRoom, HasTdRoom, IsOnData};
 
 use frame_store::{COMMAND_BYTES, STATUS_BYTES};
 use scsi_cmd::{Direction, Op, moves};
@@ -16,97 +17,81 @@ use xhci_trb::{Trb, TrbFlags};
 /// Bytes of a data TRB; the last of a TD has what is left.
 const DATA_TRB_BYTES: usize = 4096;
 
-const _: () = prove!(DATA_TRB_BYTES == 4096);
-
 /// Bytes of a packet (xHCI 4.11.2.4, TD Size).
 const PACKET_BYTES: usize = 1024;
-
-const _: () = prove!(PACKET_BYTES == 1024);
 
 /// The greatest TD Size.
 const MOST_PACKETS: usize = 31;
 
-const _: () = prove!(MOST_PACKETS == 31);
-
 /// The most TRBs of a data TD: 65,536 bytes.
 const MOST_DATA_TRBS: usize = 16;
 
-const _: () = prove!(MOST_DATA_TRBS == 16);
+const _: () = prove!(
+    DATA_TRB_BYTES == 4096 && PACKET_BYTES == 1024 && MOST_PACKETS == 31 && MOST_DATA_TRBS == 16
+);
 
 /// The window of tag 0, which no command has.
 const WINDOWS: u64 = 0x1_0000_0000;
 
-const _: () = prove!(WINDOWS == 0x1_0000_0000);
-
 /// From one tag's window to the next.
 const WINDOW_SPAN: u64 = 0x1_0000;
 
-const _: () = prove!(WINDOW_SPAN == 0x1_0000);
+const _: () = prove!(WINDOWS == 0x1_0000_0000 && WINDOW_SPAN == 0x1_0000);
 
 /// The status buffer of tag 0.
 const STATUS_BUFFERS: u64 = 0x2000_0000;
 
-const _: () = prove!(STATUS_BUFFERS == 0x2000_0000);
-
 /// The command buffer of tag 0.
 pub(crate) const COMMAND_BUFFERS: u64 = 0x1000_0000;
-
-const _: () = prove!(COMMAND_BUFFERS == 0x1000_0000);
 
 /// From one tag's command buffer, or status buffer, to the next.
 pub(crate) const BUFFER_SPAN: u64 = 0x100;
 
-const _: () = prove!(BUFFER_SPAN == 0x100);
+const _: () = prove!(
+    STATUS_BUFFERS == 0x2000_0000 && COMMAND_BUFFERS == 0x1000_0000 && BUFFER_SPAN == 0x100
+);
 
-const _: () = prove!(COMMAND_BYTES == 32);
-
-const _: () = prove!(STATUS_BYTES == 112);
-
-const _: () = prove!(TASK_BYTES == 16);
-
-const _: () = prove!(TrbFlags::CH.0 == 8);
-
-const _: () = prove!(TrbFlags::IOC.0 == 16);
+const _: () = prove!(COMMAND_BYTES == 32 && STATUS_BYTES == 112 && TASK_BYTES == 16);
 
 /// ISP and IOC.
 const STATUS_FLAGS: TrbFlags = TrbFlags(TrbFlags::ISP.0 + TrbFlags::IOC.0);
 
-const _: () = prove!(STATUS_FLAGS.0 == 18);
+const _: () = prove!(TrbFlags::CH.0 == 8 && TrbFlags::IOC.0 == 16 && STATUS_FLAGS.0 == 18);
+
+/// The TRB of a TD that is the unit in a tag's buffer, of those that begin here.
+#[inline(always)]
+fn unit_trb(buffers: u64, tag: u16, bytes: usize, flags: TrbFlags) -> [Trb; 1]
+    requires buffers { buffers ≤ 536870912 }
+    requires bytes { bytes ≤ 112 }
+    ensures { result ≡ Trb.Normal (buffers + 256 * tag) bytes 0 flags ∷ [] }
+{
+    [Trb::Normal {
+        pointer: buffers + BUFFER_SPAN * u64::from(tag),
+        length: bytes as u32,
+        td_size: 0,
+        flags,
+    }]
+}
 
 /// The TRB of a status TD: room for the longest unit.
 fn status_trb(tag: u16) -> [Trb; 1]
     ensures { result ≡ status_td tag }
 {
-    [Trb::Normal {
-        pointer: STATUS_BUFFERS + BUFFER_SPAN * u64::from(tag),
-        length: STATUS_BYTES as u32,
-        td_size: 0,
-        flags: STATUS_FLAGS,
-    }]
+    unit_trb(STATUS_BUFFERS, tag, STATUS_BYTES, STATUS_FLAGS)
 }
 
 /// The TRB of a command TD: the Command unit.
 fn command_trb(tag: u16) -> [Trb; 1]
     ensures { result ≡ command_td tag }
 {
-    [Trb::Normal {
-        pointer: COMMAND_BUFFERS + BUFFER_SPAN * u64::from(tag),
-        length: COMMAND_BYTES as u32,
-        td_size: 0,
-        flags: TrbFlags::IOC,
-    }]
+    unit_trb(COMMAND_BUFFERS, tag, COMMAND_BYTES, TrbFlags::IOC)
 }
 
 /// The TRB of the command TD of a task management: the Task Management unit.
 fn task_trb(tag: u16) -> [Trb; 1]
     ensures { result ≡ task_td tag }
 {
-    [Trb::Normal {
-        pointer: COMMAND_BUFFERS + BUFFER_SPAN * u64::from(tag),
-        length: TASK_BYTES as u32,
-        td_size: 0,
-        flags: TrbFlags::IOC,
-    }]
+    unit_trb(COMMAND_BUFFERS, tag, TASK_BYTES, TrbFlags::IOC)
 }
 
 /// How many packets so many bytes make, at most 31.
@@ -135,13 +120,21 @@ fn data_trb_at(pointer: u64, left: usize, more: usize) -> Trb
     }
 }
 
+/// The address of a tag's window.
+fn window_of(tag: u16) -> u64
+    requires { tag ≤ 248 }
+    ensures { result ≡ window_of tag }
+{
+    WINDOWS + WINDOW_SPAN * u64::from(tag)
+}
+
 /// The TRBs of a data TD, in the first places of the array.
 fn data_trbs_of(tag: u16, bytes: usize) -> [Trb; MOST_DATA_TRBS]
     requires last_tag { tag ≤ 248 }
     requires most { bytes ≤ 65536 }
     ensures { take (data_trb_count bytes) result ≡ data_td tag bytes }
 {
-    let window = WINDOWS + WINDOW_SPAN * u64::from(tag);
+    let window = window_of(tag);
     let count = bytes.div_ceil(DATA_TRB_BYTES);
     let mut trbs = [data_trb_at(window, bytes, 0); MOST_DATA_TRBS];
     for k in 0..count {
@@ -149,6 +142,22 @@ fn data_trbs_of(tag: u16, bytes: usize) -> [Trb; MOST_DATA_TRBS]
         trbs[k] = data_trb_at(window + before as u64, bytes - before, count - 1 - k);
     }
     trbs
+}
+
+/// Pushes a data TD of more than one TRB on a pipe. Asks room for its TRBs.
+#[inline(never)]
+fn push_chunks(lines: &mut Lines, pipe: Pipe, tag: u16, bytes: usize)
+    requires ring { HasRing pipe tag }
+    requires streams { HasStreams pipe }
+    requires last_tag { tag ≤ 248 }
+    requires some { 0 < bytes }
+    requires most { bytes ≤ 65536 }
+    requires room { HasRoom lines.old pipe tag (data_trb_count bytes) }
+    ensures { lines.new ≡ put_on lines.old pipe tag (data_td tag bytes) }
+{
+    let trbs = data_trbs_of(tag, bytes);
+    let count = bytes.div_ceil(DATA_TRB_BYTES);
+    lines.push_td(pipe, tag, &trbs[..count]).unwrap();
 }
 
 /// Pushes a data TD on a pipe. Asks at least one byte and room for its TRBs.
@@ -162,9 +171,12 @@ fn push_data(lines: &mut Lines, pipe: Pipe, tag: u16, bytes: usize)
     requires room { HasRoom lines.old pipe tag (data_trb_count bytes) }
     ensures { lines.new ≡ put_on lines.old pipe tag (data_td tag bytes) }
 {
-    let trbs = data_trbs_of(tag, bytes);
-    let count = bytes.div_ceil(DATA_TRB_BYTES);
-    lines.push_td(pipe, tag, &trbs[..count]).unwrap();
+    if bytes <= DATA_TRB_BYTES {
+        let trb = [data_trb_at(window_of(tag), bytes, 0)];
+        lines.push_td(pipe, tag, &trb).unwrap();
+    } else {
+        push_chunks(lines, pipe, tag, bytes);
+    }
 }
 
 /// Pushes the data TD on the pipe of its direction, where there is one.

@@ -198,13 +198,6 @@ fn submit_inquiry(rt: &impl Abort, alloc: Global, rig: &mut Rig) -> Result<(), A
     Ok(())
 }
 
-#[test]
-fn inquiry_of_36_on_tag_18(rt: HostRuntime) -> Result<(), Fail> {
-    let mut rig = Rig::new(rt.alloc())?;
-    submit_inquiry(&rt, rt.alloc(), &mut rig)?;
-    Ok(())
-}
-
 /// READ of 128 blocks on tag 1, twice: the second one wraps, with CH in the Link and the other cycle bit behind it.
 fn read_twice(rt: &impl Abort, alloc: Global, rig: &mut Rig) -> Result<(), AllocError> {
     submit(rt, alloc, rig, (0, 1, 0), read_of(128))?;
@@ -215,12 +208,8 @@ fn read_twice(rt: &impl Abort, alloc: Global, rig: &mut Rig) -> Result<(), Alloc
     advance(rt, rig, Pipe::Command, 0, 1);
     advance(rt, rig, Pipe::DataIn, 1, 16);
     advance(rt, rig, Pipe::Status, 1, 1);
-    write(
-        rt,
-        rig,
-        0x2000_0100,
-        b"\x03\x00\x00\x01\x00\x00\x00\x00\x00\x00\x00\x00\x00\x00\x00\x00",
-    );
+    let good = b"\x03\x00\x00\x01\x00\x00\x00\x00\x00\x00\x00\x00\x00\x00\x00\x00";
+    write(rt, rig, 0x2000_0100, good);
     assert_eq!(rt; transfer(rig, 0x4100_0000, 0, 1), 1);
     assert_eq!(rt; transfer(rig, 0x4300_10f0, 0, 1), 1);
     assert_eq!(rt; transfer(rig, 0x4200_1000, 96, 13), 1);
@@ -230,13 +219,6 @@ fn read_twice(rt: &impl Abort, alloc: Global, rig: &mut Rig) -> Result<(), Alloc
     assert_image(rt, rig.lines.image(Pipe::DataIn, 1, 12), wrapped);
     let link = b"\x00\x10\x00\x43\x00\x00\x00\x00\x00\x00\x00\x00\x13\x18\x00\x00";
     assert_image(rt, rig.lines.image(Pipe::DataIn, 1, 19), link);
-    Ok(())
-}
-
-#[test]
-fn reads_of_128_blocks_on_tag_1(rt: HostRuntime) -> Result<(), Fail> {
-    let mut rig = Rig::new(rt.alloc())?;
-    read_twice(&rt, rt.alloc(), &mut rig)?;
     Ok(())
 }
 
@@ -297,11 +279,11 @@ fn event_of(rt: &impl Abort, bytes: &[u8]) -> Event {
         Ok(
             (
                 Trb::TransferEvent {
-                    pointer,
-                    residual,
-                    code,
-                    endpoint,
                     slot,
+                    endpoint,
+                    code,
+                    residual,
+                    pointer,
                 },
                 _,
             ),
@@ -345,30 +327,16 @@ fn match_events(rt: &impl Abort, alloc: Global, rig: &mut Rig) -> Result<(), All
     advance(rt, rig, Pipe::DataOut, 18, 1);
     advance(rt, rig, Pipe::Status, 1, 1);
     advance(rt, rig, Pipe::Status, 18, 1);
-    write(
-        rt,
-        rig,
-        0x2000_0100,
-        b"\x03\x00\x00\x01\x00\x00\x00\x00\x00\x00\x00\x00\x00\x00\x00\x00",
-    );
-    write(
-        rt,
-        rig,
-        0x2000_1200,
-        b"\x03\x00\x00\x12\x00\x00\x02\x00\x00\x00\x00\x00\x00\x00\x00\x12\x70\x00\x03\x00\x00\x00\x00\x0a\x00\x00\x00\x00\x0c\x00\x00\x00\x00\x00",
-    );
+    let good = b"\x03\x00\x00\x01\x00\x00\x00\x00\x00\x00\x00\x00\x00\x00\x00\x00";
+    write(rt, rig, 0x2000_0100, good);
+    let checked =
+        b"\x03\x00\x00\x12\x00\x00\x02\x00\x00\x00\x00\x00\x00\x00\x00\x12\x70\x00\x03\x00\x00\x00\x00\x0a\x00\x00\x00\x00\x0c\x00\x00\x00\x00\x00";
+    write(rt, rig, 0x2000_1200, checked);
     for row in EVENTS.chunks_exact(17) {
         assert!(rt; row.len() == 17);
         let event = event_of(rt, &row[..16]);
         assert_eq!(rt; answer_to(rig, event), u16::from(row[16]));
     }
-    Ok(())
-}
-
-#[test]
-fn events_matched_and_stray(rt: HostRuntime) -> Result<(), Fail> {
-    let mut rig = Rig::new(rt.alloc())?;
-    match_events(&rt, rt.alloc(), &mut rig)?;
     Ok(())
 }
 
@@ -408,13 +376,6 @@ fn retire_beside_a_read(rt: &impl Abort, alloc: Global, rig: &mut Rig) -> Result
     end(rt, rig, Pipe::DataIn, 18);
     assert_doors(rt, rig, &[0x0019_0005, 0x001a_0005]);
     assert!(rt; begin(rt, rig, Pipe::Status, 18));
-    Ok(())
-}
-
-#[test]
-fn retired_beside_a_read(rt: HostRuntime) -> Result<(), Fail> {
-    let mut rig = Rig::new(rt.alloc())?;
-    retire_beside_a_read(&rt, rt.alloc(), &mut rig)?;
     Ok(())
 }
 
@@ -506,12 +467,8 @@ fn follow(rt: &impl Abort, alloc: Global, rig: &mut Rig, row: &[u8]) -> Result<(
     abort(rt, rig, 17);
     advance(rt, rig, Pipe::Command, 0, 2);
     advance(rt, rig, Pipe::Status, 24, 1);
-    write(
-        rt,
-        rig,
-        0x2000_1100,
-        b"\x03\x00\x00\x11\x00\x00\x02\x00\x00\x00\x00\x00\x00\x00\x00\x00",
-    );
+    let checked = b"\x03\x00\x00\x11\x00\x00\x02\x00\x00\x00\x00\x00\x00\x00\x00\x00";
+    write(rt, rig, 0x2000_1100, checked);
     write(rt, rig, 0x2000_1800, b"\x04\x00\x00\x18\x00\x00\x00\x00");
     assert_eq!(rt; transfer(rig, 0x4100_0010, 0, 1), 24);
     let late = row[5] == b'a';
@@ -526,10 +483,30 @@ fn follow(rt: &impl Abort, alloc: Global, rig: &mut Rig, row: &[u8]) -> Result<(
 }
 
 #[test]
+fn inquiry_of_36_on_tag_18(rt: HostRuntime) -> Result<(), Fail> {
+    Ok(submit_inquiry(&rt, rt.alloc(), &mut Rig::new(rt.alloc())?)?)
+}
+
+#[test]
+fn reads_of_128_blocks_on_tag_1(rt: HostRuntime) -> Result<(), Fail> {
+    Ok(read_twice(&rt, rt.alloc(), &mut Rig::new(rt.alloc())?)?)
+}
+
+#[test]
+fn events_matched_and_stray(rt: HostRuntime) -> Result<(), Fail> {
+    Ok(match_events(&rt, rt.alloc(), &mut Rig::new(rt.alloc())?)?)
+}
+
+#[test]
 fn every_order_of_an_aborted_read(rt: HostRuntime) -> Result<(), Fail> {
     for row in ORDERS.chunks_exact(6) {
         let mut rig = Rig::new(rt.alloc())?;
         follow(&rt, rt.alloc(), &mut rig, row)?;
     }
     Ok(())
+}
+
+#[test]
+fn retired_beside_a_read(rt: HostRuntime) -> Result<(), Fail> {
+    Ok(retire_beside_a_read(&rt, rt.alloc(), &mut Rig::new(rt.alloc())?)?)
 }

@@ -1,17 +1,20 @@
 // The units in a tag's buffers.
-ghost use Rattle.std.specs.Prelude.{◌≡◌, ◌≤◌, ◌<◌, ◌++◌, drop, length, None, Some};
+ghost use Rattle.std.specs.Prelude.{◌≡◌, ◌≤◌, ◌<◌, ◌++◌, drop, length, option_map, None};
 ghost use Rattle.scsi_cmd.specs.declared.Command.{Command};
 ghost use Rattle.frame_store.specs.Buffers.{held_for, with_held};
-ghost use Rattle.uas_host.specs.Events.{answer_by, answer_in};
+ghost use Rattle.uas_host.specs.Events.{answer_in};
+ghost use Rattle.uas_host.specs.Sights.{notice_by};
 ghost use Rattle.uas_host.specs.Submit.{command_text, lent};
 ghost use Rattle.uas_host.specs.Tasks.{aborted_tag, function_of, task_tag, task_text, with_task_unit};
 
-use crate::Notice;
+use crate::seen::Sight;
 use crate::tags::task_tag_of;
 use arrayvec::ArrayVec;
 use frame_store::Frames;
 use scsi_cmd::{Buffer, Command, Op, Task, cdb};
-use uas_iu::{ABORT_TASK, Iu, LOGICAL_UNIT_RESET, MAX_UNIT_BYTES, lun_bytes, read, write};
+use uas_iu::{
+    ABORT_TASK, AnswerHead, Iu, LOGICAL_UNIT_RESET, MAX_UNIT_BYTES, answer_head, lun_bytes, write,
+};
 
 /// The Command unit of an operation for the logical unit of a client.
 fn command_unit(client: u8, tag: u16, op: &Op) -> ArrayVec<u8, MAX_UNIT_BYTES>
@@ -106,42 +109,17 @@ pub(crate) fn write_task(frames: &mut Frames, client: u8, task: Task)
     write_front(frames.iu(task_tag_of(usize::from(client))), &unit);
 }
 
-/// The answer that a unit tells, if it is a Sense or a Response unit of this tag.
-fn answer_by_unit(tag: u16, unit: Iu) -> Option<Notice>
-    ensures { result ≡ answer_by tag unit }
+/// What the bytes of a Sense or a Response unit of a tag tell, if they are one.
+pub(crate) fn read_answer(tag: u16, bytes: &[u8]) -> Option<Sight>
+    ensures { option_map (notice_by (drop 16 bytes.now)) result ≡ answer_in tag bytes.now }
 {
-    match unit {
-        Iu::Sense {
-            tag: told_tag,
-            status,
-            sense,
-        } => {
-            if told_tag == tag {
-                Some(Notice::Answered { status, sense })
-            } else {
-                None
-            }
+    match answer_head(bytes) {
+        Some(AnswerHead::Sense { tag: told, status }) if told == tag => {
+            Some(Sight::Answered { status })
         }
-        Iu::Response {
-            tag: told_tag,
-            code,
-        } => {
-            if told_tag == tag {
-                Some(Notice::Responded { code })
-            } else {
-                None
-            }
+        Some(AnswerHead::Response { tag: told, code }) if told == tag => {
+            Some(Sight::Responded { code })
         }
         _ => None,
-    }
-}
-
-/// The answer that the bytes of a Sense or a Response unit of a tag tell, if they are one.
-pub(crate) fn read_answer(tag: u16, bytes: &[u8]) -> Option<Notice>
-    ensures { result ≡ answer_in tag bytes.now }
-{
-    match read(bytes) {
-        Ok(unit) => answer_by_unit(tag, unit),
-        Err(_) => None,
     }
 }

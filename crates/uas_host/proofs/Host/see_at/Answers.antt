@@ -1,6 +1,7 @@
 use Rattle.std.proofs.Common.{◌≡◌, ◌<◌, ◌∙◌, length, subst, sym}
 use Rattle.std.proofs.lemmas.List.{get_or_default}
 use Rattle.uas_host.specs.State.{HostState, client_of, new_client}
+use Rattle.uas_host.specs.Sights.{notice_by}
 use Rattle.uas_host.proofs.LeftOver.{AreMarked-seen}
 use Rattle.uas_host.proofs.Seeing.{HasSeen, client_seen-room, has_seen-host, place_seen-client}
 use Rattle.uas_host.proofs.Host.see_at.Goals as goal
@@ -12,7 +13,8 @@ see-saw-requires-clause-room c =
     let there : place.client < length host.clients = subst (λ (h : HostState). place.client < length h.clients) (sym c.self.view_is) c.requires.client in
     let held : c.index_mut-held.result.now ≡ client_of host place.client =
     c.index_mut-held.ensures.value ∙ get_or_default host.clients place.client _ new_client there in
-    rw held (client_seen-room c.args.notice (client_of host place.client) place.slot c.requires.slot (c.self.invariant.0.clients place.client there))
+    rw held (client_seen-room (notice_by c.args.sense.now c.args.sight) (client_of host place.client) place.slot
+    c.requires.slot (c.self.invariant.0.clients place.client there))
 
 pub invariant_of-self : goal.invariant_of-self
 invariant_of-self c =
@@ -21,10 +23,13 @@ invariant_of-self c =
     let there : place.client < length host.clients = subst (λ (h : HostState). place.client < length h.clients) (sym c.self.view_is) c.requires.client in
     let held : c.index_mut-held.result.now ≡ client_of host place.client =
     c.index_mut-held.ensures.value ∙ get_or_default host.clients place.client _ new_client there in
-    let seen : HasSeen c.args.notice (client_of host place.client) place.slot c.see-saw.new.self c.see-saw.result = rw held at c.see-saw.ensures in (
-      has_seen-host c.args.notice host place.client place.slot c.see-saw.new.self c.see-saw.result there c.requires.slot c.self.invariant.0 seen,
-      AreMarked-seen c.self.inside.marks c.settle.new.marks c.args.notice host place.client place.slot c.see-saw.new.self c.see-saw.result there
-          c.self.invariant.1 seen (rw c.moves_left_over-changed.ensures at c.settle.ensures.here) c.settle.ensures.others,
+    let seen : HasSeen (notice_by c.args.sense.now c.args.sight) (client_of host place.client) place.slot c.see-saw.new.self
+    c.see-saw.result = rw held at c.see-saw.ensures in (
+      has_seen-host (notice_by c.args.sense.now c.args.sight) host place.client place.slot c.see-saw.new.self c.see-saw.result there
+          c.requires.slot c.self.invariant.0 seen,
+      AreMarked-seen c.self.inside.marks c.settle.new.marks (notice_by c.args.sense.now c.args.sight) host place.client place.slot
+          c.see-saw.new.self c.see-saw.result there
+          c.self.invariant.1 seen (rw (c.moves_left_over-changed.ensures c.args.sense.now) at c.settle.ensures.here) c.settle.ensures.others,
     )
 
 pub returns : goal.returns
@@ -34,5 +39,6 @@ returns c =
     let there : place.client < length host.clients = subst (λ (h : HostState). place.client < length h.clients) (sym c.self.view_is) c.requires.client in
     let held : c.index_mut-held.result.now ≡ client_of host place.client =
     c.index_mut-held.ensures.value ∙ get_or_default host.clients place.client _ new_client there in
-    let seen : HasSeen c.args.notice (client_of host place.client) place.slot c.see-saw.new.self c.see-saw.result = rw held at c.see-saw.ensures in
-    rw (← c.self.view_is) (place_seen-client c.args.notice host place c.see-saw.new.self c.see-saw.result seen)
+    let seen : HasSeen (notice_by c.args.sense.now c.args.sight) (client_of host place.client) place.slot c.see-saw.new.self
+    c.see-saw.result = rw held at c.see-saw.ensures in
+    rw (← c.self.view_is) (place_seen-client (notice_by c.args.sense.now c.args.sight) host place c.see-saw.new.self c.see-saw.result seen)

@@ -7,6 +7,6 @@ pub loop-k-preserved : goal.loop-k-preserved
 loop-k-preserved c = record {
   places = length-set c.loop-k.trbs c.loop-k.k c.data_trb_at.result ∙ c.loop-k.invariant.places;
   td = next_trb c.loop-k.trbs (data_td c.args.tag c.args.bytes) c.data_trb_at.result c.loop-k.k c.div_ceil-count.result
-      (4294967296 + 65536 * c.from.result) c.args.bytes
+      c.window_of-window.result c.args.bytes
       (omega (arith, c.loop-k.invariant.places)) c.loop-k-test.true c.data_trb_at.ensures c.loop-k.invariant.td;
 }

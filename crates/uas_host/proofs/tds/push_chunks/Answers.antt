@@ -1,7 +1,7 @@
 use Rattle.std.proofs.Common.{◌≡◌, arith}
 use Rattle.uas_host.specs.Tds.{data_trb_count}
 use Rattle.uas_host.proofs.Chains.{data_td-good}
-use Rattle.uas_host.proofs.tds.push_data.Goals as goal
+use Rattle.uas_host.proofs.tds.push_chunks.Goals as goal
 
 pub push_td-requires-clause-td : goal.push_td-requires-clause-td
 push_td-requires-clause-td c =

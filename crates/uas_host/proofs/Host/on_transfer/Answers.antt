@@ -1,0 +1,10 @@
+use Rattle.std.proofs.Common.{sym, ◌∙◌}
+use Rattle.uas_host.proofs.Transfers.{transfer-matched}
+use Rattle.uas_host.proofs.Host.on_transfer.Goals as goal
+
+pub returns : goal.returns
+returns c =
+    transfer-matched c.args.self.now c.see.new.self c.args.lines.now c.free.new.lines c.args.frames.now c.args.pointer c.args.residual c.args.code
+    c.in-Some.td c.status_unit-unit.result.now c.sense_of.result.now c.in-Some-sight_in.sight c.see.result
+    (sym c.td_ended_at.ensures.td ∙ c.in-Some.is) c.status_unit-unit.ensures.unit c.sense_of.ensures (rw c.in-Some-sight_in.is at c.sight_in.ensures)
+    c.see.ensures c.if-not-see.false c.free.ensures

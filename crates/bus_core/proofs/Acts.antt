@@ -150,72 +150,53 @@ pub own_task-after : (client : ℕ) (request : Request) (entries : List (Option 
 own_task-after client (Execute op) entries = refl
 own_task-after client (Manage what noted) entries = own_task-noted client noted.items entries
 
+-- an act on what is there, where there is anything: the client's own on whatever that is
+found-own : {A : Type 0} (client : ℕ) (step : Step) (part : Part) (act : Option A → Act) (found : Option A) → IsOwnAct client step part (act None)
+    → ((it : A) → found ≡ Some it → IsOwnAct client step part (act (Some it))) → IsOwnAct client step part (act found)
+found-own client step part act None vacant on = vacant
+found-own client step part act (Some it) vacant on = on it refl
+
+-- the entry under a slot, as the solo machine has it
+own_task-held : (client : ℕ) (entries : List (Option Entry)) (slot : ℕ) (entry : Entry) → held_at entries slot ≡ Some entry
+    → held_at (map (option_map (own_task client)) entries) slot ≡ Some (own_of client entry.task)
+own_task-held client entries slot entry is = held_at-solo_of client entries slot ∙ ap (option_map (own_task client)) is
+
 -- the device receives the request under a slot
-carried_entry-own : (client : ℕ) (step : Step) (place : Place) (part : Part) (entry : Entry) (after : Option (BlockMaps × TaggedTask))
-    → held_at part.entries place.slot ≡ Some entry → carried part.unit entry.task ≡ after
-    → IsOwnAct client step part (carried_entry part place.slot place entry after)
-carried_entry-own client step place part entry None is none = refl
-carried_entry-own client step place part entry (Some after) is begun =
-    rw (
-      held_at-solo_of client part.entries place.slot,
-      is,
-      carried_from-own client part.unit entry.task entry.task.phase,
-      begun,
+pub carry_act-own : (client : ℕ) (step : Step) (place : Place) (part : Part) → IsOwnAct client step part (carry_act place part)
+carry_act-own client step place part =
+    found-own client step part (carried_slot part place.slot place) (held_at part.entries place.slot) refl
+    (λ entry is. found-own client step part (carried_entry part place.slot place entry) (carried part.unit entry.task) refl
+    (λ after begun. rw (
+      own_task-held client part.entries place.slot entry is,
+      carried_from-own client part.unit entry.task entry.task.phase ∙ ap (option_map (own_after client)) begun,
       map-own_task client (entries_after entry.task.request part.entries) place.slot
           (Some (record entry { task = after.1; command_td = with_trb_taken entry.command_td })),
       own_task-after client entry.task.request part.entries,
-    ) refl
-
-carried_slot-own : (client : ℕ) (step : Step) (place : Place) (part : Part) (held : Option Entry) → held_at part.entries place.slot ≡ held
-    → IsOwnAct client step part (carried_slot part place.slot place held)
-carried_slot-own client step place part None is = refl
-carried_slot-own client step place part (Some entry) is = carried_entry-own client step place part entry (carried part.unit entry.task) is refl
-
-pub carry_act-own : (client : ℕ) (step : Step) (place : Place) (part : Part) → IsOwnAct client step part (carry_act place part)
-carry_act-own client step place part = carried_slot-own client step place part (held_at part.entries place.slot) refl
+    ) refl))
 
 -- the device moves a chunk under a slot
-moved_entry-own : (client : ℕ) (step : Step) (place : Place) (part : Part) (entry : Entry) (after : Option (BlockMaps × TaggedTask))
-    → held_at part.entries place.slot ≡ Some entry → moved part.unit entry.task ≡ after
-    → IsOwnAct client step part (moved_entry part place.slot place entry after)
-moved_entry-own client step place part entry None is none = refl
-moved_entry-own client step place part entry (Some after) is went =
-    rw (
-      held_at-solo_of client part.entries place.slot,
-      is,
-      moved_from-own client part.unit entry.task entry.task.phase,
-      went,
-      map-own_task client part.entries place.slot (Some (record entry { task = after.1; data_td = data_td_after (took_trb after.1.phase) entry.data_td })),
-    ) refl
-
-moved_slot-own : (client : ℕ) (step : Step) (place : Place) (part : Part) (held : Option Entry) → held_at part.entries place.slot ≡ held
-    → IsOwnAct client step part (moved_slot part place.slot place held)
-moved_slot-own client step place part None is = refl
-moved_slot-own client step place part (Some entry) is = moved_entry-own client step place part entry (moved part.unit entry.task) is refl
-
 pub move_act-own : (client : ℕ) (step : Step) (place : Place) (part : Part) → IsOwnAct client step part (move_act place part)
-move_act-own client step place part = moved_slot-own client step place part (held_at part.entries place.slot) refl
+move_act-own client step place part =
+    found-own client step part (moved_slot part place.slot place) (held_at part.entries place.slot) refl
+    (λ entry is. found-own client step part (moved_entry part place.slot place entry) (moved part.unit entry.task) refl
+    (λ after went.
+    let now : Entry = record entry { task = after.1; data_td = data_td_after (took_trb after.1.phase) entry.data_td } in
+    rw (
+      own_task-held client part.entries place.slot entry is,
+      moved_from-own client part.unit entry.task entry.task.phase ∙ ap (option_map (own_after client)) went,
+      map-own_task client part.entries place.slot (Some now),
+    ) refl))
 
 -- the device hands over the answer under a slot
-sent_entry-own : (client : ℕ) (step : Step) (place : Place) (part : Part) (entry : Entry) (task : Option TaggedTask)
-    → held_at part.entries place.slot ≡ Some entry → sent entry.task ≡ task → IsOwnAct client step part (sent_entry part place.slot place entry task)
-sent_entry-own client step place part entry None is none = refl
-sent_entry-own client step place part entry (Some task) is went =
-    rw (
-      held_at-solo_of client part.entries place.slot,
-      is,
-      sent_from-own client entry.task entry.task.phase,
-      went,
-      map-own_task client part.entries place.slot (Some (record entry { task = task; status_td = with_trb_taken entry.status_td })),
-    ) refl
-
-sent_slot-own : (client : ℕ) (step : Step) (place : Place) (part : Part) (held : Option Entry) → held_at part.entries place.slot ≡ held
-    → IsOwnAct client step part (sent_slot part place.slot place held)
-sent_slot-own client step place part None is = refl
-sent_slot-own client step place part (Some entry) is = sent_entry-own client step place part entry (sent entry.task) is refl
-
 pub send_act-own : (client : ℕ) (step : Step) (place : Place) (part : Part) → IsOwnAct client step part (send_act place part)
-send_act-own client step place part = sent_slot-own client step place part (held_at part.entries place.slot) refl
+send_act-own client step place part =
+    found-own client step part (sent_slot part place.slot place) (held_at part.entries place.slot) refl
+    (λ entry is. found-own client step part (sent_entry part place.slot place entry) (sent entry.task) refl
+    (λ task went. rw (
+      own_task-held client part.entries place.slot entry is,
+      sent_from-own client entry.task entry.task.phase ∙ ap (option_map (own_of client)) went,
+      map-own_task client part.entries place.slot (Some (record entry { task = task; status_td = with_trb_taken entry.status_td })),
+    ) refl))
 
 -- seeing an event keeps the task
 pub seen_by-task : (event : Completion) (entry seen : Entry) → seen_by event entry ≡ Some seen → seen.task ≡ entry.task

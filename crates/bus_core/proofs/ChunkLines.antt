@@ -1,29 +1,34 @@
 -- What a chunk leaves of rings, buffers and events.
 use Rattle.std.proofs.Common.{◌≡◌, ℕ, ◌+◌, ◌-◌, ◌*◌, ◌<◌, ◌≤◌, Bool, true, false, not, cond, List, [], ◌∷◌, ◌++◌, length, Option, Some, None, IfSome, refl}
 use Rattle.std.proofs.Common.{arith, ap, sym, subst, ◌∙◌}
-use Rattle.std.specs.Prelude.{slice_set, if◌then◌else◌, ◌==◌}
+use Rattle.std.specs.Prelude.{slice_set, if◌then◌else◌, ◌==◌, ◌&&◌}
 use Rattle.std.specs.Option.{option_map_or}
 use Rattle.std.proofs.lemmas.Bool.{eqb-true, ne_eqb}
 use Rattle.std.proofs.lemmas.List.{append-nil, get_or-set_same, get_or-set_other}
 use Rattle.scsi_cmd.specs.Buffers.{with_bytes_at}
+use Rattle.scsi_cmd.specs.declared.Direction.{Direction}
+use Rattle.scsi_cmd.specs.declared.Direction.TheVariants.{Nothing, ToHost, ToDevice}
 use Rattle.xhci_trb.specs.declared.Trb.{Trb}
 use Rattle.cycle_ring.specs.Ring.{Ring, pointer_of}
 use Rattle.event_ring.specs.declared.Event.{Event}
 use Rattle.event_ring.specs.declared.Event.TheVariants.{Transfer}
-use Rattle.stream_array.specs.declared.Pipe.TheVariants.{DataIn, DataOut}
+use Rattle.stream_array.specs.declared.Pipe.{Pipe}
+use Rattle.stream_array.specs.declared.Pipe.TheVariants.{Command as CommandPipe, DataIn, DataOut}
 use Rattle.stream_array.specs.declared.TheConstants.{STREAM_RING_PLACES}
 use Rattle.stream_array.specs.Rings.{LinesState, stream_ring}
 use Rattle.frame_store.specs.declared.TagBuffers.{TagBuffers}
 use Rattle.frame_store.specs.Buffers.{IsWhole, held_for, no_buffers, with_lent, written}
 use Rattle.uas_host.specs.declared.Place.{Place}
+use Rattle.uas_host.specs.Seen.{goes_to_device, goes_to_host}
 use Rattle.uas_host.specs.Tags.{tag_of}
 use Rattle.uas_host.specs.Tds.{data_td, data_trb_count, window_of}
 use Rattle.xhci_ctl.specs.declared.TheConstants.{SUCCESS, SLOT}
-use Rattle.xhci_ctl.specs.Steps.{Front, after_chunk, endpoint_of}
+use Rattle.xhci_ctl.specs.Steps.{after_chunk, consumed, endpoint_of}
+use Rattle.bus_core.specs.declared.Td.{Td}
 use Rattle.bus_core.specs.Part.{is_last_trb}
 use Rattle.bus_core.specs.Matched.{carried_places}
 use Rattle.bus_core.specs.World.{World}
-use Rattle.bus_core.specs.Cells.{HoldsTd}
+use Rattle.bus_core.specs.Cells.{HoldsData, HoldsTd, HoldsTrbs, data_in_td, data_out_td}
 use Rattle.bus_core.specs.Fits.{data_event, event_texts, last_pointer}
 use Rattle.bus_core.proofs.DataTrbs.{length-data_trbs}
 use Rattle.bus_core.proofs.ChunkWindows.{chunk-written}
@@ -38,70 +43,125 @@ use Rattle.bus_core.proofs.MatchedEntries.{data_event_if}
 abbrev pub chunk_events : Bool → Bool → Event → List Event
 chunk_events took chain event = if took then (if chain then [] else (event ∷ [])) else []
 
--- the front TRB of a tag's ring among these rings was taken, or none was
-pub record TakesTrb (before after : LinesState) (rings now : List Ring) (tag : ℕ) (took : Bool) (posted : List Event) : Type 0 where
+-- the pipe of the data that go this way, and its rings; where nothing goes there are none
+abbrev pub pipe_of : Direction → Pipe
+pipe_of Nothing = CommandPipe
+pipe_of ToHost = DataIn
+pipe_of ToDevice = DataOut
+
+abbrev pub rings_of : Direction → LinesState → List Ring
+rings_of Nothing lines = []
+rings_of ToHost lines = lines.data_in
+rings_of ToDevice lines = lines.data_out
+
+-- the front TRB of a tag's ring among these was taken, or none was
+pub record IsTakenOf (rings now : List Ring) (tag : ℕ) (took : Bool) : Type 0 where
+  pub here : stream_ring now tag ≡ record (stream_ring rings tag) { got = cond took ((stream_ring rings tag).got + 1) (stream_ring rings tag).got }
+  pub others : (other : ℕ) → 0 < other → (other ≡ tag → ⊥) → stream_ring now other ≡ stream_ring rings other
+
+none-taken : (rings : List Ring) (tag : ℕ) → IsTakenOf rings rings tag false
+none-taken rings tag = record { here = refl; others = λ other there apart. refl }
+
+-- a TRB that wasn't taken is one of no pipe
+kept-taken : (rings : List Ring) (tag : ℕ) (mine : Bool) → IsTakenOf rings rings tag (mine && false)
+kept-taken rings tag true = none-taken rings tag
+kept-taken rings tag false = none-taken rings tag
+
+one-taken : (rings : List Ring) (tag : ℕ) → 0 < tag → tag ≤ length rings
+    → IsTakenOf rings (slice_set rings (tag - 1) (record (stream_ring rings tag) { got = (stream_ring rings tag).got + 1 })) tag true
+one-taken rings tag some within =
+    let now : Ring = record (stream_ring rings tag) { got = (stream_ring rings tag).got + 1 } in
+    record {
+      here = stream_ring-same rings tag now some within;
+      others = λ other there apart. stream_ring-other rings tag other now some there apart;
+    }
+
+-- the front TRB of a tag's ring of one way was taken, or none was
+pub record TakesTrb (before after : LinesState) (way : Direction) (tag : ℕ) (took : Bool) (posted : List Event) : Type 0 where
   pub command : after.command ≡ before.command
   pub engine : after.engine ≡ before.engine
   pub status : after.status ≡ before.status
-  pub here : stream_ring now tag ≡ record (stream_ring rings tag) { got = cond took ((stream_ring rings tag).got + 1) (stream_ring rings tag).got }
-  pub others : (other : ℕ) → 0 < other → (other ≡ tag → ⊥) → stream_ring now other ≡ stream_ring rings other
+  pub data_in : IsTakenOf before.data_in after.data_in tag (goes_to_host way && took)
+  pub data_out : IsTakenOf before.data_out after.data_out tag (goes_to_device way && took)
   pub events : after.events.pending ≡ before.events.pending ++ posted
 
--- none was, or one was
-trb-left : (lines : LinesState) (rings : List Ring) (tag : ℕ) → TakesTrb lines lines rings rings tag false []
-trb-left lines rings tag = record {
+-- a TRB of either pipe was taken: the command pipe, the controller's commands, the statuses and the events are as they were
+record IsConsumed (before after : LinesState) (way : Direction) (tag : ℕ) : Type 0 where
+  data_in : IsTakenOf before.data_in after.data_in tag (goes_to_host way && true)
+  data_out : IsTakenOf before.data_out after.data_out tag (goes_to_device way && true)
+  rest : record after { data_in = []; data_out = [] } ≡ record before { data_in = []; data_out = [] }
+
+consumed-on : (lines : LinesState) (way : Direction) (tag : ℕ) → 0 < tag → tag ≤ length (rings_of way lines)
+    → IsConsumed lines (consumed lines (pipe_of way) tag) way tag
+consumed-on lines Nothing tag some within = absurd (omega (arith, some, within))
+consumed-on lines ToHost tag some within =
+    record { data_in = one-taken lines.data_in tag some within; data_out = none-taken lines.data_out tag; rest = refl }
+consumed-on lines ToDevice tag some within =
+    record { data_in = none-taken lines.data_in tag; data_out = one-taken lines.data_out tag some within; rest = refl }
+
+-- and this is posted
+consumed-posted : (before after : LinesState) (way : Direction) (tag : ℕ) (posted pending : List Event) → IsConsumed before after way tag
+    → pending ≡ after.events.pending ++ posted
+    → TakesTrb before (record after { events = record after.events { pending = pending } }) way tag true posted
+consumed-posted before after way tag posted pending it is = record {
+  command = ap (λ (l : LinesState). l.command) it.rest;
+  engine = ap (λ (l : LinesState). l.engine) it.rest;
+  status = ap (λ (l : LinesState). l.status) it.rest;
+  data_in = it.data_in;
+  data_out = it.data_out;
+  events = is ∙ ap (λ (l : LinesState). l.events.pending ++ posted) it.rest;
+}
+
+-- the rings after a chunk
+pub takes-on : (lines : LinesState) (way : Direction) (tag address pointer size : ℕ) (took chain : Bool) → 0 < tag → tag ≤ length (rings_of way lines)
+    → TakesTrb lines (after_chunk took lines (pipe_of way) tag (record { address = address; pointer = pointer; length = size; chain = chain })) way tag took
+    (chunk_events took chain (Transfer address 0 SUCCESS (endpoint_of (pipe_of way)) SLOT))
+takes-on lines way tag address pointer size false chain some within = record {
   command = refl;
   engine = refl;
   status = refl;
-  here = refl;
-  others = λ other there apart. refl;
+  data_in = kept-taken lines.data_in tag (goes_to_host way);
+  data_out = kept-taken lines.data_out tag (goes_to_device way);
   events = sym (append-nil lines.events.pending);
 }
-
-trb-taken : (before after : LinesState) (rings : List Ring) (tag : ℕ) (posted : List Event) → 0 < tag → tag ≤ length rings
-    → after.command ≡ before.command → after.engine ≡ before.engine → after.status ≡ before.status
-    → after.events.pending ≡ before.events.pending ++ posted
-    → TakesTrb before after rings (slice_set rings (tag - 1) (record (stream_ring rings tag) { got = (stream_ring rings tag).got + 1 })) tag true posted
-trb-taken before after rings tag posted some within command engine status events = record {
-  command = command;
-  engine = engine;
-  status = status;
-  here = stream_ring-same rings tag (record (stream_ring rings tag) { got = (stream_ring rings tag).got + 1 }) some within;
-  others = λ other there apart.
-      stream_ring-other rings tag other (record (stream_ring rings tag) { got = (stream_ring rings tag).got + 1 }) some there apart;
-  events = events;
-}
-
-pub takes-in : (lines : LinesState) (tag address pointer size : ℕ) (took chain : Bool) → 0 < tag → tag ≤ length lines.data_in
-    → let front : Front = record { address = address; pointer = pointer; length = size; chain = chain } in
-    TakesTrb lines (after_chunk took lines DataIn tag front) lines.data_in (after_chunk took lines DataIn tag front).data_in tag took
-    (chunk_events took chain (Transfer address 0 SUCCESS (endpoint_of DataIn) SLOT))
-    × ((after_chunk took lines DataIn tag front).data_out ≡ lines.data_out)
-takes-in lines tag address pointer size false chain some within = (trb-left lines lines.data_in tag, refl)
-takes-in lines tag address pointer size true true some within =
-    (trb-taken lines _ lines.data_in tag [] some within refl refl refl (sym (append-nil lines.events.pending)), refl)
-takes-in lines tag address pointer size true false some within = (trb-taken lines _ lines.data_in tag _ some within refl refl refl refl, refl)
-
-pub takes-out : (lines : LinesState) (tag address pointer size : ℕ) (took chain : Bool) → 0 < tag → tag ≤ length lines.data_out
-    → let front : Front = record { address = address; pointer = pointer; length = size; chain = chain } in
-    TakesTrb lines (after_chunk took lines DataOut tag front) lines.data_out (after_chunk took lines DataOut tag front).data_out tag took
-    (chunk_events took chain (Transfer address 0 SUCCESS (endpoint_of DataOut) SLOT))
-    × ((after_chunk took lines DataOut tag front).data_in ≡ lines.data_in)
-takes-out lines tag address pointer size false chain some within = (trb-left lines lines.data_out tag, refl)
-takes-out lines tag address pointer size true true some within =
-    (trb-taken lines _ lines.data_out tag [] some within refl refl refl (sym (append-nil lines.events.pending)), refl)
-takes-out lines tag address pointer size true false some within = (trb-taken lines _ lines.data_out tag _ some within refl refl refl refl, refl)
+takes-on lines way tag address pointer size true true some within =
+    consumed-posted lines _ way tag [] _ (consumed-on lines way tag some within) (sym (append-nil (consumed lines (pipe_of way) tag).events.pending))
+takes-on lines way tag address pointer size true false some within =
+    consumed-posted lines _ way tag _ _ (consumed-on lines way tag some within) refl
 
 -- its enqueue place is where it was
 pub ends-after : (ring now : Ring) (got : ℕ) → now ≡ record ring { got = got } → EndsAlike ring now
 ends-after ring now got is =
     record { base = ap (λ (r : Ring). r.base) is; at = ap (λ (r : Ring). r.at) is; put = ap (λ (r : Ring). r.put) is }
 
--- the ring holds the TD after the chunk
-pub holds-after : (tag bytes chunk : ℕ) (took : Bool) (ring now : Ring) → HoldsTd ring (data_td tag bytes) (moving_td chunk)
-    → now ≡ record ring { got = cond took (ring.got + 1) ring.got } → HoldsTd now (data_td tag bytes) (td_after took chunk)
-holds-after tag bytes chunk true ring now holds is = (ap (λ (r : Ring). r.put) is ∙ holds.0, ap (λ (r : Ring). r.got) is ∙ ap (λ n. n + 1) holds.1)
-holds-after tag bytes chunk false ring now holds is = (ap (λ (r : Ring). r.put) is ∙ holds.0, ap (λ (r : Ring). r.got) is ∙ holds.1)
+-- the ring holds the TD after the chunk, where it is the TD's
+abbrev td_if : Bool → Td → Option Td
+td_if mine td = cond mine (Some td) None
+
+holds-on : (mine took : Bool) (tag bytes chunk : ℕ) (ring now : Ring) → HoldsData ring (data_td tag bytes) (td_if mine (moving_td chunk))
+    → now ≡ record ring { got = cond (mine && took) (ring.got + 1) ring.got } → HoldsData now (data_td tag bytes) (td_if mine (td_after took chunk))
+holds-on true true tag bytes chunk ring now holds is =
+    (ap (λ (r : Ring). r.put) is ∙ holds.0, ap (λ (r : Ring). r.got) is ∙ ap (λ n. n + 1) holds.1)
+holds-on true false tag bytes chunk ring now holds is = subst (λ r. HoldsTd r (data_td tag bytes) (moving_td chunk)) (sym is) holds
+holds-on false took tag bytes chunk ring now holds is = subst (λ r. HoldsTrbs r [] 0) (sym is) holds
+
+pub data_in-if : (way : Direction) (td : Td) → data_in_td way (Some td) ≡ td_if (goes_to_host way) td
+data_in-if Nothing td = refl
+data_in-if ToHost td = refl
+data_in-if ToDevice td = refl
+
+pub data_out-if : (way : Direction) (td : Td) → data_out_td way (Some td) ≡ td_if (goes_to_device way) td
+data_out-if Nothing td = refl
+data_out-if ToHost td = refl
+data_out-if ToDevice td = refl
+
+-- a data ring after the chunk, told by which TD is on it
+pub holds-td : (on : Direction → Option Td → Option Td) (goes : Direction → Bool) (way : Direction) → ((td : Td) → on way (Some td) ≡ td_if (goes way) td)
+    → (took : Bool) (tag bytes chunk : ℕ) (ring now : Ring) → HoldsData ring (data_td tag bytes) (on way (Some (moving_td chunk)))
+    → now ≡ record ring { got = cond (goes way && took) (ring.got + 1) ring.got } → HoldsData now (data_td tag bytes) (on way (Some (td_after took chunk)))
+holds-td on goes way is_on took tag bytes chunk ring now holds is =
+    subst (HoldsData now (data_td tag bytes)) (sym (is_on (td_after took chunk)))
+    (holds-on (goes way) took tag bytes chunk ring now (subst (HoldsData ring (data_td tag bytes)) (is_on (moving_td chunk)) holds) is)
 
 -- BUFFERS
 

@@ -2,7 +2,8 @@
 use Rattle.std.proofs.Common.{◌≡◌, ℕ, Bool, true, false, ◌&&◌, cond, length, Option, Some, None, refl, arith, ap, sym, subst, ◌∙◌}
 use Rattle.std.specs.Prelude.{nat_lt}
 use Rattle.std.specs.Option.{option_map_or}
-use Rattle.std.proofs.lemmas.Bool.{false≢true, lt-ltb, and_parts}
+use Rattle.std.proofs.lemmas.Bool.{lt-ltb, and_parts}
+use Rattle.cycle_ring.specs.Ring.{Ring}
 use Rattle.stream_array.specs.declared.Pipe.{Pipe}
 use Rattle.stream_array.specs.declared.Pipe.TheVariants.{DataIn, DataOut}
 use Rattle.stream_array.specs.Contexts.{has_stream}
@@ -24,10 +25,11 @@ use Rattle.uas_target.specs.Device.{wanted}
 use Rattle.uas_target.specs.Tasks.{task_wants, wanted_way}
 use Rattle.uas_host.specs.declared.Place.{Place}
 use Rattle.uas_host.specs.Tags.{place_of, tag_of}
-use Rattle.uas_host.specs.Tds.{data_trb_count}
+use Rattle.uas_host.specs.Tds.{data_td, data_trb_count}
 use Rattle.xhci_ctl.specs.declared.Acted.{Acted}
 use Rattle.xhci_ctl.specs.declared.Acted.TheVariants.{Idle}
 use Rattle.xhci_ctl.specs.Own.{IsOwnDataFront}
+use Rattle.xhci_ctl.specs.declared.PipeState.{PipeState}
 use Rattle.xhci_ctl.specs.Pipes.{has_pending, is_armed, is_open}
 use Rattle.xhci_ctl.specs.Steps.{Front, Sides, armed_front, gave_at, moved_by, on_front, room_front, took_at}
 use Rattle.bus_core.specs.declared.Step.TheVariants.{Data}
@@ -36,6 +38,7 @@ use Rattle.bus_core.specs.Part.{Part}
 use Rattle.bus_core.specs.Shared.{Shared, data_is_due, due, has_data_trb, is_data_open, is_moving, request_direction}
 use Rattle.bus_core.specs.Hosts.{begun_task, device_task, phase_task}
 use Rattle.bus_core.specs.World.{World, sides_in}
+use Rattle.bus_core.specs.Cells.{HoldsTrbs}
 use Rattle.bus_core.specs.Fits.{Fits}
 use Rattle.bus_core.specs.WorldSteps.{DataFit, DataFits, DataIsIdle}
 use Rattle.bus_core.specs.WorldDue.{DataAreDue, data_due_by}
@@ -43,17 +46,9 @@ use Rattle.bus_core.proofs.MatchedSteps.{IsDueAt, IsMovingBy, moving_phase, plac
 use Rattle.bus_core.proofs.ActFits.{IsPlaced, by-tag, place_of-tag, placed}
 use Rattle.bus_core.proofs.ChunkEntries.{moving_entry}
 use Rattle.bus_core.proofs.DataSteps.{IsChunkAt, chunk-at, chunk_size, has_stream-tag, pending-td}
-use Rattle.bus_core.proofs.DataMoves.{gives-fit, own-in, own-out, rings-in, rings-out, takes-fit}
+use Rattle.bus_core.proofs.DataMoves.{chunk-fits, own-on, rings-on}
 
 -- WHAT IT DOES
-
-by-direction : {state : Shared} {world : World} {place : Place} {part : Part} (at : IsChunkAt state world place part) (way : Direction)
-    → direction_of at.op ≡ way
-    → Fits state world → place_of (length state.parts) (tag_of place) ≡ Some place → due state (Data (tag_of place)) ≡ true
-    → is_data_open state (tag_of place) way ≡ true → DataFits state world (tag_of place)
-by-direction at Nothing is fits named is_due rung = absurd (false≢true rung)
-by-direction at ToHost is fits named is_due rung = gives-fit at fits is rung named is_due
-by-direction at ToDevice is fits named is_due rung = takes-fit at fits is rung named is_due
 
 same_held : (held : Option Entry) (one other : Entry) → held ≡ Some one → held ≡ Some other → one ≡ other
 same_held held one other is so = cc
@@ -72,8 +67,8 @@ data-fits-at state world place entry stands fits named is_due so =
     let at : IsChunkAt state world place stands.part = chunk-at state world place stands.part entry phase.chunk fits stands.there stands.held phase.is in
     let rung = (and_parts (is_data_open state (tag_of place) (request_direction entry.task.request))
     (has_data_trb (data_trbs entry.task.request) entry.data_td) moving.1).0 in
-    by-direction at (direction_of at.op) refl fits named is_due
-    (subst (λ (e : Entry). is_data_open state (tag_of place) (request_direction e.task.request) ≡ true) (entry-moving at entry stands.held) rung)
+    chunk-fits at fits
+    (subst (λ (e : Entry). is_data_open state (tag_of place) (request_direction e.task.request) ≡ true) (entry-moving at entry stands.held) rung) named is_due
 
 pub data_fits : DataFit
 data_fits state world tag fits is_due =
@@ -96,25 +91,28 @@ IsTold world tag wants is_due = (is_due ≡ data_due_by world tag wants) × IsOw
 armed-open : (rung has_trb has_ring pends : Bool) → has_trb ≡ true → has_ring ≡ true → pends ≡ true → (rung && has_trb) ≡ ((has_ring && rung) && pends)
 armed-open rung has_trb has_ring pends one two three = rw (one, two, three) refl
 
+-- a data ring with the TRB of the chunk in front is armed where its stream is open
+told-armed : {state : Shared} {world : World} {place : Place} {part : Part} (at : IsChunkAt state world place part) (ring : Ring) (was now : PipeState)
+    → HoldsTrbs ring (data_td (tag_of place) (moved_bytes at.op)) at.chunk → now ≡ was
+    → (is_open was (tag_of place) && nat_lt at.chunk (data_trb_count (moved_bytes at.op)))
+    ≡ ((has_stream (tag_of place) && is_open now (tag_of place)) && has_pending ring)
+told-armed {state} {world} {place} {part} at ring was now holds same =
+    armed-open (is_open was (tag_of place)) (nat_lt at.chunk (data_trb_count (moved_bytes at.op))) (has_stream (tag_of place)) (has_pending ring)
+    (lt-ltb at.chunk (data_trb_count (moved_bytes at.op)) at.below) (has_stream-tag (tag_of place) (omega arith) at.last_tag)
+    (pending-td ring (tag_of place) (moved_bytes at.op) at.chunk holds at.below)
+    ∙ ap (λ p. (has_stream (tag_of place) && is_open p (tag_of place)) && has_pending ring) (sym same)
+
 told-way : {state : Shared} {world : World} {place : Place} {part : Part} (at : IsChunkAt state world place part) (way : Direction) → direction_of at.op ≡ way
     → Fits state world → IsTold world (tag_of place) (wanted_way way (chunk_size at.op at.chunk))
     (is_data_open state (tag_of place) way && nat_lt at.chunk (data_trb_count (moved_bytes at.op)))
 told-way at Nothing is fits = (refl, tt)
 told-way {state} {world} {place} {part} at ToHost is fits = (
-  armed-open (is_open state.data_in (tag_of place)) (nat_lt at.chunk (data_trb_count (moved_bytes at.op))) (has_stream (tag_of place))
-      (has_pending (stream_ring world.lines.data_in (tag_of place))) (lt-ltb at.chunk (data_trb_count (moved_bytes at.op)) at.below)
-      (has_stream-tag (tag_of place) (omega arith) at.last_tag)
-      (pending-td (stream_ring world.lines.data_in (tag_of place)) (tag_of place) (moved_bytes at.op) at.chunk (rings-in at is).0 at.below)
-      ∙ ap (λ p. (has_stream (tag_of place) && is_open p (tag_of place)) && has_pending (stream_ring world.lines.data_in (tag_of place))) (sym fits.data_in),
-  own-in at is,
+  told-armed at (stream_ring world.lines.data_in (tag_of place)) state.data_in world.controller.data_in (rings-on at ToHost is).0 fits.data_in,
+  own-on at ToHost is,
 )
 told-way {state} {world} {place} {part} at ToDevice is fits = (
-  armed-open (is_open state.data_out (tag_of place)) (nat_lt at.chunk (data_trb_count (moved_bytes at.op))) (has_stream (tag_of place))
-      (has_pending (stream_ring world.lines.data_out (tag_of place))) (lt-ltb at.chunk (data_trb_count (moved_bytes at.op)) at.below)
-      (has_stream-tag (tag_of place) (omega arith) at.last_tag)
-      (pending-td (stream_ring world.lines.data_out (tag_of place)) (tag_of place) (moved_bytes at.op) at.chunk (rings-out at is).0 at.below)
-      ∙ ap (λ p. (has_stream (tag_of place) && is_open p (tag_of place)) && has_pending (stream_ring world.lines.data_out (tag_of place))) (sym fits.data_out),
-  own-out at is,
+  told-armed at (stream_ring world.lines.data_out (tag_of place)) state.data_out world.controller.data_out (rings-on at ToDevice is).1 fits.data_out,
+  own-on at ToDevice is,
 )
 
 -- what is told of an entry

@@ -1,10 +1,11 @@
 -- What the steps of a retirement leave of the world: the cells and the event texts, and what stands on a place's rings. Cited by
 -- the proofs of Engine, Retire and the event of the controller's command.
-use Rattle.std.proofs.Common.{◌≡◌, ℕ, zero, suc, ◌*◌, ◌/◌, ◌%◌, ◌<◌, ◌≤◌, Bool, true, false, cond, List, [], ◌∷◌, ◌++◌, length, length-set, Option, Some, None}
+use Rattle.std.proofs.Common.{◌≡◌, ℕ, zero, suc, ◌*◌, ◌/◌, ◌%◌, ◌<◌, ◌≤◌, Bool, true, false, cond, List, [], ◌∷◌, ◌++◌, length, length-set, Some, None}
 use Rattle.std.proofs.Common.{refl, arith, ap, sym, subst, ◌∙◌}
 use Rattle.std.specs.Prelude.{nat_lt, slice_get, slice_set, slice_index_or}
 use Rattle.std.specs.Option.{option_map_or}
 use Rattle.std.proofs.lemmas.Bool.{ltb-true}
+use Rattle.std.proofs.lemmas.List.{append-nil}
 use Rattle.std.proofs.lemmas.Option.{none-some}
 use Rattle.block_unit.specs.BlockMaps.{BlockMaps}
 use Rattle.cycle_ring.specs.Ring.{Ring, pointer_of}
@@ -35,7 +36,8 @@ use Rattle.bus_core.specs.Cells.{FitsCell, FitsHeld, HoldsTrbs, IsEmptyCell}
 use Rattle.bus_core.specs.Fits.{AreUnused, Fits, FitsClient, FitsEngine, FitsPart, FitsQueues, IsSoundWorld, data_event, engine_event, event_texts, place_in}
 use Rattle.bus_core.specs.Fits.{status_event}
 use Rattle.bus_core.proofs.CellWrites.{stream_ring-other}
-use Rattle.bus_core.proofs.Framing.{AllFit, AllFit-set, ChangesCell, found}
+use Rattle.bus_core.proofs.EventTexts.{carried_places-append, event_texts-append}
+use Rattle.bus_core.proofs.Framing.{AllFit, AllFit-set, ChangesCell, FitsClient-kept, SamePipes, fits-anew, found}
 use Rattle.bus_core.proofs.MatchedPlaces.{one_self}
 use Rattle.bus_core.proofs.Standing.{get-none}
 
@@ -73,28 +75,6 @@ at-place parts world place fact P all there empty full =
 
 -- NO CELL CHANGES
 
-part-kept : (before after : World) (client : ℕ) (unit : BlockMaps) (held : HostClient) (part : Part) → FitsPart before client unit held part
-    → ((slot : ℕ) → cell_at after (place_in client slot) ≡ cell_at before (place_in client slot)) → FitsPart after client unit held part
-part-kept before after client unit held part fits kept = record {
-  number = fits.number;
-  unit_same = fits.unit_same;
-  least_ticket = fits.least_ticket;
-  ready = fits.ready;
-  slots = fits.slots;
-  cells = λ slot within. subst (λ c. FitsHeld client unit.count (place_in client slot) (held_at part.entries slot) c) (sym (kept slot))
-      (fits.cells slot within);
-}
-
-client-kept : (before after : World) (client : ℕ) (unit : Option BlockMaps) (held : Option HostClient) (part : Option Part)
-    → FitsClient before client unit held part
-    → ((slot : ℕ) → cell_at after (place_in client slot) ≡ cell_at before (place_in client slot)) → FitsClient after client unit held part
-client-kept before after client None None None fits kept = tt
-client-kept before after client None None (Some part) fits kept = absurd fits
-client-kept before after client None (Some held) part fits kept = absurd fits
-client-kept before after client (Some unit) None part fits kept = absurd fits
-client-kept before after client (Some unit) (Some held) None fits kept = absurd fits
-client-kept before after client (Some unit) (Some held) (Some part) fits kept = part-kept before after client unit held part fits kept
-
 -- The clients, the device, the buffers and the streams of two worlds are the same.
 pub record KeepsCells (before after : World) : Type 0 where
   pub hosts : after.host.clients ≡ before.host.clients
@@ -126,27 +106,17 @@ all-kept before after parts all kept client =
     subst (λ us. FitsClient after client (slice_get us client) (slice_get after.host.clients client) (slice_get parts client))
     (sym (ap (λ (d : Device). d.units) kept.device))
     (subst (λ hs. FitsClient after client (slice_get before.device.units client) (slice_get hs client) (slice_get parts client)) (sym kept.hosts)
-    (client-kept before after client (slice_get before.device.units client) (slice_get before.host.clients client) (slice_get parts client) (all client)
-    (λ slot. cell-kept before after (place_in client slot) kept)))
+    (FitsClient-kept before after client (slice_get before.device.units client) (slice_get before.host.clients client) (slice_get parts client) (all client)
+    (λ there is slot within. cell-kept before after (place_in client slot) kept)))
 
 -- a step that writes no cell: the world fits where its queues, its pipes and the controller's command ring do
 pub kept-fits : (state now : Shared) (before after : World) → Fits state before → KeepsCells before after → now.parts ≡ state.parts
-    → after.controller.status ≡ now.status → after.controller.data_in ≡ now.data_in → after.controller.data_out ≡ now.data_out
-    → FitsQueues now after → FitsEngine now after → IsMatched now → IsSoundWorld after → Fits now after
-kept-fits state now before after fits kept parts status data_in data_out queues engine matched sound = record {
-  some_client = omega (arith, fits.some_client, ap length parts);
-  most_clients = omega (arith, fits.most_clients, ap length parts);
-  status = status;
-  data_in = data_in;
-  data_out = data_out;
-  sound = sound;
-  queues = queues;
-  engine = engine;
-  matched = matched;
-  clients = subst (AllFit after) (sym parts) (all-kept before after state.parts fits.clients kept);
-  others = λ tag above. ap (λ (d : Device). task_of d tag) kept.device ∙ fits.others tag (omega (arith, above, ap length parts));
-  unused = λ tag above. unused-kept before after tag kept (fits.unused tag (omega (arith, above, ap length parts)));
-}
+    → SamePipes after.controller now → FitsQueues now after → FitsEngine now after → IsMatched now → IsSoundWorld after → Fits now after
+kept-fits state now before after fits kept parts pipes queues engine matched sound =
+    fits-anew state now before after fits (ap length parts) pipes sound queues engine matched
+    (subst (AllFit after) (sym parts) (all-kept before after state.parts fits.clients kept))
+    (λ tag above. ap (λ (d : Device). task_of d tag) kept.device ∙ fits.others tag above)
+    (λ tag above. unused-kept before after tag kept (fits.unused tag above))
   where
     unused-kept : (before after : World) (tag : ℕ) → KeepsCells before after → AreUnused before.lines tag → AreUnused after.lines tag
     unused-kept before after tag kept none = record {
@@ -215,24 +185,13 @@ written-unused state now before after place unit held part unused there writes t
 pub written-fits : (state now : Shared) (before after : World) (place : Place) (was : Part) (unit : BlockMaps) (held : HostClient) (part : Part)
     → Fits state before → slice_get state.parts place.client ≡ Some was → IsPlace (length state.parts) place
     → WritesOne state now before after place unit held part
-    → after.controller.status ≡ now.status → after.controller.data_in ≡ now.data_in → after.controller.data_out ≡ now.data_out
-    → FitsQueues now after → FitsEngine now after → IsMatched now → IsSoundWorld after → Fits now after
-written-fits state now before after place was unit held part fits there is_place writes status data_in data_out queues engine matched sound =
+    → SamePipes after.controller now → FitsQueues now after → FitsEngine now after → IsMatched now → IsSoundWorld after → Fits now after
+written-fits state now before after place was unit held part fits there is_place writes pipes queues engine matched sound =
     let long : length now.parts ≡ length state.parts = ap length writes.parts ∙ length-set state.parts place.client part in
-    record {
-      some_client = omega (arith, fits.some_client, long);
-      most_clients = omega (arith, fits.most_clients, long);
-      status = status;
-      data_in = data_in;
-      data_out = data_out;
-      sound = sound;
-      queues = queues;
-      engine = engine;
-      matched = matched;
-      clients = written-all state now before after place was unit held part fits.clients there is_place.slot writes;
-      others = λ tag above. ap (λ (d : Device). task_of d tag) writes.device ∙ fits.others tag (omega (arith, above, long));
-      unused = written-unused state now before after place unit held part fits.unused is_place writes;
-    }
+    fits-anew state now before after fits long pipes sound queues engine matched
+    (written-all state now before after place was unit held part fits.clients there is_place.slot writes)
+    (λ tag above. ap (λ (d : Device). task_of d tag) writes.device ∙ fits.others tag above)
+    (λ tag above. written-unused state now before after place unit held part fits.unused is_place writes tag (omega (arith, above, long)))
 
 -- THE EVENTS
 
@@ -282,20 +241,7 @@ texts-alike before after k (EngineDone place ∷ rest) alike = absurd (no-cons p
 -- the event of the controller's own command comes behind all others, and names no TRB of the command pipe
 pub texts-last : (world : World) (k : ℕ) (events : List Completion) (place : Place)
     → event_texts world k (events ++ EngineDone place ∷ []) ≡ event_texts world k events ++ engine_event world.lines.engine ∷ []
-texts-last world k [] place = refl
-texts-last world k (CommandDone other ∷ rest) place =
-    ap (λ es. Transfer (pointer_of COMMAND_RING_PLACES world.lines.command k) 0 SUCCESS (endpoint_of Command) SLOT ∷ es) (texts-last world (suc k) rest place)
-texts-last world k (DataDone other ∷ rest) place =
-    ap (λ es. data_event (stream_ring world.lines.data_in (tag_of other)) (stream_ring world.lines.data_out (tag_of other)) ∷ es)
-    (texts-last world k rest place)
-texts-last world k (StatusDone other ∷ rest) place =
-    ap (λ es. status_event other.slot (stream_ring world.lines.status (tag_of other)) (held_for world.frames (tag_of other)).status ∷ es)
-    (texts-last world k rest place)
-texts-last world k (EngineDone other ∷ rest) place = ap (λ es. engine_event world.lines.engine ∷ es) (texts-last world k rest place)
+texts-last world k events place = event_texts-append world k events (EngineDone place ∷ [])
 
 pub carried-last : (events : List Completion) (place : Place) → carried_places (events ++ EngineDone place ∷ []) ≡ carried_places events
-carried-last [] place = refl
-carried-last (CommandDone other ∷ rest) place = ap (λ places. other ∷ places) (carried-last rest place)
-carried-last (DataDone other ∷ rest) place = carried-last rest place
-carried-last (StatusDone other ∷ rest) place = carried-last rest place
-carried-last (EngineDone other ∷ rest) place = carried-last rest place
+carried-last events place = carried_places-append events (EngineDone place ∷ []) ∙ append-nil (carried_places events)

@@ -56,7 +56,7 @@ use Rattle.bus_core.proofs.EngineCellWrites.{stands-with, td_trbs, trbs_on-most,
 use Rattle.bus_core.proofs.EngineDue.{engines-are-due}
 use Rattle.bus_core.proofs.CellWrites.{stream_ring-same}
 use Rattle.bus_core.proofs.CommandFront.{event-room}
-use Rattle.bus_core.proofs.Framing.{ChangesCell, FitsPart-set}
+use Rattle.bus_core.proofs.Framing.{SamePipes, ChangesCell, FitsPart-set}
 use Rattle.bus_core.proofs.MatchedSteps.{shared_step-matched}
 use Rattle.bus_core.proofs.Standing.{slice_get-back}
 
@@ -159,12 +159,6 @@ move-executed controller lines pipe tag streams some most stopped consumed short
 -- the retirement at a stage
 abbrev pub under_way : Pipe → Place → RetirementStage → Retirement
 under_way pipe place stage = record { pipe = pipe; place = place; stage = stage }
-
--- the controller's pipes are the state's
-pub record SamePipes (controller : ControllerState) (state : Shared) : Type 0 where
-  pub status : controller.status ≡ state.status
-  pub data_in : controller.data_in ≡ state.data_in
-  pub data_out : controller.data_out ≡ state.data_out
 
 pub same-pipes : (state : Shared) (world : World) → Fits state world → SamePipes world.controller state
 same-pipes state world fits = record { status = fits.status; data_in = fits.data_in; data_out = fits.data_out }
@@ -271,7 +265,7 @@ stop-fits state world pipe place at fits matched sound =
     kept-fits state (stopped_state state pipe place at.at.part) world after fits
     (record { hosts = refl; device = refl; frames = refl; status = refl; data_in = refl; data_out = refl })
     (ap (λ parts. slice_set parts place.client at.at.part) apart.parts ∙ slice_get-back state.parts place.client at.at.part at.at.there)
-    pipes.status pipes.data_in pipes.data_out
+    (record { status = pipes.status; data_in = pipes.data_in; data_out = pipes.data_out })
     (acted-queues state (stopped_state state pipe place at.at.part) world after place fits apart.messages
     (ap (λ events. events ++ EngineDone place ∷ []) apart.events)
     refl refl refl (record { none = at.answered; command_base = refl; moved = λ other some. refl; sent = λ other some. refl }))
@@ -307,33 +301,19 @@ record AreAlike (before after : LinesState) : Type 0 where
   data_in : (tag : ℕ) → uncounted (stream_ring after.data_in tag) ≡ uncounted (stream_ring before.data_in tag)
   data_out : (tag : ℕ) → uncounted (stream_ring after.data_out tag) ≡ uncounted (stream_ring before.data_out tag)
 
+uncounted-passed : (rings : List Ring) (tag other : ℕ)
+    → uncounted (stream_ring (slice_set rings (tag - 1) (passed_ring (stream_ring rings tag))) other) ≡ uncounted (stream_ring rings other)
+uncounted-passed rings tag other = uncounted-set rings (tag - 1) (other - 1) (length (stream_ring rings tag).put)
+
 passed-alike : (lines : LinesState) (pipe : Pipe) (tag : ℕ) → HasStreams pipe
     → AreAlike lines (with_ring lines pipe tag (passed_ring (ring_of lines pipe tag)))
 passed-alike lines Command tag streams = absurd streams
-passed-alike lines Status tag streams = record {
-  engine = refl;
-  command = refl;
-  events = refl;
-  status = λ other. uncounted-set lines.status (tag - 1) (other - 1) (length (stream_ring lines.status tag).put);
-  data_in = λ other. refl;
-  data_out = λ other. refl;
-}
-passed-alike lines DataIn tag streams = record {
-  engine = refl;
-  command = refl;
-  events = refl;
-  status = λ other. refl;
-  data_in = λ other. uncounted-set lines.data_in (tag - 1) (other - 1) (length (stream_ring lines.data_in tag).put);
-  data_out = λ other. refl;
-}
-passed-alike lines DataOut tag streams = record {
-  engine = refl;
-  command = refl;
-  events = refl;
-  status = λ other. refl;
-  data_in = λ other. refl;
-  data_out = λ other. uncounted-set lines.data_out (tag - 1) (other - 1) (length (stream_ring lines.data_out tag).put);
-}
+passed-alike lines Status tag streams =
+    record { engine = refl; command = refl; events = refl; status = uncounted-passed lines.status tag; data_in = λ other. refl; data_out = λ other. refl }
+passed-alike lines DataIn tag streams =
+    record { engine = refl; command = refl; events = refl; status = λ other. refl; data_in = uncounted-passed lines.data_in tag; data_out = λ other. refl }
+passed-alike lines DataOut tag streams =
+    record { engine = refl; command = refl; events = refl; status = λ other. refl; data_in = λ other. refl; data_out = uncounted-passed lines.data_out tag }
 
 moved-reads : (state : Shared) (world : World) (pipe : Pipe) (place : Place) → HasStreams pipe → retired_places state.events ≡ []
     → ReadsAlike world (moved_world world pipe place) state.events
@@ -495,7 +475,8 @@ move-fits state world pipe place at fits matched sound =
     let alike = passed-alike world.lines pipe (tag_of place) at.retiring.streams in
     let event = engine_event world.lines.engine in
     written-fits state now world after place at.at.part at.at.part.unit at.at.client.held (with_entry at.at.part place.slot (passed_on pipe at.entry)) fits
-    at.at.there at.at.is_place (moved-writes state world pipe place at fits) fits.status fits.data_in fits.data_out
+    at.at.there at.at.is_place (moved-writes state world pipe place at fits)
+    (record { status = fits.status; data_in = fits.data_in; data_out = fits.data_out })
     (acted-queues state now world after place fits refl refl alike.command
     (ap (λ (es : Events). es.pending ++ engine_event world.lines.engine ∷ []) alike.events)
     (ap engine_event alike.engine) (moved-reads state world pipe place at.retiring.streams at.answered))

@@ -165,7 +165,8 @@ asked-fits state world pipe place rest first fits matched sound =
     move-same world.lines world.lines.engine (without_event world.lines).events pipe (tag_of place)
     ∙ sym (move-same world.lines (stopped_to world pipe place).engine (without_event world.lines).events pipe (tag_of place)) in
     kept-fits state (asked_state state pipe place rest) world after fits
-    (record { hosts = refl; device = refl; frames = refl; status = refl; data_in = refl; data_out = refl }) refl fits.status fits.data_in fits.data_out
+    (record { hosts = refl; device = refl; frames = refl; status = refl; data_in = refl; data_out = refl }) refl
+    (record { status = fits.status; data_in = fits.data_in; data_out = fits.data_out })
     (engine-queues state (asked_state state pipe place rest) world after place rest fits first.is refl refl refl refl
     (record { none = first.alone; command_base = refl; moved = λ other some. refl; sent = λ other some. refl }))
     (record {

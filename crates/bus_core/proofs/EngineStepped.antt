@@ -13,9 +13,12 @@ use Rattle.stream_array.specs.declared.TheConstants.{STREAMS}
 use Rattle.event_ring.specs.declared.Event.{Event}
 use Rattle.event_ring.specs.declared.Event.TheVariants.{Transfer, Command as CommandCompletion}
 use Rattle.uas_host.specs.declared.Retirement.{Retirement as HostRetirement}
+use Rattle.uas_host.specs.declared.Handled.{Handled}
+use Rattle.uas_host.specs.declared.Handled.TheVariants.{Matched}
 use Rattle.uas_host.specs.declared.RetirementStage.TheVariants.{Moving}
 use Rattle.uas_host.specs.Doors.{door, target_of}
-use Rattle.uas_host.specs.Events.{Sides as EventSides, engine_doors, event_doors, is_engine_done, stage_doors}
+use Rattle.uas_host.specs.Events.{Sides as EventSides, engine_doors, event_doors, handled, handled_engine, is_engine_done, stage_doors}
+use Rattle.frame_store.specs.declared.TagBuffers.{TagBuffers}
 use Rattle.uas_host.specs.Retirement.{moved_lines, retirement_for, stop_trb, with_engine_command, with_retirement}
 use Rattle.uas_host.specs.State.{HostState, IsHost}
 use Rattle.xhci_ctl.specs.declared.Acted.{Acted}
@@ -29,7 +32,7 @@ use Rattle.bus_core.specs.World.{World, world_of}
 use Rattle.bus_core.specs.Fits.{Fits, IsSoundWorld, host_retirement}
 use Rattle.bus_core.specs.WorldSteps.{EngineFits, RetireFits, engine_world, retire_world, rung_all}
 use Rattle.bus_core.specs.Doorbells.{IsResumed, resumed_by}
-use Rattle.bus_core.specs.Owners.{engine_of, executed_as, owner_of}
+use Rattle.bus_core.specs.Owners.{engine_of, executed_as, handled_as, owner_of}
 use Rattle.bus_core.proofs.EngineFits.{engine-is-idle, engines-fit}
 use Rattle.bus_core.proofs.OutcomeMarks.{engine-marked, retire-marked}
 use Rattle.bus_core.proofs.RetireFits.{retire-is-idle, retirements-fit}
@@ -172,6 +175,26 @@ event-resumed sides (CommandCompletion pointer code slot) retirement doors under
     subst (IsResumed retirement.pipe)
     (sym (is ∙ ap (engine_doors sides.lines pointer (is_engine_done sides.lines pointer code)) under_way))
     (engine-resumed sides.lines pointer (is_engine_done sides.lines pointer code) retirement moves)
+
+-- a completion of the controller's own command ring is of no TD
+not-matched : (sides : EventSides) (pointer : ℕ) (done : Bool) (retirement : Option HostRetirement) (tag : ℕ)
+    → (handled_engine sides pointer done retirement).1 ≡ Matched tag → ⊥
+not-matched sides pointer false retirement tag is = absurd (cc)
+not-matched sides pointer true None tag is = absurd (cc)
+not-matched sides pointer true (Some retirement) tag is = absurd (cc)
+
+-- so what is told of an event of a TD has no doorbell
+pub td-told : (sides : EventSides) (frames : List TagBuffers) (event : Event) (after : EventSides) (tag : ℕ) (handled_it : Handled)
+    (retirement : Option HostRetirement) (rung doors : List ℕ) → handled sides frames event ≡ (after, handled_it) → handled_it ≡ Matched tag
+    → event_doors sides event ≡ rung → doors ≡ [] → handled_as retirement rung handled_it ≡ ringing (owner_of tag) doors
+td-told sides frames (Transfer pointer residual code endpoint slot) after tag handled_it retirement rung doors so is rang none =
+    ap (handled_as retirement rung) is ∙ ap (ringing (owner_of tag)) (sym rang ∙ sym none)
+td-told sides frames (CommandCompletion pointer code slot) after tag handled_it retirement rung doors so is rang none =
+    absurd (not-matched sides pointer (is_engine_done sides.lines pointer code) sides.host.retirement tag (ap (λ did. did.1) so ∙ is))
+
+-- a step whose outcome is told so
+pub with-outcome : (step : Shared × Outcome) (after : Shared) (outcome told : Outcome) → step ≡ (after, outcome) → told ≡ outcome → step ≡ (after, told)
+with-outcome step after outcome told is same = is ∙ ap (λ (o : Outcome). (after, o)) (sym same)
 
 -- the doorbells were cleared before
 pub doors-cleared : (old new doors : List ℕ) → old ≡ [] → new ≡ old ++ doors → new ≡ doors

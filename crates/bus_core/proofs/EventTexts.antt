@@ -164,27 +164,27 @@ KeepsData before after place events = 1 ≤ data_events place events → ReadsSa
 abbrev pub KeepsStatus : World → World → Place → List Completion → Type 0
 KeepsStatus before after place events = 1 ≤ status_events place events → ReadsSame before after (StatusDone place)
 
+-- what an event reads is the same at another place, whose cell is the same, and at this one where it was kept
+event-reads : (before after : World) (event : Place → Completion) (place other : Place) → place.slot < TAGS → other.slot < TAGS → KeepsOthers before after place
+    → (cell_at after other ≡ cell_at before other → ReadsSame before after (event other))
+    → (one_if (same_place other place) ≡ 1 → ReadsSame before after (event place)) → ReadsSame before after (event other)
+event-reads before after event place other within there others same_cell kept =
+    elim (same_place other place) as (λ b. same_place other place ≡ b → ReadsSame before after (event other)) [
+      | true ↦ λ is. subst (λ p. ReadsSame before after (event p)) (sym (same_place-true other place is)) (kept (ap one_if is))
+      | false ↦ λ is. same_cell (others other.client other.slot there (other-tags other place there within is))
+    ] refl
+
 data-reads : (before after : World) (place other : Place) (rest : List Completion) → place.slot < TAGS → other.slot < TAGS → KeepsOthers before after place
     → KeepsData before after place (DataDone other ∷ rest) → ReadsSame before after (DataDone other)
 data-reads before after place other rest within there others data_kept =
-    elim (same_place other place) as (λ b. same_place other place ≡ b → ReadsSame before after (DataDone other)) [
-      | true ↦ λ is. subst (λ p. ReadsSame before after (DataDone p)) (sym (same_place-true other place is))
-          (data_kept (let one : one_if (same_place other place) ≡ 1 = ap one_if is in omega arith))
-      | false ↦ λ is.
-          let same : cell_at after other ≡ cell_at before other = others other.client other.slot there (other-tags other place there within is) in
-          (ap (λ (c : Cell). c.data_in) same, ap (λ (c : Cell). c.data_out) same)
-    ] refl
+    event-reads before after DataDone place other within there others
+    (λ same. (ap (λ (c : Cell). c.data_in) same, ap (λ (c : Cell). c.data_out) same)) (λ one. data_kept (omega arith))
 
 status-reads : (before after : World) (place other : Place) (rest : List Completion) → place.slot < TAGS → other.slot < TAGS → KeepsOthers before after place
     → KeepsStatus before after place (StatusDone other ∷ rest) → ReadsSame before after (StatusDone other)
 status-reads before after place other rest within there others status_kept =
-    elim (same_place other place) as (λ b. same_place other place ≡ b → ReadsSame before after (StatusDone other)) [
-      | true ↦ λ is. subst (λ p. ReadsSame before after (StatusDone p)) (sym (same_place-true other place is))
-          (status_kept (let one : one_if (same_place other place) ≡ 1 = ap one_if is in omega arith))
-      | false ↦ λ is.
-          let same : cell_at after other ≡ cell_at before other = others other.client other.slot there (other-tags other place there within is) in
-          (ap (λ (c : Cell). c.status) same, ap (λ (c : Cell). c.buffers.status) same)
-    ] refl
+    event-reads before after StatusDone place other within there others
+    (λ same. (ap (λ (c : Cell). c.status) same, ap (λ (c : Cell). c.buffers.status) same)) (λ one. status_kept (omega arith))
 
 -- The handy form. Where no such event waits write `λ some. absurd (omega (arith, some, none))`, and where the cell has
 -- what it reads `λ some. (refl, refl)`.

@@ -1,7 +1,7 @@
 -- The frame of every step on the world of rings: one cell changed, or several of one client, with the client's record and unit, so all
 -- others fit as before. The streams of nobody stay empty, and the controller's own command ring fits as before where the enqueue place of no
 -- TD that is left over moved. Cited by the proofs of all steps.
-use Rattle.std.proofs.Common.{◌≡◌, ℕ, ◌+◌, ◌-◌, ◌*◌, ◌/◌, ◌%◌, ◌<◌, true, false, List, [], ◌∷◌, length, length-set, Option, Some, None, refl, arith}
+use Rattle.std.proofs.Common.{◌≡◌, ℕ, ◌+◌, ◌-◌, ◌*◌, ◌/◌, ◌%◌, ◌<◌, ◌≤◌, true, false, List, [], ◌∷◌, length, length-set, Option, Some, None, refl, arith}
 use Rattle.std.proofs.Common.{option_map, ap, sym, subst, ◌∙◌}
 use Rattle.std.specs.Prelude.{slice_get, slice_set, ◌==◌}
 use Rattle.std.specs.Option.{option_map_or}
@@ -22,6 +22,9 @@ use Rattle.uas_host.specs.Doors.{target_of}
 use Rattle.uas_host.specs.declared.Retirement.{Retirement as HostRetirement}
 use Rattle.uas_host.specs.Retirement.{is_held as is_host_held, move_trb, same_pipe}
 use Rattle.uas_host.specs.Tags.{tag_of}
+use Rattle.uas_target.specs.Device.{task_of}
+use Rattle.xhci_ctl.specs.Pipes.{ControllerState}
+use Rattle.bus_core.specs.declared.TheConstants.{MAX_CLIENTS}
 use Rattle.bus_core.specs.declared.Retirement.{Retirement}
 use Rattle.bus_core.specs.declared.RetirementStage.{RetirementStage}
 use Rattle.bus_core.specs.declared.RetirementStage.TheVariants.{StopAsked, StopAnswered, MoveAsked, MoveAnswered}
@@ -31,7 +34,8 @@ use Rattle.bus_core.specs.Shared.{Shared, is_held}
 use Rattle.bus_core.specs.Matched.{IsMatched, IsRetiring, is_left_over_at}
 use Rattle.bus_core.specs.World.{World, Cell, cell_at}
 use Rattle.bus_core.specs.Cells.{FitsHeld, HoldsTrbs}
-use Rattle.bus_core.specs.Fits.{AreUnused, FitsPart, FitsClient, FitsEngine, HoldsCommand, HoldsCommandOf, host_retirement, place_in}
+use Rattle.bus_core.specs.Fits.{AreUnused, Fits, FitsPart, FitsClient, FitsEngine, FitsQueues, HoldsCommand, HoldsCommandOf, IsSoundWorld, host_retirement}
+use Rattle.bus_core.specs.Fits.{place_in}
 use Rattle.bus_core.proofs.MatchedRetirement.{retiring-of}
 use Rattle.bus_core.proofs.Routes.{slice_get-slice_set_same, slice_get-slice_set_other}
 
@@ -223,7 +227,8 @@ FitsPart-set before after client slot unit unit_now held held_now part now least
 
 -- ALL CLIENTS
 
-FitsClient-kept : (before after : World) (client : ℕ) (unit : Option BlockMaps) (held : Option HostClient) (part : Option Part)
+-- a client of which all cells are the same
+pub FitsClient-kept : (before after : World) (client : ℕ) (unit : Option BlockMaps) (held : Option HostClient) (part : Option Part)
     → FitsClient before client unit held part → ((there : Part) → part ≡ Some there → CellsStay before after client)
     → FitsClient after client unit held part
 FitsClient-kept before after client None None None fits kept = tt
@@ -310,3 +315,31 @@ AllFit-set before after parts client slot unit held was part all is within chang
       units = changes.units;
       others = λ other there apart found_is at inside. changes.others other at inside (tags-apart other client at slot inside within apart);
     }) fits
+
+-- ALL TOGETHER
+
+-- the controller's pipes are the state's
+pub record SamePipes (controller : ControllerState) (state : Shared) : Type 0 where
+  pub status : controller.status ≡ state.status
+  pub data_in : controller.data_in ≡ state.data_in
+  pub data_out : controller.data_out ≡ state.data_out
+
+-- what a step leaves of a state and a world that fit, of as many clients, fits where all of its parts do
+pub fits-anew : (state now : Shared) (before after : World) → Fits state before → length now.parts ≡ length state.parts → SamePipes after.controller now
+    → IsSoundWorld after → FitsQueues now after → FitsEngine now after → IsMatched now → AllFit after now.parts
+    → ((tag : ℕ) → TAGS * length state.parts < tag → task_of after.device tag ≡ None)
+    → ((tag : ℕ) → TAGS * length state.parts < tag → AreUnused after.lines tag) → Fits now after
+fits-anew state now before after fits long pipes sound queues engine matched clients others unused = record {
+  some_client = subst (λ clients. 1 ≤ clients) (sym long) fits.some_client;
+  most_clients = subst (λ clients. clients ≤ MAX_CLIENTS) (sym long) fits.most_clients;
+  status = pipes.status;
+  data_in = pipes.data_in;
+  data_out = pipes.data_out;
+  sound = sound;
+  queues = queues;
+  engine = engine;
+  matched = matched;
+  clients = clients;
+  others = λ tag above. others tag (omega (arith, above, long));
+  unused = λ tag above. unused tag (omega (arith, above, long));
+}

@@ -63,19 +63,21 @@ pub command_seen-side : (entry : Entry) → entry.command_td.state ≡ Pending
     → seen CommandSeen (host_side entry) ≡ Some (host_side (record entry { command_td = with_event_seen entry.command_td }))
 command_seen-side entry pends = ap (λ s. if is_pending s then Some (record (host_side entry) { command_td = Seen }) else None) pends
 
+-- the event of a pending data TD, in its direction
+seen_data-side : (entry : Entry) (td : Td) → entry.data_td ≡ Some td → td.state ≡ Pending
+    → seen_data true (host_side entry) (option_map state_of entry.data_td) ≡ Some (host_side (record entry { data_td = Some (with_event_seen td) }))
+seen_data-side entry td is pends =
+    ap (λ t. seen_data true (host_side entry) (option_map state_of t)) is ∙ ap (λ s. seen_data true (host_side entry) (Some s)) pends
+
 pub data_in_seen-side : (entry : Entry) (td : Td) → entry.data_td ≡ Some td → td.state ≡ Pending → request_direction entry.task.request ≡ ToHost
     → seen DataInSeen (host_side entry) ≡ Some (host_side (record entry { data_td = Some (with_event_seen td) }))
 data_in_seen-side entry td is pends way =
-    ap (λ w. seen_data (goes_to_host w) (host_side entry) (option_map state_of entry.data_td)) way
-    ∙ ap (λ t. seen_data true (host_side entry) (option_map state_of t)) is
-    ∙ ap (λ s. seen_data true (host_side entry) (Some s)) pends
+    ap (λ w. seen_data (goes_to_host w) (host_side entry) (option_map state_of entry.data_td)) way ∙ seen_data-side entry td is pends
 
 pub data_out_seen-side : (entry : Entry) (td : Td) → entry.data_td ≡ Some td → td.state ≡ Pending → request_direction entry.task.request ≡ ToDevice
     → seen DataOutSeen (host_side entry) ≡ Some (host_side (record entry { data_td = Some (with_event_seen td) }))
 data_out_seen-side entry td is pends way =
-    ap (λ w. seen_data (goes_to_device w) (host_side entry) (option_map state_of entry.data_td)) way
-    ∙ ap (λ t. seen_data true (host_side entry) (option_map state_of t)) is
-    ∙ ap (λ s. seen_data true (host_side entry) (Some s)) pends
+    ap (λ w. seen_data (goes_to_device w) (host_side entry) (option_map state_of entry.data_td)) way ∙ seen_data-side entry td is pends
 
 pub left_over-state : (state : TdState) (consumed : ℕ) → host_left_over state ≡ state_of (left_over_td (record { state = state; consumed = consumed }))
 left_over-state Pending consumed = refl

@@ -18,6 +18,7 @@ pub mod Drains
 pub mod Lengths
 pub mod Opening
 pub mod Rounds
+pub mod DrainTags
 pub mod Standing
 pub mod DeviceSteps
 pub mod MatchedPlaces
@@ -83,6 +84,7 @@ pub mod SeenStreams
 pub mod SeenCommands
 pub mod DeviceTags
 pub mod Stepped
+pub mod BusFields
 pub mod Taken
 pub mod Shown
 pub mod Submitted

@@ -50,7 +50,7 @@ use Rattle.bus_core.proofs.Aborted.{reaches-named, received-managed, spared-note
 use Rattle.bus_core.proofs.ActFits.{IsPlaced}
 use Rattle.bus_core.proofs.CellEntries.{cell-phase}
 use Rattle.bus_core.proofs.CommandFront.{carried_part, carried_state, command-bytes, received-queues, received_world, tag-bounds}
-use Rattle.bus_core.proofs.Framing.{AllFit, AllFit-client, EndsAlike, IsFound, engine-kept, found, move_trb-kept, tags-apart}
+use Rattle.bus_core.proofs.Framing.{AllFit, AllFit-client, EndsAlike, IsFound, engine-kept, fits-anew, found, move_trb-kept, tags-apart}
 use Rattle.bus_core.proofs.OrderedEntries.{held-changed}
 use Rattle.bus_core.proofs.OrderedManaged.{IsNotedAsReceived, of_client}
 use Rattle.bus_core.proofs.Standing.{held_under-with_same, held_under-with_other, slice_get-back}
@@ -327,32 +327,20 @@ managed-fits state world place rest entry what noted at fits is queued asks last
     let device : Device = managed_device world.device place.client (tag_of place) at.part.unit what in
     let long : length (slice_set state.parts place.client (managed_now at.part place.slot entry what noted)) ≡ length state.parts =
     length-set state.parts place.client (managed_now at.part place.slot entry what noted) in
-    record {
-      some_client = omega (arith, long, fits.some_client);
-      most_clients = omega (arith, long, fits.most_clients);
-      status = fits.status;
-      data_in = fits.data_in;
-      data_out = fits.data_out;
-      sound = sound;
-      queues = received-queues state world place rest (managed_device world.device place.client (tag_of place) at.part.unit what)
-          (slice_set state.parts place.client (managed_now at.part place.slot entry what noted)) fits is;
-      engine = engine-kept state (carried_state state place rest (managed_now at.part place.slot entry what noted)) world
-          (managed_world world place at.part.unit what) fits.engine refl refl refl
-          (λ r under_way. move_trb-kept world.lines (managed_world world place at.part.unit what).lines r.pipe (tag_of r.place)
-          (ends-alike world (managed_device world.device place.client (tag_of place) at.part.unit what) r.pipe (tag_of r.place)));
-      matched = matched;
-      clients = all-fit state world place entry what noted at fits (part-fits state world place entry what noted at fits queued asks last knows);
-      others = λ tag above.
-          let none : task_of world.device tag ≡ None = fits.others tag (omega (arith, above, long)) in
-          other-task world.device place.client (tag_of place) at.part.unit what tag
-          (λ same. omega (arith, above, long, same, at.is_place.client, at.is_place.slot))
-          ∙ done-kept world.device place.client at.part.unit what tag
-          (subst (λ t. IfSome t (λ task. is_command_of place.client task ≡ false)) (sym none) tt)
-          ∙ none;
-      unused = λ tag above.
-          let was : AreUnused world.lines tag = fits.unused tag (omega (arith, above, long)) in
-          record { status = was.status; data_in = was.data_in; data_out = was.data_out };
-    }
+    fits-anew state (carried_state state place rest now) world (managed_world world place at.part.unit what) fits long
+    (record { status = fits.status; data_in = fits.data_in; data_out = fits.data_out }) sound
+    (received-queues state world place rest device (slice_set state.parts place.client now) fits is)
+    (engine-kept state (carried_state state place rest now) world (managed_world world place at.part.unit what) fits.engine refl refl refl
+    (λ r under_way. move_trb-kept world.lines (managed_world world place at.part.unit what).lines r.pipe (tag_of r.place)
+    (ends-alike world device r.pipe (tag_of r.place)))) matched
+    (all-fit state world place entry what noted at fits (part-fits state world place entry what noted at fits queued asks last knows))
+    (λ tag above. let none : task_of world.device tag ≡ None = fits.others tag above in
+    other-task world.device place.client (tag_of place) at.part.unit what tag (λ same. omega (arith, above, same, at.is_place.client, at.is_place.slot))
+    ∙ done-kept world.device place.client at.part.unit what tag
+    (subst (λ t. IfSome t (λ task. is_command_of place.client task ≡ false)) (sym none) tt)
+    ∙ none)
+    (λ tag above. let was : AreUnused world.lines tag = fits.unused tag above in
+    record { status = was.status; data_in = was.data_in; data_out = was.data_out })
 
 -- THE CALL
 

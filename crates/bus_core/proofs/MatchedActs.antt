@@ -19,7 +19,7 @@ use Rattle.bus_core.specs.Matched.{same_place, times, held_in, under, command_ev
 use Rattle.bus_core.specs.Matched.{IsMatched, retired_places, is_td_event}
 use Rattle.bus_core.proofs.MatchedPlaces.{one_equal, one_apart, times_in-push, command_events-append, data_events-append, status_events-append, times-append}
 use Rattle.bus_core.proofs.MatchedPlaces.{IsFound, under-found, held-within, IsWritten, times_ready-written, AreMatched-written, retired_places-append}
-use Rattle.bus_core.proofs.MatchedPlaces.{clients-written, AreMatched, IsCounted, matched-places}
+use Rattle.bus_core.proofs.MatchedPlaces.{clients-written, AreMatched, IsCounted}
 use Rattle.bus_core.proofs.MatchedEntries.{IsStepped, IsSeenAs, IsCountedOut}
 use Rattle.bus_core.proofs.MatchedTds.{TdsGoOn, tds-on}
 use Rattle.bus_core.proofs.MatchedFlows.{pipes-same, HeldGoesOn, written-goes, goes-on, IsCounted-kept}
@@ -114,7 +114,7 @@ acted-matched state place part unit old new popped rest posted there held pops a
     (goes-on state now (clients-written state now place (Some new) written) refl (pipes-same state now refl refl refl)
     (written-goes state now place (Some new) written
     (λ pipe. subst (λ was. HeldGoesOn pipe was (Some new)) (sym (under-there state.parts place part (Some old) there held)) (tds-on pipe old new tds))))
-    (acted-counted state place part unit old new popped rest posted there held pops alone step here (matched-places state all))
+    (acted-counted state place part unit old new popped rest posted there held pops alone step here all.matched)
     (retired_places-append state.events posted ∙ ap (λ more. retired_places state.events ++ more) none ∙ append-nil (retired_places state.events))
     all
 
@@ -273,7 +273,7 @@ seen-matched state event rest part old new of_td is there held step here all =
     (goes-on state now (clients-written state now place (Some new) written) refl (pipes-same state now refl refl refl)
     (written-goes state now place (Some new) written
     (λ pipe. subst (λ was. HeldGoesOn pipe was (Some new)) (sym (under-there state.parts place part (Some old) there held)) (tds-on pipe old new step.tds))))
-    (seen-counted state event rest part old new is there held step.counts here (matched-places state all))
+    (seen-counted state event rest part old new is there held step.counts here all.matched)
     (ap (λ events. retired_places events) (append-nil rest)
     ∙ sym (ap (λ events. retired_places events) is ∙ td_event-retired event rest of_td))
     all

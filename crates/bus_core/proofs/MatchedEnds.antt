@@ -15,7 +15,6 @@ use Rattle.scsi_cmd.specs.declared.Request.{Request}
 use Rattle.scsi_cmd.specs.declared.Request.TheVariants.{Execute, Manage}
 use Rattle.scsi_cmd.specs.Submission.{is_too_long, first_submit_fault, first_task_fault}
 use Rattle.scsi_cmd.specs.declared.Direction.{Direction}
-use Rattle.scsi_cmd.specs.declared.Direction.TheVariants.{Nothing, ToHost, ToDevice}
 use Rattle.device_server.specs.declared.Answer.{Answer}
 use Rattle.solo_model.specs.declared.Phase.{Phase}
 use Rattle.solo_model.specs.declared.Phase.TheVariants.{Queued, Begun, Sent, Gone}
@@ -34,6 +33,7 @@ use Rattle.bus_core.specs.Part.{data_td_for, new_entry, new_management}
 use Rattle.bus_core.specs.Soundness.{one_if, awaited_data}
 use Rattle.bus_core.specs.Matched.{waiting_command, awaited_command, awaited_status, awaited_data_of, IsStatusTd, IsMovingTd, IsMatchedEntry, IsPhaseOf}
 use Rattle.bus_core.proofs.MatchedEntries.{unawaited}
+use Rattle.bus_core.proofs.MatchedTds.{in-either, out-either}
 
 -- TAKE
 
@@ -43,11 +43,9 @@ over-pends Seen is = refl
 over-pends LeftOver is = absurd (false≢true is)
 over-pends Retired is = refl
 
-seen-is : (state : TdState) → is_seen state ≡ true → state ≡ Seen
-seen-is Pending is = absurd (false≢true is)
+pub seen-is : (state : TdState) → is_seen state ≡ true → state ≡ Seen
 seen-is Seen is = refl
-seen-is LeftOver is = absurd (false≢true is)
-seen-is Retired is = absurd (false≢true is)
+seen-is state is = absurd (false≢true is)
 
 unpending-unawaited : (td : Td) (trbs : ℕ) → is_pending td.state ≡ false → one_if (is_awaited td trbs) ≡ 0
 unpending-unawaited td trbs is = ap (λ b. one_if (b && (td.consumed == trbs))) is
@@ -68,14 +66,10 @@ over-left_data None is = refl
 over-left_data (Some td) is = over-left td.state is
 
 pub over-left_in : (way : Direction) (td : Option Td) → is_td_left_over td ≡ false → is_td_left_over (data_in_td way td) ≡ false
-over-left_in Nothing td none = refl
-over-left_in ToHost td none = none
-over-left_in ToDevice td none = refl
+over-left_in way td none = in-either (λ old new. is_td_left_over new ≡ false) way td td refl none
 
 pub over-left_out : (way : Direction) (td : Option Td) → is_td_left_over td ≡ false → is_td_left_over (data_out_td way td) ≡ false
-over-left_out Nothing td none = refl
-over-left_out ToHost td none = refl
-over-left_out ToDevice td none = none
+over-left_out way td none = out-either (λ old new. is_td_left_over new ≡ false) way td td refl none
 
 -- no TD of an entry that is ready is left over
 pub ready-left : (pipe : Pipe) (entry : Entry) → is_ready entry ≡ true → is_left_over_on pipe entry ≡ false
@@ -245,14 +239,10 @@ submit-stepped slot ticket command within short =
 -- TASK MANAGEMENT
 
 pub manage-stepped : (ticket : ℕ) (task : Task) (noted : List ℕ) → IsSubmitted TASK_SLOT (new_management ticket task noted)
-manage-stepped ticket task noted = record {
-  messages = refl;
-  carried = refl;
-  moved = refl;
-  sent = refl;
-  ready = refl;
-  sound = record { asks = refl; answers = tt; command = refl; status = refl; chunks = tt; moves = refl; small = omega arith };
-}
+manage-stepped ticket task noted = record { messages = refl; carried = refl; moved = refl; sent = refl; ready = refl; sound = sound }
+  where
+    sound : IsMatchedEntry TASK_SLOT (new_management ticket task noted)
+    sound = record { asks = refl; answers = tt; command = refl; status = refl; chunks = tt; moves = refl; small = omega arith }
 
 -- one without a fault is for a free slot
 task_unfaulted_if : (in_use late none_there : Bool) (least : ℕ) →

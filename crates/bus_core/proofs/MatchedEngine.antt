@@ -36,7 +36,7 @@ use Rattle.bus_core.specs.Matched.{answered_places, is_left_over_at, has_trb_at,
 use Rattle.bus_core.specs.Matched.{IsAtStage, IsRetiring, FlowsAt, IsMatched}
 use Rattle.bus_core.proofs.MatchedPlaces.{same_place-self, same_place-true, command_events-append, data_events-append, status_events-append}
 use Rattle.bus_core.proofs.MatchedPlaces.{retired_places-append, IsFound, under-found, IsWritten, under-written, under-other, clients-written, AreMatched}
-use Rattle.bus_core.proofs.MatchedPlaces.{AreMatched-same, IsCounted, counted-of, matched-places}
+use Rattle.bus_core.proofs.MatchedPlaces.{AreMatched-same, IsCounted, counted-of}
 use Rattle.bus_core.proofs.MatchedBounds.{slots-place, held-place}
 use Rattle.bus_core.proofs.MatchedLeftOver.{passed-stepped, retired-counted, retired_on-is, IsSameOn, changed-other, passed-empty, passed-whole, passed-still}
 use Rattle.bus_core.proofs.MatchedLeftOver.{retired-gone}
@@ -57,39 +57,18 @@ pub record IsPiped (old new : Shared) (pipe : Pipe) (now : PipeState) : Type 0 w
   pub own : HasStreams pipe → pipe_of new pipe ≡ now
   pub others : (other : Pipe) → same_pipe pipe other ≡ false → pipe_of new other ≡ pipe_of old other
 
+with_pipe-others : (state : Shared) (now : PipeState) (pipe other : Pipe) → same_pipe pipe other ≡ false
+    → pipe_of (with_pipe state pipe now) other ≡ pipe_of state other
+with_pipe-others state now Status Status apart = absurd (false≢true (sym apart))
+with_pipe-others state now DataIn DataIn apart = absurd (false≢true (sym apart))
+with_pipe-others state now DataOut DataOut apart = absurd (false≢true (sym apart))
+with_pipe-others state now pipe other apart = refl
+
 pub with_pipe-is : (state : Shared) (pipe : Pipe) (now : PipeState) → IsPiped state (with_pipe state pipe now) pipe now
-with_pipe-is state Command now = record {
-  parts = refl;
-  messages = refl;
-  events = refl;
-  retirement = refl;
-  own = λ streams. absurd streams;
-  others = λ other apart. refl;
-}
-with_pipe-is state Status now =
-    record { parts = refl; messages = refl; events = refl; retirement = refl; own = λ streams. refl; others = others }
-  where
-    others : (other : Pipe) → same_pipe Status other ≡ false → pipe_of (with_pipe state Status now) other ≡ pipe_of state other
-    others Command apart = refl
-    others Status apart = absurd (false≢true (sym apart))
-    others DataIn apart = refl
-    others DataOut apart = refl
-with_pipe-is state DataIn now =
-    record { parts = refl; messages = refl; events = refl; retirement = refl; own = λ streams. refl; others = others }
-  where
-    others : (other : Pipe) → same_pipe DataIn other ≡ false → pipe_of (with_pipe state DataIn now) other ≡ pipe_of state other
-    others Command apart = refl
-    others Status apart = refl
-    others DataIn apart = absurd (false≢true (sym apart))
-    others DataOut apart = refl
-with_pipe-is state DataOut now =
-    record { parts = refl; messages = refl; events = refl; retirement = refl; own = λ streams. refl; others = others }
-  where
-    others : (other : Pipe) → same_pipe DataOut other ≡ false → pipe_of (with_pipe state DataOut now) other ≡ pipe_of state other
-    others Command apart = refl
-    others Status apart = refl
-    others DataIn apart = refl
-    others DataOut apart = absurd (false≢true (sym apart))
+with_pipe-is state Command now =
+    record { parts = refl; messages = refl; events = refl; retirement = refl; own = λ none. absurd none; others = with_pipe-others state now Command }
+with_pipe-is state pipe now =
+    record { parts = refl; messages = refl; events = refl; retirement = refl; own = λ streams. refl; others = with_pipe-others state now pipe }
 
 -- the places of a state in which neither parts nor messages nor events changed
 places-kept : (old new : Shared) → new.parts ≡ old.parts → new.messages ≡ old.messages → new.events ≡ old.events → AreMatched old → AreMatched new
@@ -152,11 +131,10 @@ stopped-matched state r is asked all =
     let parts : now.parts ≡ state.parts =
     ap (λ parts. slice_set parts r.place.client part) facts.parts ∙ slice_get-back state.parts r.place.client part at.found.there in
     let events : now.events ≡ state.events ++ EngineDone r.place ∷ [] = ap (λ es. es ++ EngineDone r.place ∷ []) facts.events in
-    let places : AreMatched now = stop-event state r.place now parts facts.messages events (matched-places state (counted-of state all)) in
+    let places : AreMatched now = stop-event state r.place now parts facts.messages events (counted-of state all).matched in
     let own : pipe_of now r.pipe ≡ stopped_pipe = pipes-same piped now refl refl refl r.pipe ∙ facts.own retiring.streams in
     subst (λ (after : Shared × Outcome). IsCounted after.0) (sym (ap (λ found. routed_to base r.place.client (stop_act r.place) found) there)) (record {
-      slots = places.slots;
-      places = places.places;
+      matched = places;
       retired = posted-retired state now r StopAsked events all.retired is asked refl;
       retiring = record {
         streams = retiring.streams;
@@ -242,7 +220,7 @@ moved-matched state r is asked all =
     let now : Shared = acted_state base r.place part part.unit new state.messages posted in
     let alone : NamesAlone r.place [] posted =
     record { messages = λ other apart. refl; carried = λ other apart. refl; moved = λ other apart. refl; sent = λ other apart. refl } in
-    let bases : AreMatched base = places-kept state base refl refl refl (matched-places state (counted-of state all)) in
+    let bases : AreMatched base = places-kept state base refl refl refl (counted-of state all).matched in
     let here : IsMatchedAt base r.place (Some old) = subst (λ held. IsMatchedAt base r.place held) at.held (bases.places r.place) in
     let sound : IsMatchedEntry r.place.slot old = here.sound in
     let places : AreMatched now = acted-counted base r.place part part.unit old new [] state.messages posted at.found.there at.found.held refl alone
@@ -260,8 +238,7 @@ moved-matched state r is asked all =
     ap (λ found. routed_to base r.place.client (pass_act r.pipe r.place) found) at.found.there
     ∙ ap (λ held. acted_on base r.place.client (passed_slot r.pipe part r.place held)) at.found.held in
     subst (λ (after : Shared × Outcome). IsCounted after.0) (sym step) (record {
-      slots = places.slots;
-      places = places.places;
+      matched = places;
       retired = posted-retired state now r MoveAsked refl all.retired is asked refl;
       retiring = record {
         streams = retiring.streams;
@@ -321,12 +298,11 @@ begun-matched : (state : Shared) (pipe : Pipe) (place : Place) (entry : Entry) �
 begun-matched state pipe place entry none held left all =
     let now : Shared = (retire_step state pipe (Some place)).0 in
     let r : Retirement = record { pipe = pipe; place = place; stage = StopAsked } in
-    let places : AreMatched now = places-kept state now refl refl refl (matched-places state (counted-of state all)) in
+    let places : AreMatched now = places-kept state now refl refl refl (counted-of state all).matched in
     let here : is_left_over_at state pipe place ≡ true = ap (left_of pipe) held ∙ left in
     let pipes : (p : Pipe) → pipe_of now p ≡ pipe_of state p = pipes-same state now refl refl refl in
     record {
-      slots = places.slots;
-      places = places.places;
+      matched = places;
       retired = all.retired ∙ ap (λ found. answered_places found) none;
       retiring = record {
         streams = left-streams pipe entry left;
@@ -366,13 +342,12 @@ asked-matched : (state : Shared) (r : Retirement) (place : Place) (rest : List C
     IsCounted (stage_seen (record state { events = rest }) r StopAnswered).0
 asked-matched state r place rest first is at none all =
     let now : Shared = (stage_seen (record state { events = rest }) r StopAnswered).0 in
-    let places : AreMatched now = popped-places state place rest now first refl refl refl (matched-places state (counted-of state all)) in
+    let places : AreMatched now = popped-places state place rest now first refl refl refl (counted-of state all).matched in
     let was : IsRetiring state r = retiring-of state r all is in
     let stage : IsAtStage state r.pipe r.place StopAnswered = subst (λ s. IsAtStage state r.pipe r.place s) at was.stage in
     let pipes : (p : Pipe) → pipe_of now p ≡ pipe_of state p = pipes-same state now refl refl refl in
     record {
-      slots = places.slots;
-      places = places.places;
+      matched = places;
       retired = none;
       retiring = record { streams = was.streams; there = was.there; left = was.left; stage = ap (λ p. p.runs) (pipes r.pipe) ∙ stage };
       flows = λ pipe at_place. record {
@@ -480,7 +455,7 @@ retired-matched state r rest first is moved none all =
     let sound : IsMatchedEntry r.place.slot old = here.sound in
     let counted : AreMatched seen =
     seen-counted state (EngineDone r.place) rest part old new first at.found.there at.found.held (retired-counted r.pipe r.place old at.left sound) here
-    (matched-places state (counted-of state all)) in
+    (counted-of state all).matched in
     let places : AreMatched after = places-kept seen after refl refl refl counted in
     let nows : AreMatched now = places-kept after now facts.parts facts.messages facts.events places in
     let written : IsWritten state seen r.place (Some new) = seen-written state (EngineDone r.place) rest part old new first at.found.there at.found.held in
@@ -494,8 +469,7 @@ retired-matched state r rest first is moved none all =
     let left_now : (pipe : Pipe) (place : Place) → is_left_over_at now pipe place ≡ is_left_over_at seen pipe place =
     λ pipe place. ap (λ ps. left_of pipe (under ps place)) facts.parts in
     subst (λ (s : Shared × Outcome). IsCounted (resumed r.pipe s).0) (sym (retired-step state r rest part old at.found.there at.found.held at.left)) (record {
-      slots = nows.slots;
-      places = nows.places;
+      matched = nows;
       retired = ap (λ es. retired_places es) (facts.events ∙ append-nil rest) ∙ none ∙ sym (ap (λ found. answered_places found) no_more);
       retiring = subst (λ found. IfSome found (IsRetiring now)) (sym no_more) tt;
       flows = λ pipe place. record {

@@ -11,8 +11,10 @@ use Rattle.scsi_cmd.specs.declared.Request.TheVariants.{Execute, Manage}
 use Rattle.scsi_cmd.specs.Work.{reports_attention}
 use Rattle.device_server.specs.declared.Answer.{Answer}
 use Rattle.device_server.specs.declared.Answer.TheVariants.{Good, Check}
+use Rattle.device_server.specs.declared.Progress.{Progress}
 use Rattle.device_server.specs.declared.Progress.TheVariants.{Moving, Ended}
 use Rattle.device_server.specs.Laws.{after_chunk, begun_progress}
+use Rattle.device_server.specs.Server.{chunk_moved}
 use Rattle.solo_model.specs.declared.Phase.{Phase}
 use Rattle.solo_model.specs.declared.Phase.TheVariants.{Queued, Begun, Sent, Gone}
 use Rattle.solo_model.specs.TaggedTask.{TaggedTask, buffer_after, carried_request, progress_left}
@@ -296,43 +298,25 @@ move-stepped unit place entry chunk op is moving sound =
     let chunks : IsMovingTd (data_trbs entry.task.request) chunk entry.data_td = subst
     (λ p. IsDataTd (data_trbs entry.task.request) p entry.data_td) moving sound.chunks in
     let trbs : data_trbs entry.task.request ≡ (moved_bytes op + 4095) / 4096 = ap data_trbs is in
-    let there = λ (took : Bool). td-there took entry.data_td ∙ sound.moves in
-    let answers : (phase : Phase) → IsPhaseOf entry.task.request phase = λ phase. command-answers entry.task.request op phase is in
     let buffer : List ℕ = buffer_after unit entry.task.buffer chunk op in
+    let begun : (progress : Progress)
+    → IsDataTd (data_trbs entry.task.request) (Begun progress) (data_td_after (chunk_moved progress) entry.data_td)
+    → IsStepped place [] (moved_events entry (record entry.task { buffer = buffer; phase = Begun progress }) place) entry
+    (moved_to entry (record entry.task { buffer = buffer; phase = Begun progress })) =
+    λ progress now. chunk-stepped place entry chunk buffer (Begun progress) chunks (record {
+      asks = sound.asks;
+      answers = command-answers entry.task.request op (Begun progress) is;
+      command = command;
+      status = status;
+      chunks = now;
+      moves = td-there (chunk_moved progress) entry.data_td ∙ sound.moves;
+      small = sound.small;
+    }) in
     after_chunk (λ progress. IsStepped place [] (moved_events entry (record entry.task { buffer = buffer; phase = Begun progress }) place) entry
     (moved_to entry (record entry.task { buffer = buffer; phase = Begun progress }))) unit chunk op unit.count
-    (λ more. chunk-stepped place entry chunk buffer (Begun (Moving (chunk + 1))) chunks
-    (record {
-      asks = sound.asks;
-      answers = answers (Begun (Moving (chunk + 1)));
-      command = command;
-      status = status;
-      chunks = chunk-next (data_trbs entry.task.request) chunk entry.data_td chunks
-          (omega (arith, trbs, more));
-      moves = there true;
-      small = sound.small;
-    }))
-    (λ last. chunk-stepped place entry chunk buffer (Begun (Ended Good)) chunks
-    (record {
-      asks = sound.asks;
-      answers = answers (Begun (Ended Good));
-      command = command;
-      status = status;
-      chunks = chunk-whole (data_trbs entry.task.request) chunk entry.data_td chunks
-          (omega (arith, trbs, last));
-      moves = there true;
-      small = sound.small;
-    }))
-    (λ sense. chunk-stepped place entry chunk buffer (Begun (Ended (Check sense))) chunks
-    (record {
-      asks = sound.asks;
-      answers = answers (Begun (Ended (Check sense)));
-      command = command;
-      status = status;
-      chunks = chunk-short (data_trbs entry.task.request) chunk entry.data_td chunks;
-      moves = there false;
-      small = sound.small;
-    }))
+    (λ more. begun (Moving (chunk + 1)) (chunk-next (data_trbs entry.task.request) chunk entry.data_td chunks (omega (arith, trbs, more))))
+    (λ last. begun (Ended Good) (chunk-whole (data_trbs entry.task.request) chunk entry.data_td chunks (omega (arith, trbs, last))))
+    (λ sense. begun (Ended (Check sense)) (chunk-short (data_trbs entry.task.request) chunk entry.data_td chunks))
 
 -- the data TD alone changes, which was pending
 chunk-td : (trbs chunk : ℕ) (took : Bool) (td : Option Td) → IsMovingTd trbs chunk td → TdGoesOn trbs td (data_td_after took td)

@@ -106,8 +106,7 @@ retiring-kept old new r clients runs left whole was = record {
 pub IsCounted-kept : (old new : Shared) → GoOn old new → AreMatched new → retired_places new.events ≡ retired_places old.events → IsCounted old →
     IsCounted new
 IsCounted-kept old new go now retired all = record {
-  slots = now.slots;
-  places = now.places;
+  matched = now;
   retired = retired ∙ all.retired ∙ ap (λ found. answered_places found) (sym go.retirement);
   retiring = if-some (IsRetiring new) new.retirement under_way;
   flows = λ pipe place. record {

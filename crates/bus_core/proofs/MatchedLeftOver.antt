@@ -27,6 +27,7 @@ use Rattle.bus_core.specs.Matched.{is_whole, is_whole_on, IsAwaitedOrSeen, IsGiv
 use Rattle.bus_core.proofs.MatchedEnds.{over-left_in, over-left_out}
 use Rattle.bus_core.proofs.MatchedEntries.{IsStepped, IsCountedOut, IsLeft, last_false, middle_false}
 use Rattle.bus_core.proofs.MatchedPlaces.{self_equal}
+use Rattle.bus_core.proofs.MatchedTds.{in-either, out-either}
 
 -- ONE TD
 
@@ -247,26 +248,20 @@ same-out change trbs way td is = ap (λ w. data_out_td w (option_map change td))
 pub changed-other : (change : Td → Td) (pipe other : Pipe) (entry : Entry) → is_left_over_on pipe entry ≡ true → same_pipe pipe other ≡ false →
     IsSameOn other entry (with_td_on change pipe entry)
 changed-other change Command other entry left apart = absurd (false≢true left)
-changed-other change Status Command entry left apart = record { left = refl; trb = refl }
 changed-other change Status Status entry left apart = absurd (false≢true (sym apart))
-changed-other change Status DataIn entry left apart = record { left = refl; trb = refl }
-changed-other change Status DataOut entry left apart = record { left = refl; trb = refl }
-changed-other change DataIn Command entry left apart = record { left = refl; trb = refl }
-changed-other change DataIn Status entry left apart = record { left = refl; trb = refl }
 changed-other change DataIn DataIn entry left apart = absurd (false≢true (sym apart))
 changed-other change DataIn DataOut entry left apart =
     let trbs : ℕ = data_trbs entry.task.request in
     let way : Direction = request_direction entry.task.request in
     let same = same-out change trbs way entry.data_td (left-in way entry.data_td left).0 in
     record { left = ap (λ td. is_td_left_over td) same; trb = ap (λ td. has_data_trb trbs td) same }
-changed-other change DataOut Command entry left apart = record { left = refl; trb = refl }
-changed-other change DataOut Status entry left apart = record { left = refl; trb = refl }
 changed-other change DataOut DataIn entry left apart =
     let trbs : ℕ = data_trbs entry.task.request in
     let way : Direction = request_direction entry.task.request in
     let same = same-in change trbs way entry.data_td (left-out way entry.data_td left).0 in
     record { left = ap (λ td. is_td_left_over td) same; trb = ap (λ td. has_data_trb trbs td) same }
 changed-other change DataOut DataOut entry left apart = absurd (false≢true (sym apart))
+changed-other change pipe other entry left apart = record { left = refl; trb = refl }
 
 -- where a change of a TD leaves it no TRB, its pipe has none of it
 data-empty : (change : Td → Td) (trbs : ℕ) (td : Option Td) → ((t : Td) → has_trb (change t) trbs ≡ false) → has_data_trb trbs (option_map change td) ≡ false
@@ -274,14 +269,10 @@ data-empty change trbs None none = refl
 data-empty change trbs (Some td) none = none td
 
 in-empty : (trbs : ℕ) (way : Direction) (td : Option Td) → has_data_trb trbs td ≡ false → has_data_trb trbs (data_in_td way td) ≡ false
-in-empty trbs Nothing td none = refl
-in-empty trbs ToHost td none = none
-in-empty trbs ToDevice td none = refl
+in-empty trbs way td none = in-either (λ old new. has_data_trb trbs new ≡ false) way td td refl none
 
 out-empty : (trbs : ℕ) (way : Direction) (td : Option Td) → has_data_trb trbs td ≡ false → has_data_trb trbs (data_out_td way td) ≡ false
-out-empty trbs Nothing td none = refl
-out-empty trbs ToHost td none = refl
-out-empty trbs ToDevice td none = none
+out-empty trbs way td none = out-either (λ old new. has_data_trb trbs new ≡ false) way td td refl none
 
 pub changed-empty : (change : Td → Td) (pipe : Pipe) (entry : Entry) → ((td : Td) → has_trb (change td) (trbs_on pipe entry) ≡ false) →
     has_trb_on pipe (with_td_on change pipe entry) ≡ false
@@ -336,15 +327,11 @@ data-still trbs (Some td) = refl
 
 in-still : (way : Direction) (one other : Option Td) → is_td_left_over one ≡ is_td_left_over other
     → is_td_left_over (data_in_td way one) ≡ is_td_left_over (data_in_td way other)
-in-still Nothing one other is = refl
-in-still ToHost one other is = is
-in-still ToDevice one other is = refl
+in-still way one other is = in-either (λ old new. is_td_left_over old ≡ is_td_left_over new) way one other refl is
 
 out-still : (way : Direction) (one other : Option Td) → is_td_left_over one ≡ is_td_left_over other
     → is_td_left_over (data_out_td way one) ≡ is_td_left_over (data_out_td way other)
-out-still Nothing one other is = refl
-out-still ToHost one other is = refl
-out-still ToDevice one other is = is
+out-still way one other is = out-either (λ old new. is_td_left_over old ≡ is_td_left_over new) way one other refl is
 
 pub passed-still : (pipe : Pipe) (entry : Entry) → is_left_over_on pipe (passed_on pipe entry) ≡ is_left_over_on pipe entry
 passed-still Command entry = refl

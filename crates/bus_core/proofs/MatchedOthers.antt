@@ -29,7 +29,7 @@ use Rattle.bus_core.specs.Soundness.{one_if, awaited_data, readied_of}
 use Rattle.bus_core.specs.Matched.{held_in, under, waiting_command, awaited_command, awaited_status, awaited_data_of, readied_in, times_ready, HaveSlots}
 use Rattle.bus_core.specs.Matched.{IsPhaseOf, IsGivenUp, IsShortTd, IsWithinTd, IsDataTd, IsCommandTd, IsStatusTd, IsMatchedAt, IsMatchedEntry}
 use Rattle.bus_core.proofs.MatchedPlaces.{part-set, IsCounted}
-use Rattle.bus_core.proofs.MatchedTds.{TdGoesOn, TdsGoOn, td-same, td-left, tds-on, same-goes}
+use Rattle.bus_core.proofs.MatchedTds.{TdGoesOn, TdsGoOn, td-same, td-left, tds-same, tds-on, same-goes}
 use Rattle.bus_core.proofs.MatchedFlows.{pipes-same, left_of, trb_of, whole_of, HeldGoesOn, goes-on, IsCounted-kept}
 use Rattle.bus_core.proofs.MatchedEntries.{asked_op, moving-within, left-within, check-awaited, check-there, pending-is}
 use Rattle.bus_core.proofs.MatchedActs.{times_ready-there, under-there}
@@ -48,15 +48,8 @@ pub record IsAlike (slot : ℕ) (old new : Entry) : Type 0 where
   pub tds : TdsGoOn old new
 
 pub alike-self : (slot : ℕ) (entry : Entry) → IsMatchedEntry slot entry → IsAlike slot entry entry
-alike-self slot entry sound = record {
-  messages = refl;
-  carried = refl;
-  moved = refl;
-  sent = refl;
-  ready = refl;
-  sound = sound;
-  tds = record { request = refl; status = td-same 1 (Some entry.status_td); data_tds = td-same (data_trbs entry.task.request) entry.data_td };
-}
+alike-self slot entry sound =
+    record { messages = refl; carried = refl; moved = refl; sent = refl; ready = refl; sound = sound; tds = tds-same entry }
 
 -- what stands at a place, so
 pub record AreHeldAlike (slot : ℕ) (old new : Option Entry) : Type 0 where
@@ -141,8 +134,8 @@ alike-counted state client change part there each all =
     (goes-on state now (length-set state.parts client (changed_part change part)) refl (pipes-same state now refl refl refl)
     (λ pipe place. (alike place).goes pipe))
     (record {
-      slots = slots-alike state client change part there all.slots;
-      places = λ place. let was : IsMatchedAt state place (under state.parts place) = all.places place in
+      slots = slots-alike state client change part there all.matched.slots;
+      places = λ place. let was : IsMatchedAt state place (under state.parts place) = all.matched.places place in
           record {
             messages = was.messages ∙ sym (alike place).messages;
             carried = was.carried ∙ sym (alike place).carried;

@@ -62,29 +62,33 @@ pub times-append : (place : Place) (first second : List Place) → times place (
 times-append place [] second = omega arith
 times-append place (next ∷ rest) second = omega (arith, times-append place rest second)
 
+-- the events of each kind
+record IsEventSum (place : Place) (events more all : List Completion) : Type 0 where
+  carried : command_events place all ≡ command_events place events + command_events place more
+  moved : data_events place all ≡ data_events place events + data_events place more
+  sent : status_events place all ≡ status_events place events + status_events place more
+
+events-append : (place : Place) (events more : List Completion) → IsEventSum place events more (events ++ more)
+events-append place [] more = record { carried = omega arith; moved = omega arith; sent = omega arith }
+events-append place (event ∷ rest) more = at event (events-append place rest more)
+  where
+    at : (event : Completion) → IsEventSum place rest more (rest ++ more) → IsEventSum place (event ∷ rest) more (event ∷ rest ++ more)
+    at (CommandDone next) sum = record { carried = omega (arith, sum.carried); moved = sum.moved; sent = sum.sent }
+    at (DataDone next) sum = record { carried = sum.carried; moved = omega (arith, sum.moved); sent = sum.sent }
+    at (StatusDone next) sum = record { carried = sum.carried; moved = sum.moved; sent = omega (arith, sum.sent) }
+    at (EngineDone next) sum = record { carried = sum.carried; moved = sum.moved; sent = sum.sent }
+
 pub command_events-append : (place : Place) (events more : List Completion) →
     command_events place (events ++ more) ≡ command_events place events + command_events place more
-command_events-append place [] more = omega arith
-command_events-append place (CommandDone next ∷ rest) more = omega (arith, command_events-append place rest more)
-command_events-append place (DataDone next ∷ rest) more = command_events-append place rest more
-command_events-append place (StatusDone next ∷ rest) more = command_events-append place rest more
-command_events-append place (EngineDone next ∷ rest) more = command_events-append place rest more
+command_events-append place events more = (events-append place events more).carried
 
 pub data_events-append : (place : Place) (events more : List Completion) →
     data_events place (events ++ more) ≡ data_events place events + data_events place more
-data_events-append place [] more = omega arith
-data_events-append place (CommandDone next ∷ rest) more = data_events-append place rest more
-data_events-append place (DataDone next ∷ rest) more = omega (arith, data_events-append place rest more)
-data_events-append place (StatusDone next ∷ rest) more = data_events-append place rest more
-data_events-append place (EngineDone next ∷ rest) more = data_events-append place rest more
+data_events-append place events more = (events-append place events more).moved
 
 pub status_events-append : (place : Place) (events more : List Completion) →
     status_events place (events ++ more) ≡ status_events place events + status_events place more
-status_events-append place [] more = omega arith
-status_events-append place (CommandDone next ∷ rest) more = status_events-append place rest more
-status_events-append place (DataDone next ∷ rest) more = status_events-append place rest more
-status_events-append place (StatusDone next ∷ rest) more = omega (arith, status_events-append place rest more)
-status_events-append place (EngineDone next ∷ rest) more = status_events-append place rest more
+status_events-append place events more = (events-append place events more).sent
 
 -- the places of the events of the controller's own commands, in order
 pub retired_places-append : (events more : List Completion) → retired_places (events ++ more) ≡ retired_places events ++ retired_places more
@@ -262,18 +266,15 @@ AreMatched-same old new parts waits all = record {
 -- A MATCHED STATE BUT FOR THE ORDER OF ITS REQUESTS, which Ordered shows
 
 pub record IsCounted (state : Shared) : Type 0 where
-  pub slots : HaveSlots state.parts
-  pub places : (place : Place) → IsMatchedAt state place (under state.parts place)
+  pub matched : AreMatched state
   pub retired : retired_places state.events ≡ answered_places state.retirement
   pub retiring : IfSome state.retirement (IsRetiring state)
   pub flows : (pipe : Pipe) (place : Place) → FlowsAt state pipe place
 
 pub counted-of : (state : Shared) → IsMatched state → IsCounted state
-counted-of state all = record { slots = all.slots; places = all.places; retired = all.retired; retiring = all.retiring; flows = all.flows }
+counted-of state all =
+    record { matched = record { slots = all.slots; places = all.places }; retired = all.retired; retiring = all.retiring; flows = all.flows }
 
 pub matched-of : (state : Shared) → IsCounted state → IsOrdered state → IsMatched state
 matched-of state all ordered =
-    record { slots = all.slots; places = all.places; retired = all.retired; retiring = all.retiring; flows = all.flows; ordered = ordered }
-
-pub matched-places : (state : Shared) → IsCounted state → AreMatched state
-matched-places state all = record { slots = all.slots; places = all.places }
+    record { slots = all.matched.slots; places = all.matched.places; retired = all.retired; retiring = all.retiring; flows = all.flows; ordered = ordered }

@@ -67,21 +67,10 @@ same_pipe-self DataOut = refl
 
 pub same_pipe-true : (one other : Pipe) → same_pipe one other ≡ true → one ≡ other
 same_pipe-true Command Command is = refl
-same_pipe-true Command Status is = absurd (false≢true is)
-same_pipe-true Command DataIn is = absurd (false≢true is)
-same_pipe-true Command DataOut is = absurd (false≢true is)
-same_pipe-true Status Command is = absurd (false≢true is)
 same_pipe-true Status Status is = refl
-same_pipe-true Status DataIn is = absurd (false≢true is)
-same_pipe-true Status DataOut is = absurd (false≢true is)
-same_pipe-true DataIn Command is = absurd (false≢true is)
-same_pipe-true DataIn Status is = absurd (false≢true is)
 same_pipe-true DataIn DataIn is = refl
-same_pipe-true DataIn DataOut is = absurd (false≢true is)
-same_pipe-true DataOut Command is = absurd (false≢true is)
-same_pipe-true DataOut Status is = absurd (false≢true is)
-same_pipe-true DataOut DataIn is = absurd (false≢true is)
 same_pipe-true DataOut DataOut is = refl
+same_pipe-true one other is = absurd (false≢true is)
 
 -- a pipe is held exactly where the retirement is on it
 pub held-is : (state : Shared) (r : Retirement) (pipe : Pipe) → state.retirement ≡ Some r → is_held state pipe ≡ same_pipe r.pipe pipe
@@ -149,23 +138,20 @@ pub answered-first : (found : Option Retirement) (place : Place) (more : List Pl
 answered-first None place more is = absurd (nil-cons place more is)
 answered-first (Some r) place more is = at r.stage refl is
   where
+    lone : is_asked r.stage ≡ false → r.place ∷ [] ≡ place ∷ more → IsAnswered (Some r) place more
+    lone answered one = record {
+      retirement = r;
+      is = refl;
+      place_same = cons-first r.place place [] more one;
+      answered = answered;
+      alone = sym (cons-rest r.place place [] more one);
+    }
+
     at : (stage : RetirementStage) → r.stage ≡ stage → answered_place stage r.place ≡ place ∷ more → IsAnswered (Some r) place more
     at StopAsked so one = absurd (nil-cons place more one)
-    at StopAnswered so one = record {
-      retirement = r;
-      is = refl;
-      place_same = cons-first r.place place [] more one;
-      answered = ap (λ stage. is_asked stage) so;
-      alone = sym (cons-rest r.place place [] more one);
-    }
+    at StopAnswered so one = lone (ap is_asked so) one
     at MoveAsked so one = absurd (nil-cons place more one)
-    at MoveAnswered so one = record {
-      retirement = r;
-      is = refl;
-      place_same = cons-first r.place place [] more one;
-      answered = ap (λ stage. is_asked stage) so;
-      alone = sym (cons-rest r.place place [] more one);
-    }
+    at MoveAnswered so one = lone (ap is_asked so) one
 
 -- the same of an event that waits anywhere
 answered-named : (found : Option Retirement) (place : Place) → 1 ≤ times place (answered_places found) →
@@ -173,14 +159,16 @@ answered-named : (found : Option Retirement) (place : Place) → 1 ≤ times pla
 answered-named None place some = absurd (omega (arith, some))
 answered-named (Some r) place some = at r.stage refl some
   where
+    named : is_asked r.stage ≡ false → 1 ≤ times place (r.place ∷ []) →
+        (one : Retirement) × (Some r ≡ Some one) × (one.place ≡ place) × (is_asked one.stage ≡ false)
+    named answered one = (r, refl, same_place-true r.place place (one_if-true (same_place r.place place) (omega (arith, one))), answered)
+
     at : (stage : RetirementStage) → r.stage ≡ stage → 1 ≤ times place (answered_place stage r.place) →
         (one : Retirement) × (Some r ≡ Some one) × (one.place ≡ place) × (is_asked one.stage ≡ false)
-    at StopAsked so named = absurd (omega (arith, named))
-    at StopAnswered so named =
-        (r, refl, same_place-true r.place place (one_if-true (same_place r.place place) (omega (arith, named))), ap (λ stage. is_asked stage) so)
-    at MoveAsked so named = absurd (omega (arith, named))
-    at MoveAnswered so named =
-        (r, refl, same_place-true r.place place (one_if-true (same_place r.place place) (omega (arith, named))), ap (λ stage. is_asked stage) so)
+    at StopAsked so one = absurd (omega (arith, one))
+    at StopAnswered so one = named (ap is_asked so) one
+    at MoveAsked so one = absurd (omega (arith, one))
+    at MoveAnswered so one = named (ap is_asked so) one
 
 pub own-engine_event : (state : Shared) (place : Place) → IsMatched state → 1 ≤ times place (retired_places state.events) → IsOwnEngineEvent state place
 own-engine_event state place all some =

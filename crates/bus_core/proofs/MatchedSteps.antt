@@ -45,7 +45,7 @@ use Rattle.bus_core.specs.Matched.{awaited_status, awaited_data_of, awaits_data,
 use Rattle.bus_core.specs.Matched.{is_td_event, is_whole_on}
 use Rattle.bus_core.proofs.MatchedPlaces.{one_self, one_if-true, one_if-most, one_equal, one_apart, command_events-append, data_events-append}
 use Rattle.bus_core.proofs.MatchedPlaces.{status_events-append, held-within, IsWritten, times_ready-written, AreMatched-written, clients-written, IsCounted}
-use Rattle.bus_core.proofs.MatchedPlaces.{counted-of, matched-of, matched-places}
+use Rattle.bus_core.proofs.MatchedPlaces.{counted-of, matched-of}
 use Rattle.bus_core.proofs.MatchedEntries.{carried_to, has_trb-queued, carry-stepped, moved_to, moved_events, IsDataEvent, data_event-is, move-stepped}
 use Rattle.bus_core.proofs.MatchedEntries.{sent_to, send-stepped, HasSeen, IsSeenAs, event-seen}
 use Rattle.bus_core.proofs.MatchedEntries.{moving_op, chunk_task, entries_after-command, carry-tds, move-tds, send-tds}
@@ -139,7 +139,7 @@ other-sound : (state : Shared) (place : Place) (part : Part) (slot : ℕ) (entry
     held_at part.entries slot ≡ Some entry → IsCounted state → IsMatchedAt state (of_client place slot) (Some entry)
 other-sound state place part slot entry there held all =
     subst (λ found. IsMatchedAt state (of_client place slot) found) (under-there state.parts (of_client place slot) part (Some entry) there held)
-    (all.places (of_client place slot))
+    (all.matched.places (of_client place slot))
 
 -- a command isn't in the last slot
 command-slot : (slot : ℕ) (request : Request) → is_command request ≡ true → IsRequestIn slot request → slot < TASK_SLOT
@@ -578,7 +578,7 @@ settled-matched state place part rest entry there queue held once ready quiet he
       sent = omega (arith, status_events-append place state.events [], here.sent, quiet.sent);
       ready = times_ready-written state now place None written ∙ once;
       sound = tt;
-    }) (matched-places state all))
+    }) all.matched)
     (ap (λ events. retired_places events) (append-nil state.events))
     all
 

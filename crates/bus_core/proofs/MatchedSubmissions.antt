@@ -28,7 +28,7 @@ use Rattle.bus_core.specs.Matched.{same_place, under, command_events, data_event
 use Rattle.bus_core.specs.Matched.{is_left_over_at, has_trb_at, is_whole_at}
 use Rattle.bus_core.specs.Pipes.{rung_unless}
 use Rattle.bus_core.proofs.MatchedPlaces.{one_self, times-append, same_place-true, IsWritten, under-written, under-other, times_ready-written, clients-written}
-use Rattle.bus_core.proofs.MatchedPlaces.{AreMatched-written, IsCounted, counted-of, matched-places}
+use Rattle.bus_core.proofs.MatchedPlaces.{AreMatched-written, IsCounted, counted-of}
 use Rattle.bus_core.proofs.MatchedEnds.{IsUnfaulted, unfaulted, IsSubmitted, submit-stepped, manage-stepped, task-unfaulted, over-left_in, over-left_out}
 use Rattle.bus_core.proofs.MatchedFlows.{left_of, trb_of, whole_of, GoOn, IsCounted-kept}
 use Rattle.bus_core.proofs.MatchedActs.{times_ready-there, under-there}
@@ -213,7 +213,7 @@ added-matched state way tag place part now_part td entry there added new free st
       ready = times_ready-written state now place (Some entry) written ∙ ap (λ queue. times_in place.slot queue) added.ready
           ∙ sym (times_ready-there state.parts place part there) ∙ here.ready ∙ sym step.ready;
       sound = step.sound;
-    }) (matched-places state (counted-of state all)))
+    }) (counted-of state all).matched)
     (ap (λ events. retired_places events) events)
     (counted-of state all)
 

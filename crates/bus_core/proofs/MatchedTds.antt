@@ -1,5 +1,5 @@
 -- What a step makes of the TDs of one entry, told of each pipe: cited by MatchedEntries and MatchedFlows.
-use Rattle.std.proofs.Common.{◌≡◌, ℕ, ◌+◌, Bool, true, false, ◌&&◌, Option, Some, refl, arith, ap, sym, subst, ◌∙◌}
+use Rattle.std.proofs.Common.{◌≡◌, ℕ, ◌+◌, Bool, true, false, ◌&&◌, Option, Some, None, refl, arith, ap, sym, subst, ◌∙◌}
 use Rattle.std.specs.Prelude.{◌==◌, nat_lt}
 use Rattle.std.proofs.lemmas.Bool.{lt-ltb, ltb-true, false≢true, and_from, and_parts}
 use Rattle.stream_array.specs.declared.Pipe.{Pipe}
@@ -83,32 +83,47 @@ pub record TdsGoOn (old new : Entry) : Type 0 where
   pub status : TdGoesOn 1 (Some old.status_td) (Some new.status_td)
   pub data_tds : TdGoesOn (data_trbs old.task.request) old.data_td new.data_td
 
-in-goes : (trbs : ℕ) (way : Direction) (old new : Option Td) → TdGoesOn trbs old new → TdGoesOn trbs (data_in_td way old) (data_in_td way new)
-in-goes trbs Nothing old new goes = same-goes false false false
-in-goes trbs ToHost old new goes = goes
-in-goes trbs ToDevice old new goes = same-goes false false false
+pub tds-same : (entry : Entry) → TdsGoOn entry entry
+tds-same entry = record { request = refl; status = td-same 1 (Some entry.status_td); data_tds = td-same (data_trbs entry.task.request) entry.data_td }
 
-out-goes : (trbs : ℕ) (way : Direction) (old new : Option Td) → TdGoesOn trbs old new → TdGoesOn trbs (data_out_td way old) (data_out_td way new)
-out-goes trbs Nothing old new goes = same-goes false false false
-out-goes trbs ToHost old new goes = same-goes false false false
-out-goes trbs ToDevice old new goes = goes
+-- what is so of no TD, and of one and what became of it, is so of the data TD on the pipe of a direction
+pub in-either : (R : Option Td → Option Td → Type 0) (way : Direction) (old new : Option Td) → R None None → R old new
+    → R (data_in_td way old) (data_in_td way new)
+in-either R Nothing old new none one = none
+in-either R ToHost old new none one = one
+in-either R ToDevice old new none one = none
+
+pub out-either : (R : Option Td → Option Td → Type 0) (way : Direction) (old new : Option Td) → R None None → R old new
+    → R (data_out_td way old) (data_out_td way new)
+out-either R Nothing old new none one = none
+out-either R ToHost old new none one = none
+out-either R ToDevice old new none one = one
+
+-- the same of the data TD of a request on the pipe of one direction
+abbrev RequestGoesOn : (Direction → Option Td → Option Td) → Request → Request → Option Td → Option Td → Type 0
+RequestGoesOn td_of was now old new =
+    GoesOn (is_td_left_over (td_of (request_direction was) old)) (has_data_trb (data_trbs was) (td_of (request_direction was) old))
+    (is_whole (data_trbs was) (td_of (request_direction was) old)) (is_td_left_over (td_of (request_direction now) new))
+    (has_data_trb (data_trbs now) (td_of (request_direction now) new)) (is_whole (data_trbs now) (td_of (request_direction now) new))
 
 abbrev pub GoesOnOn : Pipe → Entry → Entry → Type 0
 GoesOnOn pipe old new =
     GoesOn (is_left_over_on pipe old) (has_trb_on pipe old) (is_whole_on pipe old) (is_left_over_on pipe new) (has_trb_on pipe new) (is_whole_on pipe new)
 
+-- the data TD on the pipe of one direction goes on, as the request stays
+data-on : (td_of : Direction → Option Td → Option Td) (old new : Entry) → TdsGoOn old new
+    → TdGoesOn (data_trbs old.task.request) (td_of (request_direction old.task.request) old.data_td) (td_of (request_direction old.task.request) new.data_td)
+    → RequestGoesOn td_of old.task.request new.task.request old.data_td new.data_td
+data-on td_of old new goes on = subst (λ r. RequestGoesOn td_of old.task.request r old.data_td new.data_td) (sym goes.request) on
+
 pub tds-on : (pipe : Pipe) (old new : Entry) → TdsGoOn old new → GoesOnOn pipe old new
 tds-on Command old new goes = same-goes false false false
 tds-on Status old new goes = goes.status
 tds-on DataIn old new goes =
-    let asked : Request = old.task.request in
-    subst (λ (r : Request). GoesOn (is_left_over_on DataIn old) (has_trb_on DataIn old) (is_whole_on DataIn old)
-    (is_td_left_over (data_in_td (request_direction r) new.data_td)) (has_data_trb (data_trbs r) (data_in_td (request_direction r) new.data_td))
-    (is_whole (data_trbs r) (data_in_td (request_direction r) new.data_td))) (sym goes.request)
-    (in-goes (data_trbs asked) (request_direction asked) old.data_td new.data_td goes.data_tds)
+    let trbs : ℕ = data_trbs old.task.request in
+    data-on data_in_td old new goes
+    (in-either (TdGoesOn trbs) (request_direction old.task.request) old.data_td new.data_td (td-same trbs None) goes.data_tds)
 tds-on DataOut old new goes =
-    let asked : Request = old.task.request in
-    subst (λ (r : Request). GoesOn (is_left_over_on DataOut old) (has_trb_on DataOut old) (is_whole_on DataOut old)
-    (is_td_left_over (data_out_td (request_direction r) new.data_td)) (has_data_trb (data_trbs r) (data_out_td (request_direction r) new.data_td))
-    (is_whole (data_trbs r) (data_out_td (request_direction r) new.data_td))) (sym goes.request)
-    (out-goes (data_trbs asked) (request_direction asked) old.data_td new.data_td goes.data_tds)
+    let trbs : ℕ = data_trbs old.task.request in
+    data-on data_out_td old new goes
+    (out-either (TdGoesOn trbs) (request_direction old.task.request) old.data_td new.data_td (td-same trbs None) goes.data_tds)

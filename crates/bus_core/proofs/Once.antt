@@ -26,7 +26,8 @@ use Rattle.solo_model.specs.Solo.{after_request, carried_at, is_there, managed, 
 use Rattle.bus_core.specs.declared.Step.{Step}
 use Rattle.bus_core.specs.Replay.{replay}
 use Rattle.bus_core.specs.Isolation.{own_labels, own_replies, own_state}
-use Rattle.bus_core.specs.Once.{IsOwed, SettlesOnce, reply_ticket}
+use Rattle.scsi_cmd.specs.Replies.{reply_ticket}
+use Rattle.bus_core.specs.Once.{IsOwed, SettlesOnce}
 use Rattle.bus_core.proofs.FirstBlocks.{replay-solo}
 
 -- THE TICKETS THAT A STATE HAS

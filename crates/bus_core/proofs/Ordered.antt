@@ -4,7 +4,7 @@ use Rattle.std.proofs.Common.{◌≡◌, ℕ, zero, suc, ◌<◌, ◌≤◌, ◌
 use Rattle.std.proofs.Common.{refl, arith, ap, sym, subst, ◌∙◌, append-nil}
 use Rattle.std.specs.Prelude.{◌==◌, ◌&&◌, nat_lt, is_some, slice_get, slice_set, option_and_then, option_to_list}
 use Rattle.std.specs.Option.{option_map_or}
-use Rattle.std.proofs.lemmas.Bool.{and_left, and_parts, eq-eqb, false≢true}
+use Rattle.std.proofs.lemmas.Bool.{and_left, and_parts, eq-eqb}
 use Rattle.std.proofs.lemmas.List.{get_or-set_same, get_or-set_other}
 use Rattle.std.proofs.lemmas.Option.{none-some, same_Some}
 use Rattle.block_unit.specs.BlockMaps.{BlockMaps}
@@ -21,7 +21,6 @@ use Rattle.uas_host.specs.State.{is_over, is_pending, is_seen}
 use Rattle.uas_host.specs.Tags.{command_slot, place_of}
 use Rattle.uas_host.specs.declared.Place.{Place}
 use Rattle.uas_host.specs.declared.TdState.{TdState}
-use Rattle.uas_host.specs.declared.TdState.TheVariants.{Pending, Seen, LeftOver, Retired}
 use Rattle.xhci_ctl.specs.Engine.{stopped_pipe}
 use Rattle.xhci_ctl.specs.declared.PipeState.{PipeState}
 use Rattle.bus_core.specs.Pipes.{all_rung}
@@ -44,7 +43,7 @@ use Rattle.bus_core.specs.Shared.{routed_to, shared_step, stage_seen, streams_pe
 use Rattle.bus_core.specs.Soundness.{one_if, times_in}
 use Rattle.bus_core.specs.Ordered.{AreBehind, AreRising, IsLater, IsOrdered, IsOrderedPart, under}
 use Rattle.bus_core.specs.Matched.{IsMatched, IsMatchedAt, readied_in, times, times_ready}
-use Rattle.bus_core.proofs.MatchedEnds.{over-pends, over-data}
+use Rattle.bus_core.proofs.MatchedEnds.{over-pends, over-data, seen-is}
 use Rattle.bus_core.proofs.MatchedPlaces.{one_if-true}
 use Rattle.bus_core.proofs.MatchedSubmissions.{rung-events, slots-there}
 use Rattle.bus_core.proofs.OrderedActs.{IsKeptBy, event_act-kept, move_act-kept, notice-behind, nothing-kept, pass_act-kept, retire_act-kept, send_act-kept}
@@ -185,10 +184,7 @@ unnamed-none : (state : Shared) (place : Place) → IsMatchedAt state place None
 unnamed-none state place at = record { messages = at.messages; events = omega (arith, at.moved, at.sent) }
 
 seen-reclaimed : (state : TdState) → is_seen state ≡ true → is_in_ring state ≡ false
-seen-reclaimed Pending is = absurd (false≢true is)
-seen-reclaimed Seen is = refl
-seen-reclaimed LeftOver is = absurd (false≢true is)
-seen-reclaimed Retired is = absurd (false≢true is)
+seen-reclaimed state is = ap (λ s. is_in_ring s) (seen-is state is)
 
 over-unawaited : (trbs : ℕ) (td : Td) → is_over td.state ≡ true → one_if (is_awaited td trbs) ≡ 0
 over-unawaited trbs td is = ap one_if (and_left (is_pending td.state) (td.consumed == trbs) (over-pends td.state is))
@@ -229,17 +225,12 @@ same-elsewhere parts client slot part now place found kept apart =
     (λ same. subst (λ held. IsSame (held_at part.entries place.slot) held) (sym (kept place.slot (apart same))) (IsSame-self (held_at part.entries place.slot)))
     IsSame-self
 
-message-apart : (state : Shared) (client slot : ℕ) (place : Place) → IsUnnamed state (record { client = client; slot = slot }) → 1 ≤ times place state.messages
+-- what is named at another place than one that nothing names
+named-apart : (named : Place → ℕ) (client slot : ℕ) (place : Place) → named (record { client = client; slot = slot }) ≡ 0 → 1 ≤ named place
     → client ≡ place.client → place.slot ≡ slot → ⊥
-message-apart state client slot place unnamed named same at =
+named-apart named client slot place none some same at =
     let whole : place ≡ record { client = client; slot = slot } = λ i. record { client = sym same i; slot = at i } in
-    omega (arith, named, ap (λ p. times p state.messages) whole, unnamed.messages)
-
-event-apart : (state : Shared) (client slot : ℕ) (place : Place) → IsUnnamed state (record { client = client; slot = slot }) → 1 ≤ named_in place state.events
-    → client ≡ place.client → place.slot ≡ slot → ⊥
-event-apart state client slot place unnamed named same at =
-    let whole : place ≡ record { client = client; slot = slot } = λ i. record { client = sym same i; slot = at i } in
-    omega (arith, named, ap (λ p. named_in p state.events) whole, unnamed.events)
+    omega (arith, some, ap named whole, none)
 
 -- TAKE
 
@@ -257,9 +248,11 @@ left-state state client slot rest part found unnamed old =
     record {
       parts = part-written IsOrderedPart state.parts client part now found old.parts (left-ordered client part slot rest (old.parts client part found));
       messages = rising-same state.parts parts state.messages
-          (λ place named. same-elsewhere state.parts client slot part now place found kept (message-apart state client slot place unnamed named)) old.messages;
+          (λ place named. same-elsewhere state.parts client slot part now place found kept
+          (named-apart (λ p. times p state.messages) client slot place unnamed.messages named)) old.messages;
       events = subst (λ events. AreBehind parts events) (sym (append-nil state.events)) (behind-same state.parts parts state.events
-          (λ place named. same-elsewhere state.parts client slot part now place found kept (event-apart state client slot place unnamed named)) old.events);
+          (λ place named. same-elsewhere state.parts client slot part now place found kept
+          (named-apart (λ p. named_in p state.events) client slot place unnamed.events named)) old.events);
     }
 
 settled-ordered : (state : Shared) (client slot : ℕ) (rest : List ℕ) (part : Part) (reply : Option Reply) → slice_get state.parts client ≡ Some part
@@ -324,7 +317,8 @@ added-state state new place part now entry is all =
     let kept : (other : ℕ) → (other ≡ place.slot → ⊥) → held_at now.entries other ≡ held_at part.entries other = λ other apart.
     ap (λ entries. held_at entries other) is.entries ∙ get_or-set_other part.entries place.slot other (Some entry) None apart in
     let same : (other : Place) → 1 ≤ times other state.messages → IsSameAt state.parts parts other = λ other named.
-    same-elsewhere state.parts place.client place.slot part now other is.found kept (message-apart state place.client place.slot other unnamed named) in
+    same-elsewhere state.parts place.client place.slot part now other is.found kept
+    (named-apart (λ p. times p state.messages) place.client place.slot other unnamed.messages named) in
     record {
       parts = subst (λ list. (client : ℕ) (one : Part) → slice_get list client ≡ Some one → IsOrderedPart client one) (sym is.parts)
           (part-written IsOrderedPart state.parts place.client part now is.found all.ordered.parts is.ordered);
@@ -334,7 +328,7 @@ added-state state new place part now entry is all =
       events = subst (λ list. AreBehind list new.events) (sym is.parts) (subst (λ events. AreBehind parts events) (sym is.events)
           (behind-same state.parts parts state.events
           (λ other named. same-elsewhere state.parts place.client place.slot part now other is.found kept
-          (event-apart state place.client place.slot other unnamed named)) all.ordered.events));
+          (named-apart (λ p. named_in p state.events) place.client place.slot other unnamed.events named)) all.ordered.events));
     }
 
 answered-ordered : (state : Shared) (part : Part) (place : Place) (tag ticket : ℕ) (command : Command) (fault : Option SubmitFault)

@@ -88,17 +88,12 @@ next-after Holds (Some was) None now is at = absurd is
 next-after Holds (Some was) (Some other) now is at =
     record { was = was; held_was = refl; so = subst (λ (e : Entry). Holds was e) (same_Some other now at) is }
 
-pub record IsBefore (Holds : Entry → Entry → Type 0) (was : Entry) (after : Option Entry) : Type 0 where
-  pub now : Entry
-  pub held_now : after ≡ Some now
-  pub so : Holds was now
-
-pub next-before : (Holds : Entry → Entry → Type 0) (held after : Option Entry) (was : Entry) → IsNext Holds held after → held ≡ Some was
-    → IsBefore Holds was after
-next-before Holds None after was is at = absurd (none-some was at)
-next-before Holds (Some other) None was is at = absurd is
-next-before Holds (Some other) (Some now) was is at =
-    record { now = now; held_now = refl; so = subst (λ (e : Entry). Holds e now) (same_Some other was at) is }
+-- where one stood, another one stands
+next-held : (Holds : Entry → Entry → Type 0) (held after : Option Entry) (was : Entry) → IsNext Holds held after → held ≡ Some was
+    → (now : Entry) × (after ≡ Some now)
+next-held Holds None after was is at = absurd (none-some was at)
+next-held Holds (Some other) None was is at = absurd is
+next-held Holds (Some other) (Some now) was is at = (now, refl)
 
 -- A WRITE
 
@@ -106,8 +101,8 @@ next-before Holds (Some other) (Some now) was is at =
 pub AreNext-written : (Holds : Entry → Entry → Type 0) (entries after : List (Option Entry)) (slot : ℕ) (was now : Entry) → held_at entries slot ≡ Some was
     → Holds was now → AreNext Holds entries after → AreNext Holds entries (slice_set after slot (Some now))
 AreNext-written Holds entries after slot was now held so each other =
-    let there = next-before Holds (held_at entries slot) (held_at after slot) was (each slot) held in
-    let within : slot < length after = held-within after slot there.now there.held_now in
+    let there = next-held Holds (held_at entries slot) (held_at after slot) was (each slot) held in
+    let within : slot < length after = held-within after slot there.0 there.1 in
     elim (other == slot) as (λ b. (other == slot) ≡ b → IsNext Holds (held_at entries other) (held_at (slice_set after slot (Some now)) other)) [
       | true ↦ λ is. let same : slot ≡ other = sym (eqb-true other slot is) in
           subst (λ at. IsNext Holds (held_at entries at) (held_at (slice_set after slot (Some now)) at)) same

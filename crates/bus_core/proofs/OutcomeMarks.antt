@@ -1,18 +1,19 @@
 -- The outcome of a step that is due in a matched state, by the place that it acts on.
-use Rattle.std.proofs.Common.{◌≡◌, ℕ, suc, ◌≤◌, cond, length, Some, arith, ap, sym, subst, ◌∙◌, true, false, List, [], ◌∷◌, None, refl}
+use Rattle.std.proofs.Common.{◌≡◌, ℕ, suc, ◌≤◌, Bool, cond, length, Some, arith, ap, sym, subst, ◌∙◌, true, false, List, [], ◌∷◌, None, refl}
 use Rattle.std.specs.Prelude.{option_and_then, slice_get}
 use Rattle.scsi_cmd.specs.declared.Op.{Op}
 use Rattle.scsi_cmd.specs.declared.Request.TheVariants.{Execute}
 use Rattle.solo_model.specs.TaggedTask.{moved_from, moved_request, sent_from}
 use Rattle.uas_host.specs.declared.Place.{Place}
 use Rattle.uas_host.specs.Tags.{place_of}
+use Rattle.bus_core.specs.declared.Mark.{Mark}
 use Rattle.bus_core.specs.declared.Mark.TheVariants.{Move, Send, Quiet}
-use Rattle.bus_core.specs.declared.Step.TheVariants.{Data, Status as StatusStep, Event}
-use Rattle.bus_core.specs.Part.{Part, move_act, moved_slot, moved_entry, send_act, sent_slot, sent_entry, seen_by, seen_entry, event_act, event_place}
+use Rattle.bus_core.specs.declared.Step.TheVariants.{Event}
+use Rattle.bus_core.specs.Part.{Act, Part, move_act, moved_slot, moved_entry, send_act, sent_slot, sent_entry, seen_by, seen_entry, event_act, event_place}
 use Rattle.bus_core.specs.Part.{stop_act, pass_act, passed_slot, retire_act}
 use Rattle.bus_core.specs.Shared.{Shared, idle, is_some_of, acted_on, routed_to, routed_by_tag, carry_step, event_step, shared_step, is_moving, is_ended}
 use Rattle.bus_core.specs.Shared.{data_is_due, status_is_due, ringing, routed, with_pipe, at_stage, is_asked, engine_did, engine_step, retire_step, resumed}
-use Rattle.bus_core.specs.Shared.{stage_seen, engine_seen}
+use Rattle.bus_core.specs.Shared.{stage_seen, engine_seen, place_fact}
 use Rattle.bus_core.specs.Matched.{times, IsOwnMessage, retired_places, is_td_event, IsOwnTdEvent, IsMatched}
 use Rattle.bus_core.specs.WorldDue.{marked, CommandsAreMarked, DataAreMarked, StatusesAreMarked, EventsAreQuiet, EnginesAreMarked, RetirementsAreMarked}
 use Rattle.bus_core.proofs.MatchedPlaces.{one_self}
@@ -29,7 +30,7 @@ use Rattle.bus_core.specs.declared.Outcome.{Outcome}
 use Rattle.bus_core.specs.declared.Retirement.{Retirement}
 use Rattle.bus_core.specs.declared.RetirementStage.{RetirementStage}
 use Rattle.bus_core.specs.declared.RetirementStage.TheVariants.{StopAsked, StopAnswered, MoveAsked, MoveAnswered}
-use Rattle.bus_core.specs.Td.{with_td_on, retired_td}
+use Rattle.bus_core.specs.Td.{Entry, with_td_on, retired_td}
 use Rattle.bus_core.proofs.MatchedRetirement.{IsAnswered, first-engine_event, retiring-of}
 use Rattle.bus_core.proofs.MatchedEngine.{HasLeft, has-left, IsPiped, with_pipe-is, retired-step}
 
@@ -134,38 +135,39 @@ retire-marked state pipe tag place named is_due =
     ap (λ b. (cond b (retire_step state pipe (place_of (length state.parts) tag)) (state, idle)).1) is_due
     ∙ ap (λ found. (retire_step state pipe found).1) named
 
+-- the place of a tag, of which a fact is so
+by_tag-marked : (state : Shared) (tag : ℕ) (place : Place) (fact : Entry → Bool) (act : Place → Part → Act) (mark : ℕ → Mark) → IsMatched state
+    → place_of (length state.parts) tag ≡ Some place → place_fact state tag fact ≡ true
+    → ((at : Place) (entry : Entry) → (held : IsHeld state at entry) → fact entry ≡ true
+    → (acted_on state at.client (act at held.found.part)).1 ≡ marked at.client (mark (suc at.slot)))
+    → (routed_by_tag state act (place_of (length state.parts) tag)).1 ≡ marked place.client (mark (suc place.slot))
+by_tag-marked state tag place fact act mark all named so each =
+    let at : IsDueAt state tag fact = place_fact-due state tag fact so in
+    let held : IsHeld state at.place at.entry = matched-held state at.place at.entry all at.held in
+    subst (λ (p : Place). (routed_by_tag state act (place_of (length state.parts) tag)).1 ≡ marked p.client (mark (suc p.slot)))
+    (same_named (place_of (length state.parts) tag) at.place place at.named named)
+    (ap (λ p. (routed_by_tag state act p).1) at.named
+    ∙ ap (λ found. (routed_to state at.place.client (act at.place) found).1) held.found.there
+    ∙ each at.place at.entry held at.so)
+
 -- a chunk
 pub move-marked : DataAreMarked
 move-marked state tag place all named is_due =
-    let at : IsDueAt state tag (data_is_due state tag) = place_fact-due state tag (data_is_due state tag) is_due in
-    let held : IsHeld state at.place at.entry = matched-held state at.place at.entry all at.held in
-    let moving : IsMovingBy at.entry.task.phase = moving_phase at.entry.task.phase (and_parts (is_moving at.entry.task.phase) _ at.so).0 in
-    let slot : ℕ = at.place.slot in
-    let part : Part = held.found.part in
-    let asks : (op : Op) × (at.entry.task.request ≡ Execute op) =
-    moving_op at.entry.task.request at.entry.task.phase moving.chunk moving.is held.here.sound.answers in
-    let done : (shared_step state (Data tag)).1 ≡ marked at.place.client (Move (suc slot)) =
     ap (λ b. (cond b (routed_by_tag state move_act (place_of (length state.parts) tag)) (state, idle)).1) is_due
-    ∙ ap (λ p. (routed_by_tag state move_act p).1) at.named
-    ∙ ap (λ found. (routed_to state at.place.client (move_act at.place) found).1) held.found.there
-    ∙ ap (λ found. (acted_on state at.place.client (moved_slot part slot at.place found)).1) held.found.held
-    ∙ ap (λ phase. (acted_on state at.place.client (moved_entry part slot at.place at.entry (moved_from part.unit at.entry.task phase))).1) moving.is
-    ∙ ap (λ r. (acted_on state at.place.client (moved_entry part slot at.place at.entry (moved_request part.unit at.entry.task moving.chunk r))).1) asks.1 in
-    subst (λ (p : Place). (shared_step state (Data tag)).1 ≡ marked p.client (Move (suc p.slot)))
-    (same_named (place_of (length state.parts) tag) at.place place at.named named) done
+    ∙ by_tag-marked state tag place (data_is_due state tag) move_act Move all named is_due (λ at entry held so.
+    let moving : IsMovingBy entry.task.phase = moving_phase entry.task.phase (and_parts (is_moving entry.task.phase) _ so).0 in
+    let part : Part = held.found.part in
+    let asks : (op : Op) × (entry.task.request ≡ Execute op) =
+    moving_op entry.task.request entry.task.phase moving.chunk moving.is held.here.sound.answers in
+    ap (λ found. (acted_on state at.client (moved_slot part at.slot at found)).1) held.found.held
+    ∙ ap (λ phase. (acted_on state at.client (moved_entry part at.slot at entry (moved_from part.unit entry.task phase))).1) moving.is
+    ∙ ap (λ r. (acted_on state at.client (moved_entry part at.slot at entry (moved_request part.unit entry.task moving.chunk r))).1) asks.1)
 
 -- an answer
 pub send-marked : StatusesAreMarked
 send-marked state tag place all named is_due =
-    let at : IsDueAt state tag (status_is_due state tag) = place_fact-due state tag (status_is_due state tag) is_due in
-    let held : IsHeld state at.place at.entry = matched-held state at.place at.entry all at.held in
-    let ended : IsEndedBy at.entry.task.phase = ended_phase at.entry.task.phase (and_parts (is_ended at.entry.task.phase) _ at.so).0 in
-    let slot : ℕ = at.place.slot in
-    let done : (shared_step state (StatusStep tag)).1 ≡ marked at.place.client (Send (suc slot)) =
     ap (λ b. (cond b (routed_by_tag state send_act (place_of (length state.parts) tag)) (state, idle)).1) is_due
-    ∙ ap (λ p. (routed_by_tag state send_act p).1) at.named
-    ∙ ap (λ found. (routed_to state at.place.client (send_act at.place) found).1) held.found.there
-    ∙ ap (λ found. (acted_on state at.place.client (sent_slot held.found.part slot at.place found)).1) held.found.held
-    ∙ ap (λ phase. (acted_on state at.place.client (sent_entry held.found.part slot at.place at.entry (sent_from at.entry.task phase))).1) ended.is in
-    subst (λ (p : Place). (shared_step state (StatusStep tag)).1 ≡ marked p.client (Send (suc p.slot)))
-    (same_named (place_of (length state.parts) tag) at.place place at.named named) done
+    ∙ by_tag-marked state tag place (status_is_due state tag) send_act Send all named is_due (λ at entry held so.
+    let ended : IsEndedBy entry.task.phase = ended_phase entry.task.phase (and_parts (is_ended entry.task.phase) _ so).0 in
+    ap (λ found. (acted_on state at.client (sent_slot held.found.part at.slot at found)).1) held.found.held
+    ∙ ap (λ phase. (acted_on state at.client (sent_entry held.found.part at.slot at entry (sent_from entry.task phase))).1) ended.is)

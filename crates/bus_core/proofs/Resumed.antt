@@ -36,7 +36,7 @@ use Rattle.bus_core.proofs.ActFits.{place_of-tag}
 use Rattle.bus_core.proofs.EngineCells.{at-place, is-place}
 use Rattle.bus_core.proofs.EngineCellWrites.{cell_ring, length-td_trbs, ring-of-cell, td_trbs}
 use Rattle.bus_core.proofs.EngineDue.{has_pending-holds}
-use Rattle.bus_core.proofs.EngineFits.{SamePipes}
+use Rattle.bus_core.proofs.Framing.{SamePipes}
 use Rattle.bus_core.proofs.Framing.{AllFit}
 
 -- WHICH STREAMS

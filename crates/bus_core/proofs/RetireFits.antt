@@ -65,7 +65,8 @@ begun-fits : (state : Shared) (world : World) (pipe : Pipe) (place : Place) → 
 begun-fits state world pipe place fits none matched sound =
     let empty : HoldsTrbs world.lines.engine [] 0 = subst (HoldsCommandOf world.lines) none fits.engine.commands in
     kept-fits state (begun_state state pipe place) world (retire_world world pipe place) fits
-    (record { hosts = refl; device = refl; frames = refl; status = refl; data_in = refl; data_out = refl }) refl fits.status fits.data_in fits.data_out
+    (record { hosts = refl; device = refl; frames = refl; status = refl; data_in = refl; data_out = refl }) refl
+    (record { status = fits.status; data_in = fits.data_in; data_out = fits.data_out })
     (begun-queues state world pipe place fits none)
     (record { retirement = refl; commands = (ap (λ (ts : List Trb). ts ++ stop_trb pipe ∷ []) empty.0, empty.1) }) matched sound
 

@@ -42,7 +42,6 @@ use Rattle.bus_core.specs.declared.Retirement.{Retirement}
 use Rattle.bus_core.specs.declared.RetirementStage.{RetirementStage}
 use Rattle.bus_core.specs.declared.RetirementStage.TheVariants.{StopAsked, StopAnswered, MoveAsked, MoveAnswered}
 use Rattle.bus_core.specs.declared.Td.{Td}
-use Rattle.bus_core.specs.Bus.{IsPlace}
 use Rattle.bus_core.specs.Pipes.{all_rung}
 use Rattle.bus_core.specs.Td.{Entry, data_in_td, data_out_td, is_left_over_on, is_td_left_over, request_direction, retired_on}
 use Rattle.bus_core.specs.Td.{data_trbs, retired_td, td_on, trbs_on, with_td_on}
@@ -60,10 +59,10 @@ use Rattle.bus_core.proofs.CellWrites.{client_of-found, entry_at-other, entry_at
 use Rattle.bus_core.proofs.EngineCells.{KeepsRings, ReadsAlike, WritesOne, with_ring-keeps, written-all, written-fits, written-unused}
 use Rattle.bus_core.proofs.EngineCellWrites.{IsLeftOn, cell-changed, cell_ring, left-on, length-td_trbs, td_trbs, with_cell_ring}
 use Rattle.bus_core.proofs.EngineDue.{left_over-side}
-use Rattle.bus_core.proofs.EngineFits.{IsUnderWay, PipeApart, SamePipes, pipe-apart, tag-streams, under-way, under_way}
+use Rattle.bus_core.proofs.EngineFits.{IsUnderWay, PipeApart, pipe-apart, tag-streams, under-way, under_way}
 use Rattle.bus_core.proofs.EventTds.{data_trbs-count}
 use Rattle.bus_core.proofs.EventTexts.{other-tags}
-use Rattle.bus_core.proofs.Framing.{ChangesCell, FitsPart-set}
+use Rattle.bus_core.proofs.Framing.{ChangesCell, FitsPart-set, SamePipes}
 use Rattle.bus_core.proofs.HostSees.{client_with, host_with}
 use Rattle.bus_core.proofs.MatchedBounds.{some-place}
 use Rattle.bus_core.proofs.MatchedPlaces.{same_place-true}
@@ -319,6 +318,13 @@ apart-or one other x y inside within apart kept =
       | false ↦ λ differs. kept (other-tags one other inside within differs)
     ] refl
 
+-- where something waits at another place, and nothing at this one
+waits-apart : {T : Type 0} (state : Shared) (place other : Place) (count : Option Entry → ℕ) (x y : T) → IsMatched state → count None ≡ 0
+    → count (under state.parts place) ≡ 0 → place.slot < TAGS → 1 ≤ count (under state.parts other) → ((tag_of other ≡ tag_of place → ⊥) → x ≡ y) → x ≡ y
+waits-apart state place other count x y matched empty none within waits kept =
+    apart-or other place x y (some-place state other count empty matched waits).slot within
+    (λ same. omega (arith, waits, none, ap (λ p. count (under state.parts p)) same)) kept
+
 data-kept : (state : Shared) (world : World) (pipe : Pipe) (place : Place) (rest : List Completion) (entry : Entry)
     → IsEngineFirst state world pipe place MoveAnswered rest (move_trb world.lines pipe (tag_of place)) → Fits state world
     → awaited_data_of (under state.parts place) ≡ 0 → place.slot < TAGS → (other : Place) → 1 ≤ data_events other rest
@@ -327,10 +333,8 @@ data-kept : (state : Shared) (world : World) (pipe : Pipe) (place : Place) (rest
 data-kept state world pipe place rest entry first fits none within other some =
     let keeps : KeepsRings (freed_lines world) (retired_lines world pipe place) place =
     with_ring-keeps (freed_lines world) pipe place (emptied_ring world pipe place) in
-    let waits : 1 ≤ awaited_data_of (under state.parts other) =
-    omega (arith, some, ap (data_events other) first.is, (fits.matched.places other).moved) in
-    let there : IsPlace (length state.parts) other = some-place state other awaited_data_of refl fits.matched waits in
-    apart-or other place _ _ there.slot within (λ same. omega (arith, waits, none, ap (λ p. awaited_data_of (under state.parts p)) same))
+    waits-apart state place other awaited_data_of _ _ fits.matched refl none within
+    (omega (arith, some, ap (data_events other) first.is, (fits.matched.places other).moved))
     (λ apart.
     ap (λ ring. data_event ring (stream_ring (retired_lines world pipe place).data_out (tag_of other))) (keeps.data_in (tag_of other) (omega arith) apart)
     ∙ ap (λ ring. data_event (stream_ring world.lines.data_in (tag_of other)) ring) (keeps.data_out (tag_of other) (omega arith) apart))
@@ -343,11 +347,27 @@ status-kept : (state : Shared) (world : World) (pipe : Pipe) (place : Place) (re
 status-kept state world pipe place rest entry first fits none within other some =
     let keeps : KeepsRings (freed_lines world) (retired_lines world pipe place) place =
     with_ring-keeps (freed_lines world) pipe place (emptied_ring world pipe place) in
-    let waits : 1 ≤ awaited_status (under state.parts other) =
-    omega (arith, some, ap (status_events other) first.is, (fits.matched.places other).sent) in
-    let there : IsPlace (length state.parts) other = some-place state other awaited_status refl fits.matched waits in
-    apart-or other place _ _ there.slot within (λ same. omega (arith, waits, none, ap (λ p. awaited_status (under state.parts p)) same))
+    waits-apart state place other awaited_status _ _ fits.matched refl none within
+    (omega (arith, some, ap (status_events other) first.is, (fits.matched.places other).sent))
     (λ apart. ap (λ ring. status_event other.slot ring (held_for world.frames (tag_of other)).status) (keeps.status (tag_of other) (omega arith) apart))
+
+-- where the TD is the data TD, the status streams are the same
+data-reads : (state : Shared) (world : World) (pipe : Pipe) (place : Place) (rest : List Completion)
+    → (first : IsEngineFirst state world pipe place MoveAnswered rest (move_trb world.lines pipe (tag_of place))) → Fits state world
+    → is_td_left_over first.at.entry.data_td ≡ true
+    → ((other : Place) → 1 ≤ status_events other rest
+    → status_event other.slot (stream_ring (retired_lines world pipe place).status (tag_of other)) (held_for world.frames (tag_of other)).status
+    ≡ status_event other.slot (stream_ring world.lines.status (tag_of other)) (held_for world.frames (tag_of other)).status)
+    → (retired_lines world pipe place).command ≡ world.lines.command
+    → ReadsAlike world (retired_world world pipe place first.at.entry) rest
+data-reads state world pipe place rest first fits left sent command_base = record {
+  none = first.alone;
+  command_base = command_base;
+  moved = data-kept state world pipe place rest first.at.entry first fits
+      (ap awaited_data_of first.at.held ∙ data-unawaited first.at.entry.data_td (data_trbs first.at.entry.task.request) left)
+      first.at.at.is_place.slot;
+  sent = sent;
+}
 
 retired-reads : (state : Shared) (world : World) (pipe : Pipe) (place : Place) (rest : List Completion)
     → (first : IsEngineFirst state world pipe place MoveAnswered rest (move_trb world.lines pipe (tag_of place))) → Fits state world
@@ -362,24 +382,12 @@ retired-reads state world Status place rest first fits = record {
       (left-state first.at.entry.status_td.state first.at.left))
       first.at.at.is_place.slot;
 }
-retired-reads state world DataIn place rest first fits = record {
-  none = first.alone;
-  command_base = refl;
-  moved = data-kept state world DataIn place rest first.at.entry first fits
-      (ap awaited_data_of first.at.held ∙ data-unawaited first.at.entry.data_td (trbs_on DataIn first.at.entry)
-      (left-in (request_direction first.at.entry.task.request) first.at.entry.data_td first.at.left).1)
-      first.at.at.is_place.slot;
-  sent = λ other some. refl;
-}
-retired-reads state world DataOut place rest first fits = record {
-  none = first.alone;
-  command_base = refl;
-  moved = data-kept state world DataOut place rest first.at.entry first fits
-      (ap awaited_data_of first.at.held ∙ data-unawaited first.at.entry.data_td (trbs_on DataOut first.at.entry)
-      (left-out (request_direction first.at.entry.task.request) first.at.entry.data_td first.at.left).1)
-      first.at.at.is_place.slot;
-  sent = λ other some. refl;
-}
+retired-reads state world DataIn place rest first fits =
+    data-reads state world DataIn place rest first fits
+    (left-in (request_direction first.at.entry.task.request) first.at.entry.data_td first.at.left).1 (λ other some. refl) refl
+retired-reads state world DataOut place rest first fits =
+    data-reads state world DataOut place rest first fits
+    (left-out (request_direction first.at.entry.task.request) first.at.entry.data_td first.at.left).1 (λ other some. refl) refl
 
 -- ALL TOGETHER
 
@@ -436,7 +444,7 @@ retired-fits state world pipe place rest fits first emptied matched sound =
     let writes = retired-writes state now world pipe place fits first.at emptied apart.parts in
     let gone : now.retirement ≡ None = no-retirement before pipe rung in
     written-fits state now world after place first.at.at.part first.at.at.part.unit (client_after world pipe place first.at.entry)
-    (retired_part pipe place first.at.at.part first.at.entry) fits first.at.at.there first.at.at.is_place writes pipes.status pipes.data_in pipes.data_out
+    (retired_part pipe place first.at.at.part first.at.entry) fits first.at.at.there first.at.at.is_place writes pipes
     (engine-queues state now world after place rest fits first.is apart.messages (apart.events ∙ append-nil rest) kept.command
     (ap (λ (es : Events). es.pending) kept.events)
     (retired-reads state world pipe place rest first fits))

@@ -49,6 +49,7 @@ use Rattle.bus_core.proofs.MatchedSteps.{seen_part, seen_state, shared_step-matc
 use Rattle.bus_core.proofs.SeenRings.{awaited-sent, event-handled, status-alone, status-ends, status-frees, status_lines, stream-queues}
 use Rattle.bus_core.proofs.SeenWorlds.{FreesOne, IsSeenAt, answered_state, handled-as, queue-same, seen-answered, seen-cell, seen-others, seen_world}
 use Rattle.bus_core.proofs.Standing.{slice_get-back, get-within}
+use Rattle.bus_core.proofs.Taking.{fits-besides}
 
 -- THE WORLD AFTER IT
 
@@ -194,7 +195,6 @@ fits-answered state world place rest at noted fits frees matched sound =
     let after : World = answered_world world (status_lines world (tag_of place)) place (status_seen at.entry) noted in
     let part : Part = doomed_part noted (seen_part at.part place.slot (status_seen at.entry)) in
     let others = seen-others state world (StatusDone place) rest lines now at frees in
-    let long = length-set state.parts place.client (doomed_part noted (seen_part at.part place.slot (status_seen at.entry))) in
     let queues : FitsQueues (seen_state state place at.part now rest) one =
     stream-queues state world (StatusDone place) rest lines now at fits refl refl refl refl frees
     (λ some. (refl, refl)) (λ some. absurd (status-alone state place rest at.is (matched-once state fits.matched place).status_events some)) in
@@ -209,23 +209,19 @@ fits-answered state world place rest at noted fits frees matched sound =
           others-answered world lines place now noted other slot apart
           ∙ others other slot within (tags-apart other place.client slot place.slot within at.is_place.slot apart);
     } in
-    record {
-      some_client = omega (arith, fits.some_client, long);
-      most_clients = omega (arith, fits.most_clients, long);
-      status = fits.status;
-      data_in = fits.data_in;
-      data_out = fits.data_out;
+    fits-besides state (doomed_state state place at.part now noted rest) world after fits refl refl refl refl (record {
+      long = length-set state.parts place.client part;
       sound = sound;
       queues = record { put = queues.put; got = queues.got; texts = queues.texts ∙ sym (texts-host one after.host 0 (rest ++ [])) };
       engine = record { retirement = engine.retirement; commands = engine.commands };
       matched = matched;
       clients = AllFit-client world after state.parts place.client at.part.unit (client_answered world.host place now noted) at.part part
           fits.clients at.there changes (part-answered state world place rest at noted fits frees);
-      others = λ other over. fits.others other (omega (arith, over, long));
+      others = fits.others;
       unused = λ other over.
-          unused-kept world one place other others (omega (arith, over, long, fits.some_client))
-          (λ same. omega (arith, over, long, same, at.is_place.client, at.is_place.slot)) (fits.unused other (omega (arith, over, long)));
-    }
+          unused-kept world one place other others (omega (arith, over, fits.some_client))
+          (λ same. omega (arith, over, same, at.is_place.client, at.is_place.slot)) (fits.unused other over);
+    })
 
 -- a task management is answered well
 managed-good : (phase : Phase) (answer : Answer) → phase ≡ Sent answer → IsManagedPhase phase → phase ≡ Sent Good

@@ -43,7 +43,7 @@ use Rattle.bus_core.proofs.HostSees.{client_with, host_with, host_seen-is, is_re
 use Rattle.bus_core.proofs.MatchedNext.{matched-no_stray}
 use Rattle.bus_core.proofs.MatchedSteps.{IsHeld, matched-held, seen_part, seen_state, shared_step-matched}
 use Rattle.bus_core.proofs.Standing.{slice_get-back, get-within}
-use Rattle.bus_core.proofs.Taking.{ready-found}
+use Rattle.bus_core.proofs.Taking.{fits-besides, ready-found}
 
 -- AN EVENT THAT WAITS
 
@@ -192,14 +192,7 @@ seen-others state world done rest lines now at frees other slot inside apart =
     let status_is = frees.status_others (tag_of (place_in other slot)) (omega arith) apart in
     let in_is = frees.data_in_others (tag_of (place_in other slot)) (omega arith) apart in
     let out_is = frees.data_out_others (tag_of (place_in other slot)) (omega arith) apart in
-    λ i. record {
-      held = held_is i;
-      task = (cell_at world (place_in other slot)).task;
-      status = status_is i;
-      data_in = in_is i;
-      data_out = out_is i;
-      buffers = (cell_at world (place_in other slot)).buffers;
-    }
+    λ i. record (cell_at world (place_in other slot)) { held = held_is i; status = status_is i; data_in = in_is i; data_out = out_is i }
 
 pub seen-cell : (state : Shared) (world : World) (done : Completion) (rest : List Completion) (lines : LinesState) (at : IsSeenAt state world done rest)
     (command status : Td) (moved : Option Td)
@@ -244,7 +237,6 @@ event-fits state world done rest lines at command status moved fits of_td one se
     seen-stepped state done rest at.part at.entry now at.is of_td one at.there at.held sees in
     let others = seen-others state world done rest lines now at frees in
     let held_now : HostClient = client_with (client_of world.host client) slot (host_side now) in
-    let long = length-set state.parts client (seen_part at.part slot now) in
     let changes : ChangesCell world after client slot held_now at.part.unit = record {
       hosts = refl;
       units = sym (slice_get-back world.device.units client at.part.unit at.it.unit_is);
@@ -252,12 +244,9 @@ event-fits state world done rest lines at command status moved fits of_td one se
     } in
     let least_is : at.part.least_ticket ≡ held_now.least_ticket =
     at.it.fits.least_ticket ∙ ap (λ (c : HostClient). c.least_ticket) (sym (client_of-found world.host client at.it.held at.it.held_is)) in
-    subst (λ s. Fits s after) (sym stepped) (record {
-      some_client = omega (arith, fits.some_client, long);
-      most_clients = omega (arith, fits.most_clients, long);
-      status = fits.status;
-      data_in = fits.data_in;
-      data_out = fits.data_out;
+    subst (λ s. Fits s after) (sym stepped)
+    (fits-besides state (seen_state state (event_place done) at.part now rest) world after fits refl refl refl refl (record {
+      long = length-set state.parts client (seen_part at.part slot now);
       sound = sound;
       queues = queues;
       engine = engine-changed state (seen_state state (event_place done) at.part now rest) world after (event_place done) fits.matched fits.engine
@@ -269,11 +258,11 @@ event-fits state world done rest lines at command status moved fits of_td one se
           (ready_after at.part.ready slot now)
           at.it.fits at.is_place.slot changes refl least_is (queue-same world client slot at.part now at.it)
           (seen-cell state world done rest lines at command status moved fits frees));
-      others = λ other over. fits.others other (omega (arith, over, long));
+      others = fits.others;
       unused = λ other over.
-          unused-kept world after (event_place done) other others (omega (arith, over, long, fits.some_client))
-          (λ same. omega (arith, over, long, same, at.is_place.client, at.is_place.slot)) (fits.unused other (omega (arith, over, long)));
-    })
+          unused-kept world after (event_place done) other others (omega (arith, over, fits.some_client))
+          (λ same. omega (arith, over, same, at.is_place.client, at.is_place.slot)) (fits.unused other over);
+    }))
 
 -- WHAT THE HOST MAKES OF IT
 

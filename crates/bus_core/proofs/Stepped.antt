@@ -1,7 +1,7 @@
 -- Each step of host and controller, on a world that fits a state: the world after it reads as the shared machine's state after its
 -- step, and the outcome is the shared machine's.
-use Rattle.std.proofs.Common.{◌≡◌, ℕ, zero, suc, ◌-◌, ◌/◌, ◌%◌, ◌<◌, ◌≤◌, true, List, [], ◌∷◌, length, Option, Some, None, IfSome, refl, arith, ap, sym, subst}
-use Rattle.std.proofs.Common.{◌∙◌}
+use Rattle.std.proofs.Common.{◌≡◌, ℕ, zero, suc, ◌-◌, ◌/◌, ◌%◌, ◌<◌, ◌≤◌, Bool, true, List, [], ◌∷◌, length, Option, Some, None, IfSome, refl, arith, ap, sym}
+use Rattle.std.proofs.Common.{subst, ◌∙◌}
 use Rattle.std.specs.Prelude.{slice_get, nat_lt, option_and_then, option_map, is_some}
 use Rattle.std.proofs.lemmas.Bool.{false≢true}
 use Rattle.std.proofs.lemmas.List.{length-replicate}
@@ -32,6 +32,7 @@ use Rattle.uas_host.specs.State.{HostState, IsHost, opening as opening_host}
 use Rattle.uas_host.specs.Tags.{place_of, tag_of}
 use Rattle.uas_host.specs.Events.{Sides as EventSides, event_doors, handled}
 use Rattle.xhci_ctl.specs.declared.Acted.{Acted}
+use Rattle.xhci_ctl.specs.declared.Acted.TheVariants.{Acted as DidAct}
 use Rattle.block_unit.specs.BlockMaps.{BlockMaps}
 use Rattle.xhci_ctl.specs.Pipes.{ControllerState, new_controller}
 use Rattle.xhci_ctl.specs.Steps.{Sides, sides_of, commanded, moved, sent_by}
@@ -44,22 +45,23 @@ use Rattle.bus_core.specs.declared.Step.{Step}
 use Rattle.bus_core.specs.declared.Step.TheVariants.{CommandPipe, Data, Status, Event as EventStep, Take}
 use Rattle.bus_core.specs.Td.{Entry}
 use Rattle.bus_core.specs.Part.{Part, entry_reply, event_place, settled, slot_tag, take_act, taken}
-use Rattle.bus_core.specs.Shared.{Shared, due, due_step, shared_step, is_some_of, data_is_due, status_is_due, opening, outcome_of, ringing, routed, routed_to}
+use Rattle.bus_core.specs.Shared.{Shared, due, due_step, shared_step, is_some_of, data_is_due, status_is_due, opening, outcome_of, place_fact}
+use Rattle.bus_core.specs.Shared.{ringing, routed, routed_to}
 use Rattle.bus_core.specs.Bus.{IsPlace}
 use Rattle.bus_core.specs.Matched.{IsMatched, IsOwnMessage, IsOwnEvent}
 use Rattle.bus_core.specs.World.{World, sides_in, with_sides, world_of}
 use Rattle.bus_core.specs.Fits.{Fits, IsSoundWorld, host_retirement}
 use Rattle.bus_core.specs.Decoded.{decoded, FitsItself}
-use Rattle.bus_core.specs.WorldSteps.{event_sides, event_world, handled_for, rung_all, take_world, opening_world, CommandFits, DataFits, StatusFits}
+use Rattle.bus_core.specs.WorldSteps.{event_sides, event_world, handled_for, rung_all, take_world, opening_world, CommandFits}
 use Rattle.bus_core.specs.WorldSteps.{EventFits, EventsFit, TakeFits}
-use Rattle.bus_core.specs.WorldDue.{marked}
+use Rattle.bus_core.specs.WorldDue.{StreamsAreMarked, marked}
 use Rattle.bus_core.specs.Owners.{acted_as, handled_as, index_of, mark_by, owner_of, replying, retirement_seen}
 use Rattle.bus_core.proofs.EventTexts.{event-within}
 use Rattle.bus_core.proofs.MatchedBounds.{held-place}
 use Rattle.bus_core.proofs.MatchedNext.{matched-no_stray}
 use Rattle.bus_core.proofs.MatchedSteps.{IsDueAt, place_fact-due}
 use Rattle.bus_core.proofs.MatchedPlaces.{held-within}
-use Rattle.bus_core.proofs.DeviceTags.{tags-commanded, tags-moved, tags-sent}
+use Rattle.bus_core.proofs.DeviceTags.{tags-commanded}
 use Rattle.bus_core.proofs.CommandFits.{command_fits}
 use Rattle.bus_core.proofs.DataDue.{data_fits}
 use Rattle.bus_core.proofs.DueEvents.{events-are-due}
@@ -149,28 +151,6 @@ carry-by state world (place ∷ rest) fits is some =
       fits = it.fits;
     }
 
-move-done : (state : Shared) (world : World) (tag : ℕ) → Fits state world → due state (Data tag) ≡ true
-    → IsDone state world (Data tag) (moved world.controller (sides_in world) tag) Move
-move-done state world tag fits acts =
-    let at : IsDueAt state tag (data_is_due state tag) = place_fact-due state tag (data_is_due state tag) acts in
-    let it : DataFits state world tag = data_fits state world tag fits acts in
-    record {
-      told = move-marked state tag at.place fits.matched at.named acts ∙ marked-named (length state.parts) tag at.place Move at.named
-          ∙ ap (acted_as Move) (sym it.acted);
-      fits = it.fits;
-    }
-
-send-done : (state : Shared) (world : World) (tag : ℕ) → Fits state world → due state (Status tag) ≡ true
-    → IsDone state world (Status tag) (sent_by world.controller (sides_in world) tag) Send
-send-done state world tag fits acts =
-    let at : IsDueAt state tag (status_is_due state tag) = place_fact-due state tag (status_is_due state tag) acts in
-    let it : StatusFits state world tag = status_fits state world tag fits acts in
-    record {
-      told = send-marked state tag at.place fits.matched at.named acts ∙ marked-named (length state.parts) tag at.place Send at.named
-          ∙ ap (acted_as Send) (sym it.acted);
-      fits = it.fits;
-    }
-
 pub carried : (state : Shared) (world : World) (lines : LinesState) (device : Device) (acted : Acted) → Fits state world → due state CommandPipe ≡ true
     → commanded (sides_in world) ≡ (sides_of lines world.frames device, acted) → IsLines lines → IsWhole world.frames
     → IsStepped state CommandPipe (world_of world.host world.controller device lines world.frames) (acted_as Carry acted)
@@ -179,23 +159,52 @@ carried state world lines device acted fits acts is standing whole =
     (carry-by state world state.messages fits refl acts) is standing whole
     (tags-commanded (sides_in world))
 
-pub moved-on : (state : Shared) (world : World) (tag : ℕ) (lines : LinesState) (frames : List TagBuffers) (device : Device) (acted : Acted)
-    → Fits state world → due state (Data tag) ≡ true
-    → moved world.controller (sides_in world) tag ≡ (sides_of lines frames device, acted) → IsLines lines → IsWhole frames
-    → IsStepped state (Data tag) (world_of world.host world.controller device lines frames) (acted_as Move acted)
-moved-on state world tag lines frames device acted fits acts is standing whole =
-    done-stepped state world (Data tag) (moved world.controller (sides_in world) tag) Move lines frames device acted acts fits
-    (move-done state world tag fits acts) is standing whole
-    (tags-moved world.controller (sides_in world) tag)
+-- what is so of the steps of the tags' streams, wherever one is due
+pub record AreStreamSteps (step : ℕ → Step) (mark : ℕ → Mark) (moves : ControllerState → Sides → ℕ → Sides × Acted) : Type 0 where
+  pub told : (state : Shared) (tag : ℕ) → IsMatched state → due state (step tag) ≡ true → (shared_step state (step tag)).1 ≡ acted_as mark (DidAct tag)
+  pub acted : (state : Shared) (world : World) (tag : ℕ) → Fits state world → due state (step tag) ≡ true
+      → (moves world.controller (sides_in world) tag).1 ≡ DidAct tag
+  pub fits : (state : Shared) (world : World) (tag : ℕ) → Fits state world → due state (step tag) ≡ true
+      → IsSoundWorld (with_sides world (moves world.controller (sides_in world) tag).0)
+      → Fits (shared_step state (step tag)).0 (with_sides world (moves world.controller (sides_in world) tag).0)
 
-pub sent-on : (state : Shared) (world : World) (tag : ℕ) (lines : LinesState) (frames : List TagBuffers) (device : Device) (acted : Acted)
-    → Fits state world → due state (Status tag) ≡ true
-    → sent_by world.controller (sides_in world) tag ≡ (sides_of lines frames device, acted) → IsLines lines → IsWhole frames
-    → IsStepped state (Status tag) (world_of world.host world.controller device lines frames) (acted_as Send acted)
-sent-on state world tag lines frames device acted fits acts is standing whole =
-    done-stepped state world (Status tag) (sent_by world.controller (sides_in world) tag) Send lines frames device acted acts fits
-    (send-done state world tag fits acts) is standing whole
-    (tags-sent world.controller (sides_in world) tag)
+abbrev pub KeepTags : (ControllerState → Sides → ℕ → Sides × Acted) → Type 0
+KeepTags moves =
+    (controller : ControllerState) (sides : Sides) (tag : ℕ) → length (moves controller sides tag).0.device.tasks ≡ length sides.device.tasks
+
+stream-told : (step : ℕ → Step) (mark : ℕ → Mark) (test : Shared → ℕ → Entry → Bool) → StreamsAreMarked step mark → (state : Shared) (tag : ℕ)
+    → IsMatched state → place_fact state tag (test state tag) ≡ true → due state (step tag) ≡ true
+    → (shared_step state (step tag)).1 ≡ acted_as mark (DidAct tag)
+stream-told step mark test told state tag all is acts =
+    let at : IsDueAt state tag (test state tag) = place_fact-due state tag (test state tag) is in
+    told state tag at.place all at.named acts ∙ marked-named (length state.parts) tag at.place mark at.named
+
+pub data-steps : AreStreamSteps Data Move moved
+data-steps = record {
+  told = λ state tag all acts. stream-told Data Move data_is_due move-marked state tag all acts acts;
+  acted = λ state world tag fits acts. (data_fits state world tag fits acts).acted;
+  fits = λ state world tag fits acts. (data_fits state world tag fits acts).fits;
+}
+
+pub status-steps : AreStreamSteps Status Send sent_by
+status-steps = record {
+  told = λ state tag all acts. stream-told Status Send status_is_due send-marked state tag all acts acts;
+  acted = λ state world tag fits acts. (status_fits state world tag fits acts).acted;
+  fits = λ state world tag fits acts. (status_fits state world tag fits acts).fits;
+}
+
+pub stream-stepped : {step : ℕ → Step} {mark : ℕ → Mark} {moves : ControllerState → Sides → ℕ → Sides × Acted} → AreStreamSteps step mark moves
+    → KeepTags moves → (state : Shared) (world : World) (tag : ℕ) (lines : LinesState) (frames : List TagBuffers) (device : Device) (acted : Acted)
+    → Fits state world → due state (step tag) ≡ true
+    → moves world.controller (sides_in world) tag ≡ (sides_of lines frames device, acted) → IsLines lines → IsWhole frames
+    → IsStepped state (step tag) (world_of world.host world.controller device lines frames) (acted_as mark acted)
+stream-stepped {step} {mark} {moves} steps tags state world tag lines frames device acted fits acts is standing whole =
+    done-stepped state world (step tag) (moves world.controller (sides_in world) tag) mark lines frames device acted acts fits
+    (record {
+      told = steps.told state tag fits.matched acts ∙ ap (acted_as mark) (sym (steps.acted state world tag fits acts));
+      fits = steps.fits state world tag fits acts;
+    }) is standing whole
+    (tags world.controller (sides_in world) tag)
 
 -- a world that reads as a state fits it
 pub fits-as : (state : Shared) (world : World) → decoded world ≡ state → FitsItself world → Fits state world

@@ -75,12 +75,12 @@ answers state client tag ticket command = answers-slot state client tag ticket c
 
 -- WHAT THE HOST ANSWERS
 
-abbrev Accepts : World → ℕ → ℕ → ℕ → Command → HostState → LinesState → List TagBuffers → List ℕ → Result (Unit {0}) (SubmitFault × Command) → Type 0
+abbrev pub Accepts : World → ℕ → ℕ → ℕ → Command → HostState → LinesState → List TagBuffers → List ℕ → Result (Unit {0}) (SubmitFault × Command) → Type 0
 Accepts world client tag ticket command host lines frames doors answer =
     (answer ≡ Ok (record {})) × (host ≡ submitted world.host client tag ticket command.op) × (lines ≡ pushed world.lines tag command.op)
     × (frames ≡ lent world.frames client tag command) × (doors ≡ submission_doors (is_host_held world.host) (direction_of command.op) tag)
 
-abbrev Refuses : World → Command → HostState → LinesState → List TagBuffers → List ℕ → Result (Unit {0}) (SubmitFault × Command) → SubmitFault → Type 0
+abbrev pub Refuses : World → Command → HostState → LinesState → List TagBuffers → List ℕ → Result (Unit {0}) (SubmitFault × Command) → SubmitFault → Type 0
 Refuses world command host lines frames doors answer fault =
     (answer ≡ Err (fault, command)) × (host ≡ world.host) × (lines ≡ world.lines) × (frames ≡ world.frames) × (doors ≡ [])
 
@@ -185,3 +185,15 @@ pub few-rung : (world : World) (client tag ticket : ℕ) (command : Command) (ho
 few-rung world client tag ticket command host lines frames doors answer None accepts =
     omega (arith, ap length accepts.4, few-doors (is_host_held world.host) (direction_of command.op) tag)
 few-rung world client tag ticket command host lines frames doors answer (Some fault) refuses = omega (arith, ap length refuses.4)
+
+-- a refused submission rings none
+pub none-rung : (world : World) (client tag ticket : ℕ) (command : Command) (host : HostState) (lines : LinesState) (frames : List TagBuffers)
+    (doors : List ℕ) (answer : Result (Unit {0}) (SubmitFault × Command)) (refused : SubmitFault × Command) (fault : Option SubmitFault)
+    → answer ≡ Err refused
+    → MatchOption fault (Accepts world client tag ticket command host lines frames doors answer) (Refuses world command host lines frames doors answer)
+    → doors ≡ []
+none-rung world client tag ticket command host lines frames doors answer refused None is accepts =
+    let accepted : answer ≡ Ok (record {}) = accepts.0 in
+    let no : ⊥ = cc in
+    absurd no
+none-rung world client tag ticket command host lines frames doors answer refused (Some fault) is refuses = refuses.4

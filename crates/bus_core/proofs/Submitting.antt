@@ -362,9 +362,8 @@ submit-others state world client slot ticket command part free other at inside a
     let in_is = data_in-other world.lines (direction_of command.op) tag (moved_bytes command.op) (tag_at other at) (omega arith) (omega arith) apart in
     let out_is = data_out-other world.lines (direction_of command.op) tag (moved_bytes command.op) (tag_at other at) (omega arith) (omega arith) apart in
     let buffers_is = held_for-other world.frames tag (tag_at other at) _ (omega arith) (omega arith) apart in
-    λ i. record {
+    λ i. record (cell_at world (place_in other at)) {
       held = held_is i;
-      task = (cell_at world (place_in other at)).task;
       status = status_is i;
       data_in = in_is i;
       data_out = out_is i;

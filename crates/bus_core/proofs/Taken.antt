@@ -7,24 +7,18 @@ use Rattle.std.proofs.lemmas.Option.{slice_get_past, slice_get_within}
 use Rattle.std.proofs.lemmas.Bool.{ltb-false, lt-ltb}
 use Rattle.stream_array.specs.Rings.{LinesState, IsLines}
 use Rattle.stream_array.specs.declared.TheConstants.{COMMAND_RING_PLACES}
-use Rattle.stream_array.specs.declared.Pipe.TheVariants.{Status as StatusPipe, DataIn, DataOut}
 use Rattle.cycle_ring.specs.Ring.{Ring, front_of, pointer_of}
 use Rattle.event_ring.specs.declared.Event.{Event}
 use Rattle.frame_store.specs.declared.TagBuffers.{TagBuffers}
 use Rattle.frame_store.specs.Buffers.{IsWhole}
-use Rattle.uas_iu.specs.declared.Iu.{Iu}
-use Rattle.uas_target.specs.Device.{Device, answered, wanted}
-use Rattle.uas_target.specs.declared.Phase.{Phase}
-use Rattle.uas_target.specs.declared.Phase.TheVariants.{Absent, Gives, Takes, Ends}
+use Rattle.uas_target.specs.Device.{Device}
 use Rattle.uas_host.specs.State.{HostState, IsHost}
 use Rattle.uas_host.specs.Events.{event_doors, handled}
 use Rattle.uas_host.specs.declared.Handled.{Handled}
 use Rattle.xhci_ctl.specs.declared.Acted.{Acted}
 use Rattle.xhci_ctl.specs.declared.Acted.TheVariants.{Idle}
-use Rattle.xhci_ctl.specs.Pipes.{has_pending}
-use Rattle.xhci_ctl.specs.Steps.{Sides, sides_of, commanded, gave_at, has_event_room, moved, moved_by, on_front, received_at, room_front, sent_at, sent_as}
-use Rattle.xhci_ctl.specs.Steps.{sent_by, took_at}
-use Rattle.uas_iu.specs.Units.{unit_text}
+use Rattle.xhci_ctl.specs.Pipes.{ControllerState, has_pending}
+use Rattle.xhci_ctl.specs.Steps.{Sides, sides_of, commanded, has_event_room, moved, on_front, received_at, sent_by}
 use Rattle.bus_core.specs.declared.Mark.{Mark}
 use Rattle.bus_core.specs.declared.Mark.TheVariants.{Carry, Move, Send}
 use Rattle.bus_core.specs.declared.Outcome.{Outcome}
@@ -32,19 +26,20 @@ use Rattle.bus_core.specs.declared.Step.{Step}
 use Rattle.bus_core.specs.declared.Step.TheVariants.{CommandPipe, Data, Status, Event as EventStep, Take}
 use Rattle.bus_core.specs.Shared.{Shared, due, due_step, idle, shared_step}
 use Rattle.bus_core.specs.World.{World, sides_in, world_of}
-use Rattle.bus_core.specs.WorldDue.{command_is_due, data_due_by, status_due_by}
+use Rattle.bus_core.specs.WorldDue.{command_is_due}
 use Rattle.bus_core.specs.Fits.{Fits}
 use Rattle.bus_core.specs.Decoded.{decoded, FitsItself}
 use Rattle.bus_core.specs.Owners.{acted_as, handled_as, replying}
 use Rattle.scsi_cmd.specs.declared.Reply.{Reply}
 use Rattle.uas_host.specs.Replies.{replied}
-use Rattle.bus_core.specs.WorldSteps.{EventsFit, event_sides, rung_all}
+use Rattle.bus_core.specs.WorldSteps.{EventsFit, StreamsAreIdle, event_sides, rung_all}
 use Rattle.bus_core.proofs.Due.{shared_step-idle}
-use Rattle.bus_core.proofs.Stepped.{IsStepped, carried, moved-on, sent-on, seen-on, taken-on}
+use Rattle.bus_core.proofs.DeviceTags.{tags-moved, tags-sent}
+use Rattle.bus_core.proofs.Stepped.{AreStreamSteps, IsStepped, KeepTags, carried, data-steps, seen-on, status-steps, stream-stepped, taken-on}
 use Rattle.bus_core.proofs.ReadBack.{decoded-back}
 use Rattle.bus_core.proofs.CommandFits.{commands_due}
-use Rattle.bus_core.proofs.DataDue.{data_due}
-use Rattle.bus_core.proofs.StatusFits.{statuses_due}
+use Rattle.bus_core.proofs.DataDue.{data_idle}
+use Rattle.bus_core.proofs.StatusFits.{status_idle}
 use Rattle.bus_core.proofs.DueEvents.{events-are-due}
 
 -- the world after a step, due or not, reads as the shared machine's state after it, and fits it; the outcome is the shared
@@ -95,24 +90,6 @@ idle-commanded world none =
     (no-front COMMAND_RING_PLACES world.lines.command none)
     ∙ ap (λ front. on_front (sides_in world) (received_at (sides_in world)) front) (room-none (has_event_room world.lines))
 
-idle-moved-by : (world : World) (tag : ℕ) (phase : Phase) → data_due_by world tag phase ≡ false
-    → moved_by world.controller (sides_in world) tag phase ≡ (sides_in world, Idle)
-idle-moved-by world tag Absent none = refl
-idle-moved-by world tag (Gives size) none =
-    ap (λ armed. on_front (sides_in world) (gave_at (sides_in world) tag size) (cond armed (room_front world.lines DataIn tag) None)) none
-idle-moved-by world tag (Takes size) none =
-    ap (λ armed. on_front (sides_in world) (took_at (sides_in world) tag size) (cond armed (room_front world.lines DataOut tag) None)) none
-idle-moved-by world tag Ends none = refl
-
-idle-sent-as : (world : World) (tag : ℕ) (phase : Phase) (answer : Option Iu) → status_due_by world tag phase ≡ false
-    → sent_as world.controller (sides_in world) tag phase answer ≡ (sides_in world, Idle)
-idle-sent-as world tag Absent answer none = refl
-idle-sent-as world tag (Gives size) answer none = refl
-idle-sent-as world tag (Takes size) answer none = refl
-idle-sent-as world tag Ends None none = refl
-idle-sent-as world tag Ends (Some unit) none =
-    ap (λ armed. on_front (sides_in world) (sent_at (sides_in world) tag (unit_text unit)) (cond armed (room_front world.lines StatusPipe tag) None)) none
-
 -- STEPS, DUE OR NOT
 
 pub command-taken : (state : Shared) (world : World) (lines : LinesState) (device : Device) (acted : Acted) → Fits state world
@@ -126,28 +103,27 @@ command-taken state world lines device acted fits is standing whole =
           (sym (idle-commanded world (sym (commands_due state world fits).due ∙ rests)) ∙ is)
     ] refl
 
-pub data-taken : (state : Shared) (world : World) (tag : ℕ) (lines : LinesState) (frames : List TagBuffers) (device : Device) (acted : Acted) → Fits state world
-    → moved world.controller (sides_in world) tag ≡ (sides_of lines frames device, acted) → IsLines lines → IsWhole frames
-    → IsTaken state (Data tag) (world_of world.host world.controller device lines frames) (acted_as Move acted)
-data-taken state world tag lines frames device acted fits is standing whole =
-    elim (due state (Data tag)) as
-    (λ b. due state (Data tag) ≡ b → IsTaken state (Data tag) (world_of world.host world.controller device lines frames) (acted_as Move acted)) [
-      | true ↦ λ acts. due-taken state (Data tag) _ _ acts (moved-on state world tag lines frames device acted fits acts is standing whole)
-      | false ↦ λ rests. controller-idle state (Data tag) world Move lines frames device acted rests fits
-          (sym (idle-moved-by world tag (wanted world.device tag) (sym (data_due state world tag fits).due ∙ rests)) ∙ is)
+-- a step of a tag's stream
+abbrev StreamsAreTaken : (ℕ → Step) → (ℕ → Mark) → (ControllerState → Sides → ℕ → Sides × Acted) → Type 0
+StreamsAreTaken step mark moves =
+    (state : Shared) (world : World) (tag : ℕ) (lines : LinesState) (frames : List TagBuffers) (device : Device) (acted : Acted) → Fits state world
+    → moves world.controller (sides_in world) tag ≡ (sides_of lines frames device, acted) → IsLines lines → IsWhole frames
+    → IsTaken state (step tag) (world_of world.host world.controller device lines frames) (acted_as mark acted)
+
+stream-taken : {step : ℕ → Step} {mark : ℕ → Mark} {moves : ControllerState → Sides → ℕ → Sides × Acted} → AreStreamSteps step mark moves
+    → KeepTags moves → StreamsAreIdle step moves → StreamsAreTaken step mark moves
+stream-taken {step} {mark} {moves} steps tags idles state world tag lines frames device acted fits is standing whole =
+    elim (due state (step tag)) as
+    (λ b. due state (step tag) ≡ b → IsTaken state (step tag) (world_of world.host world.controller device lines frames) (acted_as mark acted)) [
+      | true ↦ λ acts. due-taken state (step tag) _ _ acts (stream-stepped steps tags state world tag lines frames device acted fits acts is standing whole)
+      | false ↦ λ rests. controller-idle state (step tag) world mark lines frames device acted rests fits (sym (idles state world tag fits rests) ∙ is)
     ] refl
 
-pub status-taken : (state : Shared) (world : World) (tag : ℕ) (lines : LinesState) (frames : List TagBuffers) (device : Device) (acted : Acted)
-    → Fits state world
-    → sent_by world.controller (sides_in world) tag ≡ (sides_of lines frames device, acted) → IsLines lines → IsWhole frames
-    → IsTaken state (Status tag) (world_of world.host world.controller device lines frames) (acted_as Send acted)
-status-taken state world tag lines frames device acted fits is standing whole =
-    elim (due state (Status tag)) as
-    (λ b. due state (Status tag) ≡ b → IsTaken state (Status tag) (world_of world.host world.controller device lines frames) (acted_as Send acted)) [
-      | true ↦ λ acts. due-taken state (Status tag) _ _ acts (sent-on state world tag lines frames device acted fits acts is standing whole)
-      | false ↦ λ rests. controller-idle state (Status tag) world Send lines frames device acted rests fits
-          (sym (idle-sent-as world tag (wanted world.device tag) (answered world.device tag) (sym (statuses_due state world tag fits).due ∙ rests)) ∙ is)
-    ] refl
+pub data-taken : StreamsAreTaken Data Move moved
+data-taken = stream-taken data-steps tags-moved data_idle
+
+pub status-taken : StreamsAreTaken Status Send sent_by
+status-taken = stream-taken status-steps tags-sent status_idle
 
 -- an event is due where one is pending
 pub event-is-due : (state : Shared) (world : World) (event : Event) → Fits state world → slice_get world.lines.events.pending 0 ≡ Some event

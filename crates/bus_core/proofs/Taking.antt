@@ -1,6 +1,6 @@
 -- A reply is the shared machine's, and the world after it fits the shared machine after it: the status of a command or that it was aborted, each
 -- with the vector that the client lent, and the response to a task management, which lent none. Cited by the law takes_fit and by the steps.
-use Rattle.std.proofs.Common.{◌≡◌, ℕ, ◌<◌, ◌≤◌, true, false, cond, List, [], ◌∷◌, ◌++◌, length, length-set, map, Option, Some, None, refl, arith, ap, sym}
+use Rattle.std.proofs.Common.{◌≡◌, ℕ, ◌*◌, ◌<◌, ◌≤◌, true, false, cond, List, [], ◌∷◌, ◌++◌, length, length-set, map, Option, Some, None, refl, arith, ap, sym}
 use Rattle.std.proofs.Common.{subst, ◌∙◌}
 use Rattle.std.specs.Prelude.{slice_get, option_and_then, ◌&&◌}
 use Rattle.std.specs.Option.{option_map_or}
@@ -36,6 +36,8 @@ use Rattle.uas_host.specs.Replies.{Given, command_reply, given, no_reply, replie
 use Rattle.uas_host.specs.Replies.{without, without_lent}
 use Rattle.uas_host.specs.Tags.{tag_of}
 use Rattle.uas_host.specs.Tds.{data_td, status_td}
+use Rattle.uas_target.specs.Device.{task_of}
+use Rattle.xhci_ctl.specs.Pipes.{ControllerState}
 use Rattle.bus_core.specs.declared.Td.{Td}
 use Rattle.bus_core.specs.declared.Step.TheVariants.{Take}
 use Rattle.bus_core.specs.Td.{Entry, is_data_over}
@@ -46,11 +48,11 @@ use Rattle.bus_core.specs.Matched.{IsAwaitedOrSeen, IsGivenUp, IsMatched, IsMatc
 use Rattle.bus_core.specs.Hosts.{phase_task}
 use Rattle.bus_core.specs.World.{World, cell_at}
 use Rattle.bus_core.specs.Cells.{HoldsIn, HoldsTrbs, HoldsData, FitsCell, FitsHeld, IsEmptyCell, data_in_td, data_out_td, host_side, lent_for, told_by}
-use Rattle.bus_core.specs.Fits.{Fits, FitsQueues, IsSoundWorld, command_trb, event_texts, place_in}
+use Rattle.bus_core.specs.Fits.{AreUnused, Fits, FitsEngine, FitsQueues, IsSoundWorld, command_trb, event_texts, place_in}
 use Rattle.bus_core.specs.WorldSteps.{TakeFits, TakesFit, TakeIsIdle, take_world}
 use Rattle.bus_core.proofs.CellWrites.{client_of-found, entry_at-same, entry_at-other, clients-length, held_for-same, held_for-other, index-past}
 use Rattle.bus_core.proofs.EventTexts.{KeepsOthers, event_texts-one}
-use Rattle.bus_core.proofs.Framing.{AllFit-set, FitsPart-set, ChangesCell, IsFound, engine-kept, found}
+use Rattle.bus_core.proofs.Framing.{AllFit, AllFit-set, FitsPart-set, ChangesCell, IsFound, engine-kept, fits-anew, found}
 use Rattle.bus_core.proofs.MatchedEnds.{pushed-over}
 use Rattle.bus_core.proofs.MatchedPlaces.{held-within}
 use Rattle.bus_core.proofs.MatchedSteps.{IsFirstReady, first-ready, IsHeld, matched-held, settled_part, settled_state, times_ready-there, shared_step-matched}
@@ -301,14 +303,7 @@ take-others world client slot rest request part it other at inside apart =
     let held_is = entry_at-other world.host client slot other at (without (client_of world.host client) slot rest) None
     (get-within world.host.clients client it.held it.held_is) refl apart in
     let buffers_is = given-other request world.frames (tag_of (place_in client slot)) (tag_of (place_in other at)) (omega arith) (omega arith) apart in
-    λ i. record {
-      held = held_is i;
-      task = (cell_at world (place_in other at)).task;
-      status = (cell_at world (place_in other at)).status;
-      data_in = (cell_at world (place_in other at)).data_in;
-      data_out = (cell_at world (place_in other at)).data_out;
-      buffers = buffers_is i;
-    }
+    λ i. record (cell_at world (place_in other at)) { held = held_is i; buffers = buffers_is i }
 
 take-cell : (state : Shared) (world : World) (client slot : ℕ) (rest : List ℕ) (part : Part) (at : IsReadyAt state world client slot rest part)
     → Fits state world → client < 31 → IsEmptyCell (cell_at (host_after world client slot rest at.entry.task.request) (place_in client slot))
@@ -351,6 +346,26 @@ take-queues state world client slot rest part at fits few =
           ∙ ap (event_texts after 0) same;
     }
 
+-- what fits besides after a step that leaves the pipes' doorbells and the number of clients
+pub record FitsBesides (state now : Shared) (after : World) : Type 0 where
+  pub long : length now.parts ≡ length state.parts
+  pub sound : IsSoundWorld after
+  pub queues : FitsQueues now after
+  pub engine : FitsEngine now after
+  pub matched : IsMatched now
+  pub clients : AllFit after now.parts
+  pub others : (tag : ℕ) → TAGS * length state.parts < tag → task_of after.device tag ≡ None
+  pub unused : (tag : ℕ) → TAGS * length state.parts < tag → AreUnused after.lines tag
+
+pub fits-besides : (state now : Shared) (world after : World) → Fits state world → after.controller ≡ world.controller → now.status ≡ state.status
+    → now.data_in ≡ state.data_in → now.data_out ≡ state.data_out → FitsBesides state now after → Fits now after
+fits-besides state now world after fits controller status data_in data_out besides =
+    fits-anew state now world after fits besides.long (record {
+      status = ap (λ (c : ControllerState). c.status) controller ∙ fits.status ∙ sym status;
+      data_in = ap (λ (c : ControllerState). c.data_in) controller ∙ fits.data_in ∙ sym data_in;
+      data_out = ap (λ (c : ControllerState). c.data_out) controller ∙ fits.data_out ∙ sym data_out;
+    }) besides.sound besides.queues besides.engine besides.matched besides.clients besides.others besides.unused
+
 take-fits : (state : Shared) (world : World) (client slot : ℕ) (rest : List ℕ) (part : Part) (at : IsReadyAt state world client slot rest part)
     → Fits state world → IsMatched (settled_state state (place_in client slot) part rest)
     → IsSoundWorld (host_after world client slot rest at.entry.task.request)
@@ -359,7 +374,6 @@ take-fits state world client slot rest part at fits matched sound =
     let few : client < 31 = omega (arith, get-within state.parts client part at.there, fits.most_clients) in
     let after : World = host_after world client slot rest at.entry.task.request in
     let held_now : HostClient = without (client_of world.host client) slot rest in
-    let long = length-set state.parts client (settled_part part slot rest) in
     let changes : ChangesCell world (host_after world client slot rest at.entry.task.request) client slot held_now part.unit = record {
       hosts = refl;
       units = sym (slice_get-back world.device.units client part.unit at.it.unit_is);
@@ -367,12 +381,8 @@ take-fits state world client slot rest part at fits matched sound =
     } in
     let least_is : part.least_ticket ≡ held_now.least_ticket =
     at.it.fits.least_ticket ∙ ap (λ (c : HostClient). c.least_ticket) (sym (client_of-found world.host client at.it.held at.it.held_is)) in
-    record {
-      some_client = omega (arith, fits.some_client, long);
-      most_clients = omega (arith, fits.most_clients, long);
-      status = fits.status;
-      data_in = fits.data_in;
-      data_out = fits.data_out;
+    fits-besides state (settled_state state (place_in client slot) part rest) world after fits refl refl refl refl (record {
+      long = length-set state.parts client (settled_part part slot rest);
       sound = sound;
       queues = take-queues state world client slot rest part at fits few;
       engine = engine-kept state (settled_state state (place_in client slot) part rest) world after fits.engine refl refl refl (λ r is. refl);
@@ -381,9 +391,9 @@ take-fits state world client slot rest part at fits matched sound =
           fits.clients at.there at.within changes
           (FitsPart-set world after client slot part.unit part.unit at.it.held held_now part None part.least_ticket rest
           at.it.fits at.within changes refl least_is refl (take-cell state world client slot rest part at fits few));
-      others = λ other over. fits.others other (omega (arith, over, long));
-      unused = λ other over. fits.unused other (omega (arith, over, long));
-    }
+      others = fits.others;
+      unused = fits.unused;
+    })
 
 take-at : (state : Shared) (world : World) (client slot : ℕ) (rest : List ℕ) (part : Part) → IsReadyAt state world client slot rest part → Fits state world
     → due state (Take client) ≡ true → TakeFits state world client

@@ -161,14 +161,7 @@ task-others world client ticket task there other at inside apart =
     let buffers_is = held_for-other world.frames (task_tag client) (tag_of (place_in other at)) (record (held_for world.frames (task_tag client)) {
       command = task_text client task ++ drop 16 (held_for world.frames (task_tag client)).command;
     }) (omega arith) (omega arith) apart in
-    λ i. record {
-      held = held_is i;
-      task = (cell_at world (place_in other at)).task;
-      status = status_is i;
-      data_in = (cell_at world (place_in other at)).data_in;
-      data_out = (cell_at world (place_in other at)).data_out;
-      buffers = buffers_is i;
-    }
+    λ i. record (cell_at world (place_in other at)) { held = held_is i; status = status_is i; buffers = buffers_is i }
 
 task-cell : (state : Shared) (world : World) (client ticket : ℕ) (task : Task) (part : Part) → IsTaskFree state world client task part → Fits state world
     → FitsCell client part.unit.count (place_in client TASK_SLOT)

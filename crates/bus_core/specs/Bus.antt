@@ -3,7 +3,7 @@ use Rattle.std.specs.Prelude.{ℕ, ◌^◌, ◌<◌, List, [], ◌∷◌}
 use Rattle.scsi_cmd.specs.declared.TheConstants.{TAGS}
 use Rattle.uas_host.specs.declared.Place.{Place}
 use Rattle.bus_core.specs.declared.Step.{Step}
-use Rattle.bus_core.specs.declared.Step.TheVariants.{Submit, Task, CommandPipe, Data, Status, Engine, Event, Retire, Take}
+use Rattle.bus_core.specs.declared.Step.TheVariants.{Submit, Task}
 
 -- the place is one of so many clients
 pub record IsPlace (clients : ℕ) (place : Place) : Type 0 where
@@ -14,13 +14,7 @@ pub record IsPlace (clients : ℕ) (place : Place) : Type 0 where
 abbrev pub HasTicket : Step → Type 0
 HasTicket (Submit client tag ticket command) = ticket < 2 ^ 60
 HasTicket (Task client ticket task) = ticket < 2 ^ 60
-HasTicket CommandPipe = Unit {0}
-HasTicket (Data tag) = Unit {0}
-HasTicket (Status tag) = Unit {0}
-HasTicket Engine = Unit {0}
-HasTicket Event = Unit {0}
-HasTicket (Retire pipe tag) = Unit {0}
-HasTicket (Take client) = Unit {0}
+HasTicket _ = Unit {0}
 
 abbrev pub AllTicketed : List Step → Type 0
 AllTicketed [] = Unit {0}

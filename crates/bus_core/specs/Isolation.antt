@@ -45,15 +45,8 @@ own_management client Reset = Reset
 
 -- the label of an accepted task management: what the client handed in
 abbrev pub task_label : Step → Option Label
-task_label (Submit client tag ticket command) = None
 task_label (TaskStep client ticket task) = Some (TaskLabel ticket (own_management client task))
-task_label CommandPipe = None
-task_label (Data tag) = None
-task_label (Status tag) = None
-task_label Engine = None
-task_label Event = None
-task_label (Retire pipe tag) = None
-task_label (Take client) = None
+task_label _ = None
 
 -- the label of a step with this mark; none where it is Quiet
 abbrev pub label_of : Mark → Step → Option Label

@@ -285,10 +285,8 @@ pub record IsRetiring (state : Shared) (retirement : Retirement) : Type 0 where
 
 -- the controller was moved past the place's TD on this pipe, which the host hasn't seen yet
 abbrev pub was_moved : RetirementStage → Bool
-was_moved StopAsked = false
-was_moved StopAnswered = false
-was_moved MoveAsked = false
 was_moved MoveAnswered = true
+was_moved _ = false
 
 abbrev pub is_passed : Shared → Pipe → Place → Bool
 is_passed state pipe place =
@@ -304,10 +302,10 @@ pub record FlowsAt (state : Shared) (pipe : Pipe) (place : Place) : Type 0 where
 pub record IsMatched (state : Shared) : Type 0 where
   pub slots : HaveSlots state.parts
   pub places : (place : Place) → IsMatchedAt state place (under state.parts place)
+  pub ordered : IsOrdered state
   pub retired : retired_places state.events ≡ answered_places state.retirement
   pub retiring : IfSome state.retirement (IsRetiring state)
   pub flows : (pipe : Pipe) (place : Place) → FlowsAt state pipe place
-  pub ordered : IsOrdered state
 
 -- WHAT FOLLOWS
 

@@ -2,19 +2,13 @@
 use Rattle.std.specs.Prelude.{◌≡◌, ℕ, ◌<◌, List, [], ◌∷◌, ◌++◌, Some, All, Contains, slice_get}
 use Rattle.block_unit.specs.BlockMaps.{BlockMaps}
 use Rattle.scsi_cmd.specs.declared.Reply.{Reply}
-use Rattle.scsi_cmd.specs.declared.Reply.TheVariants.{Status, Aborted, Task as TaskReply}
+use Rattle.scsi_cmd.specs.Replies.{reply_ticket}
 use Rattle.solo_model.specs.declared.Label.{Label}
 use Rattle.solo_model.specs.declared.Label.TheVariants.{Submit, Task, Carry, Move, Send, Settle}
 use Rattle.solo_model.specs.Solo.{SoloState, solo_run, opening as solo_opening}
 use Rattle.bus_core.specs.declared.Step.{Step}
 use Rattle.bus_core.specs.Replay.{replay}
 use Rattle.bus_core.specs.Isolation.{own_labels, own_replies}
-
--- the ticket that a reply answers
-abbrev pub reply_ticket : Reply → ℕ
-reply_ticket (Status tag ticket status sense buffer) = ticket
-reply_ticket (Aborted tag ticket buffer) = ticket
-reply_ticket (TaskReply tag ticket code) = ticket
 
 -- the ticket was accepted, and isn't settled yet
 pub record IsOwed (accepted settled : List ℕ) (ticket : ℕ) : Type 0 where

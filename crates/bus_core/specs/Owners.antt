@@ -3,10 +3,12 @@ use Rattle.std.specs.Prelude.{ℕ, suc, ◌-◌, ◌/◌, ◌%◌, true, List, [
 use Rattle.scsi_cmd.specs.declared.Command.{Command}
 use Rattle.scsi_cmd.specs.declared.SubmitFault.{SubmitFault}
 use Rattle.scsi_cmd.specs.declared.Reply.{Reply}
-use Rattle.scsi_cmd.specs.declared.Reply.TheVariants.{Status, Aborted, Task}
+use Rattle.scsi_cmd.specs.declared.Reply.TheVariants.{Status as StatusReply, Aborted, Task}
 use Rattle.scsi_cmd.specs.declared.TheConstants.{TAGS}
+use Rattle.stream_array.specs.declared.Pipe.{Pipe}
+use Rattle.stream_array.specs.declared.Pipe.TheVariants.{Command as CommandPipe, Status, DataIn, DataOut}
 use Rattle.bus_core.specs.declared.Mark.{Mark}
-use Rattle.bus_core.specs.declared.Mark.TheVariants.{Settle, Submit, Task as TaskMark, Quiet}
+use Rattle.bus_core.specs.declared.Mark.TheVariants.{Carry, Move, Send, Settle, Submit, Task as TaskMark, Quiet}
 use Rattle.bus_core.specs.declared.Outcome.{Outcome}
 use Rattle.uas_host.specs.declared.Handled.{Handled}
 use Rattle.uas_host.specs.declared.Handled.TheVariants.{Matched, Engine, Stray}
@@ -27,6 +29,13 @@ index_of tag = suc ((tag - 1) % TAGS)
 abbrev pub acted_as : (ℕ → Mark) → Acted → Outcome
 acted_as mark (ActedOn tag) = marked (owner_of tag) (mark (index_of tag))
 acted_as mark Idle = idle
+
+-- what a step on a pipe is to the owner of the tag; those on the two data pipes are alike
+abbrev pub mark_on : Pipe → ℕ → Mark
+mark_on CommandPipe index = Carry index
+mark_on Status index = Send index
+mark_on DataIn index = Move index
+mark_on DataOut index = Move index
 
 -- a submission under a tag, by the host's answer and the doorbells that were rung
 abbrev pub submitted_as : ℕ → ℕ → List ℕ → Result (Unit {0}) (SubmitFault × Command) → Outcome
@@ -59,7 +68,7 @@ handled_as retirement doors Stray = idle
 
 -- a reply settles the ticket under its tag
 abbrev pub mark_by : Reply → Mark
-mark_by (Status tag ticket status sense buffer) = Settle (index_of tag)
+mark_by (StatusReply tag ticket status sense buffer) = Settle (index_of tag)
 mark_by (Aborted tag ticket buffer) = Settle (index_of tag)
 mark_by (Task tag ticket code) = Settle (index_of tag)
 

@@ -55,9 +55,12 @@ pub record Act : Type 0 where
   pub mark : Mark
   pub reply : Option Reply
 
+abbrev pub without_reply : Part → Option Completion → Mark → Act
+without_reply part event mark = record { part = part; event = event; mark = mark; reply = None }
+
 -- nothing changes
 abbrev pub nothing : Part → Act
-nothing part = record { part = part; event = None; mark = Quiet; reply = None }
+nothing part = without_reply part None Quiet
 
 -- SUBMIT
 
@@ -138,13 +141,10 @@ with_request_carried part entry = record part { entries = entries_after entry.ta
 
 abbrev pub carried_entry : Part → ℕ → Place → Entry → Option (BlockMaps × TaggedTask) → Act
 carried_entry part slot place entry None = nothing part
-carried_entry part slot place entry (Some after) = record {
-  part = with_entry (record (with_request_carried part entry) { unit = after.0 }) slot
-      (record entry { task = after.1; command_td = with_trb_taken entry.command_td });
-  event = Some (CommandDone place);
-  mark = Carry (suc slot);
-  reply = None;
-}
+carried_entry part slot place entry (Some after) = without_reply
+    (with_entry (record (with_request_carried part entry) { unit = after.0 }) slot
+    (record entry { task = after.1; command_td = with_trb_taken entry.command_td }))
+    (Some (CommandDone place)) (Carry (suc slot))
 
 abbrev pub carried_slot : Part → ℕ → Place → Option Entry → Act
 carried_slot part slot place None = nothing part
@@ -174,12 +174,10 @@ is_last_trb taken trbs (Some td) = if taken then (td.consumed + 1 == trbs) else 
 
 abbrev pub moved_entry : Part → ℕ → Place → Entry → Option (BlockMaps × TaggedTask) → Act
 moved_entry part slot place entry None = nothing part
-moved_entry part slot place entry (Some after) = record {
-  part = with_entry (record part { unit = after.0 }) slot (record entry { task = after.1; data_td = data_td_after (took_trb after.1.phase) entry.data_td });
-  event = if is_last_trb (took_trb after.1.phase) (data_trbs entry.task.request) entry.data_td then Some (DataDone place) else None;
-  mark = Move (suc slot);
-  reply = None;
-}
+moved_entry part slot place entry (Some after) = without_reply
+    (with_entry (record part { unit = after.0 }) slot (record entry { task = after.1; data_td = data_td_after (took_trb after.1.phase) entry.data_td }))
+    (if is_last_trb (took_trb after.1.phase) (data_trbs entry.task.request) entry.data_td then Some (DataDone place) else None)
+    (Move (suc slot))
 
 abbrev pub moved_slot : Part → ℕ → Place → Option Entry → Act
 moved_slot part slot place None = nothing part
@@ -193,12 +191,8 @@ move_act place part = moved_slot part place.slot place (held_at part.entries pla
 
 abbrev pub sent_entry : Part → ℕ → Place → Entry → Option TaggedTask → Act
 sent_entry part slot place entry None = nothing part
-sent_entry part slot place entry (Some task) = record {
-  part = with_entry part slot (record entry { task = task; status_td = with_trb_taken entry.status_td });
-  event = Some (StatusDone place);
-  mark = Send (suc slot);
-  reply = None;
-}
+sent_entry part slot place entry (Some task) = without_reply
+    (with_entry part slot (record entry { task = task; status_td = with_trb_taken entry.status_td })) (Some (StatusDone place)) (Send (suc slot))
 
 abbrev pub sent_slot : Part → ℕ → Place → Option Entry → Act
 sent_slot part slot place None = nothing part
@@ -285,13 +279,13 @@ event_act event part =
 
 -- Stop Endpoint changes nothing of the client
 abbrev pub stop_act : Place → Part → Act
-stop_act place part = record { part = part; event = Some (EngineDone place); mark = Quiet; reply = None }
+stop_act place part = without_reply part (Some (EngineDone place)) Quiet
 
 -- Set TR Dequeue Pointer moves the controller past the TD that is retired
 abbrev pub passed_slot : Pipe → Part → Place → Option Entry → Act
 passed_slot pipe part place None = nothing part
 passed_slot pipe part place (Some entry) =
-    record { part = with_entry part place.slot (passed_on pipe entry); event = Some (EngineDone place); mark = Quiet; reply = None }
+    without_reply (with_entry part place.slot (passed_on pipe entry)) (Some (EngineDone place)) Quiet
 
 abbrev pub pass_act : Pipe → Place → Part → Act
 pass_act pipe place part = passed_slot pipe part place (held_at part.entries place.slot)

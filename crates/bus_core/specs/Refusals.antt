@@ -88,13 +88,7 @@ RefusedChangesNothing =
 abbrev pub is_submission : Step → Bool
 is_submission (Submit client tag ticket command) = true
 is_submission (TaskStep client ticket task) = true
-is_submission CommandPipe = false
-is_submission (Data tag) = false
-is_submission (Status tag) = false
-is_submission Engine = false
-is_submission Event = false
-is_submission (Retire pipe tag) = false
-is_submission (Take client) = false
+is_submission _ = false
 
 -- Nothing but a submission is refused.
 abbrev pub OnlySubmissionsAreRefused : Type 0

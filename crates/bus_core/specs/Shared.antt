@@ -17,7 +17,7 @@ use Rattle.scsi_cmd.specs.Op.{direction_of}
 use Rattle.scsi_cmd.specs.declared.Request.{Request}
 use Rattle.scsi_cmd.specs.declared.Request.TheVariants.{Execute, Manage}
 use Rattle.solo_model.specs.declared.Phase.{Phase}
-use Rattle.solo_model.specs.declared.Phase.TheVariants.{Queued, Begun, Sent, Gone}
+use Rattle.solo_model.specs.declared.Phase.TheVariants.{Begun}
 use Rattle.device_server.specs.declared.Progress.TheVariants.{Moving, Ended}
 use Rattle.scsi_cmd.specs.Held.{held_at}
 use Rattle.uas_host.specs.declared.Place.{Place}
@@ -159,19 +159,13 @@ place_fact state tag test =
 
 -- the target gives or takes data
 abbrev pub is_moving : Phase → Bool
-is_moving Queued = false
 is_moving (Begun (Moving chunk)) = true
-is_moving (Begun (Ended answer)) = false
-is_moving (Sent answer) = false
-is_moving Gone = false
+is_moving _ = false
 
 -- the target has an answer to send
 abbrev pub is_ended : Phase → Bool
-is_ended Queued = false
-is_ended (Begun (Moving chunk)) = false
 is_ended (Begun (Ended answer)) = true
-is_ended (Sent answer) = false
-is_ended Gone = false
+is_ended _ = false
 
 -- the data stream was rung since the last stop of its pipe, which runs
 abbrev pub is_data_open : Shared → ℕ → Direction → Bool
@@ -200,9 +194,8 @@ has_ready part = is_some_of part.ready
 -- the controller's command ring has the retirement's command
 abbrev pub is_asked : RetirementStage → Bool
 is_asked StopAsked = true
-is_asked StopAnswered = false
 is_asked MoveAsked = true
-is_asked MoveAnswered = false
+is_asked _ = false
 
 -- a retirement of the tag's TD on a pipe may begin: none is under way, and the TD is left over
 abbrev pub retire_is_due : Shared → Pipe → ℕ → Bool

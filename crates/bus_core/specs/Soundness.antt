@@ -1,11 +1,9 @@
 -- What of an entry is counted, and which slots are ready.
-use Rattle.std.specs.Prelude.{◌≡◌, ℕ, ◌+◌, ◌==◌, Bool, cond, List, [], ◌∷◌, Option, Some, None}
+use Rattle.std.specs.Prelude.{◌≡◌, ℕ, List, Option, Some, None}
 use Rattle.scsi_cmd.specs.Held.{held_at}
+pub use Rattle.uas_host.specs.State.{one_if, times_in}
 use Rattle.bus_core.specs.declared.Td.{Td}
 use Rattle.bus_core.specs.Td.{Entry, is_awaited, is_ready}
-
-abbrev pub one_if : Bool → ℕ
-one_if b = cond b 1 0
 
 abbrev pub awaited_data : ℕ → Option Td → ℕ
 awaited_data trbs None = 0
@@ -14,11 +12,6 @@ awaited_data trbs (Some td) = one_if (is_awaited td trbs)
 abbrev pub readied_of : Option Entry → ℕ
 readied_of None = 0
 readied_of (Some entry) = one_if (is_ready entry)
-
--- how often a slot is in a queue
-abbrev pub times_in : ℕ → List ℕ → ℕ
-times_in slot [] = 0
-times_in slot (first ∷ rest) = one_if (first == slot) + times_in slot rest
 
 -- the slots whose entries are ready are queued, each once, and no other slot is
 abbrev pub AreReady : List (Option Entry) → List ℕ → Type 0

@@ -38,9 +38,8 @@ data_trbs (Manage what noted) = 0
 -- TRBs stay where they are until the controller is moved past them.
 abbrev pub is_in_ring : TdState → Bool
 is_in_ring Pending = true
-is_in_ring Seen = false
 is_in_ring LeftOver = true
-is_in_ring Retired = false
+is_in_ring _ = false
 
 -- its ring has a TRB of it that the controller may take
 abbrev pub has_trb : Td → ℕ → Bool

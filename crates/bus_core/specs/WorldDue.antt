@@ -15,6 +15,7 @@ use Rattle.bus_core.specs.declared.Completion.{Completion}
 use Rattle.bus_core.specs.declared.Mark.{Mark}
 use Rattle.bus_core.specs.declared.Mark.TheVariants.{Carry, Move, Send, Quiet}
 use Rattle.bus_core.specs.declared.Outcome.{Outcome}
+use Rattle.bus_core.specs.declared.Step.{Step}
 use Rattle.bus_core.specs.declared.Step.TheVariants.{CommandPipe, Data, Status as StatusStep, Engine, Event, Retire, Take}
 use Rattle.bus_core.specs.Part.{event_place}
 use Rattle.bus_core.specs.declared.Retirement.{Retirement}
@@ -109,15 +110,17 @@ CommandsAreMarked =
     (state : Shared) (place : Place) (rest : List Place) → IsMatched state → state.messages ≡ place ∷ rest
     → (shared_step state CommandPipe).1 ≡ marked place.client (Carry (suc place.slot))
 
+-- a step of a tag's stream
+abbrev pub StreamsAreMarked : (ℕ → Step) → (ℕ → Mark) → Type 0
+StreamsAreMarked step mark =
+    (state : Shared) (tag : ℕ) (place : Place) → IsMatched state → place_of (length state.parts) tag ≡ Some place → due state (step tag) ≡ true
+    → (shared_step state (step tag)).1 ≡ marked place.client (mark (suc place.slot))
+
 abbrev pub DataAreMarked : Type 0
-DataAreMarked =
-    (state : Shared) (tag : ℕ) (place : Place) → IsMatched state → place_of (length state.parts) tag ≡ Some place → due state (Data tag) ≡ true
-    → (shared_step state (Data tag)).1 ≡ marked place.client (Move (suc place.slot))
+DataAreMarked = StreamsAreMarked Data Move
 
 abbrev pub StatusesAreMarked : Type 0
-StatusesAreMarked =
-    (state : Shared) (tag : ℕ) (place : Place) → IsMatched state → place_of (length state.parts) tag ≡ Some place → due state (StatusStep tag) ≡ true
-    → (shared_step state (StatusStep tag)).1 ≡ marked place.client (Send (suc place.slot))
+StatusesAreMarked = StreamsAreMarked StatusStep Send
 
 abbrev pub EventsAreQuiet : Type 0
 EventsAreQuiet =

@@ -26,16 +26,18 @@ use Rattle.uas_host.specs.declared.RetirementStage.TheVariants.{Stopping}
 use Rattle.uas_host.specs.Tags.{place_of, tag_of}
 use Rattle.uas_host.specs.Events.{Sides as EventSides, event_doors, handled}
 use Rattle.uas_host.specs.Replies.{no_reply, replied}
+use Rattle.xhci_ctl.specs.declared.Acted.{Acted as ActedAnswer}
 use Rattle.xhci_ctl.specs.declared.Acted.TheVariants.{Acted, Idle}
 use Rattle.xhci_ctl.specs.Doorbells.{rung_by}
 use Rattle.xhci_ctl.specs.Own.{IsOwnCommandFront, IsOwnDataFront, IsOwnStatusFront}
 use Rattle.xhci_ctl.specs.Pipes.{ControllerState, new_controller}
 use Rattle.xhci_ctl.specs.Engine.{engine_acted}
-use Rattle.xhci_ctl.specs.Steps.{commanded, moved, sent_by}
+use Rattle.xhci_ctl.specs.Steps.{Sides, commanded, moved, sent_by}
 use Rattle.bus_core.specs.declared.TheConstants.{MAX_CLIENTS}
 use Rattle.bus_core.specs.declared.Completion.{Completion}
 use Rattle.bus_core.specs.declared.Completion.TheVariants.{CommandDone, DataDone, StatusDone, EngineDone}
 use Rattle.bus_core.specs.declared.Refusal.{Refusal}
+use Rattle.bus_core.specs.declared.Step.{Step}
 use Rattle.bus_core.specs.declared.Step.TheVariants.{CommandPipe, Data, Status, Engine as EngineStep, Event as EventStep, Retire, Take}
 use Rattle.bus_core.specs.Part.{event_place}
 use Rattle.bus_core.specs.Shared.{Shared, opening, due, shared_step, submit_step, task_step}
@@ -148,31 +150,35 @@ CommandsFit = (state : Shared) (world : World) (place : Place) (rest : List Plac
 abbrev pub NoCommandIsIdle : Type 0
 NoCommandIsIdle = (state : Shared) (world : World) → Fits state world → state.messages ≡ [] → commanded (sides_in world) ≡ (sides_in world, Idle)
 
--- Data: likewise, wherever it is due
+-- A step of a tag's stream: likewise, wherever it is due. Elsewhere the controller is idle.
+abbrev pub StreamsFit : (ℕ → Step) → (Shared → World → ℕ → Type 0) → Type 0
+StreamsFit step FitsAt = (state : Shared) (world : World) (tag : ℕ) → Fits state world → due state (step tag) ≡ true → FitsAt state world tag
+
+abbrev pub StreamsAreIdle : (ℕ → Step) → (ControllerState → Sides → ℕ → Sides × ActedAnswer) → Type 0
+StreamsAreIdle step acts = (state : Shared) (world : World) (tag : ℕ) → Fits state world → due state (step tag) ≡ false
+    → acts world.controller (sides_in world) tag ≡ (sides_in world, Idle)
+
 pub record DataFits (state : Shared) (world : World) (tag : ℕ) : Type 0 where
   pub own : IsOwnDataFront world.lines world.frames tag (wanted world.device tag)
   pub acted : (moved world.controller (sides_in world) tag).1 ≡ Acted tag
   pub fits : IsSoundWorld (data_world world tag) → Fits (shared_step state (Data tag)).0 (data_world world tag)
 
-abbrev pub DataFit : Type 0
-DataFit = (state : Shared) (world : World) (tag : ℕ) → Fits state world → due state (Data tag) ≡ true → DataFits state world tag
-
-abbrev pub DataIsIdle : Type 0
-DataIsIdle = (state : Shared) (world : World) (tag : ℕ) → Fits state world → due state (Data tag) ≡ false
-    → moved world.controller (sides_in world) tag ≡ (sides_in world, Idle)
-
--- Status
 pub record StatusFits (state : Shared) (world : World) (tag : ℕ) : Type 0 where
   pub own : IsOwnStatusFront world.lines world.frames tag (answered world.device tag)
   pub acted : (sent_by world.controller (sides_in world) tag).1 ≡ Acted tag
   pub fits : IsSoundWorld (status_world world tag) → Fits (shared_step state (Status tag)).0 (status_world world tag)
 
+abbrev pub DataFit : Type 0
+DataFit = StreamsFit Data DataFits
+
+abbrev pub DataIsIdle : Type 0
+DataIsIdle = StreamsAreIdle Data moved
+
 abbrev pub StatusesFit : Type 0
-StatusesFit = (state : Shared) (world : World) (tag : ℕ) → Fits state world → due state (Status tag) ≡ true → StatusFits state world tag
+StatusesFit = StreamsFit Status StatusFits
 
 abbrev pub StatusIsIdle : Type 0
-StatusIsIdle = (state : Shared) (world : World) (tag : ℕ) → Fits state world → due state (Status tag) ≡ false
-    → sent_by world.controller (sides_in world) tag ≡ (sides_in world, Idle)
+StatusIsIdle = StreamsAreIdle Status sent_by
 
 -- Event: the first event is matched to the TD that it is of, or to the command of the retirement; none is stray
 abbrev pub handled_for : Completion → Handled

@@ -81,6 +81,19 @@ impl Doorbells {
         }
     }
 
+    /// Notes at most three where none are noted, in this order.
+    #[inline(always)]
+    pub(crate) fn note(&mut self, values: &[u32])
+        requires none { self.old ≡ [] }
+        requires few { length values.now ≤ MOST_DOORBELLS }
+        ensures { self.new ≡ values.now }
+    {
+        match &mut self.rung {
+            Rung::Single(few) => few.try_extend_from_slice(values).unwrap(),
+            Rung::Resumed { .. } => *self = Doorbells::single(values),
+        }
+    }
+
     /// Those of some streams of a pipe, by rising stream.
     pub fn resumed(pipe: Pipe, values: &[u32]) -> Doorbells
         requires streams { HasStreams pipe }

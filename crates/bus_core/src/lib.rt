@@ -59,28 +59,16 @@ use xhci_ctl::Controller;
 /// The most clients of a bus.
 pub const MAX_CLIENTS: usize = 31;
 
-const _: () = prove!(MAX_CLIENTS == 31);
-
 /// The most doorbells that are kept one by one: those of a submission.
 pub const MOST_DOORBELLS: usize = 3;
 
-const _: () = prove!(MOST_DOORBELLS == 3);
+const _: () = prove!(MAX_CLIENTS == 31 && MOST_DOORBELLS == 3);
 
 /// A TD: its state, and how many of its TRBs the controller took.
 #[derive(Clone, Copy, Debug, PartialEq, Eq)]
 pub struct Td {
     pub state: TdState,
     pub consumed: usize,
-}
-
-/// A completion event: the TD of which place the controller is done with (xHCI 4.11.3).
-#[derive(Clone, Copy, Debug, PartialEq, Eq)]
-pub enum Completion {
-    CommandDone(Place),
-    DataDone(Place),
-    StatusDone(Place),
-    /// The controller's own command is done, of the retirement of this place's TD.
-    EngineDone(Place),
 }
 
 /// How far a retirement is: which of its two commands was asked for last, and whether the controller has executed it.
@@ -102,6 +90,16 @@ pub struct Retirement {
     pub pipe: Pipe,
     pub place: Place,
     pub stage: RetirementStage,
+}
+
+/// A completion event: the TD of which place the controller is done with (xHCI 4.11.3).
+#[derive(Clone, Copy, Debug, PartialEq, Eq)]
+pub enum Completion {
+    CommandDone(Place),
+    DataDone(Place),
+    StatusDone(Place),
+    /// The controller's own command is done, of the retirement of this place's TD.
+    EngineDone(Place),
 }
 
 /// One atomic step of the bus.
@@ -170,6 +168,12 @@ pub struct Outcome {
     pub doors: Doorbells,
 }
 
+/// The outcomes of a run, in order.
+#[derive(Debug, Drop)]
+pub struct Trace {
+    outcomes: Vec<Outcome>,
+}
+
 /// The bus: the host, the controller and the device, the rings and contexts between host and controller, and the buffers that
 /// the host lends. `doors` is where the host notes the doorbells of one call.
 #[derive(Debug, Drop)]
@@ -192,12 +196,6 @@ impl Model for Bus {
     ghost view = { λ bus. decoded (world_of bus.host bus.controller bus.target bus.lines bus.frames) };
 
     ghost invariant = { λ bus. FitsItself (world_of bus.host bus.controller bus.target bus.lines bus.frames) };
-}
-
-/// The outcomes of a run, in order.
-#[derive(Debug, Drop)]
-pub struct Trace {
-    outcomes: Vec<Outcome>,
 }
 
 impl Model for Trace {

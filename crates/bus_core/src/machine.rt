@@ -1,5 +1,5 @@
 //! The bus and its steps, each by one call of host or controller.
-ghost use Rattle.std.specs.Prelude.{◌≡◌, ℕ, suc, true, ◌*◌, ◌<◌, ◌≤◌, IfSome, IfNone, length, ◌^◌, IfOk, slice_get, vec_len};
+ghost use Rattle.std.specs.Prelude.{◌≡◌, ℕ, [], suc, true, ◌*◌, ◌<◌, ◌≤◌, IfSome, IfNone, length, ◌^◌, IfOk, slice_get, vec_len};
 ghost use Rattle.std.specs.Option.{option_map_or};
 ghost use Rattle.stream_array.specs.Rings.{IsLines};
 ghost use Rattle.frame_store.specs.Buffers.{IsWhole};
@@ -10,11 +10,10 @@ ghost use Rattle.bus_core.specs.Drain.{AreNotLeftOver, AreQuiet};
 ghost use Rattle.bus_core.specs.Owners.{acted_as, replying, submitted_as};
 ghost use Rattle.bus_core.specs.Shared.{due, idle, opening, ringing, shared_step};
 ghost use Rattle.bus_core.specs.declared.Mark.{Mark};
-ghost use Rattle.bus_core.specs.Shows.{PointAhead, ShowsShared};
 ghost use Rattle.bus_core.specs.StepIsolation.{IsIsolatedStep};
+ghost use Rattle.bus_core.specs.Shows.{PointAhead, ShowsShared};
 
-use crate::doors::ring;
-use crate::outcomes::handled_of;
+use crate::doors::{ring, rung_at};
 use crate::owners::owner_of;
 use crate::{Bus, Doorbells, MAX_CLIENTS, Outcome, Step};
 use arrayvec::ArrayVec;
@@ -23,7 +22,7 @@ use frame_store::Frames;
 use scsi_cmd::{Command, Reply, SubmitFault, Task};
 use std::alloc::{AllocError, Global};
 use stream_array::{Lines, Pipe};
-use uas_host::{Handled, Host, RetirementStage};
+use uas_host::{Handled, Host};
 use uas_iu::lun_bytes;
 use uas_target::{Phase, Target};
 use xhci_ctl::{Acted, Controller};
@@ -188,25 +187,30 @@ impl Bus {
         ensures { shared_step self.old step ≡ (self.new, result) }
     {
         match step {
+            Step::Task {
+                client,
+                ticket,
+                task,
+            } => self.manage(client, ticket, task),
             Step::Submit {
                 client,
                 tag,
                 ticket,
                 command,
             } => {
-                let (answer, doors) = self.submit(client, tag, ticket, command);
+                let mut doors = Doorbells::none();
+                let answer = self.submit(client, tag, ticket, command, &mut doors);
                 Outcome::submitted(client, tag, answer, doors)
             }
-            Step::Task {
-                client,
-                ticket,
-                task,
-            } => self.manage(client, ticket, task),
-            Step::CommandPipe => Outcome::carried(self.carry()),
-            Step::Data(tag) => Outcome::moved(self.move_chunk(tag)),
-            Step::Status(tag) => Outcome::sent(self.send(tag)),
+            Step::CommandPipe => Outcome::on_pipe(Pipe::Command, self.carry()),
+            Step::Data(tag) => Outcome::on_pipe(Pipe::DataIn, self.move_chunk(tag)),
+            Step::Status(tag) => Outcome::on_pipe(Pipe::Status, self.send(tag)),
             Step::Engine => self.execute(),
-            Step::Event => Outcome::seen(self.see()),
+            Step::Event => {
+                let mut doors = Doorbells::none();
+                let client = self.see(&mut doors);
+                Outcome::seen(client, doors)
+            }
             Step::Retire(pipe, tag) => self.retire(pipe, tag),
             Step::Take(client) => {
                 if self.take_is_due(client) {
@@ -219,7 +223,8 @@ impl Bus {
     }
 
     /// A client submits a command: the host writes its unit, lends its buffer and pushes its TDs, and the doorbells that it
-    /// names are rung, in their order. A refused submission names none. The host's answer, and these doorbells.
+    /// names are rung, in their order. A refused submission names none. The host's answer; `doors` has these doorbells then.
+    /// Asks that it has none.
     #[inline(never)]
     fn submit(
         &mut self,
@@ -227,9 +232,11 @@ impl Bus {
         tag: u16,
         ticket: u64,
         command: Command,
-    ) -> (Result<(), (SubmitFault, Command)>, Doorbells)
-        requires { ticket < 2 ^ 60 }
-        ensures { shared_step self.old (Step.Submit client tag ticket command) ≡ (self.new, submitted_as client tag result.1 result.0) }
+        doors: &mut Doorbells,
+    ) -> Result<(), (SubmitFault, Command)>
+        requires ticket { ticket < 2 ^ 60 }
+        requires doors { doors.old ≡ [] }
+        ensures { shared_step self.old (Step.Submit client tag ticket command) ≡ (self.new, submitted_as client tag doors.new result) }
     {
         self.doors.clear();
         let submitted = self.host.submit(
@@ -241,9 +248,13 @@ impl Bus {
             ticket,
             command,
         );
-        ring(&mut self.controller, &self.doors);
         stand(&self.host, &self.lines, &self.frames);
-        (submitted, Doorbells::single(&self.doors))
+        if let Err(refused) = submitted {
+            return Err(refused);
+        }
+        ring(&mut self.controller, &self.doors);
+        doors.note(&self.doors);
+        Ok(())
     }
 
     /// A client submits a task management: the host notes the tickets that it is to end, writes its unit and pushes its TDs, and the
@@ -315,10 +326,12 @@ impl Bus {
     }
 
     /// The host takes the oldest event. It rings no doorbell at an event of a TD; at one of a retirement it rings the controller's own, or,
-    /// when the TD is retired, those of the pipe's streams with pending TRBs. The client that the event was of, and these doorbells.
+    /// when the TD is retired, those of the pipe's streams with pending TRBs. The client that the event was of; `doors` has these doorbells
+    /// then. Asks that it has none.
     #[inline(never)]
-    pub(crate) fn see(&mut self) -> Option<(usize, Doorbells)>
-        ensures { shared_step self.old Step.Event ≡ (self.new, option_map_or (λ seen. ringing seen.0 seen.1) result idle) }
+    pub(crate) fn see(&mut self, doors: &mut Doorbells) -> Option<usize>
+        requires { doors.old ≡ [] }
+        ensures { shared_step self.old Step.Event ≡ (self.new, option_map_or (λ client. ringing client doors.new) result idle) }
     {
         let event = self.lines.take()?;
         let retirement = self.host.retirement();
@@ -328,13 +341,16 @@ impl Bus {
             .on_event(&mut self.lines, &self.frames, &mut self.doors, event);
         ring(&mut self.controller, &self.doors);
         stand(&self.host, &self.lines, &self.frames);
-        let rung = match (handled, retirement) {
-            (Handled::Engine, Some(ended)) if matches!(ended.stage, RetirementStage::Moving) => {
-                Doorbells::resumed(ended.pipe, &self.doors)
+        match handled {
+            Handled::Matched(tag) => Some(owner_of(tag)),
+            Handled::Stray => None,
+            Handled::Engine => {
+                // Each event of the controller's own command ring is of the retirement (`EventsFit`).
+                let ended = retirement?;
+                *doors = rung_at(ended, &self.doors);
+                Some(ended.place.client)
             }
-            _ => Doorbells::single(&self.doors),
-        };
-        handled_of(retirement, handled, rung)
+        }
     }
 
     /// The host begins to retire a TD that is left over.

@@ -1,6 +1,6 @@
-ghost use Rattle.std.specs.Prelude.{◌≡◌};
+ghost use Rattle.std.specs.Prelude.{◌≡◌, true, Some};
 ghost use Rattle.std.specs.Option.{option_map_or};
-ghost use Rattle.bus_core.specs.Owners.{acted_as, executed_as, handled_as, managed_as, replying, submitted_as};
+ghost use Rattle.bus_core.specs.Owners.{acted_as, executed_as, managed_as, mark_on, replying, submitted_as};
 ghost use Rattle.bus_core.specs.declared.Mark.{Mark};
 ghost use Rattle.bus_core.specs.Shared.{acceptance, idle, refusal, ringing, task_refusal};
 ghost use Rattle.bus_core.specs.WorldDue.{marked};
@@ -8,7 +8,8 @@ ghost use Rattle.bus_core.specs.WorldDue.{marked};
 use crate::owners::{index_of, mark_of, owner_of};
 use crate::{Doorbells, Mark, Outcome, Refusal};
 use scsi_cmd::{Command, Reply, SubmitFault};
-use uas_host::{Handled, Retirement};
+use stream_array::Pipe;
+use uas_host::Retirement;
 use xhci_ctl::Acted;
 
 impl Outcome {
@@ -27,52 +28,50 @@ impl Outcome {
         }
     }
 
-    /// The outcome of a step that acted for a client, without a reply.
+    /// The outcome of a step that acted for a client.
     #[inline(always)]
-    fn marked(client: usize, mark: Mark) -> Outcome
-        ensures { result ≡ marked client mark }
+    fn acting(
+        client: usize,
+        mark: Mark,
+        reply: Option<Reply>,
+        refused: Option<Refusal>,
+        doors: Doorbells,
+    ) -> Outcome
+        ensures { result ≡ record { acted = true; owner = Some client; mark = mark; reply = reply; refused = refused; doors = doors } }
     {
         Outcome {
             acted: true,
             owner: Some(client),
             mark,
-            reply: None,
-            refused: None,
-            doors: Doorbells::none(),
+            reply,
+            refused,
+            doors,
         }
     }
 
-    /// The outcome of a step of the command pipe.
+    /// The outcome of a step that acted for a client, without a reply.
     #[inline(always)]
-    pub(crate) fn carried(acted: Acted) -> Outcome
-        ensures { result ≡ acted_as Mark.Carry acted }
+    fn marked(client: usize, mark: Mark) -> Outcome
+        ensures { result ≡ marked client mark }
     {
-        match acted {
-            Acted::Acted(tag) => Outcome::marked(owner_of(tag), Mark::Carry(index_of(tag))),
-            Acted::Idle => Outcome::idle(),
-        }
+        Outcome::acting(client, mark, None, None, Doorbells::none())
     }
 
-    /// The outcome of a step of a data stream.
+    /// The outcome of a step on a pipe; those on the two data pipes are alike.
     #[inline(always)]
-    pub(crate) fn moved(acted: Acted) -> Outcome
-        ensures { result ≡ acted_as Mark.Move acted }
+    pub(crate) fn on_pipe(pipe: Pipe, acted: Acted) -> Outcome
+        ensures { result ≡ acted_as (mark_on pipe) acted }
     {
-        match acted {
-            Acted::Acted(tag) => Outcome::marked(owner_of(tag), Mark::Move(index_of(tag))),
-            Acted::Idle => Outcome::idle(),
-        }
-    }
-
-    /// The outcome of a step of a status stream.
-    #[inline(always)]
-    pub(crate) fn sent(acted: Acted) -> Outcome
-        ensures { result ≡ acted_as Mark.Send acted }
-    {
-        match acted {
-            Acted::Acted(tag) => Outcome::marked(owner_of(tag), Mark::Send(index_of(tag))),
-            Acted::Idle => Outcome::idle(),
-        }
+        let Acted::Acted(tag) = acted else {
+            return Outcome::idle();
+        };
+        let index = index_of(tag);
+        let mark = match pipe {
+            Pipe::Command => Mark::Carry(index),
+            Pipe::Status => Mark::Send(index),
+            Pipe::DataIn | Pipe::DataOut => Mark::Move(index),
+        };
+        Outcome::marked(owner_of(tag), mark)
     }
 
     /// The outcome of a step that acted for a client, told nothing and rang these doorbells.
@@ -80,14 +79,7 @@ impl Outcome {
     pub(crate) fn ringing(client: usize, doors: Doorbells) -> Outcome
         ensures { result ≡ ringing client doors }
     {
-        Outcome {
-            acted: true,
-            owner: Some(client),
-            mark: Mark::Quiet,
-            reply: None,
-            refused: None,
-            doors,
-        }
+        Outcome::acting(client, Mark::Quiet, None, None, doors)
     }
 
     /// The outcome of a step of the controller's own command ring: it is the retirement's.
@@ -104,13 +96,13 @@ impl Outcome {
         }
     }
 
-    /// The outcome of an event: the client that it was of and the doorbells that were rung at it, or none.
+    /// The outcome of an event: by the client that it was of, if there is one, and the doorbells that were rung at it.
     #[inline(always)]
-    pub(crate) fn seen(seen: Option<(usize, Doorbells)>) -> Outcome
-        ensures { result ≡ option_map_or (λ seen. ringing seen.0 seen.1) seen idle }
+    pub(crate) fn seen(client: Option<usize>, doors: Doorbells) -> Outcome
+        ensures { result ≡ option_map_or (λ client. ringing client doors) client idle }
     {
-        match seen {
-            Some((client, doors)) => Outcome::ringing(client, doors),
+        match client {
+            Some(client) => Outcome::ringing(client, doors),
             None => Outcome::idle(),
         }
     }
@@ -120,14 +112,7 @@ impl Outcome {
     pub(crate) fn replying(client: usize, reply: Option<Reply>) -> Outcome
         ensures { result ≡ replying client reply }
     {
-        Outcome {
-            acted: true,
-            owner: Some(client),
-            mark: mark_of(&reply),
-            reply,
-            refused: None,
-            doors: Doorbells::none(),
-        }
+        Outcome::acting(client, mark_of(&reply), reply, None, Doorbells::none())
     }
 
     /// The outcome of a submission under a tag, by the host's answer and the doorbells that were rung.
@@ -151,17 +136,9 @@ impl Outcome {
     fn refused(client: usize, fault: SubmitFault, command: Command) -> Outcome
         ensures { result ≡ refusal client fault command }
     {
-        Outcome {
-            acted: true,
-            owner: Some(client),
-            mark: Mark::Quiet,
-            reply: None,
-            refused: Some(Refusal {
-                fault,
-                command: Some(command),
-            }),
-            doors: Doorbells::none(),
-        }
+        let command = Some(command);
+        let refused = Some(Refusal { fault, command });
+        Outcome::acting(client, Mark::Quiet, None, refused, Doorbells::none())
     }
 
     /// The outcome of a task management, by the host's answer and the doorbells that were rung.
@@ -184,17 +161,11 @@ impl Outcome {
     fn refused_task(client: usize, fault: SubmitFault) -> Outcome
         ensures { result ≡ task_refusal client fault }
     {
-        Outcome {
-            acted: true,
-            owner: Some(client),
-            mark: Mark::Quiet,
-            reply: None,
-            refused: Some(Refusal {
-                fault,
-                command: None,
-            }),
-            doors: Doorbells::none(),
-        }
+        let refused = Some(Refusal {
+            fault,
+            command: None,
+        });
+        Outcome::acting(client, Mark::Quiet, None, refused, Doorbells::none())
     }
 
     /// The outcome of a client's submission that was accepted, with its mark and the doorbells that it rang.
@@ -202,30 +173,6 @@ impl Outcome {
     fn accepted(client: usize, mark: Mark, doors: Doorbells) -> Outcome
         ensures { result ≡ acceptance client mark doors }
     {
-        Outcome {
-            acted: true,
-            owner: Some(client),
-            mark,
-            reply: None,
-            refused: None,
-            doors,
-        }
-    }
-}
-
-/// The client that an event was of, with the doorbells that were rung at it.
-#[inline(always)]
-pub(crate) fn handled_of(
-    retirement: Option<Retirement>,
-    handled: Handled,
-    doors: Doorbells,
-) -> Option<(usize, Doorbells)>
-    ensures { option_map_or (λ seen. ringing seen.0 seen.1) result idle ≡ handled_as retirement doors handled }
-{
-    match (handled, retirement) {
-        (Handled::Matched(tag), _) => Some((owner_of(tag), doors)),
-        (Handled::Engine, Some(retirement)) => Some((retirement.place.client, doors)),
-        // Each event that waits is of a TD that the host awaits, or of the retirement (`EventsFit`).
-        (Handled::Engine, None) | (Handled::Stray, _) => None,
+        Outcome::acting(client, mark, None, None, doors)
     }
 }

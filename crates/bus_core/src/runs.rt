@@ -5,7 +5,7 @@ ghost use Rattle.bus_core.specs.declared.Step.TheVariants as Step;
 ghost use Rattle.bus_core.specs.Isolation.{IsIsolated};
 ghost use Rattle.bus_core.specs.Replay.{replayed};
 
-use crate::{Bus, Outcome, Step, Trace};
+use crate::{Bus, Doorbells, Outcome, Step, Trace};
 use std::alloc::{AllocError, Global};
 use stream_array::Pipe;
 use xhci_ctl::Acted;
@@ -110,7 +110,7 @@ impl Bus {
         if left == 0 || !self.event_is_due() {
             return left;
         }
-        let _ = self.see();
+        let _ = self.see(&mut Doorbells::none());
         left - 1
     }
 
@@ -191,13 +191,6 @@ impl Bus {
 }
 
 impl Trace {
-    /// The trace of these outcomes.
-    pub fn from_vec(outcomes: Vec<Outcome>) -> Trace
-        ensures { result ≡ outcomes.items }
-    {
-        Trace { outcomes }
-    }
-
     /// The outcomes themselves, in order, so that each reply's buffer can be taken out.
     pub fn into_vec(self) -> Vec<Outcome>
         ensures { result.items ≡ self }
@@ -211,5 +204,12 @@ impl Trace {
         ensures { result.now ≡ self.now }
     {
         self.outcomes.as_slice()
+    }
+
+    /// The trace of these outcomes.
+    pub fn from_vec(outcomes: Vec<Outcome>) -> Trace
+        ensures { result ≡ outcomes.items }
+    {
+        Trace { outcomes }
     }
 }

@@ -15,6 +15,15 @@ fn command(alloc: Global, op: Op, byte: u8) -> Result<Command, AllocError> {
     })
 }
 
+/// READ of so many blocks from block 0 on.
+fn read_of(count: u16) -> Op {
+    Op::Read {
+        lba: 0,
+        count,
+        fua: false,
+    }
+}
+
 /// A new bus of so many units of 100 blocks.
 fn new_bus(rt: &impl Abort, alloc: Global, clients: usize) -> Result<Bus, Fail> {
     let mut units = Vec::new(alloc);
@@ -34,11 +43,7 @@ fn bad_lengths(rt: HostRuntime) -> Result<(), Fail> {
         (1, 511, SubmitFault::BadLength),
     ] {
         let mut bus = new_bus(&rt, rt.alloc(), 2)?;
-        let read = Op::Read {
-            lba: 0,
-            count,
-            fua: false,
-        };
+        let read = read_of(count);
         let bytes = vec![in rt.alloc(); 0xA5; length]?;
         let submitted = bus.step(Step::Submit {
             client: 1,
@@ -78,27 +83,26 @@ fn assert_image(rt: &impl Abort, found: Option<[u8; 16]>, wanted: &[u8]) {
     }
 }
 
-/// TEST UNIT READY on tag 1 over fresh rings, as a controller's author finds it there: the status TRB and the command TRB.
-#[test]
-fn test_unit_ready_on_the_rings(rt: HostRuntime) -> Result<(), Fail> {
-    let mut bus = new_bus(&rt, rt.alloc(), 1)?;
-    let ready = command(rt.alloc(), Op::TestUnitReady, 0)?;
+/// A new bus of one client that has submitted this on tag 1.
+fn submitted(rt: &impl Abort, alloc: Global, op: Op) -> Result<Bus, Fail> {
+    let mut bus = new_bus(rt, alloc, 1)?;
     let _ = bus.step(Step::Submit {
         client: 0,
         tag: 1,
         ticket: 0,
-        command: ready,
+        command: command(alloc, op, 0)?,
     });
-    assert_image(
-        &rt,
-        bus.lines().image(Pipe::Command, 0, 0),
-        b"\x00\x01\x00\x10\x00\x00\x00\x00\x20\x00\x00\x00\x21\x04\x00\x00",
-    );
-    assert_image(
-        &rt,
-        bus.lines().image(Pipe::Status, 1, 0),
-        b"\x00\x01\x00\x20\x00\x00\x00\x00\x70\x00\x00\x00\x25\x04\x00\x00",
-    );
+    Ok(bus)
+}
+
+/// TEST UNIT READY on tag 1 over fresh rings, as a controller's author finds it there: the status TRB and the command TRB.
+#[test]
+fn test_unit_ready_on_the_rings(rt: HostRuntime) -> Result<(), Fail> {
+    let bus = submitted(&rt, rt.alloc(), Op::TestUnitReady)?;
+    let received = b"\x00\x01\x00\x10\x00\x00\x00\x00\x20\x00\x00\x00\x21\x04\x00\x00";
+    assert_image(&rt, bus.lines().image(Pipe::Command, 0, 0), received);
+    let answered = b"\x00\x01\x00\x20\x00\x00\x00\x00\x70\x00\x00\x00\x25\x04\x00\x00";
+    assert_image(&rt, bus.lines().image(Pipe::Status, 1, 0), answered);
     assert_image(&rt, bus.lines().image(Pipe::DataIn, 1, 0), b"");
     Ok(())
 }
@@ -106,34 +110,23 @@ fn test_unit_ready_on_the_rings(rt: HostRuntime) -> Result<(), Fail> {
 /// READ of 128 blocks on tag 1 over fresh rings: 16 TRBs in places 0 to 15, of which the last alone has no CH.
 #[test]
 fn long_read_on_the_rings(rt: HostRuntime) -> Result<(), Fail> {
-    let mut bus = new_bus(&rt, rt.alloc(), 1)?;
-    let read = Op::Read {
-        lba: 0,
-        count: 128,
-        fua: false,
-    };
-    let reading = command(rt.alloc(), read, 0)?;
-    let _ = bus.step(Step::Submit {
-        client: 0,
-        tag: 1,
-        ticket: 0,
-        command: reading,
-    });
-    assert_image(
-        &rt,
-        bus.lines().image(Pipe::DataIn, 1, 0),
-        b"\x00\x00\x01\x00\x01\x00\x00\x00\x00\x10\x3e\x00\x11\x04\x00\x00",
-    );
-    assert_image(
-        &rt,
-        bus.lines().image(Pipe::DataIn, 1, 8),
-        b"\x00\x80\x01\x00\x01\x00\x00\x00\x00\x10\x38\x00\x11\x04\x00\x00",
-    );
-    assert_image(
-        &rt,
-        bus.lines().image(Pipe::DataIn, 1, 15),
-        b"\x00\xf0\x01\x00\x01\x00\x00\x00\x00\x10\x00\x00\x21\x04\x00\x00",
-    );
+    let bus = submitted(&rt, rt.alloc(), read_of(128))?;
+    for (place, wanted) in [
+        (
+            0,
+            b"\x00\x00\x01\x00\x01\x00\x00\x00\x00\x10\x3e\x00\x11\x04\x00\x00",
+        ),
+        (
+            8,
+            b"\x00\x80\x01\x00\x01\x00\x00\x00\x00\x10\x38\x00\x11\x04\x00\x00",
+        ),
+        (
+            15,
+            b"\x00\xf0\x01\x00\x01\x00\x00\x00\x00\x10\x00\x00\x21\x04\x00\x00",
+        ),
+    ] {
+        assert_image(&rt, bus.lines().image(Pipe::DataIn, 1, place), wanted);
+    }
     assert_image(&rt, bus.lines().image(Pipe::DataIn, 1, 16), b"");
     Ok(())
 }

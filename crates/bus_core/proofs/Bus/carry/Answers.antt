@@ -1,22 +1,28 @@
+use Rattle.bus_core.specs.declared.Mark.TheVariants.{Carry}
+use Rattle.bus_core.specs.declared.Step.TheVariants.{CommandPipe}
+use Rattle.bus_core.specs.Owners.{acted_as}
 use Rattle.bus_core.specs.World.{world_of}
+use Rattle.bus_core.proofs.BusFields.{fits-in, world_in}
 use Rattle.bus_core.proofs.CommandFits.{commands_due}
-use Rattle.bus_core.proofs.Stepped.{fits-as}
-use Rattle.bus_core.proofs.Taken.{command-taken}
+use Rattle.bus_core.proofs.Taken.{IsTaken, command-taken}
 use Rattle.bus_core.proofs.Bus.carry.Goals as goal
+use Rattle.bus_core.proofs.Bus.carry.Goals.{After-stand}
 
 pub command_step-acted-requires : goal.command_step-acted-requires
 command_step-acted-requires c =
-    (commands_due c.args.self.now (world_of c.self.inside.host c.self.inside.controller c.self.inside.target c.self.inside.lines c.self.inside.frames)
-    (fits-as c.args.self.now _ c.self.view_is c.self.invariant)).own
+    (commands_due c.args.self.now (world_in c.self.inside) (fits-in c.self.inside c.self.view_is c.self.invariant)).own
+
+-- what the device receives is the shared machine's step
+carried : (c : After-stand) → IsTaken c.args.self.now CommandPipe
+    (world_of c.self.inside.host c.self.inside.controller c.command_step-acted.new.target c.command_step-acted.new.lines c.self.inside.frames)
+    (acted_as Carry c.command_step-acted.result)
+carried c =
+    command-taken c.args.self.now (world_in c.self.inside)
+    c.command_step-acted.new.lines c.command_step-acted.new.target c.command_step-acted.result
+    (fits-in c.self.inside c.self.view_is c.self.invariant) c.command_step-acted.ensures c.stand.ensures.lines c.stand.ensures.frames
 
 pub invariant_of-self : goal.invariant_of-self
-invariant_of-self c =
-    (command-taken c.args.self.now (world_of c.self.inside.host c.self.inside.controller c.self.inside.target c.self.inside.lines c.self.inside.frames)
-    c.command_step-acted.new.lines c.command_step-acted.new.target c.command_step-acted.result
-    (fits-as c.args.self.now _ c.self.view_is c.self.invariant) c.command_step-acted.ensures c.stand.ensures.lines c.stand.ensures.frames).fits
+invariant_of-self c = (carried (goal.at.invariant_of-self c).After-stand).fits
 
 pub returns : goal.returns
-returns c =
-    (command-taken c.args.self.now (world_of c.self.inside.host c.self.inside.controller c.self.inside.target c.self.inside.lines c.self.inside.frames)
-    c.command_step-acted.new.lines c.command_step-acted.new.target c.command_step-acted.result
-    (fits-as c.args.self.now _ c.self.view_is c.self.invariant) c.command_step-acted.ensures c.stand.ensures.lines c.stand.ensures.frames).shared
+returns c = (carried (goal.at.returns c).After-stand).shared

@@ -1,23 +1,20 @@
-use Rattle.bus_core.specs.World.{world_of}
+use Rattle.bus_core.proofs.BusFields.{fits-in, world_in}
 use Rattle.bus_core.proofs.DataDue.{data_due}
-use Rattle.bus_core.proofs.Stepped.{fits-as}
 use Rattle.bus_core.proofs.Taken.{data-taken}
 use Rattle.bus_core.proofs.Bus.move_chunk.Goals as goal
 
 pub data_step-acted-requires : goal.data_step-acted-requires
 data_step-acted-requires c =
-    (data_due c.args.self.now (world_of c.self.inside.host c.self.inside.controller c.self.inside.target c.self.inside.lines c.self.inside.frames)
-    c.args.tag
-    (fits-as c.args.self.now _ c.self.view_is c.self.invariant)).own
+    (data_due c.args.self.now (world_in c.self.inside) c.args.tag (fits-in c.self.inside c.self.view_is c.self.invariant)).own
 
 pub invariant_of-self : goal.invariant_of-self
 invariant_of-self c =
-    (data-taken c.args.self.now (world_of c.self.inside.host c.self.inside.controller c.self.inside.target c.self.inside.lines c.self.inside.frames) c.args.tag
+    (data-taken c.args.self.now (world_in c.self.inside) c.args.tag
     c.data_step-acted.new.lines c.data_step-acted.new.frames c.data_step-acted.new.target c.data_step-acted.result
-    (fits-as c.args.self.now _ c.self.view_is c.self.invariant) c.data_step-acted.ensures c.stand.ensures.lines c.stand.ensures.frames).fits
+    (fits-in c.self.inside c.self.view_is c.self.invariant) c.data_step-acted.ensures c.stand.ensures.lines c.stand.ensures.frames).fits
 
 pub returns : goal.returns
 returns c =
-    (data-taken c.args.self.now (world_of c.self.inside.host c.self.inside.controller c.self.inside.target c.self.inside.lines c.self.inside.frames) c.args.tag
+    (data-taken c.args.self.now (world_in c.self.inside) c.args.tag
     c.data_step-acted.new.lines c.data_step-acted.new.frames c.data_step-acted.new.target c.data_step-acted.result
-    (fits-as c.args.self.now _ c.self.view_is c.self.invariant) c.data_step-acted.ensures c.stand.ensures.lines c.stand.ensures.frames).shared
+    (fits-in c.self.inside c.self.view_is c.self.invariant) c.data_step-acted.ensures c.stand.ensures.lines c.stand.ensures.frames).shared

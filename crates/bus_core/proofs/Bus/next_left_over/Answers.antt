@@ -8,10 +8,10 @@ use Rattle.bus_core.specs.declared.Step.TheVariants.{Retire}
 use Rattle.bus_core.specs.Drain.{AreNotLeftOver}
 use Rattle.bus_core.specs.Fits.{Fits}
 use Rattle.bus_core.specs.Shared.{Shared, due}
-use Rattle.bus_core.specs.World.{World, world_of}
+use Rattle.bus_core.specs.World.{World}
+use Rattle.bus_core.proofs.BusFields.{fits-in, world_in}
 use Rattle.bus_core.proofs.CellWrites.{clients-length}
 use Rattle.bus_core.proofs.EngineDue.{retire-due}
-use Rattle.bus_core.proofs.Stepped.{fits-as}
 use Rattle.bus_core.proofs.Bus.next_left_over.Goals as goal
 
 -- while a retirement is under way none is due
@@ -54,20 +54,17 @@ found-none state world pipe tag upto (Some next) fits none = tt
 
 pub returns-then-is_some-clause-none : goal.returns-then-is_some-clause-none
 returns-then-is_some-clause-none c =
-    λ other above below. under_way-not_due c.args.self.now
-    (world_of c.self.inside.host c.self.inside.controller c.self.inside.target c.self.inside.lines c.self.inside.frames) c.args.pipe other
-    (fits-as c.args.self.now _ c.self.view_is c.self.invariant)
+    λ other above below. under_way-not_due c.args.self.now (world_in c.self.inside) c.args.pipe other
+    (fits-in c.self.inside c.self.view_is c.self.invariant)
     (ap (λ r. is_none r) (sym c.retirement.ensures) ∙ some-not_none c.retirement.result c.if-is_some.ensures)
 
 pub returns-clause-next : goal.returns-clause-next
 returns-clause-next c =
-    found-next c.args.self.now
-    (world_of c.self.inside.host c.self.inside.controller c.self.inside.target c.self.inside.lines c.self.inside.frames) c.args.pipe c.args.tag
-    c.next_left_over.result (fits-as c.args.self.now _ c.self.view_is c.self.invariant) c.next_left_over.ensures.next
+    found-next c.args.self.now (world_in c.self.inside) c.args.pipe c.args.tag c.next_left_over.result
+    (fits-in c.self.inside c.self.view_is c.self.invariant) c.next_left_over.ensures.next
 
 pub returns-clause-none : goal.returns-clause-none
 returns-clause-none c =
-    found-none c.args.self.now
-    (world_of c.self.inside.host c.self.inside.controller c.self.inside.target c.self.inside.lines c.self.inside.frames) c.args.pipe c.args.tag
-    (suc (length c.args.self.now.parts * TAGS)) c.next_left_over.result (fits-as c.args.self.now _ c.self.view_is c.self.invariant)
+    found-none c.args.self.now (world_in c.self.inside) c.args.pipe c.args.tag
+    (suc (length c.args.self.now.parts * TAGS)) c.next_left_over.result (fits-in c.self.inside c.self.view_is c.self.invariant)
     c.next_left_over.ensures.none

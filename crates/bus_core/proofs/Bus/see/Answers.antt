@@ -1,55 +1,63 @@
 use Rattle.std.proofs.Common.{◌≡◌, ap, sym, ◌∙◌}
-use Rattle.std.proofs.lemmas.Bool.{false≢true}
 use Rattle.std.specs.Option.{option_map_or}
-use Rattle.bus_core.specs.Owners.{handled_as}
+use Rattle.bus_core.specs.declared.Step.TheVariants.{Event}
+use Rattle.bus_core.specs.Owners.{handled_as, retirement_seen}
 use Rattle.bus_core.specs.Shared.{idle, ringing}
 use Rattle.bus_core.specs.World.{world_of}
-use Rattle.bus_core.specs.WorldSteps.{event_sides}
-use Rattle.bus_core.proofs.EngineStepped.{doors-cleared, event-resumed}
+use Rattle.bus_core.specs.WorldSteps.{event_sides, rung_all}
+use Rattle.bus_core.proofs.BusFields.{fits-in, world_in}
+use Rattle.bus_core.proofs.EngineStepped.{doors-cleared, event-resumed, td-told, with-outcome}
 use Rattle.bus_core.proofs.EventsFit.{events-fit}
-use Rattle.bus_core.proofs.Stepped.{fits-as}
-use Rattle.bus_core.proofs.Taken.{event-taken}
+use Rattle.bus_core.proofs.Taken.{IsTaken, event-taken}
 use Rattle.bus_core.proofs.Bus.see.Goals as goal
-use Rattle.bus_core.proofs.Bus.see.Goals.{in-Engine-Some, in-Moving, in_default-matches, in_default}
+use Rattle.bus_core.proofs.Bus.see.Goals.{After-stand, in-Matched, in-Stray, in-Engine+in_ok-ended-in-Engine}
 
-pub resumed-rung-requires-clause-rung : goal.resumed-rung-requires-clause-rung
-resumed-rung-requires-clause-rung c = elim c.match-matches.branch [
-  | in-Moving w ↦
-      event-resumed (event_sides (world_of c.self.inside.host c.self.inside.controller c.self.inside.target c.self.inside.lines c.self.inside.frames))
-      c.in_ok-event.event c.in-Engine-Some.ended c.deref-in-Engine-Some.result.now
-      (sym c.retirement-retirement.ensures ∙ c.in-Engine-Some.is-1) w.in-Moving.is
-      (c.deref-in-Engine-Some.ensures.0
-      ∙ doors-cleared c.clear.new.self.items c.on_event-handled.new.doors.items _ c.clear.ensures
-      (rw c.in_ok-event.ensures.taken at c.on_event-handled.ensures.doors))
-  | in_default-matches w ↦ absurd (false≢true (sym w.matches-is ∙ c.if-matches.true))
-]
+pub rung_at-requires-clause-resumed : goal.rung_at-requires-clause-resumed
+rung_at-requires-clause-resumed c = λ moves.
+    event-resumed (event_sides (world_in c.self.inside)) c.in_ok-event.event c.in_ok-ended-in-Engine.ended c.deref-in-Engine.result.now
+    (sym c.retirement-retirement.ensures ∙ c.in_ok-ended-in-Engine.was) moves
+    (c.deref-in-Engine.ensures.0
+    ∙ doors-cleared c.clear.new.self.items c.on_event-handled.new.doors.items _ c.clear.ensures
+    (rw c.in_ok-event.ensures.taken at c.on_event-handled.ensures.doors))
 
-pub invariant_of-self-2 : goal.invariant_of-self-2
-invariant_of-self-2 c =
-    rw (c.ring.ensures, c.deref.ensures.0)
-    (event-taken c.args.self.now (world_of c.self.inside.host c.self.inside.controller c.self.inside.target c.self.inside.lines c.self.inside.frames)
+-- what the host makes of the event is the shared machine's step
+seen : (c : After-stand) → IsTaken c.args.self.now Event
+    (world_of c.on_event-handled.new.self (rung_all c.self.inside.controller c.on_event-handled.new.doors.items) c.self.inside.target
+    c.on_event-handled.new.lines c.self.inside.frames)
+    (handled_as c.self.inside.host.retirement c.on_event-handled.new.doors.items c.on_event-handled.result)
+seen c =
+    event-taken c.args.self.now (world_in c.self.inside)
     c.in_ok-event.event c.on_event-handled.new.self c.on_event-handled.new.lines c.on_event-handled.new.doors.items c.on_event-handled.result events-fit
-    (fits-as c.args.self.now _ c.self.view_is c.self.invariant) (sym c.in_ok-event.ensures.first)
+    (fits-in c.self.inside c.self.view_is c.self.invariant) (sym c.in_ok-event.ensures.first)
     (rw c.in_ok-event.ensures.taken at c.on_event-handled.ensures.handled)
     (sym (doors-cleared c.clear.new.self.items c.on_event-handled.new.doors.items _ c.clear.ensures
     (rw c.in_ok-event.ensures.taken at c.on_event-handled.ensures.doors)))
-    c.stand.ensures.host c.stand.ensures.lines c.stand.ensures.frames).fits
+    c.stand.ensures.host c.stand.ensures.lines c.stand.ensures.frames
+
+pub invariant_of-self-2 : goal.invariant_of-self-2
+invariant_of-self-2 c = rw (c.ring.ensures, c.deref.ensures.0) (seen (goal.at.invariant_of-self-2 c).After-stand).fits
+
+pub invariant_of-self-in_err-ended-in-Engine : goal.invariant_of-self-in_err-ended-in-Engine
+invariant_of-self-in_err-ended-in-Engine c =
+    rw (c.ring.ensures, c.deref.ensures.0) (seen (goal.at.invariant_of-self-in_err-ended-in-Engine c).After-stand).fits
 
 pub returns : goal.returns
 returns c =
-    let rung : c.match-handled.rung ≡ c.on_event-handled.new.doors.items = elim c.match-handled.branch [
-      | in-Engine-Some w ↦ w.rung-is ∙ w.resumed-rung.ensures ∙ w.deref-in-Engine-Some.ensures.0
-      | in_default w ↦ w.rung-is ∙ w.single-rung.ensures ∙ w.deref-in_default.ensures.0
+    let retirement = c.self.inside.host.retirement in
+    let rung = c.on_event-handled.new.doors.items in
+    let told : option_map_or (λ client. ringing client c.match-handled.doors) c.match-handled.result idle
+    ≡ handled_as retirement rung c.on_event-handled.result = elim c.match-handled.branch [
+      | in-Matched w ↦
+          rw (w.result-is, w.doors-is, w.owner_of.ensures)
+          (sym (td-told (event_sides (world_in c.self.inside))
+          c.self.inside.frames c.in_ok-event.event _ w.in-Matched.tag c.on_event-handled.result retirement rung c.args.doors.now
+          (rw c.in_ok-event.ensures.taken at c.on_event-handled.ensures.handled) w.in-Matched.is
+          (sym (doors-cleared c.clear.new.self.items rung _ c.clear.ensures
+          (rw c.in_ok-event.ensures.taken at c.on_event-handled.ensures.doors))) c.requires))
+      | in-Stray w ↦ rw w.result-is (sym (ap (handled_as retirement rung) w.in-Stray.is))
+      | in-Engine+in_ok-ended-in-Engine w ↦
+          rw (w.result-is, w.doors-is, w.rung_at.ensures, w.deref-in-Engine.ensures.0)
+          (sym (ap (handled_as retirement rung) w.in-Engine.is
+          ∙ ap (λ under_way. retirement_seen under_way rung) (sym c.retirement-retirement.ensures ∙ w.in_ok-ended-in-Engine.was)))
     ] in
-    let told : option_map_or (λ seen. ringing seen.0 seen.1) c.handled_of.result idle
-    ≡ handled_as c.self.inside.host.retirement c.on_event-handled.new.doors.items c.on_event-handled.result =
-    c.handled_of.ensures ∙ ap (λ r. handled_as r c.match-handled.rung c.on_event-handled.result) c.retirement-retirement.ensures
-    ∙ ap (λ doors. handled_as c.self.inside.host.retirement doors c.on_event-handled.result) rung in
-    rw (told, c.ring.ensures, c.deref.ensures.0)
-    (event-taken c.args.self.now (world_of c.self.inside.host c.self.inside.controller c.self.inside.target c.self.inside.lines c.self.inside.frames)
-    c.in_ok-event.event c.on_event-handled.new.self c.on_event-handled.new.lines c.on_event-handled.new.doors.items c.on_event-handled.result events-fit
-    (fits-as c.args.self.now _ c.self.view_is c.self.invariant) (sym c.in_ok-event.ensures.first)
-    (rw c.in_ok-event.ensures.taken at c.on_event-handled.ensures.handled)
-    (sym (doors-cleared c.clear.new.self.items c.on_event-handled.new.doors.items _ c.clear.ensures
-    (rw c.in_ok-event.ensures.taken at c.on_event-handled.ensures.doors)))
-    c.stand.ensures.host c.stand.ensures.lines c.stand.ensures.frames).shared
+    rw (c.ring.ensures, c.deref.ensures.0) (with-outcome _ _ _ _ (seen (goal.at.returns c).After-stand).shared told)

@@ -1,18 +1,23 @@
+use Rattle.bus_core.specs.declared.Step.TheVariants.{Take}
+use Rattle.bus_core.specs.Owners.{replying}
 use Rattle.bus_core.specs.World.{world_of}
-use Rattle.bus_core.proofs.Stepped.{fits-as}
-use Rattle.bus_core.proofs.Taken.{take-taken}
+use Rattle.bus_core.proofs.BusFields.{fits-in, world_in}
+use Rattle.bus_core.proofs.Taken.{IsTaken, take-taken}
 use Rattle.bus_core.proofs.Bus.take.Goals as goal
+use Rattle.bus_core.proofs.Bus.take.Goals.{After-stand}
+
+-- what the client takes is the shared machine's reply
+taken : (c : After-stand) → IsTaken c.args.self.now (Take c.args.client)
+    (world_of c.take_reply-reply.new.self c.self.inside.controller c.self.inside.target c.self.inside.lines c.take_reply-reply.new.frames)
+    (replying c.args.client c.take_reply-reply.result)
+taken c =
+    take-taken c.args.self.now (world_in c.self.inside)
+    c.args.client c.take_reply-reply.new.self c.take_reply-reply.new.frames c.take_reply-reply.result
+    (fits-in c.self.inside c.self.view_is c.self.invariant) c.requires c.take_reply-reply.ensures
+    c.stand.ensures.host c.stand.ensures.lines c.stand.ensures.frames
 
 pub invariant_of-self : goal.invariant_of-self
-invariant_of-self c =
-    (take-taken c.args.self.now (world_of c.self.inside.host c.self.inside.controller c.self.inside.target c.self.inside.lines c.self.inside.frames)
-    c.args.client c.take_reply-reply.new.self c.take_reply-reply.new.frames c.take_reply-reply.result
-    (fits-as c.args.self.now _ c.self.view_is c.self.invariant) c.requires c.take_reply-reply.ensures
-    c.stand.ensures.host c.stand.ensures.lines c.stand.ensures.frames).fits
+invariant_of-self c = (taken (goal.at.invariant_of-self c).After-stand).fits
 
 pub returns : goal.returns
-returns c =
-    (take-taken c.args.self.now (world_of c.self.inside.host c.self.inside.controller c.self.inside.target c.self.inside.lines c.self.inside.frames)
-    c.args.client c.take_reply-reply.new.self c.take_reply-reply.new.frames c.take_reply-reply.result
-    (fits-as c.args.self.now _ c.self.view_is c.self.invariant) c.requires c.take_reply-reply.ensures
-    c.stand.ensures.host c.stand.ensures.lines c.stand.ensures.frames).shared
+returns c = (taken (goal.at.returns c).After-stand).shared

@@ -1,17 +1,11 @@
-use Rattle.std.proofs.Common.{◌≡◌, ◌-◌, ◌*◌, ◌≤◌, length, map}
-use Rattle.std.specs.List.{range_with_len}
+use Rattle.std.proofs.Common.{◌-◌, ◌*◌, length}
 use Rattle.scsi_cmd.specs.declared.TheConstants.{TAGS}
 use Rattle.bus_core.specs.declared.Step.TheVariants.{Status}
-use Rattle.bus_core.specs.Drain.{tried}
+use Rattle.bus_core.proofs.DrainTags.{HasTried}
 use Rattle.bus_core.proofs.Bus.try_statuses.Given as goal
 
--- the tags up to the last that was tried
 abbrev pub invariant-loop-next : goal.invariant-loop-next
-invariant-loop-next l = record {
-  so_far : (l.self, l.left) ≡ tried (l.initial.self, l.initial.left) (map Status (range_with_len 1 l.tag));
-  parts : length l.self.parts ≡ length l.initial.self.parts;
-  within : l.tag ≤ length l.initial.self.parts * TAGS;
-}
+invariant-loop-next l = HasTried Status (l.initial.self, l.initial.left) (l.self, l.left) l.tag
 
 abbrev pub decreases-loop-next : goal.decreases-loop-next
 decreases-loop-next l = length l.self.parts * TAGS - l.tag

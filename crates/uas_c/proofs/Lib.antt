@@ -1,2 +1,5 @@
 pub mod Texts
 pub mod Lent
+pub mod ExportCode
+pub mod Called
+pub mod Closed

@@ -1,20 +1,20 @@
 -- What a call of the device's door makes of the device, the door and the bytes.
-use Rattle.std.specs.Prelude.{ℕ, ◌+◌, ◌*◌, ◌%◌, Bool, if◌then◌else◌, ◌==◌, not, nat_le, nat_lt, List, ◌++◌, length, take, drop, Option, None, Some, is_some}
-use Rattle.std.specs.Prelude.{option_map, Result, Ok, Err}
+use Rattle.std.specs.Prelude.{ℕ, ◌+◌, ◌*◌, ◌%◌, Bool, if◌then◌else◌, ◌==◌, not, nat_le, nat_lt}
+use Rattle.std.specs.Prelude.{List, [], ◌∷◌, ◌++◌, length, take, drop, Option, None, Some, is_some, option_map, Result, Ok, Err}
 use Rattle.std.specs.Option.{unwrap_or}
 use Rattle.block_unit.specs.BlockMaps.{BlockMaps}
 use Rattle.uas_iu.specs.declared.Iu.{Iu}
 use Rattle.uas_iu.specs.Lun.{lun_text}
 use Rattle.uas_iu.specs.Units.{unit_size, unit_text}
-use Rattle.uas_target.specs.Device.{Device, answered, fits, gave, given, opening, received, took, wanted, without_task}
+use Rattle.uas_target.specs.Device.{Device, answered, fits, gave, given, received, took, wanted, without_task}
 use Rattle.uas_target.specs.Fields.{addressed}
 use Rattle.uas_target.specs.declared.Overlap.{Overlap}
 use Rattle.uas_target.specs.declared.Phase.{Phase}
 use Rattle.uas_target.specs.declared.Phase.TheVariants.{Absent, Gives, Takes, Ends}
 use Rattle.uas_target.specs.declared.Took.{Took}
 use Rattle.uas_target.specs.declared.Took.TheVariants.{Began, Dropped}
+use Rattle.uas_c.specs.Door.{After, DoorAfter, numbered, refused, with_bytes}
 use Rattle.uas_c.specs.OperationRecord.{yes}
-use Rattle.uas_c.specs.Units.{zeroed_units}
 use Rattle.uas_c.specs.declared.device.UasDeviceDoor.{UasDeviceDoor}
 use Rattle.uas_c.specs.declared.device.Call.{Call}
 use Rattle.uas_c.specs.declared.device.Call.TheVariants as calls
@@ -34,26 +34,18 @@ abbrev pub number_of : {X : Type 0} → Result X Refusal → ℕ
 number_of (Ok x) = 0
 number_of (Err refusal) = refusal_number refusal
 
--- the fault of a call, and the device, the door and the bytes after it
-abbrev pub After : Type 0
-After = ℕ × (Device × (UasDeviceDoor × List ℕ))
-
--- a refused call changes nothing
-abbrev pub refused : ℕ → Device → UasDeviceDoor → List ℕ → After
-refused fault device door bytes = (fault, (device, (door, bytes)))
-
 -- the unit of this number
 abbrev pub unit_numbered : List BlockMaps → ℕ → Option BlockMaps
 unit_numbered units number = if nat_lt number 256 then addressed units (lun_text number) else None
 
 -- RECEIVE (1): the bytes are the bytes of a unit
-abbrev pub after_receive : Device → UasDeviceDoor → List ℕ → After
+abbrev pub after_receive : Device → UasDeviceDoor → List ℕ → DoorAfter Device UasDeviceDoor
 after_receive device door bytes = told (received device bytes)
   where
-    told : Device × Result Took Overlap → After
-    told (after, Ok (Began tag)) = (0, (after, (record door { good = 1; tag = tag }, bytes)))
-    told (after, Ok Dropped) = (0, (after, (record door { good = 0 }, bytes)))
-    told (after, Err overlap) = refused 2 after door bytes
+    told : Device × Result Took Overlap → DoorAfter Device UasDeviceDoor
+    told (after, Ok (Began tag)) = (0, (after, record door { good = 1; tag = tag }))
+    told (after, Ok Dropped) = (0, (after, record door { good = 0 }))
+    told (after, Err overlap) = refused 2 after door
 
 -- WANTS (2): the phase, and the bytes of the next chunk
 abbrev pub with_phase : UasDeviceDoor → Phase → UasDeviceDoor
@@ -62,68 +54,54 @@ with_phase door (Gives size) = record door { phase = 1; length = size }
 with_phase door (Takes size) = record door { phase = 2; length = size }
 with_phase door Ends = record door { phase = 3; length = 0 }
 
-abbrev pub after_wants : Device → UasDeviceDoor → List ℕ → After
-after_wants device door bytes = (0, (device, (with_phase door (wanted device door.tag), bytes)))
+abbrev pub after_wants : Device → UasDeviceDoor → DoorAfter Device UasDeviceDoor
+after_wants device door = (0, (device, with_phase door (wanted device door.tag)))
 
 -- GIVE (3): the next chunk of a tag that gives
-abbrev pub after_give : Device → UasDeviceDoor → List ℕ → After
+abbrev pub after_give : Device → UasDeviceDoor → List ℕ → After Device UasDeviceDoor
 after_give device door bytes = at_phase (wanted device door.tag)
   where
-    at_phase : Phase → After
+    at_phase : Phase → After Device UasDeviceDoor
     at_phase (Gives size) =
         if size == length bytes
         then (0, (gave device door.tag, (record door { good = yes (is_some (given device door.tag)) }, unwrap_or (given device door.tag) bytes)))
-        else refused 4 device door bytes
-    at_phase Absent = refused 3 device door bytes
-    at_phase (Takes size) = refused 3 device door bytes
-    at_phase Ends = refused 3 device door bytes
+        else with_bytes bytes (refused 4 device door)
+    at_phase _ = with_bytes bytes (refused 3 device door)
 
 -- TAKE (4): the next chunk of a tag that takes
-abbrev pub after_take : Device → UasDeviceDoor → List ℕ → After
+abbrev pub after_take : Device → UasDeviceDoor → List ℕ → DoorAfter Device UasDeviceDoor
 after_take device door bytes = at_phase (wanted device door.tag)
   where
-    at_phase : Phase → After
+    at_phase : Phase → DoorAfter Device UasDeviceDoor
     at_phase (Takes size) =
-        if size == length bytes
-        then (0, (took device door.tag bytes, (record door { good = yes (fits device door.tag) }, bytes)))
-        else refused 4 device door bytes
-    at_phase Absent = refused 3 device door bytes
-    at_phase (Gives size) = refused 3 device door bytes
-    at_phase Ends = refused 3 device door bytes
+        if size == length bytes then (0, (took device door.tag bytes, record door { good = yes (fits device door.tag) })) else refused 4 device door
+    at_phase _ = refused 3 device door
 
 -- STATUS (5): the answer of a tag whose task has ended, at the front of the bytes
-abbrev pub after_status : Device → UasDeviceDoor → List ℕ → After
+abbrev pub after_status : Device → UasDeviceDoor → List ℕ → After Device UasDeviceDoor
 after_status device door bytes = put (answered device door.tag)
   where
-    put : Option Iu → After
-    put None = refused 3 device door bytes
+    put : Option Iu → After Device UasDeviceDoor
+    put None = with_bytes bytes (refused 3 device door)
     put (Some unit) =
-        if nat_lt (length bytes) (unit_size unit) then refused 4 device door bytes
+        if nat_lt (length bytes) (unit_size unit) then with_bytes bytes (refused 4 device door)
         else (0, (device, (record door { length = unit_size unit }, unit_text unit ++ drop (unit_size unit) bytes)))
 
 -- SENT (6): the answer of a tag was sent
-abbrev pub device_sent : Device → ℕ → ℕ × Device
-device_sent device tag = at_phase (wanted device tag)
+abbrev pub after_sent : Device → UasDeviceDoor → DoorAfter Device UasDeviceDoor
+after_sent device door = at_phase (wanted device door.tag)
   where
-    at_phase : Phase → ℕ × Device
-    at_phase Ends = (0, without_task device tag)
-    at_phase Absent = (3, device)
-    at_phase (Gives size) = (3, device)
-    at_phase (Takes size) = (3, device)
-
-abbrev pub after_sent : Device → UasDeviceDoor → List ℕ → After
-after_sent device door bytes = let sent = device_sent device door.tag in (sent.0, (sent.1, (door, bytes)))
+    at_phase : Phase → DoorAfter Device UasDeviceDoor
+    at_phase Ends = (0, (without_task device door.tag, door))
+    at_phase _ = refused 3 device door
 
 -- SIZE (7): the blocks of a unit
-abbrev pub size_shown : Device → UasDeviceDoor → ℕ × UasDeviceDoor
-size_shown device door = told (unit_numbered device.units door.unit)
+abbrev pub after_size : Device → UasDeviceDoor → DoorAfter Device UasDeviceDoor
+after_size device door = told (unit_numbered device.units door.unit)
   where
-    told : Option BlockMaps → ℕ × UasDeviceDoor
-    told None = (5, door)
-    told (Some unit) = (0, record door { length = unit.count })
-
-abbrev pub after_size : Device → UasDeviceDoor → List ℕ → After
-after_size device door bytes = let told = size_shown device door in (told.0, (device, (told.1, bytes)))
+    told : Option BlockMaps → DoorAfter Device UasDeviceDoor
+    told None = refused 5 device door
+    told (Some unit) = (0, (device, record door { length = unit.count }))
 
 -- whether these bytes of blocks have so many from a block on
 abbrev pub has_bytes : List ℕ → ℕ → ℕ → Bool
@@ -139,46 +117,29 @@ data_shown (Some blocks) lba bytes =
     else (if has_bytes blocks lba (length bytes) then (0, take (length bytes) (drop (512 * lba) blocks)) else (6, bytes))
 
 -- BLOCKS (8), as a read sees them, and MEDIUM (9)
-abbrev pub after_shown : (BlockMaps → List ℕ) → Device → UasDeviceDoor → List ℕ → After
+abbrev pub after_shown : (BlockMaps → List ℕ) → Device → UasDeviceDoor → List ℕ → After Device UasDeviceDoor
 after_shown blocks device door bytes =
     let told = data_shown (option_map blocks (unit_numbered device.units door.unit)) door.lba bytes in (told.0, (device, (door, told.1)))
 
-abbrev pub after_blocks : Device → UasDeviceDoor → List ℕ → After
-after_blocks = after_shown (λ unit. unit.blocks)
-
-abbrev pub after_medium : Device → UasDeviceDoor → List ℕ → After
-after_medium = after_shown (λ unit. unit.medium)
-
 -- the call of a number
 abbrev pub call_numbered : ℕ → Option Call
-call_numbered number =
-    if number == 1 then Some calls.Receive
-    else (if number == 2 then Some calls.Wants
-    else (if number == 3 then Some calls.Give
-    else (if number == 4 then Some calls.Take
-    else (if number == 5 then Some calls.Status
-    else (if number == 6 then Some calls.Sent
-    else (if number == 7 then Some calls.Size
-    else (if number == 8 then Some calls.Blocks
-    else (if number == 9 then Some calls.Medium
-    else None))))))))
+call_numbered =
+    numbered ((1, calls.Receive) ∷ (2, calls.Wants) ∷ (3, calls.Give) ∷ (4, calls.Take) ∷ (5, calls.Status) ∷ (6, calls.Sent) ∷ (7, calls.Size)
+    ∷ (8, calls.Blocks) ∷ (9, calls.Medium) ∷ [])
+
+-- what each call makes
+abbrev pub after_named : Device → UasDeviceDoor → List ℕ → Call → After Device UasDeviceDoor
+after_named device door bytes calls.Receive = with_bytes bytes (after_receive device door bytes)
+after_named device door bytes calls.Wants = with_bytes bytes (after_wants device door)
+after_named device door bytes calls.Give = after_give device door bytes
+after_named device door bytes calls.Take = with_bytes bytes (after_take device door bytes)
+after_named device door bytes calls.Status = after_status device door bytes
+after_named device door bytes calls.Sent = with_bytes bytes (after_sent device door)
+after_named device door bytes calls.Size = with_bytes bytes (after_size device door)
+after_named device door bytes calls.Blocks = after_shown (λ unit. unit.blocks) device door bytes
+after_named device door bytes calls.Medium = after_shown (λ unit. unit.medium) device door bytes
 
 -- the call that a door names, or 1, no such call
-abbrev pub after_call : Device → UasDeviceDoor → List ℕ → After
-after_call device door bytes = of_call (call_numbered door.call)
-  where
-    of_call : Option Call → After
-    of_call None = refused 1 device door bytes
-    of_call (Some calls.Receive) = after_receive device door bytes
-    of_call (Some calls.Wants) = after_wants device door bytes
-    of_call (Some calls.Give) = after_give device door bytes
-    of_call (Some calls.Take) = after_take device door bytes
-    of_call (Some calls.Status) = after_status device door bytes
-    of_call (Some calls.Sent) = after_sent device door bytes
-    of_call (Some calls.Size) = after_size device door bytes
-    of_call (Some calls.Blocks) = after_blocks device door bytes
-    of_call (Some calls.Medium) = after_medium device door bytes
-
--- a device of zeroed units with so many blocks each, and no task
-abbrev pub zeroed : List ℕ → Device
-zeroed counts = opening (zeroed_units counts)
+abbrev pub after_call : Device → UasDeviceDoor → List ℕ → After Device UasDeviceDoor
+after_call device door bytes =
+    unwrap_or (option_map (after_named device door bytes) (call_numbered door.call)) (with_bytes bytes (refused 1 device door))

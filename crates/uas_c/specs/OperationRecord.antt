@@ -6,21 +6,14 @@ use Rattle.scsi_cmd.specs.declared.Op.TheVariants.{TestUnitReady, Inquiry, ReadC
 use Rattle.scsi_cmd.specs.declared.Direction.{Direction}
 use Rattle.scsi_cmd.specs.declared.Direction.TheVariants.{Nothing, ToHost, ToDevice}
 use Rattle.scsi_cmd.specs.declared.Sense.{Sense}
+use Rattle.uas_c.specs.RecordFault.{fault_of}
 use Rattle.uas_c.specs.declared.scsi.UasOperation.{UasOperation}
 use Rattle.uas_c.specs.declared.scsi.UasSense.{UasSense}
-use Rattle.uas_c.specs.declared.scsi.OperationFault.{OperationFault}
-use Rattle.uas_c.specs.declared.scsi.OperationFault.TheVariants.{UnknownOpcode, Unfit}
 
 -- yes or no as a byte
 abbrev pub yes : Bool → ℕ
 yes true = 1
 yes false = 0
-
--- which way data goes, as a byte
-abbrev pub way_number : Direction → ℕ
-way_number Nothing = 0
-way_number ToHost = 1
-way_number ToDevice = 2
 
 -- the operation's code and fields; a field that it doesn't have is 0, and so are the bytes and the way
 abbrev pub operation_fields : Op → UasOperation
@@ -34,6 +27,12 @@ operation_fields (Write lba count fua) =
     record { lba = lba; count = count; bytes = 0; opcode = 0x2a; fua = yes fua; direction = 0; reserved = 0 }
 operation_fields (Sync lba count) =
     record { lba = lba; count = count; bytes = 0; opcode = 0x35; fua = 0; direction = 0; reserved = 0 }
+
+-- which way data goes, as a byte
+abbrev pub way_number : Direction → ℕ
+way_number Nothing = 0
+way_number ToHost = 1
+way_number ToDevice = 2
 
 -- the record of an operation
 abbrev pub operation_record : Op → UasOperation
@@ -60,17 +59,9 @@ operation_fits r (Read lba count fua) = nat_le r.count 65535 && nat_lt r.fua 2
 operation_fits r (Write lba count fua) = nat_le r.count 65535 && nat_lt r.fua 2
 operation_fits r (Sync lba count) = nat_le r.count 65535
 
-abbrev pub fault_number : OperationFault → ℕ
-fault_number UnknownOpcode = 2
-fault_number Unfit = 3
-
 -- the fault of a record that is to name an operation: 2 another code, 3 a field that doesn't fit
 abbrev pub operation_fault : UasOperation → ℕ
-operation_fault r = of_named (named_operation r)
-  where
-    of_named : Option Op → ℕ
-    of_named None = 2
-    of_named (Some op) = if operation_fits r op then 0 else 3
+operation_fault r = fault_of 2 (λ op. if operation_fits r op then 0 else 3) (named_operation r)
 
 -- the record of sense data
 abbrev pub sense_record : Sense → UasSense

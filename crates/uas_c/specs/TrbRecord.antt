@@ -6,9 +6,8 @@ use Rattle.xhci_trb.specs.declared.Trb.TheVariants.{Normal, Link, StopEndpoint, 
 use Rattle.xhci_trb.specs.declared.TrbFault.{TrbFault}
 use Rattle.xhci_trb.specs.declared.TrbFault.TheVariants.{LengthOver, ReservedSet}
 use Rattle.xhci_trb.specs.declared.TrbFault.TheVariants as trb_faults
+use Rattle.uas_c.specs.RecordFault.{fault_of}
 use Rattle.uas_c.specs.declared.trb.UasTrb.{UasTrb}
-use Rattle.uas_c.specs.declared.trb.RecordFault.{RecordFault}
-use Rattle.uas_c.specs.declared.trb.RecordFault.TheVariants.{UnknownType, Unfit}
 
 -- every field 0
 abbrev pub no_trb : UasTrb
@@ -77,18 +76,9 @@ numbers_fit (SetDequeue pointer cycle stream endpoint slot) = pointer % 16 == 0 
 numbers_fit (TransferEvent pointer residual code endpoint slot) = nat_lt residual (2 ^ 24) && nat_lt endpoint (2 ^ 5)
 numbers_fit (CommandEvent pointer code slot) = pointer % 16 == 0
 
--- a record's fault as a number
-abbrev pub record_fault : RecordFault → ℕ
-record_fault UnknownType = 1
-record_fault Unfit = 4
-
 -- the fault of writing a record: 1 another type, 4 a field that doesn't fit
 abbrev pub write_fault : UasTrb → ℕ
-write_fault r = of_named (named_trb r)
-  where
-    of_named : Option Trb → ℕ
-    of_named None = 1
-    of_named (Some trb) = if bits_fit r && numbers_fit trb then 0 else 4
+write_fault r = fault_of 1 (λ trb. if bits_fit r && numbers_fit trb then 0 else 4) (named_trb r)
 
 -- the fault of reading 16 bytes, in the order of the tests
 abbrev pub read_fault : Option TrbFault → ℕ

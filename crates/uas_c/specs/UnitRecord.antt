@@ -5,21 +5,20 @@ use Rattle.uas_iu.specs.declared.Iu.{Iu}
 use Rattle.uas_iu.specs.declared.Iu.TheVariants.{Command, Sense, Response, Task}
 use Rattle.uas_iu.specs.declared.IuFault.{IuFault}
 use Rattle.uas_iu.specs.declared.IuFault.TheVariants.{UnknownId, Short, Long, ReservedSet, LengthField}
+use Rattle.uas_c.specs.RecordFault.{fault_of}
 use Rattle.uas_c.specs.declared.unit.UasUnit.{UasUnit}
-use Rattle.uas_c.specs.declared.unit.RecordFault.{RecordFault}
-use Rattle.uas_c.specs.declared.unit.RecordFault.TheVariants as record_faults
 
 -- every part 0
 abbrev pub no_unit : UasUnit
 no_unit = record {
   id = 0;
-  status = 0;
-  code = 0;
-  function = 0;
   tag = 0;
   task_tag = 0;
   lun = replicate 8 0;
   cdb = replicate 16 0;
+  function = 0;
+  code = 0;
+  status = 0;
   sense_length = 0;
   sense = replicate 96 0;
   reserved = replicate 3 0;
@@ -55,18 +54,10 @@ record_size r = if r.id == 1 then 32 else (if r.id == 3 then 16 + r.sense_length
 abbrev pub has_too_much_sense : UasUnit → Bool
 has_too_much_sense r = r.id == 3 && nat_lt 96 r.sense_length
 
--- a record's fault as a number
-abbrev pub unit_fault : RecordFault → ℕ
-unit_fault record_faults.UnknownId = 1
-unit_fault record_faults.Unfit = 6
-
 -- the fault of writing a record to this much room: 1 no such unit, 6 more sense than a unit has, 7 too little room
 abbrev pub unit_write_fault : UasUnit → ℕ → ℕ
-unit_write_fault r room = of_named (named_unit r)
-  where
-    of_named : Option Iu → ℕ
-    of_named None = 1
-    of_named (Some unit) = if has_too_much_sense r then 6 else (if nat_lt room (record_size r) then 7 else 0)
+unit_write_fault r room =
+    fault_of 1 (λ unit. if has_too_much_sense r then 6 else (if nat_lt room (record_size r) then 7 else 0)) (named_unit r)
 
 -- the fault of reading bytes, in the order of the tests
 abbrev pub unit_read_fault : Option IuFault → ℕ

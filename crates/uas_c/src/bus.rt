@@ -2,20 +2,23 @@
 ghost use Rattle.std.specs.Prelude.{◌≡◌, ℕ, List, ◌<◌, ◌^◌, ◌-◌, ◌==◌, if◌then◌else◌, IfSome, option_map, length, min};
 ghost use Rattle.bus_core.specs.Bus.{HasTicket};
 ghost use Rattle.bus_core.specs.Drain.{drained};
-ghost use Rattle.uas_c.specs.BusCall.{after_due, after_reply, after_step, after_submit, after_task, bus_answer, bus_call_numbered, bus_refused, overlaid};
+ghost use Rattle.bus_core.specs.Shared.{opening};
+ghost use Rattle.uas_c.specs.BusCall.{after_due, after_reply, after_step, after_submit, after_task, bus_answer, bus_call_numbered, overlaid};
 ghost use Rattle.uas_c.specs.BusCall.{pipe_numbered, refusal_told, show_number, step_numbered, task_numbered, unit_of, with_buffer, with_drain, with_owner};
-ghost use Rattle.uas_c.specs.BusCall.{with_reply};
+ghost use Rattle.uas_c.specs.BusCall.{with_reply, with_told};
 ghost use Rattle.uas_c.specs.DeviceCall.{number_of};
+ghost use Rattle.uas_c.specs.Door.{refused};
 
 mod handle;
 
 use crate::device::{Refusal as DeviceRefusal, show};
 use crate::scsi::{UasOperation, read_operation};
 use crate::unit::padded;
+use crate::units::OfUnits;
 use block_unit::Unit;
 use bus_core::{Bus, Refusal, Step};
 use scsi_cmd::{Buffer, Command, Reply, Task};
-use std::alloc::Global;
+use std::alloc::{AllocError, Global};
 use std::marker::Model;
 use stream_array::Pipe;
 use uas_iu::MAX_SENSE_BYTES;
@@ -72,6 +75,15 @@ impl Model for KeptBus {
     ghost Value = { Shared };
 
     ghost view = { λ kept. kept.bus };
+}
+
+impl OfUnits for KeptBus {
+    ghost of_units = { opening };
+
+    fn of_units(alloc: Global, units: Vec<Unit>) -> Result<KeptBus, AllocError> {
+        let bus = Bus::new(alloc, units)?;
+        Ok(KeptBus { bus, alloc })
+    }
 }
 
 /// A call, by its number.
@@ -156,8 +168,8 @@ pub(crate) fn serve(kept: &mut KeptBus, door: &mut UasBusDoor, bytes: &mut [u8])
 
 /// A submission: ticket and operation are judged here, all else by the bus.
 fn submit(bus: &mut Bus, alloc: Global, door: &UasBusDoor, bytes: &[u8]) -> u8
-    ensures { (result, (bus.new, (door.now, bytes.now)))
-        ≡ (if result == 16 then bus_refused 16 bus.old door.now bytes.now else after_submit bus.old door.now bytes.now) }
+    ensures { (result, (bus.new, door.now))
+        ≡ (if result == 16 then refused 16 bus.old door.now else after_submit bus.old door.now bytes.now) }
 {
     if door.ticket >= TICKETS {
         return NO_TICKET;
@@ -191,7 +203,7 @@ fn refusal_number(refused: &Option<Refusal>) -> u8
 }
 
 fn manage(bus: &mut Bus, door: &UasBusDoor) -> u8
-    ensures { (bytes : List ℕ) → (result, (bus.new, (door.now, bytes))) ≡ after_task bus.old door.now bytes }
+    ensures { (result, (bus.new, door.now)) ≡ after_task bus.old door.now }
 {
     if door.ticket >= TICKETS {
         return NO_TICKET;
@@ -248,7 +260,7 @@ fn step_numbered(door: &UasBusDoor) -> Option<Step>
 }
 
 fn take_step(bus: &mut Bus, door: &mut UasBusDoor) -> u8
-    ensures { (bytes : List ℕ) → (result, (bus.new, (door.new, bytes))) ≡ after_step bus.old door.old bytes }
+    ensures { (result, (bus.new, door.new)) ≡ after_step bus.old door.old }
 {
     let Some(step) = step_numbered(door) else {
         return NO_STEP;
@@ -273,7 +285,7 @@ fn show_owner(door: &mut UasBusDoor, owner: Option<usize>)
 }
 
 fn show_due(bus: &Bus, door: &mut UasBusDoor) -> u8
-    ensures { (bytes : List ℕ) → (result, (bus.now, (door.new, bytes))) ≡ after_due bus.now door.old bytes }
+    ensures { (result, (bus.now, door.new)) ≡ after_due bus.now door.old }
 {
     let Some(step) = step_numbered(door) else {
         return NO_STEP;
@@ -312,21 +324,17 @@ fn show_reply(reply: &Reply, door: &mut UasBusDoor, bytes: &mut [u8])
     ensures door { door.new ≡ with_reply door.old reply.now }
     ensures bytes { bytes.new ≡ with_buffer bytes.old reply.now }
 {
-    door.acted = 1;
     match reply {
         Reply::Status {
             tag,
             ticket,
             status,
-            sense,
+            sense: data,
             buffer,
         } => {
-            door.reply = 1;
-            door.tag = *tag;
-            door.ticket = *ticket;
-            door.status = *status;
-            door.sense_length = sense.len() as u8;
-            door.sense = padded(sense);
+            tell(door, 1, *tag, *ticket, *status);
+            door.sense_length = data.len() as u8;
+            door.sense = padded(data);
             door.length = show_buffer(buffer, bytes);
         }
         Reply::Aborted {
@@ -334,22 +342,24 @@ fn show_reply(reply: &Reply, door: &mut UasBusDoor, bytes: &mut [u8])
             ticket,
             buffer,
         } => {
-            door.reply = 2;
-            door.tag = *tag;
-            door.ticket = *ticket;
-            door.status = 0;
-            door.sense_length = 0;
+            tell(door, 2, *tag, *ticket, 0);
             door.length = show_buffer(buffer, bytes);
         }
-        Reply::Task { tag, ticket, code } => {
-            door.reply = 3;
-            door.tag = *tag;
-            door.ticket = *ticket;
-            door.status = *code;
-            door.sense_length = 0;
-            door.length = 0;
-        }
+        Reply::Task { tag, ticket, code } => tell(door, 3, *tag, *ticket, *code),
     }
+}
+
+/// Tells a reply without sense data and without a buffer.
+fn tell(door: &mut UasBusDoor, reply: u8, tag: u16, ticket: u64, status: u8)
+    ensures { door.new ≡ with_told door.old reply tag ticket status }
+{
+    door.acted = 1;
+    door.reply = reply;
+    door.tag = tag;
+    door.ticket = ticket;
+    door.status = status;
+    door.sense_length = 0;
+    door.length = 0;
 }
 
 /// Copies a reply's buffer to the front of `bytes`, as far as they reach, and tells its length.
@@ -403,11 +413,4 @@ fn show_number(shown: Result<(), DeviceRefusal>) -> u8
         Err(DeviceRefusal::Range) => NO_BLOCKS,
         Err(refusal) => refusal.number(),
     }
-}
-
-/// A bus with the memory for its submissions.
-pub(crate) fn kept(bus: Bus, alloc: Global) -> KeptBus
-    ensures { result ≡ bus }
-{
-    KeptBus { bus, alloc }
 }

@@ -1,16 +1,19 @@
 //! The device for C: units in, units and data out, over one call with a door.
-ghost use Rattle.std.specs.Prelude.{◌≡◌, ◌+◌, ◌*◌, ◌≤◌, ◌<◌, ℕ, length, IfSome, IfNone, Some, None, option_map, take, drop};
+ghost use Rattle.std.specs.Prelude.{◌≡◌, ◌+◌, ◌*◌, ◌≤◌, ◌<◌, ◌==◌, ℕ, length, false, OnOk, OnErr, IfErr, IfSome, IfNone, Some, None, option_map, take, drop};
 ghost use Rattle.block_unit.specs.BlockMaps.{BlockMaps};
 ghost use Rattle.uas_iu.specs.declared.Iu.{Iu};
 ghost use Rattle.uas_iu.specs.Units.{Fits};
-ghost use Rattle.uas_target.specs.Device.{Device, wanted};
-ghost use Rattle.uas_c.specs.DeviceCall.{call_numbered, data_shown, device_sent, number_of, refusal_number, size_shown, with_phase, after_blocks, after_call};
-ghost use Rattle.uas_c.specs.DeviceCall.{after_give, after_medium, after_receive, after_sent, after_size, after_status, after_take, after_wants, unit_numbered};
+ghost use Rattle.uas_target.specs.Device.{Device, opening, wanted};
+ghost use Rattle.uas_c.specs.declared.device.Refusal.{Refusal};
+ghost use Rattle.uas_c.specs.DeviceCall.{call_numbered, data_shown, number_of, refusal_number, with_phase, after_call, after_named};
+ghost use Rattle.uas_c.specs.DeviceCall.{after_give, after_receive, after_shown, after_sent, after_size, after_status, after_take, after_wants, unit_numbered};
 
 mod handle;
 
 use crate::unit::put;
+use crate::units::OfUnits;
 use block_unit::{BLOCK_BYTES, Unit};
+use std::alloc::{AllocError, Global};
 use uas_iu::lun_bytes;
 use uas_target::{Phase, Target, Took};
 
@@ -35,6 +38,14 @@ pub struct UasDeviceDoor {
     pub length: u32,
 }
 
+impl OfUnits for Target {
+    ghost of_units = { opening };
+
+    fn of_units(alloc: Global, units: Vec<Unit>) -> Result<Target, AllocError> {
+        Target::new(alloc, units)
+    }
+}
+
 /// A call, by its number.
 #[derive(Clone, Copy)]
 enum Call {
@@ -52,7 +63,7 @@ enum Call {
 /// Why a call is refused, by its number.
 #[derive(Clone, Copy)]
 pub(crate) enum Refusal {
-    Call,
+    Call = 1,
     Overlap,
     Phase,
     Length,
@@ -64,14 +75,7 @@ impl Refusal {
     pub(crate) fn number(&self) -> u8
         ensures { result ≡ refusal_number self.now }
     {
-        match self {
-            Refusal::Call => 1,
-            Refusal::Overlap => 2,
-            Refusal::Phase => 3,
-            Refusal::Length => 4,
-            Refusal::Unit => 5,
-            Refusal::Range => 6,
-        }
+        *self as u8
     }
 }
 
@@ -117,7 +121,7 @@ fn served(target: &mut Target, door: &mut UasDeviceDoor, bytes: &mut [u8]) -> Re
         Call::Give => give(target, door, bytes),
         Call::Take => take_chunk(target, door, bytes),
         Call::Status => status(target, door, bytes),
-        Call::Sent => sent(target, door.tag),
+        Call::Sent => sent(target, door),
         Call::Size => size(target, door),
         Call::Blocks => show(contents_of(target, door.unit), door.lba, bytes),
         Call::Medium => show(medium_of(target, door.unit), door.lba, bytes),
@@ -125,7 +129,7 @@ fn served(target: &mut Target, door: &mut UasDeviceDoor, bytes: &mut [u8]) -> Re
 }
 
 fn receive(target: &mut Target, door: &mut UasDeviceDoor, bytes: &[u8]) -> Result<(), Refusal>
-    ensures { (number_of result, (target.new, (door.new, bytes.now))) ≡ after_receive target.old door.old bytes.now }
+    ensures { (number_of result, (target.new, door.new)) ≡ after_receive target.old door.old bytes.now }
 {
     match target.receive(bytes) {
         Ok(Took::Began(tag)) => {
@@ -155,28 +159,37 @@ fn show_phase(target: &Target, door: &mut UasDeviceDoor)
     door.length = length as u32;
 }
 
+/// That the bytes are as many as the chunk has.
+fn check_length(bytes: &[u8], size: usize) -> Result<(), Refusal>
+    ensures same { OnOk result (size ≡ length bytes.now) }
+    ensures other { OnErr result ((size == length bytes.now) ≡ false) }
+    ensures refusal { IfErr result (λ refusal. refusal ≡ Refusal.Length) }
+{
+    if bytes.len() == size {
+        Ok(())
+    } else {
+        Err(Refusal::Length)
+    }
+}
+
 fn give(target: &mut Target, door: &mut UasDeviceDoor, bytes: &mut [u8]) -> Result<(), Refusal>
     ensures { (number_of result, (target.new, (door.new, bytes.new))) ≡ after_give target.old door.old bytes.old }
 {
     let Phase::Gives(size) = target.wants(door.tag) else {
         return Err(Refusal::Phase);
     };
-    if bytes.len() != size {
-        return Err(Refusal::Length);
-    }
+    check_length(bytes, size)?;
     door.good = u8::from(target.give_chunk(door.tag, bytes));
     Ok(())
 }
 
 fn take_chunk(target: &mut Target, door: &mut UasDeviceDoor, bytes: &[u8]) -> Result<(), Refusal>
-    ensures { (number_of result, (target.new, (door.new, bytes.now))) ≡ after_take target.old door.old bytes.now }
+    ensures { (number_of result, (target.new, door.new)) ≡ after_take target.old door.old bytes.now }
 {
     let Phase::Takes(size) = target.wants(door.tag) else {
         return Err(Refusal::Phase);
     };
-    if bytes.len() != size {
-        return Err(Refusal::Length);
-    }
+    check_length(bytes, size)?;
     door.good = u8::from(target.take_chunk(door.tag, bytes));
     Ok(())
 }
@@ -194,13 +207,13 @@ fn status(target: &Target, door: &mut UasDeviceDoor, bytes: &mut [u8]) -> Result
     Ok(())
 }
 
-fn sent(target: &mut Target, tag: u16) -> Result<(), Refusal>
-    ensures { (number_of result, target.new) ≡ device_sent target.old tag }
+fn sent(target: &mut Target, door: &UasDeviceDoor) -> Result<(), Refusal>
+    ensures { (number_of result, (target.new, door.now)) ≡ after_sent target.old door.now }
 {
-    if !matches!(target.wants(tag), Phase::Ends) {
+    if !matches!(target.wants(door.tag), Phase::Ends) {
         return Err(Refusal::Phase);
     }
-    target.sent(tag);
+    target.sent(door.tag);
     Ok(())
 }
 
@@ -215,7 +228,7 @@ fn unit_numbered(target: &Target, number: u16) -> Option<&Unit>
 }
 
 fn size(target: &Target, door: &mut UasDeviceDoor) -> Result<(), Refusal>
-    ensures { (number_of result, door.new) ≡ size_shown target.now door.old }
+    ensures { (number_of result, (target.now, door.new)) ≡ after_size target.now door.old }
 {
     let Some(unit) = unit_numbered(target, door.unit) else {
         return Err(Refusal::Unit);

@@ -32,6 +32,7 @@
 
 mod bus;
 mod device;
+mod record;
 mod scsi;
 mod trb;
 mod unit;

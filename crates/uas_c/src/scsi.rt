@@ -4,23 +4,13 @@ ghost use Rattle.scsi_cmd.specs.Op.{cdb_bytes};
 ghost use Rattle.scsi_cmd.specs.Meaning.{asked, checked};
 ghost use Rattle.scsi_cmd.specs.Sense.{sense_bytes};
 ghost use Rattle.scsi_cmd.specs.Data.{inquiry_bytes, capacity_bytes};
-ghost use Rattle.uas_c.specs.declared.scsi.OperationFault.{OperationFault};
-ghost use Rattle.uas_c.specs.OperationRecord.{Parsed, capacity_fault, fault_number, named_operation, operation_fault, operation_fields, operation_fits};
+ghost use Rattle.uas_c.specs.declared.record.RecordFault.{RecordFault};
+ghost use Rattle.uas_c.specs.RecordFault.{record_fault};
+ghost use Rattle.uas_c.specs.OperationRecord.{Parsed, capacity_fault, named_operation, operation_fault, operation_fields, operation_fits};
 ghost use Rattle.uas_c.specs.OperationRecord.{operation_record, sense_in, sense_record, way_number};
 
+use crate::record::RecordFault;
 use scsi_cmd::{Direction, INQUIRY_BYTES, Op, SENSE_BYTES, Sense, moves};
-
-const TEST_UNIT_READY: u8 = 0x00;
-
-const INQUIRY: u8 = 0x12;
-
-const READ_CAPACITY_10: u8 = 0x25;
-
-const READ_10: u8 = 0x28;
-
-const WRITE_10: u8 = 0x2a;
-
-const SYNCHRONIZE_CACHE_10: u8 = 0x35;
 
 /// An operation as C has it.
 #[repr(C)]
@@ -51,23 +41,17 @@ pub struct UasSense {
     pub reserved: u8,
 }
 
-/// Why a record names no operation.
-#[derive(Clone, Copy)]
-pub(crate) enum OperationFault {
-    UnknownOpcode,
-    Unfit,
-}
+const TEST_UNIT_READY: u8 = 0x00;
 
-impl OperationFault {
-    fn number(&self) -> u8
-        ensures { result ≡ fault_number self.now }
-    {
-        match self {
-            OperationFault::UnknownOpcode => 2,
-            OperationFault::Unfit => 3,
-        }
-    }
-}
+const INQUIRY: u8 = 0x12;
+
+const READ_CAPACITY_10: u8 = 0x25;
+
+const READ_10: u8 = 0x28;
+
+const WRITE_10: u8 = 0x2a;
+
+const SYNCHRONIZE_CACHE_10: u8 = 0x35;
 
 fn way_number(direction: &Direction) -> u8
     ensures { result ≡ way_number direction.now }
@@ -115,10 +99,10 @@ fn record_of(op: Op) -> UasOperation
 }
 
 /// The operation that a record names.
-pub(crate) fn read_operation(fields: &UasOperation) -> Result<Op, OperationFault>
+pub(crate) fn read_operation(fields: &UasOperation) -> Result<Op, RecordFault>
     ensures op { IfOk result (λ op. named_operation fields.now ≡ Some op) }
     ensures fits { OnOk result (operation_fault fields.now ≡ 0) }
-    ensures fault { IfErr result (λ fault. fault_number fault ≡ operation_fault fields.now) }
+    ensures fault { IfErr result (λ fault. record_fault 2 3 fault ≡ operation_fault fields.now) }
 {
     let lba = fields.lba;
     match fields.opcode {
@@ -141,34 +125,34 @@ pub(crate) fn read_operation(fields: &UasOperation) -> Result<Op, OperationFault
             lba,
             count: count_of(fields.count)?,
         }),
-        _ => Err(OperationFault::UnknownOpcode),
+        _ => Err(RecordFault::Unknown),
     }
 }
 
 /// A count has two bytes.
-fn count_of(count: u32) -> Result<u16, OperationFault>
+fn count_of(count: u32) -> Result<u16, RecordFault>
     ensures same { IfOk result (λ same. same ≡ count) }
     ensures fits { OnOk result (count ≤ 65535) }
     ensures over { OnErr result (65535 < count) }
-    ensures fault { IfErr result (λ fault. fault ≡ OperationFault.Unfit) }
+    ensures fault { IfErr result (λ fault. fault ≡ RecordFault.Unfit) }
 {
     if count > 65_535 {
-        return Err(OperationFault::Unfit);
+        return Err(RecordFault::Unfit);
     }
     Ok(count as u16)
 }
 
 /// FUA is 0 or 1.
-fn fua_of(byte: u8) -> Result<bool, OperationFault>
+fn fua_of(byte: u8) -> Result<bool, RecordFault>
     ensures same { IfOk result (λ fua. fua ≡ (byte == 1)) }
     ensures fits { OnOk result (byte < 2) }
     ensures over { OnErr result (2 ≤ byte) }
-    ensures fault { IfErr result (λ fault. fault ≡ OperationFault.Unfit) }
+    ensures fault { IfErr result (λ fault. fault ≡ RecordFault.Unfit) }
 {
     match byte {
         0 => Ok(false),
         1 => Ok(true),
-        _ => Err(OperationFault::Unfit),
+        _ => Err(RecordFault::Unfit),
     }
 }
 
@@ -213,7 +197,7 @@ pub extern "C" fn uas_cdb_write(operation: &UasOperation, cdb: &mut [u8; 16]) ->
             *cdb = scsi_cmd::cdb(&op);
             0
         }
-        Err(fault) => fault.number(),
+        Err(fault) => fault.number(2, 3),
     }
 }
 

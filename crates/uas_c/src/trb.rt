@@ -3,8 +3,10 @@ ghost use Rattle.std.specs.Prelude.{◌≡◌, ◌<◌, ◌==◌, IfSome, OnOk, 
 ghost use Rattle.xhci_trb.specs.Words.{words_in};
 ghost use Rattle.xhci_trb.specs.Text.{HasText, text, fault_in};
 ghost use Rattle.xhci_trb.specs.Reader.{trb_in, cycle_in};
-ghost use Rattle.uas_c.specs.TrbRecord.{bits_fit, is_bit, named_trb, numbers_fit, read_fault, record_fault, trb_record, write_fault};
+ghost use Rattle.uas_c.specs.RecordFault.{record_fault};
+ghost use Rattle.uas_c.specs.TrbRecord.{bits_fit, is_bit, named_trb, numbers_fit, read_fault, trb_record, write_fault};
 
+use crate::record::RecordFault;
 use xhci_trb::{MAX_LENGTH, Trb, TrbFault, TrbFlags};
 
 const NORMAL: u8 = 1;
@@ -52,24 +54,6 @@ pub struct UasTrb {
     /// The completion code of both events.
     pub code: u8,
     pub reserved: [u8; 7],
-}
-
-/// Why a record has no text.
-#[derive(Clone, Copy)]
-enum RecordFault {
-    UnknownType,
-    Unfit,
-}
-
-impl RecordFault {
-    fn number(&self) -> u8
-        ensures { result ≡ record_fault self.now }
-    {
-        match self {
-            RecordFault::UnknownType => 1,
-            RecordFault::Unfit => 4,
-        }
-    }
 }
 
 fn fault_number(fault: &TrbFault) -> u8
@@ -174,14 +158,14 @@ fn numbers_fit(trb: Trb) -> bool
 
 /// The TRB and the Cycle bit of a record.
 fn read_record(fields: &UasTrb) -> Result<(Trb, bool), RecordFault>
-    ensures fault { IfErr result (λ fault. record_fault fault ≡ write_fault fields.now) }
+    ensures fault { IfErr result (λ fault. record_fault 1 4 fault ≡ write_fault fields.now) }
     ensures named { IfOk result (λ read. named_trb fields.now ≡ Some read.0) }
     ensures cycle { IfOk result (λ read. read.1 ≡ (fields.now.cycle == 1)) }
     ensures text { IfOk result (λ read. HasText read.0) }
     ensures none { OnOk result (write_fault fields.now ≡ 0) }
 {
     let Some(trb) = named(fields) else {
-        return Err(RecordFault::UnknownType);
+        return Err(RecordFault::Unknown);
     };
     if !bits_fit(fields) || !numbers_fit(trb) {
         return Err(RecordFault::Unfit);
@@ -260,14 +244,14 @@ fn record_of(trb: &Trb, cycle: bool) -> UasTrb
         },
         Trb::TransferEvent {
             pointer,
-            residual,
+            residual: length,
             code,
             endpoint,
             slot,
         } => UasTrb {
             kind: TRANSFER_EVENT,
             pointer,
-            length: residual,
+            length,
             code,
             endpoint,
             slot,
@@ -301,7 +285,7 @@ pub extern "C" fn uas_trb_encode(trb: &UasTrb, bytes: &mut [u8; 16]) -> u8
             *bytes = xhci_trb::encode(&trb, cycle);
             0
         }
-        Err(fault) => fault.number(),
+        Err(fault) => fault.number(1, 4),
     }
 }
 

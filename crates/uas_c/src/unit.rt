@@ -4,8 +4,10 @@ ghost use Rattle.arrayvec.specs.ArrayVec.{array_vec_len};
 ghost use Rattle.uas_iu.specs.Faults.{first_fault};
 ghost use Rattle.uas_iu.specs.Units.{Fits, IsTextOf, unit_size, unit_text};
 ghost use Rattle.uas_iu.specs.declared.Iu.{Iu};
-ghost use Rattle.uas_c.specs.UnitRecord.{has_too_much_sense, named_unit, padded, record_size, unit_fault, unit_read_fault, unit_record, unit_write_fault};
+ghost use Rattle.uas_c.specs.RecordFault.{record_fault};
+ghost use Rattle.uas_c.specs.UnitRecord.{has_too_much_sense, named_unit, padded, record_size, unit_read_fault, unit_record, unit_write_fault};
 
+use crate::record::RecordFault;
 use arrayvec::ArrayVec;
 use uas_iu::{
     CDB_BYTES, COMMAND_ID, Iu, IuFault, LUN_BYTES, MAX_SENSE_BYTES, RESPONSE_ID, SENSE_ID, TASK_ID,
@@ -40,24 +42,6 @@ pub struct UasUnit {
 
 /// Too little room for a unit.
 const NO_ROOM: u8 = 7;
-
-/// Why a record names no unit.
-#[derive(Clone, Copy)]
-enum RecordFault {
-    UnknownId,
-    Unfit,
-}
-
-impl RecordFault {
-    fn number(&self) -> u8
-        ensures { result ≡ unit_fault self.now }
-    {
-        match self {
-            RecordFault::UnknownId => 1,
-            RecordFault::Unfit => 6,
-        }
-    }
-}
 
 fn fault_number(fault: &IuFault) -> u8
     ensures { result ≡ unit_read_fault (Some fault.now) }
@@ -158,7 +142,7 @@ fn read_record(fields: &UasUnit) -> Result<Iu, RecordFault>
     ensures unit { IfOk result (λ unit. named_unit fields.now ≡ Some unit) }
     ensures fits { OnOk result (has_too_much_sense fields.now ≡ false) }
     ensures size { IfOk result (λ unit. unit_size unit ≡ record_size fields.now) }
-    ensures unknown { IfErr result (λ fault. (room : ℕ) → unit_fault fault ≡ unit_write_fault fields.now room) }
+    ensures unknown { IfErr result (λ fault. (room : ℕ) → record_fault 1 6 fault ≡ unit_write_fault fields.now room) }
 {
     let tag = fields.tag;
     match fields.id {
@@ -188,7 +172,7 @@ fn read_record(fields: &UasUnit) -> Result<Iu, RecordFault>
             task_tag: fields.task_tag,
             lun: fields.lun,
         }),
-        _ => Err(RecordFault::UnknownId),
+        _ => Err(RecordFault::Unknown),
     }
 }
 
@@ -213,7 +197,7 @@ pub extern "C" fn uas_unit_write(unit: &UasUnit, bytes: &mut [u8], written: &mut
 {
     let named = match read_record(unit) {
         Ok(named) => named,
-        Err(fault) => return fault.number(),
+        Err(fault) => return fault.number(1, 6),
     };
     match put(&named, bytes) {
         Some(size) => {

@@ -1,5 +1,6 @@
-//! Zeroed units, of which a device and a bus are made.
-ghost use Rattle.std.specs.Prelude.{◌≡◌, IfOk, true};
+//! Zeroed units, and handles of what is made of them.
+ghost use Rattle.std.specs.Prelude.{◌≡◌, ◌≤◌, ◌<◌, List, vec_len, IfOk, true};
+ghost use Rattle.block_unit.specs.BlockMaps.{BlockMaps};
 ghost use Rattle.std.specs.List.{list_all};
 ghost use Rattle.uas_c.specs.Units.{fault_number, is_size, units_number, units_told, zeroed_units};
 
@@ -10,7 +11,7 @@ use uas_target::MAX_UNITS;
 /// Why no units are made.
 #[derive(Clone, Copy)]
 pub(crate) enum UnitsFault {
-    NoMemory,
+    NoMemory = 1,
     Count,
     Blocks,
 }
@@ -19,16 +20,61 @@ impl UnitsFault {
     pub(crate) fn number(&self) -> u8
         ensures { result ≡ fault_number self.now }
     {
-        match self {
-            UnitsFault::NoMemory => 1,
-            UnitsFault::Count => 2,
-            UnitsFault::Blocks => 3,
+        *self as u8
+    }
+}
+
+/// What a handle can be of: it is made of units.
+pub(crate) trait OfUnits: Sized {
+    ghost of_units: { List BlockMaps → Self };
+
+    /// Of these units, 1 to 31 of them.
+    fn of_units(alloc: Global, units: Vec<Unit>) -> Result<Self, AllocError>
+        requires some { 1 ≤ vec_len units }
+        requires most { vec_len units ≤ 31 }
+        ensures { IfOk result (λ made. made ≡ of_units units.items) };
+}
+
+/// Makes a handle of what is made of zeroed units of so many blocks each. The number of the fault, where `handle` is as it was,
+/// or 0.
+pub(crate) fn new_handle<T: OfUnits + Drop, Name>(
+    alloc: Global,
+    blocks: &[u32],
+    handle: &mut *mut Name,
+) -> u8
+    ensures fault { units_told result blocks.now ≡ true }
+    ensures refused { 0 < result → handle.new ≡ handle.old }
+{
+    match made::<T>(alloc, blocks) {
+        Ok(made) => {
+            *handle = hand_out(made);
+            0
         }
+        Err(fault) => fault.number(),
+    }
+}
+
+/// The pointer by which C has it.
+fn hand_out<T: Drop, Name>(made: Box<T, Global>) -> *mut Name {
+    Box::into_raw(made) as *mut Name
+}
+
+fn made<T: OfUnits + Drop>(alloc: Global, blocks: &[u32]) -> Result<Box<T, Global>, UnitsFault>
+    ensures made { IfOk result (λ made. made.value ≡ T.of_units (zeroed_units blocks.now)) }
+    ensures fault { units_told (units_number result) blocks.now ≡ true }
+{
+    let units = zeroed_units(alloc, blocks)?;
+    let Ok(made) = T::of_units(alloc, units) else {
+        return Err(UnitsFault::NoMemory);
+    };
+    match Box::new(alloc, made) {
+        Ok(made) => Ok(made),
+        Err(_) => Err(UnitsFault::NoMemory),
     }
 }
 
 /// A unit of each of these numbers of blocks, all zeros: 1 to 31 of them.
-pub(crate) fn zeroed_units(alloc: Global, blocks: &[u32]) -> Result<Vec<Unit>, UnitsFault>
+fn zeroed_units(alloc: Global, blocks: &[u32]) -> Result<Vec<Unit>, UnitsFault>
     ensures units { IfOk result (λ units. units.items ≡ zeroed_units blocks.now) }
     ensures fault { units_told (units_number result) blocks.now ≡ true }
 {

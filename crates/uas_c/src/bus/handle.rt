@@ -4,16 +4,15 @@ ghost use types.Logic.{sem};
 ghost use base.Fraction.{full_share};
 ghost use denote.RawPtr.{lies_at, room_at};
 ghost use Rattle.bus_core.specs.Shared.{Shared};
-ghost use Rattle.uas_c.specs.BusCall.{bus_answer, zeroed_bus};
+ghost use Rattle.uas_c.specs.BusCall.{bus_answer};
 ghost use Rattle.uas_c.specs.Handed.{handed};
-ghost use Rattle.uas_c.specs.Units.{units_number, units_told};
+ghost use Rattle.uas_c.specs.Units.{units_told};
 ghost use Rattle.uas_c.specs.contracts.bus.KeptBus.{the_row as bus_row};
 ghost use Rattle.uas_c.specs.contracts.bus.UasBusDoor.{the_row as door_row};
 ghost use Rattle.uas_c.specs.declared.bus.UasBusDoor.{UasBusDoor};
 
-use crate::bus::{KeptBus, UasBusDoor, kept, serve};
-use crate::units::{UnitsFault, zeroed_units};
-use bus_core::Bus;
+use crate::bus::{KeptBus, UasBusDoor, serve};
+use crate::units::new_handle;
 use std::alloc::Global;
 
 /// The bus's name in C, which knows no more of it.
@@ -29,39 +28,7 @@ pub extern "C" fn uas_bus_new(alloc: Global, blocks: &[u32], bus: &mut *mut UasB
     ensures fault { units_told result blocks.now ≡ true }
     ensures refused { 0 < result → bus.new ≡ bus.old }
 {
-    match made(alloc, blocks) {
-        Ok(made) => {
-            *bus = hand_out(made);
-            0
-        }
-        Err(fault) => fault.number(),
-    }
-}
-
-fn made(alloc: Global, blocks: &[u32]) -> Result<Box<KeptBus, Global>, UnitsFault>
-    ensures bus { IfOk result (λ bus. bus.value ≡ zeroed_bus blocks.now) }
-    ensures fault { units_told (units_number result) blocks.now ≡ true }
-{
-    match Box::new(alloc, built(alloc, blocks)?) {
-        Ok(bus) => Ok(bus),
-        Err(_) => Err(UnitsFault::NoMemory),
-    }
-}
-
-fn built(alloc: Global, blocks: &[u32]) -> Result<KeptBus, UnitsFault>
-    ensures bus { IfOk result (λ bus. bus ≡ zeroed_bus blocks.now) }
-    ensures fault { units_told (units_number result) blocks.now ≡ true }
-{
-    let units = zeroed_units(alloc, blocks)?;
-    match Bus::new(alloc, units) {
-        Ok(bus) => Ok(kept(bus, alloc)),
-        Err(_) => Err(UnitsFault::NoMemory),
-    }
-}
-
-/// The pointer by which C has a bus.
-fn hand_out(bus: Box<KeptBus, Global>) -> *mut UasBus {
-    Box::into_raw(bus) as *mut UasBus
+    new_handle::<KeptBus, UasBus>(alloc, blocks, bus)
 }
 
 /// One call of a bus: `bytes` are `length` bytes, and the bus and its door are the caller's alone. What it does and answers is

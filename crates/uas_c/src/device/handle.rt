@@ -5,14 +5,14 @@ ghost use base.Fraction.{full_share};
 ghost use denote.RawPtr.{lies_at, room_at};
 ghost use Rattle.uas_target.specs.Device.{Device};
 ghost use Rattle.uas_target.specs.contracts.Target.{the_row as target_row};
-ghost use Rattle.uas_c.specs.DeviceCall.{after_call, zeroed};
+ghost use Rattle.uas_c.specs.DeviceCall.{after_call};
 ghost use Rattle.uas_c.specs.Handed.{handed};
-ghost use Rattle.uas_c.specs.Units.{units_number, units_told};
+ghost use Rattle.uas_c.specs.Units.{units_told};
 ghost use Rattle.uas_c.specs.declared.device.UasDeviceDoor.{UasDeviceDoor};
 ghost use Rattle.uas_c.specs.contracts.device.UasDeviceDoor.{the_row as door_row};
 
 use crate::device::{UasDeviceDoor, serve};
-use crate::units::{UnitsFault, zeroed_units};
+use crate::units::new_handle;
 use std::alloc::Global;
 use uas_target::Target;
 
@@ -29,39 +29,7 @@ pub extern "C" fn uas_device_new(alloc: Global, blocks: &[u32], device: &mut *mu
     ensures fault { units_told result blocks.now ≡ true }
     ensures refused { 0 < result → device.new ≡ device.old }
 {
-    match made(alloc, blocks) {
-        Ok(target) => {
-            *device = hand_out(target);
-            0
-        }
-        Err(fault) => fault.number(),
-    }
-}
-
-fn made(alloc: Global, blocks: &[u32]) -> Result<Box<Target, Global>, UnitsFault>
-    ensures device { IfOk result (λ target. target.value ≡ zeroed blocks.now) }
-    ensures fault { units_told (units_number result) blocks.now ≡ true }
-{
-    match Box::new(alloc, built(alloc, blocks)?) {
-        Ok(target) => Ok(target),
-        Err(_) => Err(UnitsFault::NoMemory),
-    }
-}
-
-fn built(alloc: Global, blocks: &[u32]) -> Result<Target, UnitsFault>
-    ensures device { IfOk result (λ target. target ≡ zeroed blocks.now) }
-    ensures fault { units_told (units_number result) blocks.now ≡ true }
-{
-    let units = zeroed_units(alloc, blocks)?;
-    match Target::new(alloc, units) {
-        Ok(target) => Ok(target),
-        Err(_) => Err(UnitsFault::NoMemory),
-    }
-}
-
-/// The pointer by which C has a device.
-fn hand_out(target: Box<Target, Global>) -> *mut UasDevice {
-    Box::into_raw(target) as *mut UasDevice
+    new_handle::<Target, UasDevice>(alloc, blocks, device)
 }
 
 /// One call of a device: `bytes` are `length` bytes, and the device and its door are the caller's alone. What it does and answers is

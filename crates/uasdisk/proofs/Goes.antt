@@ -13,7 +13,8 @@ use Rattle.bus_core.specs.Shared.{Shared, shared_step}
 use Rattle.bus_core.specs.Replay.{replayed}
 use Rattle.bus_core.specs.Laws.{HeadlineHolds}
 use Rattle.bus_core.specs.Isolation.{own_label, own_labels, own_reply, own_replies, own_state}
-use Rattle.uasdisk.specs.Told.{Telling, is_brought_in, ticket_of}
+use Rattle.uasdisk.specs.Told.{Telling, is_brought_in}
+use Rattle.scsi_cmd.specs.Replies.{reply_ticket}
 use Rattle.uasdisk.specs.Headline.{Said, Delivery, line_of, text_of, deliveries_said, all_deliveries_said, deliveries_to, all_deliveries}
 use Rattle.uasdisk.specs.Headline.{own_line, own_lines, is_to_host_under}
 use Rattle.uasdisk.specs.Headline.{has_to_host, shown, shown_then, solo_lines}
@@ -187,13 +188,13 @@ step_lines state before (Some label) end reply run = go (solo_step state label) 
 
 -- what is shown of a reply by what is noted
 abbrev pub shown_by : List (List Bool) → ℕ → Reply → Bool × Reply
-shown_by brings_in client reply = (is_brought_in brings_in client (ticket_of reply), reply)
+shown_by brings_in client reply = (is_brought_in brings_in client (reply_ticket reply), reply)
 
 shown_same : (brings_in : List (List Bool)) (client : ℕ) (before : List Label) (reply : Option Reply)
     → ((ticket : ℕ) → is_brought_in brings_in client ticket ≡ has_to_host ticket before)
     → option_map (shown_by brings_in client) reply ≡ option_map (shown before) reply
 shown_same brings_in client before None knows = refl
-shown_same brings_in client before (Some reply) knows = ap (λ (b : Bool). Some (b, reply)) (knows (ticket_of reply))
+shown_same brings_in client before (Some reply) knows = ap (λ (b : Bool). Some (b, reply)) (knows (reply_ticket reply))
 
 -- A step of the bus, with what is said of it and noted after it.
 pub record StepGoes (old new : Telling) (step : Step) (said : List Said) : Type 0 where

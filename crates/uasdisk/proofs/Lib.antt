@@ -12,4 +12,3 @@ mod Notes
 mod Transitions
 mod WholeScripts
 mod ReplyLines
-mod Tries

@@ -58,29 +58,23 @@ untold_by_tag state act None none = untold_idle
 untold_by_tag state act (Some place) none =
     untold_routed_to state place.client (act place) (slice_get state.parts place.client) (none place)
 
+-- an act on what is there gives no reply, whether it is there or not
+no_reply : {A : Type 0} (act : Option A → Act) → (act None).reply ≡ None → ((found : A) → (act (Some found)).reply ≡ None)
+    → (found : Option A) → (act found).reply ≡ None
+no_reply act none some None = none
+no_reply act none some (Some found) = some found
+
 carry_slot-reply : (part : Part) (slot : ℕ) (place : Place) (entry : Option Entry) → (carried_slot part slot place entry).reply ≡ None
-carry_slot-reply part slot place None = refl
-carry_slot-reply part slot place (Some entry) = go (carried part.unit entry.task)
-  where
-    go : (after : Option (BlockMaps × TaggedTask)) → (carried_entry part slot place entry after).reply ≡ None
-    go None = refl
-    go (Some after) = refl
+carry_slot-reply part slot place =
+    no_reply (carried_slot part slot place) refl (λ e. no_reply (carried_entry part slot place e) refl (λ after. refl) (carried part.unit e.task))
 
 move_slot-reply : (part : Part) (slot : ℕ) (place : Place) (entry : Option Entry) → (moved_slot part slot place entry).reply ≡ None
-move_slot-reply part slot place None = refl
-move_slot-reply part slot place (Some entry) = go (moved part.unit entry.task)
-  where
-    go : (after : Option (BlockMaps × TaggedTask)) → (moved_entry part slot place entry after).reply ≡ None
-    go None = refl
-    go (Some after) = refl
+move_slot-reply part slot place =
+    no_reply (moved_slot part slot place) refl (λ e. no_reply (moved_entry part slot place e) refl (λ after. refl) (moved part.unit e.task))
 
 send_slot-reply : (part : Part) (slot : ℕ) (place : Place) (entry : Option Entry) → (sent_slot part slot place entry).reply ≡ None
-send_slot-reply part slot place None = refl
-send_slot-reply part slot place (Some entry) = go (sent entry.task)
-  where
-    go : (task : Option TaggedTask) → (sent_entry part slot place entry task).reply ≡ None
-    go None = refl
-    go (Some task) = refl
+send_slot-reply part slot place =
+    no_reply (sent_slot part slot place) refl (λ e. no_reply (sent_entry part slot place e) refl (λ task. refl) (sent e.task))
 
 seen_entry-reply : (event : Completion) (part : Part) (slot : ℕ) (entry : Option Entry) → (seen_entry event part slot entry).reply ≡ None
 seen_entry-reply event part slot None = refl
@@ -156,13 +150,8 @@ untold_retire state pipe (Some place) = record { reply = refl; refused = refl }
 abbrev pub IsInner : Step → Type 0
 IsInner (Submit client tag ticket command) = ⊥
 IsInner (TaskStep client ticket task) = ⊥
-IsInner CommandPipe = Unit {0}
-IsInner (Data tag) = Unit {0}
-IsInner (Status tag) = Unit {0}
-IsInner Engine = Unit {0}
-IsInner Event = Unit {0}
-IsInner (Retire pipe tag) = Unit {0}
 IsInner (Take client) = ⊥
+IsInner step = Unit {0}
 
 pub inner_untold : (state : Shared) (step : Step) → IsInner step → Untold (shared_step state step).1
 inner_untold state CommandPipe inner =

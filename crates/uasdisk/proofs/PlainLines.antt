@@ -19,7 +19,7 @@ use Rattle.std.specs.Option.{option_map_or}
 use Rattle.std.specs.Prelude.{find}
 use Rattle.uasdisk.specs.declared.words.Run.{Run}
 use Rattle.uasdisk.specs.Words.{is_number, number_in, value_of}
-use Rattle.uasdisk.specs.CommandLine.{Asked, AsksPlainly, asked_by, asked_for, asked_in, program_app, refusals, script_of}
+use Rattle.uasdisk.specs.CommandLine.{Asked, AsksPlainly, AsksScript, asked_by, asked_for, asked_in, extent_from, program_app, refusals, script_of}
 use Rattle.uasdisk.specs.CommandLine.{dump, fill, info, make, replay, trace}
 use Rattle.uasdisk.proofs.NumberWords.{numeral-is_number, numerals}
 use Rattle.uasdisk.proofs.CommandLineFacts.{nothing_refused}
@@ -58,42 +58,40 @@ make_passes p d ds e es plain n = simp (plain, n.hyphen, n.plus, n.some, n.first
 abbrev asked_by_numbers : (ℕ → ℕ → Option ℕ → Asked) → Option ℕ → Option ℕ → Option (Option ℕ) → Option Asked
 asked_by_numbers run clients blocks bad = option_and_then (λ c. option_and_then (λ b. option_map (run c b) bad) blocks) clients
 
-replay_asks : (p : Text) (d : ℕ) (ds : Text) (e : ℕ) (es : Text) → (d == 45) ≡ false → (d == 43) ≡ false → (e == 45) ≡ false → (e == 43) ≡ false
-    → asked_for (p ∷ codes "replay" ∷ (d ∷ ds) ∷ (e ∷ es) ∷ []) ≡ asked_by_numbers replay (number_in 1 31 (d ∷ ds)) (number_in 1 65536 (e ∷ es)) (Some None)
+-- the words after the name of a subcommand are its own
+abbrev Enters : Text → List Text → Type 0
+Enters name words = (p : Text) → (asked_for (p ∷ name ∷ words) ≡ asked_in (entered (built program_app) (Some (name, words))))
+    × (fault_of program_app (p ∷ name ∷ words) ≡ or_else (entered_fault (built program_app) (Some (name, words))) [])
+
+dump_enters : (a b c : Text) → Enters (codes "dump") (a ∷ b ∷ c ∷ [])
 unfolding asked_for clap_on_literals
-replay_asks p d ds e es hyphen plus hyphen' plus' = simp (hyphen, plus, hyphen', plus')
+dump_enters a b c p = (refl, refl)
 
-trace_asks : (p : Text) (d : ℕ) (ds : Text) (e : ℕ) (es : Text) → (d == 45) ≡ false → (d == 43) ≡ false → (e == 45) ≡ false → (e == 43) ≡ false
-    → asked_for (p ∷ codes "trace" ∷ (d ∷ ds) ∷ (e ∷ es) ∷ []) ≡ asked_by_numbers trace (number_in 1 31 (d ∷ ds)) (number_in 1 65536 (e ∷ es)) (Some None)
+fill_enters : (a b c d : Text) → Enters (codes "fill") (a ∷ b ∷ c ∷ d ∷ [])
 unfolding asked_for clap_on_literals
-trace_asks p d ds e es hyphen plus hyphen' plus' = simp (hyphen, plus, hyphen', plus')
+fill_enters a b c d p = (refl, refl)
 
--- the words after `dump` and `fill` are those of the subcommand
-dump_enters : (p a b c : Text) → fault_of program_app (p ∷ codes "dump" ∷ a ∷ b ∷ c ∷ [])
-    ≡ or_else (entered_fault (built program_app) (Some (codes "dump", a ∷ b ∷ c ∷ []))) []
-unfolding clap_on_literals
-dump_enters p a b c = refl
+-- what is asked for of an extent, by its two numbers
+extent-dumped : (file : Text) (lba count : Option ℕ)
+    → option_map (λ extent. dump file extent.lba extent.count) (option_and_then (λ l. option_map (λ c. extent_from l c) count) lba)
+    ≡ option_and_then (λ l. option_map (dump file l) count) lba
+extent-dumped file None count = refl
+extent-dumped file (Some l) None = refl
+extent-dumped file (Some l) (Some c) = refl
 
-dump_entered : (p a b c : Text) → asked_for (p ∷ codes "dump" ∷ a ∷ b ∷ c ∷ []) ≡ asked_in (entered (built program_app) (Some (codes "dump", a ∷ b ∷ c ∷ [])))
-unfolding asked_for clap_on_literals
-dump_entered p a b c = refl
-
-fill_enters : (p a b c d : Text) → fault_of program_app (p ∷ codes "fill" ∷ a ∷ b ∷ c ∷ d ∷ [])
-    ≡ or_else (entered_fault (built program_app) (Some (codes "fill", a ∷ b ∷ c ∷ d ∷ []))) []
-unfolding clap_on_literals
-fill_enters p a b c d = refl
-
-fill_entered : (p a b c d : Text) → asked_for (p ∷ codes "fill" ∷ a ∷ b ∷ c ∷ d ∷ [])
-    ≡ asked_in (entered (built program_app) (Some (codes "fill", a ∷ b ∷ c ∷ d ∷ [])))
-unfolding asked_for clap_on_literals
-fill_entered p a b c d = refl
+extent-filled : (file : Text) (lba count byte : Option ℕ)
+    → option_and_then (λ extent. option_map (fill file extent.lba extent.count) byte) (option_and_then (λ l. option_map (λ c. extent_from l c) count) lba)
+    ≡ option_and_then (λ l. option_and_then (λ c. option_map (fill file l c) byte) count) lba
+extent-filled file None count byte = refl
+extent-filled file (Some l) None byte = refl
+extent-filled file (Some l) (Some c) byte = refl
 
 dump_rows : (d : ℕ) (ds : Text) (e : ℕ) (es : Text) (f : ℕ) (fs : Text) → (d == 45) ≡ false → (e == 45) ≡ false → (e == 43) ≡ false
     → (f == 45) ≡ false → (f == 43) ≡ false
     → asked_in (entered (built program_app) (Some (codes "dump", (d ∷ ds) ∷ (e ∷ es) ∷ (f ∷ fs) ∷ [])))
     ≡ option_and_then (λ lba. option_map (dump (d ∷ ds) lba) (number_in 1 128 (f ∷ fs))) (number_in 0 4294967295 (e ∷ es))
 dump_rows d ds e es f fs plain hyphen plus hyphen' plus' =
-    simp (walked-plain d ds plain, walked-plain e es hyphen, walked-plain f fs hyphen') (simp (hyphen, plus) (simp (hyphen', plus')))
+    simp (walked-plain d ds plain, walked-plain e es hyphen, walked-plain f fs hyphen') (simp (hyphen, plus) (simp (hyphen', plus') (extent-dumped _ _ _)))
 
 dump_faults : (d : ℕ) (ds : Text) (e : ℕ) (es : Text) (f : ℕ) (fs : Text) → (d == 45) ≡ false → IsIn 0 4294967295 e es → IsIn 1 128 f fs
     → entered_fault (built program_app) (Some (codes "dump", (d ∷ ds) ∷ (e ∷ es) ∷ (f ∷ fs) ∷ [])) ≡ []
@@ -110,7 +108,7 @@ fill_rows : (d : ℕ) (ds : Text) (e : ℕ) (es : Text) (f : ℕ) (fs : Text) (h
     (number_in 0 4294967295 (e ∷ es))
 fill_rows d ds e es f fs h hs plain hyphen plus hyphen' plus' hyphen″ plus″ =
     simp (walked-plain d ds plain, walked-plain e es hyphen, walked-plain f fs hyphen', walked-plain h hs hyphen″)
-    (simp hyphen (simp plus (simp hyphen' (simp plus' (simp hyphen″ (simp plus″))))))
+    (simp hyphen (simp plus (simp hyphen' (simp plus' (simp hyphen″ (simp plus″ (extent-filled _ _ _ _)))))))
 
 nothing : (a b c d : Kinds) → a ≡ [] → b ≡ [] → c ≡ [] → d ≡ [] → or_else a (or_else [] (or_else b (or_else c d))) ≡ []
 nothing a b c d p q r t = simp (p, q, r, t)
@@ -202,39 +200,16 @@ numbers_faults name d ds e es m n =
     level_nothing (script_shape name) (numbers d ds e es) (numbers_walk name d ds e es m n.hyphen) (numbers_last name d ds e es m.hyphen n)
     (numbers_defaults name d ds e es m.hyphen n.hyphen) (numbers_checked name d ds e es m.hyphen n.hyphen)
 
-replay_enters : (p a b : Text) → fault_of program_app (p ∷ codes "replay" ∷ a ∷ b ∷ [])
-    ≡ or_else (entered_fault (built program_app) (Some (codes "replay", a ∷ b ∷ []))) []
-unfolding clap_on_literals
-replay_enters p a b = refl
-
-trace_enters : (p a b : Text) → fault_of program_app (p ∷ codes "trace" ∷ a ∷ b ∷ [])
-    ≡ or_else (entered_fault (built program_app) (Some (codes "trace", a ∷ b ∷ []))) []
-unfolding clap_on_literals
-trace_enters p a b = refl
+numbers_rows : (run : ℕ → ℕ → Option ℕ → Asked) (name : Text) (d : ℕ) (ds : Text) (e : ℕ) (es : Text)
+    → (d == 45) ≡ false → (d == 43) ≡ false → (e == 45) ≡ false → (e == 43) ≡ false
+    → script_of run (rows_after (script_shape name).rules [] (numbers d ds e es))
+    ≡ asked_by_numbers run (number_in 1 31 (d ∷ ds)) (number_in 1 65536 (e ∷ es)) (Some None)
+numbers_rows run name d ds e es hyphen plus hyphen' plus' =
+    simp (walked-plain d ds hyphen, walked-plain e es hyphen') (simp hyphen (simp plus (simp hyphen' (simp plus'))))
 
 -- CLIENTS BLOCKS --bad LBA
 abbrev with_bad : (d : ℕ) (ds : Text) (e : ℕ) (es : Text) (f : ℕ) (fs : Text) → List Text
 with_bad d ds e es f fs = (d ∷ ds) ∷ (e ∷ es) ∷ codes "--bad" ∷ (f ∷ fs) ∷ []
-
-replay_bad_enters : (p a b c d : Text) → fault_of program_app (p ∷ codes "replay" ∷ a ∷ b ∷ c ∷ d ∷ [])
-    ≡ or_else (entered_fault (built program_app) (Some (codes "replay", a ∷ b ∷ c ∷ d ∷ []))) []
-unfolding clap_on_literals
-replay_bad_enters p a b c d = refl
-
-replay_bad_entered : (p a b c d : Text) → asked_for (p ∷ codes "replay" ∷ a ∷ b ∷ c ∷ d ∷ [])
-    ≡ asked_in (entered (built program_app) (Some (codes "replay", a ∷ b ∷ c ∷ d ∷ [])))
-unfolding asked_for clap_on_literals
-replay_bad_entered p a b c d = refl
-
-trace_bad_enters : (p a b c d : Text) → fault_of program_app (p ∷ codes "trace" ∷ a ∷ b ∷ c ∷ d ∷ [])
-    ≡ or_else (entered_fault (built program_app) (Some (codes "trace", a ∷ b ∷ c ∷ d ∷ []))) []
-unfolding clap_on_literals
-trace_bad_enters p a b c d = refl
-
-trace_bad_entered : (p a b c d : Text) → asked_for (p ∷ codes "trace" ∷ a ∷ b ∷ c ∷ d ∷ [])
-    ≡ asked_in (entered (built program_app) (Some (codes "trace", a ∷ b ∷ c ∷ d ∷ [])))
-unfolding asked_for clap_on_literals
-trace_bad_entered p a b c d = refl
 
 bad_rows : (run : ℕ → ℕ → Option ℕ → Asked) (name : Text) (d : ℕ) (ds : Text) (e : ℕ) (es : Text) (f : ℕ) (fs : Text)
     → (d == 45) ≡ false → (d == 43) ≡ false → (e == 45) ≡ false → (e == 43) ≡ false → (f == 45) ≡ false → (f == 43) ≡ false
@@ -277,8 +252,8 @@ bad_faults name d ds e es f fs m n o =
     (bad_last name d ds e es f fs m.hyphen n.hyphen o)
     (bad_defaults name d ds e es f fs m.hyphen n.hyphen o.hyphen) (bad_given name d ds e es f fs m.hyphen n.hyphen o.hyphen)
 
-numbers_ask : (run : ℕ → ℕ → Option ℕ → Asked) (clients blocks bad : ℕ) (a b c : Option ℕ) → a ≡ Some clients → b ≡ Some blocks → c ≡ Some bad
-    → asked_by_numbers run a b (option_map (λ n. Some n) c) ≡ Some (run clients blocks (Some bad))
+numbers_ask : (run : ℕ → ℕ → Option ℕ → Asked) (clients blocks : ℕ) (bad : Option ℕ) (a b : Option ℕ) (c : Option (Option ℕ))
+    → a ≡ Some clients → b ≡ Some blocks → c ≡ Some bad → asked_by_numbers run a b c ≡ Some (run clients blocks bad)
 numbers_ask run clients blocks bad a b c p q r = rw (p, q, r) refl
 
 not-true : (b : Bool) → not b ≡ true → b ≡ false
@@ -326,66 +301,65 @@ number_is_in least most n [] small is =
     cc
 number_is_in least most n (d ∷ ds) small is = (d, ds, refl, in_range least most n d ds small (number_in-Some least most n (d ∷ ds) is))
 
+-- CLIENTS BLOCKS, and --bad LBA behind them
+abbrev EntersScript : Text → Type 0
+EntersScript name = ((a b : Text) → Enters name (a ∷ b ∷ [])) × ((a b c d : Text) → Enters name (a ∷ b ∷ c ∷ d ∷ []))
+
+replay_enters : EntersScript (codes "replay")
+unfolding asked_for clap_on_literals
+replay_enters = (λ a b p. (refl, refl), λ a b c d p. (refl, refl))
+
+trace_enters : EntersScript (codes "trace")
+unfolding asked_for clap_on_literals
+trace_enters = (λ a b p. (refl, refl), λ a b c d p. (refl, refl))
+
+-- a subcommand of this name runs a script, and asks for this run
+record IsScript (name : Text) (run : ℕ → ℕ → Option ℕ → Asked) : Type 0 where
+  enters : EntersScript name
+  asks : (words : List Text) → asked_in (entered (built program_app) (Some (name, words))) ≡ script_of run (rows_after (script_shape name).rules [] words)
+  faults : (words : List Text) → entered_fault (built program_app) (Some (name, words)) ≡ level_fault (script_shape name) [] nothing_held words false []
+
+replay_is_script : IsScript (codes "replay") replay
+replay_is_script = record { enters = replay_enters; asks = λ words. refl; faults = λ words. refl }
+
+trace_is_script : IsScript (codes "trace") trace
+trace_is_script = record { enters = trace_enters; asks = λ words. refl; faults = λ words. refl }
+
+-- its plain words ask for the run, and are not refused
+script_asked : (name : Text) (run : ℕ → ℕ → Option ℕ → Asked) → IsScript name run → (clients blocks : ℕ) (bad : Option ℕ) (words : List Text)
+    → AsksScript name clients blocks bad words → (asked_for words ≡ Some (run clients blocks bad)) × (fault_of program_app words ≡ [])
+script_asked name run it clients blocks None words plain =
+    let m = number_is_in 1 31 clients plain.1 (omega arith) plain.4 in
+    let n = number_is_in 1 65536 blocks plain.2 (omega arith) plain.5 in
+    let is : words ≡ plain.0 ∷ name ∷ numbers m.0 m.1 n.0 n.1 = plain.3 ∙ ap₂ (λ (a b : Text). plain.0 ∷ name ∷ a ∷ b ∷ []) m.2 n.2 in
+    let first : number_in 1 31 (m.0 ∷ m.1) ≡ Some clients = ap (number_in 1 31) (sym m.2) ∙ plain.4 in
+    let second : number_in 1 65536 (n.0 ∷ n.1) ≡ Some blocks = ap (number_in 1 65536) (sym n.2) ∙ plain.5 in (
+      ap asked_for is ∙ ((it.enters.0 (m.0 ∷ m.1) (n.0 ∷ n.1) plain.0).0 ∙ (it.asks (numbers m.0 m.1 n.0 n.1)
+          ∙ (numbers_rows run name m.0 m.1 n.0 n.1 m.3.hyphen m.3.plus n.3.hyphen n.3.plus ∙ numbers_ask run clients blocks None _ _ _ first second refl))),
+      ap (fault_of program_app) is ∙ ((it.enters.0 (m.0 ∷ m.1) (n.0 ∷ n.1) plain.0).1
+          ∙ ap (λ (k : Kinds). or_else k []) (it.faults (numbers m.0 m.1 n.0 n.1) ∙ numbers_faults name m.0 m.1 n.0 n.1 m.3 n.3)),
+    )
+script_asked name run it clients blocks (Some bad) words plain =
+    let m = number_is_in 1 31 clients plain.1 (omega arith) plain.5 in
+    let n = number_is_in 1 65536 blocks plain.2 (omega arith) plain.6 in
+    let o = number_is_in 0 65535 bad plain.3 (omega arith) plain.7 in
+    let is : words ≡ plain.0 ∷ name ∷ with_bad m.0 m.1 n.0 n.1 o.0 o.1 =
+    plain.4 ∙ (ap₂ (λ (a b : Text). plain.0 ∷ name ∷ a ∷ b ∷ codes "--bad" ∷ plain.3 ∷ []) m.2 n.2
+    ∙ ap (λ (c : Text). plain.0 ∷ name ∷ (m.0 ∷ m.1) ∷ (n.0 ∷ n.1) ∷ codes "--bad" ∷ c ∷ []) o.2) in
+    let third : option_map (λ k. Some k) (number_in 0 65535 (o.0 ∷ o.1)) ≡ Some (Some bad) =
+    ap (option_map (λ k. Some k)) (ap (number_in 0 65535) (sym o.2) ∙ plain.7) in (
+      ap asked_for is ∙ ((it.enters.1 (m.0 ∷ m.1) (n.0 ∷ n.1) (codes "--bad") (o.0 ∷ o.1) plain.0).0 ∙ (it.asks (with_bad m.0 m.1 n.0 n.1 o.0 o.1)
+          ∙ (bad_rows run name m.0 m.1 n.0 n.1 o.0 o.1 m.3.hyphen m.3.plus n.3.hyphen n.3.plus o.3.hyphen o.3.plus
+          ∙ numbers_ask run clients blocks (Some bad) _ _ _
+          (ap (number_in 1 31) (sym m.2) ∙ plain.5) (ap (number_in 1 65536) (sym n.2) ∙ plain.6) third))),
+      ap (fault_of program_app) is ∙ ((it.enters.1 (m.0 ∷ m.1) (n.0 ∷ n.1) (codes "--bad") (o.0 ∷ o.1) plain.0).1
+          ∙ ap (λ (k : Kinds). or_else k []) (it.faults (with_bad m.0 m.1 n.0 n.1 o.0 o.1) ∙ bad_faults name m.0 m.1 n.0 n.1 o.0 o.1 m.3 n.3 o.3)),
+    )
+
 -- the program asks for what its words plainly ask for, and refuses nothing
 pub plain_asks : (asked : Asked) (words : List Text) → AsksPlainly asked words → (asked_for words ≡ Some asked) × (fault_of program_app words ≡ [])
-plain_asks (replay clients blocks None) words plain =
-    let m = number_is_in 1 31 clients plain.1 (omega arith) plain.4 in
-    let n = number_is_in 1 65536 blocks plain.2 (omega arith) plain.5 in
-    let is : words ≡ plain.0 ∷ codes "replay" ∷ (m.0 ∷ m.1) ∷ (n.0 ∷ n.1) ∷ [] =
-    plain.3 ∙ ap₂ (λ (a b : Text). plain.0 ∷ codes "replay" ∷ a ∷ b ∷ []) m.2 n.2 in
-    let first : number_in 1 31 (m.0 ∷ m.1) ≡ Some clients = ap (number_in 1 31) (sym m.2) ∙ plain.4 in
-    let second : number_in 1 65536 (n.0 ∷ n.1) ≡ Some blocks = ap (number_in 1 65536) (sym n.2) ∙ plain.5 in (
-      ap asked_for is ∙ (replay_asks plain.0 m.0 m.1 n.0 n.1 m.3.hyphen m.3.plus n.3.hyphen n.3.plus
-          ∙ (ap (λ (o : Option ℕ). asked_by_numbers replay o (number_in 1 65536 (n.0 ∷ n.1)) (Some None)) first
-          ∙ ap (λ (o : Option ℕ). asked_by_numbers replay (Some clients) o (Some None)) second)),
-      ap (fault_of program_app) is ∙ (replay_enters plain.0 (m.0 ∷ m.1) (n.0 ∷ n.1)
-          ∙ ap (λ (k : Kinds). or_else k []) (numbers_faults (codes "replay") m.0 m.1 n.0 n.1 m.3 n.3)),
-    )
-plain_asks (replay clients blocks (Some bad)) words plain =
-    let m = number_is_in 1 31 clients plain.1 (omega arith) plain.5 in
-    let n = number_is_in 1 65536 blocks plain.2 (omega arith) plain.6 in
-    let o = number_is_in 0 65535 bad plain.3 (omega arith) plain.7 in
-    let is : words ≡ plain.0 ∷ codes "replay" ∷ with_bad m.0 m.1 n.0 n.1 o.0 o.1 =
-    plain.4 ∙ (ap₂ (λ (a b : Text). plain.0 ∷ codes "replay" ∷ a ∷ b ∷ codes "--bad" ∷ plain.3 ∷ []) m.2 n.2
-    ∙ ap (λ (c : Text). plain.0 ∷ codes "replay" ∷ (m.0 ∷ m.1) ∷ (n.0 ∷ n.1) ∷ codes "--bad" ∷ c ∷ []) o.2) in
-    let first : number_in 1 31 (m.0 ∷ m.1) ≡ Some clients = ap (number_in 1 31) (sym m.2) ∙ plain.5 in
-    let second : number_in 1 65536 (n.0 ∷ n.1) ≡ Some blocks = ap (number_in 1 65536) (sym n.2) ∙ plain.6 in
-    let third : number_in 0 65535 (o.0 ∷ o.1) ≡ Some bad = ap (number_in 0 65535) (sym o.2) ∙ plain.7 in (
-      ap asked_for is ∙ (replay_bad_entered plain.0 (m.0 ∷ m.1) (n.0 ∷ n.1) (codes "--bad") (o.0 ∷ o.1)
-          ∙ (bad_rows replay (codes "replay") m.0 m.1 n.0 n.1 o.0 o.1 m.3.hyphen m.3.plus n.3.hyphen n.3.plus o.3.hyphen o.3.plus
-          ∙ numbers_ask replay clients blocks bad _ _ _ first second third)),
-      ap (fault_of program_app) is ∙ (replay_bad_enters plain.0 (m.0 ∷ m.1) (n.0 ∷ n.1) (codes "--bad") (o.0 ∷ o.1)
-          ∙ ap (λ (k : Kinds). or_else k []) (bad_faults (codes "replay") m.0 m.1 n.0 n.1 o.0 o.1 m.3 n.3 o.3)),
-    )
-plain_asks (trace clients blocks None) words plain =
-    let m = number_is_in 1 31 clients plain.1 (omega arith) plain.4 in
-    let n = number_is_in 1 65536 blocks plain.2 (omega arith) plain.5 in
-    let is : words ≡ plain.0 ∷ codes "trace" ∷ (m.0 ∷ m.1) ∷ (n.0 ∷ n.1) ∷ [] =
-    plain.3 ∙ ap₂ (λ (a b : Text). plain.0 ∷ codes "trace" ∷ a ∷ b ∷ []) m.2 n.2 in
-    let first : number_in 1 31 (m.0 ∷ m.1) ≡ Some clients = ap (number_in 1 31) (sym m.2) ∙ plain.4 in
-    let second : number_in 1 65536 (n.0 ∷ n.1) ≡ Some blocks = ap (number_in 1 65536) (sym n.2) ∙ plain.5 in (
-      ap asked_for is ∙ (trace_asks plain.0 m.0 m.1 n.0 n.1 m.3.hyphen m.3.plus n.3.hyphen n.3.plus
-          ∙ (ap (λ (o : Option ℕ). asked_by_numbers trace o (number_in 1 65536 (n.0 ∷ n.1)) (Some None)) first
-          ∙ ap (λ (o : Option ℕ). asked_by_numbers trace (Some clients) o (Some None)) second)),
-      ap (fault_of program_app) is ∙ (trace_enters plain.0 (m.0 ∷ m.1) (n.0 ∷ n.1)
-          ∙ ap (λ (k : Kinds). or_else k []) (numbers_faults (codes "trace") m.0 m.1 n.0 n.1 m.3 n.3)),
-    )
-plain_asks (trace clients blocks (Some bad)) words plain =
-    let m = number_is_in 1 31 clients plain.1 (omega arith) plain.5 in
-    let n = number_is_in 1 65536 blocks plain.2 (omega arith) plain.6 in
-    let o = number_is_in 0 65535 bad plain.3 (omega arith) plain.7 in
-    let is : words ≡ plain.0 ∷ codes "trace" ∷ with_bad m.0 m.1 n.0 n.1 o.0 o.1 =
-    plain.4 ∙ (ap₂ (λ (a b : Text). plain.0 ∷ codes "trace" ∷ a ∷ b ∷ codes "--bad" ∷ plain.3 ∷ []) m.2 n.2
-    ∙ ap (λ (c : Text). plain.0 ∷ codes "trace" ∷ (m.0 ∷ m.1) ∷ (n.0 ∷ n.1) ∷ codes "--bad" ∷ c ∷ []) o.2) in
-    let first : number_in 1 31 (m.0 ∷ m.1) ≡ Some clients = ap (number_in 1 31) (sym m.2) ∙ plain.5 in
-    let second : number_in 1 65536 (n.0 ∷ n.1) ≡ Some blocks = ap (number_in 1 65536) (sym n.2) ∙ plain.6 in
-    let third : number_in 0 65535 (o.0 ∷ o.1) ≡ Some bad = ap (number_in 0 65535) (sym o.2) ∙ plain.7 in (
-      ap asked_for is ∙ (trace_bad_entered plain.0 (m.0 ∷ m.1) (n.0 ∷ n.1) (codes "--bad") (o.0 ∷ o.1)
-          ∙ (bad_rows trace (codes "trace") m.0 m.1 n.0 n.1 o.0 o.1 m.3.hyphen m.3.plus n.3.hyphen n.3.plus o.3.hyphen o.3.plus
-          ∙ numbers_ask trace clients blocks bad _ _ _ first second third)),
-      ap (fault_of program_app) is ∙ (trace_bad_enters plain.0 (m.0 ∷ m.1) (n.0 ∷ n.1) (codes "--bad") (o.0 ∷ o.1)
-          ∙ ap (λ (k : Kinds). or_else k []) (bad_faults (codes "trace") m.0 m.1 n.0 n.1 o.0 o.1 m.3 n.3 o.3)),
-    )
+plain_asks (replay clients blocks bad) words plain = script_asked (codes "replay") replay replay_is_script clients blocks bad words plain
+plain_asks (trace clients blocks bad) words plain = script_asked (codes "trace") trace trace_is_script clients blocks bad words plain
 plain_asks (make [] blocks) words plain = absurd (true≢false (sym plain.3))
 plain_asks (make (d ∷ ds) blocks) words plain =
     let n = number_is_in 1 65536 blocks plain.1 (omega arith) plain.4 in
@@ -410,11 +384,11 @@ plain_asks (dump (d ∷ ds) lba count) words plain =
     plain.3 ∙ ap₂ (λ (a b : Text). plain.0 ∷ codes "dump" ∷ (d ∷ ds) ∷ a ∷ b ∷ []) m.2 n.2 in
     let second : number_in 0 4294967295 (m.0 ∷ m.1) ≡ Some lba = ap (number_in 0 4294967295) (sym m.2) ∙ plain.5 in
     let third : number_in 1 128 (n.0 ∷ n.1) ≡ Some count = ap (number_in 1 128) (sym n.2) ∙ plain.6 in (
-      ap asked_for is ∙ (dump_entered plain.0 (d ∷ ds) (m.0 ∷ m.1) (n.0 ∷ n.1)
+      ap asked_for is ∙ ((dump_enters (d ∷ ds) (m.0 ∷ m.1) (n.0 ∷ n.1) plain.0).0
           ∙ (dump_rows d ds m.0 m.1 n.0 n.1 hyphen m.3.hyphen m.3.plus n.3.hyphen n.3.plus
           ∙ (ap (option_and_then (λ first. option_map (dump (d ∷ ds) first) (number_in 1 128 (n.0 ∷ n.1)))) second
           ∙ ap (option_map (dump (d ∷ ds) lba)) third))),
-      ap (fault_of program_app) is ∙ (dump_enters plain.0 (d ∷ ds) (m.0 ∷ m.1) (n.0 ∷ n.1)
+      ap (fault_of program_app) is ∙ ((dump_enters (d ∷ ds) (m.0 ∷ m.1) (n.0 ∷ n.1) plain.0).1
           ∙ ap (λ (k : Kinds). or_else k []) (dump_faults d ds m.0 m.1 n.0 n.1 hyphen m.3 n.3)),
     )
 plain_asks (fill [] lba count byte) words plain = absurd (true≢false (sym plain.5))
@@ -429,13 +403,13 @@ plain_asks (fill (d ∷ ds) lba count byte) words plain =
     let second : number_in 0 4294967295 (m.0 ∷ m.1) ≡ Some lba = ap (number_in 0 4294967295) (sym m.2) ∙ plain.6 in
     let third : number_in 1 128 (n.0 ∷ n.1) ≡ Some count = ap (number_in 1 128) (sym n.2) ∙ plain.7 in
     let fourth : number_in 0 255 (o.0 ∷ o.1) ≡ Some byte = ap (number_in 0 255) (sym o.2) ∙ plain.8 in (
-      ap asked_for is ∙ (fill_entered plain.0 (d ∷ ds) (m.0 ∷ m.1) (n.0 ∷ n.1) (o.0 ∷ o.1)
+      ap asked_for is ∙ ((fill_enters (d ∷ ds) (m.0 ∷ m.1) (n.0 ∷ n.1) (o.0 ∷ o.1) plain.0).0
           ∙ (fill_rows d ds m.0 m.1 n.0 n.1 o.0 o.1 hyphen m.3.hyphen m.3.plus n.3.hyphen n.3.plus o.3.hyphen o.3.plus
           ∙ (ap (option_and_then (λ first. option_and_then (λ many. option_map (fill (d ∷ ds) first many) (number_in 0 255 (o.0 ∷ o.1)))
           (number_in 1 128 (n.0 ∷ n.1)))) second
           ∙ (ap (option_and_then (λ many. option_map (fill (d ∷ ds) lba many) (number_in 0 255 (o.0 ∷ o.1)))) third
           ∙ ap (option_map (fill (d ∷ ds) lba count)) fourth)))),
-      ap (fault_of program_app) is ∙ (fill_enters plain.0 (d ∷ ds) (m.0 ∷ m.1) (n.0 ∷ n.1) (o.0 ∷ o.1)
+      ap (fault_of program_app) is ∙ ((fill_enters (d ∷ ds) (m.0 ∷ m.1) (n.0 ∷ n.1) (o.0 ∷ o.1) plain.0).1
           ∙ ap (λ (k : Kinds). or_else k []) (fill_faults d ds m.0 m.1 n.0 n.1 o.0 o.1 hyphen m.3 n.3 o.3)),
     )
 

@@ -24,13 +24,14 @@ use Rattle.bus_core.specs.Shared.{Shared, due, shared_step}
 use Rattle.bus_core.specs.Drain.{all_tags, retirements, tries, tried, tried_one, round, rounds}
 use Rattle.bus_core.specs.Laws.{HeadlineHolds}
 use Rattle.bus_core.specs.Isolation.{renumbered, label_of, is_own, own_label, own_reply}
+use Rattle.uasdisk.specs.declared.replay.Handed.TheVariants as hand
 use Rattle.uasdisk.specs.declared.script.Request.{Request}
 use Rattle.uasdisk.specs.declared.script.Line.{Line}
 use Rattle.uasdisk.specs.declared.script.Line.TheVariants as line
 use Rattle.uasdisk.specs.Printed.{refused_name, fault_name}
 use Rattle.uasdisk.specs.Told.{Telling, drain_limit, step_of, is_due, drained_machine, is_to_host, command_of, refused_run, freed_run, handed_over}
-use Rattle.uasdisk.specs.Told.{took_to_host, noted_run, is_brought_in, issued_run, with_range, submitted_by, submitted, managed_run}
-use Rattle.uasdisk.specs.Told.{managed_by, managed, tag_of, ticket_of, replied}
+use Rattle.uasdisk.specs.Told.{took_to_host, noted_run, is_brought_in, with_range, given_run, handed_in_by, handed_in, replied}
+use Rattle.scsi_cmd.specs.Replies.{reply_tag, reply_ticket}
 use Rattle.uasdisk.specs.Told.{taken, idle_run, stepped, taken_or_idle, taken_times, all_taken_by, taken_below, all_taken, drained_run, told_line}
 use Rattle.uasdisk.specs.Headline.{Said, line_of, replied as said_reply, refused_by_bus, refused_by_tags, idle as said_idle, deliveries_to, own_lines}
 use Rattle.uasdisk.proofs.Outcomes.{Untold, IsInner, inner_untold, IsTaken, take_told, MarksSubmission, IsSubmitted, submit_told, IsManaged, task_told}
@@ -155,22 +156,22 @@ stepped_goes isolated run taken inner = go (due run.machine taken)
 abbrev takes : Telling → ℕ → Shared × Outcome
 takes run client = shared_step run.machine (step.Take client)
 
-ticket_of-renumbered : (client : ℕ) (reply : Reply) → ticket_of reply ≡ ticket_of (renumbered client reply)
-ticket_of-renumbered client (StatusReply tag ticket status sense buffer) = refl
-ticket_of-renumbered client (AbortedReply tag ticket buffer) = refl
-ticket_of-renumbered client (TaskReply tag ticket code) = refl
+reply_ticket-renumbered : (client : ℕ) (reply : Reply) → reply_ticket reply ≡ reply_ticket (renumbered client reply)
+reply_ticket-renumbered client (StatusReply tag ticket status sense buffer) = refl
+reply_ticket-renumbered client (AbortedReply tag ticket buffer) = refl
+reply_ticket-renumbered client (TaskReply tag ticket code) = refl
 
 -- a reply is shown to its owner alone
 reply_shown : (brings_in : List (List Bool)) (owner client : ℕ) (reply : Reply) (outcome : Outcome) → outcome.owner ≡ Some owner → outcome.reply ≡ Some reply
-    → own_lines client (said_reply owner (is_brought_in brings_in owner (ticket_of reply)) reply ∷ [])
+    → own_lines client (said_reply owner (is_brought_in brings_in owner (reply_ticket reply)) reply ∷ [])
     ≡ option_to_list (option_map (shown_by brings_in client) (own_reply client outcome))
 reply_shown brings_in owner client reply outcome owned given =
     rw (owned, given) (elim (owner == client) as (λ b. (owner == client) ≡ b
-    → option_to_list (cond b (Some (is_brought_in brings_in owner (ticket_of reply), renumbered client reply)) None) ++ []
+    → option_to_list (cond b (Some (is_brought_in brings_in owner (reply_ticket reply), renumbered client reply)) None) ++ []
     ≡ option_to_list (option_map (shown_by brings_in client) (cond b (Some (renumbered client reply)) None))) [
       | true ↦ λ same.
           let it : owner ≡ client = eqb-true owner client same in
-          ap₂ (λ (c t : ℕ). (is_brought_in brings_in c t, renumbered client reply) ∷ []) it (ticket_of-renumbered client reply)
+          ap₂ (λ (c t : ℕ). (is_brought_in brings_in c t, renumbered client reply) ∷ []) it (reply_ticket-renumbered client reply)
       | false ↦ λ apart. refl
     ] refl)
 
@@ -183,12 +184,12 @@ taken_goes isolated run client = go (due run.machine (step.Take client)) refl
     by_reply told None none = untold_goes isolated run (step.Take client) tt (record { reply = none; refused = told.refused })
     by_reply told (Some reply) given =
         let outcome : Outcome = (takes run client).1 in
-        let said : Said = said_reply client (is_brought_in run.brings_in client (ticket_of reply)) reply in
+        let said : Said = said_reply client (is_brought_in run.brings_in client (reply_ticket reply)) reply in
         goes_by_step isolated run (replied (at_machine run (takes run client).0) client (Some reply)) (step.Take client) (said ∷ []) (record {
           machine = refl;
           text = ap (λ (t : List ℕ). run.text ++ t) (sym (append-nil (line_of said)));
           deliveries = rw (told.owner, given, told.refused) refl;
-          noted = λ noted. freed_noted (at_machine run (takes run client).0) client (tag_of reply) noted;
+          noted = λ noted. freed_noted (at_machine run (takes run client).0) client (reply_tag reply) noted;
           own = λ other. reply_shown run.brings_in client other reply outcome told.owner given;
           notes = λ noted other ticket. same_notes (is_brought_in run.brings_in other ticket) other ticket (step.Take client) outcome tt;
         })
@@ -349,9 +350,31 @@ refused_noted client other given ticket taken outcome quiet =
     go true = refl
     go false = refl
 
+-- the bus refuses what a client handed in under a tag and a ticket of its own: the ticket is skipped and the refusal told
+bus_refuses_goes : HeadlineHolds → (run : Telling) (client : ℕ) (tags now : ClientTags) (tag : ℕ) (taken : Step) (refusal : Refusal)
+    → slice_get run.ranges client ≡ Some tags → now.next ≡ tags.next + 1 → (shared_step run.machine taken).1.owner ≡ Some client
+    → (shared_step run.machine taken).1.reply ≡ None → (shared_step run.machine taken).1.refused ≡ Some refusal
+    → ((other given ticket : ℕ) → cond (client == other) (cond (given == ticket) false false) false
+    ≡ is_to_host_by ticket (own_label other taken (shared_step run.machine taken).1))
+    → Goes run (handed_over (noted_run (at_machine (with_range run client now) (shared_step run.machine taken).0) client false) client tag (Some refusal))
+bus_refuses_goes isolated run client tags now tag taken refusal found next owner reply some unnoted =
+    let before : Telling = noted_run (at_machine (with_range run client now) (shared_step run.machine taken).0) client false in
+    goes_by_step isolated run (refused_run (freed_run before client tag) client (fault_name refusal.fault)) taken
+    (refused_by_bus client refusal.fault ∷ []) (record {
+      machine = refl;
+      text = ap (λ (t : List ℕ). run.text ++ t) (sym (append-nil (line_of (refused_by_bus client refusal.fault))));
+      deliveries = rw (owner, reply, some) refl;
+      noted = λ noted. freed_noted before client tag (ticket_noted run before client tags now false found next refl refl noted);
+      own = λ other. unshown run.brings_in other (shared_step run.machine taken).1 reply;
+      notes = λ noted other ticket.
+          let flags = flags_of run client tags noted found in
+          noted_after run.brings_in client false flags.flags flags.is other ticket
+          ∙ ap (λ (b : Bool). is_brought_in run.brings_in other ticket || b) (unnoted other (length flags.flags) ticket);
+    })
+
 -- the client's own tags gave a tag and a ticket
 given_goes : HeadlineHolds → (run : Telling) (client : ℕ) (request : Request) (tags now : ClientTags) (tag : ℕ) → slice_get run.ranges client ≡ Some tags
-    → now.next ≡ tags.next + 1 → Goes run (issued_run (with_range run client now) client request (Ok (tag, tags.next)))
+    → now.next ≡ tags.next + 1 → Goes run (given_run (with_range run client now) client (hand.Command request) (Ok (tag, tags.next)))
 unfolding step_of
 given_goes isolated run client request tags now tag found next = go (shared_step run.machine taken).1.refused refl told.mark
   where
@@ -388,45 +411,33 @@ given_goes isolated run client request tags now tag found next = go (shared_step
     go (Some refusal) some mark =
         let outcome : Outcome = (submits run client tag tags.next request).1 in
         let quiet : outcome.mark ≡ Quiet = subst (MarksSubmission outcome.mark) some mark in
-        let before : Telling = noted_run (submitted_by_tags run client tag tags.next request now) client false in
-        goes_by_step isolated run (refused_run (freed_run before client tag) client (fault_name refusal.fault))
-        (step.Submit client tag tags.next (command_of request))
-        (refused_by_bus client refusal.fault ∷ []) (record {
-          machine = refl;
-          text = ap (λ (t : List ℕ). run.text ++ t) (sym (append-nil (line_of (refused_by_bus client refusal.fault))));
-          deliveries = rw (told.owner, told.reply, some) refl;
-          noted = λ noted. freed_noted before client tag (ticket_noted run before client tags now false found next refl refl noted);
-          own = λ other. unshown run.brings_in other outcome told.reply;
-          notes = λ noted other ticket.
-              let flags = flags_of run client tags noted found in
-              noted_after run.brings_in client false flags.flags flags.is other ticket
-              ∙ ap (λ (b : Bool). is_brought_in run.brings_in other ticket || b)
-              (refused_noted client other (length flags.flags) ticket (step.Submit client tag tags.next (command_of request)) outcome quiet);
-        })
+        bus_refuses_goes isolated run client tags now tag taken refusal found next told.owner told.reply some
+        (λ other given ticket. refused_noted client other given ticket taken outcome quiet)
 
 -- tags of which one more is out, and one more ticket
 abbrev one_more : ClientTags → ℕ → ClientTags
 one_more tags entry = record tags { next = tags.next + 1; out = slice_set tags.out entry true }
 
-submitted_goes : HeadlineHolds → (run : Telling) (client : ℕ) (request : Request) → Goes run (submitted run client request)
-unfolding submitted
+submitted_goes : HeadlineHolds → (run : Telling) (client : ℕ) (request : Request) → Goes run (handed_in run client (hand.Command request))
+unfolding handed_in
 submitted_goes isolated run client request = go (slice_get run.ranges client) refl
   where
     worn : (tags : ClientTags) (entry : ℕ) → slice_get run.ranges client ≡ Some tags → (b : Bool)
-        → Goes run (issued_run (with_range run client
+        → Goes run (given_run (with_range run client
         (cond {A = ClientTags
-        × Result (ℕ × ℕ) Refused} b (tags, Err Worn) (one_more tags entry, Ok (tag_at TAGS tags.client (entry + 1), tags.next))).0) client request
+        × Result (ℕ × ℕ) Refused} b (tags, Err Worn) (one_more tags entry, Ok (tag_at TAGS tags.client (entry + 1), tags.next))).0)
+        client (hand.Command request)
         (cond {A = ClientTags × Result (ℕ × ℕ) Refused} b (tags, Err Worn) (one_more tags entry, Ok (tag_at TAGS tags.client (entry + 1), tags.next))).1)
     worn tags entry found true = refused_goes run client tags tags Worn found refl
     worn tags entry found false =
         given_goes isolated run client request tags (one_more tags entry) (tag_at TAGS tags.client (entry + 1)) found refl
 
     by_entry : (tags : ClientTags) → slice_get run.ranges client ≡ Some tags → (entry : Option ℕ)
-        → Goes run (issued_run (with_range run client (issue_entry TAGS tags entry).0) client request (issue_entry TAGS tags entry).1)
+        → Goes run (given_run (with_range run client (issue_entry TAGS tags entry).0) client (hand.Command request) (issue_entry TAGS tags entry).1)
     by_entry tags found None = refused_goes run client tags tags NoTag found refl
     by_entry tags found (Some entry) = worn tags entry found (is_worn tags)
 
-    go : (found : Option ClientTags) → slice_get run.ranges client ≡ found → Goes run (submitted_by run client request found)
+    go : (found : Option ClientTags) → slice_get run.ranges client ≡ found → Goes run (handed_in_by run client (hand.Command request) found)
     go None is = goes_nowhere run
     go (Some tags) is = by_entry tags is (position not tags.out)
 
@@ -448,7 +459,7 @@ task_noted client other given ticket taken outcome is = none (client == other) (
 
 -- the client's own tags gave the task tag and a ticket
 given_task_goes : HeadlineHolds → (run : Telling) (client : ℕ) (task : Task) (tags now : ClientTags) (tag : ℕ) → slice_get run.ranges client ≡ Some tags
-    → now.next ≡ tags.next + 1 → Goes run (managed_run (with_range run client now) client task (Ok (tag, tags.next)))
+    → now.next ≡ tags.next + 1 → Goes run (given_run (with_range run client now) client (hand.Task task) (Ok (tag, tags.next)))
 unfolding step_of
 given_task_goes isolated run client task tags now tag found next = go (manages run client tags.next task).1.refused refl
   where
@@ -482,41 +493,35 @@ given_task_goes isolated run client task tags now tag found next = go (manages r
           notes = notes;
         })
     go (Some refusal) some =
-        goes_by_step isolated run (refused_run (freed_run before client tag) client (fault_name refusal.fault)) taken
-        (refused_by_bus client refusal.fault ∷ []) (record {
-          machine = refl;
-          text = ap (λ (t : List ℕ). run.text ++ t) (sym (append-nil (line_of (refused_by_bus client refusal.fault))));
-          deliveries = rw (told.owner, told.reply, some) refl;
-          noted = λ noted. freed_noted before client tag (ticket_noted run before client tags now false found next refl refl noted);
-          own = λ other. unshown run.brings_in other outcome told.reply;
-          notes = notes;
-        })
+        bus_refuses_goes isolated run client tags now tag taken refusal found next told.owner told.reply some
+        (λ other given ticket. task_noted client other given ticket taken outcome tt)
 
 -- the task tag is out, and one more ticket
 abbrev task_out : ClientTags → ClientTags
 task_out tags = record tags { next = tags.next + 1; task_out = true }
 
-managed_goes : HeadlineHolds → (run : Telling) (client : ℕ) (task : Task) → Goes run (managed run client task)
-unfolding managed
+managed_goes : HeadlineHolds → (run : Telling) (client : ℕ) (task : Task) → Goes run (handed_in run client (hand.Task task))
+unfolding handed_in
 managed_goes isolated run client task = go (slice_get run.ranges client) refl
   where
     worn : (tags : ClientTags) → slice_get run.ranges client ≡ Some tags → (b : Bool)
-        → Goes run (managed_run (with_range run client
-        (cond {A = ClientTags × Result (ℕ × ℕ) Refused} b (tags, Err Worn) (task_out tags, Ok (task_tag TAGS tags.client, tags.next))).0) client task
+        → Goes run (given_run (with_range run client
+        (cond {A = ClientTags × Result (ℕ × ℕ) Refused} b (tags, Err Worn) (task_out tags, Ok (task_tag TAGS tags.client, tags.next))).0)
+        client (hand.Task task)
         (cond {A = ClientTags × Result (ℕ × ℕ) Refused} b (tags, Err Worn) (task_out tags, Ok (task_tag TAGS tags.client, tags.next))).1)
     worn tags found true = refused_goes run client tags tags Worn found refl
     worn tags found false = given_task_goes isolated run client task tags (task_out tags) (task_tag TAGS tags.client) found refl
 
     busy : (tags : ClientTags) → slice_get run.ranges client ≡ Some tags → (b : Bool)
-        → Goes run (managed_run (with_range run client (cond {A = ClientTags × Result (ℕ × ℕ) Refused} b (tags, Err TaskBusy)
+        → Goes run (given_run (with_range run client (cond {A = ClientTags × Result (ℕ × ℕ) Refused} b (tags, Err TaskBusy)
         (cond {A = ClientTags
-        × Result (ℕ × ℕ) Refused} (is_worn tags) (tags, Err Worn) (task_out tags, Ok (task_tag TAGS tags.client, tags.next)))).0) client task
+        × Result (ℕ × ℕ) Refused} (is_worn tags) (tags, Err Worn) (task_out tags, Ok (task_tag TAGS tags.client, tags.next)))).0) client (hand.Task task)
         (cond {A = ClientTags × Result (ℕ × ℕ) Refused} b (tags, Err TaskBusy)
         (cond {A = ClientTags × Result (ℕ × ℕ) Refused} (is_worn tags) (tags, Err Worn) (task_out tags, Ok (task_tag TAGS tags.client, tags.next)))).1)
     busy tags found true = refused_goes run client tags tags TaskBusy found refl
     busy tags found false = worn tags found (is_worn tags)
 
-    go : (found : Option ClientTags) → slice_get run.ranges client ≡ found → Goes run (managed_by run client task found)
+    go : (found : Option ClientTags) → slice_get run.ranges client ≡ found → Goes run (handed_in_by run client (hand.Task task) found)
     go None is = goes_nowhere run
     go (Some tags) is = busy tags is tags.task_out
 

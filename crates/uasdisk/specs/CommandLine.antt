@@ -13,6 +13,7 @@ use Rattle.clap.specs.declared.error.kind.ErrorKind.TheVariants.{DisplayHelp, Di
 use Rattle.block_unit.specs.declared.TheConstants.{MAX_BLOCKS}
 use Rattle.bus_core.specs.declared.TheConstants.{MAX_CLIENTS}
 use Rattle.scsi_cmd.specs.declared.TheConstants.{MOST_BLOCKS_MOVED}
+use Rattle.uasdisk.specs.declared.alone.Extent.{Extent}
 use Rattle.uasdisk.specs.declared.words.Run.{Run}
 use Rattle.uasdisk.specs.declared.words.Run.TheVariants.{Replay, Trace, Make, Info, Dump, Fill}
 use Rattle.uasdisk.specs.Words.{number_in}
@@ -29,8 +30,8 @@ pub data Asked : Type 0 where
   fill : Text → ℕ → ℕ → ℕ → Asked
 
 abbrev pub asked_by : Run → Asked
-asked_by (Replay clients blocks bad) = replay clients blocks bad
-asked_by (Trace clients blocks bad) = trace clients blocks bad
+asked_by (Replay disks) = replay disks.clients disks.blocks disks.bad
+asked_by (Trace disks) = trace disks.clients disks.blocks disks.bad
 asked_by (Make file blocks) = make file.now blocks
 asked_by (Info file) = info file.now
 asked_by (Dump file extent) = dump file.now extent.lba extent.count
@@ -88,15 +89,22 @@ abbrev pub script_of : (ℕ → ℕ → Option ℕ → Asked) → List Row → O
 script_of run rows =
     option_and_then (λ clients. option_and_then (λ blocks. option_map (run clients blocks) (bad_of rows)) (blocks_of rows)) (clients_of rows)
 
+-- so many blocks from this one on
+abbrev pub extent_from : ℕ → ℕ → Extent
+extent_from lba count = record { lba = lba; count = count }
+
+-- LBA COUNT
+abbrev pub extent_of : List Row → Option Extent
+extent_of rows = option_and_then (λ lba. option_map (λ count. extent_from lba count) (count_of rows)) (lba_of rows)
+
 -- FILE LBA COUNT
 abbrev pub dump_of : List Row → Option Asked
-dump_of rows = option_and_then (λ file. option_and_then (λ lba. option_map (dump file lba) (count_of rows)) (lba_of rows)) (file_of rows)
+dump_of rows = option_and_then (λ file. option_map (λ extent. dump file extent.lba extent.count) (extent_of rows)) (file_of rows)
 
 -- FILE LBA COUNT BYTE
 abbrev pub fill_of : List Row → Option Asked
 fill_of rows =
-    option_and_then (λ file. option_and_then (λ lba. option_and_then (λ count. option_map (fill file lba count) (byte_of rows)) (count_of rows)) (lba_of rows))
-    (file_of rows)
+    option_and_then (λ file. option_and_then (λ extent. option_map (fill file extent.lba extent.count) (byte_of rows)) (extent_of rows)) (file_of rows)
 
 -- what a subcommand asks for, by its name
 abbrev pub asked_of : Text → List Row → Option Asked
@@ -150,15 +158,15 @@ bad_rule = record (new_rule (codes "bad")) {
   parser = Some (parser.Signed (pos 0) (pos last_block));
 }
 
--- a subcommand that runs a script: NAME CLIENTS BLOCKS [--bad LBA]
-abbrev pub script_app : Text → App
-script_app name = with_rule (with_rule (with_rule (new_app name) clients_rule) blocks_rule) bad_rule
+-- a subcommand that runs a script: CLIENTS BLOCKS [--bad LBA]
+abbrev pub with_disks : App → App
+with_disks app = with_rule (with_rule (with_rule app clients_rule) blocks_rule) bad_rule
 
 abbrev pub replay_app : App
-replay_app = script_app (codes "replay")
+replay_app = with_disks (new_app (codes "replay"))
 
 abbrev pub trace_app : App
-trace_app = script_app (codes "trace")
+trace_app = with_disks (new_app (codes "trace"))
 
 -- make FILE BLOCKS
 abbrev pub make_app : App
@@ -168,16 +176,16 @@ make_app = with_rule (with_rule (new_app (codes "make")) file_rule) blocks_rule
 abbrev pub info_app : App
 info_app = with_rule (new_app (codes "info")) file_rule
 
--- a subcommand on blocks of an image: NAME FILE LBA COUNT
-abbrev pub extent_app : Text → App
-extent_app name = with_rule (with_rule (with_rule (new_app name) file_rule) lba_rule) count_rule
+-- a subcommand on blocks of an image: FILE LBA COUNT
+abbrev pub with_extent : App → App
+with_extent app = with_rule (with_rule (with_rule app file_rule) lba_rule) count_rule
 
 abbrev pub dump_app : App
-dump_app = extent_app (codes "dump")
+dump_app = with_extent (new_app (codes "dump"))
 
 -- fill FILE LBA COUNT BYTE
 abbrev pub fill_app : App
-fill_app = with_rule (extent_app (codes "fill")) byte_rule
+fill_app = with_rule (with_extent (new_app (codes "fill"))) byte_rule
 
 abbrev pub wants_subcommand : Shape → Shape
 wants_subcommand s = record s { subcommand_required = true; arg_required_else_help = true; has_version = true }

@@ -30,6 +30,18 @@ pub record World : Type 0 where
   pub input : Option (List ℕ)
   pub output : Option (List ℕ)
 
+-- The script on standard input is faulty or couldn't be read, and standard output got nothing; or it couldn't be written.
+abbrev pub ScriptStops : ℕ → Host → World → World → Type 0
+ScriptStops clients host old new =
+    ((IfSome old.input (λ bytes. IsErr (script clients bytes)) ⊎ IsTrue host.input_can_fail) × Keeps old.output new.output)
+    ⊎ IsTrue host.output_can_fail
+
+-- The file of this name holds no image or failed, and standard output got nothing; or it couldn't be written.
+abbrev pub ImageStops : Text → Host → World → World → Type 0
+ImageStops file host old new =
+    (((IsTrue host.tells → IfSome (old.holds file) (λ bytes. IsErr (blocks_in bytes))) ⊎ IsTrue (host.file_can_fail file))
+    × Keeps old.output new.output) ⊎ IsTrue host.output_can_fail
+
 -- `replay CLIENTS BLOCKS [--bad LBA]`: the script on standard input is told on standard output, of so many clients and blocks, and of the
 -- block that is bad in every unit, if one is.
 pub record ReplayEnds (clients blocks : ℕ) (bad : Option ℕ) (host : Host) (old new : World) (status : ℕ) : Type 0 where
@@ -37,9 +49,7 @@ pub record ReplayEnds (clients blocks : ℕ) (bad : Option ℕ) (host : Host) (o
   pub told : status ≤ 1 → IfSome old.input (λ bytes.
       Tells (zeroed_units clients blocks bad) (script clients bytes) old.output new.output status)
   pub read : status ≤ 1 → IsTrue host.has_input × IsAtEnd new.input
-  pub fault : status ≡ 3 →
-      ((IfSome old.input (λ bytes. IsErr (script clients bytes)) ⊎ IsTrue host.input_can_fail) × Keeps old.output new.output)
-      ⊎ IsTrue host.output_can_fail
+  pub fault : status ≡ 3 → ScriptStops clients host old new
   pub memory : status ≡ 4 → Keeps old.output new.output
   pub files : new.holds ≡ old.holds
 
@@ -49,9 +59,7 @@ pub record TraceEnds (clients blocks : ℕ) (bad : Option ℕ) (host : Host) (ol
   pub traced : status ≤ 1 → IfSome old.input (λ bytes.
       Traces (zeroed_units clients blocks bad) (script clients bytes) status)
   pub read : status ≤ 1 → IsTrue host.has_input × IsAtEnd new.input
-  pub fault : status ≡ 3 →
-      ((IfSome old.input (λ bytes. IsErr (script clients bytes)) ⊎ IsTrue host.input_can_fail) × Keeps old.output new.output)
-      ⊎ IsTrue host.output_can_fail
+  pub fault : status ≡ 3 → ScriptStops clients host old new
   pub files : new.holds ≡ old.holds
 
 -- `make FILE BLOCKS`: the file of this name holds the image of so many blocks, and standard output has got its line.
@@ -69,9 +77,7 @@ pub record InfoEnds (file : Text) (host : Host) (old new : World) (status : ℕ)
   pub statuses : (status ≡ 0) ⊎ ((status ≡ 3) ⊎ (status ≡ 4))
   pub told : status ≡ 0 → IsTrue host.tells → IfSome (old.holds file) (λ bytes. InfoPrints (blocks_in bytes) old.output new.output)
   pub read : status ≡ 0 → IsTrue (host.can_open file)
-  pub fault : status ≡ 3 →
-      (((IsTrue host.tells → IfSome (old.holds file) (λ bytes. IsErr (blocks_in bytes))) ⊎ IsTrue (host.file_can_fail file))
-      × Keeps old.output new.output) ⊎ IsTrue host.output_can_fail
+  pub fault : status ≡ 3 → ImageStops file host old new
   pub memory : status ≡ 4 → Keeps old.output new.output
   pub files : new.holds ≡ old.holds
   pub input : new.input ≡ old.input
@@ -82,9 +88,7 @@ pub record DumpEnds (file : Text) (lba count : ℕ) (host : Host) (old new : Wor
   pub told : status ≤ 1 → IsTrue host.tells → IfSome (old.holds file) (λ bytes.
       AnswersOf (blocks_in bytes) (dumped (imaged bytes []) lba count) old.output new.output status)
   pub read : status ≤ 1 → IsTrue (host.can_open file)
-  pub fault : status ≡ 3 →
-      (((IsTrue host.tells → IfSome (old.holds file) (λ bytes. IsErr (blocks_in bytes))) ⊎ IsTrue (host.file_can_fail file))
-      × Keeps old.output new.output) ⊎ IsTrue host.output_can_fail
+  pub fault : status ≡ 3 → ImageStops file host old new
   pub memory : status ≡ 4 → Keeps old.output new.output
   pub files : new.holds ≡ old.holds
   pub input : new.input ≡ old.input
@@ -100,9 +104,7 @@ pub record FillEnds (file : Text) (lba count byte : ℕ) (host : Host) (old new 
   pub kept : status ≡ 1 → new.holds ≡ old.holds
   pub read : status ≤ 1 → IsTrue (host.can_open file)
   pub created : status ≡ 0 → IsTrue (host.can_create file)
-  pub fault : status ≡ 3 →
-      (((IsTrue host.tells → IfSome (old.holds file) (λ bytes. IsErr (blocks_in bytes))) ⊎ IsTrue (host.file_can_fail file))
-      × Keeps old.output new.output) ⊎ IsTrue host.output_can_fail
+  pub fault : status ≡ 3 → ImageStops file host old new
   pub memory : status ≡ 4 → Keeps old.output new.output
   pub input : new.input ≡ old.input
 

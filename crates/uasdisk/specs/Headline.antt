@@ -16,7 +16,8 @@ use Rattle.bus_core.specs.Replay.{replay}
 use Rattle.bus_core.specs.Isolation.{renumbered, own_labels}
 use Rattle.uasdisk.specs.declared.script.Line.{Line}
 use Rattle.uasdisk.specs.Printed.{reply_line, refusal_line, fault_name, refused_name, idle_line}
-use Rattle.uasdisk.specs.Told.{is_to_host, ticket_of, told, whole_run}
+use Rattle.scsi_cmd.specs.Replies.{reply_ticket}
+use Rattle.uasdisk.specs.Told.{is_to_host, told, whole_run}
 
 -- WHAT IS SAID
 
@@ -95,7 +96,7 @@ has_to_host ticket (label ∷ labels) = is_to_host_under ticket label || has_to_
 
 -- what is shown of the reply of a solo machine that took these labels before
 abbrev pub shown : List Label → Reply → Bool × Reply
-shown before reply = (has_to_host (ticket_of reply) before, reply)
+shown before reply = (has_to_host (reply_ticket reply) before, reply)
 
 abbrev pub shown_then : (SoloState → List (Bool × Reply)) → List Label → Option (SoloState × Option Reply) → List (Bool × Reply)
 shown_then rest before None = []

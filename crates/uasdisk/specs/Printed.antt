@@ -4,6 +4,7 @@ use Rattle.std.specs.Fmt.{decimal}
 use Rattle.hex.specs.Hex.{encode_lower}
 use Rattle.scsi_cmd.specs.declared.Reply.{Reply}
 use Rattle.scsi_cmd.specs.declared.Reply.TheVariants.{Status, Aborted, Task}
+use Rattle.scsi_cmd.specs.Replies.{reply_ticket}
 use Rattle.scsi_cmd.specs.declared.SubmitFault.{SubmitFault}
 use Rattle.scsi_cmd.specs.declared.SubmitFault.TheVariants.{NotYours, InUse, BadLength, TooLong, OutOfTurn, NoSuchTask}
 use Rattle.tag_range.specs.declared.Refused.{Refused}
@@ -17,11 +18,10 @@ line_start client ticket = decimal client ++ codes " " ++ decimal ticket ++ code
 abbrev pub shown_bytes : List ℕ → List ℕ
 shown_bytes bytes = if length bytes == 0 then [] else codes " " ++ encode_lower (take 36 bytes)
 
--- `C T good N`, and the bytes that came in.
--- By hand: five bytes 00 00 06 02 1f of ticket 2 of client 1 print `1 2 good 5 000006021f`.
-abbrev pub good_line : ℕ → ℕ → List ℕ → List ℕ
-good_line client ticket bytes =
-    line_start client ticket ++ codes "good " ++ decimal (length bytes) ++ shown_bytes bytes ++ codes "\n"
+-- `good N`, and the bytes that came in.
+-- By hand: five bytes 00 00 06 02 1f print `good 5 000006021f`.
+abbrev pub good_words : List ℕ → List ℕ
+good_words bytes = codes "good " ++ decimal (length bytes) ++ shown_bytes bytes ++ codes "\n"
 
 -- the byte of sense data at a place, 0 where there is none
 abbrev pub hex_at : List ℕ → ℕ → List ℕ
@@ -31,17 +31,9 @@ hex_at sense place = encode_lower (slice_index sense place ∷ [])
 abbrev pub sense_line : List ℕ → List ℕ
 sense_line sense = codes "check " ++ hex_at sense 2 ++ codes "/" ++ hex_at sense 12 ++ codes "/" ++ hex_at sense 13 ++ codes "\n"
 
--- `C T check KK/AA/QQ`.
--- By hand: 5/21/00 of ticket 0 of client 2 prints `2 0 check 05/21/00`.
-abbrev pub check_line : ℕ → ℕ → List ℕ → List ℕ
-check_line client ticket sense = line_start client ticket ++ sense_line sense
-
-abbrev pub aborted_line : ℕ → ℕ → List ℕ
-aborted_line client ticket = line_start client ticket ++ codes "aborted\n"
-
--- `C T task CC`: the response code
-abbrev pub task_line : ℕ → ℕ → ℕ → List ℕ
-task_line client ticket code = line_start client ticket ++ codes "task " ++ encode_lower (code ∷ []) ++ codes "\n"
+-- `task CC`: the response code
+abbrev pub task_words : ℕ → List ℕ
+task_words code = codes "task " ++ encode_lower (code ∷ []) ++ codes "\n"
 
 -- the status GOOD is 0
 abbrev pub is_good : ℕ → Bool
@@ -51,12 +43,18 @@ is_good status = status == 0
 abbrev pub bytes_in : Bool → List ℕ → List ℕ
 bytes_in brings_in buffer = if brings_in then buffer else []
 
--- the line of a reply to a client, whose command moves data to the host or not
+-- what a reply tells, whose command moves data to the host or not
+abbrev pub reply_words : Bool → Reply → List ℕ
+reply_words brings_in (Status tag ticket status sense buffer) =
+    if is_good status then good_words (bytes_in brings_in buffer) else sense_line sense.items
+reply_words brings_in (Aborted tag ticket buffer) = codes "aborted\n"
+reply_words brings_in (Task tag ticket code) = task_words code
+
+-- The line of a reply to a client: `C T good N HEX`, `C T check KK/AA/QQ`, `C T aborted` or `C T task CC`.
+-- By hand: five bytes 00 00 06 02 1f of ticket 2 of client 1 print `1 2 good 5 000006021f`; 5/21/00 of ticket 0 of client 2
+-- prints `2 0 check 05/21/00`.
 abbrev pub reply_line : ℕ → Bool → Reply → List ℕ
-reply_line client brings_in (Status tag ticket status sense buffer) =
-    if is_good status then good_line client ticket (bytes_in brings_in buffer) else check_line client ticket sense.items
-reply_line client brings_in (Aborted tag ticket buffer) = aborted_line client ticket
-reply_line client brings_in (Task tag ticket code) = task_line client ticket code
+reply_line client brings_in reply = line_start client (reply_ticket reply) ++ reply_words brings_in reply
 
 -- whether a reply tells a check or an abort
 abbrev pub is_failure : Reply → Bool

@@ -8,8 +8,7 @@ use Rattle.scsi_cmd.specs.declared.Command.{Command}
 use Rattle.scsi_cmd.specs.declared.Direction.{Direction}
 use Rattle.scsi_cmd.specs.declared.Direction.TheVariants.{Nothing, ToHost, ToDevice}
 use Rattle.scsi_cmd.specs.declared.Reply.{Reply}
-use Rattle.scsi_cmd.specs.declared.Reply.TheVariants.{Status as StatusReply, Aborted as AbortedReply, Task as TaskReply}
-use Rattle.scsi_cmd.specs.declared.Task.{Task}
+use Rattle.scsi_cmd.specs.Replies.{reply_tag, reply_ticket}
 use Rattle.scsi_cmd.specs.Op.{moved_bytes, direction_of}
 use Rattle.tag_range.specs.declared.Refused.{Refused}
 use Rattle.tag_range.specs.Tags.{ClientTags, opening as opening_tags, issue, issue_task, free, is_issued}
@@ -19,6 +18,8 @@ use Rattle.bus_core.specs.declared.Refusal.{Refusal}
 use Rattle.bus_core.specs.declared.Outcome.{Outcome}
 use Rattle.bus_core.specs.Shared.{Shared, opening, due, shared_step}
 use Rattle.bus_core.specs.Drain.{drained}
+use Rattle.uasdisk.specs.declared.replay.Handed.{Handed}
+use Rattle.uasdisk.specs.declared.replay.Handed.TheVariants as hand
 use Rattle.uasdisk.specs.declared.script.Request.{Request}
 use Rattle.uasdisk.specs.declared.script.Line.{Line}
 use Rattle.uasdisk.specs.declared.script.Line.TheVariants as line
@@ -117,58 +118,44 @@ noted_run run client brings_in =
 abbrev pub is_brought_in : List (List Bool) → ℕ → ℕ → Bool
 is_brought_in all client ticket = option_map_or (λ noted. slice_index_or noted ticket false) (slice_get all client) false
 
--- a submission whose client's tags gave it a tag and a ticket, or refused
-abbrev pub issued_run : Telling → ℕ → Request → Result (ℕ × ℕ) Refused → Telling
-issued_run run client request (Err refused) = refused_run run client (refused_name refused)
-issued_run run client request (Ok given) =
-    let after = step_of run.machine (step.Submit client given.0 given.1 (command_of request)) in
-    handed_over (noted_run (record run { machine = after.0 }) client (took_to_host (direction_of request.op) after.1.refused))
-    client given.0 after.1.refused
-
 abbrev pub with_range : Telling → ℕ → ClientTags → Telling
 with_range run client tags = record run { ranges = slice_set run.ranges client tags }
 
-abbrev pub submitted_by : Telling → ℕ → Request → Option ClientTags → Telling
-submitted_by run client request None = run
-submitted_by run client request (Some tags) =
-    issued_run (with_range run client (issue TAGS tags).0) client request (issue TAGS tags).1
+-- the client's own tags give a command a tag and a ticket, and a task management the task tag and a ticket, or refuse it
+abbrev pub issued_for : Handed → ClientTags → ClientTags × Result (ℕ × ℕ) Refused
+issued_for (hand.Command request) tags = issue TAGS tags
+issued_for (hand.Task task) tags = issue_task TAGS tags
 
-unfoldable pub submitted : Telling → ℕ → Request → Telling
-submitted run client request = submitted_by run client request (slice_get run.ranges client)
+-- the step that hands it in under them
+abbrev pub handing_in : Handed → ℕ → ℕ × ℕ → Step
+handing_in (hand.Command request) client given = step.Submit client given.0 given.1 (command_of request)
+handing_in (hand.Task task) client given = step.Task client given.1 task
 
--- TASK MANAGEMENT
+abbrev pub brought_in_by : Handed → Option Refusal → Bool
+brought_in_by (hand.Command request) refused = took_to_host (direction_of request.op) refused
+brought_in_by (hand.Task task) refused = false
 
--- a task management whose client's tags gave it the task tag and a ticket, or refused
-abbrev pub managed_run : Telling → ℕ → Task → Result (ℕ × ℕ) Refused → Telling
-managed_run run client task (Err refused) = refused_run run client (refused_name refused)
-managed_run run client task (Ok given) =
-    let after = step_of run.machine (step.Task client given.1 task) in
-    handed_over (noted_run (record run { machine = after.0 }) client false) client given.0 after.1.refused
+-- what was handed in once the client's tags gave it a tag and a ticket, or refused it
+abbrev pub given_run : Telling → ℕ → Handed → Result (ℕ × ℕ) Refused → Telling
+given_run run client handed (Err refused) = refused_run run client (refused_name refused)
+given_run run client handed (Ok given) =
+    let after = step_of run.machine (handing_in handed client given) in
+    handed_over (noted_run (record run { machine = after.0 }) client (brought_in_by handed after.1.refused)) client given.0 after.1.refused
 
-abbrev pub managed_by : Telling → ℕ → Task → Option ClientTags → Telling
-managed_by run client task None = run
-managed_by run client task (Some tags) = managed_run (with_range run client (issue_task TAGS tags).0) client task (issue_task TAGS tags).1
+abbrev pub handed_in_by : Telling → ℕ → Handed → Option ClientTags → Telling
+handed_in_by run client handed None = run
+handed_in_by run client handed (Some tags) = given_run (with_range run client (issued_for handed tags).0) client handed (issued_for handed tags).1
 
-unfoldable pub managed : Telling → ℕ → Task → Telling
-managed run client task = managed_by run client task (slice_get run.ranges client)
+unfoldable pub handed_in : Telling → ℕ → Handed → Telling
+handed_in run client handed = handed_in_by run client handed (slice_get run.ranges client)
 
 -- STEPS AND REPLIES
-
-abbrev pub tag_of : Reply → ℕ
-tag_of (StatusReply tag ticket status sense buffer) = tag
-tag_of (AbortedReply tag ticket buffer) = tag
-tag_of (TaskReply tag ticket code) = tag
-
-abbrev pub ticket_of : Reply → ℕ
-ticket_of (StatusReply tag ticket status sense buffer) = ticket
-ticket_of (AbortedReply tag ticket buffer) = ticket
-ticket_of (TaskReply tag ticket code) = ticket
 
 -- a reply prints its line and frees its tag
 abbrev pub replied : Telling → ℕ → Option Reply → Telling
 replied run client None = run
-replied run client (Some reply) = record (freed_run run client (tag_of reply)) {
-  text = run.text ++ reply_line client (is_brought_in run.brings_in client (ticket_of reply)) reply;
+replied run client (Some reply) = record (freed_run run client (reply_tag reply)) {
+  text = run.text ++ reply_line client (is_brought_in run.brings_in client (reply_ticket reply)) reply;
   failed = run.failed || is_failure reply;
 }
 
@@ -213,8 +200,8 @@ drained_run run = all_taken (record run { machine = drained_machine run.machine 
 -- SCRIPTS
 
 unfoldable pub told_line : Telling → Line → Telling
-told_line run (line.Submit client request) = submitted run client request
-told_line run (line.Task client task) = managed run client task
+told_line run (line.Submit client request) = handed_in run client (hand.Command request)
+told_line run (line.Task client task) = handed_in run client (hand.Task task)
 told_line run line.CommandPipe = stepped run step.CommandPipe
 told_line run line.Engine = stepped run step.Engine
 told_line run line.Event = stepped run step.Event

@@ -13,6 +13,8 @@ use Rattle.stream_array.specs.declared.Pipe.{Pipe}
 use Rattle.stream_array.specs.Map.{number_of}
 use Rattle.bus_core.specs.declared.Step.{Step}
 use Rattle.bus_core.specs.declared.Step.TheVariants as step
+use Rattle.uasdisk.specs.declared.replay.trace.TagStep.{TagStep}
+use Rattle.uasdisk.specs.declared.replay.trace.TagStep.TheVariants as kind
 use Rattle.uasdisk.specs.declared.status.RunFault.{RunFault}
 use Rattle.uasdisk.specs.declared.status.RunFault.TheVariants.{Image, ImageFile, Script, ScriptFile, NoMemory}
 use Rattle.uasdisk.specs.declared.script.Line.{Line}
@@ -79,6 +81,12 @@ context_line pipe stream bytes =
 -- `  bell VALUE`, the value in 8 hexadecimal digits
 abbrev pub bell_line : ℕ → List ℕ
 bell_line value = codes "  bell " ++ encode_lower (to_be_bytes w32 value) ++ codes "\n"
+
+-- the step of a tag, of a kind of which each tag has one
+abbrev pub step_of_tag : TagStep → ℕ → Step
+step_of_tag kind.Data = λ tag. step.Data tag
+step_of_tag kind.Status = λ tag. step.Status tag
+step_of_tag (kind.Retire pipe) = λ tag. step.Retire pipe tag
 
 -- RUNS
 

@@ -25,6 +25,7 @@
 #![tactic(auto)]
 
 pub mod alone;
+pub mod disks;
 pub mod files;
 pub mod headline;
 pub mod image;

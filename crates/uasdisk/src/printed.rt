@@ -3,8 +3,8 @@
 ghost use Rattle.std.specs.Prelude.{◌≡◌, ℕ, ◌≤◌, ◌++◌, [], length, take, codes, IfOk, OnOk, vec_len};
 ghost use Rattle.hex.specs.Hex.{encode_lower};
 ghost use Rattle.std.specs.String.{string_bytes};
-ghost use Rattle.uasdisk.specs.Printed.{line_start, shown_bytes, good_line, hex_at, sense_line, check_line, aborted_line, task_line};
-ghost use Rattle.uasdisk.specs.Printed.{bytes_in, reply_line, is_failure, fault_name, refused_name, refusal_line, idle_line};
+ghost use Rattle.uasdisk.specs.Printed.{line_start, shown_bytes, good_words, hex_at, sense_line, task_words};
+ghost use Rattle.uasdisk.specs.Printed.{reply_line, reply_words, is_failure, fault_name, refused_name, refusal_line, idle_line};
 
 use scsi_cmd::{GOOD, Reply, SubmitFault};
 use std::alloc::{AllocError, Global};
@@ -32,40 +32,37 @@ pub fn push_reply(
 ) -> Result<(), AllocError>
     ensures { OnOk result (text.new.items ≡ text.old.items ++ reply_line client brings_in reply.now) }
 {
+    let ticket = reply.ticket();
+    let start = format!(in alloc; "{client} {ticket} ")?;
+    text.extend_from_slice(start.as_bytes())?;
+    push_words(alloc, text, brings_in, reply)
+}
+
+/// Adds what a reply tells.
+fn push_words(
+    alloc: Global,
+    text: &mut Vec<u8>,
+    brings_in: bool,
+    reply: &Reply,
+) -> Result<(), AllocError>
+    ensures { OnOk result (text.new.items ≡ text.old.items ++ reply_words brings_in reply.now) }
+{
     match reply {
-        Reply::Status {
-            ticket,
-            status,
-            buffer,
-            ..
-        } if *status == GOOD => {
-            let bytes = if brings_in { buffer.as_slice() } else { &[] };
-            push_good(alloc, text, client, *ticket, bytes)
+        Reply::Status { status, buffer, .. } if *status == GOOD => {
+            push_good(alloc, text, if brings_in { buffer.as_slice() } else { &[] })
         }
-        Reply::Status { ticket, sense, .. } => push_check(
-            alloc,
-            text,
-            client,
-            *ticket,
-            sense.as_slice(),
-        ),
-        Reply::Aborted { ticket, .. } => push_aborted(alloc, text, client, *ticket),
-        Reply::Task { ticket, code, .. } => push_task(alloc, text, client, *ticket, *code),
+        Reply::Status { sense, .. } => push_sense(text, sense.as_slice()),
+        Reply::Aborted { .. } => text.extend_from_slice(b"aborted\n"),
+        Reply::Task { code, .. } => push_task(text, *code),
     }
 }
 
-/// Adds `C T good N`, and the first bytes in hexadecimal.
-fn push_good(
-    alloc: Global,
-    text: &mut Vec<u8>,
-    client: usize,
-    ticket: u64,
-    bytes: &[u8],
-) -> Result<(), AllocError>
-    ensures { OnOk result (text.new.items ≡ text.old.items ++ good_line client ticket bytes.now) }
+/// Adds `good N`, and the first bytes in hexadecimal.
+fn push_good(alloc: Global, text: &mut Vec<u8>, bytes: &[u8]) -> Result<(), AllocError>
+    ensures { OnOk result (text.new.items ≡ text.old.items ++ good_words bytes.now) }
 {
     let count = bytes.len();
-    let start = format!(in alloc; "{client} {ticket} good {count}")?;
+    let start = format!(in alloc; "good {count}")?;
     text.extend_from_slice(start.as_bytes())?;
     push_shown(text, bytes)?;
     text.extend_from_slice(b"\n")
@@ -102,21 +99,6 @@ fn push_hex(text: &mut Vec<u8>, bytes: &[u8]) -> Result<(), AllocError>
     text.extend_from_slice(digits)
 }
 
-/// Adds `C T check KK/AA/QQ`.
-fn push_check(
-    alloc: Global,
-    text: &mut Vec<u8>,
-    client: usize,
-    ticket: u64,
-    sense: &[u8],
-) -> Result<(), AllocError>
-    ensures { OnOk result (text.new.items ≡ text.old.items ++ check_line client ticket sense.now) }
-{
-    let start = format!(in alloc; "{client} {ticket} ")?;
-    text.extend_from_slice(start.as_bytes())?;
-    push_sense(text, sense)
-}
-
 /// Adds `check KK/AA/QQ`.
 pub fn push_sense(text: &mut Vec<u8>, sense: &[u8]) -> Result<(), AllocError>
     ensures { OnOk result (text.new.items ≡ text.old.items ++ sense_line sense.now) }
@@ -137,32 +119,11 @@ fn push_hex_at(text: &mut Vec<u8>, sense: &[u8], place: usize) -> Result<(), All
     push_hex(text, &[sense.get(place).copied().unwrap_or(0)])
 }
 
-/// Adds `C T aborted`.
-fn push_aborted(
-    alloc: Global,
-    text: &mut Vec<u8>,
-    client: usize,
-    ticket: u64,
-) -> Result<(), AllocError>
-    ensures { OnOk result (text.new.items ≡ text.old.items ++ aborted_line client ticket) }
+/// Adds `task CC`.
+fn push_task(text: &mut Vec<u8>, code: u8) -> Result<(), AllocError>
+    ensures { OnOk result (text.new.items ≡ text.old.items ++ task_words code) }
 {
-    let start = format!(in alloc; "{client} {ticket} ")?;
-    text.extend_from_slice(start.as_bytes())?;
-    text.extend_from_slice(b"aborted\n")
-}
-
-/// Adds `C T task CC`.
-fn push_task(
-    alloc: Global,
-    text: &mut Vec<u8>,
-    client: usize,
-    ticket: u64,
-    code: u8,
-) -> Result<(), AllocError>
-    ensures { OnOk result (text.new.items ≡ text.old.items ++ task_line client ticket code) }
-{
-    let start = format!(in alloc; "{client} {ticket} task ")?;
-    text.extend_from_slice(start.as_bytes())?;
+    text.extend_from_slice(b"task ")?;
     push_hex(text, &[code])?;
     text.extend_from_slice(b"\n")
 }

@@ -55,36 +55,8 @@ pub fn run_words<F: Files, S: Source, O: Sink, W: Write>(
     ensures quiet { may_show_progress ≡ false → result ≡ 0 → faults.new ≡ faults.old }
 {
     match run_of(alloc, words) {
-        Ok(
-            Run::Replay {
-                clients,
-                blocks,
-                bad,
-            },
-        ) => run_script(
-            alloc,
-            usize::from(clients),
-            blocks,
-            bad,
-            input,
-            output,
-            faults,
-        ),
-        Ok(
-            Run::Trace {
-                clients,
-                blocks,
-                bad,
-            },
-        ) => run_trace(
-            alloc,
-            usize::from(clients),
-            blocks,
-            bad,
-            input,
-            output,
-            faults,
-        ),
+        Ok(Run::Replay(disks)) => run_script(alloc, disks, input, output, faults),
+        Ok(Run::Trace(disks)) => run_trace(alloc, disks, input, output, faults),
         Ok(Run::Make { file, blocks }) => make_file(
             alloc,
             files,

@@ -5,7 +5,9 @@ ghost use Rattle.block_unit.specs.declared.TheConstants.{MAX_BLOCKS};
 ghost use Rattle.std.specs.Prelude.{◌≡◌, ℕ, ◌+◌, ◌*◌, ◌≤◌, ◌<◌, ◌^◌, ◌++◌, ◌∷◌, [], Bool, List, option_to_list, length, fold, replicate};
 ghost use Rattle.std.specs.Prelude.{slice_index_or, false, IfOk, OnOk, vec_len};
 ghost use Rattle.scsi_cmd.specs.Op.{direction_of};
-ghost use Rattle.uasdisk.specs.Told.{zeroed_units, opening_ranges, tag_of, ticket_of, command_of, is_to_host, took_to_host, told};
+ghost use Rattle.uasdisk.specs.Told.{zeroed_units, opening_ranges, command_of, is_to_host, took_to_host, told};
+ghost use Rattle.uasdisk.specs.Told.{issued_for, handing_in, brought_in_by};
+ghost use Rattle.bus_core.specs.Bus.{HasTicket};
 
 pub mod trace;
 
@@ -17,7 +19,7 @@ use bus_core::{Bus, Outcome, Refusal, Step};
 use scsi_cmd::{Buffer, Command, Direction, Op, Reply, TAGS, Task, moves};
 use std::alloc::{AllocError, Global};
 use std::marker::Model;
-use tag_range::TagRange;
+use tag_range::{Refused, Tag, TagRange, Ticket};
 
 /// The most steps of a drain.
 pub const DRAIN_LIMIT: usize = 100_000;
@@ -26,14 +28,6 @@ pub const DRAIN_LIMIT: usize = 100_000;
 #[derive(Drop)]
 struct TicketNotes {
     by_ticket: Vec<bool>,
-}
-
-impl Model for TicketNotes {
-    ghost use Rattle.std.specs.Prelude.{List, Bool};
-
-    ghost Value = { List Bool };
-
-    ghost view = { λ notes. notes.by_ticket.items };
 }
 
 impl TicketNotes {
@@ -65,6 +59,77 @@ impl TicketNotes {
     }
 }
 
+impl Model for TicketNotes {
+    ghost use Rattle.std.specs.Prelude.{List, Bool};
+
+    ghost Value = { List Bool };
+
+    ghost view = { λ notes. notes.by_ticket.items };
+}
+
+/// Nothing noted, for so many clients.
+fn opening_notes(alloc: Global, clients: usize) -> Result<Vec<TicketNotes>, AllocError>
+    ensures { IfOk result (λ notes. notes.items ≡ replicate clients []) }
+{
+    let mut notes = Vec::new(alloc);
+    for _ in 0..clients {
+        notes.push(TicketNotes::new(alloc))?;
+    }
+    Ok(notes)
+}
+
+/// What a client hands in under a tag of its own.
+#[derive(Clone, Copy)]
+pub enum Handed {
+    Command(Request),
+    Task(Task),
+}
+
+impl Handed {
+    /// A tag and a ticket for it out of a client's own, or why there is none.
+    fn issue(&self, range: &mut TagRange<TAGS>) -> Result<(Tag, Ticket), Refused>
+        ensures step { (range.new, result) ≡ issued_for self.now range.old }
+        ensures ticket { IfOk result (λ given. given.1 < 2 ^ 60) }
+    {
+        match self {
+            Handed::Command(_) => range.issue(),
+            Handed::Task(_) => range.issue_task(),
+        }
+    }
+
+    /// The step of the bus that hands it in.
+    fn step(&self, alloc: Global, client: usize, given: (Tag, Ticket)) -> Result<Step, AllocError>
+        requires { given.1 < 2 ^ 60 }
+        ensures step { IfOk result (λ step. step ≡ handing_in self.now client given) }
+        ensures ticket { IfOk result HasTicket }
+    {
+        let (tag, ticket) = given;
+        match *self {
+            Handed::Command(request) => Ok(Step::Submit {
+                client,
+                tag,
+                ticket,
+                command: command_of(alloc, request)?,
+            }),
+            Handed::Task(task) => Ok(Step::Task {
+                client,
+                ticket,
+                task,
+            }),
+        }
+    }
+
+    /// Whether the bus took it, and it moves data to the host.
+    fn brings_in(&self, refused: &Option<Refusal>) -> bool
+        ensures { result ≡ brought_in_by self.now refused.now }
+    {
+        match self {
+            Handed::Command(request) => took_to_host(&request.op, refused),
+            Handed::Task(_) => false,
+        }
+    }
+}
+
 /// A script's run.
 #[derive(Drop)]
 pub struct ScriptRun {
@@ -93,9 +158,8 @@ impl Model for ScriptRun {
 }
 
 impl ScriptRun {
-    ghost use Rattle.bus_core.specs.Bus.{HasTicket};
     ghost use Rattle.uasdisk.specs.Told.{zeroed_units, opening_run, step_of, is_due, drained_machine, refused_run, freed_run, handed_over};
-    ghost use Rattle.uasdisk.specs.Told.{noted_run, is_brought_in, issued_run, submitted, managed_run, managed, replied, taken, idle_run};
+    ghost use Rattle.uasdisk.specs.Told.{noted_run, is_brought_in, given_run, handed_in, replied, taken, idle_run};
     ghost use Rattle.uasdisk.specs.Told.{stepped, taken_or_idle, all_taken_by, all_taken, drained_run, told_line};
 
     /// The run before its first line, of 1 to 31 clients on units of 1 to 65,536 zeroed blocks.
@@ -178,8 +242,8 @@ impl ScriptRun {
     fn reply(&mut self, client: usize, reply: &Reply) -> Result<(), AllocError>
         ensures { OnOk result (self.new ≡ replied self.old client (Some reply.now)) }
     {
-        let tag = tag_of(reply);
-        let brings_in = self.is_brought_in(client, ticket_of(reply));
+        let tag = reply.tag();
+        let brings_in = self.is_brought_in(client, reply.ticket());
         printed::push_reply(self.alloc, &mut self.text, client, brings_in, reply)?;
         self.failed = self.failed || printed::is_failure(reply);
         self.free(client, tag);
@@ -206,74 +270,34 @@ impl ScriptRun {
         Ok(())
     }
 
-    /// A submission: the client's tags give it a tag and a ticket, or refuse it.
-    #[tactic(auto, unfolding(crate::specs::Told::submitted))]
-    fn submit(&mut self, client: usize, request: Request) -> Result<(), AllocError>
-        ensures { OnOk result (self.new ≡ submitted self.old client request) }
+    /// What a client hands in: its tags give it a tag and a ticket, or refuse it.
+    #[tactic(auto, unfolding(crate::specs::Told::handed_in))]
+    fn hand_in(&mut self, client: usize, handed: Handed) -> Result<(), AllocError>
+        ensures { OnOk result (self.new ≡ handed_in self.old client handed) }
     {
         let Some(range) = self.ranges.get_mut(client) else {
             return Ok(());
         };
-        match range.issue() {
-            Ok((tag, ticket)) => self.hand_over(client, tag, ticket, request),
+        match handed.issue(range) {
+            Ok(given) => self.hand_over(client, handed, given),
             Err(refused) => self.refuse(client, printed::refused_name(refused)),
         }
     }
 
-    /// Hands a submission to the bus.
+    /// Hands it over to the bus, under the tag and the ticket that the client was given.
     fn hand_over(
         &mut self,
         client: usize,
-        tag: u16,
-        ticket: u64,
-        request: Request,
+        handed: Handed,
+        given: (Tag, Ticket),
     ) -> Result<(), AllocError>
-        requires { ticket < 2 ^ 60 }
-        ensures { OnOk result (self.new ≡ issued_run self.old client request (Ok (tag, ticket))) }
+        requires { given.1 < 2 ^ 60 }
+        ensures { OnOk result (self.new ≡ given_run self.old client handed (Ok given)) }
     {
-        let command = command_of(self.alloc, request)?;
-        let Outcome { refused, .. } = self.act(Step::Submit {
-            client,
-            tag,
-            ticket,
-            command,
-        });
-        self.note(client, took_to_host(&request.op, &refused))?;
-        self.hear(client, tag, refused)
-    }
-
-    /// A task management: the client's tags give it the task tag and a ticket, or refuse it.
-    #[tactic(auto, unfolding(crate::specs::Told::managed))]
-    fn manage(&mut self, client: usize, task: Task) -> Result<(), AllocError>
-        ensures { OnOk result (self.new ≡ managed self.old client task) }
-    {
-        let Some(range) = self.ranges.get_mut(client) else {
-            return Ok(());
-        };
-        match range.issue_task() {
-            Ok((tag, ticket)) => self.hand_over_task(client, tag, ticket, task),
-            Err(refused) => self.refuse(client, printed::refused_name(refused)),
-        }
-    }
-
-    /// Hands a task management to the bus.
-    fn hand_over_task(
-        &mut self,
-        client: usize,
-        tag: u16,
-        ticket: u64,
-        task: Task,
-    ) -> Result<(), AllocError>
-        requires { ticket < 2 ^ 60 }
-        ensures { OnOk result (self.new ≡ managed_run self.old client task (Ok (tag, ticket))) }
-    {
-        let Outcome { refused, .. } = self.act(Step::Task {
-            client,
-            ticket,
-            task,
-        });
-        self.note(client, false)?;
-        self.hear(client, tag, refused)
+        let step = handed.step(self.alloc, client, given)?;
+        let Outcome { refused, .. } = self.act(step);
+        self.note(client, handed.brings_in(&refused))?;
+        self.hear(client, given.0, refused)
     }
 
     /// Notes of a client's last ticket whether the bus took a command under it that moves data to the host.
@@ -371,8 +395,8 @@ impl ScriptRun {
         ensures { OnOk result (self.new ≡ told_line self.old line) }
     {
         match line {
-            Line::Submit { client, request } => self.submit(client, request),
-            Line::Task { client, task } => self.manage(client, task),
+            Line::Submit { client, request } => self.hand_in(client, Handed::Command(request)),
+            Line::Task { client, task } => self.hand_in(client, Handed::Task(task)),
             Line::CommandPipe => self.step(Step::CommandPipe),
             Line::Engine => self.step(Step::Engine),
             Line::Event => self.step(Step::Event),
@@ -434,36 +458,6 @@ fn opening_ranges(alloc: Global, clients: usize) -> Result<Vec<TagRange<TAGS>>, 
         ranges.push(TagRange::new(client as u8))?;
     }
     Ok(ranges)
-}
-
-/// Nothing noted, for so many clients.
-fn opening_notes(alloc: Global, clients: usize) -> Result<Vec<TicketNotes>, AllocError>
-    ensures { IfOk result (λ notes. notes.items ≡ replicate clients []) }
-{
-    let mut notes = Vec::new(alloc);
-    for _ in 0..clients {
-        notes.push(TicketNotes::new(alloc))?;
-    }
-    Ok(notes)
-}
-
-/// The ticket that a reply answers.
-fn ticket_of(reply: &Reply) -> u64
-    ensures { result ≡ ticket_of reply.now }
-{
-    match reply {
-        Reply::Status { ticket, .. } | Reply::Aborted { ticket, .. } | Reply::Task { ticket, .. } =>
-            *ticket,
-    }
-}
-
-/// The tag that a reply brings back.
-fn tag_of(reply: &Reply) -> u16
-    ensures { result ≡ tag_of reply.now }
-{
-    match reply {
-        Reply::Status { tag, .. } | Reply::Aborted { tag, .. } | Reply::Task { tag, .. } => *tag,
-    }
 }
 
 /// Whether an operation moves data to the host.

@@ -1,13 +1,14 @@
 //! The run `replay`: a script from a reader, and what it tells to a writer.
 
 ghost use Rattle.bus_core.specs.declared.TheConstants.{MAX_CLIENTS};
-ghost use Rattle.block_unit.specs.declared.TheConstants.{MAX_BLOCKS};
 ghost use Rattle.std.specs.Prelude.{◌≡◌, ℕ, ◌+◌, ◌≤◌, ◌<◌, ◌⊎◌, length, true, Ok, Err, IsTrue, IsErr, IfOk, IfErr, OnOk, IfSome};
 ghost use Rattle.std.specs.Io.KnownBytes.{Consumes, Appends, Keeps, IsAtEnd};
+ghost use Rattle.uasdisk.specs.Options.{AreDisks};
 ghost use Rattle.uasdisk.specs.Script.{script};
 ghost use Rattle.uasdisk.specs.Told.{told, zeroed_units};
 ghost use Rattle.uasdisk.specs.Runs.{Tells, ScriptGivesUp, ReplayGivesUp};
 
+use crate::disks::Disks;
 use crate::replay::told;
 use crate::script::{Line, MAX_SCRIPT_BYTES, ScriptFault, parse_script};
 use crate::status::{RunFault, output_fault};
@@ -15,35 +16,31 @@ use crate::streams::{Sink, Source, read_at_most};
 use std::alloc::Global;
 use std::io::Write;
 
-/// The run `replay`: reads a script of 1 to 31 clients and runs it on units of 1 to 65,536 zeroed blocks, of which the block `bad`,
-/// if one is given, is bad in every unit that has it. The whole script is read before anything is run. It answers the exit
+/// The run `replay`: reads a script of 1 to 31 clients and runs it on units of 1 to 65,536 zeroed blocks, of which one may be
+/// bad. The whole script is read before anything is run. It answers the exit
 /// status: 1 where a command ended other than GOOD or was refused, 3 at a fault of the script, the reader or the writer, 4 for
 /// want of memory, else 0.
 pub fn run_script<S: Source, O: Sink, W: Write>(
     alloc: Global,
-    clients: usize,
-    blocks: u32,
-    bad: Option<u32>,
+    disks: Disks,
     reader: &mut S,
     writer: &mut O,
     faults: &mut W,
 ) -> u8
-    requires some_clients { 1 ≤ clients }
-    requires most_clients { clients ≤ MAX_CLIENTS }
-    requires some_blocks { 1 ≤ blocks }
-    requires most_blocks { blocks ≤ MAX_BLOCKS }
+    requires { AreDisks disks }
     ensures statuses { (result ≤ 1) ⊎ ((result ≡ 3) ⊎ (result ≡ 4)) }
     ensures told { result ≤ 1 → IfSome (S.left reader.old) (λ bytes.
-        Tells (zeroed_units clients blocks bad) (script clients bytes) (O.written writer.old) (O.written writer.new) result) }
+        Tells (zeroed_units disks.clients disks.blocks disks.bad) (script disks.clients bytes)
+        (O.written writer.old) (O.written writer.new) result) }
     ensures read { result ≤ 1 → IsAtEnd (S.left reader.new) }
     ensures there { result ≤ 1 → IsTrue (S.is_there reader.old) }
     ensures fault { result ≡ 3 →
-        ((IfSome (S.left reader.old) (λ bytes. IsErr (script clients bytes)) ⊎ IsTrue (S.can_fail reader.old))
+        ((IfSome (S.left reader.old) (λ bytes. IsErr (script disks.clients bytes)) ⊎ IsTrue (S.can_fail reader.old))
         × Keeps (O.written writer.old) (O.written writer.new)) ⊎ IsTrue (O.can_fail writer.old) }
     ensures memory { result ≡ 4 → Keeps (O.written writer.old) (O.written writer.new) }
     ensures quiet { result ≤ 1 → faults.new ≡ faults.old }
 {
-    match tell_script(alloc, clients, blocks, bad, reader, writer) {
+    match tell_script(alloc, disks, reader, writer) {
         Ok(status) => status,
         Err(fault) => fault.tell(faults),
     }
@@ -51,26 +48,24 @@ pub fn run_script<S: Source, O: Sink, W: Write>(
 
 fn tell_script<S: Source, O: Sink>(
     alloc: Global,
-    clients: usize,
-    blocks: u32,
-    bad: Option<u32>,
+    disks: Disks,
     reader: &mut S,
     writer: &mut O,
 ) -> Result<u8, RunFault>
-    requires some_clients { 1 ≤ clients }
-    requires most_clients { clients ≤ MAX_CLIENTS }
-    requires some_blocks { 1 ≤ blocks }
-    requires most_blocks { blocks ≤ MAX_BLOCKS }
+    requires { AreDisks disks }
     ensures status { IfOk result (λ status. status ≤ 1) }
     ensures told { IfOk result (λ status. IfSome (S.left reader.old) (λ bytes.
-        Tells (zeroed_units clients blocks bad) (script clients bytes) (O.written writer.old) (O.written writer.new) status)) }
+        Tells (zeroed_units disks.clients disks.blocks disks.bad) (script disks.clients bytes)
+        (O.written writer.old) (O.written writer.new) status)) }
     ensures read { OnOk result (IsAtEnd (S.left reader.new)) }
     ensures there { OnOk result (IsTrue (S.is_there reader.old)) }
-    ensures fault { IfErr result (ReplayGivesUp clients (S.left reader.old) (S.can_fail reader.old) (O.can_fail writer.old)
+    ensures fault { IfErr result (ReplayGivesUp disks.clients (S.left reader.old) (S.can_fail reader.old) (O.can_fail writer.old)
         (O.written writer.old) (O.written writer.new)) }
 {
-    let lines = read_script(alloc, clients, reader)?;
-    let (text, status) = told(alloc, clients, blocks, bad, &lines).map_err(|_| RunFault::NoMemory)?;
+    let lines = read_script(alloc, disks.clients, reader)?;
+    let (text, status) = told(alloc, disks.clients, disks.blocks, disks.bad, &lines).map_err(
+        |_| RunFault::NoMemory,
+    )?;
     writer.write(&text).map_err(output_fault)?;
     Ok(status)
 }

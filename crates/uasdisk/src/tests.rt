@@ -1,14 +1,12 @@
-ghost use Rattle.bus_core.specs.declared.TheConstants.{MAX_CLIENTS};
-ghost use Rattle.block_unit.specs.declared.TheConstants.{MAX_BLOCKS};
-ghost use Rattle.std.specs.Prelude.{◌≤◌};
+ghost use Rattle.uasdisk.specs.Options.{AreBlocks, AreClients};
 
+use crate::disks::Disks;
 use crate::run_script::run_script;
 use crate::streams::{BytesTaken, Source, Writer};
 use std::alloc::{AllocError, Global};
 use std::io;
 use std::io::{Error, ErrorKind, Read, Write};
 
-mod bad_blocks;
 mod failing;
 mod faults;
 mod images;
@@ -24,23 +22,25 @@ struct Ran {
     faults: Vec<u8>,
 }
 
+/// One client with a unit of 100 blocks.
+const ONE_DISK: Disks = Disks {
+    clients: 1,
+    blocks: 100,
+    bad: None,
+};
+
 fn run<S: Source>(alloc: Global, clients: usize, blocks: u32, source: &mut S) -> Ran
-    requires some_clients { 1 ≤ clients }
-    requires most_clients { clients ≤ MAX_CLIENTS }
-    requires some_blocks { 1 ≤ blocks }
-    requires most_blocks { blocks ≤ MAX_BLOCKS }
+    requires clients { AreClients clients }
+    requires blocks { AreBlocks blocks }
 {
     let mut output = BytesTaken(Vec::new(alloc));
     let mut faults = Vec::new(alloc);
-    let status = run_script(
-        alloc,
+    let disks = Disks {
         clients,
         blocks,
-        None,
-        source,
-        &mut output,
-        &mut faults,
-    );
+        bad: None,
+    };
+    let status = run_script(alloc, disks, source, &mut output, &mut faults);
     let BytesTaken(output) = output;
     Ran {
         status,

@@ -1,15 +1,15 @@
 //! The words of the command line: the subcommands, their arguments and the ranges of their numbers.
 
-ghost use Rattle.std.specs.Prelude.{◌≡◌, false, Some, IfOk, IfSome, MatchResult, map, option_map};
+ghost use Rattle.std.specs.Prelude.{◌≡◌, ◌≤◌, ℕ, Option, false, Some, IfOk, IfSome, MatchResult, map, option_and_then, option_map};
 ghost use Rattle.std.specs.String.{string_bytes};
-ghost use Rattle.clap.specs.Words.{FailsBy, app_of, found_of, kind_of, rows_of, rule_of, subcommand_rows_of};
-ghost use Rattle.uasdisk.specs.Options.{IsInRange};
+ghost use Rattle.clap.specs.Words.{FailsBy, app_of, found_of, kind_of, one_of, rows_of, rule_of, subcommand_rows_of};
+ghost use Rattle.uasdisk.specs.Options.{AreBlocks, AreDisks, IsBlock, IsInRange, IsMoved};
 ghost use Rattle.uasdisk.specs.CommandLine.{Asked, AsksPlainly, asked_by, asked_for, asked_in, bad_of, bad_rule, blocks_of, blocks_rule};
-ghost use Rattle.uasdisk.specs.CommandLine.{byte_of, byte_rule, clients_of, count_of, count_rule, dump_app, dump_of, extent_app, file_of};
-ghost use Rattle.uasdisk.specs.CommandLine.{file_rule, fill_app, fill_of, info_app, lba_of, lba_rule, make_app, number_rule, program_app};
-ghost use Rattle.uasdisk.specs.CommandLine.{refusals, replay_app, script_app, top_app, trace_app};
+ghost use Rattle.uasdisk.specs.CommandLine.{dump_app, dump_of, extent_of, file_of, file_rule, fill_app, fill_of, info_app, make_app, number_of};
+ghost use Rattle.uasdisk.specs.CommandLine.{number_rule, program_app, refusals, replay_app, script_of, top_app, trace_app, with_disks, with_extent};
 
 use crate::alone::Extent;
+use crate::disks::Disks;
 use block_unit::MAX_BLOCKS;
 use bus_core::MAX_CLIENTS;
 use clap::error::ErrorKind;
@@ -39,6 +39,12 @@ const MAX_BYTE: u32 = u8::MAX as u32;
 
 const _: () = prove!(MAX_BYTE == 255);
 
+const CLIENTS_HELP: &str = "How many clients there are, each with a unit of its own: 1 to 31";
+
+const LBA_HELP: &str = "The number of the first block: 0 to 4294967295";
+
+const BYTE_HELP: &str = "The byte that the blocks are filled with: 0 to 255";
+
 /// The version of the program, and the toolchain that it was proved with.
 pub const VERSION: &str = "0.1.0, proved with rattle-kit-13b logic dac8208d650f15bf";
 
@@ -46,17 +52,9 @@ pub const VERSION: &str = "0.1.0, proved with rattle-kit-13b logic dac8208d650f1
 #[derive(Clone, Copy, Debug, PartialEq, Eq)]
 pub enum Run<'a> {
     /// Run a script of 1 to 31 clients on units of 1 to 65,536 zeroed blocks. One block, 0 to 65,535, may be bad in every unit.
-    Replay {
-        clients: u8,
-        blocks: u32,
-        bad: Option<u32>,
-    },
+    Replay(Disks),
     /// Run a script as `Replay` does, and show each step.
-    Trace {
-        clients: u8,
-        blocks: u32,
-        bad: Option<u32>,
-    },
+    Trace(Disks),
     /// Make an image file of 1 to 65,536 zeroed blocks.
     Make {
         file: &'a str,
@@ -130,44 +128,27 @@ fn top_command<'a>(alloc: Global) -> Command<'a>
 fn replay_command<'a>(alloc: Global) -> Result<Command<'a>, AllocError>
     ensures { IfOk result (λ command. app_of command ≡ replay_app) }
 {
-    script_command(
-        alloc,
-        "replay",
-        "Reads a script from standard input and runs it on zeroed units",
-        "Example:\n  uasdisk replay 2 100 < examples/two-clients.script",
-    )
+    let command = Command::new(alloc, "replay")
+        .about("Reads a script from standard input and runs it on zeroed units")
+        .after_help("Example:\n  uasdisk replay 2 100 < examples/two-clients.script");
+    add_disks(alloc, command)
 }
 
 fn trace_command<'a>(alloc: Global) -> Result<Command<'a>, AllocError>
     ensures { IfOk result (λ command. app_of command ≡ trace_app) }
 {
-    script_command(
-        alloc,
-        "trace",
-        "Runs a script as replay does, and prints each step with the bytes that it wrote",
-        "Example:\n  uasdisk trace 1 100 < examples/first-reply.script",
-    )
+    let command = Command::new(alloc, "trace")
+        .about("Runs a script as replay does, and prints each step with the bytes that it wrote")
+        .after_help("Example:\n  uasdisk trace 1 100 < examples/first-reply.script");
+    add_disks(alloc, command)
 }
 
-/// A subcommand that runs a script.
-fn script_command<'a>(
-    alloc: Global,
-    name: &'a str,
-    about: &'a str,
-    example: &'a str,
-) -> Result<Command<'a>, AllocError>
-    ensures { IfOk result (λ command. app_of command ≡ script_app name.entry.now) }
+/// Adds what tells the disks that a script runs on.
+fn add_disks<'a>(alloc: Global, command: Command<'a>) -> Result<Command<'a>, AllocError>
+    ensures { IfOk result (λ made. app_of made ≡ with_disks (app_of command.entry)) }
 {
-    Command::new(alloc, name)
-        .about(about)
-        .after_help(example)
-        .arg(number(
-            alloc,
-            "CLIENTS",
-            1,
-            MOST_CLIENTS,
-            "How many clients there are, each with a unit of its own: 1 to 31",
-        ))?
+    command
+        .arg(number(alloc, "CLIENTS", 1, MOST_CLIENTS, CLIENTS_HELP))?
         .arg(blocks(
             alloc,
             "How many blocks of 512 bytes each unit has: 1 to 65536",
@@ -197,41 +178,29 @@ fn info_command<'a>(alloc: Global) -> Result<Command<'a>, AllocError>
 fn dump_command<'a>(alloc: Global) -> Result<Command<'a>, AllocError>
     ensures { IfOk result (λ command. app_of command ≡ dump_app) }
 {
-    extent_command(
-        alloc,
-        "dump",
-        "Reads blocks of an image file by one READ, and prints their bytes",
-        "Example:\n  uasdisk dump disk.image 0 1",
-    )
+    let command = Command::new(alloc, "dump")
+        .about("Reads blocks of an image file by one READ, and prints their bytes")
+        .after_help("Example:\n  uasdisk dump disk.image 0 1");
+    add_extent(alloc, command)
 }
 
 fn fill_command<'a>(alloc: Global) -> Result<Command<'a>, AllocError>
     ensures { IfOk result (λ command. app_of command ≡ fill_app) }
 {
-    extent_command(
-        alloc,
-        "fill",
-        "Fills blocks of an image file with a byte by one WRITE, and writes the file",
-        "Example:\n  uasdisk fill disk.image 0 1 255",
-    )?
-    .arg(byte(alloc, "The byte that the blocks are filled with: 0 to 255"))
+    let command = Command::new(alloc, "fill")
+        .about("Fills blocks of an image file with a byte by one WRITE, and writes the file")
+        .after_help("Example:\n  uasdisk fill disk.image 0 1 255");
+    add_extent(alloc, command)?.arg(number(alloc, "BYTE", 0, MAX_BYTE, BYTE_HELP))
 }
 
-/// A subcommand on blocks of an image.
-fn extent_command<'a>(
-    alloc: Global,
-    name: &'a str,
-    about: &'a str,
-    example: &'a str,
-) -> Result<Command<'a>, AllocError>
-    ensures { IfOk result (λ command. app_of command ≡ extent_app name.entry.now) }
+/// Adds what tells the blocks of an image.
+fn add_extent<'a>(alloc: Global, command: Command<'a>) -> Result<Command<'a>, AllocError>
+    ensures { IfOk result (λ made. app_of made ≡ with_extent (app_of command.entry)) }
 {
-    Command::new(alloc, name)
-        .about(about)
-        .after_help(example)
+    command
         .arg(file(alloc, "The image file: 1 to 65536 blocks of 512 bytes"))?
-        .arg(lba(alloc, "The number of the first block: 0 to 4294967295"))?
-        .arg(count(alloc, "How many blocks: 1 to 128"))
+        .arg(number(alloc, "LBA", 0, u32::MAX, LBA_HELP))?
+        .arg(number(alloc, "COUNT", 1, MOST_MOVED, "How many blocks: 1 to 128"))
 }
 
 fn file<'a>(alloc: Global, help: &'a str) -> Arg<'a>
@@ -263,27 +232,6 @@ fn bad<'a>(alloc: Global, help: &'a str) -> Arg<'a>
         .help(help)
 }
 
-fn lba<'a>(alloc: Global, help: &'a str) -> Arg<'a>
-    ensures rule { rule_of result ≡ lba_rule }
-    ensures local { result.global ≡ false }
-{
-    number(alloc, "LBA", 0, u32::MAX, help)
-}
-
-fn count<'a>(alloc: Global, help: &'a str) -> Arg<'a>
-    ensures rule { rule_of result ≡ count_rule }
-    ensures local { result.global ≡ false }
-{
-    number(alloc, "COUNT", 1, MOST_MOVED, help)
-}
-
-fn byte<'a>(alloc: Global, help: &'a str) -> Arg<'a>
-    ensures rule { rule_of result ≡ byte_rule }
-    ensures local { result.global ≡ false }
-{
-    number(alloc, "BYTE", 0, MAX_BYTE, help)
-}
-
 fn number<'a>(alloc: Global, name: &'a str, least: u32, most: u32, help: &'a str) -> Arg<'a>
     ensures rule { rule_of result ≡ number_rule name.entry.now least most }
     ensures local { result.global ≡ false }
@@ -302,26 +250,8 @@ fn asked<'a>(matches: &ArgMatches<'a>) -> Option<Run<'a>>
 {
     let (name, words) = matches.subcommand()?;
     match name {
-        "replay" => {
-            let clients = clients_in(words)?;
-            let blocks = blocks_in(words)?;
-            let bad = bad_in(words)?;
-            Some(Run::Replay {
-                clients,
-                blocks,
-                bad,
-            })
-        }
-        "trace" => {
-            let clients = clients_in(words)?;
-            let blocks = blocks_in(words)?;
-            let bad = bad_in(words)?;
-            Some(Run::Trace {
-                clients,
-                blocks,
-                bad,
-            })
-        }
+        "replay" => Some(Run::Replay(disks_in(words)?)),
+        "trace" => Some(Run::Trace(disks_in(words)?)),
         "make" => {
             let file = words.get_str("FILE")?;
             let blocks = blocks_in(words)?;
@@ -337,14 +267,28 @@ fn asked<'a>(matches: &ArgMatches<'a>) -> Option<Run<'a>>
     }
 }
 
+/// The disks that a `replay` or a `trace` runs on.
+fn disks_in(words: &ArgMatches<'_>) -> Option<Disks>
+    ensures range { IfSome result (λ disks. AreDisks disks × IfSome disks.bad IsBlock) }
+    ensures asked { (run : ℕ → ℕ → Option ℕ → Asked)
+        → option_map (λ disks. run disks.clients disks.blocks disks.bad) result ≡ script_of run (rows_of (found_of words.now)) }
+{
+    let clients = number_in(words, "CLIENTS", 1, MOST_CLIENTS)? as usize;
+    let blocks = blocks_in(words)?;
+    let bad = bad_in(words)?;
+    Some(Disks {
+        clients,
+        blocks,
+        bad,
+    })
+}
+
 fn dump_in<'a>(words: &ArgMatches<'a>) -> Option<Run<'a>>
     ensures range { IfSome result IsInRange }
     ensures asked { option_map asked_by result ≡ dump_of (rows_of (found_of words.now)) }
 {
     let file = file_in(words)?;
-    let lba = lba_in(words)?;
-    let count = count_in(words)?;
-    let extent = Extent { lba, count };
+    let extent = extent_in(words)?;
     Some(Run::Dump { file, extent })
 }
 
@@ -353,10 +297,8 @@ fn fill_in<'a>(words: &ArgMatches<'a>) -> Option<Run<'a>>
     ensures asked { option_map asked_by result ≡ fill_of (rows_of (found_of words.now)) }
 {
     let file = file_in(words)?;
-    let lba = lba_in(words)?;
-    let count = count_in(words)?;
-    let byte = byte_in(words)?;
-    let extent = Extent { lba, count };
+    let extent = extent_in(words)?;
+    let byte = number_in(words, "BYTE", 0, MAX_BYTE)? as u8;
     Some(Run::Fill { file, extent, byte })
 }
 
@@ -366,23 +308,31 @@ fn file_in<'a>(words: &ArgMatches<'a>) -> Option<&'a str>
     words.get_str("FILE")
 }
 
-fn clients_in(words: &ArgMatches<'_>) -> Option<u8>
-    ensures { result ≡ clients_of (rows_of (found_of words.now)) }
+/// The blocks that a `dump` or a `fill` is of.
+fn extent_in(words: &ArgMatches<'_>) -> Option<Extent>
+    ensures range { IfSome result (λ extent. IsMoved extent.count) }
+    ensures extent { result ≡ extent_of (rows_of (found_of words.now)) }
 {
-    let clients = words.get_one::<u8>("CLIENTS")?;
-    if 1 <= clients && u32::from(clients) <= MOST_CLIENTS {
-        Some(clients)
-    } else {
-        None
-    }
+    let lba = number_in(words, "LBA", 0, u32::MAX)?;
+    let count = number_in(words, "COUNT", 1, MOST_MOVED)? as u16;
+    Some(Extent { lba, count })
 }
 
 fn blocks_in(words: &ArgMatches<'_>) -> Option<u32>
-    ensures { result ≡ blocks_of (rows_of (found_of words.now)) }
+    ensures number { result ≡ blocks_of (rows_of (found_of words.now)) }
+    ensures range { IfSome result AreBlocks }
 {
-    let blocks = words.get_one::<u32>("BLOCKS")?;
-    if 1 <= blocks && blocks <= MAX_BLOCKS {
-        Some(blocks)
+    number_in(words, "BLOCKS", 1, MAX_BLOCKS)
+}
+
+/// The number under this name, where there is one and it is from `least` to `most`.
+fn number_in(words: &ArgMatches<'_>, name: &str, least: u32, most: u32) -> Option<u32>
+    ensures number { result ≡ option_and_then (number_of least most) (one_of name.now (rows_of (found_of words.now))) }
+    ensures range { IfSome result (λ number. (least ≤ number) × (number ≤ most)) }
+{
+    let number = words.get_one::<u32>(name)?;
+    if least <= number && number <= most {
+        Some(number)
     } else {
         None
     }
@@ -390,7 +340,8 @@ fn blocks_in(words: &ArgMatches<'_>) -> Option<u32>
 
 /// The block that `--bad` names, where it stands. None where its word is no number of the range.
 fn bad_in(words: &ArgMatches<'_>) -> Option<Option<u32>>
-    ensures { result ≡ bad_of (rows_of (found_of words.now)) }
+    ensures bad { result ≡ bad_of (rows_of (found_of words.now)) }
+    ensures range { IfSome result (λ bad. IfSome bad IsBlock) }
 {
     match words.try_get_one::<u32>("bad") {
         Ok(None) => Some(None),
@@ -398,29 +349,4 @@ fn bad_in(words: &ArgMatches<'_>) -> Option<Option<u32>>
         Ok(Some(_)) => None,
         Err(_) => None,
     }
-}
-
-fn lba_in(words: &ArgMatches<'_>) -> Option<u32>
-    ensures { result ≡ lba_of (rows_of (found_of words.now)) }
-{
-    let lba = words.get_one::<u32>("LBA")?;
-    Some(lba)
-}
-
-fn count_in(words: &ArgMatches<'_>) -> Option<u16>
-    ensures { result ≡ count_of (rows_of (found_of words.now)) }
-{
-    let count = words.get_one::<u16>("COUNT")?;
-    if 1 <= count && count <= MOST_BLOCKS_MOVED {
-        Some(count)
-    } else {
-        None
-    }
-}
-
-fn byte_in(words: &ArgMatches<'_>) -> Option<u8>
-    ensures { result ≡ byte_of (rows_of (found_of words.now)) }
-{
-    let byte = words.get_one::<u8>("BYTE")?;
-    Some(byte)
 }

@@ -6,30 +6,50 @@
 
 ghost use Rattle.bus_core.specs.declared.TheConstants.{MAX_CLIENTS};
 ghost use Rattle.block_unit.specs.declared.TheConstants.{MAX_BLOCKS};
-ghost use Rattle.std.specs.Prelude.{◌≡◌, ◌≤◌, ◌<◌, ◌^◌, Ok, fold, map, IfOk, OnOk, IfErr};
-ghost use Rattle.std.specs.List.{range_with_len};
+ghost use Rattle.std.specs.Prelude.{◌≡◌, ◌≤◌, ◌<◌, ◌^◌, Ok, fold, map, length, IfOk, OnOk, IfErr};
 ghost use Rattle.bus_core.specs.Bus.{HasTicket};
-ghost use Rattle.bus_core.specs.Drain.{round, tried, tried_one};
-ghost use Rattle.bus_core.specs.declared.Step.TheVariants.{Data, Retire, Status};
-ghost use Rattle.uasdisk.specs.Told.{all_taken, all_taken_by, drained_machine, drained_run, issued_run, managed, managed_run, opening_run};
-ghost use Rattle.uasdisk.specs.Told.{step_of, stepped, submitted, taken, taken_or_idle, told, told_line, zeroed_units};
-ghost use Rattle.uasdisk.specs.Traced.{StopsBy};
-ghost use Rattle.uasdisk.specs.declared.status.RunFault.{RunFault};
+ghost use Rattle.bus_core.specs.Drain.{all_tags, round, tried, tried_one};
+ghost use Rattle.uasdisk.specs.Told.{all_taken, all_taken_by, drained_machine, drained_run, given_run, handed_in};
+ghost use Rattle.uasdisk.specs.Told.{step_of, stepped, taken, taken_or_idle, told, told_line, zeroed_units};
+ghost use Rattle.uasdisk.specs.Traced.{StopsBy, step_of_tag};
 
 mod lines;
 mod writes;
 
-use super::{DRAIN_LIMIT, ScriptRun, command_of, took_to_host};
+use super::{DRAIN_LIMIT, Handed, ScriptRun};
 use crate::printed;
-use crate::script::{Line, Request};
+use crate::script::Line;
 use crate::status::{COMMAND_FAILED, DONE, RunFault, output_fault};
 use crate::streams::Sink;
 use bus_core::{Outcome, Step};
 use lines::push_step;
-use scsi_cmd::{TAGS, Task};
+use scsi_cmd::TAGS;
 use std::alloc::Global;
 use stream_array::{EVENT_RING_PLACES, Pipe};
+use tag_range::{Tag, Ticket};
 use writes::Before;
+
+/// A kind of step that each tag has one of.
+#[derive(Clone, Copy)]
+pub enum TagStep {
+    Data,
+    Status,
+    Retire(Pipe),
+}
+
+impl TagStep {
+    /// The step of a tag.
+    fn step(self, tag: u16) -> Step
+        ensures step { result ≡ step_of_tag self tag }
+        ensures ticket { HasTicket result }
+    {
+        match self {
+            TagStep::Data => Step::Data(tag),
+            TagStep::Status => Step::Status(tag),
+            TagStep::Retire(pipe) => Step::Retire(pipe, tag),
+        }
+    }
+}
 
 /// A script's run that is shown step by step.
 #[derive(Drop)]
@@ -44,26 +64,17 @@ struct TracedRun {
 }
 
 impl TracedRun {
-    /// The run before its first line.
-    fn new(
-        alloc: Global,
-        clients: usize,
-        blocks: u32,
-        bad: Option<u32>,
-    ) -> Result<TracedRun, RunFault>
-        requires some_clients { 1 ≤ clients }
-        requires most_clients { clients ≤ MAX_CLIENTS }
-        requires some_blocks { 1 ≤ blocks }
-        requires most_blocks { blocks ≤ MAX_BLOCKS }
-        ensures run { IfOk result (λ traced. traced.run ≡ opening_run (zeroed_units clients blocks bad)) }
-        ensures fault { IfErr result (λ fault. fault ≡ RunFault.NoMemory) }
+    /// A run of which nothing was printed.
+    fn of(run: ScriptRun) -> TracedRun
+        ensures { result.run ≡ run }
     {
-        Ok(TracedRun {
-            run: ScriptRun::new(alloc, clients, blocks, bad).map_err(|_| RunFault::NoMemory)?,
+        let text = Vec::new(run.alloc);
+        TracedRun {
+            run,
             printed: 0,
             posted: 0,
-            text: Vec::new(alloc),
-        })
+            text,
+        }
     }
 
     /// Prints what the run told since it printed last.
@@ -97,7 +108,7 @@ impl TracedRun {
         let outcome = self.run.act(step);
         let place = self.posted % EVENT_RING_PLACES;
         before
-            .push_writes(alloc, &mut self.text, &self.run.bus, &outcome, place)
+            .push_writes(alloc, &mut self.text, &self.run.bus, place, &outcome)
             .map_err(|_| RunFault::NoMemory)?;
         if before.posts(&self.run.bus) {
             self.posted = place + 1;
@@ -122,23 +133,23 @@ impl TracedRun {
         Ok(())
     }
 
-    /// A submission: the client's tags give it a tag and a ticket, or refuse it.
-    #[tactic(auto, unfolding(crate::specs::Told::submitted))]
-    fn submit<O: Sink>(
+    /// What a client hands in: its tags give it a tag and a ticket, or refuse it.
+    #[tactic(auto, unfolding(crate::specs::Told::handed_in))]
+    fn hand_in<O: Sink>(
         &mut self,
         writer: &mut O,
         client: usize,
-        request: Request,
+        handed: Handed,
     ) -> Result<(), RunFault>
-        ensures run { OnOk result (self.new.run ≡ submitted self.old.run client request) }
+        ensures run { OnOk result (self.new.run ≡ handed_in self.old.run client handed) }
         ensures same { O.can_fail writer.new ≡ O.can_fail writer.old }
         ensures fault { IfErr result (StopsBy (O.can_fail writer.old)) }
     {
         let Some(range) = self.run.ranges.get_mut(client) else {
             return Ok(());
         };
-        match range.issue() {
-            Ok((tag, ticket)) => self.hand_over(writer, client, tag, ticket, request),
+        match handed.issue(range) {
+            Ok(given) => self.hand_over(writer, client, handed, given),
             Err(refused) => {
                 self.run
                     .refuse(client, printed::refused_name(refused))
@@ -148,87 +159,28 @@ impl TracedRun {
         }
     }
 
-    /// Hands a submission to the bus.
+    /// Hands it over to the bus, under the tag and the ticket that the client was given.
     fn hand_over<O: Sink>(
         &mut self,
         writer: &mut O,
         client: usize,
-        tag: u16,
-        ticket: u64,
-        request: Request,
+        handed: Handed,
+        given: (Tag, Ticket),
     ) -> Result<(), RunFault>
-        requires { ticket < 2 ^ 60 }
-        ensures run { OnOk result (self.new.run ≡ issued_run self.old.run client request (Ok (tag, ticket))) }
+        requires { given.1 < 2 ^ 60 }
+        ensures run { OnOk result (self.new.run ≡ given_run self.old.run client handed (Ok given)) }
         ensures same { O.can_fail writer.new ≡ O.can_fail writer.old }
         ensures fault { IfErr result (StopsBy (O.can_fail writer.old)) }
     {
-        let command = command_of(self.run.alloc, request).map_err(|_| RunFault::NoMemory)?;
-        let Outcome { refused, .. } = self.act(
-            writer,
-            Step::Submit {
-                client,
-                tag,
-                ticket,
-                command,
-            },
-        )?;
+        let step = handed
+            .step(self.run.alloc, client, given)
+            .map_err(|_| RunFault::NoMemory)?;
+        let Outcome { refused, .. } = self.act(writer, step)?;
         self.run
-            .note(client, took_to_host(&request.op, &refused))
+            .note(client, handed.brings_in(&refused))
             .map_err(|_| RunFault::NoMemory)?;
         self.run
-            .hear(client, tag, refused)
-            .map_err(|_| RunFault::NoMemory)?;
-        self.print_told(writer)
-    }
-
-    /// A task management: the client's tags give it the task tag and a ticket, or refuse it.
-    #[tactic(auto, unfolding(crate::specs::Told::managed))]
-    fn manage<O: Sink>(&mut self, writer: &mut O, client: usize, task: Task) -> Result<(), RunFault>
-        ensures run { OnOk result (self.new.run ≡ managed self.old.run client task) }
-        ensures same { O.can_fail writer.new ≡ O.can_fail writer.old }
-        ensures fault { IfErr result (StopsBy (O.can_fail writer.old)) }
-    {
-        let Some(range) = self.run.ranges.get_mut(client) else {
-            return Ok(());
-        };
-        match range.issue_task() {
-            Ok((tag, ticket)) => self.hand_over_task(writer, client, tag, ticket, task),
-            Err(refused) => {
-                self.run
-                    .refuse(client, printed::refused_name(refused))
-                    .map_err(|_| RunFault::NoMemory)?;
-                self.print_told(writer)
-            }
-        }
-    }
-
-    /// Hands a task management to the bus.
-    fn hand_over_task<O: Sink>(
-        &mut self,
-        writer: &mut O,
-        client: usize,
-        tag: u16,
-        ticket: u64,
-        task: Task,
-    ) -> Result<(), RunFault>
-        requires { ticket < 2 ^ 60 }
-        ensures run { OnOk result (self.new.run ≡ managed_run self.old.run client task (Ok (tag, ticket))) }
-        ensures same { O.can_fail writer.new ≡ O.can_fail writer.old }
-        ensures fault { IfErr result (StopsBy (O.can_fail writer.old)) }
-    {
-        let Outcome { refused, .. } = self.act(
-            writer,
-            Step::Task {
-                client,
-                ticket,
-                task,
-            },
-        )?;
-        self.run
-            .note(client, false)
-            .map_err(|_| RunFault::NoMemory)?;
-        self.run
-            .hear(client, tag, refused)
+            .hear(client, given.0, refused)
             .map_err(|_| RunFault::NoMemory)?;
         self.print_told(writer)
     }
@@ -244,15 +196,13 @@ impl TracedRun {
             return Ok(());
         }
         let Outcome { reply, .. } = self.act(writer, Step::Take(client))?;
-        match reply {
-            Some(reply) => {
-                self.run
-                    .reply(client, &reply)
-                    .map_err(|_| RunFault::NoMemory)?;
-                self.print_told(writer)
-            }
-            None => Ok(()),
-        }
+        let Some(reply) = reply else {
+            return Ok(());
+        };
+        self.run
+            .reply(client, &reply)
+            .map_err(|_| RunFault::NoMemory)?;
+        self.print_told(writer)
     }
 
     /// The step Take as a line.
@@ -316,64 +266,23 @@ impl TracedRun {
         Ok(left - 1)
     }
 
-    /// A try of the data stream of each tag up to this one.
-    fn try_data<O: Sink>(
+    /// A try of a step of each tag, rising.
+    fn try_tags<O: Sink>(
         &mut self,
         writer: &mut O,
-        tags: usize,
+        kind: TagStep,
         left: usize,
     ) -> Result<usize, RunFault>
-        requires { tags ≤ 248 }
-        ensures machine { IfOk result (λ after. (self.new.run.machine, after) ≡ tried (self.old.run.machine, left) (map Data (range_with_len 1 tags))) }
-        ensures rest { OnOk result (self.new.run ≡ record self.old.run { machine = self.new.run.machine }) }
-        ensures same { O.can_fail writer.new ≡ O.can_fail writer.old }
-        ensures fault { IfErr result (StopsBy (O.can_fail writer.old)) }
-    {
-        let mut left = left;
-        for before in 0..tags {
-            left = self.try_step(writer, Step::Data(before as u16 + 1), left)?;
-        }
-        Ok(left)
-    }
-
-    /// A try of the status stream of each tag up to this one.
-    fn try_status<O: Sink>(
-        &mut self,
-        writer: &mut O,
-        tags: usize,
-        left: usize,
-    ) -> Result<usize, RunFault>
-        requires { tags ≤ 248 }
-        ensures machine { IfOk result (λ after. (self.new.run.machine, after) ≡ tried (self.old.run.machine, left) (map Status (range_with_len 1 tags))) }
-        ensures rest { OnOk result (self.new.run ≡ record self.old.run { machine = self.new.run.machine }) }
-        ensures same { O.can_fail writer.new ≡ O.can_fail writer.old }
-        ensures fault { IfErr result (StopsBy (O.can_fail writer.old)) }
-    {
-        let mut left = left;
-        for before in 0..tags {
-            left = self.try_step(writer, Step::Status(before as u16 + 1), left)?;
-        }
-        Ok(left)
-    }
-
-    /// A try to retire what is left over on a pipe of the TD of each tag up to this one.
-    fn try_retire<O: Sink>(
-        &mut self,
-        writer: &mut O,
-        pipe: Pipe,
-        tags: usize,
-        left: usize,
-    ) -> Result<usize, RunFault>
-        requires { tags ≤ 248 }
         ensures machine { IfOk result (λ after. (self.new.run.machine, after) ≡ tried (self.old.run.machine, left)
-            (map (Retire pipe) (range_with_len 1 tags))) }
+            (map (step_of_tag kind) (all_tags (length self.old.run.machine.parts)))) }
         ensures rest { OnOk result (self.new.run ≡ record self.old.run { machine = self.new.run.machine }) }
         ensures same { O.can_fail writer.new ≡ O.can_fail writer.old }
         ensures fault { IfErr result (StopsBy (O.can_fail writer.old)) }
     {
+        let tags = self.run.clients() * TAGS;
         let mut left = left;
         for before in 0..tags {
-            left = self.try_step(writer, Step::Retire(pipe, before as u16 + 1), left)?;
+            left = self.try_step(writer, kind.step(before as u16 + 1), left)?;
         }
         Ok(left)
     }
@@ -385,15 +294,14 @@ impl TracedRun {
         ensures same { O.can_fail writer.new ≡ O.can_fail writer.old }
         ensures fault { IfErr result (StopsBy (O.can_fail writer.old)) }
     {
-        let tags = self.run.clients() * TAGS;
         let first = self.try_step(writer, Step::CommandPipe, left)?;
         let second = self.try_step(writer, Step::Engine, first)?;
         let third = self.try_step(writer, Step::Event, second)?;
-        let fourth = self.try_data(writer, tags, third)?;
-        let fifth = self.try_status(writer, tags, fourth)?;
-        let sixth = self.try_retire(writer, Pipe::Status, tags, fifth)?;
-        let seventh = self.try_retire(writer, Pipe::DataIn, tags, sixth)?;
-        self.try_retire(writer, Pipe::DataOut, tags, seventh)
+        let fourth = self.try_tags(writer, TagStep::Data, third)?;
+        let fifth = self.try_tags(writer, TagStep::Status, fourth)?;
+        let sixth = self.try_tags(writer, TagStep::Retire(Pipe::Status), fifth)?;
+        let seventh = self.try_tags(writer, TagStep::Retire(Pipe::DataIn), sixth)?;
+        self.try_tags(writer, TagStep::Retire(Pipe::DataOut), seventh)
     }
 
     /// Steps of the bus until none acts, or so many have acted.
@@ -434,8 +342,10 @@ impl TracedRun {
         ensures fault { IfErr result (StopsBy (O.can_fail writer.old)) }
     {
         match line {
-            Line::Submit { client, request } => self.submit(writer, client, request),
-            Line::Task { client, task } => self.manage(writer, client, task),
+            Line::Submit { client, request } => {
+                self.hand_in(writer, client, Handed::Command(request))
+            }
+            Line::Task { client, task } => self.hand_in(writer, client, Handed::Task(task)),
             Line::CommandPipe => self.step(writer, Step::CommandPipe),
             Line::Engine => self.step(writer, Step::Engine),
             Line::Event => self.step(writer, Step::Event),
@@ -468,19 +378,26 @@ pub fn trace<O: Sink>(
     clients: usize,
     blocks: u32,
     bad: Option<u32>,
-    lines: &[Line],
     writer: &mut O,
+    lines: &[Line],
 ) -> Result<u8, RunFault>
     requires some_clients { 1 ≤ clients }
     requires most_clients { clients ≤ MAX_CLIENTS }
     requires some_blocks { 1 ≤ blocks }
     requires most_blocks { blocks ≤ MAX_BLOCKS }
-    ensures status { IfOk result (λ status. status ≤ 1) }
     ensures number { IfOk result (λ status. status ≡ (told (zeroed_units clients blocks bad) lines.now).1) }
+    ensures status { IfOk result (λ status. status ≤ 1) }
     ensures fault { IfErr result (StopsBy (O.can_fail writer.old)) }
 {
-    let mut run = TracedRun::new(alloc, clients, blocks, bad)?;
-    run.lines(writer, lines)?;
-    run.drain(writer)?;
-    Ok(if run.run.failed { COMMAND_FAILED } else { DONE })
+    let Ok(run) = ScriptRun::new(alloc, clients, blocks, bad) else {
+        return Err(RunFault::NoMemory);
+    };
+    let mut traced = TracedRun::of(run);
+    traced.lines(writer, lines)?;
+    traced.drain(writer)?;
+    Ok(if traced.run.failed {
+        COMMAND_FAILED
+    } else {
+        DONE
+    })
 }

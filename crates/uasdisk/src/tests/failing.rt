@@ -1,6 +1,6 @@
 //! Readers and writers that fail.
 
-use super::{Given, Limited, repeated, room, run};
+use super::{Given, Limited, ONE_DISK, repeated, room, run};
 use crate::image::{run_info, run_make};
 use crate::run_script::run_script;
 use crate::script::MAX_SCRIPT_BYTES;
@@ -63,9 +63,7 @@ fn writers_that_fail(rt: HostRuntime) {
     for bytes in 0..5 {
         let status = run_script(
             alloc(),
-            1,
-            100,
-            None,
+            ONE_DISK,
             &mut BytesLeft(b"event"),
             &mut room(bytes),
             &mut faults,
@@ -117,9 +115,7 @@ fn writers_at_their_end(rt: HostRuntime) {
     assert_eq!(rt;
         run_script(
             rt.alloc(),
-            1,
-            100,
-            None,
+            ONE_DISK,
             &mut BytesLeft(idle),
             &mut room(5),
             &mut faults
@@ -145,9 +141,7 @@ fn writers_at_their_end(rt: HostRuntime) {
     assert_eq!(rt;
         run_script(
             rt.alloc(),
-            1,
-            100,
-            None,
+            ONE_DISK,
             &mut BytesLeft(idle),
             &mut unflushed,
             &mut faults
@@ -158,9 +152,7 @@ fn writers_at_their_end(rt: HostRuntime) {
     assert_eq!(rt;
         run_script(
             rt.alloc(),
-            1,
-            100,
-            None,
+            ONE_DISK,
             &mut BytesLeft(b"jump"),
             &mut taken,
             &mut none

@@ -1,11 +1,9 @@
-//! Scripts: the lines that are read, the longest text, and what is left on a unit's medium. What scripts print is in tests/cases.
+//! Scripts: the lines that are read, and the longest text. What scripts print is in tests/cases.
 
 use super::{repeated, run};
 use crate::script::{Line, MAX_SCRIPT_BYTES, Request, parse_script};
 use crate::streams::BytesLeft;
-use block_unit::{BLOCK_BYTES, Unit};
-use bus_core::{Bus, Step};
-use scsi_cmd::{Buffer, Command, Op, Task};
+use scsi_cmd::{Op, Task};
 use std::test::Fail;
 use stream_array::Pipe;
 
@@ -73,37 +71,6 @@ fn scripts_of_many_bytes(rt: HostRuntime) -> Result<(), Fail> {
         assert_eq!(rt; ran.faults.as_slice(), fault);
         assert_eq!(rt; ran.status, status);
         assert!(rt; ran.output.is_empty());
-    }
-    Ok(())
-}
-
-/// Row sync: a WRITE without FUA changes the medium only by SYNCHRONIZE CACHE.
-#[test]
-fn synchronized_blocks_reach_the_medium(rt: HostRuntime) -> Result<(), Fail> {
-    let unit = Unit::new(rt.alloc(), 2, Vec::new(rt.alloc()))?;
-    let mut bus = Bus::new(rt.alloc(), vec![in rt.alloc(); unit]?)?;
-    let write = Op::Write {
-        lba: 0,
-        count: 1,
-        fua: false,
-    };
-    let sync = Op::Sync { lba: 0, count: 0 };
-    for (ticket, op, bytes, byte) in [(0, write, BLOCK_BYTES, 0), (1, sync, 0, 170)] {
-        let buffer = Buffer::from_vec(repeated(rt.alloc(), 170, bytes)?);
-        let _ = bus.step(Step::Submit {
-            client: 0,
-            tag: 1,
-            ticket,
-            command: Command { op, buffer },
-        });
-        let _ = bus.drain(100);
-        let replied = bus.step(Step::Take(0)).reply.is_some();
-        assert!(rt; replied);
-        assert_eq!(rt; bus.clients(), 1);
-        let medium = bus.unit(0).medium();
-        assert_eq!(rt; medium.len(), 2 * BLOCK_BYTES);
-        assert!(rt; medium.iter().take(BLOCK_BYTES).all(|held| *held == byte));
-        assert!(rt; medium.iter().skip(BLOCK_BYTES).all(|held| *held == 0));
     }
     Ok(())
 }

@@ -1,6 +1,7 @@
 //! Command lines.
 
 use crate::alone::Extent;
+use crate::disks::Disks;
 use crate::words::{Run, run_of};
 use clap::error::ErrorKind;
 use std::alloc::{AllocError, Global};
@@ -16,16 +17,13 @@ pub fn words_of(alloc: Global, line: &str) -> Result<Vec<String>, AllocError> {
 
 #[test]
 fn words_that_ask_for_a_run(rt: HostRuntime) -> Result<(), Fail> {
-    let replay = |clients, blocks| Run::Replay {
+    let disks = |clients, blocks, bad| Disks {
         clients,
         blocks,
-        bad: None,
+        bad,
     };
-    let bad = |block| Run::Replay {
-        clients: 1,
-        blocks: 100,
-        bad: Some(block),
-    };
+    let replay = |clients, blocks| Run::Replay(disks(clients, blocks, None));
+    let bad = |block| Run::Replay(disks(1, 100, Some(block)));
     let make = |file, blocks| Run::Make { file, blocks };
     let info = |file| Run::Info { file };
     let fill = |lba, count, byte| Run::Fill {
@@ -48,21 +46,10 @@ fn words_that_ask_for_a_run(rt: HostRuntime) -> Result<(), Fail> {
         ("uasdisk replay 1 --bad 12 100", bad(12)),
         ("uasdisk replay --bad 12 1 100", bad(12)),
         ("uasdisk replay --bad 12 -- 1 100", bad(12)),
-        (
-            "uasdisk trace 2 300",
-            Run::Trace {
-                clients: 2,
-                blocks: 300,
-                bad: None,
-            },
-        ),
+        ("uasdisk trace 2 300", Run::Trace(disks(2, 300, None))),
         (
             "uasdisk trace 2 300 --bad 12",
-            Run::Trace {
-                clients: 2,
-                blocks: 300,
-                bad: Some(12),
-            },
+            Run::Trace(disks(2, 300, Some(12))),
         ),
         ("uasdisk make d 2", make("d", 2)),
         ("uasdisk make d 1", make("d", 1)),

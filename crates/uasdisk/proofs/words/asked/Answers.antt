@@ -33,7 +33,7 @@ returns-in_ok-blocks-in-make-clause-asked c =
     rw (← both_found _ _ (λ x. refl) _ _ _ _ c.subcommand.ensures.name c.subcommand.ensures.rows) (search rules) in
     let given : option_map (λ s. s.now) c.get_str.result ≡ Some c.in_ok-file-in-make.file.now = search rules in
     let file : file_of rows ≡ Some c.in_ok-file-in-make.file.now = sym (first_value-rows (found_of c.in_ok-name.words.now) (codes "FILE")) ∙ (sym c.get_str.ensures ∙ given) in
-    let blocks = sym c.blocks_in-in-make.ensures ∙ c.in_ok-blocks-in-make.was in
+    let blocks = sym c.blocks_in.ensures.number ∙ c.in_ok-blocks-in-make.was in
     sym (ap asked_in found ∙ (asked_of-make _ rows c.in-make.is ∙ (ap (option_and_then (λ name. option_map (make name) (blocks_of rows))) file
     ∙ ap (option_map (make c.in_ok-file-in-make.file.now)) blocks)))
 

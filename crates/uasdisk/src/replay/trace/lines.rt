@@ -14,17 +14,6 @@ pub fn push_step(alloc: Global, text: &mut Vec<u8>, step: &Step) -> Result<(), A
     ensures { OnOk result (text.new.items ≡ text.old.items ++ step_line step.now) }
 {
     match step {
-        Step::Submit {
-            client,
-            tag,
-            ticket,
-            command,
-        } => push_submit(alloc, text, *client, *tag, *ticket, &command.op),
-        Step::Task {
-            client,
-            ticket,
-            task,
-        } => push_task(alloc, text, *client, *ticket, task),
         Step::CommandPipe => text.extend_from_slice(b"command\n"),
         Step::Data(tag) => {
             let line = format!(in alloc; "data {tag}\n")?;
@@ -45,6 +34,17 @@ pub fn push_step(alloc: Global, text: &mut Vec<u8>, step: &Step) -> Result<(), A
             let line = format!(in alloc; "take {client}\n")?;
             text.extend_from_slice(line.as_bytes())
         }
+        Step::Submit {
+            client,
+            tag,
+            ticket,
+            command,
+        } => push_submit(alloc, text, *client, *tag, *ticket, &command.op),
+        Step::Task {
+            client,
+            ticket,
+            task,
+        } => push_task(alloc, text, *client, *ticket, task),
     }
 }
 

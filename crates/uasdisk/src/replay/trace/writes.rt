@@ -108,8 +108,8 @@ impl Before {
         alloc: Global,
         text: &mut Vec<u8>,
         bus: &Bus,
-        outcome: &Outcome,
         place: usize,
+        outcome: &Outcome,
     ) -> Result<(), AllocError>
         requires { place < EVENT_RING_PLACES }
     {

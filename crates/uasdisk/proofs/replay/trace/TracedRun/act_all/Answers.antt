@@ -1,6 +1,6 @@
 use Rattle.std.proofs.Common.{arith, ap, ◌∙◌}
 use Rattle.uasdisk.specs.Told.{Telling}
-use Rattle.uasdisk.proofs.Tries.{rounds-next}
+use Rattle.bus_core.proofs.Rounds.{rounds-next}
 use Rattle.uasdisk.proofs.replay.trace.TracedRun.act_all.Goals as goal
 
 pub loop-after-preserved : goal.loop-after-preserved

@@ -1,0 +1,12 @@
+//! The disks that a script runs on.
+
+/// A disk for each client: a unit of its own, of zeroed blocks of 512 bytes.
+#[derive(Clone, Copy, Debug, PartialEq, Eq)]
+pub struct Disks {
+    /// How many clients there are: 1 to 31.
+    pub clients: usize,
+    /// How many blocks each unit has: 1 to 65,536.
+    pub blocks: u32,
+    /// The block that is bad in every unit that has it.
+    pub bad: Option<u32>,
+}

@@ -12,3 +12,5 @@ mod Notes
 mod Transitions
 mod WholeScripts
 mod ReplyLines
+mod Stands
+mod Units

@@ -9,5 +9,6 @@ pub mod CommandLine
 pub mod Told
 pub mod Alone
 pub mod Traced
+pub mod Written
 pub mod Ends
 pub mod Headline

@@ -8,6 +8,8 @@ ghost use Rattle.scsi_cmd.specs.Op.{direction_of};
 ghost use Rattle.uasdisk.specs.Told.{zeroed_units, opening_ranges, command_of, is_to_host, took_to_host, told};
 ghost use Rattle.uasdisk.specs.Told.{issued_for, handing_in, brought_in_by};
 ghost use Rattle.bus_core.specs.Bus.{HasTicket};
+ghost use Rattle.bus_core.specs.Shows.{ShowsShared};
+ghost use Rattle.frame_store.specs.Buffers.{IsWhole};
 
 pub mod trace;
 
@@ -16,9 +18,11 @@ use crate::script::{Line, Request};
 use crate::status::{COMMAND_FAILED, DONE};
 use block_unit::Unit;
 use bus_core::{Bus, Outcome, Refusal, Step};
+use frame_store::Frames;
 use scsi_cmd::{Buffer, Command, Direction, Op, Reply, TAGS, Task, moves};
 use std::alloc::{AllocError, Global};
 use std::marker::Model;
+use stream_array::Lines;
 use tag_range::{Refused, Tag, TagRange, Ticket};
 
 /// The most steps of a drain.
@@ -193,6 +197,20 @@ impl ScriptRun {
         ensures run { self.new ≡ record self.old { machine = (step_of self.old.machine step).0 } }
     {
         self.bus.step(step)
+    }
+
+    /// The rings of the bus.
+    fn rings(&self) -> &Lines
+        ensures { ShowsShared self.now.machine result.now }
+    {
+        self.bus.lines()
+    }
+
+    /// The buffers of the bus.
+    fn buffers(&self) -> &Frames
+        ensures { IsWhole result.now }
+    {
+        self.bus.frames()
     }
 
     /// Whether a step of the bus is due.

@@ -7,14 +7,17 @@
 ghost use Rattle.bus_core.specs.declared.TheConstants.{MAX_CLIENTS};
 ghost use Rattle.block_unit.specs.declared.TheConstants.{MAX_BLOCKS};
 ghost use Rattle.std.specs.Prelude.{◌≡◌, ◌≤◌, ◌<◌, ◌^◌, Ok, fold, map, length, IfOk, OnOk, IfErr};
+ghost use Rattle.std.specs.Io.KnownBytes.{Appends};
 ghost use Rattle.bus_core.specs.Bus.{HasTicket};
 ghost use Rattle.bus_core.specs.Drain.{all_tags, round, tried, tried_one};
 ghost use Rattle.uasdisk.specs.Told.{all_taken, all_taken_by, drained_machine, drained_run, given_run, handed_in};
 ghost use Rattle.uasdisk.specs.Told.{step_of, stepped, taken, taken_or_idle, told, told_line, zeroed_units};
 ghost use Rattle.uasdisk.specs.Traced.{StopsBy, step_of_tag};
+ghost use Rattle.uasdisk.specs.Written.{TellsStep};
 
 mod lines;
-mod writes;
+pub mod put_ring;
+pub mod writes;
 
 use super::{DRAIN_LIMIT, Handed, ScriptRun};
 use crate::printed;
@@ -24,7 +27,7 @@ use crate::streams::Sink;
 use bus_core::{Outcome, Step};
 use lines::push_step;
 use scsi_cmd::TAGS;
-use std::alloc::Global;
+use std::alloc::{AllocError, Global};
 use stream_array::{EVENT_RING_PLACES, Pipe};
 use tag_range::{Tag, Ticket};
 use writes::Before;
@@ -93,26 +96,37 @@ impl TracedRun {
         Ok(())
     }
 
-    /// A step that is due, with its lines.
+    /// A step that is due; its lines become the text.
+    fn acted(&mut self, step: Step) -> Result<Outcome, AllocError>
+        requires { HasTicket step }
+        ensures outcome { IfOk result (λ outcome. outcome ≡ (step_of self.old.run.machine step).1) }
+        ensures run { OnOk result (self.new.run ≡ record self.old.run { machine = (step_of self.old.run.machine step).0 }) }
+        ensures text { IfOk result (λ outcome. TellsStep self.old.run.machine self.new.run.machine step outcome self.new.text.items) }
+    {
+        let alloc = self.run.alloc;
+        self.text.clear();
+        push_step(alloc, &mut self.text, &step)?;
+        let before = Before::of(self.run.rings(), &step);
+        let outcome = self.run.act(step);
+        let rings = self.run.rings();
+        let place = self.posted % EVENT_RING_PLACES;
+        self.posted = place + usize::from(before.posts(rings));
+        let buffers = self.run.buffers();
+        before.push_writes(alloc, &mut self.text, rings, buffers, place, &outcome)?;
+        Ok(outcome)
+    }
+
+    /// A step that is due, printed with its lines.
     fn act<O: Sink>(&mut self, writer: &mut O, step: Step) -> Result<Outcome, RunFault>
         requires { HasTicket step }
         ensures outcome { IfOk result (λ outcome. outcome ≡ (step_of self.old.run.machine step).1) }
         ensures run { OnOk result (self.new.run ≡ record self.old.run { machine = (step_of self.old.run.machine step).0 }) }
+        ensures text { IfOk result (λ outcome. TellsStep self.old.run.machine self.new.run.machine step outcome self.new.text.items) }
+        ensures printed { OnOk result (Appends (O.written writer.old) (O.written writer.new) self.new.text.items) }
         ensures same { O.can_fail writer.new ≡ O.can_fail writer.old }
         ensures fault { IfErr result (StopsBy (O.can_fail writer.old)) }
     {
-        let alloc = self.run.alloc;
-        self.text.clear();
-        push_step(alloc, &mut self.text, &step).map_err(|_| RunFault::NoMemory)?;
-        let before = Before::of(&self.run.bus, &step);
-        let outcome = self.run.act(step);
-        let place = self.posted % EVENT_RING_PLACES;
-        before
-            .push_writes(alloc, &mut self.text, &self.run.bus, place, &outcome)
-            .map_err(|_| RunFault::NoMemory)?;
-        if before.posts(&self.run.bus) {
-            self.posted = place + 1;
-        }
+        let outcome = self.acted(step).map_err(|_| RunFault::NoMemory)?;
         writer.write(&self.text).map_err(output_fault)?;
         Ok(outcome)
     }

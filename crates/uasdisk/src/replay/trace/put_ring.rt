@@ -95,7 +95,7 @@ impl PutRing {
     {
         let turn = self.places() - 1;
         for passed in 0..distance(turn, from, self.end(lines)) {
-            self.push_place(alloc, text, lines, (from + passed) % turn)?;
+            self.push_place((from + passed) % turn, alloc, text, lines)?;
         }
         Ok(())
     }
@@ -103,10 +103,10 @@ impl PutRing {
     /// Adds the line of the TRB at a place, and that of the Link behind the last.
     fn push_place(
         self,
+        place: usize,
         alloc: Global,
         text: &mut Vec<u8>,
         lines: &Lines,
-        place: usize,
     ) -> Result<(), AllocError>
         requires ring { IsPutRing self }
         requires place { place < places_in self - 1 }

@@ -8,11 +8,11 @@ ghost use Rattle.frame_store.specs.Buffers.{IsWhole};
 ghost use Rattle.frame_store.specs.Places.{room_of};
 ghost use Rattle.stream_array.specs.Contexts.{has_stream};
 ghost use Rattle.stream_array.specs.Map.{HasStreams};
+ghost use Rattle.uasdisk.specs.Written.{chunk_lines, ends_of, event_at, is_at, moved_line, moved_on, own_lines, posts, residual_in, seen_before};
+ghost use Rattle.uasdisk.specs.Written.{seen_writes, status_len, taken_line, task_tag, tds_lines, unit_line, with_bell, with_writes};
 ghost use Rattle.stream_array.specs.Rings.{IsLines};
 ghost use Rattle.bus_core.specs.declared.TheConstants.{MAX_CLIENTS};
 ghost use Rattle.xhci_ctl.specs.Doorbells.{pipe_at};
-ghost use Rattle.uasdisk.specs.Written.{chunk_lines, ends_of, event_at, is_at, moved_line, moved_on, own_lines, posts, residual_in, seen_before};
-ghost use Rattle.uasdisk.specs.Written.{seen_writes, status_len, taken_line, task_tag, tds_lines, unit_line, with_bell, with_writes};
 
 use super::lines::{push_bell, push_bytes, push_chunk, push_context};
 use super::put_ring::{PutRing, push_image};

@@ -4,7 +4,7 @@ use Rattle.std.proofs.Common.{◌∷◌, ◌++◌, length, length-append, length
 use Rattle.std.proofs.Common.{drop, replicate, Some, All, slice_get, slice_index_or, nat_le, if◌then◌else◌, refl, sym, ap, ap₂, ◌∙◌, arith}
 use Rattle.std.proofs.Common.{inl, inr}
 use Rattle.std.proofs.Math.Nat.{mod-lt, mod-eq_of_lt}
-use Rattle.std.proofs.lemmas.Bool.{eq-eqb, ne_eqb}
+use Rattle.std.proofs.lemmas.Bool.{eq-eqb, lt-ltb, ne_eqb}
 use Rattle.std.proofs.lemmas.List.{get_or_read, length-replicate}
 use Rattle.std.proofs.lemmas.List.Elements.{All-drop}
 use Rattle.std.proofs.lemmas.Option.{none-some, slice_get_within, same_Some}
@@ -12,7 +12,7 @@ use Rattle.xhci_trb.specs.declared.Trb.{Trb}
 use Rattle.xhci_trb.specs.declared.Trb.TheVariants.{Link}
 use Rattle.xhci_trb.specs.Text.{HasText, has_chain, text}
 use Rattle.ring_ends.specs.declared.End.{End}
-use Rattle.cycle_ring.specs.Ring.{Ring, IsRing, IsTd, opening, reclaimed, item_in}
+use Rattle.cycle_ring.specs.Ring.{Ring, IsRing, IsTd, consumed_at, item_at, item_in, opening, reclaimed}
 use Rattle.ring_ends.specs.Counted.{turn_bit, counted, IsEnd, bit_from}
 use Rattle.ring_ends.specs.Held.{trbs_from, IsText}
 use Rattle.ring_ends.specs.HeldLaws.{item_of, at_behind, at_rest, not_twice, trbs_from-list, Holds-zeros, Holds-put, Holds-beside, Holds-freed}
@@ -302,3 +302,18 @@ pub within-got : (n : ℕ) (places : List (List ℕ)) (first : ℕ) (dequeue enq
     → k < r.got → k < n - 1
 within-got n places first dequeue enqueue r k segment consumed =
     omega (arith, segment.ring.consumed, segment.ring.room_left, segment.ring.least_places)
+
+-- what an address names, where it is consumed
+pub consumed_at-item : (n k pointer : ℕ) (r : Ring) → item_at n r pointer ≡ Some k → k < r.got → consumed_at n r pointer ≡ slice_get r.put k
+consumed_at-item n k pointer r is consumed = rw (is, lt-ltb k r.got consumed) refl
+
+-- and the text at its place
+pub consumed-text : (n : ℕ) (places : List (List ℕ)) (first : ℕ) (dequeue enqueue : End) (r : Ring) (pointer k place : ℕ) (bytes : List ℕ)
+    → IsSegment n places first dequeue enqueue r → k < r.got → item_at n r pointer ≡ Some k → (r.at + k) % (n - 1) ≡ place → place < n - 1
+    → bytes ≡ get_or places place bytes
+    → (trb : Trb) × (consumed_at n r pointer ≡ Some trb) × (bytes ≡ text trb (turn_bit (n - 1) (r.at + k))) × HasText trb
+consumed-text n places first dequeue enqueue r pointer k place bytes segment consumed named stands within there =
+    let end : End = record { place = place; cycle = turn_bit (n - 1) (r.at + k) } in
+    let item = text-item n places first dequeue enqueue end r k bytes segment (record { place = sym stands; cycle = refl })
+    (omega (arith, consumed, segment.ring.consumed)) (omega (arith, within)) there in
+    (item.0, consumed_at-item n k pointer r named consumed ∙ item.1, item.2, item.3)

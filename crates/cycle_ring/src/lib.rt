@@ -35,12 +35,12 @@
 #![tactic(auto)]
 
 ghost use Rattle.std.specs.Prelude.{◌≡◌, ◌≢◌, ℕ, ◌+◌, ◌-◌, ◌*◌, ◌/◌, ◌%◌, ◌^◌, ◌<◌, ◌≤◌, ◌++◌, ◌↔◌, Bool, Some, None, All, length};
-ghost use Rattle.std.specs.Prelude.{slice_get, drop, ◌⊎◌, IsOk, IsSome, IfSome, IfOk, OnOk, OnErr, IsTrue};
+ghost use Rattle.std.specs.Prelude.{slice_get, drop, option_map, ◌⊎◌, IsOk, IsSome, IfNone, IfSome, IfOk, OnOk, OnErr, IsTrue};
 ghost use Rattle.xhci_trb.specs.declared.Trb.{Trb};
 ghost use Rattle.xhci_trb.specs.Text.{HasText, has_chain, text};
 
 use places::{behind_link, put_back};
-use ring_ends::{End, ahead, cycle_bit, distance, zeros};
+use ring_ends::{End, ahead, chain_bit, cycle_bit, distance, zeros};
 use std::alloc::{AllocError, Global};
 use std::marker::Model;
 use thiserror::Error;
@@ -206,11 +206,20 @@ impl<const N: usize> CycleRing<N> {
         ensures consumed { result ≡ consumed_at N self.now pointer }
         ensures known { IfSome result (λ trb. (k : ℕ) × IsConsumed N self.now k pointer × (slice_get self.now.put k ≡ Some trb)) }
     {
-        let item = self.item_of(pointer)?;
-        if self.got() <= item {
-            return None;
+        let place = self.consumed_place(pointer)?;
+        match decode(&self.places[place]) {
+            Ok((trb, _)) => Some(trb),
+            Err(_) => None,
         }
-        self.trb_at(self.end_at(item))
+    }
+
+    /// Whether the consumed TRB at an address has its Chain bit set, while it isn't reclaimed.
+    #[inline(always)]
+    pub fn consumed_chain(&self, pointer: u64) -> Option<bool>
+        ensures { result ≡ option_map has_chain (consumed_at N self.now pointer) }
+    {
+        let place = self.consumed_place(pointer)?;
+        Some(chain_bit(&self.places[place]))
     }
 
     /// The first TRB that isn't reclaimed and its address, once it is consumed.
@@ -274,8 +283,8 @@ impl<const N: usize> CycleRing<N> {
         ensures freed { (k : ℕ) → IsConsumed N self.old k pointer → self.new ≡ reclaimed N (k + 1) self.old }
         ensures shifted { (k : ℕ) → IsConsumed N self.old k pointer → (i : ℕ) → IsShifted N (k + 1) self.old self.new i }
     {
-        let count = self.item_of(pointer).unwrap() + 1;
-        self.first = self.end_at(count).place;
+        let place = self.place_at(pointer).unwrap();
+        self.first = ahead(N - 1, place, 1);
     }
 
     /// The 16 bytes at a place whose TRB isn't reclaimed, and at the Link's while the TRB before it
@@ -380,12 +389,38 @@ impl<const N: usize> CycleRing<N> {
         distance(N - 1, self.first, place)
     }
 
+    // The place of the consumed TRB at this address. It is in use, so that its Cycle bit needs no look.
+    #[inline(always)]
+    fn consumed_place(&self, pointer: u64) -> Option<usize>
+        ensures found { IfSome result (λ place. (k : ℕ) × (k < self.now.got) × (item_at N self.now pointer ≡ Some k) × (place_of N self.now k ≡ place)) }
+        ensures within { IfSome result (λ place. place < N - 1) }
+        ensures none { IfNone result (consumed_at N self.now pointer ≡ None) }
+    {
+        let place = self.place_at(pointer)?;
+        if self.got() <= self.item_at(place) {
+            return None;
+        }
+        Some(place)
+    }
+
     // The item that stands, or would stand, at this address.
     #[inline(always)]
     fn item_of(&self, pointer: u64) -> Option<usize>
         ensures item { result ≡ item_at N self.now pointer }
         ensures found { IfSome result (λ k. (k < N - 1) × (pointer ≡ pointer_of N self.now k)) }
         ensures every { (k : ℕ) → k < N - 1 → pointer ≡ pointer_of N self.now k → result ≡ Some k }
+    {
+        match self.place_at(pointer) {
+            Some(place) => Some(self.item_at(place)),
+            None => None,
+        }
+    }
+
+    // The place at this address, unless it is the Link's.
+    #[inline(always)]
+    fn place_at(&self, pointer: u64) -> Option<usize>
+        ensures place { option_map (item_in (N - 1) (self.now.at % (N - 1))) result ≡ item_at N self.now pointer }
+        ensures within { IfSome result (λ place. place < N - 1) }
     {
         if pointer < self.base {
             return None;
@@ -398,7 +433,7 @@ impl<const N: usize> CycleRing<N> {
         if place >= (N - 1) as u64 {
             return None;
         }
-        Some(self.item_at(place as usize))
+        Some(place as usize)
     }
 
     #[inline(always)]

@@ -10,7 +10,9 @@
 //! texts of TRBs; `zeros` alone takes memory.
 #![tactic(auto)]
 
-ghost use Rattle.std.specs.Prelude.{◌≡◌, ◌+◌, ◌%◌, ◌<◌, ◌≤◌, IfOk, replicate, true};
+ghost use Rattle.std.specs.Prelude.{◌≡◌, ◌+◌, ◌%◌, ◌<◌, ◌≤◌, Bool, IfOk, replicate, true};
+ghost use Rattle.xhci_trb.specs.declared.Trb.{Trb};
+ghost use Rattle.xhci_trb.specs.Text.{HasText, has_chain, text};
 ghost use Rattle.xhci_trb.specs.Words.{words_in};
 ghost use Rattle.xhci_trb.specs.Reader.{cycle_in};
 ghost use Rattle.ring_ends.specs.Counted.{distance, next_end, bit_from};
@@ -118,4 +120,12 @@ pub fn cycle_bit(bytes: &[u8; 16]) -> bool
     ensures { result ≡ cycle_in (words_in bytes.now) }
 {
     bytes[12] % 2 == 1
+}
+
+/// The Chain bit of 16 bytes that are a TRB's text (6.4.1.1, 6.4.4.1): bit 4 of the control word.
+#[inline(always)]
+pub fn chain_bit(bytes: &[u8; 16]) -> bool
+    ensures { (trb : Trb) (cycle : Bool) → HasText trb → bytes.now ≡ text trb cycle → result ≡ has_chain trb }
+{
+    bytes[12] / 16 % 2 == 1
 }

@@ -1,8 +1,8 @@
 // All rings of a controller with one interface, as host and controller are lent them.
 
-ghost use Rattle.std.specs.Prelude.{◌≡◌, ◌≢◌, ℕ, ◌+◌, ◌-◌, ◌<◌, ◌≤◌, ◌++◌, [], ◌∷◌, ◌↔◌, ◌⊎◌, Some, IfSome, All, length, slice_get, IsTrue};
+ghost use Rattle.std.specs.Prelude.{◌≡◌, ◌≢◌, ℕ, ◌+◌, ◌-◌, ◌<◌, ◌≤◌, ◌++◌, [], ◌∷◌, ◌↔◌, ◌⊎◌, Some, IfSome, All, length, option_map, slice_get, IsTrue};
 ghost use Rattle.std.specs.Prelude.{IsOk, IsSome, IfOk, OnOk, OnErr, OnSome, IfNone};
-ghost use Rattle.xhci_trb.specs.Text.{HasText};
+ghost use Rattle.xhci_trb.specs.Text.{HasText, has_chain};
 ghost use Rattle.cycle_ring.specs.Ring.{IsRing, IsTd, place_of, pointer_of, cycle_of, front_of, reclaimed, item_image, link_image};
 ghost use Rattle.cycle_ring.specs.Ring.{IsConsumed, IsEnqueuePlace, IsPending, IsInUse, consumed_at, oldest_of};
 ghost use Rattle.event_ring.specs.Events.{IsWritable, taken, event_image, place_of as event_place_of, IsInUse as IsEventInUse, IsRing as IsEventRing};
@@ -183,6 +183,20 @@ impl Lines {
             Pipe::Status => self.status.ring(stream).consumed(pointer),
             Pipe::DataIn => self.data_in.ring(stream).consumed(pointer),
             Pipe::DataOut => self.data_out.ring(stream).consumed(pointer),
+        }
+    }
+
+    /// Whether the consumed TRB of a ring at an address has its Chain bit set, while it isn't reclaimed.
+    #[inline(always)]
+    pub fn consumed_chain(&self, pipe: Pipe, stream: u16, pointer: u64) -> Option<bool>
+        requires { HasRing pipe stream }
+        ensures { result ≡ option_map has_chain (consumed_at (places_of pipe) (ring_of self.now pipe stream) pointer) }
+    {
+        match pipe {
+            Pipe::Command => self.command.consumed_chain(pointer),
+            Pipe::Status => self.status.ring(stream).consumed_chain(pointer),
+            Pipe::DataIn => self.data_in.ring(stream).consumed_chain(pointer),
+            Pipe::DataOut => self.data_out.ring(stream).consumed_chain(pointer),
         }
     }
 

@@ -1,16 +1,15 @@
 -- The consumed TRB at an address of a stream's ring.
-use Rattle.std.proofs.Common.{◌≡◌, ℕ, ◌+◌, ◌-◌, ◌/◌, ◌%◌, ◌<◌, ◌≤◌, ◌==◌, IfSome, Option, Some, None, nat_lt, nat_le, refl, arith, inl, inr, if◌then◌else◌}
-use Rattle.std.proofs.Common.{subst, sym}
-use Rattle.std.specs.Prelude.{option_and_then}
+use Rattle.std.proofs.Common.{◌≡◌, ℕ, ◌+◌, ◌-◌, ◌/◌, ◌%◌, ◌<◌, ◌≤◌, ◌==◌, Bool, Option, Some, None, nat_lt, nat_le, refl, arith, inl, inr, if◌then◌else◌}
+use Rattle.std.specs.Prelude.{option_and_then, option_map}
 use Rattle.std.proofs.lemmas.Bool.{ltb-true, ltb-false, leb-true, leb-false, eqb-true, cases_Bool}
 use Rattle.xhci_trb.specs.declared.Trb.{Trb}
+use Rattle.xhci_trb.specs.Text.{has_chain}
 use Rattle.cycle_ring.specs.Ring.{Ring, IsConsumed, consumed_at, consumed_item, item_at, item_in, pointer_of}
 use Rattle.stream_array.specs.declared.Pipe.{Pipe}
 use Rattle.stream_array.specs.declared.Pipe.TheVariants.{Command, Status, DataIn, DataOut}
-use Rattle.stream_array.specs.Map.{places_of}
+use Rattle.stream_array.specs.Map.{HasRing, HasStreams, places_of}
 use Rattle.stream_array.specs.Rings.{LinesState, ring_of}
-use Rattle.uas_host.specs.Events.{IsEnded, IsEndedOn, IsOnStream}
-use Rattle.uas_host.specs.declared.EndedTd.{EndedTd}
+use Rattle.uas_host.specs.Events.{IsEnded}
 
 stands : (at place : ℕ) → place < 19 → (at + item_in 19 (at % 19) place) % 19 ≡ place
 stands at place below =
@@ -63,20 +62,33 @@ consumed_at-item r pointer trb is =
       | Some item ↦ λ some found. (item, some, (consumed_item-below r item trb found, item_at-address r pointer item some))
     ] refl is
 
--- the TRB of an address that ends a TD is on the ring of the TD
-pub consumed-ended : (pipe : Pipe) (lines : LinesState) (stream tag pointer : ℕ) (trb : Trb) → IsOnStream pipe stream tag →
-    consumed_at (places_of pipe) (ring_of lines pipe stream) pointer ≡ Some trb → IsEndedOn pipe lines tag pointer
-consumed-ended Command lines stream tag pointer trb on is = tt
-consumed-ended Status lines stream tag pointer trb on is = rw on (consumed_at-item (ring_of lines Status stream) pointer trb is)
-consumed-ended DataIn lines stream tag pointer trb on is = rw on (consumed_at-item (ring_of lines DataIn stream) pointer trb is)
-consumed-ended DataOut lines stream tag pointer trb on is = rw on (consumed_at-item (ring_of lines DataOut stream) pointer trb is)
-
-pub ended-known : (lines : LinesState) (pointer : ℕ) (pipe : Pipe) (stream : ℕ) (trb : Trb) (found : Option EndedTd) →
-    IfSome found (λ td. (td.pipe ≡ pipe) × (1 ≤ td.tag) × (td.tag ≤ 248) × IsOnStream pipe stream td.tag) →
-    consumed_at (places_of pipe) (ring_of lines pipe stream) pointer ≡ Some trb → IfSome found (IsEnded lines pointer)
-ended-known lines pointer pipe stream trb None known is = tt
-ended-known lines pointer pipe stream trb (Some td) known is = record {
-  first_tag = known.1;
-  last_tag = known.2;
-  consumed = subst (λ (p : Pipe). IsEndedOn p lines td.tag pointer) (sym known.0) (consumed-ended pipe lines stream td.tag pointer trb known.3 is);
+-- the TRB whose Chain bit was read is its stream's
+ended-stream : (pipe : Pipe) (lines : LinesState) (stream pointer : ℕ) (trb : Trb) → HasStreams pipe → HasRing pipe stream →
+    consumed_at (places_of pipe) (ring_of lines pipe stream) pointer ≡ Some trb → IsEnded lines pointer (record { pipe = pipe; tag = stream })
+ended-stream Command lines stream pointer trb streams ring is = absurd streams
+ended-stream Status lines stream pointer trb streams ring is = record {
+  first_tag = ring.0;
+  last_tag = ring.1;
+  consumed = consumed_at-item (ring_of lines Status stream) pointer trb is;
 }
+ended-stream DataIn lines stream pointer trb streams ring is = record {
+  first_tag = ring.0;
+  last_tag = ring.1;
+  consumed = consumed_at-item (ring_of lines DataIn stream) pointer trb is;
+}
+ended-stream DataOut lines stream pointer trb streams ring is = record {
+  first_tag = ring.0;
+  last_tag = ring.1;
+  consumed = consumed_at-item (ring_of lines DataOut stream) pointer trb is;
+}
+
+pub chain-known : (pipe : Pipe) (lines : LinesState) (stream pointer : ℕ) (chain : Bool) → HasStreams pipe → HasRing pipe stream →
+    Some chain ≡ option_map has_chain (consumed_at (places_of pipe) (ring_of lines pipe stream) pointer) →
+    IsEnded lines pointer (record { pipe = pipe; tag = stream })
+chain-known pipe lines stream pointer chain streams ring is =
+    elim (consumed_at (places_of pipe) (ring_of lines pipe stream) pointer) as (λ o.
+    consumed_at (places_of pipe) (ring_of lines pipe stream) pointer ≡ o → Some chain ≡ option_map has_chain o →
+    IsEnded lines pointer (record { pipe = pipe; tag = stream })) [
+      | None ↦ λ none found. absurd (cc)
+      | Some trb ↦ λ some found. ended-stream pipe lines stream pointer trb streams ring some
+    ] refl is

@@ -9,7 +9,7 @@ use Rattle.uas_host.specs.declared.EndedTd.{EndedTd}
 use Rattle.uas_host.specs.declared.Handled.TheVariants.{Matched}
 use Rattle.uas_host.specs.declared.Notice.{Notice}
 use Rattle.uas_host.specs.declared.seen.Sight.{Sight}
-use Rattle.uas_host.specs.Events.{Sides, ended_at, freed_on, handled_td, host_seen, told_on}
+use Rattle.uas_host.specs.Events.{Sides, freed_on, handled_td, host_seen, told_on}
 use Rattle.uas_host.specs.Sights.{notice_by}
 use Rattle.uas_host.specs.State.{HostState}
 
@@ -21,12 +21,12 @@ seen-after (Some now) host after saw was is = rw was.1 refl
 
 pub transfer-matched : (host after : HostState) (lines freed : LinesState) (frames : List TagBuffers) (pointer residual code : ℕ) (td : EndedTd)
     (unit sense : List ℕ) (sight : Sight) (saw : Bool) →
-    ended_at lines pointer ≡ Some td → unit ≡ take (112 - residual) (held_for frames td.tag).status → sense ≡ drop 16 unit →
+    unit ≡ take (112 - residual) (held_for frames td.tag).status → sense ≡ drop 16 unit →
     option_map (notice_by (drop 16 unit)) (Some sight) ≡ told_on td.pipe unit code td.tag →
     MatchOption (host_seen (notice_by sense sight) host td.tag) ((saw ≡ false) × (after ≡ host)) (λ now. (saw ≡ true) × (after ≡ now)) → saw ≡ true →
     freed ≡ freed_on td.pipe after lines td.tag pointer →
-    handled_td (record { host = host; lines = lines }) frames pointer residual code (ended_at lines pointer)
+    handled_td (record { host = host; lines = lines }) frames pointer residual code (Some td)
     ≡ (record { host = after; lines = freed }, Matched td.tag)
-transfer-matched host after lines freed frames pointer residual code td unit sense sight saw ended unit_is sense_is told saw_so is freed_is =
+transfer-matched host after lines freed frames pointer residual code td unit sense sight saw unit_is sense_is told saw_so is freed_is =
     let seen = seen-after (host_seen (notice_by sense sight) host td.tag) host after saw saw_so is in
-    rw (ended, ← unit_is, ← told, ← sense_is, seen, freed_is) refl
+    rw (← unit_is, ← told, ← sense_is, seen, freed_is) refl

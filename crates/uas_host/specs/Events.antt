@@ -219,13 +219,6 @@ event_doors sides (Transfer pointer residual code endpoint slot) = []
 event_doors sides (CommandCompletion pointer code slot) =
     engine_doors sides.lines pointer (is_engine_done sides.lines pointer code) sides.host.retirement
 
--- on a pipe with streams the tag is the stream
-abbrev pub IsOnStream : Pipe → ℕ → ℕ → Type 0
-IsOnStream Command stream tag = Unit {0}
-IsOnStream Status stream tag = tag ≡ stream
-IsOnStream DataIn stream tag = tag ≡ stream
-IsOnStream DataOut stream tag = tag ≡ stream
-
 -- What is known of a TD whose last TRB is at an address: its tag is one, and on a pipe with streams its ring has that TRB.
 abbrev pub IsConsumedAt : LinesState → Pipe → ℕ → ℕ → Type 0
 IsConsumedAt lines pipe stream pointer =

@@ -1,12 +1,12 @@
 // Which TD an event is of, by its pointer alone (xHCI 4.11.3, and the address maps of rings and buffers).
-ghost use Rattle.std.specs.Prelude.{◌≡◌, ◌≤◌, Some, IfSome};
-ghost use Rattle.stream_array.specs.Map.{HasRing, places_of};
-ghost use Rattle.stream_array.specs.Rings.{ring_of};
-ghost use Rattle.uas_host.specs.Events.{command_tag, ended_at, ended_td, tag_at_buffer, trb_tag, IsEnded, IsOnStream};
+ghost use Rattle.std.specs.Prelude.{◌≡◌, ◌≤◌, IfSome};
+ghost use Rattle.stream_array.specs.Map.{HasRing, HasStreams};
+ghost use Rattle.stream_array.specs.declared.Pipe.TheVariants as Pipe;
+ghost use Rattle.uas_host.specs.Events.{command_tag, ended_on, tag_at_buffer, IsEnded};
 
 use crate::EndedTd;
 use crate::tds::{BUFFER_SPAN, COMMAND_BUFFERS};
-use stream_array::{Lines, Pipe, find};
+use stream_array::{Lines, Pipe};
 use xhci_trb::Trb;
 
 /// The greatest tag.
@@ -15,6 +15,7 @@ const LAST_TAG: u64 = 248;
 const _: () = prove!(LAST_TAG == 248);
 
 /// The tag at whose command buffer an address is.
+#[inline(always)]
 fn tag_at(pointer: u64) -> Option<u16>
     ensures tag { result ≡ tag_at_buffer pointer }
     ensures known { IfSome result (λ tag. (1 ≤ tag) × (tag ≤ 248)) }
@@ -35,6 +36,7 @@ fn tag_at(pointer: u64) -> Option<u16>
 }
 
 /// The tag whose command buffer a TRB of the command pipe names.
+#[inline(always)]
 pub(crate) fn command_tag_of(trb: &Trb) -> Option<u16>
     ensures tag { result ≡ command_tag trb.now }
     ensures known { IfSome result (λ tag. (1 ≤ tag) × (tag ≤ 248)) }
@@ -45,37 +47,35 @@ pub(crate) fn command_tag_of(trb: &Trb) -> Option<u16>
     }
 }
 
-/// The tag of a TRB on a ring.
-fn tag_on(pipe: Pipe, stream: u16, trb: &Trb) -> Option<u16>
-    requires { HasRing pipe stream }
-    ensures tag { result ≡ trb_tag pipe stream trb.now }
-    ensures known { IfSome result (λ tag. (1 ≤ tag) × (tag ≤ 248) × IsOnStream pipe stream tag) }
+/// The command TD whose TRB, consumed and not reclaimed, is at this address of the command pipe's ring.
+#[inline(always)]
+pub(crate) fn command_td_at(lines: &Lines, pointer: u64) -> Option<EndedTd>
+    ensures td { result ≡ ended_on lines.now pointer (Pipe.Command, 0, 0) }
+    ensures known { IfSome result (IsEnded lines.now pointer) }
 {
-    match pipe {
-        Pipe::Command => command_tag_of(trb),
-        Pipe::Status | Pipe::DataIn | Pipe::DataOut => Some(stream),
-    }
-}
-
-/// The TD that a TRB of a ring ends, if it ends one.
-fn td_ended_by(pipe: Pipe, stream: u16, trb: &Trb) -> Option<EndedTd>
-    requires { HasRing pipe stream }
-    ensures td { result ≡ ended_td pipe stream trb.now }
-    ensures known { IfSome result (λ td. (td.pipe ≡ pipe) × (1 ≤ td.tag) × (td.tag ≤ 248) × IsOnStream pipe stream td.tag) }
-{
+    let trb = lines.consumed(Pipe::Command, 0, pointer)?;
     if trb.has_chain() {
         return None;
     }
-    let tag = tag_on(pipe, stream, trb)?;
-    Some(EndedTd { pipe, tag })
+    let tag = command_tag_of(&trb)?;
+    Some(EndedTd {
+        pipe: Pipe::Command,
+        tag,
+    })
 }
 
-/// The TD whose last TRB, consumed and not reclaimed, is at this address.
-pub(crate) fn td_ended_at(lines: &Lines, pointer: u64) -> Option<EndedTd>
-    ensures td { result ≡ ended_at lines.now pointer }
+/// The TD whose last TRB, consumed and not reclaimed, is at this address of a stream's ring: its tag is the stream's number, so
+/// that only the Chain bit of the TRB is read.
+#[inline(always)]
+pub(crate) fn stream_td_at(lines: &Lines, pipe: Pipe, stream: u16, pointer: u64) -> Option<EndedTd>
+    requires streams { HasStreams pipe }
+    requires ring { HasRing pipe stream }
+    ensures td { result ≡ ended_on lines.now pointer (pipe, stream, 0) }
     ensures known { IfSome result (IsEnded lines.now pointer) }
 {
-    let (pipe, stream, _) = find(pointer)?;
-    let trb = lines.consumed(pipe, stream, pointer)?;
-    td_ended_by(pipe, stream, &trb)
+    let chain = lines.consumed_chain(pipe, stream, pointer)?;
+    if chain {
+        return None;
+    }
+    Some(EndedTd { pipe, tag: stream })
 }

@@ -1,11 +1,11 @@
 // Events.
-ghost use Rattle.std.specs.Prelude.{◌≡◌, ◌-◌, ◌++◌, ◌≤◌, List, ℕ, drop, length, option_map, take};
+ghost use Rattle.std.specs.Prelude.{◌≡◌, ◌-◌, ◌++◌, ◌≤◌, List, IfSome, ℕ, drop, length, option_map, take};
 ghost use Rattle.arrayvec.specs.ArrayVec.{array_vec_len};
 ghost use Rattle.frame_store.specs.Buffers.{held_for};
-ghost use Rattle.uas_host.specs.Events.{ended_at, event_doors, handled, handled_td, succeeded, told_on, Sides};
+ghost use Rattle.uas_host.specs.Events.{ended_at, event_doors, handled, handled_td, succeeded, told_on, IsEnded, Sides};
 ghost use Rattle.uas_host.specs.Sights.{notice_by};
 
-use crate::ended::td_ended_at;
+use crate::ended::{command_td_at, stream_td_at};
 use crate::engine::SUCCESS;
 use crate::seen::Sight;
 use crate::units::read_answer;
@@ -13,7 +13,7 @@ use crate::{EndedTd, Handled, Host, MOST_DOORS};
 use arrayvec::ArrayVec;
 use event_ring::Event;
 use frame_store::{Frames, STATUS_BYTES};
-use stream_array::{Lines, Pipe};
+use stream_array::{Lines, Pipe, find};
 use uas_iu::SENSE_HEADER_BYTES;
 
 /// Completion code Short Packet (xHCI 6.4.5).
@@ -22,6 +22,7 @@ const SHORT_PACKET: u8 = 13;
 const _: () = prove!(SHORT_PACKET == 13);
 
 /// What an event of a command or data TD tells.
+#[inline(always)]
 fn where_success(code: u8, sight: Sight) -> Option<Sight>
     ensures { (sense : List ℕ) → option_map (notice_by sense) result ≡ succeeded code (notice_by sense sight) }
 {
@@ -29,6 +30,7 @@ fn where_success(code: u8, sight: Sight) -> Option<Sight>
 }
 
 /// What was written of the status buffer of a tag.
+#[inline(always)]
 fn status_unit(frames: &Frames, residual: u32, tag: u16) -> &[u8]
     requires first_tag { 1 ≤ tag }
     requires last_tag { tag ≤ 248 }
@@ -40,6 +42,7 @@ fn status_unit(frames: &Frames, residual: u32, tag: u16) -> &[u8]
 }
 
 /// The sense of a Sense unit: what comes after its first 16 bytes.
+#[inline(always)]
 fn sense_of(unit: &[u8]) -> &[u8]
     ensures { result.now ≡ drop 16 unit.now }
 {
@@ -47,6 +50,7 @@ fn sense_of(unit: &[u8]) -> &[u8]
 }
 
 /// What an event of a TD tells, whose status unit is `unit`.
+#[inline(always)]
 fn sight_in(unit: &[u8], code: u8, td: EndedTd) -> Option<Sight>
     ensures { option_map (notice_by (drop 16 unit.now)) result ≡ told_on td.pipe unit.now code td.tag }
 {
@@ -60,6 +64,35 @@ fn sight_in(unit: &[u8], code: u8, td: EndedTd) -> Option<Sight>
 }
 
 impl Host {
+    /// Takes in a transfer event with this pointer, this residual and this code; `td` is the TD that it is of.
+    #[inline(always)]
+    fn on_td(
+        &mut self,
+        lines: &mut Lines,
+        frames: &Frames,
+        td: Option<EndedTd>,
+        pointer: u64,
+        residual: u32,
+        code: u8,
+    ) -> Handled
+        requires { IfSome td (IsEnded lines.old pointer) }
+        ensures { handled_td (record { host = self.old; lines = lines.old }) frames.now pointer residual code td ≡
+            (record { host = self.new; lines = lines.new }, result) }
+    {
+        let Some(td) = td else {
+            return Handled::Stray;
+        };
+        let unit = status_unit(frames, residual, td.tag);
+        let Some(sight) = sight_in(unit, code, td) else {
+            return Handled::Stray;
+        };
+        if !self.see(td.tag, sight, sense_of(unit)) {
+            return Handled::Stray;
+        }
+        self.free(lines, pointer, td);
+        Handled::Matched(td.tag)
+    }
+
     /// Takes in a transfer event, with this pointer, this residual and this code.
     fn on_transfer(
         &mut self,
@@ -72,18 +105,28 @@ impl Host {
         ensures { handled_td (record { host = self.old; lines = lines.old }) frames.now pointer residual code (ended_at lines.old pointer) ≡
             (record { host = self.new; lines = lines.new }, result) }
     {
-        let Some(td) = td_ended_at(lines, pointer) else {
+        let Some((pipe, stream, _)) = find(pointer) else {
             return Handled::Stray;
         };
-        let unit = status_unit(frames, residual, td.tag);
-        let Some(sight) = sight_in(unit, code, td) else {
-            return Handled::Stray;
-        };
-        if !self.see(td.tag, sight, sense_of(unit)) {
-            return Handled::Stray;
+        // What is inlined in an arm knows its pipe and asks for it no more.
+        match pipe {
+            Pipe::Command => {
+                let td = command_td_at(lines, pointer);
+                self.on_td(lines, frames, td, pointer, residual, code)
+            }
+            Pipe::Status => {
+                let td = stream_td_at(lines, Pipe::Status, stream, pointer);
+                self.on_td(lines, frames, td, pointer, residual, code)
+            }
+            Pipe::DataIn => {
+                let td = stream_td_at(lines, Pipe::DataIn, stream, pointer);
+                self.on_td(lines, frames, td, pointer, residual, code)
+            }
+            Pipe::DataOut => {
+                let td = stream_td_at(lines, Pipe::DataOut, stream, pointer);
+                self.on_td(lines, frames, td, pointer, residual, code)
+            }
         }
-        self.free(lines, pointer, td);
-        Handled::Matched(td.tag)
     }
 
     /// Takes in an event, any event. It is `Matched` where it is a transfer event whose pointer is that of the

@@ -45,6 +45,7 @@ impl Host {
     }
 
     /// Frees the TRBs of a TD whose event was seen: on a pipe with streams up to and with the event's.
+    #[inline(always)]
     pub(crate) fn free(&self, lines: &mut Lines, pointer: u64, td: EndedTd)
         requires { IsEnded lines.old pointer td }
         ensures { lines.new ≡ freed_on td.pipe self.now lines.old td.tag pointer }

@@ -62,6 +62,7 @@ fn is_held_left_over(held: &Option<HostEntry>, pipe: Pipe) -> bool
 }
 
 /// Whether a TD of one of the entries is left over.
+#[inline(never)]
 fn have_left_over(entries: &[Option<HostEntry>; TAGS]) -> bool
     ensures { result ≡ have_left_over entries.now }
 {
@@ -74,6 +75,7 @@ fn have_left_over(entries: &[Option<HostEntry>; TAGS]) -> bool
 }
 
 /// Marks a client exactly where a TD of it is left over; where that can't have changed, its mark stays.
+#[inline(always)]
 pub(crate) fn settle(
     marks: &mut Marks<CLIENT_WORDS>,
     client: usize,

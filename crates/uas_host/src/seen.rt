@@ -102,12 +102,14 @@ fn settle_data(data_td: &mut Option<TdState>, status: u8)
 
 impl HostEntry {
     /// Whether the client may take the reply.
+    #[inline(always)]
     fn is_ready(&self) -> bool
         ensures { result ≡ is_ready self.now }
     {
         self.command_td.is_seen() && self.status_td.is_over() && is_data_td_over(&self.data_td)
     }
 
+    #[inline(always)]
     fn direction(&self) -> Direction
         ensures { result ≡ request_direction self.now.request }
     {
@@ -119,6 +121,7 @@ impl HostEntry {
 
     /// The data TD is seen, where it waits and `right` says that the event is of its pipe; false, and nothing
     /// changes, where not.
+    #[inline(always)]
     fn see_data(&mut self, right: bool) -> bool
         ensures { MatchOption (seen_data right self.old self.old.data_td) ((result ≡ false) × (self.new ≡ self.old))
             (λ now. (result ≡ true) × (self.new ≡ now)) }
@@ -164,6 +167,7 @@ impl HostEntry {
     }
 
     /// The TD on a pipe is retired, where it is left over; false, and nothing changes, where not.
+    #[inline(never)]
     fn retire(&mut self, pipe: Pipe) -> bool
         ensures { MatchOption (seen (TdRetired pipe) self.old) ((result ≡ false) × (self.new ≡ self.old)) (λ now. (result ≡ true) × (self.new ≡ now)) }
     {
@@ -218,6 +222,7 @@ impl HostEntry {
     }
 
     /// The host sees an event; false, and nothing changes, where it waits for no such event.
+    #[inline(always)]
     fn see(&mut self, sight: Sight, sense: &[u8]) -> bool
         requires { length sense.now ≤ MAX_SENSE_BYTES }
         ensures { MatchOption (seen (notice_by sense.now sight) self.old) ((result ≡ false) × (self.new ≡ self.old))
@@ -255,6 +260,7 @@ impl HostEntry {
 
 /// The host sees an event of what is held; whether its command is ready now. None, and nothing changes, where it
 /// waits for no such event.
+#[inline(always)]
 fn see_held(held: &mut Option<HostEntry>, sight: Sight, sense: &[u8]) -> Option<bool>
     requires { length sense.now ≤ MAX_SENSE_BYTES }
     ensures { MatchOption (option_and_then (seen (notice_by sense.now sight)) held.old) ((result ≡ None) × (held.new ≡ held.old))
@@ -282,6 +288,7 @@ fn leave_held_over(held: &mut Option<HostEntry>, noted: &[u64])
 }
 
 /// What a task management noted, among the commands of its client, is left over where its status wasn't seen.
+#[inline(never)]
 fn leave_doomed_over(entries: &mut [Option<HostEntry>; TAGS], noted: &[u64])
     ensures { entries.new ≡ after_response noted.now entries.old }
 {
@@ -291,6 +298,7 @@ fn leave_doomed_over(entries: &mut [Option<HostEntry>; TAGS], noted: &[u64])
 }
 
 /// The tickets that a task management noted.
+#[inline(never)]
 fn noted_by(held: &Option<HostEntry>) -> ArrayVec<u64, TASK_SLOT>
     ensures { IfSome held.now (λ entry. result.items ≡ noted_in entry.request) }
 {
@@ -311,6 +319,7 @@ impl Sight {
 
 impl HostClient {
     /// The host sees an event of a slot; false, and nothing changes, where it waits for no such event.
+    #[inline(always)]
     fn see(&mut self, slot: usize, sight: Sight, sense: &[u8]) -> bool
         requires slot { slot < TAGS }
         requires sense { length sense.now ≤ MAX_SENSE_BYTES }
@@ -337,6 +346,7 @@ impl HostClient {
 
 impl Host {
     /// The host sees an event of a place; false, and nothing changes, where it waits for no such event.
+    #[inline(always)]
     pub(crate) fn see_at(&mut self, place: Place, sight: Sight, sense: &[u8]) -> bool
         requires client { place.client < length self.old.clients }
         requires slot { place.slot < TAGS }
@@ -352,6 +362,7 @@ impl Host {
     }
 
     /// The host sees an event of a tag; false, and nothing changes, where it waits for no such event.
+    #[inline(always)]
     pub(crate) fn see(&mut self, tag: u16, sight: Sight, sense: &[u8]) -> bool
         requires { length sense.now ≤ MAX_SENSE_BYTES }
         ensures { MatchOption (host_seen (notice_by sense.now sight) self.old tag) ((result ≡ false) × (self.new ≡ self.old))

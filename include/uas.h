@@ -1,7 +1,7 @@
 /* uas.h: USB Attached SCSI over xHCI streams for C, from a verified library (link libuas.a).
  *
  *   codecs   TRBs, information units, CDBs, sense and data: bytes to fields and back
- *   device   uas_device: units in, units and data out, for up to 31 logical units of 512 byte blocks
+ *   device   uas_device: units in, units and data out, for up to 15 logical units of 512 byte blocks
  *   bus      uas_bus: host, xHCI controller and device as one machine of atomic steps
  *
  * A call's value is its fault: 0 for done, else a number named below. A refused call changes nothing, what it would have written
@@ -43,8 +43,9 @@ enum {
     UAS_MOST_BLOCKS = 65536,     /* of a logical unit */
     UAS_MOST_BLOCKS_MOVED = 128, /* by one READ or WRITE */
     UAS_MOST_DATA_BYTES = 65536, /* of one command */
-    UAS_MOST_UNITS = 31,         /* logical units of a device, clients of a bus */
-    UAS_GREATEST_TAG = 248,      /* of a task; the least is 1 */
+    UAS_MOST_UNITS = 15,         /* logical units of a device, clients of a bus */
+    UAS_CLIENT_TAGS = 16,        /* of a client of a bus, the last of them for task management */
+    UAS_GREATEST_TAG = 240,      /* of a task; the least is 1 */
     UAS_MOST_UNIT_BYTES = 112,   /* of an information unit */
     UAS_MOST_SENSE_BYTES = 96    /* in an information unit */
 };
@@ -183,22 +184,26 @@ enum {
     UAS_READ_CAPACITY_10 = 0x25,    /* SBC */
     UAS_READ_10 = 0x28,             /* SBC */
     UAS_WRITE_10 = 0x2a,            /* SBC */
-    UAS_SYNCHRONIZE_CACHE_10 = 0x35 /* SBC */
+    UAS_SYNCHRONIZE_CACHE_10 = 0x35, /* SBC */
+    UAS_READ_16 = 0x88,             /* SBC */
+    UAS_WRITE_16 = 0x8a,            /* SBC */
+    UAS_READ_CAPACITY_16 = 0x9e     /* SBC: SERVICE ACTION IN(16) with its service action 10h */
 };
 
 enum { UAS_NO_DATA = 0, UAS_TO_HOST = 1, UAS_TO_DEVICE = 2 };
 
 /* What a CDB asks for. A field that its command doesn't have is written as 0 and not looked at. */
 struct uas_operation {
-    uint32_t lba;       /* READ, WRITE, SYNCHRONIZE CACHE: the first block */
-    uint32_t count;     /* the same: blocks (0: none; SYNCHRONIZE CACHE: all from lba on); INQUIRY: the allocation length */
-    uint32_t bytes;     /* what the command moves: written by uas_cdb_parse, looked at nowhere */
-    uint8_t opcode;     /* UAS_TEST_UNIT_READY to UAS_SYNCHRONIZE_CACHE_10 */
+    uint64_t lba;       /* READ, WRITE, SYNCHRONIZE CACHE: the first block */
+    uint64_t bytes;     /* what the command moves: written by uas_cdb_parse, looked at nowhere */
+    uint32_t count;     /* as `lba`: blocks (0: none; SYNCHRONIZE CACHE: all from lba on); INQUIRY, READ CAPACITY(16): the
+                           allocation length */
+    uint8_t opcode;     /* UAS_TEST_UNIT_READY to UAS_READ_CAPACITY_16 */
     uint8_t fua;        /* READ, WRITE: force unit access, 0 or 1 */
     uint8_t direction;  /* UAS_NO_DATA, UAS_TO_HOST, UAS_TO_DEVICE: as `bytes` */
     uint8_t reserved;
 };
-UAS_ASSERT(sizeof(struct uas_operation) == 16 && offsetof(struct uas_operation, opcode) == 12);
+UAS_ASSERT(sizeof(struct uas_operation) == 24 && offsetof(struct uas_operation, opcode) == 20);
 
 /* Sense key, additional sense code and its qualifier (SPC). The library answers these:
  *   3/0c/00 write error               5/24/00 invalid field in CDB
@@ -215,12 +220,14 @@ UAS_ASSERT(sizeof(struct uas_sense) == 4);
 
 enum {
     UAS_CDB_CHECK = 1,          /* CHECK CONDITION with the sense that was written */
-    UAS_CDB_UNKNOWN_OPCODE = 2, /* none of the six */
-    UAS_CDB_UNFIT = 3           /* count above 65,535, or fua neither 0 nor 1 */
+    UAS_CDB_UNKNOWN_OPCODE = 2, /* none of the nine */
+    UAS_CDB_UNFIT = 3           /* what a command of 10 bytes doesn't hold (lba of 2^32 or more, count above 65,535, also of
+                                   INQUIRY), or fua neither 0 nor 1 */
 };
 
 /* What a CDB asks of a unit of so many blocks: *operation is written, or, with the fault UAS_CDB_CHECK, *sense alone. First come
- * operation codes, then fields (EVPD, a page, protection, more than 128 blocks to READ or WRITE), then blocks. */
+ * operation codes, then fields (EVPD, a page, protection, more than 128 blocks to READ or WRITE, a service action), then
+ * blocks. */
 uint8_t uas_cdb_parse(const uint8_t cdb[16], uint32_t blocks, struct uas_operation *operation, struct uas_sense *sense);
 
 /* The CDB of an operation, padded with zeros.
@@ -239,6 +246,10 @@ enum { UAS_CAPACITY_NO_BLOCKS = 1 };
  * Fault: UAS_CAPACITY_NO_BLOCKS where `blocks` is 0. */
 uint8_t uas_capacity_data(uint32_t blocks, uint8_t bytes[8]);
 
+/* READ CAPACITY(16) data (SBC).
+ * Fault: UAS_CAPACITY_NO_BLOCKS where `blocks` is 0. */
+uint8_t uas_long_capacity_data(uint32_t blocks, uint8_t bytes[32]);
+
 /* ---- The device (INCITS 471, SAM) ----
  *
  *                receive                        give, take                  sent
@@ -247,14 +258,14 @@ uint8_t uas_capacity_data(uint32_t blocks, uint8_t bytes[8]);
  *        +------------------------------------------------------+
  *          receive: no data, a fault, an attention, task management, bytes that are no unit
  *
- * A task is named by its tag, 1 to 248. uas_device_wants tells what the device does next on a tag: it gives or takes a chunk of
+ * A task is named by its tag, 1 to 240. uas_device_wants tells what the device does next on a tag: it gives or takes a chunk of
  * data (at most 8 blocks), or it ends, and uas_device_status tells the unit that answers. Data is moved on the blocks of that
  * moment. A logical unit keeps its blocks, and its medium, to which a WRITE with FUA and SYNCHRONIZE CACHE bring them. */
 typedef struct uas_device uas_device;
 
 enum {
     UAS_NO_MEMORY = 1,
-    UAS_DEVICE_UNITS = 2, /* no unit, or more than 31 */
+    UAS_DEVICE_UNITS = 2, /* no unit, or more than 15 */
     UAS_DEVICE_BLOCKS = 3 /* a unit of no block, or of more than 65,536 */
 };
 
@@ -433,14 +444,14 @@ static inline uint8_t uas_device_medium(uas_device *device, uint16_t unit, uint3
  *                                                |
  *   client <--reply-- ready <--step-- event <--step-- status
  *
- * Up to 31 clients, each with a logical unit of its own. Client c has the tags 8c + 1 to 8c + 7 for commands, and 8c + 8 under
+ * Up to 15 clients, each with a logical unit of its own. Client c has the tags 16c + 1 to 16c + 15 for commands, and 16c + 16 under
  * which its task management goes. A ticket names a submission: it is below 2^60, and rises for each client. What was submitted
  * goes on by steps, in any order; a step that isn't due changes nothing. uas_bus_drain takes what is due until nothing is.
  * A client's replies, blocks and medium are those of a disk that it had alone, whatever the others do, for every list of steps. */
 typedef struct uas_bus uas_bus;
 
 enum {
-    UAS_BUS_CLIENTS = 2, /* no client, or more than 31 */
+    UAS_BUS_CLIENTS = 2, /* no client, or more than 15 */
     UAS_BUS_BLOCKS = 3   /* a unit of no block, or of more than 65,536 */
 };
 
@@ -500,7 +511,7 @@ enum {
     UAS_BUS_NO_MEMORY = 16,
     UAS_BUS_CALL = 17,      /* there is no such call */
     UAS_BUS_STEP = 18,      /* there is no such step, or no such pipe */
-    UAS_BUS_OPERATION = 19, /* an unknown operation code, count above 65,535, or fua neither 0 nor 1 */
+    UAS_BUS_OPERATION = 19, /* an unknown operation code, or what UAS_CDB_UNFIT is for */
     UAS_BUS_TICKET = 20,    /* 2^60 or more */
     UAS_BUS_LENGTH = 21,    /* less than 65,536 bytes for a reply's data, or no multiple of 512 */
     UAS_BUS_FUNCTION = 22,  /* neither UAS_ABORT_TASK nor UAS_LOGICAL_UNIT_RESET */
@@ -528,16 +539,16 @@ struct uas_bus_door {
     uint8_t reserved[5];
     uint8_t sense[96];              /* out of REPLY: its first sense_length bytes */
 };
-UAS_ASSERT(sizeof(struct uas_bus_door) == 152 && offsetof(struct uas_bus_door, operation) == 16);
-UAS_ASSERT(offsetof(struct uas_bus_door, call) == 42 && offsetof(struct uas_bus_door, sense) == 56);
+UAS_ASSERT(sizeof(struct uas_bus_door) == 160 && offsetof(struct uas_bus_door, operation) == 16);
+UAS_ASSERT(offsetof(struct uas_bus_door, call) == 50 && offsetof(struct uas_bus_door, sense) == 64);
 
 /* Any call of the bus; those below are easier to use. Where a call has no data, `length` may be 0.
  * Fault: UAS_BUS_CALL, and those of the call. */
 uint8_t uas_bus_call(uas_bus *bus, struct uas_bus_door *door, uint8_t *data, size_t length);
 
 /* A client submits a command under one of its command tags. `data` is as long as what the command moves (READ and WRITE 512
- * bytes a block, INQUIRY the least of count and 36, READ CAPACITY 8) and is copied; of a READ it is what the reply brings where
- * no chunk came.
+ * bytes a block, INQUIRY the least of count and 36, READ CAPACITY(10) 8, READ CAPACITY(16) the least of count and 32) and is
+ * copied; of a READ it is what the reply brings where no chunk came.
  * Faults: UAS_BUS_TICKET, UAS_BUS_OPERATION, UAS_BUS_NO_MEMORY, UAS_BUS_NOT_YOURS to UAS_BUS_OUT_OF_TURN. */
 static inline uint8_t uas_bus_submit(uas_bus *bus, uint32_t client, uint16_t tag, uint64_t ticket,
                                      const struct uas_operation *operation, const uint8_t *data, size_t length)

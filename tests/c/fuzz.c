@@ -197,15 +197,19 @@ static void fuzz_unit(struct guarded memory, struct guarded out)
 
 /* ---- CDBs ---- */
 
-static const uint8_t opcodes[] = { 0x00, 0x12, 0x25, 0x28, 0x2a, 0x35 };
+static const uint8_t opcodes[] = { 0x00, 0x12, 0x25, 0x28, 0x2a, 0x35, 0x88, 0x8a, 0x9e };
+
+enum { OPCODES = sizeof opcodes };
 
 static void draw_operation(struct uas_operation *operation, uint32_t blocks)
 {
     draw_bytes((uint8_t *)operation, sizeof *operation);
-    operation->opcode = one_in(32) ? (uint8_t)drawn() : opcodes[below(6)];
+    operation->opcode = one_in(32) ? (uint8_t)drawn() : opcodes[below(OPCODES)];
     operation->fua = small_or_any(1);
     if (!one_in(16)) {
         operation->lba = one_in(8) ? blocks - 2 + below(4) : below(blocks + 1);
+        if (one_in(32))
+            operation->lba += (uint64_t)1 << 32;
         operation->count = one_in(8) ? 120 + below(16) : below(20);
     } else
         operation->count = one_in(2) ? 65530 + below(12) : (uint32_t)drawn();
@@ -229,7 +233,7 @@ static void fuzz_cdb(struct guarded memory, struct guarded out)
 
     if (fault != 0 || one_in(8)) {
         draw_bytes(cdb, 16);
-        cdb[0] = one_in(4) ? cdb[0] : opcodes[below(6)];
+        cdb[0] = one_in(4) ? cdb[0] : opcodes[below(OPCODES)];
     } else if (one_in(2))
         spoil(cdb, one_in(2) ? 9 : 16);
     draw_bytes((uint8_t *)&before, sizeof before);
@@ -256,6 +260,13 @@ static void fuzz_cdb(struct guarded memory, struct guarded out)
     if (blocks != 0)
         second_capacity_data(blocks, given);
     AGREE(memcmp(at_end(memory, 8), given, 8) == 0);
+    draw_bytes(given, 32);
+    memcpy(at_end(memory, 32), given, 32);
+    fault = uas_long_capacity_data(blocks, at_end(memory, 32));
+    AGREE(fault == (blocks == 0 ? UAS_CAPACITY_NO_BLOCKS : 0));
+    if (blocks != 0)
+        second_long_capacity_data(blocks, given);
+    AGREE(memcmp(at_end(memory, 32), given, 32) == 0);
 }
 
 /* ---- The device ---- */
@@ -280,7 +291,7 @@ static void renew_device(void)
 
 static uint16_t draw_tag(void)
 {
-    static const uint16_t odd[] = { 0, 7, 247, 248, 249, 256, 65535 };
+    static const uint16_t odd[] = { 0, 15, 239, 240, 241, 256, 65535 };
     return one_in(12) ? odd[below(7)] : (uint16_t)(1 + below(6));
 }
 
@@ -461,7 +472,7 @@ static uint32_t bus_blocks[CLIENTS];
 
 static bool in_use(uint32_t client, uint32_t index)
 {
-    return model_bus.entries[8 * client + index].used;
+    return model_bus.entries[UAS_CLIENT_TAGS * client + index].used;
 }
 
 static void free_buses(void)
@@ -495,7 +506,7 @@ static void renew_buses(void)
 /* The tag as its client's own bus has it. */
 static uint16_t own_tag(uint16_t tag, uint32_t client)
 {
-    return (uint16_t)(tag - 8 * client);
+    return (uint16_t)(tag - UAS_CLIENT_TAGS * client);
 }
 
 /* A step of the first bus, and of its owner's; whether it acted. `twice`: of the second bus too. */
@@ -527,11 +538,11 @@ static bool drain_round(uint64_t *left)
         if (bus_step(first[i], 0, 0, false))
             any = true, --*left;
     for (uint8_t step = UAS_STEP_DATA; step <= UAS_STEP_STATUS; step++)
-        for (uint16_t tag = 1; tag <= 8 * CLIENTS && *left > 0; tag++)
+        for (uint16_t tag = 1; tag <= UAS_CLIENT_TAGS * CLIENTS && *left > 0; tag++)
             if (bus_step(step, 0, tag, false))
                 any = true, --*left;
     for (uint8_t pipe = UAS_PIPE_STATUS; pipe <= UAS_PIPE_DATA_OUT; pipe++)
-        for (uint16_t tag = 1; tag <= 8 * CLIENTS && *left > 0; tag++)
+        for (uint16_t tag = 1; tag <= UAS_CLIENT_TAGS * CLIENTS && *left > 0; tag++)
             if (bus_step(UAS_STEP_RETIRE, pipe, tag, false))
                 any = true, --*left;
     return any;
@@ -552,19 +563,21 @@ static uint8_t wanted_submission(uint32_t client, uint16_t tag, uint64_t ticket,
 {
     uint8_t cdb[16];
     size_t moved = 0;
-    bool many = (operation->opcode == UAS_READ_10 || operation->opcode == UAS_WRITE_10);
+    bool many = second_is_read(operation->opcode) || second_is_write(operation->opcode);
     if (ticket >> 60 != 0)
         return UAS_BUS_TICKET;
     if (second_cdb_write(operation, cdb) != 0)
         return UAS_BUS_OPERATION;
-    if (client >= CLIENTS || tag < 8 * client + 1 || tag > 8 * client + 7)
+    if (client >= CLIENTS || tag <= UAS_CLIENT_TAGS * client || tag >= UAS_CLIENT_TAGS * (client + 1))
         return UAS_BUS_NOT_YOURS;
-    if (in_use(client, tag - 8 * client))
+    if (in_use(client, tag - UAS_CLIENT_TAGS * client))
         return UAS_BUS_IN_USE;
     if (operation->opcode == UAS_INQUIRY)
         moved = operation->count < 36 ? operation->count : 36;
     else if (operation->opcode == UAS_READ_CAPACITY_10)
         moved = 8;
+    else if (operation->opcode == UAS_READ_CAPACITY_16)
+        moved = operation->count < 32 ? operation->count : 32;
     else if (many)
         moved = 512 * (size_t)operation->count;
     if (length != moved)
@@ -588,22 +601,24 @@ static void bus_submit(struct guarded memory)
     static uint8_t kept[MOST_DATA];
     struct uas_operation operation;
     uint32_t client = one_in(64) ? CLIENTS + below(3) : below(CLIENTS);
-    uint16_t tag = one_in(32) ? draw_tag() : (uint16_t)(8 * client + 1 + below(7));
+    uint16_t tag = one_in(32) ? draw_tag() : (uint16_t)(UAS_CLIENT_TAGS * client + 1 + below(UAS_CLIENT_TAGS - 1));
     uint64_t ticket = draw_ticket(client);
     draw_operation(&operation, bus_blocks[client % CLIENTS]);
     if (operation.count > 65535 && !one_in(8))
         operation.count %= 130;
     if (operation.fua > 1 && !one_in(8))
         operation.fua = 0;
-    if (operation.opcode == UAS_READ_10 || operation.opcode == UAS_WRITE_10)
-        if (operation.count <= 65535 && operation.count > 129)
-            operation.count = 129;
+    bool many = second_is_read(operation.opcode) || second_is_write(operation.opcode);
+    if (many && operation.count <= 65535 && operation.count > 129)
+        operation.count = 129;
     size_t length = operation.count <= 129 ? 512 * (size_t)operation.count : 0;
     if (operation.opcode == UAS_INQUIRY)
         length = operation.count < 36 ? operation.count : 36;
     else if (operation.opcode == UAS_READ_CAPACITY_10)
         length = 8;
-    else if (operation.opcode != UAS_READ_10 && operation.opcode != UAS_WRITE_10)
+    else if (operation.opcode == UAS_READ_CAPACITY_16)
+        length = operation.count < 32 ? operation.count : 32;
+    else if (!many)
         length = 0;
     if (one_in(32))
         length = below(MOST_DATA);
@@ -626,7 +641,7 @@ static void bus_task(void)
     uint32_t client = one_in(32) ? CLIENTS + below(3) : below(CLIENTS);
     uint64_t ticket = draw_ticket(client);
     uint8_t function = one_in(32) ? (uint8_t)drawn() : one_in(3) ? UAS_LOGICAL_UNIT_RESET : UAS_ABORT_TASK;
-    uint16_t tag = one_in(16) ? draw_tag() : (uint16_t)(8 * client + 1 + below(7));
+    uint16_t tag = one_in(16) ? draw_tag() : (uint16_t)(UAS_CLIENT_TAGS * client + 1 + below(UAS_CLIENT_TAGS - 1));
     uint8_t wanted = 0;
     if (ticket >> 60 != 0)
         wanted = UAS_BUS_TICKET;
@@ -634,11 +649,11 @@ static void bus_task(void)
         wanted = UAS_BUS_FUNCTION;
     else if (client >= CLIENTS)
         wanted = UAS_BUS_NOT_YOURS;
-    else if (in_use(client, 8))
+    else if (in_use(client, UAS_CLIENT_TAGS))
         wanted = UAS_BUS_IN_USE;
     else if (ticket < model_bus.least[client])
         wanted = UAS_BUS_OUT_OF_TURN;
-    else if (function == UAS_ABORT_TASK && (tag < 8 * client + 1 || tag > 8 * client + 7 || !in_use(client, tag - 8 * client)))
+    else if (function == UAS_ABORT_TASK && (tag <= UAS_CLIENT_TAGS * client || tag >= UAS_CLIENT_TAGS * (client + 1) || !in_use(client, tag - UAS_CLIENT_TAGS * client)))
         wanted = UAS_BUS_NO_SUCH_TASK;
     AGREE(saw(uas_bus_task(stepped, client, ticket, function, tag)) == wanted);
     AGREE(uas_bus_task(drained, client, ticket, function, tag) == wanted);
@@ -686,7 +701,7 @@ static void bus_reply(struct guarded memory)
     wanted_reply(client, &reply, data);
     AGREE(uas_bus_reply(alone[client], 0, others, sizeof others, &other) == 0);
     if (reply.acted) {
-        other.tag = (uint16_t)(other.tag + 8 * client);
+        other.tag = (uint16_t)(other.tag + UAS_CLIENT_TAGS * client);
         seen[24 + (reply.reply & 7)]++;
     }
     other.client = reply.client;
@@ -740,9 +755,9 @@ static void bus_junk(struct guarded out)
 static uint16_t busy_tag(void)
 {
     for (int tries = 0; tries < 8; tries++) {
-        uint32_t client = below(CLIENTS), index = 1 + below(8);
+        uint32_t client = below(CLIENTS), index = 1 + below(UAS_CLIENT_TAGS);
         if (in_use(client, index))
-            return (uint16_t)(8 * client + index);
+            return (uint16_t)(UAS_CLIENT_TAGS * client + index);
     }
     return draw_tag();
 }

@@ -71,11 +71,11 @@ static uas_bus *used_bus(void)
     bool quiet;
     if (uas_bus_new(blocks, 3, &bus) != 0)
         return NULL;
-    CHECK(uas_bus_submit(bus, 2, 17, 0, &read_24, data, 24 * 512) == 0);
+    CHECK(uas_bus_submit(bus, 2, 33, 0, &read_24, data, 24 * 512) == 0);
     CHECK(uas_bus_submit(bus, 0, 1, 0, &ready, data, 0) == 0);
     CHECK(uas_bus_drain(bus, 1000, &taken, &quiet) == 0 && quiet);
-    CHECK(uas_bus_submit(bus, 2, 18, 1, &read_24, data, 24 * 512) == 0);
-    CHECK(uas_bus_submit(bus, 1, 9, 0, &ready, data, 1) == UAS_BUS_BAD_LENGTH);
+    CHECK(uas_bus_submit(bus, 2, 34, 1, &read_24, data, 24 * 512) == 0);
+    CHECK(uas_bus_submit(bus, 1, 17, 0, &ready, data, 1) == UAS_BUS_BAD_LENGTH);
     CHECK(uas_bus_drain(bus, 2, &taken, &quiet) == 0);
     return bus;
 }
@@ -121,12 +121,12 @@ static void each_refused(void)
     long before = held;
     asks = 0;
     refused_at = 1;
-    CHECK(uas_bus_submit(bus, 2, 17, 0, &read_24, data, 24 * 512) == UAS_BUS_NO_MEMORY);
+    CHECK(uas_bus_submit(bus, 2, 33, 0, &read_24, data, 24 * 512) == UAS_BUS_NO_MEMORY);
     CHECK(held == before);
     bool due = true;
     CHECK(uas_bus_due(bus, UAS_STEP_COMMAND, 0, 0, &due) == 0 && !due);
     refused_at = 0;
-    CHECK(uas_bus_submit(bus, 2, 17, 0, &read_24, data, 24 * 512) == 0);
+    CHECK(uas_bus_submit(bus, 2, 33, 0, &read_24, data, 24 * 512) == 0);
     /* Steps and replies ask for none. */
     uint64_t taken = 0;
     struct uas_bus_door reply;

@@ -241,6 +241,22 @@ static inline uint8_t second_check(struct uas_sense *sense, uint8_t asc)
     return UAS_CDB_CHECK;
 }
 
+static inline bool second_is_read(uint8_t opcode)
+{
+    return opcode == UAS_READ_10 || opcode == UAS_READ_16;
+}
+
+static inline bool second_is_write(uint8_t opcode)
+{
+    return opcode == UAS_WRITE_10 || opcode == UAS_WRITE_16;
+}
+
+/* READ and WRITE of 16 bytes. */
+static inline bool second_is_long(uint8_t opcode)
+{
+    return opcode == UAS_READ_16 || opcode == UAS_WRITE_16;
+}
+
 static inline uint8_t second_cdb_parse(const uint8_t cdb[16], uint32_t blocks, struct uas_operation *operation, struct uas_sense *sense)
 {
     struct uas_operation asked = { .opcode = cdb[0] };
@@ -270,15 +286,32 @@ static inline uint8_t second_cdb_parse(const uint8_t cdb[16], uint32_t blocks, s
         asked.count = big(cdb + 7, 2);
         ranged = true;
         break;
+    case UAS_READ_16:
+    case UAS_WRITE_16:
+        asked.count = big(cdb + 10, 4);
+        if (cdb[1] >= 32 || asked.count > 128)
+            return second_check(sense, 0x24);
+        asked.fua = cdb[1] >> 3 & 1;
+        asked.bytes = 512 * (uint64_t)asked.count;
+        ranged = true;
+        break;
+    case UAS_READ_CAPACITY_16:
+        if (cdb[1] % 32 != 16)
+            return second_check(sense, 0x24);
+        asked.count = big(cdb + 10, 4);
+        asked.bytes = asked.count < 32 ? asked.count : 32;
+        break;
     default:
         return second_check(sense, 0x20);
     }
     if (ranged) {
         asked.lba = big(cdb + 2, 4);
+        if (second_is_long(cdb[0]))
+            asked.lba = asked.lba << 32 | big(cdb + 6, 4);
         if (asked.lba >= blocks || asked.count > blocks - asked.lba)
             return second_check(sense, 0x21);
     }
-    asked.direction = asked.bytes == 0 ? UAS_NO_DATA : asked.opcode == UAS_WRITE_10 ? UAS_TO_DEVICE : UAS_TO_HOST;
+    asked.direction = asked.bytes == 0 ? UAS_NO_DATA : second_is_write(asked.opcode) ? UAS_TO_DEVICE : UAS_TO_HOST;
     *operation = asked;
     return 0;
 }
@@ -286,16 +319,24 @@ static inline uint8_t second_cdb_parse(const uint8_t cdb[16], uint32_t blocks, s
 static inline uint8_t second_cdb_write(const struct uas_operation *operation, uint8_t cdb[16])
 {
     uint8_t text[16] = { operation->opcode };
-    bool fua = operation->opcode == UAS_READ_10 || operation->opcode == UAS_WRITE_10;
+    bool fua = second_is_read(operation->opcode) || second_is_write(operation->opcode);
+    bool wide = second_is_long(operation->opcode) || operation->opcode == UAS_READ_CAPACITY_16;
     bool ranged = fua || operation->opcode == UAS_SYNCHRONIZE_CACHE_10;
     bool counted = ranged || operation->opcode == UAS_INQUIRY;
-    if (!counted && operation->opcode != UAS_TEST_UNIT_READY && operation->opcode != UAS_READ_CAPACITY_10)
+    if (!counted && !wide && operation->opcode != UAS_TEST_UNIT_READY && operation->opcode != UAS_READ_CAPACITY_10)
         return UAS_CDB_UNKNOWN_OPCODE;
-    if ((counted && operation->count > 65535) || (fua && operation->fua > 1))
+    if ((counted && !wide && operation->count > 65535) || (ranged && !wide && operation->lba >> 32 != 0) || (fua && operation->fua > 1))
         return UAS_CDB_UNFIT;
-    if (ranged) {
+    if (wide) {
+        text[1] = operation->opcode == UAS_READ_CAPACITY_16 ? 16 : operation->fua ? 8 : 0;
+        if (ranged) {
+            put_big((uint32_t)(operation->lba >> 32), text + 2, 4);
+            put_big((uint32_t)operation->lba, text + 6, 4);
+        }
+        put_big(operation->count, text + 10, 4);
+    } else if (ranged) {
         text[1] = fua && operation->fua ? 8 : 0;
-        put_big(operation->lba, text + 2, 4);
+        put_big((uint32_t)operation->lba, text + 2, 4);
         put_big(operation->count, text + 7, 2);
     } else if (counted)
         put_big(operation->count, text + 3, 2);
@@ -313,6 +354,13 @@ static inline void second_capacity_data(uint32_t blocks, uint8_t bytes[8])
 {
     put_big(blocks - 1, bytes, 4);
     put_big(512, bytes + 4, 4);
+}
+
+static inline void second_long_capacity_data(uint32_t blocks, uint8_t bytes[32])
+{
+    memset(bytes, 0, 32);
+    put_big(blocks - 1, bytes + 4, 4);
+    bytes[10] = 2;
 }
 
 static inline void second_sense_data(const struct uas_sense *sense, uint8_t bytes[18])
@@ -456,7 +504,7 @@ static inline uint8_t second_wants(const struct second_device *device, uint16_t 
         return UAS_ABSENT;
     const struct second_task *task = &device->tasks[tag];
     if (task->phase == UAS_GIVES || task->phase == UAS_TAKES) {
-        uint32_t left = task->operation.bytes - task->done;
+        uint32_t left = (uint32_t)task->operation.bytes - task->done;
         *length = left < 4096 ? left : 4096;
     }
     return task->phase;
@@ -473,7 +521,10 @@ static inline void second_move(struct second_device *device, uint16_t tag, uint8
         memcpy(data, text, length);
     } else if (task->operation.opcode == UAS_READ_CAPACITY_10) {
         second_capacity_data(device->blocks[task->unit], data);
-    } else if (task->operation.opcode == UAS_READ_10)
+    } else if (task->operation.opcode == UAS_READ_CAPACITY_16) {
+        second_long_capacity_data(device->blocks[task->unit], text);
+        memcpy(data, text, length);
+    } else if (second_is_read(task->operation.opcode))
         memcpy(data, device->now[task->unit] + at, length);
     else {
         memcpy(device->now[task->unit] + at, data, length);

@@ -5,7 +5,7 @@
 
 #include "second.h"
 
-enum { SECOND_TAGS = 8 * SECOND_UNITS, SECOND_QUEUE = 1024, SECOND_DATA = 65536 };
+enum { SECOND_PER = 16, SECOND_TAGS = SECOND_PER * SECOND_UNITS, SECOND_QUEUE = 1024, SECOND_DATA = 65536 };
 
 enum second_td { NO_TD, WAITS, CONSUMED, SEEN, LEFT_OVER, RETIRED };
 
@@ -14,7 +14,7 @@ enum second_event { COMMAND_DONE, DATA_DONE, STATUS_DONE, ENGINE_DONE };
 struct second_entry {
     bool used, is_task, command_seen, doomed, is_ready;
     uint64_t ticket;
-    uint64_t noted[7]; /* of a task management */
+    uint64_t noted[SECOND_PER - 1]; /* of a task management */
     int count_noted;
     uint8_t data_pipe;
     struct uas_unit unit, answer;
@@ -58,7 +58,7 @@ static inline uint16_t second_take(struct second_queue *queue, uint8_t *kind)
 
 static inline int second_owner(uint16_t tag)
 {
-    return (tag - 1) / 8;
+    return (tag - 1) / SECOND_PER;
 }
 
 static inline void second_bus_open(struct second_bus *bus, const uint32_t *blocks, int clients)
@@ -81,7 +81,7 @@ static inline enum second_td *second_td_of(struct second_bus *bus, uint8_t pipe,
 {
     static enum second_td none;
     none = NO_TD;
-    if (tag < 1 || tag > 8 * bus->device.units || !bus->entries[tag].used)
+    if (tag < 1 || tag > SECOND_PER * bus->device.units || !bus->entries[tag].used)
         return &none;
     struct second_entry *entry = &bus->entries[tag];
     return pipe == UAS_PIPE_STATUS ? &entry->status : pipe == entry->data_pipe ? &entry->data : &none;
@@ -132,7 +132,7 @@ static inline void second_submit(struct second_bus *bus, uint16_t tag, uint64_t 
     memcpy(entry->bytes, data, length);
     if (length > 0) {
         entry->data = WAITS;
-        entry->data_pipe = operation->opcode == UAS_WRITE_10 ? UAS_PIPE_DATA_OUT : UAS_PIPE_DATA_IN;
+        entry->data_pipe = second_is_write(operation->opcode) ? UAS_PIPE_DATA_OUT : UAS_PIPE_DATA_IN;
         second_ring(bus, entry->data_pipe, tag);
     }
     second_ring(bus, UAS_PIPE_STATUS, tag);
@@ -141,15 +141,15 @@ static inline void second_submit(struct second_bus *bus, uint16_t tag, uint64_t 
 /* A task management that has no fault. */
 static inline void second_task(struct second_bus *bus, int client, uint64_t ticket, uint8_t function, uint16_t named)
 {
-    struct second_entry *entry = second_enter(bus, (uint16_t)(8 * client + 8), ticket);
+    struct second_entry *entry = second_enter(bus, (uint16_t)(SECOND_PER * (client + 1)), ticket);
     entry->is_task = true;
     entry->unit.id = UAS_UNIT_TASK;
     entry->unit.function = function;
     entry->unit.task_tag = function == UAS_ABORT_TASK ? named : 0;
-    for (uint16_t tag = (uint16_t)(8 * client + 1); tag < 8 * client + 8; tag++)
+    for (uint16_t tag = (uint16_t)(SECOND_PER * client + 1); tag < SECOND_PER * (client + 1); tag++)
         if (bus->entries[tag].used && (function == UAS_LOGICAL_UNIT_RESET || tag == named))
             entry->noted[entry->count_noted++] = bus->entries[tag].ticket;
-    second_ring(bus, UAS_PIPE_STATUS, (uint16_t)(8 * client + 8));
+    second_ring(bus, UAS_PIPE_STATUS, (uint16_t)(SECOND_PER * (client + 1)));
 }
 
 static inline void second_when_ready(struct second_bus *bus, uint16_t tag)
@@ -166,7 +166,7 @@ static inline void second_when_ready(struct second_bus *bus, uint16_t tag)
 /* A response COMPLETE leaves over what it ended. */
 static inline void second_doom(struct second_bus *bus, const struct second_entry *task, int client)
 {
-    for (uint16_t tag = (uint16_t)(8 * client + 1); tag < 8 * client + 8; tag++)
+    for (uint16_t tag = (uint16_t)(SECOND_PER * client + 1); tag < SECOND_PER * (client + 1); tag++)
         for (int i = 0; i < task->count_noted; i++) {
             struct second_entry *entry = &bus->entries[tag];
             if (!entry->used || entry->ticket != task->noted[i] || (entry->status != WAITS && entry->status != CONSUMED))
@@ -197,7 +197,7 @@ static inline void second_see_engine(struct second_bus *bus)
     uint8_t pipe = bus->retiring;
     *second_td_of(bus, pipe, bus->retired_tag) = RETIRED;
     bus->retiring = 0;
-    for (uint16_t tag = 1; tag <= 8 * bus->device.units; tag++)
+    for (uint16_t tag = 1; tag <= SECOND_PER * bus->device.units; tag++)
         if (second_has_trb(bus, pipe, tag))
             second_ring(bus, pipe, tag);
 }

@@ -223,6 +223,14 @@ static void cdb_texts(void)
     cdb_is((struct uas_operation){ .opcode = UAS_WRITE_10, .lba = 0x102, .count = 3, .bytes = 1536, .fua = 1, .direction = UAS_TO_DEVICE }, 65536,
            "2a 08 00 00 01 02 00 00 03 00 x7");
     cdb_is((struct uas_operation){ .opcode = UAS_SYNCHRONIZE_CACHE_10, .lba = 1, .count = 99 }, 100, "35 00 00 00 00 01 00 00 63 00 x7");
+    cdb_is((struct uas_operation){ .opcode = UAS_READ_16, .lba = 98, .count = 2, .bytes = 1024, .direction = UAS_TO_HOST }, 100,
+           "88 00 00 00 00 00 00 00 00 62 00 00 00 02 00 00");
+    cdb_is((struct uas_operation){ .opcode = UAS_WRITE_16, .lba = 1, .count = 1, .bytes = 512, .fua = 1, .direction = UAS_TO_DEVICE }, 100,
+           "8a 08 00 00 00 00 00 00 00 01 00 00 00 01 00 00");
+    cdb_is((struct uas_operation){ .opcode = UAS_READ_CAPACITY_16, .count = 12, .bytes = 12, .direction = UAS_TO_HOST }, 1,
+           "9e 10 00 x11 0c 00 00");
+    cdb_is((struct uas_operation){ .opcode = UAS_READ_CAPACITY_16, .count = 0xffffffff, .bytes = 32, .direction = UAS_TO_HOST }, 1,
+           "9e 10 00 x8 ff ff ff ff 00 00");
 }
 
 static void cdb_checks(const char *text, uint32_t blocks, uint8_t asc)
@@ -242,7 +250,7 @@ static void cdb_checks(const char *text, uint32_t blocks, uint8_t asc)
 static void cdb_faults(void)
 {
     cdb_checks("03 00 x15", 100, 0x20);                       /* REQUEST SENSE */
-    cdb_checks("88 00 x15", 100, 0x20);                       /* READ(16) */
+    cdb_checks("8e 00 x15", 100, 0x20);                       /* WRITE AND VERIFY(16) */
     cdb_checks("12 01 00 00 24 00 x11", 100, 0x24);           /* EVPD */
     cdb_checks("12 00 80 00 24 00 x11", 100, 0x24);           /* a page */
     cdb_checks("28 20 00 x6 01 00 x7", 100, 0x24);            /* protection */
@@ -253,6 +261,10 @@ static void cdb_faults(void)
     cdb_checks("35 00 00 00 00 64 00 00 00 00 x7", 100, 0x21);
     cdb_checks("35 00 00 00 00 01 00 00 64 00 x7", 100, 0x21);
     cdb_checks("28 00 ff ff ff ff 00 00 01 00 x7", 65536, 0x21);
+    cdb_checks("88 00 00 00 00 01 00 00 00 00 00 00 00 01 00 00", 65536, 0x21); /* block 2^32 */
+    cdb_checks("8a 00 00 00 00 01 00 00 00 00 00 00 00 81 00 00", 65536, 0x24); /* the field first */
+    cdb_checks("88 00 00 x8 ff ff ff ff 00 00", 65536, 0x24);                   /* 2^32 - 1 blocks */
+    cdb_checks("9e 11 00 x11 20 00 00", 100, 0x24);                             /* another service action */
 
     /* DPO, the immediate bit and bits without a field are ignored. */
     uint8_t cdb[16];
@@ -266,9 +278,11 @@ static void cdb_faults(void)
     struct uas_operation operation = { .opcode = UAS_READ_10, .count = 65536 };
     memset(cdb, 0xee, sizeof cdb);
     CHECK(uas_cdb_write(&operation, cdb) == UAS_CDB_UNFIT);
+    operation = (struct uas_operation){ .opcode = UAS_READ_10, .lba = (uint64_t)1 << 32 };
+    CHECK(uas_cdb_write(&operation, cdb) == UAS_CDB_UNFIT);
     operation = (struct uas_operation){ .opcode = UAS_READ_10, .fua = 2 };
     CHECK(uas_cdb_write(&operation, cdb) == UAS_CDB_UNFIT);
-    operation.opcode = 0x88;
+    operation.opcode = 0x8e;
     CHECK(uas_cdb_write(&operation, cdb) == UAS_CDB_UNKNOWN_OPCODE);
     CHECK_BYTES(cdb, sizeof cdb, "ee x16");
     /* More than a READ may move has a CDB; the device answers it. */
@@ -293,6 +307,9 @@ static void data_texts(void)
     CHECK_BYTES(bytes, 8, "00 00 00 63 00 00 02 00");
     CHECK(uas_capacity_data(0xffffffff, bytes) == 0);
     CHECK_BYTES(bytes, 8, "ff ff ff fe 00 00 02 00");
+    CHECK(uas_long_capacity_data(100, bytes) == 0);
+    CHECK_BYTES(bytes, 32, "00 x7 63 00 00 02 00 00 x20");
+    CHECK(uas_long_capacity_data(0, bytes) == UAS_CAPACITY_NO_BLOCKS);
 }
 
 /* ---- The device ---- */
@@ -383,23 +400,23 @@ static const struct uas_operation ready = { .opcode = UAS_TEST_UNIT_READY };
 
 static void device_new_faults(void)
 {
-    uint32_t blocks[32];
+    uint32_t blocks[16];
     uas_device *device = NULL;
-    for (int i = 0; i < 32; i++)
+    for (int i = 0; i < 16; i++)
         blocks[i] = 1;
     CHECK(uas_device_new(blocks, 0, &device) == UAS_DEVICE_UNITS);
-    CHECK(uas_device_new(blocks, 32, &device) == UAS_DEVICE_UNITS);
-    blocks[30] = 0;
-    CHECK(uas_device_new(blocks, 31, &device) == UAS_DEVICE_BLOCKS);
-    blocks[30] = 65537;
-    CHECK(uas_device_new(blocks, 31, &device) == UAS_DEVICE_BLOCKS);
+    CHECK(uas_device_new(blocks, 16, &device) == UAS_DEVICE_UNITS);
+    blocks[14] = 0;
+    CHECK(uas_device_new(blocks, 15, &device) == UAS_DEVICE_BLOCKS);
+    blocks[14] = 65537;
+    CHECK(uas_device_new(blocks, 15, &device) == UAS_DEVICE_BLOCKS);
     CHECK(device == NULL);
-    blocks[30] = 65536;
-    CHECK(uas_device_new(blocks, 31, &device) == 0 && device != NULL);
+    blocks[14] = 65536;
+    CHECK(uas_device_new(blocks, 15, &device) == 0 && device != NULL);
     uint32_t size = 0;
-    CHECK(uas_device_size(device, 30, &size) == 0 && size == 65536);
+    CHECK(uas_device_size(device, 14, &size) == 0 && size == 65536);
     CHECK(uas_device_size(device, 0, &size) == 0 && size == 1);
-    CHECK(uas_device_size(device, 31, &size) == UAS_DEVICE_UNIT && size == 1);
+    CHECK(uas_device_size(device, 15, &size) == UAS_DEVICE_UNIT && size == 1);
     uas_device_free(device);
 }
 
@@ -425,10 +442,10 @@ static void device_answers(void)
     begins(device, 18, 2, (struct uas_operation){ .opcode = UAS_INQUIRY });
     ends(device, 18, "03 00 00 12 00 x12");
 
-    begins(device, 248, 0, (struct uas_operation){ .opcode = UAS_READ_CAPACITY_10 });
-    gives(device, 248, data, 8);
+    begins(device, 240, 0, (struct uas_operation){ .opcode = UAS_READ_CAPACITY_10 });
+    gives(device, 240, data, 8);
     CHECK_BYTES(data, 8, "00 00 00 63 00 00 02 00");
-    ends(device, 248, "03 00 00 f8 00 x12");
+    ends(device, 240, "03 00 00 f0 00 x12");
 
     /* Blocks 99 and 100 of 100; no block at block 100, and at block 99. */
     begins(device, 18, 2, (struct uas_operation){ .opcode = UAS_READ_10, .lba = 99, .count = 2 });
@@ -680,7 +697,7 @@ static void acts(uas_bus *bus, const char *steps)
         CHECK(uas_bus_due(bus, step, pipe, tag, &due) == 0);
         CHECK(uas_bus_step(bus, step, pipe, tag, &acted, &owner) == 0);
         bool tagged = step == UAS_STEP_DATA || step == UAS_STEP_STATUS || step == UAS_STEP_RETIRE;
-        if (!CHECK(due && acted && (tagged ? owner == (tag - 1) / 8 : owner >= 0)))
+        if (!CHECK(due && acted && (tagged ? owner == (tag - 1) / UAS_CLIENT_TAGS : owner >= 0)))
             fprintf(stderr, "    at \"%s\" of \"%s\"\n", at, steps);
     }
 }
@@ -754,15 +771,15 @@ static void bus_of_two(void)
     drains(bus);
     replies(bus, 0, 0, 1, UAS_REPLY_STATUS, UAS_GOOD, 4096);
     CHECK(submitted(bus, 0, 1, 1, reads(0, 1), 0x77, 512) == 0);
-    CHECK(submitted(bus, 1, 9, 0, reads(0, 1), 0x77, 512) == 0);
-    CHECK(submitted(bus, 1, 10, 1, (struct uas_operation){ .opcode = UAS_INQUIRY, .count = 36 }, 0, 36) == 0);
+    CHECK(submitted(bus, 1, 17, 0, reads(0, 1), 0x77, 512) == 0);
+    CHECK(submitted(bus, 1, 18, 1, (struct uas_operation){ .opcode = UAS_INQUIRY, .count = 36 }, 0, 36) == 0);
     drains(bus);
     replies(bus, 0, 1, 1, UAS_REPLY_STATUS, UAS_GOOD, 512);
     CHECK(all_are(bytes_of_replies, 512, 0xaa));
     no_reply(bus, 0);
-    replies(bus, 1, 0, 9, UAS_REPLY_STATUS, UAS_GOOD, 512);
+    replies(bus, 1, 0, 17, UAS_REPLY_STATUS, UAS_GOOD, 512);
     CHECK(all_are(bytes_of_replies, 512, 0));
-    replies(bus, 1, 1, 10, UAS_REPLY_STATUS, UAS_GOOD, 36);
+    replies(bus, 1, 1, 18, UAS_REPLY_STATUS, UAS_GOOD, 36);
     CHECK_BYTES(bytes_of_replies, 36, "000006021f000002 53494d4449534b20 5541532053494d204449534b20202020 30303031");
     no_reply(bus, 1);
     uint8_t blocks[1024];
@@ -778,8 +795,8 @@ static void bus_read_sees_write(void)
     uas_bus *bus = new_bus(2, 100);
     CHECK(submitted(bus, 0, 1, 0, writes(0, 16), 1, 8192) == 0);
     CHECK(submitted(bus, 0, 2, 1, reads(0, 16), 0x77, 8192) == 0);
-    CHECK(submitted(bus, 1, 9, 0, writes(0, 16), 9, 8192) == 0);
-    acts(bus, "c c c d1 d9 d2 d2 d9 d1");
+    CHECK(submitted(bus, 1, 17, 0, writes(0, 16), 9, 8192) == 0);
+    acts(bus, "c c c d1 d17 d2 d2 d17 d1");
     is_idle(bus, UAS_STEP_DATA, 0, 1);
     drains(bus);
     replies(bus, 0, 0, 1, UAS_REPLY_STATUS, UAS_GOOD, 8192);
@@ -792,13 +809,13 @@ static void bus_read_sees_write(void)
 static void bus_out_of_range(void)
 {
     uas_bus *bus = new_bus(3, 100);
-    CHECK(submitted(bus, 2, 18, 0, reads(99, 2), 0x77, 1024) == 0);
-    acts(bus, "c s18 e e");
+    CHECK(submitted(bus, 2, 34, 0, reads(99, 2), 0x77, 1024) == 0);
+    acts(bus, "c s34 e e");
     no_reply(bus, 2);
-    is_idle(bus, UAS_STEP_RETIRE, UAS_PIPE_STATUS, 18);
-    is_idle(bus, UAS_STEP_RETIRE, UAS_PIPE_DATA_OUT, 18);
-    acts(bus, "ri18 g e g e");
-    replies_check(bus, 2, 0, 18, 1024, "70 00 05 00 00 00 00 0a 00 00 00 00 21 00 00 00 00 00");
+    is_idle(bus, UAS_STEP_RETIRE, UAS_PIPE_STATUS, 34);
+    is_idle(bus, UAS_STEP_RETIRE, UAS_PIPE_DATA_OUT, 34);
+    acts(bus, "ri34 g e g e");
+    replies_check(bus, 2, 0, 34, 1024, "70 00 05 00 00 00 00 0a 00 00 00 00 21 00 00 00 00 00");
     CHECK(all_are(bytes_of_replies, 1024, 0x77));
     uas_bus_free(bus);
 }
@@ -807,13 +824,13 @@ static void bus_out_of_range(void)
 static void bus_abort(void)
 {
     uas_bus *bus = new_bus(3, 100);
-    CHECK(submitted(bus, 2, 17, 0, reads(0, 24), 0x77, 24 * 512) == 0);
-    acts(bus, "c d17 d17");
-    CHECK(uas_bus_task(bus, 2, 1, UAS_ABORT_TASK, 17) == 0);
+    CHECK(submitted(bus, 2, 33, 0, reads(0, 24), 0x77, 24 * 512) == 0);
+    acts(bus, "c d33 d33");
+    CHECK(uas_bus_task(bus, 2, 1, UAS_ABORT_TASK, 33) == 0);
     CHECK(uas_bus_task(bus, 2, 2, UAS_LOGICAL_UNIT_RESET, 0) == UAS_BUS_IN_USE);
     drains(bus);
-    replies(bus, 2, 1, 24, UAS_REPLY_TASK, UAS_RESPONSE_COMPLETE, 0);
-    replies(bus, 2, 0, 17, UAS_REPLY_ABORTED, 0, 24 * 512);
+    replies(bus, 2, 1, 48, UAS_REPLY_TASK, UAS_RESPONSE_COMPLETE, 0);
+    replies(bus, 2, 0, 33, UAS_REPLY_ABORTED, 0, 24 * 512);
     CHECK(all_are(bytes_of_replies, 8192, 0) && all_are(bytes_of_replies + 8192, 4096, 0x77));
     no_reply(bus, 2);
     uas_bus_free(bus);
@@ -824,20 +841,20 @@ static void bus_reset(void)
 {
     uas_bus *bus = new_bus(2, 100);
     uint8_t blocks[9 * 512];
-    CHECK(submitted(bus, 1, 9, 0, writes(0, 24), 170, 24 * 512) == 0);
+    CHECK(submitted(bus, 1, 17, 0, writes(0, 24), 170, 24 * 512) == 0);
     CHECK(uas_bus_task(bus, 1, 1, UAS_LOGICAL_UNIT_RESET, 0) == 0);
-    CHECK(submitted(bus, 1, 10, 2, (struct uas_operation){ .opcode = UAS_INQUIRY, .count = 5 }, 0, 5) == 0);
-    CHECK(submitted(bus, 1, 11, 3, ready, 0, 0) == 0);
-    CHECK(submitted(bus, 1, 12, 4, ready, 0, 0) == 0);
+    CHECK(submitted(bus, 1, 18, 2, (struct uas_operation){ .opcode = UAS_INQUIRY, .count = 5 }, 0, 5) == 0);
+    CHECK(submitted(bus, 1, 19, 3, ready, 0, 0) == 0);
+    CHECK(submitted(bus, 1, 20, 4, ready, 0, 0) == 0);
     CHECK(submitted(bus, 0, 1, 0, reads(0, 1), 0x77, 512) == 0);
     drains(bus);
     replies(bus, 0, 0, 1, UAS_REPLY_STATUS, UAS_GOOD, 512);
-    replies(bus, 1, 1, 16, UAS_REPLY_TASK, UAS_RESPONSE_COMPLETE, 0);
-    replies(bus, 1, 2, 10, UAS_REPLY_STATUS, UAS_GOOD, 5);
+    replies(bus, 1, 1, 32, UAS_REPLY_TASK, UAS_RESPONSE_COMPLETE, 0);
+    replies(bus, 1, 2, 18, UAS_REPLY_STATUS, UAS_GOOD, 5);
     CHECK_BYTES(bytes_of_replies, 5, "00 00 06 02 1f");
-    replies_check(bus, 1, 3, 11, 0, "70 00 06 00 00 00 00 0a 00 00 00 00 29 03 00 00 00 00");
-    replies(bus, 1, 4, 12, UAS_REPLY_STATUS, UAS_GOOD, 0);
-    replies(bus, 1, 0, 9, UAS_REPLY_ABORTED, 0, 24 * 512);
+    replies_check(bus, 1, 3, 19, 0, "70 00 06 00 00 00 00 0a 00 00 00 00 29 03 00 00 00 00");
+    replies(bus, 1, 4, 20, UAS_REPLY_STATUS, UAS_GOOD, 0);
+    replies(bus, 1, 0, 17, UAS_REPLY_ABORTED, 0, 24 * 512);
     no_reply(bus, 1);
     CHECK(uas_bus_blocks(bus, 1, 0, blocks, sizeof blocks) == 0);
     CHECK(all_are(blocks, 8 * 512, 0xaa) && all_are(blocks + 8 * 512, 512, 0));
@@ -848,15 +865,15 @@ static void bus_reset(void)
 static void bus_reused_tag(void)
 {
     uas_bus *bus = new_bus(3, 100);
-    CHECK(submitted(bus, 2, 18, 0, ready, 0, 0) == 0);
-    acts(bus, "c s18");
-    CHECK(uas_bus_task(bus, 2, 1, UAS_ABORT_TASK, 18) == 0);
+    CHECK(submitted(bus, 2, 34, 0, ready, 0, 0) == 0);
+    acts(bus, "c s34");
+    CHECK(uas_bus_task(bus, 2, 1, UAS_ABORT_TASK, 34) == 0);
     acts(bus, "e e");
-    replies(bus, 2, 0, 18, UAS_REPLY_STATUS, UAS_GOOD, 0);
-    CHECK(submitted(bus, 2, 18, 2, ready, 0, 0) == 0);
-    acts(bus, "c s24 c s18 e e e e");
-    replies(bus, 2, 1, 24, UAS_REPLY_TASK, UAS_RESPONSE_COMPLETE, 0);
-    replies(bus, 2, 2, 18, UAS_REPLY_STATUS, UAS_GOOD, 0);
+    replies(bus, 2, 0, 34, UAS_REPLY_STATUS, UAS_GOOD, 0);
+    CHECK(submitted(bus, 2, 34, 2, ready, 0, 0) == 0);
+    acts(bus, "c s48 c s34 e e e e");
+    replies(bus, 2, 1, 48, UAS_REPLY_TASK, UAS_RESPONSE_COMPLETE, 0);
+    replies(bus, 2, 2, 34, UAS_REPLY_STATUS, UAS_GOOD, 0);
     no_reply(bus, 2);
     uas_bus_free(bus);
 }
@@ -866,26 +883,26 @@ static void bus_reused_tag(void)
 static void bus_retirement_beside_read(void)
 {
     uas_bus *bus = new_bus(4, 200);
-    CHECK(submitted(bus, 2, 17, 0, ready, 0, 0) == 0);
-    CHECK(submitted(bus, 2, 18, 1, reads(0, 24), 0x77, 24 * 512) == 0);
-    CHECK(submitted(bus, 3, 25, 0, ready, 0, 0) == 0);
-    CHECK(submitted(bus, 3, 26, 1, reads(0, 128), 0x77, 65536) == 0);
-    acts(bus, "c c c c d26 d26 d26 d26 d26 d26 d26 d26 d26");
-    CHECK(uas_bus_task(bus, 2, 2, UAS_ABORT_TASK, 18) == 0);
-    acts(bus, "c s24 e e e e e e ri18");
-    is_idle(bus, UAS_STEP_RETIRE, UAS_PIPE_STATUS, 18);
+    CHECK(submitted(bus, 2, 33, 0, ready, 0, 0) == 0);
+    CHECK(submitted(bus, 2, 34, 1, reads(0, 24), 0x77, 24 * 512) == 0);
+    CHECK(submitted(bus, 3, 49, 0, ready, 0, 0) == 0);
+    CHECK(submitted(bus, 3, 50, 1, reads(0, 128), 0x77, 65536) == 0);
+    acts(bus, "c c c c d50 d50 d50 d50 d50 d50 d50 d50 d50");
+    CHECK(uas_bus_task(bus, 2, 2, UAS_ABORT_TASK, 34) == 0);
+    acts(bus, "c s48 e e e e e e ri34");
+    is_idle(bus, UAS_STEP_RETIRE, UAS_PIPE_STATUS, 34);
     acts(bus, "g");
-    is_idle(bus, UAS_STEP_DATA, 0, 26);
+    is_idle(bus, UAS_STEP_DATA, 0, 50);
     acts(bus, "e g");
-    is_idle(bus, UAS_STEP_DATA, 0, 26);
-    acts(bus, "e d26");
+    is_idle(bus, UAS_STEP_DATA, 0, 50);
+    acts(bus, "e d50");
     drains(bus);
-    replies(bus, 2, 2, 24, UAS_REPLY_TASK, UAS_RESPONSE_COMPLETE, 0);
-    replies(bus, 2, 0, 17, UAS_REPLY_STATUS, UAS_GOOD, 0);
-    replies(bus, 2, 1, 18, UAS_REPLY_ABORTED, 0, 24 * 512);
+    replies(bus, 2, 2, 48, UAS_REPLY_TASK, UAS_RESPONSE_COMPLETE, 0);
+    replies(bus, 2, 0, 33, UAS_REPLY_STATUS, UAS_GOOD, 0);
+    replies(bus, 2, 1, 34, UAS_REPLY_ABORTED, 0, 24 * 512);
     CHECK(all_are(bytes_of_replies, 24 * 512, 0x77));
-    replies(bus, 3, 0, 25, UAS_REPLY_STATUS, UAS_GOOD, 0);
-    replies(bus, 3, 1, 26, UAS_REPLY_STATUS, UAS_GOOD, 65536);
+    replies(bus, 3, 0, 49, UAS_REPLY_STATUS, UAS_GOOD, 0);
+    replies(bus, 3, 1, 50, UAS_REPLY_STATUS, UAS_GOOD, 65536);
     CHECK(all_are(bytes_of_replies, 65536, 0));
     uas_bus_free(bus);
 }
@@ -896,13 +913,13 @@ static void bus_refuses(void)
     uint8_t data[1024];
     uint64_t taken = 7777;
     bool quiet = true;
-    struct uas_operation odd = { .opcode = 0x88 };
+    struct uas_operation odd = { .opcode = 0x8e };
     CHECK(submitted(bus, 0, 1, 0, odd, 0, 0) == UAS_BUS_OPERATION);
     CHECK(submitted(bus, 0, 1, 0, reads(0, 65536), 0, 512) == UAS_BUS_OPERATION);
     CHECK(submitted(bus, 0, 1, (uint64_t)1 << 60, odd, 0, 0) == UAS_BUS_TICKET);
-    CHECK(submitted(bus, 2, 17, 0, ready, 0, 0) == UAS_BUS_NOT_YOURS);
-    CHECK(submitted(bus, 0, 9, 0, ready, 0, 0) == UAS_BUS_NOT_YOURS);
-    CHECK(submitted(bus, 0, 8, 0, ready, 0, 0) == UAS_BUS_NOT_YOURS);
+    CHECK(submitted(bus, 2, 33, 0, ready, 0, 0) == UAS_BUS_NOT_YOURS);
+    CHECK(submitted(bus, 0, 17, 0, ready, 0, 0) == UAS_BUS_NOT_YOURS);
+    CHECK(submitted(bus, 0, 16, 0, ready, 0, 0) == UAS_BUS_NOT_YOURS);
     CHECK(submitted(bus, 0, 0, 0, ready, 0, 0) == UAS_BUS_NOT_YOURS);
     CHECK(submitted(bus, 0, 1, 0, reads(0, 1), 0, 511) == UAS_BUS_BAD_LENGTH);
     CHECK(submitted(bus, 0, 1, 0, reads(0, 129), 0, 129 * 512) == UAS_BUS_TOO_LONG);
@@ -914,10 +931,10 @@ static void bus_refuses(void)
     CHECK(submitted(bus, 0, 1, 5, ready, 0, 0) == 0);
     CHECK(submitted(bus, 0, 1, 6, ready, 0, 0) == UAS_BUS_IN_USE);
     CHECK(submitted(bus, 0, 2, 5, ready, 0, 0) == UAS_BUS_OUT_OF_TURN);
-    CHECK(uas_bus_submit(bus, 1, 9, 0, &ready, NULL, 0) == 0);
+    CHECK(uas_bus_submit(bus, 1, 17, 0, &ready, NULL, 0) == 0);
     CHECK(uas_bus_task(bus, 0, 4, UAS_ABORT_TASK, 1) == UAS_BUS_OUT_OF_TURN);
     CHECK(uas_bus_task(bus, 0, 6, UAS_ABORT_TASK, 2) == UAS_BUS_NO_SUCH_TASK);
-    CHECK(uas_bus_task(bus, 0, 6, UAS_ABORT_TASK, 9) == UAS_BUS_NO_SUCH_TASK);
+    CHECK(uas_bus_task(bus, 0, 6, UAS_ABORT_TASK, 17) == UAS_BUS_NO_SUCH_TASK);
     CHECK(uas_bus_task(bus, 0, 6, 2, 1) == UAS_BUS_FUNCTION);
     CHECK(uas_bus_task(bus, 0, (uint64_t)1 << 60, 2, 1) == UAS_BUS_TICKET);
     CHECK(uas_bus_task(bus, 2, 6, UAS_LOGICAL_UNIT_RESET, 0) == UAS_BUS_NOT_YOURS);
@@ -925,7 +942,7 @@ static void bus_refuses(void)
     CHECK(uas_bus_drain(bus, 3, &taken, &quiet) == 0 && taken == 3 && !quiet);
     drains(bus);
     replies(bus, 0, 5, 1, UAS_REPLY_STATUS, UAS_GOOD, 0);
-    replies(bus, 1, 0, 9, UAS_REPLY_STATUS, UAS_GOOD, 0);
+    replies(bus, 1, 0, 17, UAS_REPLY_STATUS, UAS_GOOD, 0);
 
     is_idle(bus, UAS_STEP_COMMAND, 0, 0);
     is_idle(bus, UAS_STEP_DATA, 0, 65535);
@@ -963,22 +980,22 @@ static void bus_refuses(void)
 
 static void bus_new_faults(void)
 {
-    uint32_t blocks[32];
+    uint32_t blocks[16];
     uas_bus *bus = NULL;
-    for (int i = 0; i < 32; i++)
+    for (int i = 0; i < 16; i++)
         blocks[i] = 1;
     CHECK(uas_bus_new(blocks, 0, &bus) == UAS_BUS_CLIENTS);
-    CHECK(uas_bus_new(blocks, 32, &bus) == UAS_BUS_CLIENTS);
-    blocks[30] = 0;
-    CHECK(uas_bus_new(blocks, 31, &bus) == UAS_BUS_BLOCKS);
-    blocks[30] = 65537;
-    CHECK(uas_bus_new(blocks, 31, &bus) == UAS_BUS_BLOCKS);
+    CHECK(uas_bus_new(blocks, 16, &bus) == UAS_BUS_CLIENTS);
+    blocks[14] = 0;
+    CHECK(uas_bus_new(blocks, 15, &bus) == UAS_BUS_BLOCKS);
+    blocks[14] = 65537;
+    CHECK(uas_bus_new(blocks, 15, &bus) == UAS_BUS_BLOCKS);
     CHECK(bus == NULL);
-    blocks[30] = 65536;
-    CHECK(uas_bus_new(blocks, 31, &bus) == 0 && bus != NULL);
-    CHECK(submitted(bus, 30, 241, 0, (struct uas_operation){ .opcode = UAS_READ_CAPACITY_10 }, 0, 8) == 0);
+    blocks[14] = 65536;
+    CHECK(uas_bus_new(blocks, 15, &bus) == 0 && bus != NULL);
+    CHECK(submitted(bus, 14, 225, 0, (struct uas_operation){ .opcode = UAS_READ_CAPACITY_10 }, 0, 8) == 0);
     drains(bus);
-    replies(bus, 30, 0, 241, UAS_REPLY_STATUS, UAS_GOOD, 8);
+    replies(bus, 14, 0, 225, UAS_REPLY_STATUS, UAS_GOOD, 8);
     CHECK_BYTES(bytes_of_replies, 8, "00 00 ff ff 00 00 02 00");
     uas_bus_free(bus);
 }

@@ -19,7 +19,7 @@ const MEDIUM: u8 = 9;
 #[derive(Clone, Copy, Debug, PartialEq, Eq, Hash)]
 pub enum NewBusFault {
     NoMemory,
-    /// No client, or more than 31.
+    /// No client, or more than 15.
     Clients,
     /// A unit of no block, or of more than 65,536.
     Blocks,
@@ -29,7 +29,7 @@ impl fmt::Display for NewBusFault {
     fn fmt(&self, out: &mut fmt::Formatter<'_>) -> fmt::Result {
         out.write_str(match self {
             Self::NoMemory => "no memory",
-            Self::Clients => "no client, or more than 31",
+            Self::Clients => "no client, or more than 15",
             Self::Blocks => "a unit of no block, or of more than 65536",
         })
     }
@@ -137,7 +137,7 @@ pub struct Drained {
     pub quiet: bool,
 }
 
-/// Up to 31 clients' disks behind one controller. Client c has the tags 8c + 1 to 8c + 7 for commands and 8c + 8 for task
+/// Up to 15 clients' disks behind one controller. Client c has the tags 16c + 1 to 16c + 15 for commands and 16c + 16 for task
 /// management; tickets are below 2^60 and rise for each client. A client's replies and blocks are those of a disk that it had alone.
 ///
 /// ```
@@ -241,7 +241,7 @@ impl Bus {
     }
 
     fn copy(&self, call: u8, client: u32, lba: u32, data: &mut [u8]) -> Result<(), BusFault> {
-        let operation = raw::Operation { lba, ..raw::Operation::default() };
+        let operation = raw::Operation { lba: lba.into(), ..raw::Operation::default() };
         done(self.call(&mut raw::BusDoor { call, client, operation, ..raw::BusDoor::default() }, data))
     }
 

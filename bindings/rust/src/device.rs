@@ -19,7 +19,7 @@ const MEDIUM: u8 = 9;
 #[derive(Clone, Copy, Debug, PartialEq, Eq, Hash)]
 pub enum NewDeviceFault {
     NoMemory,
-    /// No unit, or more than 31.
+    /// No unit, or more than 15.
     Units,
     /// A unit of no block, or of more than 65,536.
     Blocks,
@@ -29,7 +29,7 @@ impl fmt::Display for NewDeviceFault {
     fn fmt(&self, out: &mut fmt::Formatter<'_>) -> fmt::Result {
         out.write_str(match self {
             Self::NoMemory => "no memory",
-            Self::Units => "no unit, or more than 31",
+            Self::Units => "no unit, or more than 15",
             Self::Blocks => "a unit of no block, or of more than 65536",
         })
     }
@@ -96,7 +96,7 @@ pub enum Moved {
     BadBlock,
 }
 
-/// A disk of logical units. A task is named by its tag, 1 to 248.
+/// A disk of logical units. A task is named by its tag, 1 to 240.
 #[derive(Debug)]
 pub struct Device {
     handle: NonNull<raw::Device>,

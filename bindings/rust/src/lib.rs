@@ -2,7 +2,7 @@
 //!
 //! - [`Trb`], [`Unit`], [`Operation`], [`Sense`]: the codecs of TRBs (xHCI 1.2, 6.4), information units (INCITS 471), CDBs and
 //!   sense data (SPC, SBC).
-//! - [`Device`]: a disk of up to 31 logical units; units go in, units and data come out.
+//! - [`Device`]: a disk of up to 15 logical units; units go in, units and data come out.
 //! - [`Bus`]: host, xHCI controller and device as one machine of atomic steps.
 //!
 //! What the C header asks of its caller is upheld here, by types: pointers come from references and slices, a handle is owned and
@@ -31,7 +31,7 @@ mod unit;
 pub use bus::{Bus, BusFault, Drained, NewBusFault, Pipe, Reply, Step, Task};
 pub use device::{Device, DeviceFault, Moved, NewDeviceFault, Overlap, Phase};
 pub use numbers::{CompletionCode, Function, ResponseCode, Status};
-pub use scsi::{capacity_data, inquiry_data, Asked, Operation, Sense, Transfer};
+pub use scsi::{capacity_data, inquiry_data, long_capacity_data, Asked, Operation, Sense, Transfer};
 pub use trb::{Trb, TrbFault, TrbFlags, Unfit};
 pub use unit::{lun, TooMuchSense, Unit, UnitFault};
 

@@ -57,9 +57,9 @@ impl Unit {
 #[repr(C)]
 #[derive(Clone, Copy, Default)]
 pub struct Operation {
-    pub lba: u32,
+    pub lba: u64,
+    pub bytes: u64,
     pub count: u32,
-    pub bytes: u32,
     pub opcode: u8,
     pub fua: u8,
     pub direction: u8,
@@ -136,10 +136,10 @@ impl Default for BusDoor {
 
 const _: () = assert!(std::mem::size_of::<Trb>() == 32);
 const _: () = assert!(std::mem::size_of::<Unit>() == 132);
-const _: () = assert!(std::mem::size_of::<Operation>() == 16);
+const _: () = assert!(std::mem::size_of::<Operation>() == 24);
 const _: () = assert!(std::mem::size_of::<Sense>() == 4);
 const _: () = assert!(std::mem::size_of::<DeviceDoor>() == 16);
-const _: () = assert!(std::mem::size_of::<BusDoor>() == 152);
+const _: () = assert!(std::mem::size_of::<BusDoor>() == 160);
 
 /// What a handle points at; nothing of it is seen.
 #[repr(C)]
@@ -162,6 +162,7 @@ extern "C" {
     pub fn uas_sense_data(sense: *const Sense, bytes: *mut [u8; 18]);
     pub fn uas_inquiry_data(present: bool, bytes: *mut [u8; 36]);
     pub fn uas_capacity_data(blocks: u32, bytes: *mut [u8; 8]) -> u8;
+    pub fn uas_long_capacity_data(blocks: u32, bytes: *mut [u8; 32]) -> u8;
     pub fn uas_device_new(blocks: *const u32, units: usize, device: *mut *mut Device) -> u8;
     pub fn uas_device_close(device: *mut Device);
     pub fn uas_device_call(device: *mut Device, door: *mut DeviceDoor, data: *mut u8, length: usize) -> u8;

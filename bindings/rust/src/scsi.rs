@@ -9,6 +9,9 @@ const READ_CAPACITY_10: u8 = 0x25;
 const READ_10: u8 = 0x28;
 const WRITE_10: u8 = 0x2a;
 const SYNCHRONIZE_CACHE_10: u8 = 0x35;
+const READ_16: u8 = 0x88;
+const WRITE_16: u8 = 0x8a;
+const READ_CAPACITY_16: u8 = 0x9e;
 
 /// What a CDB asks of a logical unit. Blocks have 512 bytes.
 #[derive(Clone, Copy, Debug, PartialEq, Eq, Hash)]
@@ -25,6 +28,12 @@ pub enum Operation {
     Write { lba: u32, count: u16, fua: bool },
     /// SBC, SYNCHRONIZE CACHE(10): `count` blocks from `lba` on, or all from there for 0.
     SynchronizeCache { lba: u32, count: u16 },
+    /// SBC, READ(16).
+    Read16 { lba: u64, count: u32, fua: bool },
+    /// SBC, WRITE(16); with `fua` the medium takes the blocks too.
+    Write16 { lba: u64, count: u32, fua: bool },
+    /// SBC, READ CAPACITY(16): at most `allocation` bytes of its data.
+    ReadCapacity16 { allocation: u32 },
 }
 
 /// What a command moves, in bytes.
@@ -88,21 +97,33 @@ impl Operation {
             Self::TestUnitReady => raw::Operation { opcode: TEST_UNIT_READY, ..zeroed },
             Self::Inquiry { allocation } => raw::Operation { opcode: INQUIRY, count: allocation.into(), ..zeroed },
             Self::ReadCapacity => raw::Operation { opcode: READ_CAPACITY_10, ..zeroed },
-            Self::Read { lba, count, fua } => raw::Operation { opcode: READ_10, lba, count: count.into(), fua: fua.into(), ..zeroed },
-            Self::Write { lba, count, fua } => raw::Operation { opcode: WRITE_10, lba, count: count.into(), fua: fua.into(), ..zeroed },
-            Self::SynchronizeCache { lba, count } => raw::Operation { opcode: SYNCHRONIZE_CACHE_10, lba, count: count.into(), ..zeroed },
+            Self::Read { lba, count, fua } => {
+                raw::Operation { opcode: READ_10, lba: lba.into(), count: count.into(), fua: fua.into(), ..zeroed }
+            }
+            Self::Write { lba, count, fua } => {
+                raw::Operation { opcode: WRITE_10, lba: lba.into(), count: count.into(), fua: fua.into(), ..zeroed }
+            }
+            Self::SynchronizeCache { lba, count } => {
+                raw::Operation { opcode: SYNCHRONIZE_CACHE_10, lba: lba.into(), count: count.into(), ..zeroed }
+            }
+            Self::Read16 { lba, count, fua } => raw::Operation { opcode: READ_16, lba, count, fua: fua.into(), ..zeroed },
+            Self::Write16 { lba, count, fua } => raw::Operation { opcode: WRITE_16, lba, count, fua: fua.into(), ..zeroed },
+            Self::ReadCapacity16 { allocation } => raw::Operation { opcode: READ_CAPACITY_16, count: allocation, ..zeroed },
         }
     }
 
-    /// The operation of a record that the library wrote, whose count has 16 bits.
+    /// The operation of a record that the library wrote, whose fields fit its command.
     fn of(record: &raw::Operation) -> Self {
-        let (lba, count, fua) = (record.lba, record.count as u16, record.fua == 1);
+        let (lba, count, fua) = (record.lba as u32, record.count as u16, record.fua == 1);
         match record.opcode {
             TEST_UNIT_READY => Self::TestUnitReady,
             INQUIRY => Self::Inquiry { allocation: count },
             READ_CAPACITY_10 => Self::ReadCapacity,
             READ_10 => Self::Read { lba, count, fua },
             WRITE_10 => Self::Write { lba, count, fua },
+            READ_16 => Self::Read16 { lba: record.lba, count: record.count, fua },
+            WRITE_16 => Self::Write16 { lba: record.lba, count: record.count, fua },
+            READ_CAPACITY_16 => Self::ReadCapacity16 { allocation: record.count },
             _ => Self::SynchronizeCache { lba, count },
         }
     }
@@ -129,6 +150,15 @@ pub fn capacity_data(blocks: NonZeroU32) -> [u8; 8] {
     let mut bytes = [0; 8];
     // SAFETY: the pointer comes from a reference to a whole value of the declared type.
     let fault = unsafe { raw::uas_capacity_data(blocks.get(), &mut bytes) };
+    debug_assert_eq!(fault, 0);
+    bytes
+}
+
+/// The READ CAPACITY(16) data (SBC) of a unit of so many blocks.
+pub fn long_capacity_data(blocks: NonZeroU32) -> [u8; 32] {
+    let mut bytes = [0; 32];
+    // SAFETY: the pointer comes from a reference to a whole value of the declared type.
+    let fault = unsafe { raw::uas_long_capacity_data(blocks.get(), &mut bytes) };
     debug_assert_eq!(fault, 0);
     bytes
 }

@@ -105,6 +105,15 @@ fn operations() {
     assert_eq!(uas::inquiry_data(false)[..5], [0x7f, 0, 6, 2, 0x1f]);
     assert_eq!(uas::inquiry_data(true)[32..], *b"0001");
     assert_eq!(uas::capacity_data(NonZeroU32::new(100).unwrap()), [0, 0, 0, 99, 0, 0, 2, 0]);
+    let long = Operation::Write16 { lba: 98, count: 2, fua: true };
+    assert_eq!(long.cdb(), [0x8a, 8, 0, 0, 0, 0, 0, 0, 0, 98, 0, 0, 0, 2, 0, 0]);
+    assert_eq!(Operation::parse(&long.cdb(), 100), Ok(Asked { operation: long, transfer: Transfer::ToDevice(1024) }));
+    let beyond = Operation::Read16 { lba: 1 << 32, count: 1, fua: false };
+    assert_eq!(beyond.cdb(), [0x88, 0, 0, 0, 0, 1, 0, 0, 0, 0, 0, 0, 0, 1, 0, 0]);
+    assert_eq!(Operation::parse(&beyond.cdb(), 65536), Err(Sense { key: 5, asc: 0x21, ascq: 0 }));
+    let capacity = Operation::ReadCapacity16 { allocation: 12 };
+    assert_eq!(Operation::parse(&capacity.cdb(), 100), Ok(Asked { operation: capacity, transfer: Transfer::ToHost(12) }));
+    assert_eq!(uas::long_capacity_data(NonZeroU32::new(100).unwrap())[..12], [0, 0, 0, 0, 0, 0, 0, 99, 0, 0, 2, 0]);
 }
 
 fn begin(disk: &mut Device, tag: u16, unit: u8, operation: Operation) {
@@ -172,29 +181,29 @@ fn a_bus() {
     assert_eq!(Bus::new(&[65537]).err(), Some(NewBusFault::Blocks));
     let mut bus = Bus::new(&[100, 100, 100]).unwrap();
     let read = Operation::Read { lba: 0, count: 24, fua: false };
-    assert_eq!(bus.submit(2, 17, 0, &read, &[7; 24 * 512]), Ok(()));
-    assert_eq!(bus.submit(2, 17, 1, &read, &[7; 24 * 512]), Err(BusFault::InUse));
-    assert_eq!(bus.submit(2, 18, 0, &read, &[7; 24 * 512]), Err(BusFault::OutOfTurn));
-    assert_eq!(bus.submit(2, 18, 1, &read, &[7; 23 * 512]), Err(BusFault::BadLength));
-    assert_eq!(bus.submit(2, 9, 1, &read, &[7; 24 * 512]), Err(BusFault::NotYours));
-    assert_eq!(bus.submit(2, 18, 1 << 60, &read, &[7; 24 * 512]), Err(BusFault::Ticket));
+    assert_eq!(bus.submit(2, 33, 0, &read, &[7; 24 * 512]), Ok(()));
+    assert_eq!(bus.submit(2, 33, 1, &read, &[7; 24 * 512]), Err(BusFault::InUse));
+    assert_eq!(bus.submit(2, 34, 0, &read, &[7; 24 * 512]), Err(BusFault::OutOfTurn));
+    assert_eq!(bus.submit(2, 34, 1, &read, &[7; 23 * 512]), Err(BusFault::BadLength));
+    assert_eq!(bus.submit(2, 17, 1, &read, &[7; 24 * 512]), Err(BusFault::NotYours));
+    assert_eq!(bus.submit(2, 34, 1 << 60, &read, &[7; 24 * 512]), Err(BusFault::Ticket));
     assert!(bus.is_due(Step::Command));
     assert_eq!(bus.step(Step::Command), Some(2));
     assert_eq!(bus.step(Step::Command), None);
-    assert!(bus.is_due(Step::Data(17)));
-    assert!(!bus.is_due(Step::Data(18)));
-    assert_eq!(bus.step(Step::Data(17)), Some(2));
-    assert_eq!(bus.step(Step::Data(17)), Some(2));
-    assert_eq!(bus.step(Step::Status(17)), None);
-    assert_eq!(bus.task(2, 1, Task::Abort { tag: 18 }), Err(BusFault::NoSuchTask));
-    assert_eq!(bus.task(2, 1, Task::Abort { tag: 17 }), Ok(()));
-    assert_eq!(bus.step(Step::Retire(Pipe::DataIn, 17)), None);
+    assert!(bus.is_due(Step::Data(33)));
+    assert!(!bus.is_due(Step::Data(34)));
+    assert_eq!(bus.step(Step::Data(33)), Some(2));
+    assert_eq!(bus.step(Step::Data(33)), Some(2));
+    assert_eq!(bus.step(Step::Status(33)), None);
+    assert_eq!(bus.task(2, 1, Task::Abort { tag: 34 }), Err(BusFault::NoSuchTask));
+    assert_eq!(bus.task(2, 1, Task::Abort { tag: 33 }), Ok(()));
+    assert_eq!(bus.step(Step::Retire(Pipe::DataIn, 33)), None);
     assert_eq!(bus.drain(1), Drained { steps: 1, quiet: false });
     assert!(bus.drain(1000).quiet);
-    assert_eq!(bus.take_reply(2), Some(Reply::Task { tag: 24, ticket: 1, code: ResponseCode::Complete }));
+    assert_eq!(bus.take_reply(2), Some(Reply::Task { tag: 48, ticket: 1, code: ResponseCode::Complete }));
     let mut data = vec![0; 8192];
     data.extend([7; 4096]);
-    assert_eq!(bus.take_reply(2), Some(Reply::Aborted { tag: 17, ticket: 0, data }));
+    assert_eq!(bus.take_reply(2), Some(Reply::Aborted { tag: 33, ticket: 0, data }));
     assert_eq!(bus.take_reply(2), None);
     assert_eq!(bus.take_reply(3), None);
     assert_eq!(bus.blocks(3, 0, &mut []), Err(BusFault::Client));
@@ -206,7 +215,7 @@ fn a_bus() {
     assert_eq!(bus.take_reply(0), Some(check));
 
     let write = Operation::Write { lba: 3, count: 1, fua: true };
-    assert_eq!(bus.submit(1, 9, 0, &write, &[0xaa; 512]), Ok(()));
+    assert_eq!(bus.submit(1, 17, 0, &write, &[0xaa; 512]), Ok(()));
     assert!(bus.drain(1000).quiet);
     assert!(matches!(bus.take_reply(1), Some(Reply::Status { ticket: 0, status: Status::Good, .. })));
     let mut block = [7; 512];
@@ -215,7 +224,7 @@ fn a_bus() {
     assert_eq!(bus.blocks(0, 3, &mut block), Ok(()));
     assert_eq!(block, [0; 512]);
     let write = Operation::Write { lba: 3, count: 1, fua: false };
-    assert_eq!(bus.submit(1, 9, 1, &write, &[0x55; 512]), Ok(()));
+    assert_eq!(bus.submit(1, 17, 1, &write, &[0x55; 512]), Ok(()));
     assert!(bus.drain(1000).quiet);
     assert!(bus.take_reply(1).is_some());
     assert_eq!(bus.blocks(1, 3, &mut block), Ok(()));

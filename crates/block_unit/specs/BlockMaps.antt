@@ -3,6 +3,7 @@
 use Rattle.std.specs.Prelude.{ℕ, Bool, false, List, ◌++◌, ◌+◌, ◌*◌, ◌/◌, ◌%◌, ◌-◌, ◌≡◌, take, drop, length, filter, replicate, nat_le}
 use Rattle.std.specs.Prelude.{nat_lt, ◌&&◌, ◌==◌, if◌then◌else◌}
 use Rattle.std.specs.List.{list_any, range_with_len}
+use Rattle.uas_profile.specs.declared.TheConstants.{BLOCK_BYTES}
 
 -- a logical unit
 pub record BlockMaps : Type 0 where
@@ -19,11 +20,11 @@ pub record BlockMaps : Type 0 where
 
 -- how many blocks these bytes fill
 abbrev pub block_count : List ℕ → ℕ
-block_count bytes = length bytes / 512
+block_count bytes = length bytes / BLOCK_BYTES
 
 -- the bytes fill whole blocks
 abbrev pub IsWhole : List ℕ → Type 0
-IsWhole bytes = length bytes % 512 ≡ 0
+IsWhole bytes = length bytes % BLOCK_BYTES ≡ 0
 
 -- so many bytes from this place on
 unfoldable pub bytes_from : List ℕ → ℕ → ℕ → List ℕ
@@ -35,7 +36,7 @@ with_bytes bytes place part = take place bytes ++ part ++ drop (place + length p
 
 -- the 512 bytes of one block
 unfoldable pub block_at : List ℕ → ℕ → List ℕ
-block_at bytes block = bytes_from bytes (512 * block) 512
+block_at bytes block = bytes_from bytes (BLOCK_BYTES * block) BLOCK_BYTES
 
 -- a block is one of so many from this one on: of two from block 2 on these are 2 and 3, of none there are none
 unfoldable pub covers : ℕ → ℕ → ℕ → Bool
@@ -47,14 +48,14 @@ meets_bad maps lba many = list_any (covers lba many) maps.bad
 
 -- what a read of so many blocks from this one on gives
 unfoldable pub blocks_read : BlockMaps → ℕ → ℕ → List ℕ
-blocks_read maps lba many = bytes_from maps.blocks (512 * lba) (512 * many)
+blocks_read maps lba many = bytes_from maps.blocks (BLOCK_BYTES * lba) (BLOCK_BYTES * many)
 
 -- the unit after a write of these bytes from this block on: the medium has them too where the write goes through
 unfoldable pub written : BlockMaps → ℕ → List ℕ → Bool → BlockMaps
 written maps lba bytes through = record {
   count = maps.count;
-  blocks = with_bytes maps.blocks (512 * lba) bytes;
-  medium = if through then with_bytes maps.medium (512 * lba) bytes else maps.medium;
+  blocks = with_bytes maps.blocks (BLOCK_BYTES * lba) bytes;
+  medium = if through then with_bytes maps.medium (BLOCK_BYTES * lba) bytes else maps.medium;
   attention = maps.attention;
   bad = maps.bad;
 }
@@ -69,7 +70,7 @@ unfoldable pub synced : BlockMaps → ℕ → ℕ → BlockMaps
 synced maps lba many = record {
   count = maps.count;
   blocks = maps.blocks;
-  medium = with_bytes maps.medium (512 * lba) (blocks_read maps lba (blocks_covered maps lba many));
+  medium = with_bytes maps.medium (BLOCK_BYTES * lba) (blocks_read maps lba (blocks_covered maps lba many));
   attention = maps.attention;
   bad = maps.bad;
 }
@@ -92,15 +93,15 @@ bad_below count listed = filter (λ block. list_any (λ named. block == named) l
 unfoldable pub fresh : ℕ → List ℕ → BlockMaps
 fresh count listed = record {
   count = count;
-  blocks = replicate (512 * count) 0;
-  medium = replicate (512 * count) 0;
+  blocks = replicate (BLOCK_BYTES * count) 0;
+  medium = replicate (BLOCK_BYTES * count) 0;
   attention = false;
   bad = bad_below count listed;
 }
 
 -- an image fills whole blocks, and at least one: 1,024 bytes do, 1,000 and none don't
 unfoldable pub is_whole_image : List ℕ → Bool
-is_whole_image image = nat_lt 0 (length image) && (length image % 512 == 0)
+is_whole_image image = nat_lt 0 (length image) && (length image % BLOCK_BYTES == 0)
 
 -- a unit whose blocks and medium are an image
 unfoldable pub imaged : List ℕ → List ℕ → BlockMaps

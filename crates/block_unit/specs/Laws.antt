@@ -6,22 +6,23 @@ use Rattle.std.proofs.lemmas.Bool.{cases_lt, le-leb, lt-leb, lt-ltb, le-ltb}
 use Rattle.std.proofs.lemmas.List.{same_lists, get_or-take, get_or-drop}
 use Rattle.block_unit.specs.BlockMaps.{BlockMaps, block_count, IsWhole, bytes_from, with_bytes, block_at, covers, blocks_read, written}
 use Rattle.block_unit.specs.BlockMaps.{blocks_covered, synced, with_attention}
+use Rattle.uas_profile.specs.declared.TheConstants.{BLOCK_BYTES}
 
 -- both lists have 512 bytes for each block
 pub record IsSized (maps : BlockMaps) : Type 0 where
-  pub blocks : length maps.blocks ≡ 512 * maps.count
-  pub medium : length maps.medium ≡ 512 * maps.count
+  pub blocks : length maps.blocks ≡ BLOCK_BYTES * maps.count
+  pub medium : length maps.medium ≡ BLOCK_BYTES * maps.count
 
 -- ---- whole blocks
 
 -- 512 bytes for each of so many blocks fill so many, and whole ones
-pub block_count_is : (bytes : List ℕ) (many : ℕ) → length bytes ≡ 512 * many → block_count bytes ≡ many
+pub block_count_is : (bytes : List ℕ) (many : ℕ) → length bytes ≡ BLOCK_BYTES * many → block_count bytes ≡ many
 block_count_is bytes many size = omega arith
 
-pub IsWhole_is : (bytes : List ℕ) (many : ℕ) → length bytes ≡ 512 * many → IsWhole bytes
+pub IsWhole_is : (bytes : List ℕ) (many : ℕ) → length bytes ≡ BLOCK_BYTES * many → IsWhole bytes
 IsWhole_is bytes many size = omega arith
 
-pub length-whole : (bytes : List ℕ) → IsWhole bytes → length bytes ≡ 512 * block_count bytes
+pub length-whole : (bytes : List ℕ) → IsWhole bytes → length bytes ≡ BLOCK_BYTES * block_count bytes
 length-whole bytes whole = omega arith
 
 -- ---- a part of a list
@@ -55,40 +56,40 @@ get_or-with_bytes_after bytes place part i d within after = grind (arith, common
 
 -- ---- a block of a list
 
-pub length-block_at : (bytes : List ℕ) (block many : ℕ) → length bytes ≡ 512 * many → block < many → length (block_at bytes block) ≡ 512
+pub length-block_at : (bytes : List ℕ) (block many : ℕ) → length bytes ≡ BLOCK_BYTES * many → block < many → length (block_at bytes block) ≡ BLOCK_BYTES
 unfolding block_at
-length-block_at bytes block many size inside = length-bytes_from bytes (512 * block) 512 (omega arith)
+length-block_at bytes block many size inside = length-bytes_from bytes (BLOCK_BYTES * block) BLOCK_BYTES (omega arith)
 
 -- after whole blocks were put into a list, a block among them is theirs, and each other one is as before
-pub block_at-with_bytes : (bytes : List ℕ) (lba : ℕ) (part : List ℕ) (many count block : ℕ) → length bytes ≡ 512 * count → length part ≡ 512 * many
+pub block_at-with_bytes : (bytes : List ℕ) (lba : ℕ) (part : List ℕ) (many count block : ℕ) → length bytes ≡ BLOCK_BYTES * count → length part ≡ BLOCK_BYTES * many
     → lba + many ≤ count → block < count
-    → block_at (with_bytes bytes (512 * lba) part) block ≡ (if covers lba many block then block_at part (block - lba) else block_at bytes block)
+    → block_at (with_bytes bytes (BLOCK_BYTES * lba) part) block ≡ (if covers lba many block then block_at part (block - lba) else block_at bytes block)
 unfolding block_at covers
 block_at-with_bytes bytes lba part many count block size part_size fits inside =
-    let after = with_bytes bytes (512 * lba) part in
-    let within : 512 * lba + length part ≤ length bytes = omega arith in
-    let length_after : length after ≡ 512 * count = length-with_bytes bytes (512 * lba) part within ∙ size in
-    let length_block : length (bytes_from after (512 * block) 512) ≡ 512 = length-bytes_from after (512 * block) 512 (omega arith) in
-    let length_old : length (bytes_from bytes (512 * block) 512) ≡ 512 = length-bytes_from bytes (512 * block) 512 (omega arith) in
+    let after = with_bytes bytes (BLOCK_BYTES * lba) part in
+    let within : BLOCK_BYTES * lba + length part ≤ length bytes = omega arith in
+    let length_after : length after ≡ BLOCK_BYTES * count = length-with_bytes bytes (BLOCK_BYTES * lba) part within ∙ size in
+    let length_block : length (bytes_from after (BLOCK_BYTES * block) BLOCK_BYTES) ≡ BLOCK_BYTES = length-bytes_from after (BLOCK_BYTES * block) BLOCK_BYTES (omega arith) in
+    let length_old : length (bytes_from bytes (BLOCK_BYTES * block) BLOCK_BYTES) ≡ BLOCK_BYTES = length-bytes_from bytes (BLOCK_BYTES * block) BLOCK_BYTES (omega arith) in
     elim (cases_lt block lba) [
       | inl before ↦
           rw (lt-leb lba block before) (same_lists _ _ (length_block ∙ sym length_old) (λ i d below.
-          get_or-bytes_from after (512 * block) 512 i d (omega arith)
-          ∙ get_or-with_bytes_before bytes (512 * lba) part (512 * block + i) d within (omega arith)
-          ∙ sym (get_or-bytes_from bytes (512 * block) 512 i d (omega arith))))
+          get_or-bytes_from after (BLOCK_BYTES * block) BLOCK_BYTES i d (omega arith)
+          ∙ get_or-with_bytes_before bytes (BLOCK_BYTES * lba) part (BLOCK_BYTES * block + i) d within (omega arith)
+          ∙ sym (get_or-bytes_from bytes (BLOCK_BYTES * block) BLOCK_BYTES i d (omega arith))))
       | inr from ↦ elim (cases_lt block (lba + many)) [
         | inl among ↦
-            let length_part : length (bytes_from part (512 * (block - lba)) 512) ≡ 512 = length-bytes_from part (512 * (block - lba)) 512 (omega arith) in
+            let length_part : length (bytes_from part (BLOCK_BYTES * (block - lba)) BLOCK_BYTES) ≡ BLOCK_BYTES = length-bytes_from part (BLOCK_BYTES * (block - lba)) BLOCK_BYTES (omega arith) in
             rw (le-leb lba block from, lt-ltb block (lba + many) among) (same_lists _ _ (length_block ∙ sym length_part) (λ i d below.
-            get_or-bytes_from after (512 * block) 512 i d (omega arith)
+            get_or-bytes_from after (BLOCK_BYTES * block) BLOCK_BYTES i d (omega arith)
             ∙ ap (λ j. get_or after j d) (omega arith)
-            ∙ get_or-with_bytes_inside bytes (512 * lba) part (512 * (block - lba) + i) d within (omega arith)
-            ∙ sym (get_or-bytes_from part (512 * (block - lba)) 512 i d (omega arith))))
+            ∙ get_or-with_bytes_inside bytes (BLOCK_BYTES * lba) part (BLOCK_BYTES * (block - lba) + i) d within (omega arith)
+            ∙ sym (get_or-bytes_from part (BLOCK_BYTES * (block - lba)) BLOCK_BYTES i d (omega arith))))
         | inr beyond ↦
             rw (le-leb lba block from, le-ltb block (lba + many) beyond) (same_lists _ _ (length_block ∙ sym length_old) (λ i d below.
-            get_or-bytes_from after (512 * block) 512 i d (omega arith)
-            ∙ get_or-with_bytes_after bytes (512 * lba) part (512 * block + i) d within (omega arith)
-            ∙ sym (get_or-bytes_from bytes (512 * block) 512 i d (omega arith))))
+            get_or-bytes_from after (BLOCK_BYTES * block) BLOCK_BYTES i d (omega arith)
+            ∙ get_or-with_bytes_after bytes (BLOCK_BYTES * lba) part (BLOCK_BYTES * block + i) d within (omega arith)
+            ∙ sym (get_or-bytes_from bytes (BLOCK_BYTES * block) BLOCK_BYTES i d (omega arith))))
       ]
     ]
 
@@ -126,16 +127,16 @@ SyncsMedium =
 pub block_at-blocks_read : ReadsBlocks
 unfolding block_at blocks_read
 block_at-blocks_read maps lba many block sized fits inside =
-    let part = bytes_from maps.blocks (512 * lba) (512 * many) in
-    let length_part : length part ≡ 512 * many = length-bytes_from maps.blocks (512 * lba) (512 * many) (omega (arith, sized.blocks)) in
-    let length_here : length (bytes_from part (512 * block) 512) ≡ 512 = length-bytes_from part (512 * block) 512 (omega arith) in
-    let length_there : length (bytes_from maps.blocks (512 * (lba + block)) 512) ≡ 512 =
-    length-bytes_from maps.blocks (512 * (lba + block)) 512 (omega (arith, sized.blocks)) in
+    let part = bytes_from maps.blocks (BLOCK_BYTES * lba) (BLOCK_BYTES * many) in
+    let length_part : length part ≡ BLOCK_BYTES * many = length-bytes_from maps.blocks (BLOCK_BYTES * lba) (BLOCK_BYTES * many) (omega (arith, sized.blocks)) in
+    let length_here : length (bytes_from part (BLOCK_BYTES * block) BLOCK_BYTES) ≡ BLOCK_BYTES = length-bytes_from part (BLOCK_BYTES * block) BLOCK_BYTES (omega arith) in
+    let length_there : length (bytes_from maps.blocks (BLOCK_BYTES * (lba + block)) BLOCK_BYTES) ≡ BLOCK_BYTES =
+    length-bytes_from maps.blocks (BLOCK_BYTES * (lba + block)) BLOCK_BYTES (omega (arith, sized.blocks)) in
     same_lists _ _ (length_here ∙ sym length_there) (λ i d below.
-    get_or-bytes_from part (512 * block) 512 i d (omega arith)
-    ∙ get_or-bytes_from maps.blocks (512 * lba) (512 * many) (512 * block + i) d (omega arith)
+    get_or-bytes_from part (BLOCK_BYTES * block) BLOCK_BYTES i d (omega arith)
+    ∙ get_or-bytes_from maps.blocks (BLOCK_BYTES * lba) (BLOCK_BYTES * many) (BLOCK_BYTES * block + i) d (omega arith)
     ∙ ap (λ j. get_or maps.blocks j d) (omega arith)
-    ∙ sym (get_or-bytes_from maps.blocks (512 * (lba + block)) 512 i d (omega arith)))
+    ∙ sym (get_or-bytes_from maps.blocks (BLOCK_BYTES * (lba + block)) BLOCK_BYTES i d (omega arith)))
 
 pub block_at-written : WritesBlocks
 unfolding written
@@ -153,9 +154,9 @@ pub blocks_covered-fit : (maps : BlockMaps) (lba many : ℕ) → lba + many ≤ 
 unfolding blocks_covered
 blocks_covered-fit maps lba many fits = grind (arith, common_steps)
 
-pub length-blocks_read : (maps : BlockMaps) (lba many : ℕ) → IsSized maps → lba + many ≤ maps.count → length (blocks_read maps lba many) ≡ 512 * many
+pub length-blocks_read : (maps : BlockMaps) (lba many : ℕ) → IsSized maps → lba + many ≤ maps.count → length (blocks_read maps lba many) ≡ BLOCK_BYTES * many
 unfolding blocks_read
-length-blocks_read maps lba many sized fits = length-bytes_from maps.blocks (512 * lba) (512 * many) (omega (arith, sized.blocks))
+length-blocks_read maps lba many sized fits = length-bytes_from maps.blocks (BLOCK_BYTES * lba) (BLOCK_BYTES * many) (omega (arith, sized.blocks))
 
 pub block_at-synced : SyncsMedium
 unfolding synced covers
@@ -192,11 +193,11 @@ pub IsSized-written : (maps : BlockMaps) (lba : ℕ) (bytes : List ℕ) (through
     → IsSized (written maps lba bytes through)
 unfolding written
 IsSized-written maps lba bytes true sized whole fits = record {
-  blocks = length-with_bytes maps.blocks (512 * lba) bytes (omega (arith, sized.blocks)) ∙ sized.blocks;
-  medium = length-with_bytes maps.medium (512 * lba) bytes (omega (arith, sized.medium)) ∙ sized.medium;
+  blocks = length-with_bytes maps.blocks (BLOCK_BYTES * lba) bytes (omega (arith, sized.blocks)) ∙ sized.blocks;
+  medium = length-with_bytes maps.medium (BLOCK_BYTES * lba) bytes (omega (arith, sized.medium)) ∙ sized.medium;
 }
 IsSized-written maps lba bytes false sized whole fits = record {
-  blocks = length-with_bytes maps.blocks (512 * lba) bytes (omega (arith, sized.blocks)) ∙ sized.blocks;
+  blocks = length-with_bytes maps.blocks (BLOCK_BYTES * lba) bytes (omega (arith, sized.blocks)) ∙ sized.blocks;
   medium = sized.medium;
 }
 
@@ -222,10 +223,10 @@ unfolding synced
 IsSized-synced maps lba many sized fits =
     let covered = blocks_covered maps lba many in
     let covered_fit : lba + covered ≤ maps.count = blocks_covered-fit maps lba many fits in
-    let size : length (blocks_read maps lba covered) ≡ 512 * covered = length-blocks_read maps lba covered sized covered_fit in
+    let size : length (blocks_read maps lba covered) ≡ BLOCK_BYTES * covered = length-blocks_read maps lba covered sized covered_fit in
     record {
       blocks = sized.blocks;
-      medium = length-with_bytes maps.medium (512 * lba) (blocks_read maps lba covered) (omega (arith, sized.medium)) ∙ sized.medium;
+      medium = length-with_bytes maps.medium (BLOCK_BYTES * lba) (blocks_read maps lba covered) (omega (arith, sized.medium)) ∙ sized.medium;
     }
 
 with_attention-is : (maps : BlockMaps) (flag : Bool) → ((with_attention maps flag).count ≡ maps.count)

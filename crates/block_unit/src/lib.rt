@@ -25,23 +25,13 @@ ghost use Rattle.std.specs.Prelude.{◌≡◌, ◌+◌, ◌*◌, ◌^◌, ◌<�
 ghost use Rattle.std.specs.List.Sorted.{IsStrictlyIncreasing};
 ghost use Rattle.block_unit.specs.BlockMaps.{block_count, IsWhole, bad_below, blocks_read, fresh, imaged, is_whole_image, meets_bad};
 ghost use Rattle.block_unit.specs.BlockMaps.{synced, with_attention, written};
-ghost use Rattle.block_unit.specs.declared.TheConstants.{BLOCK_BYTES, MAX_BLOCKS};
+ghost use Rattle.uas_profile.specs.declared.TheConstants.{BLOCK_BYTES, MAX_BLOCKS};
 ghost use Rattle.block_unit.specs.Laws.{ReadsBlocks, WritesBlocks, WritesMedium, SyncsMedium};
 
 use std::alloc::{AllocError, Global};
 use std::marker::Model;
 use thiserror::Error;
-
-#[cfg(test)]
-mod tests;
-
-/// How many bytes a block has.
-pub const BLOCK_BYTES: usize = 512;
-
-/// How many blocks a unit has at most.
-pub const MAX_BLOCKS: u32 = 65_536;
-
-const _: () = prove!(BLOCK_BYTES == 512 && MAX_BLOCKS == 65_536);
+use uas_profile::{BLOCK_BYTES, MAX_BLOCKS};
 
 /// One of the blocks is bad.
 #[derive(Clone, Copy, Debug, PartialEq, Eq, Error)]
@@ -75,7 +65,7 @@ impl Model for Unit {
     ghost use Rattle.std.specs.Prelude.{◌≡◌, ◌≤◌, ◌<◌, ◌*◌, vec_len, All};
     ghost use Rattle.std.specs.List.Sorted.{IsStrictlyIncreasing};
     ghost use Rattle.block_unit.specs.BlockMaps.{BlockMaps};
-    ghost use Rattle.block_unit.specs.declared.TheConstants.{BLOCK_BYTES, MAX_BLOCKS};
+    ghost use Rattle.uas_profile.specs.declared.TheConstants.{BLOCK_BYTES, MAX_BLOCKS};
 
     ghost Value = { BlockMaps };
 

@@ -2,8 +2,6 @@
 use Rattle.std.specs.Prelude.{◌≡◌, ℕ, ◌<◌, ◌^◌, List, [], length, take, Option, Some, None, option_map}
 use Rattle.xhci_trb.specs.declared.Trb.{Trb}
 use Rattle.cycle_ring.specs.Ring.{Ring}
-use Rattle.scsi_cmd.specs.declared.Direction.{Direction}
-use Rattle.scsi_cmd.specs.declared.Direction.TheVariants.{Nothing, ToHost, ToDevice}
 use Rattle.scsi_cmd.specs.declared.Request.{Request}
 use Rattle.scsi_cmd.specs.declared.Request.TheVariants.{Execute, Manage}
 use Rattle.device_server.specs.declared.Answer.{Answer}
@@ -11,22 +9,22 @@ use Rattle.solo_model.specs.declared.Phase.{Phase}
 use Rattle.solo_model.specs.declared.Phase.TheVariants.{Queued, Begun, Sent, Gone}
 use Rattle.device_server.specs.Server.{status_of, sense_of}
 use Rattle.solo_model.specs.Soundness.{IsSound}
-use Rattle.uas_host.specs.declared.Place.{Place}
-use Rattle.uas_host.specs.declared.TdState.{TdState}
-use Rattle.uas_host.specs.declared.TdState.TheVariants.{Pending, Seen, LeftOver, Retired}
+use Rattle.uas_profile.specs.declared.Place.{Place}
+use Rattle.uas_profile.specs.declared.TdState.{TdState}
+use Rattle.uas_profile.specs.declared.TdState.TheVariants.{Pending, Seen, LeftOver, Retired}
 use Rattle.uas_host.specs.declared.HostAnswer.{HostAnswer}
 use Rattle.uas_host.specs.declared.HostAnswer.TheVariants.{Unanswered, Status as AnsweredStatus, Response as AnsweredResponse}
 use Rattle.uas_host.specs.declared.HostEntry.{HostEntry}
-use Rattle.uas_host.specs.Tags.{tag_of}
+use Rattle.uas_profile.specs.Places.{tag_of}
 use Rattle.uas_host.specs.Tasks.{aborted_tag}
 use Rattle.uas_host.specs.Tds.{data_td, status_td}
-use Rattle.bus_core.specs.declared.Td.{Td}
-use Rattle.bus_core.specs.Td.{Entry}
-pub use Rattle.bus_core.specs.Td.{data_in_td, data_out_td}
-use Rattle.bus_core.specs.Td.{request_direction}
+use Rattle.shared_machine.specs.declared.Td.{Td}
+use Rattle.shared_machine.specs.Td.{Entry}
+pub use Rattle.shared_machine.specs.Td.{data_in_td, data_out_td}
+use Rattle.shared_machine.specs.Td.{request_direction}
 use Rattle.bus_core.specs.Wire.{request_text, answer_text}
 use Rattle.bus_core.specs.Hosts.{device_task}
-use Rattle.bus_core.specs.Matched.{request_bytes}
+use Rattle.machine_invariant.specs.Matched.{request_bytes}
 use Rattle.bus_core.specs.World.{Cell}
 
 -- THE HOST'S SIDE OF AN ENTRY: it knows no phase, no bytes, and not how many TRBs were taken

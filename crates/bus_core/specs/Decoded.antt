@@ -1,38 +1,38 @@
 -- The shared machine, read back from the world of rings.
-use Rattle.std.specs.Prelude.{ℕ, zero, suc, ◌-◌, List, [], ◌∷◌, drop, length, map, Option, None, option_map, option_and_then, unwrap_or}
+use Rattle.std.specs.Prelude.{ℕ, zero, suc, ◌-◌, List, [], ◌∷◌, drop, length, map, Option, option_map, option_and_then, unwrap_or}
 use Rattle.std.specs.List.{range_with_len, filter_map}
 use Rattle.block_unit.specs.BlockMaps.{BlockMaps}
 use Rattle.cycle_ring.specs.Ring.{Ring}
 use Rattle.event_ring.specs.declared.Event.{Event}
 use Rattle.event_ring.specs.declared.Event.TheVariants.{Transfer, Command as CommandCompletion}
 use Rattle.xhci_trb.specs.declared.Trb.{Trb}
-use Rattle.stream_array.specs.declared.Pipe.{Pipe}
-use Rattle.stream_array.specs.declared.Pipe.TheVariants.{Command, Status, DataIn, DataOut}
-use Rattle.scsi_cmd.specs.declared.Direction.{Direction}
-use Rattle.scsi_cmd.specs.declared.Direction.TheVariants.{Nothing, ToHost, ToDevice}
-use Rattle.scsi_cmd.specs.declared.TheConstants.{TAGS}
-use Rattle.uas_host.specs.declared.Place.{Place}
-use Rattle.uas_host.specs.declared.TdState.{TdState}
-use Rattle.uas_host.specs.declared.TdState.TheVariants.{Pending, Seen, LeftOver, Retired}
+use Rattle.uas_profile.specs.declared.Pipe.{Pipe}
+use Rattle.uas_profile.specs.declared.Pipe.TheVariants.{Command, Status, DataIn, DataOut}
+use Rattle.uas_profile.specs.declared.Direction.{Direction}
+use Rattle.uas_profile.specs.declared.Direction.TheVariants.{Nothing, ToHost, ToDevice}
+use Rattle.uas_profile.specs.declared.TheConstants.{TAGS}
+use Rattle.uas_profile.specs.declared.Place.{Place}
+use Rattle.uas_profile.specs.declared.TdState.{TdState}
+use Rattle.uas_profile.specs.declared.TdState.TheVariants.{Pending, Seen, LeftOver, Retired}
 use Rattle.uas_host.specs.declared.HostEntry.{HostEntry}
 use Rattle.uas_host.specs.declared.HostClient.{HostClient}
 use Rattle.uas_host.specs.declared.EndedTd.{EndedTd}
 use Rattle.uas_host.specs.declared.Retirement.{Retirement as HostRetirement}
 use Rattle.uas_host.specs.declared.RetirementStage.{RetirementStage as HostStage}
 use Rattle.uas_host.specs.declared.RetirementStage.TheVariants.{Stopping, Moving as HostMoving}
-use Rattle.uas_host.specs.Tags.{place_of}
+use Rattle.uas_profile.specs.Places.{place_of}
 use Rattle.uas_host.specs.Events.{command_tag, ended_at}
-use Rattle.bus_core.specs.declared.Td.{Td}
-use Rattle.bus_core.specs.declared.Completion.{Completion}
-use Rattle.bus_core.specs.declared.Completion.TheVariants.{CommandDone, DataDone, StatusDone, EngineDone}
-use Rattle.bus_core.specs.Td.{Entry, data_trbs}
-use Rattle.bus_core.specs.declared.Retirement.{Retirement}
-use Rattle.bus_core.specs.declared.RetirementStage.{RetirementStage}
-use Rattle.bus_core.specs.declared.RetirementStage.TheVariants.{StopAsked, StopAnswered, MoveAsked, MoveAnswered}
-use Rattle.bus_core.specs.Part.{Part}
-use Rattle.bus_core.specs.Shared.{Shared, request_direction}
+use Rattle.shared_machine.specs.declared.Td.{Td}
+use Rattle.shared_machine.specs.declared.Completion.{Completion}
+use Rattle.shared_machine.specs.declared.Completion.TheVariants.{CommandDone, DataDone, StatusDone, EngineDone}
+use Rattle.shared_machine.specs.Td.{Entry, data_trbs}
+use Rattle.shared_machine.specs.declared.Retirement.{Retirement}
+use Rattle.shared_machine.specs.declared.RetirementStage.{RetirementStage}
+use Rattle.shared_machine.specs.declared.RetirementStage.TheVariants.{StopAsked, StopAnswered, MoveAsked, MoveAnswered}
+use Rattle.shared_machine.specs.Part.{Part}
+use Rattle.shared_machine.specs.Shared.{Shared, request_direction}
 use Rattle.bus_core.specs.Hosts.{phase_by}
-use Rattle.bus_core.specs.Matched.{times}
+use Rattle.machine_invariant.specs.Matched.{times}
 use Rattle.bus_core.specs.World.{World, Cell, cell_at}
 use Rattle.bus_core.specs.Fits.{Fits, place_in}
 

@@ -7,43 +7,39 @@ use Rattle.xhci_trb.specs.declared.Trb.TheVariants.{Normal}
 use Rattle.cycle_ring.specs.Ring.{Ring, pointer_of}
 use Rattle.event_ring.specs.declared.Event.{Event}
 use Rattle.event_ring.specs.declared.Event.TheVariants.{Transfer, Command as CommandCompletion}
-use Rattle.stream_array.specs.declared.Pipe.{Pipe}
-use Rattle.stream_array.specs.declared.Pipe.TheVariants.{Command, Status, DataIn, DataOut}
-use Rattle.stream_array.specs.declared.TheConstants.{COMMAND_RING_PLACES, ENGINE_RING_PLACES, STREAM_RING_PLACES}
+use Rattle.uas_profile.specs.declared.Pipe.{Pipe}
+use Rattle.uas_profile.specs.declared.Pipe.TheVariants.{Command, Status, DataIn, DataOut}
+use Rattle.uas_profile.specs.declared.TheConstants.{TAGS, TASK_SLOT, MAX_CLIENTS, GREATEST_TAG, STREAM_RING_PLACES, COMMAND_RING_PLACES, ENGINE_RING_PLACES, COMMAND_BYTES, STATUS_BYTES, SLOT, SUCCESS, SHORT_PACKET}
 use Rattle.stream_array.specs.Rings.{IsLines, LinesState, stream_ring}
 use Rattle.frame_store.specs.Buffers.{IsWhole, held_for}
-use Rattle.scsi_cmd.specs.declared.TheConstants.{TAGS, TASK_SLOT}
 use Rattle.scsi_cmd.specs.Held.{held_at}
-use Rattle.uas_target.specs.declared.TheConstants.{GREATEST_TAG}
 use Rattle.uas_target.specs.Device.{task_of}
-use Rattle.uas_host.specs.declared.Place.{Place}
+use Rattle.uas_profile.specs.declared.Place.{Place}
 use Rattle.uas_host.specs.declared.HostClient.{HostClient}
 use Rattle.uas_host.specs.State.{IsHost}
 use Rattle.uas_host.specs.declared.Retirement.{Retirement as HostRetirement}
 use Rattle.uas_host.specs.declared.RetirementStage.{RetirementStage as HostStage}
 use Rattle.uas_host.specs.declared.RetirementStage.TheVariants.{Stopping, Moving}
 use Rattle.uas_host.specs.Retirement.{move_trb, stop_trb}
-use Rattle.uas_host.specs.Tags.{tag_of}
+use Rattle.uas_profile.specs.Places.{tag_of}
 use Rattle.uas_host.specs.Tds.{command_buffer_of}
-use Rattle.xhci_ctl.specs.declared.TheConstants.{SUCCESS, SHORT_PACKET, SLOT, STATUS_LENGTH}
 use Rattle.xhci_ctl.specs.Steps.{endpoint_of}
-use Rattle.bus_core.specs.declared.TheConstants.{MAX_CLIENTS}
-use Rattle.bus_core.specs.declared.Completion.{Completion}
-use Rattle.bus_core.specs.declared.Completion.TheVariants.{CommandDone, DataDone, StatusDone, EngineDone}
-use Rattle.bus_core.specs.declared.Retirement.{Retirement}
-use Rattle.bus_core.specs.declared.RetirementStage.{RetirementStage}
-use Rattle.bus_core.specs.declared.RetirementStage.TheVariants.{StopAsked, StopAnswered, MoveAsked, MoveAnswered}
-use Rattle.bus_core.specs.Part.{Part}
-use Rattle.bus_core.specs.Shared.{Shared}
-use Rattle.bus_core.specs.Matched.{IsMatched, carried_places}
+use Rattle.shared_machine.specs.declared.Completion.{Completion}
+use Rattle.shared_machine.specs.declared.Completion.TheVariants.{CommandDone, DataDone, StatusDone, EngineDone}
+use Rattle.shared_machine.specs.declared.Retirement.{Retirement}
+use Rattle.shared_machine.specs.declared.RetirementStage.{RetirementStage}
+use Rattle.shared_machine.specs.declared.RetirementStage.TheVariants.{StopAsked, StopAnswered, MoveAsked, MoveAnswered}
+use Rattle.shared_machine.specs.Part.{Part}
+use Rattle.shared_machine.specs.Shared.{Shared}
+use Rattle.machine_invariant.specs.Matched.{IsMatched, carried_places}
 use Rattle.bus_core.specs.World.{World, cell_at}
 use Rattle.bus_core.specs.Cells.{FitsHeld, HoldsTrbs}
 
 -- THE COMMAND PIPE AND THE EVENT RING
 
--- a Command unit has 32 bytes, and a Task Management unit, which is the last slot's, 16
+-- a Command unit has COMMAND_BYTES bytes, and a Task Management unit, which is the last slot's, 16
 abbrev pub unit_bytes : ℕ → ℕ
-unit_bytes slot = if slot == TASK_SLOT then 16 else 32
+unit_bytes slot = if slot == TASK_SLOT then 16 else COMMAND_BYTES
 
 -- the command TRB of a place
 abbrev pub command_trb : Place → Trb
@@ -67,7 +63,7 @@ unit_len slot bytes = if slot == TASK_SLOT then 8 else 16 + slice_index bytes 15
 
 -- the event of a status TD
 abbrev pub status_event : ℕ → Ring → List ℕ → Event
-status_event slot ring bytes = Transfer (last_pointer ring) (STATUS_LENGTH - unit_len slot bytes) SHORT_PACKET (endpoint_of Status) SLOT
+status_event slot ring bytes = Transfer (last_pointer ring) (STATUS_BYTES - unit_len slot bytes) SHORT_PACKET (endpoint_of Status) SLOT
 
 -- the event of the controller's own command, the first on its command ring
 abbrev pub engine_event : Ring → Event

@@ -13,10 +13,10 @@ use Rattle.uas_target.specs.declared.DeviceAnswer.TheVariants.{Status, Response}
 use Rattle.uas_target.specs.declared.DeviceTask.{DeviceTask}
 use Rattle.uas_target.specs.declared.DeviceTask.TheVariants.{Moving as MovingTask, Ended as EndedTask}
 use Rattle.uas_target.specs.Tasks.{task_in}
-use Rattle.uas_host.specs.declared.TdState.{TdState}
-use Rattle.uas_host.specs.declared.TdState.TheVariants.{Pending, Seen, LeftOver, Retired}
-use Rattle.bus_core.specs.declared.Td.{Td}
-use Rattle.bus_core.specs.Td.{Entry}
+use Rattle.uas_profile.specs.declared.TdState.{TdState}
+use Rattle.uas_profile.specs.declared.TdState.TheVariants.{Pending, Seen, LeftOver, Retired}
+use Rattle.shared_machine.specs.declared.Td.{Td}
+use Rattle.shared_machine.specs.Td.{Entry}
 
 -- THE DEVICE'S TASK
 

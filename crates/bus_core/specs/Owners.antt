@@ -4,21 +4,21 @@ use Rattle.scsi_cmd.specs.declared.Command.{Command}
 use Rattle.scsi_cmd.specs.declared.SubmitFault.{SubmitFault}
 use Rattle.scsi_cmd.specs.declared.Reply.{Reply}
 use Rattle.scsi_cmd.specs.declared.Reply.TheVariants.{Status as StatusReply, Aborted, Task}
-use Rattle.scsi_cmd.specs.declared.TheConstants.{TAGS}
-use Rattle.stream_array.specs.declared.Pipe.{Pipe}
-use Rattle.stream_array.specs.declared.Pipe.TheVariants.{Command as CommandPipe, Status, DataIn, DataOut}
-use Rattle.bus_core.specs.declared.Mark.{Mark}
-use Rattle.bus_core.specs.declared.Mark.TheVariants.{Carry, Move, Send, Settle, Submit, Task as TaskMark, Quiet}
-use Rattle.bus_core.specs.declared.Outcome.{Outcome}
+use Rattle.uas_profile.specs.declared.TheConstants.{TAGS}
+use Rattle.uas_profile.specs.declared.Pipe.{Pipe}
+use Rattle.uas_profile.specs.declared.Pipe.TheVariants.{Command as CommandPipe, Status, DataIn, DataOut}
+use Rattle.shared_machine.specs.declared.Mark.{Mark}
+use Rattle.shared_machine.specs.declared.Mark.TheVariants.{Carry, Move, Send, Settle, Submit, Task as TaskMark, Quiet}
+use Rattle.shared_machine.specs.declared.Outcome.{Outcome}
 use Rattle.uas_host.specs.declared.Handled.{Handled}
 use Rattle.uas_host.specs.declared.Handled.TheVariants.{Matched, Engine, Stray}
 use Rattle.xhci_ctl.specs.declared.Acted.{Acted}
 use Rattle.xhci_ctl.specs.declared.Acted.TheVariants.{Acted as ActedOn, Idle}
 use Rattle.uas_host.specs.declared.Retirement.{Retirement}
-use Rattle.bus_core.specs.Shared.{acceptance, idle, refusal, ringing, task_refusal}
+use Rattle.shared_machine.specs.Shared.{acceptance, idle, refusal, ringing, task_refusal}
 use Rattle.bus_core.specs.WorldDue.{marked}
 
--- The client whose tag it is, and the tag's index among that client's. Worked: tag 18 is client 2's, its index is 2.
+-- The client whose tag it is, and the tag's index among that client's. Worked: tag 34 is client 2's, its index is 2.
 abbrev pub owner_of : ℕ → ℕ
 owner_of tag = (tag - 1) / TAGS
 

@@ -4,31 +4,30 @@ use Rattle.xhci_trb.specs.declared.Trb.{Trb}
 use Rattle.cycle_ring.specs.Ring.{Ring, cycle_of, pointer_of}
 use Rattle.event_ring.specs.declared.Event.{Event}
 use Rattle.event_ring.specs.declared.Event.TheVariants.{Transfer, Command as CommandCompletion}
-use Rattle.stream_array.specs.declared.Pipe.{Pipe}
-use Rattle.stream_array.specs.declared.Pipe.TheVariants.{Command, Status, DataIn, DataOut}
+use Rattle.uas_profile.specs.declared.Pipe.{Pipe}
+use Rattle.uas_profile.specs.declared.Pipe.TheVariants.{Command, Status, DataIn, DataOut}
 use Rattle.stream_array.specs.declared.Dequeue.{Dequeue}
-use Rattle.stream_array.specs.declared.TheConstants.{COMMAND_RING_PLACES, ENGINE_RING_PLACES, STREAM_RING_PLACES}
+use Rattle.uas_profile.specs.declared.TheConstants.{TAGS, STREAM_RING_PLACES, COMMAND_RING_PLACES, ENGINE_RING_PLACES, SUCCESS, SHORT_PACKET}
 use Rattle.stream_array.specs.Contexts.{Contexts, entry_of}
-use Rattle.stream_array.specs.Map.{HasRing, HasStreams}
+use Rattle.uas_profile.specs.Pipes.{HasStreams}
+use Rattle.stream_array.specs.Map.{HasRing}
 use Rattle.stream_array.specs.Rings.{LinesState, ShowsRings, ring_of, stream_ring}
-use Rattle.scsi_cmd.specs.declared.TheConstants.{TAGS}
-use Rattle.uas_host.specs.declared.Place.{Place}
-use Rattle.uas_host.specs.declared.TdState.{TdState}
-use Rattle.uas_host.specs.declared.TdState.TheVariants.{Pending, Seen, LeftOver, Retired}
+use Rattle.uas_profile.specs.declared.Place.{Place}
+use Rattle.uas_profile.specs.declared.TdState.{TdState}
+use Rattle.uas_profile.specs.declared.TdState.TheVariants.{Pending, Seen, LeftOver, Retired}
 use Rattle.uas_host.specs.Retirement.{move_trb, stop_trb}
-use Rattle.uas_host.specs.Tags.{tag_of}
+use Rattle.uas_profile.specs.Places.{tag_of}
 use Rattle.uas_host.specs.Tds.{data_td, status_td}
-use Rattle.xhci_ctl.specs.declared.TheConstants.{SUCCESS, SHORT_PACKET}
 use Rattle.xhci_ctl.specs.Steps.{endpoint_of}
-use Rattle.bus_core.specs.declared.Td.{Td}
-use Rattle.bus_core.specs.declared.Completion.{Completion}
-use Rattle.bus_core.specs.declared.Completion.TheVariants.{CommandDone, DataDone, StatusDone, EngineDone}
-use Rattle.bus_core.specs.declared.Retirement.{Retirement}
-use Rattle.bus_core.specs.declared.RetirementStage.{RetirementStage}
-use Rattle.bus_core.specs.declared.RetirementStage.TheVariants.{StopAsked, StopAnswered, MoveAsked, MoveAnswered}
-use Rattle.bus_core.specs.Td.{Entry}
-use Rattle.bus_core.specs.Shared.{Shared, request_direction}
-use Rattle.bus_core.specs.Matched.{request_bytes, under}
+use Rattle.shared_machine.specs.declared.Td.{Td}
+use Rattle.shared_machine.specs.declared.Completion.{Completion}
+use Rattle.shared_machine.specs.declared.Completion.TheVariants.{CommandDone, DataDone, StatusDone, EngineDone}
+use Rattle.shared_machine.specs.declared.Retirement.{Retirement}
+use Rattle.shared_machine.specs.declared.RetirementStage.{RetirementStage}
+use Rattle.shared_machine.specs.declared.RetirementStage.TheVariants.{StopAsked, StopAnswered, MoveAsked, MoveAnswered}
+use Rattle.shared_machine.specs.Td.{Entry}
+use Rattle.shared_machine.specs.Shared.{Shared, request_direction}
+use Rattle.machine_invariant.specs.Matched.{request_bytes, under}
 use Rattle.bus_core.specs.Cells.{data_in_td, data_out_td}
 use Rattle.bus_core.specs.Fits.{command_trb, last_pointer}
 

@@ -7,10 +7,10 @@ use Rattle.frame_store.specs.Buffers.{held_for}
 use Rattle.scsi_cmd.specs.Held.{held_at}
 use Rattle.uas_target.specs.declared.DeviceTask.{DeviceTask}
 use Rattle.uas_target.specs.Device.{Device, task_of}
-use Rattle.uas_host.specs.declared.Place.{Place}
+use Rattle.uas_profile.specs.declared.Place.{Place}
 use Rattle.uas_host.specs.declared.HostEntry.{HostEntry}
 use Rattle.uas_host.specs.State.{HostState, client_of}
-use Rattle.uas_host.specs.Tags.{tag_of}
+use Rattle.uas_profile.specs.Places.{tag_of}
 use Rattle.xhci_ctl.specs.Pipes.{ControllerState}
 use Rattle.xhci_ctl.specs.Steps.{Sides}
 
@@ -34,7 +34,7 @@ pub record Cell : Type 0 where
 abbrev pub entry_at : HostState → Place → Option HostEntry
 entry_at host place = held_at (client_of host place.client).entries place.slot
 
--- the cell of a place, whose tag is client * 8 + slot + 1
+-- the cell of a place, whose tag is client * TAGS + slot + 1
 abbrev pub cell_at : World → Place → Cell
 cell_at world place = record {
   held = entry_at world.host place;

@@ -1,26 +1,26 @@
 -- Where a step of the world of rings is due, and what its outcome is, told from rings, device and host alone.
 use Rattle.std.specs.Prelude.{◌≡◌, ℕ, suc, Bool, true, false, nat_lt, List, [], ◌∷◌, length, Some, None, is_some}
-use Rattle.stream_array.specs.declared.Pipe.{Pipe}
-use Rattle.stream_array.specs.declared.Pipe.TheVariants.{Status, DataIn, DataOut}
+use Rattle.uas_profile.specs.declared.Pipe.{Pipe}
+use Rattle.uas_profile.specs.declared.Pipe.TheVariants.{Status, DataIn, DataOut}
 use Rattle.uas_target.specs.declared.Phase.{Phase}
 use Rattle.uas_target.specs.declared.Phase.TheVariants.{Absent, Gives, Takes, Ends}
 use Rattle.uas_target.specs.Device.{answered, wanted}
-use Rattle.uas_host.specs.declared.Place.{Place}
+use Rattle.uas_profile.specs.declared.Place.{Place}
 use Rattle.uas_host.specs.State.{client_of}
 use Rattle.uas_host.specs.Retirement.{retirement_for}
-use Rattle.uas_host.specs.Tags.{place_of}
+use Rattle.uas_profile.specs.Places.{place_of}
 use Rattle.xhci_ctl.specs.Own.{IsOwnCommandFront, IsOwnDataFront, IsOwnStatusFront}
 use Rattle.xhci_ctl.specs.Pipes.{has_pending, is_armed}
-use Rattle.bus_core.specs.declared.Completion.{Completion}
-use Rattle.bus_core.specs.declared.Mark.{Mark}
-use Rattle.bus_core.specs.declared.Mark.TheVariants.{Carry, Move, Send, Quiet}
-use Rattle.bus_core.specs.declared.Outcome.{Outcome}
-use Rattle.bus_core.specs.declared.Step.{Step}
-use Rattle.bus_core.specs.declared.Step.TheVariants.{CommandPipe, Data, Status as StatusStep, Engine, Event, Retire, Take}
-use Rattle.bus_core.specs.Part.{event_place}
-use Rattle.bus_core.specs.declared.Retirement.{Retirement}
-use Rattle.bus_core.specs.Shared.{Shared, due, is_some_of, ringing, shared_step}
-use Rattle.bus_core.specs.Matched.{IsMatched}
+use Rattle.shared_machine.specs.declared.Completion.{Completion}
+use Rattle.shared_machine.specs.declared.Mark.{Mark}
+use Rattle.shared_machine.specs.declared.Mark.TheVariants.{Carry, Move, Send, Quiet}
+use Rattle.shared_machine.specs.declared.Outcome.{Outcome}
+use Rattle.shared_machine.specs.declared.Step.{Step}
+use Rattle.shared_machine.specs.declared.Step.TheVariants.{CommandPipe, Data, Status as StatusStep, Engine, Event, Retire, Take}
+use Rattle.shared_machine.specs.Part.{event_place}
+use Rattle.shared_machine.specs.declared.Retirement.{Retirement}
+use Rattle.shared_machine.specs.Shared.{Shared, due, is_some_of, ringing, shared_step}
+use Rattle.machine_invariant.specs.Matched.{IsMatched}
 use Rattle.bus_core.specs.World.{World}
 use Rattle.bus_core.specs.Fits.{Fits}
 

@@ -4,26 +4,26 @@ use Rattle.std.specs.Prelude.{◌≡◌, ℕ, ◌^◌, ◌<◌, true, false, Lis
 use Rattle.block_unit.specs.BlockMaps.{BlockMaps}
 use Rattle.event_ring.specs.declared.Event.{Event}
 use Rattle.event_ring.specs.Events.{taken}
-use Rattle.stream_array.specs.declared.TheConstants.{EVENT_RING_PLACES}
+use Rattle.uas_profile.specs.declared.TheConstants.{MAX_CLIENTS, EVENT_RING_PLACES}
 use Rattle.stream_array.specs.Rings.{LinesState, IsOpeningLines, with_events}
 use Rattle.frame_store.specs.Buffers.{opening as opening_frames}
 use Rattle.scsi_cmd.specs.declared.Command.{Command}
 use Rattle.scsi_cmd.specs.declared.SubmitFault.{SubmitFault}
 use Rattle.scsi_cmd.specs.Op.{direction_of}
 use Rattle.uas_target.specs.Device.{answered, opening as opening_device, wanted}
-use Rattle.stream_array.specs.declared.Pipe.{Pipe}
+use Rattle.uas_profile.specs.declared.Pipe.{Pipe}
 use Rattle.uas_host.specs.declared.Handled.{Handled}
 use Rattle.uas_host.specs.declared.Handled.TheVariants.{Engine as EngineHandled, Matched}
-use Rattle.uas_host.specs.declared.Place.{Place}
+use Rattle.uas_profile.specs.declared.Place.{Place}
 use Rattle.uas_host.specs.State.{opening as opening_host}
-use Rattle.uas_host.specs.Doors.{answer_doors, submission_doors}
+use Rattle.uas_profile.specs.Doors.{answer_doors, submission_doors}
 use Rattle.uas_host.specs.Tasks.{managed, task_fault, task_tag, with_task_unit}
 use Rattle.scsi_cmd.specs.declared.Task.{Task}
 use Rattle.uas_host.specs.Retirement.{HasEngineRoom, is_held, retirement_for, stop_trb, with_engine_command, with_retirement}
 use Rattle.uas_host.specs.Submit.{HasRoomFor, host_fault, lent, submitted}
 use Rattle.uas_host.specs.Tds.{HasTaskRoom, pushed, pushed_task}
 use Rattle.uas_host.specs.declared.RetirementStage.TheVariants.{Stopping}
-use Rattle.uas_host.specs.Tags.{place_of, tag_of}
+use Rattle.uas_profile.specs.Places.{place_of, tag_of}
 use Rattle.uas_host.specs.Events.{Sides as EventSides, event_doors, handled}
 use Rattle.uas_host.specs.Replies.{no_reply, replied}
 use Rattle.xhci_ctl.specs.declared.Acted.{Acted as ActedAnswer}
@@ -33,14 +33,12 @@ use Rattle.xhci_ctl.specs.Own.{IsOwnCommandFront, IsOwnDataFront, IsOwnStatusFro
 use Rattle.xhci_ctl.specs.Pipes.{ControllerState, new_controller}
 use Rattle.xhci_ctl.specs.Engine.{engine_acted}
 use Rattle.xhci_ctl.specs.Steps.{Sides, commanded, moved, sent_by}
-use Rattle.bus_core.specs.declared.TheConstants.{MAX_CLIENTS}
-use Rattle.bus_core.specs.declared.Completion.{Completion}
-use Rattle.bus_core.specs.declared.Completion.TheVariants.{CommandDone, DataDone, StatusDone, EngineDone}
-use Rattle.bus_core.specs.declared.Refusal.{Refusal}
-use Rattle.bus_core.specs.declared.Step.{Step}
-use Rattle.bus_core.specs.declared.Step.TheVariants.{CommandPipe, Data, Status, Engine as EngineStep, Event as EventStep, Retire, Take}
-use Rattle.bus_core.specs.Part.{event_place}
-use Rattle.bus_core.specs.Shared.{Shared, opening, due, shared_step, submit_step, task_step}
+use Rattle.shared_machine.specs.declared.Completion.{Completion}
+use Rattle.shared_machine.specs.declared.Completion.TheVariants.{CommandDone, DataDone, StatusDone, EngineDone}
+use Rattle.shared_machine.specs.declared.Refusal.{Refusal}
+use Rattle.shared_machine.specs.declared.Step.{Step}
+use Rattle.shared_machine.specs.declared.Step.TheVariants.{CommandPipe, Data, Status, Engine as EngineStep, Event as EventStep, Retire, Take}
+use Rattle.shared_machine.specs.Shared.{Shared, opening, due, shared_step, submit_step, task_step}
 use Rattle.bus_core.specs.World.{World, sides_in, with_sides}
 use Rattle.bus_core.specs.Fits.{Fits, IsSoundWorld}
 use Rattle.bus_core.specs.Decoded.{decoded}
@@ -62,7 +60,7 @@ opening_world units clients lines = record {
   frames = opening_frames;
 }
 
--- a new bus of 1 to 31 units fits the opening shared machine
+-- a new bus of 1 to MAX_CLIENTS units fits the opening shared machine
 abbrev pub OpeningFits : Type 0
 OpeningFits =
     (units : List BlockMaps) (lines : LinesState) → 1 ≤ length units → length units ≤ MAX_CLIENTS → IsOpeningLines lines

@@ -1,8 +1,9 @@
 //! Doorbells from the host to the controller.
+ghost use Rattle.shared_machine.specs.declared.TheConstants.{MOST_DOORBELLS};
 ghost use Rattle.std.specs.Prelude.{◌≡◌, ◌≤◌, length};
-ghost use Rattle.stream_array.specs.Map.{HasStreams};
+ghost use Rattle.uas_profile.specs.Pipes.{HasStreams};
 ghost use Rattle.uas_host.specs.declared.RetirementStage.TheVariants.{Moving, Stopping};
-ghost use Rattle.bus_core.specs.Doorbells.{IsResumed};
+ghost use Rattle.shared_machine.specs.Doorbells.{IsResumed};
 ghost use Rattle.bus_core.specs.WorldSteps.{rung_all};
 
 use crate::{Doorbells, MOST_DOORBELLS};

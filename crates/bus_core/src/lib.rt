@@ -1,4 +1,4 @@
-//! The bus: up to 31 clients' disks behind one controller, as one machine of atomic steps.
+//! The bus: the disks of up to `MAX_CLIENTS` clients behind one controller, as one machine of atomic steps.
 //!
 //! A [`Bus`] is a host driver, an xHCI controller and a simulated device, and between them nothing but rings, stream contexts
 //! and buffers. Each step is one call of one of the three: the host submits, handles an event or gives a reply, the controller
@@ -11,162 +11,45 @@
 //!   client <--Take-- ready <--Event-- event ring <-----------------+--Status--> Sense unit
 //! ```
 //!
-//! What is promised: [`Bus::step`] is the shared machine's step (`shared_step` in specs/Shared.antt), so it acts
+//! What is promised: [`Bus::step`] is the shared machine's step (`shared_step` in shared_machine specs/Shared.antt), so it acts
 //! exactly where it is due; [`Bus::run`] is the shared machine's replay, and each client's replies and unit after it
-//! are those of the solo machine for the client's own labels (the headline, `IsIsolated` in specs/Isolation.antt).
+//! are those of the solo machine for the client's own labels (the headline, `IsIsolated` in isolation specs/Isolation.antt).
 //! [`Bus::lines`] shows it: the rings have exactly what the shared machine has waiting (`ShowsShared` in specs/Shows.antt). No
 //! step takes memory, and none scans a list. It stands on uas_host, xhci_ctl, uas_target, stream_array and frame_store, by
 //! their contracts alone.
 #![tactic(auto)]
 
-mod doorbells;
 mod doors;
-mod headline_laws;
-mod laws;
 mod machine;
+mod next_reply;
 mod outcomes;
 mod owners;
-mod queue_laws;
 mod runs;
-#[cfg(test)]
-mod tests;
 pub mod world_due;
 pub mod world_laws;
 
 use arrayvec::ArrayVec;
 use block_unit::Unit;
-pub use doorbells::{Doorbells, MOST_RESUMED};
 use frame_store::Frames;
-pub use headline_laws::{
-    notes_reach_their_tickets, opens_as_solo, others_stay, refuses_as_own, replays_as_solo,
-    settles_once, steps_isolated,
+pub use isolation::{
+    isolated, opens_as_solo, refuses_as_own, replays_as_solo, settles_once, steps_isolated,
+    worlds_agree,
 };
-pub use laws::{
-    acts_where_due, brings_next_len, drains_to_quiet, idle_changes_nothing, isolated,
-    keeps_clients, worlds_agree,
-};
-pub use queue_laws::{
+pub use machine_invariant::{
     command_pipe_in_order, data_tds_fit, matches_at_start, no_queue_outgrows, none_is_stray,
-    order_is_kept, replays_match, steps_keep_matches,
+    notes_reach_their_tickets, order_is_kept, others_stay, replays_match, steps_keep_matches,
 };
-use scsi_cmd::{Command, Reply, SubmitFault, Task};
+pub use shared_machine::{
+    Completion, Doorbells, MOST_DOORBELLS, Mark, Outcome, Refusal, Retirement, RetirementStage,
+    Step, Td, acts_where_due, brings_next_len, drains_to_quiet, idle_can_be_left_out,
+    idle_changes_nothing, keeps_clients, replay_goes_on, step_brings_its_len,
+};
 use std::marker::Model;
-use stream_array::{Lines, Pipe};
-use uas_host::{Host, MOST_DOORS, Place, TdState};
+use stream_array::Lines;
+use uas_host::Host;
+use uas_profile::STREAM_ENTRIES;
 use uas_target::Target;
 use xhci_ctl::Controller;
-
-/// The most clients of a bus.
-pub const MAX_CLIENTS: usize = 31;
-
-/// The most doorbells that are kept one by one: those of a submission.
-pub const MOST_DOORBELLS: usize = 3;
-
-const _: () = prove!(MAX_CLIENTS == 31 && MOST_DOORBELLS == 3);
-
-/// A TD: its state, and how many of its TRBs the controller took.
-#[derive(Clone, Copy, Debug, PartialEq, Eq)]
-pub struct Td {
-    pub state: TdState,
-    pub consumed: usize,
-}
-
-/// How far a retirement is: which of its two commands was asked for last, and whether the controller has executed it.
-#[derive(Clone, Copy, Debug, PartialEq, Eq)]
-pub enum RetirementStage {
-    /// Stop Endpoint waits on the controller's command ring.
-    StopAsked,
-    /// Its event waits.
-    StopAnswered,
-    /// Set TR Dequeue Pointer waits on the controller's command ring.
-    MoveAsked,
-    /// Its event waits.
-    MoveAnswered,
-}
-
-/// A retirement that is under way: the place whose TD on this pipe is taken off its ring.
-#[derive(Clone, Copy, Debug, PartialEq, Eq)]
-pub struct Retirement {
-    pub pipe: Pipe,
-    pub place: Place,
-    pub stage: RetirementStage,
-}
-
-/// A completion event: the TD of which place the controller is done with (xHCI 4.11.3).
-#[derive(Clone, Copy, Debug, PartialEq, Eq)]
-pub enum Completion {
-    CommandDone(Place),
-    DataDone(Place),
-    StatusDone(Place),
-    /// The controller's own command is done, of the retirement of this place's TD.
-    EngineDone(Place),
-}
-
-/// One atomic step of the bus.
-#[derive(Debug, Drop)]
-pub enum Step {
-    /// A client submits a command on one of its command tags, with a ticket below 2^60.
-    Submit {
-        client: usize,
-        tag: u16,
-        ticket: u64,
-        command: Command,
-    },
-    /// A client submits a task management under its task tag, with a ticket below 2^60.
-    Task {
-        client: usize,
-        ticket: u64,
-        task: Task,
-    },
-    /// The device receives the oldest unit in the command pipe.
-    CommandPipe,
-    /// The controller moves one chunk of the tag's data.
-    Data(u16),
-    /// The controller moves the tag's status.
-    Status(u16),
-    /// The controller executes the oldest command of its own command ring.
-    Engine,
-    /// The host takes the oldest event.
-    Event,
-    /// The host begins to retire the tag's TD on a pipe, which is left over.
-    Retire(Pipe, u16),
-    /// A client takes its oldest reply that is ready.
-    Take(usize),
-}
-
-/// What a step was to its owner: the index of the tag, without what the client handed in.
-#[derive(Clone, Copy, Debug, PartialEq, Eq)]
-pub enum Mark {
-    Submit(u16),
-    Task,
-    Carry(u16),
-    Move(u16),
-    Send(u16),
-    Settle(u16),
-    /// Nothing that the owner can tell.
-    Quiet,
-}
-
-/// A refused submission: why, and the command handed back; a task management has none.
-#[derive(Debug, Drop)]
-pub struct Refusal {
-    pub fault: SubmitFault,
-    pub command: Option<Command>,
-}
-
-/// What came of a step.
-#[derive(Debug, Drop)]
-pub struct Outcome {
-    /// Whether it was due.
-    pub acted: bool,
-    /// The client of the submission, of the tag, of the message or event; none of an idle step.
-    pub owner: Option<usize>,
-    pub mark: Mark,
-    pub reply: Option<Reply>,
-    pub refused: Option<Refusal>,
-    /// The doorbells that were rung, in order.
-    pub doors: Doorbells,
-}
 
 /// The outcomes of a run, in order.
 #[derive(Debug, Drop)]
@@ -183,11 +66,11 @@ pub struct Bus {
     target: Target,
     lines: Lines,
     frames: Frames,
-    doors: ArrayVec<u32, MOST_DOORS>,
+    doors: ArrayVec<u32, STREAM_ENTRIES>,
 }
 
 impl Model for Bus {
-    ghost use Rattle.bus_core.specs.Shared.{Shared};
+    ghost use Rattle.shared_machine.specs.Shared.{Shared};
     ghost use Rattle.bus_core.specs.World.{world_of};
     ghost use Rattle.bus_core.specs.Decoded.{decoded, FitsItself};
 
@@ -200,7 +83,7 @@ impl Model for Bus {
 
 impl Model for Trace {
     ghost use Rattle.std.specs.Prelude.{List};
-    ghost use Rattle.bus_core.specs.declared.Outcome.{Outcome};
+    ghost use Rattle.shared_machine.specs.declared.Outcome.{Outcome};
 
     ghost Value = { List Outcome };
 

@@ -1,21 +1,23 @@
 //! The bus and its steps, each by one call of host or controller.
 ghost use Rattle.std.specs.Prelude.{◌≡◌, ℕ, [], suc, true, ◌*◌, ◌<◌, ◌≤◌, IfSome, IfNone, length, ◌^◌, IfOk, slice_get, vec_len};
 ghost use Rattle.std.specs.Option.{option_map_or};
+ghost use Rattle.uas_profile.specs.declared.TheConstants.{TAGS, MAX_CLIENTS};
 ghost use Rattle.stream_array.specs.Rings.{IsLines};
 ghost use Rattle.frame_store.specs.Buffers.{IsWhole};
 ghost use Rattle.uas_host.specs.State.{IsHost};
-ghost use Rattle.scsi_cmd.specs.declared.TheConstants.{TAGS};
-ghost use Rattle.bus_core.specs.Bus.{HasTicket};
-ghost use Rattle.bus_core.specs.Drain.{AreNotLeftOver, AreQuiet};
+ghost use Rattle.shared_machine.specs.Bus.{HasTicket};
+ghost use Rattle.shared_machine.specs.Drain.{AreNotLeftOver, AreQuiet};
 ghost use Rattle.bus_core.specs.Owners.{acted_as, replying, submitted_as};
-ghost use Rattle.bus_core.specs.Shared.{due, idle, opening, ringing, shared_step};
-ghost use Rattle.bus_core.specs.declared.Mark.{Mark};
-ghost use Rattle.bus_core.specs.StepIsolation.{IsIsolatedStep};
+ghost use Rattle.shared_machine.specs.Shared.{due, idle, opening, ringing, shared_step};
+ghost use Rattle.shared_machine.specs.declared.Mark.{Mark};
+ghost use Rattle.isolation.specs.Refusals.{IsRefusedAsOwn};
+ghost use Rattle.isolation.specs.StepIsolation.{IsIsolatedStep};
+ghost use Rattle.machine_invariant.specs.Reach.{EndsAsNoted, KeepsOthers};
 ghost use Rattle.bus_core.specs.Shows.{PointAhead, ShowsShared};
 
 use crate::doors::{ring, rung_at};
 use crate::owners::owner_of;
-use crate::{Bus, Doorbells, MAX_CLIENTS, Outcome, Step};
+use crate::{Bus, Doorbells, Outcome, Step, outcomes};
 use arrayvec::ArrayVec;
 use block_unit::Unit;
 use frame_store::Frames;
@@ -24,11 +26,12 @@ use std::alloc::{AllocError, Global};
 use stream_array::{Lines, Pipe};
 use uas_host::{Handled, Host};
 use uas_iu::lun_bytes;
+use uas_profile::EVENT_RING_PLACES;
 use uas_target::{Phase, Target};
 use xhci_ctl::{Acted, Controller};
 
 impl Bus {
-    /// The bus of these units, the unit of client c at place c: 1 to 31 of them. `AllocError` where there is no memory
+    /// The bus of these units, the unit of client c at place c: 1 to `MAX_CLIENTS` of them. `AllocError` where there is no memory
     /// for its tables; no step takes any.
     pub fn new(alloc: Global, units: Vec<Unit>) -> Result<Bus, AllocError>
         requires some { 1 ≤ vec_len units }
@@ -132,7 +135,7 @@ impl Bus {
 
     /// The least tag above this one that the device has a task of. No other tag's streams are due.
     #[inline(always)]
-    pub(crate) fn next_busy(&self, tag: u16) -> Option<u16>
+    pub fn next_busy(&self, tag: u16) -> Option<u16>
         ensures next { IfSome result (λ next. (tag < next) × (next ≤ length self.now.parts * TAGS) × AreQuiet self.now tag next) }
         ensures none { IfNone result (AreQuiet self.now tag (suc (length self.now.parts * TAGS))) }
     {
@@ -168,7 +171,7 @@ impl Bus {
     }
 
     /// One step: what came of it. It acts exactly where it is due; it takes no memory.
-    #[tactic(auto, using(crate::proofs::StepIsolation::step_isolated))]
+    #[tactic(auto, using(isolation::proofs::StepIsolation::step_isolated))]
     #[inline(always)]
     pub fn step(&mut self, step: Step) -> Outcome
         requires { HasTicket step }
@@ -176,6 +179,12 @@ impl Bus {
         ensures shared { (self.new, result) ≡ shared_step self.old step }
         // To each client the step is its own machine's, or nothing at all.
         ensures isolated { (client : ℕ) → IsIsolatedStep self.old step result self.new client }
+        // Every client but its owner keeps its whole part: unit, entries with all TDs, least ticket and ready replies.
+        ensures others { KeepsOthers self.old result self.new }
+        // A command is gone after it only where a task management of its own client that noted its ticket was received.
+        ensures noted { EndsAsNoted self.old step self.new }
+        // A submission is refused as its client's own state has it, and nothing but a submission is refused.
+        ensures refusals { IsRefusedAsOwn self.old step result }
     {
         self.act(step)
     }
@@ -200,23 +209,23 @@ impl Bus {
             } => {
                 let mut doors = Doorbells::none();
                 let answer = self.submit(client, tag, ticket, command, &mut doors);
-                Outcome::submitted(client, tag, answer, doors)
+                outcomes::submitted(client, tag, answer, doors)
             }
-            Step::CommandPipe => Outcome::on_pipe(Pipe::Command, self.carry()),
-            Step::Data(tag) => Outcome::on_pipe(Pipe::DataIn, self.move_chunk(tag)),
-            Step::Status(tag) => Outcome::on_pipe(Pipe::Status, self.send(tag)),
+            Step::CommandPipe => outcomes::on_pipe(Pipe::Command, self.carry()),
+            Step::Data(tag) => outcomes::on_pipe(Pipe::DataIn, self.move_chunk(tag)),
+            Step::Status(tag) => outcomes::on_pipe(Pipe::Status, self.send(tag)),
             Step::Engine => self.execute(),
             Step::Event => {
                 let mut doors = Doorbells::none();
                 let client = self.see(&mut doors);
-                Outcome::seen(client, doors)
+                outcomes::seen(client, doors)
             }
             Step::Retire(pipe, tag) => self.retire(pipe, tag),
             Step::Take(client) => {
                 if self.take_is_due(client) {
-                    Outcome::replying(client, self.take(client))
+                    outcomes::replying(client, self.take(client))
                 } else {
-                    Outcome::idle()
+                    outcomes::idle()
                 }
             }
         }
@@ -275,7 +284,7 @@ impl Bus {
         );
         ring(&mut self.controller, &self.doors);
         stand(&self.host, &self.lines, &self.frames);
-        Outcome::managed(client, managed, Doorbells::single(&self.doors))
+        outcomes::managed(client, managed, Doorbells::single(&self.doors))
     }
 
     /// The device receives the oldest unit in the command pipe.
@@ -322,7 +331,7 @@ impl Bus {
         let retirement = self.host.retirement();
         let acted = self.controller.engine_step(&mut self.lines);
         stand(&self.host, &self.lines, &self.frames);
-        Outcome::executed(retirement, acted)
+        outcomes::executed(retirement, acted)
     }
 
     /// The host takes the oldest event. It rings no doorbell at an event of a TD; at one of a retirement it rings the controller's own, or,
@@ -365,14 +374,14 @@ impl Bus {
         ring(&mut self.controller, &self.doors);
         stand(&self.host, &self.lines, &self.frames);
         if began {
-            Outcome::ringing(owner_of(tag), Doorbells::single(&self.doors))
+            outcomes::ringing(owner_of(tag), Doorbells::single(&self.doors))
         } else {
-            Outcome::idle()
+            outcomes::idle()
         }
     }
 
     /// The least tag above this one whose TD on a pipe is left over. None is due while a retirement is under way.
-    pub(crate) fn next_left_over(&self, pipe: Pipe, tag: u16) -> Option<u16>
+    pub fn next_left_over(&self, pipe: Pipe, tag: u16) -> Option<u16>
         ensures next { IfSome result (λ next. (tag < next) × (next ≤ length self.now.parts * TAGS) × AreNotLeftOver self.now pipe tag next) }
         ensures none { IfNone result (AreNotLeftOver self.now pipe tag (suc (length self.now.parts * TAGS))) }
     {
@@ -403,6 +412,6 @@ fn stand(host: &Host, lines: &Lines, frames: &Frames)
     ensures frames { IsWhole frames.now }
 {
     let _ = host.clients();
-    prove!(lines.len() < 1024);
+    prove!(lines.len() < EVENT_RING_PLACES);
     prove!(frames.check(0, 0).is_ok());
 }

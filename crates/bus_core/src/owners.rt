@@ -3,7 +3,8 @@ ghost use Rattle.std.specs.Prelude.{◌≡◌};
 ghost use Rattle.bus_core.specs.Owners.{index_of, mark_of, owner_of};
 
 use crate::Mark;
-use scsi_cmd::{Reply, TAGS};
+use scsi_cmd::Reply;
+use uas_profile::TAGS;
 
 /// The client whose tag it is; 0 is no tag.
 pub(crate) fn owner_of(tag: u16) -> usize

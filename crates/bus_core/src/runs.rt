@@ -1,9 +1,9 @@
 ghost use Rattle.std.specs.Prelude.{◌≡◌, ℕ, ◌+◌, ◌≤◌, IfOk, length, map, vec_len, vec_capacity, OnErr};
-ghost use Rattle.bus_core.specs.Bus.{AllTicketed, HasTicket};
-ghost use Rattle.bus_core.specs.Drain.{all_tags, drained, retirements, round, tried, tried_one};
-ghost use Rattle.bus_core.specs.declared.Step.TheVariants as Step;
-ghost use Rattle.bus_core.specs.Isolation.{IsIsolated};
-ghost use Rattle.bus_core.specs.Replay.{replayed};
+ghost use Rattle.shared_machine.specs.Bus.{AllTicketed, HasTicket};
+ghost use Rattle.shared_machine.specs.Drain.{all_tags, drained, retirements, round, tried, tried_one};
+ghost use Rattle.shared_machine.specs.declared.Step.TheVariants as Step;
+ghost use Rattle.isolation.specs.Isolation.{IsIsolated};
+ghost use Rattle.shared_machine.specs.Replay.{replayed};
 
 use crate::{Bus, Doorbells, Outcome, Step, Trace};
 use std::alloc::{AllocError, Global};
@@ -13,7 +13,7 @@ use xhci_ctl::Acted;
 impl Bus {
     /// Takes every step, in order: the outcome of each. The room for the outcomes is made first: at `AllocError` no step
     /// was taken.
-    #[tactic(auto, using(crate::proofs::WholeRuns::run_isolated))]
+    #[tactic(auto, using(isolation::proofs::WholeRuns::run_isolated))]
     pub fn run(&mut self, alloc: Global, steps: Vec<Step>) -> Result<Trace, AllocError>
         requires { AllTicketed steps.items }
         // The bus and the outcomes are the shared machine's.
@@ -42,7 +42,7 @@ impl Bus {
 
     /// Takes rounds of the steps that need no client, in a fixed order, until none acts or `limit` acted: how many
     /// acted, and whether it ended because none is due. It takes no replies.
-    #[tactic(auto, unfolding(crate::specs::Drain::rounds))]
+    #[tactic(auto, unfolding(shared_machine::specs::Drain::rounds))]
     pub fn drain(&mut self, limit: usize) -> (usize, bool)
         ensures state { self.new ≡ (drained self.old limit).state }
         ensures acted { result.0 + (drained self.old limit).left ≡ limit }

@@ -139,44 +139,6 @@ fn long_read_twice(rt: HostRuntime) -> Result<(), Fail> {
     Ok(())
 }
 
-// One command after another through three turns, each at the next place, with the Cycle bit of its turn.
-fn three_turns<const N: usize>(rt: &impl Abort, ring: &mut CycleRing<N>) {
-    let room = ring.room();
-    let places = room as u64 + 1;
-    let stop = Trb::StopEndpoint {
-        endpoint: 5,
-        slot: 1,
-    };
-    for count in 0..3 * places {
-        let place = count % places;
-        let odd = count / places % 2 == 1;
-        assert_eq!(rt; ring.place(), (0x5000_0000 + 16 * place, !odd));
-        let td = ring.push_td(&[stop]);
-        assert!(rt; td.is_ok());
-        let pointer = match ring.front() {
-            Some((pointer, _)) => pointer,
-            None => return,
-        };
-        assert_eq!(rt; pointer, 0x5000_0000 + 16 * place);
-        ring.advance();
-        assert!(rt; ring.front().is_none());
-        assert_eq!(rt; ring.dequeue(), ring.place());
-        ring.reclaim(pointer);
-        assert_eq!(rt; ring.room(), room);
-    }
-}
-
-#[test]
-fn the_smallest_and_the_largest_ring(rt: HostRuntime) -> Result<(), Fail> {
-    let mut smallest = CycleRing::<4>::new(rt.alloc(), 0x5000_0000)?;
-    three_turns(&rt, &mut smallest);
-    assert_eq!(rt; smallest.place(), (0x5000_0000, false));
-    let mut largest = CycleRing::<256>::new(rt.alloc(), 0x5000_0000)?;
-    three_turns(&rt, &mut largest);
-    assert_eq!(rt; largest.place(), (0x5000_0000, false));
-    Ok(())
-}
-
 const FIRST: Trb = Trb::StopEndpoint {
     endpoint: 2,
     slot: 1,
@@ -191,49 +153,3 @@ const THIRD: Trb = Trb::StopEndpoint {
     endpoint: 4,
     slot: 1,
 };
-
-// The host frees up to a consumed TRB.
-fn free<const N: usize>(rt: &impl Abort, ring: &mut CycleRing<N>, pointer: u64) {
-    let found = ring.consumed(pointer);
-    assert!(rt; found.is_some());
-    if found.is_some() {
-        ring.reclaim(pointer);
-    }
-}
-
-// A ring of places 0 to 3 and a Link at 4, over its Link: places 2 and 3 of the first turn, place 0 of the second.
-#[test]
-fn the_consumers_end_is_moved(rt: HostRuntime) -> Result<(), Fail> {
-    let mut ring = CycleRing::<5>::new(rt.alloc(), 0x5000_0000)?;
-    ring.push_td(&[FIRST])?;
-    ring.push_td(&[SECOND])?;
-    ring.push_td(&[THIRD])?;
-    ring.drop_pending();
-    free(&rt, &mut ring, 0x5000_0010);
-    ring.push_td(&[FIRST])?;
-    ring.push_td(&[SECOND])?;
-    // the Link's place, a pending place and the enqueue place with the cycle state of the turn before
-    assert_eq!(rt; ring.move_dequeue(0x5000_0040, true), Err(NotAPlace));
-    assert_eq!(rt; ring.move_dequeue(0x5000_0000, true), Err(NotAPlace));
-    assert_eq!(rt; ring.move_dequeue(0x5000_0010, true), Err(NotAPlace));
-    assert_eq!(rt; ring.move_dequeue(0x5000_0000, false), Ok(()));
-    assert_eq!(rt; ring.front(), Some((0x5000_0000, SECOND)));
-    // now a consumed place
-    assert_eq!(rt; ring.move_dequeue(0x5000_0030, true), Err(NotAPlace));
-    assert_eq!(rt; ring.move_dequeue(0x5000_0010, false), Ok(()));
-    assert_eq!(rt; ring.front(), None);
-    assert_eq!(rt; ring.dequeue(), (0x5000_0010, false));
-    assert_eq!(rt; ring.oldest(), Some((0x5000_0020, THIRD)));
-    assert_eq!(rt; ring.consumed(0x5000_0000), Some(SECOND));
-    assert_eq!(rt; ring.consumed(0x5000_0010), None);
-    Ok(())
-}
-
-#[test]
-fn refusals_say_why(rt: HostRuntime) -> Result<(), Fail> {
-    let full = format!(in rt.alloc(); "{RingFull}")?;
-    assert_eq!(rt; full.as_str(), "the ring has too little room");
-    let no_place = format!(in rt.alloc(); "{NotAPlace}")?;
-    assert_eq!(rt; no_place.as_str(), "no pending place of the ring");
-    Ok(())
-}

@@ -5,7 +5,7 @@ use Rattle.std.specs.Prelude.{nat_lt, ◌==◌}
 use Rattle.std.proofs.lemmas.Bool.{ltb-true, ltb-false, eqb-true, eqb-false}
 use Rattle.block_unit.specs.BlockMaps.{BlockMaps, with_attention, blocks_read, written}
 use Rattle.block_unit.specs.Laws.{written-count, synced-count, with_attention-count}
-use Rattle.scsi_cmd.specs.declared.Direction.TheVariants.{Nothing as NoWay, ToHost, ToDevice}
+use Rattle.uas_profile.specs.declared.Direction.TheVariants.{Nothing as NoWay, ToHost, ToDevice}
 use Rattle.scsi_cmd.specs.declared.Op.{Op}
 use Rattle.scsi_cmd.specs.declared.Sense.{Sense}
 use Rattle.scsi_cmd.specs.declared.Work.{Work}
@@ -21,6 +21,7 @@ use Rattle.device_server.specs.declared.Progress.TheVariants.{Moving, Ended}
 use Rattle.device_server.specs.Server.{HasChunk, begun, chunk_blocks, chunk_fits, chunk_given, chunk_moved, first_progress}
 use Rattle.device_server.specs.Server.{meets_bad_chunk, next_progress, progress_after, progress_after_blocks, progress_asked, synchronized}
 use Rattle.device_server.specs.Server.{unit_asked, unit_taken}
+use Rattle.uas_profile.specs.declared.TheConstants.{BLOCK_BYTES, CHUNK_BLOCKS, CHUNK_BYTES}
 
 -- THE NUMBER OF BLOCKS
 
@@ -36,9 +37,9 @@ unit_taken-count unit bytes chunk Nothing = refl
 unit_taken-count unit bytes chunk (Gives given) = refl
 unit_taken-count unit bytes chunk (Reads lba count) = refl
 unit_taken-count unit bytes chunk (Writes lba count through) =
-    elim (meets_bad_chunk unit lba count chunk) as (λ b. (cond b unit (written unit (lba + 8 * chunk) bytes through)).count ≡ unit.count) [
+    elim (meets_bad_chunk unit lba count chunk) as (λ b. (cond b unit (written unit (lba + CHUNK_BLOCKS * chunk) bytes through)).count ≡ unit.count) [
       | true ↦ refl
-      | false ↦ written-count unit (lba + 8 * chunk) bytes through
+      | false ↦ written-count unit (lba + CHUNK_BLOCKS * chunk) bytes through
     ]
 unit_taken-count unit bytes chunk (Synchronizes lba count) = refl
 
@@ -93,25 +94,25 @@ HasChunk-begun unit reports op = begun_progress (HasChunk unit.count op) unit re
 
 -- WHAT A CHUNK LEAVES
 
-next_of : (P : Progress → Type 0) (bytes chunk : ℕ) → (4096 * (chunk + 1) < bytes → P (Moving (chunk + 1))) → (bytes ≤ 4096 * (chunk + 1) → P (Ended Good)) →
+next_of : (P : Progress → Type 0) (bytes chunk : ℕ) → (CHUNK_BYTES * (chunk + 1) < bytes → P (Moving (chunk + 1))) → (bytes ≤ CHUNK_BYTES * (chunk + 1) → P (Ended Good)) →
     P (next_progress bytes chunk)
 next_of P bytes chunk more last =
-    elim (nat_lt (4096 * (chunk + 1)) bytes) as (λ b. nat_lt (4096 * (chunk + 1)) bytes ≡ b → P (cond b (Moving (chunk + 1)) (Ended Good))) [
+    elim (nat_lt (CHUNK_BYTES * (chunk + 1)) bytes) as (λ b. nat_lt (CHUNK_BYTES * (chunk + 1)) bytes ≡ b → P (cond b (Moving (chunk + 1)) (Ended Good))) [
       | true ↦ λ is. more (ltb-true _ _ is)
       | false ↦ λ is. last (ltb-false _ _ is)
     ] refl
 
 after_blocks : (P : Progress → Type 0) (unit : BlockMaps) (lba count chunk : ℕ) (sense : Sense) →
-    (4096 * (chunk + 1) < 512 * count → P (Moving (chunk + 1))) → (512 * count ≤ 4096 * (chunk + 1) → P (Ended Good)) →
+    (CHUNK_BYTES * (chunk + 1) < BLOCK_BYTES * count → P (Moving (chunk + 1))) → (BLOCK_BYTES * count ≤ CHUNK_BYTES * (chunk + 1) → P (Ended Good)) →
     ((sense : Sense) → P (Ended (Check sense))) → P (progress_after_blocks unit lba count chunk sense)
 after_blocks P unit lba count chunk sense more last check =
-    elim (meets_bad_chunk unit lba count chunk) as (λ b. P (cond b (Ended (Check sense)) (next_progress (512 * count) chunk))) [
+    elim (meets_bad_chunk unit lba count chunk) as (λ b. P (cond b (Ended (Check sense)) (next_progress (BLOCK_BYTES * count) chunk))) [
       | true ↦ check sense
-      | false ↦ next_of P (512 * count) chunk more last
+      | false ↦ next_of P (BLOCK_BYTES * count) chunk more last
     ]
 
 after_work : (P : Progress → Type 0) (unit : BlockMaps) (chunk : ℕ) (work : Work) → IsGivenAtOnce work →
-    (4096 * (chunk + 1) < work_bytes work → P (Moving (chunk + 1))) → (work_bytes work ≤ 4096 * (chunk + 1) → P (Ended Good)) →
+    (CHUNK_BYTES * (chunk + 1) < work_bytes work → P (Moving (chunk + 1))) → (work_bytes work ≤ CHUNK_BYTES * (chunk + 1) → P (Ended Good)) →
     ((sense : Sense) → P (Ended (Check sense))) → P (progress_after unit chunk work)
 after_work P unit chunk Nothing little more last check = last (omega arith)
 after_work P unit chunk (Gives bytes) little more last check = last (omega arith)
@@ -121,7 +122,7 @@ after_work P unit chunk (Synchronizes lba count) little more last check = last (
 
 -- after a chunk a command moves the next one where bytes are left, or has ended
 pub after_chunk : (P : Progress → Type 0) (unit : BlockMaps) (chunk : ℕ) (op : Op) (blocks : ℕ) →
-    (4096 * (chunk + 1) < moved_bytes op → P (Moving (chunk + 1))) → (moved_bytes op ≤ 4096 * (chunk + 1) → P (Ended Good)) →
+    (CHUNK_BYTES * (chunk + 1) < moved_bytes op → P (Moving (chunk + 1))) → (moved_bytes op ≤ CHUNK_BYTES * (chunk + 1) → P (Ended Good)) →
     ((sense : Sense) → P (Ended (Check sense))) → P (progress_after unit chunk (work_of op blocks))
 after_chunk P unit chunk op blocks more last check =
     after_work P unit chunk (work_of op blocks) (IsGivenAtOnce-work_of op blocks) (λ is. more (omega (arith, work_bytes-work_of op blocks)))
@@ -134,7 +135,7 @@ HasChunk-after unit chunk op blocks none = after_chunk (HasChunk unit.count op) 
 -- A CHUNK THAT IS GIVEN OR TAKEN
 
 moved_next : (bytes chunk : ℕ) → chunk_moved (next_progress bytes chunk) ≡ true
-moved_next bytes chunk = elim (nat_lt (4096 * (chunk + 1)) bytes) as (λ b. chunk_moved (cond b (Moving (chunk + 1)) (Ended Good)) ≡ true) [
+moved_next bytes chunk = elim (nat_lt (CHUNK_BYTES * (chunk + 1)) bytes) as (λ b. chunk_moved (cond b (Moving (chunk + 1)) (Ended Good)) ≡ true) [
   | true ↦ refl
   | false ↦ refl
 ]
@@ -143,15 +144,15 @@ moved_next bytes chunk = elim (nat_lt (4096 * (chunk + 1)) bytes) as (λ b. chun
 moved_blocks : (unit : BlockMaps) (lba count chunk : ℕ) (sense : Sense) →
     chunk_moved (progress_after_blocks unit lba count chunk sense) ≡ not (meets_bad_chunk unit lba count chunk)
 moved_blocks unit lba count chunk sense =
-    elim (meets_bad_chunk unit lba count chunk) as (λ b. chunk_moved (cond b (Ended (Check sense)) (next_progress (512 * count) chunk)) ≡ not b) [
+    elim (meets_bad_chunk unit lba count chunk) as (λ b. chunk_moved (cond b (Ended (Check sense)) (next_progress (BLOCK_BYTES * count) chunk)) ≡ not b) [
       | true ↦ refl
-      | false ↦ moved_next (512 * count) chunk
+      | false ↦ moved_next (BLOCK_BYTES * count) chunk
     ]
 
 given_blocks : (unit : BlockMaps) (lba count chunk : ℕ) → not (meets_bad_chunk unit lba count chunk) ≡ is_some (chunk_given unit chunk (Reads lba count))
 given_blocks unit lba count chunk =
     elim (meets_bad_chunk unit lba count chunk) as
-    (λ b. not b ≡ is_some {T = List ℕ} (cond b None (Some (blocks_read unit (lba + 8 * chunk) (chunk_blocks count chunk))))) [
+    (λ b. not b ≡ is_some {T = List ℕ} (cond b None (Some (blocks_read unit (lba + CHUNK_BLOCKS * chunk) (chunk_blocks count chunk))))) [
       | true ↦ refl
       | false ↦ refl
     ]

@@ -14,6 +14,7 @@ use Rattle.device_server.specs.declared.Answer.{Answer}
 use Rattle.device_server.specs.declared.Answer.TheVariants.{Good, Check}
 use Rattle.device_server.specs.declared.Progress.{Progress}
 use Rattle.device_server.specs.declared.Progress.TheVariants.{Moving, Ended}
+use Rattle.uas_profile.specs.declared.TheConstants.{BLOCK_BYTES, CHUNK_BLOCKS, CHUNK_BYTES}
 
 -- THE BEGINNING
 
@@ -47,26 +48,26 @@ begun unit reports asked =
     then (with_attention unit false, Ended (Check reset_occurred))
     else (unit_asked unit asked, progress_asked asked)
 
--- ONE CHUNK, of at most 8 blocks, on the blocks of this moment
+-- ONE CHUNK, of at most 8 (CHUNK_BLOCKS) blocks, on the blocks of this moment
 
 -- the blocks of a chunk, of so many blocks in all: of 20 these are 8, 8 and 4
 abbrev pub chunk_blocks : ℕ → ℕ → ℕ
-chunk_blocks count chunk = min 8 (count - 8 * chunk)
+chunk_blocks count chunk = min CHUNK_BLOCKS (count - CHUNK_BLOCKS * chunk)
 
 -- the bytes of a chunk, of so many bytes in all: of 5,120 these are 4,096 and 1,024, of 36 they are 36
 abbrev pub chunk_bytes : ℕ → ℕ → ℕ
-chunk_bytes bytes chunk = min 4096 (bytes - 4096 * chunk)
+chunk_bytes bytes chunk = min CHUNK_BYTES (bytes - CHUNK_BYTES * chunk)
 
 -- does the chunk meet a bad block
 abbrev pub meets_bad_chunk : BlockMaps → ℕ → ℕ → ℕ → Bool
-meets_bad_chunk unit lba count chunk = meets_bad unit (lba + 8 * chunk) (chunk_blocks count chunk)
+meets_bad_chunk unit lba count chunk = meets_bad unit (lba + CHUNK_BLOCKS * chunk) (chunk_blocks count chunk)
 
 -- the bytes that it gives, or None where it meets a bad block or gives none
 abbrev pub chunk_given : BlockMaps → ℕ → Work → Option (List ℕ)
 chunk_given unit chunk Nothing = None
 chunk_given unit chunk (Gives bytes) = Some bytes.items
 chunk_given unit chunk (Reads lba count) =
-    if meets_bad_chunk unit lba count chunk then None else Some (blocks_read unit (lba + 8 * chunk) (chunk_blocks count chunk))
+    if meets_bad_chunk unit lba count chunk then None else Some (blocks_read unit (lba + CHUNK_BLOCKS * chunk) (chunk_blocks count chunk))
 chunk_given unit chunk (Writes lba count through) = None
 chunk_given unit chunk (Synchronizes lba count) = None
 
@@ -84,17 +85,17 @@ unit_taken unit bytes chunk Nothing = unit
 unit_taken unit bytes chunk (Gives given) = unit
 unit_taken unit bytes chunk (Reads lba count) = unit
 unit_taken unit bytes chunk (Writes lba count through) =
-    if meets_bad_chunk unit lba count chunk then unit else written unit (lba + 8 * chunk) bytes through
+    if meets_bad_chunk unit lba count chunk then unit else written unit (lba + CHUNK_BLOCKS * chunk) bytes through
 unit_taken unit bytes chunk (Synchronizes lba count) = unit
 
 -- the last chunk ends the command: of 8,192 bytes chunk 0 gives Moving 1 and chunk 1 ends it, of 4,096 chunk 0 does
 abbrev pub next_progress : ℕ → ℕ → Progress
-next_progress bytes chunk = if nat_lt (4096 * (chunk + 1)) bytes then Moving (chunk + 1) else Ended Good
+next_progress bytes chunk = if nat_lt (CHUNK_BYTES * (chunk + 1)) bytes then Moving (chunk + 1) else Ended Good
 
 -- a bad block ends the command with this sense; the chunks before it stand
 abbrev pub progress_after_blocks : BlockMaps → ℕ → ℕ → ℕ → Sense → Progress
 progress_after_blocks unit lba count chunk sense =
-    if meets_bad_chunk unit lba count chunk then Ended (Check sense) else next_progress (512 * count) chunk
+    if meets_bad_chunk unit lba count chunk then Ended (Check sense) else next_progress (BLOCK_BYTES * count) chunk
 
 abbrev pub progress_after : BlockMaps → ℕ → Work → Progress
 progress_after unit chunk Nothing = Ended Good
@@ -125,5 +126,5 @@ sense_of (Check sense) = sense_bytes sense
 
 -- one that moves data has bytes left to move, and its blocks are on the unit: READ of 16 blocks is at chunk 0 or 1
 abbrev pub HasChunk : ℕ → Op → Progress → Type 0
-HasChunk count op (Moving chunk) = (4096 * chunk < moved_bytes op) × (op_fault op count ≡ None)
+HasChunk count op (Moving chunk) = (CHUNK_BYTES * chunk < moved_bytes op) × (op_fault op count ≡ None)
 HasChunk count op (Ended answer) = Unit {0}

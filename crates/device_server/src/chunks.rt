@@ -3,22 +3,24 @@ ghost use Rattle.std.specs.Option.{unwrap_or};
 ghost use Rattle.std.specs.Prelude.{◌≡◌, ◌+◌, ◌*◌, ◌<◌, ◌≤◌, is_some, length, not};
 ghost use Rattle.scsi_cmd.specs.Sense.{unrecovered_read_error, write_error};
 ghost use Rattle.scsi_cmd.specs.Work.{IsWorkOn, work_bytes, work_direction};
-ghost use Rattle.scsi_cmd.specs.declared.Direction.{Direction};
+ghost use Rattle.uas_profile.specs.declared.Direction.{Direction};
 ghost use Rattle.scsi_cmd.specs.declared.Work.{Work};
 ghost use Rattle.device_server.specs.Server.{chunk_blocks, chunk_bytes, chunk_fits, chunk_given, chunk_moved, meets_bad_chunk};
 ghost use Rattle.device_server.specs.Server.{next_progress, progress_after, progress_after_blocks, unit_taken};
+ghost use Rattle.uas_profile.specs.declared.TheConstants.{BLOCK_BYTES};
 
-use crate::{Answer, CHUNK_BLOCKS, CHUNK_BYTES, Progress};
-use block_unit::{Bad, MAX_BLOCKS, Unit};
+use crate::{Answer, Progress};
+use block_unit::{Bad, Unit};
 use scsi_cmd::{Sense, Work};
+use uas_profile::{CHUNK_BLOCKS, CHUNK_BYTES, MAX_BLOCKS};
 
 /// How many bytes the next chunk has, of `bytes` in all, after so many chunks: 4,096, or what is left.
 pub fn chunk_len(bytes: usize, chunk: u16) -> usize
-    requires { 4096 * chunk < bytes }
+    requires { CHUNK_BYTES * chunk < bytes }
     ensures len { result ≡ chunk_bytes bytes chunk }
     ensures some { 0 < result }
-    ensures most { result ≤ 4096 }
-    ensures within { 4096 * chunk + result ≤ bytes }
+    ensures most { result ≤ CHUNK_BYTES }
+    ensures within { CHUNK_BYTES * chunk + result ≤ bytes }
 {
     (bytes - CHUNK_BYTES * usize::from(chunk)).min(CHUNK_BYTES)
 }
@@ -27,7 +29,7 @@ pub fn chunk_len(bytes: usize, chunk: u16) -> usize
 /// block ends with UNRECOVERED READ ERROR (SBC), and `bytes` are as they were.
 pub fn give_chunk(unit: &Unit, work: &Work, chunk: u16, bytes: &mut [u8]) -> Progress
     requires direction { work_direction work.now ≡ Direction.ToHost }
-    requires left { 4096 * chunk < work_bytes work.now }
+    requires left { CHUNK_BYTES * chunk < work_bytes work.now }
     requires len { length bytes.old ≡ chunk_bytes (work_bytes work.now) chunk }
     requires on { IsWorkOn unit.now.count work.now }
     ensures bytes { bytes.new ≡ unwrap_or (chunk_given unit.now chunk work.now) bytes.old }
@@ -44,16 +46,16 @@ pub fn give_chunk(unit: &Unit, work: &Work, chunk: u16, bytes: &mut [u8]) -> Pro
     }
 }
 
-fn read_blocks(unit: &Unit, lba: u32, count: u16, chunk: u16, bytes: &mut [u8]) -> Progress
-    requires len { length bytes.old ≡ chunk_bytes (512 * count) chunk }
-    requires left { 4096 * chunk < 512 * count }
+fn read_blocks(unit: &Unit, lba: u64, count: u32, chunk: u16, bytes: &mut [u8]) -> Progress
+    requires len { length bytes.old ≡ chunk_bytes (BLOCK_BYTES * count) chunk }
+    requires left { CHUNK_BYTES * chunk < BLOCK_BYTES * count }
     requires on { lba + count ≤ unit.now.count }
     ensures bytes { bytes.new ≡ unwrap_or (chunk_given unit.now chunk (Work.Reads lba count)) bytes.old }
     ensures progress { result ≡ progress_after_blocks unit.now lba count chunk unrecovered_read_error }
 {
     // no sum of a block's number and a count overflows
     prove!(unit.blocks() <= MAX_BLOCKS);
-    match unit.read_into(lba + u32::from(CHUNK_BLOCKS * chunk), bytes) {
+    match unit.read_into(lba as u32 + u32::from(CHUNK_BLOCKS * chunk), bytes) {
         Ok(()) => after_blocks(count, chunk),
         Err(Bad) => Progress::Ended(Answer::Check(Sense::UNRECOVERED_READ_ERROR)),
     }
@@ -63,7 +65,7 @@ fn read_blocks(unit: &Unit, lba: u32, count: u16, chunk: u16, bytes: &mut [u8]) 
 /// block ends with WRITE ERROR (SBC), and the blocks are as they were.
 pub fn take_chunk(unit: &mut Unit, work: &Work, chunk: u16, bytes: &[u8]) -> Progress
     requires direction { work_direction work.now ≡ Direction.ToDevice }
-    requires left { 4096 * chunk < work_bytes work.now }
+    requires left { CHUNK_BYTES * chunk < work_bytes work.now }
     requires len { length bytes.now ≡ chunk_bytes (work_bytes work.now) chunk }
     requires on { IsWorkOn unit.old.count work.now }
     ensures unit { unit.new ≡ unit_taken unit.old bytes.now chunk work.now }
@@ -86,14 +88,14 @@ pub fn take_chunk(unit: &mut Unit, work: &Work, chunk: u16, bytes: &[u8]) -> Pro
 #[tactic(auto, using(crate::specs::Laws::counts))]
 fn write_blocks(
     unit: &mut Unit,
-    lba: u32,
-    count: u16,
+    lba: u64,
+    count: u32,
     through: bool,
     chunk: u16,
     bytes: &[u8],
 ) -> Progress
-    requires len { length bytes.now ≡ chunk_bytes (512 * count) chunk }
-    requires left { 4096 * chunk < 512 * count }
+    requires len { length bytes.now ≡ chunk_bytes (BLOCK_BYTES * count) chunk }
+    requires left { CHUNK_BYTES * chunk < BLOCK_BYTES * count }
     requires on { lba + count ≤ unit.old.count }
     ensures unit { unit.new ≡ unit_taken unit.old bytes.now chunk (Work.Writes lba count through) }
     ensures progress { result ≡ progress_after_blocks unit.old lba count chunk write_error }
@@ -101,18 +103,19 @@ fn write_blocks(
 {
     // no sum of a block's number and a count overflows
     prove!(unit.blocks() <= MAX_BLOCKS);
-    match unit.write(lba + u32::from(CHUNK_BLOCKS * chunk), bytes, through) {
+    match unit.write(lba as u32 + u32::from(CHUNK_BLOCKS * chunk), bytes, through) {
         Ok(()) => after_blocks(count, chunk),
         Err(Bad) => Progress::Ended(Answer::Check(Sense::WRITE_ERROR)),
     }
 }
 
 /// After a chunk of blocks, of so many in all.
-fn after_blocks(count: u16, chunk: u16) -> Progress
-    requires { 4096 * chunk < 512 * count }
-    ensures { result ≡ next_progress (512 * count) chunk }
+fn after_blocks(count: u32, chunk: u16) -> Progress
+    requires left { CHUNK_BYTES * chunk < BLOCK_BYTES * count }
+    requires most { count ≤ MAX_BLOCKS }
+    ensures { result ≡ next_progress (BLOCK_BYTES * count) chunk }
 {
-    if CHUNK_BLOCKS < count - CHUNK_BLOCKS * chunk {
+    if u32::from(CHUNK_BLOCKS) < count - u32::from(CHUNK_BLOCKS) * u32::from(chunk) {
         Progress::Moving(chunk + 1)
     } else {
         Progress::Ended(Answer::Good)

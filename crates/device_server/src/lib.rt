@@ -46,11 +46,3 @@ pub enum Progress {
     /// It has its answer.
     Ended(Answer),
 }
-
-/// The most blocks of one chunk.
-pub const CHUNK_BLOCKS: u16 = 8;
-
-/// The most bytes of one chunk.
-pub const CHUNK_BYTES: usize = 4096;
-
-const _: () = prove!(CHUNK_BLOCKS == 8 && CHUNK_BYTES == 4096);

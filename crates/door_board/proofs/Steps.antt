@@ -13,6 +13,7 @@ use Rattle.door_board.specs.declared.Past.{Past}
 use Rattle.door_board.specs.Counts.{rung_too, taken_at, times_rung, times_taken}
 use Rattle.door_board.specs.Rule.{IsCounted, Rings, Collects, rung_of, taken_of, shares_of, past, one_share_less, one_share, both, spent, standing}
 use Rattle.door_board.proofs.Totals.{total_set, part_of_total, rung_counts, taken_counts}
+use Rattle.door_board.specs.declared.TheConstants.{PLACES}
 
 -- a view with no share has done nothing
 abbrev Unused : Past → Type 0
@@ -140,7 +141,7 @@ alone f (x ∷ xs) (suc id) v idle at all =
 
 -- where one seat has every share, its own counts are the totals
 pub counts_alone : (seats id : ℕ) (v : Past) (s : State (Unit {0}) Past) → IsCounted seats s → get_elem? s.views id ≡ some v → v.shares ≡ seats
-    → (place : ℕ) → place < 256 → times_rung place v.fresh ≡ times_taken place v.hauls + standing s.words place
+    → (place : ℕ) → place < PLACES → times_rung place v.fresh ≡ times_taken place v.hauls + standing s.words place
 counts_alone seats id v s held at every place below =
     let all : sum_by shares_of s.views ≡ v.shares = held.shares ∙ sym every in
     let rung = alone (rung_of place) s.views id v (λ k u there idle. ap (times_rung place) (held.idle k u there idle).0) at all in

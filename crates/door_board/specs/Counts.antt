@@ -3,10 +3,11 @@ use Rattle.std.specs.Prelude.{◌≡◌, ℕ, ◌+◌, ◌-◌, ◌*◌, ◌/◌
 use Rattle.std.specs.Int.{bit_at}
 use Rattle.atomic_table.specs.Seated.{TableId}
 use Rattle.door_board.specs.declared.Haul.{Haul}
+use Rattle.uas_profile.specs.declared.TheConstants.{TAGS}
 
--- the place of index i of a client: index 1 of client 0 has place 0, index 8 of client 30 has place 64 * 2 + 8 * 7 + 7 = 191
+-- the place of index i of a client; by hand, with 16 tags: index 1 of client 0 has place 0, index 16 of client 14 has place 64 * 2 + 16 * 3 + 15 = 191
 abbrev pub place_of : ℕ → ℕ → ℕ
-place_of client i = 64 * (client % 4) + 8 * (client / 4) + i - 1
+place_of client i = 64 * (client % 4) + TAGS * (client / 4) + i - 1
 
 -- A board as its calls see it: which one it is, and how many seats were made for it
 pub record MadeBoard : Type 0 where

@@ -6,6 +6,7 @@ use Rattle.std.specs.Int.{bit_at}
 use Rattle.atomic_table.specs.Table.{State, Me, Step}
 use Rattle.door_board.specs.declared.Past.{Past}
 use Rattle.door_board.specs.Counts.{times_rung, times_taken, rung_too, Sitting}
+use Rattle.door_board.specs.declared.TheConstants.{PLACES}
 
 abbrev pub past : ℕ → Past
 past shares = record { shares = shares; fresh = []; hauls = [] }
@@ -30,7 +31,7 @@ standing words place = bit_at (slice_index words (place / 64)) (place % 64)
 pub record IsCounted (seats : ℕ) (s : State (Unit {0}) Past) : Type 0 where
   pub width : length s.words ≡ 4
   pub shares : sum_by shares_of s.views ≡ seats
-  pub counts : (place : ℕ) → place < 256 → sum_by (rung_of place) s.views ≡ sum_by (taken_of place) s.views + standing s.words place
+  pub counts : (place : ℕ) → place < PLACES → sum_by (rung_of place) s.views ≡ sum_by (taken_of place) s.views + standing s.words place
   pub idle : (k : ℕ) (v : Past) → get_elem? s.views k ≡ some v → v.shares ≡ 0 → (v.fresh ≡ []) × (v.hauls ≡ [])
 
 -- a bit k of the word was rung, fresh where it was clear in what was found

@@ -4,10 +4,10 @@
 //! that it found rung. Rings that come before the next collection merge into one standing bit.
 //!
 //! ```text
-//! word 0   clients 0, 4, 8, .. 28     bit 8 (c div 4) + i - 1 is index i of client c
-//! word 1   clients 1, 5, 9, .. 29
-//! word 2   clients 2, 6, 10, .. 30
-//! word 3   clients 3, 7, 11, .. 27
+//! word 0   clients 0, 4, 8, 12     bit TAGS (c div 4) + i - 1 is index i of client c
+//! word 1   clients 1, 5, 9, 13
+//! word 2   clients 2, 6, 10, 14
+//! word 3   clients 3, 7, 11
 //! ```
 //!
 //! The rules:
@@ -34,6 +34,7 @@ use atomic_table::{Join, Play, Split, Table, TableRule};
 use std::alloc::{AllocError, Global};
 use std::collections::LinkedList;
 use std::marker::Model;
+use uas_profile::{MAX_CLIENTS, TAGS};
 
 /// Want of memory.
 pub type NoMemory = AllocError;
@@ -44,17 +45,17 @@ pub const WORDS: usize = 4;
 /// Places of a board, 64 in each word.
 pub const PLACES: usize = 256;
 
-/// Places of a client, one for each of its tags.
-pub const CLIENT_PLACES: usize = 8;
+/// Places of a word.
+const WORD_PLACES: usize = 64;
+
+/// Clients that have places, one for each of their `TAGS` tags.
+pub const CLIENTS: usize = WORDS * (WORD_PLACES / TAGS);
 
 const _: () = prove!(WORDS == 4);
 
-const _: () = prove!(PLACES == 256);
+const _: () = prove!(PLACES == 256 && WORDS * WORD_PLACES == PLACES);
 
-const _: () = prove!(CLIENT_PLACES == 8);
-
-/// Places of a word.
-const WORD_PLACES: usize = 64;
+const _: () = prove!(MAX_CLIENTS <= CLIENTS);
 
 /// The bits that one collection found in a word.
 pub struct Haul {
@@ -155,17 +156,17 @@ impl Model for Seat {
     ghost invariant = { λ s. (s.seat.me.0.shares ≡ 1) × (s.seat.me.1 ≡ []) };
 }
 
-/// The place of index `index`, from 1 to 8, of client `client`, which is below 32. No other index or client has it.
+/// The place of index `index`, from 1 to `TAGS`, of client `client`, which is below `CLIENTS`. No other index or client has it.
 pub fn place(client: usize, index: usize) -> usize
-    requires client { client < 32 }
+    requires client { client < CLIENTS }
     requires index_low { 1 ≤ index }
-    requires index_high { index ≤ CLIENT_PLACES }
+    requires index_high { index ≤ TAGS }
     ensures place { result ≡ place_of client index }
     ensures below { result < PLACES }
     ensures word { result / 64 ≡ client % WORDS }
-    ensures alone { (other i : ℕ) → other < 32 → 1 ≤ i → i ≤ 8 → place_of other i ≡ result → (other ≡ client) × (i ≡ index) }
+    ensures alone { (other i : ℕ) → other < CLIENTS → 1 ≤ i → i ≤ TAGS → place_of other i ≡ result → (other ≡ client) × (i ≡ index) }
 {
-    WORD_PLACES * (client % WORDS) + CLIENT_PLACES * (client / WORDS) + index - 1
+    WORD_PLACES * (client % WORDS) + TAGS * (client / WORDS) + index - 1
 }
 
 impl Board {
@@ -186,7 +187,7 @@ impl Board {
         Ok((Board { table, seats }, dealt))
     }
 
-    /// Rings a place below 256. True where its bit was clear, which is a fresh ring; false where it stood, so that this
+    /// Rings a place below 256 (`PLACES`). True where its bit was clear, which is a fresh ring; false where it stood, so that this
     /// ring merged with an earlier one.
     pub fn ring(&self, seat: &mut Seat, place: usize) -> bool
         requires own { IsSeatOf self.now seat.old }
@@ -215,7 +216,7 @@ impl Board {
     pub fn close(self, seats: Vec<Seat>) -> [u64; WORDS]
         requires every { length seats.items ≡ self.seats }
         requires own { All (IsSeatOf self) seats.items }
-        ensures { (place : ℕ) → place < 256
+        ensures { (place : ℕ) → place < PLACES
             → sum_by (fresh_rings place) seats.items ≡ sum_by (collections place) seats.items + bit_at (slice_index result (place / 64)) (place % 64) }
     {
         let last = self.gather(seats);

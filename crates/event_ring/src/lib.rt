@@ -41,9 +41,6 @@ use thiserror::Error;
 use xhci_trb::laws::text_reads_back;
 use xhci_trb::{Trb, decode, encode};
 
-#[cfg(test)]
-mod tests;
-
 /// Want of memory, the one refusal of a constructor.
 pub type NoMemory = AllocError;
 

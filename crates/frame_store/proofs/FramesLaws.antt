@@ -16,13 +16,14 @@ use Rattle.frame_store.specs.Splice.{spliced}
 use Rattle.frame_store.specs.Buffers.{bytes_in, with_bytes_in, with_part, opening_buffers, no_buffers, held_for, with_held, bytes_of}
 use Rattle.frame_store.specs.Buffers.{with_bytes, Names, IsNamed, HasSizes, IsWhole, start_of, written, left_at}
 use Rattle.frame_store.proofs.PlacesLaws.{place_at-address_of, address_of-place_at}
+use Rattle.uas_profile.specs.declared.TheConstants.{COMMAND_BYTES, STATUS_BYTES, STREAMS, WINDOW_BYTES}
 
 -- writing over a part keeps the length
 pub length-spliced : (old : List ℕ) (from : ℕ) (new : List ℕ) → length (spliced old from new) ≡ length old
 length-spliced old from new = sym (length_refill (length old) old (take from old ++ (new ++ drop (length new) (drop from old))) refl)
 
-lent-le : (lent : Option (List ℕ)) (from : ℕ) (new : List ℕ) → length (unwrap_or lent []) ≤ 65536
-    → length (unwrap_or (option_map (λ _. spliced (unwrap_or lent []) from new) lent) []) ≤ 65536
+lent-le : (lent : Option (List ℕ)) (from : ℕ) (new : List ℕ) → length (unwrap_or lent []) ≤ WINDOW_BYTES
+    → length (unwrap_or (option_map (λ _. spliced (unwrap_or lent []) from new) lent) []) ≤ WINDOW_BYTES
 lent-le None from new h = h
 lent-le (Some old) from new h = rw (length-spliced old from new) h
 
@@ -45,14 +46,14 @@ with_held-whole frames tag held h first sizes = record {
 
 opening_buffers-sizes : HasSizes opening_buffers
 unfolding opening_buffers
-opening_buffers-sizes = record { command = length-replicate {A = ℕ} 32 0; status = length-replicate {A = ℕ} 112 0; lent = omega arith }
+opening_buffers-sizes = record { command = length-replicate {A = ℕ} COMMAND_BYTES 0; status = length-replicate {A = ℕ} STATUS_BYTES 0; lent = omega arith }
 
-pub replicate_whole : IsWhole (replicate 248 opening_buffers)
+pub replicate_whole : IsWhole (replicate STREAMS opening_buffers)
 replicate_whole = record {
-  tags = length-replicate 248 opening_buffers;
+  tags = length-replicate STREAMS opening_buffers;
   sizes = λ tag low high.
-      let within : tag - 1 < 248 = omega arith in
-      rw (get_or-replicate 248 (tag - 1) opening_buffers no_buffers within) opening_buffers-sizes;
+      let within : tag - 1 < STREAMS = omega arith in
+      rw (get_or-replicate STREAMS (tag - 1) opening_buffers no_buffers within) opening_buffers-sizes;
 }
 
 bytes_in-room : (held : TagBuffers) (b : Buffer) → HasSizes held → length (bytes_in held b) ≤ room_of b
@@ -61,7 +62,7 @@ bytes_in-room held Status h = omega (arith, h.status)
 bytes_in-room held Window h = h.lent
 
 -- a buffer that is there is no longer than its room
-pub bytes_of-room : (frames : List TagBuffers) (place : Place) → IsWhole frames → 1 ≤ place.tag → place.tag ≤ 248
+pub bytes_of-room : (frames : List TagBuffers) (place : Place) → IsWhole frames → 1 ≤ place.tag → place.tag ≤ STREAMS
     → length (bytes_of frames place) ≤ room_of place.buffer
 bytes_of-room frames place h first last = bytes_in-room (held_for frames place.tag) place.buffer (h.sizes place.tag first last)
 

@@ -7,6 +7,7 @@ use Rattle.frame_store.specs.declared.Buffer.{Buffer}
 use Rattle.frame_store.specs.declared.Buffer.TheVariants.{Command, Status, Window}
 use Rattle.frame_store.specs.declared.Place.{Place}
 use Rattle.frame_store.specs.Places.{IsPlace, is_place, address_of, base_of, stride_of, room_of, place_in, checked_place, buffer_at, place_at}
+use Rattle.uas_profile.specs.declared.TheConstants.{BUFFER_SPAN, COMMAND_BUFFERS, STATUS_BUFFERS, STREAMS, WINDOWS, WINDOW_SPAN}
 
 -- the arithmetic: a stride's multiple and a rest below it
 div-stride : (s t o : ℕ) → o < s → (s * t + o) / s ≡ t
@@ -16,7 +17,7 @@ mod-stride : (s t o : ℕ) → o < s → (s * t + o) % s ≡ o
 mod-stride s t o h = ap (λ x. x % s) (omega arith) ∙ mod-mul-add t s o h
 
 -- the place of an address that has one, in a buffer of a given kind
-checked_place-address_of : (b : Buffer) (t o : ℕ) → 1 ≤ t → t ≤ 248 → o < room_of b → room_of b ≤ stride_of b
+checked_place-address_of : (b : Buffer) (t o : ℕ) → 1 ≤ t → t ≤ STREAMS → o < room_of b → room_of b ≤ stride_of b
     → checked_place b (base_of b + stride_of b * t + o) ≡ Some (record { tag = t; buffer = b; offset = o })
 checked_place-address_of b t o first last inside room =
     let narrow : o < stride_of b = omega arith in
@@ -27,19 +28,19 @@ checked_place-address_of b t o first last inside room =
       mod-stride (stride_of b) t o narrow,
       le-leb (base_of b) (base_of b + stride_of b * t + o) (omega arith),
       lt-ltb 0 t (omega arith),
-      le-leb t 248 last,
+      le-leb t STREAMS last,
       lt-ltb o (room_of b) inside,
     ) refl
 
-place_at-parts : (b : Buffer) (t o : ℕ) → 1 ≤ t → t ≤ 248 → o < room_of b
+place_at-parts : (b : Buffer) (t o : ℕ) → 1 ≤ t → t ≤ STREAMS → o < room_of b
     → place_at (base_of b + stride_of b * t + o) ≡ Some (record { tag = t; buffer = b; offset = o })
 place_at-parts Command t o first last inside =
-    rw (lt-ltb (0x10000000 + 0x100 * t + o) 0x20000000 (omega arith)) (checked_place-address_of Command t o first last inside (omega arith))
+    rw (lt-ltb (COMMAND_BUFFERS + BUFFER_SPAN * t + o) STATUS_BUFFERS (omega arith)) (checked_place-address_of Command t o first last inside (omega arith))
 place_at-parts Status t o first last inside =
-    rw (le-ltb (0x20000000 + 0x100 * t + o) 0x20000000 (omega arith), lt-ltb (0x20000000 + 0x100 * t + o) 0x100000000 (omega arith))
+    rw (le-ltb (STATUS_BUFFERS + BUFFER_SPAN * t + o) STATUS_BUFFERS (omega arith), lt-ltb (STATUS_BUFFERS + BUFFER_SPAN * t + o) WINDOWS (omega arith))
     (checked_place-address_of Status t o first last inside (omega arith))
 place_at-parts Window t o first last inside =
-    rw (le-ltb (0x100000000 + 0x10000 * t + o) 0x20000000 (omega arith), le-ltb (0x100000000 + 0x10000 * t + o) 0x100000000 (omega arith))
+    rw (le-ltb (WINDOWS + WINDOW_SPAN * t + o) STATUS_BUFFERS (omega arith), le-ltb (WINDOWS + WINDOW_SPAN * t + o) WINDOWS (omega arith))
     (checked_place-address_of Window t o first last inside (omega arith))
 
 -- a place is found at its own address
@@ -51,13 +52,13 @@ place_in-is : (b : Buffer) (address : ℕ) → base_of b ≤ address → is_plac
     → (address_of (place_in b (address - base_of b)) ≡ address) × IsPlace (place_in b (address - base_of b))
 place_in-is b address above passes =
     let outer =
-    and_parts (nat_lt 0 ((address - base_of b) / stride_of b) && nat_le ((address - base_of b) / stride_of b) 248)
+    and_parts (nat_lt 0 ((address - base_of b) / stride_of b) && nat_le ((address - base_of b) / stride_of b) STREAMS)
     (nat_lt ((address - base_of b) % stride_of b) (room_of b)) passes in
-    let inner = and_parts (nat_lt 0 ((address - base_of b) / stride_of b)) (nat_le ((address - base_of b) / stride_of b) 248) outer.0 in (
+    let inner = and_parts (nat_lt 0 ((address - base_of b) / stride_of b)) (nat_le ((address - base_of b) / stride_of b) STREAMS) outer.0 in (
       omega (arith, div-add-mod (address - base_of b) (stride_of b)),
       record {
         first_tag = ltb-true 0 _ inner.0;
-        last_tag = leb-true _ 248 inner.1;
+        last_tag = leb-true _ STREAMS inner.1;
         inside = ltb-true _ (room_of b) outer.1;
       },
     )

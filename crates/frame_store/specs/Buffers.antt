@@ -6,8 +6,9 @@ use Rattle.frame_store.specs.declared.Buffer.{Buffer}
 use Rattle.frame_store.specs.declared.Buffer.TheVariants.{Command, Status, Window}
 use Rattle.frame_store.specs.declared.Place.{Place}
 use Rattle.frame_store.specs.declared.TagBuffers.{TagBuffers}
-use Rattle.frame_store.specs.Places.{tags, place_at, address_of}
+use Rattle.frame_store.specs.Places.{place_at, address_of}
 use Rattle.frame_store.specs.Splice.{spliced}
+use Rattle.uas_profile.specs.declared.TheConstants.{COMMAND_BYTES, STATUS_BYTES, STREAMS, WINDOW_BYTES}
 
 -- The bytes of one buffer. A tag with nothing lent has no byte in its window.
 abbrev pub bytes_in : TagBuffers → Buffer → List ℕ
@@ -31,11 +32,11 @@ no_buffers = record { command = []; status = []; lent = None }
 
 -- What a tag of a new store has: both small buffers, all zeros, and nothing lent.
 unfoldable pub opening_buffers : TagBuffers
-opening_buffers = record { command = replicate 32 0; status = replicate 112 0; lent = None }
+opening_buffers = record { command = replicate COMMAND_BYTES 0; status = replicate STATUS_BYTES 0; lent = None }
 
 -- A new store.
 unfoldable pub opening : List TagBuffers
-opening = replicate tags opening_buffers
+opening = replicate STREAMS opening_buffers
 
 -- What the store holds for a tag, from 1 on.
 abbrev pub held_for : List TagBuffers → ℕ → TagBuffers
@@ -65,7 +66,7 @@ front_of buffer tag = record { tag = tag; buffer = buffer; offset = 0 }
 -- The `len` bytes from an address on are bytes of one buffer that is there, and `place` is the first.
 pub record Names (frames : List TagBuffers) (address len : ℕ) (place : Place) : Type 0 where
   pub first_tag : 1 ≤ place.tag
-  pub last_tag : place.tag ≤ tags
+  pub last_tag : place.tag ≤ STREAMS
   pub begins : address_of place ≡ address
   pub within : place.offset + len ≤ length (bytes_of frames place)
 
@@ -75,14 +76,14 @@ IsNamed frames address len = (len ≡ 0) ⊎ ((place : Place) × Names frames ad
 
 -- The sizes of a tag's buffers.
 pub record HasSizes (held : TagBuffers) : Type 0 where
-  pub command : length held.command ≡ 32
-  pub status : length held.status ≡ 112
-  pub lent : length (unwrap_or held.lent []) ≤ 65536
+  pub command : length held.command ≡ COMMAND_BYTES
+  pub status : length held.status ≡ STATUS_BYTES
+  pub lent : length (unwrap_or held.lent []) ≤ WINDOW_BYTES
 
 -- What is true of every store: each tag has its two small buffers, and no window is too long.
 pub record IsWhole (frames : List TagBuffers) : Type 0 where
-  pub tags : length frames ≡ tags
-  pub sizes : (tag : ℕ) → 1 ≤ tag → tag ≤ 248 → HasSizes (held_for frames tag)
+  pub tags : length frames ≡ STREAMS
+  pub sizes : (tag : ℕ) → 1 ≤ tag → tag ≤ STREAMS → HasSizes (held_for frames tag)
 
 -- Where the bytes from an address on begin. No byte at all begins nowhere; it stands for the front of the first command buffer.
 abbrev pub first_place : Place

@@ -3,32 +3,29 @@ use Rattle.std.specs.Prelude.{if◌then◌else◌, ℕ, ◌+◌, ◌-◌, ◌*�
 use Rattle.frame_store.specs.declared.Buffer.{Buffer}
 use Rattle.frame_store.specs.declared.Buffer.TheVariants.{Command, Status, Window}
 use Rattle.frame_store.specs.declared.Place.{Place}
-
--- The tags that have buffers are 1 to 248.
-abbrev pub tags : ℕ
-tags = 248
+use Rattle.uas_profile.specs.declared.TheConstants.{BUFFER_SPAN, COMMAND_BUFFERS, COMMAND_BYTES, STATUS_BUFFERS, STATUS_BYTES, STREAMS, WINDOWS, WINDOW_BYTES, WINDOW_SPAN}
 
 -- Where the buffers of a kind would begin for tag 0, how far those of two tags lie apart, and how many bytes each can have.
 -- By hand: tag 18 has its command buffer at 0x10001200, its status buffer at 0x20001200, its window at 0x100120000.
 abbrev pub base_of : Buffer → ℕ
-base_of Command = 0x10000000
-base_of Status = 0x20000000
-base_of Window = 0x100000000
+base_of Command = COMMAND_BUFFERS
+base_of Status = STATUS_BUFFERS
+base_of Window = WINDOWS
 
 abbrev pub stride_of : Buffer → ℕ
-stride_of Command = 0x100
-stride_of Status = 0x100
-stride_of Window = 0x10000
+stride_of Command = BUFFER_SPAN
+stride_of Status = BUFFER_SPAN
+stride_of Window = WINDOW_SPAN
 
 abbrev pub room_of : Buffer → ℕ
-room_of Command = 32
-room_of Status = 112
-room_of Window = 65536
+room_of Command = COMMAND_BYTES
+room_of Status = STATUS_BYTES
+room_of Window = WINDOW_BYTES
 
 -- A place is a byte that a tag's buffer can have.
 pub record IsPlace (place : Place) : Type 0 where
   pub first_tag : 1 ≤ place.tag
-  pub last_tag : place.tag ≤ tags
+  pub last_tag : place.tag ≤ STREAMS
   pub inside : place.offset < room_of place.buffer
 
 -- The address of a place.
@@ -38,14 +35,14 @@ address_of place = base_of place.buffer + stride_of place.buffer * place.tag + p
 -- The map read backwards, by arithmetic: the kind of buffer that an address can belong to, and its place there.
 abbrev pub buffer_at : ℕ → Buffer
 buffer_at address =
-    if nat_lt address 0x20000000 then Command else
-    if nat_lt address 0x100000000 then Status else Window
+    if nat_lt address STATUS_BUFFERS then Command else
+    if nat_lt address WINDOWS then Status else Window
 
 abbrev pub place_in : Buffer → ℕ → Place
 place_in buffer beyond = record { tag = beyond / stride_of buffer; buffer = buffer; offset = beyond % stride_of buffer }
 
 abbrev pub is_place : Place → Bool
-is_place place = nat_lt 0 place.tag && nat_le place.tag tags && nat_lt place.offset (room_of place.buffer)
+is_place place = nat_lt 0 place.tag && nat_le place.tag STREAMS && nat_lt place.offset (room_of place.buffer)
 
 abbrev pub checked_place : Buffer → ℕ → Option Place
 checked_place buffer address =

@@ -2,8 +2,9 @@
 ghost use Rattle.std.specs.Prelude.{◌≡◌, ◌≢◌, ◌+◌, ◌≤◌, length, take, drop, replicate, None, IfOk};
 ghost use Rattle.std.specs.Borrow.{sem};
 
-use crate::{Buffer, Bytes, COMMAND_BYTES, NoMemory, STATUS_BYTES, TagBuffers};
+use crate::{Buffer, Bytes, NoMemory, TagBuffers};
 use std::alloc::Global;
+use uas_profile::{COMMAND_BYTES, STATUS_BYTES};
 
 impl Bytes {
     ghost use Rattle.frame_store.specs.BytesLending.{LendsPart};

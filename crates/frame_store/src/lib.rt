@@ -1,7 +1,7 @@
 //! The memory that host and controller share: small buffers of each tag, and the clients' own vectors while they are lent.
 //!
 //! In xHCI a TRB names memory by a 64-bit address (sections 4.11 and 6.4.1.1). Here memory is a store of byte buffers, and the
-//! address map says which bytes an address names. Each tag from 1 to 248 has a command buffer of 32 bytes, which holds the
+//! address map says which bytes an address names. Each tag from 1 to 248 (`STREAMS`) has a command buffer of 32 bytes, which holds the
 //! unit that its command pipe TRB points to, and a status buffer of 112 bytes, for the unit that comes back. While a client's
 //! vector is lent for a tag, its bytes are that tag's data window.
 //!
@@ -30,28 +30,13 @@ mod places;
 use std::alloc::{AllocError, Global};
 use std::marker::Model;
 use thiserror::Error;
+use uas_profile::{COMMAND_BYTES, STATUS_BYTES, STREAMS, WINDOW_BYTES};
 
-/// A tag, from 1 to `TAGS`.
+/// A tag, from 1 to `STREAMS`.
 pub type Tag = u16;
 
 /// Want of memory.
 pub type NoMemory = AllocError;
-
-/// How many tags have buffers: 1 to this number.
-pub const TAGS: usize = 248;
-
-/// The bytes of a command buffer.
-pub const COMMAND_BYTES: usize = 32;
-
-/// The bytes of a status buffer.
-pub const STATUS_BYTES: usize = 112;
-
-/// The most bytes that a lent vector has.
-pub const WINDOW_BYTES: usize = 65_536;
-
-const _: () = prove!(TAGS == 248);
-
-const _: () = prove!(COMMAND_BYTES == 32 && STATUS_BYTES == 112 && WINDOW_BYTES == 65_536);
 
 /// Why the store refused a call.
 #[derive(Clone, Copy, Debug, Drop, Error, PartialEq, Eq)]
@@ -120,8 +105,8 @@ impl Frames {
     pub fn new(alloc: Global) -> Result<Frames, NoMemory>
         ensures { IfOk result (λ frames. frames ≡ opening) }
     {
-        let mut tags = Vec::with_capacity(alloc, TAGS)?;
-        for _ in 0..TAGS {
+        let mut tags = Vec::with_capacity(alloc, STREAMS as usize)?;
+        for _ in 0..STREAMS {
             tags.push(TagBuffers::new(alloc)?)?;
         }
         Ok(Frames { tags })
@@ -130,7 +115,7 @@ impl Frames {
     /// Takes in a client's vector, of at most 65,536 bytes, as the tag's window. `AlreadyLent` gives it back.
     pub fn lend(&mut self, tag: Tag, bytes: Vec<u8>) -> Result<(), (FrameFault, Vec<u8>)>
         requires first_tag { 1 ≤ tag }
-        requires last_tag { tag ≤ TAGS }
+        requires last_tag { tag ≤ STREAMS }
         requires fits { vec_len bytes ≤ WINDOW_BYTES }
         ensures already { IsErr result ↔ IsSome (held_for self.old tag).lent }
         ensures lent { OnOk result (self.new ≡ with_lent self.old tag (Some bytes.items)) }
@@ -148,7 +133,7 @@ impl Frames {
     /// Gives the lent vector back, or answers `NotLent` where the tag has none.
     pub fn take_back(&mut self, tag: Tag) -> Result<Vec<u8>, FrameFault>
         requires first_tag { 1 ≤ tag }
-        requires last_tag { tag ≤ TAGS }
+        requires last_tag { tag ≤ STREAMS }
         ensures back { IfOk result (λ bytes. (held_for self.old tag).lent ≡ Some bytes.items) }
         ensures taken { OnOk result (self.new ≡ with_lent self.old tag None) }
         ensures not_lent { IsErr result ↔ IsNone (held_for self.old tag).lent }
@@ -164,7 +149,7 @@ impl Frames {
     /// The 32 bytes of the tag's command buffer, to be written.
     pub fn iu(&mut self, tag: Tag) -> &mut [u8]
         requires first_tag { 1 ≤ tag }
-        requires last_tag { tag ≤ TAGS }
+        requires last_tag { tag ≤ STREAMS }
         ensures* writes_back { sem 𝓛 (LendsFrom self.entry (front_of Buffer.Command tag) result) }
         ensures value { result.now ≡ (held_for self.old tag).command }
         ensures len { length result.now ≡ COMMAND_BYTES }
@@ -176,7 +161,7 @@ impl Frames {
     /// The 112 bytes of the tag's status buffer.
     pub fn status(&self, tag: Tag) -> &[u8]
         requires first_tag { 1 ≤ tag }
-        requires last_tag { tag ≤ TAGS }
+        requires last_tag { tag ≤ STREAMS }
         ensures value { result.now ≡ (held_for self.now tag).status }
         ensures len { length result.now ≡ STATUS_BYTES }
     {
@@ -263,6 +248,3 @@ impl Model for Frames {
 
     ghost invariant = { λ f. IsWhole f.tags.items };
 }
-
-#[cfg(test)]
-mod tests;

@@ -1,25 +1,11 @@
 // The address map: where a byte stands, and which byte an address belongs to.
 ghost use Rattle.std.specs.Prelude.{◌≡◌, ◌<◌, ◌≤◌, ◌↔◌, Some};
-ghost use Rattle.frame_store.specs.declared.TheConstants.{TAGS};
 
-use crate::{Buffer, COMMAND_BYTES, Place, STATUS_BYTES, TAGS, Tag, WINDOW_BYTES};
-
-// Where the buffers of tag 0 would begin, and how far those of two tags lie apart.
-const COMMAND_BASE: u64 = 0x1000_0000;
-
-const STATUS_BASE: u64 = 0x2000_0000;
-
-const WINDOW_BASE: u64 = 0x1_0000_0000;
-
-const BUFFER_STRIDE: u64 = 0x100;
-
-const WINDOW_STRIDE: u64 = 0x1_0000;
-
-const _: () = prove!(COMMAND_BASE == 0x1000_0000 && STATUS_BASE == 0x2000_0000);
-
-const _: () = prove!(WINDOW_BASE == 0x1_0000_0000);
-
-const _: () = prove!(BUFFER_STRIDE == 0x100 && WINDOW_STRIDE == 0x1_0000);
+use crate::{Buffer, Place, Tag};
+use uas_profile::{
+    BUFFER_SPAN, COMMAND_BUFFERS, COMMAND_BYTES, STATUS_BUFFERS, STATUS_BYTES, STREAMS,
+    WINDOW_BYTES, WINDOW_SPAN, WINDOWS,
+};
 
 impl Buffer {
     ghost use Rattle.frame_store.specs.Places.{base_of, stride_of, room_of, buffer_at};
@@ -28,9 +14,9 @@ impl Buffer {
         ensures { result ≡ base_of self }
     {
         match self {
-            Buffer::Command => COMMAND_BASE,
-            Buffer::Status => STATUS_BASE,
-            Buffer::Window => WINDOW_BASE,
+            Buffer::Command => COMMAND_BUFFERS,
+            Buffer::Status => STATUS_BUFFERS,
+            Buffer::Window => WINDOWS,
         }
     }
 
@@ -39,8 +25,8 @@ impl Buffer {
         ensures positive { 0 < result }
     {
         match self {
-            Buffer::Command | Buffer::Status => BUFFER_STRIDE,
-            Buffer::Window => WINDOW_STRIDE,
+            Buffer::Command | Buffer::Status => BUFFER_SPAN,
+            Buffer::Window => WINDOW_SPAN,
         }
     }
 
@@ -57,9 +43,9 @@ impl Buffer {
     fn at(address: u64) -> Buffer
         ensures { result ≡ buffer_at address }
     {
-        if address < STATUS_BASE {
+        if address < STATUS_BUFFERS {
             Buffer::Command
-        } else if address < WINDOW_BASE {
+        } else if address < WINDOWS {
             Buffer::Status
         } else {
             Buffer::Window
@@ -96,7 +82,7 @@ impl Place {
         let beyond = address.checked_sub(buffer.base())?;
         let tag = beyond / buffer.stride();
         let offset = (beyond % buffer.stride()) as usize;
-        if 0 < tag && tag <= TAGS as u64 && offset < buffer.room() {
+        if 0 < tag && tag <= STREAMS as u64 && offset < buffer.room() {
             Some(Place {
                 tag: tag as Tag,
                 buffer,
@@ -111,7 +97,7 @@ impl Place {
     pub(crate) fn start(address: u64, len: usize) -> Place
         ensures value { result ≡ start_of address len }
         ensures first_tag { 1 ≤ result.tag }
-        ensures last_tag { result.tag ≤ TAGS }
+        ensures last_tag { result.tag ≤ STREAMS }
     {
         if len == 0 {
             return Place::FIRST;

@@ -21,9 +21,6 @@ ghost use Rattle.marks.specs.Marks.{is_marked};
 
 use std::marker::Model;
 
-#[cfg(test)]
-mod tests;
-
 /// The bits of a word.
 const BITS: usize = 64;
 

@@ -1,6 +1,7 @@
--- The data that INQUIRY and READ CAPACITY(10) give (SPC, standard INQUIRY data; SBC, READ CAPACITY (10) data).
+-- The data that INQUIRY and READ CAPACITY give (SPC, standard INQUIRY data; SBC, READ CAPACITY (10) and (16) data).
 use Rattle.std.specs.Prelude.{ℕ, ◌-◌, Bool, true, false, List, [], ◌∷◌, ◌++◌, codes}
-use Rattle.scsi_cmd.specs.Fields.{four_bytes}
+use Rattle.scsi_cmd.specs.Fields.{four_bytes, eight_bytes, zeros}
+use Rattle.uas_profile.specs.declared.TheConstants.{BLOCK_BYTES}
 
 -- peripheral qualifier and device type: a disk, or no unit here
 abbrev pub peripheral_byte : Bool → ℕ
@@ -15,4 +16,9 @@ inquiry_bytes present =
 
 -- The last block's number, then the bytes of a block. Checked by hand: 100 blocks are 00 00 00 63 00 00 02 00.
 abbrev pub capacity_bytes : ℕ → List ℕ
-capacity_bytes blocks = four_bytes (blocks - 1) ++ four_bytes 512
+capacity_bytes blocks = four_bytes (blocks - 1) ++ four_bytes BLOCK_BYTES
+
+-- The 32 bytes of the long data: the last block's number in eight, then the bytes of a block, then zeros. Checked by hand:
+-- 100 blocks are 00 00 00 00 00 00 00 63 00 00 02 00 and twenty zeros.
+abbrev pub long_capacity_bytes : ℕ → List ℕ
+long_capacity_bytes blocks = eight_bytes (blocks - 1) ++ four_bytes BLOCK_BYTES ++ zeros 20

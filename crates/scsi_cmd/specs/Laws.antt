@@ -7,16 +7,16 @@ use Rattle.std.proofs.lemmas.Bool.{eqb-true, ne_eqb, ltb-false}
 use Rattle.std.proofs.lemmas.List.{get_or_default, take-append-drop, drop-drop}
 use Rattle.std.proofs.Math.Seq.{take-length}
 use Rattle.scsi_cmd.specs.declared.Command.{Command}
-use Rattle.scsi_cmd.specs.declared.Direction.{Direction}
-use Rattle.scsi_cmd.specs.declared.Direction.TheVariants.{Nothing, ToHost}
+use Rattle.uas_profile.specs.declared.Direction.{Direction}
+use Rattle.uas_profile.specs.declared.Direction.TheVariants.{Nothing, ToHost}
 use Rattle.scsi_cmd.specs.declared.Op.{Op}
-use Rattle.scsi_cmd.specs.declared.Op.TheVariants.{TestUnitReady, Inquiry, ReadCapacity, Read, Write, Sync}
+use Rattle.scsi_cmd.specs.declared.Op.TheVariants.{TestUnitReady, Inquiry, ReadCapacity, Read, Write, Sync, Read16, Write16, ReadCapacity16}
 use Rattle.scsi_cmd.specs.declared.Sense.{Sense}
 use Rattle.scsi_cmd.specs.declared.Work.{Work}
 use Rattle.scsi_cmd.specs.declared.SubmitFault.{SubmitFault}
 use Rattle.scsi_cmd.specs.declared.SubmitFault.TheVariants.{BadLength, TooLong, OutOfTurn}
 use Rattle.scsi_cmd.specs.Buffers.{with_bytes_at, written_at}
-use Rattle.scsi_cmd.specs.Data.{inquiry_bytes}
+use Rattle.scsi_cmd.specs.Data.{inquiry_bytes, long_capacity_bytes}
 use Rattle.scsi_cmd.specs.Fields.{field_of_two}
 use Rattle.scsi_cmd.specs.Held.{AllHeld, held_at}
 use Rattle.scsi_cmd.specs.Meaning.{asked, checked, has_invalid_field, named_op, op_fault, range_fault}
@@ -24,7 +24,8 @@ use Rattle.scsi_cmd.specs.Op.{cdb_bytes, direction_of, moved_bytes, way_of}
 use Rattle.scsi_cmd.specs.Sense.{invalid_field_in_cdb, invalid_operation_code, out_of_range, unit_not_supported}
 use Rattle.scsi_cmd.specs.Submission.{first_submit_fault, is_too_long}
 use Rattle.scsi_cmd.specs.Work.{IsGivenAtOnce, IsWorkOn, asked_without_unit, cdb_reports_attention, giving, inquiry_front}
-use Rattle.scsi_cmd.specs.Work.{reports_attention, work_bytes, work_direction, work_of, work_without_unit}
+use Rattle.scsi_cmd.specs.Work.{long_capacity_front, reports_attention, work_bytes, work_direction, work_of, work_without_unit}
+use Rattle.uas_profile.specs.declared.TheConstants.{MOST_BLOCKS_MOVED, WINDOW_BYTES}
 
 -- PLACES THAT HOLD SOMETHING OR NOTHING
 
@@ -122,6 +123,10 @@ two_bytes-read n = omega arith
 halves-read : (n : ℕ) → 2 ^ 16 * (n / 2 ^ 16) + n % 2 ^ 16 ≡ n
 halves-read n = omega arith
 
+-- and those of a field of eight bytes
+long_halves-read : (n : ℕ) → 2 ^ 32 * (n / 2 ^ 32) + n % 2 ^ 32 ≡ n
+long_halves-read n = omega arith
+
 -- the CDB of an operation asks for that operation
 pub asked-cdb_bytes : (op : Op) (blocks : ℕ) → asked (cdb_bytes op) blocks ≡ checked op blocks
 unfolding asked cdb_bytes
@@ -133,6 +138,11 @@ asked-cdb_bytes (Read lba count false) blocks = simp (two_bytes-read, halves-rea
 asked-cdb_bytes (Write lba count true) blocks = simp (two_bytes-read, halves-read)
 asked-cdb_bytes (Write lba count false) blocks = simp (two_bytes-read, halves-read)
 asked-cdb_bytes (Sync lba count) blocks = simp (two_bytes-read, halves-read)
+asked-cdb_bytes (Read16 lba count true) blocks = simp (two_bytes-read, halves-read, long_halves-read)
+asked-cdb_bytes (Read16 lba count false) blocks = simp (two_bytes-read, halves-read, long_halves-read)
+asked-cdb_bytes (Write16 lba count true) blocks = simp (two_bytes-read, halves-read, long_halves-read)
+asked-cdb_bytes (Write16 lba count false) blocks = simp (two_bytes-read, halves-read, long_halves-read)
+asked-cdb_bytes (ReadCapacity16 allocation) blocks = simp (two_bytes-read, halves-read)
 
 -- a CDB has 16 bytes, and reports an attention where its operation does
 cdb_bytes-facts : (op : Op) → (length (cdb_bytes op) ≡ 16) × (cdb_reports_attention (cdb_bytes op) ≡ reports_attention op)
@@ -143,6 +153,9 @@ cdb_bytes-facts ReadCapacity = (refl, refl)
 cdb_bytes-facts (Read lba count fua) = (refl, refl)
 cdb_bytes-facts (Write lba count fua) = (refl, refl)
 cdb_bytes-facts (Sync lba count) = (refl, refl)
+cdb_bytes-facts (Read16 lba count fua) = (refl, refl)
+cdb_bytes-facts (Write16 lba count fua) = (refl, refl)
+cdb_bytes-facts (ReadCapacity16 allocation) = (refl, refl)
 
 pub length-cdb_bytes : (op : Op) → length (cdb_bytes op) ≡ 16
 length-cdb_bytes op = (cdb_bytes-facts op).0
@@ -198,6 +211,11 @@ length-front : (present : Bool) (allocation : ℕ) → length (take (min allocat
 length-front present allocation =
     length-take-le (min allocation 36) (inquiry_bytes present) (omega (arith, length-inquiry_bytes present))
 
+length-long_capacity_front : (blocks allocation : ℕ) → length (long_capacity_front blocks allocation) ≡ min allocation 32
+length-long_capacity_front blocks allocation =
+    let all : length (long_capacity_bytes blocks) ≡ 32 = refl in
+    length-take-le (min allocation 32) (long_capacity_bytes blocks) (omega (arith, all))
+
 -- a work moves the bytes of its operation
 pub work_bytes-work_of : (op : Op) (blocks : ℕ) → work_bytes (work_of op blocks) ≡ moved_bytes op
 work_bytes-work_of TestUnitReady blocks = refl
@@ -206,6 +224,9 @@ work_bytes-work_of ReadCapacity blocks = refl
 work_bytes-work_of (Read lba count fua) blocks = refl
 work_bytes-work_of (Write lba count fua) blocks = refl
 work_bytes-work_of (Sync lba count) blocks = refl
+work_bytes-work_of (Read16 lba count fua) blocks = refl
+work_bytes-work_of (Write16 lba count fua) blocks = refl
+work_bytes-work_of (ReadCapacity16 allocation) blocks = length-long_capacity_front blocks allocation
 
 pub work_direction-work_of : (op : Op) (blocks : ℕ) → work_direction (work_of op blocks) ≡ way_of op
 work_direction-work_of TestUnitReady blocks = refl
@@ -214,6 +235,9 @@ work_direction-work_of ReadCapacity blocks = refl
 work_direction-work_of (Read lba count fua) blocks = refl
 work_direction-work_of (Write lba count fua) blocks = refl
 work_direction-work_of (Sync lba count) blocks = refl
+work_direction-work_of (Read16 lba count fua) blocks = refl
+work_direction-work_of (Write16 lba count fua) blocks = refl
+work_direction-work_of (ReadCapacity16 allocation) blocks = refl
 
 -- an operation that moves bytes moves them its way
 pub direction_of-some : (op : Op) → 0 < moved_bytes op → direction_of op ≡ way_of op
@@ -222,6 +246,21 @@ direction_of-some op some = ap (λ b. cond {A = Direction} b Nothing (way_of op)
 -- and has the direction of its work
 pub direction_of-work : (op : Op) (blocks : ℕ) → 0 < moved_bytes op → direction_of op ≡ work_direction (work_of op blocks)
 direction_of-work op blocks some = direction_of-some op some ∙ sym (work_direction-work_of op blocks)
+
+some_way : (op : Op) → 0 < moved_bytes op → way_of op ≡ Nothing → ⊥
+some_way TestUnitReady some none = absurd (omega (arith, some))
+some_way (Inquiry allocation) some none = cc
+some_way ReadCapacity some none = cc
+some_way (Read lba count fua) some none = cc
+some_way (Write lba count fua) some none = cc
+some_way (Sync lba count) some none = absurd (omega (arith, some))
+some_way (Read16 lba count fua) some none = cc
+some_way (Write16 lba count fua) some none = cc
+some_way (ReadCapacity16 allocation) some none = cc
+
+-- bytes that move go one way or the other
+pub direction_of-goes : (op : Op) → 0 < moved_bytes op → direction_of op ≡ Nothing → ⊥
+direction_of-goes op some none = some_way op some (sym (direction_of-some op some) ∙ none)
 
 range_within : (lba count blocks : ℕ) → range_fault lba count blocks ≡ None → lba + count ≤ blocks
 range_within lba count blocks none =
@@ -234,13 +273,13 @@ range_within lba count blocks none =
           ] refl
     ] none
 
-transfer_within : (lba count blocks : ℕ) → cond (nat_lt 128 count) (Some invalid_field_in_cdb) (range_fault lba count blocks) ≡ None →
-    (count ≤ 128) × (range_fault lba count blocks ≡ None)
+transfer_within : (lba count blocks : ℕ) → cond (nat_lt MOST_BLOCKS_MOVED count) (Some invalid_field_in_cdb) (range_fault lba count blocks) ≡ None →
+    (count ≤ MOST_BLOCKS_MOVED) × (range_fault lba count blocks ≡ None)
 transfer_within lba count blocks =
-    elim (nat_lt 128 count) as (λ b. nat_lt 128 count ≡ b → cond {A = Option Sense} b (Some invalid_field_in_cdb) (range_fault lba count blocks) ≡ None →
-    (count ≤ 128) × (range_fault lba count blocks ≡ None)) [
+    elim (nat_lt MOST_BLOCKS_MOVED count) as (λ b. nat_lt MOST_BLOCKS_MOVED count ≡ b → cond {A = Option Sense} b (Some invalid_field_in_cdb) (range_fault lba count blocks) ≡ None →
+    (count ≤ MOST_BLOCKS_MOVED) × (range_fault lba count blocks ≡ None)) [
       | true ↦ λ many is. let no : ◌≡◌ {A = Option Sense} (Some invalid_field_in_cdb) None = is in let it : ⊥ = cc in absurd it
-      | false ↦ λ few is. (ltb-false 128 count few, is)
+      | false ↦ λ few is. (ltb-false MOST_BLOCKS_MOVED count few, is)
     ] refl
 
 pub IsGivenAtOnce-work_of : (op : Op) (blocks : ℕ) → IsGivenAtOnce (work_of op blocks)
@@ -250,6 +289,9 @@ IsGivenAtOnce-work_of ReadCapacity blocks = omega arith
 IsGivenAtOnce-work_of (Read lba count fua) blocks = tt
 IsGivenAtOnce-work_of (Write lba count fua) blocks = tt
 IsGivenAtOnce-work_of (Sync lba count) blocks = tt
+IsGivenAtOnce-work_of (Read16 lba count fua) blocks = tt
+IsGivenAtOnce-work_of (Write16 lba count fua) blocks = tt
+IsGivenAtOnce-work_of (ReadCapacity16 allocation) blocks = omega (arith, length-long_capacity_front blocks allocation)
 
 -- the blocks of an operation without a fault are there
 pub IsWorkOn-work_of : (op : Op) (blocks : ℕ) → op_fault op blocks ≡ None → IsWorkOn blocks (work_of op blocks)
@@ -259,15 +301,33 @@ IsWorkOn-work_of ReadCapacity blocks none = tt
 IsWorkOn-work_of (Read lba count fua) blocks none = range_within lba count blocks (transfer_within lba count blocks none).1
 IsWorkOn-work_of (Write lba count fua) blocks none = range_within lba count blocks (transfer_within lba count blocks none).1
 IsWorkOn-work_of (Sync lba count) blocks none = range_within lba count blocks none
+IsWorkOn-work_of (Read16 lba count fua) blocks none = range_within lba count blocks (transfer_within lba count blocks none).1
+IsWorkOn-work_of (Write16 lba count fua) blocks none = range_within lba count blocks (transfer_within lba count blocks none).1
+IsWorkOn-work_of (ReadCapacity16 allocation) blocks none = tt
 
 -- an operation without a fault moves at most the bytes of 128 blocks
-pub moved_most : (op : Op) (blocks : ℕ) → op_fault op blocks ≡ None → moved_bytes op ≤ 65536
+pub moved_most : (op : Op) (blocks : ℕ) → op_fault op blocks ≡ None → moved_bytes op ≤ WINDOW_BYTES
 moved_most TestUnitReady blocks none = omega arith
 moved_most (Inquiry allocation) blocks none = omega arith
 moved_most ReadCapacity blocks none = omega arith
 moved_most (Read lba count fua) blocks none = let most = (transfer_within lba count blocks none).0 in omega arith
 moved_most (Write lba count fua) blocks none = let most = (transfer_within lba count blocks none).0 in omega arith
 moved_most (Sync lba count) blocks none = omega arith
+moved_most (Read16 lba count fua) blocks none = let most = (transfer_within lba count blocks none).0 in omega arith
+moved_most (Write16 lba count fua) blocks none = let most = (transfer_within lba count blocks none).0 in omega arith
+moved_most (ReadCapacity16 allocation) blocks none = omega arith
+
+-- and so does one that isn't too long
+pub moved-short : (op : Op) → is_too_long op ≡ false → moved_bytes op ≤ WINDOW_BYTES
+moved-short TestUnitReady short = omega arith
+moved-short (Inquiry allocation) short = omega arith
+moved-short ReadCapacity short = omega arith
+moved-short (Read lba count fua) short = omega (arith, ltb-false MOST_BLOCKS_MOVED count short)
+moved-short (Write lba count fua) short = omega (arith, ltb-false MOST_BLOCKS_MOVED count short)
+moved-short (Sync lba count) short = omega arith
+moved-short (Read16 lba count fua) short = omega (arith, ltb-false MOST_BLOCKS_MOVED count short)
+moved-short (Write16 lba count fua) short = omega (arith, ltb-false MOST_BLOCKS_MOVED count short)
+moved-short (ReadCapacity16 allocation) short = omega arith
 
 -- A UNIT THAT ISN'T THERE
 
@@ -307,6 +367,9 @@ work_bytes-work_without_unit ReadCapacity work is = let no : ◌≡◌ {A = Resu
 work_bytes-work_without_unit (Read lba count fua) work is = let no : ◌≡◌ {A = Result Work Sense} (Err unit_not_supported) (Ok work) = is in cc
 work_bytes-work_without_unit (Write lba count fua) work is = let no : ◌≡◌ {A = Result Work Sense} (Err unit_not_supported) (Ok work) = is in cc
 work_bytes-work_without_unit (Sync lba count) work is = let no : ◌≡◌ {A = Result Work Sense} (Err unit_not_supported) (Ok work) = is in cc
+work_bytes-work_without_unit (Read16 lba count fua) work is = let no : ◌≡◌ {A = Result Work Sense} (Err unit_not_supported) (Ok work) = is in cc
+work_bytes-work_without_unit (Write16 lba count fua) work is = let no : ◌≡◌ {A = Result Work Sense} (Err unit_not_supported) (Ok work) = is in cc
+work_bytes-work_without_unit (ReadCapacity16 allocation) work is = let no : ◌≡◌ {A = Result Work Sense} (Err unit_not_supported) (Ok work) = is in cc
 
 pub way_of-work_without_unit : (op : Op) → IsOk (work_without_unit op) → way_of op ≡ ToHost
 way_of-work_without_unit TestUnitReady is = let no : false ≡ true = is in let it : ⊥ = cc in absurd it
@@ -315,3 +378,6 @@ way_of-work_without_unit ReadCapacity is = let no : false ≡ true = is in let i
 way_of-work_without_unit (Read lba count fua) is = let no : false ≡ true = is in let it : ⊥ = cc in absurd it
 way_of-work_without_unit (Write lba count fua) is = let no : false ≡ true = is in let it : ⊥ = cc in absurd it
 way_of-work_without_unit (Sync lba count) is = let no : false ≡ true = is in let it : ⊥ = cc in absurd it
+way_of-work_without_unit (Read16 lba count fua) is = let no : false ≡ true = is in let it : ⊥ = cc in absurd it
+way_of-work_without_unit (Write16 lba count fua) is = let no : false ≡ true = is in let it : ⊥ = cc in absurd it
+way_of-work_without_unit (ReadCapacity16 allocation) is = let no : false ≡ true = is in let it : ⊥ = cc in absurd it

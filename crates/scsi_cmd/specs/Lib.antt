@@ -10,5 +10,6 @@ pub mod Faults
 pub mod Held
 pub mod Request
 pub mod Replies
+pub mod Copies
 pub mod Submission
 pub mod Laws

@@ -1,7 +1,7 @@
 -- What a request asks of the pipes.
 use Rattle.std.specs.Prelude.{Bool, true, false}
-use Rattle.scsi_cmd.specs.declared.Direction.{Direction}
-use Rattle.scsi_cmd.specs.declared.Direction.TheVariants.{Nothing}
+use Rattle.uas_profile.specs.declared.Direction.{Direction}
+use Rattle.uas_profile.specs.declared.Direction.TheVariants.{Nothing}
 use Rattle.scsi_cmd.specs.declared.Request.{Request}
 use Rattle.scsi_cmd.specs.declared.Request.TheVariants.{Execute, Manage}
 use Rattle.scsi_cmd.specs.Op.{direction_of}

@@ -1,20 +1,24 @@
 -- What makes a submission faulty, before anything of it reaches a device.
 use Rattle.std.specs.Prelude.{ℕ, ◌==◌, nat_lt, Bool, false, not, if◌then◌else◌, length, Option, Some, None}
 use Rattle.scsi_cmd.specs.declared.Op.{Op}
-use Rattle.scsi_cmd.specs.declared.Op.TheVariants.{TestUnitReady, Inquiry, ReadCapacity, Read, Write, Sync}
+use Rattle.scsi_cmd.specs.declared.Op.TheVariants.{TestUnitReady, Inquiry, ReadCapacity, Read, Write, Sync, Read16, Write16, ReadCapacity16}
 use Rattle.scsi_cmd.specs.declared.Command.{Command}
 use Rattle.scsi_cmd.specs.declared.SubmitFault.{SubmitFault}
 use Rattle.scsi_cmd.specs.declared.SubmitFault.TheVariants.{NotYours, InUse, BadLength, TooLong, OutOfTurn, NoSuchTask}
 use Rattle.scsi_cmd.specs.Op.{moved_bytes}
+use Rattle.uas_profile.specs.declared.TheConstants.{MOST_BLOCKS_MOVED}
 
 -- READ and WRITE have at most 128 blocks, so 129 are too long; no other command is, SYNCHRONIZE CACHE of 65,535 blocks neither
 abbrev pub is_too_long : Op → Bool
 is_too_long TestUnitReady = false
 is_too_long (Inquiry allocation) = false
 is_too_long ReadCapacity = false
-is_too_long (Read lba count fua) = nat_lt 128 count
-is_too_long (Write lba count fua) = nat_lt 128 count
+is_too_long (Read lba count fua) = nat_lt MOST_BLOCKS_MOVED count
+is_too_long (Write lba count fua) = nat_lt MOST_BLOCKS_MOVED count
 is_too_long (Sync lba count) = false
+is_too_long (Read16 lba count fua) = nat_lt MOST_BLOCKS_MOVED count
+is_too_long (Write16 lba count fua) = nat_lt MOST_BLOCKS_MOVED count
+is_too_long (ReadCapacity16 allocation) = false
 
 -- The first fault of a submission, or none. It reads only whether the tag is a command tag of the client, what the
 -- client has under it, and the client's least ticket. Checked by hand: one block with 511 bytes is BadLength, and 129

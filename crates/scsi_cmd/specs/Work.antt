@@ -1,15 +1,16 @@
 -- What an operation does to a logical unit, whichever command asks for it. The layers above go by this and not by the command.
 use Rattle.std.specs.Prelude.{ℕ, ◌+◌, ◌*◌, ◌≤◌, ◌==◌, Bool, true, false, not, if◌then◌else◌, min, List, length, take, slice_index, Result, Ok, Err}
-use Rattle.scsi_cmd.specs.declared.Direction.{Direction}
-use Rattle.scsi_cmd.specs.declared.Direction.TheVariants.{Nothing as NoWay, ToHost, ToDevice}
+use Rattle.uas_profile.specs.declared.Direction.{Direction}
+use Rattle.uas_profile.specs.declared.Direction.TheVariants.{Nothing as NoWay, ToHost, ToDevice}
 use Rattle.scsi_cmd.specs.declared.Op.{Op}
-use Rattle.scsi_cmd.specs.declared.Op.TheVariants.{TestUnitReady, Inquiry, ReadCapacity, Read, Write, Sync}
+use Rattle.scsi_cmd.specs.declared.Op.TheVariants.{TestUnitReady, Inquiry, ReadCapacity, Read, Write, Sync, Read16, Write16, ReadCapacity16}
 use Rattle.scsi_cmd.specs.declared.Sense.{Sense}
 use Rattle.scsi_cmd.specs.declared.Work.{Work}
 use Rattle.scsi_cmd.specs.declared.Work.TheVariants.{Nothing, Gives, Reads, Writes, Synchronizes}
-use Rattle.scsi_cmd.specs.Data.{inquiry_bytes, capacity_bytes}
+use Rattle.scsi_cmd.specs.Data.{inquiry_bytes, capacity_bytes, long_capacity_bytes}
 use Rattle.scsi_cmd.specs.Meaning.{asked, checked}
 use Rattle.scsi_cmd.specs.Sense.{unit_not_supported}
+use Rattle.uas_profile.specs.declared.TheConstants.{BLOCK_BYTES}
 
 -- THE WORK OF AN OPERATION
 
@@ -21,6 +22,10 @@ giving bytes = Gives (record { items = bytes })
 abbrev pub inquiry_front : Bool → ℕ → List ℕ
 inquiry_front present allocation = take (min allocation 36) (inquiry_bytes present)
 
+-- the front of the long READ CAPACITY data: with allocation 12 its first 12 bytes, with 255 all 32
+abbrev pub long_capacity_front : ℕ → ℕ → List ℕ
+long_capacity_front blocks allocation = take (min allocation 32) (long_capacity_bytes blocks)
+
 -- on a unit of so many blocks
 abbrev pub work_of : Op → ℕ → Work
 work_of TestUnitReady blocks = Nothing
@@ -29,6 +34,9 @@ work_of ReadCapacity blocks = giving (capacity_bytes blocks)
 work_of (Read lba count fua) blocks = Reads lba count
 work_of (Write lba count fua) blocks = Writes lba count fua
 work_of (Sync lba count) blocks = Synchronizes lba count
+work_of (Read16 lba count fua) blocks = Reads lba count
+work_of (Write16 lba count fua) blocks = Writes lba count fua
+work_of (ReadCapacity16 allocation) blocks = giving (long_capacity_front blocks allocation)
 
 -- where no unit is, INQUIRY tells so in its data; nothing else is done
 abbrev pub work_without_unit : Op → Result Work Sense
@@ -38,6 +46,9 @@ work_without_unit ReadCapacity = Err unit_not_supported
 work_without_unit (Read lba count fua) = Err unit_not_supported
 work_without_unit (Write lba count fua) = Err unit_not_supported
 work_without_unit (Sync lba count) = Err unit_not_supported
+work_without_unit (Read16 lba count fua) = Err unit_not_supported
+work_without_unit (Write16 lba count fua) = Err unit_not_supported
+work_without_unit (ReadCapacity16 allocation) = Err unit_not_supported
 
 -- the work of what is asked, or its fault
 abbrev pub work_asked : ℕ → Result Op Sense → Result Work Sense
@@ -77,8 +88,8 @@ reports_attention other = true
 abbrev pub work_bytes : Work → ℕ
 work_bytes Nothing = 0
 work_bytes (Gives bytes) = length bytes.items
-work_bytes (Reads lba count) = 512 * count
-work_bytes (Writes lba count through) = 512 * count
+work_bytes (Reads lba count) = BLOCK_BYTES * count
+work_bytes (Writes lba count through) = BLOCK_BYTES * count
 work_bytes (Synchronizes lba count) = 0
 
 -- and which way

@@ -1,17 +1,19 @@
 //! SCSI commands as a host and a device speak of them: what a CDB asks of a disk, the sense that answers a
 //! faulty one, and the requests and replies that the layers above share.
 //!
-//! The six commands are TEST UNIT READY and INQUIRY (SPC), and READ CAPACITY(10), READ(10), WRITE(10) and
+//! The nine commands are TEST UNIT READY and INQUIRY (SPC), and READ CAPACITY, READ and WRITE of 10 and of 16 bytes and
 //! SYNCHRONIZE CACHE(10) (SBC). All fields of CDBs, of sense and of data are big endian.
 //!
 //! It promises what any 16 bytes ask of a unit of so many blocks, an operation or the sense that tells the
 //! first fault, and that the CDB of an operation asks for that operation. The faults are tested in this order:
 //!
-//! 1. an operation code that is none of the six;
-//! 2. EVPD or a page on INQUIRY, a protect field that isn't 0 on READ or WRITE, more than 128 blocks for either;
+//! 1. an operation code that is none of theirs;
+//! 2. EVPD or a page on INQUIRY, a protect field that isn't 0 on READ or WRITE, more than 128 (`MOST_BLOCKS_MOVED`) blocks for
+//!    either, another service action than that of READ CAPACITY(16);
 //! 3. a first block that isn't on the unit, for a count of 0 too, or blocks behind the last one.
 //!
-//! DPO, the immediate bit of SYNCHRONIZE CACHE and every bit without a field are ignored.
+//! DPO, the immediate bit of SYNCHRONIZE CACHE and every bit without a field are ignored. READ and WRITE ask for the same
+//! work by 16 bytes as by 10.
 //!
 //! It stands on `arrayvec` for a reply's sense, on `byteorder` and on `thiserror`. Only `Buffer::try_clone`
 //! takes memory.
@@ -26,37 +28,26 @@ ghost use Rattle.scsi_cmd.specs.Faults.{fault_number};
 ghost use Rattle.scsi_cmd.specs.Replies.{reply_tag, reply_ticket};
 
 mod cdbs;
+mod copies;
 mod data;
+mod laws;
 mod submission;
 mod works;
 
 use arrayvec::ArrayVec;
 pub use cdbs::{cdb, moves, parse};
-pub use data::{capacity_data, inquiry_data};
+pub use data::{capacity_data, inquiry_data, long_capacity_data};
+pub use laws::{long_reads_are_reads, long_writes_are_writes};
 use std::alloc::{AllocError, Global};
 use std::marker::Model;
 pub use submission::{submit_fault, task_fault};
 use thiserror::Error;
+pub use uas_profile::Direction;
+use uas_profile::{BLOCK_BYTES, MOST_BLOCKS_MOVED, TASK_SLOT};
 pub use works::{
     cdb_reports_attention, checked_work, parse_without_unit, reports_attention, work_of,
     work_without_unit,
 };
-
-/// Bytes of a block.
-pub const BLOCK_BYTES: usize = 512;
-
-/// The most blocks of one READ or WRITE (65,536 bytes).
-pub const MOST_BLOCKS_MOVED: u16 = 128;
-
-const _: () = prove!(BLOCK_BYTES == 512 && MOST_BLOCKS_MOVED == 128);
-
-/// Tags of a client.
-pub const TAGS: usize = 8;
-
-/// The slot (index less 1) of the tag for task management; those below it are for commands.
-pub const TASK_SLOT: usize = 7;
-
-const _: () = prove!(TAGS == 8 && TASK_SLOT == 7);
 
 /// The status GOOD (SAM).
 pub const GOOD: u8 = 0x00;
@@ -81,17 +72,12 @@ pub enum Op {
     Write { lba: u32, count: u16, fua: bool },
     /// SYNCHRONIZE CACHE(10) (SBC): `count` blocks from `lba` on, or all from there for 0.
     Sync { lba: u32, count: u16 },
-}
-
-/// Which way an operation moves data.
-#[derive(Clone, Copy, Debug, PartialEq, Eq)]
-pub enum Direction {
-    /// No data.
-    Nothing,
-    /// From the device to the host.
-    ToHost,
-    /// From the host to the device.
-    ToDevice,
+    /// READ(16) (SBC): `count` blocks from `lba` on.
+    Read16 { lba: u64, count: u32, fua: bool },
+    /// WRITE(16) (SBC): `count` blocks from `lba` on; with `fua` to the medium too.
+    Write16 { lba: u64, count: u32, fua: bool },
+    /// READ CAPACITY(16) (SBC): its data, at most `allocation` bytes of it.
+    ReadCapacity16 { allocation: u32 },
 }
 
 /// What an operation does to a logical unit, whichever command asks for it.
@@ -102,9 +88,9 @@ pub enum Work {
     /// It gives these bytes, all at once.
     Gives(ArrayVec<u8, INQUIRY_BYTES>),
     /// It gives `count` blocks from `lba` on.
-    Reads { lba: u32, count: u16 },
+    Reads { lba: u64, count: u32 },
     /// It takes `count` blocks from `lba` on, and where it goes `through` the medium takes them too.
-    Writes { lba: u32, count: u16, through: bool },
+    Writes { lba: u64, count: u32, through: bool },
     /// It brings `count` blocks from `lba` on to the medium, or all from there for 0.
     Synchronizes { lba: u32, count: u16 },
 }
@@ -120,7 +106,7 @@ impl Work {
             Work::Nothing | Work::Synchronizes { .. } => 0,
             Work::Gives(bytes) => bytes.len(),
             Work::Reads { count, .. } | Work::Writes { count, .. } => {
-                BLOCK_BYTES * usize::from(*count)
+                BLOCK_BYTES * *count as usize
             }
         }
     }
@@ -148,6 +134,9 @@ pub struct Sense {
 /// Bytes of the standard INQUIRY data (SPC).
 pub const INQUIRY_BYTES: usize = 36;
 
+/// Bytes of the READ CAPACITY(16) data (SBC).
+pub const LONG_CAPACITY_BYTES: usize = 32;
+
 /// Bytes of sense data in the fixed format (SPC).
 pub const SENSE_BYTES: usize = 18;
 
@@ -168,7 +157,7 @@ macro_rules! sense {
 }
 
 impl Sense {
-    /// The operation code is none of the six.
+    /// The operation code is none of the nine.
     pub const INVALID_OPERATION_CODE: Sense = sense!(0x5, 0x20, 0x00);
 
     /// A field of the CDB has a value that isn't supported.
@@ -376,7 +365,7 @@ pub enum SubmitFault {
     InUse,
     #[error("buffer of another length than the operation moves")]
     BadLength,
-    #[error("more than 128 blocks")]
+    #[error("more than {MOST_BLOCKS_MOVED} blocks")]
     TooLong,
     #[error("ticket below {0}")]
     OutOfTurn(u64),
@@ -422,6 +411,3 @@ impl Reply {
         }
     }
 }
-
-#[cfg(test)]
-mod tests;

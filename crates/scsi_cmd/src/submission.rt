@@ -2,7 +2,8 @@
 ghost use Rattle.std.specs.Prelude.{◌≡◌, ◌<◌};
 ghost use Rattle.scsi_cmd.specs.Submission.{first_submit_fault, first_task_fault, is_too_long};
 
-use crate::{Command, MOST_BLOCKS_MOVED, Op, SubmitFault, moves};
+use crate::{Command, Op, SubmitFault, moves};
+use uas_profile::MOST_BLOCKS_MOVED;
 
 /// The first fault of a submission, or `None`: `yours` where its tag is a command tag of the client, `in_use`
 /// where the client has something under it; `least_ticket` is the least ticket that is taken.
@@ -63,6 +64,9 @@ fn has_too_many_blocks(op: &Op) -> bool
 {
     match op {
         Op::Read { count, .. } | Op::Write { count, .. } => *count > MOST_BLOCKS_MOVED,
+        Op::Read16 { count, .. } | Op::Write16 { count, .. } => {
+            *count > u32::from(MOST_BLOCKS_MOVED)
+        }
         _ => false,
     }
 }

@@ -1,13 +1,16 @@
 //! What an operation does to a logical unit. The layers above go by the five cases of `Work`, and by no operation.
 ghost use Rattle.std.specs.Prelude.{◌≡◌, ◌<◌, ◌≤◌, None, IfOk, length, min, take};
-ghost use Rattle.scsi_cmd.specs.Data.{inquiry_bytes};
+ghost use Rattle.scsi_cmd.specs.Data.{inquiry_bytes, long_capacity_bytes};
 ghost use Rattle.scsi_cmd.specs.Meaning.{op_fault};
 ghost use Rattle.scsi_cmd.specs.Op.{moved_bytes, way_of};
-ghost use Rattle.scsi_cmd.specs.Work.{IsWorkOn, asked_without_unit, cdb_reports_attention, checked_work, inquiry_front, is_inquiry};
+ghost use Rattle.scsi_cmd.specs.Work.{IsWorkOn, asked_without_unit, cdb_reports_attention, checked_work, inquiry_front, is_inquiry, long_capacity_front};
 ghost use Rattle.scsi_cmd.specs.Work.{reports_attention, work_bytes, work_direction, work_of, work_without_unit};
 
 use crate::cdbs::{INQUIRY, fault, parse};
-use crate::{INQUIRY_BYTES, Op, Sense, Work, capacity_data, inquiry_data};
+use crate::{
+    INQUIRY_BYTES, LONG_CAPACITY_BYTES, Op, Sense, Work, capacity_data, inquiry_data,
+    long_capacity_data,
+};
 use arrayvec::ArrayVec;
 
 /// The work of an operation on a unit of so many blocks, at least 1.
@@ -23,13 +26,29 @@ pub fn work_of(op: &Op, blocks: u32) -> Work
         Op::TestUnitReady => Work::Nothing,
         Op::Inquiry { allocation } => Work::Gives(inquiry_front(true, allocation)),
         Op::ReadCapacity => Work::Gives(array_of(&capacity_data(blocks))),
-        Op::Read { lba, count, .. } => Work::Reads { lba, count },
+        Op::Read { lba, count, .. } => Work::Reads {
+            lba: u64::from(lba),
+            count: u32::from(count),
+        },
         Op::Write { lba, count, fua } => Work::Writes {
-            lba,
-            count,
+            lba: u64::from(lba),
+            count: u32::from(count),
             through: fua,
         },
         Op::Sync { lba, count } => Work::Synchronizes { lba, count },
+        Op::Read16 { lba, count, .. } => Work::Reads { lba, count },
+        Op::Write16 {
+            lba,
+            count,
+            fua: through,
+        } => Work::Writes {
+            lba,
+            count,
+            through,
+        },
+        Op::ReadCapacity16 { allocation } => {
+            Work::Gives(long_capacity_front(blocks, allocation))
+        }
     }
 }
 
@@ -57,7 +76,10 @@ pub fn work_without_unit(op: &Op) -> Result<Work, Sense>
         | Op::ReadCapacity
         | Op::Read { .. }
         | Op::Write { .. }
-        | Op::Sync { .. } => Err(Sense::UNIT_NOT_SUPPORTED),
+        | Op::Sync { .. }
+        | Op::Read16 { .. }
+        | Op::Write16 { .. }
+        | Op::ReadCapacity16 { .. } => Err(Sense::UNIT_NOT_SUPPORTED),
     }
 }
 
@@ -83,7 +105,10 @@ pub fn reports_attention(op: &Op) -> bool
         | Op::ReadCapacity
         | Op::Read { .. }
         | Op::Write { .. }
-        | Op::Sync { .. } => true,
+        | Op::Sync { .. }
+        | Op::Read16 { .. }
+        | Op::Write16 { .. }
+        | Op::ReadCapacity16 { .. } => true,
     }
 }
 
@@ -108,6 +133,16 @@ fn inquiry_front(present: bool, allocation: u16) -> ArrayVec<u8, INQUIRY_BYTES>
 {
     let count = usize::from(allocation).min(INQUIRY_BYTES);
     array_of(&inquiry_data(present)[..count])
+}
+
+/// The front of the READ CAPACITY(16) data, as many bytes as are asked for.
+fn long_capacity_front(blocks: u32, allocation: u32) -> ArrayVec<u8, INQUIRY_BYTES>
+    requires { 0 < blocks }
+    ensures bytes { result.items ≡ long_capacity_front blocks allocation }
+    ensures len { length result.items ≡ min allocation 32 }
+{
+    let count = (allocation as usize).min(LONG_CAPACITY_BYTES);
+    array_of(&long_capacity_data(blocks)[..count])
 }
 
 fn array_of(bytes: &[u8]) -> ArrayVec<u8, INQUIRY_BYTES>

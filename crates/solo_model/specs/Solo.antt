@@ -19,7 +19,7 @@ use Rattle.solo_model.specs.TaggedTask.{TaggedTask}
 use Rattle.solo_model.specs.declared.Label.{Label}
 use Rattle.solo_model.specs.declared.Label.TheVariants.{Submit, Task as TaskLabel, Carry, Move, Send, Settle}
 use Rattle.solo_model.specs.declared.NotARun.{NotARun}
-use Rattle.scsi_cmd.specs.declared.TheConstants.{TAGS, TASK_SLOT}
+use Rattle.uas_profile.specs.declared.TheConstants.{TAGS, TASK_SLOT}
 
 -- a unit, the tasks by slot (index less 1), and the least ticket that a submission may have
 pub record SoloState : Type 0 where
@@ -31,12 +31,12 @@ pub record SoloState : Type 0 where
 abbrev pub opening : BlockMaps → SoloState
 opening unit = record { unit = unit; tasks = replicate TAGS None; least_ticket = 0 }
 
--- the slot of an index, where there is one: index 1 has slot 0 and index 8 slot 7, 0 and 9 have none
+-- the slot of an index, where there is one; with 16 tags: index 1 has slot 0 and index 16 slot 15, 0 and 17 have none
 abbrev pub slot_under : ℕ → Option ℕ
 slot_under zero = None
 slot_under (suc slot) = if nat_lt slot TAGS then Some slot else None
 
--- commands have the indices 1 to 7; the last one, 8, is for task management
+-- commands have the indices 1 to TASK_SLOT; the last one, TAGS, is for task management
 abbrev pub is_command_index : ℕ → Bool
 is_command_index zero = false
 is_command_index (suc slot) = nat_lt slot TASK_SLOT

@@ -26,6 +26,7 @@ use Rattle.solo_model.specs.declared.Phase.{Phase}
 use Rattle.solo_model.specs.declared.Phase.TheVariants.{Queued, Begun, Sent, Gone}
 use Rattle.solo_model.specs.declared.Submitted.{Submitted}
 use Rattle.solo_model.specs.declared.Submitted.TheVariants.{Command as SubmittedCommand, Management}
+use Rattle.uas_profile.specs.declared.TheConstants.{CHUNK_BYTES}
 
 -- A task under one tag of a client: the number that the client gave it, what is asked, the bytes that it brings or those that
 -- came in so far over what was handed in, and how far it has come.
@@ -124,7 +125,7 @@ after_notes noted task = if can_be_ended task && is_noted noted task.ticket then
 
 -- the bytes of a chunk of an operation, in a buffer that it brings: of 16 blocks, chunk 1 is the bytes from 4,096 on
 abbrev pub chunk_brought : List ℕ → ℕ → Op → List ℕ
-chunk_brought buffer chunk op = bytes_from buffer (4096 * chunk) (chunk_bytes (moved_bytes op) chunk)
+chunk_brought buffer chunk op = bytes_from buffer (CHUNK_BYTES * chunk) (chunk_bytes (moved_bytes op) chunk)
 
 -- the unit after a chunk
 abbrev pub unit_after : BlockMaps → List ℕ → ℕ → Op → BlockMaps
@@ -133,7 +134,7 @@ unit_after unit buffer chunk op = unit_taken unit (chunk_brought buffer chunk op
 -- the buffer after a chunk: of a READ of 16 blocks from block 10 on, chunk 1 brings 18 to 25 to the bytes from 4,096 on
 abbrev pub buffer_after : BlockMaps → List ℕ → ℕ → Op → List ℕ
 buffer_after unit buffer chunk op =
-    option_map_or (λ bytes. with_bytes_at buffer (4096 * chunk) bytes) (chunk_given unit chunk (work_of op unit.count)) buffer
+    option_map_or (λ bytes. with_bytes_at buffer (CHUNK_BYTES * chunk) bytes) (chunk_given unit chunk (work_of op unit.count)) buffer
 
 -- what a command is at after a chunk
 abbrev pub progress_left : BlockMaps → ℕ → Op → Progress

@@ -6,15 +6,16 @@ ghost use Rattle.scsi_cmd.specs.Buffers.{with_bytes_at};
 ghost use Rattle.scsi_cmd.specs.Meaning.{op_fault};
 ghost use Rattle.scsi_cmd.specs.Op.{moved_bytes};
 ghost use Rattle.scsi_cmd.specs.Work.{IsWorkOn, work_bytes, work_direction};
-ghost use Rattle.scsi_cmd.specs.declared.Direction.{Direction};
+ghost use Rattle.uas_profile.specs.declared.Direction.{Direction};
 ghost use Rattle.device_server.specs.Server.{chunk_bytes, chunk_given, progress_after, unit_taken};
 ghost use Rattle.solo_model.specs.Soundness.{IsSound};
 ghost use Rattle.solo_model.specs.TaggedTask.{IsStep, buffer_after, carried, moved, progress_left, request_begun, request_in, sent, unit_after};
 
 use crate::{Phase, Submitted, TaggedTask, Task};
 use block_unit::Unit;
-use device_server::{Answer, CHUNK_BYTES, Progress, begin, chunk_len, give_chunk, take_chunk};
+use device_server::{Answer, Progress, begin, chunk_len, give_chunk, take_chunk};
 use scsi_cmd::{Buffer, Command, Direction, Op, Work, checked_work, reports_attention, work_of};
+use uas_profile::CHUNK_BYTES;
 
 /// The device receives a queued task and begins it; false, and nothing changes, where it isn't queued.
 pub fn carry(unit: &mut Unit, task: &mut TaggedTask) -> bool
@@ -72,7 +73,7 @@ pub fn move_chunk(unit: &mut Unit, task: &mut TaggedTask) -> bool
 /// One chunk of an operation, between its unit and its buffer.
 fn move_op(unit: &mut Unit, buffer: &mut Buffer, chunk: u16, op: &Op) -> Progress
     requires whole { length buffer.old ≡ moved_bytes op.now }
-    requires left { 4096 * chunk < moved_bytes op.now }
+    requires left { CHUNK_BYTES * chunk < moved_bytes op.now }
     requires range { op_fault op.now unit.old.count ≡ None }
     ensures unit { unit.new ≡ unit_after unit.old buffer.old chunk op.now }
     ensures buffer { buffer.new ≡ buffer_after unit.old buffer.old chunk op.now }
@@ -91,10 +92,10 @@ fn move_op(unit: &mut Unit, buffer: &mut Buffer, chunk: u16, op: &Op) -> Progres
 /// The next chunk goes to its place in the buffer.
 fn give_into(unit: &Unit, work: &Work, chunk: u16, buffer: &mut Buffer) -> Progress
     requires direction { work_direction work.now ≡ Direction.ToHost }
-    requires left { 4096 * chunk < work_bytes work.now }
+    requires left { CHUNK_BYTES * chunk < work_bytes work.now }
     requires whole { length buffer.old ≡ work_bytes work.now }
     requires on { IsWorkOn unit.now.count work.now }
-    ensures buffer { buffer.new ≡ option_map_or (λ bytes. with_bytes_at buffer.old (4096 * chunk) bytes) (chunk_given unit.now chunk work.now) buffer.old }
+    ensures buffer { buffer.new ≡ option_map_or (λ bytes. with_bytes_at buffer.old (CHUNK_BYTES * chunk) bytes) (chunk_given unit.now chunk work.now) buffer.old }
     ensures progress { result ≡ progress_after unit.now chunk work.now }
     ensures whole { length buffer.new ≡ length buffer.old }
 {
@@ -106,10 +107,10 @@ fn give_into(unit: &Unit, work: &Work, chunk: u16, buffer: &mut Buffer) -> Progr
 /// The next chunk comes from its place in the buffer.
 fn take_from(unit: &mut Unit, work: &Work, chunk: u16, buffer: &Buffer) -> Progress
     requires direction { work_direction work.now ≡ Direction.ToDevice }
-    requires left { 4096 * chunk < work_bytes work.now }
+    requires left { CHUNK_BYTES * chunk < work_bytes work.now }
     requires whole { length buffer.now ≡ work_bytes work.now }
     requires on { IsWorkOn unit.old.count work.now }
-    ensures unit { unit.new ≡ unit_taken unit.old (bytes_from buffer.now (4096 * chunk) (chunk_bytes (work_bytes work.now) chunk)) chunk work.now }
+    ensures unit { unit.new ≡ unit_taken unit.old (bytes_from buffer.now (CHUNK_BYTES * chunk) (chunk_bytes (work_bytes work.now) chunk)) chunk work.now }
     ensures progress { result ≡ progress_after unit.old chunk work.now }
     ensures count { unit.new.count ≡ unit.old.count }
 {

@@ -2,10 +2,11 @@ ghost use Rattle.std.specs.Prelude.{◌≡◌, ℕ, is_some};
 ghost use Rattle.solo_model.specs.TaggedTask.{aborted_by, after_notes, answered_by, buffer_in, can_be_ended, is_noted, noted_next, queued};
 ghost use Rattle.solo_model.specs.TaggedTask.{queued_management, reply_of, request_in};
 
-use crate::{Phase, Submitted, TASK_SLOT, TaggedTask, Task};
+use crate::{Phase, Submitted, TaggedTask, Task};
 use arrayvec::ArrayVec;
 use device_server::{Answer, status_and_sense};
 use scsi_cmd::{Command, Reply};
+use uas_profile::TASK_SLOT;
 
 /// The response code of a task management that was carried out (INCITS 471, table of response codes).
 const COMPLETE: u8 = 0x00;

@@ -1,7 +1,7 @@
 //! The solo machine: one client with one logical unit, and nothing else. No queue, event, pipe or ring stands
 //! between a command and its reply, so it says what a client may expect of a disk that it has alone.
 //!
-//! A client has eight tags, seven for commands and the last for task management, named here by their index
+//! A client has tags for commands and a last one for task management, named here by their index
 //! from 1 on. A command goes through the steps *submit*, *carry* (the device receives it), *move* (one chunk
 //! of at most eight blocks, on the blocks of that moment), *send* (the device hands over its answer) and
 //! *settle* (the client gets its reply); a [`Label`] names one step, and [`Solo::apply`] does it or says that
@@ -14,8 +14,6 @@
 mod device;
 mod host;
 mod machine;
-#[cfg(test)]
-mod tests;
 
 use arrayvec::ArrayVec;
 use block_unit::Unit;
@@ -23,11 +21,10 @@ pub use device::{carry, move_chunk, send};
 use device_server::{Answer, Progress};
 pub use host::reply;
 use scsi_cmd::Command;
-pub use scsi_cmd::{
-    Buffer, Reply, Request, SubmitFault, TAGS, TASK_SLOT, Task, submit_fault, task_fault,
-};
+pub use scsi_cmd::{Buffer, Reply, Request, SubmitFault, Task, submit_fault, task_fault};
 use std::marker::Model;
 use thiserror::Error;
+use uas_profile::{TAGS, TASK_SLOT};
 
 /// How far a task has come.
 #[derive(Clone, Copy, Debug, PartialEq, Eq)]

@@ -8,12 +8,13 @@ ghost use Rattle.solo_model.specs.Solo.{IsCarried, TicketFits, applied, heeded, 
 ghost use Rattle.solo_model.specs.Solo.{slot_under, solo_step, tickets_of};
 
 use crate::{
-    Label, NotARun, Solo, TAGS, TASK_SLOT, TaggedTask, Task, carry, move_chunk, reply, send,
-    submit_fault, task_fault,
+    Label, NotARun, Solo, TaggedTask, Task, carry, move_chunk, reply, send, submit_fault,
+    task_fault,
 };
 use arrayvec::ArrayVec;
 use block_unit::Unit;
 use scsi_cmd::{Command, Reply};
+use uas_profile::{TAGS, TASK_SLOT};
 
 impl Solo {
     /// A client that has submitted nothing yet, with this unit.
@@ -194,7 +195,7 @@ fn noted_tickets(tasks: &[Option<TaggedTask>], task: &Task) -> ArrayVec<u64, TAS
     }
 }
 
-/// The tickets of the tasks of at most seven places, in their order.
+/// The tickets of the tasks of these places, in their order.
 fn tickets_in(tasks: &[Option<TaggedTask>]) -> ArrayVec<u64, TASK_SLOT>
     requires { length tasks.now ≤ TASK_SLOT }
     ensures { result.items ≡ tickets_of tasks.now }

@@ -1,15 +1,17 @@
 -- No two places share a byte.
 use Rattle.std.proofs.Common.{◌≡◌, ℕ, ◌<◌, ◌≤◌, refl, arith}
-use Rattle.stream_array.specs.declared.Pipe.{Pipe}
-use Rattle.stream_array.specs.declared.Pipe.TheVariants.{Command, Status, DataIn, DataOut}
-use Rattle.stream_array.specs.Map.{number_of, IsPlace, Spot, ring_spot, engine_spot, event_spot, IsSpot, IsByteOf}
+use Rattle.uas_profile.specs.declared.Pipe.{Pipe}
+use Rattle.uas_profile.specs.declared.Pipe.TheVariants.{Command, Status, DataIn, DataOut}
+use Rattle.uas_profile.specs.Pipes.{number_of}
+use Rattle.stream_array.specs.Map.{IsPlace, Spot, ring_spot, engine_spot, event_spot, IsSpot, IsByteOf}
+use Rattle.uas_profile.specs.declared.TheConstants.{COMMAND_RING_PLACES, STREAMS}
 
 -- the bounds of all pipes' rings
 record Bounds (pipe : Pipe) (stream place : ℕ) : Type 0 where
   least : 1 ≤ number_of pipe
   most : number_of pipe ≤ 4
-  streams : stream ≤ 248
-  places : place < 256
+  streams : stream ≤ STREAMS
+  places : place < COMMAND_RING_PLACES
 
 bounds : (pipe : Pipe) (stream place : ℕ) → IsPlace pipe stream place → Bounds pipe stream place
 bounds Command stream place h = record { least = omega arith; most = omega arith; streams = omega arith; places = omega arith }

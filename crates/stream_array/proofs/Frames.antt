@@ -4,12 +4,13 @@ use Rattle.std.proofs.Common.{sym, ap, ◌∙◌, arith, inl, inr}
 use Rattle.std.proofs.lemmas.Bool.{cases_eq, cases_lt}
 use Rattle.cycle_ring.specs.Ring.{Ring, opening}
 use Rattle.event_ring.specs.Events.{Events}
-use Rattle.stream_array.specs.declared.Pipe.{Pipe}
-use Rattle.stream_array.specs.declared.Pipe.TheVariants.{Command, Status, DataIn, DataOut}
+use Rattle.uas_profile.specs.declared.Pipe.{Pipe}
+use Rattle.uas_profile.specs.declared.Pipe.TheVariants.{Command, Status, DataIn, DataOut}
 use Rattle.stream_array.specs.Contexts.{Contexts, entry_of}
 use Rattle.stream_array.specs.Map.{HasRing, ring_base}
 use Rattle.stream_array.specs.Rings.{LinesState, IsLines, IsShown, ring_of, stream_ring, with_ring, ChangedRingIsThere, OtherRingsAreKept}
 use Rattle.stream_array.specs.Rings.{OtherContextsAreKept, RingsStayInPlace, with_engine, with_events, EngineLeavesRings, EventsLeaveRings}
+use Rattle.uas_profile.specs.declared.TheConstants.{STREAMS}
 
 -- the ring that was changed
 pub ring_of_with_ring : ChangedRingIsThere
@@ -38,7 +39,7 @@ entry_of-shown : (rings : List Ring) (old new : Contexts) (stream another : ℕ)
 entry_of-shown rings old new stream another r some differ before after =
     elim (cases_eq another 0) as (λ _. entry_of new another ≡ entry_of old another) [
       | inl zero ↦ rw zero (after.reserved ∙ sym before.reserved)
-      | inr named ↦ elim (cases_lt 248 another) as (λ _. entry_of new another ≡ entry_of old another) [
+      | inr named ↦ elim (cases_lt STREAMS another) as (λ _. entry_of new another ≡ entry_of old another) [
         | inl past ↦ after.none another past ∙ sym (before.none another past)
         | inr within ↦
             after.ring another (omega arith) within
@@ -51,7 +52,7 @@ entry_of-same : (rings : List Ring) (old new : Contexts) (another : ℕ) → IsS
 entry_of-same rings old new another before after =
     elim (cases_eq another 0) as (λ _. entry_of new another ≡ entry_of old another) [
       | inl zero ↦ rw zero (after.reserved ∙ sym before.reserved)
-      | inr named ↦ elim (cases_lt 248 another) as (λ _. entry_of new another ≡ entry_of old another) [
+      | inr named ↦ elim (cases_lt STREAMS another) as (λ _. entry_of new another ≡ entry_of old another) [
         | inl past ↦ after.none another past ∙ sym (before.none another past)
         | inr within ↦ after.ring another (omega arith) within ∙ sym (before.ring another (omega arith) within)
       ]

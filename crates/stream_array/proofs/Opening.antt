@@ -5,32 +5,34 @@ use Rattle.std.proofs.Math.ListN.{get_or-eq_default}
 use Rattle.std.proofs.lemmas.Bool.{cases_Bool, cases_lt, and_parts, leb-true}
 use Rattle.std.proofs.lemmas.List.{length-map}
 use Rattle.std.proofs.lemmas.Option.{none-some, same_Some}
-use Rattle.stream_array.specs.declared.Pipe.{Pipe}
-use Rattle.stream_array.specs.declared.Pipe.TheVariants.{Command, Status, DataIn, DataOut}
+use Rattle.uas_profile.specs.declared.Pipe.{Pipe}
+use Rattle.uas_profile.specs.declared.Pipe.TheVariants.{Command, Status, DataIn, DataOut}
 use Rattle.stream_array.specs.declared.Dequeue.{Dequeue}
+use Rattle.uas_profile.specs.Pipes.{number_of}
 use Rattle.stream_array.specs.Contexts.{entry_of, has_stream, opening_entry, context_text}
 use Rattle.stream_array.specs.Stored.{entry_in, shown, IsStored}
 use Rattle.stream_array.proofs.Stored.{IsAligned, entry_in-text, entry_of-shown}
+use Rattle.uas_profile.specs.declared.TheConstants.{PIPE_SPAN, RINGS, STREAMS, STREAM_ENTRIES, STREAM_SPAN}
 
 -- their pointers are multiples of 16
 ring-aligned : (base stream : ℕ) (dequeue : Dequeue) → base % 16 ≡ 0 → base < 2 ^ 32
-    → (if has_stream stream then Some (record { pointer = base + 0x1000 * stream; cycle = true }) else None) ≡ Some dequeue
+    → (if has_stream stream then Some (record { pointer = base + STREAM_SPAN * stream; cycle = true }) else None) ≡ Some dequeue
     → (dequeue.pointer < 2 ^ 64) × (dequeue.pointer % 16 ≡ 0)
 ring-aligned base stream dequeue aligned below is =
     elim (cases_Bool (has_stream stream)) as (λ _. (dequeue.pointer < 2 ^ 64) × (dequeue.pointer % 16 ≡ 0)) [
       | inl has ↦
-          let least = and_parts (nat_lt 0 stream) (nat_le stream 248) has in
-          let last = leb-true stream 248 least.1 in
-          let same = same_Some (record { pointer = base + 0x1000 * stream; cycle = true }) dequeue (rw has at is) in
+          let least = and_parts (nat_lt 0 stream) (nat_le stream STREAMS) has in
+          let last = leb-true stream STREAMS least.1 in
+          let same = same_Some (record { pointer = base + STREAM_SPAN * stream; cycle = true }) dequeue (rw has at is) in
           rw (← same) (omega arith, omega arith)
       | inr none ↦ absurd (none-some dequeue (rw none at is))
     ]
 
 opening-aligned : (pipe : Pipe) (stream : ℕ) → IsAligned (opening_entry pipe stream)
 opening-aligned Command stream dequeue is = absurd (none-some dequeue is)
-opening-aligned Status stream dequeue is = ring-aligned 0x42000000 stream dequeue refl (omega arith) is
-opening-aligned DataIn stream dequeue is = ring-aligned 0x43000000 stream dequeue refl (omega arith) is
-opening-aligned DataOut stream dequeue is = ring-aligned 0x44000000 stream dequeue refl (omega arith) is
+opening-aligned Status stream dequeue is = ring-aligned (RINGS + PIPE_SPAN * number_of Status) stream dequeue refl (omega arith) is
+opening-aligned DataIn stream dequeue is = ring-aligned (RINGS + PIPE_SPAN * number_of DataIn) stream dequeue refl (omega arith) is
+opening-aligned DataOut stream dequeue is = ring-aligned (RINGS + PIPE_SPAN * number_of DataOut) stream dequeue refl (omega arith) is
 
 -- entry 0 has no ring
 opening-reserved : (pipe : Pipe) → opening_entry pipe 0 ≡ None
@@ -45,7 +47,7 @@ opening-shown : (pipe : Pipe) (contexts : List (List ℕ)) (stream : ℕ) → ge
 opening-shown pipe contexts stream is =
     entry_of-shown contexts stream ∙ ap entry_in is ∙ entry_in-text (opening_entry pipe stream) (opening-aligned pipe stream)
 
-pub IsStored-opening : (pipe : Pipe) (size : ℕ) (contexts : List (List ℕ)) → 2 ≤ size → size ≤ 256 → length contexts ≡ size
+pub IsStored-opening : (pipe : Pipe) (size : ℕ) (contexts : List (List ℕ)) → 2 ≤ size → size ≤ STREAM_ENTRIES → length contexts ≡ size
     → ((stream : ℕ) → stream < size → get_or contexts stream [] ≡ context_text (opening_entry pipe stream))
     → IsStored size contexts (shown contexts)
 IsStored-opening pipe size contexts least most count is =

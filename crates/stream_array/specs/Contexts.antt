@@ -3,10 +3,10 @@ use Rattle.std.specs.Prelude.{◌≡◌, ℕ, ◌+◌, ◌*◌, ◌^◌, ◌%◌
 use Rattle.std.specs.Prelude.{slice_index_or, nat_lt, nat_le, ◌&&◌, if◌then◌else◌}
 use Rattle.std.specs.Int.{w64, to_le_bytes}
 use Rattle.xhci_trb.specs.Text.{bit}
-use Rattle.stream_array.specs.declared.Pipe.{Pipe}
-use Rattle.stream_array.specs.declared.Pipe.TheVariants.{Command}
+use Rattle.uas_profile.specs.declared.Pipe.{Pipe}
+use Rattle.uas_profile.specs.declared.Pipe.TheVariants.{Command}
 use Rattle.stream_array.specs.declared.Dequeue.{Dequeue}
-use Rattle.stream_array.specs.declared.TheConstants.{STREAMS}
+use Rattle.uas_profile.specs.declared.TheConstants.{STREAMS, STREAM_ENTRIES}
 use Rattle.stream_array.specs.Map.{ring_base}
 
 -- an array's entries: nothing for a stream without a ring
@@ -50,7 +50,7 @@ context_text (Some dequeue) = to_le_bytes w64 (dequeue.pointer + 2 * 1 + bit deq
 -- what holds of every array: entry 0 is reserved
 pub record IsArray (size : ℕ) (contexts : Contexts) : Type 0 where
   pub least_entries : 2 ≤ size
-  pub most_entries : size ≤ 256
+  pub most_entries : size ≤ STREAM_ENTRIES
   pub entries : length contexts ≡ size
   pub reserved : entry_of contexts 0 ≡ None
   pub aligned : (stream : ℕ) (dequeue : Dequeue) → entry_of contexts stream ≡ Some dequeue

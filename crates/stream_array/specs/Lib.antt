@@ -1,5 +1,4 @@
 pub mod Map
-pub mod Targets
 pub mod Contexts
 pub mod Rings
 pub mod Stored

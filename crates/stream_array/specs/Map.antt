@@ -1,16 +1,10 @@
 -- The address map of the rings: which pipes and streams have one, and where its places lie.
 use Rattle.std.specs.Prelude.{◌≡◌, ℕ, ◌+◌, ◌-◌, ◌*◌, ◌/◌, ◌%◌, ◌<◌, ◌≤◌, ◌==◌, ◌&&◌, Bool, nat_lt, nat_le, if◌then◌else◌, Option, Some, None, option_and_then}
-use Rattle.stream_array.specs.declared.Pipe.{Pipe}
-use Rattle.stream_array.specs.declared.Pipe.TheVariants.{Command, Status, DataIn, DataOut}
-use Rattle.stream_array.specs.declared.TheConstants.{STREAMS, STREAM_RING_PLACES, COMMAND_RING_PLACES, ENGINE_RING_PLACES}
-use Rattle.stream_array.specs.declared.TheConstants.{EVENT_RING_PLACES, RINGS, PIPE_SPAN, STREAM_SPAN, ENGINE_RING, EVENT_RING}
-
--- a pipe's number
-abbrev pub number_of : Pipe → ℕ
-number_of Command = 1
-number_of Status = 2
-number_of DataIn = 3
-number_of DataOut = 4
+use Rattle.uas_profile.specs.Pipes.{number_of}
+use Rattle.uas_profile.specs.declared.Pipe.{Pipe}
+use Rattle.uas_profile.specs.declared.Pipe.TheVariants.{Command, Status, DataIn, DataOut}
+use Rattle.uas_profile.specs.declared.TheConstants.{STREAMS, STREAM_RING_PLACES, COMMAND_RING_PLACES, ENGINE_RING_PLACES}
+use Rattle.uas_profile.specs.declared.TheConstants.{EVENT_RING_PLACES, RINGS, PIPE_SPAN, STREAM_SPAN, ENGINE_RING, EVENT_RING}
 
 -- The command pipe has one ring, without streams, which is called stream 0; each other pipe has one for
 -- each of its streams from 1 on.
@@ -19,11 +13,6 @@ HasRing Command stream = stream ≡ 0
 HasRing Status stream = (0 < stream) × (stream ≤ STREAMS)
 HasRing DataIn stream = (0 < stream) × (stream ≤ STREAMS)
 HasRing DataOut stream = (0 < stream) × (stream ≤ STREAMS)
-
--- a pipe with streams
-abbrev pub HasStreams : Pipe → Type 0
-HasStreams Command = ⊥
-HasStreams pipe = Unit {0}
 
 -- how many places a pipe's rings have, the Link's too
 abbrev pub places_of : Pipe → ℕ

@@ -2,10 +2,10 @@
 use Rattle.std.specs.Prelude.{◌≡◌, ◌≢◌, ℕ, ◌-◌, ◌<◌, ◌≤◌, List, length, Some, None, slice_index_or, slice_set}
 use Rattle.cycle_ring.specs.Ring.{Ring, opening, pointer_of, cycle_of}
 use Rattle.event_ring.specs.Events.{Events, opening as opening_events}
-use Rattle.stream_array.specs.declared.Pipe.{Pipe}
-use Rattle.stream_array.specs.declared.Pipe.TheVariants.{Command, Status, DataIn, DataOut}
+use Rattle.uas_profile.specs.declared.Pipe.{Pipe}
+use Rattle.uas_profile.specs.declared.Pipe.TheVariants.{Command, Status, DataIn, DataOut}
 use Rattle.stream_array.specs.declared.Dequeue.{Dequeue}
-use Rattle.stream_array.specs.declared.TheConstants.{STREAMS, STREAM_ENTRIES, STREAM_RING_PLACES, ENGINE_RING}
+use Rattle.uas_profile.specs.declared.TheConstants.{STREAMS, STREAM_ENTRIES, STREAM_RING_PLACES, ENGINE_RING}
 use Rattle.stream_array.specs.Map.{HasRing, ring_base}
 use Rattle.stream_array.specs.Contexts.{Contexts, entry_of}
 

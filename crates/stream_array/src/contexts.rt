@@ -6,13 +6,12 @@
 ghost use Rattle.std.specs.Prelude.{◌≡◌, ℕ, ◌+◌, ◌%◌, ◌<◌, ◌≤◌, ◌↔◌, Some, IsOk, IfOk, OnOk, OnErr, slice_set, IsSome};
 ghost use Rattle.stream_array.specs.Contexts.{IsOpening, IsStream, entry_of, opening_entry, dequeue_in, context_text};
 ghost use Rattle.stream_array.specs.Stored.{entry_in};
+ghost use Rattle.uas_profile.specs.declared.TheConstants.{STREAM_ENTRIES};
 
-use crate::{Dequeue, InvalidStream, NoMemory, PIPE_SPAN, Pipe, RINGS, STREAM_SPAN, STREAMS};
+use crate::{Dequeue, InvalidStream, NoMemory, Pipe};
 use std::alloc::Global;
 use std::marker::Model;
-
-#[cfg(test)]
-mod tests;
+use uas_profile::{PIPE_SPAN, RINGS, STREAM_SPAN, STREAMS};
 
 /// A linear primary stream array of `S` entries, 2 to 256 (4.12.2). Entry 0 is reserved.
 #[derive(Debug, Drop)]
@@ -37,7 +36,7 @@ impl<const S: usize> StreamArray<S> {
     /// The array of a pipe whose rings are all new. Refused for want of memory alone.
     pub fn new(alloc: Global, pipe: Pipe) -> Result<Self, NoMemory>
         requires least_entries { 2 ≤ S }
-        requires most_entries { S ≤ 256 }
+        requires most_entries { S ≤ STREAM_ENTRIES }
         ensures { IfOk result (λ array. IsOpening pipe S array) }
     {
         let mut contexts = Vec::with_capacity(alloc, S)?;

@@ -6,18 +6,20 @@ ghost use Rattle.xhci_trb.specs.Text.{HasText, has_chain};
 ghost use Rattle.cycle_ring.specs.Ring.{IsRing, IsTd, place_of, pointer_of, cycle_of, front_of, reclaimed, item_image, link_image};
 ghost use Rattle.cycle_ring.specs.Ring.{IsConsumed, IsEnqueuePlace, IsPending, IsInUse, consumed_at, oldest_of};
 ghost use Rattle.event_ring.specs.Events.{IsWritable, taken, event_image, place_of as event_place_of, IsInUse as IsEventInUse, IsRing as IsEventRing};
-ghost use Rattle.stream_array.specs.Map.{HasRing, HasStreams, places_of, ring_base};
+ghost use Rattle.uas_profile.specs.Pipes.{HasStreams};
+ghost use Rattle.stream_array.specs.Map.{HasRing, places_of, ring_base};
 ghost use Rattle.stream_array.specs.Rings.{ring_of, with_ring, with_engine, with_events, ShowsRings, IsLines, IsOpeningLines};
 
 use crate::streams::Streams;
-use crate::{
-    COMMAND_RING_PLACES, ENGINE_RING, ENGINE_RING_PLACES, EVENT_RING_PLACES, NoMemory, PIPE_SPAN,
-    Pipe, RINGS, STREAM_ENTRIES, StreamArray,
-};
+use crate::{NoMemory, Pipe, StreamArray};
 use cycle_ring::{CycleRing, NotAPlace, RingFull, Td};
 use event_ring::{Event, EventRing, EventRingFull};
 use std::alloc::Global;
 use std::marker::Model;
+use uas_profile::{
+    COMMAND_RING_PLACES, ENGINE_RING, ENGINE_RING_PLACES, EVENT_RING_PLACES, PIPE_SPAN, RINGS,
+    STREAM_ENTRIES,
+};
 use xhci_trb::Trb;
 
 /// Every ring between host and controller: the command pipe's, one for each stream of the three pipes

@@ -4,16 +4,15 @@ ghost use Rattle.std.specs.Prelude.{◌≡◌, ℕ, ◌+◌, ◌-◌, ◌*◌, �
 ghost use Rattle.xhci_trb.specs.Text.{HasText};
 ghost use Rattle.cycle_ring.specs.Ring.{IsRing, IsTd, opening, pointer_of, cycle_of, front_of, reclaimed, item_image, link_image, place_of};
 ghost use Rattle.cycle_ring.specs.Ring.{IsConsumed, IsEnqueuePlace, IsPending, IsInUse};
-ghost use Rattle.stream_array.specs.Map.{HasStreams, ring_base};
+ghost use Rattle.uas_profile.specs.Pipes.{HasStreams};
+ghost use Rattle.stream_array.specs.Map.{ring_base};
 ghost use Rattle.stream_array.specs.Rings.{stream_ring, IsShown};
 
-use crate::{
-    NoMemory, PIPE_SPAN, Pipe, RINGS, STREAM_ENTRIES, STREAM_RING_PLACES, STREAM_SPAN, STREAMS,
-    StreamArray,
-};
+use crate::{NoMemory, Pipe, StreamArray};
 use cycle_ring::{CycleRing, NotAPlace, RingFull, Td};
 use std::alloc::Global;
 use std::marker::Model;
+use uas_profile::{PIPE_SPAN, RINGS, STREAM_ENTRIES, STREAM_RING_PLACES, STREAM_SPAN, STREAMS};
 use xhci_trb::Trb;
 
 #[derive(Debug, Drop)]

@@ -14,6 +14,7 @@ use Rattle.tag_desk.specs.Seats.{MadeDesk, Customer, Server, ClientLine, WorkLin
 use Rattle.tag_desk.specs.Seats.{IsAway, ReapsAt, ClaimsAt, with_view, IsTagOf, new_line, AreNewCustomers, AreServersBelow}
 use Rattle.atomic_table.specs.Seated.{TableId}
 use Rattle.tag_desk.specs.declared.rule.WorkView.TheVariants.{Idle}
+use Rattle.uas_profile.specs.declared.TheConstants.{TAGS}
 
 -- writing a line back with another view is what `with_view` says
 pub set_view : (lines : List ClientLine) (k : ℕ) (l : ClientLine) (v : ClientView) → k < length lines → l ≡ get_or lines k l
@@ -54,11 +55,11 @@ own_posting desk seat k least v own = (own.0, λ j d within. view_table seat.lin
 
 pub own_reaping : (desk : MadeDesk) (old new : Customer) (tag : ℕ) (y : Slip) → IsClientOf desk old → ReapsAt old new tag y → IsClientOf desk new
 own_reaping desk old new tag y own reaps =
-    subst (IsClientOf desk) (sym reaps.6) (own_posting desk old ((tag - 1) % 8) old.least_ticket (Free (reaps.1 + 1)) own)
+    subst (IsClientOf desk) (sym reaps.6) (own_posting desk old ((tag - 1) % TAGS) old.least_ticket (Free (reaps.1 + 1)) own)
 
 pub free_reaping : (old new : Customer) (tag : ℕ) (y : Slip) → ReapsAt old new tag y → IsFreeAt new tag
 free_reaping old new tag y reaps =
-    let k = (tag - 1) % 8 in
+    let k = (tag - 1) % TAGS in
     let line : ClientLine = record { table = reaps.0.table; index = reaps.0.index; view = Free (reaps.1 + 1) } in
     subst (λ s. IsFreeAt s tag) (sym reaps.6) (line, view_here old.lines k (Free (reaps.1 + 1)) reaps.0 reaps.3, (reaps.1 + 1, refl))
 
@@ -110,9 +111,9 @@ pub free_new : (table : TableId) (clients : ℕ) (seats : List Customer) → Are
 free_new table clients seats are c d within tag own =
     let count = are.count in
     let each = are.each c d (omega arith) in
-    let k : ℕ = (tag - 1) % 8 in
-    let line : ClientLine = new_line table (8 * c + k) in
-    (line, slice_get_read (get_or seats c d).lines 8 k line (sym each.count) (omega arith) (sym (each.lines k line (omega arith))), (0, refl))
+    let k : ℕ = (tag - 1) % TAGS in
+    let line : ClientLine = new_line table (TAGS * c + k) in
+    (line, slice_get_read (get_or seats c d).lines TAGS k line (sym each.count) (omega arith) (sym (each.lines k line (omega arith))), (0, refl))
 
 on_table_if : (desk : MadeDesk) (t : ℕ) (dealt serves : Bool)
     → IsOnTable desk.table (if dealt then (if serves then Some (record { table = desk.table; index = t; view = Idle }) else None) else None)
@@ -120,12 +121,12 @@ on_table_if desk t true true = refl
 on_table_if desk t true false = refl
 on_table_if desk t false serves = refl
 
-pub own_serving : (desk : MadeDesk) (seats : List Server) → AreServersBelow desk (8 * desk.clients) seats → All (IsPumpOf desk) seats
+pub own_serving : (desk : MadeDesk) (seats : List Server) → AreServersBelow desk (TAGS * desk.clients) seats → All (IsPumpOf desk) seats
 own_serving desk seats are p d within =
     let count = are.count in
     let each = are.each p d (omega arith) in
     let all = each.count in (
       each.count,
-      λ t o below. subst (IsOnTable desk.table) (sym (each.lines t o (omega arith))) (on_table_if desk t (nat_lt t (8 * desk.clients))
-          (t / 8 % desk.pumps == p)),
+      λ t o below. subst (IsOnTable desk.table) (sym (each.lines t o (omega arith))) (on_table_if desk t (nat_lt t (TAGS * desk.clients))
+          (t / TAGS % desk.pumps == p)),
     )

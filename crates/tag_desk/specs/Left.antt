@@ -14,6 +14,7 @@ use Rattle.tag_desk.specs.declared.remains.Lists.{Lists}
 use Rattle.tag_desk.specs.declared.remains.Standing.{Standing}
 use Rattle.tag_desk.specs.declared.remains.Standing.TheVariants.{Nothing, Posted, Done, Held}
 use Rattle.tag_desk.specs.Seats.{MadeDesk, ClientLine, WorkLine, Customer, Server, IsClientOf, IsPumpOf}
+use Rattle.uas_profile.specs.declared.TheConstants.{TAGS}
 
 -- a ticket that the client has open: the pump's slip stands where the pump finished that very ticket, and else the client's
 abbrev pub unclaimed : ℕ → Slip → WorkView → Standing
@@ -35,13 +36,13 @@ view_or (Some line) = line.view
 abbrev pub line_view : List ClientLine → ℕ → ClientView
 line_view lines k = view_or (slice_get lines k)
 
--- what the clients' seats know of the tag at index t: line t mod 8 of client t div 8
+-- what the clients' seats know of the tag at index t: line t mod TAGS of client t div TAGS
 abbrev pub client_view : List Customer → ℕ → ClientView
-client_view seats t = line_view (slice_index_or seats (t / 8) record { client = 0; least_ticket = 0; lines = [] }).lines (t % 8)
+client_view seats t = line_view (slice_index_or seats (t / TAGS) record { client = 0; least_ticket = 0; lines = [] }).lines (t % TAGS)
 
 -- the line of index t of the pump that serves its client
 abbrev pub work_line : MadeDesk → List Server → ℕ → Option WorkLine
-work_line desk seats t = slice_index_or (slice_index_or seats (t / 8 % desk.pumps) record { pump = 0; lines = [] }).lines t None
+work_line desk seats t = slice_index_or (slice_index_or seats (t / TAGS % desk.pumps) record { pump = 0; lines = [] }).lines t None
 
 abbrev pub posted_at : ℕ → Standing → List TagSlip
 posted_at tag Nothing = []
@@ -76,7 +77,7 @@ left_below at n = record {
 
 -- what is left on a desk, by rising tag: each ticket that a client has open is in one of the three lists, once
 abbrev pub left_of : MadeDesk → List Customer → List Server → Left
-left_of desk clients pumps = left_below (λ t. standing (client_view clients t) (work_line desk pumps t)) (8 * desk.clients)
+left_of desk clients pumps = left_below (λ t. standing (client_view clients t) (work_line desk pumps t)) (TAGS * desk.clients)
 
 -- all clients' seats of the desk, in order
 pub record IsAllClientsOf (desk : MadeDesk) (seats : List Customer) : Type 0 where
@@ -108,9 +109,9 @@ pub record HasRoom (n : ℕ) (lists : Lists) : Type 0 where
 
 -- at says of each tag of a client what stands there, by the client's lines and the pumps'
 abbrev pub Says : MadeDesk → Customer → List Server → (ℕ → Standing) → Type 0
-Says desk seat pumps at = (k : ℕ) → k < 8 → at (8 * seat.client + k) ≡ standing (line_view seat.lines k) (work_line desk pumps (8 * seat.client + k))
+Says desk seat pumps at = (k : ℕ) → k < TAGS → at (TAGS * seat.client + k) ≡ standing (line_view seat.lines k) (work_line desk pumps (TAGS * seat.client + k))
 
 -- the lists of what stands below a client's tags become those of what stands below the next client's
 abbrev pub Gathers : MadeDesk → Customer → List Server → Left → Left → Type 0
-Gathers desk seat pumps old new = (at : ℕ → Standing) → Says desk seat pumps at → old ≡ left_below at (8 * seat.client)
-    → new ≡ left_below at (8 * seat.client + 8)
+Gathers desk seat pumps old new = (at : ℕ → Standing) → Says desk seat pumps at → old ≡ left_below at (TAGS * seat.client)
+    → new ≡ left_below at (TAGS * seat.client + TAGS)

@@ -11,6 +11,7 @@ use Rattle.tag_desk.specs.declared.rule.WorkView.TheVariants.{Idle, Claimed, Fin
 use Rattle.tag_desk.specs.declared.rule.View.TheVariants.{Client, Work}
 use Rattle.tag_desk.specs.Rule.{Sat}
 use Rattle.tag_desk.specs.Slips.{IsAsk, IsEnd}
+use Rattle.uas_profile.specs.declared.TheConstants.{MAX_CLIENTS, TAGS}
 
 -- Which desk it is, and for how many clients and pumps it was made
 pub record MadeDesk : Type 0 where
@@ -20,8 +21,8 @@ pub record MadeDesk : Type 0 where
 
 -- a desk's table has a word and a slot for each tag, and its key is their number
 abbrev pub IsMade : MadeDesk → ℕ → Type 0
-IsMade desk key = (desk.table.words ≡ 8 * desk.clients) × (desk.table.slots ≡ 8 * desk.clients) × (key ≡ 8 * desk.clients)
-    × (0 < desk.clients) × (desk.clients ≤ 31) × (0 < desk.pumps)
+IsMade desk key = (desk.table.words ≡ TAGS * desk.clients) × (desk.table.slots ≡ TAGS * desk.clients) × (key ≡ TAGS * desk.clients)
+    × (0 < desk.clients) × (desk.clients ≤ MAX_CLIENTS) × (0 < desk.pumps)
 
 -- What a client knows of the tag at an index, which is the tag less 1
 pub record ClientLine : Type 0 where
@@ -94,7 +95,7 @@ abbrev pub IsClaimOf : WorkLine → ℕ → HeldClaim → Type 0
 IsClaimOf line ticket claim = (x : Slip) × IsAsk (line.index + 1) ticket x
     × (claim ≡ record { table = line.table; tag = line.index + 1; ticket = ticket; slip = Some x })
 
--- What a client has: the least ticket that it may post next, and a line for each of its eight tags
+-- What a client has: the least ticket that it may post next, and a line for each of its tags
 pub record Customer : Type 0 where
   pub client : ℕ
   pub least_ticket : ℕ
@@ -105,11 +106,11 @@ pub record Server : Type 0 where
   pub pump : ℕ
   pub lines : List (Option WorkLine)
 
--- line k of client c is that of tag 8 c + k + 1, and no ticket on it is above the seat's least
+-- line k of client c is that of tag TAGS c + k + 1, and no ticket on it is above the seat's least
 abbrev pub IsCustomer : Customer → Type 0
-IsCustomer seat = (length seat.lines ≡ 8) × ((k : ℕ) (d : ClientLine) → k < 8 → (slice_index_or seat.lines k d).index ≡ 8 * seat.client + k)
-    × (seat.client < 31)
-    × ((k : ℕ) (d : ClientLine) → k < 8 → next_ticket (slice_index_or seat.lines k d).view ≤ seat.least_ticket)
+IsCustomer seat = (length seat.lines ≡ TAGS) × ((k : ℕ) (d : ClientLine) → k < TAGS → (slice_index_or seat.lines k d).index ≡ TAGS * seat.client + k)
+    × (seat.client < MAX_CLIENTS)
+    × ((k : ℕ) (d : ClientLine) → k < TAGS → next_ticket (slice_index_or seat.lines k d).view ≤ seat.least_ticket)
 
 abbrev pub HasIndex : ℕ → Option WorkLine → Type 0
 HasIndex k None = Unit {0}
@@ -127,22 +128,22 @@ abbrev pub IsServer : Server → Type 0
 IsServer seat = (k : ℕ) (d : Option WorkLine) → k < length seat.lines → HasIndex k (slice_index_or seat.lines k d)
 
 abbrev pub IsClientOf : MadeDesk → Customer → Type 0
-IsClientOf desk seat = (seat.client < desk.clients) × ((k : ℕ) (d : ClientLine) → k < 8 → (slice_index_or seat.lines k d).table ≡ desk.table)
+IsClientOf desk seat = (seat.client < desk.clients) × ((k : ℕ) (d : ClientLine) → k < TAGS → (slice_index_or seat.lines k d).table ≡ desk.table)
 
 abbrev pub IsPumpOf : MadeDesk → Server → Type 0
-IsPumpOf desk seat = (length seat.lines ≡ 8 * desk.clients) × ((k : ℕ) (d : Option WorkLine) → k < length seat.lines
+IsPumpOf desk seat = (length seat.lines ≡ TAGS * desk.clients) × ((k : ℕ) (d : Option WorkLine) → k < length seat.lines
     → IsOnTable desk.table (slice_index_or seat.lines k d))
 
--- tags 8 c + 1 to 8 c + 8 are those of client c: tag 17 is the first of client 2
+-- tags TAGS c + 1 to TAGS c + TAGS are those of client c: with 16, tag 33 is the first of client 2
 abbrev pub IsTagOf : ℕ → ℕ → Type 0
-IsTagOf client tag = (1 ≤ tag) × ((tag - 1) / 8 ≡ client)
+IsTagOf client tag = (1 ≤ tag) × ((tag - 1) / TAGS ≡ client)
 
 -- client c is served by pump c mod the number of pumps
 abbrev pub IsServed : MadeDesk → Server → ℕ → Type 0
-IsServed desk seat tag = (1 ≤ tag) × (tag ≤ 8 * desk.clients) × ((tag - 1) / 8 % desk.pumps ≡ seat.pump)
+IsServed desk seat tag = (1 ≤ tag) × (tag ≤ TAGS * desk.clients) × ((tag - 1) / TAGS % desk.pumps ≡ seat.pump)
 
 abbrev pub IsFreeAt : Customer → ℕ → Type 0
-IsFreeAt seat tag = (line : ClientLine) × (slice_get seat.lines ((tag - 1) % 8) ≡ Some line) × IsFree line.view
+IsFreeAt seat tag = (line : ClientLine) × (slice_get seat.lines ((tag - 1) % TAGS) ≡ Some line) × IsFree line.view
 
 abbrev pub with_view : List ClientLine → ℕ → ClientView → List ClientLine
 with_view [] k v = []
@@ -151,13 +152,13 @@ with_view (line ∷ lines) (suc k) v = line ∷ with_view lines k v
 
 -- the seat after a post
 abbrev pub posting : Customer → ℕ → ℕ → Slip → Customer
-posting seat tag ticket x = record { client = seat.client; least_ticket = ticket + 1; lines = with_view seat.lines ((tag - 1) % 8) (Open ticket x) }
+posting seat tag ticket x = record { client = seat.client; least_ticket = ticket + 1; lines = with_view seat.lines ((tag - 1) % TAGS) (Open ticket x) }
 
 -- a look that gave a slip: it ends the ticket that was open on the tag, and the tag is free after it
 abbrev pub ReapsAt : Customer → Customer → ℕ → Slip → Type 0
-ReapsAt old new tag y = (line : ClientLine) × (n : ℕ) × (x : Slip) × (slice_get old.lines ((tag - 1) % 8) ≡ Some line) × (line.view ≡ Open n x)
+ReapsAt old new tag y = (line : ClientLine) × (n : ℕ) × (x : Slip) × (slice_get old.lines ((tag - 1) % TAGS) ≡ Some line) × (line.view ≡ Open n x)
     × IsEnd tag n y
-    × (new ≡ record old { lines = with_view old.lines ((tag - 1) % 8) (Free (n + 1)) })
+    × (new ≡ record old { lines = with_view old.lines ((tag - 1) % TAGS) (Free (n + 1)) })
 
 -- a claim that was given: it holds an ask of the ticket, and the pump's line is out with it
 abbrev pub ClaimsAt : Server → Server → ℕ → ℕ → HeldClaim → Type 0
@@ -185,12 +186,12 @@ new_line table t = record { table = table; index = t; view = Free 0 }
 pub record IsNewCustomer (table : TableId) (c : ℕ) (seat : Customer) : Type 0 where
   pub client : seat.client ≡ c
   pub least_ticket : seat.least_ticket ≡ 0
-  pub count : length seat.lines ≡ 8
-  pub lines : (k : ℕ) (d : ClientLine) → k < 8 → slice_index_or seat.lines k d ≡ new_line table (8 * c + k)
+  pub count : length seat.lines ≡ TAGS
+  pub lines : (k : ℕ) (d : ClientLine) → k < TAGS → slice_index_or seat.lines k d ≡ new_line table (TAGS * c + k)
 
 -- what pump p has of the tag at index t once the tags below an index are dealt: a line that claimed nothing yet, where it serves the tag
 abbrev pub server_line : MadeDesk → ℕ → ℕ → ℕ → Option WorkLine
-server_line desk p below t = if nat_lt t below then (if t / 8 % desk.pumps == p then Some record {
+server_line desk p below t = if nat_lt t below then (if t / TAGS % desk.pumps == p then Some record {
   table = desk.table;
   index = t;
   view =
@@ -199,8 +200,8 @@ server_line desk p below t = if nat_lt t below then (if t / 8 % desk.pumps == p 
 
 pub record IsServerBelow (desk : MadeDesk) (below p : ℕ) (seat : Server) : Type 0 where
   pub pump : seat.pump ≡ p
-  pub count : length seat.lines ≡ 8 * desk.clients
-  pub lines : (t : ℕ) (d : Option WorkLine) → t < 8 * desk.clients → slice_index_or seat.lines t d ≡ server_line desk p below t
+  pub count : length seat.lines ≡ TAGS * desk.clients
+  pub lines : (t : ℕ) (d : Option WorkLine) → t < TAGS * desk.clients → slice_index_or seat.lines t d ≡ server_line desk p below t
 
 -- a pump's seat before any tag is dealt
 abbrev pub ServesNone : ℕ → ℕ → Server → Type 0
@@ -208,7 +209,7 @@ ServesNone p tags seat = (seat.pump ≡ p) × (length seat.lines ≡ tags) × ((
 
 -- a pump's seat on a new desk
 abbrev pub IsNewServer : MadeDesk → ℕ → Server → Type 0
-IsNewServer desk p seat = IsServerBelow desk (8 * desk.clients) p seat
+IsNewServer desk p seat = IsServerBelow desk (TAGS * desk.clients) p seat
 
 -- the pumps' seats once the tags below an index are dealt
 pub record AreServersBelow (desk : MadeDesk) (below : ℕ) (seats : List Server) : Type 0 where

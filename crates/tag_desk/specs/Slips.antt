@@ -3,11 +3,12 @@ use Rattle.std.specs.Prelude.{◌≡◌, ◌≢◌, ℕ, ◌%◌}
 use Rattle.scsi_cmd.specs.Replies.{reply_tag, reply_ticket}
 use Rattle.tag_desk.specs.declared.Slip.{Slip}
 use Rattle.tag_desk.specs.declared.Slip.TheVariants.{Ask, AskTask, Answer, Refused, Unserved}
+use Rattle.uas_profile.specs.declared.TheConstants.{TAGS}
 
--- a client posts commands on its first seven tags and task managements on its eighth, each with its ticket
+-- a client posts task managements on its last tag and commands on the others, each with its ticket
 abbrev pub IsAsk : ℕ → ℕ → Slip → Type 0
-IsAsk tag ticket (Ask n command) = (n ≡ ticket) × (tag % 8 ≢ 0)
-IsAsk tag ticket (AskTask n task) = (n ≡ ticket) × (tag % 8 ≡ 0)
+IsAsk tag ticket (Ask n command) = (n ≡ ticket) × (tag % TAGS ≢ 0)
+IsAsk tag ticket (AskTask n task) = (n ≡ ticket) × (tag % TAGS ≡ 0)
 IsAsk tag ticket (Answer reply) = ⊥
 IsAsk tag ticket (Refused n fault buffer) = ⊥
 IsAsk tag ticket (Unserved n buffer) = ⊥

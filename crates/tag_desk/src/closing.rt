@@ -6,7 +6,8 @@ ghost use Rattle.tag_desk.specs.Left.{IsAllPumpsOf, IsAllClientsOf, Gathers, wor
 
 use crate::lines::Work;
 use crate::remains::Lists;
-use crate::{CLIENT_TAGS, ClientSeat, Desk, Seats, WorkSeat};
+use crate::{ClientSeat, Desk, Seats, WorkSeat};
+use uas_profile::TAGS;
 
 impl WorkSeat {
     /// Its line of a tag, which is gone from it then.
@@ -26,7 +27,7 @@ impl Desk {
     pub(crate) fn settle_all(&self, seats: Seats, lists: &mut Lists)
         requires clients { IsAllClientsOf self.now seats.clients.items }
         requires pumps { IsAllPumpsOf self.now seats.pumps.items }
-        requires room { HasRoom (8 * self.now.clients) lists.old }
+        requires room { HasRoom (TAGS * self.now.clients) lists.old }
         requires none { so_far lists.old ≡ none_left }
         ensures { so_far lists.new ≡ left_of self.now seats.clients.items seats.pumps.items }
     {
@@ -40,18 +41,18 @@ impl Desk {
     fn settle_client(&self, seat: ClientSeat, pumps: &mut Vec<WorkSeat>, lists: &mut Lists)
         requires own { IsClientOf self.now seat }
         requires pumps { IsAllPumpsOf self.now pumps.old.items }
-        requires room { HasRoom 8 lists.old }
+        requires room { HasRoom TAGS lists.old }
         ensures lists { Gathers self.now seat pumps.old.items (so_far lists.old) (so_far lists.new) }
-        ensures room { (n : ℕ) → HasRoom (n + 8) lists.old → HasRoom n lists.new }
+        ensures room { (n : ℕ) → HasRoom (n + TAGS) lists.old → HasRoom n lists.new }
         ensures pumps { IsAllPumpsOf self.now pumps.new.items }
-        ensures others { (t : ℕ) → 8 * seat.client + 8 ≤ t → work_line self.now pumps.new.items t ≡ work_line self.now pumps.old.items t }
+        ensures others { (t : ℕ) → TAGS * seat.client + TAGS ≤ t → work_line self.now pumps.new.items t ≡ work_line self.now pumps.old.items t }
     {
         let ClientSeat {
             client,
             least_ticket: _,
             lines,
         } = seat;
-        let mut index = CLIENT_TAGS * client;
+        let mut index = TAGS * client;
         for line in lines {
             let work = self.take_work(pumps, index);
             lists.add((index + 1) as u16, line.settle(self, index, work));
@@ -61,14 +62,14 @@ impl Desk {
 
     /// The pump's line of a tag, which is gone from its seat then. The lines of other tags stay.
     fn take_work(&self, pumps: &mut Vec<WorkSeat>, index: usize) -> Option<Work>
-        requires within { index < 8 * self.now.clients }
+        requires within { index < TAGS * self.now.clients }
         requires pumps { IsAllPumpsOf self.now pumps.old.items }
         ensures line { result ≡ work_line self.now pumps.old.items index }
         ensures fits { IfSome result (λ work. (work.table ≡ self.now.table) × (work.index ≡ index)) }
         ensures pumps { IsAllPumpsOf self.now pumps.new.items }
         ensures others { (t : ℕ) → index < t → work_line self.now pumps.new.items t ≡ work_line self.now pumps.old.items t }
     {
-        let pump = index / CLIENT_TAGS % self.pumps;
+        let pump = index / TAGS % self.pumps;
         pumps[pump].take_line(index)
     }
 }

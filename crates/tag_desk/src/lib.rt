@@ -10,7 +10,7 @@
 //! is      client       the ask           claim       the end             client
 //! ```
 //!
-//! Tags 8 c + 1 to 8 c + 8 are those of client c, the last of them for task management; pump c mod the number of pumps
+//! Tags `TAGS` c + 1 to `TAGS` c + `TAGS` are those of client c, the last of them for task management; pump c mod the number of pumps
 //! serves them. Each tag has two seats at the table of words, its client's and its pump's, and a seat knows what it did
 //! there last. The rule, for each tag at all times:
 //!
@@ -34,6 +34,7 @@ ghost use Rattle.tag_desk.specs.Slips.{ticket_in, IsAsk, IsEnd};
 ghost use Rattle.tag_desk.specs.Seats.{IsClientOf, IsPumpOf, IsTagOf, IsServed, IsFreeAt, IsAway};
 ghost use Rattle.tag_desk.specs.Seats.{posting, finishing, ReapsAt, ClaimsAt, AreNewCustomers, AreServersBelow};
 ghost use Rattle.tag_desk.specs.Left.{IsAllClientsOf, IsAllPumpsOf, left_of};
+ghost use Rattle.uas_profile.specs.declared.TheConstants.{MAX_CLIENTS};
 
 mod closing;
 mod lines;
@@ -47,14 +48,10 @@ pub use remains::{Left, TagList, TagSlip, TagSlips, TagTicket, TagTickets};
 use scsi_cmd::{Buffer, Command, Reply, SubmitFault, Task};
 use std::alloc::{AllocError, Global};
 use std::marker::Model;
+use uas_profile::TAGS;
 
 /// Want of memory.
 pub type NoMemory = AllocError;
-
-/// Tags of a client.
-pub const CLIENT_TAGS: usize = 8;
-
-const _: () = prove!(CLIENT_TAGS == 8);
 
 /// What a client and its pump hand to each other.
 #[derive(Debug, Drop)]
@@ -188,7 +185,7 @@ impl ClientSeat {
         ensures { IsTrue result ↔ IsFreeAt self.now tag }
     {
         let index = usize::from(tag) - 1;
-        self.lines[index % CLIENT_TAGS].is_free()
+        self.lines[index % TAGS].is_free()
     }
 }
 
@@ -217,14 +214,14 @@ pub struct Seats {
 }
 
 impl Desk {
-    /// A desk of free tags for 1 to 31 clients and 1, 2 or 4 pumps, and its seats.
+    /// A desk of free tags for 1 to 15 (`MAX_CLIENTS`) clients and 1, 2 or 4 pumps, and its seats.
     pub fn new(alloc: Global, clients: usize, pumps: usize) -> Result<(Desk, Seats), NoMemory>
         requires some { 0 < clients }
-        requires most { clients ≤ 31 }
+        requires most { clients ≤ MAX_CLIENTS }
         requires pumps { (pumps ≡ 1) ⊎ (pumps ≡ 2) ⊎ (pumps ≡ 4) }
         ensures desk { IfOk result (λ made. (made.0.clients ≡ clients) × (made.0.pumps ≡ pumps)) }
         ensures clients { IfOk result (λ made. AreNewCustomers made.0.table clients made.1.clients.items) }
-        ensures pumps { IfOk result (λ made. AreServersBelow made.0 (8 * clients) made.1.pumps.items) }
+        ensures pumps { IfOk result (λ made. AreServersBelow made.0 (TAGS * clients) made.1.pumps.items) }
         ensures client_own { IfOk result (λ made. All (IsClientOf made.0) made.1.clients.items) }
         ensures client_free { IfOk result (λ made. All (λ seat. (tag : ℕ) → IsTagOf seat.client tag → IsFreeAt seat tag) made.1.clients.items) }
         ensures pump_own { IfOk result (λ made. All (IsPumpOf made.0) made.1.pumps.items) }
@@ -240,7 +237,7 @@ impl Desk {
         Ok((desk, seats))
     }
 
-    /// Posts a slip on a tag of the client that its seat knows to be free: a task management on the eighth of its tags,
+    /// Posts a slip on a tag of the client that its seat knows to be free: a task management on the last of its tags,
     /// a command on another one. The ticket is below `2^60` and above all that the seat posted.
     pub fn post(&self, seat: &mut ClientSeat, tag: u16, slip: Slip)
         requires own { IsClientOf self.now seat.old }
@@ -254,7 +251,7 @@ impl Desk {
     {
         let index = usize::from(tag) - 1;
         let ticket = slip.ticket();
-        seat.lines[index % CLIENT_TAGS].post(self, index, ticket, slip);
+        seat.lines[index % TAGS].post(self, index, ticket, slip);
         seat.least_ticket = ticket + 1;
     }
 
@@ -268,7 +265,7 @@ impl Desk {
         ensures free { IfSome result (λ slip. IsFreeAt seat.new tag) }
     {
         let index = usize::from(tag) - 1;
-        seat.lines[index % CLIENT_TAGS].look(self, index)
+        seat.lines[index % TAGS].look(self, index)
     }
 
     /// The claim of a ticket on a tag that the pump serves, where the client has it posted; nothing where it hasn't, or
@@ -316,7 +313,7 @@ impl Desk {
         requires pumps { IsAllPumpsOf self seats.pumps.items }
         ensures { MatchResult result (λ left. left ≡ left_of self seats.clients.items seats.pumps.items) (λ back. (back.0 ≡ self) × (back.1 ≡ seats)) }
     {
-        let Ok(mut lists) = Lists::with_room(alloc, CLIENT_TAGS * self.clients) else {
+        let Ok(mut lists) = Lists::with_room(alloc, TAGS * self.clients) else {
             return Err((self, seats));
         };
         self.settle_all(seats, &mut lists);

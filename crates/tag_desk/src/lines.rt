@@ -9,6 +9,7 @@ ghost use Rattle.tag_desk.specs.declared.Slip.{Slip};
 ghost use Rattle.tag_desk.specs.Rule.{client_in};
 ghost use Rattle.tag_desk.specs.Seats.{IsFree, Reaps, IsClaimOf, client_sat, new_line, next_ticket};
 ghost use Rattle.tag_desk.specs.Left.{standing};
+ghost use Rattle.uas_profile.specs.declared.TheConstants.{TAGS};
 
 use crate::remains::Standing;
 use crate::rule::{Deal, Finish, Lift, Look, Part, Post, Settle, TableSeat, Take, Unite};
@@ -76,7 +77,7 @@ impl Line {
     pub(crate) fn post(&mut self, desk: &Desk, index: usize, ticket: u64, slip: Slip)
         requires table { self.old.table ≡ desk.now.table }
         requires index { self.old.index ≡ index }
-        requires within { index < 8 * desk.now.clients }
+        requires within { index < TAGS * desk.now.clients }
         requires free { IsFree self.old.view }
         requires ticket { ticket < 2 ^ 60 }
         requires later { next_ticket self.old.view ≤ ticket }
@@ -99,7 +100,7 @@ impl Line {
     pub(crate) fn look(&mut self, desk: &Desk, index: usize) -> Option<Slip>
         requires table { self.old.table ≡ desk.now.table }
         requires index { self.old.index ≡ index }
-        requires within { index < 8 * desk.now.clients }
+        requires within { index < TAGS * desk.now.clients }
         ensures { MatchOption result (self.new ≡ self.old) (λ slip. Reaps self.old self.new slip) }
     {
         let ticket = self.posted?;
@@ -117,7 +118,7 @@ impl Line {
     pub(crate) fn settle(self, desk: &Desk, index: usize, work: Option<Work>) -> Standing
         requires table { self.table ≡ desk.now.table }
         requires index { self.index ≡ index }
-        requires within { index < 8 * desk.now.clients }
+        requires within { index < TAGS * desk.now.clients }
         requires work { IfSome work (λ line. (line.table ≡ desk.now.table) × (line.index ≡ index)) }
         ensures { result ≡ standing self.view work }
     {
@@ -137,7 +138,7 @@ impl Work {
     pub(crate) fn claim(self, desk: &Desk, tag: u16, ticket: u64) -> Result<Claim, Work>
         requires table { self.table ≡ desk.now.table }
         requires tag { tag ≡ self.index + 1 }
-        requires within { tag ≤ 8 * desk.now.clients }
+        requires within { tag ≤ TAGS * desk.now.clients }
         requires ticket { ticket < 2 ^ 60 }
         ensures { MatchResult result (λ claim. IsClaimOf self ticket claim) (λ work. work ≡ self) }
     {
@@ -167,7 +168,7 @@ impl Work {
     pub(crate) fn finish(claim: Claim, desk: &Desk, slip: Slip) -> Work
         requires table { claim.table ≡ desk.now.table }
         requires low { 1 ≤ claim.tag }
-        requires within { claim.tag ≤ 8 * desk.now.clients }
+        requires within { claim.tag ≤ TAGS * desk.now.clients }
         requires end { IsEnd claim.tag claim.ticket slip }
         ensures { result ≡ record { table = claim.table; index = claim.tag - 1; view = Finished claim.ticket slip } }
     {
@@ -189,7 +190,7 @@ impl Work {
     fn settle(self, desk: &Desk, index: usize, ticket: u64, mut seat: TableSeat) -> Standing
         requires table { (self.table ≡ desk.now.table) × (seat.table_id ≡ desk.now.table) }
         requires index { self.index ≡ index }
-        requires within { index < 8 * desk.now.clients }
+        requires within { index < TAGS * desk.now.clients }
         requires client { (x : Slip) × (seat.me ≡ client_sat index (Open ticket x)) }
         requires ticket { ticket < 2 ^ 60 }
         ensures { result ≡ standing (client_in seat.me.0) (Some self) }
@@ -211,7 +212,7 @@ impl Work {
 
 /// The next tag of the dealer: the client's line and the pump's, and the slot with the client's.
 pub(crate) fn deal(desk: &Desk, dealer: &mut TableSeat, index: usize) -> (Line, Work)
-    requires within { index < 8 * desk.now.clients }
+    requires within { index < TAGS * desk.now.clients }
     requires table { dealer.old.table_id ≡ desk.now.table }
     requires next { dealer.old.me.0 ≡ Dealer index }
     ensures line { result.0 ≡ new_line desk.now.table index }

@@ -3,11 +3,13 @@
 ghost use Rattle.std.specs.Prelude.{◌≡◌, ◌+◌, ◌*◌, ◌<◌, ◌≤◌, length, slice_set, IfOk, Some};
 ghost use Rattle.tag_desk.specs.Seats.{ServesNone, new_line, IsNewCustomer, AreNewCustomers, AreServersBelow};
 ghost use Rattle.tag_desk.specs.declared.rule.View.TheVariants.{Dealer};
+ghost use Rattle.uas_profile.specs.declared.TheConstants.{MAX_CLIENTS};
 
 use crate::lines::{self, Line, Work};
-use crate::{CLIENT_TAGS, ClientSeat, Desk, NoMemory, WorkSeat, rule};
+use crate::{ClientSeat, Desk, NoMemory, WorkSeat, rule};
 use atomic_table::Table;
 use std::alloc::Global;
+use uas_profile::TAGS;
 
 impl WorkSeat {
     /// A pump's seat that serves no tag yet.
@@ -38,12 +40,12 @@ impl Desk {
         pumps: usize,
     ) -> Result<(Desk, rule::TableSeat), NoMemory>
         requires some { 0 < clients }
-        requires most { clients ≤ 31 }
+        requires most { clients ≤ MAX_CLIENTS }
         requires pumps { 0 < pumps }
         ensures desk { IfOk result (λ made. (made.0.clients ≡ clients) × (made.0.pumps ≡ pumps)) }
         ensures dealer { IfOk result (λ made. (made.1.table_id ≡ made.0.table) × (made.1.me.0 ≡ Dealer 0)) }
     {
-        let tags = CLIENT_TAGS * clients;
+        let tags = TAGS * clients;
         let words = Vec::from_elem(alloc, 0, tags)?;
         let (table, dealer) = Table::vacant(alloc, words.as_slice(), tags, &tags)?;
         let desk = Desk {
@@ -60,7 +62,7 @@ impl Desk {
     {
         let mut servers = Vec::with_capacity(alloc, self.pumps)?;
         for pump in 0..self.pumps {
-            let seat = WorkSeat::serving_none(alloc, pump, CLIENT_TAGS * self.clients)?;
+            let seat = WorkSeat::serving_none(alloc, pump, TAGS * self.clients)?;
             servers.push(seat)?;
         }
         Ok(servers)
@@ -75,7 +77,7 @@ impl Desk {
         requires dealer { (dealer.old.table_id ≡ self.now.table) × (dealer.old.me.0 ≡ Dealer 0) }
         requires servers { AreServersBelow self.now 0 servers.old.items }
         ensures clients { IfOk result (λ seats. AreNewCustomers self.now.table self.now.clients seats.items) }
-        ensures pumps { IfOk result (λ seats. AreServersBelow self.now (8 * self.now.clients) servers.new.items) }
+        ensures pumps { IfOk result (λ seats. AreServersBelow self.now (TAGS * self.now.clients) servers.new.items) }
     {
         let mut customers = Vec::with_capacity(alloc, self.clients)?;
         for client in 0..self.clients {
@@ -92,16 +94,16 @@ impl Desk {
         servers: &mut Vec<WorkSeat>,
         client: usize,
     ) -> Result<ClientSeat, NoMemory>
-        requires client { (client < self.now.clients) × (client < 31) }
-        requires dealer { (dealer.old.table_id ≡ self.now.table) × (dealer.old.me.0 ≡ Dealer (8 * client)) }
-        requires servers { AreServersBelow self.now (8 * client) servers.old.items }
+        requires client { (client < self.now.clients) × (client < MAX_CLIENTS) }
+        requires dealer { (dealer.old.table_id ≡ self.now.table) × (dealer.old.me.0 ≡ Dealer (TAGS * client)) }
+        requires servers { AreServersBelow self.now (TAGS * client) servers.old.items }
         ensures seat { IfOk result (IsNewCustomer self.now.table client) }
-        ensures dealer { IfOk result (λ seat. (dealer.new.table_id ≡ self.now.table) × (dealer.new.me.0 ≡ Dealer (8 * client + 8))) }
-        ensures servers { IfOk result (λ seat. AreServersBelow self.now (8 * client + 8) servers.new.items) }
+        ensures dealer { IfOk result (λ seat. (dealer.new.table_id ≡ self.now.table) × (dealer.new.me.0 ≡ Dealer (TAGS * client + TAGS))) }
+        ensures servers { IfOk result (λ seat. AreServersBelow self.now (TAGS * client + TAGS) servers.new.items) }
     {
-        let mut lines = Vec::with_capacity(alloc, CLIENT_TAGS)?;
-        let first = CLIENT_TAGS * client;
-        for k in 0..CLIENT_TAGS {
+        let mut lines = Vec::with_capacity(alloc, TAGS)?;
+        let first = TAGS * client;
+        for k in 0..TAGS {
             lines.push(self.deal(dealer, servers, first + k))?;
         }
         Ok(ClientSeat {
@@ -112,7 +114,7 @@ impl Desk {
     }
 
     fn deal(&self, dealer: &mut rule::TableSeat, servers: &mut Vec<WorkSeat>, index: usize) -> Line
-        requires within { index < 8 * self.now.clients }
+        requires within { index < TAGS * self.now.clients }
         requires dealer { (dealer.old.table_id ≡ self.now.table) × (dealer.old.me.0 ≡ Dealer index) }
         requires servers { AreServersBelow self.now index servers.old.items }
         ensures line { result ≡ new_line self.now.table index }
@@ -120,7 +122,7 @@ impl Desk {
         ensures servers { AreServersBelow self.now (index + 1) servers.new.items }
     {
         let (line, work) = lines::deal(self, dealer, index);
-        let pump = index / CLIENT_TAGS % self.pumps;
+        let pump = index / TAGS % self.pumps;
         servers[pump].serve(index, work);
         line
     }

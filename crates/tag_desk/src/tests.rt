@@ -1,6 +1,7 @@
 ghost use Rattle.std.specs.Prelude.{◌≡◌, ◌≢◌, ◌<◌, ◌%◌, ◌^◌, IfOk, None};
 ghost use Rattle.tag_desk.specs.Slips.{ticket_in, IsAsk, IsEnd};
 ghost use Rattle.tag_desk.specs.Seats.{IsClientOf, IsPumpOf, IsTagOf, IsServed};
+ghost use Rattle.uas_profile.specs.declared.TheConstants.{TAGS};
 
 mod closed;
 mod threads;
@@ -14,7 +15,7 @@ use std::test::Fail;
 
 /// A WRITE of one block of these bytes.
 fn write(alloc: Global, tag: u16, ticket: u64, byte: u8) -> Result<Slip, AllocError>
-    requires { tag % 8 ≢ 0 }
+    requires { tag % TAGS ≢ 0 }
     ensures { IfOk result (λ slip. (ticket_in slip ≡ ticket) × IsAsk tag ticket slip) }
 {
     let op = Op::Write {

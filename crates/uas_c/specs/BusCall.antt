@@ -4,19 +4,19 @@ use Rattle.std.specs.Prelude.{List, [], ◌∷◌, ◌++◌, length, take, drop,
 use Rattle.std.specs.Option.{unwrap_or}
 use Rattle.arrayvec.specs.ArrayVec.{array_vec_len}
 use Rattle.block_unit.specs.BlockMaps.{BlockMaps}
-use Rattle.bus_core.specs.Drain.{Drained, drained}
-use Rattle.bus_core.specs.Shared.{Shared, due, shared_step}
-use Rattle.bus_core.specs.declared.Refusal.{Refusal}
-use Rattle.bus_core.specs.declared.Step.{Step}
-use Rattle.bus_core.specs.declared.Step.TheVariants as steps
+use Rattle.shared_machine.specs.Drain.{Drained, drained}
+use Rattle.shared_machine.specs.Shared.{Shared, due, shared_step}
+use Rattle.shared_machine.specs.declared.Refusal.{Refusal}
+use Rattle.shared_machine.specs.declared.Step.{Step}
+use Rattle.shared_machine.specs.declared.Step.TheVariants as steps
 use Rattle.scsi_cmd.specs.Faults.{fault_number}
 use Rattle.scsi_cmd.specs.declared.Op.{Op}
 use Rattle.scsi_cmd.specs.declared.Reply.{Reply}
 use Rattle.scsi_cmd.specs.declared.Reply.TheVariants as replies
 use Rattle.scsi_cmd.specs.declared.Task.{Task}
 use Rattle.scsi_cmd.specs.declared.Task.TheVariants as tasks
-use Rattle.stream_array.specs.declared.Pipe.{Pipe}
-use Rattle.stream_array.specs.declared.Pipe.TheVariants as pipes
+use Rattle.uas_profile.specs.declared.Pipe.{Pipe}
+use Rattle.uas_profile.specs.declared.Pipe.TheVariants as pipes
 use Rattle.uas_c.specs.DeviceCall.{data_shown}
 use Rattle.uas_c.specs.Door.{After, DoorAfter, numbered, refused, with_bytes}
 use Rattle.uas_c.specs.OperationRecord.{named_operation, operation_fault, yes}

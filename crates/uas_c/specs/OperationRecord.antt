@@ -2,9 +2,9 @@
 use Rattle.std.specs.Prelude.{◌≡◌, ℕ, Bool, true, false, if◌then◌else◌, ◌==◌, ◌&&◌, nat_le, nat_lt, Option, None, Some, Result, Ok, Err}
 use Rattle.scsi_cmd.specs.Op.{moved_bytes, direction_of}
 use Rattle.scsi_cmd.specs.declared.Op.{Op}
-use Rattle.scsi_cmd.specs.declared.Op.TheVariants.{TestUnitReady, Inquiry, ReadCapacity, Read, Write, Sync}
-use Rattle.scsi_cmd.specs.declared.Direction.{Direction}
-use Rattle.scsi_cmd.specs.declared.Direction.TheVariants.{Nothing, ToHost, ToDevice}
+use Rattle.scsi_cmd.specs.declared.Op.TheVariants.{TestUnitReady, Inquiry, ReadCapacity, Read, Write, Sync, Read16, Write16, ReadCapacity16}
+use Rattle.uas_profile.specs.declared.Direction.{Direction}
+use Rattle.uas_profile.specs.declared.Direction.TheVariants.{Nothing, ToHost, ToDevice}
 use Rattle.scsi_cmd.specs.declared.Sense.{Sense}
 use Rattle.uas_c.specs.RecordFault.{fault_of}
 use Rattle.uas_c.specs.declared.scsi.UasOperation.{UasOperation}
@@ -27,6 +27,12 @@ operation_fields (Write lba count fua) =
     record { lba = lba; count = count; bytes = 0; opcode = 0x2a; fua = yes fua; direction = 0; reserved = 0 }
 operation_fields (Sync lba count) =
     record { lba = lba; count = count; bytes = 0; opcode = 0x35; fua = 0; direction = 0; reserved = 0 }
+operation_fields (Read16 lba count fua) =
+    record { lba = lba; count = count; bytes = 0; opcode = 0x88; fua = yes fua; direction = 0; reserved = 0 }
+operation_fields (Write16 lba count fua) =
+    record { lba = lba; count = count; bytes = 0; opcode = 0x8a; fua = yes fua; direction = 0; reserved = 0 }
+operation_fields (ReadCapacity16 allocation) =
+    record { lba = 0; count = allocation; bytes = 0; opcode = 0x9e; fua = 0; direction = 0; reserved = 0 }
 
 -- which way data goes, as a byte
 abbrev pub way_number : Direction → ℕ
@@ -48,16 +54,26 @@ named_operation r =
     else (if r.opcode == 0x28 then Some (Read r.lba r.count (r.fua == 1))
     else (if r.opcode == 0x2a then Some (Write r.lba r.count (r.fua == 1))
     else (if r.opcode == 0x35 then Some (Sync r.lba r.count)
-    else None)))))
+    else (if r.opcode == 0x88 then Some (Read16 r.lba r.count (r.fua == 1))
+    else (if r.opcode == 0x8a then Some (Write16 r.lba r.count (r.fua == 1))
+    else (if r.opcode == 0x9e then Some (ReadCapacity16 r.count)
+    else None))))))))
 
--- an operation's own fields fit: a count two bytes, and FUA is 0 or 1
+-- a block's number and a count of a command of 10 bytes: four bytes and two
+abbrev pub short_fits : UasOperation → Bool
+short_fits r = nat_le r.lba 4294967295 && nat_le r.count 65535
+
+-- an operation's own fields fit: those of a command of 10 bytes, an allocation length of INQUIRY two, and FUA is 0 or 1
 abbrev pub operation_fits : UasOperation → Op → Bool
 operation_fits r TestUnitReady = true
 operation_fits r (Inquiry allocation) = nat_le r.count 65535
 operation_fits r ReadCapacity = true
-operation_fits r (Read lba count fua) = nat_le r.count 65535 && nat_lt r.fua 2
-operation_fits r (Write lba count fua) = nat_le r.count 65535 && nat_lt r.fua 2
-operation_fits r (Sync lba count) = nat_le r.count 65535
+operation_fits r (Read lba count fua) = short_fits r && nat_lt r.fua 2
+operation_fits r (Write lba count fua) = short_fits r && nat_lt r.fua 2
+operation_fits r (Sync lba count) = short_fits r
+operation_fits r (Read16 lba count fua) = nat_lt r.fua 2
+operation_fits r (Write16 lba count fua) = nat_lt r.fua 2
+operation_fits r (ReadCapacity16 allocation) = true
 
 -- the fault of a record that is to name an operation: 2 another code, 3 a field that doesn't fit
 abbrev pub operation_fault : UasOperation → ℕ

@@ -2,6 +2,7 @@
 use Rattle.std.specs.Prelude.{ℕ, ◌==◌, nat_le, nat_lt, Bool, ◌&&◌, ◌||◌, if◌then◌else◌, List, [], length, map, Result, Ok, Err}
 use Rattle.std.specs.List.{list_all}
 use Rattle.block_unit.specs.BlockMaps.{BlockMaps, fresh}
+use Rattle.uas_profile.specs.declared.TheConstants.{MAX_CLIENTS}
 use Rattle.uas_c.specs.declared.units.UnitsFault.{UnitsFault}
 use Rattle.uas_c.specs.declared.units.UnitsFault.TheVariants.{NoMemory, Count, Blocks}
 
@@ -13,10 +14,10 @@ zeroed_units counts = map (λ blocks. fresh blocks []) counts
 abbrev pub is_size : ℕ → Bool
 is_size blocks = nat_le 1 blocks && nat_le blocks 65536
 
--- 2 where there is no unit or there are more than 31, else 3 where one has another number of blocks
+-- 2 where there is no unit or there are more than 15, else 3 where one has another number of blocks
 abbrev pub units_fault : List ℕ → ℕ
 units_fault counts =
-    if length counts == 0 || nat_lt 31 (length counts) then 2 else (if list_all is_size counts then 0 else 3)
+    if length counts == 0 || nat_lt MAX_CLIENTS (length counts) then 2 else (if list_all is_size counts then 0 else 3)
 
 abbrev pub fault_number : UnitsFault → ℕ
 fault_number NoMemory = 1

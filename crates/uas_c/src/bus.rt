@@ -1,8 +1,8 @@
 //! The bus for C: host, controller and device as one machine of steps, over one call with a door.
 ghost use Rattle.std.specs.Prelude.{◌≡◌, ℕ, List, ◌<◌, ◌^◌, ◌-◌, ◌==◌, if◌then◌else◌, IfSome, option_map, length, min};
-ghost use Rattle.bus_core.specs.Bus.{HasTicket};
-ghost use Rattle.bus_core.specs.Drain.{drained};
-ghost use Rattle.bus_core.specs.Shared.{opening};
+ghost use Rattle.shared_machine.specs.Bus.{HasTicket};
+ghost use Rattle.shared_machine.specs.Drain.{drained};
+ghost use Rattle.shared_machine.specs.Shared.{opening};
 ghost use Rattle.uas_c.specs.BusCall.{after_due, after_reply, after_step, after_submit, after_task, bus_answer, bus_call_numbered, overlaid};
 ghost use Rattle.uas_c.specs.BusCall.{pipe_numbered, refusal_told, show_number, step_numbered, task_numbered, unit_of, with_buffer, with_drain, with_owner};
 ghost use Rattle.uas_c.specs.BusCall.{with_reply, with_told};
@@ -70,7 +70,7 @@ pub(crate) struct KeptBus {
 }
 
 impl Model for KeptBus {
-    ghost use Rattle.bus_core.specs.Shared.{Shared};
+    ghost use Rattle.shared_machine.specs.Shared.{Shared};
 
     ghost Value = { Shared };
 

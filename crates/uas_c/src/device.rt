@@ -12,9 +12,10 @@ mod handle;
 
 use crate::unit::put;
 use crate::units::OfUnits;
-use block_unit::{BLOCK_BYTES, Unit};
+use block_unit::Unit;
 use std::alloc::{AllocError, Global};
 use uas_iu::lun_bytes;
+use uas_profile::BLOCK_BYTES;
 use uas_target::{Phase, Target, Took};
 
 /// What a call of the device asks and answers. C writes `call` and what that call reads; the call writes what it answers.
@@ -123,8 +124,8 @@ fn served(target: &mut Target, door: &mut UasDeviceDoor, bytes: &mut [u8]) -> Re
         Call::Status => status(target, door, bytes),
         Call::Sent => sent(target, door),
         Call::Size => size(target, door),
-        Call::Blocks => show(contents_of(target, door.unit), door.lba, bytes),
-        Call::Medium => show(medium_of(target, door.unit), door.lba, bytes),
+        Call::Blocks => show(contents_of(target, door.unit), u64::from(door.lba), bytes),
+        Call::Medium => show(medium_of(target, door.unit), u64::from(door.lba), bytes),
     }
 }
 
@@ -238,7 +239,7 @@ fn size(target: &Target, door: &mut UasDeviceDoor) -> Result<(), Refusal>
 }
 
 /// Copies whole blocks from block `lba` on to `bytes`, as many as fill it.
-pub(crate) fn show(blocks: Option<&[u8]>, lba: u32, bytes: &mut [u8]) -> Result<(), Refusal>
+pub(crate) fn show(blocks: Option<&[u8]>, lba: u64, bytes: &mut [u8]) -> Result<(), Refusal>
     ensures { (number_of result, bytes.new) ≡ data_shown (option_map (λ all. all.now) blocks.entry) lba bytes.old }
 {
     let Some(blocks) = blocks else {
@@ -247,8 +248,11 @@ pub(crate) fn show(blocks: Option<&[u8]>, lba: u32, bytes: &mut [u8]) -> Result<
     if bytes.len() % BLOCK_BYTES != 0 {
         return Err(Refusal::Length);
     }
+    if lba > (blocks.len() / BLOCK_BYTES) as u64 {
+        return Err(Refusal::Range);
+    }
     let start = BLOCK_BYTES * lba as usize;
-    if start > blocks.len() || bytes.len() > blocks.len() - start {
+    if bytes.len() > blocks.len() - start {
         return Err(Refusal::Range);
     }
     bytes.copy_from_slice(&blocks[start..start + bytes.len()]);

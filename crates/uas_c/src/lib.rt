@@ -4,7 +4,7 @@
 //! |---|---|
 //! | trb.rt | `uas_trb_encode`, `uas_trb_decode` (xHCI 1.2, 6.4) |
 //! | unit.rt | `uas_unit_read`, `uas_unit_write` (INCITS 471, information units) |
-//! | scsi.rt | `uas_cdb_parse`, `uas_cdb_write`, `uas_sense_data`, `uas_inquiry_data`, `uas_capacity_data` (SPC and SBC) |
+//! | scsi.rt | `uas_cdb_parse`, `uas_cdb_write`, `uas_sense_data`, `uas_inquiry_data`, `uas_capacity_data`, `uas_long_capacity_data` (SPC and SBC) |
 //! | device/handle.rt | `uas_device_new`, `uas_device_call`, `uas_device_close` |
 //! | bus/handle.rt | `uas_bus_new`, `uas_bus_call`, `uas_bus_close` |
 //!

@@ -3,25 +3,25 @@ ghost use Rattle.std.specs.Prelude.{◌≡◌, ℕ, ◌<◌, ◌≤◌, ◌==◌
 ghost use Rattle.scsi_cmd.specs.Op.{cdb_bytes};
 ghost use Rattle.scsi_cmd.specs.Meaning.{asked, checked};
 ghost use Rattle.scsi_cmd.specs.Sense.{sense_bytes};
-ghost use Rattle.scsi_cmd.specs.Data.{inquiry_bytes, capacity_bytes};
+ghost use Rattle.scsi_cmd.specs.Data.{inquiry_bytes, capacity_bytes, long_capacity_bytes};
 ghost use Rattle.uas_c.specs.declared.record.RecordFault.{RecordFault};
 ghost use Rattle.uas_c.specs.RecordFault.{record_fault};
 ghost use Rattle.uas_c.specs.OperationRecord.{Parsed, capacity_fault, named_operation, operation_fault, operation_fields, operation_fits};
 ghost use Rattle.uas_c.specs.OperationRecord.{operation_record, sense_in, sense_record, way_number};
 
 use crate::record::RecordFault;
-use scsi_cmd::{Direction, INQUIRY_BYTES, Op, SENSE_BYTES, Sense, moves};
+use scsi_cmd::{Direction, INQUIRY_BYTES, LONG_CAPACITY_BYTES, Op, SENSE_BYTES, Sense, moves};
 
 /// An operation as C has it.
 #[repr(C)]
 #[derive(Clone, Copy)]
 pub struct UasOperation {
     /// READ, WRITE and SYNCHRONIZE CACHE: the first block.
-    pub lba: u32,
-    /// The same: blocks. INQUIRY: the allocation length.
-    pub count: u32,
+    pub lba: u64,
     /// What the command moves; isn't looked at.
-    pub bytes: u32,
+    pub bytes: u64,
+    /// The same as of `lba`: blocks. INQUIRY and READ CAPACITY(16): the allocation length.
+    pub count: u32,
     /// Byte 0 of the CDB.
     pub opcode: u8,
     /// READ and WRITE: 0 or 1.
@@ -53,6 +53,12 @@ const WRITE_10: u8 = 0x2a;
 
 const SYNCHRONIZE_CACHE_10: u8 = 0x35;
 
+const READ_16: u8 = 0x88;
+
+const WRITE_16: u8 = 0x8a;
+
+const READ_CAPACITY_16: u8 = 0x9e;
+
 fn way_number(direction: &Direction) -> u8
     ensures { result ≡ way_number direction.now }
 {
@@ -69,16 +75,24 @@ fn fields_of(op: &Op) -> UasOperation
 {
     let (opcode, lba, count, fua) = match *op {
         Op::TestUnitReady => (TEST_UNIT_READY, 0, 0, false),
-        Op::Inquiry { allocation } => (INQUIRY, 0, allocation, false),
+        Op::Inquiry { allocation } => (INQUIRY, 0, u32::from(allocation), false),
         Op::ReadCapacity => (READ_CAPACITY_10, 0, 0, false),
-        Op::Read { lba, count, fua } => (READ_10, lba, count, fua),
-        Op::Write { lba, count, fua } => (WRITE_10, lba, count, fua),
-        Op::Sync { lba, count } => (SYNCHRONIZE_CACHE_10, lba, count, false),
+        Op::Read { lba, count, fua } => (READ_10, u64::from(lba), u32::from(count), fua),
+        Op::Write { lba, count, fua } => (WRITE_10, u64::from(lba), u32::from(count), fua),
+        Op::Sync { lba, count } => (
+            SYNCHRONIZE_CACHE_10,
+            u64::from(lba),
+            u32::from(count),
+            false,
+        ),
+        Op::Read16 { lba, count, fua } => (READ_16, lba, count, fua),
+        Op::Write16 { lba, count, fua } => (WRITE_16, lba, count, fua),
+        Op::ReadCapacity16 { allocation } => (READ_CAPACITY_16, 0, allocation, false),
     };
     UasOperation {
         lba,
-        count: u32::from(count),
         bytes: 0,
+        count,
         opcode,
         fua: u8::from(fua),
         direction: 0,
@@ -92,7 +106,7 @@ fn record_of(op: Op) -> UasOperation
 {
     let (direction, bytes) = moves(&op);
     UasOperation {
-        bytes: bytes as u32,
+        bytes: bytes as u64,
         direction: way_number(&direction),
         ..fields_of(&op)
     }
@@ -104,7 +118,6 @@ pub(crate) fn read_operation(fields: &UasOperation) -> Result<Op, RecordFault>
     ensures fits { OnOk result (operation_fault fields.now ≡ 0) }
     ensures fault { IfErr result (λ fault. record_fault 2 3 fault ≡ operation_fault fields.now) }
 {
-    let lba = fields.lba;
     match fields.opcode {
         TEST_UNIT_READY => Ok(Op::TestUnitReady),
         INQUIRY => Ok(Op::Inquiry {
@@ -112,24 +125,50 @@ pub(crate) fn read_operation(fields: &UasOperation) -> Result<Op, RecordFault>
         }),
         READ_CAPACITY_10 => Ok(Op::ReadCapacity),
         READ_10 => Ok(Op::Read {
-            lba,
+            lba: block_of(fields.lba)?,
             count: count_of(fields.count)?,
             fua: fua_of(fields.fua)?,
         }),
         WRITE_10 => Ok(Op::Write {
-            lba,
+            lba: block_of(fields.lba)?,
             count: count_of(fields.count)?,
             fua: fua_of(fields.fua)?,
         }),
         SYNCHRONIZE_CACHE_10 => Ok(Op::Sync {
-            lba,
+            lba: block_of(fields.lba)?,
             count: count_of(fields.count)?,
+        }),
+        READ_16 => Ok(Op::Read16 {
+            lba: fields.lba,
+            count: fields.count,
+            fua: fua_of(fields.fua)?,
+        }),
+        WRITE_16 => Ok(Op::Write16 {
+            lba: fields.lba,
+            count: fields.count,
+            fua: fua_of(fields.fua)?,
+        }),
+        READ_CAPACITY_16 => Ok(Op::ReadCapacity16 {
+            allocation: fields.count,
         }),
         _ => Err(RecordFault::Unknown),
     }
 }
 
-/// A count has two bytes.
+/// A block's number has four bytes in the commands of 10.
+fn block_of(lba: u64) -> Result<u32, RecordFault>
+    ensures same { IfOk result (λ same. same ≡ lba) }
+    ensures fits { OnOk result (lba ≤ 4294967295) }
+    ensures over { OnErr result (4294967295 < lba) }
+    ensures fault { IfErr result (λ fault. fault ≡ RecordFault.Unfit) }
+{
+    if lba > 0xffff_ffff {
+        return Err(RecordFault::Unfit);
+    }
+    Ok(lba as u32)
+}
+
+/// A count has two bytes in the commands of 10 and in INQUIRY.
 fn count_of(count: u32) -> Result<u16, RecordFault>
     ensures same { IfOk result (λ same. same ≡ count) }
     ensures fits { OnOk result (count ≤ 65535) }
@@ -184,7 +223,8 @@ pub extern "C" fn uas_cdb_parse(
     }
 }
 
-/// The CDB that asks for an operation. 2 another code, 3 a count above 65,535 or FUA neither 0 nor 1: then `cdb` is as it was.
+/// The CDB that asks for an operation. 2 another code, 3 a block or a count that its field doesn't hold, or FUA neither 0 nor
+/// 1: then `cdb` is as it was.
 #[unsafe(no_mangle)]
 pub extern "C" fn uas_cdb_write(operation: &UasOperation, cdb: &mut [u8; 16]) -> u8
     ensures fault { result ≡ operation_fault operation.now }
@@ -233,5 +273,19 @@ pub extern "C" fn uas_capacity_data(blocks: u32, bytes: &mut [u8; 8]) -> u8
         return 1;
     }
     *bytes = scsi_cmd::capacity_data(blocks);
+    0
+}
+
+/// READ CAPACITY(16) data of a unit of so many blocks. 1 for none: then `bytes` are as they were.
+#[unsafe(no_mangle)]
+pub extern "C" fn uas_long_capacity_data(blocks: u32, bytes: &mut [u8; LONG_CAPACITY_BYTES]) -> u8
+    ensures fault { result ≡ capacity_fault blocks }
+    ensures data { result ≡ 0 → bytes.new ≡ long_capacity_bytes blocks }
+    ensures refused { 0 < result → bytes.new ≡ bytes.old }
+{
+    if blocks == 0 {
+        return 1;
+    }
+    *bytes = scsi_cmd::long_capacity_data(blocks);
     0
 }

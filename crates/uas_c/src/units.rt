@@ -1,12 +1,13 @@
 //! Zeroed units, and handles of what is made of them.
 ghost use Rattle.std.specs.Prelude.{◌≡◌, ◌≤◌, ◌<◌, List, vec_len, IfOk, true};
 ghost use Rattle.block_unit.specs.BlockMaps.{BlockMaps};
+ghost use Rattle.uas_profile.specs.declared.TheConstants.{MAX_CLIENTS};
 ghost use Rattle.std.specs.List.{list_all};
 ghost use Rattle.uas_c.specs.Units.{fault_number, is_size, units_number, units_told, zeroed_units};
 
-use block_unit::{MAX_BLOCKS, Unit};
+use block_unit::Unit;
 use std::alloc::{AllocError, Global};
-use uas_target::MAX_UNITS;
+use uas_profile::{MAX_BLOCKS, MAX_CLIENTS};
 
 /// Why no units are made.
 #[derive(Clone, Copy)]
@@ -28,10 +29,10 @@ impl UnitsFault {
 pub(crate) trait OfUnits: Sized {
     ghost of_units: { List BlockMaps → Self };
 
-    /// Of these units, 1 to 31 of them.
+    /// Of these units, 1 to 15 of them.
     fn of_units(alloc: Global, units: Vec<Unit>) -> Result<Self, AllocError>
         requires some { 1 ≤ vec_len units }
-        requires most { vec_len units ≤ 31 }
+        requires most { vec_len units ≤ MAX_CLIENTS }
         ensures { IfOk result (λ made. made ≡ of_units units.items) };
 }
 
@@ -73,12 +74,12 @@ fn made<T: OfUnits + Drop>(alloc: Global, blocks: &[u32]) -> Result<Box<T, Globa
     }
 }
 
-/// A unit of each of these numbers of blocks, all zeros: 1 to 31 of them.
+/// A unit of each of these numbers of blocks, all zeros: 1 to 15 of them.
 fn zeroed_units(alloc: Global, blocks: &[u32]) -> Result<Vec<Unit>, UnitsFault>
     ensures units { IfOk result (λ units. units.items ≡ zeroed_units blocks.now) }
     ensures fault { units_told (units_number result) blocks.now ≡ true }
 {
-    if blocks.is_empty() || blocks.len() > MAX_UNITS {
+    if blocks.is_empty() || blocks.len() > MAX_CLIENTS {
         return Err(UnitsFault::Count);
     }
     if !are_sizes(blocks) {

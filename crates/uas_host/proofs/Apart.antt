@@ -3,14 +3,15 @@ use Rattle.std.proofs.Common.{◌≡◌, ℕ, ◌<◌, ◌≤◌, arith}
 use Rattle.frame_store.specs.declared.Buffer.{Buffer}
 use Rattle.frame_store.specs.declared.Buffer.TheVariants.{Command as CommandBuffer, Status as StatusBuffer, Window}
 use Rattle.frame_store.specs.Places.{IsPlace, address_of}
-use Rattle.stream_array.specs.declared.Pipe.TheVariants.{Command, Status, DataIn, DataOut}
+use Rattle.uas_profile.specs.declared.TheConstants.{RINGS, WINDOWS}
+use Rattle.uas_profile.specs.declared.Pipe.TheVariants.{Command, Status, DataIn, DataOut}
 use Rattle.stream_array.specs.Map.{IsByteOf, IsSpot, Spot, ring_spot, engine_spot, event_spot}
 use Rattle.uas_host.specs.Laws.{RingsAreNoBuffers, TrbsNameBuffers}
 
 -- where the rings' bytes lie
 pub record IsInRings (address : ℕ) : Type 0 where
-  pub from : 0x41000000 ≤ address
-  pub below : address < 0x60004000
+  pub from : RINGS ≤ address
+  pub below : address < WINDOWS
 
 spot_range : (spot : Spot) (address : ℕ) → IsSpot spot → IsByteOf spot address → IsInRings address
 spot_range (ring_spot Command stream place) address there byte = record { from = omega (arith, there, byte); below = omega (arith, there, byte) }

@@ -15,6 +15,10 @@ pub first_changed-all : {A : Type 0} → (f : A → A) (list : List A) → first
 first_changed-all f [] = refl
 first_changed-all f (x ∷ xs) = ap (λ rest. f x ∷ rest) (first_changed-all f xs)
 
+-- all of them are, behind the last
+pub first_changed-end : {A : Type 0} → (f : A → A) (list now : List A) (n : ℕ) → n ≡ length list → now ≡ first_changed f n list → now ≡ map f list
+first_changed-end f list now n long so_far = so_far ∙ (ap (λ k. first_changed f k list) long ∙ first_changed-all f list)
+
 pub first_changed-same : {A : Type 0} → (f : A → A) (n : ℕ) (list : List A) → length (first_changed f n list) ≡ length list
 first_changed-same f zero list = refl
 first_changed-same f (suc n) [] = refl

@@ -3,11 +3,13 @@ use Rattle.std.proofs.Common.{◌≡◌, ℕ, zero, suc, Bool, true, false, ◌-
 use Rattle.std.proofs.Common.{arith, ap, ◌∙◌, inl, inr}
 use Rattle.std.specs.Prelude.{nat_lt, slice_get, slice_set, option_and_then, option_map}
 use Rattle.std.proofs.lemmas.Bool.{cases_Bool, ltb-true, ltb-false}
+use Rattle.uas_profile.specs.declared.TheConstants.{ENGINE_RING_PLACES}
 use Rattle.xhci_trb.specs.declared.Trb.{Trb}
 use Rattle.cycle_ring.specs.Ring.{IsConsumed, IsRing, NamedItemsHaveAddresses, Ring, consumed_at, consumed_item, item_at, oldest_of, pointer_of, reclaimed}
-use Rattle.stream_array.specs.declared.Pipe.{Pipe}
-use Rattle.stream_array.specs.declared.Pipe.TheVariants.{Command, Status, DataIn, DataOut}
-use Rattle.stream_array.specs.Map.{HasRing, HasStreams, places_of}
+use Rattle.uas_profile.specs.declared.Pipe.{Pipe}
+use Rattle.uas_profile.specs.declared.Pipe.TheVariants.{Command, Status, DataIn, DataOut}
+use Rattle.uas_profile.specs.Pipes.{HasStreams}
+use Rattle.stream_array.specs.Map.{HasRing, places_of}
 use Rattle.stream_array.specs.Rings.{ChangedRingIsThere, IsLines, LinesState, ring_of, with_ring}
 use Rattle.uas_host.specs.Retirement.{emptied, with_first_freed}
 use Rattle.uas_host.proofs.Reclaiming.{reclaimed_further}
@@ -24,13 +26,13 @@ item-below r item is =
       | inr above ↦ absurd (no-item r item above is)
     ]
 
-pub engine-item : NamedItemsHaveAddresses → (r : Ring) (pointer : ℕ) → IsSome (consumed_at 16 r pointer) →
-    (item : ℕ) × (item_at 16 r pointer ≡ Some item) × IsConsumed 16 r item pointer
+pub engine-item : NamedItemsHaveAddresses → (r : Ring) (pointer : ℕ) → IsSome (consumed_at ENGINE_RING_PLACES r pointer) →
+    (item : ℕ) × (item_at ENGINE_RING_PLACES r pointer ≡ Some item) × IsConsumed ENGINE_RING_PLACES r item pointer
 engine-item named r pointer is =
-    elim (item_at 16 r pointer) as (λ o. item_at 16 r pointer ≡ o → IsSome (option_and_then (consumed_item r) o) →
-    (item : ℕ) × (item_at 16 r pointer ≡ Some item) × IsConsumed 16 r item pointer) [
+    elim (item_at ENGINE_RING_PLACES r pointer) as (λ o. item_at ENGINE_RING_PLACES r pointer ≡ o → IsSome (option_and_then (consumed_item r) o) →
+    (item : ℕ) × (item_at ENGINE_RING_PLACES r pointer ≡ Some item) × IsConsumed ENGINE_RING_PLACES r item pointer) [
       | None ↦ λ none found. absurd (cc)
-      | Some item ↦ λ some found. (item, some, (item-below r item found, (named 16 item pointer r (omega arith) some).1))
+      | Some item ↦ λ some found. (item, some, (item-below r item found, (named ENGINE_RING_PLACES item pointer r (omega arith) some).1))
     ] refl is
 
 -- A RING FREED TRB BY TRB

@@ -2,43 +2,49 @@
 use Rattle.std.proofs.Common.{◌≡◌, ℕ, ◌+◌, ◌-◌, ◌/◌, ◌%◌, ◌<◌, ◌≤◌, ◌==◌, Bool, Option, Some, None, nat_lt, nat_le, refl, arith, inl, inr, if◌then◌else◌}
 use Rattle.std.specs.Prelude.{option_and_then, option_map}
 use Rattle.std.proofs.lemmas.Bool.{ltb-true, ltb-false, leb-true, leb-false, eqb-true, cases_Bool}
+use Rattle.uas_profile.specs.declared.TheConstants.{STREAM_RING_PLACES}
 use Rattle.xhci_trb.specs.declared.Trb.{Trb}
 use Rattle.xhci_trb.specs.Text.{has_chain}
 use Rattle.cycle_ring.specs.Ring.{Ring, IsConsumed, consumed_at, consumed_item, item_at, item_in, pointer_of}
-use Rattle.stream_array.specs.declared.Pipe.{Pipe}
-use Rattle.stream_array.specs.declared.Pipe.TheVariants.{Command, Status, DataIn, DataOut}
-use Rattle.stream_array.specs.Map.{HasRing, HasStreams, places_of}
+use Rattle.uas_profile.specs.declared.Pipe.{Pipe}
+use Rattle.uas_profile.specs.declared.Pipe.TheVariants.{Command, Status, DataIn, DataOut}
+use Rattle.uas_profile.specs.Pipes.{HasStreams}
+use Rattle.stream_array.specs.Map.{HasRing, places_of}
 use Rattle.stream_array.specs.Rings.{LinesState, ring_of}
 use Rattle.uas_host.specs.Events.{IsEnded}
 
-stands : (at place : ℕ) → place < 19 → (at + item_in 19 (at % 19) place) % 19 ≡ place
+-- the places of a stream's ring but the Link's
+abbrev trb_places : ℕ
+trb_places = STREAM_RING_PLACES - 1
+
+stands : (at place : ℕ) → place < trb_places → (at + item_in trb_places (at % trb_places) place) % trb_places ≡ place
 stands at place below =
-    elim (cases_Bool (nat_le (at % 19) place)) as (λ _. (at + item_in 19 (at % 19) place) % 19 ≡ place) [
-      | inl ahead ↦ let above = leb-true (at % 19) place ahead in rw ahead (omega arith)
-      | inr behind ↦ let under = leb-false (at % 19) place behind in rw behind (omega arith)
+    elim (cases_Bool (nat_le (at % trb_places) place)) as (λ _. (at + item_in trb_places (at % trb_places) place) % trb_places ≡ place) [
+      | inl ahead ↦ let above = leb-true (at % trb_places) place ahead in rw ahead (omega arith)
+      | inr behind ↦ let under = leb-false (at % trb_places) place behind in rw behind (omega arith)
     ]
 
 named_inside : (item offset : ℕ) (r : Ring) → offset % 16 ≡ 0 →
-    (if nat_le 19 (offset / 16) then None else Some (item_in 19 (r.at % 19) (offset / 16))) ≡ Some item →
-    r.base + offset ≡ pointer_of 20 r item
+    (if nat_le trb_places (offset / 16) then None else Some (item_in trb_places (r.at % trb_places) (offset / 16))) ≡ Some item →
+    r.base + offset ≡ pointer_of STREAM_RING_PLACES r item
 named_inside item offset r whole is =
-    elim (cases_Bool (nat_le 19 (offset / 16))) as (λ _. r.base + offset ≡ pointer_of 20 r item) [
+    elim (cases_Bool (nat_le trb_places (offset / 16))) as (λ _. r.base + offset ≡ pointer_of STREAM_RING_PLACES r item) [
       | inl past ↦ let none : None ≡ Some item = rw past at is in absurd (cc)
       | inr inside ↦
-          let some : Some (item_in 19 (r.at % 19) (offset / 16)) ≡ Some item = rw inside at is in
-          let same : item_in 19 (r.at % 19) (offset / 16) ≡ item = cc in
-          rw (← same, stands r.at (offset / 16) (leb-false 19 (offset / 16) inside)) (omega arith)
+          let some : Some (item_in trb_places (r.at % trb_places) (offset / 16)) ≡ Some item = rw inside at is in
+          let same : item_in trb_places (r.at % trb_places) (offset / 16) ≡ item = cc in
+          rw (← same, stands r.at (offset / 16) (leb-false trb_places (offset / 16) inside)) (omega arith)
     ]
 
 -- an address that names an item is the item's
-item_at-address : (r : Ring) (pointer item : ℕ) → item_at 20 r pointer ≡ Some item → pointer ≡ pointer_of 20 r item
+item_at-address : (r : Ring) (pointer item : ℕ) → item_at STREAM_RING_PLACES r pointer ≡ Some item → pointer ≡ pointer_of STREAM_RING_PLACES r item
 item_at-address r pointer item is =
-    elim (cases_Bool (nat_lt pointer r.base)) as (λ _. pointer ≡ pointer_of 20 r item) [
+    elim (cases_Bool (nat_lt pointer r.base)) as (λ _. pointer ≡ pointer_of STREAM_RING_PLACES r item) [
       | inl below ↦ let none : None ≡ Some item = rw below at is in absurd (cc)
       | inr above ↦
           let here = rw above at is in
           let reach = ltb-false pointer r.base above in
-          elim (cases_Bool ((pointer - r.base) % 16 == 0)) as (λ _. pointer ≡ pointer_of 20 r item) [
+          elim (cases_Bool ((pointer - r.base) % 16 == 0)) as (λ _. pointer ≡ pointer_of STREAM_RING_PLACES r item) [
             | inl whole ↦
                 let found = named_inside item (pointer - r.base) r (eqb-true ((pointer - r.base) % 16) 0 whole) (rw whole at here) in
                 omega (arith, found)
@@ -53,11 +59,11 @@ consumed_item-below r item trb is =
       | inr above ↦ let none : None ≡ Some trb = rw above at is in absurd (cc)
     ]
 
-consumed_at-item : (r : Ring) (pointer : ℕ) (trb : Trb) → consumed_at 20 r pointer ≡ Some trb → (item : ℕ) × (item_at 20 r pointer ≡ Some item)
-    × IsConsumed 20 r item pointer
+consumed_at-item : (r : Ring) (pointer : ℕ) (trb : Trb) → consumed_at STREAM_RING_PLACES r pointer ≡ Some trb → (item : ℕ) × (item_at STREAM_RING_PLACES r pointer ≡ Some item)
+    × IsConsumed STREAM_RING_PLACES r item pointer
 consumed_at-item r pointer trb is =
-    elim (item_at 20 r pointer) as (λ o. item_at 20 r pointer ≡ o → option_and_then (consumed_item r) o ≡ Some trb →
-    (item : ℕ) × (item_at 20 r pointer ≡ Some item) × IsConsumed 20 r item pointer) [
+    elim (item_at STREAM_RING_PLACES r pointer) as (λ o. item_at STREAM_RING_PLACES r pointer ≡ o → option_and_then (consumed_item r) o ≡ Some trb →
+    (item : ℕ) × (item_at STREAM_RING_PLACES r pointer ≡ Some item) × IsConsumed STREAM_RING_PLACES r item pointer) [
       | None ↦ λ none found. absurd (cc)
       | Some item ↦ λ some found. (item, some, (consumed_item-below r item trb found, item_at-address r pointer item some))
     ] refl is

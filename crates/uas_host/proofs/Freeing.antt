@@ -2,9 +2,10 @@
 use Rattle.std.proofs.Common.{◌≡◌, ℕ, zero, suc, ◌-◌, ◌<◌, false, List, [], ◌∷◌, take, drop, Some, None, refl, arith, sym, ap, ◌∙◌, inl, inr}
 use Rattle.std.specs.Prelude.{slice_get, nat_lt, option_map}
 use Rattle.std.proofs.lemmas.Bool.{cases_Bool}
+use Rattle.uas_profile.specs.declared.TheConstants.{COMMAND_RING_PLACES}
 use Rattle.xhci_trb.specs.declared.Trb.{Trb}
 use Rattle.cycle_ring.specs.Ring.{Ring, oldest_of, pointer_of, reclaimed}
-use Rattle.stream_array.specs.declared.Pipe.TheVariants.{Command}
+use Rattle.uas_profile.specs.declared.Pipe.TheVariants.{Command}
 use Rattle.stream_array.specs.Rings.{LinesState, with_ring}
 use Rattle.uas_host.specs.State.{HostState}
 use Rattle.uas_host.specs.Events.{commands_freed, done_before, is_awaited, with_commands_freed}
@@ -12,11 +13,11 @@ use Rattle.uas_host.proofs.Reclaiming.{reclaimed_further}
 
 -- the lines with the first TRB of the command pipe freed
 abbrev first_freed : LinesState → LinesState
-first_freed lines = with_ring lines Command 0 (reclaimed 256 1 lines.command)
+first_freed lines = with_ring lines Command 0 (reclaimed COMMAND_RING_PLACES 1 lines.command)
 
 freed_further : (lines : LinesState) (more : ℕ) → with_commands_freed (first_freed lines) more ≡ with_commands_freed lines (suc more)
 freed_further lines zero = refl
-freed_further lines (suc more) = ap (λ ring. record lines { command = ring }) (reclaimed_further 256 lines.command (suc more))
+freed_further lines (suc more) = ap (λ ring. record lines { command = ring }) (reclaimed_further COMMAND_RING_PLACES lines.command (suc more))
 
 done_first : (host : HostState) (put : List Trb) (got : ℕ) (trb : Trb) → 0 < got → slice_get put 0 ≡ Some trb → is_awaited host trb ≡ false →
     done_before host (take got put) ≡ suc (done_before host (take (got - 1) (drop 1 put)))
@@ -34,14 +35,14 @@ commands_freed-step host lines trb some is waits =
     ∙ ap (with_commands_freed lines) (sym (done_first host lines.command.put lines.command.got trb some is waits))
 
 -- the oldest TRB is the first
-pub oldest-first : (ring : Ring) (at : ℕ × Trb) → Some at ≡ oldest_of 256 ring → slice_get ring.put 0 ≡ Some at.1
+pub oldest-first : (ring : Ring) (at : ℕ × Trb) → Some at ≡ oldest_of COMMAND_RING_PLACES ring → slice_get ring.put 0 ≡ Some at.1
 oldest-first ring at is =
     elim (cases_Bool (nat_lt 0 ring.got)) as (λ _. slice_get ring.put 0 ≡ Some at.1) [
       | inl some ↦
-          let found : Some at ≡ option_map (λ trb. (pointer_of 256 ring 0, trb)) (slice_get ring.put 0) = rw some at is in
-          elim (slice_get ring.put 0) as (λ o. Some at ≡ option_map (λ trb. (pointer_of 256 ring 0, trb)) o → o ≡ Some at.1) [
+          let found : Some at ≡ option_map (λ trb. (pointer_of COMMAND_RING_PLACES ring 0, trb)) (slice_get ring.put 0) = rw some at is in
+          elim (slice_get ring.put 0) as (λ o. Some at ≡ option_map (λ trb. (pointer_of COMMAND_RING_PLACES ring 0, trb)) o → o ≡ Some at.1) [
             | None ↦ λ no. absurd (cc)
-            | Some trb ↦ λ yes_some. let same : at ≡ (pointer_of 256 ring 0, trb) = cc in ap Some (sym (ap (λ pair. pair.1) same))
+            | Some trb ↦ λ yes_some. let same : at ≡ (pointer_of COMMAND_RING_PLACES ring 0, trb) = cc in ap Some (sym (ap (λ pair. pair.1) same))
           ] found
       | inr none ↦ let no : Some at ≡ None = rw none at is in absurd (cc)
     ]

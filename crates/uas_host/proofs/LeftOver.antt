@@ -6,22 +6,23 @@ use Rattle.std.specs.Prelude.{◌==◌, ◌&&◌, ◌||◌, not, nat_lt, option_
 use Rattle.std.specs.Option.{option_map_or}
 use Rattle.std.proofs.lemmas.Bool.{cases_eq, cases_Bool, lt-ltb, ltb-true, ltb-false}
 use Rattle.std.proofs.lemmas.List.{get_or-set_same, get_or-set_other}
-use Rattle.stream_array.specs.declared.Pipe.{Pipe}
-use Rattle.stream_array.specs.declared.Pipe.TheVariants.{Command, Status, DataIn, DataOut}
+use Rattle.uas_profile.specs.declared.Pipe.{Pipe}
+use Rattle.uas_profile.specs.declared.Pipe.TheVariants.{Command, Status, DataIn, DataOut}
 use Rattle.scsi_cmd.specs.Held.{held_at}
-use Rattle.uas_host.specs.declared.TdState.{TdState}
-use Rattle.uas_host.specs.declared.TdState.TheVariants.{Pending, Seen}
+use Rattle.uas_profile.specs.declared.TdState.{TdState}
+use Rattle.uas_profile.specs.declared.TdState.TheVariants.{Pending, Seen}
 use Rattle.uas_host.specs.declared.HostAnswer.TheVariants.{Status as AnsweredStatus, Response as AnsweredResponse}
-use Rattle.uas_host.specs.declared.Place.{Place}
+use Rattle.uas_profile.specs.declared.Place.{Place}
 use Rattle.scsi_cmd.specs.declared.Op.{Op}
 use Rattle.scsi_cmd.specs.Op.{moved_bytes}
 use Rattle.scsi_cmd.specs.declared.Task.{Task}
-use Rattle.scsi_cmd.specs.declared.TheConstants.{TASK_SLOT}
+use Rattle.uas_profile.specs.declared.TheConstants.{TAGS, TASK_SLOT}
 use Rattle.uas_host.specs.declared.HostEntry.{HostEntry}
 use Rattle.uas_host.specs.declared.HostClient.{HostClient}
 use Rattle.uas_host.specs.declared.Notice.{Notice}
 use Rattle.uas_host.specs.declared.Notice.TheVariants.{CommandSeen, DataInSeen, DataOutSeen, Answered, Responded, TdRetired}
-use Rattle.uas_host.specs.State.{HostState, client_of, is_left_over, is_pending, new_client, with_client}
+use Rattle.uas_profile.specs.TdStates.{is_left_over, is_pending}
+use Rattle.uas_host.specs.State.{HostState, client_of, new_client, with_client}
 use Rattle.uas_host.specs.Submit.{data_td_for, new_entry, noted, submitted_client}
 use Rattle.uas_host.specs.Tasks.{managed, managed_client, noted_by, task_entry}
 use Rattle.uas_host.specs.Replies.{without}
@@ -165,8 +166,8 @@ AreMarked-none words clients none = record {
     none-at (suc count) (suc slot) = none-at count slot
 
     none-held : (clients client slot : ℕ) → holds_left_over (held_at (slice_index_or (replicate clients new_client) client new_client).entries slot) ≡ false
-    none-held zero client slot = none-at 8 slot
-    none-held (suc clients) zero slot = none-at 8 slot
+    none-held zero client slot = none-at TAGS slot
+    none-held (suc clients) zero slot = none-at TAGS slot
     none-held (suc clients) (suc client) slot = none-held clients client slot
 
 -- a client changes, and it is marked exactly where a TD of it is left over; or no more of it is left over, and its mark stays
@@ -251,38 +252,38 @@ AreMarked-seen words after notice host client slot now saw there are seen_so her
 
 -- what is under the tag after this number, and nothing where it names no client
 under-tag : (host : HostState) (pipe : Pipe) (before : ℕ) → is_left_over_on host pipe (suc before)
-    ≡ (if nat_lt (before / 8) (length host.clients) then is_held_left_over pipe (held_at (client_of host (before / 8)).entries (before % 8)) else false)
+    ≡ (if nat_lt (before / TAGS) (length host.clients) then is_held_left_over pipe (held_at (client_of host (before / TAGS)).entries (before % TAGS)) else false)
 under-tag host pipe before =
-    elim (nat_lt (before / 8) (length host.clients)) as (λ b.
+    elim (nat_lt (before / TAGS) (length host.clients)) as (λ b.
     option_map_or (is_td_left_over pipe) (option_and_then (λ (place : Place). held_at (client_of host place.client).entries place.slot)
-    (if b then Some (record { client = before / 8; slot = before % 8 }) else None)) false
-    ≡ (if b then is_held_left_over pipe (held_at (client_of host (before / 8)).entries (before % 8)) else false)) [
+    (if b then Some (record { client = before / TAGS; slot = before % TAGS }) else None)) false
+    ≡ (if b then is_held_left_over pipe (held_at (client_of host (before / TAGS)).entries (before % TAGS)) else false)) [
       | true ↦ refl
       | false ↦ refl
     ]
 
 -- the TD of a slot of a client that is there
-pub left_over-found : (host : HostState) (pipe : Pipe) (client slot tag : ℕ) → client < length host.clients → slot < 8 → tag ≡ client * 8 + slot + 1 →
+pub left_over-found : (host : HostState) (pipe : Pipe) (client slot tag : ℕ) → client < length host.clients → slot < TAGS → tag ≡ client * TAGS + slot + 1 →
     is_held_left_over pipe (held_at (client_of host client).entries slot) ≡ true → is_left_over_on host pipe tag ≡ true
 left_over-found host pipe client slot tag there within is left =
-    let next : tag ≡ suc (client * 8 + slot) = omega (arith, is) in
-    let owner : (client * 8 + slot) / 8 ≡ client = omega (arith, within) in
-    let place : (client * 8 + slot) % 8 ≡ slot = omega (arith, within) in
-    rw (next, under-tag host pipe (client * 8 + slot), owner, place, lt-ltb client (length host.clients) there) left
+    let next : tag ≡ suc (client * TAGS + slot) = omega (arith, is) in
+    let owner : (client * TAGS + slot) / TAGS ≡ client = omega (arith, within) in
+    let place : (client * TAGS + slot) % TAGS ≡ slot = omega (arith, within) in
+    rw (next, under-tag host pipe (client * TAGS + slot), owner, place, lt-ltb client (length host.clients) there) left
 
 -- the TD of a tag of a client that isn't marked
-unmarked-none : (words : List ℕ) (host : HostState) (pipe : Pipe) (before : ℕ) → AreMarked words host.clients → is_marked words (before / 8) ≡ false →
+unmarked-none : (words : List ℕ) (host : HostState) (pipe : Pipe) (before : ℕ) → AreMarked words host.clients → is_marked words (before / TAGS) ≡ false →
     is_left_over_on host pipe (suc before) ≡ false
 unmarked-none words host pipe before are unmarked =
     under-tag host pipe before
-    ∙ elim (nat_lt (before / 8) (length host.clients)) as (λ b. nat_lt (before / 8) (length host.clients) ≡ b →
-    (if b then is_held_left_over pipe (held_at (client_of host (before / 8)).entries (before % 8)) else false) ≡ false) [
+    ∙ elim (nat_lt (before / TAGS) (length host.clients)) as (λ b. nat_lt (before / TAGS) (length host.clients) ≡ b →
+    (if b then is_held_left_over pipe (held_at (client_of host (before / TAGS)).entries (before % TAGS)) else false) ≡ false) [
       | true ↦ λ there.
-          elim (cases_Bool (is_held_left_over pipe (held_at (client_of host (before / 8)).entries (before % 8)))) as
-          (λ _. is_held_left_over pipe (held_at (client_of host (before / 8)).entries (before % 8)) ≡ false) [
+          elim (cases_Bool (is_held_left_over pipe (held_at (client_of host (before / TAGS)).entries (before % TAGS)))) as
+          (λ _. is_held_left_over pipe (held_at (client_of host (before / TAGS)).entries (before % TAGS)) ≡ false) [
             | inl left ↦
-                let marked = are.left_over (before / 8) (before % 8) (ltb-true (before / 8) (length host.clients) there)
-                (pipe-held pipe (held_at (client_of host (before / 8)).entries (before % 8)) left) in
+                let marked = are.left_over (before / TAGS) (before % TAGS) (ltb-true (before / TAGS) (length host.clients) there)
+                (pipe-held pipe (held_at (client_of host (before / TAGS)).entries (before % TAGS)) left) in
                 let no : true ≡ false = sym marked ∙ unmarked in absurd (cc)
             | inr none ↦ none
           ]
@@ -292,24 +293,24 @@ unmarked-none words host pipe before are unmarked =
 -- where the clients from one on to another aren't marked, and of that one the TDs of the slots up to one aren't left over, no TD
 -- of the tags between is
 pub left_over-passed : (words : List ℕ) (host : HostState) (pipe : Pipe) (from client upto : ℕ) → AreMarked words host.clients → client < length host.clients →
-    upto ≤ 8 →
-    ((other : ℕ) → from / 8 ≤ other → other < client → is_marked words other ≡ false) →
-    ((slot : ℕ) → from - client * 8 ≤ slot → slot < upto → is_held_left_over pipe (held_at (client_of host client).entries slot) ≡ false) →
-    (other : ℕ) → from < other → other ≤ client * 8 + upto → is_left_over_on host pipe other ≡ false
+    upto ≤ TAGS →
+    ((other : ℕ) → from / TAGS ≤ other → other < client → is_marked words other ≡ false) →
+    ((slot : ℕ) → from - client * TAGS ≤ slot → slot < upto → is_held_left_over pipe (held_at (client_of host client).entries slot) ≡ false) →
+    (other : ℕ) → from < other → other ≤ client * TAGS + upto → is_left_over_on host pipe other ≡ false
 left_over-passed words host pipe from client upto are there most unmarked none zero after within = absurd (omega arith)
 left_over-passed words host pipe from client upto are there most unmarked none (suc before) after within =
-    elim (cases_eq (before / 8) client) as (λ _. is_left_over_on host pipe (suc before) ≡ false) [
+    elim (cases_eq (before / TAGS) client) as (λ _. is_left_over_on host pipe (suc before) ≡ false) [
       | inl same ↦
-          rw (under-tag host pipe before, same, lt-ltb client (length host.clients) there) (none (before % 8) (omega (arith, same)) (omega (arith, same)))
-      | inr apart ↦ unmarked-none words host pipe before are (unmarked (before / 8) (omega (arith, after)) (omega (arith, apart, within, most)))
+          rw (under-tag host pipe before, same, lt-ltb client (length host.clients) there) (none (before % TAGS) (omega (arith, same)) (omega (arith, same)))
+      | inr apart ↦ unmarked-none words host pipe before are (unmarked (before / TAGS) (omega (arith, after)) (omega (arith, apart, within, most)))
     ]
 
 -- where no client from one on is marked, no TD of a later tag is left over
 pub left_over-none : (words : List ℕ) (host : HostState) (pipe : Pipe) (from : ℕ) → AreMarked words host.clients →
-    ((other : ℕ) → from / 8 ≤ other → is_marked words other ≡ false) → (other : ℕ) → from < other → is_left_over_on host pipe other ≡ false
+    ((other : ℕ) → from / TAGS ≤ other → is_marked words other ≡ false) → (other : ℕ) → from < other → is_left_over_on host pipe other ≡ false
 left_over-none words host pipe from are unmarked zero after = absurd (omega arith)
 left_over-none words host pipe from are unmarked (suc before) after =
-    unmarked-none words host pipe before are (unmarked (before / 8) (omega (arith, after)))
+    unmarked-none words host pipe before are (unmarked (before / TAGS) (omega (arith, after)))
 
 -- of the tags up to one no TD is left over, nor of the tags from there up to another
 pub left_over-further : (host : HostState) (pipe : Pipe) (tag from upto : ℕ) →

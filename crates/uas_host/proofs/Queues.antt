@@ -7,7 +7,8 @@ use Rattle.std.proofs.lemmas.List.{get_or-set_same, get_or-set_other}
 use Rattle.std.proofs.lemmas.List.Sums.{sum_by-set, sum_by-cons}
 use Rattle.scsi_cmd.specs.Held.{held_at}
 use Rattle.uas_host.specs.declared.HostEntry.{HostEntry}
-use Rattle.uas_host.specs.State.{AreReady, is_ready, one_if, queued_if, readied_of, times_in}
+use Rattle.uas_profile.specs.TdStates.{one_if, times_in}
+use Rattle.uas_host.specs.State.{AreReady, is_ready, queued_if, readied_of}
 
 one_if_most : (b : Bool) → one_if b ≤ 1
 one_if_most true = omega arith

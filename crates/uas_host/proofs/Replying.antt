@@ -6,10 +6,11 @@ use Rattle.scsi_cmd.specs.Held.{held_at}
 use Rattle.uas_host.specs.declared.HostClient.{HostClient}
 use Rattle.scsi_cmd.specs.declared.Request.{Request}
 use Rattle.scsi_cmd.specs.declared.Request.TheVariants.{Execute, Manage}
-use Rattle.uas_host.specs.declared.TdState.{TdState}
-use Rattle.uas_host.specs.declared.TdState.TheVariants.{Pending, Seen, LeftOver, Retired}
+use Rattle.uas_profile.specs.declared.TdState.{TdState}
+use Rattle.uas_profile.specs.declared.TdState.TheVariants.{Pending, Seen, LeftOver, Retired}
 use Rattle.uas_host.specs.declared.HostAnswer.{HostAnswer}
-use Rattle.uas_host.specs.State.{HostState, IsHost, IsHostClient, WasTold, client_of, is_answer_to, is_data_over, is_given_up, is_over, is_seen}
+use Rattle.uas_profile.specs.TdStates.{is_over, is_seen}
+use Rattle.uas_host.specs.State.{HostState, IsHost, IsHostClient, WasTold, client_of, is_answer_to, is_data_over, is_given_up}
 use Rattle.uas_host.specs.State.{readied_of, with_client}
 use Rattle.uas_host.specs.Replies.{HasAnswer, IsReadySlot, has_answer, without}
 use Rattle.uas_host.proofs.Queues.{AreReady-take, IsFirst, readied-ready}

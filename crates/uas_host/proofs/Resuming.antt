@@ -4,16 +4,18 @@ use Rattle.std.specs.Prelude.{filter, cond}
 use Rattle.std.specs.List.{range_with_len}
 use Rattle.std.proofs.lemmas.List.{map-append}
 use Rattle.std.proofs.lemmas.List.Elements.{filter-append}
-use Rattle.stream_array.specs.declared.Pipe.{Pipe}
-use Rattle.stream_array.specs.declared.Pipe.TheVariants.{Command, Status, DataIn, DataOut}
-use Rattle.stream_array.specs.declared.TheConstants.{STREAMS}
-use Rattle.stream_array.specs.Map.{HasRing, HasStreams}
+use Rattle.uas_profile.specs.declared.Pipe.{Pipe}
+use Rattle.uas_profile.specs.declared.Pipe.TheVariants.{Command, Status, DataIn, DataOut}
+use Rattle.uas_profile.specs.declared.TheConstants.{STREAMS}
+use Rattle.uas_profile.specs.Pipes.{HasStreams}
+use Rattle.stream_array.specs.Map.{HasRing}
 use Rattle.stream_array.specs.Rings.{LinesState, ring_of}
-use Rattle.uas_host.specs.Doors.{door, target_of}
+use Rattle.uas_profile.specs.Doors.{door}
+use Rattle.uas_profile.specs.Pipes.{target_of}
 use Rattle.uas_host.specs.Retirement.{has_pending, pending_door, resumed_doors}
 
 -- a pipe with streams has a ring for each of them
-pub streams-ring : (pipe : Pipe) (stream : ℕ) → HasStreams pipe → 1 ≤ stream → stream ≤ 248 → HasRing pipe stream
+pub streams-ring : (pipe : Pipe) (stream : ℕ) → HasStreams pipe → 1 ≤ stream → stream ≤ STREAMS → HasRing pipe stream
 streams-ring Command stream has first last = absurd has
 streams-ring Status stream has first last = (omega arith, omega arith)
 streams-ring DataIn stream has first last = (omega arith, omega arith)

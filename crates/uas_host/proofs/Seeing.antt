@@ -5,12 +5,12 @@ use Rattle.std.specs.Prelude.{◌&&◌, not, option_and_then, option_map, cond, 
 use Rattle.std.specs.Option.{option_map_or}
 use Rattle.std.proofs.lemmas.List.{set-get_or}
 use Rattle.arrayvec.specs.ArrayVec.{ArrayVec}
-use Rattle.stream_array.specs.declared.Pipe.{Pipe}
-use Rattle.stream_array.specs.declared.Pipe.TheVariants.{Command, Status, DataIn, DataOut}
-use Rattle.scsi_cmd.specs.declared.TheConstants.{TAGS}
+use Rattle.uas_profile.specs.declared.Pipe.{Pipe}
+use Rattle.uas_profile.specs.declared.Pipe.TheVariants.{Command, Status, DataIn, DataOut}
+use Rattle.uas_profile.specs.declared.TheConstants.{TAGS}
 use Rattle.scsi_cmd.specs.Held.{AllHeld, held_at}
-use Rattle.uas_host.specs.declared.TdState.{TdState}
-use Rattle.uas_host.specs.declared.TdState.TheVariants.{Pending, Seen, LeftOver, Retired}
+use Rattle.uas_profile.specs.declared.TdState.{TdState}
+use Rattle.uas_profile.specs.declared.TdState.TheVariants.{Pending, Seen, LeftOver, Retired}
 use Rattle.uas_host.specs.declared.HostAnswer.TheVariants.{Status as AnsweredStatus, Response as AnsweredResponse}
 use Rattle.scsi_cmd.specs.declared.Request.{Request}
 use Rattle.scsi_cmd.specs.declared.Request.TheVariants.{Execute, Manage}
@@ -18,9 +18,11 @@ use Rattle.uas_host.specs.declared.HostEntry.{HostEntry}
 use Rattle.uas_host.specs.declared.HostClient.{HostClient}
 use Rattle.uas_host.specs.declared.Notice.{Notice}
 use Rattle.uas_host.specs.declared.Notice.TheVariants.{CommandSeen, DataInSeen, DataOutSeen, Answered, Responded, TdRetired}
-use Rattle.uas_host.specs.declared.Place.{Place}
-use Rattle.uas_host.specs.State.{HostState, IsHost, IsHostClient, WasTold, client_of, is_answer_to, is_given_up, is_left_over, is_over}
-use Rattle.uas_host.specs.State.{is_pending, is_ready, is_seen, new_client, one_if, queued_if, readied_of, with_client}
+use Rattle.uas_profile.specs.declared.Place.{Place}
+use Rattle.uas_profile.specs.TdStates.{is_left_over, is_over}
+use Rattle.uas_host.specs.State.{HostState, IsHost, IsHostClient, WasTold, client_of, is_answer_to, is_given_up}
+use Rattle.uas_profile.specs.TdStates.{is_pending, is_seen, one_if}
+use Rattle.uas_host.specs.State.{is_ready, new_client, queued_if, readied_of, with_client}
 use Rattle.scsi_cmd.specs.Request.{is_command, request_direction}
 use Rattle.uas_host.specs.Seen.{after_response, client_seen, completes, data_after, doomed, entries_after, goes_to_device, goes_to_host, is_data_left_over}
 use Rattle.uas_host.specs.Seen.{is_doomed, left_over_data, noted_in, place_seen, seen, seen_data, with_seen}

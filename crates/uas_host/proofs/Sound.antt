@@ -6,7 +6,7 @@ use Rattle.std.proofs.lemmas.Bool.{cases_eq}
 use Rattle.std.proofs.lemmas.List.{get_or-set_same, get_or-set_other, get_or-replicate, length-replicate}
 use Rattle.scsi_cmd.specs.declared.Op.{Op}
 use Rattle.scsi_cmd.specs.declared.Task.{Task}
-use Rattle.scsi_cmd.specs.declared.TheConstants.{TAGS, TASK_SLOT}
+use Rattle.uas_profile.specs.declared.TheConstants.{TAGS, TASK_SLOT, MAX_CLIENTS}
 use Rattle.scsi_cmd.specs.Held.{AllHeld}
 use Rattle.uas_host.specs.declared.HostEntry.{HostEntry}
 use Rattle.uas_host.specs.declared.HostClient.{HostClient}
@@ -31,7 +31,7 @@ AllHeld-none P (suc n) = (tt, AllHeld-none P n)
 -- CLIENTS
 
 new_client-sound : IsHostClient new_client
-new_client-sound = record { slots = length-replicate {A = Option HostEntry} 8 None; ready = AreReady-none 8; told = AllHeld-none WasTold 8 }
+new_client-sound = record { slots = length-replicate {A = Option HostEntry} TAGS None; ready = AreReady-none TAGS; told = AllHeld-none WasTold TAGS }
 
 pub IsHost-set : (host : HostState) (client : ℕ) (now : HostClient) → IsHost host → IsHostClient now → IsHost (with_client host client now)
 IsHost-set host client now is here = record {
@@ -51,7 +51,7 @@ pub IsHost-retirement : (host : HostState) (retirement : Option Retirement) → 
     IsHost (record { clients = host.clients; retirement = retirement })
 IsHost-retirement host retirement is sound = record { some = is.some; most = is.most; clients = is.clients; retirement = sound }
 
-pub opening-host : (clients : ℕ) → 1 ≤ clients → clients ≤ 31 → IsHost (opening clients)
+pub opening-host : (clients : ℕ) → 1 ≤ clients → clients ≤ MAX_CLIENTS → IsHost (opening clients)
 opening-host clients some most = record {
   some = omega (arith, some, length-replicate clients new_client);
   most = omega (arith, most, length-replicate clients new_client);

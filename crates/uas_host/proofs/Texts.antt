@@ -1,6 +1,7 @@
 -- The units in a tag's buffers.
 use Rattle.std.proofs.Common.{◌+◌, ◌*◌, sym, ◌/◌, ◌%◌, None, ◌≡◌, ℕ, zero, suc, ◌-◌, ◌∷◌, [], List, length, Some, arith, refl, ap, ◌∙◌, length-append}
 use Rattle.std.specs.Prelude.{slice_set, slice_index_or}
+use Rattle.uas_profile.specs.declared.TheConstants.{COMMAND_BYTES}
 use Rattle.uas_iu.specs.declared.Iu.{Iu}
 use Rattle.uas_iu.specs.declared.Iu.TheVariants.{Command, Sense, Response, Task}
 use Rattle.uas_iu.specs.Faults.{first_fault}
@@ -9,8 +10,8 @@ use Rattle.uas_iu.specs.Units.{unit_text, Fits, IsTextOf}
 use Rattle.frame_store.specs.declared.TagBuffers.{TagBuffers}
 use Rattle.frame_store.specs.Buffers.{held_for, no_buffers, with_held, with_lent}
 
--- a Command unit has 32 bytes
-pub command_text-length : (tag : ℕ) (lun cdb : List ℕ) → Fits (Command tag lun cdb) → length (unit_text (Command tag lun cdb)) ≡ 32
+-- the bytes of a Command unit
+pub command_text-length : (tag : ℕ) (lun cdb : List ℕ) → Fits (Command tag lun cdb) → length (unit_text (Command tag lun cdb)) ≡ COMMAND_BYTES
 unfolding unit_text
 command_text-length tag lun cdb fits = omega (arith, fits.1, fits.2, length-append lun cdb)
 

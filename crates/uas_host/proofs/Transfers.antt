@@ -2,6 +2,7 @@
 use Rattle.std.proofs.Common.{◌≡◌, ℕ, ◌-◌, Bool, true, false, List, take, drop, Option, Some, None, MatchOption, refl, sym, ◌∙◌}
 use Rattle.std.specs.Prelude.{option_map}
 use Rattle.std.proofs.lemmas.Bool.{false≢true}
+use Rattle.uas_profile.specs.declared.TheConstants.{STATUS_BYTES}
 use Rattle.stream_array.specs.Rings.{LinesState}
 use Rattle.frame_store.specs.declared.TagBuffers.{TagBuffers}
 use Rattle.frame_store.specs.Buffers.{held_for}
@@ -21,7 +22,7 @@ seen-after (Some now) host after saw was is = rw was.1 refl
 
 pub transfer-matched : (host after : HostState) (lines freed : LinesState) (frames : List TagBuffers) (pointer residual code : ℕ) (td : EndedTd)
     (unit sense : List ℕ) (sight : Sight) (saw : Bool) →
-    unit ≡ take (112 - residual) (held_for frames td.tag).status → sense ≡ drop 16 unit →
+    unit ≡ take (STATUS_BYTES - residual) (held_for frames td.tag).status → sense ≡ drop 16 unit →
     option_map (notice_by (drop 16 unit)) (Some sight) ≡ told_on td.pipe unit code td.tag →
     MatchOption (host_seen (notice_by sense sight) host td.tag) ((saw ≡ false) × (after ≡ host)) (λ now. (saw ≡ true) × (after ≡ now)) → saw ≡ true →
     freed ≡ freed_on td.pipe after lines td.tag pointer →

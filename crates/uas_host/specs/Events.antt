@@ -8,9 +8,9 @@ use Rattle.xhci_trb.specs.Text.{has_chain}
 use Rattle.cycle_ring.specs.Ring.{IsConsumed, consumed_at, item_at, reclaimed}
 use Rattle.event_ring.specs.declared.Event.{Event}
 use Rattle.event_ring.specs.declared.Event.TheVariants.{Transfer, Command as CommandCompletion}
-use Rattle.stream_array.specs.declared.Pipe.{Pipe}
-use Rattle.stream_array.specs.declared.Pipe.TheVariants.{Command, Status, DataIn, DataOut}
-use Rattle.stream_array.specs.declared.TheConstants.{ENGINE_RING_PLACES}
+use Rattle.uas_profile.specs.declared.Pipe.{Pipe}
+use Rattle.uas_profile.specs.declared.Pipe.TheVariants.{Command, Status, DataIn, DataOut}
+use Rattle.uas_profile.specs.declared.TheConstants.{STREAMS, ENGINE_RING_PLACES, STATUS_BYTES, COMMAND_BUFFERS, BUFFER_SPAN, SUCCESS, SHORT_PACKET}
 use Rattle.stream_array.specs.Map.{places_of, spot_at}
 use Rattle.stream_array.specs.Rings.{LinesState, ring_of, with_ring}
 use Rattle.frame_store.specs.declared.TagBuffers.{TagBuffers}
@@ -26,7 +26,8 @@ use Rattle.uas_host.specs.declared.Notice.TheVariants.{CommandSeen, DataInSeen, 
 use Rattle.uas_host.specs.declared.Retirement.{Retirement}
 use Rattle.uas_host.specs.declared.RetirementStage.{RetirementStage}
 use Rattle.uas_host.specs.declared.RetirementStage.TheVariants.{Stopping, Moving}
-use Rattle.uas_host.specs.State.{HostState, is_pending}
+use Rattle.uas_profile.specs.TdStates.{is_pending}
+use Rattle.uas_host.specs.State.{HostState}
 use Rattle.uas_host.specs.Retirement.{moved_lines, resumed_doors, retired_host, stopped_lines, with_retirement}
 pub use Rattle.uas_host.specs.Seen.{after_response, client_seen, completes, data_after, doomed, entries_after, goes_to_device, goes_to_host, held_of}
 pub use Rattle.uas_host.specs.Seen.{host_seen, is_data_left_over, is_doomed, is_td_left_over, left_over_data, left_over_td, noted_in, place_seen, seen}
@@ -35,14 +36,14 @@ pub use Rattle.uas_host.specs.Seen.{seen_data, with_retired, with_seen}
 -- WHICH TD
 
 abbrev pub is_tag : ℕ → Bool
-is_tag tag = nat_lt 0 tag && nat_le tag 248
+is_tag tag = nat_lt 0 tag && nat_le tag STREAMS
 
--- the tag at whose command buffer an address is. Worked: 10001200h is tag 18's, and 10001201h is none's.
+-- the tag at whose command buffer an address is. Worked: 10002200h is tag 34's, and 10002201h is none's.
 abbrev pub tag_at_buffer : ℕ → Option ℕ
 tag_at_buffer pointer =
-    if nat_lt pointer 0x10000000 then None
-    else (if not ((pointer - 0x10000000) % 0x100 == 0) then None
-    else (if is_tag ((pointer - 0x10000000) / 0x100) then Some ((pointer - 0x10000000) / 0x100) else None))
+    if nat_lt pointer COMMAND_BUFFERS then None
+    else (if not ((pointer - COMMAND_BUFFERS) % BUFFER_SPAN == 0) then None
+    else (if is_tag ((pointer - COMMAND_BUFFERS) / BUFFER_SPAN) then Some ((pointer - COMMAND_BUFFERS) / BUFFER_SPAN) else None))
 
 -- the tag whose command buffer a TRB of the command pipe names
 abbrev pub command_tag : Trb → Option ℕ
@@ -88,7 +89,7 @@ answer_by tag (SenseUnit told_tag status sense) = if told_tag == tag then Some (
 answer_by tag (ResponseUnit told_tag code) = if told_tag == tag then Some (Responded code) else None
 answer_by tag (TaskUnit told_tag function task_tag lun) = None
 
--- the code that a Response unit tells, byte 7. Worked: 04 00 00 18 00 00 00 00 tells 00h of tag 24.
+-- the code that a Response unit tells, byte 7. Worked: 04 00 00 30 00 00 00 00 tells 00h of tag 48.
 abbrev pub response_of : ℕ → List ℕ → Option Notice
 response_of tag bytes = if is_response_of tag bytes then Some (Responded (slice_index bytes 7)) else None
 
@@ -97,21 +98,21 @@ abbrev pub answer_in : ℕ → List ℕ → Option Notice
 answer_in tag bytes =
     if is_sense_of tag bytes then Some (Answered (slice_index bytes 6) (record { items = drop 16 bytes })) else response_of tag bytes
 
--- Success is 1, Short Packet 13 (xHCI 6.4.5)
+-- the code is Success (xHCI 6.4.5)
 abbrev pub succeeded : ℕ → Notice → Option Notice
-succeeded code notice = if code == 1 then Some notice else None
+succeeded code notice = if code == SUCCESS then Some notice else None
 
 -- what an event of a TD tells, by its code and the bytes that were written of its status buffer
 abbrev pub told_on : Pipe → List ℕ → ℕ → ℕ → Option Notice
 told_on Command unit code tag = succeeded code CommandSeen
-told_on Status unit code tag = if code == 13 then answer_in tag unit else None
+told_on Status unit code tag = if code == SHORT_PACKET then answer_in tag unit else None
 told_on DataIn unit code tag = succeeded code DataInSeen
 told_on DataOut unit code tag = succeeded code DataOutSeen
 
--- What an event of a TD tells, by its residual and its code. A status TD has 112 bytes, of which the residual weren't
--- written. Worked: residual 96 leaves the first 16 bytes of the status buffer; above 112 none is left.
+-- What an event of a TD tells, by its residual and its code. A status TD has the bytes of a status buffer, of which the residual
+-- weren't written. Worked: of 112 bytes, residual 96 leaves the first 16 of the status buffer; above 112 none is left.
 abbrev pub notice_on : Pipe → List TagBuffers → ℕ → ℕ → ℕ → Option Notice
-notice_on pipe frames residual code tag = told_on pipe (take (112 - residual) (held_for frames tag).status) code tag
+notice_on pipe frames residual code tag = told_on pipe (take (STATUS_BYTES - residual) (held_for frames tag).status) code tag
 
 abbrev pub notice_of : List TagBuffers → ℕ → ℕ → EndedTd → Option Notice
 notice_of frames residual code td = notice_on td.pipe frames residual code td.tag
@@ -175,7 +176,7 @@ handled_td sides frames pointer residual code (Some td) = handled_notice sides p
 
 -- the engine's command under way is done: it is consumed, at this address, and its code is 1
 abbrev pub is_engine_done : LinesState → ℕ → ℕ → Bool
-is_engine_done lines pointer code = is_some (consumed_at ENGINE_RING_PLACES lines.engine pointer) && (code == 1)
+is_engine_done lines pointer code = is_some (consumed_at ENGINE_RING_PLACES lines.engine pointer) && (code == SUCCESS)
 
 -- Stop Endpoint is done: Set TR Dequeue Pointer follows it
 abbrev pub handled_stop : Sides → ℕ → Retirement → Sides
@@ -233,5 +234,5 @@ IsEndedOn DataOut lines tag pointer = IsConsumedAt lines DataOut tag pointer
 
 pub record IsEnded (lines : LinesState) (pointer : ℕ) (td : EndedTd) : Type 0 where
   pub first_tag : 1 ≤ td.tag
-  pub last_tag : td.tag ≤ 248
+  pub last_tag : td.tag ≤ STREAMS
   pub consumed : IsEndedOn td.pipe lines td.tag pointer

@@ -2,14 +2,15 @@
 use Rattle.std.specs.Prelude.{◌≡◌, ℕ, ◌<◌, ◌==◌, Bool, true, false, ◌||◌, List, length, Option, slice_index_or}
 use Rattle.std.specs.List.{list_any}
 use Rattle.std.specs.Option.{option_map_or}
-use Rattle.stream_array.specs.declared.Pipe.{Pipe}
+use Rattle.uas_profile.specs.declared.Pipe.{Pipe}
 use Rattle.marks.specs.Marks.{is_marked}
 use Rattle.scsi_cmd.specs.Held.{held_at}
 use Rattle.uas_host.specs.declared.HostEntry.{HostEntry}
 use Rattle.uas_host.specs.declared.HostClient.{HostClient}
 use Rattle.uas_host.specs.declared.Notice.{Notice}
 use Rattle.uas_host.specs.declared.Notice.TheVariants.{CommandSeen, DataInSeen, DataOutSeen, Answered, Responded, TdRetired}
-use Rattle.uas_host.specs.State.{is_left_over, new_client}
+use Rattle.uas_profile.specs.TdStates.{is_left_over}
+use Rattle.uas_host.specs.State.{new_client}
 use Rattle.uas_host.specs.Seen.{is_td_left_over}
 
 -- WHAT IS LEFT OVER

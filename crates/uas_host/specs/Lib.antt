@@ -1,7 +1,5 @@
-pub mod Tags
 pub mod State
 pub mod Tds
-pub mod Doors
 pub mod Submit
 pub mod Tasks
 pub mod Seen
@@ -10,4 +8,5 @@ pub mod Left
 pub mod Retirement
 pub mod Events
 pub mod Replies
+pub mod NextReply
 pub mod Laws

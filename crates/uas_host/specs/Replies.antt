@@ -6,18 +6,18 @@ use Rattle.scsi_cmd.specs.declared.Reply.TheVariants.{Status as StatusReply, Abo
 use Rattle.scsi_cmd.specs.Held.{held_at}
 use Rattle.frame_store.specs.declared.TagBuffers.{TagBuffers}
 use Rattle.frame_store.specs.Buffers.{held_for, with_lent}
-use Rattle.scsi_cmd.specs.declared.TheConstants.{TAGS}
-use Rattle.uas_host.specs.declared.TheConstants.{MAX_CLIENTS}
-use Rattle.uas_host.specs.declared.TdState.{TdState}
-use Rattle.uas_host.specs.declared.TdState.TheVariants.{Pending, Seen, LeftOver, Retired}
+use Rattle.uas_profile.specs.declared.TheConstants.{TAGS, MAX_CLIENTS}
+use Rattle.uas_profile.specs.declared.TdState.{TdState}
+use Rattle.uas_profile.specs.declared.TdState.TheVariants.{Pending, Seen, LeftOver, Retired}
 use Rattle.uas_host.specs.declared.HostAnswer.{HostAnswer}
 use Rattle.uas_host.specs.declared.HostAnswer.TheVariants.{Unanswered, Status, Response}
 use Rattle.scsi_cmd.specs.declared.Request.{Request}
 use Rattle.scsi_cmd.specs.declared.Request.TheVariants.{Execute, Manage}
 use Rattle.uas_host.specs.declared.HostEntry.{HostEntry}
 use Rattle.uas_host.specs.declared.HostClient.{HostClient}
-use Rattle.uas_host.specs.State.{HostState, client_of, is_response, is_retired, is_seen, is_status, with_client}
-use Rattle.uas_host.specs.Tags.{tag_of}
+use Rattle.uas_profile.specs.TdStates.{is_retired, is_seen}
+use Rattle.uas_host.specs.State.{HostState, client_of, is_response, is_status, with_client}
+use Rattle.uas_profile.specs.Places.{tag_of}
 
 -- what a call for a reply changes, and the reply
 pub record Given : Type 0 where

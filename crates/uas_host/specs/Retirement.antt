@@ -6,22 +6,21 @@ use Rattle.std.specs.Option.{option_map_or}
 use Rattle.xhci_trb.specs.declared.Trb.{Trb}
 use Rattle.xhci_trb.specs.declared.Trb.TheVariants.{StopEndpoint, SetDequeue}
 use Rattle.cycle_ring.specs.Ring.{Ring, cycle_of, item_at, pointer_of, reclaimed}
-use Rattle.stream_array.specs.declared.Pipe.{Pipe}
-use Rattle.stream_array.specs.declared.TheConstants.{ENGINE_RING_PLACES, STREAMS}
-use Rattle.stream_array.specs.Map.{number_of, places_of}
+use Rattle.uas_profile.specs.declared.Pipe.{Pipe}
+use Rattle.uas_profile.specs.declared.TheConstants.{STREAMS, ENGINE_RING_PLACES, SLOT}
+use Rattle.uas_profile.specs.Pipes.{number_of, same_pipe}
+use Rattle.stream_array.specs.Map.{places_of}
 use Rattle.stream_array.specs.Rings.{LinesState, ring_of, with_engine, with_ring}
 use Rattle.uas_host.specs.declared.Notice.TheVariants.{TdRetired}
 use Rattle.uas_host.specs.declared.Retirement.{Retirement}
 use Rattle.uas_host.specs.declared.RetirementStage.TheVariants.{Stopping}
-use Rattle.uas_host.specs.Doors.{door, target_of}
+use Rattle.uas_profile.specs.Doors.{door}
+use Rattle.uas_profile.specs.Pipes.{target_of}
 use Rattle.uas_host.specs.State.{HostState}
 use Rattle.uas_host.specs.Seen.{held_of, is_td_left_over, place_seen}
-use Rattle.uas_host.specs.Tags.{place_of, tag_of}
+use Rattle.uas_profile.specs.Places.{place_of, tag_of}
 
 -- HELD PIPES
-
-abbrev pub same_pipe : Pipe → Pipe → Bool
-same_pipe one other = number_of one == number_of other
 
 -- a retirement of this pipe is under way, so the host rings no doorbell of it
 abbrev pub is_held : HostState → Pipe → Bool
@@ -29,16 +28,16 @@ is_held host pipe = option_map_or (λ retirement. same_pipe retirement.pipe pipe
 
 -- THE ENGINE'S COMMANDS
 
--- Stop Endpoint of a pipe's endpoint, slot 1. Worked: data-in is twelve zeros and 01 3c 05 01.
+-- Stop Endpoint of a pipe's endpoint of the device. Worked: data-in is twelve zeros and 01 3c 05 01.
 abbrev pub stop_trb : Pipe → Trb
-stop_trb pipe = StopEndpoint (target_of pipe) 1
+stop_trb pipe = StopEndpoint (target_of pipe) SLOT
 
 -- Set TR Dequeue Pointer to the enqueue place of a stream's ring. Worked: data-in, stream 18, place 3 with cycle 1 is
 -- 33 20 01 43, four zeros, 00 00 12 00, 01 40 05 01.
 abbrev pub move_trb : LinesState → Pipe → ℕ → Trb
 move_trb lines pipe tag =
     let ring = ring_of lines pipe tag in
-    SetDequeue (pointer_of (places_of pipe) ring (length ring.put)) (cycle_of (places_of pipe) ring (length ring.put)) tag (target_of pipe) 1
+    SetDequeue (pointer_of (places_of pipe) ring (length ring.put)) (cycle_of (places_of pipe) ring (length ring.put)) tag (target_of pipe) SLOT
 
 -- a command is put on the controller's command ring
 abbrev pub with_engine_command : LinesState → Trb → LinesState

@@ -3,14 +3,14 @@ use Rattle.std.specs.Prelude.{ℕ, ◌==◌, not, Bool, true, false, ◌&&◌, i
 use Rattle.std.specs.Prelude.{option_and_then}
 use Rattle.std.specs.Option.{option_map_or}
 use Rattle.std.specs.List.{list_any}
-use Rattle.stream_array.specs.declared.Pipe.{Pipe}
-use Rattle.stream_array.specs.declared.Pipe.TheVariants.{Command, Status, DataIn, DataOut}
-use Rattle.scsi_cmd.specs.declared.Direction.{Direction}
-use Rattle.scsi_cmd.specs.declared.Direction.TheVariants.{ToHost, ToDevice}
+use Rattle.uas_profile.specs.declared.Pipe.{Pipe}
+use Rattle.uas_profile.specs.declared.Pipe.TheVariants.{Command, Status, DataIn, DataOut}
+use Rattle.uas_profile.specs.declared.Direction.{Direction}
+use Rattle.uas_profile.specs.declared.Direction.TheVariants.{ToHost, ToDevice}
 use Rattle.scsi_cmd.specs.Request.{is_command, request_direction}
 use Rattle.scsi_cmd.specs.Held.{held_at}
-use Rattle.uas_host.specs.declared.TdState.{TdState}
-use Rattle.uas_host.specs.declared.TdState.TheVariants.{Seen, LeftOver, Retired}
+use Rattle.uas_profile.specs.declared.TdState.{TdState}
+use Rattle.uas_profile.specs.declared.TdState.TheVariants.{Seen, LeftOver, Retired}
 use Rattle.uas_host.specs.declared.HostAnswer.TheVariants.{Status as AnsweredStatus, Response as AnsweredResponse}
 use Rattle.scsi_cmd.specs.declared.Request.{Request}
 use Rattle.scsi_cmd.specs.declared.Request.TheVariants.{Execute, Manage}
@@ -18,9 +18,10 @@ use Rattle.uas_host.specs.declared.HostEntry.{HostEntry}
 use Rattle.uas_host.specs.declared.HostClient.{HostClient}
 use Rattle.uas_host.specs.declared.Notice.{Notice}
 use Rattle.uas_host.specs.declared.Notice.TheVariants.{CommandSeen, DataInSeen, DataOutSeen, Answered, Responded, TdRetired}
-use Rattle.uas_host.specs.declared.Place.{Place}
-use Rattle.uas_host.specs.State.{HostState, client_of, is_left_over, is_pending, is_ready, queued_if, with_client}
-use Rattle.uas_host.specs.Tags.{place_of}
+use Rattle.uas_profile.specs.declared.Place.{Place}
+use Rattle.uas_profile.specs.TdStates.{is_left_over, is_pending}
+use Rattle.uas_host.specs.State.{HostState, client_of, is_ready, queued_if, with_client}
+use Rattle.uas_profile.specs.Places.{place_of}
 
 -- TDS
 

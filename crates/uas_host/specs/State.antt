@@ -1,13 +1,13 @@
 -- What a host knows, and what is true of it.
 use Rattle.std.specs.Prelude.{◌≡◌, ℕ, ◌+◌, ◌<◌, ◌≤◌, ◌==◌, Bool, true, false, cond, ◌&&◌, List, [], ◌∷◌, ◌++◌, length, replicate, Option, Some, None}
 use Rattle.std.specs.Prelude.{IfSome, slice_set, slice_index_or}
-use Rattle.stream_array.specs.Map.{HasStreams}
+use Rattle.uas_profile.specs.TdStates.{is_seen, is_over, one_if, times_in}
+use Rattle.uas_profile.specs.Pipes.{HasStreams}
 use Rattle.scsi_cmd.specs.Request.{is_command}
-use Rattle.scsi_cmd.specs.declared.TheConstants.{TAGS}
+use Rattle.uas_profile.specs.declared.TheConstants.{TAGS, MAX_CLIENTS}
 use Rattle.scsi_cmd.specs.Held.{AllHeld, held_at}
-use Rattle.uas_host.specs.declared.TheConstants.{MAX_CLIENTS}
-use Rattle.uas_host.specs.declared.TdState.{TdState}
-use Rattle.uas_host.specs.declared.TdState.TheVariants.{Pending, Seen, LeftOver, Retired}
+use Rattle.uas_profile.specs.declared.TdState.{TdState}
+use Rattle.uas_profile.specs.declared.TdState.TheVariants.{Pending, Seen, LeftOver, Retired}
 use Rattle.uas_host.specs.declared.HostAnswer.{HostAnswer}
 use Rattle.uas_host.specs.declared.HostAnswer.TheVariants.{Status, Response}
 use Rattle.scsi_cmd.specs.declared.Request.{Request}
@@ -39,32 +39,6 @@ with_client host client now = record { clients = slice_set host.clients client n
 
 -- TDS
 
-abbrev pub same_state : TdState → TdState → Bool
-same_state Pending Pending = true
-same_state Seen Seen = true
-same_state LeftOver LeftOver = true
-same_state Retired Retired = true
-same_state _ _ = false
-
--- nothing more is to be done about it
-abbrev pub is_over : TdState → Bool
-is_over Seen = true
-is_over Retired = true
-is_over _ = false
-
--- the host waits for its event
-abbrev pub is_pending : TdState → Bool
-is_pending td = same_state Pending td
-
-abbrev pub is_seen : TdState → Bool
-is_seen td = same_state Seen td
-
-abbrev pub is_left_over : TdState → Bool
-is_left_over td = same_state LeftOver td
-
-abbrev pub is_retired : TdState → Bool
-is_retired td = same_state Retired td
-
 -- its event doesn't come: it was left over, and may be retired
 abbrev pub is_given_up : TdState → Bool
 is_given_up LeftOver = true
@@ -83,17 +57,9 @@ is_ready held = is_seen held.command_td && (is_over held.status_td && is_data_ov
 
 -- THE READY SLOTS
 
-abbrev pub one_if : Bool → ℕ
-one_if b = cond b 1 0
-
 abbrev pub readied_of : Option HostEntry → ℕ
 readied_of None = 0
 readied_of (Some held) = one_if (is_ready held)
-
--- how often a slot is in a queue
-abbrev pub times_in : ℕ → List ℕ → ℕ
-times_in slot [] = 0
-times_in slot (first ∷ rest) = one_if (first == slot) + times_in slot rest
 
 -- the slots whose entries are ready are queued, each once, and no other slot is
 abbrev pub AreReady : List (Option HostEntry) → List ℕ → Type 0

@@ -5,7 +5,7 @@ use Rattle.scsi_cmd.specs.declared.Op.{Op}
 use Rattle.scsi_cmd.specs.declared.SubmitFault.{SubmitFault}
 use Rattle.scsi_cmd.specs.declared.SubmitFault.TheVariants.{NotYours}
 use Rattle.scsi_cmd.specs.Op.{cdb_bytes, moved_bytes}
-use Rattle.scsi_cmd.specs.declared.TheConstants.{TAGS}
+use Rattle.uas_profile.specs.declared.TheConstants.{TAGS}
 use Rattle.scsi_cmd.specs.Submission.{first_submit_fault}
 use Rattle.scsi_cmd.specs.Held.{held_at}
 use Rattle.uas_iu.specs.declared.Iu.TheVariants.{Command as CommandUnit}
@@ -14,14 +14,14 @@ use Rattle.uas_iu.specs.Lun.{lun_text}
 use Rattle.frame_store.specs.declared.TagBuffers.{TagBuffers}
 use Rattle.frame_store.specs.Buffers.{held_for, with_held}
 use Rattle.stream_array.specs.Rings.{LinesState}
-use Rattle.uas_host.specs.declared.TdState.{TdState}
-use Rattle.uas_host.specs.declared.TdState.TheVariants.{Pending}
+use Rattle.uas_profile.specs.declared.TdState.{TdState}
+use Rattle.uas_profile.specs.declared.TdState.TheVariants.{Pending}
 use Rattle.uas_host.specs.declared.HostAnswer.TheVariants.{Unanswered}
 use Rattle.scsi_cmd.specs.declared.Request.TheVariants.{Execute}
 use Rattle.uas_host.specs.declared.HostEntry.{HostEntry}
 use Rattle.uas_host.specs.declared.HostClient.{HostClient}
 use Rattle.uas_host.specs.State.{HostState, client_of, with_client}
-use Rattle.uas_host.specs.Tags.{command_slot}
+use Rattle.uas_profile.specs.Places.{command_slot}
 use Rattle.uas_host.specs.Tds.{HasTdRoom}
 
 -- THE FAULTS
@@ -60,7 +60,7 @@ submitted_client held slot ticket op = record {
   ready = held.ready;
 }
 
--- the slot of a tag, whoever's it is. Worked: tag 18 has slot 1.
+-- the slot of a tag, whoever's it is. Worked: tag 34 has slot 1.
 abbrev pub slot_of : ℕ → ℕ
 slot_of tag = (tag - 1) % TAGS
 
@@ -75,7 +75,7 @@ submitted host client tag ticket op = noted host client (slot_of tag) ticket op
 -- THE BUFFERS
 
 -- The Command unit of an operation for the logical unit of a client, under this tag. Worked: INQUIRY of 36 bytes by client
--- 2 on tag 18 is 01 00 00 12 00 00 00 00 00 02 00 00 00 00 00 00 12 00 00 00 24 and eleven zeros.
+-- 2 on tag 34 is 01 00 00 22 00 00 00 00 00 02 00 00 00 00 00 00 12 00 00 00 24 and eleven zeros.
 abbrev pub command_text : ℕ → ℕ → Op → List ℕ
 command_text client tag op = unit_text (CommandUnit tag (lun_text client) (cdb_bytes op))
 

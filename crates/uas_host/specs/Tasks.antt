@@ -6,7 +6,7 @@ use Rattle.scsi_cmd.specs.declared.SubmitFault.{SubmitFault}
 use Rattle.scsi_cmd.specs.declared.SubmitFault.TheVariants.{NotYours}
 use Rattle.scsi_cmd.specs.declared.Task.{Task}
 use Rattle.scsi_cmd.specs.declared.Task.TheVariants.{Abort, Reset}
-use Rattle.scsi_cmd.specs.declared.TheConstants.{TASK_SLOT}
+use Rattle.uas_profile.specs.declared.TheConstants.{TASK_SLOT}
 use Rattle.scsi_cmd.specs.Submission.{first_task_fault}
 use Rattle.scsi_cmd.specs.Held.{held_at}
 use Rattle.uas_iu.specs.declared.Iu.TheVariants.{Task as TaskUnit}
@@ -14,14 +14,14 @@ use Rattle.uas_iu.specs.Units.{unit_text}
 use Rattle.uas_iu.specs.Lun.{lun_text}
 use Rattle.frame_store.specs.declared.TagBuffers.{TagBuffers}
 use Rattle.frame_store.specs.Buffers.{held_for, with_held}
-use Rattle.uas_host.specs.declared.TdState.TheVariants.{Pending}
+use Rattle.uas_profile.specs.declared.TdState.TheVariants.{Pending}
 use Rattle.uas_host.specs.declared.HostAnswer.TheVariants.{Unanswered}
 use Rattle.scsi_cmd.specs.declared.Request.TheVariants.{Manage}
 use Rattle.uas_host.specs.declared.HostEntry.{HostEntry}
 use Rattle.uas_host.specs.declared.HostClient.{HostClient}
 use Rattle.uas_host.specs.State.{HostState, client_of, with_client}
 use Rattle.uas_host.specs.Submit.{slot_of}
-use Rattle.uas_host.specs.Tags.{command_slot, tag_of}
+use Rattle.uas_profile.specs.Places.{command_slot, tag_of}
 
 -- the tag for task managements of a client. Worked: client 2's is 24.
 abbrev pub task_tag : ℕ → ℕ
@@ -34,7 +34,7 @@ abbrev pub is_held_at : HostClient → ℕ → Bool
 is_held_at held slot = is_some (held_at held.entries slot)
 
 -- There is something to manage: for an abort a command of this client on the tag, whoever's the tag is, that was submitted
--- and isn't yet taken. Worked: of three clients, client 2 can abort tag 18 while a command is on it, never tag 24 or 17 of
+-- and isn't yet taken. Worked: of three clients, client 2 can abort tag 34 while a command is on it, never tag 48 or 17 of
 -- another's.
 abbrev pub has_task : ℕ → ℕ → HostClient → Task → Bool
 has_task clients client held (Abort tag) = option_map_or (is_held_at held) (command_slot clients client tag) false
@@ -101,7 +101,7 @@ abbrev pub aborted_tag : Task → ℕ
 aborted_tag (Abort tag) = tag
 aborted_tag Reset = 0
 
--- The Task Management unit of a client. Worked: the abort of tag 18 by client 2 is 05 00 00 18 01 00 00 12 00 02 and six
+-- The Task Management unit of a client. Worked: the abort of tag 34 by client 2 is 05 00 00 30 01 00 00 22 00 02 and six
 -- zeros.
 abbrev pub task_text : ℕ → Task → List ℕ
 task_text client task = unit_text (TaskUnit (task_tag client) (function_of task) (aborted_tag task) (lun_text client))

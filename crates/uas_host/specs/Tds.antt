@@ -1,27 +1,28 @@
 -- The TDs of a command as TRBs (xHCI 4.11 and 6.4.1.1), and the rings that they are put on.
 use Rattle.std.specs.Prelude.{ℕ, zero, suc, ◌+◌, ◌-◌, ◌*◌, ◌/◌, ◌<◌, ◌≤◌, min, List, [], ◌∷◌, ◌++◌, length}
+use Rattle.uas_profile.specs.declared.TheConstants.{CHUNK_BYTES, COMMAND_BYTES, STATUS_BYTES, WINDOW_BYTES, COMMAND_BUFFERS, STATUS_BUFFERS, BUFFER_SPAN, WINDOWS, WINDOW_SPAN}
 use Rattle.xhci_trb.specs.declared.Trb.{Trb}
 use Rattle.xhci_trb.specs.declared.Trb.TheVariants.{Normal}
 use Rattle.xhci_trb.specs.declared.TrbFlags.{TrbFlags}
 use Rattle.scsi_cmd.specs.declared.Op.{Op}
-use Rattle.scsi_cmd.specs.declared.Direction.{Direction}
-use Rattle.scsi_cmd.specs.declared.Direction.TheVariants.{Nothing, ToHost, ToDevice}
+use Rattle.uas_profile.specs.declared.Direction.{Direction}
+use Rattle.uas_profile.specs.declared.Direction.TheVariants.{Nothing, ToHost, ToDevice}
 use Rattle.scsi_cmd.specs.Op.{moved_bytes, direction_of}
-use Rattle.stream_array.specs.declared.Pipe.{Pipe}
-use Rattle.stream_array.specs.declared.Pipe.TheVariants.{Command, Status, DataIn, DataOut}
+use Rattle.uas_profile.specs.declared.Pipe.{Pipe}
+use Rattle.uas_profile.specs.declared.Pipe.TheVariants.{Command, Status, DataIn, DataOut}
 use Rattle.stream_array.specs.Map.{places_of}
 use Rattle.stream_array.specs.Rings.{LinesState, ring_of, with_ring}
 
 -- WHERE A TAG'S BYTES LIE. Worked: tag 18 has its window at 100120000h, its status buffer at 20001200h and its command
 -- buffer at 10001200h.
 abbrev pub window_of : ℕ → ℕ
-window_of tag = 0x100000000 + 0x10000 * tag
+window_of tag = WINDOWS + WINDOW_SPAN * tag
 
 abbrev pub status_buffer_of : ℕ → ℕ
-status_buffer_of tag = 0x20000000 + 0x100 * tag
+status_buffer_of tag = STATUS_BUFFERS + BUFFER_SPAN * tag
 
 abbrev pub command_buffer_of : ℕ → ℕ
-command_buffer_of tag = 0x10000000 + 0x100 * tag
+command_buffer_of tag = COMMAND_BUFFERS + BUFFER_SPAN * tag
 
 -- FLAGS: ISP is 2, CH is 8, IOC is 16
 
@@ -40,16 +41,16 @@ packets_left bytes = min 31 ((bytes + 1023) / 1024)
 -- The data TRB at this address, with so many bytes of the TD left from it on, and so many more TRBs behind it. Worked:
 -- the first of 65,536 bytes has length 4,096, TD Size 31 and CH; one for 36 bytes has length 36, TD Size 0 and IOC.
 abbrev pub data_trb : ℕ → ℕ → ℕ → Trb
-data_trb pointer left more = Normal pointer (min 4096 left) (packets_left (left - 4096)) (data_flags more)
+data_trb pointer left more = Normal pointer (min CHUNK_BYTES left) (packets_left (left - CHUNK_BYTES)) (data_flags more)
 
 -- so many TRBs from this address on, for the bytes that are left
 abbrev pub data_trbs : ℕ → ℕ → ℕ → List Trb
 data_trbs zero pointer left = []
-data_trbs (suc more) pointer left = data_trb pointer left more ∷ data_trbs more (pointer + 4096) (left - 4096)
+data_trbs (suc more) pointer left = data_trb pointer left more ∷ data_trbs more (pointer + CHUNK_BYTES) (left - CHUNK_BYTES)
 
 -- how many TRBs so many bytes take. Worked: 4,096 bytes take one and 4,097 two.
 abbrev pub data_trb_count : ℕ → ℕ
-data_trb_count bytes = (bytes + 4095) / 4096
+data_trb_count bytes = (bytes + (CHUNK_BYTES - 1)) / CHUNK_BYTES
 
 -- the data TD of a tag's command that moves so many bytes
 abbrev pub data_td : ℕ → ℕ → List Trb
@@ -57,11 +58,11 @@ data_td tag bytes = data_trbs (data_trb_count bytes) (window_of tag) bytes
 
 -- a status TRB has room for the longest unit, with ISP and IOC
 abbrev pub status_td : ℕ → List Trb
-status_td tag = Normal (status_buffer_of tag) 112 0 (record { 0 = 18 }) ∷ []
+status_td tag = Normal (status_buffer_of tag) STATUS_BYTES 0 (record { 0 = 18 }) ∷ []
 
--- a command TRB has the 32 bytes of a Command unit, with IOC
+-- a command TRB has the bytes of a Command unit, with IOC
 abbrev pub command_td : ℕ → List Trb
-command_td tag = Normal (command_buffer_of tag) 32 0 (record { 0 = 16 }) ∷ []
+command_td tag = Normal (command_buffer_of tag) COMMAND_BYTES 0 (record { 0 = 16 }) ∷ []
 
 -- the command TRB of a task management has the 16 bytes of its unit, with IOC
 abbrev pub task_td : ℕ → List Trb
@@ -114,5 +115,5 @@ pub record HasTaskRoom (lines : LinesState) (tag : ℕ) : Type 0 where
 -- a TD that is put on a data pipe has 1 to 65,536 bytes
 abbrev pub IsOnData : Direction → ℕ → Type 0
 IsOnData Nothing bytes = Unit {0}
-IsOnData ToHost bytes = (0 < bytes) × (bytes ≤ 65536)
-IsOnData ToDevice bytes = (0 < bytes) × (bytes ≤ 65536)
+IsOnData ToHost bytes = (0 < bytes) × (bytes ≤ WINDOW_BYTES)
+IsOnData ToDevice bytes = (0 < bytes) × (bytes ≤ WINDOW_BYTES)

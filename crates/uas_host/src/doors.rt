@@ -1,14 +1,17 @@
 // Doorbells: those of a submission, and those of the streams of a pipe that is held no more.
 ghost use Rattle.std.specs.Prelude.{◌≡◌, ◌+◌, ◌++◌, ◌≤◌};
 ghost use Rattle.arrayvec.specs.ArrayVec.{array_vec_len};
-ghost use Rattle.stream_array.specs.Map.{HasRing, HasStreams};
-ghost use Rattle.uas_host.specs.Doors.{answer_doors, data_doors, door_unless, submission_doors};
-ghost use Rattle.uas_host.specs.Retirement.{is_held, pending_door, resumed_doors, same_pipe};
+ghost use Rattle.uas_profile.specs.Pipes.{HasStreams};
+ghost use Rattle.stream_array.specs.Map.{HasRing};
+ghost use Rattle.uas_profile.specs.Doors.{answer_doors, data_doors, door_unless, submission_doors};
+ghost use Rattle.uas_profile.specs.Pipes.{same_pipe};
+ghost use Rattle.uas_host.specs.Retirement.{is_held, pending_door, resumed_doors};
 
-use crate::{Host, MOST_DOORS};
+use crate::Host;
 use arrayvec::ArrayVec;
 use scsi_cmd::Direction;
-use stream_array::{Lines, Pipe, STREAMS, doorbell};
+use stream_array::{Lines, Pipe, doorbell};
+use uas_profile::{STREAM_ENTRIES, STREAMS};
 
 fn is_same(one: Pipe, other: Pipe) -> bool
     ensures { result ≡ same_pipe one other }
@@ -28,8 +31,8 @@ impl Host {
     }
 
     /// Rings a stream of a pipe, unless the pipe is held.
-    fn ring_stream(&self, doors: &mut ArrayVec<u32, MOST_DOORS>, pipe: Pipe, tag: u16)
-        requires { array_vec_len doors.old ≤ 255 }
+    fn ring_stream(&self, doors: &mut ArrayVec<u32, STREAM_ENTRIES>, pipe: Pipe, tag: u16)
+        requires { array_vec_len doors.old + 1 ≤ STREAM_ENTRIES }
         ensures doors { doors.new.items ≡ doors.old.items ++ door_unless (is_held self.now pipe) pipe tag }
         ensures len { array_vec_len doors.new ≤ array_vec_len doors.old + 1 }
     {
@@ -39,8 +42,8 @@ impl Host {
     }
 
     /// Rings the data stream of a submission that moves data this way.
-    fn ring_data(&self, doors: &mut ArrayVec<u32, MOST_DOORS>, direction: Direction, tag: u16)
-        requires { array_vec_len doors.old ≤ 255 }
+    fn ring_data(&self, doors: &mut ArrayVec<u32, STREAM_ENTRIES>, direction: Direction, tag: u16)
+        requires { array_vec_len doors.old + 1 ≤ STREAM_ENTRIES }
         ensures doors { doors.new.items ≡ doors.old.items ++ data_doors (is_held self.now) direction tag }
         ensures len { array_vec_len doors.new ≤ array_vec_len doors.old + 1 }
     {
@@ -52,8 +55,8 @@ impl Host {
     }
 
     /// Rings the status stream of a tag and the command pipe.
-    pub(crate) fn ring_answer(&self, doors: &mut ArrayVec<u32, MOST_DOORS>, tag: u16)
-        requires { array_vec_len doors.old ≤ 254 }
+    pub(crate) fn ring_answer(&self, doors: &mut ArrayVec<u32, STREAM_ENTRIES>, tag: u16)
+        requires { array_vec_len doors.old + 2 ≤ STREAM_ENTRIES }
         ensures { doors.new.items ≡ doors.old.items ++ answer_doors (is_held self.now) tag }
     {
         self.ring_stream(doors, Pipe::Status, tag);
@@ -61,8 +64,13 @@ impl Host {
     }
 
     /// Rings the doorbells of a submission that moves data this way: data, status, command.
-    pub(crate) fn ring(&self, doors: &mut ArrayVec<u32, MOST_DOORS>, direction: Direction, tag: u16)
-        requires { array_vec_len doors.old ≤ 253 }
+    pub(crate) fn ring(
+        &self,
+        doors: &mut ArrayVec<u32, STREAM_ENTRIES>,
+        direction: Direction,
+        tag: u16,
+    )
+        requires { array_vec_len doors.old + 3 ≤ STREAM_ENTRIES }
         ensures { doors.new.items ≡ doors.old.items ++ submission_doors (is_held self.now) direction tag }
     {
         self.ring_data(doors, direction, tag);
@@ -71,9 +79,9 @@ impl Host {
 }
 
 /// Rings a stream of a pipe, where it has a pending TRB.
-fn ring_pending(lines: &Lines, doors: &mut ArrayVec<u32, MOST_DOORS>, pipe: Pipe, stream: u16)
+fn ring_pending(lines: &Lines, doors: &mut ArrayVec<u32, STREAM_ENTRIES>, pipe: Pipe, stream: u16)
     requires ring { HasRing pipe stream }
-    requires doors { array_vec_len doors.old ≤ 255 }
+    requires doors { array_vec_len doors.old + 1 ≤ STREAM_ENTRIES }
     ensures doors { doors.new.items ≡ doors.old.items ++ pending_door lines.now pipe stream }
     ensures most { array_vec_len doors.new ≤ array_vec_len doors.old + 1 }
 {
@@ -83,9 +91,9 @@ fn ring_pending(lines: &Lines, doors: &mut ArrayVec<u32, MOST_DOORS>, pipe: Pipe
 }
 
 /// Rings every stream of a pipe that has a pending TRB, by rising stream.
-pub(crate) fn resume(lines: &Lines, doors: &mut ArrayVec<u32, MOST_DOORS>, pipe: Pipe)
+pub(crate) fn resume(lines: &Lines, doors: &mut ArrayVec<u32, STREAM_ENTRIES>, pipe: Pipe)
     requires streams { HasStreams pipe }
-    requires doors { array_vec_len doors.old ≤ 8 }
+    requires doors { array_vec_len doors.old + STREAMS ≤ STREAM_ENTRIES }
     ensures { doors.new.items ≡ doors.old.items ++ resumed_doors lines.now pipe }
 {
     for stream in 1..STREAMS + 1 {

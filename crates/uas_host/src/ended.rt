@@ -1,24 +1,20 @@
 // Which TD an event is of, by its pointer alone (xHCI 4.11.3, and the address maps of rings and buffers).
 ghost use Rattle.std.specs.Prelude.{◌≡◌, ◌≤◌, IfSome};
-ghost use Rattle.stream_array.specs.Map.{HasRing, HasStreams};
-ghost use Rattle.stream_array.specs.declared.Pipe.TheVariants as Pipe;
+ghost use Rattle.uas_profile.specs.Pipes.{HasStreams};
+ghost use Rattle.stream_array.specs.Map.{HasRing};
+ghost use Rattle.uas_profile.specs.declared.Pipe.TheVariants as Pipe;
 ghost use Rattle.uas_host.specs.Events.{command_tag, ended_on, tag_at_buffer, IsEnded};
 
 use crate::EndedTd;
-use crate::tds::{BUFFER_SPAN, COMMAND_BUFFERS};
 use stream_array::{Lines, Pipe};
+use uas_profile::{BUFFER_SPAN, COMMAND_BUFFERS, STREAMS};
 use xhci_trb::Trb;
-
-/// The greatest tag.
-const LAST_TAG: u64 = 248;
-
-const _: () = prove!(LAST_TAG == 248);
 
 /// The tag at whose command buffer an address is.
 #[inline(always)]
 fn tag_at(pointer: u64) -> Option<u16>
     ensures tag { result ≡ tag_at_buffer pointer }
-    ensures known { IfSome result (λ tag. (1 ≤ tag) × (tag ≤ 248)) }
+    ensures known { IfSome result (λ tag. (1 ≤ tag) × (tag ≤ STREAMS)) }
 {
     if pointer < COMMAND_BUFFERS {
         return None;
@@ -28,7 +24,7 @@ fn tag_at(pointer: u64) -> Option<u16>
         return None;
     }
     let tag = offset / BUFFER_SPAN;
-    if 0 < tag && tag <= LAST_TAG {
+    if 0 < tag && tag <= u64::from(STREAMS) {
         Some(tag as u16)
     } else {
         None
@@ -39,7 +35,7 @@ fn tag_at(pointer: u64) -> Option<u16>
 #[inline(always)]
 pub(crate) fn command_tag_of(trb: &Trb) -> Option<u16>
     ensures tag { result ≡ command_tag trb.now }
-    ensures known { IfSome result (λ tag. (1 ≤ tag) × (tag ≤ 248)) }
+    ensures known { IfSome result (λ tag. (1 ≤ tag) × (tag ≤ STREAMS)) }
 {
     match *trb {
         Trb::Normal { pointer, .. } => tag_at(pointer),

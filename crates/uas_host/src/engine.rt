@@ -1,8 +1,8 @@
 // Events of the controller's command ring: the steps of a retirement (xHCI 4.6.9 and 4.6.10).
 ghost use Rattle.std.specs.Prelude.{◌≡◌, ◌+◌, ◌-◌, ◌++◌, [], ◌∷◌, ◌<◌, ◌≤◌, IsSome, IfSome, Some, length, true};
+ghost use Rattle.uas_profile.specs.declared.TheConstants.{MAX_CLIENTS, STREAMS, ENGINE_RING_PLACES};
 ghost use Rattle.arrayvec.specs.ArrayVec.{array_vec_len};
 ghost use Rattle.cycle_ring.specs.Ring.{consumed_at};
-ghost use Rattle.stream_array.specs.declared.TheConstants.{ENGINE_RING_PLACES};
 ghost use Rattle.uas_host.specs.Events.{engine_doors, handled_engine, handled_stage, is_engine_done, stage_doors, Sides};
 ghost use Rattle.uas_host.specs.Retirement.{engine_freed, moved_lines, retired_host, stopped_lines, with_retirement};
 ghost use Rattle.uas_host.specs.State.{IsRetirement};
@@ -11,15 +11,11 @@ use crate::doors::resume;
 use crate::retirements::{empty, move_to_enqueue, push_engine};
 use crate::seen::Sight;
 use crate::tags::tag_under;
-use crate::{Handled, Host, MOST_DOORS, Retirement, RetirementStage};
+use crate::{Handled, Host, Retirement, RetirementStage};
 use arrayvec::ArrayVec;
 use cycle_ring::laws::addresses_name_items;
 use stream_array::{Lines, doorbell};
-
-/// Completion code Success (xHCI 6.4.5).
-pub(crate) const SUCCESS: u8 = 1;
-
-const _: () = prove!(SUCCESS == 1);
+use uas_profile::{STREAM_ENTRIES, SUCCESS};
 
 /// Whether the engine's command at an address is done.
 fn is_done(lines: &Lines, pointer: u64, code: u8) -> bool
@@ -43,7 +39,7 @@ impl Host {
     /// Stop Endpoint is done: Set TR Dequeue Pointer to the ring's enqueue place follows it.
     fn stopped(&mut self, lines: &mut Lines, pointer: u64, retirement: Retirement)
         requires retirement { IsRetirement (length self.old.clients) retirement }
-        requires clients { length self.old.clients ≤ 31 }
+        requires clients { length self.old.clients ≤ MAX_CLIENTS }
         requires consumed { IsSome (consumed_at ENGINE_RING_PLACES lines.old.engine pointer) }
         ensures host { self.new ≡ with_retirement self.old (record retirement { stage = RetirementStage.Moving }) }
         ensures lines { lines.new ≡ stopped_lines lines.old pointer retirement }
@@ -63,7 +59,7 @@ impl Host {
     /// Set TR Dequeue Pointer is done: the TD is retired, and the pipe is held no more.
     fn moved(&mut self, lines: &mut Lines, pointer: u64, retirement: Retirement)
         requires retirement { IsRetirement (length self.old.clients) retirement }
-        requires clients { length self.old.clients ≤ 31 }
+        requires clients { length self.old.clients ≤ MAX_CLIENTS }
         requires consumed { IsSome (consumed_at ENGINE_RING_PLACES lines.old.engine pointer) }
         ensures host { self.new ≡ retired_host self.old retirement }
         ensures lines { lines.new ≡ moved_lines lines.old pointer retirement }
@@ -81,11 +77,11 @@ impl Host {
     pub(crate) fn on_completion(
         &mut self,
         lines: &mut Lines,
-        doors: &mut ArrayVec<u32, MOST_DOORS>,
+        doors: &mut ArrayVec<u32, STREAM_ENTRIES>,
         pointer: u64,
         code: u8,
     ) -> Handled
-        requires { array_vec_len doors.old ≤ 8 }
+        requires { array_vec_len doors.old + STREAMS ≤ STREAM_ENTRIES }
         ensures handled { let done = is_engine_done lines.old pointer code in
             handled_engine (record { host = self.old; lines = lines.old }) pointer done self.old.retirement ≡
             (record { host = self.new; lines = lines.new }, result) }

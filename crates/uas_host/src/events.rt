@@ -1,25 +1,21 @@
 // Events.
-ghost use Rattle.std.specs.Prelude.{◌≡◌, ◌-◌, ◌++◌, ◌≤◌, List, IfSome, ℕ, drop, length, option_map, take};
+ghost use Rattle.std.specs.Prelude.{◌≡◌, ◌+◌, ◌-◌, ◌++◌, ◌≤◌, List, IfSome, ℕ, drop, length, option_map, take};
+ghost use Rattle.uas_profile.specs.declared.TheConstants.{STREAMS};
 ghost use Rattle.arrayvec.specs.ArrayVec.{array_vec_len};
 ghost use Rattle.frame_store.specs.Buffers.{held_for};
 ghost use Rattle.uas_host.specs.Events.{ended_at, event_doors, handled, handled_td, succeeded, told_on, IsEnded, Sides};
 ghost use Rattle.uas_host.specs.Sights.{notice_by};
 
 use crate::ended::{command_td_at, stream_td_at};
-use crate::engine::SUCCESS;
 use crate::seen::Sight;
 use crate::units::read_answer;
-use crate::{EndedTd, Handled, Host, MOST_DOORS};
+use crate::{EndedTd, Handled, Host};
 use arrayvec::ArrayVec;
 use event_ring::Event;
-use frame_store::{Frames, STATUS_BYTES};
+use frame_store::Frames;
 use stream_array::{Lines, Pipe, find};
 use uas_iu::SENSE_HEADER_BYTES;
-
-/// Completion code Short Packet (xHCI 6.4.5).
-const SHORT_PACKET: u8 = 13;
-
-const _: () = prove!(SHORT_PACKET == 13);
+use uas_profile::{SHORT_PACKET, STATUS_BYTES, STREAM_ENTRIES, SUCCESS};
 
 /// What an event of a command or data TD tells.
 #[inline(always)]
@@ -33,9 +29,9 @@ fn where_success(code: u8, sight: Sight) -> Option<Sight>
 #[inline(always)]
 fn status_unit(frames: &Frames, residual: u32, tag: u16) -> &[u8]
     requires first_tag { 1 ≤ tag }
-    requires last_tag { tag ≤ 248 }
-    ensures unit { result.now ≡ take (112 - residual) (held_for frames.now tag).status }
-    ensures most { length result.now ≤ 112 }
+    requires last_tag { tag ≤ STREAMS }
+    ensures unit { result.now ≡ take (STATUS_BYTES - residual) (held_for frames.now tag).status }
+    ensures most { length result.now ≤ STATUS_BYTES }
 {
     let written = STATUS_BYTES.saturating_sub(residual as usize);
     &frames.status(tag)[..written]
@@ -130,22 +126,22 @@ impl Host {
     }
 
     /// Takes in an event, any event. It is `Matched` where it is a transfer event whose pointer is that of the
-    /// last TRB of a consumed TD that still waits, with code 1 (13 for a status), and for a status where the
-    /// first 112 bytes less the residual of the status buffer are a Sense unit of that tag, for a task
+    /// last TRB of a consumed TD that still waits, with code Success (Short Packet for a status), and for a status
+    /// where the bytes of the status buffer less the residual are a Sense unit of that tag, for a task
     /// management a Response unit. Its TD is seen then, its TRBs are free again, and a command that is ready now
     /// is the last of the ready ones; the response COMPLETE leaves over the TDs of each noted command whose
-    /// status wasn't seen. It is `Engine` where a retirement is under way and it is a completion of code 1 whose
+    /// status wasn't seen. It is `Engine` where a retirement is under way and it is a completion of code Success whose
     /// pointer is that of the consumed command under way: the retirement goes on, or the TD is retired, its TRBs
     /// are free again, and each stream of the pipe with a pending TRB is rung. Any other event is `Stray`, and
-    /// nothing changes. Asks room for 248 doorbells.
+    /// nothing changes. Asks room for a doorbell of each stream.
     pub fn on_event(
         &mut self,
         lines: &mut Lines,
         frames: &Frames,
-        doors: &mut ArrayVec<u32, MOST_DOORS>,
+        doors: &mut ArrayVec<u32, STREAM_ENTRIES>,
         event: Event,
     ) -> Handled
-        requires { array_vec_len doors.old ≤ 8 }
+        requires { array_vec_len doors.old + STREAMS ≤ STREAM_ENTRIES }
         ensures handled { handled (record { host = self.old; lines = lines.old }) frames.now event ≡ (record { host = self.new; lines = lines.new }, result) }
         ensures doors { doors.new.items ≡ doors.old.items ++ event_doors (record { host = self.old; lines = lines.old }) event }
     {

@@ -1,17 +1,18 @@
 // A host and its clients.
 ghost use Rattle.std.specs.Prelude.{◌≡◌, ◌+◌, ◌<◌, ◌≤◌, ◌^◌, IfOk, MatchResult, None, Some, length, replicate};
+ghost use Rattle.uas_profile.specs.declared.TheConstants.{TASK_SLOT, MAX_CLIENTS, GREATEST_TAG};
 ghost use Rattle.scsi_cmd.specs.Op.{moved_bytes};
 ghost use Rattle.scsi_cmd.specs.declared.Op.{Op};
-ghost use Rattle.scsi_cmd.specs.declared.TheConstants.{TAGS, TASK_SLOT};
 ghost use Rattle.uas_host.specs.State.{IsHostClient, client_of, new_client, opening};
 ghost use Rattle.uas_host.specs.Submit.{IsFree, data_td_for, fault_at, host_fault, new_entry, noted, slot_of, submitted_client};
 
 use crate::tags::command_slot_of;
-use crate::{Host, HostAnswer, HostClient, HostEntry, MAX_CLIENTS, NoMemory, TdState};
+use crate::{Host, HostAnswer, HostClient, HostEntry, NoMemory, TdState};
 use arrayvec::ArrayVec;
 use marks::Marks;
-use scsi_cmd::{Command, Op, Request, SubmitFault, TAGS, moves, submit_fault};
+use scsi_cmd::{Command, Op, Request, SubmitFault, moves, submit_fault};
 use std::alloc::Global;
+use uas_profile::TAGS;
 
 impl HostEntry {
     /// What the host has under a tag once an operation was submitted, by the state of its data TD.
@@ -80,7 +81,7 @@ impl HostClient {
 }
 
 impl Host {
-    /// A host of so many clients, 1 to 31, that have submitted nothing. Refused for want of memory alone.
+    /// A host of so many clients, 1 to `MAX_CLIENTS`, that have submitted nothing. Refused for want of memory alone.
     pub fn new(alloc: Global, clients: usize) -> Result<Host, NoMemory>
         requires some { 1 ≤ clients }
         requires most { clients ≤ MAX_CLIENTS }
@@ -107,7 +108,7 @@ impl Host {
     ) -> Result<usize, SubmitFault>
         ensures { MatchResult result
             (λ slot. (host_fault self.now client tag ticket command.now ≡ None)
-            × (slot ≡ slot_of tag) × (slot < TASK_SLOT) × (client < length self.now.clients) × (client < MAX_CLIENTS) × (0 < tag) × (tag ≤ 248))
+            × (slot ≡ slot_of tag) × (slot < TASK_SLOT) × (client < length self.now.clients) × (client < MAX_CLIENTS) × (0 < tag) × (tag ≤ GREATEST_TAG))
             (λ fault. host_fault self.now client tag ticket command.now ≡ Some fault) }
     {
         let Some(slot) = command_slot_of(self.clients.len(), client, tag) else {

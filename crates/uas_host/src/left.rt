@@ -1,19 +1,20 @@
 // Which TDs are left over, found by the marks of the clients that may have some.
 ghost use Rattle.std.specs.Prelude.{◌≡◌, ℕ, ◌*◌, ◌<◌, ◌≤◌, List, true, false, IfSome, IfNone, if◌then◌else◌, length};
+ghost use Rattle.uas_profile.specs.declared.TheConstants.{MAX_CLIENTS};
 ghost use Rattle.marks.specs.Marks.{is_marked};
 ghost use Rattle.scsi_cmd.specs.Held.{held_at};
-ghost use Rattle.scsi_cmd.specs.declared.TheConstants.{TAGS};
 ghost use Rattle.uas_host.specs.Left.{has_left_over, have_left_over, holds_left_over, is_held_left_over, moves_left_over};
 ghost use Rattle.uas_host.specs.Retirement.{is_left_over_on};
 ghost use Rattle.uas_host.specs.Sights.{notice_by};
 
 use crate::seen::Sight;
 use crate::tags::tag_under;
-use crate::{CLIENT_WORDS, Host, HostClient, HostEntry, MAX_CLIENTS};
+use crate::{CLIENT_WORDS, Host, HostClient, HostEntry};
 use marks::Marks;
-use scsi_cmd::{CHECK_CONDITION, TAGS};
+use scsi_cmd::CHECK_CONDITION;
 use stream_array::Pipe;
 use uas_iu::TASK_COMPLETE;
+use uas_profile::TAGS;
 
 impl Sight {
     /// Whether it can change which TDs are left over.

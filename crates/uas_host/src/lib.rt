@@ -1,7 +1,7 @@
 //! The host driver of USB Attached SCSI: commands of clients to TDs on rings, events to replies.
 //!
-//! Up to 31 clients have eight tags each: client c has the tags 8c + 1 to 8c + 8, of which the last is kept
-//! for task management. The stream of a tag on each pipe with streams has the tag's number.
+//! Up to `MAX_CLIENTS` clients have `TAGS` tags each: client c has the tags TAGS c + 1 to TAGS c + TAGS, of which the last is
+//! kept for task management. The stream of a tag on each pipe with streams has the tag's number.
 //!
 //! Submission: the host writes the Command unit into the tag's command buffer, lends the client's own vector
 //! as the tag's data window, pushes the data TD (where bytes move), the status TD and the command TD, and
@@ -9,8 +9,8 @@
 //!
 //! TRBs (xHCI 4.11, 6.4.1.1): a data TRB moves 4,096 bytes, the last one what is left. All but the last have
 //! CH, and the last alone has IOC. Its TD Size is the number of packets of 1,024 bytes that come after it, at
-//! most 31. A status TRB has room for the longest unit, 112 bytes, with ISP and IOC; a command TRB names the
-//! 32 bytes of the unit, with IOC.
+//! most 31. A status TRB has room for the longest unit, with ISP and IOC; a command TRB names the bytes of the
+//! unit, with IOC.
 //!
 //! Matching: an event tells no tag. The host finds it by the event's pointer alone: the address tells the
 //! pipe and the stream, and on the command pipe, which has no streams, the TRB that stands there tells the
@@ -48,6 +48,7 @@ mod freed;
 mod hosts;
 pub mod laws;
 mod left;
+mod next_reply;
 mod replies;
 mod retirements;
 mod seen;
@@ -55,50 +56,24 @@ mod submissions;
 mod tags;
 mod tasks;
 mod tds;
-#[cfg(test)]
-mod tests;
 mod units;
 
 use arrayvec::ArrayVec;
 use marks::Marks;
-use scsi_cmd::{MAX_SENSE_BYTES, Request, TAGS};
+use scsi_cmd::{MAX_SENSE_BYTES, Request};
 use std::alloc::AllocError;
 use std::marker::Model;
 use stream_array::Pipe;
+pub use uas_profile::{Place, TdState};
+use uas_profile::{MAX_CLIENTS, TAGS};
 
 /// Want of memory, the one refusal of a constructor.
 pub type NoMemory = AllocError;
 
-/// The most clients of a host.
-pub const MAX_CLIENTS: usize = 31;
-
 /// Words of 64 marks, enough for a mark of each client.
 const CLIENT_WORDS: usize = 1;
 
-/// How many doorbells one call can ring at most.
-pub const MOST_DOORS: usize = 256;
-
-const _: () = prove!(MAX_CLIENTS == 31 && CLIENT_WORDS == 1 && MOST_DOORS == 256);
-
-/// A client and a slot, the index of a tag less 1.
-#[derive(Clone, Copy, Debug, PartialEq, Eq)]
-pub struct Place {
-    pub client: usize,
-    pub slot: usize,
-}
-
-/// How far the host is with a TD (xHCI 4.11).
-#[derive(Clone, Copy, Debug, PartialEq, Eq)]
-pub enum TdState {
-    /// The host waits for its event.
-    Pending,
-    /// The host has seen its event.
-    Seen,
-    /// Its event can't come any more, and its TRBs may still be on their ring.
-    LeftOver,
-    /// It was left over, and its TRBs were taken off their ring.
-    Retired,
-}
+const _: () = prove!(CLIENT_WORDS == 1 && MAX_CLIENTS <= 64 * CLIENT_WORDS);
 
 /// What the host was told of a command or of a task management.
 #[derive(Debug, Drop)]
@@ -196,7 +171,7 @@ pub struct HostClient {
     pub ready: ArrayVec<usize, TAGS>,
 }
 
-/// The host driver of 1 to 31 clients, with at most one retirement under way.
+/// The host driver of 1 to `MAX_CLIENTS` clients, with at most one retirement under way.
 #[derive(Debug, Drop)]
 pub struct Host {
     clients: Vec<HostClient>,

@@ -1,11 +1,12 @@
 // Replies.
 ghost use Rattle.std.specs.Prelude.{◌≡◌, ◌<◌, ◌≤◌, ◌&&◌, ◌||◌, drop, length, option_and_then, slice_get, IfSome, IsSome, None, Some, true};
+ghost use Rattle.uas_profile.specs.declared.TheConstants.{TAGS};
 ghost use Rattle.scsi_cmd.specs.Request.{is_command};
 ghost use Rattle.scsi_cmd.specs.Held.{held_at};
-ghost use Rattle.scsi_cmd.specs.declared.TheConstants.{TAGS};
 ghost use Rattle.uas_host.specs.Replies.{command_reply, has_command, replied, reply_of, task_reply, without, HasAnswer, HasBuffer, IsReadySlot};
-ghost use Rattle.uas_host.specs.State.{client_of, is_response, is_retired, is_seen, is_status, with_client};
-ghost use Rattle.uas_host.specs.Tags.{tag_of};
+ghost use Rattle.uas_profile.specs.TdStates.{is_retired, is_seen};
+ghost use Rattle.uas_host.specs.State.{client_of, is_response, is_status, with_client};
+ghost use Rattle.uas_profile.specs.Places.{tag_of};
 
 use crate::tags::tag_under;
 use crate::{Host, HostAnswer, HostClient, HostEntry, TdState};
@@ -125,7 +126,7 @@ impl HostClient {
 
 impl Host {
     /// The slot of a client that was ready first; a client that isn't there has none.
-    fn first_ready(&self, client: usize) -> Option<usize>
+    pub(crate) fn first_ready(&self, client: usize) -> Option<usize>
         ensures first { result ≡ slice_get (client_of self.now client).ready.items 0 }
         ensures known { IfSome result (IsReadySlot self.now client) }
     {

@@ -4,22 +4,19 @@ ghost use Rattle.arrayvec.specs.ArrayVec.{array_vec_len};
 ghost use Rattle.xhci_trb.specs.Text.{HasText};
 ghost use Rattle.xhci_trb.specs.declared.Trb.{Trb};
 ghost use Rattle.cycle_ring.specs.Ring.{IsCommand};
-ghost use Rattle.stream_array.specs.Map.{HasRing, HasStreams};
+ghost use Rattle.uas_profile.specs.Pipes.{HasStreams};
+ghost use Rattle.stream_array.specs.Map.{HasRing};
 ghost use Rattle.uas_host.specs.Retirement.{emptied, move_trb, retirement_for, stop_trb, with_engine_command, with_retirement, HasEngineRoom};
 ghost use Rattle.uas_host.specs.State.{IsRetirement};
-ghost use Rattle.uas_host.specs.Tags.{tag_of};
+ghost use Rattle.uas_profile.specs.Places.{tag_of};
 
 use crate::tags::place_of_tag;
-use crate::{Host, MOST_DOORS, Retirement, RetirementStage};
+use crate::{Host, Retirement, RetirementStage};
 use arrayvec::ArrayVec;
 use stream_array::laws::one_ring_is_changed;
 use stream_array::{Lines, Pipe, doorbell};
+use uas_profile::{SLOT, STREAM_ENTRIES};
 use xhci_trb::Trb;
-
-/// The slot of the one device.
-const DEVICE_SLOT: u8 = 1;
-
-const _: () = prove!(DEVICE_SLOT == 1);
 
 /// Puts a command on the controller's command ring. Asks room for it.
 pub(crate) fn push_engine(lines: &mut Lines, command: Trb)
@@ -39,7 +36,7 @@ fn stop(pipe: Pipe) -> Trb
 {
     Trb::StopEndpoint {
         endpoint: pipe.target(),
-        slot: DEVICE_SLOT,
+        slot: SLOT,
     }
 }
 
@@ -56,7 +53,7 @@ pub(crate) fn move_to_enqueue(lines: &Lines, pipe: Pipe, tag: u16) -> Trb
         cycle,
         stream: tag,
         endpoint: pipe.target(),
-        slot: DEVICE_SLOT,
+        slot: SLOT,
     }
 }
 
@@ -96,12 +93,12 @@ impl Host {
     pub fn retire(
         &mut self,
         lines: &mut Lines,
-        doors: &mut ArrayVec<u32, MOST_DOORS>,
+        doors: &mut ArrayVec<u32, STREAM_ENTRIES>,
         pipe: Pipe,
         tag: u16,
     ) -> bool
         requires room { IsSome (retirement_for self.old pipe tag) → HasEngineRoom lines.old }
-        requires doors { array_vec_len doors.old ≤ 255 }
+        requires doors { array_vec_len doors.old + 1 ≤ STREAM_ENTRIES }
         ensures { MatchOption (retirement_for self.old pipe tag)
             ((result ≡ false) × (self.new ≡ self.old) × (lines.new ≡ lines.old) × (doors.new ≡ doors.old))
             (λ retirement. (result ≡ true)

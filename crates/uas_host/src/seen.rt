@@ -2,20 +2,22 @@
 ghost use Rattle.std.specs.Prelude.{◌≡◌, ℕ, ◌<◌, ◌≤◌, List, MatchOption, IfSome, Some, true, false, length, option_and_then, option_map};
 ghost use Rattle.scsi_cmd.specs.Held.{held_at};
 ghost use Rattle.scsi_cmd.specs.Request.{is_command, request_direction};
-ghost use Rattle.scsi_cmd.specs.declared.TheConstants.{MAX_SENSE_BYTES, TAGS};
+ghost use Rattle.scsi_cmd.specs.declared.TheConstants.{MAX_SENSE_BYTES};
 ghost use Rattle.uas_host.specs.Seen.{after_response, client_seen, completes, data_after, doomed, goes_to_device, goes_to_host, host_seen};
 ghost use Rattle.uas_host.specs.Seen.{is_data_left_over, is_doomed, is_td_left_over, left_over_data, noted_in, place_seen, seen, seen_data, with_retired};
 ghost use Rattle.uas_host.specs.Sights.{notice_by};
 ghost use Rattle.uas_host.specs.declared.Notice.TheVariants.{Answered, TdRetired};
-ghost use Rattle.uas_host.specs.State.{is_data_over, is_left_over, is_over, is_pending, is_ready, is_retired, is_seen};
+ghost use Rattle.uas_profile.specs.TdStates.{is_left_over, is_over, is_pending, is_retired, is_seen};
+ghost use Rattle.uas_host.specs.State.{is_data_over, is_ready};
 
 use crate::left::settle;
 use crate::tags::place_of_tag;
 use crate::{Host, HostAnswer, HostClient, HostEntry, Place, TdState};
 use arrayvec::ArrayVec;
-use scsi_cmd::{CHECK_CONDITION, Direction, MAX_SENSE_BYTES, Request, TAGS, TASK_SLOT, moves};
+use scsi_cmd::{CHECK_CONDITION, Direction, MAX_SENSE_BYTES, Request, moves};
 use stream_array::Pipe;
 use uas_iu::TASK_COMPLETE;
+use uas_profile::{TAGS, TASK_SLOT};
 
 /// What an event tells, but for the sense of a status, which stays in the status buffer.
 #[derive(Clone, Copy)]
@@ -38,38 +40,6 @@ fn held_sense(bytes: &[u8]) -> ArrayVec<u8, MAX_SENSE_BYTES>
         sense.try_extend_from_slice(bytes).unwrap();
     }
     sense
-}
-
-impl TdState {
-    pub(crate) fn is_pending(self) -> bool
-        ensures { result ≡ is_pending self }
-    {
-        matches!(self, TdState::Pending)
-    }
-
-    fn is_seen(self) -> bool
-        ensures { result ≡ is_seen self }
-    {
-        matches!(self, TdState::Seen)
-    }
-
-    pub(crate) fn is_left_over(self) -> bool
-        ensures { result ≡ is_left_over self }
-    {
-        matches!(self, TdState::LeftOver)
-    }
-
-    pub(crate) fn is_retired(self) -> bool
-        ensures { result ≡ is_retired self }
-    {
-        matches!(self, TdState::Retired)
-    }
-
-    fn is_over(self) -> bool
-        ensures { result ≡ is_over self }
-    {
-        matches!(self, TdState::Seen | TdState::Retired)
-    }
 }
 
 fn is_data_td_over(data_td: &Option<TdState>) -> bool

@@ -2,18 +2,19 @@
 ghost use Rattle.std.specs.Prelude.{◌≡◌, ◌+◌, ◌++◌, ◌<◌, ◌≤◌, ◌^◌, MatchOption, None, Ok, Err};
 ghost use Rattle.arrayvec.specs.ArrayVec.{array_vec_len};
 ghost use Rattle.scsi_cmd.specs.Op.{direction_of};
-ghost use Rattle.uas_host.specs.Doors.{submission_doors};
+ghost use Rattle.uas_profile.specs.Doors.{submission_doors};
 ghost use Rattle.uas_host.specs.Retirement.{is_held};
 ghost use Rattle.uas_host.specs.Submit.{HasRoomFor, host_fault, lent, submitted};
 ghost use Rattle.uas_host.specs.Tds.{pushed};
 
+use crate::Host;
 use crate::tds::push_tds;
 use crate::units::lend_command;
-use crate::{Host, MOST_DOORS};
 use arrayvec::ArrayVec;
 use frame_store::Frames;
 use scsi_cmd::{Command, SubmitFault, moves};
 use stream_array::Lines;
+use uas_profile::STREAM_ENTRIES;
 
 impl Host {
     /// Submits a client's command under one of its command tags. The first fault hands the command back, and
@@ -26,7 +27,7 @@ impl Host {
         &mut self,
         lines: &mut Lines,
         frames: &mut Frames,
-        doors: &mut ArrayVec<u32, MOST_DOORS>,
+        doors: &mut ArrayVec<u32, STREAM_ENTRIES>,
         client: usize,
         tag: u16,
         ticket: u64,
@@ -34,7 +35,7 @@ impl Host {
     ) -> Result<(), (SubmitFault, Command)>
         requires ticket { ticket < 2 ^ 60 }
         requires room { host_fault self.old client tag ticket command ≡ None → HasRoomFor lines.old frames.old tag command.op }
-        requires doors { array_vec_len doors.old ≤ 253 }
+        requires doors { array_vec_len doors.old + 3 ≤ STREAM_ENTRIES }
         ensures { MatchOption (host_fault self.old client tag ticket command)
             ((result ≡ Ok (record {}))
             × (self.new ≡ submitted self.old client tag ticket command.op)

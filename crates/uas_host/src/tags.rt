@@ -1,12 +1,12 @@
 // Tags, and the client and slot that a tag names.
 ghost use Rattle.std.specs.Prelude.{◌≡◌, ◌*◌, ◌+◌, ◌<◌, ◌≤◌, IfSome};
-ghost use Rattle.scsi_cmd.specs.declared.TheConstants.{TAGS, TASK_SLOT};
+ghost use Rattle.uas_profile.specs.declared.TheConstants.{MAX_CLIENTS, GREATEST_TAG};
 ghost use Rattle.uas_host.specs.Submit.{slot_of};
-ghost use Rattle.uas_host.specs.Tags.{command_slot, place_of, tag_of};
+ghost use Rattle.uas_profile.specs.Places.{command_slot, place_of, tag_of};
 ghost use Rattle.uas_host.specs.Tasks.{task_tag};
 
-use crate::{MAX_CLIENTS, Place};
-use scsi_cmd::{TAGS, TASK_SLOT};
+use crate::Place;
+use uas_profile::{TAGS, TASK_SLOT};
 
 /// The place that a tag names for so many clients.
 pub(crate) fn place_of_tag(clients: usize, tag: u16) -> Option<Place>
@@ -44,7 +44,7 @@ pub(crate) fn tag_under(client: usize, slot: usize) -> u16
     requires slot { slot < TAGS }
     ensures tag { result ≡ tag_of (record { client = client; slot = slot }) }
     ensures first_tag { 1 ≤ result }
-    ensures last_tag { result ≤ 248 }
+    ensures last_tag { result ≤ GREATEST_TAG }
 {
     (client * TAGS + slot + 1) as u16
 }
@@ -54,7 +54,7 @@ pub(crate) fn task_tag_of(client: usize) -> u16
     requires client { client < MAX_CLIENTS }
     ensures tag { result ≡ task_tag client }
     ensures first_tag { 1 ≤ result }
-    ensures last_tag { result ≤ 248 }
+    ensures last_tag { result ≤ GREATEST_TAG }
 {
     tag_under(client, TASK_SLOT)
 }

@@ -1,12 +1,12 @@
 // Task managements of clients.
 ghost use Rattle.std.specs.Prelude.{◌≡◌, ◌+◌, ◌++◌, [], ◌∷◌, ◌<◌, ◌≤◌, ◌^◌, MatchOption, IfSome, None, Ok, Err, Some, length, take};
+ghost use Rattle.uas_profile.specs.declared.TheConstants.{MAX_CLIENTS};
 ghost use Rattle.arrayvec.specs.ArrayVec.{array_vec_len};
-ghost use Rattle.scsi_cmd.specs.declared.TheConstants.{TAGS, TASK_SLOT};
-ghost use Rattle.uas_host.specs.Doors.{answer_doors};
+ghost use Rattle.uas_profile.specs.Doors.{answer_doors};
 ghost use Rattle.uas_host.specs.Retirement.{is_held};
 ghost use Rattle.uas_host.specs.State.{client_of};
 ghost use Rattle.uas_host.specs.Submit.{IsFree, slot_of};
-ghost use Rattle.uas_host.specs.Tags.{command_slot};
+ghost use Rattle.uas_profile.specs.Places.{command_slot};
 ghost use Rattle.uas_host.specs.Tasks.{client_task_fault, has_task, is_held_at, managed, managed_client, noted_by, task_entry, task_fault, task_tag};
 ghost use Rattle.uas_host.specs.Tasks.{tickets_of, with_task_unit};
 ghost use Rattle.uas_host.specs.Tds.{pushed_task, HasTaskRoom};
@@ -14,11 +14,12 @@ ghost use Rattle.uas_host.specs.Tds.{pushed_task, HasTaskRoom};
 use crate::tags::{command_slot_of, task_tag_of};
 use crate::tds::push_task;
 use crate::units::write_task;
-use crate::{Host, HostAnswer, HostClient, HostEntry, MOST_DOORS, TdState};
+use crate::{Host, HostAnswer, HostClient, HostEntry, TdState};
 use arrayvec::ArrayVec;
 use frame_store::Frames;
-use scsi_cmd::{Request, SubmitFault, TAGS, TASK_SLOT, Task};
+use scsi_cmd::{Request, SubmitFault, Task};
 use stream_array::Lines;
+use uas_profile::{STREAM_ENTRIES, TAGS, TASK_SLOT};
 
 /// Adds the ticket of what is held.
 fn push_ticket(tickets: &mut ArrayVec<u64, TASK_SLOT>, held: &Option<HostEntry>)
@@ -108,7 +109,7 @@ impl Host {
     /// The first fault of a task management, if there is one.
     fn task_fault(&self, client: usize, ticket: u64, task: Task) -> Option<SubmitFault>
         ensures fault { result ≡ task_fault self.now client ticket task }
-        ensures known { result ≡ None → (client < length self.now.clients) × (length self.now.clients ≤ 31) × IsFree (client_of self.now client) TASK_SLOT }
+        ensures known { result ≡ None → (client < length self.now.clients) × (length self.now.clients ≤ MAX_CLIENTS) × IsFree (client_of self.now client) TASK_SLOT }
     {
         if self.clients.len() <= client {
             return Some(SubmitFault::NotYours);
@@ -144,14 +145,14 @@ impl Host {
         &mut self,
         lines: &mut Lines,
         frames: &mut Frames,
-        doors: &mut ArrayVec<u32, MOST_DOORS>,
+        doors: &mut ArrayVec<u32, STREAM_ENTRIES>,
         client: usize,
         ticket: u64,
         task: Task,
     ) -> Result<(), SubmitFault>
         requires ticket { ticket < 2 ^ 60 }
         requires room { task_fault self.old client ticket task ≡ None → HasTaskRoom lines.old (task_tag client) }
-        requires doors { array_vec_len doors.old ≤ 254 }
+        requires doors { array_vec_len doors.old + 2 ≤ STREAM_ENTRIES }
         ensures { MatchOption (task_fault self.old client ticket task)
             ((result ≡ Ok (record {}))
             × (self.new ≡ managed self.old client ticket task)

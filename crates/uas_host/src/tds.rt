@@ -1,21 +1,23 @@
 // The TDs of a command and of a task management as TRBs, and their way onto the rings.
 ghost use Rattle.std.specs.Prelude.{◌≡◌, ◌+◌, ◌-◌, ◌*◌, ◌<◌, ◌≤◌, ◌^◌, [], ◌∷◌, length, take};
+ghost use Rattle.uas_profile.specs.declared.TheConstants.{STREAMS, WINDOW_BYTES};
 ghost use Rattle.scsi_cmd.specs.Op.{moved_bytes};
-ghost use Rattle.scsi_cmd.specs.declared.Direction.{Direction};
+ghost use Rattle.uas_profile.specs.declared.Direction.{Direction};
 ghost use Rattle.xhci_trb.specs.declared.Trb.TheVariants as Trb;
-ghost use Rattle.stream_array.specs.Map.{HasRing, HasStreams, places_of};
+ghost use Rattle.uas_profile.specs.Pipes.{HasStreams};
+ghost use Rattle.stream_array.specs.Map.{HasRing, places_of};
 ghost use Rattle.stream_array.specs.Rings.{ring_of};
 ghost use Rattle.uas_host.specs.Tds.{command_td, data_td, data_trb, data_trb_count, packets_left, pushed, pushed_task, put_on, status_td, task_td};
 ghost use Rattle.uas_host.specs.Tds.{window_of, with_data_td, HasDataRoom, HasRoom, HasTaskRoom, HasTdRoom, IsOnData};
 
-use frame_store::{COMMAND_BYTES, STATUS_BYTES};
 use scsi_cmd::{Direction, Op, moves};
 use stream_array::{Lines, Pipe};
 use uas_iu::TASK_BYTES;
+use uas_profile::{
+    BUFFER_SPAN, CHUNK_BYTES, COMMAND_BUFFERS, COMMAND_BYTES, MOST_DATA_TRBS, STATUS_BUFFERS,
+    STATUS_BYTES, WINDOW_SPAN, WINDOWS,
+};
 use xhci_trb::{Trb, TrbFlags};
-
-/// Bytes of a data TRB; the last of a TD has what is left.
-const DATA_TRB_BYTES: usize = 4096;
 
 /// Bytes of a packet (xHCI 4.11.2.4, TD Size).
 const PACKET_BYTES: usize = 1024;
@@ -23,35 +25,9 @@ const PACKET_BYTES: usize = 1024;
 /// The greatest TD Size.
 const MOST_PACKETS: usize = 31;
 
-/// The most TRBs of a data TD: 65,536 bytes.
-const MOST_DATA_TRBS: usize = 16;
+const _: () = prove!(PACKET_BYTES == 1024 && MOST_PACKETS == 31 && TASK_BYTES == 16);
 
-const _: () = prove!(
-    DATA_TRB_BYTES == 4096 && PACKET_BYTES == 1024 && MOST_PACKETS == 31 && MOST_DATA_TRBS == 16
-);
-
-/// The window of tag 0, which no command has.
-const WINDOWS: u64 = 0x1_0000_0000;
-
-/// From one tag's window to the next.
-const WINDOW_SPAN: u64 = 0x1_0000;
-
-const _: () = prove!(WINDOWS == 0x1_0000_0000 && WINDOW_SPAN == 0x1_0000);
-
-/// The status buffer of tag 0.
-const STATUS_BUFFERS: u64 = 0x2000_0000;
-
-/// The command buffer of tag 0.
-pub(crate) const COMMAND_BUFFERS: u64 = 0x1000_0000;
-
-/// From one tag's command buffer, or status buffer, to the next.
-pub(crate) const BUFFER_SPAN: u64 = 0x100;
-
-const _: () = prove!(
-    STATUS_BUFFERS == 0x2000_0000 && COMMAND_BUFFERS == 0x1000_0000 && BUFFER_SPAN == 0x100
-);
-
-const _: () = prove!(COMMAND_BYTES == 32 && STATUS_BYTES == 112 && TASK_BYTES == 16);
+const _: () = prove!(COMMAND_BUFFERS <= STATUS_BUFFERS && COMMAND_BYTES <= STATUS_BYTES);
 
 /// ISP and IOC.
 const STATUS_FLAGS: TrbFlags = TrbFlags(TrbFlags::ISP.0 + TrbFlags::IOC.0);
@@ -61,9 +37,9 @@ const _: () = prove!(TrbFlags::CH.0 == 8 && TrbFlags::IOC.0 == 16 && STATUS_FLAG
 /// The TRB of a TD that is the unit in a tag's buffer, of those that begin here.
 #[inline(always)]
 fn unit_trb(buffers: u64, tag: u16, bytes: usize, flags: TrbFlags) -> [Trb; 1]
-    requires buffers { buffers ≤ 536870912 }
-    requires bytes { bytes ≤ 112 }
-    ensures { result ≡ Trb.Normal (buffers + 256 * tag) bytes 0 flags ∷ [] }
+    requires buffers { buffers ≤ STATUS_BUFFERS }
+    requires bytes { bytes ≤ STATUS_BYTES }
+    ensures { result ≡ Trb.Normal (buffers + BUFFER_SPAN * tag) bytes 0 flags ∷ [] }
 {
     [Trb::Normal {
         pointer: buffers + BUFFER_SPAN * u64::from(tag),
@@ -96,7 +72,7 @@ fn task_trb(tag: u16) -> [Trb; 1]
 
 /// How many packets so many bytes make, at most 31.
 fn packets(bytes: usize) -> u8
-    requires { bytes ≤ 65536 }
+    requires { bytes ≤ WINDOW_BYTES }
     ensures { result ≡ packets_left bytes }
 {
     bytes.div_ceil(PACKET_BYTES).min(MOST_PACKETS) as u8
@@ -105,13 +81,13 @@ fn packets(bytes: usize) -> u8
 /// One TRB of a data TD at this address, with so many bytes of the TD left from it on and so many TRBs
 /// behind it.
 fn data_trb_at(pointer: u64, left: usize, more: usize) -> Trb
-    requires { left ≤ 65536 }
+    requires { left ≤ WINDOW_BYTES }
     ensures { result ≡ data_trb pointer left more }
 {
     Trb::Normal {
         pointer,
-        length: left.min(DATA_TRB_BYTES) as u32,
-        td_size: packets(left.saturating_sub(DATA_TRB_BYTES)),
+        length: left.min(CHUNK_BYTES) as u32,
+        td_size: packets(left.saturating_sub(CHUNK_BYTES)),
         flags: if more == 0 {
             TrbFlags::IOC
         } else {
@@ -122,7 +98,7 @@ fn data_trb_at(pointer: u64, left: usize, more: usize) -> Trb
 
 /// The address of a tag's window.
 fn window_of(tag: u16) -> u64
-    requires { tag ≤ 248 }
+    requires { tag ≤ STREAMS }
     ensures { result ≡ window_of tag }
 {
     WINDOWS + WINDOW_SPAN * u64::from(tag)
@@ -130,15 +106,15 @@ fn window_of(tag: u16) -> u64
 
 /// The TRBs of a data TD, in the first places of the array.
 fn data_trbs_of(tag: u16, bytes: usize) -> [Trb; MOST_DATA_TRBS]
-    requires last_tag { tag ≤ 248 }
-    requires most { bytes ≤ 65536 }
+    requires last_tag { tag ≤ STREAMS }
+    requires most { bytes ≤ WINDOW_BYTES }
     ensures { take (data_trb_count bytes) result ≡ data_td tag bytes }
 {
     let window = window_of(tag);
-    let count = bytes.div_ceil(DATA_TRB_BYTES);
+    let count = bytes.div_ceil(CHUNK_BYTES);
     let mut trbs = [data_trb_at(window, bytes, 0); MOST_DATA_TRBS];
     for k in 0..count {
-        let before = DATA_TRB_BYTES * k;
+        let before = CHUNK_BYTES * k;
         trbs[k] = data_trb_at(window + before as u64, bytes - before, count - 1 - k);
     }
     trbs
@@ -149,14 +125,14 @@ fn data_trbs_of(tag: u16, bytes: usize) -> [Trb; MOST_DATA_TRBS]
 fn push_chunks(lines: &mut Lines, pipe: Pipe, tag: u16, bytes: usize)
     requires ring { HasRing pipe tag }
     requires streams { HasStreams pipe }
-    requires last_tag { tag ≤ 248 }
+    requires last_tag { tag ≤ STREAMS }
     requires some { 0 < bytes }
-    requires most { bytes ≤ 65536 }
+    requires most { bytes ≤ WINDOW_BYTES }
     requires room { HasRoom lines.old pipe tag (data_trb_count bytes) }
     ensures { lines.new ≡ put_on lines.old pipe tag (data_td tag bytes) }
 {
     let trbs = data_trbs_of(tag, bytes);
-    let count = bytes.div_ceil(DATA_TRB_BYTES);
+    let count = bytes.div_ceil(CHUNK_BYTES);
     lines.push_td(pipe, tag, &trbs[..count]).unwrap();
 }
 
@@ -165,13 +141,13 @@ fn push_chunks(lines: &mut Lines, pipe: Pipe, tag: u16, bytes: usize)
 fn push_data(lines: &mut Lines, pipe: Pipe, tag: u16, bytes: usize)
     requires ring { HasRing pipe tag }
     requires streams { HasStreams pipe }
-    requires last_tag { tag ≤ 248 }
+    requires last_tag { tag ≤ STREAMS }
     requires some { 0 < bytes }
-    requires most { bytes ≤ 65536 }
+    requires most { bytes ≤ WINDOW_BYTES }
     requires room { HasRoom lines.old pipe tag (data_trb_count bytes) }
     ensures { lines.new ≡ put_on lines.old pipe tag (data_td tag bytes) }
 {
-    if bytes <= DATA_TRB_BYTES {
+    if bytes <= CHUNK_BYTES {
         let trb = [data_trb_at(window_of(tag), bytes, 0)];
         lines.push_td(pipe, tag, &trb).unwrap();
     } else {
@@ -182,7 +158,7 @@ fn push_data(lines: &mut Lines, pipe: Pipe, tag: u16, bytes: usize)
 /// Pushes the data TD on the pipe of its direction, where there is one.
 fn push_data_td(lines: &mut Lines, direction: Direction, tag: u16, bytes: usize)
     requires some_tag { 0 < tag }
-    requires last_tag { tag ≤ 248 }
+    requires last_tag { tag ≤ STREAMS }
     requires some { IsOnData direction bytes }
     requires room { HasDataRoom lines.old direction tag bytes }
     ensures put { lines.new ≡ with_data_td lines.old direction tag bytes }
@@ -199,8 +175,8 @@ fn push_data_td(lines: &mut Lines, direction: Direction, tag: u16, bytes: usize)
 /// Pushes the TDs of a command: data (where bytes move), status, command. Asks room for them.
 pub(crate) fn push_tds(lines: &mut Lines, tag: u16, op: &Op)
     requires some_tag { 0 < tag }
-    requires last_tag { tag ≤ 248 }
-    requires most { moved_bytes op.now ≤ 65536 }
+    requires last_tag { tag ≤ STREAMS }
+    requires most { moved_bytes op.now ≤ WINDOW_BYTES }
     requires room { HasTdRoom lines.old tag op.now }
     ensures { lines.new ≡ pushed lines.old tag op.now }
 {
@@ -213,7 +189,7 @@ pub(crate) fn push_tds(lines: &mut Lines, tag: u16, op: &Op)
 /// Pushes the TDs of a task management: status, command. Asks room for them.
 pub(crate) fn push_task(lines: &mut Lines, tag: u16)
     requires some_tag { 0 < tag }
-    requires last_tag { tag ≤ 248 }
+    requires last_tag { tag ≤ STREAMS }
     requires room { HasTaskRoom lines.old tag }
     ensures { lines.new ≡ pushed_task lines.old tag }
 {

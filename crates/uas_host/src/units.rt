@@ -1,5 +1,6 @@
 // The units in a tag's buffers.
 ghost use Rattle.std.specs.Prelude.{◌≡◌, ◌≤◌, ◌<◌, ◌++◌, drop, length, option_map, None};
+ghost use Rattle.uas_profile.specs.declared.TheConstants.{MAX_CLIENTS, STREAMS, COMMAND_BYTES, WINDOW_BYTES};
 ghost use Rattle.scsi_cmd.specs.declared.Command.{Command};
 ghost use Rattle.frame_store.specs.Buffers.{held_for, with_held};
 ghost use Rattle.uas_host.specs.Events.{answer_in};
@@ -12,14 +13,13 @@ use crate::tags::task_tag_of;
 use arrayvec::ArrayVec;
 use frame_store::Frames;
 use scsi_cmd::{Buffer, Command, Op, Task, cdb};
-use uas_iu::{
-    ABORT_TASK, AnswerHead, Iu, LOGICAL_UNIT_RESET, MAX_UNIT_BYTES, answer_head, lun_bytes, write,
-};
+use uas_iu::{ABORT_TASK, AnswerHead, Iu, LOGICAL_UNIT_RESET, answer_head, lun_bytes, write};
+use uas_profile::STATUS_BYTES;
 
 /// The Command unit of an operation for the logical unit of a client.
-fn command_unit(client: u8, tag: u16, op: &Op) -> ArrayVec<u8, MAX_UNIT_BYTES>
+fn command_unit(client: u8, tag: u16, op: &Op) -> ArrayVec<u8, STATUS_BYTES>
     ensures text { result.items ≡ command_text client tag op.now }
-    ensures bytes { length result.items ≡ 32 }
+    ensures bytes { length result.items ≡ COMMAND_BYTES }
 {
     let mut unit = ArrayVec::new();
     let command = Iu::Command {
@@ -31,11 +31,11 @@ fn command_unit(client: u8, tag: u16, op: &Op) -> ArrayVec<u8, MAX_UNIT_BYTES>
     unit
 }
 
-/// Writes 32 bytes into a tag's command buffer.
+/// Writes the bytes of a Command unit into a tag's command buffer.
 fn write_command(frames: &mut Frames, tag: u16, unit: &[u8])
     requires first_tag { 1 ≤ tag }
-    requires last_tag { tag ≤ 248 }
-    requires bytes { length unit.now ≡ 32 }
+    requires last_tag { tag ≤ STREAMS }
+    requires bytes { length unit.now ≡ COMMAND_BYTES }
     ensures { frames.new ≡ with_held frames.old tag (record (held_for frames.old tag) { command = unit.now }) }
 {
     frames.iu(tag).copy_from_slice(unit);
@@ -45,8 +45,8 @@ fn write_command(frames: &mut Frames, tag: u16, unit: &[u8])
 /// tag. Asks that none is lent.
 pub(crate) fn lend_command(frames: &mut Frames, client: u8, tag: u16, op: &Op, buffer: Buffer)
     requires first_tag { 1 ≤ tag }
-    requires last_tag { tag ≤ 248 }
-    requires fits { length buffer ≤ 65536 }
+    requires last_tag { tag ≤ STREAMS }
+    requires fits { length buffer ≤ WINDOW_BYTES }
     requires free { (held_for frames.old tag).lent ≡ None }
     ensures { frames.new ≡ lent frames.old client tag (record { op = op.now; buffer = buffer }) }
 {
@@ -75,8 +75,8 @@ fn named_tag(task: Task) -> u16
 }
 
 /// The Task Management unit of a client for its logical unit.
-fn task_unit(client: u8, task: Task) -> ArrayVec<u8, MAX_UNIT_BYTES>
-    requires { client < 31 }
+fn task_unit(client: u8, task: Task) -> ArrayVec<u8, STATUS_BYTES>
+    requires { client < MAX_CLIENTS }
     ensures text { result.items ≡ task_text client task }
     ensures bytes { length result.items ≡ 16 }
 {
@@ -102,7 +102,7 @@ fn write_front(buffer: &mut [u8], bytes: &[u8])
 
 /// Writes the Task Management unit of a client over the first bytes of its task tag's command buffer.
 pub(crate) fn write_task(frames: &mut Frames, client: u8, task: Task)
-    requires { client < 31 }
+    requires { client < MAX_CLIENTS }
     ensures { frames.new ≡ with_task_unit frames.old client task }
 {
     let unit = task_unit(client, task);

@@ -3,6 +3,7 @@ use Rattle.std.specs.Prelude.{ℕ, ◌+◌, ◌*◌, Bool, false, not, ◌&&◌,
 use Rattle.std.specs.List.{list_any}
 use Rattle.uas_iu.specs.declared.IuFault.{IuFault}
 use Rattle.uas_iu.specs.declared.IuFault.TheVariants.{UnknownId, Short, Long, ReservedSet, LengthField}
+use Rattle.uas_profile.specs.declared.TheConstants.{COMMAND_BYTES, STATUS_BYTES}
 
 -- byte 0; 0, which is no unit's, where there is no byte
 abbrev pub identifier : List ℕ → ℕ
@@ -10,11 +11,11 @@ identifier bytes = slice_index bytes 0
 
 -- the bytes that a unit of this identifier has at least: all of them, but those of the sense
 abbrev pub fixed_size : ℕ → ℕ
-fixed_size id = if id == 1 then 32 else (if id == 4 then 8 else 16)
+fixed_size id = if id == 1 then COMMAND_BYTES else (if id == 4 then 8 else 16)
 
 -- the bytes that it has at most
 abbrev pub greatest_size : ℕ → ℕ
-greatest_size id = if id == 3 then 112 else fixed_size id
+greatest_size id = if id == 3 then STATUS_BYTES else fixed_size id
 
 -- the places of the bytes that are said to be 0; byte 6 of Command is a length
 abbrev pub reserved_places : ℕ → List ℕ

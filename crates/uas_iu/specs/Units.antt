@@ -5,6 +5,8 @@ use Rattle.std.specs.Int.{to_be_bytes, w16}
 use Rattle.arrayvec.specs.ArrayVec.{array_vec_len}
 use Rattle.uas_iu.specs.declared.Iu.{Iu}
 use Rattle.uas_iu.specs.declared.Iu.TheVariants.{Command, Sense, Response, Task}
+use Rattle.uas_iu.specs.declared.TheConstants.{MAX_SENSE_BYTES}
+use Rattle.uas_profile.specs.declared.TheConstants.{COMMAND_BYTES}
 
 -- the bytes of a unit
 -- TEST UNIT READY on tag 1 is 01 00 00 01 and 28 zeros; GOOD on it is 03 00 00 01 and 12 zeros; the
@@ -28,13 +30,13 @@ unit_text (Task tag function task_tag lun) =
 -- (that a part of one byte is below 256 says the byte list itself)
 abbrev pub Fits : Iu → Type 0
 Fits (Command tag lun cdb) = (tag < 2 ^ 16) × (length lun ≡ 8) × (length cdb ≡ 16)
-Fits (Sense tag status sense) = (tag < 2 ^ 16) × (array_vec_len sense ≤ 96)
+Fits (Sense tag status sense) = (tag < 2 ^ 16) × (array_vec_len sense ≤ MAX_SENSE_BYTES)
 Fits (Response tag code) = tag < 2 ^ 16
 Fits (Task tag function task_tag lun) = (tag < 2 ^ 16) × (task_tag < 2 ^ 16) × (length lun ≡ 8)
 
 -- how many bytes a unit has
 abbrev pub unit_size : Iu → ℕ
-unit_size (Command tag lun cdb) = 32
+unit_size (Command tag lun cdb) = COMMAND_BYTES
 unit_size (Sense tag status sense) = 16 + array_vec_len sense
 unit_size (Response tag code) = 8
 unit_size (Task tag function task_tag lun) = 16

@@ -22,14 +22,13 @@
 
 mod lun;
 mod reader;
-#[cfg(test)]
-mod tests;
 mod writer;
 
 use arrayvec::ArrayVec;
 pub use lun::{lun_bytes, lun_number};
 pub use reader::{answer_head, read};
 use thiserror::Error;
+use uas_profile::STATUS_BYTES;
 pub use writer::{write, write_sense};
 
 /// Byte 0 of a Command unit.
@@ -48,14 +47,11 @@ const _: () = prove!(COMMAND_ID == 0x01 && SENSE_ID == 0x03);
 
 const _: () = prove!(RESPONSE_ID == 0x04 && TASK_ID == 0x05);
 
-/// The bytes of a Command unit.
-pub const COMMAND_BYTES: usize = 32;
-
 /// The bytes of a Sense unit before its sense.
 pub const SENSE_HEADER_BYTES: usize = 16;
 
-/// The greatest number of sense bytes.
-pub const MAX_SENSE_BYTES: usize = 96;
+/// The greatest number of sense bytes: the longest unit (`STATUS_BYTES`) is a Sense unit with so many.
+pub const MAX_SENSE_BYTES: usize = STATUS_BYTES - SENSE_HEADER_BYTES;
 
 /// The bytes of a Response unit.
 pub const RESPONSE_BYTES: usize = 8;
@@ -63,18 +59,17 @@ pub const RESPONSE_BYTES: usize = 8;
 /// The bytes of a Task Management unit.
 pub const TASK_BYTES: usize = 16;
 
-/// The bytes of the longest unit, a Sense unit with all its sense.
-pub const MAX_UNIT_BYTES: usize = 112;
-
 /// The bytes of a logical unit number.
 pub const LUN_BYTES: usize = 8;
 
 /// The bytes of a CDB's place, which a shorter CDB fills from the front.
 pub const CDB_BYTES: usize = 16;
 
-const _: () = prove!(COMMAND_BYTES == 32 && SENSE_HEADER_BYTES == 16 && MAX_SENSE_BYTES == 96);
+const _: () = prove!(
+    SENSE_HEADER_BYTES == 16 && SENSE_HEADER_BYTES + MAX_SENSE_BYTES == STATUS_BYTES
+);
 
-const _: () = prove!(RESPONSE_BYTES == 8 && TASK_BYTES == 16 && MAX_UNIT_BYTES == 112);
+const _: () = prove!(RESPONSE_BYTES == 8 && TASK_BYTES == 16);
 
 const _: () = prove!(LUN_BYTES == 8 && CDB_BYTES == 16);
 

@@ -8,10 +8,11 @@ ghost use Rattle.uas_iu.specs.Units.{Fits, IsTextOf, unit_text};
 ghost use Rattle.uas_iu.specs.declared.Iu.{Iu};
 
 use crate::{
-    AnswerHead, COMMAND_BYTES, COMMAND_ID, Iu, IuFault, MAX_UNIT_BYTES, RESPONSE_BYTES,
-    RESPONSE_ID, SENSE_HEADER_BYTES, SENSE_ID, TASK_BYTES, TASK_ID,
+    AnswerHead, COMMAND_ID, Iu, IuFault, RESPONSE_BYTES, RESPONSE_ID, SENSE_HEADER_BYTES, SENSE_ID,
+    TASK_BYTES, TASK_ID,
 };
 use arrayvec::ArrayVec;
+use uas_profile::{COMMAND_BYTES, STATUS_BYTES};
 
 // The places of the fields.
 const TAG_PLACE: usize = 2;
@@ -110,14 +111,14 @@ fn read_command(bytes: &[u8]) -> Result<Iu, IuFault>
 fn sense_fault(bytes: &[u8]) -> Option<IuFault>
     requires { identifier bytes.now ≡ 3 }
     ensures fault { result ≡ first_fault bytes.now }
-    ensures size { IfNone result ((16 ≤ length bytes.now) × (length bytes.now ≤ 112)
+    ensures size { IfNone result ((16 ≤ length bytes.now) × (length bytes.now ≤ STATUS_BYTES)
         × (16 + (slice_index bytes.now 14 * 256 + slice_index bytes.now 15) ≡ length bytes.now)) }
     ensures zeros { IfNone result (list_any (λ place. not (slice_index bytes.now place == 0)) (reserved_places 3) ≡ false) }
 {
     if bytes.len() < SENSE_HEADER_BYTES {
         return Some(IuFault::Short);
     }
-    if bytes.len() > MAX_UNIT_BYTES {
+    if bytes.len() > STATUS_BYTES {
         return Some(IuFault::Long);
     }
     if is_any_set(bytes, &SENSE_ZEROS) {

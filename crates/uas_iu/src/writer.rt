@@ -4,14 +4,15 @@ ghost use Rattle.arrayvec.specs.ArrayVec.{array_vec_len};
 ghost use Rattle.uas_iu.specs.Units.{Fits, unit_text};
 ghost use Rattle.uas_iu.specs.declared.Iu.TheVariants.{Sense};
 
-use crate::{COMMAND_ID, Iu, MAX_SENSE_BYTES, MAX_UNIT_BYTES, RESPONSE_ID, SENSE_ID, TASK_ID};
+use crate::{COMMAND_ID, Iu, MAX_SENSE_BYTES, RESPONSE_ID, SENSE_ID, TASK_ID};
 use arrayvec::ArrayVec;
+use uas_profile::STATUS_BYTES;
 
 /// Writes the bytes of `unit` into `out`, which is asked to be empty and has room for every unit
 /// (INCITS 471, information units).
 #[tactic(auto, unfolding(crate::specs::Units::unit_text))]
 #[inline(always)]
-pub fn write(unit: &Iu, out: &mut ArrayVec<u8, MAX_UNIT_BYTES>)
+pub fn write(unit: &Iu, out: &mut ArrayVec<u8, STATUS_BYTES>)
     requires { array_vec_len out.old ≡ 0 }
     ensures text { out.new.items ≡ unit_text unit.now }
     ensures fits { Fits unit.now }
@@ -49,7 +50,7 @@ pub fn write(unit: &Iu, out: &mut ArrayVec<u8, MAX_UNIT_BYTES>)
 /// does.
 #[tactic(auto, unfolding(crate::specs::Units::unit_text))]
 #[inline(always)]
-pub fn write_sense(tag: u16, status: u8, sense: &[u8], out: &mut ArrayVec<u8, MAX_UNIT_BYTES>)
+pub fn write_sense(tag: u16, status: u8, sense: &[u8], out: &mut ArrayVec<u8, STATUS_BYTES>)
     requires empty { array_vec_len out.old ≡ 0 }
     requires room { length sense.now ≤ MAX_SENSE_BYTES }
     ensures text { out.new.items ≡ unit_text (Sense tag status (record { items = sense.now })) }
@@ -65,8 +66,8 @@ pub fn write_sense(tag: u16, status: u8, sense: &[u8], out: &mut ArrayVec<u8, MA
 
 /// Appends `bytes`, for which there is room.
 #[inline(always)]
-fn put(out: &mut ArrayVec<u8, MAX_UNIT_BYTES>, bytes: &[u8])
-    requires { array_vec_len out.old + length bytes.now ≤ MAX_UNIT_BYTES }
+fn put(out: &mut ArrayVec<u8, STATUS_BYTES>, bytes: &[u8])
+    requires { array_vec_len out.old + length bytes.now ≤ STATUS_BYTES }
     ensures { out.new.items ≡ out.old.items ++ bytes.now }
 {
     for byte in bytes {

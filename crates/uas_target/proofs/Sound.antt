@@ -22,7 +22,7 @@ use Rattle.device_server.specs.declared.Progress.TheVariants.{Moving, Ended}
 use Rattle.device_server.specs.Laws.{HasChunk-after, HasChunk-begun}
 use Rattle.device_server.specs.Server.{HasChunk, begun, progress_after, progress_asked}
 use Rattle.uas_target.specs.declared.DeviceTask.{DeviceTask}
-use Rattle.uas_target.specs.declared.TheConstants.{GREATEST_TAG}
+use Rattle.uas_profile.specs.declared.TheConstants.{GREATEST_TAG}
 use Rattle.uas_target.specs.Fields.{is_tag}
 use Rattle.uas_target.specs.Soundness.{IsSoundTask, IsSoundDevice, IsOn, counts_of}
 use Rattle.uas_target.specs.Tasks.{task_in, begun_by}
@@ -126,7 +126,7 @@ pub is_tag-held : {T : Type 0} (places : List (Option T)) (tag : ℕ) (held : T)
 is_tag-held {T} places zero held long is = let no : ◌≡◌ {A = Option T} None (Some held) = is in cc
 is_tag-held {T} places (suc slot) held long is =
     elim (cases_lt slot (length places)) [
-      | inl within ↦ rw (le-leb 1 (suc slot) (omega arith), le-leb (suc slot) 248 (omega arith)) refl
+      | inl within ↦ rw (le-leb 1 (suc slot) (omega arith), le-leb (suc slot) GREATEST_TAG (omega arith)) refl
       | inr past ↦ let no : ◌≡◌ {A = Option T} None (Some held) = sym (held_at-past places slot past) ∙ is in cc
     ]
 

@@ -2,9 +2,9 @@
 use Rattle.std.specs.Prelude.{ℕ, ◌*◌, ◌+◌, ◌==◌, nat_lt, nat_le, Bool, not, ◌&&◌, if◌then◌else◌, List, [], ◌∷◌, take, drop, slice_index, slice_get, Option}
 use Rattle.std.specs.Prelude.{None}
 use Rattle.std.specs.List.{list_any}
-use Rattle.uas_target.specs.declared.TheConstants.{GREATEST_TAG}
+use Rattle.uas_profile.specs.declared.TheConstants.{GREATEST_TAG}
 
--- the tags that a task may have: 1 to 248
+-- the tags that a task may have: 1 to 240 (GREATEST_TAG)
 abbrev pub is_tag : ℕ → Bool
 is_tag tag = nat_lt 0 tag && nat_le tag GREATEST_TAG
 

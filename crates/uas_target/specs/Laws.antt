@@ -9,8 +9,8 @@ use Rattle.block_unit.specs.BlockMaps.{BlockMaps}
 use Rattle.scsi_cmd.specs.declared.Op.{Op}
 use Rattle.scsi_cmd.specs.Meaning.{asked}
 use Rattle.scsi_cmd.specs.Op.{cdb_bytes, direction_of, moved_bytes}
-use Rattle.scsi_cmd.specs.declared.Direction.{Direction}
-use Rattle.scsi_cmd.specs.declared.Direction.TheVariants.{Nothing as NoWay, ToHost, ToDevice}
+use Rattle.uas_profile.specs.declared.Direction.{Direction}
+use Rattle.uas_profile.specs.declared.Direction.TheVariants.{Nothing as NoWay, ToHost, ToDevice}
 use Rattle.scsi_cmd.specs.Laws.{direction_of-work}
 use Rattle.scsi_cmd.specs.Work.{checked_work, reports_attention, work_direction, work_of}
 use Rattle.device_server.specs.Server.{begun, chunk_bytes}
@@ -20,6 +20,7 @@ use Rattle.uas_target.specs.Tasks.{begun_by, chunk_wanted, is_command_of, wanted
 use Rattle.uas_target.specs.Device.{Device, Call, Receive, Give, Take, Send, called, device_after, dropped, executed, managed, on_its_tag, received}
 use Rattle.uas_target.specs.Device.{task_of, with_code, with_units_and_task}
 use Rattle.uas_target.specs.Fields.{function_in, lun_in, tag_in, task_tag_in}
+use Rattle.uas_profile.specs.declared.TheConstants.{CHUNK_BYTES}
 
 -- WHAT COMES OF THE TEXT OF A UNIT
 
@@ -105,12 +106,12 @@ wanted_takes ToHost bytes size is = let no : ◌≡◌ {A = Phase} (Gives bytes)
 wanted_takes ToDevice bytes size is = let same : ◌≡◌ {A = Phase} (Takes bytes) (Takes size) = is in (refl, cc)
 
 -- what is wanted of an operation is what its work moves
-pub gives_to_host : (op : Op) (chunk size blocks : ℕ) → chunk_wanted chunk op ≡ Gives size → 4096 * chunk < moved_bytes op →
+pub gives_to_host : (op : Op) (chunk size blocks : ℕ) → chunk_wanted chunk op ≡ Gives size → CHUNK_BYTES * chunk < moved_bytes op →
     work_direction (work_of op blocks) ≡ ToHost
 gives_to_host op chunk size blocks wants less =
     sym (direction_of-work op blocks (omega arith)) ∙ (wanted_gives (direction_of op) (chunk_bytes (moved_bytes op) chunk) size wants).0
 
-pub takes_to_device : (op : Op) (chunk size blocks : ℕ) → chunk_wanted chunk op ≡ Takes size → 4096 * chunk < moved_bytes op →
+pub takes_to_device : (op : Op) (chunk size blocks : ℕ) → chunk_wanted chunk op ≡ Takes size → CHUNK_BYTES * chunk < moved_bytes op →
     work_direction (work_of op blocks) ≡ ToDevice
 takes_to_device op chunk size blocks wants less =
     sym (direction_of-work op blocks (omega arith)) ∙ (wanted_takes (direction_of op) (chunk_bytes (moved_bytes op) chunk) size wants).0

@@ -10,7 +10,7 @@ use Rattle.uas_target.specs.declared.DeviceTask.{DeviceTask}
 use Rattle.uas_target.specs.declared.DeviceTask.TheVariants.{Moving, Ended}
 use Rattle.uas_target.specs.declared.Phase.{Phase}
 use Rattle.uas_target.specs.declared.Phase.TheVariants.{Absent, Gives, Takes, Ends}
-use Rattle.uas_target.specs.declared.TheConstants.{GREATEST_TAG, MAX_UNITS}
+use Rattle.uas_profile.specs.declared.TheConstants.{GREATEST_TAG, MAX_CLIENTS, CHUNK_BYTES}
 
 -- how many blocks each unit has
 abbrev pub counts_of : List BlockMaps → List ℕ
@@ -23,19 +23,19 @@ IsOn counts op (Some number) = MatchOption (slice_get counts number) ⊥ (λ cou
 
 -- a task that moves data has bytes left to move, and its blocks are on its unit
 abbrev pub IsSoundTask : List ℕ → DeviceTask → Type 0
-IsSoundTask counts (Moving unit op chunk) = (4096 * chunk < moved_bytes op) × IsOn counts op unit
+IsSoundTask counts (Moving unit op chunk) = (CHUNK_BYTES * chunk < moved_bytes op) × IsOn counts op unit
 IsSoundTask counts (Ended unit answer) = Unit {0}
 
 -- a chunk has bytes, and at most those of eight blocks
 abbrev pub IsChunk : Phase → Type 0
 IsChunk Absent = Unit {0}
-IsChunk (Gives size) = (0 < size) × (size ≤ 4096)
-IsChunk (Takes size) = (0 < size) × (size ≤ 4096)
+IsChunk (Gives size) = (0 < size) × (size ≤ CHUNK_BYTES)
+IsChunk (Takes size) = (0 < size) × (size ≤ CHUNK_BYTES)
 IsChunk Ends = Unit {0}
 
--- 1 to 31 units, a place for each tag, and every task is sound
+-- 1 to MAX_CLIENTS units, a place for each tag, and every task is sound
 pub record IsSoundDevice (units : List BlockMaps) (held : List (Option DeviceTask)) : Type 0 where
   pub some_unit : 1 ≤ length units
-  pub most_units : length units ≤ MAX_UNITS
+  pub most_units : length units ≤ MAX_CLIENTS
   pub places : length held ≡ GREATEST_TAG
   pub tasks : AllHeld (IsSoundTask (counts_of units)) held

@@ -11,19 +11,20 @@ ghost use Rattle.uas_target.specs.Device.{answered, fits, gave, given, opening, 
 use crate::chunks::{chunk_wants, give_task, take_task};
 use crate::receiver::unit_number;
 use crate::table::TaskTable;
-use crate::{DeviceAnswer, DeviceTask, MAX_UNITS, Phase, Target};
+use crate::{DeviceAnswer, DeviceTask, Phase, Target};
 use arrayvec::ArrayVec;
 use block_unit::Unit;
 use device_server::{Answer, status_and_sense};
 use scsi_cmd::{CHECK_CONDITION, GOOD};
 use std::alloc::{AllocError, Global};
-use uas_iu::{Iu, LUN_BYTES, MAX_UNIT_BYTES, write, write_sense};
+use uas_iu::{Iu, LUN_BYTES, write, write_sense};
+use uas_profile::{MAX_CLIENTS, STATUS_BYTES};
 
 impl Target {
-    /// A device of these logical units, 1 to 31, without a task. The error is want of memory.
+    /// A device of these logical units, 1 to 15 (`MAX_CLIENTS`), without a task. The error is want of memory.
     pub fn new(alloc: Global, units: Vec<Unit>) -> Result<Target, AllocError>
         requires some { 1 ≤ vec_len units }
-        requires most { vec_len units ≤ MAX_UNITS }
+        requires most { vec_len units ≤ MAX_CLIENTS }
         ensures { IfOk result (λ target. target ≡ opening units.items) }
     {
         Ok(Target {
@@ -88,7 +89,7 @@ impl Target {
     /// Writes the unit that answers the task of a tag, once it has ended, into `text`, which is asked to be empty. False,
     /// and nothing is written, where it hasn't.
     #[inline(always)]
-    pub fn write_status(&self, tag: u16, text: &mut ArrayVec<u8, MAX_UNIT_BYTES>) -> bool
+    pub fn write_status(&self, tag: u16, text: &mut ArrayVec<u8, STATUS_BYTES>) -> bool
         requires { array_vec_len text.old ≡ 0 }
         ensures { MatchOption (answered self.now tag) ((result ≡ false) × (text.new ≡ text.old))
             (λ unit. (result ≡ true) × IsTextOf text.new.items unit) }
@@ -133,7 +134,7 @@ fn unit_of(tag: u16, answer: &DeviceAnswer) -> Iu
 
 /// Writes the unit that tells an answer into `text`, which is asked to be empty.
 #[inline(always)]
-fn write_answer(tag: u16, answer: &DeviceAnswer, text: &mut ArrayVec<u8, MAX_UNIT_BYTES>)
+fn write_answer(tag: u16, answer: &DeviceAnswer, text: &mut ArrayVec<u8, STATUS_BYTES>)
     requires { array_vec_len text.old ≡ 0 }
     ensures { IsTextOf text.new.items (answer_unit tag answer.now) }
 {

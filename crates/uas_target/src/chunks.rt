@@ -7,6 +7,7 @@ ghost use Rattle.scsi_cmd.specs.Work.{work_of, work_without_unit};
 ghost use Rattle.device_server.specs.Server.{chunk_fits, chunk_given, chunk_moved, progress_after, unit_taken};
 ghost use Rattle.uas_target.specs.Soundness.{IsChunk, IsOn, IsSoundTask, counts_of};
 ghost use Rattle.uas_target.specs.Tasks.{chunk_wanted, given_without_unit, task_fits, task_given, task_in, task_left, task_taken, task_wants};
+ghost use Rattle.uas_profile.specs.declared.TheConstants.{CHUNK_BYTES};
 
 use crate::{DeviceAnswer, DeviceTask, Phase};
 use block_unit::Unit;
@@ -37,7 +38,7 @@ pub(crate) fn task_in(
 
 /// The way and the bytes of the next chunk of an operation that has bytes left to move.
 pub(crate) fn chunk_wants(op: &Op, chunk: u16) -> Phase
-    requires { 4096 * chunk < moved_bytes op.now }
+    requires { CHUNK_BYTES * chunk < moved_bytes op.now }
     ensures phase { result ≡ chunk_wanted chunk op.now }
     ensures chunk { IsChunk result }
 {
@@ -97,7 +98,7 @@ pub(crate) fn give_task(
 /// Gives a chunk of a command to a unit that is there.
 fn give_at(unit: &Unit, op: &Op, chunk: u16, bytes: &mut [u8]) -> Progress
     requires wanted { chunk_wanted chunk op.now ≡ Phase.Gives (length bytes.old) }
-    requires left { 4096 * chunk < moved_bytes op.now }
+    requires left { CHUNK_BYTES * chunk < moved_bytes op.now }
     requires range { op_fault op.now unit.now.count ≡ None }
     ensures progress { result ≡ progress_after unit.now chunk (work_of op.now unit.now.count) }
     ensures moved { chunk_moved result ≡ is_some (chunk_given unit.now chunk (work_of op.now unit.now.count)) }
@@ -109,7 +110,7 @@ fn give_at(unit: &Unit, op: &Op, chunk: u16, bytes: &mut [u8]) -> Progress
 /// Gives the data of a command to a unit that isn't there, all at once; false where it has none.
 fn give_without_unit(op: &Op, chunk: u16, bytes: &mut [u8]) -> bool
     requires wanted { chunk_wanted chunk op.now ≡ Phase.Gives (length bytes.old) }
-    requires left { 4096 * chunk < moved_bytes op.now }
+    requires left { CHUNK_BYTES * chunk < moved_bytes op.now }
     ensures good { result ≡ is_some (given_without_unit (work_without_unit op.now)) }
     ensures bytes { bytes.new ≡ unwrap_or (given_without_unit (work_without_unit op.now)) bytes.old }
 {
@@ -155,7 +156,7 @@ fn take_at(
     bytes: &[u8],
 ) -> (bool, Option<DeviceTask>)
     requires wanted { chunk_wanted chunk op ≡ Phase.Takes (length bytes.now) }
-    requires left { 4096 * chunk < moved_bytes op }
+    requires left { CHUNK_BYTES * chunk < moved_bytes op }
     requires on { IsOn (counts_of units.old) op (Some number) }
     ensures good { result.0 ≡ task_fits units.old (DeviceTask.Moving (Some number) op chunk) }
     ensures task { result.1 ≡ task_left units.old (DeviceTask.Moving (Some number) op chunk) }
@@ -173,7 +174,7 @@ fn take_at(
 /// Takes a chunk of a command to a unit that is there.
 fn take_on(unit: &mut Unit, op: &Op, chunk: u16, bytes: &[u8]) -> Progress
     requires wanted { chunk_wanted chunk op.now ≡ Phase.Takes (length bytes.now) }
-    requires left { 4096 * chunk < moved_bytes op.now }
+    requires left { CHUNK_BYTES * chunk < moved_bytes op.now }
     requires range { op_fault op.now unit.old.count ≡ None }
     ensures progress { result ≡ progress_after unit.old chunk (work_of op.now unit.old.count) }
     ensures moved { chunk_moved result ≡ chunk_fits unit.old chunk (work_of op.now unit.old.count) }

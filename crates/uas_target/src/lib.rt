@@ -39,8 +39,6 @@ mod laws;
 mod management;
 mod receiver;
 mod table;
-#[cfg(test)]
-mod tests;
 
 use block_unit::Unit;
 use device_server::Answer;
@@ -51,14 +49,6 @@ use scsi_cmd::Op;
 use std::marker::Model;
 use table::TaskTable;
 use thiserror::Error;
-
-/// The greatest tag that a task may have; the least is 1.
-pub const GREATEST_TAG: u16 = 248;
-
-/// The most logical units of a device.
-pub const MAX_UNITS: usize = 31;
-
-const _: () = prove!(GREATEST_TAG == 248 && MAX_UNITS == 31);
 
 /// How a task ended.
 #[derive(Clone, Copy, Debug, PartialEq, Eq)]

@@ -9,11 +9,12 @@ ghost use Rattle.uas_target.specs.Tasks.{is_at, is_command_of, spared};
 
 use crate::receiver::unit_number;
 use crate::table::TaskTable;
-use crate::{DeviceAnswer, DeviceTask, GREATEST_TAG, Target};
+use crate::{DeviceAnswer, DeviceTask, Target};
 use block_unit::Unit;
 use uas_iu::{
     ABORT_TASK, INCORRECT_LUN, LOGICAL_UNIT_RESET, LUN_BYTES, NOT_SUPPORTED, TASK_COMPLETE,
 };
+use uas_profile::GREATEST_TAG;
 
 impl Target {
     /// Does a task management function on the unit that a LUN addresses; its response code.

@@ -4,15 +4,16 @@ ghost use Rattle.scsi_cmd.specs.Held.{held_under, with_held_under};
 ghost use Rattle.uas_target.specs.Device.{task_of};
 ghost use Rattle.uas_target.specs.Fields.{is_tag};
 
-use crate::{DeviceTask, GREATEST_TAG, Target};
+use crate::{DeviceTask, Target};
 use marks::Marks;
 use std::alloc::{AllocError, Global};
 use std::marker::Model;
+use uas_profile::GREATEST_TAG;
 
 /// Words of 64 marks, enough for a place of each tag.
 const TAG_WORDS: usize = 4;
 
-const _: () = prove!(TAG_WORDS == 4);
+const _: () = prove!(TAG_WORDS == 4 && (GREATEST_TAG as usize) <= 64 * TAG_WORDS);
 
 /// A place for the task of each tag; contracts see the list of them, tag 1 first.
 #[derive(Debug, Drop)]
@@ -25,7 +26,7 @@ pub(crate) struct TaskTable {
 impl Model for TaskTable {
     ghost use Rattle.std.specs.Prelude.{◌≡◌, ℕ, List, Option, length};
     ghost use Rattle.uas_target.specs.declared.DeviceTask.{DeviceTask};
-    ghost use Rattle.uas_target.specs.declared.TheConstants.{GREATEST_TAG};
+    ghost use Rattle.uas_profile.specs.declared.TheConstants.{GREATEST_TAG};
     ghost use Rattle.uas_target.specs.Marks.{MarksHeld};
 
     ghost Value = { List (Option DeviceTask) };

@@ -1,16 +1,1 @@
-mod Digits
-mod Lines
-mod Zeros
-mod NumberWords
-mod CommandLineFacts
-mod WalkSteps
-mod PlainLines
-mod Appended
-mod Outcomes
-mod Goes
-mod Notes
-mod Transitions
-mod WholeScripts
-mod ReplyLines
-mod Stands
-mod Units
+mod RefusedEnds

@@ -3,14 +3,15 @@ use Rattle.std.specs.Prelude.{◌≡◌, ℕ, ◌<◌, ◌≤◌, Bool, IsTrue, 
 use Rattle.std.specs.Io.KnownBytes.{Appends, Keeps, IsAtEnd}
 use Rattle.clap.specs.Words.{Kinds, Text}
 use Rattle.clap.specs.declared.error.kind.ErrorKind.{ErrorKind}
-use Rattle.uasdisk.specs.CommandLine.{Asked, replay, trace, make, info, dump, fill, IsRequest, EndsRefused}
-use Rattle.uasdisk.specs.Images.{blocks_in, made_image, made_text}
-use Rattle.uasdisk.specs.Script.{script}
-use Rattle.uasdisk.specs.Told.{zeroed_units}
-use Rattle.uasdisk.specs.Runs.{Tells, InfoPrints, AnswersOf}
-use Rattle.uasdisk.specs.Alone.{dumped, filled, filled_medium}
+use Rattle.uas_words.specs.CommandLine.{Asked, replay, trace, make, info, dump, fill, IsRequest, EndsRefused}
+use Rattle.disk_image.specs.Images.{blocks_in, made_image, made_text}
+use Rattle.uas_script.specs.Script.{script}
+use Rattle.uas_replay.specs.Told.{zeroed_units}
+use Rattle.uas_replay.specs.Runs.{Tells}
+use Rattle.disk_image.specs.Stops.{InfoPrints, AnswersOf}
+use Rattle.disk_image.specs.Alone.{dumped, filled, filled_medium}
 use Rattle.block_unit.specs.BlockMaps.{imaged}
-use Rattle.uasdisk.specs.Traced.{Traces}
+use Rattle.uas_trace.specs.Traced.{Traces}
 
 -- What is known of a host: whether it tells what its files hold; of the file of a name, whether it can be opened, can
 -- be created and can fail; whether standard input is there, and whether it and standard output can fail.

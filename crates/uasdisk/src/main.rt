@@ -16,43 +16,30 @@
 //! where all went well, 1 where a command ended other than GOOD or was refused, 2 where the words are refused, 3 at a fault
 //! of a script, an image or a file, and 4 for want of memory.
 //!
-//! `main` gets the words and `start` the host: its standard streams and its files. All else is decided by `run_words`,
-//! over a host that tells its bytes and whether it can fail (`streams`, `files`). What the words ask for, and by which
-//! kinds of error they are refused, is `specs/CommandLine.antt`; how each run ends, with what on standard output and in
-//! which file, is `specs/Ends.antt`. The text that a script's run writes is that of `specs/Told.antt`, a fold of the
-//! script's lines over the shared machine of the bus and the tags of each client; which lines a text has, or which fault,
-//! is `specs/Script.antt`. The rest is tested: the texts of faults and of help.
+//! `main` gets the words and `start` the host: its standard streams and its files. All else is decided by `run_words`, over a host
+//! that tells its bytes and whether it can fail. What the words ask for, and by which kinds of error they are refused, is `uas_words`;
+//! how each run ends, with what on standard output and in which file, is `specs/Ends.antt`. The runs are `uas_replay`'s, `uas_trace`'s
+//! and `disk_image`'s. The rest is tested: the texts of faults and of help.
 #![tactic(auto)]
 
-pub mod alone;
-pub mod disks;
-pub mod files;
-pub mod headline;
-pub mod image;
-pub mod printed;
-pub mod program;
-pub mod replay;
-pub mod run_dump;
-pub mod run_fill;
-pub mod run_script;
-pub mod run_trace;
-pub mod script;
-pub mod status;
-pub mod streams;
-pub mod words;
+mod edges;
+mod hints;
+mod program;
 
 ghost use Rattle.std.specs.Prelude.{◌≡◌, ◌≢◌, ◌⊎◌, [], IfSome, map};
 ghost use Rattle.std.specs.String.{string_bytes};
-ghost use Rattle.uasdisk.specs.CommandLine.{asked_for, refusals, MayEndRun, EndsRefused};
+ghost use Rattle.uas_words.specs.CommandLine.{asked_for, refusals, MayEndRun, EndsRefused};
 ghost use Rattle.uasdisk.specs.Ends.{HoldsOfOne};
 
-use files::HostFiles;
+use byte_io::{HostFiles, Reader};
+use edges::{Faults, Output};
+use hints::say_hint;
 use program::run_words;
-use status::{RunFault, WORDS_REFUSED};
+use std::cell::Cell;
 use std::io::{IsTerminal, Write};
 use std::process::ExitCode;
 use std::{env, io};
-use streams::{Reader, Writer};
+use uas_replay::{RunFault, WORDS_REFUSED};
 
 fn main(rt: HostRuntime) -> ExitCode {
     let words: io::Result<Vec<String>> = env::args(&rt).and_then(|words| Ok(words.collect(
@@ -77,21 +64,29 @@ fn start(rt: &HostRuntime, words: &[String]) -> u8
     ensures refused { refusals (map string_bytes words.now) ≢ [] → (result ≡ 4)
         ⊎ HoldsOfOne (λ kind. EndsRefused kind result) (refusals (map string_bytes words.now)) }
 {
-    let mut faults = rt.stderr();
-    let may_show_progress = faults.is_terminal();
+    let is_unread = Cell::new(false);
+    let is_watched = rt.stderr().is_terminal();
+    let mut faults = Faults::new(rt.stderr(), &is_unread);
     // A file that is opened takes the place of a standard output that is closed, and would get its text.
     let is_output_open = rt.stdout().write(b"").is_ok();
-    let mut output = is_output_open.then(|| Writer(rt.stdout()));
-    run_words(
+    let mut output = is_output_open.then(|| Output::new(rt.stdout(), &is_unread));
+    let status = run_words(
         rt.alloc(),
         words,
         &mut HostFiles(rt),
         &mut Reader(rt.reader()),
         &mut output,
         &mut faults,
-        may_show_progress,
-    )
+        is_watched,
+    );
+    let line = faults.last_line();
+    say_hint(
+        words,
+        status,
+        line,
+        is_watched,
+        is_unread.get(),
+        &mut rt.stderr(),
+    );
+    status
 }
-
-#[cfg(test)]
-mod tests;

@@ -3,28 +3,22 @@
 //! Everything that the program decides is decided here: which run the words ask for, on which file, of how many clients
 //! and blocks, what is printed and where, and the exit status.
 
-ghost use Rattle.block_unit.specs.declared.TheConstants.{MAX_BLOCKS};
-ghost use Rattle.std.specs.Prelude.{◌≡◌, ◌≢◌, ◌<◌, ◌≤◌, ◌⊎◌, [], length, false, Some, IsTrue, IfOk, IfSome, map};
+ghost use Rattle.std.specs.Prelude.{◌≡◌, ◌≢◌, ◌<◌, ◌⊎◌, [], length, false, IsTrue, IfOk, IfSome, map};
 ghost use Rattle.std.specs.Io.KnownBytes.{Appends, Keeps};
 ghost use Rattle.std.specs.String.{string_bytes};
 ghost use Rattle.clap.specs.Words.{kind_of};
-ghost use Rattle.uasdisk.specs.CommandLine.{asked_for, refusals};
+ghost use Rattle.uas_words.specs.CommandLine.{asked_for, refusals};
 ghost use Rattle.uasdisk.specs.Ends.{Ends, RefusalEnds, HoldsOfOne};
-ghost use Rattle.uasdisk.specs.Images.{made_image, made_text};
 
-use crate::files::Files;
-use crate::image::{run_info, run_make};
-use crate::run_dump::run_dump;
-use crate::run_fill::run_fill;
-use crate::run_script::run_script;
-use crate::run_trace::run_trace;
-use crate::status::{DONE, RunFault, WORDS_REFUSED, output_fault};
-use crate::streams::{Sink, Source};
-use crate::words::{Run, run_of};
+use byte_io::{Files, Sink, Source};
 use clap::Error;
 use clap::error::ErrorKind;
+use disk_image::{run_dump, run_fill, run_info, run_make};
 use std::alloc::{AllocError, Global};
 use std::io::Write;
+use uas_replay::{DONE, RunFault, WORDS_REFUSED, output_fault, run_script};
+use uas_trace::run_trace;
+use uas_words::{Run, run_of};
 
 /// Does what the words of a command line ask for, the program's own name first, and answers the exit status. A fault of
 /// `faults` changes nothing. A long run may show there how far it is.
@@ -57,11 +51,11 @@ pub fn run_words<F: Files, S: Source, O: Sink, W: Write>(
     match run_of(alloc, words) {
         Ok(Run::Replay(disks)) => run_script(alloc, disks, input, output, faults),
         Ok(Run::Trace(disks)) => run_trace(alloc, disks, input, output, faults),
-        Ok(Run::Make { file, blocks }) => make_file(
+        Ok(Run::Make { file, blocks }) => run_make(
             alloc,
+            blocks,
             files,
             file,
-            blocks,
             output,
             faults,
             may_show_progress,
@@ -75,33 +69,6 @@ pub fn run_words<F: Files, S: Source, O: Sink, W: Write>(
         }
         Err(error) => refuse(alloc, &error, output, faults),
     }
-}
-
-/// Makes an image, as the file of this name.
-fn make_file<F: Files, O: Sink, W: Write>(
-    alloc: Global,
-    files: &mut F,
-    file: &str,
-    blocks: u32,
-    output: &mut O,
-    faults: &mut W,
-    may_show_progress: bool,
-) -> u8
-    requires some { 1 ≤ blocks }
-    requires most { blocks ≤ MAX_BLOCKS }
-    ensures statuses { (result ≡ 0) ⊎ ((result ≡ 3) ⊎ (result ≡ 4)) }
-    ensures image { result ≡ 0 → IsTrue (F.tells files.old) → F.holds files.new file.now ≡ Some (made_image blocks) }
-    ensures told { result ≡ 0 → IsTrue (F.can_create files.old file.now)
-        × Appends (O.written output.old) (O.written output.new) (made_text blocks) }
-    ensures fault { result ≡ 3 → (IsTrue (F.can_fail files.old file.now) × Keeps (O.written output.old) (O.written output.new))
-        ⊎ (IsTrue (O.can_fail output.old) × (IsTrue (F.tells files.old) → F.holds files.new file.now ≡ Some (made_image blocks))) }
-    ensures memory { result ≡ 4 → Keeps (O.written output.old) (O.written output.new) }
-    ensures quiet { may_show_progress ≡ false → result ≡ 0 → faults.new ≡ faults.old }
-{
-    let mut image = files.create(file);
-    let status = run_make(alloc, blocks, &mut image, output, faults, may_show_progress);
-    files.close(image);
-    status
 }
 
 /// Prints what is wrong with the words, or the help that they ask for.

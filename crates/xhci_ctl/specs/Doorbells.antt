@@ -1,11 +1,13 @@
 -- Doorbell values (xHCI 5.6): the target in bits 7:0, the stream in bits 31:16.
 use Rattle.std.specs.Prelude.{ℕ, ◌/◌, ◌%◌, ◌^◌, ◌==◌, ◌&&◌, if◌then◌else◌, Option, None, Some, option_map}
 use Rattle.std.specs.Option.{option_map_or}
-use Rattle.stream_array.specs.declared.Pipe.{Pipe}
-use Rattle.stream_array.specs.declared.Pipe.TheVariants.{Command, Status, DataIn, DataOut}
+use Rattle.uas_profile.specs.Doors.{stream_in}
+use Rattle.uas_profile.specs.declared.Pipe.{Pipe}
+use Rattle.uas_profile.specs.declared.Pipe.TheVariants.{Command, Status, DataIn, DataOut}
 use Rattle.stream_array.specs.Contexts.{has_stream}
-use Rattle.xhci_ctl.specs.declared.TheConstants.{STATUS_ENDPOINT, DATA_OUT_ENDPOINT, DATA_IN_ENDPOINT}
-use Rattle.xhci_ctl.specs.Pipes.{ControllerState, rung_at}
+use Rattle.uas_profile.specs.declared.TheConstants.{STATUS_ENDPOINT, DATA_OUT_ENDPOINT, DATA_IN_ENDPOINT}
+use Rattle.uas_profile.specs.PipeStates.{rung_at}
+use Rattle.xhci_ctl.specs.Pipes.{ControllerState}
 
 -- the fields of a value, and the bits between them, which are reserved
 abbrev pub target_in : ℕ → ℕ
@@ -13,9 +15,6 @@ target_in value = value % 2 ^ 8
 
 abbrev pub reserved_in : ℕ → ℕ
 reserved_in value = value / 2 ^ 8 % 2 ^ 8
-
-abbrev pub stream_in : ℕ → ℕ
-stream_in value = value / 2 ^ 16
 
 -- the pipe with streams whose endpoint a target names
 abbrev pub pipe_at : ℕ → Option Pipe

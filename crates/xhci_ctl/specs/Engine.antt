@@ -2,20 +2,21 @@
 -- the first of them and posts its event (4.11.4, 6.4.2.2).
 use Rattle.std.specs.Prelude.{ℕ, ◌+◌, ◌==◌, ◌&&◌, ◌||◌, nat_le, Bool, true, false, not, if◌then◌else◌, length, Option, None, Some, option_and_then, replicate}
 use Rattle.std.specs.Option.{option_map_or}
+use Rattle.uas_profile.specs.PipeStates.{stopped_pipe}
 use Rattle.xhci_trb.specs.declared.Trb.{Trb}
 use Rattle.xhci_trb.specs.declared.Trb.TheVariants.{Normal, Link, StopEndpoint, SetDequeue, TransferEvent, CommandEvent}
 use Rattle.cycle_ring.specs.Ring.{Ring, cycle_of, front_of, item_at}
 use Rattle.event_ring.specs.declared.Event.TheVariants.{Command as CommandDone}
-use Rattle.stream_array.specs.declared.Pipe.{Pipe}
-use Rattle.stream_array.specs.declared.Pipe.TheVariants.{Command, Status, DataIn, DataOut}
-use Rattle.stream_array.specs.declared.TheConstants.{ENGINE_RING_PLACES, STREAM_ENTRIES}
+use Rattle.uas_profile.specs.declared.Pipe.{Pipe}
+use Rattle.uas_profile.specs.declared.Pipe.TheVariants.{Command, Status, DataIn, DataOut}
+use Rattle.uas_profile.specs.declared.TheConstants.{ENGINE_RING_PLACES, STREAM_ENTRIES}
 use Rattle.stream_array.specs.Contexts.{has_stream}
 use Rattle.stream_array.specs.Map.{places_of}
 use Rattle.stream_array.specs.Rings.{LinesState, ring_of, with_engine, with_ring}
 use Rattle.xhci_ctl.specs.declared.Acted.{Acted}
 use Rattle.xhci_ctl.specs.declared.Acted.TheVariants.{Acted as ActedOn, Idle}
-use Rattle.xhci_ctl.specs.declared.PipeState.{PipeState}
-use Rattle.xhci_ctl.specs.declared.TheConstants.{CONTEXT_STATE_ERROR, INVALID_STREAM_ID, SLOT, SUCCESS, TRB_ERROR}
+use Rattle.uas_profile.specs.declared.PipeState.{PipeState}
+use Rattle.uas_profile.specs.declared.TheConstants.{CONTEXT_STATE_ERROR, INVALID_STREAM_ID, SLOT, SUCCESS, TRB_ERROR}
 use Rattle.xhci_ctl.specs.Doorbells.{pipe_at}
 use Rattle.xhci_ctl.specs.Pipes.{ControllerState, is_running}
 use Rattle.xhci_ctl.specs.Steps.{has_event_room, posted}
@@ -25,10 +26,6 @@ abbrev pub commanded_pipe : ℕ → ℕ → Option Pipe
 commanded_pipe endpoint slot = if slot == SLOT then pipe_at endpoint else None
 
 -- STOP ENDPOINT
-
--- the endpoint doesn't run, and no stream is rung
-abbrev pub stopped_pipe : PipeState
-stopped_pipe = record { runs = false; rung = replicate STREAM_ENTRIES false }
 
 abbrev pub stopped_on : ControllerState → Pipe → ControllerState
 stopped_on controller Command = controller

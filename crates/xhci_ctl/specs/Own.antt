@@ -3,9 +3,9 @@ use Rattle.std.specs.Prelude.{◌≡◌, ℕ, ◌/◌, ◌%◌, ◌<◌, ◌≤�
 use Rattle.xhci_trb.specs.declared.Trb.{Trb}
 use Rattle.xhci_trb.specs.declared.Trb.TheVariants.{Normal, Link, StopEndpoint, SetDequeue, TransferEvent, CommandEvent}
 use Rattle.cycle_ring.specs.Ring.{front_of}
-use Rattle.stream_array.specs.declared.TheConstants.{COMMAND_RING_PLACES, STREAM_RING_PLACES}
-use Rattle.stream_array.specs.declared.Pipe.{Pipe}
-use Rattle.stream_array.specs.declared.Pipe.TheVariants.{Status, DataIn, DataOut}
+use Rattle.uas_profile.specs.declared.TheConstants.{COMMAND_RING_PLACES, STREAM_RING_PLACES}
+use Rattle.uas_profile.specs.declared.Pipe.{Pipe}
+use Rattle.uas_profile.specs.declared.Pipe.TheVariants.{Status, DataIn, DataOut}
 use Rattle.stream_array.specs.Map.{HasRing, places_of}
 use Rattle.stream_array.specs.Rings.{LinesState, ring_of}
 use Rattle.frame_store.specs.declared.TagBuffers.{TagBuffers}
@@ -14,7 +14,7 @@ use Rattle.uas_iu.specs.declared.Iu.{Iu}
 use Rattle.uas_iu.specs.Units.{unit_text}
 use Rattle.uas_target.specs.declared.Phase.{Phase}
 use Rattle.uas_target.specs.declared.Phase.TheVariants.{Absent, Gives, Takes, Ends}
-use Rattle.xhci_ctl.specs.declared.TheConstants.{COMMAND_LENGTH, MOST_EVENTS}
+use Rattle.uas_profile.specs.declared.TheConstants.{COMMAND_BYTES, MOST_EVENTS}
 
 -- Normal, without Evaluate Next TRB (ENT) and without Immediate Data (IDT), and all its bytes are bytes of one buffer
 abbrev pub IsOwn : List TagBuffers → Trb → Type 0
@@ -37,7 +37,7 @@ length_of (CommandEvent pointer code slot) = 0
 
 -- of the command pipe: at most a Command unit
 abbrev pub IsOwnCommand : List TagBuffers → Trb → Type 0
-IsOwnCommand frames trb = IsOwn frames trb × (length_of trb ≤ COMMAND_LENGTH)
+IsOwnCommand frames trb = IsOwn frames trb × (length_of trb ≤ COMMAND_BYTES)
 
 -- of a data stream: as many bytes as the device's next chunk
 abbrev pub IsOwnData : List TagBuffers → ℕ → Trb → Type 0

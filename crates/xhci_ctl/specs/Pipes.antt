@@ -1,24 +1,13 @@
 -- The pipes with streams as the controller keeps them, and which streams are armed (xHCI 4.7, 4.12).
 use Rattle.std.specs.Prelude.{ℕ, Bool, true, false, ◌&&◌, ◌==◌, nat_lt, length, slice_set, slice_index_or, replicate}
+use Rattle.uas_profile.specs.PipeStates.{new_pipe, is_open}
 use Rattle.cycle_ring.specs.Ring.{Ring}
-use Rattle.stream_array.specs.declared.Pipe.{Pipe}
-use Rattle.stream_array.specs.declared.Pipe.TheVariants.{Command, Status, DataIn, DataOut}
-use Rattle.stream_array.specs.declared.TheConstants.{STREAM_ENTRIES}
+use Rattle.uas_profile.specs.declared.Pipe.{Pipe}
+use Rattle.uas_profile.specs.declared.Pipe.TheVariants.{Command, Status, DataIn, DataOut}
+use Rattle.uas_profile.specs.declared.TheConstants.{STREAM_ENTRIES}
 use Rattle.stream_array.specs.Contexts.{has_stream}
 use Rattle.stream_array.specs.Rings.{LinesState, ring_of}
-use Rattle.xhci_ctl.specs.declared.PipeState.{PipeState}
-
--- at the start an endpoint runs, and no stream was rung
-abbrev pub new_pipe : PipeState
-new_pipe = record { runs = true; rung = replicate STREAM_ENTRIES false }
-
--- a doorbell arms its stream and starts the endpoint
-abbrev pub rung_at : PipeState → ℕ → PipeState
-rung_at pipe stream = record { runs = true; rung = slice_set pipe.rung stream true }
-
--- the stream was rung since the last stop, and the pipe runs
-abbrev pub is_open : PipeState → ℕ → Bool
-is_open pipe stream = pipe.runs && slice_index_or pipe.rung stream false
+use Rattle.uas_profile.specs.declared.PipeState.{PipeState}
 
 -- the controller: the state of each pipe with streams
 pub record ControllerState : Type 0 where

@@ -8,8 +8,8 @@ use Rattle.xhci_trb.specs.Text.{has_chain}
 use Rattle.cycle_ring.specs.Ring.{front_of}
 use Rattle.event_ring.specs.declared.Event.{Event}
 use Rattle.event_ring.specs.declared.Event.TheVariants.{Transfer}
-use Rattle.stream_array.specs.declared.Pipe.{Pipe}
-use Rattle.stream_array.specs.declared.Pipe.TheVariants.{Command, Status, DataIn, DataOut}
+use Rattle.uas_profile.specs.declared.Pipe.{Pipe}
+use Rattle.uas_profile.specs.declared.Pipe.TheVariants.{Command, Status, DataIn, DataOut}
 use Rattle.stream_array.specs.Map.{places_of}
 use Rattle.stream_array.specs.Rings.{LinesState, ring_of, with_ring, with_events}
 use Rattle.frame_store.specs.declared.TagBuffers.{TagBuffers}
@@ -24,8 +24,9 @@ use Rattle.uas_target.specs.declared.Took.{Took}
 use Rattle.uas_target.specs.declared.Took.TheVariants.{Began, Dropped}
 use Rattle.xhci_ctl.specs.declared.Acted.{Acted}
 use Rattle.xhci_ctl.specs.declared.Acted.TheVariants.{Acted as ActedOn, Idle}
-use Rattle.xhci_ctl.specs.declared.TheConstants.{COMMAND_ENDPOINT, DATA_IN_ENDPOINT, DATA_OUT_ENDPOINT, MOST_EVENTS, SHORT_PACKET, SLOT}
-use Rattle.xhci_ctl.specs.declared.TheConstants.{STATUS_ENDPOINT, STATUS_LENGTH, SUCCESS}
+use Rattle.uas_profile.specs.declared.TheConstants.{COMMAND_ENDPOINT, DATA_IN_ENDPOINT, DATA_OUT_ENDPOINT, MOST_EVENTS, SHORT_PACKET, SLOT}
+use Rattle.uas_profile.specs.declared.TheConstants.{STATUS_ENDPOINT, SUCCESS}
+use Rattle.uas_profile.specs.declared.TheConstants.{STATUS_BYTES}
 use Rattle.xhci_ctl.specs.Pipes.{ControllerState, is_armed}
 
 -- everything that a step may change
@@ -161,7 +162,7 @@ moved controller sides tag = moved_by controller sides tag (wanted sides.device 
 abbrev pub sent_at : Sides → ℕ → List ℕ → Front → Sides × Acted
 sent_at sides tag text front = (
   record {
-    lines = completed sides.lines Status tag front.address (STATUS_LENGTH - list_length text) SHORT_PACKET;
+    lines = completed sides.lines Status tag front.address (STATUS_BYTES - list_length text) SHORT_PACKET;
     frames = written sides.frames front.pointer (list_length text) text;
     device = without_task sides.device tag;
   },

@@ -1,19 +1,21 @@
 //! The controller's own commands: the front TRB of its command ring, what it does, its event (xHCI 4.6).
 ghost use Rattle.std.specs.Prelude.{◌≡◌, ◌<◌, ◌%◌, IfSome, is_some, length};
 ghost use Rattle.std.specs.Option.{option_map_or};
-ghost use Rattle.stream_array.specs.Map.{HasRing, HasStreams, places_of};
+ghost use Rattle.uas_profile.specs.Pipes.{HasStreams};
+ghost use Rattle.stream_array.specs.Map.{HasRing, places_of};
 ghost use Rattle.stream_array.specs.Rings.{ring_of, with_ring};
 ghost use Rattle.xhci_ctl.specs.Engine.{commanded_pipe, dequeued_at, engine_acted, engine_front, executed, set_dequeue, stop_endpoint};
-ghost use Rattle.xhci_ctl.specs.Engine.{stopped_on, stopped_pipe};
+ghost use Rattle.uas_profile.specs.PipeStates.{stopped_pipe};
+ghost use Rattle.xhci_ctl.specs.Engine.{stopped_on};
 
 use crate::pipes::{has_stream, pipe_at};
-use crate::{
-    Acted, CONTEXT_STATE_ERROR, Controller, INVALID_STREAM_ID, MOST_EVENTS, PipeState, SLOT,
-    SUCCESS, TRB_ERROR,
-};
+use crate::{Acted, Controller, PipeState};
 use cycle_ring::laws::addresses_name_items;
 use event_ring::Event;
-use stream_array::{Lines, Pipe, STREAM_ENTRIES};
+use stream_array::{Lines, Pipe};
+use uas_profile::{
+    CONTEXT_STATE_ERROR, INVALID_STREAM_ID, MOST_EVENTS, SLOT, STREAM_ENTRIES, SUCCESS, TRB_ERROR,
+};
 use xhci_trb::Trb;
 
 impl Controller {
@@ -114,17 +116,6 @@ impl Controller {
             SUCCESS
         } else {
             TRB_ERROR
-        }
-    }
-}
-
-impl PipeState {
-    fn stopped() -> PipeState
-        ensures { result ≡ stopped_pipe }
-    {
-        PipeState {
-            runs: false,
-            rung: [false; STREAM_ENTRIES],
         }
     }
 }

@@ -29,7 +29,7 @@
 //! the TRB where it is and posts nothing. The command ring needs no doorbell; its TRB is consumed whatever its code.
 //!
 //! Events (6.4.2): the TRB's address; slot 1; of a transfer the endpoint ID, residual 0 and code Success, or for a status what
-//! its buffer of 112 bytes has left and code Short Packet; of a command its code.
+//! its buffer of 112 (`STATUS_BYTES`) bytes has left and code Short Packet; of a command its code.
 //!
 //! What is promised: each call is one equation. What a step makes of rings, memory and device, and its answer, are `commanded`,
 //! `moved` and `sent_by` of `specs/Steps.antt`; [`Controller::engine_step`] is `engine_acted` of `specs/Engine.antt` over
@@ -43,76 +43,9 @@
 mod engine;
 mod pipes;
 mod steps;
-#[cfg(test)]
-mod tests;
 
 use std::marker::Model;
-use stream_array::{EVENT_RING_PLACES, STREAM_ENTRIES};
-
-/// Endpoint IDs of the four pipes (xHCI 4.5.1): the endpoint of their events, and the target of their doorbells (5.6).
-pub const COMMAND_ENDPOINT: u8 = 2;
-
-const _: () = prove!(COMMAND_ENDPOINT == 2);
-
-pub const STATUS_ENDPOINT: u8 = 3;
-
-const _: () = prove!(STATUS_ENDPOINT == 3);
-
-pub const DATA_OUT_ENDPOINT: u8 = 4;
-
-const _: () = prove!(DATA_OUT_ENDPOINT == 4);
-
-pub const DATA_IN_ENDPOINT: u8 = 5;
-
-const _: () = prove!(DATA_IN_ENDPOINT == 5);
-
-/// The slot of the device.
-pub const SLOT: u8 = 1;
-
-const _: () = prove!(SLOT == 1);
-
-/// Completion codes of events (6.4.5).
-pub const SUCCESS: u8 = 1;
-
-const _: () = prove!(SUCCESS == 1);
-
-pub const SHORT_PACKET: u8 = 13;
-
-const _: () = prove!(SHORT_PACKET == 13);
-
-pub const TRB_ERROR: u8 = 5;
-
-const _: () = prove!(TRB_ERROR == 5);
-
-pub const CONTEXT_STATE_ERROR: u8 = 19;
-
-const _: () = prove!(CONTEXT_STATE_ERROR == 19);
-
-pub const INVALID_STREAM_ID: u8 = 34;
-
-const _: () = prove!(INVALID_STREAM_ID == 34);
-
-/// The bytes of a Command unit, the most that a TRB of the command pipe names.
-pub const COMMAND_LENGTH: u32 = 32;
-
-const _: () = prove!(COMMAND_LENGTH == 32);
-
-/// The bytes of a status TRB, of which the unit leaves a residual.
-pub const STATUS_LENGTH: u32 = 112;
-
-const _: () = prove!(STATUS_LENGTH == 112);
-
-/// The most events that the event ring holds.
-pub const MOST_EVENTS: usize = EVENT_RING_PLACES - 1;
-
-const _: () = prove!(MOST_EVENTS == 1023);
-
-/// A pipe with streams: whether its endpoint runs, and which streams were rung since its last stop.
-#[derive(Clone, Copy, Debug, PartialEq, Eq)]
-pub struct PipeState {
-    pub runs: bool,
-    pub rung: [bool; STREAM_ENTRIES],
-}
+pub use uas_profile::PipeState;
 
 /// The controller: its three pipes with streams.
 #[derive(Debug, Drop)]

@@ -1,38 +1,15 @@
 //! Doorbells, and which streams are armed (xHCI 4.7, 4.12, 5.6).
 ghost use Rattle.std.specs.Prelude.{◌≡◌, ◌<◌, ◌≤◌, true, IfSome};
 ghost use Rattle.stream_array.specs.Contexts.{has_stream};
-ghost use Rattle.stream_array.specs.Map.{HasRing, HasStreams};
+ghost use Rattle.uas_profile.specs.Pipes.{HasStreams};
+ghost use Rattle.stream_array.specs.Map.{HasRing};
 ghost use Rattle.xhci_ctl.specs.Doorbells.{pipe_at, rung_by, rung_in};
-ghost use Rattle.xhci_ctl.specs.Pipes.{is_armed, is_open, is_open_on, is_running, new_controller, new_pipe, rung_at};
+ghost use Rattle.uas_profile.specs.PipeStates.{is_open, new_pipe, rung_at};
+ghost use Rattle.xhci_ctl.specs.Pipes.{is_armed, is_open_on, is_running, new_controller};
 
-use crate::{Controller, DATA_IN_ENDPOINT, DATA_OUT_ENDPOINT, PipeState, STATUS_ENDPOINT};
-use stream_array::{Lines, Pipe, STREAM_ENTRIES, STREAMS};
-
-impl PipeState {
-    fn new() -> PipeState
-        ensures { result ≡ new_pipe }
-    {
-        PipeState {
-            runs: true,
-            rung: [false; STREAM_ENTRIES],
-        }
-    }
-
-    fn ring(&mut self, stream: u16)
-        requires { stream < STREAM_ENTRIES }
-        ensures { self.new ≡ rung_at self.old stream }
-    {
-        self.runs = true;
-        self.rung[usize::from(stream)] = true;
-    }
-
-    fn is_open(&self, stream: u16) -> bool
-        requires { stream < STREAM_ENTRIES }
-        ensures { result ≡ is_open self.now stream }
-    {
-        self.runs && self.rung[usize::from(stream)]
-    }
-}
+use crate::{Controller, PipeState};
+use stream_array::{Lines, Pipe};
+use uas_profile::{DATA_IN_ENDPOINT, DATA_OUT_ENDPOINT, STATUS_ENDPOINT, STREAMS};
 
 /// Whether a pipe with streams has a ring for this stream.
 pub(crate) fn has_stream(stream: u16) -> bool
@@ -93,7 +70,7 @@ impl Controller {
 
     /// Takes a doorbell value (xHCI 5.6): target in bits 7:0, stream in 31:16. It arms that stream of the status (3), data-out
     /// (4) or data-in (5) pipe and starts its endpoint. The value 0, another target, a bit set in 15:8 and a stream without a
-    /// ring (0 and those above 248) change nothing.
+    /// ring (0 and those above 248, `STREAMS`) change nothing.
     pub fn doorbell(&mut self, value: u32)
         ensures { self.new ≡ rung_by self.old value }
     {

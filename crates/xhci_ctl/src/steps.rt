@@ -10,14 +10,15 @@ ghost use Rattle.xhci_ctl.specs.Own.{IsOwnCommandFront, IsOwnDataFront, IsOwnSta
 ghost use Rattle.xhci_ctl.specs.Steps.{armed_front, began_tag, commanded, completed, consumed, endpoint_of, gave_at, moved, on_front};
 ghost use Rattle.xhci_ctl.specs.Steps.{room_front, sent_by, sides_of, took_at};
 
-use crate::{
-    Acted, COMMAND_ENDPOINT, Controller, DATA_IN_ENDPOINT, DATA_OUT_ENDPOINT, MOST_EVENTS,
-    SHORT_PACKET, SLOT, STATUS_ENDPOINT, STATUS_LENGTH, SUCCESS,
-};
+use crate::{Acted, Controller};
 use arrayvec::ArrayVec;
 use event_ring::Event;
 use frame_store::Frames;
 use stream_array::{Lines, Pipe};
+use uas_profile::{
+    COMMAND_ENDPOINT, DATA_IN_ENDPOINT, DATA_OUT_ENDPOINT, MOST_EVENTS, SHORT_PACKET, SLOT,
+    STATUS_BYTES, STATUS_ENDPOINT, SUCCESS,
+};
 use uas_target::{Overlap, Phase, Target, Took};
 use xhci_trb::Trb;
 
@@ -149,7 +150,7 @@ impl Controller {
         }
         frames.write(pointer, &text);
         target.sent(tag);
-        let residual = STATUS_LENGTH - text.len() as u32;
+        let residual = STATUS_BYTES as u32 - text.len() as u32;
         complete(lines, Pipe::Status, tag, address, residual, SHORT_PACKET);
         Acted::Acted(tag)
     }
@@ -189,7 +190,7 @@ fn complete(lines: &mut Lines, pipe: Pipe, stream: u16, address: u64, residual: 
     requires ring { HasRing pipe stream }
     requires pending { (ring_of lines.old pipe stream).got < length (ring_of lines.old pipe stream).put }
     requires room { length lines.old.events.pending < MOST_EVENTS }
-    requires residual { residual ≤ STATUS_LENGTH }
+    requires residual { residual ≤ STATUS_BYTES }
     ensures { lines.new ≡ completed lines.old pipe stream address residual code }
 {
     lines.advance(pipe, stream);

@@ -28,8 +28,6 @@ use write::words_of_trb;
 mod kinds;
 pub mod laws;
 mod read;
-#[cfg(test)]
-mod tests;
 mod words;
 mod write;
 

@@ -2,6 +2,7 @@
 ghost use Rattle.std.specs.Prelude.{◌≡◌, ◌≢◌, ◌+◌, ◌-◌, ◌/◌, ◌%◌, ◌*◌, ◌^◌, ◌<◌, ◌≤◌, IfOk};
 ghost use Rattle.tag_desk.specs.Seats.{IsClientOf, IsPumpOf, IsTagOf, IsServed};
 ghost use Rattle.tag_desk.specs.Left.{IsAllClientsOf, IsAllPumpsOf};
+ghost use Rattle.uas_profile.specs.declared.TheConstants.{TAGS};
 
 use crate::{ClientSeat, Desk, Left, NoMemory, Seats, Slip, TagSlips, WorkSeat};
 use scsi_cmd::{Buffer, Command, Op};
@@ -11,7 +12,7 @@ use std::test::Fail;
 /// Posts a TEST UNIT READY on a tag, where the tag is free. It takes no memory.
 fn asks(alloc: Global, desk: &Desk, seat: &mut ClientSeat, tag: u16, ticket: u64)
     requires own { IsClientOf desk.now seat.old }
-    requires tag { IsTagOf seat.old.client tag × (tag % 8 ≢ 0) }
+    requires tag { IsTagOf seat.old.client tag × (tag % TAGS ≢ 0) }
     requires ticket { (seat.old.least_ticket ≤ ticket) × (ticket < 2 ^ 60) }
     ensures own { IsClientOf desk.now seat.new }
     ensures same { (seat.new.client ≡ seat.old.client) × (seat.new.least_ticket ≤ ticket + 1) }

@@ -3,7 +3,7 @@ ghost use Rattle.std.specs.Prelude.{◌≡◌, ◌≢◌, ◌+◌, ◌-◌, ◌*
 ghost use Rattle.tag_desk.specs.Seats.{IsClientOf, IsPumpOf, IsFreeAt};
 
 use super::{is_answer, served, write};
-use crate::{CLIENT_TAGS, ClientSeat, Desk, Seats, Slip, WorkSeat};
+use crate::{ClientSeat, Desk, Seats, Slip, WorkSeat};
 use std::alloc::{AllocError, Global};
 use std::sync::Wait;
 use std::sync::atomic::AtomicU64;
@@ -11,9 +11,10 @@ use std::sync::atomic::Ordering::SeqCst;
 use std::test::Fail;
 use std::thread;
 use std::thread::Threads;
+use uas_profile::TAGS;
 
-/// Posts of each client: 100,000 of all eight.
-const TURNS: u64 = 12_500;
+/// Posts of each client: 20,000 of all of them.
+const TURNS: u64 = 2_500;
 
 /// Looks before a client gives up.
 const LOOKS: u64 = 100_000_000;
@@ -21,7 +22,7 @@ const LOOKS: u64 = 100_000_000;
 /// The slip of the tag, as soon as it is done.
 fn awaited(desk: &Desk, seat: &mut ClientSeat, tag: u16) -> Option<Slip>
     requires own { IsClientOf desk.now seat.old }
-    requires tag { (1 ≤ tag) × ((tag - 1) / 8 ≡ seat.old.client) }
+    requires tag { (1 ≤ tag) × ((tag - 1) / TAGS ≡ seat.old.client) }
     ensures own { IsClientOf desk.now seat.new }
     ensures same { (seat.new.client ≡ seat.old.client) × (seat.new.least_ticket ≡ seat.old.least_ticket) }
     ensures free { IfSome result (λ slip. IsFreeAt seat.new tag) }
@@ -44,7 +45,7 @@ fn client_turns(
     turns: u64,
 ) -> Result<u64, AllocError>
     requires own { IsClientOf desk.now seat.old }
-    requires tag { (1 ≤ tag) × ((tag - 1) / 8 ≡ seat.old.client) × (tag % 8 ≢ 0) }
+    requires tag { (1 ≤ tag) × ((tag - 1) / TAGS ≡ seat.old.client) × (tag % TAGS ≢ 0) }
     requires turns { turns < 2 ^ 60 }
 {
     if seat.least_ticket != 0 || !seat.is_free(tag) {
@@ -78,7 +79,7 @@ fn pump_turns(alloc: Global, desk: &Desk, seat: &mut WorkSeat, turns: u64) -> Re
             let ticket = next[client];
             if client % desk.pumps == pump && ticket < turns {
                 waits = true;
-                let tag = (CLIENT_TAGS * client + 1) as u16;
+                let tag = (TAGS * client + 1) as u16;
                 let byte = (ticket % 251) as u8;
                 if served(alloc, desk, seat, tag, ticket, [byte, byte])? {
                     next[client] = ticket + 1;
@@ -147,7 +148,7 @@ fn all_jobs(alloc: Global, desk: &Desk, seats: Seats) -> Result<Vec<Job<'_>>, Al
 fn run(alloc: Global, job: Job<'_>, well: &AtomicU64) {
     match job {
         Job::Client(ClientJob { desk, mut seat }) => {
-            let tag = (CLIENT_TAGS * seat.client + 1) as u16;
+            let tag = (TAGS * seat.client + 1) as u16;
             if client_turns(alloc, desk, &mut seat, tag, TURNS).unwrap_or(0) == TURNS {
                 well.fetch_add(1, SeqCst);
             }

@@ -3,7 +3,7 @@ ghost use Rattle.std.specs.Prelude.{◌≡◌, ℕ, List, ◌<◌, ◌^◌, true
 ghost use types.Logic.{sem};
 ghost use base.Fraction.{full_share};
 ghost use denote.RawPtr.{lies_at, room_at};
-ghost use Rattle.bus_core.specs.Shared.{Shared};
+ghost use Rattle.shared_machine.specs.Shared.{Shared};
 ghost use Rattle.uas_c.specs.BusCall.{bus_answer};
 ghost use Rattle.uas_c.specs.Handed.{handed};
 ghost use Rattle.uas_c.specs.Units.{units_told};
@@ -21,7 +21,7 @@ pub struct UasBus {
     hidden: u8,
 }
 
-/// Makes a bus of zeroed units of so many blocks each, one for each client. 1 want of memory, 2 no client or more than 31, 3 a
+/// Makes a bus of zeroed units of so many blocks each, one for each client. 1 want of memory, 2 no client or more than 15, 3 a
 /// unit of no blocks or of more than 65,536: then `bus` is as it was.
 #[unsafe(no_mangle)]
 pub extern "C" fn uas_bus_new(alloc: Global, blocks: &[u32], bus: &mut *mut UasBus) -> u8

@@ -22,7 +22,7 @@ pub struct UasDevice {
     hidden: u8,
 }
 
-/// Makes a device of zeroed units of so many blocks each, without a task. 1 want of memory, 2 no unit or more than 31, 3 a unit
+/// Makes a device of zeroed units of so many blocks each, without a task. 1 want of memory, 2 no unit or more than 15, 3 a unit
 /// of no blocks or of more than 65,536: then `device` is as it was.
 #[unsafe(no_mangle)]
 pub extern "C" fn uas_device_new(alloc: Global, blocks: &[u32], device: &mut *mut UasDevice) -> u8

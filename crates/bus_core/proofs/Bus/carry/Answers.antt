@@ -1,10 +1,10 @@
-use Rattle.bus_core.specs.declared.Mark.TheVariants.{Carry}
-use Rattle.bus_core.specs.declared.Step.TheVariants.{CommandPipe}
+use Rattle.shared_machine.specs.declared.Mark.TheVariants.{Carry}
+use Rattle.shared_machine.specs.declared.Step.TheVariants.{CommandPipe}
 use Rattle.bus_core.specs.Owners.{acted_as}
 use Rattle.bus_core.specs.World.{world_of}
-use Rattle.bus_core.proofs.BusFields.{fits-in, world_in}
-use Rattle.bus_core.proofs.CommandFits.{commands_due}
-use Rattle.bus_core.proofs.Taken.{IsTaken, command-taken}
+use Rattle.bus_core.proofs.common.BusFields.{fits-in, world_in}
+use Rattle.bus_core.proofs.carry.CommandFits.{commands_due}
+use Rattle.bus_core.proofs.common.Taken.{IsTaken, command-taken}
 use Rattle.bus_core.proofs.Bus.carry.Goals as goal
 use Rattle.bus_core.proofs.Bus.carry.Goals.{After-stand}
 

@@ -1,6 +1,6 @@
 use Rattle.std.proofs.Common.{◌∙◌}
-use Rattle.bus_core.proofs.BusFields.{fits-in, world_in}
-use Rattle.bus_core.proofs.CellWrites.{clients-length}
+use Rattle.bus_core.proofs.common.BusFields.{fits-in, world_in}
+use Rattle.bus_core.proofs.common.CellWrites.{clients-length}
 use Rattle.bus_core.proofs.Bus.clients.Goals as goal
 
 pub returns-clause-count : goal.returns-clause-count

@@ -1,12 +1,12 @@
 use Rattle.std.proofs.Common.{◌≡◌, ℕ, false, ◌⊎◌, inl, inr, sym, ap, ◌∙◌}
 use Rattle.uas_target.specs.declared.Phase.{Phase}
 use Rattle.uas_target.specs.declared.Phase.TheVariants.{Absent, Ends}
-use Rattle.bus_core.specs.declared.Step.TheVariants.{Data}
-use Rattle.bus_core.specs.Shared.{due}
+use Rattle.shared_machine.specs.declared.Step.TheVariants.{Data}
+use Rattle.shared_machine.specs.Shared.{due}
 use Rattle.bus_core.specs.World.{World}
 use Rattle.bus_core.specs.WorldDue.{data_due_by}
-use Rattle.bus_core.proofs.BusFields.{fits-in, world_in}
-use Rattle.bus_core.proofs.DataDue.{data_due}
+use Rattle.bus_core.proofs.common.BusFields.{fits-in, world_in}
+use Rattle.bus_core.proofs.chunks.DataDue.{data_due}
 use Rattle.bus_core.proofs.Bus.data_is_due.Goals as goal
 use Rattle.bus_core.proofs.Bus.data_is_due.Goals.{After-wants}
 

@@ -1,5 +1,5 @@
 use Rattle.std.proofs.Common.{arith, ◌∙◌}
-use Rattle.bus_core.proofs.Rounds.{rounds-next}
+use Rattle.shared_machine.proofs.Rounds.{rounds-next}
 use Rattle.bus_core.proofs.Bus.drain.Goals as goal
 
 pub loop-limit-preserved : goal.loop-limit-preserved

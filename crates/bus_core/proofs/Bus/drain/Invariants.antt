@@ -1,5 +1,5 @@
 use Rattle.std.proofs.Common.{◌≡◌, suc, ◌≤◌}
-use Rattle.bus_core.specs.Drain.{rounds, drained}
+use Rattle.shared_machine.specs.Drain.{rounds, drained}
 use Rattle.bus_core.proofs.Bus.drain.Given as goal
 
 -- the rounds that are left lead to the drain's end

@@ -1,9 +1,9 @@
-use Rattle.bus_core.specs.declared.Step.TheVariants.{Engine}
+use Rattle.shared_machine.specs.declared.Step.TheVariants.{Engine}
 use Rattle.bus_core.specs.Owners.{executed_as}
 use Rattle.bus_core.specs.World.{world_of}
-use Rattle.bus_core.proofs.BusFields.{fits-in, world_in}
-use Rattle.bus_core.proofs.EngineStepped.{engine-taken}
-use Rattle.bus_core.proofs.Taken.{IsTaken}
+use Rattle.bus_core.proofs.common.BusFields.{fits-in, world_in}
+use Rattle.bus_core.proofs.retire.EngineStepped.{engine-taken}
+use Rattle.bus_core.proofs.common.Taken.{IsTaken}
 use Rattle.bus_core.proofs.Bus.execute.Goals as goal
 use Rattle.bus_core.proofs.Bus.execute.Goals.{After-stand}
 

@@ -1,5 +1,5 @@
-use Rattle.bus_core.proofs.BusFields.{fits-in, world_in}
-use Rattle.bus_core.proofs.Shown.{points-ahead, shown}
+use Rattle.bus_core.proofs.common.BusFields.{fits-in, world_in}
+use Rattle.bus_core.proofs.common.Shown.{points-ahead, shown}
 use Rattle.bus_core.proofs.Bus.lines.Goals as goal
 
 pub returns : goal.returns

@@ -2,9 +2,9 @@ use Rattle.std.proofs.Common.{arith, ap, length}
 use Rattle.bus_core.specs.Owners.{managed_as}
 use Rattle.bus_core.specs.World.{world_of}
 use Rattle.bus_core.specs.WorldSteps.{rung_all}
-use Rattle.bus_core.proofs.BusFields.{fits-in, world_in}
-use Rattle.bus_core.proofs.TaskSubmitting.{tasks-fit}
-use Rattle.bus_core.proofs.TaskSubmitted.{IsManaged, managed-on, cleared, few-rung}
+use Rattle.bus_core.proofs.common.BusFields.{fits-in, world_in}
+use Rattle.bus_core.proofs.submit.TaskSubmitting.{tasks-fit}
+use Rattle.bus_core.proofs.submit.TaskSubmitted.{IsManaged, managed-on, cleared, few-rung}
 use Rattle.bus_core.proofs.Bus.manage.Goals as goal
 use Rattle.bus_core.proofs.Bus.manage.Goals.{After-stand}
 

@@ -1,6 +1,6 @@
-use Rattle.bus_core.proofs.BusFields.{fits-in, world_in}
-use Rattle.bus_core.proofs.DataDue.{data_due}
-use Rattle.bus_core.proofs.Taken.{data-taken}
+use Rattle.bus_core.proofs.common.BusFields.{fits-in, world_in}
+use Rattle.bus_core.proofs.chunks.DataDue.{data_due}
+use Rattle.bus_core.proofs.common.Taken.{data-taken}
 use Rattle.bus_core.proofs.Bus.move_chunk.Goals as goal
 
 pub data_step-acted-requires : goal.data_step-acted-requires

@@ -1,6 +1,6 @@
 use Rattle.std.proofs.Common.{arith, ◌∙◌}
 use Rattle.bus_core.specs.World.{world_of}
-use Rattle.bus_core.proofs.Stepped.{IsOpened, opened}
+use Rattle.bus_core.proofs.common.Stepped.{IsOpened, opened}
 use Rattle.bus_core.proofs.Bus.new.Goals as goal
 use Rattle.bus_core.proofs.Bus.new.Goals.{After-new-5}
 

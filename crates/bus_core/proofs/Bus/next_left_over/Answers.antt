@@ -1,17 +1,17 @@
 use Rattle.std.proofs.Common.{◌≡◌, ℕ, suc, ◌*◌, ◌<◌, ◌≤◌, Bool, true, false, ◌&&◌, Option, Some, None, IfSome, IfNone, refl, arith, ap, sym, length, ◌∙◌}
 use Rattle.std.specs.Prelude.{is_none, is_some}
-use Rattle.stream_array.specs.declared.Pipe.{Pipe}
-use Rattle.scsi_cmd.specs.declared.TheConstants.{TAGS}
+use Rattle.uas_profile.specs.declared.Pipe.{Pipe}
+use Rattle.uas_profile.specs.declared.TheConstants.{TAGS}
 use Rattle.uas_host.specs.declared.Retirement.{Retirement as HostRetirement}
 use Rattle.uas_host.specs.Retirement.{is_left_over_on}
-use Rattle.bus_core.specs.declared.Step.TheVariants.{Retire}
-use Rattle.bus_core.specs.Drain.{AreNotLeftOver}
+use Rattle.shared_machine.specs.declared.Step.TheVariants.{Retire}
+use Rattle.shared_machine.specs.Drain.{AreNotLeftOver}
 use Rattle.bus_core.specs.Fits.{Fits}
-use Rattle.bus_core.specs.Shared.{Shared, due}
+use Rattle.shared_machine.specs.Shared.{Shared, due}
 use Rattle.bus_core.specs.World.{World}
-use Rattle.bus_core.proofs.BusFields.{fits-in, world_in}
-use Rattle.bus_core.proofs.CellWrites.{clients-length}
-use Rattle.bus_core.proofs.EngineDue.{retire-due}
+use Rattle.bus_core.proofs.common.BusFields.{fits-in, world_in}
+use Rattle.bus_core.proofs.common.CellWrites.{clients-length}
+use Rattle.bus_core.proofs.retire.EngineDue.{retire-due}
 use Rattle.bus_core.proofs.Bus.next_left_over.Goals as goal
 
 -- while a retirement is under way none is due

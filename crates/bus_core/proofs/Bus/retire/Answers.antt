@@ -1,13 +1,13 @@
 use Rattle.std.proofs.Common.{◌≡◌, arith, ap, length, sym, ◌∙◌}
 use Rattle.uas_host.specs.Retirement.{retirement_for}
-use Rattle.bus_core.specs.declared.Step.TheVariants.{Retire}
+use Rattle.shared_machine.specs.declared.Step.TheVariants.{Retire}
 use Rattle.bus_core.specs.Owners.{owner_of}
-use Rattle.bus_core.specs.Shared.{ringing}
+use Rattle.shared_machine.specs.Shared.{ringing}
 use Rattle.bus_core.specs.World.{world_of}
 use Rattle.bus_core.specs.WorldSteps.{rung_all}
-use Rattle.bus_core.proofs.BusFields.{fits-in, world_in}
-use Rattle.bus_core.proofs.EngineStepped.{begun-cleared, begun_as, few-begun, retire-taken}
-use Rattle.bus_core.proofs.Taken.{IsTaken}
+use Rattle.bus_core.proofs.common.BusFields.{fits-in, world_in}
+use Rattle.bus_core.proofs.retire.EngineStepped.{begun-cleared, begun_as, few-begun, retire-taken}
+use Rattle.bus_core.proofs.common.Taken.{IsTaken}
 use Rattle.bus_core.proofs.Bus.retire.Goals as goal
 use Rattle.bus_core.proofs.Bus.retire.Goals.{After-stand, then-began, else-began}
 

@@ -1,8 +1,8 @@
 use Rattle.std.proofs.Common.{ap, sym, ◌∙◌, ◌&&◌}
 use Rattle.std.specs.Prelude.{is_none}
 use Rattle.uas_host.specs.Retirement.{is_left_over_on}
-use Rattle.bus_core.proofs.BusFields.{fits-in, world_in}
-use Rattle.bus_core.proofs.EngineDue.{none-there, retire-due}
+use Rattle.bus_core.proofs.common.BusFields.{fits-in, world_in}
+use Rattle.bus_core.proofs.retire.EngineDue.{none-there, retire-due}
 use Rattle.bus_core.proofs.Bus.retire_is_due.Goals as goal
 
 pub returns-then-is_none : goal.returns-then-is_none

@@ -1,4 +1,4 @@
-use Rattle.bus_core.proofs.Rounds.{round-by, round-left}
+use Rattle.shared_machine.proofs.Rounds.{round-by, round-left}
 use Rattle.bus_core.proofs.Bus.round.Goals as goal
 
 pub returns-clause-round : goal.returns-clause-round

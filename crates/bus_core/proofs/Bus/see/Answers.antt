@@ -1,14 +1,14 @@
 use Rattle.std.proofs.Common.{◌≡◌, ap, sym, ◌∙◌}
 use Rattle.std.specs.Option.{option_map_or}
-use Rattle.bus_core.specs.declared.Step.TheVariants.{Event}
+use Rattle.shared_machine.specs.declared.Step.TheVariants.{Event}
 use Rattle.bus_core.specs.Owners.{handled_as, retirement_seen}
-use Rattle.bus_core.specs.Shared.{idle, ringing}
+use Rattle.shared_machine.specs.Shared.{idle, ringing}
 use Rattle.bus_core.specs.World.{world_of}
 use Rattle.bus_core.specs.WorldSteps.{event_sides, rung_all}
-use Rattle.bus_core.proofs.BusFields.{fits-in, world_in}
-use Rattle.bus_core.proofs.EngineStepped.{doors-cleared, event-resumed, td-told, with-outcome}
-use Rattle.bus_core.proofs.EventsFit.{events-fit}
-use Rattle.bus_core.proofs.Taken.{IsTaken, event-taken}
+use Rattle.bus_core.proofs.common.BusFields.{fits-in, world_in}
+use Rattle.bus_core.proofs.retire.EngineStepped.{doors-cleared, event-resumed, td-told, with-outcome}
+use Rattle.bus_core.proofs.event.EventsFit.{events-fit}
+use Rattle.bus_core.proofs.common.Taken.{IsTaken, event-taken}
 use Rattle.bus_core.proofs.Bus.see.Goals as goal
 use Rattle.bus_core.proofs.Bus.see.Goals.{After-stand, in-Matched, in-Stray, in-Engine+in_ok-ended-in-Engine}
 

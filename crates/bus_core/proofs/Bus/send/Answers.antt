@@ -1,6 +1,6 @@
-use Rattle.bus_core.proofs.BusFields.{fits-in, world_in}
-use Rattle.bus_core.proofs.StatusFits.{statuses_due}
-use Rattle.bus_core.proofs.Taken.{status-taken}
+use Rattle.bus_core.proofs.common.BusFields.{fits-in, world_in}
+use Rattle.bus_core.proofs.status.StatusFits.{statuses_due}
+use Rattle.bus_core.proofs.common.Taken.{status-taken}
 use Rattle.bus_core.proofs.Bus.send.Goals as goal
 
 pub status_step-acted-requires : goal.status_step-acted-requires

@@ -1,7 +1,7 @@
 use Rattle.std.proofs.Common.{sym, ap, ◌∙◌}
 use Rattle.bus_core.specs.WorldDue.{status_due_by}
-use Rattle.bus_core.proofs.BusFields.{fits-in, world_in}
-use Rattle.bus_core.proofs.StatusFits.{statuses_due}
+use Rattle.bus_core.proofs.common.BusFields.{fits-in, world_in}
+use Rattle.bus_core.proofs.status.StatusFits.{statuses_due}
 use Rattle.bus_core.proofs.Bus.status_is_due.Goals as goal
 
 pub returns-in-Ends : goal.returns-in-Ends

@@ -5,9 +5,9 @@ use Rattle.uas_host.specs.Submit.{host_fault}
 use Rattle.bus_core.specs.Owners.{submitted_as}
 use Rattle.bus_core.specs.World.{world_of}
 use Rattle.bus_core.specs.WorldSteps.{rung_all}
-use Rattle.bus_core.proofs.BusFields.{fits-in, world_in}
-use Rattle.bus_core.proofs.Submitting.{submissions-fit}
-use Rattle.bus_core.proofs.Submitted.{Accepts, Refuses, IsSubmitted, submitted-on, cleared, few-rung, none-rung}
+use Rattle.bus_core.proofs.common.BusFields.{fits-in, world_in}
+use Rattle.bus_core.proofs.submit.Submitting.{submissions-fit}
+use Rattle.bus_core.proofs.submit.Submitted.{Accepts, Refuses, IsSubmitted, submitted-on, cleared, few-rung, none-rung}
 use Rattle.bus_core.proofs.Bus.submit.Goals as goal
 use Rattle.bus_core.proofs.Bus.submit.Goals.{After-stand}
 

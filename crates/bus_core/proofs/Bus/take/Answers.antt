@@ -1,8 +1,8 @@
-use Rattle.bus_core.specs.declared.Step.TheVariants.{Take}
+use Rattle.shared_machine.specs.declared.Step.TheVariants.{Take}
 use Rattle.bus_core.specs.Owners.{replying}
 use Rattle.bus_core.specs.World.{world_of}
-use Rattle.bus_core.proofs.BusFields.{fits-in, world_in}
-use Rattle.bus_core.proofs.Taken.{IsTaken, take-taken}
+use Rattle.bus_core.proofs.common.BusFields.{fits-in, world_in}
+use Rattle.bus_core.proofs.common.Taken.{IsTaken, take-taken}
 use Rattle.bus_core.proofs.Bus.take.Goals as goal
 use Rattle.bus_core.proofs.Bus.take.Goals.{After-stand}
 

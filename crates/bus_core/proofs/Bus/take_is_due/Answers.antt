@@ -1,7 +1,7 @@
 use Rattle.std.proofs.Common.{sym, ◌∙◌}
-use Rattle.bus_core.proofs.BusFields.{fits-in, world_in}
-use Rattle.bus_core.proofs.DueEvents.{takes-are-due}
-use Rattle.bus_core.proofs.Stepped.{some-first}
+use Rattle.bus_core.proofs.common.BusFields.{fits-in, world_in}
+use Rattle.bus_core.proofs.event.DueEvents.{takes-are-due}
+use Rattle.bus_core.proofs.common.Stepped.{some-first}
 use Rattle.bus_core.proofs.Bus.take_is_due.Goals as goal
 
 pub returns : goal.returns

@@ -1,7 +1,7 @@
 use Rattle.std.proofs.Common.{◌≡◌, ◌++◌, ◌+◌, ◌≤◌, vec_len, vec_capacity}
 use Rattle.std.specs.Vec.Iter.{into_iter_items, into_iter_len}
-use Rattle.bus_core.specs.Bus.{AllTicketed}
-use Rattle.bus_core.specs.Replay.{replayed}
+use Rattle.shared_machine.specs.Bus.{AllTicketed}
+use Rattle.shared_machine.specs.Replay.{replayed}
 use Rattle.bus_core.proofs.Bus.take_steps.Given as goal
 
 -- the outcomes so far, and those of the steps that are left

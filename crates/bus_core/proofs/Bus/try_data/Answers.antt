@@ -1,4 +1,4 @@
-use Rattle.bus_core.proofs.DrainTags.{tried-further, tried-whole}
+use Rattle.bus_core.proofs.drain.DrainTags.{tried-further, tried-whole}
 use Rattle.bus_core.proofs.Bus.try_data.Goals as goal
 
 pub loop-next-preserved : goal.loop-next-preserved

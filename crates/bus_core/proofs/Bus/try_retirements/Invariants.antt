@@ -1,7 +1,7 @@
 use Rattle.std.proofs.Common.{◌-◌, ◌*◌, length}
-use Rattle.scsi_cmd.specs.declared.TheConstants.{TAGS}
-use Rattle.bus_core.specs.declared.Step.TheVariants.{Retire}
-use Rattle.bus_core.proofs.DrainTags.{HasTried}
+use Rattle.uas_profile.specs.declared.TheConstants.{TAGS}
+use Rattle.shared_machine.specs.declared.Step.TheVariants.{Retire}
+use Rattle.bus_core.proofs.drain.DrainTags.{HasTried}
 use Rattle.bus_core.proofs.Bus.try_retirements.Given as goal
 
 abbrev pub invariant-loop-next : goal.invariant-loop-next

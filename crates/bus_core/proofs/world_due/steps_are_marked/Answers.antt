@@ -1,5 +1,5 @@
 -- The outcome of each step that acts.
-use Rattle.bus_core.proofs.OutcomeMarks.{carry-marked, move-marked, send-marked, event-marked, engine-marked, retire-marked}
+use Rattle.bus_core.proofs.common.OutcomeMarks.{carry-marked, move-marked, send-marked, event-marked, engine-marked, retire-marked}
 use Rattle.bus_core.proofs.world_due.steps_are_marked.Goals as goal
 
 pub returns-clause-command : goal.returns-clause-command

@@ -1,5 +1,5 @@
 -- A step of the command pipe.
-use Rattle.bus_core.proofs.CommandFits.{command_fits, no_command_idle}
+use Rattle.bus_core.proofs.carry.CommandFits.{command_fits, no_command_idle}
 use Rattle.bus_core.proofs.world_laws.commands_fit.Goals as goal
 
 pub returns-clause-step : goal.returns-clause-step

@@ -1,5 +1,5 @@
 -- A step of a data stream is the shared machine's.
-use Rattle.bus_core.proofs.DataDue.{data_fits, data_idle}
+use Rattle.bus_core.proofs.chunks.DataDue.{data_fits, data_idle}
 use Rattle.bus_core.proofs.world_laws.data_fits.Goals as goal
 
 pub returns-clause-step : goal.returns-clause-step

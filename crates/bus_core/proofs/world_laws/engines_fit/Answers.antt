@@ -1,5 +1,5 @@
 -- The controller's step of a retirement.
-use Rattle.bus_core.proofs.EngineFits.{engines-fit, engine-is-idle}
+use Rattle.bus_core.proofs.retire.EngineFits.{engines-fit, engine-is-idle}
 use Rattle.bus_core.proofs.world_laws.engines_fit.Goals as goal
 
 pub returns-clause-step : goal.returns-clause-step

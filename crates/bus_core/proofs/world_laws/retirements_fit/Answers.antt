@@ -1,5 +1,5 @@
 -- A retirement begins where the shared machine's does.
-use Rattle.bus_core.proofs.RetireFits.{retirements-fit, retire-is-idle}
+use Rattle.bus_core.proofs.retire.RetireFits.{retirements-fit, retire-is-idle}
 use Rattle.bus_core.proofs.world_laws.retirements_fit.Goals as goal
 
 pub returns-clause-step : goal.returns-clause-step

@@ -1,5 +1,5 @@
 -- A step of a status stream.
-use Rattle.bus_core.proofs.StatusFits.{status_fits, status_idle}
+use Rattle.bus_core.proofs.status.StatusFits.{status_fits, status_idle}
 use Rattle.bus_core.proofs.world_laws.statuses_fit.Goals as goal
 
 pub returns-clause-step : goal.returns-clause-step

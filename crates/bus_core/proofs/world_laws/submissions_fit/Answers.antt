@@ -1,6 +1,6 @@
 -- A submission: the faults agree, and the step fits.
-use Rattle.bus_core.proofs.SubmissionFaults.{faults-agree}
-use Rattle.bus_core.proofs.Submitting.{submissions-fit}
+use Rattle.bus_core.proofs.submit.SubmissionFaults.{faults-agree}
+use Rattle.bus_core.proofs.submit.Submitting.{submissions-fit}
 use Rattle.bus_core.proofs.world_laws.submissions_fit.Goals as goal
 
 pub returns-clause-faults : goal.returns-clause-faults

@@ -1,6 +1,6 @@
 -- A task management: the faults agree, and the step fits.
-use Rattle.bus_core.proofs.TaskFaults.{task_faults-agree}
-use Rattle.bus_core.proofs.TaskSubmitting.{tasks-fit}
+use Rattle.bus_core.proofs.submit.TaskFaults.{task_faults-agree}
+use Rattle.bus_core.proofs.submit.TaskSubmitting.{tasks-fit}
 use Rattle.bus_core.proofs.world_laws.tasks_fit.Goals as goal
 
 pub returns-clause-faults : goal.returns-clause-faults

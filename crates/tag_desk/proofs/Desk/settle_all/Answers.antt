@@ -7,6 +7,7 @@ use Rattle.tag_desk.specs.Left.{work_line, line_view, client_view, standing, lef
 use Rattle.tag_desk.specs.declared.remains.Standing.{Standing}
 use Rattle.tag_desk.proofs.Settling.{less_room}
 use Rattle.tag_desk.proofs.Desk.settle_all.Goals as goal
+use Rattle.uas_profile.specs.declared.TheConstants.{TAGS}
 
 pub loop-seat-preserved : goal.loop-seat-preserved
 loop-seat-preserved c =
@@ -24,10 +25,10 @@ loop-seat-preserved c =
     let more = length_push c.loop-seat.yielded seat in
     let at : ℕ → Standing = λ t. standing (client_view clients.items t) (work_line desk pumps t) in
     let own : seat.client ≡ k = ap (λ (s : Customer). s.client) item.1 ∙ c.requires.clients.order k seat (omega arith) in
-    let says : (j : ℕ) → j < 8 → at (8 * seat.client + j) ≡ standing (line_view seat.lines j) (work_line desk c.loop-seat.pumps.items (8 * seat.client + j)) =
+    let says : (j : ℕ) → j < TAGS → at (TAGS * seat.client + j) ≡ standing (line_view seat.lines j) (work_line desk c.loop-seat.pumps.items (TAGS * seat.client + j)) =
     λ j below.
-    let whose : (8 * seat.client + j) / 8 ≡ k = omega arith in
-    let which : (8 * seat.client + j) % 8 ≡ j = omega arith in
+    let whose : (TAGS * seat.client + j) / TAGS ≡ k = omega arith in
+    let which : (TAGS * seat.client + j) % TAGS ≡ j = omega arith in
     let read : get_or clients.items k (record { client = 0; least_ticket = 0; lines = [] }) ≡ seat = get_or_default clients.items k (record {
       client = 0;
       least_ticket =
@@ -35,15 +36,15 @@ loop-seat-preserved c =
       lines = [];
     }) seat h ∙ sym item.1 in
     (λ i. standing (line_view (get_or clients.items (whose i) (record { client = 0; least_ticket = 0; lines = [] })).lines (which i)) (work_line desk pumps
-    (8 * seat.client + j)))
-    ∙ (λ i. standing (line_view (read i).lines j) (sym (c.loop-seat.invariant.others (8 * seat.client + j) (omega arith)) i)) in
-    let ends : 8 * seat.client + 8 ≡ 8 * length (c.loop-seat.yielded ++ seat ∷ []) = omega (arith, more) in
+    (TAGS * seat.client + j)))
+    ∙ (λ i. standing (line_view (read i).lines j) (sym (c.loop-seat.invariant.others (TAGS * seat.client + j) (omega arith)) i)) in
+    let ends : TAGS * seat.client + TAGS ≡ TAGS * length (c.loop-seat.yielded ++ seat ∷ []) = omega (arith, more) in
     record {
       pumps = c.settle_client.ensures.pumps;
       others = λ t later. c.settle_client.ensures.others t (omega arith) ∙ c.loop-seat.invariant.others t (omega (arith, more));
-      lists = c.settle_client.ensures.lists at says (c.loop-seat.invariant.lists ∙ ap (λ j. left_below at (8 * j)) (sym own)) ∙ ap (left_below at) ends;
+      lists = c.settle_client.ensures.lists at says (c.loop-seat.invariant.lists ∙ ap (λ j. left_below at (TAGS * j)) (sym own)) ∙ ap (left_below at) ends;
       room =
-          let left : ℕ = 8 * desk.clients - 8 * length (c.loop-seat.yielded ++ seat ∷ []) in
-          c.settle_client.ensures.room left (less_room (8 * desk.clients - 8 * k) (left + 8) c.loop-seat.lists (omega
+          let left : ℕ = TAGS * desk.clients - TAGS * length (c.loop-seat.yielded ++ seat ∷ []) in
+          c.settle_client.ensures.room left (less_room (TAGS * desk.clients - TAGS * k) (left + TAGS) c.loop-seat.lists (omega
           (arith, more)) c.loop-seat.invariant.room);
     }

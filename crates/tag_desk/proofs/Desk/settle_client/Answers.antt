@@ -7,6 +7,7 @@ use Rattle.tag_desk.specs.Seats.{Customer, ClientLine}
 use Rattle.tag_desk.specs.Left.{work_line, line_view, view_or, standing, so_far}
 use Rattle.tag_desk.proofs.Settling.{less_room, grown}
 use Rattle.tag_desk.proofs.Desk.settle_client.Goals as goal
+use Rattle.uas_profile.specs.declared.TheConstants.{TAGS}
 
 pub settle-requires-clause-table : goal.settle-requires-clause-table
 settle-requires-clause-table c =
@@ -26,7 +27,7 @@ add-requires c =
     let made = c.into_iter-line-iterator.ensures.into_iter_gives in
     let item = YieldsList-turn (YieldsList-from_vec c.seat.inside.lines.items made.0 (let len = c.seat.inside.lines.ok.0 in cc))
     c.loop-line.yielded c.loop-line.line-iterator c.loop-line.yielded_by c.next.result c.next.new.self c.in-Some.line c.in-Some.is c.next.ensures.steps in
-    let fits = let h = item.0 in let whole = c.seat.invariant.0 in less_room (0 + (8 - length c.loop-line.yielded)) 1 c.loop-line.lists (omega arith) in
+    let fits = let h = item.0 in let whole = c.seat.invariant.0 in less_room (0 + (TAGS - length c.loop-line.yielded)) 1 c.loop-line.lists (omega arith) in
     fits (c.loop-line.invariant.room 0 c.requires.room)
 
 pub loop-line-preserved : goal.loop-line-preserved
@@ -42,7 +43,7 @@ loop-line-preserved c =
     let line = c.in-Some.line in
     let more = length_push c.loop-line.yielded line in
     let place = c.loop-line.invariant.index in
-    let short : k < 8 = omega arith in
+    let short : k < TAGS = omega arith in
     let same = ap (λ (s : Customer). s.lines) c.seat.view_is in
     let view : line.view ≡ line_view c.args.seat.lines k =
     sym (ap view_or (slice_get_read c.args.seat.lines (length c.args.seat.lines) k line (λ i. length c.args.seat.lines) (subst (λ
@@ -62,9 +63,9 @@ loop-line-preserved c =
           c.add.ensures.lists;
       room =
           λ m had.
-          let after : ℕ = 8 - length (c.loop-line.yielded ++ line ∷ []) in
-          c.add.ensures.room (m + after) (less_room (m + (8 - k)) (m + after + 1) c.loop-line.lists (omega (arith, more)) (c.loop-line.invariant.room m had));
+          let after : ℕ = TAGS - length (c.loop-line.yielded ++ line ∷ []) in
+          c.add.ensures.room (m + after) (less_room (m + (TAGS - k)) (m + after + 1) c.loop-line.lists (omega (arith, more)) (c.loop-line.invariant.room m had));
     }
 
 pub returns-clause-room : goal.returns-clause-room
-returns-clause-room c = λ n had. less_room (n + (8 - length c.loop-line.yielded)) n c.loop-line.lists (omega arith) (c.loop-line.invariant.room n had)
+returns-clause-room c = λ n had. less_room (n + (TAGS - length c.loop-line.yielded)) n c.loop-line.lists (omega arith) (c.loop-line.invariant.room n had)

@@ -1,7 +1,7 @@
 use Rattle.std.proofs.Common.{◌≡◌, ◌<◌, ◌∙◌, length, subst, sym}
 use Rattle.std.proofs.lemmas.List.{get_or_default}
 use Rattle.uas_host.specs.State.{HostState, client_of, new_client}
-use Rattle.scsi_cmd.specs.declared.TheConstants.{TASK_SLOT}
+use Rattle.uas_profile.specs.declared.TheConstants.{TASK_SLOT}
 use Rattle.uas_host.specs.Submit.{IsFree}
 use Rattle.uas_host.proofs.LeftOver.{AreMarked-managed}
 use Rattle.uas_host.proofs.Sound.{managed-host}

@@ -1,4 +1,5 @@
 use Rattle.std.proofs.Common.{◌≡◌, ℕ, ◌-◌, ◌<◌, ◌≤◌, false}
+use Rattle.uas_profile.specs.declared.TheConstants.{STREAM_ENTRIES}
 use Rattle.uas_host.specs.Retirement.{is_left_over_on}
 use Rattle.uas_host.proofs.Host.next_left_over.Given as goal
 
@@ -10,4 +11,4 @@ invariant-loop-client l = record {
 }
 
 abbrev pub decreases-loop-client : goal.decreases-loop-client
-decreases-loop-client l = 256 - l.from
+decreases-loop-client l = STREAM_ENTRIES - l.from

@@ -1,5 +1,5 @@
 use Rattle.std.proofs.Common.{◌≡◌, ◌++◌, ◌-◌, ◌∙◌, arith, ap, sym, append-nil}
-use Rattle.stream_array.specs.declared.TheConstants.{STREAMS}
+use Rattle.uas_profile.specs.declared.TheConstants.{STREAMS}
 use Rattle.uas_host.proofs.Resuming.{doors_below, doors_below-all, doors_below-next, doors_below-none, streams-ring}
 use Rattle.uas_host.proofs.doors.resume.Goals as goal
 

@@ -1,4 +1,4 @@
-use Rattle.uasdisk.proofs.CommandLineFacts.{refused_ends}
+use Rattle.uasdisk.proofs.RefusedEnds.{refused_ends}
 use Rattle.uasdisk.proofs.program.run_words.Goals as goal
 
 pub returns-in-Err-clause-refused : goal.returns-in-Err-clause-refused

@@ -3,6 +3,7 @@ use Rattle.scsi_cmd.specs.Held.{held_at}
 use Rattle.marks.specs.Marks.{is_marked}
 use Rattle.uas_target.specs.Marks.{MarksHeld}
 use Rattle.uas_target.proofs.table.TaskTable.new.Goals as goal
+use Rattle.uas_profile.specs.declared.TheConstants.{GREATEST_TAG}
 
 -- places of which none holds anything
 held_at-none : {T : Type 0} (count place : ℕ) → held_at {T = T} (replicate count None) place ≡ None
@@ -16,4 +17,4 @@ unmarked words places count none is place = none place ∙ sym (ap is_some (ap (
 
 pub invariant_of-result : goal.invariant_of-result
 invariant_of-result c =
-    (ap length c.in_ok-from_array.ensures.items, unmarked c.new.result _ 248 c.new.ensures c.in_ok-from_array.ensures.items)
+    (ap length c.in_ok-from_array.ensures.items, unmarked c.new.result _ GREATEST_TAG c.new.ensures c.in_ok-from_array.ensures.items)

@@ -1,0 +1,6 @@
+-- The device receives the oldest unit.
+pub mod DeviceSteps
+pub mod CommandFront
+pub mod Aborted
+pub mod ManagedFits
+pub mod CommandFits

@@ -1,0 +1,362 @@
+-- The device receives a task management: the world after it fits the shared machine after it. The tasks of one client change, each as its entry
+-- does, and those of all others stay. Cited by CommandFits.
+use Rattle.std.proofs.Common.{◌≡◌, ℕ, ◌<◌, ◌≤◌, Bool, true, false, cond, List, ◌∷◌, length, length-set, map, Option, Some, None}
+use Rattle.std.proofs.Common.{option_map, Ok, refl, arith, ap, sym, subst, ◌∙◌}
+use Rattle.std.specs.Prelude.{IfSome, slice_get, slice_set, ◌==◌, ◌&&◌}
+use Rattle.std.specs.Option.{option_map_or}
+use Rattle.std.proofs.lemmas.Bool.{and_parts, eqb-true, eqb-false}
+use Rattle.std.proofs.lemmas.List.{get_or-set_same, get_or-set_other, length-map}
+use Rattle.arrayvec.specs.ArrayVec.{ArrayVec}
+use Rattle.block_unit.specs.BlockMaps.{BlockMaps}
+use Rattle.uas_profile.specs.declared.Pipe.{Pipe}
+use Rattle.uas_profile.specs.declared.Pipe.TheVariants.{Command, Status, DataIn, DataOut}
+use Rattle.stream_array.specs.Rings.{ring_of}
+use Rattle.frame_store.specs.Buffers.{bytes_at, held_for}
+use Rattle.scsi_cmd.specs.Request.{is_command}
+use Rattle.scsi_cmd.specs.declared.Op.{Op}
+use Rattle.scsi_cmd.specs.declared.Request.{Request}
+use Rattle.scsi_cmd.specs.declared.Request.TheVariants.{Execute, Manage}
+use Rattle.scsi_cmd.specs.declared.Task.{Task}
+use Rattle.uas_profile.specs.declared.TheConstants.{TAGS, TASK_SLOT}
+use Rattle.scsi_cmd.specs.Held.{held_at}
+use Rattle.device_server.specs.declared.Answer.TheVariants.{Good}
+use Rattle.device_server.specs.declared.Progress.TheVariants.{Ended}
+use Rattle.solo_model.specs.declared.Phase.{Phase}
+use Rattle.solo_model.specs.declared.Phase.TheVariants.{Queued, Begun, Sent, Gone}
+use Rattle.solo_model.specs.Soundness.{IsSoundOp, IsSoundRequest}
+use Rattle.solo_model.specs.TaggedTask.{TaggedTask, after_notes, can_go, carried_request, is_noted, unit_managed}
+use Rattle.uas_target.specs.declared.DeviceAnswer.TheVariants.{Response}
+use Rattle.uas_target.specs.declared.DeviceTask.{DeviceTask}
+use Rattle.uas_target.specs.declared.DeviceTask.TheVariants.{Ended as EndedTask}
+use Rattle.uas_target.specs.declared.Took.TheVariants.{Began}
+use Rattle.uas_target.specs.Device.{Device, received, task_of}
+use Rattle.uas_target.specs.Tasks.{is_command_of, spared}
+use Rattle.uas_profile.specs.declared.Place.{Place}
+use Rattle.uas_profile.specs.declared.TdState.{TdState}
+use Rattle.uas_host.specs.declared.HostAnswer.TheVariants.{Unanswered}
+use Rattle.uas_profile.specs.Places.{tag_of}
+use Rattle.uas_host.specs.Tds.{command_buffer_of}
+use Rattle.shared_machine.specs.Td.{Entry, with_trb_taken}
+use Rattle.machine_invariant.specs.Ordered.{names}
+use Rattle.bus_core.specs.Hosts.{device_task, phase_task}
+use Rattle.shared_machine.specs.Part.{Part, entries_after, noted_entry}
+use Rattle.shared_machine.specs.Shared.{Shared}
+use Rattle.machine_invariant.specs.Matched.{held_in, IsMatched, IsMatchedAt, IsRequestIn, under}
+use Rattle.bus_core.specs.World.{World, Cell, cell_at}
+use Rattle.bus_core.specs.Cells.{FitsCell, FitsHeld, HasUnitIn, host_side, IsEmptyCell, told_by}
+use Rattle.bus_core.specs.Fits.{AreUnused, Fits, FitsPart, IsSoundWorld, place_in, unit_bytes}
+use Rattle.bus_core.proofs.carry.Aborted.{done-kept, done-length, done-task, done-units, done_device, managed_device, phase_after, phase_task-foreign, reaches}
+use Rattle.bus_core.proofs.carry.Aborted.{reaches-named, received-managed, spared-noted, unit_managed-count}
+use Rattle.bus_core.proofs.common.ActFits.{IsPlaced}
+use Rattle.bus_core.proofs.common.CellEntries.{cell-phase}
+use Rattle.bus_core.proofs.carry.CommandFront.{carried_part, carried_state, command-bytes, received-queues, received_world, tag-bounds}
+use Rattle.bus_core.proofs.common.Framing.{AllFit, AllFit-client, EndsAlike, IsFound, engine-kept, fits-anew, found, move_trb-kept, tags-apart}
+use Rattle.machine_invariant.proofs.OrderedEntries.{held-changed}
+use Rattle.machine_invariant.proofs.OrderedManaged.{IsNotedAsReceived, of_client}
+use Rattle.shared_machine.proofs.Standing.{held_under-with_same, held_under-with_other, slice_get-back}
+
+-- THE CELL OF A COMMAND
+
+-- the host was told nothing of what can still be ended
+untold : (request : Request) (phase : Phase) (state : TdState) → can_go phase ≡ true → told_by request phase state ≡ Unanswered
+untold request Queued state can = refl
+untold request (Begun progress) state can = refl
+untold request (Sent answer) state can = let no : false ≡ true = can in let it : ⊥ = cc in absurd it
+untold request Gone state can = let no : false ≡ true = can in let it : ⊥ = cc in absurd it
+
+-- a command that is gone: the device has nothing of it any more
+gone-cell : (client count : ℕ) (place : Place) (entry : Entry) (cell : Cell) (op : Op) → entry.task.request ≡ Execute op → can_go entry.task.phase ≡ true
+    → FitsCell client count place entry cell
+    → FitsCell client count place (record entry { task = record entry.task { phase = Gone } }) (record cell { task = None })
+gone-cell client count place entry cell op asks can fits =
+    let whole : IsSoundOp count entry.task op = subst (λ r. IsSoundRequest count entry.task r) asks fits.sound in
+    cell-phase client count place entry cell Gone entry.command_td cell.held None fits
+    (fits.held ∙ ap (λ told. Some (record (host_side entry) { told = told })) (untold entry.task.request entry.task.phase entry.status_td.state can)) refl tt
+    (subst (λ r. IsSoundRequest count (record entry.task { phase = Gone }) r) (sym asks) (record { whole = whole.whole; chunk = tt }))
+
+-- one of which the device has as much as before
+same-cell : (client count : ℕ) (place : Place) (entry : Entry) (cell : Cell) (task : Option DeviceTask) → task ≡ device_task client entry
+    → FitsCell client count place entry cell → FitsCell client count place entry (record cell { task = task })
+same-cell client count place entry cell task is fits =
+    cell-phase client count place entry cell entry.task.phase entry.command_td cell.held task fits fits.held is fits.answer fits.sound
+
+after-cell : (client count : ℕ) (place : Place) (entry : Entry) (cell : Cell) (op : Op) (task : Option DeviceTask) (gone : Bool)
+    → entry.task.request ≡ Execute op → (gone ≡ true → can_go entry.task.phase ≡ true)
+    → task ≡ phase_task (Some client) (Execute op) (cond gone Gone entry.task.phase) → FitsCell client count place entry cell
+    → FitsCell client count place (record entry { task = cond gone (record entry.task { phase = Gone }) entry.task }) (record cell { task = task })
+after-cell client count place entry cell op task true asks can is fits =
+    subst (λ t. FitsCell client count place (record entry { task = record entry.task { phase = Gone } }) (record cell { task = t })) (sym is)
+    (gone-cell client count place entry cell op asks (can refl) fits)
+after-cell client count place entry cell op task false asks can is fits =
+    same-cell client count place entry cell task (is ∙ ap (λ r. phase_task (Some client) r entry.task.phase) (sym asks)) fits
+
+-- a command of the client once the task management was received
+noted-is : (noted : List ℕ) (task : TaggedTask) (op : Op) → task.request ≡ Execute op
+    → after_notes noted task ≡ cond (can_go task.phase && is_noted noted task.ticket) (record task { phase = Gone }) task
+noted-is noted task op asks =
+    ap (λ r. cond ((is_command r && can_go task.phase) && is_noted noted task.ticket) (record task { phase = Gone }) task) asks
+
+command-cell : (client count : ℕ) (place : Place) (entry : Entry) (cell : Cell) (op : Op) (task : Option DeviceTask) (noted : List ℕ)
+    → entry.task.request ≡ Execute op
+    → task ≡ phase_task (Some client) (Execute op) (phase_after (is_noted noted entry.task.ticket) entry.task.phase)
+    → FitsCell client count place entry cell → FitsCell client count place (noted_entry noted entry) (record cell { task = task })
+command-cell client count place entry cell op task noted asks is fits =
+    subst (λ t. FitsCell client count place (record entry { task = t }) (record cell { task = task })) (sym (noted-is noted entry.task op asks))
+    (after-cell client count place entry cell op task (can_go entry.task.phase && is_noted noted entry.task.ticket) asks
+    (λ both. (and_parts (can_go entry.task.phase) (is_noted noted entry.task.ticket) both).0) is fits)
+
+-- ITS OWN CELL
+
+-- it is done with as it is received
+abbrev pub answered_entry : Entry → Entry
+answered_entry entry =
+    record entry { task = record entry.task { phase = Begun (Ended Good) }; command_td = with_trb_taken entry.command_td }
+
+management-cell : (client count : ℕ) (place : Place) (entry : Entry) (cell : Cell) (what : Task) (noted : ArrayVec ℕ) → entry.task.phase ≡ Queued
+    → entry.task.request ≡ Manage what noted → FitsCell client count place entry cell
+    → FitsCell client count place (answered_entry entry) (record cell { task = Some (EndedTask None (Response 0)) })
+management-cell client count place entry cell what noted queued asks fits =
+    cell-phase client count place entry cell (Begun (Ended Good)) (with_trb_taken entry.command_td) cell.held (Some (EndedTask None (Response 0))) fits
+    (fits.held ∙ ap (λ p. Some (record (host_side entry) { told = told_by entry.task.request p entry.status_td.state })) queued)
+    (ap (λ r. phase_task (Some client) r (Begun (Ended Good))) (sym asks)) tt
+    (subst (λ r. IsSoundRequest count (record entry.task { phase = Begun (Ended Good) }) r) (sym asks) tt)
+
+-- THE DEVICE'S TASKS
+
+-- the world once the device received a task management of the client of a place
+abbrev pub managed_world : World → Place → BlockMaps → Task → World
+managed_world world place unit what = received_world world (managed_device world.device place.client (tag_of place) unit what)
+
+-- the task of another tag is what the function left of it
+other-task : (device : Device) (number tag : ℕ) (unit : BlockMaps) (what : Task) (other : ℕ) → (other ≡ tag → ⊥)
+    → task_of (managed_device device number tag unit what) other ≡ task_of (done_device device number unit what) other
+other-task device number tag unit what other apart =
+    held_under-with_other (done_device device number unit what).tasks tag other (Some (EndedTask None (Response 0))) apart
+
+-- a cell of another client has no command to the unit
+held-foreign : (client other count : ℕ) (place : Place) (held : Option Entry) (cell : Cell) → (other ≡ client → ⊥) → FitsHeld other count place held cell
+    → IfSome cell.task (λ task. is_command_of client task ≡ false)
+held-foreign client other count place None cell apart fits =
+    subst (λ t. IfSome t (λ task. is_command_of client task ≡ false)) (sym fits.task) tt
+held-foreign client other count place (Some entry) cell apart fits =
+    subst (λ t. IfSome t (λ task. is_command_of client task ≡ false)) (sym fits.task)
+    (phase_task-foreign client other entry.task.request entry.task.phase apart)
+
+-- so that the cells of all other clients are as they were
+other-cells : (state : Shared) (world : World) (place : Place) (unit : BlockMaps) (what : Task) (other at : ℕ) (part : Part) → Fits state world
+    → place.slot < TAGS → (other ≡ place.client → ⊥) → slice_get state.parts other ≡ Some part → at < TAGS
+    → cell_at (managed_world world place unit what) (place_in other at) ≡ cell_at world (place_in other at)
+other-cells state world place unit what other at part fits within apart is inside =
+    let it : IsFound world other part = found world state.parts other part fits.clients is in
+    let foreign = held-foreign place.client other part.unit.count (place_in other at) (held_at part.entries at) (cell_at world (place_in other at)) apart
+    (it.fits.cells at inside) in
+    let task_is = other-task world.device place.client (tag_of place) unit what (tag_of (place_in other at))
+    (tags-apart other place.client at place.slot inside within apart)
+    ∙ done-kept world.device place.client unit what (tag_of (place_in other at)) foreign in
+    ap (λ t. record (cell_at world (place_in other at)) { task = t }) task_is
+
+-- THE CELLS OF THE CLIENT
+
+-- what stands in a slot for commands asks for one
+pub asks_op : (slot : ℕ) (request : Request) → IsRequestIn slot request → slot < TASK_SLOT → (op : Op) × (request ≡ Execute op)
+asks_op slot (Execute op) asks below = (op, refl)
+asks_op slot (Manage what noted) asks below = absurd (omega (arith, asks, below))
+
+slot-cell : (state : Shared) (world : World) (place : Place) (unit : BlockMaps) (what : Task) (noted : ArrayVec ℕ) (count at : ℕ) (entry : Entry)
+    → at < TASK_SLOT → place.slot ≡ TASK_SLOT → tag_of (place_in place.client at) ≤ length world.device.tasks
+    → IsNotedAsReceived place.client at what noted entry → IsRequestIn at entry.task.request
+    → FitsCell place.client count (place_in place.client at) entry (cell_at world (place_in place.client at))
+    → FitsCell place.client count (place_in place.client at) (noted_entry noted.items entry)
+    (cell_at (managed_world world place unit what) (place_in place.client at))
+slot-cell state world place unit what noted count at entry below last most knows asks fits =
+    let tag : ℕ = tag_of (place_in place.client at) in
+    let op = asks_op at entry.task.request asks below in
+    let named : names place.client at what ≡ reaches what (tag_of (place_in place.client at)) = reaches-named place.client at what in
+    let was : task_of world.device (tag_of (place_in place.client at)) ≡ phase_task (Some place.client) (Execute op.0) entry.task.phase =
+    fits.task ∙ ap (λ r. phase_task (Some place.client) r entry.task.phase) op.1 in
+    let task_is = other-task world.device place.client (tag_of place) unit what (tag_of (place_in place.client at))
+    (λ same. omega (arith, same, below, last))
+    ∙ done-task world.device place.client unit what (tag_of (place_in place.client at)) (omega arith) most
+    ∙ ap (λ t. cond (reaches what (tag_of (place_in place.client at))) (spared place.client t) t) was
+    ∙ spared-noted place.client op.0 entry.task.phase (reaches what (tag_of (place_in place.client at))) (is_noted noted.items entry.task.ticket)
+    (λ received reached. knows.named received (named ∙ reached)) (λ unreached. knows.unnamed (named ∙ unreached)) in
+    command-cell place.client count (place_in place.client at) entry (cell_at world (place_in place.client at)) op.0
+    (task_of (managed_world world place unit what).device (tag_of (place_in place.client at))) noted.items op.1 task_is fits
+
+empty-cell : (world : World) (place : Place) (unit : BlockMaps) (what : Task) (at : ℕ) → at < TASK_SLOT → place.slot ≡ TASK_SLOT
+    → IsEmptyCell (cell_at world (place_in place.client at)) → IsEmptyCell (cell_at (managed_world world place unit what) (place_in place.client at))
+empty-cell world place unit what at below last empty = record {
+  held = empty.held;
+  task = other-task world.device place.client (tag_of place) unit what (tag_of (place_in place.client at)) (λ same. omega (arith, same, below, last))
+      ∙ done-kept world.device place.client unit what (tag_of (place_in place.client at))
+      (subst (λ t. IfSome t (λ task. is_command_of place.client task ≡ false)) (sym empty.task) tt)
+      ∙ empty.task;
+  status = empty.status;
+  data_in = empty.data_in;
+  data_out = empty.data_out;
+  lent = empty.lent;
+}
+
+-- what the order tells of each command of the client
+abbrev KnowsEach : Shared → Place → Task → ArrayVec ℕ → Type 0
+KnowsEach state place what noted =
+    (slot : ℕ) (entry : Entry) → slot < TASK_SLOT → under state.parts (of_client place slot) ≡ Some entry → IsNotedAsReceived place.client slot what noted entry
+
+slot-fits : (state : Shared) (world : World) (place : Place) (unit : BlockMaps) (what : Task) (noted : ArrayVec ℕ) (count at : ℕ) (held : Option Entry)
+    → at < TASK_SLOT → place.slot ≡ TASK_SLOT → tag_of (place_in place.client at) ≤ length world.device.tasks → KnowsEach state place what noted
+    → IsMatched state → under state.parts (place_in place.client at) ≡ held
+    → FitsHeld place.client count (place_in place.client at) held (cell_at world (place_in place.client at))
+    → FitsHeld place.client count (place_in place.client at) (option_map (noted_entry noted.items) held)
+    (cell_at (managed_world world place unit what) (place_in place.client at))
+slot-fits state world place unit what noted count at None below last most knows all is fits = empty-cell world place unit what at below last fits
+slot-fits state world place unit what noted count at (Some entry) below last most knows all is fits =
+    let matched : IsMatchedAt state (place_in place.client at) (Some entry) =
+    subst (λ h. IsMatchedAt state (place_in place.client at) h) is (all.places (place_in place.client at)) in
+    slot-cell state world place unit what noted count at entry below last most (knows at entry below is) matched.sound.asks fits
+
+-- ITS PART
+
+-- the slots but the last are for commands
+below-last : (slot last : ℕ) → slot < TAGS → last ≡ TASK_SLOT → (slot ≡ last → ⊥) → slot < TASK_SLOT
+below-last slot last inside is apart =
+    let other : slot ≡ TASK_SLOT → ⊥ = λ same. apart (same ∙ sym is) in
+    omega (arith, inside, other)
+
+-- the part once its task management was received
+abbrev pub managed_now : Part → ℕ → Entry → Task → ArrayVec ℕ → Part
+managed_now part slot entry what noted = record part {
+  entries = slice_set (map (option_map (noted_entry noted.items)) part.entries) slot (Some (answered_entry entry));
+  unit = unit_managed part.unit what;
+}
+
+pub carried-now : (part : Part) (slot : ℕ) (entry : Entry) (what : Task) (noted : ArrayVec ℕ) → entry.task.request ≡ Manage what noted
+    → carried_part part slot entry (carried_request part.unit entry.task entry.task.request) ≡ managed_now part slot entry what noted
+carried-now part slot entry what noted asks =
+    ap (λ r. record part {
+      entries = slice_set (entries_after r part.entries) slot
+          (Some (record entry { task = (carried_request part.unit entry.task r).1; command_td = with_trb_taken entry.command_td }));
+      unit = (carried_request part.unit entry.task r).0;
+    }) asks
+
+part-fits : (state : Shared) (world : World) (place : Place) (entry : Entry) (what : Task) (noted : ArrayVec ℕ) (at : IsPlaced state world place entry)
+    → Fits state world → entry.task.phase ≡ Queued → entry.task.request ≡ Manage what noted → place.slot ≡ TASK_SLOT → KnowsEach state place what noted
+    → FitsPart (managed_world world place at.part.unit what) place.client (unit_managed at.part.unit what) at.client.held
+    (managed_now at.part place.slot entry what noted)
+part-fits state world place entry what noted at fits queued asks last knows =
+    let after : World = managed_world world place at.part.unit what in
+    let client : ℕ = place.client in
+    let count : ℕ = at.part.unit.count in
+    let change : Entry → Entry = noted_entry noted.items in
+    let others : List (Option Entry) = map (option_map (noted_entry noted.items)) at.part.entries in
+    let long : length (map (option_map (noted_entry noted.items)) at.part.entries) ≡ length at.part.entries =
+    length-map at.part.entries (option_map (noted_entry noted.items)) in
+    let tag = tag-bounds state world place entry at fits in
+    let tasks : length (done_device world.device place.client at.part.unit what).tasks ≡ length world.device.tasks =
+    done-length world.device place.client at.part.unit what in
+    record {
+      number = at.client.fits.number;
+      unit_same = refl;
+      least_ticket = at.client.fits.least_ticket;
+      ready = at.client.fits.ready;
+      slots = length-set (map (option_map (noted_entry noted.items)) at.part.entries) place.slot (Some (answered_entry entry)) ∙ long ∙ at.client.fits.slots;
+      cells = λ slot inside.
+          subst (λ n. FitsHeld place.client n (place_in place.client slot)
+          (held_at (slice_set (map (option_map (noted_entry noted.items)) at.part.entries) place.slot (Some (answered_entry entry))) slot)
+          (cell_at (managed_world world place at.part.unit what) (place_in place.client slot))) (sym (unit_managed-count at.part.unit what))
+          (elim (slot == place.slot) as (λ b. (slot == place.slot) ≡ b → FitsHeld place.client at.part.unit.count (place_in place.client slot)
+          (held_at (slice_set (map (option_map (noted_entry noted.items)) at.part.entries) place.slot (Some (answered_entry entry))) slot)
+          (cell_at (managed_world world place at.part.unit what) (place_in place.client slot))) [
+            | true ↦ λ is.
+                subst (λ s. FitsHeld place.client at.part.unit.count (place_in place.client s)
+                (held_at (slice_set (map (option_map (noted_entry noted.items)) at.part.entries) place.slot (Some (answered_entry entry))) s)
+                (cell_at (managed_world world place at.part.unit what) (place_in place.client s))) (sym (eqb-true slot place.slot is))
+                (subst (λ h. FitsHeld place.client at.part.unit.count place h (cell_at (managed_world world place at.part.unit what) place))
+                (sym (get_or-set_same (map (option_map (noted_entry noted.items)) at.part.entries) place.slot (Some (answered_entry entry)) None
+                (omega (arith, long, at.client.fits.slots, last))))
+                (subst (λ t. FitsCell place.client at.part.unit.count place (answered_entry entry) (record (cell_at world place) { task = t }))
+                (sym (held_under-with_same (done_device world.device place.client at.part.unit what).tasks (tag_of place)
+                (Some (EndedTask None (Response 0))) tag.0 (omega (arith, tag.1, tasks, fits.sound.tags))))
+                (management-cell place.client at.part.unit.count place entry (cell_at world place) what noted queued asks at.cell)))
+            | false ↦ λ is.
+                let apart : slot ≡ place.slot → ⊥ = eqb-false slot place.slot is in
+                subst (λ h. FitsHeld place.client at.part.unit.count (place_in place.client slot) h
+                (cell_at (managed_world world place at.part.unit what) (place_in place.client slot)))
+                (sym (get_or-set_other (map (option_map (noted_entry noted.items)) at.part.entries) place.slot slot (Some (answered_entry entry)) None apart
+                ∙ held-changed (noted_entry noted.items) at.part.entries slot))
+                (slot-fits state world place at.part.unit what noted at.part.unit.count slot (held_at at.part.entries slot)
+                (below-last slot place.slot inside last apart) last
+                (omega (arith, tag.1, fits.sound.tags, inside, last)) knows fits.matched
+                (ap (λ found. option_map_or (held_in (place_in place.client slot)) found None) at.there)
+                (at.client.fits.cells slot inside))
+          ] refl);
+    }
+
+-- ALL CLIENTS
+
+all-fit : (state : Shared) (world : World) (place : Place) (entry : Entry) (what : Task) (noted : ArrayVec ℕ) (at : IsPlaced state world place entry)
+    → Fits state world → FitsPart (managed_world world place at.part.unit what) place.client (unit_managed at.part.unit what) at.client.held
+    (managed_now at.part place.slot entry what noted)
+    → AllFit (managed_world world place at.part.unit what) (slice_set state.parts place.client (managed_now at.part place.slot entry what noted))
+all-fit state world place entry what noted at fits own =
+    AllFit-client world (managed_world world place at.part.unit what) state.parts place.client (unit_managed at.part.unit what) at.client.held at.part
+    (managed_now at.part place.slot entry what noted) fits.clients at.there (record {
+      hosts = sym (slice_get-back world.host.clients place.client at.client.held at.client.held_is);
+      units = done-units world.device place.client at.part.unit what at.client.unit_is;
+      others = λ other there apart is slot within.
+          other-cells state world place at.part.unit what other slot there fits at.is_place.slot apart is within;
+    }) own
+
+-- THE WORLD
+
+-- no enqueue place moves
+ends-alike : (world : World) (device : Device) (pipe : Pipe) (tag : ℕ)
+    → EndsAlike (ring_of world.lines pipe tag) (ring_of (received_world world device).lines pipe tag)
+ends-alike world device Command tag = record { base = refl; at = refl; put = refl }
+ends-alike world device Status tag = record { base = refl; at = refl; put = refl }
+ends-alike world device DataIn tag = record { base = refl; at = refl; put = refl }
+ends-alike world device DataOut tag = record { base = refl; at = refl; put = refl }
+
+pub managed-fits : (state : Shared) (world : World) (place : Place) (rest : List Place) (entry : Entry) (what : Task) (noted : ArrayVec ℕ)
+    (at : IsPlaced state world place entry) → Fits state world → state.messages ≡ place ∷ rest → entry.task.phase ≡ Queued
+    → entry.task.request ≡ Manage what noted → place.slot ≡ TASK_SLOT → KnowsEach state place what noted
+    → IsMatched (carried_state state place rest (managed_now at.part place.slot entry what noted))
+    → IsSoundWorld (managed_world world place at.part.unit what)
+    → Fits (carried_state state place rest (managed_now at.part place.slot entry what noted)) (managed_world world place at.part.unit what)
+managed-fits state world place rest entry what noted at fits is queued asks last knows matched sound =
+    let now : Part = managed_now at.part place.slot entry what noted in
+    let device : Device = managed_device world.device place.client (tag_of place) at.part.unit what in
+    let long : length (slice_set state.parts place.client (managed_now at.part place.slot entry what noted)) ≡ length state.parts =
+    length-set state.parts place.client (managed_now at.part place.slot entry what noted) in
+    fits-anew state (carried_state state place rest now) world (managed_world world place at.part.unit what) fits long
+    (record { status = fits.status; data_in = fits.data_in; data_out = fits.data_out }) sound
+    (received-queues state world place rest device (slice_set state.parts place.client now) fits is)
+    (engine-kept state (carried_state state place rest now) world (managed_world world place at.part.unit what) fits.engine refl refl refl
+    (λ r under_way. move_trb-kept world.lines (managed_world world place at.part.unit what).lines r.pipe (tag_of r.place)
+    (ends-alike world device r.pipe (tag_of r.place)))) matched
+    (all-fit state world place entry what noted at fits (part-fits state world place entry what noted at fits queued asks last knows))
+    (λ tag above. let none : task_of world.device tag ≡ None = fits.others tag above in
+    other-task world.device place.client (tag_of place) at.part.unit what tag (λ same. omega (arith, above, same, at.is_place.client, at.is_place.slot))
+    ∙ done-kept world.device place.client at.part.unit what tag
+    (subst (λ t. IfSome t (λ task. is_command_of place.client task ≡ false)) (sym none) tt)
+    ∙ none)
+    (λ tag above. let was : AreUnused world.lines tag = fits.unused tag above in
+    record { status = was.status; data_in = was.data_in; data_out = was.data_out })
+
+-- THE CALL
+
+-- the device receives the unit of a task management that waits
+pub management-received : (state : Shared) (world : World) (place : Place) (entry : Entry) (what : Task) (noted : ArrayVec ℕ)
+    (at : IsPlaced state world place entry) → Fits state world → entry.task.phase ≡ Queued → entry.task.request ≡ Manage what noted
+    → place.slot ≡ TASK_SLOT
+    → received world.device (bytes_at world.frames (command_buffer_of (tag_of place)) (unit_bytes place.slot))
+    ≡ (managed_device world.device place.client (tag_of place) at.part.unit what, Ok (Began (tag_of place)))
+management-received state world place entry what noted at fits queued asks last =
+    let tag = tag-bounds state world place entry at fits in
+    let unit : HasUnitIn place.client (tag_of place) (Manage what noted) (held_for world.frames (tag_of place)).command =
+    subst (λ r. HasUnitIn place.client (tag_of place) r (held_for world.frames (tag_of place)).command) asks at.cell.unit in
+    let free : task_of world.device (tag_of place) ≡ None =
+    at.cell.task ∙ ap (λ p. phase_task (Some place.client) entry.task.request p) queued in
+    ap (λ slot. received world.device (bytes_at world.frames (command_buffer_of (tag_of place)) (unit_bytes slot))) last
+    ∙ ap (received world.device)
+    (command-bytes world.frames (tag_of place) 16 fits.sound.frames tag.0 (omega (arith, tag.1)) (omega arith) (omega arith) ∙ unit.0)
+    ∙ received-managed world.device place.client (tag_of place) what noted at.part.unit at.client.unit_is tag.2 unit.1 tag.3 free

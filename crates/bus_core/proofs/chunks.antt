@@ -1,0 +1,8 @@
+-- The controller moves a chunk.
+pub mod ChunkWindows
+pub mod ChunkEntries
+pub mod ChunkLines
+pub mod DataWorlds
+pub mod DataSteps
+pub mod DataMoves
+pub mod DataDue

@@ -1,0 +1,137 @@
+-- The rings of a world that fits a state show it.
+use Rattle.std.proofs.Common.{◌≡◌, ℕ, zero, suc, ◌<◌, Bool, true, false, cond, List, [], ◌∷◌, ◌++◌, drop, map, length, Option, Some, None, refl, arith, ap, sym}
+use Rattle.std.proofs.Common.{◌∙◌}
+use Rattle.std.specs.Prelude.{slice_get, ◌==◌}
+use Rattle.std.specs.Option.{option_map_or}
+use Rattle.std.proofs.lemmas.Option.{none-some}
+use Rattle.xhci_trb.specs.declared.Trb.{Trb}
+use Rattle.cycle_ring.specs.Ring.{Ring, pointer_of}
+use Rattle.event_ring.specs.declared.Event.TheVariants.{Transfer}
+use Rattle.uas_profile.specs.declared.Pipe.{Pipe}
+use Rattle.uas_profile.specs.declared.Pipe.TheVariants.{Command, Status, DataIn, DataOut}
+use Rattle.uas_profile.specs.declared.TheConstants.{TAGS, COMMAND_RING_PLACES, SLOT, SUCCESS, SHORT_PACKET}
+use Rattle.xhci_ctl.specs.Steps.{endpoint_of}
+use Rattle.stream_array.specs.Rings.{LinesState, stream_ring}
+use Rattle.scsi_cmd.specs.Held.{held_at}
+use Rattle.uas_profile.specs.declared.Place.{Place}
+use Rattle.uas_profile.specs.declared.TdState.{TdState}
+use Rattle.uas_profile.specs.declared.TdState.TheVariants.{Pending, Seen, LeftOver, Retired}
+use Rattle.uas_profile.specs.Places.{tag_of}
+use Rattle.shared_machine.specs.declared.Retirement.{Retirement}
+use Rattle.shared_machine.specs.declared.RetirementStage.{RetirementStage}
+use Rattle.shared_machine.specs.declared.RetirementStage.TheVariants.{StopAsked, StopAnswered, MoveAsked, MoveAnswered}
+use Rattle.shared_machine.specs.declared.Td.{Td}
+use Rattle.shared_machine.specs.declared.Completion.{Completion}
+use Rattle.shared_machine.specs.declared.Completion.TheVariants.{CommandDone, DataDone, StatusDone, EngineDone}
+use Rattle.shared_machine.specs.Td.{Entry}
+use Rattle.shared_machine.specs.Part.{Part}
+use Rattle.shared_machine.specs.Shared.{Shared}
+use Rattle.machine_invariant.specs.Matched.{carried_places, held_in}
+use Rattle.bus_core.specs.World.{World, cell_at}
+use Rattle.bus_core.specs.Cells.{FitsHeld, HoldsTrbs, HoldsIn, HoldsData}
+use Rattle.bus_core.specs.Fits.{Fits, HoldsCommand, HoldsCommandOf, command_trb, event_texts, last_pointer}
+use Rattle.bus_core.specs.Shows.{PointAhead, ShowsPlace, ShowsShared, commands_at, commands_of, data_tells, engine_tells, left_in, left_of}
+use Rattle.bus_core.specs.Shows.{pending_in, tells, tells_of, told_in}
+use Rattle.bus_core.proofs.common.Framing.{IsFound, found}
+
+-- MESSAGES
+
+drop-carried : (carried messages : List Place) → drop (length carried) (map command_trb (carried ++ messages)) ≡ map command_trb messages
+drop-carried [] messages = refl
+drop-carried (place ∷ rest) messages = drop-carried rest messages
+
+-- EVENTS
+
+told-if : (test : Bool) (one other : ℕ) (first second : Pipe)
+    → told_in (cond test (Transfer one 0 SUCCESS (endpoint_of first) SLOT) (Transfer other 0 SUCCESS (endpoint_of second) SLOT))
+    ≡ Some (cond test (tells one SUCCESS first) (tells other SUCCESS second))
+told-if true one other first second = refl
+told-if false one other first second = refl
+
+told-texts : (world : World) (k : ℕ) (events : List Completion) → map told_in (event_texts world k events) ≡ tells_of world.lines k events
+told-texts world k [] = refl
+told-texts world k (CommandDone place ∷ rest) =
+    ap (λ es. Some (tells (pointer_of COMMAND_RING_PLACES world.lines.command k) SUCCESS Command) ∷ es) (told-texts world (suc k) rest)
+told-texts world k (DataDone place ∷ rest) =
+    let data_in : Ring = stream_ring world.lines.data_in (tag_of place) in
+    let data_out : Ring = stream_ring world.lines.data_out (tag_of place) in
+    ap (λ e. e ∷ map told_in (event_texts world k rest)) (told-if (length data_in.put == 0) (last_pointer data_out) (last_pointer data_in) DataOut DataIn)
+    ∙ ap (λ es. Some (data_tells data_in data_out) ∷ es) (told-texts world k rest)
+told-texts world k (StatusDone place ∷ rest) =
+    ap (λ es. Some (tells (last_pointer (stream_ring world.lines.status (tag_of place))) SHORT_PACKET Status) ∷ es) (told-texts world k rest)
+told-texts world k (EngineDone place ∷ rest) = ap (λ es. Some (engine_tells world.lines.engine) ∷ es) (told-texts world k rest)
+
+-- TDS
+
+left-trbs : (ring : Ring) (trbs : List Trb) (taken : ℕ) → HoldsTrbs ring trbs taken → pending_in ring ≡ drop taken trbs
+left-trbs ring trbs taken holds = ap (λ n. drop n ring.put) holds.1 ∙ ap (drop taken) holds.0
+
+left-held : (ring : Ring) (trbs : List Trb) (consumed : ℕ) (state : TdState) → HoldsIn ring trbs consumed state → pending_in ring ≡ left_in trbs consumed state
+left-held ring trbs consumed Pending holds = left-trbs ring trbs consumed holds
+left-held ring trbs consumed Seen holds = left-trbs ring [] 0 holds.0
+left-held ring trbs consumed LeftOver holds = left-trbs ring trbs consumed holds
+left-held ring trbs consumed Retired holds = left-trbs ring [] 0 holds.0
+
+left-data : (ring : Ring) (trbs : List Trb) (td : Option Td) → HoldsData ring trbs td → pending_in ring ≡ left_of trbs td
+left-data ring trbs None holds = left-trbs ring [] 0 holds
+left-data ring trbs (Some td) holds = left-held ring trbs td.consumed td.state holds
+
+shown-place : (world : World) (client count : ℕ) (place : Place) (held : Option Entry) → FitsHeld client count place held (cell_at world place)
+    → ShowsPlace world.lines place held
+shown-place world client count place None fits = record {
+  status = left-trbs (stream_ring world.lines.status (tag_of place)) [] 0 fits.status;
+  data_in = left-trbs (stream_ring world.lines.data_in (tag_of place)) [] 0 fits.data_in;
+  data_out = left-trbs (stream_ring world.lines.data_out (tag_of place)) [] 0 fits.data_out;
+}
+shown-place world client count place (Some entry) fits = record {
+  status = left-held (stream_ring world.lines.status (tag_of place)) _ entry.status_td.consumed entry.status_td.state fits.status;
+  data_in = left-data (stream_ring world.lines.data_in (tag_of place)) _ _ fits.data_in;
+  data_out = left-data (stream_ring world.lines.data_out (tag_of place)) _ _ fits.data_out;
+}
+
+shown-at : (state : Shared) (world : World) (place : Place) (found_part : Option Part) → Fits state world
+    → slice_get state.parts place.client ≡ found_part → place.client < length state.parts
+    → place.slot < TAGS → ShowsPlace world.lines place (option_map_or (held_in place) found_part None)
+shown-at state world place None fits is there within = absurd (missing state.parts place.client there is)
+  where
+    missing : (parts : List Part) (at : ℕ) → at < length parts → slice_get parts at ≡ None → ⊥
+    missing [] at there is = omega arith
+    missing (part ∷ rest) zero there is = none-some part (sym is)
+    missing (part ∷ rest) (suc at) there is = missing rest at (omega arith) is
+shown-at state world place (Some part) fits is there within =
+    let at : IsFound world place.client part = found world state.parts place.client part fits.clients is in
+    shown-place world place.client part.unit.count place (held_at part.entries place.slot) (at.fits.cells place.slot within)
+
+-- THE CONTROLLER'S COMMAND RING
+
+shown-stage : (lines : LinesState) (pipe : Pipe) (place : Place) (stage : RetirementStage) → HoldsCommand lines pipe place stage
+    → pending_in lines.engine ≡ commands_at lines pipe place stage
+shown-stage lines pipe place StopAsked holds = left-trbs lines.engine _ 0 holds
+shown-stage lines pipe place StopAnswered holds = left-trbs lines.engine _ 1 holds
+shown-stage lines pipe place MoveAsked holds = left-trbs lines.engine _ 0 holds
+shown-stage lines pipe place MoveAnswered holds = left-trbs lines.engine _ 1 holds
+
+shown-commands : (lines : LinesState) (retirement : Option Retirement) → HoldsCommandOf lines retirement
+    → pending_in lines.engine ≡ commands_of lines retirement
+shown-commands lines None holds = left-trbs lines.engine [] 0 holds
+shown-commands lines (Some r) holds = shown-stage lines r.pipe r.place r.stage holds
+
+-- THE WHOLE
+
+pub shown : (state : Shared) (world : World) → Fits state world → ShowsShared state world.lines
+shown state world fits = record {
+  messages =
+      ap (λ n. drop n world.lines.command.put) fits.queues.got ∙ ap (drop (length (carried_places state.events))) fits.queues.put
+      ∙ drop-carried (carried_places state.events) state.messages;
+  commands = shown-commands world.lines state.retirement fits.engine.commands;
+  events = ap (map told_in) fits.queues.texts ∙ told-texts world 0 state.events;
+  places = λ place there within. shown-at state world place (slice_get state.parts place.client) fits refl there within;
+}
+
+-- CONTEXTS
+
+pub points-ahead : (lines : LinesState) → PointAhead lines
+points-ahead lines Command stream contexts streams has shown = absurd streams
+points-ahead lines Status stream contexts streams has shown = shown.ring stream has.0 has.1
+points-ahead lines DataIn stream contexts streams has shown = shown.ring stream has.0 has.1
+points-ahead lines DataOut stream contexts streams has shown = shown.ring stream has.0 has.1

@@ -1,0 +1,2 @@
+-- The loops over tags of a round.
+pub mod DrainTags

@@ -1,0 +1,554 @@
+-- The event of Set TR Dequeue Pointer: the TD is retired, its ring is free again, and the streams of its pipe that have pending TRBs are
+-- rung. Cited by the law of events.
+use Rattle.std.proofs.Common.{◌≡◌, ℕ, zero, suc, ◌-◌, ◌<◌, ◌≤◌, true, false, ◌&&◌, cond, List, [], ◌∷◌, ◌++◌, drop, length, map, Option, Some, None}
+use Rattle.std.proofs.Common.{option_map, refl, arith, ap, sym, subst, ◌∙◌}
+use Rattle.std.specs.Prelude.{◌==◌, is_some, slice_get, slice_set, slice_index_or, option_and_then, unwrap_or}
+use Rattle.std.specs.Option.{option_map_or}
+use Rattle.std.proofs.Math.Seq.{drop-length}
+use Rattle.std.proofs.lemmas.Bool.{false≢true, eqb-true, ltb-true}
+use Rattle.std.proofs.lemmas.List.{append-nil}
+use Rattle.xhci_trb.specs.declared.Trb.{Trb}
+use Rattle.cycle_ring.specs.Ring.{Ring, reclaimed}
+use Rattle.event_ring.specs.declared.Event.{Event}
+use Rattle.event_ring.specs.Events.{Events}
+use Rattle.uas_profile.specs.declared.Pipe.{Pipe}
+use Rattle.uas_profile.specs.declared.Pipe.TheVariants.{Command, Status, DataIn, DataOut}
+use Rattle.uas_profile.specs.Pipes.{HasStreams}
+use Rattle.stream_array.specs.Map.{places_of}
+use Rattle.stream_array.specs.Rings.{IsLines, LinesState, ring_of, stream_ring, with_ring}
+use Rattle.frame_store.specs.Buffers.{held_for}
+use Rattle.uas_profile.specs.declared.Direction.{Direction}
+use Rattle.uas_profile.specs.declared.Direction.TheVariants.{Nothing, ToHost, ToDevice}
+use Rattle.scsi_cmd.specs.declared.Request.{Request}
+use Rattle.uas_profile.specs.declared.TheConstants.{TAGS, STREAMS}
+use Rattle.scsi_cmd.specs.Held.{held_at}
+use Rattle.solo_model.specs.declared.Phase.{Phase}
+use Rattle.solo_model.specs.declared.Phase.TheVariants.{Queued, Begun, Sent, Gone}
+use Rattle.uas_host.specs.declared.Handled.TheVariants.{Engine}
+use Rattle.uas_host.specs.declared.HostClient.{HostClient}
+use Rattle.uas_host.specs.declared.Notice.TheVariants.{TdRetired}
+use Rattle.uas_profile.specs.declared.Place.{Place}
+use Rattle.uas_host.specs.declared.Retirement.{Retirement as HostRetirement}
+use Rattle.uas_host.specs.declared.RetirementStage.TheVariants.{Moving}
+use Rattle.uas_profile.specs.declared.TdState.{TdState}
+use Rattle.uas_profile.specs.declared.TdState.TheVariants.{LeftOver, Retired}
+use Rattle.uas_profile.specs.Doors.{door}
+use Rattle.uas_profile.specs.Pipes.{target_of}
+use Rattle.uas_host.specs.Retirement.{emptied, move_trb, moved_lines, resumed_doors, retired_host, with_first_freed}
+use Rattle.uas_host.specs.Seen.{seen, with_retired, with_seen}
+use Rattle.uas_profile.specs.TdStates.{is_pending}
+use Rattle.uas_host.specs.State.{HostState, client_of, with_client}
+use Rattle.uas_profile.specs.Places.{tag_of}
+use Rattle.shared_machine.specs.declared.Completion.{Completion}
+use Rattle.shared_machine.specs.declared.Completion.TheVariants.{EngineDone}
+use Rattle.shared_machine.specs.declared.Retirement.{Retirement}
+use Rattle.shared_machine.specs.declared.RetirementStage.{RetirementStage}
+use Rattle.shared_machine.specs.declared.RetirementStage.TheVariants.{StopAsked, StopAnswered, MoveAsked, MoveAnswered}
+use Rattle.shared_machine.specs.declared.Td.{Td}
+use Rattle.shared_machine.specs.Pipes.{all_rung}
+use Rattle.shared_machine.specs.Td.{Entry, data_in_td, data_out_td, is_left_over_on, is_td_left_over, request_direction, retired_on}
+use Rattle.shared_machine.specs.Td.{data_trbs, retired_td, td_on, trbs_on, with_td_on}
+use Rattle.shared_machine.specs.Part.{Part, ready_after, retire_act, seen_entry}
+use Rattle.shared_machine.specs.Shared.{Shared, acted_on, engine_seen, pipe_of, resumed, ringing, routed_to, streams_pending, with_pipe}
+use Rattle.shared_machine.specs.Soundness.{awaited_data, one_if}
+use Rattle.machine_invariant.specs.Matched.{IsMatched, IsMatchedEntry, answered_place, answered_places, awaited_data_of, awaited_status, data_events, is_whole}
+use Rattle.machine_invariant.specs.Matched.{is_whole_on, request_bytes, retired_places, same_place, status_events, under}
+use Rattle.bus_core.specs.World.{World, cell_at}
+use Rattle.bus_core.specs.Cells.{FitsCell, HoldsTrbs, host_side, state_of, told_by}
+use Rattle.uas_profile.specs.declared.PipeState.{PipeState}
+use Rattle.bus_core.specs.Fits.{Fits, HoldsCommandOf, IsSoundWorld, data_event, engine_event, event_texts, host_retirement, place_in, status_event}
+use Rattle.bus_core.specs.WorldSteps.{EventFits, rung_all, without_event}
+use Rattle.bus_core.proofs.common.CellWrites.{client_of-found, entry_at-other, entry_at-same, stream_ring-same}
+use Rattle.bus_core.proofs.retire.EngineCells.{KeepsRings, ReadsAlike, WritesOne, with_ring-keeps, written-all, written-fits, written-unused}
+use Rattle.bus_core.proofs.retire.EngineCellWrites.{IsLeftOn, cell-changed, cell_ring, left-on, length-td_trbs, td_trbs, with_cell_ring}
+use Rattle.bus_core.proofs.retire.EngineDue.{left_over-side}
+use Rattle.bus_core.proofs.retire.EngineFits.{IsUnderWay, PipeApart, pipe-apart, tag-streams, under-way, under_way}
+use Rattle.bus_core.proofs.common.EventTds.{data_trbs-count}
+use Rattle.bus_core.proofs.common.EventTexts.{other-tags}
+use Rattle.bus_core.proofs.common.Framing.{ChangesCell, FitsPart-set, SamePipes}
+use Rattle.bus_core.proofs.event.HostSees.{client_with, host_with}
+use Rattle.machine_invariant.proofs.MatchedBounds.{some-place}
+use Rattle.machine_invariant.proofs.MatchedPlaces.{same_place-true}
+use Rattle.machine_invariant.proofs.MatchedSteps.{seen_part}
+use Rattle.bus_core.proofs.event.Resumed.{StreamsFit, resumed-pipes, resumed-same}
+use Rattle.bus_core.proofs.event.SeenStreams.{HasEventFit}
+use Rattle.shared_machine.proofs.Standing.{slice_get-back, get-within}
+use Rattle.bus_core.proofs.retire.EngineSeen.{IsEngineFirst, doors-are, engine-freed, engine-queues, engine_pointer, event-done, event-stepped, freed_lines}
+use Rattle.bus_core.proofs.retire.EngineSeen.{handled-is, handled_world, stop-seen}
+use Rattle.machine_invariant.proofs.MatchedLeftOver.{left-in, left-out, left-state}
+use Rattle.bus_core.proofs.event.SeenWorlds.{queue-same}
+
+-- THE HOST RETIRES THE TD
+
+-- the entry once its TD on a pipe is retired
+abbrev retired_entry : Pipe → Entry → Entry
+retired_entry pipe entry = with_td_on retired_td pipe entry
+
+untold : (request : Request) (phase : Phase) (state : TdState) → state ≡ LeftOver → told_by request phase state ≡ told_by request phase Retired
+untold request Queued state left = refl
+untold request (Begun progress) state left = refl
+untold request (Sent answer) state left = ap (λ s. told_by request (Sent answer) s) left
+untold request Gone state left = refl
+
+retired-states : (pipe : Pipe) (entry : Entry) → is_left_over_on pipe entry ≡ true → with_retired pipe (host_side entry) ≡ host_side (retired_entry pipe entry)
+retired-states Command entry so = absurd (false≢true so)
+retired-states Status entry so =
+    ap (λ told. record (host_side entry) { told = told; status_td = Retired })
+    (untold entry.task.request entry.task.phase entry.status_td.state (left-state entry.status_td.state so))
+retired-states DataIn entry so = ap (λ states. record (host_side entry) { data_td = states })
+    (in-states (request_direction entry.task.request) entry.data_td so)
+  where
+    in-states : (way : Direction) (td : Option Td) → is_td_left_over (data_in_td way td) ≡ true → Some Retired ≡ option_map state_of (option_map retired_td td)
+    in-states Nothing td so = absurd (false≢true so)
+    in-states ToHost None so = absurd (false≢true so)
+    in-states ToHost (Some td) so = refl
+    in-states ToDevice td so = absurd (false≢true so)
+retired-states DataOut entry so = ap (λ states. record (host_side entry) { data_td = states })
+    (out-states (request_direction entry.task.request) entry.data_td so)
+  where
+    out-states : (way : Direction) (td : Option Td) → is_td_left_over (data_out_td way td) ≡ true → Some Retired
+        ≡ option_map state_of (option_map retired_td td)
+    out-states Nothing td so = absurd (false≢true so)
+    out-states ToHost td so = absurd (false≢true so)
+    out-states ToDevice None so = absurd (false≢true so)
+    out-states ToDevice (Some td) so = refl
+
+retired-side : (pipe : Pipe) (entry : Entry) → is_left_over_on pipe entry ≡ true
+    → seen (TdRetired pipe) (host_side entry) ≡ Some (host_side (retired_entry pipe entry))
+retired-side pipe entry so =
+    ap (λ b. cond b (Some (with_retired pipe (host_side entry))) None) (left_over-side pipe entry ∙ so)
+    ∙ ap (λ h. Some h) (retired-states pipe entry so)
+
+abbrev moving : Pipe → Place → HostRetirement
+moving pipe place = record { pipe = pipe; place = place; stage = Moving }
+
+-- the host without the retirement, whose entry of the place became this one's side
+abbrev host_after : HostState → Place → Entry → HostState
+host_after host place now = record (host_with host place now) { retirement = None }
+
+retired_host-is : (host : HostState) (pipe : Pipe) (place : Place) (entry : Entry) → is_left_over_on pipe entry ≡ true
+    → held_at (client_of host place.client).entries place.slot ≡ Some (host_side entry)
+    → retired_host host (moving pipe place) ≡ host_after host place (retired_entry pipe entry)
+retired_host-is host pipe place entry so held =
+    let client : HostClient = client_of host place.client in
+    ap (λ h. record (unwrap_or (option_map (with_client host place.client)
+    (option_map (with_seen (TdRetired pipe) (client_of host place.client) place.slot) (option_and_then (seen (TdRetired pipe)) h))) host)
+    { retirement = None }) held
+    ∙ ap (λ h. record (unwrap_or (option_map (with_client host place.client)
+    (option_map (with_seen (TdRetired pipe) (client_of host place.client) place.slot) h)) host) { retirement = None }) (retired-side pipe entry so)
+
+-- ITS RING IS FREE AGAIN
+
+first_freed-some : (lines : LinesState) (pipe : Pipe) (tag count : ℕ) → 1 ≤ count
+    → with_first_freed lines pipe tag count ≡ with_ring lines pipe tag (reclaimed (places_of pipe) count (ring_of lines pipe tag))
+first_freed-some lines pipe tag zero some = absurd (omega (arith, some))
+first_freed-some lines pipe tag (suc more) some = refl
+
+-- the ring of the TD, all of it freed
+abbrev emptied_ring : World → Pipe → Place → Ring
+emptied_ring world pipe place =
+    reclaimed (places_of pipe) (ring_of (freed_lines world) pipe (tag_of place)).got (ring_of (freed_lines world) pipe (tag_of place))
+
+abbrev retired_lines : World → Pipe → Place → LinesState
+retired_lines world pipe place = with_ring (freed_lines world) pipe (tag_of place) (emptied_ring world pipe place)
+
+ring-of-freed : (world : World) (pipe : Pipe) (place : Place) → HasStreams pipe → ring_of (freed_lines world) pipe (tag_of place)
+    ≡ cell_ring pipe (cell_at world place)
+ring-of-freed world Command place streams = absurd streams
+ring-of-freed world Status place streams = refl
+ring-of-freed world DataIn place streams = refl
+ring-of-freed world DataOut place streams = refl
+
+-- a TD that is there has a TRB
+data-some : (slot : ℕ) (entry : Entry) → is_td_left_over entry.data_td ≡ true → IsMatchedEntry slot entry → 1 ≤ data_trbs entry.task.request
+data-some slot entry left sound =
+    let some : 0 < request_bytes entry.task.request = ltb-true 0 (request_bytes entry.task.request) (sym sound.moves ∙ there entry.data_td left) in
+    omega (arith, some, data_trbs-count entry.task.request)
+  where
+    there : (td : Option Td) → is_td_left_over td ≡ true → is_some td ≡ true
+    there None left = absurd (false≢true left)
+    there (Some td) left = refl
+
+trbs-some : (pipe : Pipe) (slot : ℕ) (entry : Entry) → is_left_over_on pipe entry ≡ true → IsMatchedEntry slot entry → 1 ≤ trbs_on pipe entry
+trbs-some Command slot entry so sound = absurd (false≢true so)
+trbs-some Status slot entry so sound = omega arith
+trbs-some DataIn slot entry so sound = data-some slot entry (left-in (request_direction entry.task.request) entry.data_td so).1 sound
+trbs-some DataOut slot entry so sound = data-some slot entry (left-out (request_direction entry.task.request) entry.data_td so).1 sound
+
+-- once the controller was moved, all TRBs of the TD are consumed
+whole-once-moved : (state : Shared) (world : World) (pipe : Pipe) (place : Place) (td : Td) → (at : IsUnderWay state world pipe place MoveAnswered)
+    → td_on pipe at.entry ≡ Some td → td.consumed ≡ trbs_on pipe at.entry
+whole-once-moved state world pipe place td at on =
+    eqb-true td.consumed (trbs_on pipe at.entry)
+    (ap (is_whole (trbs_on pipe at.entry)) (sym on) ∙ ap (λ o. option_map_or (is_whole_on pipe) o false) (sym at.held) ∙ at.retiring.stage.1)
+
+record IsEmptied (world : World) (pipe : Pipe) (place : Place) (entry : Entry) : Type 0 where
+  some : 1 ≤ (ring_of (freed_lines world) pipe (tag_of place)).got
+  empty : HoldsTrbs (emptied_ring world pipe place) [] 0
+  whole : (td : Td) → td_on pipe entry ≡ Some td → td.consumed ≡ length (td_trbs pipe (tag_of place) entry)
+
+emptied-is : (state : Shared) (world : World) (pipe : Pipe) (place : Place) → Fits state world
+    → (at : IsUnderWay state world pipe place MoveAnswered) → IsEmptied world pipe place at.entry
+emptied-is state world pipe place fits at =
+    let left : IsLeftOn pipe (tag_of place) at.entry (cell_ring pipe (cell_at world place)) =
+    left-on place.client at.at.part.unit.count pipe place at.entry (cell_at world place) at.at.cell at.left in
+    let ring : Ring = ring_of (freed_lines world) pipe (tag_of place) in
+    let same = ring-of-freed world pipe place at.retiring.streams in
+    let all : left.td.consumed ≡ trbs_on pipe at.entry = whole-once-moved state world pipe place left.td at left.on in
+    let count : length (td_trbs pipe (tag_of place) at.entry) ≡ trbs_on pipe at.entry = length-td_trbs pipe (tag_of place) at.entry at.retiring.streams in
+    let put = ap (λ (r : Ring). r.put) same ∙ left.holds.0 in
+    let got = ap (λ (r : Ring). r.got) same ∙ left.holds.1 in
+    let long : (ring_of (freed_lines world) pipe (tag_of place)).got ≡ length (ring_of (freed_lines world) pipe (tag_of place)).put =
+    got ∙ all ∙ sym count ∙ sym (ap (λ (ts : List Trb). length ts) put) in
+    record {
+      some = omega (arith, got, all, trbs-some pipe place.slot at.entry at.left at.at.matched.here.sound);
+      empty = (
+        ap (λ n. drop n (ring_of (freed_lines world) pipe (tag_of place)).put) long ∙ drop-length (ring_of (freed_lines world) pipe (tag_of place)).put,
+        omega arith,
+      );
+      whole = λ td on. whole-once-moved state world pipe place td at on ∙ sym count;
+    }
+
+-- THE WORLD AFTER IT
+
+abbrev retired_doors : World → Pipe → Place → List ℕ
+retired_doors world pipe place = resumed_doors (retired_lines world pipe place) pipe
+
+abbrev retired_world : World → Pipe → Place → Entry → World
+retired_world world pipe place entry = handled_world world
+    (record { host = host_after world.host place (retired_entry pipe entry); lines = retired_lines world pipe place }) (retired_doors world pipe place)
+
+-- the part once the TD is retired
+abbrev retired_part : Pipe → Place → Part → Entry → Part
+retired_part pipe place part entry = seen_part part place.slot (retired_entry pipe entry)
+
+-- the state before the streams are rung, and once they are
+abbrev unrung_state : Shared → Pipe → Place → Part → Entry → List Completion → Shared
+unrung_state state pipe place part entry rest = record state {
+  parts = slice_set state.parts place.client (retired_part pipe place part entry);
+  events = rest ++ [];
+  retirement = None;
+}
+
+abbrev rung_state : Shared → Pipe → Place → Part → Entry → List Completion → Shared
+rung_state state pipe place part entry rest =
+    with_pipe (unrung_state state pipe place part entry rest) pipe
+    (all_rung (pipe_of (unrung_state state pipe place part entry rest) pipe) (streams_pending (unrung_state state pipe place part entry rest) pipe))
+
+ring-here : (world : World) (pipe : Pipe) (place : Place) (entry : Entry) → IsLines world.lines → tag_of place ≤ STREAMS → HasStreams pipe
+    → cell_at (retired_world world pipe place entry) place
+    ≡ record (with_cell_ring pipe (cell_at world place) (emptied_ring world pipe place)) { held = (cell_at (retired_world world pipe place entry) place).held }
+ring-here world Command place entry lines most streams = absurd streams
+ring-here world Status place entry lines most streams =
+    ap (λ ring. record (cell_at (retired_world world Status place entry) place) { status = ring })
+    (stream_ring-same world.lines.status (tag_of place) (emptied_ring world Status place) (omega arith) (omega (arith, most, lines.status)))
+ring-here world DataIn place entry lines most streams =
+    ap (λ ring. record (cell_at (retired_world world DataIn place entry) place) { data_in = ring })
+    (stream_ring-same world.lines.data_in (tag_of place) (emptied_ring world DataIn place) (omega arith) (omega (arith, most, lines.data_in)))
+ring-here world DataOut place entry lines most streams =
+    ap (λ ring. record (cell_at (retired_world world DataOut place entry) place) { data_out = ring })
+    (stream_ring-same world.lines.data_out (tag_of place) (emptied_ring world DataOut place) (omega arith) (omega (arith, most, lines.data_out)))
+
+retired-cell : (state : Shared) (world : World) (pipe : Pipe) (place : Place) → Fits state world → (at : IsUnderWay state world pipe place MoveAnswered)
+    → IsEmptied world pipe place at.entry
+    → FitsCell place.client at.at.part.unit.count place (retired_entry pipe at.entry) (cell_at (retired_world world pipe place at.entry) place)
+retired-cell state world pipe place fits at emptied =
+    let there = get-within world.host.clients place.client at.at.client.held at.at.client.held_is in
+    let tag = tag-streams state world pipe place MoveAnswered at fits in
+    let held : (cell_at (retired_world world pipe place at.entry) place).held ≡ Some (host_side (retired_entry pipe at.entry)) =
+    entry_at-same world.host place.client place.slot (client_with (client_of world.host place.client) place.slot (host_side (retired_entry pipe at.entry)))
+    (client_of world.host place.client).entries (Some (host_side (retired_entry pipe at.entry))) there
+    (omega (arith, at.at.is_place.slot, (fits.sound.host.clients place.client there).slots)) refl in
+    subst (λ c. FitsCell place.client at.at.part.unit.count place (retired_entry pipe at.entry) c)
+    (sym (ring-here world pipe place at.entry fits.sound.lines tag.1 at.retiring.streams))
+    (cell-changed place.client at.at.part.unit.count pipe place at.entry (cell_at world place) retired_td (emptied_ring world pipe place)
+    (cell_at (retired_world world pipe place at.entry) place).held at.at.cell at.left
+    (λ td on left. (emptied.empty, emptied.whole td on)) held)
+
+-- the client's record of the host
+abbrev client_after : World → Pipe → Place → Entry → HostClient
+client_after world pipe place entry = client_with (client_of world.host place.client) place.slot (host_side (retired_entry pipe entry))
+
+retired-writes : (state now : Shared) (world : World) (pipe : Pipe) (place : Place) → Fits state world → (at : IsUnderWay state world pipe place MoveAnswered)
+    → IsEmptied world pipe place at.entry → now.parts ≡ slice_set state.parts place.client (retired_part pipe place at.at.part at.entry)
+    → WritesOne state now world (retired_world world pipe place at.entry) place at.at.part.unit (client_after world pipe place at.entry)
+    (retired_part pipe place at.at.part at.entry)
+retired-writes state now world pipe place fits at emptied parts =
+    let after : World = retired_world world pipe place at.entry in
+    let entry : Entry = retired_entry pipe at.entry in
+    let keeps : KeepsRings (freed_lines world) (retired_lines world pipe place) place =
+    with_ring-keeps (freed_lines world) pipe place (emptied_ring world pipe place) in
+    let there = get-within world.host.clients place.client at.at.client.held at.at.client.held_is in
+    let changes : ChangesCell world after place.client place.slot (client_after world pipe place at.entry) at.at.part.unit = record {
+      hosts = refl;
+      units = sym (slice_get-back world.device.units place.client at.at.part.unit at.at.client.unit_is);
+      others = λ other slot inside apart.
+          let held = entry_at-other world.host place.client place.slot other slot (client_after world pipe place at.entry)
+          (Some (host_side (retired_entry pipe at.entry))) there refl apart in
+          let status = keeps.status (tag_of (place_in other slot)) (omega arith) apart in
+          let data_in = keeps.data_in (tag_of (place_in other slot)) (omega arith) apart in
+          let data_out = keeps.data_out (tag_of (place_in other slot)) (omega arith) apart in
+          λ i. record (cell_at world (place_in other slot)) { held = held i; status = status i; data_in = data_in i; data_out = data_out i };
+    } in
+    let least : at.at.part.least_ticket ≡ (client_after world pipe place at.entry).least_ticket =
+    at.at.client.fits.least_ticket
+    ∙ ap (λ (c : HostClient). c.least_ticket) (sym (client_of-found world.host place.client at.at.client.held at.at.client.held_is)) in
+    record {
+      parts = parts;
+      changes = changes;
+      device = refl;
+      rings = record { status = keeps.status; data_in = keeps.data_in; data_out = keeps.data_out };
+      client = FitsPart-set world after place.client place.slot at.at.part.unit at.at.part.unit at.at.client.held (client_after world pipe place at.entry)
+          at.at.part (Some (retired_entry pipe at.entry)) at.at.part.least_ticket (ready_after at.at.part.ready place.slot (retired_entry pipe at.entry))
+          at.at.client.fits at.at.is_place.slot changes refl least
+          (queue-same world place.client place.slot at.at.part (retired_entry pipe at.entry) at.at.client)
+          (retired-cell state world pipe place fits at emptied);
+    }
+
+-- WHAT OTHER EVENTS READ
+
+-- no event of a TD that is left over waits
+data-unawaited : (td : Option Td) (trbs : ℕ) → is_td_left_over td ≡ true → awaited_data trbs td ≡ 0
+data-unawaited None trbs so = absurd (false≢true so)
+data-unawaited (Some td) trbs so = ap (λ s. one_if (is_pending s && (td.consumed == trbs))) (left-state td.state so)
+
+-- another place that an event is of has other rings
+apart-or : {T : Type 0} (one other : Place) (x y : T) → one.slot < TAGS → other.slot < TAGS → (one ≡ other → ⊥)
+    → ((tag_of one ≡ tag_of other → ⊥) → x ≡ y) → x ≡ y
+apart-or one other x y inside within apart kept =
+    elim (same_place one other) as (λ b. same_place one other ≡ b → x ≡ y) [
+      | true ↦ λ same. absurd (apart (same_place-true one other same))
+      | false ↦ λ differs. kept (other-tags one other inside within differs)
+    ] refl
+
+-- where something waits at another place, and nothing at this one
+waits-apart : {T : Type 0} (state : Shared) (place other : Place) (count : Option Entry → ℕ) (x y : T) → IsMatched state → count None ≡ 0
+    → count (under state.parts place) ≡ 0 → place.slot < TAGS → 1 ≤ count (under state.parts other) → ((tag_of other ≡ tag_of place → ⊥) → x ≡ y) → x ≡ y
+waits-apart state place other count x y matched empty none within waits kept =
+    apart-or other place x y (some-place state other count empty matched waits).slot within
+    (λ same. omega (arith, waits, none, ap (λ p. count (under state.parts p)) same)) kept
+
+data-kept : (state : Shared) (world : World) (pipe : Pipe) (place : Place) (rest : List Completion) (entry : Entry)
+    → IsEngineFirst state world pipe place MoveAnswered rest (move_trb world.lines pipe (tag_of place)) → Fits state world
+    → awaited_data_of (under state.parts place) ≡ 0 → place.slot < TAGS → (other : Place) → 1 ≤ data_events other rest
+    → data_event (stream_ring (retired_lines world pipe place).data_in (tag_of other)) (stream_ring (retired_lines world pipe place).data_out (tag_of other))
+    ≡ data_event (stream_ring world.lines.data_in (tag_of other)) (stream_ring world.lines.data_out (tag_of other))
+data-kept state world pipe place rest entry first fits none within other some =
+    let keeps : KeepsRings (freed_lines world) (retired_lines world pipe place) place =
+    with_ring-keeps (freed_lines world) pipe place (emptied_ring world pipe place) in
+    waits-apart state place other awaited_data_of _ _ fits.matched refl none within
+    (omega (arith, some, ap (data_events other) first.is, (fits.matched.places other).moved))
+    (λ apart.
+    ap (λ ring. data_event ring (stream_ring (retired_lines world pipe place).data_out (tag_of other))) (keeps.data_in (tag_of other) (omega arith) apart)
+    ∙ ap (λ ring. data_event (stream_ring world.lines.data_in (tag_of other)) ring) (keeps.data_out (tag_of other) (omega arith) apart))
+
+status-kept : (state : Shared) (world : World) (pipe : Pipe) (place : Place) (rest : List Completion) (entry : Entry)
+    → IsEngineFirst state world pipe place MoveAnswered rest (move_trb world.lines pipe (tag_of place)) → Fits state world
+    → awaited_status (under state.parts place) ≡ 0 → place.slot < TAGS → (other : Place) → 1 ≤ status_events other rest
+    → status_event other.slot (stream_ring (retired_lines world pipe place).status (tag_of other)) (held_for world.frames (tag_of other)).status
+    ≡ status_event other.slot (stream_ring world.lines.status (tag_of other)) (held_for world.frames (tag_of other)).status
+status-kept state world pipe place rest entry first fits none within other some =
+    let keeps : KeepsRings (freed_lines world) (retired_lines world pipe place) place =
+    with_ring-keeps (freed_lines world) pipe place (emptied_ring world pipe place) in
+    waits-apart state place other awaited_status _ _ fits.matched refl none within
+    (omega (arith, some, ap (status_events other) first.is, (fits.matched.places other).sent))
+    (λ apart. ap (λ ring. status_event other.slot ring (held_for world.frames (tag_of other)).status) (keeps.status (tag_of other) (omega arith) apart))
+
+-- where the TD is the data TD, the status streams are the same
+data-reads : (state : Shared) (world : World) (pipe : Pipe) (place : Place) (rest : List Completion)
+    → (first : IsEngineFirst state world pipe place MoveAnswered rest (move_trb world.lines pipe (tag_of place))) → Fits state world
+    → is_td_left_over first.at.entry.data_td ≡ true
+    → ((other : Place) → 1 ≤ status_events other rest
+    → status_event other.slot (stream_ring (retired_lines world pipe place).status (tag_of other)) (held_for world.frames (tag_of other)).status
+    ≡ status_event other.slot (stream_ring world.lines.status (tag_of other)) (held_for world.frames (tag_of other)).status)
+    → (retired_lines world pipe place).command ≡ world.lines.command
+    → ReadsAlike world (retired_world world pipe place first.at.entry) rest
+data-reads state world pipe place rest first fits left sent command_base = record {
+  none = first.alone;
+  command_base = command_base;
+  moved = data-kept state world pipe place rest first.at.entry first fits
+      (ap awaited_data_of first.at.held ∙ data-unawaited first.at.entry.data_td (data_trbs first.at.entry.task.request) left)
+      first.at.at.is_place.slot;
+  sent = sent;
+}
+
+retired-reads : (state : Shared) (world : World) (pipe : Pipe) (place : Place) (rest : List Completion)
+    → (first : IsEngineFirst state world pipe place MoveAnswered rest (move_trb world.lines pipe (tag_of place))) → Fits state world
+    → ReadsAlike world (retired_world world pipe place first.at.entry) rest
+retired-reads state world Command place rest first fits = absurd first.at.retiring.streams
+retired-reads state world Status place rest first fits = record {
+  none = first.alone;
+  command_base = refl;
+  moved = λ other some. refl;
+  sent = status-kept state world Status place rest first.at.entry first fits
+      (ap awaited_status first.at.held ∙ ap (λ s. one_if (is_pending s && (first.at.entry.status_td.consumed == 1)))
+      (left-state first.at.entry.status_td.state first.at.left))
+      first.at.at.is_place.slot;
+}
+retired-reads state world DataIn place rest first fits =
+    data-reads state world DataIn place rest first fits
+    (left-in (request_direction first.at.entry.task.request) first.at.entry.data_td first.at.left).1 (λ other some. refl) refl
+retired-reads state world DataOut place rest first fits =
+    data-reads state world DataOut place rest first fits
+    (left-out (request_direction first.at.entry.task.request) first.at.entry.data_td first.at.left).1 (λ other some. refl) refl
+
+-- ALL TOGETHER
+
+-- the streams of the world after it fit the state before they are rung
+retired-streams : (state : Shared) (world : World) (pipe : Pipe) (place : Place) (rest : List Completion) → Fits state world
+    → (at : IsUnderWay state world pipe place MoveAnswered) → IsEmptied world pipe place at.entry
+    → StreamsFit (unrung_state state pipe place at.at.part at.entry rest) (retired_world world pipe place at.entry)
+retired-streams state world pipe place rest fits at emptied =
+    let now : Shared = unrung_state state pipe place at.at.part at.entry rest in
+    let writes = retired-writes state (unrung_state state pipe place at.at.part at.entry rest) world pipe place fits at emptied refl in
+    record {
+      all = written-all state now world (retired_world world pipe place at.entry) place at.at.part at.at.part.unit (client_after world pipe place at.entry)
+          (retired_part pipe place at.at.part at.entry) fits.clients at.at.there at.at.is_place.slot writes;
+      unused = written-unused state now world (retired_world world pipe place at.entry) place at.at.part.unit (client_after world pipe place at.entry)
+          (retired_part pipe place at.at.part at.entry) fits.unused at.at.is_place writes;
+    }
+
+record OthersKept (lines : LinesState) (pipe : Pipe) (tag : ℕ) (ring : Ring) : Type 0 where
+  engine : (with_ring lines pipe tag ring).engine ≡ lines.engine
+  command : (with_ring lines pipe tag ring).command ≡ lines.command
+  events : (with_ring lines pipe tag ring).events ≡ lines.events
+
+others-kept : (lines : LinesState) (pipe : Pipe) (tag : ℕ) (ring : Ring) → HasStreams pipe → OthersKept lines pipe tag ring
+others-kept lines Command tag ring streams = absurd streams
+others-kept lines Status tag ring streams = record { engine = refl; command = refl; events = refl }
+others-kept lines DataIn tag ring streams = record { engine = refl; command = refl; events = refl }
+others-kept lines DataOut tag ring streams = record { engine = refl; command = refl; events = refl }
+
+-- no retirement is under way
+no-retirement : (state : Shared) (pipe : Pipe) (now : PipeState) → (with_pipe state pipe now).retirement ≡ state.retirement
+no-retirement state Command now = refl
+no-retirement state Status now = refl
+no-retirement state DataIn now = refl
+no-retirement state DataOut now = refl
+
+retired-fits : (state : Shared) (world : World) (pipe : Pipe) (place : Place) (rest : List Completion) → Fits state world
+    → (first : IsEngineFirst state world pipe place MoveAnswered rest (move_trb world.lines pipe (tag_of place)))
+    → IsEmptied world pipe place first.at.entry
+    → IsMatched (rung_state state pipe place first.at.at.part first.at.entry rest) → IsSoundWorld (retired_world world pipe place first.at.entry)
+    → Fits (rung_state state pipe place first.at.at.part first.at.entry rest) (retired_world world pipe place first.at.entry)
+retired-fits state world pipe place rest fits first emptied matched sound =
+    let at : IsUnderWay state world pipe place MoveAnswered = first.at in
+    let before : Shared = unrung_state state pipe place first.at.at.part first.at.entry rest in
+    let now : Shared = rung_state state pipe place first.at.at.part first.at.entry rest in
+    let after : World = retired_world world pipe place first.at.entry in
+    let streams : List ℕ = streams_pending (unrung_state state pipe place first.at.at.part first.at.entry rest) pipe in
+    let rung : PipeState = all_rung (pipe_of (unrung_state state pipe place first.at.at.part first.at.entry rest) pipe)
+    (streams_pending (unrung_state state pipe place first.at.at.part first.at.entry rest) pipe) in
+    let apart : PipeApart before pipe rung = pipe-apart before pipe rung in
+    let kept = others-kept (freed_lines world) pipe (tag_of place) (emptied_ring world pipe place) first.at.retiring.streams in
+    let pipes : SamePipes (rung_all world.controller (retired_doors world pipe place)) now =
+    resumed-pipes world.controller before after pipe first.at.retiring.streams (retired-streams state world pipe place rest fits first.at emptied)
+    (record { status = fits.status; data_in = fits.data_in; data_out = fits.data_out }) in
+    let writes = retired-writes state now world pipe place fits first.at emptied apart.parts in
+    let gone : now.retirement ≡ None = no-retirement before pipe rung in
+    written-fits state now world after place first.at.at.part first.at.at.part.unit (client_after world pipe place first.at.entry)
+    (retired_part pipe place first.at.at.part first.at.entry) fits first.at.at.there first.at.at.is_place writes pipes
+    (engine-queues state now world after place rest fits first.is apart.messages (apart.events ∙ append-nil rest) kept.command
+    (ap (λ (es : Events). es.pending) kept.events)
+    (retired-reads state world pipe place rest first fits))
+    (record {
+      retirement = ap (option_map host_retirement) (sym gone);
+      commands = subst (HoldsCommandOf (retired_lines world pipe place)) (sym gone) (
+        ap (λ (r : Ring). r.put) kept.engine ∙ ap (λ (ts : List Trb). drop 1 ts) first.holds.0,
+        ap (λ (r : Ring). r.got) kept.engine ∙ ap (λ taken. taken - 1) first.holds.1,
+      );
+    }) matched sound
+
+-- the shared machine's step
+retired-stepped : (state : Shared) (pipe : Pipe) (place : Place) (part : Part) (entry : Entry) (rest : List Completion)
+    → slice_get state.parts place.client ≡ Some part → held_at part.entries place.slot ≡ Some entry → is_left_over_on pipe entry ≡ true
+    → engine_seen (record state { events = rest }) place (Some (under_way pipe place MoveAnswered))
+    ≡ (
+      rung_state state pipe place part entry rest,
+      ringing place.client (map (door (target_of pipe)) (streams_pending (unrung_state state pipe place part entry rest) pipe)),
+    )
+retired-stepped state pipe place part entry rest there held so =
+    let popped : Shared = record state { events = rest; retirement = None } in
+    ap (λ found. resumed pipe (routed_to (record state { events = rest; retirement = None }) place.client (retire_act pipe place) found)) there
+    ∙ ap (λ found. resumed pipe (acted_on (record state { events = rest; retirement = None }) place.client
+    (seen_entry (EngineDone place) part place.slot (option_and_then (retired_on pipe) found)))) held
+    ∙ ap (λ b. resumed pipe (acted_on (record state { events = rest; retirement = None }) place.client
+    (seen_entry (EngineDone place) part place.slot (cond b (Some (retired_entry pipe entry)) None)))) so
+
+move-seen : (state : Shared) (world : World) (pipe : Pipe) (place : Place) (rest : List Completion) → Fits state world
+    → IsEngineFirst state world pipe place MoveAnswered rest (move_trb world.lines pipe (tag_of place))
+    → EventFits state world (engine_event world.lines.engine) (EngineDone place)
+move-seen state world pipe place rest fits first =
+    let trb : Trb = move_trb world.lines pipe (tag_of place) in
+    let part : Part = first.at.at.part in
+    let entry : Entry = first.at.entry in
+    let free : IsEmptied world pipe place first.at.entry = emptied-is state world pipe place fits first.at in
+    let lines : moved_lines (without_event world.lines) (engine_pointer world) (moving pipe place) ≡ retired_lines world pipe place =
+    ap (λ l. emptied l pipe (tag_of place)) (engine-freed world)
+    ∙ first_freed-some (freed_lines world) pipe (tag_of place) (ring_of (freed_lines world) pipe (tag_of place)).got free.some in
+    let host : retired_host world.host (moving pipe place) ≡ host_after world.host place (retired_entry pipe first.at.entry) =
+    retired_host-is world.host pipe place first.at.entry first.at.left first.at.at.cell.held in
+    event-done state (rung_state state pipe place first.at.at.part first.at.entry rest) world place
+    (host_after world.host place (retired_entry pipe first.at.entry))
+    (retired_lines world pipe place) (retired_doors world pipe place)
+    (ringing place.client (map (door (target_of pipe)) (streams_pending (unrung_state state pipe place first.at.at.part first.at.entry rest) pipe))) fits
+    (event-stepped state world pipe place MoveAnswered rest trb first
+    ∙ retired-stepped state pipe place first.at.at.part first.at.entry rest first.at.at.there first.at.at.held first.at.left)
+    (handled-is state world pipe place MoveAnswered rest trb first
+    ∙ ap (λ h. (record { host = h; lines = moved_lines (without_event world.lines) (engine_pointer world) (moving pipe place) }, Engine)) host
+    ∙ ap (λ l. (record { host = host_after world.host place (retired_entry pipe first.at.entry); lines = l }, Engine)) lines)
+    (doors-are state world pipe place MoveAnswered rest trb first ∙ ap (λ l. resumed_doors l pipe) lines)
+    (resumed-same (unrung_state state pipe place first.at.at.part first.at.entry rest) (retired_world world pipe place first.at.entry) pipe
+    first.at.retiring.streams (retired-streams state world pipe place rest fits first.at free))
+    (λ matched sound. retired-fits state world pipe place rest fits first free matched sound)
+
+-- EVERY EVENT OF THE CONTROLLER'S OWN COMMAND
+
+not-none : (first : Place) (rest : List Place) → first ∷ rest ≡ [] → ⊥
+not-none first rest is = let no : suc (length rest) ≡ 0 = ap length is in omega (arith, no)
+
+by-stage : (state : Shared) (world : World) (pipe : Pipe) (place : Place) (stage : RetirementStage) (rest : List Completion)
+    → Fits state world → state.events ≡ EngineDone place ∷ rest → state.retirement ≡ Some (under_way pipe place stage)
+    → retired_places (EngineDone place ∷ rest) ≡ answered_place stage place
+    → EventFits state world (engine_event world.lines.engine) (EngineDone place)
+by-stage state world pipe place StopAsked rest fits is way waits = absurd (not-none place (retired_places rest) waits)
+by-stage state world pipe place StopAnswered rest fits is way waits =
+    let at : IsUnderWay state world pipe place StopAnswered = under-way state world pipe place StopAnswered fits way in
+    stop-seen state world pipe place rest fits
+    (record { is = is; alone = ap (λ (places : List Place). drop 1 places) waits; at = at; holds = at.commands })
+by-stage state world pipe place MoveAsked rest fits is way waits = absurd (not-none place (retired_places rest) waits)
+by-stage state world pipe place MoveAnswered rest fits is way waits =
+    let at : IsUnderWay state world pipe place MoveAnswered = under-way state world pipe place MoveAnswered fits way in
+    move-seen state world pipe place rest fits
+    (record { is = is; alone = ap (λ (places : List Place). drop 1 places) waits; at = at; holds = at.commands })
+
+-- the place of the event is the retirement's
+same-first : (place : Place) (retirement : Retirement) (rest : List Place) → place ∷ rest ≡ answered_place retirement.stage retirement.place → place
+    ≡ retirement.place
+same-first place retirement rest waits = by-answered place retirement.place rest retirement.stage waits
+  where
+    by-answered : (place other : Place) (rest : List Place) (stage : RetirementStage) → place ∷ rest ≡ answered_place stage other → place ≡ other
+    by-answered place other rest StopAsked waits = absurd (not-none place rest waits)
+    by-answered place other rest StopAnswered waits = ap (λ (places : List Place). slice_index_or places 0 place) waits
+    by-answered place other rest MoveAsked waits = absurd (not-none place rest waits)
+    by-answered place other rest MoveAnswered waits = ap (λ (places : List Place). slice_index_or places 0 place) waits
+
+by-retirement : (state : Shared) (world : World) (place : Place) (rest : List Completion) (retirement : Option Retirement)
+    → Fits state world → state.events ≡ EngineDone place ∷ rest → state.retirement ≡ retirement
+    → retired_places (EngineDone place ∷ rest) ≡ answered_places retirement
+    → EventFits state world (engine_event world.lines.engine) (EngineDone place)
+by-retirement state world place rest None fits is way waits = absurd (not-none place (retired_places rest) waits)
+by-retirement state world place rest (Some retirement) fits is way waits =
+    let same : place ≡ retirement.place = same-first place retirement (retired_places rest) waits in
+    subst (λ p. EventFits state world (engine_event world.lines.engine) (EngineDone p)) (sym same)
+    (by-stage state world retirement.pipe retirement.place retirement.stage rest fits
+    (subst (λ p. state.events ≡ EngineDone p ∷ rest) same is) way
+    (subst (λ p. retired_places (EngineDone p ∷ rest) ≡ answered_place retirement.stage retirement.place) same waits))
+
+pub engine-event-fits : (state : Shared) (world : World) (place : Place) (rest : List Completion) → Fits state world
+    → state.events ≡ EngineDone place ∷ rest → HasEventFit state world (EngineDone place)
+engine-event-fits state world place rest fits is = (
+  engine_event world.lines.engine,
+  ap (λ (es : List Event). slice_get es 0) (fits.queues.texts ∙ ap (event_texts world 0) is),
+  by-retirement state world place rest state.retirement fits is refl (ap retired_places (sym is) ∙ fits.matched.retired),
+)

@@ -1,5 +1,0 @@
-use Rattle.bus_core.proofs.StepIsolation.{shared_step-isolated}
-use Rattle.bus_core.proofs.headline_laws.steps_isolated.Goals as goal
-
-pub returns : goal.returns
-returns c = shared_step-isolated

@@ -1,6 +1,0 @@
--- Each step keeps the order facts.
-use Rattle.bus_core.proofs.Ordered.{shared_step-ordered}
-use Rattle.bus_core.proofs.queue_laws.order_is_kept.Goals as goal
-
-pub returns : goal.returns
-returns c = shared_step-ordered

@@ -1,0 +1,8 @@
+-- A retirement begins, and the controller executes its commands.
+pub mod EngineCells
+pub mod EngineDue
+pub mod RetireFits
+pub mod EngineCellWrites
+pub mod EngineFits
+pub mod EngineSeen
+pub mod EngineStepped

@@ -1,0 +1,559 @@
+-- The controller executes the command of a retirement, with code 1, and that is the shared machine's step. Cited by the law of engines
+-- and by the answers of the bus.
+use Rattle.std.proofs.Common.{◌≡◌, ℕ, ◌+◌, ◌-◌, ◌<◌, ◌≤◌, Bool, true, false, ◌&&◌, cond, List, [], ◌∷◌, ◌++◌, length, map, Option, Some, None}
+use Rattle.std.proofs.Common.{option_map, refl, arith, ap, sym, subst, ◌∙◌}
+use Rattle.std.specs.Prelude.{nat_lt, nat_le, ◌==◌, slice_get, slice_set, IfSome}
+use Rattle.std.specs.Option.{option_map_or}
+use Rattle.std.proofs.lemmas.Bool.{false≢true, lt-ltb, le-leb, lt-leb, ltb-false, ne_eqb}
+use Rattle.std.proofs.lemmas.Option.{slice_get_past}
+use Rattle.xhci_trb.specs.declared.Trb.{Trb}
+use Rattle.xhci_trb.specs.declared.Trb.TheVariants.{SetDequeue}
+use Rattle.cycle_ring.specs.Ring.{Ring, cycle_of, front_of, pointer_of}
+use Rattle.cycle_ring.proofs.Names.{item_at-pointer_of}
+use Rattle.event_ring.specs.declared.Event.{Event}
+use Rattle.event_ring.specs.Events.{Events}
+use Rattle.event_ring.specs.declared.Event.TheVariants.{Command as CommandDone}
+use Rattle.uas_profile.specs.declared.Pipe.{Pipe}
+use Rattle.uas_profile.specs.declared.Pipe.TheVariants.{Command, Status, DataIn, DataOut}
+use Rattle.uas_profile.specs.Pipes.{HasStreams}
+use Rattle.stream_array.specs.Map.{HasRing, places_of}
+use Rattle.stream_array.specs.Rings.{IsLines, LinesState, ring_of, stream_ring, with_ring}
+use Rattle.stream_array.proofs.Frames.{ring_of_with_ring}
+use Rattle.uas_profile.specs.declared.Place.{Place}
+use Rattle.uas_host.specs.declared.HostEntry.{HostEntry}
+use Rattle.uas_profile.specs.Pipes.{target_of}
+use Rattle.uas_profile.specs.Pipes.{same_pipe}
+use Rattle.uas_host.specs.Retirement.{move_trb, stop_trb}
+use Rattle.uas_profile.specs.Places.{tag_of}
+use Rattle.xhci_ctl.specs.declared.Acted.{Acted}
+use Rattle.xhci_ctl.specs.declared.Acted.TheVariants.{Acted as ActedOn, Idle}
+use Rattle.uas_profile.specs.declared.TheConstants.{STREAMS, STREAM_ENTRIES, STREAM_RING_PLACES, ENGINE_RING_PLACES, MOST_DATA_TRBS, SLOT, SUCCESS, TRB_ERROR, CONTEXT_STATE_ERROR}
+use Rattle.xhci_ctl.specs.Engine.{commanded_pipe, dequeued_at, engine_acted, engine_consumed, engine_did, engine_front, executed, is_state, set_dequeue}
+use Rattle.uas_profile.specs.PipeStates.{stopped_pipe}
+use Rattle.xhci_ctl.specs.Engine.{stop_endpoint, stopped_on}
+use Rattle.xhci_ctl.specs.Pipes.{ControllerState, has_pending, is_running}
+use Rattle.xhci_ctl.specs.Steps.{has_event_room, posted}
+use Rattle.scsi_cmd.specs.Held.{held_at}
+use Rattle.frame_store.specs.Buffers.{held_for}
+use Rattle.shared_machine.specs.declared.Td.{Td}
+use Rattle.uas_profile.specs.declared.PipeState.{PipeState}
+use Rattle.shared_machine.specs.declared.Completion.TheVariants.{EngineDone}
+use Rattle.shared_machine.specs.declared.Retirement.{Retirement}
+use Rattle.shared_machine.specs.declared.RetirementStage.{RetirementStage}
+use Rattle.shared_machine.specs.declared.RetirementStage.TheVariants.{StopAsked, StopAnswered, MoveAsked, MoveAnswered}
+use Rattle.shared_machine.specs.declared.Step.TheVariants.{Engine as EngineStep}
+use Rattle.shared_machine.specs.Td.{Entry, has_trb_on, is_left_over_on, passed_on, passed_td, trbs_on}
+use Rattle.shared_machine.specs.Part.{Part, pass_act, passed_slot, stop_act, with_entry}
+use Rattle.shared_machine.specs.Shared.{Shared, acted_on, at_stage, engine_step, idle, is_asked, pipe_of, routed_to, shared_step, with_pipe}
+use Rattle.machine_invariant.specs.Matched.{IsMatched, IsRetiring, answered_place, answered_places, carried_places, is_passed, retired_places, same_place, under}
+use Rattle.machine_invariant.specs.Matched.{was_moved}
+use Rattle.bus_core.specs.World.{World, cell_at}
+use Rattle.bus_core.specs.Cells.{FitsCell, HoldsIn, HoldsTrbs, host_side, state_of}
+use Rattle.bus_core.specs.Fits.{Fits, FitsQueues, HoldsCommand, HoldsCommandOf, IsSoundWorld, command_trb, data_event, engine_event, event_texts}
+use Rattle.bus_core.specs.Fits.{host_retirement, place_in, status_event}
+use Rattle.bus_core.specs.WorldSteps.{EngineFits, EngineIsIdle, EnginesFit, engine_world}
+use Rattle.bus_core.proofs.common.ActFits.{IsPlaced, placed}
+use Rattle.bus_core.proofs.retire.EngineCells.{KeepsRings, ReadsAlike, WritesOne, carried-last, kept-fits, texts-alike, texts-last, with_ring-keeps, written-fits}
+use Rattle.bus_core.proofs.retire.EngineCellWrites.{IsLeftOn, StandsWith, cell-changed, cell_ring, left-on, left-unconsumed, length-td_trbs, ring-of-cell}
+use Rattle.bus_core.proofs.retire.EngineCellWrites.{stands-with, td_trbs, trbs_on-most, uncounted, uncounted-set, with_cell_ring}
+use Rattle.bus_core.proofs.retire.EngineDue.{engines-are-due}
+use Rattle.bus_core.proofs.common.CellWrites.{stream_ring-same}
+use Rattle.bus_core.proofs.carry.CommandFront.{event-room}
+use Rattle.bus_core.proofs.common.Framing.{SamePipes, ChangesCell, FitsPart-set}
+use Rattle.machine_invariant.proofs.MatchedSteps.{shared_step-matched}
+use Rattle.shared_machine.proofs.Standing.{slice_get-back}
+
+-- THE COMMAND IN FRONT
+
+-- the one command on the ring is the one in front
+front-is : (lines : LinesState) (trb : Trb) → has_event_room lines ≡ true → HoldsTrbs lines.engine (trb ∷ []) 0
+    → engine_front lines ≡ Some (pointer_of ENGINE_RING_PLACES lines.engine 0, trb)
+front-is lines trb room holds =
+    ap (λ b. cond b (front_of ENGINE_RING_PLACES lines.engine) None) room
+    ∙ ap (λ k. option_map (λ t. (pointer_of ENGINE_RING_PLACES lines.engine k, t)) (slice_get lines.engine.put k)) holds.1
+    ∙ ap (λ trbs. option_map (λ t. (pointer_of ENGINE_RING_PLACES lines.engine 0, t)) (slice_get trbs 0)) holds.0
+
+-- what comes of it with code 1
+acted-is : (controller now : ControllerState) (lines after : LinesState) (trb : Trb) → has_event_room lines ≡ true → HoldsTrbs lines.engine (trb ∷ []) 0
+    → executed (controller, lines) trb ≡ ((now, after), SUCCESS)
+    → engine_acted (controller, lines) ≡ ((now, posted (engine_consumed after) (engine_event lines.engine)), ActedOn 0)
+acted-is controller now lines after trb room holds does =
+    ap (λ front. option_map_or (engine_did (controller, lines)) front ((controller, lines), Idle)) (front-is lines trb room holds)
+    ∙ ap (λ (done : (ControllerState × LinesState) × ℕ). (
+      (
+        done.0.0,
+        posted (engine_consumed done.0.1)
+            (CommandDone (pointer_of ENGINE_RING_PLACES lines.engine 0) done.1 SLOT),
+      ),
+      ActedOn 0,
+    )) does
+
+commanded-is : (pipe : Pipe) → HasStreams pipe → commanded_pipe (target_of pipe) 1 ≡ Some pipe
+commanded-is Command streams = absurd streams
+commanded-is Status streams = refl
+commanded-is DataIn streams = refl
+commanded-is DataOut streams = refl
+
+-- STOP ENDPOINT
+
+stop-executed : (controller : ControllerState) (lines : LinesState) (pipe : Pipe) → HasStreams pipe → is_running controller pipe ≡ true
+    → executed (controller, lines) (stop_trb pipe) ≡ ((stopped_on controller pipe, lines), SUCCESS)
+stop-executed controller lines pipe streams runs =
+    ap (λ p. option_map_or (λ p. let done = stop_endpoint controller p in ((done.0, lines), done.1)) p ((controller, lines), TRB_ERROR))
+    (commanded-is pipe streams)
+    ∙ ap (λ b. let done = cond {A = ControllerState × ℕ} b (stopped_on controller pipe, SUCCESS) (controller, CONTEXT_STATE_ERROR) in
+    ((done.0, lines), done.1)) runs
+
+-- SET TR DEQUEUE POINTER
+
+is_state-self : (state : Bool) → is_state state state ≡ true
+is_state-self true = refl
+is_state-self false = refl
+
+-- a ring with its consumer's end at the enqueue place
+abbrev pub passed_ring : Ring → Ring
+passed_ring ring = record ring { got = length ring.put }
+
+dequeued-is : (n : ℕ) (ring : Ring) → 4 ≤ n → ring.got ≤ length ring.put → length ring.put < n - 1
+    → dequeued_at n ring (pointer_of n ring (length ring.put)) (cycle_of n ring (length ring.put)) ≡ Some (passed_ring ring)
+dequeued-is n ring places consumed room =
+    rw (
+      item_at-pointer_of n (length ring.put) ring places room,
+      le-leb ring.got (length ring.put) consumed,
+      le-leb (length ring.put) (length ring.put) (omega arith),
+      is_state-self (cycle_of n ring (length ring.put)),
+    ) refl
+
+places-some : (pipe : Pipe) → HasStreams pipe → (4 ≤ places_of pipe) × (STREAM_RING_PLACES ≤ places_of pipe)
+places-some Command streams = absurd streams
+places-some Status streams = (omega arith, omega arith)
+places-some DataIn streams = (omega arith, omega arith)
+places-some DataOut streams = (omega arith, omega arith)
+
+-- the command does what the controller's rule says of its pipe
+move-done : (controller : ControllerState) (lines : LinesState) (pipe : Pipe) (pointer tag : ℕ) (cycle : Bool) (done : LinesState × ℕ) → HasStreams pipe
+    → set_dequeue controller lines pipe tag pointer cycle ≡ done
+    → executed (controller, lines) (SetDequeue pointer cycle tag (target_of pipe) 1) ≡ ((controller, done.0), done.1)
+move-done controller lines pipe pointer tag cycle done streams does =
+    ap (λ p. option_map_or (λ p. let d = set_dequeue controller lines p tag pointer cycle in ((controller, d.0), d.1)) p ((controller, lines), TRB_ERROR))
+    (commanded-is pipe streams)
+    ∙ ap (λ (d : LinesState × ℕ). ((controller, d.0), d.1)) does
+
+move-executed : (controller : ControllerState) (lines : LinesState) (pipe : Pipe) (tag : ℕ) → HasStreams pipe → 1 ≤ tag → tag ≤ STREAMS
+    → is_running controller pipe ≡ false → (ring_of lines pipe tag).got ≤ length (ring_of lines pipe tag).put → length (ring_of lines pipe tag).put ≤ MOST_DATA_TRBS
+    → executed (controller, lines) (move_trb lines pipe tag) ≡ ((controller, with_ring lines pipe tag (passed_ring (ring_of lines pipe tag))), SUCCESS)
+move-executed controller lines pipe tag streams some most stopped consumed short =
+    let ring : Ring = ring_of lines pipe tag in
+    let n : ℕ = places_of pipe in
+    let places = places-some pipe streams in
+    let pointer : ℕ = pointer_of (places_of pipe) (ring_of lines pipe tag) (length (ring_of lines pipe tag).put) in
+    let cycle : Bool = cycle_of (places_of pipe) (ring_of lines pipe tag) (length (ring_of lines pipe tag).put) in
+    let there : dequeued_at (places_of pipe) (ring_of lines pipe tag) pointer cycle ≡ Some (passed_ring (ring_of lines pipe tag)) =
+    dequeued-is (places_of pipe) (ring_of lines pipe tag) places.0 consumed (omega (arith, short, places.1)) in
+    let past : nat_le STREAM_ENTRIES tag ≡ false = lt-leb STREAM_ENTRIES tag (omega arith) in
+    let none : (tag == 0) ≡ false = ne_eqb tag 0 (λ zero. omega (arith, zero, some)) in
+    let has : (nat_lt 0 tag && nat_le tag STREAMS) ≡ true = rw (lt-ltb 0 tag some, le-leb tag STREAMS most) refl in
+    let done : set_dequeue controller lines pipe tag pointer cycle ≡ (with_ring lines pipe tag (passed_ring (ring_of lines pipe tag)), SUCCESS) =
+    rw (none, past, stopped, has, there) refl in
+    move-done controller lines pipe pointer tag cycle (with_ring lines pipe tag (passed_ring (ring_of lines pipe tag)), SUCCESS) streams done
+
+-- THE STATE AFTER IT
+
+-- the retirement at a stage
+abbrev pub under_way : Pipe → Place → RetirementStage → Retirement
+under_way pipe place stage = record { pipe = pipe; place = place; stage = stage }
+
+pub same-pipes : (state : Shared) (world : World) → Fits state world → SamePipes world.controller state
+same-pipes state world fits = record { status = fits.status; data_in = fits.data_in; data_out = fits.data_out }
+
+stopped-pipes : (controller : ControllerState) (state : Shared) (pipe : Pipe) → SamePipes controller state
+    → SamePipes (stopped_on controller pipe) (with_pipe state pipe stopped_pipe)
+stopped-pipes controller state Command same = same
+stopped-pipes controller state Status same = record { status = refl; data_in = same.data_in; data_out = same.data_out }
+stopped-pipes controller state DataIn same = record { status = same.status; data_in = refl; data_out = same.data_out }
+stopped-pipes controller state DataOut same = record { status = same.status; data_in = same.data_in; data_out = refl }
+
+-- a pipe runs on both sides, or on neither
+running-same : (controller : ControllerState) (state : Shared) (pipe : Pipe) → SamePipes controller state
+    → is_running controller pipe ≡ (pipe_of state pipe).runs
+running-same controller state Command same = refl
+running-same controller state Status same = ap (λ (p : PipeState). p.runs) same.status
+running-same controller state DataIn same = ap (λ (p : PipeState). p.runs) same.data_in
+running-same controller state DataOut same = ap (λ (p : PipeState). p.runs) same.data_out
+
+-- what else there is of a state with another pipe
+pub record PipeApart (state : Shared) (pipe : Pipe) (now : PipeState) : Type 0 where
+  pub parts : (with_pipe state pipe now).parts ≡ state.parts
+  pub messages : (with_pipe state pipe now).messages ≡ state.messages
+  pub events : (with_pipe state pipe now).events ≡ state.events
+
+pub pipe-apart : (state : Shared) (pipe : Pipe) (now : PipeState) → PipeApart state pipe now
+pipe-apart state Command now = record { parts = refl; messages = refl; events = refl }
+pipe-apart state Status now = record { parts = refl; messages = refl; events = refl }
+pipe-apart state DataIn now = record { parts = refl; messages = refl; events = refl }
+pipe-apart state DataOut now = record { parts = refl; messages = refl; events = refl }
+
+-- the world after a command of the controller's own
+abbrev pub acted_world : World → ControllerState → LinesState → World
+acted_world world controller lines =
+    record world { controller = controller; lines = posted (engine_consumed lines) (engine_event world.lines.engine) }
+
+-- its event joins those that wait, behind all others
+acted-queues : (state now : Shared) (world after : World) (place : Place) → Fits state world → now.messages ≡ state.messages
+    → now.events ≡ state.events ++ EngineDone place ∷ [] → after.lines.command ≡ world.lines.command
+    → after.lines.events.pending ≡ world.lines.events.pending ++ engine_event world.lines.engine ∷ []
+    → engine_event after.lines.engine ≡ engine_event world.lines.engine → ReadsAlike world after state.events → FitsQueues now after
+acted-queues state now world after place fits messages events command pending same alike =
+    let carried : carried_places now.events ≡ carried_places state.events = ap carried_places events ∙ carried-last state.events place in
+    record {
+      put = ap (λ (r : Ring). r.put) command ∙ fits.queues.put ∙ ap (λ places. map command_trb (places ++ state.messages)) (sym carried)
+          ∙ ap (λ messages. map command_trb (carried_places now.events ++ messages)) (sym messages);
+      got = ap (λ (r : Ring). r.got) command ∙ fits.queues.got ∙ ap (λ (places : List Place). length places) (sym carried);
+      texts = pending ∙ ap (λ es. es ++ engine_event world.lines.engine ∷ []) (fits.queues.texts ∙ sym (texts-alike world after 0 state.events alike))
+          ∙ ap (λ e. event_texts after 0 state.events ++ e ∷ []) (sym same)
+          ∙ sym (texts-last after 0 state.events place) ∙ ap (event_texts after 0) (sym events);
+    }
+
+-- the pipe's own retirement is at this stage
+pub record IsUnderWay (state : Shared) (world : World) (pipe : Pipe) (place : Place) (stage : RetirementStage) : Type 0 where
+  pub is : state.retirement ≡ Some (under_way pipe place stage)
+  pub retiring : IsRetiring state (under_way pipe place stage)
+  pub entry : Entry
+  pub held : under state.parts place ≡ Some entry
+  pub left : is_left_over_on pipe entry ≡ true
+  pub at : IsPlaced state world place entry
+  pub commands : HoldsCommand world.lines pipe place stage
+  pub answered : retired_places state.events ≡ answered_place stage place
+  pub hosts : world.host.retirement ≡ Some (host_retirement (under_way pipe place stage))
+
+pub under-way : (state : Shared) (world : World) (pipe : Pipe) (place : Place) (stage : RetirementStage) → Fits state world
+    → state.retirement ≡ Some (under_way pipe place stage) → IsUnderWay state world pipe place stage
+under-way state world pipe place stage fits is =
+    let retiring : IsRetiring state (under_way pipe place stage) = subst (λ o. IfSome o (IsRetiring state)) is fits.matched.retiring in
+    let stands : StandsWith state place (is_left_over_on pipe) = stands-with state place (is_left_over_on pipe) retiring.left in
+    record {
+      is = is;
+      retiring = retiring;
+      entry = stands.entry;
+      held = stands.held;
+      left = stands.so;
+      at = placed state world place stands.entry fits stands.held;
+      commands = subst (HoldsCommandOf world.lines) is fits.engine.commands;
+      answered = fits.matched.retired ∙ ap answered_places is;
+      hosts = fits.engine.retirement ∙ ap (option_map host_retirement) is;
+    }
+
+-- STOP ENDPOINT: NO CELL CHANGES
+
+abbrev stopped_state : Shared → Pipe → Place → Part → Shared
+stopped_state state pipe place part =
+    (acted_on (at_stage (with_pipe state pipe stopped_pipe) (under_way pipe place StopAsked) StopAnswered) place.client (stop_act place part)).0
+
+stop-stepped : (state : Shared) (pipe : Pipe) (place : Place) (part : Part) → state.retirement ≡ Some (under_way pipe place StopAsked)
+    → slice_get state.parts place.client ≡ Some part → (shared_step state EngineStep).0 ≡ stopped_state state pipe place part
+stop-stepped state pipe place part is there =
+    ap (λ o. (cond (option_map_or (λ (r : Retirement). is_asked r.stage) o false) (engine_step state o) (state, idle)).0) is
+    ∙ ap (λ found. (routed_to (at_stage (with_pipe state pipe stopped_pipe) (under_way pipe place StopAsked) StopAnswered) place.client (stop_act place)
+    found).0)
+    (ap (λ parts. slice_get parts place.client) (pipe-apart state pipe stopped_pipe).parts ∙ there)
+
+stop-fits : (state : Shared) (world : World) (pipe : Pipe) (place : Place) → (at : IsUnderWay state world pipe place StopAsked) → Fits state world
+    → IsMatched (stopped_state state pipe place at.at.part) → IsSoundWorld (acted_world world (stopped_on world.controller pipe) world.lines)
+    → Fits (stopped_state state pipe place at.at.part) (acted_world world (stopped_on world.controller pipe) world.lines)
+stop-fits state world pipe place at fits matched sound =
+    let apart : PipeApart state pipe stopped_pipe = pipe-apart state pipe stopped_pipe in
+    let after : World = acted_world world (stopped_on world.controller pipe) world.lines in
+    let pipes : SamePipes (stopped_on world.controller pipe) (with_pipe state pipe stopped_pipe) =
+    stopped-pipes world.controller state pipe (same-pipes state world fits) in
+    kept-fits state (stopped_state state pipe place at.at.part) world after fits
+    (record { hosts = refl; device = refl; frames = refl; status = refl; data_in = refl; data_out = refl })
+    (ap (λ parts. slice_set parts place.client at.at.part) apart.parts ∙ slice_get-back state.parts place.client at.at.part at.at.there)
+    (record { status = pipes.status; data_in = pipes.data_in; data_out = pipes.data_out })
+    (acted-queues state (stopped_state state pipe place at.at.part) world after place fits apart.messages
+    (ap (λ events. events ++ EngineDone place ∷ []) apart.events)
+    refl refl refl (record { none = at.answered; command_base = refl; moved = λ other some. refl; sent = λ other some. refl }))
+    (record { retirement = at.hosts; commands = (at.commands.0, ap (λ taken. taken + 1) at.commands.1) }) matched sound
+
+-- SET TR DEQUEUE POINTER: THE TD'S RING IS PASSED
+
+abbrev moved_state : Shared → Pipe → Place → Part → Entry → Shared
+moved_state state pipe place part entry = record state {
+  retirement = Some (under_way pipe place MoveAnswered);
+  parts = slice_set state.parts place.client (with_entry part place.slot (passed_on pipe entry));
+  events = state.events ++ EngineDone place ∷ [];
+}
+
+move-stepped : (state : Shared) (pipe : Pipe) (place : Place) (part : Part) (entry : Entry) → state.retirement ≡ Some (under_way pipe place MoveAsked)
+    → slice_get state.parts place.client ≡ Some part → held_at part.entries place.slot ≡ Some entry
+    → (shared_step state EngineStep).0 ≡ moved_state state pipe place part entry
+move-stepped state pipe place part entry is there held =
+    ap (λ o. (cond (option_map_or (λ (r : Retirement). is_asked r.stage) o false) (engine_step state o) (state, idle)).0) is
+    ∙ ap (λ found. (routed_to (at_stage state (under_way pipe place MoveAsked) MoveAnswered) place.client (pass_act pipe place) found).0) there
+    ∙ ap (λ found. (acted_on (at_stage state (under_way pipe place MoveAsked) MoveAnswered) place.client (passed_slot pipe part place found)).0) held
+
+abbrev moved_world : World → Pipe → Place → World
+moved_world world pipe place =
+    acted_world world world.controller (with_ring world.lines pipe (tag_of place) (passed_ring (ring_of world.lines pipe (tag_of place))))
+
+-- only what is consumed of a ring differs
+record AreAlike (before after : LinesState) : Type 0 where
+  engine : after.engine ≡ before.engine
+  command : after.command ≡ before.command
+  events : after.events ≡ before.events
+  status : (tag : ℕ) → uncounted (stream_ring after.status tag) ≡ uncounted (stream_ring before.status tag)
+  data_in : (tag : ℕ) → uncounted (stream_ring after.data_in tag) ≡ uncounted (stream_ring before.data_in tag)
+  data_out : (tag : ℕ) → uncounted (stream_ring after.data_out tag) ≡ uncounted (stream_ring before.data_out tag)
+
+uncounted-passed : (rings : List Ring) (tag other : ℕ)
+    → uncounted (stream_ring (slice_set rings (tag - 1) (passed_ring (stream_ring rings tag))) other) ≡ uncounted (stream_ring rings other)
+uncounted-passed rings tag other = uncounted-set rings (tag - 1) (other - 1) (length (stream_ring rings tag).put)
+
+passed-alike : (lines : LinesState) (pipe : Pipe) (tag : ℕ) → HasStreams pipe
+    → AreAlike lines (with_ring lines pipe tag (passed_ring (ring_of lines pipe tag)))
+passed-alike lines Command tag streams = absurd streams
+passed-alike lines Status tag streams =
+    record { engine = refl; command = refl; events = refl; status = uncounted-passed lines.status tag; data_in = λ other. refl; data_out = λ other. refl }
+passed-alike lines DataIn tag streams =
+    record { engine = refl; command = refl; events = refl; status = λ other. refl; data_in = uncounted-passed lines.data_in tag; data_out = λ other. refl }
+passed-alike lines DataOut tag streams =
+    record { engine = refl; command = refl; events = refl; status = λ other. refl; data_in = λ other. refl; data_out = uncounted-passed lines.data_out tag }
+
+moved-reads : (state : Shared) (world : World) (pipe : Pipe) (place : Place) → HasStreams pipe → retired_places state.events ≡ []
+    → ReadsAlike world (moved_world world pipe place) state.events
+moved-reads state world pipe place streams none =
+    let alike = passed-alike world.lines pipe (tag_of place) streams in
+    let after : LinesState = (moved_world world pipe place).lines in
+    record {
+      none = none;
+      command_base = alike.command;
+      moved = λ other some.
+          ap (λ (ring : Ring). data_event ring (stream_ring after.data_out (tag_of other))) (alike.data_in (tag_of other))
+          ∙ ap (λ (ring : Ring). data_event (stream_ring world.lines.data_in (tag_of other)) ring) (alike.data_out (tag_of other));
+      sent = λ other some. ap (λ (ring : Ring). status_event other.slot ring (held_for world.frames (tag_of other)).status) (alike.status (tag_of other));
+    }
+
+-- the TD as it stands on that ring, with a TRB that the controller may take
+record IsPassable (world : World) (pipe : Pipe) (place : Place) (entry : Entry) : Type 0 where
+  put : (ring_of world.lines pipe (tag_of place)).put ≡ td_trbs pipe (tag_of place) entry
+  consumed : (ring_of world.lines pipe (tag_of place)).got ≤ length (ring_of world.lines pipe (tag_of place)).put
+  count : length (ring_of world.lines pipe (tag_of place)).put ≡ trbs_on pipe entry
+  short : length (ring_of world.lines pipe (tag_of place)).put ≤ MOST_DATA_TRBS
+
+and-false : (a b : Bool) → (a && (b && false)) ≡ false
+and-false true true = refl
+and-false true false = refl
+and-false false b = refl
+
+passable : (state : Shared) (world : World) (pipe : Pipe) (place : Place) (at : IsUnderWay state world pipe place MoveAsked) → Fits state world
+    → IsPassable world pipe place at.entry
+passable state world pipe place at fits =
+    let left : IsLeftOn pipe (tag_of place) at.entry (cell_ring pipe (cell_at world place)) =
+    left-on place.client at.at.part.unit.count pipe place at.entry (cell_at world place) at.at.cell at.left in
+    let same = ring-of-cell world pipe place at.retiring.streams in
+    let unpassed : is_passed state pipe place ≡ false =
+    ap (λ o. option_map_or (λ (r : Retirement). same_pipe r.pipe pipe && (same_place r.place place && was_moved r.stage)) o false) at.is
+    ∙ and-false (same_pipe pipe pipe) (same_place place place) in
+    let has : has_trb_on pipe at.entry ≡ true =
+    ap (λ o. option_map_or (has_trb_on pipe) o false) (sym at.held) ∙ (fits.matched.flows pipe place).left unpassed at.retiring.left in
+    let some : left.td.consumed < trbs_on pipe at.entry = left-unconsumed pipe at.entry left.td left.on has in
+    let put = ap (λ (r : Ring). r.put) same ∙ left.holds.0 in
+    let got = ap (λ (r : Ring). r.got) same ∙ left.holds.1 in
+    let count = ap (λ (ts : List Trb). length ts) put ∙ length-td_trbs pipe (tag_of place) at.entry at.retiring.streams in
+    record {
+      put = put;
+      consumed = omega (arith, got, some, count);
+      count = count;
+      short = omega (arith, count, trbs_on-most pipe at.entry at.at.matched.here.sound.small);
+    }
+
+-- the tag is one of a stream
+pub tag-streams : (state : Shared) (world : World) (pipe : Pipe) (place : Place) (stage : RetirementStage) (at : IsUnderWay state world pipe place stage)
+    → Fits state world → (1 ≤ tag_of place) × (tag_of place ≤ STREAMS)
+tag-streams state world pipe place stage at fits =
+    (omega arith, omega (arith, at.at.is_place.client, at.at.is_place.slot, fits.most_clients))
+
+-- the host's side of the entry is the same
+passed-states : (trbs : ℕ) (td : Option Td) → option_map state_of (option_map (passed_td trbs) td) ≡ option_map state_of td
+passed-states trbs None = refl
+passed-states trbs (Some td) = refl
+
+passed-side : (pipe : Pipe) (entry : Entry) → host_side (passed_on pipe entry) ≡ host_side entry
+passed-side Command entry = refl
+passed-side Status entry = refl
+passed-side DataIn entry = ap (λ states. record (host_side entry) { data_td = states }) (passed-states (trbs_on DataIn entry) entry.data_td)
+passed-side DataOut entry = ap (λ states. record (host_side entry) { data_td = states }) (passed-states (trbs_on DataOut entry) entry.data_td)
+
+moved-here : (world : World) (pipe : Pipe) (place : Place) → IsLines world.lines → tag_of place ≤ STREAMS → HasStreams pipe
+    → cell_at (moved_world world pipe place) place
+    ≡ record (with_cell_ring pipe (cell_at world place) (passed_ring (ring_of world.lines pipe (tag_of place)))) { held = (cell_at world place).held }
+moved-here world Command place lines most streams = absurd streams
+moved-here world Status place lines most streams =
+    ap (λ ring. record (cell_at world place) { status = ring })
+    (stream_ring-same world.lines.status (tag_of place) (passed_ring (stream_ring world.lines.status (tag_of place))) (omega arith)
+    (omega (arith, most, lines.status)))
+moved-here world DataIn place lines most streams =
+    ap (λ ring. record (cell_at world place) { data_in = ring })
+    (stream_ring-same world.lines.data_in (tag_of place) (passed_ring (stream_ring world.lines.data_in (tag_of place))) (omega arith)
+    (omega (arith, most, lines.data_in)))
+moved-here world DataOut place lines most streams =
+    ap (λ ring. record (cell_at world place) { data_out = ring })
+    (stream_ring-same world.lines.data_out (tag_of place) (passed_ring (stream_ring world.lines.data_out (tag_of place))) (omega arith)
+    (omega (arith, most, lines.data_out)))
+
+moved-cell : (state : Shared) (world : World) (pipe : Pipe) (place : Place) (at : IsUnderWay state world pipe place MoveAsked) → Fits state world
+    → FitsCell place.client at.at.part.unit.count place (passed_on pipe at.entry) (cell_at (moved_world world pipe place) place)
+moved-cell state world pipe place at fits =
+    let ring : Ring = passed_ring (ring_of world.lines pipe (tag_of place)) in
+    let able = passable state world pipe place at fits in
+    let tag = tag-streams state world pipe place MoveAsked at fits in
+    subst (λ c. FitsCell place.client at.at.part.unit.count place (passed_on pipe at.entry) c)
+    (sym (moved-here world pipe place fits.sound.lines tag.1 at.retiring.streams))
+    (cell-changed place.client at.at.part.unit.count pipe place at.entry (cell_at world place) (passed_td (trbs_on pipe at.entry)) ring
+    (cell_at world place).held at.at.cell at.left
+    (λ td on left. subst (HoldsIn ring (td_trbs pipe (tag_of place) at.entry) (trbs_on pipe at.entry)) (sym left) (able.put, able.count))
+    (at.at.cell.held ∙ ap (λ (h : HostEntry). Some h) (sym (passed-side pipe at.entry))))
+
+moved-writes : (state : Shared) (world : World) (pipe : Pipe) (place : Place) (at : IsUnderWay state world pipe place MoveAsked) → Fits state world
+    → WritesOne state (moved_state state pipe place at.at.part at.entry) world (moved_world world pipe place) place at.at.part.unit at.at.client.held
+    (with_entry at.at.part place.slot (passed_on pipe at.entry))
+moved-writes state world pipe place at fits =
+    let keeps : KeepsRings world.lines (with_ring world.lines pipe (tag_of place) (passed_ring (ring_of world.lines pipe (tag_of place)))) place =
+    with_ring-keeps world.lines pipe place (passed_ring (ring_of world.lines pipe (tag_of place))) in
+    let changes : ChangesCell world (moved_world world pipe place) place.client place.slot at.at.client.held at.at.part.unit = record {
+      hosts = sym (slice_get-back world.host.clients place.client at.at.client.held at.at.client.held_is);
+      units = sym (slice_get-back world.device.units place.client at.at.part.unit at.at.client.unit_is);
+      others = λ other slot inside apart.
+          let status = keeps.status (tag_of (place_in other slot)) (omega arith) apart in
+          let data_in = keeps.data_in (tag_of (place_in other slot)) (omega arith) apart in
+          let data_out = keeps.data_out (tag_of (place_in other slot)) (omega arith) apart in
+          λ i. record (cell_at world (place_in other slot)) { status = status i; data_in = data_in i; data_out = data_out i };
+    } in
+    record {
+      parts = refl;
+      changes = changes;
+      device = refl;
+      rings = record { status = keeps.status; data_in = keeps.data_in; data_out = keeps.data_out };
+      client = FitsPart-set world (moved_world world pipe place) place.client place.slot at.at.part.unit at.at.part.unit at.at.client.held at.at.client.held
+          at.at.part (Some (passed_on pipe at.entry)) at.at.part.least_ticket at.at.part.ready at.at.client.fits at.at.is_place.slot changes refl
+          at.at.client.fits.least_ticket at.at.client.fits.ready (moved-cell state world pipe place at fits);
+    }
+
+-- the command names the same place
+ring_of-acted : (lines : LinesState) (event : Event) (pipe : Pipe) (stream : ℕ) → ring_of (posted (engine_consumed lines) event) pipe stream
+    ≡ ring_of lines pipe stream
+ring_of-acted lines event Command stream = refl
+ring_of-acted lines event Status stream = refl
+ring_of-acted lines event DataIn stream = refl
+ring_of-acted lines event DataOut stream = refl
+
+pub streams-ring : (pipe : Pipe) (stream : ℕ) → HasStreams pipe → 1 ≤ stream → stream ≤ STREAMS → HasRing pipe stream
+streams-ring Command stream has first last = absurd has
+streams-ring Status stream has first last = (omega arith, omega arith)
+streams-ring DataIn stream has first last = (omega arith, omega arith)
+streams-ring DataOut stream has first last = (omega arith, omega arith)
+
+-- the command by the ring that it is of
+abbrev move_by : Pipe → ℕ → Ring → Trb
+move_by pipe tag ring =
+    SetDequeue (pointer_of (places_of pipe) ring (length ring.put)) (cycle_of (places_of pipe) ring (length ring.put)) tag (target_of pipe) 1
+
+moved-names : (world : World) (pipe : Pipe) (place : Place) → IsLines world.lines → HasStreams pipe → tag_of place ≤ STREAMS
+    → move_trb (moved_world world pipe place).lines pipe (tag_of place) ≡ move_trb world.lines pipe (tag_of place)
+moved-names world pipe place lines streams most =
+    let ring : Ring = passed_ring (ring_of world.lines pipe (tag_of place)) in
+    let is : ring_of (moved_world world pipe place).lines pipe (tag_of place) ≡ passed_ring (ring_of world.lines pipe (tag_of place)) =
+    ring_of-acted (with_ring world.lines pipe (tag_of place) (passed_ring (ring_of world.lines pipe (tag_of place)))) (engine_event world.lines.engine) pipe
+    (tag_of place)
+    ∙ ring_of_with_ring world.lines pipe (tag_of place) (passed_ring (ring_of world.lines pipe (tag_of place))) lines
+    (streams-ring pipe (tag_of place) streams (omega arith) most) in
+    ap (move_by pipe (tag_of place)) is
+
+move-fits : (state : Shared) (world : World) (pipe : Pipe) (place : Place) → (at : IsUnderWay state world pipe place MoveAsked) → Fits state world
+    → IsMatched (moved_state state pipe place at.at.part at.entry) → IsSoundWorld (moved_world world pipe place)
+    → Fits (moved_state state pipe place at.at.part at.entry) (moved_world world pipe place)
+move-fits state world pipe place at fits matched sound =
+    let after : World = moved_world world pipe place in
+    let now : Shared = moved_state state pipe place at.at.part at.entry in
+    let tag = tag-streams state world pipe place MoveAsked at fits in
+    let alike = passed-alike world.lines pipe (tag_of place) at.retiring.streams in
+    let event = engine_event world.lines.engine in
+    written-fits state now world after place at.at.part at.at.part.unit at.at.client.held (with_entry at.at.part place.slot (passed_on pipe at.entry)) fits
+    at.at.there at.at.is_place (moved-writes state world pipe place at fits)
+    (record { status = fits.status; data_in = fits.data_in; data_out = fits.data_out })
+    (acted-queues state now world after place fits refl refl alike.command
+    (ap (λ (es : Events). es.pending ++ engine_event world.lines.engine ∷ []) alike.events)
+    (ap engine_event alike.engine) (moved-reads state world pipe place at.retiring.streams at.answered))
+    (record {
+      retirement = at.hosts;
+      commands = (
+        ap (λ (r : Ring). r.put) alike.engine ∙ at.commands.0
+            ∙ ap (λ trb. trb ∷ []) (sym (moved-names world pipe place fits.sound.lines at.retiring.streams tag.1)),
+        ap (λ (r : Ring). r.got + 1) alike.engine ∙ ap (λ taken. taken + 1) at.commands.1,
+      );
+    }) matched sound
+
+-- THE STEP
+
+-- the world with what a step of the command ring made
+abbrev world_with : World → (ControllerState × LinesState) × Acted → World
+world_with world did = record world { controller = did.0.0; lines = did.0.1 }
+
+engine-done : (state now : Shared) (world : World) (controller : ControllerState) (lines : LinesState) → Fits state world
+    → (shared_step state EngineStep).0 ≡ now
+    → engine_acted (world.controller, world.lines) ≡ ((controller, posted (engine_consumed lines) (engine_event world.lines.engine)), ActedOn 0)
+    → (IsMatched now → IsSoundWorld (acted_world world controller lines) → Fits now (acted_world world controller lines)) → EngineFits state world
+engine-done state now world controller lines fits stepped does fit = record {
+  acted = ap (λ (a : (ControllerState × LinesState) × Acted). a.1) does;
+  fits = λ sound.
+      subst (λ s. Fits s (engine_world world)) (sym stepped)
+      (subst (λ a. Fits now (world_with world a)) (sym does)
+      (fit (subst IsMatched stepped (shared_step-matched state EngineStep fits.matched)) (subst (λ a. IsSoundWorld (world_with world a)) does sound)));
+}
+
+by-stage : (state : Shared) (world : World) (pipe : Pipe) (place : Place) (stage : RetirementStage) → Fits state world
+    → state.retirement ≡ Some (under_way pipe place stage) → is_asked stage ≡ true → EngineFits state world
+by-stage state world pipe place StopAsked fits is asked =
+    let at : IsUnderWay state world pipe place StopAsked = under-way state world pipe place StopAsked fits is in
+    engine-done state (stopped_state state pipe place at.at.part) world (stopped_on world.controller pipe) world.lines fits
+    (stop-stepped state pipe place at.at.part is at.at.there)
+    (acted-is world.controller (stopped_on world.controller pipe) world.lines world.lines (stop_trb pipe) (event-room state world fits) at.commands
+    (stop-executed world.controller world.lines pipe at.retiring.streams
+    (running-same world.controller state pipe (same-pipes state world fits) ∙ at.retiring.stage fits.most_clients)))
+    (λ matched sound. stop-fits state world pipe place at fits matched sound)
+by-stage state world pipe place StopAnswered fits is asked = absurd (false≢true asked)
+by-stage state world pipe place MoveAsked fits is asked =
+    let at : IsUnderWay state world pipe place MoveAsked = under-way state world pipe place MoveAsked fits is in
+    let tag = tag-streams state world pipe place MoveAsked at fits in
+    let able : IsPassable world pipe place at.entry = passable state world pipe place at fits in
+    engine-done state (moved_state state pipe place at.at.part at.entry) world world.controller
+    (with_ring world.lines pipe (tag_of place) (passed_ring (ring_of world.lines pipe (tag_of place)))) fits
+    (move-stepped state pipe place at.at.part at.entry is at.at.there at.at.held)
+    (acted-is world.controller world.controller world.lines (with_ring world.lines pipe (tag_of place) (passed_ring (ring_of world.lines pipe (tag_of place))))
+    (move_trb world.lines pipe (tag_of place)) (event-room state world fits) at.commands
+    (move-executed world.controller world.lines pipe (tag_of place) at.retiring.streams tag.0 tag.1
+    (running-same world.controller state pipe (same-pipes state world fits) ∙ at.retiring.stage) able.consumed able.short))
+    (λ matched sound. move-fits state world pipe place at fits matched sound)
+by-stage state world pipe place MoveAnswered fits is asked = absurd (false≢true asked)
+
+by-retirement : (state : Shared) (world : World) (retirement : Option Retirement) → Fits state world
+    → state.retirement ≡ retirement → option_map_or (λ (r : Retirement). is_asked r.stage) retirement false ≡ true → EngineFits state world
+by-retirement state world None fits is asked = absurd (false≢true asked)
+by-retirement state world (Some retirement) fits is asked =
+    by-stage state world retirement.pipe retirement.place retirement.stage fits is asked
+
+pub engines-fit : EnginesFit
+engines-fit state world fits is_due = by-retirement state world state.retirement fits refl is_due
+
+pub engine-is-idle : EngineIsIdle
+engine-is-idle state world fits undue =
+    let none : has_pending world.lines.engine ≡ false = sym (engines-are-due state world fits) ∙ undue in
+    let front : front_of ENGINE_RING_PLACES world.lines.engine ≡ None =
+    ap (λ found. option_map (λ t. (pointer_of ENGINE_RING_PLACES world.lines.engine world.lines.engine.got, t)) found)
+    (slice_get_past world.lines.engine.put world.lines.engine.got (ltb-false world.lines.engine.got (length world.lines.engine.put) none)) in
+    ap (λ f. option_map_or (engine_did (world.controller, world.lines)) (cond (has_event_room world.lines) f None) ((world.controller, world.lines), Idle))
+    front
+    ∙ ap (λ f. option_map_or (engine_did (world.controller, world.lines)) f ((world.controller, world.lines), Idle)) (none-either (has_event_room world.lines))
+  where
+    none-either : (b : Bool) → cond {A = Option (ℕ × Trb)} b None None ≡ None
+    none-either true = refl
+    none-either false = refl

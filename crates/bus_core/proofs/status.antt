@@ -1,0 +1,2 @@
+-- The controller moves a status.
+pub mod StatusFits

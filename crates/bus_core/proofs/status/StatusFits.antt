@@ -1,0 +1,503 @@
+-- A step of a status stream: the device hands over the answer to a request that has ended, the Sense unit of a command or the Response
+-- unit of a task management. Cited by the law statuses_fit, by what is due, and by the steps of the bus.
+use Rattle.std.proofs.Common.{◌≡◌, ℕ, ◌+◌, ◌-◌, ◌<◌, ◌≤◌, Bool, true, false, ◌&&◌, cond, List, [], ◌∷◌, ◌++◌, take, drop, length, map, Option, Some, None}
+use Rattle.std.proofs.Common.{option_map, refl, arith, ap, sym, subst, ◌∙◌, inr}
+use Rattle.std.specs.Prelude.{nat_lt, slice_get, option_and_then, IfSome}
+use Rattle.std.specs.Option.{option_map_or}
+use Rattle.std.proofs.Math.Seq.{take-append_seam}
+use Rattle.std.proofs.lemmas.Bool.{eq-eqb, lt-ltb, le-leb, ne_eqb, and_parts}
+use Rattle.std.proofs.lemmas.List.{append-nil, get_or-set_same, get_or-set_other}
+use Rattle.xhci_trb.specs.declared.Trb.TheVariants.{Normal}
+use Rattle.cycle_ring.specs.Ring.{Ring, pointer_of, front_of, opening}
+use Rattle.event_ring.specs.declared.Event.{Event}
+use Rattle.event_ring.specs.declared.Event.TheVariants.{Transfer}
+use Rattle.uas_profile.specs.declared.TheConstants.{TAGS, TASK_SLOT, GREATEST_TAG, STREAMS, STREAM_RING_PLACES, STATUS_BYTES, SLOT, SHORT_PACKET}
+use Rattle.uas_profile.specs.declared.Pipe.TheVariants.{Command, Status, DataIn, DataOut}
+use Rattle.stream_array.specs.Contexts.{has_stream}
+use Rattle.stream_array.specs.Rings.{stream_ring}
+use Rattle.frame_store.specs.declared.TagBuffers.{TagBuffers}
+use Rattle.frame_store.specs.declared.Buffer.TheVariants.{Status as StatusBuffer}
+use Rattle.frame_store.specs.Splice.{spliced}
+use Rattle.frame_store.specs.Buffers.{IsWhole, Names, held_for, no_buffers, with_held, written, front_of as front_byte}
+use Rattle.frame_store.proofs.FramesLaws.{written-named}
+use Rattle.scsi_cmd.specs.Buffers.{with_bytes_at}
+use Rattle.scsi_cmd.specs.Laws.{written_at-fits}
+use Rattle.scsi_cmd.proofs.Buffers.{filled-written_at}
+use Rattle.uas_profile.specs.declared.Direction.{Direction}
+use Rattle.uas_profile.specs.declared.Direction.TheVariants.{Nothing, ToHost, ToDevice}
+use Rattle.scsi_cmd.specs.Op.{direction_of, moved_bytes}
+use Rattle.device_server.specs.Server.{chunk_bytes, status_of, sense_of}
+use Rattle.scsi_cmd.specs.declared.Request.{Request}
+use Rattle.scsi_cmd.specs.declared.Request.TheVariants.{Execute, Manage}
+use Rattle.scsi_cmd.specs.Held.{held_at}
+use Rattle.device_server.specs.declared.Answer.{Answer}
+use Rattle.device_server.specs.declared.Answer.TheVariants.{Good, Check}
+use Rattle.device_server.specs.declared.Progress.TheVariants.{Moving, Ended}
+use Rattle.solo_model.specs.declared.Phase.{Phase}
+use Rattle.solo_model.specs.declared.Phase.TheVariants.{Queued, Begun, Sent, Gone}
+use Rattle.solo_model.specs.Soundness.{IsSoundRequest}
+use Rattle.uas_iu.specs.declared.Iu.{Iu}
+use Rattle.uas_iu.specs.declared.Iu.TheVariants.{Response as ResponseIu, Sense as SenseIu}
+use Rattle.uas_iu.specs.Units.{unit_text}
+use Rattle.uas_target.specs.declared.DeviceTask.{DeviceTask}
+use Rattle.uas_target.specs.declared.Phase.{Phase as Wants}
+use Rattle.uas_target.specs.declared.Phase.TheVariants.{Absent, Gives, Takes, Ends}
+use Rattle.uas_target.specs.Device.{answered, task_of, wanted, without_task}
+use Rattle.uas_target.specs.Tasks.{wanted_way, task_answer, task_wants}
+use Rattle.uas_profile.specs.declared.Place.{Place}
+use Rattle.uas_profile.specs.Places.{place_of, tag_of}
+use Rattle.uas_host.specs.Tds.{status_buffer_of, status_td}
+use Rattle.xhci_ctl.specs.declared.Acted.{Acted}
+use Rattle.xhci_ctl.specs.declared.Acted.TheVariants.{Acted as ActedOn, Idle}
+use Rattle.xhci_ctl.specs.Own.{IsOwnStatus, IsOwnStatusFront}
+use Rattle.uas_profile.specs.PipeStates.{is_open}
+use Rattle.xhci_ctl.specs.Pipes.{ControllerState, has_pending, is_armed}
+use Rattle.xhci_ctl.specs.Steps.{Sides, completed, endpoint_of, on_front, room_front, sent_as, sent_at, sent_by}
+use Rattle.shared_machine.specs.declared.Completion.TheVariants.{StatusDone}
+use Rattle.shared_machine.specs.declared.Step.TheVariants.{Status as StatusStep}
+use Rattle.shared_machine.specs.Td.{Entry, has_trb, pushed, with_trb_taken}
+use Rattle.bus_core.specs.Wire.{answer_text}
+use Rattle.bus_core.specs.Hosts.{begun_task, device_task, phase_task}
+use Rattle.shared_machine.specs.Part.{Part}
+use Rattle.shared_machine.specs.Shared.{Shared, due, due_step, idle, is_ended, shared_step, status_is_due}
+use Rattle.machine_invariant.specs.Matched.{carried_places, status_events, IsMatched, IsPhaseOf, IsRequestIn, IsStatusTd}
+use Rattle.bus_core.specs.World.{World, Cell, cell_at, sides_in, with_sides}
+use Rattle.bus_core.specs.Cells.{FitsCell, HoldsTd, HoldsTrbs, host_side, told_by, told_sent}
+use Rattle.bus_core.specs.Fits.{Fits, FitsQueues, IsSoundWorld, command_trb, event_texts, place_in, status_event, unit_len}
+use Rattle.bus_core.specs.WorldSteps.{StatusesFit, StatusFits, StatusIsIdle, status_world}
+use Rattle.bus_core.specs.WorldDue.{StatusesAreDue, status_due_by}
+use Rattle.bus_core.proofs.common.ActFits.{IsPlaced, placed, IsActed, acted_state, acted-fits, place_of-tag, by-tag}
+use Rattle.bus_core.proofs.carry.CommandFits.{event-room}
+use Rattle.bus_core.proofs.common.EventTexts.{KeepsOthers, carried_places-append, event_texts-append, event_texts-one}
+use Rattle.bus_core.proofs.common.Framing.{EndsStay}
+use Rattle.machine_invariant.proofs.MatchedEntries.{sent_to}
+use Rattle.machine_invariant.proofs.MatchedNext.{matched-no_status_event}
+use Rattle.machine_invariant.proofs.MatchedSteps.{IsDueAt, place_fact-due, IsEndedBy, ended_phase, send_step-held, shared_step-matched}
+use Rattle.shared_machine.proofs.Standing.{held_under-with_same, held_under-with_other, slice_get-back}
+
+-- THE UNIT OF AN ANSWER
+
+-- of a command a Sense unit, of a task management the Response unit with COMPLETE
+abbrev pub answer_unit : ℕ → Request → Answer → Iu
+answer_unit tag (Execute op) answer = SenseIu tag (status_of answer) (record { items = sense_of answer })
+answer_unit tag (Manage what noted) answer = ResponseIu tag 0
+
+pub answer-unit : (tag : ℕ) (request : Request) (answer : Answer) → answer_text tag request answer ≡ unit_text (answer_unit tag request answer)
+answer-unit tag (Execute op) answer = refl
+answer-unit tag (Manage what noted) answer = refl
+
+pub answer-most : (tag : ℕ) (request : Request) (answer : Answer) → length (answer_text tag request answer) ≤ STATUS_BYTES
+unfolding unit_text
+answer-most tag (Execute op) Good = omega arith
+answer-most tag (Execute op) (Check sense) = omega arith
+answer-most tag (Manage what noted) answer = omega arith
+
+-- byte 15 of a status buffer that begins with a Sense unit tells its length, and a Response unit, of the last slot, has 8 bytes
+pub answer-len : (tag slot : ℕ) (request : Request) (answer : Answer) (bytes : List ℕ) → IsRequestIn slot request
+    → unit_len slot (with_bytes_at bytes 0 (answer_text tag request answer)) ≡ length (answer_text tag request answer)
+unfolding unit_text with_bytes_at
+answer-len tag slot (Execute op) Good bytes asks =
+    ap (λ b. cond b 8 16) (ne_eqb slot TASK_SLOT (λ same. omega (arith, asks, same)))
+answer-len tag slot (Execute op) (Check sense) bytes asks =
+    ap (λ b. cond b 8 34) (ne_eqb slot TASK_SLOT (λ same. omega (arith, asks, same)))
+answer-len tag slot (Manage what noted) answer bytes asks =
+    ap (λ b. cond b 8 (unit_len 0 (with_bytes_at bytes 0 (answer_text tag (Manage what noted) answer)))) (eq-eqb slot TASK_SLOT asks)
+
+pub text-begins : (bytes text : List ℕ) → take (length text) (with_bytes_at bytes 0 text) ≡ text
+unfolding with_bytes_at
+text-begins bytes text = take-append_seam text (drop (0 + length text) bytes)
+
+-- ITS BYTES
+
+status-names : (frames : List TagBuffers) (tag len : ℕ) → IsWhole frames → 1 ≤ tag → tag ≤ STREAMS → len ≤ STATUS_BYTES
+    → Names frames (status_buffer_of tag) len (front_byte StatusBuffer tag)
+status-names frames tag len whole some most short =
+    record { first_tag = some; last_tag = most; begins = omega arith; within = omega (arith, (whole.sizes tag some most).status) }
+
+spliced-front : (old new : List ℕ) → length new ≤ length old → spliced old 0 new ≡ with_bytes_at old 0 new
+spliced-front old new fits = filled-written_at old 0 new (length old) refl (omega arith) ∙ written_at-fits old 0 new (omega arith)
+
+-- the buffers of a tag once its status buffer begins with these bytes
+abbrev pub with_status : TagBuffers → List ℕ → TagBuffers
+with_status buffers text = record buffers { status = with_bytes_at buffers.status 0 text }
+
+pub status-written : (frames : List TagBuffers) (tag : ℕ) (text : List ℕ) → IsWhole frames → 1 ≤ tag → tag ≤ STREAMS → length text ≤ STATUS_BYTES
+    → written frames (status_buffer_of tag) (length text) text ≡ with_held frames tag (with_status (held_for frames tag) text)
+status-written frames tag text whole some most short =
+    written-named frames (status_buffer_of tag) (length text) text (front_byte StatusBuffer tag) whole
+    (status-names frames tag (length text) whole some most short) refl
+    ∙ ap (λ bytes. with_held frames tag (record (held_for frames tag) { status = bytes }))
+    (spliced-front (held_for frames tag).status text (omega (arith, short, (whole.sizes tag some most).status)))
+
+-- THE STREAM OF AN ENDED REQUEST
+
+tag-bounds : (state : Shared) (world : World) (place : Place) (entry : Entry) → IsPlaced state world place entry → Fits state world
+    → (1 ≤ tag_of place) × (tag_of place ≤ GREATEST_TAG)
+tag-bounds state world place entry at fits = (omega arith, omega (arith, at.is_place.client, at.is_place.slot, fits.most_clients))
+
+-- its status TD is as it was pushed, and so is its ring
+pub record IsStatusReady (state : Shared) (world : World) (place : Place) (entry : Entry) : Type 0 where
+  pub td : entry.status_td ≡ pushed
+  pub ring : HoldsTrbs (stream_ring world.lines.status (tag_of place)) (status_td (tag_of place)) 0
+  pub front : front_of STREAM_RING_PLACES (stream_ring world.lines.status (tag_of place))
+      ≡ Some (
+        pointer_of STREAM_RING_PLACES (stream_ring world.lines.status (tag_of place)) 0,
+        Normal (status_buffer_of (tag_of place)) STATUS_BYTES 0
+            (record { 0 = 18 }),
+      )
+
+status-ready : (state : Shared) (world : World) (place : Place) (entry : Entry) (answer : Answer) → IsPlaced state world place entry
+    → entry.task.phase ≡ Begun (Ended answer) → IsStatusReady state world place entry
+status-ready state world place entry answer at ended =
+    let td : entry.status_td ≡ pushed = subst (λ p. IsStatusTd p entry.status_td) ended at.matched.here.sound.status in
+    let ring : HoldsTrbs (stream_ring world.lines.status (tag_of place)) (status_td (tag_of place)) 0 =
+    subst (λ t. HoldsTd (stream_ring world.lines.status (tag_of place)) (status_td (tag_of place)) t) td at.cell.status in
+    record {
+      td = td;
+      ring = ring;
+      front = ap (λ k. option_map (λ trb. (pointer_of STREAM_RING_PLACES (stream_ring world.lines.status (tag_of place)) k, trb))
+          (slice_get (stream_ring world.lines.status (tag_of place)).put k)) ring.1
+          ∙ ap (λ trbs. option_map (λ trb. (pointer_of STREAM_RING_PLACES (stream_ring world.lines.status (tag_of place)) 0, trb)) (slice_get trbs 0)) ring.0;
+    }
+
+-- the stream is armed where it is open
+pub status-armed : (state : Shared) (world : World) (place : Place) (entry : Entry) → IsPlaced state world place entry → Fits state world
+    → IsStatusReady state world place entry → is_armed world.controller world.lines Status (tag_of place) ≡ (is_open state.status (tag_of place) && true)
+status-armed state world place entry at fits ready =
+    let tag = tag-bounds state world place entry at fits in
+    let there : has_stream (tag_of place) ≡ true = rw (lt-ltb 0 (tag_of place) tag.0, le-leb (tag_of place) STREAMS (omega (arith, tag.1))) refl in
+    let pending : has_pending (stream_ring world.lines.status (tag_of place)) ≡ true =
+    ap (λ k. nat_lt k (length (stream_ring world.lines.status (tag_of place)).put)) ready.ring.1 ∙ ap (λ trbs. nat_lt 0 (length trbs)) ready.ring.0 in
+    ap (λ b. (b && is_open world.controller.status (tag_of place)) && has_pending (stream_ring world.lines.status (tag_of place))) there
+    ∙ ap (λ b. is_open world.controller.status (tag_of place) && b) pending
+    ∙ ap (λ pipe. is_open pipe (tag_of place) && true) fits.status
+
+-- it is due where it is open
+pub status-due : (state : Shared) (world : World) (place : Place) (entry : Entry) → IsStatusReady state world place entry
+    → (is_open state.status (tag_of place) && has_trb entry.status_td 1) ≡ (is_open state.status (tag_of place) && true)
+status-due state world place entry ready = ap (λ td. is_open state.status (tag_of place) && has_trb td 1) ready.td
+
+-- the TRB in front is the host's own
+pub status-own : (state : Shared) (world : World) (place : Place) (entry : Entry) (answer : Answer) → IsPlaced state world place entry → Fits state world
+    → IsStatusReady state world place entry
+    → IsOwnStatusFront world.lines world.frames (tag_of place) (Some (answer_unit (tag_of place) entry.task.request answer))
+status-own state world place entry answer at fits ready =
+    let tag = tag-bounds state world place entry at fits in
+    subst (λ front. IfSome front (λ f. IsOwnStatus world.frames (answer_unit (tag_of place) entry.task.request answer) f.1)) (sym ready.front) (
+      (refl, refl, inr (front_byte StatusBuffer (tag_of place), status-names world.frames (tag_of place) STATUS_BYTES fits.sound.frames tag.0 (omega (arith, tag.1)) (omega arith))),
+      subst (λ text. length text ≤ STATUS_BYTES) (answer-unit (tag_of place) entry.task.request answer) (answer-most (tag_of place) entry.task.request answer),
+    )
+
+-- THE CALL, COMPUTED
+
+-- the device's word of an ended request
+ended-wants : (unit : Option ℕ) (request : Request) (answer : Answer) → option_map_or task_wants (begun_task unit request (Ended answer)) Absent ≡ Ends
+ended-wants unit (Execute op) answer = refl
+ended-wants unit (Manage what noted) answer = refl
+
+ended-answer : (unit : Option ℕ) (tag : ℕ) (request : Request) (answer : Answer)
+    → option_and_then (task_answer tag) (begun_task unit request (Ended answer)) ≡ Some (answer_unit tag request answer)
+ended-answer unit tag (Execute op) answer = refl
+ended-answer unit tag (Manage what noted) answer = refl
+
+ended-task : (state : Shared) (world : World) (place : Place) (entry : Entry) (answer : Answer) → IsPlaced state world place entry
+    → entry.task.phase ≡ Begun (Ended answer)
+    → task_of world.device (tag_of place) ≡ begun_task (Some place.client) entry.task.request (Ended answer)
+ended-task state world place entry answer at ended =
+    at.cell.task ∙ ap (λ p. phase_task (Some place.client) entry.task.request p) ended
+
+-- the world after the answer of a place was handed over
+abbrev pub sent_world : World → Place → List ℕ → World
+sent_world world place text = record world {
+  lines = completed world.lines Status (tag_of place) (pointer_of STREAM_RING_PLACES (stream_ring world.lines.status (tag_of place)) 0)
+      (STATUS_BYTES - length text) SHORT_PACKET;
+  frames = with_held world.frames (tag_of place) (with_status (held_for world.frames (tag_of place)) text);
+  device = without_task world.device (tag_of place);
+}
+
+pub sent-is : (state : Shared) (world : World) (place : Place) (entry : Entry) (answer : Answer) → IsPlaced state world place entry → Fits state world
+    → entry.task.phase ≡ Begun (Ended answer) → is_open state.status (tag_of place) ≡ true
+    → sent_by world.controller (sides_in world) (tag_of place)
+    ≡ (sides_in (sent_world world place (answer_text (tag_of place) entry.task.request answer)), ActedOn (tag_of place))
+sent-is state world place entry answer at fits ended opened =
+    let tag = tag-bounds state world place entry at fits in
+    let ready : IsStatusReady state world place entry = status-ready state world place entry answer at ended in
+    let armed : is_armed world.controller world.lines Status (tag_of place) ≡ true =
+    status-armed state world place entry at fits ready ∙ ap (λ b. b && true) opened in
+    ap (λ t. sent_as world.controller (sides_in world) (tag_of place) (option_map_or task_wants t Absent) (option_and_then (task_answer (tag_of place)) t))
+    (ended-task state world place entry answer at ended)
+    ∙ ap (λ w. sent_as world.controller (sides_in world) (tag_of place) w
+    (option_and_then (task_answer (tag_of place)) (begun_task (Some place.client) entry.task.request (Ended answer))))
+    (ended-wants (Some place.client) entry.task.request answer)
+    ∙ ap (sent_as world.controller (sides_in world) (tag_of place) Ends) (ended-answer (Some place.client) (tag_of place) entry.task.request answer)
+    ∙ ap (λ text. on_front (sides_in world) (sent_at (sides_in world) (tag_of place) text)
+    (cond (is_armed world.controller world.lines Status (tag_of place)) (room_front world.lines Status (tag_of place)) None))
+    (sym (answer-unit (tag_of place) entry.task.request answer))
+    ∙ ap (λ b. on_front (sides_in world) (sent_at (sides_in world) (tag_of place) (answer_text (tag_of place) entry.task.request answer))
+    (cond b (room_front world.lines Status (tag_of place)) None)) armed
+    ∙ ap (λ b. on_front (sides_in world) (sent_at (sides_in world) (tag_of place) (answer_text (tag_of place) entry.task.request answer))
+    (cond b (front_of STREAM_RING_PLACES (stream_ring world.lines.status (tag_of place))) None)) (event-room state world fits)
+    ∙ ap (on_front (sides_in world) (sent_at (sides_in world) (tag_of place) (answer_text (tag_of place) entry.task.request answer))) ready.front
+    ∙ ap (λ frames. (
+      record (sides_in (sent_world world place (answer_text (tag_of place) entry.task.request answer))) { frames = frames },
+      ActedOn (tag_of place),
+    ))
+    (status-written world.frames (tag_of place) (answer_text (tag_of place) entry.task.request answer) fits.sound.frames tag.0 (omega (arith, tag.1))
+    (answer-most (tag_of place) entry.task.request answer))
+
+-- THE CELL
+
+abbrev pub taken_ring : Ring → Ring
+taken_ring ring = record ring { got = ring.got + 1 }
+
+abbrev pub sent_cell : Cell → List ℕ → Cell
+sent_cell cell text = record cell { task = None; status = taken_ring cell.status; buffers = with_status cell.buffers text }
+
+pub cell-sent : (client count : ℕ) (place : Place) (entry : Entry) (answer : Answer) (cell : Cell) → entry.task.phase ≡ Begun (Ended answer)
+    → entry.status_td ≡ pushed
+    → FitsCell client count place entry cell
+    → FitsCell client count place (sent_to entry answer) (sent_cell cell (answer_text (tag_of place) entry.task.request answer))
+cell-sent client count place entry answer cell ended td fits = record {
+  held = fits.held
+      ∙ ap (λ p. Some (record (host_side entry) { told = told_by entry.task.request p entry.status_td.state })) ended
+      ∙ ap (λ t. Some (record (host_side entry) { told = t })) (sym (ap (λ t. told_sent entry.task.request answer t.state) td));
+  task = refl;
+  status =
+      let holds : HoldsTrbs cell.status (status_td (tag_of place)) 0 = subst (λ t. HoldsTd cell.status (status_td (tag_of place)) t) td fits.status in
+      subst (λ t. HoldsTd (taken_ring cell.status) (status_td (tag_of place)) (with_trb_taken t)) (sym td) (holds.0, ap (λ n. n + 1) holds.1);
+  data_in = fits.data_in;
+  data_out = fits.data_out;
+  lent = fits.lent;
+  bytes = fits.bytes;
+  unit = fits.unit;
+  answer = text-begins cell.buffers.status (answer_text (tag_of place) entry.task.request answer);
+  sound = sound_sent entry.task.request fits.sound;
+}
+  where
+    sound_sent : (request : Request) → IsSoundRequest count entry.task request → IsSoundRequest count (record entry.task { phase = Sent answer }) request
+    sound_sent (Execute op) sound = record { whole = sound.whole; chunk = tt }
+    sound_sent (Manage what noted) sound = tt
+
+-- the cells of the world after it
+sent-here : (world : World) (place : Place) (text : List ℕ) → IsSoundWorld world → 1 ≤ tag_of place → tag_of place ≤ GREATEST_TAG
+    → cell_at (sent_world world place text) place ≡ sent_cell (cell_at world place) text
+sent-here world place text sound some most =
+    let task : task_of (without_task world.device (tag_of place)) (tag_of place) ≡ None =
+    held_under-with_same world.device.tasks (tag_of place) None (omega (arith, some)) (omega (arith, most, sound.tags)) in
+    let ring : stream_ring (sent_world world place text).lines.status (tag_of place) ≡ taken_ring (stream_ring world.lines.status (tag_of place)) =
+    get_or-set_same world.lines.status (tag_of place - 1) (taken_ring (stream_ring world.lines.status (tag_of place))) (opening 0)
+    (omega (arith, some, most, sound.lines.status)) in
+    let buffers : held_for (sent_world world place text).frames (tag_of place) ≡ with_status (held_for world.frames (tag_of place)) text =
+    get_or-set_same world.frames (tag_of place - 1) (with_status (held_for world.frames (tag_of place)) text) no_buffers
+    (omega (arith, some, most, sound.frames.tags)) in
+    λ i. record (cell_at world place) { task = task i; status = ring i; buffers = buffers i }
+
+sent-others : (world : World) (place : Place) (text : List ℕ) → KeepsOthers world (sent_world world place text) place
+sent-others world place text other at inside apart =
+    let behind : tag_of (place_in other at) - 1 ≡ tag_of place - 1 → ⊥ = λ same. apart (omega (arith, same)) in
+    let task : task_of (without_task world.device (tag_of place)) (tag_of (place_in other at)) ≡ task_of world.device (tag_of (place_in other at)) =
+    held_under-with_other world.device.tasks (tag_of place) (tag_of (place_in other at)) None apart in
+    let ring : stream_ring (sent_world world place text).lines.status (tag_of (place_in other at)) ≡ stream_ring world.lines.status
+    (tag_of (place_in other at)) =
+    get_or-set_other world.lines.status (tag_of place - 1) (tag_of (place_in other at) - 1) (taken_ring (stream_ring world.lines.status (tag_of place)))
+    (opening 0) behind in
+    let buffers : held_for (sent_world world place text).frames (tag_of (place_in other at)) ≡ held_for world.frames (tag_of (place_in other at)) =
+    get_or-set_other world.frames (tag_of place - 1) (tag_of (place_in other at) - 1)
+    (with_status (held_for world.frames (tag_of place)) text) no_buffers behind in
+    λ i. record (cell_at world (place_in other at)) { task = task i; status = ring i; buffers = buffers i }
+
+-- THE QUEUES
+
+-- the event of the status TD, as the cell tells it afterwards
+sent-text : (world : World) (place : Place) (request : Request) (answer : Answer) (k : ℕ) → IsSoundWorld world → IsRequestIn place.slot request
+    → 1 ≤ tag_of place → tag_of place ≤ GREATEST_TAG
+    → (stream_ring world.lines.status (tag_of place)).put ≡ status_td (tag_of place)
+    → event_texts (sent_world world place (answer_text (tag_of place) request answer)) k (StatusDone place ∷ [])
+    ≡ Transfer (pointer_of STREAM_RING_PLACES (stream_ring world.lines.status (tag_of place)) 0)
+    (STATUS_BYTES - length (answer_text (tag_of place) request answer)) SHORT_PACKET (endpoint_of Status) SLOT ∷ []
+sent-text world place request answer k sound asks some most put =
+    ap (λ (c : Cell). status_event place.slot c.status c.buffers.status ∷ [])
+    (sent-here world place (answer_text (tag_of place) request answer) sound some most)
+    ∙ ap (λ trbs. Transfer (pointer_of STREAM_RING_PLACES (stream_ring world.lines.status (tag_of place)) (length trbs - 1))
+    (STATUS_BYTES - unit_len place.slot (with_bytes_at (held_for world.frames (tag_of place)).status 0 (answer_text (tag_of place) request answer)))
+    SHORT_PACKET (endpoint_of Status) SLOT ∷ []) put
+    ∙ ap (λ n. Transfer (pointer_of STREAM_RING_PLACES (stream_ring world.lines.status (tag_of place)) 0) (STATUS_BYTES - n) SHORT_PACKET
+    (endpoint_of Status) SLOT ∷ [])
+    (answer-len (tag_of place) place.slot request answer (held_for world.frames (tag_of place)).status asks)
+
+pub sent-queues : (state : Shared) (world : World) (place : Place) (request : Request) (answer : Answer) (part : Part) (new : Entry) → Fits state world
+    → place.slot < TAGS → IsRequestIn place.slot request
+    → 1 ≤ tag_of place → tag_of place ≤ GREATEST_TAG → (stream_ring world.lines.status (tag_of place)).put ≡ status_td (tag_of place)
+    → status_events place state.events ≡ 0
+    → FitsQueues (acted_state state place part part.unit new state.messages (StatusDone place ∷ []))
+    (sent_world world place (answer_text (tag_of place) request answer))
+sent-queues state world place request answer part new fits within asks some most put none =
+    let event : Event = Transfer (pointer_of STREAM_RING_PLACES (stream_ring world.lines.status (tag_of place)) 0)
+    (STATUS_BYTES - length (answer_text (tag_of place) request answer)) SHORT_PACKET (endpoint_of Status) SLOT in
+    let more : carried_places (state.events ++ StatusDone place ∷ []) ≡ carried_places state.events =
+    carried_places-append state.events (StatusDone place ∷ []) ∙ append-nil (carried_places state.events) in
+    let kept : event_texts (sent_world world place (answer_text (tag_of place) request answer)) 0 state.events ≡ event_texts world 0 state.events =
+    event_texts-one state world (sent_world world place (answer_text (tag_of place) request answer)) place 0 fits.matched within (refl, refl) refl
+    (sent-others world place (answer_text (tag_of place) request answer)) (λ waits. (refl, refl)) (λ waits. absurd (omega (arith, waits, none))) in
+    record {
+      put = fits.queues.put ∙ ap (λ ps. map command_trb (ps ++ state.messages)) (sym more);
+      got = fits.queues.got ∙ ap length (sym more);
+      texts = ap (λ es. es ++ event ∷ []) (fits.queues.texts ∙ sym kept)
+          ∙ ap (λ es. event_texts (sent_world world place (answer_text (tag_of place) request answer)) 0 state.events ++ es)
+          (sym (sent-text world place request answer (0 + length (carried_places state.events)) fits.sound asks some most put))
+          ∙ sym (event_texts-append (sent_world world place (answer_text (tag_of place) request answer)) 0 state.events (StatusDone place ∷ []));
+    }
+
+-- THE STEP
+
+-- the controller took a TRB of the status stream, whose enqueue place is where it was
+sent-ends : (state : Shared) (world : World) (place : Place) (text : List ℕ) → IsSoundWorld world → 1 ≤ tag_of place → tag_of place ≤ GREATEST_TAG
+    → EndsStay state world (sent_world world place text) place
+sent-ends state world place text sound some most Command streams left = absurd streams
+sent-ends state world place text sound some most Status streams left =
+    let ring = ap (λ (c : Cell). c.status) (sent-here world place text sound some most) in
+    record { base = ap (λ (r : Ring). r.base) ring; at = ap (λ (r : Ring). r.at) ring; put = ap (λ (r : Ring). r.put) ring }
+sent-ends state world place text sound some most DataIn streams left = record { base = refl; at = refl; put = refl }
+sent-ends state world place text sound some most DataOut streams left = record { base = refl; at = refl; put = refl }
+
+sent-acted : (state : Shared) (world : World) (place : Place) (entry : Entry) (answer : Answer) (at : IsPlaced state world place entry) → Fits state world
+    → entry.task.phase ≡ Begun (Ended answer) → status_events place state.events ≡ 0
+    → IsActed state world (sent_world world place (answer_text (tag_of place) entry.task.request answer)) place at.part at.part.unit
+    (sent_to entry answer) state.messages (StatusDone place ∷ [])
+sent-acted state world place entry answer at fits ended none =
+    let tag = tag-bounds state world place entry at fits in
+    let ready : IsStatusReady state world place entry = status-ready state world place entry answer at ended in
+    record {
+      host = refl;
+      controller = refl;
+      engine = refl;
+      units = sym (slice_get-back world.device.units place.client at.part.unit at.client.unit_is);
+      tasks = λ other apart. held_under-with_other world.device.tasks (tag_of place) other None apart;
+      others = sent-others world place (answer_text (tag_of place) entry.task.request answer);
+      ends = sent-ends state world place (answer_text (tag_of place) entry.task.request answer) fits.sound tag.0 tag.1;
+      count = refl;
+      cell = subst (λ c. FitsCell place.client at.part.unit.count place (sent_to entry answer) c)
+          (sym (sent-here world place (answer_text (tag_of place) entry.task.request answer) fits.sound tag.0 tag.1))
+          (cell-sent place.client at.part.unit.count place entry answer (cell_at world place) ended ready.td at.cell);
+      queues = sent-queues state world place entry.task.request answer at.part (sent_to entry answer) fits at.is_place.slot at.matched.here.sound.asks
+          tag.0 tag.1 ready.ring.0 none;
+    }
+
+-- the shared machine's step
+status-stepped : (state : Shared) (place : Place) (part : Part) (entry : Entry) (answer : Answer) → due state (StatusStep (tag_of place)) ≡ true
+    → place_of (length state.parts) (tag_of place) ≡ Some place → slice_get state.parts place.client ≡ Some part
+    → held_at part.entries place.slot ≡ Some entry → entry.task.phase ≡ Begun (Ended answer)
+    → (shared_step state (StatusStep (tag_of place))).0
+    ≡ acted_state state place part part.unit (sent_to entry answer) state.messages (StatusDone place ∷ [])
+status-stepped state place part entry answer is_due named there held ended =
+    ap (λ b. (cond b (due_step state (StatusStep (tag_of place))) (state, idle)).0) is_due
+    ∙ ap (λ s. s.0) (send_step-held state (tag_of place) place part entry answer named there held ended)
+
+status-at : (state : Shared) (world : World) (place : Place) (entry : Entry) (answer : Answer) → IsPlaced state world place entry → Fits state world
+    → due state (StatusStep (tag_of place)) ≡ true → place_of (length state.parts) (tag_of place) ≡ Some place → entry.task.phase ≡ Begun (Ended answer)
+    → is_open state.status (tag_of place) ≡ true → StatusFits state world (tag_of place)
+status-at state world place entry answer at fits is_due named ended opened =
+    let ready : IsStatusReady state world place entry = status-ready state world place entry answer at ended in
+    let called = sent-is state world place entry answer at fits ended opened in
+    let stepped = status-stepped state place at.part entry answer is_due named at.there at.held ended in
+    record {
+      own = subst (λ t. IsOwnStatusFront world.lines world.frames (tag_of place) (option_and_then (task_answer (tag_of place)) t))
+          (sym (ended-task state world place entry answer at ended))
+          (subst (IsOwnStatusFront world.lines world.frames (tag_of place))
+          (sym (ended-answer (Some place.client) (tag_of place) entry.task.request answer)) (status-own state world place entry answer at fits ready));
+      acted = ap (λ c. c.1) called;
+      fits = λ sound.
+          subst (λ s. Fits s (status_world world (tag_of place))) (sym stepped)
+          (subst (λ (c : Sides × Acted). Fits
+          (acted_state state place at.part at.part.unit (sent_to entry answer) state.messages (StatusDone place ∷ [])) (with_sides world c.0)) (sym called)
+          (acted-fits state world (sent_world world place (answer_text (tag_of place) entry.task.request answer)) place entry
+          (sent_to entry answer) at.part.unit state.messages (StatusDone place ∷ []) at fits
+          (sent-acted state world place entry answer at fits ended (matched-no_status_event state fits.matched (tag_of place) place named is_due))
+          (subst IsMatched stepped (shared_step-matched state (StatusStep (tag_of place)) fits.matched))
+          (subst (λ (c : Sides × Acted). IsSoundWorld (with_sides world c.0)) called sound)));
+    }
+
+pub status_fits : StatusesFit
+status_fits state world tag fits is_due =
+    let found : IsDueAt state tag (status_is_due state tag) = place_fact-due state tag (status_is_due state tag) is_due in
+    let same : tag_of found.place ≡ tag = place_of-tag (length state.parts) tag found.place found.named in
+    let at : IsPlaced state world found.place found.entry = placed state world found.place found.entry fits found.held in
+    let both = and_parts (is_ended found.entry.task.phase) (is_open state.status tag && has_trb found.entry.status_td 1) found.so in
+    let ended : IsEndedBy found.entry.task.phase = ended_phase found.entry.task.phase both.0 in
+    let opened : is_open state.status tag ≡ true = (and_parts (is_open state.status tag) (has_trb found.entry.status_td 1) both.1).0 in
+    subst (λ t. StatusFits state world t) same
+    (status-at state world found.place found.entry ended.answer at fits
+    (subst (λ t. due state (StatusStep t) ≡ true) (sym same) is_due)
+    (subst (λ t. place_of (length state.parts) t ≡ Some found.place) (sym same) found.named)
+    ended.is (subst (λ t. is_open state.status t ≡ true) (sym same) opened))
+
+-- WHERE IT IS DUE
+
+-- a command that moves data isn't answered yet
+moving-undue : (world : World) (tag bytes : ℕ) (way : Direction) → status_due_by world tag (wanted_way way bytes) ≡ false
+moving-undue world tag bytes Nothing = refl
+moving-undue world tag bytes ToHost = refl
+moving-undue world tag bytes ToDevice = refl
+
+-- what is told of a tag by its task and by whether the step is due
+abbrev IsTold : World → ℕ → Option DeviceTask → Bool → Type 0
+IsTold world tag task is_due =
+    (is_due ≡ status_due_by world tag (option_map_or task_wants task Absent))
+    × IsOwnStatusFront world.lines world.frames tag (option_and_then (task_answer tag) task)
+
+told-ended : (state : Shared) (world : World) (place : Place) (entry : Entry) (answer : Answer) → IsPlaced state world place entry → Fits state world
+    → entry.task.phase ≡ Begun (Ended answer)
+    → IsTold world (tag_of place) (begun_task (Some place.client) entry.task.request (Ended answer))
+    (is_open state.status (tag_of place) && has_trb entry.status_td 1)
+told-ended state world place entry answer at fits ended =
+    let ready : IsStatusReady state world place entry = status-ready state world place entry answer at ended in (
+      status-due state world place entry ready ∙ sym (status-armed state world place entry at fits ready)
+          ∙ ap (λ w. status_due_by world (tag_of place) w) (sym (ended-wants (Some place.client) entry.task.request answer)),
+      subst (IsOwnStatusFront world.lines world.frames (tag_of place))
+          (sym (ended-answer (Some place.client) (tag_of place) entry.task.request answer))
+          (status-own state world place entry answer at fits ready),
+    )
+
+-- a task management moves no data
+told-moving : (world : World) (place : Place) (request : Request) (chunk : ℕ) → IsPhaseOf request (Begun (Moving chunk))
+    → IsTold world (tag_of place) (begun_task (Some place.client) request (Moving chunk)) false
+told-moving world place (Execute op) chunk answers =
+    (sym (moving-undue world (tag_of place) (chunk_bytes (moved_bytes op) chunk) (direction_of op)), tt)
+told-moving world place (Manage what noted) chunk answers = absurd answers
+
+told-at : (state : Shared) (world : World) (place : Place) (entry : Entry) (phase : Phase) → IsPlaced state world place entry
+    → Fits state world → IsPhaseOf entry.task.request phase → entry.task.phase ≡ phase
+    → IsTold world (tag_of place) (phase_task (Some place.client) entry.task.request phase)
+    (is_ended phase && (is_open state.status (tag_of place) && has_trb entry.status_td 1))
+told-at state world place entry Queued at fits answers is = (refl, tt)
+told-at state world place entry (Begun (Moving chunk)) at fits answers is = told-moving world place entry.task.request chunk answers
+told-at state world place entry (Begun (Ended answer)) at fits answers is = told-ended state world place entry answer at fits is
+told-at state world place entry (Sent answer) at fits answers is = (refl, tt)
+told-at state world place entry Gone at fits answers is = (refl, tt)
+
+told : (state : Shared) (world : World) (tag : ℕ) → Fits state world → IsTold world tag (task_of world.device tag) (due state (StatusStep tag))
+told state world tag fits =
+    by-tag state world tag (status_is_due state tag) (IsTold world tag) fits (refl, tt)
+    (λ place entry same at.
+    subst (λ t. IsTold world t (device_task place.client entry) (status_is_due state t entry)) same
+    (told-at state world place entry entry.task.phase at fits at.matched.here.sound.answers refl))
+
+pub statuses_due : StatusesAreDue
+statuses_due state world tag fits = let it = told state world tag fits in record { due = it.0; own = it.1 }
+
+-- where it isn't due the controller is idle
+unarmed-idle : (controller : ControllerState) (sides : Sides) (tag : ℕ) (wants : Wants) (answer : Option Iu) (armed : Bool)
+    → is_armed controller sides.lines Status tag ≡ armed
+    → (wants ≡ Ends → armed ≡ false) → sent_as controller sides tag wants answer ≡ (sides, Idle)
+unarmed-idle controller sides tag Absent answer armed is none = refl
+unarmed-idle controller sides tag (Gives size) answer armed is none = refl
+unarmed-idle controller sides tag (Takes size) answer armed is none = refl
+unarmed-idle controller sides tag Ends None armed is none = refl
+unarmed-idle controller sides tag Ends (Some unit) armed is none =
+    ap (λ b. on_front sides (sent_at sides tag (unit_text unit)) (cond b (room_front sides.lines Status tag) None)) (is ∙ none refl)
+
+pub status_idle : StatusIsIdle
+status_idle state world tag fits undue =
+    unarmed-idle world.controller (sides_in world) tag (wanted world.device tag) (answered world.device tag)
+    (is_armed world.controller world.lines Status tag) refl
+    (λ ends. ap (λ w. status_due_by world tag w) (sym ends) ∙ sym (told state world tag fits).0 ∙ undue)

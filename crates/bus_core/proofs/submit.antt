@@ -1,0 +1,7 @@
+-- A submission and a task management.
+pub mod SubmissionFaults
+pub mod TaskFaults
+pub mod Submitting
+pub mod TaskSubmitting
+pub mod Submitted
+pub mod TaskSubmitted

@@ -1,0 +1,3 @@
+-- A client takes a reply.
+pub mod Taking
+pub mod NextReply

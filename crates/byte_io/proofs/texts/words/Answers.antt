@@ -1,0 +1,13 @@
+use Rattle.std.proofs.Common.{rules, ◌==◌, not, length}
+use borrow.Author.Tests.{tests}
+use Rattle.std.proofs.lemmas.Iterator.Consumers.{map_from_collect, YieldsList-from_filter}
+use Rattle.std.proofs.lemmas.Iterator.Splits.{YieldsList-from_slice_split}
+use Rattle.byte_io.proofs.texts.words.Goals as goal
+
+pub returns : goal.returns
+returns c =
+    map_from_collect _ c.collect.ensures.ran
+    (YieldsList-from_filter _ (λ word. not (length word == 0))
+    (YieldsList-from_slice_split _ (λ byte. byte == 32) c.args.line.now (search rules) (search rules) (search rules) (λ x b q k. search (rules, tests)))
+    c.filter.ensures.closure
+    (λ x b q k. search (rules, tests)))

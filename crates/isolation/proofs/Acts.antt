@@ -1,0 +1,341 @@
+-- What an act on a part is to the client's own solo machine.
+use Rattle.std.proofs.Common.{◌≡◌, ℕ, suc, true, false, cond, List, [], ◌∷◌, map, Option, Some, None, option_map, option_and_then, refl, arith, ap, sym, ◌∙◌}
+use Rattle.std.specs.Prelude.{nat_lt, is_some, ◌&&◌, slice_set}
+use Rattle.std.proofs.Math.ListN.{get_or-map}
+use Rattle.std.proofs.Math.Seq.{map-set_same}
+use Rattle.std.proofs.lemmas.Option.{none-some}
+use Rattle.std.proofs.lemmas.List.{map-set}
+use Rattle.scsi_cmd.specs.Request.{is_command}
+use Rattle.scsi_cmd.specs.declared.Command.{Command}
+use Rattle.scsi_cmd.specs.declared.Reply.{Reply}
+use Rattle.scsi_cmd.specs.declared.Request.{Request}
+use Rattle.scsi_cmd.specs.declared.Request.TheVariants.{Execute, Manage}
+use Rattle.uas_profile.specs.declared.TheConstants.{TASK_SLOT}
+use Rattle.solo_model.specs.declared.Label.{Label}
+use Rattle.solo_model.specs.declared.Label.TheVariants.{Submit as SubmitLabel}
+use Rattle.scsi_cmd.specs.Held.{held_at}
+use Rattle.solo_model.specs.Solo.{SoloState, after_request, solo_step, silently}
+use Rattle.block_unit.specs.BlockMaps.{BlockMaps}
+use Rattle.scsi_cmd.specs.declared.Task.{Task}
+use Rattle.scsi_cmd.specs.declared.Task.TheVariants.{Abort, Reset}
+use Rattle.device_server.specs.declared.Answer.{Answer}
+use Rattle.device_server.specs.declared.Answer.TheVariants.{Good}
+use Rattle.device_server.specs.declared.Progress.{Progress}
+use Rattle.device_server.specs.declared.Progress.TheVariants.{Moving, Ended}
+use Rattle.solo_model.specs.declared.Phase.{Phase}
+use Rattle.solo_model.specs.declared.Phase.TheVariants.{Queued, Begun, Sent, Gone}
+use Rattle.solo_model.specs.TaggedTask.{TaggedTask, aborted_by, after_notes, answered_by, can_go, carried, carried_from, moved, sent, is_noted}
+use Rattle.solo_model.specs.TaggedTask.{moved_from, moved_request, reply_from, request_begun, sent_from, unit_managed}
+use Rattle.uas_profile.specs.declared.Place.{Place}
+use Rattle.uas_profile.specs.declared.Pipe.{Pipe}
+use Rattle.shared_machine.specs.Td.{Entry, passed_on, passed_td, retired_on, trbs_on, with_trb_taken}
+use Rattle.shared_machine.specs.declared.Completion.{Completion}
+use Rattle.shared_machine.specs.declared.Completion.TheVariants.{CommandDone, DataDone, StatusDone, EngineDone}
+use Rattle.shared_machine.specs.declared.Step.{Step}
+use Rattle.shared_machine.specs.Part.{Part, Act, carry_act, move_act, send_act, event_act, seen_entry, event_place, seen_by, fault_at, submitted_part, take_act}
+use Rattle.shared_machine.specs.Part.{pass_act, passed_slot, retire_act}
+use Rattle.shared_machine.specs.Part.{carried_entry, carried_slot, data_td_after, entry_reply, moved_entry, moved_slot, new_entry, sent_entry, sent_slot, settled}
+use Rattle.shared_machine.specs.Part.{taken, took_trb, after_answer, after_event, doomed, entries_after, noted_entry, slot_tag}
+use Rattle.shared_machine.proofs.KeptTasks.{doomed-task, retired_on-task, seen_by-task, with_td_on-task}
+use Rattle.isolation.specs.Isolation.{label_of, own_management, own_of, own_request, own_task, renumbered, solo_of}
+use Rattle.shared_machine.specs.Part.{own_tag}
+
+-- the solo machine's step on a label, and no step where there is none
+abbrev pub solo_try : SoloState → Option Label → Option (SoloState × Option Reply)
+solo_try state None = Some (silently state)
+solo_try state (Some label) = solo_step state label
+
+-- what a client's own solo machine makes of an act on its part
+abbrev pub IsOwnAct : ℕ → Step → Part → Act → Type 0
+IsOwnAct client step part act =
+    solo_try (solo_of client part) (label_of act.mark step) ≡ Some (solo_of client act.part, option_map (renumbered client) act.reply)
+
+-- what the solo machine has in a slot is the task of the entry there
+pub held_at-solo_of : (client : ℕ) (entries : List (Option Entry)) (slot : ℕ)
+    → held_at (map (option_map (own_task client)) entries) slot ≡ option_map (own_task client) (held_at entries slot)
+held_at-solo_of client entries slot = get_or-map (option_map (own_task client)) entries slot None
+
+-- an entry that keeps its task
+pub map-own_task : (client : ℕ) (entries : List (Option Entry)) (slot : ℕ) (now : Option Entry) →
+    map (option_map (own_task client)) (slice_set entries slot now)
+    ≡ slice_set (map (option_map (own_task client)) entries) slot (option_map (own_task client) now)
+map-own_task client entries slot now = map-set (option_map (own_task client)) entries slot now
+
+-- THE INDEX THAT AN ABORT NAMES: nothing that is done of a task reads it
+
+own_command : (client : ℕ) (request : Request) → is_command (own_request client request) ≡ is_command request
+own_command client (Execute op) = refl
+own_command client (Manage what noted) = refl
+
+own_unit : (client : ℕ) (unit : BlockMaps) (what : Task) → unit_managed unit (own_management client what) ≡ unit_managed unit what
+own_unit client unit (Abort tag) = refl
+own_unit client unit Reset = refl
+
+own_begun : (client : ℕ) (unit : BlockMaps) (request : Request) → request_begun unit (own_request client request) ≡ request_begun unit request
+own_begun client unit (Execute op) = refl
+own_begun client unit (Manage what noted) = ap (λ (u : BlockMaps). (u, Ended Good)) (own_unit client unit what)
+
+abbrev own_after : ℕ → BlockMaps × TaggedTask → BlockMaps × TaggedTask
+own_after client after = (after.0, own_of client after.1)
+
+carried_from-own : (client : ℕ) (unit : BlockMaps) (task : TaggedTask) (phase : Phase)
+    → carried_from unit (own_of client task) phase ≡ option_map (own_after client) (carried_from unit task phase)
+carried_from-own client unit task Queued =
+    ap (λ (after : BlockMaps × Progress). Some (after.0, record task { request = own_request client task.request; phase = Begun after.1 }))
+    (own_begun client unit task.request)
+carried_from-own client unit task (Begun progress) = refl
+carried_from-own client unit task (Sent answer) = refl
+carried_from-own client unit task Gone = refl
+
+moved_request-own : (client : ℕ) (unit : BlockMaps) (task : TaggedTask) (chunk : ℕ) (request : Request) → task.request ≡ request
+    → moved_request unit (own_of client task) chunk (own_request client request) ≡ option_map (own_after client) (moved_request unit task chunk request)
+moved_request-own client unit task chunk (Execute op) is = rw is refl
+moved_request-own client unit task chunk (Manage what noted) is = refl
+
+moved_from-own : (client : ℕ) (unit : BlockMaps) (task : TaggedTask) (phase : Phase)
+    → moved_from unit (own_of client task) phase ≡ option_map (own_after client) (moved_from unit task phase)
+moved_from-own client unit task Queued = refl
+moved_from-own client unit task (Begun (Moving chunk)) = moved_request-own client unit task chunk task.request refl
+moved_from-own client unit task (Begun (Ended answer)) = refl
+moved_from-own client unit task (Sent answer) = refl
+moved_from-own client unit task Gone = refl
+
+sent_from-own : (client : ℕ) (task : TaggedTask) (phase : Phase) → sent_from (own_of client task) phase ≡ option_map (own_of client) (sent_from task phase)
+sent_from-own client task Queued = refl
+sent_from-own client task (Begun (Moving chunk)) = refl
+sent_from-own client task (Begun (Ended answer)) = refl
+sent_from-own client task (Sent answer) = refl
+sent_from-own client task Gone = refl
+
+answered_by-own : (client tag ticket : ℕ) (buffer : List ℕ) (answer : Answer) (request : Request)
+    → answered_by tag ticket buffer answer (own_request client request) ≡ answered_by tag ticket buffer answer request
+answered_by-own client tag ticket buffer answer (Execute op) = refl
+answered_by-own client tag ticket buffer answer (Manage what noted) = refl
+
+aborted_by-own : (client tag ticket : ℕ) (buffer : List ℕ) (request : Request)
+    → aborted_by tag ticket buffer (own_request client request) ≡ aborted_by tag ticket buffer request
+aborted_by-own client tag ticket buffer (Execute op) = refl
+aborted_by-own client tag ticket buffer (Manage what noted) = refl
+
+reply_from-own : (client tag : ℕ) (task : TaggedTask) (phase : Phase) → reply_from tag (own_of client task) phase ≡ reply_from tag task phase
+reply_from-own client tag task Queued = refl
+reply_from-own client tag task (Begun progress) = refl
+reply_from-own client tag task (Sent answer) = ap Some (answered_by-own client tag task.ticket task.buffer answer task.request)
+reply_from-own client tag task Gone = aborted_by-own client tag task.ticket task.buffer task.request
+
+after_notes-own : (client : ℕ) (noted : List ℕ) (task : TaggedTask) → after_notes noted (own_of client task) ≡ own_of client (after_notes noted task)
+after_notes-own client noted task =
+    rw (own_command client task.request)
+    (elim (is_command task.request && can_go task.phase && is_noted noted task.ticket) as (λ b.
+    cond b (record task { request = own_request client task.request; phase = Gone }) (own_of client task)
+    ≡ own_of client (cond b (record task { phase = Gone }) task)) [
+      | true ↦ refl
+      | false ↦ refl
+    ])
+
+-- What a carried request does to the entries is what it does to the solo machine's tasks.
+pub own_task-noted : (client : ℕ) (noted : List ℕ) (entries : List (Option Entry)) →
+    map (option_map (own_task client)) (map (option_map (noted_entry noted)) entries)
+    ≡ map (option_map (after_notes noted)) (map (option_map (own_task client)) entries)
+own_task-noted client noted [] = refl
+own_task-noted client noted (None ∷ entries) = ap (λ rest. None ∷ rest) (own_task-noted client noted entries)
+own_task-noted client noted (Some entry ∷ entries) =
+    ap (λ rest. Some (own_of client (after_notes noted entry.task)) ∷ rest) (own_task-noted client noted entries)
+    ∙ ap (λ (task : TaggedTask). Some task ∷ map (option_map (after_notes noted)) (map (option_map (own_task client)) entries))
+    (sym (after_notes-own client noted entry.task))
+
+pub own_task-after : (client : ℕ) (request : Request) (entries : List (Option Entry)) →
+    map (option_map (own_task client)) (entries_after request entries) ≡ after_request (own_request client request) (map (option_map (own_task client)) entries)
+own_task-after client (Execute op) entries = refl
+own_task-after client (Manage what noted) entries = own_task-noted client noted.items entries
+
+-- an act on what is there, where there is anything: the client's own on whatever that is
+found-own : {A : Type 0} (client : ℕ) (step : Step) (part : Part) (act : Option A → Act) (found : Option A) → IsOwnAct client step part (act None)
+    → ((it : A) → found ≡ Some it → IsOwnAct client step part (act (Some it))) → IsOwnAct client step part (act found)
+found-own client step part act None vacant on = vacant
+found-own client step part act (Some it) vacant on = on it refl
+
+-- the entry under a slot, as the solo machine has it
+own_task-held : (client : ℕ) (entries : List (Option Entry)) (slot : ℕ) (entry : Entry) → held_at entries slot ≡ Some entry
+    → held_at (map (option_map (own_task client)) entries) slot ≡ Some (own_of client entry.task)
+own_task-held client entries slot entry is = held_at-solo_of client entries slot ∙ ap (option_map (own_task client)) is
+
+-- the device receives the request under a slot
+pub carry_act-own : (client : ℕ) (step : Step) (place : Place) (part : Part) → IsOwnAct client step part (carry_act place part)
+carry_act-own client step place part =
+    found-own client step part (carried_slot part place.slot place) (held_at part.entries place.slot) refl
+    (λ entry is. found-own client step part (carried_entry part place.slot place entry) (carried part.unit entry.task) refl
+    (λ after begun. rw (
+      own_task-held client part.entries place.slot entry is,
+      carried_from-own client part.unit entry.task entry.task.phase ∙ ap (option_map (own_after client)) begun,
+      map-own_task client (entries_after entry.task.request part.entries) place.slot
+          (Some (record entry { task = after.1; command_td = with_trb_taken entry.command_td })),
+      own_task-after client entry.task.request part.entries,
+    ) refl))
+
+-- the device moves a chunk under a slot
+pub move_act-own : (client : ℕ) (step : Step) (place : Place) (part : Part) → IsOwnAct client step part (move_act place part)
+move_act-own client step place part =
+    found-own client step part (moved_slot part place.slot place) (held_at part.entries place.slot) refl
+    (λ entry is. found-own client step part (moved_entry part place.slot place entry) (moved part.unit entry.task) refl
+    (λ after went.
+    let now : Entry = record entry { task = after.1; data_td = data_td_after (took_trb after.1.phase) entry.data_td } in
+    rw (
+      own_task-held client part.entries place.slot entry is,
+      moved_from-own client part.unit entry.task entry.task.phase ∙ ap (option_map (own_after client)) went,
+      map-own_task client part.entries place.slot (Some now),
+    ) refl))
+
+-- the device hands over the answer under a slot
+pub send_act-own : (client : ℕ) (step : Step) (place : Place) (part : Part) → IsOwnAct client step part (send_act place part)
+send_act-own client step place part =
+    found-own client step part (sent_slot part place.slot place) (held_at part.entries place.slot) refl
+    (λ entry is. found-own client step part (sent_entry part place.slot place entry) (sent entry.task) refl
+    (λ task went. rw (
+      own_task-held client part.entries place.slot entry is,
+      sent_from-own client entry.task entry.task.phase ∙ ap (option_map (own_of client)) went,
+      map-own_task client part.entries place.slot (Some (record entry { task = task; status_td = with_trb_taken entry.status_td })),
+    ) refl))
+
+-- the same, of whatever a slot holds
+pub seen_held-task : (client : ℕ) (event : Completion) (held : Option Entry) (seen : Entry) →
+    option_and_then (seen_by event) held ≡ Some seen → option_map (own_task client) (Some seen) ≡ option_map (own_task client) held
+seen_held-task client event None seen is = absurd (none-some seen is)
+seen_held-task client event (Some entry) seen is =
+    ap (λ (task : TaggedTask). Some (own_of client task)) (seen_by-task event entry seen is)
+
+doomed-own : (client : ℕ) (noted : List ℕ) (entries : List (Option Entry)) → map (option_map (own_task client)) (map (option_map (doomed noted)) entries)
+    ≡ map (option_map (own_task client)) entries
+doomed-own client noted [] = refl
+doomed-own client noted (None ∷ entries) = ap (λ rest. None ∷ rest) (doomed-own client noted entries)
+doomed-own client noted (Some entry ∷ entries) =
+    ap (λ rest. Some (own_task client (doomed noted entry)) ∷ rest) (doomed-own client noted entries)
+    ∙ ap (λ (task : TaggedTask). Some (own_of client task) ∷ map (option_map (own_task client)) entries) (doomed-task noted entry)
+
+after_answer-own : (client : ℕ) (request : Request) (entries : List (Option Entry)) → map (option_map (own_task client)) (after_answer request entries)
+    ≡ map (option_map (own_task client)) entries
+after_answer-own client (Execute op) entries = refl
+after_answer-own client (Manage what noted) entries = doomed-own client noted.items entries
+
+after_event-own : (client : ℕ) (event : Completion) (request : Request) (entries : List (Option Entry))
+    → map (option_map (own_task client)) (after_event event request entries) ≡ map (option_map (own_task client)) entries
+after_event-own client (CommandDone place) request entries = refl
+after_event-own client (DataDone place) request entries = refl
+after_event-own client (StatusDone place) request entries = after_answer-own client request entries
+after_event-own client (EngineDone place) request entries = refl
+
+-- an entry with an event seen is the same to the client
+seen_entry-same : (client : ℕ) (step : Step) (event : Completion) (part : Part) (slot : ℕ) (now : Entry)
+    → option_map (own_task client) (Some now) ≡ option_map (own_task client) (held_at part.entries slot)
+    → IsOwnAct client step part (seen_entry event part slot (Some now))
+seen_entry-same client step event part slot now is =
+    let same = after_event-own client event now.task.request (slice_set part.entries slot (Some now))
+    ∙ map-set_same (option_map (own_task client)) part.entries slot (Some now) None is in
+    rw same refl
+
+pub seen_entry-own : (client : ℕ) (step : Step) (event : Completion) (part : Part) (slot : ℕ) (seen : Option Entry) →
+    option_and_then (seen_by event) (held_at part.entries slot) ≡ seen → IsOwnAct client step part (seen_entry event part slot seen)
+seen_entry-own client step event part slot None is = refl
+seen_entry-own client step event part slot (Some seen) is =
+    seen_entry-same client step event part slot seen (seen_held-task client event (held_at part.entries slot) seen is)
+
+-- the client can't tell that the host takes an event
+pub event_act-own : (client : ℕ) (step : Step) (event : Completion) (part : Part) → IsOwnAct client step part (event_act event part)
+event_act-own client step event part = seen_entry-own client step event part (event_place event).slot _ refl
+
+-- RETIREMENT
+
+pub retired_held-task : (client : ℕ) (pipe : Pipe) (held : Option Entry) (now : Entry) →
+    option_and_then (retired_on pipe) held ≡ Some now → option_map (own_task client) (Some now) ≡ option_map (own_task client) held
+retired_held-task client pipe None now is = absurd (none-some now is)
+retired_held-task client pipe (Some entry) now is = ap (λ (task : TaggedTask). Some (own_of client task)) (retired_on-task pipe entry now is)
+
+-- the client can't tell that a TD of its is retired
+retired_entry-own : (client : ℕ) (step : Step) (pipe : Pipe) (place : Place) (part : Part) (now : Option Entry) →
+    option_and_then (retired_on pipe) (held_at part.entries place.slot) ≡ now → IsOwnAct client step part (seen_entry (EngineDone place) part place.slot now)
+retired_entry-own client step pipe place part None is = refl
+retired_entry-own client step pipe place part (Some now) is =
+    seen_entry-same client step (EngineDone place) part place.slot now (retired_held-task client pipe (held_at part.entries place.slot) now is)
+
+pub retire_act-own : (client : ℕ) (step : Step) (pipe : Pipe) (place : Place) (part : Part) → IsOwnAct client step part (retire_act pipe place part)
+retire_act-own client step pipe place part = retired_entry-own client step pipe place part _ refl
+
+-- nor that the controller is moved past it
+passed_slot-own : (client : ℕ) (step : Step) (pipe : Pipe) (place : Place) (part : Part) (held : Option Entry) → held_at part.entries place.slot ≡ held
+    → IsOwnAct client step part (passed_slot pipe part place held)
+passed_slot-own client step pipe place part None is = refl
+passed_slot-own client step pipe place part (Some entry) is =
+    let same = map-set_same (option_map (own_task client)) part.entries place.slot (Some (passed_on pipe entry)) None
+    (ap (λ (task : TaggedTask). Some (own_of client task)) (with_td_on-task (passed_td (trbs_on pipe entry)) pipe entry)
+    ∙ ap (option_map (own_task client)) (sym is)) in
+    rw same refl
+
+pub pass_act-own : (client : ℕ) (step : Step) (pipe : Pipe) (place : Place) (part : Part) → IsOwnAct client step part (pass_act pipe place part)
+pass_act-own client step pipe place part = passed_slot-own client step pipe place part _ refl
+
+-- the tag of a slot of a client, renumbered for it, is the slot's index
+pub own_tag-slot_tag : (client slot : ℕ) → own_tag client (slot_tag client slot) ≡ suc slot
+own_tag-slot_tag client slot = omega arith
+
+-- the client takes the reply that was ready first
+-- the solo machine's reply is under the index
+renumbered-answered : (client slot ticket : ℕ) (buffer : List ℕ) (answer : Answer) (request : Request)
+    → renumbered client (answered_by (slot_tag client slot) ticket buffer answer request) ≡ answered_by (suc slot) ticket buffer answer request
+renumbered-answered client slot ticket buffer answer (Execute op) =
+    ap (λ tag. answered_by tag ticket buffer answer (Execute op)) (own_tag-slot_tag client slot)
+renumbered-answered client slot ticket buffer answer (Manage what noted) =
+    ap (λ tag. answered_by tag ticket buffer answer (Manage what noted)) (own_tag-slot_tag client slot)
+
+renumbered-aborted : (client slot ticket : ℕ) (buffer : List ℕ) (request : Request)
+    → option_map (renumbered client) (aborted_by (slot_tag client slot) ticket buffer request) ≡ aborted_by (suc slot) ticket buffer request
+renumbered-aborted client slot ticket buffer (Execute op) = ap (λ tag. aborted_by tag ticket buffer (Execute op)) (own_tag-slot_tag client slot)
+renumbered-aborted client slot ticket buffer (Manage what noted) = refl
+
+renumbered-reply : (client slot : ℕ) (task : TaggedTask) (phase : Phase)
+    → option_map (renumbered client) (reply_from (slot_tag client slot) task phase) ≡ reply_from (suc slot) task phase
+renumbered-reply client slot task Queued = refl
+renumbered-reply client slot task (Begun progress) = refl
+renumbered-reply client slot task (Sent answer) = ap Some (renumbered-answered client slot task.ticket task.buffer answer task.request)
+renumbered-reply client slot task Gone = renumbered-aborted client slot task.ticket task.buffer task.request
+
+settled-own : (client : ℕ) (step : Step) (part : Part) (slot : ℕ) (rest : List ℕ) (entry : Entry) (reply : Option Reply)
+    → held_at part.entries slot ≡ Some entry → entry_reply (slot_tag client slot) entry ≡ reply → IsOwnAct client step part (settled part slot rest reply)
+settled-own client step part slot rest entry None is none = refl
+settled-own client step part slot rest entry (Some reply) is replies =
+    rw (
+      held_at-solo_of client part.entries slot,
+      is,
+      reply_from-own client (suc slot) entry.task entry.task.phase,
+      ← (renumbered-reply client slot entry.task entry.task.phase),
+      replies,
+      map-own_task client part.entries slot None,
+    ) refl
+
+taken_held-own : (client : ℕ) (step : Step) (part : Part) (slot : ℕ) (rest : List ℕ) (held : Option Entry) → held_at part.entries slot ≡ held
+    → IsOwnAct client step part (settled part slot rest (option_and_then (entry_reply (slot_tag client slot)) held))
+taken_held-own client step part slot rest None is = refl
+taken_held-own client step part slot rest (Some entry) is = settled-own client step part slot rest entry (entry_reply (slot_tag client slot) entry) is refl
+
+taken-own : (client : ℕ) (step : Step) (part : Part) (ready : List ℕ) → IsOwnAct client step part (taken client part ready)
+taken-own client step part [] = refl
+taken-own client step part (slot ∷ rest) = taken_held-own client step part slot rest (held_at part.entries slot) refl
+
+pub take_act-own : (client : ℕ) (step : Step) (part : Part) → IsOwnAct client step part (take_act client part)
+take_act-own client step part = taken-own client step part part.ready
+
+-- an accepted submission is accepted by the client's own solo machine
+pub is_some-own : (client : ℕ) (held : Option Entry) → is_some (option_map (own_task client) held) ≡ is_some held
+is_some-own client None = refl
+is_some-own client (Some entry) = refl
+
+pub submitted_part-own : (client : ℕ) (part : Part) (slot ticket : ℕ) (command : Command) → nat_lt slot TASK_SLOT ≡ true
+    → fault_at part slot ticket command ≡ None →
+    solo_step (solo_of client part) (SubmitLabel (suc slot) ticket command) ≡ Some (silently (solo_of client (submitted_part part slot ticket command)))
+submitted_part-own client part slot ticket command within none =
+    rw (
+      within,
+      held_at-solo_of client part.entries slot,
+      is_some-own client (held_at part.entries slot),
+      none,
+      map-own_task client part.entries slot (Some (new_entry ticket command)),
+    ) refl

@@ -1,0 +1,9 @@
+pub mod Acts
+pub mod Managed
+pub mod Routes
+pub mod WholeRuns
+pub mod StepIsolation
+pub mod Worlds
+pub mod FirstBlocks
+pub mod Refusals
+pub mod Once

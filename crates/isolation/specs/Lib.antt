@@ -1,0 +1,6 @@
+pub mod Laws
+pub mod Isolation
+pub mod FirstBlocks
+pub mod Refusals
+pub mod StepIsolation
+pub mod Once

@@ -1,0 +1,637 @@
+-- Each step keeps what waits matched: cited by queue_laws, and wherever a step's fit carries IsMatched on.
+use Rattle.std.proofs.Common.{◌≡◌, ℕ, ◌<◌, ◌≤◌, true, false, cond, List, [], ◌∷◌, ◌++◌, length, Option, Some, None, refl, arith, ap, sym, suc}
+use Rattle.std.proofs.Common.{subst, ◌∙◌, option_map}
+use Rattle.std.specs.Prelude.{slice_get, slice_set, option_and_then, ◌&&◌, if◌then◌else◌}
+use Rattle.std.specs.Option.{option_map_or}
+use Rattle.std.proofs.lemmas.Bool.{and_left, false≢true, and_parts}
+use Rattle.std.proofs.lemmas.List.{append-nil, get_or-set_other, set-set}
+use Rattle.arrayvec.specs.ArrayVec.{ArrayVec}
+use Rattle.block_unit.specs.BlockMaps.{BlockMaps}
+use Rattle.uas_profile.specs.declared.Pipe.{Pipe}
+use Rattle.scsi_cmd.specs.Request.{is_command}
+use Rattle.scsi_cmd.specs.declared.Task.{Task}
+use Rattle.uas_profile.specs.declared.TheConstants.{TASK_SLOT}
+use Rattle.scsi_cmd.specs.declared.Op.{Op}
+use Rattle.scsi_cmd.specs.declared.Reply.{Reply}
+use Rattle.scsi_cmd.specs.declared.Request.{Request}
+use Rattle.scsi_cmd.specs.declared.Request.TheVariants.{Execute, Manage}
+use Rattle.scsi_cmd.specs.Held.{held_at}
+use Rattle.device_server.specs.declared.Answer.{Answer}
+use Rattle.device_server.specs.declared.Progress.TheVariants.{Moving, Ended}
+use Rattle.solo_model.specs.TaggedTask.{TaggedTask, can_be_ended, can_go, carried_from, carried_request, is_noted, moved_from, moved_request}
+use Rattle.solo_model.specs.TaggedTask.{reply_of, sent_from, unit_after}
+use Rattle.solo_model.specs.declared.Phase.{Phase}
+use Rattle.solo_model.specs.declared.Phase.TheVariants.{Queued, Begun, Sent, Gone}
+use Rattle.uas_profile.specs.TdStates.{is_pending}
+use Rattle.uas_profile.specs.declared.Place.{Place}
+use Rattle.uas_profile.specs.Places.{place_of, command_slot}
+use Rattle.shared_machine.specs.declared.Completion.{Completion}
+use Rattle.shared_machine.specs.declared.Outcome.{Outcome}
+use Rattle.shared_machine.specs.declared.Step.{Step}
+use Rattle.shared_machine.specs.declared.Td.{Td}
+use Rattle.shared_machine.specs.declared.Mark.TheVariants.{Carry}
+use Rattle.shared_machine.specs.declared.Completion.TheVariants.{CommandDone, DataDone, StatusDone, EngineDone}
+use Rattle.shared_machine.specs.declared.Step.TheVariants.{Submit, Task as TaskStep, CommandPipe, Data, Status, Engine, Event, Retire, Take}
+use Rattle.shared_machine.specs.Td.{Entry, has_trb, is_awaited, is_ready, data_trbs, has_trb_on, is_left_over_on, left_over_data, left_over_td}
+use Rattle.shared_machine.specs.Part.{Part, Act, with_entry, carry_act, carried_slot, carried_entry, entries_after, noted_entry, is_last_trb, took_trb, move_act}
+use Rattle.shared_machine.specs.Part.{moved_slot, moved_entry, send_act, sent_slot, sent_entry, event_act, event_place, seen_by, seen_entry, after_answer}
+use Rattle.shared_machine.specs.Part.{after_event, doomed, ready_after, take_act, taken, settled, entry_reply, slot_tag}
+use Rattle.shared_machine.specs.Replay.{replayed}
+use Rattle.shared_machine.specs.Shared.{Shared, idle, shared_step, acted_on, carry_step, routed_to, routed_by_tag, due_step, due, has_ready, is_some_of, routed}
+use Rattle.shared_machine.specs.Shared.{event_step, is_moving, is_ended, data_is_due, status_is_due, event_seen}
+use Rattle.shared_machine.specs.Soundness.{one_if, awaited_data, readied_of, times_in}
+use Rattle.machine_invariant.specs.Matched.{times, held_in, under, command_events, data_events, status_events, waiting_command, awaited_command}
+use Rattle.machine_invariant.specs.Matched.{awaited_status, awaited_data_of, awaits_data, awaits_event, IsRequestIn, IsMatchedAt, IsMatched, retired_places}
+use Rattle.machine_invariant.specs.Matched.{is_td_event, is_whole_on}
+use Rattle.machine_invariant.proofs.MatchedPlaces.{one_self, one_if-true, one_if-most, one_equal, one_apart, command_events-append, data_events-append}
+use Rattle.machine_invariant.proofs.MatchedPlaces.{status_events-append, held-within, IsWritten, times_ready-written, AreMatched-written, clients-written, IsCounted}
+use Rattle.machine_invariant.proofs.MatchedPlaces.{counted-of, matched-of}
+use Rattle.machine_invariant.proofs.MatchedEntries.{carried_to, has_trb-queued, carry-stepped, moved_to, moved_events, IsDataEvent, data_event-is, move-stepped}
+use Rattle.machine_invariant.proofs.MatchedEntries.{sent_to, send-stepped, HasSeen, IsSeenAs, event-seen}
+use Rattle.machine_invariant.proofs.MatchedEntries.{moving_op, chunk_task, entries_after-command, carry-tds, move-tds, send-tds}
+use Rattle.machine_invariant.proofs.MatchedEnds.{IsQuiet, ready-quiet, HasReply, done-reply, ready-left}
+use Rattle.shared_machine.proofs.Standing.{slice_get-slice_set_same}
+use Rattle.machine_invariant.proofs.MatchedTds.{none-goes}
+use Rattle.machine_invariant.proofs.MatchedFlows.{pipes-same, HeldGoesOn, written-goes, goes-on, IsCounted-kept}
+pub use Rattle.machine_invariant.proofs.MatchedActs.{IsHeld, matched-held, times_ready-there, IsDueAt, place_fact-due, seen_part, seen_state, seen-written}
+use Rattle.machine_invariant.proofs.MatchedActs.{NamesAlone, acted_state, acted-matched, under-there, seen-matched}
+use Rattle.machine_invariant.proofs.MatchedOthers.{AreAlike, changed_part, changed_state, alike-counted, noted-alike, doomed-alike}
+use Rattle.machine_invariant.proofs.MatchedSubmissions.{submitted_under-matched, task_step-matched}
+use Rattle.machine_invariant.proofs.MatchedEngine.{engine_step-matched, retire_step-matched, engine_event-matched}
+use Rattle.machine_invariant.proofs.OrderedManaged.{of_client, noted-as_received, noted-as_seen}
+use Rattle.machine_invariant.proofs.Ordered.{shared_step-ordered}
+use Rattle.machine_invariant.proofs.OrderedEntries.{held-changed}
+
+-- CARRY
+
+-- a place that a message names has an entry that waits for it
+pub record HasWaiting (held : Option Entry) : Type 0 where
+  pub entry : Entry
+  pub is : held ≡ Some entry
+  pub waits : has_trb entry.command_td 1 ≡ true
+
+waiting-some : (held : Option Entry) → 1 ≤ waiting_command held → HasWaiting held
+waiting-some None some = absurd (omega (arith, some))
+waiting-some (Some entry) some = record { entry = entry; is = refl; waits = one_if-true (has_trb entry.command_td 1) some }
+
+pub message-waiting : (state : Shared) (place : Place) → IsMatched state → 1 ≤ times place state.messages → HasWaiting (under state.parts place)
+message-waiting state place all some = waiting-some (under state.parts place) (omega (arith, some, (all.places place).messages))
+
+carry-alone : (place : Place) → NamesAlone place (place ∷ []) (CommandDone place ∷ [])
+carry-alone place = record {
+  messages = λ other apart. omega (arith, ap one_if apart);
+  carried = λ other apart. omega (arith, ap one_if apart);
+  moved = λ other apart. refl;
+  sent = λ other apart. refl;
+}
+
+-- what it is to the client's part that the device receives a command
+abbrev pub command_act : Part → Place → Entry → BlockMaps × TaggedTask → Act
+command_act part place entry after = record {
+  part = with_entry (record part { unit = after.0 }) place.slot (carried_to entry after.1);
+  event = Some (CommandDone place);
+  mark = Carry (suc place.slot);
+  reply = None;
+}
+
+command_act-is : (part : Part) (place : Place) (entry : Entry) (after : BlockMaps × TaggedTask) → is_command entry.task.request ≡ true →
+    carried_entry part place.slot place entry (Some after) ≡ command_act part place entry after
+command_act-is part place entry after command =
+    ap (λ entries. record (command_act part place entry after) {
+      part = with_entry (record part { unit = after.0; entries = entries }) place.slot
+          (carried_to entry after.1);
+    }) (entries_after-command entry.task.request part.entries command)
+
+-- the first message leaves the command pipe: the state after it
+pub carry_step-is : (state : Shared) (place : Place) (rest : List Place) (part : Part) (entry : Entry) → slice_get state.parts place.client ≡ Some part →
+    held_at part.entries place.slot ≡ Some entry → entry.task.phase ≡ Queued →
+    carry_step state (place ∷ rest) ≡ acted_on (record state { messages = rest }) place.client
+    (carried_entry part place.slot place entry (Some (carried_request part.unit entry.task entry.task.request)))
+carry_step-is state place rest part entry there held queued =
+    let popped : Shared = record state { messages = rest } in
+    ap (λ found. routed_to popped place.client (carry_act place) found) there
+    ∙ ap (λ found. acted_on popped place.client (carried_slot part place.slot place found)) held
+    ∙ ap (λ phase. acted_on popped place.client (carried_entry part place.slot place entry (carried_from part.unit entry.task phase))) queued
+
+-- the same of a command
+pub carry_step-held : (state : Shared) (place : Place) (rest : List Place) (part : Part) (entry : Entry) → slice_get state.parts place.client ≡ Some part →
+    held_at part.entries place.slot ≡ Some entry → is_command entry.task.request ≡ true → entry.task.phase ≡ Queued →
+    carry_step state (place ∷ rest) ≡ acted_on (record state { messages = rest }) place.client
+    (command_act part place entry (carried_request part.unit entry.task entry.task.request))
+carry_step-held state place rest part entry there held command queued =
+    let popped : Shared = record state { messages = rest } in
+    carry_step-is state place rest part entry there held queued
+    ∙ ap (λ act. acted_on popped place.client act) (command_act-is part place entry (carried_request part.unit entry.task entry.task.request) command)
+
+command-received : (state : Shared) (place : Place) (rest : List Place) (part : Part) (entry : Entry) → slice_get state.parts place.client ≡ Some part →
+    held_at part.entries place.slot ≡ Some entry → is_command entry.task.request ≡ true → entry.task.phase ≡ Queued → state.messages ≡ place ∷ rest →
+    IsMatchedAt state place (Some entry) → IsMatched state → IsCounted (carry_step state (place ∷ rest)).0
+command-received state place rest part entry there held command queued is here all =
+    let after : BlockMaps × TaggedTask = carried_request part.unit entry.task entry.task.request in
+    subst (λ (now : Shared × Outcome). IsCounted now.0) (sym (carry_step-held state place rest part entry there held command queued))
+    (acted-matched state place part after.0 entry (carried_to entry after.1) (place ∷ []) rest (CommandDone place ∷ []) there held is (carry-alone place) refl
+    (carry-tds part.unit entry) (carry-stepped part.unit place entry queued here.sound) here (counted-of state all))
+
+-- A TASK MANAGEMENT IS RECEIVED
+
+-- what stands in another slot of a client that is there
+other-sound : (state : Shared) (place : Place) (part : Part) (slot : ℕ) (entry : Entry) → slice_get state.parts place.client ≡ Some part →
+    held_at part.entries slot ≡ Some entry → IsCounted state → IsMatchedAt state (of_client place slot) (Some entry)
+other-sound state place part slot entry there held all =
+    subst (λ found. IsMatchedAt state (of_client place slot) found) (under-there state.parts (of_client place slot) part (Some entry) there held)
+    (all.matched.places (of_client place slot))
+
+-- a command isn't in the last slot
+command-slot : (slot : ℕ) (request : Request) → is_command request ≡ true → IsRequestIn slot request → slot < TASK_SLOT
+command-slot slot (Execute op) command is = is
+command-slot slot (Manage what noted) command is = absurd (false≢true command)
+
+-- a task management notes no other, itself included
+managed-same : (noted : List ℕ) (entry : Entry) → is_command entry.task.request ≡ false → noted_entry noted entry ≡ entry
+managed-same noted entry is =
+    ap (λ b. record entry { task = if b then record entry.task { phase = Gone } else entry.task })
+    (and_left (can_be_ended entry.task) (is_noted noted entry.task.ticket) (and_left (is_command entry.task.request) (can_go entry.task.phase) is))
+
+management-received : (state : Shared) (place : Place) (rest : List Place) (part : Part) (entry : Entry) (what : Task) (noted : ArrayVec ℕ) →
+    slice_get state.parts place.client ≡ Some part → held_at part.entries place.slot ≡ Some entry → entry.task.request ≡ Manage what noted →
+    entry.task.phase ≡ Queued → state.messages ≡ place ∷ rest → IsMatchedAt state place (Some entry) → IsMatched state →
+    IsCounted (carry_step state (place ∷ rest)).0
+management-received state place rest part entry what noted there held asks queued is here all =
+    let counted : IsCounted state = counted-of state all in
+    let change : Entry → Entry = noted_entry noted.items in
+    let base : Shared = changed_state state place.client change part in
+    let now_part : Part = changed_part change part in
+    let after : BlockMaps × TaggedTask = carried_request part.unit entry.task entry.task.request in
+    let posted : List Completion = CommandDone place ∷ [] in
+    let bases : IsCounted base = alike-counted state place.client change part there each counted in
+    let base_there : slice_get base.parts place.client ≡ Some now_part = slice_get-slice_set_same state.parts place.client part now_part there in
+    let base_held : held_at now_part.entries place.slot ≡ Some entry =
+    held-changed change part.entries place.slot ∙ ap (option_map change) held ∙ ap Some (managed-same noted.items entry (ap (λ r. is_command r) asks)) in
+    let base_here : IsMatchedAt base place (Some entry) = other-sound base place now_part place.slot entry base_there base_held bases in
+    let acted : Shared = acted_state base place now_part after.0 (carried_to entry after.1) rest posted in
+    let step : (carry_step state (place ∷ rest)).0 ≡ acted =
+    ap (λ (after : Shared × Outcome). after.0) (carry_step-is state place rest part entry there held queued)
+    ∙ ap (λ entries. record state {
+      parts = slice_set state.parts place.client
+          (with_entry (record part { entries = entries; unit = after.0 }) place.slot (carried_to entry after.1));
+      messages = rest;
+      events = state.events ++ posted;
+    }) (ap (λ r. entries_after r part.entries) asks)
+    ∙ ap (λ parts. record state { parts = parts; messages = rest; events = state.events ++ posted })
+    (sym (set-set state.parts place.client now_part (with_entry (record now_part { unit = after.0 }) place.slot (carried_to entry after.1)))) in
+    subst IsCounted (sym step)
+    (acted-matched base place now_part after.0 entry (carried_to entry after.1) (place ∷ []) rest posted base_there base_held is (carry-alone place) refl
+    (carry-tds part.unit entry) (carry-stepped part.unit place entry queued here.sound) base_here bases)
+  where
+    each : AreAlike (noted_entry noted.items) part.entries
+    each slot other is_other =
+        let at : IsMatchedAt state (of_client place slot) (Some other) = other-sound state place part slot other there is_other (counted-of state all) in
+        noted-alike noted.items slot other
+        (λ command noted_is. (noted-as_received state place rest entry what noted all is (under-there state.parts place part (Some entry) there held) asks slot
+        other (command-slot slot other.task.request command at.sound.asks) (under-there state.parts (of_client place slot) part (Some other) there is_other)
+        ).received noted_is)
+        at.sound
+
+pub carry_step-matched : (state : Shared) (messages : List Place) → state.messages ≡ messages → IsMatched state → IsCounted (carry_step state messages).0
+carry_step-matched state [] is all = counted-of state all
+carry_step-matched state (place ∷ rest) is all =
+    let some : 1 ≤ times place state.messages = omega (arith, ap (times place) is, one_self place) in
+    let waiting : HasWaiting (under state.parts place) = message-waiting state place all some in
+    let at : IsHeld state place waiting.entry = matched-held state place waiting.entry all waiting.is in
+    let queued : waiting.entry.task.phase ≡ Queued =
+    has_trb-queued waiting.entry.task.phase waiting.entry.command_td at.here.sound.command waiting.waits in
+    by_request waiting.entry at.found.part waiting.entry.task.request refl at.found.there at.found.held queued at.here
+  where
+    by_request : (entry : Entry) (part : Part) (request : Request) → entry.task.request ≡ request → slice_get state.parts place.client ≡ Some part →
+        held_at part.entries place.slot ≡ Some entry → entry.task.phase ≡ Queued → IsMatchedAt state place (Some entry) →
+        IsCounted (carry_step state (place ∷ rest)).0
+    by_request entry part (Execute op) asks there held queued here =
+        command-received state place rest part entry there held (ap (λ r. is_command r) asks) queued is here all
+    by_request entry part (Manage what noted) asks there held queued here =
+        management-received state place rest part entry what noted there held asks queued is here all
+
+-- MOVE
+
+pub record IsMovingBy (phase : Phase) : Type 0 where
+  pub chunk : ℕ
+  pub is : phase ≡ Begun (Moving chunk)
+
+pub moving_phase : (phase : Phase) → is_moving phase ≡ true → IsMovingBy phase
+moving_phase Queued is = absurd (false≢true is)
+moving_phase (Begun (Moving chunk)) is = record { chunk = chunk; is = refl }
+moving_phase (Begun (Ended answer)) is = absurd (false≢true is)
+moving_phase (Sent answer) is = absurd (false≢true is)
+moving_phase Gone is = absurd (false≢true is)
+
+move_step-held : (state : Shared) (tag : ℕ) (place : Place) (part : Part) (entry : Entry) (chunk : ℕ) (op : Op)
+    → place_of (length state.parts) tag ≡ Some place →
+    slice_get state.parts place.client ≡ Some part → held_at part.entries place.slot ≡ Some entry → entry.task.phase ≡ Begun (Moving chunk) →
+    entry.task.request ≡ Execute op →
+    routed_by_tag state move_act (place_of (length state.parts) tag) ≡ acted_on state place.client
+    (moved_entry part place.slot place entry (Some (unit_after part.unit entry.task.buffer chunk op, chunk_task part.unit entry.task chunk op)))
+move_step-held state tag place part entry chunk op named there held moving asks =
+    ap (λ p. routed_by_tag state move_act p) named
+    ∙ ap (λ found. routed_to state place.client (move_act place) found) there
+    ∙ ap (λ found. acted_on state place.client (moved_slot part place.slot place found)) held
+    ∙ ap (λ phase. acted_on state place.client (moved_entry part place.slot place entry (moved_from part.unit entry.task phase))) moving
+    ∙ ap (λ r. acted_on state place.client (moved_entry part place.slot place entry (moved_request part.unit entry.task chunk r))) asks
+
+-- a chunk of what stands at a place
+chunk-counted : (state : Shared) (tag : ℕ) (place : Place) (part : Part) (entry : Entry) (chunk : ℕ) (op : Op) →
+    place_of (length state.parts) tag ≡ Some place → slice_get state.parts place.client ≡ Some part
+    → held_at part.entries place.slot ≡ Some entry → entry.task.phase ≡ Begun (Moving chunk) → entry.task.request ≡ Execute op
+    → IsMatchedAt state place (Some entry) → IsCounted state
+    → IsCounted (routed_by_tag state move_act (place_of (length state.parts) tag)).0
+chunk-counted state tag place part entry chunk op named there held moving asks here all =
+    let task : TaggedTask = chunk_task part.unit entry.task chunk op in
+    let unit : BlockMaps = unit_after part.unit entry.task.buffer chunk op in
+    let posted : List Completion = moved_events entry task place in
+    let event : IsDataEvent place posted = data_event-is (is_last_trb (took_trb task.phase) (data_trbs entry.task.request) entry.data_td) place in
+    subst IsCounted (sym (ap (λ (now : Shared × Outcome). now.0) (move_step-held state tag place part entry chunk op named there held moving asks)))
+    (acted-matched state place part unit entry (moved_to entry task) [] state.messages posted there held refl
+    (record { messages = λ other apart. refl; carried = event.carried; moved = event.moved; sent = event.sent }) event.retired
+    (move-tds part.unit place.slot entry chunk op moving here.sound)
+    (move-stepped part.unit place entry chunk op asks moving here.sound) here all)
+
+move_step-matched : (state : Shared) (tag : ℕ) → due state (Data tag) ≡ true → IsMatched state
+    → IsCounted (routed_by_tag state move_act (place_of (length state.parts) tag)).0
+move_step-matched state tag is_due all =
+    let at : IsDueAt state tag (data_is_due state tag) = place_fact-due state tag (data_is_due state tag) is_due in
+    let entry : Entry = at.entry in
+    let held : IsHeld state at.place entry = matched-held state at.place entry all at.held in
+    let moving : IsMovingBy entry.task.phase = moving_phase entry.task.phase (and_parts (is_moving entry.task.phase) _ at.so).0 in
+    let asks : (op : Op) × (entry.task.request ≡ Execute op) = moving_op entry.task.request entry.task.phase moving.chunk moving.is held.here.sound.answers in
+    chunk-counted state tag at.place held.found.part entry moving.chunk asks.0 at.named held.found.there held.found.held moving.is asks.1 held.here
+    (counted-of state all)
+
+-- SEND
+
+pub record IsEndedBy (phase : Phase) : Type 0 where
+  pub answer : Answer
+  pub is : phase ≡ Begun (Ended answer)
+
+pub ended_phase : (phase : Phase) → is_ended phase ≡ true → IsEndedBy phase
+ended_phase Queued is = absurd (false≢true is)
+ended_phase (Begun (Moving chunk)) is = absurd (false≢true is)
+ended_phase (Begun (Ended answer)) is = record { answer = answer; is = refl }
+ended_phase (Sent answer) is = absurd (false≢true is)
+ended_phase Gone is = absurd (false≢true is)
+
+pub send_step-held : (state : Shared) (tag : ℕ) (place : Place) (part : Part) (entry : Entry) (answer : Answer)
+    → place_of (length state.parts) tag ≡ Some place →
+    slice_get state.parts place.client ≡ Some part → held_at part.entries place.slot ≡ Some entry → entry.task.phase ≡ Begun (Ended answer) →
+    routed_by_tag state send_act (place_of (length state.parts) tag) ≡ acted_on state place.client
+    (sent_entry part place.slot place entry (Some (record entry.task { phase = Sent answer })))
+send_step-held state tag place part entry answer named there held ended =
+    ap (λ p. routed_by_tag state send_act p) named
+    ∙ ap (λ found. routed_to state place.client (send_act place) found) there
+    ∙ ap (λ found. acted_on state place.client (sent_slot part place.slot place found)) held
+    ∙ ap (λ phase. acted_on state place.client (sent_entry part place.slot place entry (sent_from entry.task phase))) ended
+
+send-alone : (place : Place) → NamesAlone place [] (StatusDone place ∷ [])
+send-alone place = record {
+  messages = λ other apart. refl;
+  carried = λ other apart. refl;
+  moved = λ other apart. refl;
+  sent = λ other apart. omega (arith, ap one_if apart);
+}
+
+send_step-matched : (state : Shared) (tag : ℕ) → due state (Status tag) ≡ true → IsMatched state
+    → IsCounted (routed_by_tag state send_act (place_of (length state.parts) tag)).0
+send_step-matched state tag is_due all =
+    let at : IsDueAt state tag (status_is_due state tag) = place_fact-due state tag (status_is_due state tag) is_due in
+    let place : Place = at.place in
+    let entry : Entry = at.entry in
+    let held : IsHeld state place entry = matched-held state place entry all at.held in
+    let part : Part = held.found.part in
+    let ended : IsEndedBy entry.task.phase = ended_phase entry.task.phase (and_parts (is_ended entry.task.phase) _ at.so).0 in
+    subst (λ (now : Shared × Outcome). IsCounted now.0)
+    (sym (send_step-held state tag place part entry ended.answer at.named held.found.there held.found.held ended.is))
+    (acted-matched state place part part.unit entry (sent_to entry ended.answer) [] state.messages (StatusDone place ∷ []) held.found.there held.found.held refl
+    (send-alone place) refl (send-tds place.slot entry ended.answer ended.is held.here.sound)
+    (send-stepped place entry ended.answer ended.is held.here.sound) held.here (counted-of state all))
+
+-- EVENT
+
+-- how many events as this one wait
+abbrev pub times_alike : Completion → List Completion → ℕ
+times_alike (CommandDone place) events = command_events place events
+times_alike (DataDone place) events = data_events place events
+times_alike (StatusDone place) events = status_events place events
+times_alike (EngineDone place) events = times place (retired_places events)
+
+-- a place that an event names has an entry that awaits it
+pub record HasAwaiting (event : Completion) (held : Option Entry) : Type 0 where
+  pub entry : Entry
+  pub is : held ≡ Some entry
+  pub awaits : awaits_event event entry ≡ true
+
+command-awaited : (place : Place) (held : Option Entry) → 1 ≤ awaited_command held → HasAwaiting (CommandDone place) held
+command-awaited place None some = absurd (omega (arith, some))
+command-awaited place (Some entry) some = record { entry = entry; is = refl; awaits = one_if-true (is_awaited entry.command_td 1) some }
+
+data_td-awaited : (trbs : ℕ) (td : Option Td) → 1 ≤ awaited_data trbs td → awaits_data trbs td ≡ true
+data_td-awaited trbs None some = absurd (omega (arith, some))
+data_td-awaited trbs (Some td) some = one_if-true (is_awaited td trbs) some
+
+data-awaited : (place : Place) (held : Option Entry) → 1 ≤ awaited_data_of held → HasAwaiting (DataDone place) held
+data-awaited place None some = absurd (omega (arith, some))
+data-awaited place (Some entry) some = record { entry = entry; is = refl; awaits = data_td-awaited (data_trbs entry.task.request) entry.data_td some }
+
+status-awaited : (place : Place) (held : Option Entry) → 1 ≤ awaited_status held → HasAwaiting (StatusDone place) held
+status-awaited place None some = absurd (omega (arith, some))
+status-awaited place (Some entry) some = record { entry = entry; is = refl; awaits = one_if-true (is_awaited entry.status_td 1) some }
+
+pub event-awaited : (state : Shared) (event : Completion) → IsMatched state → is_td_event event ≡ true → 1 ≤ times_alike event state.events
+    → HasAwaiting event (under state.parts (event_place event))
+event-awaited state (CommandDone place) all of_td some =
+    command-awaited place (under state.parts place) (omega (arith, some, (all.places place).carried))
+event-awaited state (DataDone place) all of_td some = data-awaited place (under state.parts place) (omega (arith, some, (all.places place).moved))
+event-awaited state (StatusDone place) all of_td some = status-awaited place (under state.parts place) (omega (arith, some, (all.places place).sent))
+event-awaited state (EngineDone place) all of_td some = absurd (false≢true of_td)
+
+-- the event that is next is one of those that wait
+pub times_alike-first : (event : Completion) (rest : List Completion) → 1 ≤ times_alike event (event ∷ rest)
+times_alike-first (CommandDone place) rest = omega (arith, one_self place)
+times_alike-first (DataDone place) rest = omega (arith, one_self place)
+times_alike-first (StatusDone place) rest = omega (arith, one_self place)
+times_alike-first (EngineDone place) rest = omega (arith, one_self place)
+
+-- the host takes an event of a TD as an act of its client
+pub event_seen-td : (state : Shared) (event : Completion) → is_td_event event ≡ true →
+    event_seen state event ≡ routed state (event_place event).client (event_act event)
+event_seen-td state (CommandDone place) of_td = refl
+event_seen-td state (DataDone place) of_td = refl
+event_seen-td state (StatusDone place) of_td = refl
+event_seen-td state (EngineDone place) of_td = absurd (false≢true of_td)
+
+-- the part after an event was seen: the response of a task management leaves over what it ended
+abbrev pub told_part : Completion → Part → ℕ → Entry → Part
+told_part event part slot entry = record part {
+  entries = after_event event entry.task.request (slice_set part.entries slot (Some entry));
+  ready = ready_after part.ready slot entry;
+}
+
+-- the state after it
+abbrev pub told_state : Shared → Completion → Part → Entry → List Completion → Shared
+told_state state event part entry rest = record state {
+  parts = slice_set state.parts (event_place event).client (told_part event part (event_place event).slot entry);
+  events = rest ++ [];
+}
+
+pub event_step-held : (state : Shared) (event : Completion) (rest : List Completion) (part : Part) (old new : Entry) → is_td_event event ≡ true →
+    slice_get state.parts (event_place event).client ≡ Some part → held_at part.entries (event_place event).slot ≡ Some old → seen_by event old ≡ Some new
+    → (event_step state (event ∷ rest)).0 ≡ told_state state event part new rest
+event_step-held state event rest part old new of_td there held seen =
+    let popped : Shared = record state { events = rest } in
+    let place : Place = event_place event in
+    ap (λ (after : Shared × Outcome). after.0) (event_seen-td popped event of_td)
+    ∙ ap (λ found. (routed_to popped place.client (event_act event) found).0) there
+    ∙ ap (λ found. (acted_on popped place.client (seen_entry event part place.slot (option_and_then (seen_by event) found))).0) held
+    ∙ ap (λ after. (acted_on popped place.client (seen_entry event part place.slot after)).0) seen
+
+-- an event that is no response changes nothing of the client's other entries
+pub told-alone : (state : Shared) (event : Completion) (rest : List Completion) (part : Part) (new : Entry) →
+    ((entries : List (Option Entry)) → after_event event new.task.request entries ≡ entries) →
+    told_state state event part new rest ≡ seen_state state (event_place event) part new rest
+told-alone state event rest part new alone =
+    ap (λ entries. record state {
+      parts = slice_set state.parts (event_place event).client
+          (record part { entries = entries; ready = ready_after part.ready (event_place event).slot new });
+      events = rest ++ [];
+    }) (alone (slice_set part.entries (event_place event).slot (Some new)))
+
+-- THE RESPONSE OF A TASK MANAGEMENT
+
+-- it leaves itself as it is
+undoomed-same : (noted : List ℕ) (entry : Entry) → is_command entry.task.request ≡ false → doomed noted entry ≡ entry
+undoomed-same noted entry is =
+    ap (λ b. if b then record entry { status_td = left_over_td entry.status_td; data_td = left_over_data entry.data_td } else entry)
+    (and_left (is_command entry.task.request) (is_pending entry.status_td.state && is_noted noted entry.task.ticket) is)
+
+-- what stands where the event is of
+pub told-own : (event : Completion) (request : Request) (entries : List (Option Entry)) (slot : ℕ) (new : Entry) → new.task.request ≡ request →
+    held_at entries slot ≡ Some new → held_at (after_event event request entries) slot ≡ Some new
+told-own (CommandDone place) request entries slot new asks held = held
+told-own (DataDone place) request entries slot new asks held = held
+told-own (StatusDone place) (Execute op) entries slot new asks held = held
+told-own (StatusDone place) (Manage what noted) entries slot new asks held =
+    held-changed (doomed noted.items) entries slot ∙ ap (option_map (doomed noted.items)) held
+    ∙ ap Some (undoomed-same noted.items new (ap (λ r. is_command r) asks))
+told-own (EngineDone place) request entries slot new asks held = held
+
+response-seen : (state : Shared) (place : Place) (rest : List Completion) (part : Part) (old new : Entry) (what : Task) (noted : ArrayVec ℕ) →
+    state.events ≡ StatusDone place ∷ rest → slice_get state.parts place.client ≡ Some part → held_at part.entries place.slot ≡ Some old →
+    old.task.request ≡ Manage what noted → IsSeenAs (StatusDone place) old new → IsMatchedAt state place (Some old) → IsMatched state →
+    IsCounted (told_state state (StatusDone place) part new rest)
+response-seen state place rest part old new what noted is there held asks seen here all =
+    let event : Completion = StatusDone place in
+    let change : Entry → Entry = doomed noted.items in
+    let base : Shared = seen_state state place part new rest in
+    let now_part : Part = seen_part part place.slot new in
+    let bases : IsCounted base = seen-matched state event rest part old new refl is there held seen here (counted-of state all) in
+    let base_there : slice_get base.parts place.client ≡ Some now_part = slice_get-slice_set_same state.parts place.client part now_part there in
+    let slot : place.slot ≡ TASK_SLOT = subst (λ r. IsRequestIn place.slot r) asks here.sound.asks in
+    let step : told_state state event part new rest ≡ changed_state base place.client change now_part =
+    ap (λ entries. record state {
+      parts = slice_set state.parts place.client (record part { entries = entries; ready = ready_after part.ready place.slot new });
+      events = rest ++ [];
+    }) (ap (λ r. after_answer r (slice_set part.entries place.slot (Some new))) (seen.tds.request ∙ asks))
+    ∙ ap (λ parts. record state { parts = parts; events = rest ++ [] }) (sym (set-set state.parts place.client now_part (changed_part change now_part))) in
+    subst IsCounted (sym step)
+    (alike-counted base place.client change now_part base_there (each base bases now_part base_there slot refl) bases)
+  where
+    each : (base : Shared) → IsCounted base → (now_part : Part) → slice_get base.parts place.client ≡ Some now_part → place.slot ≡ TASK_SLOT →
+        now_part.entries ≡ slice_set part.entries place.slot (Some new) → AreAlike (doomed noted.items) now_part.entries
+    each base bases now_part base_there last entries slot other is_other =
+        let at : IsMatchedAt base (of_client place slot) (Some other) = other-sound base place now_part slot other base_there is_other bases in
+        doomed-alike noted.items slot other
+        (λ command noted_is pends.
+        let within : slot < TASK_SLOT = command-slot slot other.task.request command at.sound.asks in
+        let was : held_at part.entries slot ≡ Some other =
+        sym (get_or-set_other part.entries place.slot slot (Some new) None (λ same. omega (arith, same, last, within)))
+        ∙ sym (ap (λ es. held_at es slot) entries) ∙ is_other in
+        let found : under state.parts (of_client place slot) ≡ Some other = under-there state.parts (of_client place slot) part (Some other) there was in
+        let given = noted-as_seen state place rest old what noted all is (under-there state.parts place part (Some old) there held) asks slot other within found
+        noted_is pends in
+        let before : IsMatchedAt state (of_client place slot) (Some other) = other-sound state place part slot other there was (counted-of state all) in
+        record {
+          gone = given.gone;
+          unawaited = sym before.moved ∙ ap (data_events (of_client place slot)) is ∙ given.data_none;
+        })
+        at.sound
+
+status-seen_matched : (state : Shared) (place : Place) (rest : List Completion) (part : Part) (old new : Entry) (request : Request) →
+    old.task.request ≡ request → state.events ≡ StatusDone place ∷ rest → slice_get state.parts place.client ≡ Some part →
+    held_at part.entries place.slot ≡ Some old → IsSeenAs (StatusDone place) old new → IsMatchedAt state place (Some old) → IsMatched state →
+    IsCounted (told_state state (StatusDone place) part new rest)
+status-seen_matched state place rest part old new (Execute op) asks is there held seen here all =
+    subst IsCounted (sym (told-alone state (StatusDone place) rest part new (λ entries. ap (λ r. after_answer r entries) (seen.tds.request ∙ asks))))
+    (seen-matched state (StatusDone place) rest part old new refl is there held seen here (counted-of state all))
+status-seen_matched state place rest part old new (Manage what noted) asks is there held seen here all =
+    response-seen state place rest part old new what noted is there held asks seen here all
+
+-- an event of a TD, by its kind
+told-matched : (state : Shared) (event : Completion) (rest : List Completion) (part : Part) (old new : Entry) → is_td_event event ≡ true →
+    state.events ≡ event ∷ rest → slice_get state.parts (event_place event).client ≡ Some part → held_at part.entries (event_place event).slot ≡ Some old →
+    IsSeenAs event old new → IsMatchedAt state (event_place event) (Some old) → IsMatched state → IsCounted (told_state state event part new rest)
+told-matched state (CommandDone place) rest part old new of_td is there held seen here all =
+    seen-matched state (CommandDone place) rest part old new refl is there held seen here (counted-of state all)
+told-matched state (DataDone place) rest part old new of_td is there held seen here all =
+    seen-matched state (DataDone place) rest part old new refl is there held seen here (counted-of state all)
+told-matched state (StatusDone place) rest part old new of_td is there held seen here all =
+    status-seen_matched state place rest part old new old.task.request refl is there held seen here all
+told-matched state (EngineDone place) rest part old new of_td is there held seen here all = absurd (false≢true of_td)
+
+td_event_step-matched : (state : Shared) (event : Completion) (rest : List Completion) → is_td_event event ≡ true → state.events ≡ event ∷ rest →
+    IsMatched state → IsCounted (event_step state (event ∷ rest)).0
+td_event_step-matched state event rest of_td is all =
+    let some : 1 ≤ times_alike event state.events = subst (λ es. 1 ≤ times_alike event es) (sym is) (times_alike-first event rest) in
+    let awaiting : HasAwaiting event (under state.parts (event_place event)) = event-awaited state event all of_td some in
+    let held : IsHeld state (event_place event) awaiting.entry = matched-held state (event_place event) awaiting.entry all awaiting.is in
+    let seen : HasSeen event awaiting.entry = event-seen event awaiting.entry awaiting.awaits held.here.sound in
+    subst IsCounted (sym (event_step-held state event rest held.found.part awaiting.entry seen.new of_td held.found.there held.found.held seen.step.seen))
+    (told-matched state event rest held.found.part awaiting.entry seen.new of_td is held.found.there held.found.held seen.step held.here all)
+
+pub event_step-matched : (state : Shared) (events : List Completion) → state.events ≡ events → IsMatched state → IsCounted (event_step state events).0
+event_step-matched state [] is all = counted-of state all
+event_step-matched state (CommandDone place ∷ rest) is all = td_event_step-matched state (CommandDone place) rest refl is all
+event_step-matched state (DataDone place ∷ rest) is all = td_event_step-matched state (DataDone place) rest refl is all
+event_step-matched state (StatusDone place ∷ rest) is all = td_event_step-matched state (StatusDone place) rest refl is all
+event_step-matched state (EngineDone place ∷ rest) is all = engine_event-matched state place rest is all
+
+-- TAKE
+
+-- a slot that is first in its client's queue of ready slots has an entry that is ready, and isn't in the rest of the queue
+pub record IsFirstReady (held : Option Entry) (slot : ℕ) (rest : List ℕ) : Type 0 where
+  pub entry : Entry
+  pub is : held ≡ Some entry
+  pub ready : is_ready entry ≡ true
+  pub once : times_in slot rest ≡ 0
+
+pub first-ready : (held : Option Entry) (slot : ℕ) (rest : List ℕ) → times_in slot (slot ∷ rest) ≡ readied_of held → IsFirstReady held slot rest
+first-ready None slot rest counted = absurd (omega (arith, counted, one_equal slot))
+first-ready (Some entry) slot rest counted = record {
+  entry = entry;
+  is = refl;
+  ready = one_if-true (is_ready entry) (omega (arith, counted, one_equal slot));
+  once = omega (arith, counted, one_equal slot, one_if-most (is_ready entry));
+}
+
+abbrev pub settled_part : Part → ℕ → List ℕ → Part
+settled_part part slot rest = record part { entries = slice_set part.entries slot None; ready = rest }
+
+abbrev pub settled_state : Shared → Place → Part → List ℕ → Shared
+settled_state state place part rest = record state
+    { parts = slice_set state.parts place.client (settled_part part place.slot rest); events = state.events ++ [] }
+
+pub take_step-held : (state : Shared) (client slot : ℕ) (rest : List ℕ) (part : Part) (entry : Entry) (reply : Reply)
+    → slice_get state.parts client ≡ Some part →
+    part.ready ≡ slot ∷ rest → held_at part.entries slot ≡ Some entry → reply_of (slot_tag client slot) entry.task ≡ Some reply →
+    (routed state client (take_act client)).0 ≡ settled_state state (record { client = client; slot = slot }) part rest
+take_step-held state client slot rest part entry reply there queue held replies =
+    ap (λ found. (routed_to state client (take_act client) found).0) there
+    ∙ ap (λ ready. (acted_on state client (taken client part ready)).0) queue
+    ∙ ap (λ found. (acted_on state client (settled part slot rest (option_and_then (entry_reply (slot_tag client slot)) found))).0) held
+    ∙ ap (λ found. (acted_on state client (settled part slot rest found)).0) replies
+
+settled-written : (state : Shared) (place : Place) (part : Part) (rest : List ℕ) (entry : Entry) → slice_get state.parts place.client ≡ Some part →
+    part.ready ≡ place.slot ∷ rest → held_at part.entries place.slot ≡ Some entry → IsWritten state (settled_state state place part rest) place None
+settled-written state place part rest entry there queue held = record {
+  part = part;
+  now = settled_part part place.slot rest;
+  there = there;
+  within = held-within part.entries place.slot entry held;
+  parts = refl;
+  entries = refl;
+  queue = λ slot apart. omega (arith, ap (times_in slot) queue, one_apart place.slot slot apart);
+  others = λ other apart. record {
+    messages = refl;
+    carried = omega (arith, command_events-append other state.events []);
+    moved = omega (arith, data_events-append other state.events []);
+    sent = omega (arith, status_events-append other state.events []);
+  };
+}
+
+-- no TD of an entry that is ready is left over, and none of a place where nothing stands
+ready-goes : (pipe : Pipe) (entry : Entry) → is_ready entry ≡ true → HeldGoesOn pipe (Some entry) None
+ready-goes pipe entry ready =
+    none-goes (is_left_over_on pipe entry) (has_trb_on pipe entry) (is_whole_on pipe entry) false false false (ready-left pipe entry ready) refl
+    (λ has. absurd (false≢true has))
+
+settled-matched : (state : Shared) (place : Place) (part : Part) (rest : List ℕ) (entry : Entry) → slice_get state.parts place.client ≡ Some part →
+    part.ready ≡ place.slot ∷ rest → held_at part.entries place.slot ≡ Some entry → times_in place.slot rest ≡ 0 → is_ready entry ≡ true → IsQuiet entry
+    → IsMatchedAt state place (Some entry) → IsCounted state →
+    IsCounted (settled_state state place part rest)
+unfolding settled-written
+settled-matched state place part rest entry there queue held once ready quiet here all =
+    let now : Shared = settled_state state place part rest in
+    let written = settled-written state place part rest entry there queue held in
+    IsCounted-kept state now
+    (goes-on state now (clients-written state now place None written) refl (pipes-same state now refl refl refl)
+    (written-goes state now place None written
+    (λ pipe. subst (λ was. HeldGoesOn pipe was None) (sym (under-there state.parts place part (Some entry) there held)) (ready-goes pipe entry ready))))
+    (AreMatched-written state now place None written (record {
+      messages = here.messages ∙ quiet.messages;
+      carried = omega (arith, command_events-append place state.events [], here.carried, quiet.carried);
+      moved = omega (arith, data_events-append place state.events [], here.moved, quiet.moved);
+      sent = omega (arith, status_events-append place state.events [], here.sent, quiet.sent);
+      ready = times_ready-written state now place None written ∙ once;
+      sound = tt;
+    }) all.matched)
+    (ap (λ events. retired_places events) (append-nil state.events))
+    all
+
+take_queue : (state : Shared) (client : ℕ) (part : Part) (queue : List ℕ) → slice_get state.parts client ≡ Some part → part.ready ≡ queue
+    → is_some_of queue ≡ true → IsMatched state →
+    IsCounted (routed state client (take_act client)).0
+take_queue state client part [] there is some all = absurd (false≢true some)
+take_queue state client part (slot ∷ rest) there is some all =
+    let place : Place = record { client = client; slot = slot } in
+    let counted : times_in slot (slot ∷ rest) ≡ readied_of (under state.parts place) =
+    sym (ap (times_in slot) is) ∙ sym (times_ready-there state.parts place part there) ∙ (all.places place).ready in
+    let first : IsFirstReady (under state.parts place) slot rest = first-ready (under state.parts place) slot rest counted in
+    let held : IsHeld state place first.entry = matched-held state place first.entry all first.is in
+    let at : held_at part.entries slot ≡ Some first.entry = sym (ap (λ found. option_map_or (held_in place) found None) there) ∙ first.is in
+    let quiet : IsQuiet first.entry = ready-quiet slot first.entry first.ready held.here.sound in
+    let reply : HasReply (slot_tag client slot) first.entry.task = done-reply (slot_tag client slot) first.entry.task quiet.done in
+    subst IsCounted (sym (take_step-held state client slot rest part first.entry reply.reply there is at reply.is))
+    (settled-matched state place part rest first.entry there is at first.once first.ready quiet held.here (counted-of state all))
+
+take_step-matched : (state : Shared) (client : ℕ) → due state (Take client) ≡ true → IsMatched state → IsCounted (routed state client (take_act client)).0
+take_step-matched state client is_due all =
+    elim (slice_get state.parts client) as
+    (λ found. slice_get state.parts client ≡ found → option_map_or has_ready found false ≡ true → IsCounted (routed state client (take_act client)).0) [
+      | None ↦ λ there some. absurd (false≢true some)
+      | Some part ↦ λ there some. take_queue state client part part.ready there refl some all
+    ] refl is_due
+
+-- EVERY STEP
+
+due_step-counted : (state : Shared) (step : Step) → due state step ≡ true → IsMatched state → IsCounted (due_step state step).0
+due_step-counted state (Submit client tag ticket command) is all =
+    submitted_under-matched state client tag ticket command (command_slot (length state.parts) client tag) refl all
+due_step-counted state (TaskStep client ticket task) is all = task_step-matched state client ticket task all
+due_step-counted state CommandPipe is all = carry_step-matched state state.messages refl all
+due_step-counted state (Data tag) is all = move_step-matched state tag is all
+due_step-counted state (Status tag) is all = send_step-matched state tag is all
+due_step-counted state Engine is all = engine_step-matched state state.retirement refl all
+due_step-counted state (Retire pipe tag) is all = retire_step-matched state pipe tag is all
+due_step-counted state Event is all = event_step-matched state state.events refl all
+due_step-counted state (Take client) is all = take_step-matched state client is all
+
+shared_step-counted : (state : Shared) (step : Step) → IsMatched state → IsCounted (shared_step state step).0
+shared_step-counted state step all =
+    elim (due state step) as (λ b. due state step ≡ b → IsCounted (cond b (due_step state step) (state, idle)).0) [
+      | true ↦ λ is. due_step-counted state step is all
+      | false ↦ λ is. counted-of state all
+    ] refl
+
+-- a step keeps what waits matched; one that isn't due changes nothing
+pub shared_step-matched : (state : Shared) (step : Step) → IsMatched state → IsMatched (shared_step state step).0
+shared_step-matched state step all = matched-of (shared_step state step).0 (shared_step-counted state step all) (shared_step-ordered state step all)
+
+-- so does a list of steps
+pub replayed-matched : (state : Shared) (steps : List Step) → IsMatched state → IsMatched (replayed state steps).0
+replayed-matched state [] all = all
+replayed-matched state (step ∷ steps) all = replayed-matched (shared_step state step).0 steps (shared_step-matched state step all)

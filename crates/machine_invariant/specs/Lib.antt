@@ -1,0 +1,3 @@
+pub mod Ordered
+pub mod Reach
+pub mod Matched

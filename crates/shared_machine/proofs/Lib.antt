@@ -1,0 +1,12 @@
+pub mod KeptTasks
+pub mod OwnSlots
+pub mod Due
+pub mod StreamDoors
+pub mod NumberOfClients
+pub mod Drains
+pub mod Lengths
+pub mod Replying
+pub mod Opening
+pub mod Rounds
+pub mod Replays
+pub mod Standing

@@ -1,0 +1,12 @@
+pub mod Td
+pub mod Part
+pub mod Pipes
+pub mod Doorbells
+pub mod Soundness
+pub mod Shared
+pub mod Bus
+pub mod Replay
+pub mod ReplayLaws
+pub mod Drain
+pub mod Laws
+pub mod Rooms

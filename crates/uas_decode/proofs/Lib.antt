@@ -1,0 +1,4 @@
+pub mod ByLines
+pub mod Ends
+pub mod Readers
+pub mod Streams

@@ -1,0 +1,6 @@
+-- The words that host, controller, device and shared machine have in common.
+pub mod Pipes
+pub mod Places
+pub mod TdStates
+pub mod Doors
+pub mod PipeStates

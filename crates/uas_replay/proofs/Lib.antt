@@ -1,0 +1,8 @@
+mod Appended
+mod Outcomes
+mod Goes
+mod Notes
+mod NoNews
+mod Transitions
+mod WholeScripts
+mod ReplyLines

@@ -1,0 +1,9 @@
+use Rattle.std.proofs.Common.{◌≡◌}
+use Rattle.uas_replay.specs.Told.{taken_times}
+use Rattle.uas_replay.proofs.replay.ScriptRun.take_all_of.Given as goal
+
+abbrev pub invariant-loop-turn : goal.invariant-loop-turn
+invariant-loop-turn g l = record {
+  run : l.self ≡ taken_times l.turn l.fn.self l.client;
+  same : g.V.Watcher.can_fail l.writer ≡ g.V.Watcher.can_fail l.fn.writer;
+}

@@ -1,0 +1,4 @@
+pub mod Printed
+pub mod Told
+pub mod Runs
+pub mod Headline

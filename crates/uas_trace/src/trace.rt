@@ -1,0 +1,304 @@
+//! A script's run step by step: the same run as `replay` makes, and each step that acted with the bytes that it wrote.
+//!
+//! The run is the one of `replay`, by the same walk, and so are the lines that it tells; they are printed after the step that they
+//! come of. A drain is run by single tries in the order of the bus's own. What a step wrote is read off the bus after it, and
+//! goes to the writer behind what was told before, in large pieces: no text of the whole is kept but the lines of `replay`.
+
+ghost use Rattle.uas_profile.specs.declared.TheConstants.{MAX_CLIENTS};
+ghost use Rattle.uas_profile.specs.declared.TheConstants.{MAX_BLOCKS};
+ghost use Rattle.std.specs.Prelude.{◌≡◌, ◌≤◌, ◌<◌, ◌^◌, Ok, [], fold, map, length, IfOk, OnOk, IfErr};
+ghost use Rattle.std.specs.Io.KnownBytes.{Appends};
+ghost use Rattle.shared_machine.specs.Bus.{HasTicket};
+ghost use Rattle.shared_machine.specs.Drain.{all_tags, round, tried, tried_one};
+ghost use Rattle.uas_replay.specs.Told.{drained_machine, step_of, told, zeroed_units};
+ghost use Rattle.uas_replay.specs.Runs.{StopsBy};
+ghost use Rattle.uas_trace.specs.Traced.{step_of_tag, with_waiting};
+ghost use Rattle.uas_trace.specs.Written.{TellsStep};
+
+use crate::lines::push_step;
+use crate::writes::Before;
+use bus_core::{Outcome, Step};
+use byte_io::Sink;
+use std::alloc::{AllocError, Global};
+use stream_array::Pipe;
+use uas_profile::{EVENT_RING_PLACES, TAGS};
+use uas_replay::{COMMAND_FAILED, DONE, RunFault, ScriptRun, Watcher, output_fault};
+use uas_script::Line;
+
+/// How many bytes wait to be written together, as each write costs more than the text of a step.
+const PIECE_BYTES: usize = 65_536;
+
+/// A kind of step that each tag has one of.
+#[derive(Clone, Copy)]
+pub enum TagStep {
+    Data,
+    Status,
+    Retire(Pipe),
+}
+
+impl TagStep {
+    /// The step of a tag.
+    fn step(self, tag: u16) -> Step
+        ensures step { result ≡ step_of_tag self tag }
+        ensures ticket { HasTicket result }
+    {
+        match self {
+            TagStep::Data => Step::Data(tag),
+            TagStep::Status => Step::Status(tag),
+            TagStep::Retire(pipe) => Step::Retire(pipe, tag),
+        }
+    }
+}
+
+/// Shows a script's run step by step.
+#[derive(Drop)]
+struct Tracer {
+    alloc: Global,
+    // How many bytes of the run's own text were printed.
+    printed: usize,
+    // How many events were posted.
+    posted: usize,
+    // The text of one step.
+    text: Vec<u8>,
+    // What was told and isn't written yet.
+    waiting: Vec<u8>,
+}
+
+impl<O: Sink> Watcher<O> for Tracer {
+    ghost can_fail = { O.can_fail };
+
+    fn act(
+        &mut self,
+        writer: &mut O,
+        run: &mut ScriptRun,
+        step: Step,
+    ) -> Result<Outcome, RunFault> {
+        self.print_step(writer, run, step)
+    }
+
+    fn act_all(
+        &mut self,
+        writer: &mut O,
+        run: &mut ScriptRun,
+        limit: usize,
+    ) -> Result<(), RunFault> {
+        self.rounds(writer, run, limit)
+    }
+
+    fn hear(&mut self, writer: &mut O, run: &ScriptRun) -> Result<(), RunFault> {
+        let told = run.text();
+        if let Some(rest) = told.get(self.printed..) {
+            if !rest.is_empty() {
+                put(&mut self.waiting, writer, rest)?;
+            }
+        }
+        self.printed = told.len();
+        Ok(())
+    }
+}
+
+impl Tracer {
+    /// One that printed nothing.
+    fn new(alloc: Global) -> Tracer {
+        Tracer {
+            alloc,
+            printed: 0,
+            posted: 0,
+            text: Vec::new(alloc),
+            waiting: Vec::new(alloc),
+        }
+    }
+
+    /// A step that is due; its lines become the text.
+    fn acted(&mut self, run: &mut ScriptRun, step: Step) -> Result<Outcome, AllocError>
+        requires { HasTicket step }
+        ensures outcome { IfOk result (λ outcome. outcome ≡ (step_of run.old.machine step).1) }
+        ensures run { OnOk result (run.new ≡ record run.old { machine = (step_of run.old.machine step).0 }) }
+        ensures text { IfOk result (λ outcome. TellsStep run.old.machine run.new.machine step outcome self.new.text.items) }
+        ensures waiting { self.new.waiting ≡ self.old.waiting }
+    {
+        let alloc = self.alloc;
+        self.text.clear();
+        push_step(alloc, &mut self.text, &step)?;
+        let before = Before::of(run.rings(), &step);
+        let outcome = run.act(step);
+        let rings = run.rings();
+        let place = self.posted % EVENT_RING_PLACES;
+        self.posted = place + usize::from(before.posts(rings));
+        let buffers = run.buffers();
+        before.push_writes(alloc, &mut self.text, rings, buffers, place, &outcome)?;
+        Ok(outcome)
+    }
+
+    /// A step that is due, printed with its lines.
+    fn print_step<O: Sink>(
+        &mut self,
+        writer: &mut O,
+        run: &mut ScriptRun,
+        step: Step,
+    ) -> Result<Outcome, RunFault>
+        requires { HasTicket step }
+        ensures outcome { IfOk result (λ outcome. outcome ≡ (step_of run.old.machine step).1) }
+        ensures run { OnOk result (run.new ≡ record run.old { machine = (step_of run.old.machine step).0 }) }
+        ensures text { IfOk result (λ outcome. TellsStep run.old.machine run.new.machine step outcome self.new.text.items) }
+        ensures printed { OnOk result (Appends (with_waiting (O.written writer.old) self.old.waiting.items)
+            (with_waiting (O.written writer.new) self.new.waiting.items) self.new.text.items) }
+        ensures same { O.can_fail writer.new ≡ O.can_fail writer.old }
+        ensures fault { IfErr result (StopsBy (O.can_fail writer.old)) }
+    {
+        let outcome = self.acted(run, step).map_err(|_| RunFault::NoMemory)?;
+        put(&mut self.waiting, writer, &self.text)?;
+        Ok(outcome)
+    }
+
+    /// One try of a drain: how many more steps may act after it.
+    #[tactic(auto, unfolding(uas_replay::specs::Told::is_due, uas_replay::specs::Told::step_of))]
+    fn try_step<O: Sink>(
+        &mut self,
+        writer: &mut O,
+        run: &mut ScriptRun,
+        step: Step,
+        left: usize,
+    ) -> Result<usize, RunFault>
+        requires { HasTicket step }
+        ensures machine { IfOk result (λ after. (run.new.machine, after) ≡ tried_one (run.old.machine, left) step) }
+        ensures rest { OnOk result (run.new ≡ record run.old { machine = run.new.machine }) }
+        ensures same { O.can_fail writer.new ≡ O.can_fail writer.old }
+        ensures fault { IfErr result (StopsBy (O.can_fail writer.old)) }
+    {
+        if left == 0 || !run.is_due(&step) {
+            return Ok(left);
+        }
+        let _ = self.print_step(writer, run, step)?;
+        Ok(left - 1)
+    }
+
+    /// A try of a step of each tag, rising.
+    fn try_tags<O: Sink>(
+        &mut self,
+        writer: &mut O,
+        run: &mut ScriptRun,
+        kind: TagStep,
+        left: usize,
+    ) -> Result<usize, RunFault>
+        ensures machine { IfOk result (λ after. (run.new.machine, after) ≡ tried (run.old.machine, left)
+            (map (step_of_tag kind) (all_tags (length run.old.machine.parts)))) }
+        ensures rest { OnOk result (run.new ≡ record run.old { machine = run.new.machine }) }
+        ensures same { O.can_fail writer.new ≡ O.can_fail writer.old }
+        ensures fault { IfErr result (StopsBy (O.can_fail writer.old)) }
+    {
+        let tags = run.clients() * TAGS;
+        let mut left = left;
+        for before in 0..tags {
+            left = self.try_step(writer, run, kind.step(before as u16 + 1), left)?;
+        }
+        Ok(left)
+    }
+
+    /// One round of tries, in the order of the bus's drain, of which so many may act: how many more may act after it.
+    fn round<O: Sink>(
+        &mut self,
+        writer: &mut O,
+        run: &mut ScriptRun,
+        left: usize,
+    ) -> Result<usize, RunFault>
+        ensures machine { IfOk result (λ after. (run.new.machine, after) ≡ round (run.old.machine, left)) }
+        ensures rest { OnOk result (run.new ≡ record run.old { machine = run.new.machine }) }
+        ensures same { O.can_fail writer.new ≡ O.can_fail writer.old }
+        ensures fault { IfErr result (StopsBy (O.can_fail writer.old)) }
+    {
+        let first = self.try_step(writer, run, Step::CommandPipe, left)?;
+        let second = self.try_step(writer, run, Step::Engine, first)?;
+        let third = self.try_step(writer, run, Step::Event, second)?;
+        let fourth = self.try_tags(writer, run, TagStep::Data, third)?;
+        let fifth = self.try_tags(writer, run, TagStep::Status, fourth)?;
+        let sixth = self.try_tags(writer, run, TagStep::Retire(Pipe::Status), fifth)?;
+        let seventh = self.try_tags(writer, run, TagStep::Retire(Pipe::DataIn), sixth)?;
+        self.try_tags(writer, run, TagStep::Retire(Pipe::DataOut), seventh)
+    }
+
+    /// Steps of the bus until none acts, or so many have acted.
+    #[tactic(auto, unfolding(uas_replay::specs::Told::drained_machine, shared_machine::specs::Drain::rounds))]
+    fn rounds<O: Sink>(
+        &mut self,
+        writer: &mut O,
+        run: &mut ScriptRun,
+        limit: usize,
+    ) -> Result<(), RunFault>
+        ensures run { OnOk result (run.new ≡ record run.old { machine = drained_machine run.old.machine limit }) }
+        ensures same { O.can_fail writer.new ≡ O.can_fail writer.old }
+        ensures fault { IfErr result (StopsBy (O.can_fail writer.old)) }
+    {
+        let mut left = limit;
+        let mut more = limit;
+        loop {
+            let after = self.round(writer, run, left)?;
+            if after == 0 || after == left || more == 0 {
+                return Ok(());
+            }
+            more -= 1;
+            left = after;
+        }
+    }
+}
+
+/// Puts bytes behind those that wait, and writes them all once there are enough for a piece.
+fn put<O: Sink>(waiting: &mut Vec<u8>, writer: &mut O, bytes: &[u8]) -> Result<(), RunFault>
+    ensures told { OnOk result (Appends (with_waiting (O.written writer.old) waiting.old.items)
+        (with_waiting (O.written writer.new) waiting.new.items) bytes.now) }
+    ensures same { O.can_fail writer.new ≡ O.can_fail writer.old }
+    ensures fault { IfErr result (StopsBy (O.can_fail writer.old)) }
+{
+    waiting
+        .extend_from_slice(bytes)
+        .map_err(|_| RunFault::NoMemory)?;
+    if waiting.len() < PIECE_BYTES {
+        return Ok(());
+    }
+    write_waiting(waiting, writer)
+}
+
+/// Writes the bytes that wait.
+fn write_waiting<O: Sink>(waiting: &mut Vec<u8>, writer: &mut O) -> Result<(), RunFault>
+    ensures written { OnOk result (Appends (O.written writer.old) (O.written writer.new) waiting.old.items) }
+    ensures none { OnOk result (waiting.new.items ≡ []) }
+    ensures same { O.can_fail writer.new ≡ O.can_fail writer.old }
+    ensures fault { IfErr result (StopsBy (O.can_fail writer.old)) }
+{
+    let written = writer.write(waiting);
+    waiting.clear();
+    written.map_err(|fault| output_fault(fault))
+}
+
+/// Runs lines on zeroed units and prints each step that acted with what it wrote: 1 where a check, an abort or a refusal was told,
+/// else 0.
+#[tactic(auto, unfolding(uas_replay::specs::Told::told))]
+pub fn trace<O: Sink>(
+    alloc: Global,
+    clients: usize,
+    blocks: u32,
+    bad: Option<u32>,
+    writer: &mut O,
+    lines: &[Line],
+) -> Result<u8, RunFault>
+    requires some_clients { 1 ≤ clients }
+    requires most_clients { clients ≤ MAX_CLIENTS }
+    requires some_blocks { 1 ≤ blocks }
+    requires most_blocks { blocks ≤ MAX_BLOCKS }
+    ensures number { IfOk result (λ status. status ≡ (told (zeroed_units clients blocks bad) lines.now).1) }
+    ensures status { IfOk result (λ status. status ≤ 1) }
+    ensures fault { IfErr result (StopsBy (O.can_fail writer.old)) }
+{
+    let Ok(mut run) = ScriptRun::new(alloc, clients, blocks, bad) else {
+        return Err(RunFault::NoMemory);
+    };
+    let mut tracer = Tracer::new(alloc);
+    let ended = run.whole(&mut tracer, writer, lines);
+    write_waiting(&mut tracer.waiting, writer)?;
+    ended?;
+    Ok(if run.has_failed() {
+        COMMAND_FAILED
+    } else {
+        DONE
+    })
+}

@@ -1,0 +1,4 @@
+mod NumberWords
+mod CommandLineFacts
+mod WalkSteps
+mod PlainLines

@@ -1,0 +1,430 @@
+-- What the plain command lines ask for.
+use Rattle.std.proofs.Common.{◌≡◌, ◌∙◌, ◌<◌, ◌≤◌, ◌^◌, ◌&&◌, ℕ, ◌==◌, Bool, cond, not, true, false, true≢false, List, [], ◌∷◌, length, Option, Some, None}
+use Rattle.std.proofs.Common.{Result, Ok, Err, IfOk, option_map, refl, ap, ap₂, sym, subst, inl, inr, arith, lt-ltb}
+use Rattle.std.specs.Prelude.{codes, pos, nat_lt, nat_le, int_le, option_and_then, MatchResult}
+use Rattle.std.specs.List.{list_all}
+use Rattle.std.specs.Char.{digit_value}
+use Rattle.std.specs.Str.Parse.{AllDigits, digits_value}
+use Rattle.std.proofs.lemmas.Bool.{leb-true, le-leb, ne_eqb}
+use Rattle.std.proofs.lemmas.Str.Parse.{digit_from_value}
+use Rattle.clap.specs.Words.{FailsBy, HasKind, Kinds, Text, fault_of, kind_of}
+use Rattle.clap.specs.declared.error.Error.{Error}
+use Rattle.clap.specs.declared.error.kind.ErrorKind.TheVariants.{OutOfMemory}
+use Rattle.clap.proofs.OnLiterals.{clap_on_literals}
+use Rattle.clap.specs.Faults.{check_fault, defaults_fault, entered_fault, level_fault, settle_fault, walk_fault}
+use Rattle.clap.specs.Kinds.{or_else}
+use Rattle.clap.specs.Simple.{Shape, built, entered, label_of}
+use Rattle.clap.specs.Walk.{answers_to, finished, nothing_held, rows_after, settled, walk, walk_from}
+use Rattle.std.specs.Option.{option_map_or}
+use Rattle.std.specs.Prelude.{find}
+use Rattle.uas_profile.specs.declared.TheConstants.{MAX_CLIENTS}
+use Rattle.uas_words.specs.declared.Run.{Run}
+use Rattle.byte_io.specs.Words.{is_number, number_in, value_of}
+use Rattle.uas_words.specs.CommandLine.{Asked, AsksPlainly, AsksScript, asked_by, asked_for, asked_in, extent_from, program_app, refusals, script_of}
+use Rattle.uas_words.specs.CommandLine.{dump, fill, info, make, replay, trace}
+use Rattle.uas_words.proofs.NumberWords.{numeral-is_number, numerals}
+use Rattle.uas_words.proofs.CommandLineFacts.{nothing_refused}
+use Rattle.uas_words.proofs.WalkSteps.{fault-bad, fault-end, fault-plain, fault-value, walked-bad, walked-plain, walked-value}
+
+info_asks : (p : Text) (d : ℕ) (ds : Text) → (d == 45) ≡ false → asked_for (p ∷ codes "info" ∷ (d ∷ ds) ∷ []) ≡ Some (info (d ∷ ds))
+unfolding asked_for clap_on_literals
+info_asks p d ds plain = simp plain
+
+info_passes : (p : Text) (d : ℕ) (ds : Text) → (d == 45) ≡ false → fault_of program_app (p ∷ codes "info" ∷ (d ∷ ds) ∷ []) ≡ []
+unfolding clap_on_literals
+info_passes p d ds plain = simp plain
+
+-- a word of digits is a number in the range of the words' parser
+record IsIn (least most : ℕ) (d : ℕ) (ds : Text) : Type 0 where
+  hyphen : (d == 45) ≡ false
+  plus : (d == 43) ≡ false
+  some : nat_lt 0 (length (d ∷ ds)) ≡ true
+  first : nat_lt (digit_value d) 10 ≡ true
+  rest : list_all (λ x. nat_lt (digit_value x) 10) ds ≡ true
+  fits : nat_lt (digits_value 10 (d ∷ ds)) (2 ^ 63) ≡ true
+  low : int_le (pos least) (pos (digits_value 10 (d ∷ ds))) ≡ true
+  high : int_le (pos (digits_value 10 (d ∷ ds))) (pos most) ≡ true
+
+make_asks : (p : Text) (d : ℕ) (ds : Text) (e : ℕ) (es : Text) → (d == 45) ≡ false → (e == 45) ≡ false → (e == 43) ≡ false
+    → asked_for (p ∷ codes "make" ∷ (d ∷ ds) ∷ (e ∷ es) ∷ []) ≡ option_map (make (d ∷ ds)) (number_in 1 65536 (e ∷ es))
+unfolding asked_for clap_on_literals
+make_asks p d ds e es plain hyphen plus = simp (plain, hyphen, plus)
+
+make_passes : (p : Text) (d : ℕ) (ds : Text) (e : ℕ) (es : Text) → (d == 45) ≡ false → IsIn 1 65536 e es
+    → fault_of program_app (p ∷ codes "make" ∷ (d ∷ ds) ∷ (e ∷ es) ∷ []) ≡ []
+unfolding clap_on_literals
+make_passes p d ds e es plain n = simp (plain, n.hyphen, n.plus, n.some, n.first, n.rest, n.fits, n.low, n.high)
+
+-- what the numbers of a subcommand that runs a script ask for
+abbrev asked_by_numbers : (ℕ → ℕ → Option ℕ → Asked) → Option ℕ → Option ℕ → Option (Option ℕ) → Option Asked
+asked_by_numbers run clients blocks bad = option_and_then (λ c. option_and_then (λ b. option_map (run c b) bad) blocks) clients
+
+-- the words after the name of a subcommand are its own
+abbrev Enters : Text → List Text → Type 0
+Enters name words = (p : Text) → (asked_for (p ∷ name ∷ words) ≡ asked_in (entered (built program_app) (Some (name, words))))
+    × (fault_of program_app (p ∷ name ∷ words) ≡ or_else (entered_fault (built program_app) (Some (name, words))) [])
+
+dump_enters : (a b c : Text) → Enters (codes "dump") (a ∷ b ∷ c ∷ [])
+unfolding asked_for clap_on_literals
+dump_enters a b c p = (refl, refl)
+
+fill_enters : (a b c d : Text) → Enters (codes "fill") (a ∷ b ∷ c ∷ d ∷ [])
+unfolding asked_for clap_on_literals
+fill_enters a b c d p = (refl, refl)
+
+-- what is asked for of an extent, by its two numbers
+extent-dumped : (file : Text) (lba count : Option ℕ)
+    → option_map (λ extent. dump file extent.lba extent.count) (option_and_then (λ l. option_map (λ c. extent_from l c) count) lba)
+    ≡ option_and_then (λ l. option_map (dump file l) count) lba
+extent-dumped file None count = refl
+extent-dumped file (Some l) None = refl
+extent-dumped file (Some l) (Some c) = refl
+
+extent-filled : (file : Text) (lba count byte : Option ℕ)
+    → option_and_then (λ extent. option_map (fill file extent.lba extent.count) byte) (option_and_then (λ l. option_map (λ c. extent_from l c) count) lba)
+    ≡ option_and_then (λ l. option_and_then (λ c. option_map (fill file l c) byte) count) lba
+extent-filled file None count byte = refl
+extent-filled file (Some l) None byte = refl
+extent-filled file (Some l) (Some c) byte = refl
+
+dump_rows : (d : ℕ) (ds : Text) (e : ℕ) (es : Text) (f : ℕ) (fs : Text) → (d == 45) ≡ false → (e == 45) ≡ false → (e == 43) ≡ false
+    → (f == 45) ≡ false → (f == 43) ≡ false
+    → asked_in (entered (built program_app) (Some (codes "dump", (d ∷ ds) ∷ (e ∷ es) ∷ (f ∷ fs) ∷ [])))
+    ≡ option_and_then (λ lba. option_map (dump (d ∷ ds) lba) (number_in 1 128 (f ∷ fs))) (number_in 0 4294967295 (e ∷ es))
+dump_rows d ds e es f fs plain hyphen plus hyphen' plus' =
+    simp (walked-plain d ds plain, walked-plain e es hyphen, walked-plain f fs hyphen') (simp (hyphen, plus) (simp (hyphen', plus') (extent-dumped _ _ _)))
+
+dump_faults : (d : ℕ) (ds : Text) (e : ℕ) (es : Text) (f : ℕ) (fs : Text) → (d == 45) ≡ false → IsIn 0 4294967295 e es → IsIn 1 128 f fs
+    → entered_fault (built program_app) (Some (codes "dump", (d ∷ ds) ∷ (e ∷ es) ∷ (f ∷ fs) ∷ [])) ≡ []
+unfolding defaults_fault
+dump_faults d ds e es f fs plain m n =
+    simp (walked-plain d ds plain, walked-plain e es m.hyphen, walked-plain f fs n.hyphen)
+    (simp (fault-plain d ds plain, fault-plain e es m.hyphen, fault-plain f fs n.hyphen, fault-end)
+    (simp (m.hyphen, m.plus, m.some, m.first, m.rest, m.fits, m.low, m.high) (simp (n.hyphen, n.plus, n.some, n.first, n.rest, n.fits, n.low, n.high))))
+
+fill_rows : (d : ℕ) (ds : Text) (e : ℕ) (es : Text) (f : ℕ) (fs : Text) (h : ℕ) (hs : Text) → (d == 45) ≡ false
+    → (e == 45) ≡ false → (e == 43) ≡ false → (f == 45) ≡ false → (f == 43) ≡ false → (h == 45) ≡ false → (h == 43) ≡ false
+    → asked_in (entered (built program_app) (Some (codes "fill", (d ∷ ds) ∷ (e ∷ es) ∷ (f ∷ fs) ∷ (h ∷ hs) ∷ [])))
+    ≡ option_and_then (λ lba. option_and_then (λ count. option_map (fill (d ∷ ds) lba count) (number_in 0 255 (h ∷ hs))) (number_in 1 128 (f ∷ fs)))
+    (number_in 0 4294967295 (e ∷ es))
+fill_rows d ds e es f fs h hs plain hyphen plus hyphen' plus' hyphen″ plus″ =
+    simp (walked-plain d ds plain, walked-plain e es hyphen, walked-plain f fs hyphen', walked-plain h hs hyphen″)
+    (simp hyphen (simp plus (simp hyphen' (simp plus' (simp hyphen″ (simp plus″ (extent-filled _ _ _ _)))))))
+
+nothing : (a b c d : Kinds) → a ≡ [] → b ≡ [] → c ≡ [] → d ≡ [] → or_else a (or_else [] (or_else b (or_else c d))) ≡ []
+nothing a b c d p q r t = simp (p, q, r, t)
+
+-- what follows the name of a subcommand is not refused where no part of its parse is
+level_nothing : (s : Shape) (words : List Text) → walk_fault s [] (walk_from nothing_held) words ≡ []
+    → settle_fault s.rules s.args_override_self (walk s.rules [] nothing_held words).held ≡ []
+    → defaults_fault (settled s.rules (walk s.rules [] nothing_held words).held).rows s.rules ≡ []
+    → check_fault s (finished s.rules (walk s.rules [] nothing_held words).held) false ≡ []
+    → level_fault s [] nothing_held words false [] ≡ []
+level_nothing s words p q r t = nothing _ _ _ _ p q r t
+
+abbrev fill_shape : Shape
+fill_shape = option_map_or (λ s. s) (find (λ s. answers_to (codes "fill") (label_of s)) (built program_app).subs) (built program_app).top
+
+abbrev four : (d : ℕ) (ds : Text) (e : ℕ) (es : Text) (f : ℕ) (fs : Text) (h : ℕ) (hs : Text) → List Text
+four d ds e es f fs h hs = (d ∷ ds) ∷ (e ∷ es) ∷ (f ∷ fs) ∷ (h ∷ hs) ∷ []
+
+fill_walk : (d : ℕ) (ds : Text) (e : ℕ) (es : Text) (f : ℕ) (fs : Text) (h : ℕ) (hs : Text) → (d == 45) ≡ false
+    → IsIn 0 4294967295 e es → IsIn 1 128 f fs → (h == 45) ≡ false → walk_fault fill_shape [] (walk_from nothing_held) (four d ds e es f fs h hs) ≡ []
+fill_walk d ds e es f fs h hs plain m n hyphen =
+    simp (fault-plain d ds plain) (simp (fault-plain e es m.hyphen) (simp (fault-plain f fs n.hyphen) (simp (fault-plain h hs hyphen) (simp fault-end
+    (simp (m.hyphen, m.plus, m.some, m.first, m.rest, m.fits, m.low, m.high) (simp (n.hyphen, n.plus, n.some, n.first, n.rest, n.fits, n.low, n.high)))))))
+
+fill_last : (d : ℕ) (ds : Text) (e : ℕ) (es : Text) (f : ℕ) (fs : Text) (h : ℕ) (hs : Text) → (d == 45) ≡ false
+    → (e == 45) ≡ false → (f == 45) ≡ false → IsIn 0 255 h hs
+    → settle_fault fill_shape.rules fill_shape.args_override_self (walk fill_shape.rules [] nothing_held (four d ds e es f fs h hs)).held ≡ []
+fill_last d ds e es f fs h hs plain hyphen hyphen' o =
+    simp (walked-plain d ds plain, walked-plain e es hyphen, walked-plain f fs hyphen', walked-plain h hs o.hyphen)
+    (simp (o.hyphen, o.plus, o.some, o.first, o.rest, o.fits, o.low, o.high))
+
+fill_defaults : (d : ℕ) (ds : Text) (e : ℕ) (es : Text) (f : ℕ) (fs : Text) (h : ℕ) (hs : Text) → (d == 45) ≡ false
+    → (e == 45) ≡ false → (f == 45) ≡ false → (h == 45) ≡ false
+    → defaults_fault (settled fill_shape.rules (walk fill_shape.rules [] nothing_held (four d ds e es f fs h hs)).held).rows fill_shape.rules ≡ []
+unfolding defaults_fault
+fill_defaults d ds e es f fs h hs plain hyphen hyphen' hyphen″ =
+    simp (walked-plain d ds plain, walked-plain e es hyphen, walked-plain f fs hyphen', walked-plain h hs hyphen″)
+
+fill_given : (d : ℕ) (ds : Text) (e : ℕ) (es : Text) (f : ℕ) (fs : Text) (h : ℕ) (hs : Text) → (d == 45) ≡ false
+    → (e == 45) ≡ false → (f == 45) ≡ false → (h == 45) ≡ false
+    → check_fault fill_shape (finished fill_shape.rules (walk fill_shape.rules [] nothing_held (four d ds e es f fs h hs)).held) false ≡ []
+fill_given d ds e es f fs h hs plain hyphen hyphen' hyphen″ =
+    simp (walked-plain d ds plain, walked-plain e es hyphen, walked-plain f fs hyphen', walked-plain h hs hyphen″)
+
+fill_faults : (d : ℕ) (ds : Text) (e : ℕ) (es : Text) (f : ℕ) (fs : Text) (h : ℕ) (hs : Text) → (d == 45) ≡ false
+    → IsIn 0 4294967295 e es → IsIn 1 128 f fs → IsIn 0 255 h hs
+    → entered_fault (built program_app) (Some (codes "fill", (d ∷ ds) ∷ (e ∷ es) ∷ (f ∷ fs) ∷ (h ∷ hs) ∷ [])) ≡ []
+fill_faults d ds e es f fs h hs plain m n o =
+    level_nothing fill_shape (four d ds e es f fs h hs) (fill_walk d ds e es f fs h hs plain m n o.hyphen)
+    (fill_last d ds e es f fs h hs plain m.hyphen n.hyphen o)
+    (fill_defaults d ds e es f fs h hs plain m.hyphen n.hyphen o.hyphen) (fill_given d ds e es f fs h hs plain m.hyphen n.hyphen o.hyphen)
+
+-- A subcommand of this name that runs a script, built. `replay` and `trace` differ in their names alone.
+abbrev script_shape : Text → Shape
+script_shape name = record (option_map_or (λ s. s) (find (λ s. answers_to (codes "replay") (label_of s)) (built program_app).subs) (built program_app).top) {
+  name = name;
+}
+
+-- CLIENTS BLOCKS
+abbrev numbers : (d : ℕ) (ds : Text) (e : ℕ) (es : Text) → List Text
+numbers d ds e es = (d ∷ ds) ∷ (e ∷ es) ∷ []
+
+numbers_walk : (name : Text) (d : ℕ) (ds : Text) (e : ℕ) (es : Text) → IsIn 1 MAX_CLIENTS d ds → (e == 45) ≡ false
+    → walk_fault (script_shape name) [] (walk_from nothing_held) (numbers d ds e es) ≡ []
+numbers_walk name d ds e es m hyphen =
+    simp (fault-plain d ds m.hyphen) (simp (fault-plain e es hyphen) (simp fault-end
+    (simp (m.hyphen, m.plus, m.some, m.first, m.rest, m.fits, m.low, m.high))))
+
+numbers_last : (name : Text) (d : ℕ) (ds : Text) (e : ℕ) (es : Text) → (d == 45) ≡ false → IsIn 1 65536 e es
+    → settle_fault (script_shape name).rules (script_shape name).args_override_self
+    (walk (script_shape name).rules [] nothing_held (numbers d ds e es)).held ≡ []
+numbers_last name d ds e es hyphen n =
+    simp (walked-plain d ds hyphen, walked-plain e es n.hyphen) (simp (n.hyphen, n.plus, n.some, n.first, n.rest, n.fits, n.low, n.high))
+
+numbers_defaults : (name : Text) (d : ℕ) (ds : Text) (e : ℕ) (es : Text) → (d == 45) ≡ false → (e == 45) ≡ false
+    → defaults_fault (settled (script_shape name).rules (walk (script_shape name).rules [] nothing_held (numbers d ds e es)).held).rows
+    (script_shape name).rules ≡ []
+unfolding defaults_fault
+numbers_defaults name d ds e es hyphen hyphen' = simp (walked-plain d ds hyphen, walked-plain e es hyphen')
+
+numbers_checked : (name : Text) (d : ℕ) (ds : Text) (e : ℕ) (es : Text) → (d == 45) ≡ false → (e == 45) ≡ false
+    → check_fault (script_shape name) (finished (script_shape name).rules (walk (script_shape name).rules [] nothing_held (numbers d ds e es)).held)
+    false ≡ []
+numbers_checked name d ds e es hyphen hyphen' = simp (walked-plain d ds hyphen, walked-plain e es hyphen')
+
+numbers_faults : (name : Text) (d : ℕ) (ds : Text) (e : ℕ) (es : Text) → IsIn 1 MAX_CLIENTS d ds → IsIn 1 65536 e es
+    → level_fault (script_shape name) [] nothing_held (numbers d ds e es) false [] ≡ []
+numbers_faults name d ds e es m n =
+    level_nothing (script_shape name) (numbers d ds e es) (numbers_walk name d ds e es m n.hyphen) (numbers_last name d ds e es m.hyphen n)
+    (numbers_defaults name d ds e es m.hyphen n.hyphen) (numbers_checked name d ds e es m.hyphen n.hyphen)
+
+numbers_rows : (run : ℕ → ℕ → Option ℕ → Asked) (name : Text) (d : ℕ) (ds : Text) (e : ℕ) (es : Text)
+    → (d == 45) ≡ false → (d == 43) ≡ false → (e == 45) ≡ false → (e == 43) ≡ false
+    → script_of run (rows_after (script_shape name).rules [] (numbers d ds e es))
+    ≡ asked_by_numbers run (number_in 1 MAX_CLIENTS (d ∷ ds)) (number_in 1 65536 (e ∷ es)) (Some None)
+numbers_rows run name d ds e es hyphen plus hyphen' plus' =
+    simp (walked-plain d ds hyphen, walked-plain e es hyphen') (simp hyphen (simp plus (simp hyphen' (simp plus'))))
+
+-- CLIENTS BLOCKS --bad LBA
+abbrev with_bad : (d : ℕ) (ds : Text) (e : ℕ) (es : Text) (f : ℕ) (fs : Text) → List Text
+with_bad d ds e es f fs = (d ∷ ds) ∷ (e ∷ es) ∷ codes "--bad" ∷ (f ∷ fs) ∷ []
+
+bad_rows : (run : ℕ → ℕ → Option ℕ → Asked) (name : Text) (d : ℕ) (ds : Text) (e : ℕ) (es : Text) (f : ℕ) (fs : Text)
+    → (d == 45) ≡ false → (d == 43) ≡ false → (e == 45) ≡ false → (e == 43) ≡ false → (f == 45) ≡ false → (f == 43) ≡ false
+    → script_of run (rows_after (script_shape name).rules [] (with_bad d ds e es f fs))
+    ≡ asked_by_numbers run (number_in 1 MAX_CLIENTS (d ∷ ds)) (number_in 1 65536 (e ∷ es)) (option_map (λ n. Some n) (number_in 0 65535 (f ∷ fs)))
+bad_rows run name d ds e es f fs hyphen plus hyphen' plus' hyphen″ plus″ =
+    simp (walked-plain d ds hyphen, walked-plain e es hyphen', walked-bad, walked-value f fs hyphen″)
+    (simp hyphen (simp plus (simp hyphen' (simp plus' (simp hyphen″ (simp plus″))))))
+
+bad_walk : (name : Text) (d : ℕ) (ds : Text) (e : ℕ) (es : Text) (f : ℕ) (fs : Text) → IsIn 1 MAX_CLIENTS d ds → IsIn 1 65536 e es → (f == 45) ≡ false
+    → walk_fault (script_shape name) [] (walk_from nothing_held) (with_bad d ds e es f fs) ≡ []
+bad_walk name d ds e es f fs m n hyphen =
+    simp (fault-plain d ds m.hyphen) (simp (fault-plain e es n.hyphen) (simp fault-bad (simp (fault-value f fs hyphen) (simp fault-end
+    (simp (m.hyphen, m.plus, m.some, m.first, m.rest, m.fits, m.low, m.high) (simp (n.hyphen, n.plus, n.some, n.first, n.rest, n.fits, n.low, n.high)))))))
+
+bad_last : (name : Text) (d : ℕ) (ds : Text) (e : ℕ) (es : Text) (f : ℕ) (fs : Text) → (d == 45) ≡ false → (e == 45) ≡ false → IsIn 0 65535 f fs
+    → settle_fault (script_shape name).rules (script_shape name).args_override_self
+    (walk (script_shape name).rules [] nothing_held (with_bad d ds e es f fs)).held ≡ []
+bad_last name d ds e es f fs hyphen hyphen' o =
+    simp (walked-plain d ds hyphen, walked-plain e es hyphen', walked-bad, walked-value f fs o.hyphen)
+    (simp (o.hyphen, o.plus, o.some, o.first, o.rest, o.fits, o.low, o.high))
+
+bad_defaults : (name : Text) (d : ℕ) (ds : Text) (e : ℕ) (es : Text) (f : ℕ) (fs : Text) → (d == 45) ≡ false → (e == 45) ≡ false → (f == 45) ≡ false
+    → defaults_fault (settled (script_shape name).rules (walk (script_shape name).rules [] nothing_held (with_bad d ds e es f fs)).held).rows
+    (script_shape name).rules ≡ []
+unfolding defaults_fault
+bad_defaults name d ds e es f fs hyphen hyphen' hyphen″ =
+    simp (walked-plain d ds hyphen, walked-plain e es hyphen', walked-bad, walked-value f fs hyphen″)
+
+bad_given : (name : Text) (d : ℕ) (ds : Text) (e : ℕ) (es : Text) (f : ℕ) (fs : Text) → (d == 45) ≡ false → (e == 45) ≡ false → (f == 45) ≡ false
+    → check_fault (script_shape name) (finished (script_shape name).rules (walk (script_shape name).rules [] nothing_held (with_bad d ds e es f fs)).held)
+    false ≡ []
+bad_given name d ds e es f fs hyphen hyphen' hyphen″ =
+    simp (walked-plain d ds hyphen, walked-plain e es hyphen', walked-bad, walked-value f fs hyphen″)
+
+bad_faults : (name : Text) (d : ℕ) (ds : Text) (e : ℕ) (es : Text) (f : ℕ) (fs : Text) → IsIn 1 MAX_CLIENTS d ds → IsIn 1 65536 e es → IsIn 0 65535 f fs
+    → level_fault (script_shape name) [] nothing_held (with_bad d ds e es f fs) false [] ≡ []
+bad_faults name d ds e es f fs m n o =
+    level_nothing (script_shape name) (with_bad d ds e es f fs) (bad_walk name d ds e es f fs m n o.hyphen)
+    (bad_last name d ds e es f fs m.hyphen n.hyphen o)
+    (bad_defaults name d ds e es f fs m.hyphen n.hyphen o.hyphen) (bad_given name d ds e es f fs m.hyphen n.hyphen o.hyphen)
+
+numbers_ask : (run : ℕ → ℕ → Option ℕ → Asked) (clients blocks : ℕ) (bad : Option ℕ) (a b : Option ℕ) (c : Option (Option ℕ))
+    → a ≡ Some clients → b ≡ Some blocks → c ≡ Some bad → asked_by_numbers run a b c ≡ Some (run clients blocks bad)
+numbers_ask run clients blocks bad a b c p q r = rw (p, q, r) refl
+
+not-true : (b : Bool) → not b ≡ true → b ≡ false
+not-true true is = sym is
+not-true false is = refl
+
+-- what a number in a range is
+number_in-Some : (least most n : ℕ) (text : Text) → number_in least most text ≡ Some n
+    → (is_number text ≡ true) × (least ≤ value_of text) × (value_of text ≤ most)
+number_in-Some least most n text is = go (is_number text) refl (nat_le least (value_of text)) refl (nat_le (value_of text) most) refl is
+  where
+    go : (a : Bool) → is_number text ≡ a → (b : Bool) → nat_le least (value_of text) ≡ b → (c : Bool) → nat_le (value_of text) most ≡ c
+        → cond (a && (b && c)) (Some (value_of text)) None ≡ Some n → (is_number text ≡ true) × (least ≤ value_of text) × (value_of text ≤ most)
+    go true x true y true z e = (x, leb-true least (value_of text) y, leb-true (value_of text) most z)
+    go false x b y c z e = cc
+    go true x false y c z e = cc
+    go true x true y false z e = cc
+
+digits_pass : (ds : Text) → AllDigits 10 ds → list_all (λ x. nat_lt (digit_value x) 10) ds ≡ true
+digits_pass [] h = refl
+digits_pass (d ∷ ds) h = rw (lt-ltb (digit_value d) 10 h.0) (digits_pass ds h.1)
+
+in_range : (least most n d : ℕ) (ds : Text) → most < 2 ^ 63 → (is_number (d ∷ ds) ≡ true) × (least ≤ value_of (d ∷ ds)) × (value_of (d ∷ ds) ≤ most)
+    → IsIn least most d ds
+in_range least most n d ds small h =
+    let numeral = numeral-is_number (d ∷ ds) h.0 in
+    let range = digit_from_value d numeral.1.0 in
+    let same : value_of (d ∷ ds) ≡ digits_value 10 (d ∷ ds) = numerals.same (d ∷ ds) numeral.1 in
+    record {
+      hyphen = ne_eqb d 45 (λ e. omega (arith, range));
+      plus = ne_eqb d 43 (λ e. omega (arith, range));
+      some = lt-ltb 0 (length (d ∷ ds)) numeral.0;
+      first = lt-ltb (digit_value d) 10 numeral.1.0;
+      rest = digits_pass ds numeral.1.1;
+      fits = lt-ltb _ _ (omega (arith, same, h.2));
+      low = le-leb _ _ (omega (arith, same, h.1));
+      high = le-leb _ _ (omega (arith, same, h.2));
+    }
+
+-- a number has a first digit, which is no sign
+number_is_in : (least most n : ℕ) (text : Text) → most < 2 ^ 63 → number_in least most text ≡ Some n
+    → (d : ℕ) × (ds : Text) × (text ≡ d ∷ ds) × IsIn least most d ds
+number_is_in least most n [] small is =
+    let none : number_in least most [] ≡ None = refl in
+    cc
+number_is_in least most n (d ∷ ds) small is = (d, ds, refl, in_range least most n d ds small (number_in-Some least most n (d ∷ ds) is))
+
+-- CLIENTS BLOCKS, and --bad LBA behind them
+abbrev EntersScript : Text → Type 0
+EntersScript name = ((a b : Text) → Enters name (a ∷ b ∷ [])) × ((a b c d : Text) → Enters name (a ∷ b ∷ c ∷ d ∷ []))
+
+replay_enters : EntersScript (codes "replay")
+unfolding asked_for clap_on_literals
+replay_enters = (λ a b p. (refl, refl), λ a b c d p. (refl, refl))
+
+trace_enters : EntersScript (codes "trace")
+unfolding asked_for clap_on_literals
+trace_enters = (λ a b p. (refl, refl), λ a b c d p. (refl, refl))
+
+-- a subcommand of this name runs a script, and asks for this run
+record IsScript (name : Text) (run : ℕ → ℕ → Option ℕ → Asked) : Type 0 where
+  enters : EntersScript name
+  asks : (words : List Text) → asked_in (entered (built program_app) (Some (name, words))) ≡ script_of run (rows_after (script_shape name).rules [] words)
+  faults : (words : List Text) → entered_fault (built program_app) (Some (name, words)) ≡ level_fault (script_shape name) [] nothing_held words false []
+
+replay_is_script : IsScript (codes "replay") replay
+replay_is_script = record { enters = replay_enters; asks = λ words. refl; faults = λ words. refl }
+
+trace_is_script : IsScript (codes "trace") trace
+trace_is_script = record { enters = trace_enters; asks = λ words. refl; faults = λ words. refl }
+
+-- its plain words ask for the run, and are not refused
+script_asked : (name : Text) (run : ℕ → ℕ → Option ℕ → Asked) → IsScript name run → (clients blocks : ℕ) (bad : Option ℕ) (words : List Text)
+    → AsksScript name clients blocks bad words → (asked_for words ≡ Some (run clients blocks bad)) × (fault_of program_app words ≡ [])
+script_asked name run it clients blocks None words plain =
+    let m = number_is_in 1 MAX_CLIENTS clients plain.1 (omega arith) plain.4 in
+    let n = number_is_in 1 65536 blocks plain.2 (omega arith) plain.5 in
+    let is : words ≡ plain.0 ∷ name ∷ numbers m.0 m.1 n.0 n.1 = plain.3 ∙ ap₂ (λ (a b : Text). plain.0 ∷ name ∷ a ∷ b ∷ []) m.2 n.2 in
+    let first : number_in 1 MAX_CLIENTS (m.0 ∷ m.1) ≡ Some clients = ap (number_in 1 MAX_CLIENTS) (sym m.2) ∙ plain.4 in
+    let second : number_in 1 65536 (n.0 ∷ n.1) ≡ Some blocks = ap (number_in 1 65536) (sym n.2) ∙ plain.5 in (
+      ap asked_for is ∙ ((it.enters.0 (m.0 ∷ m.1) (n.0 ∷ n.1) plain.0).0 ∙ (it.asks (numbers m.0 m.1 n.0 n.1)
+          ∙ (numbers_rows run name m.0 m.1 n.0 n.1 m.3.hyphen m.3.plus n.3.hyphen n.3.plus ∙ numbers_ask run clients blocks None _ _ _ first second refl))),
+      ap (fault_of program_app) is ∙ ((it.enters.0 (m.0 ∷ m.1) (n.0 ∷ n.1) plain.0).1
+          ∙ ap (λ (k : Kinds). or_else k []) (it.faults (numbers m.0 m.1 n.0 n.1) ∙ numbers_faults name m.0 m.1 n.0 n.1 m.3 n.3)),
+    )
+script_asked name run it clients blocks (Some bad) words plain =
+    let m = number_is_in 1 MAX_CLIENTS clients plain.1 (omega arith) plain.5 in
+    let n = number_is_in 1 65536 blocks plain.2 (omega arith) plain.6 in
+    let o = number_is_in 0 65535 bad plain.3 (omega arith) plain.7 in
+    let is : words ≡ plain.0 ∷ name ∷ with_bad m.0 m.1 n.0 n.1 o.0 o.1 =
+    plain.4 ∙ (ap₂ (λ (a b : Text). plain.0 ∷ name ∷ a ∷ b ∷ codes "--bad" ∷ plain.3 ∷ []) m.2 n.2
+    ∙ ap (λ (c : Text). plain.0 ∷ name ∷ (m.0 ∷ m.1) ∷ (n.0 ∷ n.1) ∷ codes "--bad" ∷ c ∷ []) o.2) in
+    let third : option_map (λ k. Some k) (number_in 0 65535 (o.0 ∷ o.1)) ≡ Some (Some bad) =
+    ap (option_map (λ k. Some k)) (ap (number_in 0 65535) (sym o.2) ∙ plain.7) in (
+      ap asked_for is ∙ ((it.enters.1 (m.0 ∷ m.1) (n.0 ∷ n.1) (codes "--bad") (o.0 ∷ o.1) plain.0).0 ∙ (it.asks (with_bad m.0 m.1 n.0 n.1 o.0 o.1)
+          ∙ (bad_rows run name m.0 m.1 n.0 n.1 o.0 o.1 m.3.hyphen m.3.plus n.3.hyphen n.3.plus o.3.hyphen o.3.plus
+          ∙ numbers_ask run clients blocks (Some bad) _ _ _
+          (ap (number_in 1 MAX_CLIENTS) (sym m.2) ∙ plain.5) (ap (number_in 1 65536) (sym n.2) ∙ plain.6) third))),
+      ap (fault_of program_app) is ∙ ((it.enters.1 (m.0 ∷ m.1) (n.0 ∷ n.1) (codes "--bad") (o.0 ∷ o.1) plain.0).1
+          ∙ ap (λ (k : Kinds). or_else k []) (it.faults (with_bad m.0 m.1 n.0 n.1 o.0 o.1) ∙ bad_faults name m.0 m.1 n.0 n.1 o.0 o.1 m.3 n.3 o.3)),
+    )
+
+-- the program asks for what its words plainly ask for, and refuses nothing
+pub plain_asks : (asked : Asked) (words : List Text) → AsksPlainly asked words → (asked_for words ≡ Some asked) × (fault_of program_app words ≡ [])
+plain_asks (replay clients blocks bad) words plain = script_asked (codes "replay") replay replay_is_script clients blocks bad words plain
+plain_asks (trace clients blocks bad) words plain = script_asked (codes "trace") trace trace_is_script clients blocks bad words plain
+plain_asks (make [] blocks) words plain = absurd (true≢false (sym plain.3))
+plain_asks (make (d ∷ ds) blocks) words plain =
+    let n = number_is_in 1 65536 blocks plain.1 (omega arith) plain.4 in
+    let hyphen : (d == 45) ≡ false = not-true (d == 45) plain.3 in
+    let is : words ≡ plain.0 ∷ codes "make" ∷ (d ∷ ds) ∷ (n.0 ∷ n.1) ∷ [] = plain.2 ∙ ap (λ (b : Text). plain.0 ∷ codes "make" ∷ (d ∷ ds) ∷ b ∷ []) n.2 in
+    let second : number_in 1 65536 (n.0 ∷ n.1) ≡ Some blocks = ap (number_in 1 65536) (sym n.2) ∙ plain.4 in (
+      ap asked_for is ∙ (make_asks plain.0 d ds n.0 n.1 hyphen n.3.hyphen n.3.plus ∙ ap (option_map (make (d ∷ ds))) second),
+      ap (fault_of program_app) is ∙ make_passes plain.0 d ds n.0 n.1 hyphen n.3,
+    )
+plain_asks (info []) words plain = absurd (true≢false (sym plain.2))
+plain_asks (info (d ∷ ds)) words plain =
+    let hyphen : (d == 45) ≡ false = not-true (d == 45) plain.2 in (
+      ap asked_for plain.1 ∙ info_asks plain.0 d ds hyphen,
+      ap (fault_of program_app) plain.1 ∙ info_passes plain.0 d ds hyphen,
+    )
+plain_asks (dump [] lba count) words plain = absurd (true≢false (sym plain.4))
+plain_asks (dump (d ∷ ds) lba count) words plain =
+    let m = number_is_in 0 4294967295 lba plain.1 (omega arith) plain.5 in
+    let n = number_is_in 1 128 count plain.2 (omega arith) plain.6 in
+    let hyphen : (d == 45) ≡ false = not-true (d == 45) plain.4 in
+    let is : words ≡ plain.0 ∷ codes "dump" ∷ (d ∷ ds) ∷ (m.0 ∷ m.1) ∷ (n.0 ∷ n.1) ∷ [] =
+    plain.3 ∙ ap₂ (λ (a b : Text). plain.0 ∷ codes "dump" ∷ (d ∷ ds) ∷ a ∷ b ∷ []) m.2 n.2 in
+    let second : number_in 0 4294967295 (m.0 ∷ m.1) ≡ Some lba = ap (number_in 0 4294967295) (sym m.2) ∙ plain.5 in
+    let third : number_in 1 128 (n.0 ∷ n.1) ≡ Some count = ap (number_in 1 128) (sym n.2) ∙ plain.6 in (
+      ap asked_for is ∙ ((dump_enters (d ∷ ds) (m.0 ∷ m.1) (n.0 ∷ n.1) plain.0).0
+          ∙ (dump_rows d ds m.0 m.1 n.0 n.1 hyphen m.3.hyphen m.3.plus n.3.hyphen n.3.plus
+          ∙ (ap (option_and_then (λ first. option_map (dump (d ∷ ds) first) (number_in 1 128 (n.0 ∷ n.1)))) second
+          ∙ ap (option_map (dump (d ∷ ds) lba)) third))),
+      ap (fault_of program_app) is ∙ ((dump_enters (d ∷ ds) (m.0 ∷ m.1) (n.0 ∷ n.1) plain.0).1
+          ∙ ap (λ (k : Kinds). or_else k []) (dump_faults d ds m.0 m.1 n.0 n.1 hyphen m.3 n.3)),
+    )
+plain_asks (fill [] lba count byte) words plain = absurd (true≢false (sym plain.5))
+plain_asks (fill (d ∷ ds) lba count byte) words plain =
+    let m = number_is_in 0 4294967295 lba plain.1 (omega arith) plain.6 in
+    let n = number_is_in 1 128 count plain.2 (omega arith) plain.7 in
+    let o = number_is_in 0 255 byte plain.3 (omega arith) plain.8 in
+    let hyphen : (d == 45) ≡ false = not-true (d == 45) plain.5 in
+    let is : words ≡ plain.0 ∷ codes "fill" ∷ (d ∷ ds) ∷ (m.0 ∷ m.1) ∷ (n.0 ∷ n.1) ∷ (o.0 ∷ o.1) ∷ [] =
+    plain.4 ∙ (ap₂ (λ (a b : Text). plain.0 ∷ codes "fill" ∷ (d ∷ ds) ∷ a ∷ b ∷ plain.3 ∷ []) m.2 n.2
+    ∙ ap (λ (c : Text). plain.0 ∷ codes "fill" ∷ (d ∷ ds) ∷ (m.0 ∷ m.1) ∷ (n.0 ∷ n.1) ∷ c ∷ []) o.2) in
+    let second : number_in 0 4294967295 (m.0 ∷ m.1) ≡ Some lba = ap (number_in 0 4294967295) (sym m.2) ∙ plain.6 in
+    let third : number_in 1 128 (n.0 ∷ n.1) ≡ Some count = ap (number_in 1 128) (sym n.2) ∙ plain.7 in
+    let fourth : number_in 0 255 (o.0 ∷ o.1) ≡ Some byte = ap (number_in 0 255) (sym o.2) ∙ plain.8 in (
+      ap asked_for is ∙ ((fill_enters (d ∷ ds) (m.0 ∷ m.1) (n.0 ∷ n.1) (o.0 ∷ o.1) plain.0).0
+          ∙ (fill_rows d ds m.0 m.1 n.0 n.1 o.0 o.1 hyphen m.3.hyphen m.3.plus n.3.hyphen n.3.plus o.3.hyphen o.3.plus
+          ∙ (ap (option_and_then (λ first. option_and_then (λ many. option_map (fill (d ∷ ds) first many) (number_in 0 255 (o.0 ∷ o.1)))
+          (number_in 1 128 (n.0 ∷ n.1)))) second
+          ∙ (ap (option_and_then (λ many. option_map (fill (d ∷ ds) lba many) (number_in 0 255 (o.0 ∷ o.1)))) third
+          ∙ ap (option_map (fill (d ∷ ds) lba count)) fourth)))),
+      ap (fault_of program_app) is ∙ ((fill_enters (d ∷ ds) (m.0 ∷ m.1) (n.0 ∷ n.1) (o.0 ∷ o.1) plain.0).1
+          ∙ ap (λ (k : Kinds). or_else k []) (fill_faults d ds m.0 m.1 n.0 n.1 o.0 o.1 hyphen m.3 n.3 o.3)),
+    )
+
+-- a run that is plainly asked for is given, but for want of memory
+pub plainly_given : (words : List Text) (r : Result Run Error) → IfOk r (λ run. asked_for words ≡ Some (asked_by run)) → FailsBy (refusals words) r
+    → (asked : Asked) → AsksPlainly asked words → MatchResult r (λ run. asked_by run ≡ asked) (λ e. kind_of e ≡ OutOfMemory)
+plainly_given words (Ok run) given fails asked plain =
+    let wanted = (plain_asks asked words plain).0 in
+    let same : Some (asked_by run) ≡ Some asked = sym given ∙ wanted in
+    cc
+plainly_given words (Err e) given fails asked plain =
+    let both = plain_asks asked words plain in
+    let kind : HasKind [] e = subst (λ (kinds : Kinds). HasKind kinds e) (nothing_refused words asked both.1 both.0) fails in
+    elim kind [
+      | inl memory ↦ memory
+      | inr among ↦ absurd among
+    ]

@@ -1,0 +1,257 @@
+-- What a command line asks for: the subcommands with their arguments, and what is read of each.
+use Rattle.std.specs.Prelude.{◌≡◌, ◌≢◌, ◌≤◌, ◌⊎◌, ◌==◌, ℕ, Bool, not, pos, true, false, List, [], ◌∷◌, Option, Some, None, is_some, option_map}
+use Rattle.std.specs.Prelude.{option_and_then, if◌then◌else◌, codes}
+use Rattle.std.specs.Str.{bytes_eq}
+use Rattle.std.specs.Str.Parse.{without_leading_plus}
+use Rattle.clap.specs.Simple.{Shape, on_top}
+use Rattle.clap.specs.Words.{App, Kinds, Row, Rule, Text, fault_of, first_of, new_app, new_rule, one_of, subcommand_of, with_rule, with_subcommand}
+use Rattle.clap.specs.Kinds.{or_else}
+use Rattle.clap.specs.declared.builder.ArgAction.TheVariants.{Set}
+use Rattle.clap.specs.declared.builder.value_parser.ValueParser.TheVariants as parser
+use Rattle.clap.specs.declared.error.kind.ErrorKind.{ErrorKind}
+use Rattle.clap.specs.declared.error.kind.ErrorKind.TheVariants.{DisplayHelp, DisplayVersion, OutOfMemory, ValueValidation}
+use Rattle.uas_profile.specs.declared.TheConstants.{MAX_BLOCKS, MAX_CLIENTS, MOST_BLOCKS_MOVED}
+use Rattle.byte_io.specs.declared.disks.Extent.{Extent}
+use Rattle.uas_words.specs.declared.Run.{Run}
+use Rattle.uas_words.specs.declared.Run.TheVariants.{Replay, Trace, Make, Info, Dump, Fill}
+use Rattle.byte_io.specs.Words.{number_in}
+
+-- What is asked for, with a file's name as its text: to run a script of so many clients and blocks, and of the block that is bad in
+-- every unit, if one is; to run one and show its steps; to make an image of so many blocks, to tell the size of one, to print its
+-- blocks from a number on, so many of them, or to fill them with a byte.
+pub data Asked : Type 0 where
+  replay : ℕ → ℕ → Option ℕ → Asked
+  trace : ℕ → ℕ → Option ℕ → Asked
+  make : Text → ℕ → Asked
+  info : Text → Asked
+  dump : Text → ℕ → ℕ → Asked
+  fill : Text → ℕ → ℕ → ℕ → Asked
+
+abbrev pub asked_by : Run → Asked
+asked_by (Replay disks) = replay disks.clients disks.blocks disks.bad
+asked_by (Trace disks) = trace disks.clients disks.blocks disks.bad
+asked_by (Make file blocks) = make file.now blocks
+asked_by (Info file) = info file.now
+asked_by (Dump file extent) = dump file.now extent.lba extent.count
+asked_by (Fill file extent byte) = fill file.now extent.lba extent.count byte
+
+-- ---- the arguments of a subcommand, by what was found for it
+
+-- A number of a command line may have a plus before its digits.
+abbrev pub number_of : ℕ → ℕ → Text → Option ℕ
+number_of least most word = number_in least most (without_leading_plus word)
+
+-- CLIENTS is a number from 1 to 15
+abbrev pub clients_of : List Row → Option ℕ
+clients_of rows = option_and_then (number_of 1 MAX_CLIENTS) (one_of (codes "CLIENTS") rows)
+
+-- BLOCKS is a number from 1 to 65,536
+abbrev pub blocks_of : List Row → Option ℕ
+blocks_of rows = option_and_then (number_of 1 MAX_BLOCKS) (one_of (codes "BLOCKS") rows)
+
+-- the greatest number of a block that a unit can have
+abbrev pub last_block : ℕ
+last_block = 65535
+
+-- What an option's number comes to: none where the option isn't there. A word that is no number of this range comes to nothing.
+abbrev pub optional_number : ℕ → ℕ → Option Text → Option (Option ℕ)
+optional_number least most None = Some None
+optional_number least most (Some word) = option_map (λ number. Some number) (number_of least most word)
+
+-- `--bad LBA` may stand or not, and LBA is a number from 0 to 65,535
+abbrev pub bad_of : List Row → Option (Option ℕ)
+bad_of rows = optional_number 0 last_block (one_of (codes "bad") rows)
+
+-- the greatest number of a block that a CDB can name, which needs no block of the unit
+abbrev pub max_lba : ℕ
+max_lba = 4294967295
+
+-- LBA is a number from 0 to 4,294,967,295
+abbrev pub lba_of : List Row → Option ℕ
+lba_of rows = option_and_then (number_of 0 max_lba) (one_of (codes "LBA") rows)
+
+-- COUNT is a number from 1 to 128, the most blocks of one READ or WRITE
+abbrev pub count_of : List Row → Option ℕ
+count_of rows = option_and_then (number_of 1 MOST_BLOCKS_MOVED) (one_of (codes "COUNT") rows)
+
+-- BYTE is a number from 0 to 255
+abbrev pub byte_of : List Row → Option ℕ
+byte_of rows = option_and_then (number_of 0 255) (one_of (codes "BYTE") rows)
+
+-- FILE is any text
+abbrev pub file_of : List Row → Option Text
+file_of rows = first_of (codes "FILE") rows
+
+-- CLIENTS BLOCKS [--bad LBA]
+abbrev pub script_of : (ℕ → ℕ → Option ℕ → Asked) → List Row → Option Asked
+script_of run rows =
+    option_and_then (λ clients. option_and_then (λ blocks. option_map (run clients blocks) (bad_of rows)) (blocks_of rows)) (clients_of rows)
+
+-- so many blocks from this one on
+abbrev pub extent_from : ℕ → ℕ → Extent
+extent_from lba count = record { lba = lba; count = count }
+
+-- LBA COUNT
+abbrev pub extent_of : List Row → Option Extent
+extent_of rows = option_and_then (λ lba. option_map (λ count. extent_from lba count) (count_of rows)) (lba_of rows)
+
+-- FILE LBA COUNT
+abbrev pub dump_of : List Row → Option Asked
+dump_of rows = option_and_then (λ file. option_map (λ extent. dump file extent.lba extent.count) (extent_of rows)) (file_of rows)
+
+-- FILE LBA COUNT BYTE
+abbrev pub fill_of : List Row → Option Asked
+fill_of rows =
+    option_and_then (λ file. option_and_then (λ extent. option_map (fill file extent.lba extent.count) (byte_of rows)) (extent_of rows)) (file_of rows)
+
+-- what a subcommand asks for, by its name
+abbrev pub asked_of : Text → List Row → Option Asked
+asked_of name rows =
+    if bytes_eq name (codes "replay")
+    then script_of replay rows
+    else (if bytes_eq name (codes "trace")
+    then script_of trace rows
+    else (if bytes_eq name (codes "make")
+    then option_and_then (λ file. option_map (make file) (blocks_of rows)) (file_of rows)
+    else (if bytes_eq name (codes "info") then option_map info (file_of rows)
+    else (if bytes_eq name (codes "dump") then dump_of rows
+    else (if bytes_eq name (codes "fill") then fill_of rows else None)))))
+
+abbrev pub asked_in : Option (Text × List Row) → Option Asked
+asked_in subcommand = option_and_then (λ s. asked_of s.0 s.1) subcommand
+
+-- ---- the subcommands and their arguments
+
+abbrev pub required_rule : Text → Rule
+required_rule name = record (new_rule name) { required = true; action = Some Set }
+
+abbrev pub file_rule : Rule
+file_rule = required_rule (codes "FILE")
+
+-- a number from `least` to `most`
+abbrev pub number_rule : Text → ℕ → ℕ → Rule
+number_rule name least most = record (required_rule name) { parser = Some (parser.Signed (pos least) (pos most)) }
+
+abbrev pub clients_rule : Rule
+clients_rule = number_rule (codes "CLIENTS") 1 MAX_CLIENTS
+
+abbrev pub blocks_rule : Rule
+blocks_rule = number_rule (codes "BLOCKS") 1 MAX_BLOCKS
+
+abbrev pub lba_rule : Rule
+lba_rule = number_rule (codes "LBA") 0 max_lba
+
+abbrev pub count_rule : Rule
+count_rule = number_rule (codes "COUNT") 1 MOST_BLOCKS_MOVED
+
+abbrev pub byte_rule : Rule
+byte_rule = number_rule (codes "BYTE") 0 255
+
+-- the option `--bad LBA`
+abbrev pub bad_rule : Rule
+bad_rule = record (new_rule (codes "bad")) {
+  long = Some (codes "bad");
+  action = Some Set;
+  value_names = 1;
+  parser = Some (parser.Signed (pos 0) (pos last_block));
+}
+
+-- a subcommand that runs a script: CLIENTS BLOCKS [--bad LBA]
+abbrev pub with_disks : App → App
+with_disks app = with_rule (with_rule (with_rule app clients_rule) blocks_rule) bad_rule
+
+abbrev pub replay_app : App
+replay_app = with_disks (new_app (codes "replay"))
+
+abbrev pub trace_app : App
+trace_app = with_disks (new_app (codes "trace"))
+
+-- make FILE BLOCKS
+abbrev pub make_app : App
+make_app = with_rule (with_rule (new_app (codes "make")) file_rule) blocks_rule
+
+-- info FILE
+abbrev pub info_app : App
+info_app = with_rule (new_app (codes "info")) file_rule
+
+-- a subcommand on blocks of an image: FILE LBA COUNT
+abbrev pub with_extent : App → App
+with_extent app = with_rule (with_rule (with_rule app file_rule) lba_rule) count_rule
+
+abbrev pub dump_app : App
+dump_app = with_extent (new_app (codes "dump"))
+
+-- fill FILE LBA COUNT BYTE
+abbrev pub fill_app : App
+fill_app = with_rule (with_extent (new_app (codes "fill"))) byte_rule
+
+abbrev pub wants_subcommand : Shape → Shape
+wants_subcommand s = record s { subcommand_required = true; arg_required_else_help = true; has_version = true }
+
+abbrev pub top_app : App
+top_app = on_top wants_subcommand (new_app (codes "uasdisk"))
+
+-- The program wants a subcommand, tells its help with no words, and its version where that is asked for.
+abbrev pub program_app : App
+program_app = with_subcommand (with_subcommand (with_subcommand (with_subcommand (with_subcommand (with_subcommand
+    top_app replay_app.top) trace_app.top) make_app.top) info_app.top) dump_app.top) fill_app.top
+
+-- ---- the words, the program's own name first
+
+-- what the words ask for
+unfoldable pub asked_for : List Text → Option Asked
+asked_for words = asked_in (subcommand_of program_app words)
+
+-- The kinds of error that the words are refused with, a call for help among them. None where they ask for a run.
+unfoldable pub refusals : List Text → Kinds
+refusals words =
+    or_else (fault_of program_app words) (if is_some (asked_for words) then [] else ValueValidation ∷ [])
+
+-- A file's name that can't be taken for a flag: it isn't empty, and doesn't begin with a hyphen (45).
+abbrev pub is_plain_name : Text → Bool
+is_plain_name [] = false
+is_plain_name (byte ∷ bytes) = not (byte == 45)
+
+-- the words ask to run a script by the subcommand of this name: `NAME CLIENTS BLOCKS`, or `NAME CLIENTS BLOCKS --bad LBA`
+abbrev pub AsksScript : Text → ℕ → ℕ → Option ℕ → List Text → Type 0
+AsksScript name clients blocks None words = (program first second : Text) × (words ≡ program ∷ name ∷ first ∷ second ∷ [])
+    × (number_in 1 MAX_CLIENTS first ≡ Some clients) × (number_in 1 MAX_BLOCKS second ≡ Some blocks)
+AsksScript name clients blocks (Some bad) words =
+    (program first second third : Text) × (words ≡ program ∷ name ∷ first ∷ second ∷ codes "--bad" ∷ third ∷ [])
+    × (number_in 1 MAX_CLIENTS first ≡ Some clients) × (number_in 1 MAX_BLOCKS second ≡ Some blocks) × (number_in 0 last_block third ≡ Some bad)
+
+-- The words ask for a run in their plain form: a subcommand and its arguments, each number in decimal digits, and an option after them.
+abbrev pub AsksPlainly : Asked → List Text → Type 0
+AsksPlainly (replay clients blocks bad) words = AsksScript (codes "replay") clients blocks bad words
+AsksPlainly (trace clients blocks bad) words = AsksScript (codes "trace") clients blocks bad words
+AsksPlainly (make file blocks) words = (program second : Text) × (words ≡ program ∷ codes "make" ∷ file ∷ second ∷ [])
+    × (is_plain_name file ≡ true) × (number_in 1 MAX_BLOCKS second ≡ Some blocks)
+AsksPlainly (info file) words = (program : Text) × (words ≡ program ∷ codes "info" ∷ file ∷ []) × (is_plain_name file ≡ true)
+AsksPlainly (dump file lba count) words =
+    (program second third : Text) × (words ≡ program ∷ codes "dump" ∷ file ∷ second ∷ third ∷ []) × (is_plain_name file ≡ true)
+    × (number_in 0 max_lba second ≡ Some lba) × (number_in 1 MOST_BLOCKS_MOVED third ≡ Some count)
+AsksPlainly (fill file lba count byte) words =
+    (program second third fourth : Text) × (words ≡ program ∷ codes "fill" ∷ file ∷ second ∷ third ∷ fourth ∷ []) × (is_plain_name file ≡ true)
+    × (number_in 0 max_lba second ≡ Some lba) × (number_in 1 MOST_BLOCKS_MOVED third ≡ Some count) × (number_in 0 255 fourth ≡ Some byte)
+
+-- ---- exit statuses
+
+-- A run ends with 0, 3 or 4, and one that submits commands with 1 too.
+abbrev pub MayEndRun : Asked → ℕ → Type 0
+MayEndRun (replay clients blocks bad) status = (status ≤ 1) ⊎ ((status ≡ 3) ⊎ (status ≡ 4))
+MayEndRun (trace clients blocks bad) status = (status ≤ 1) ⊎ ((status ≡ 3) ⊎ (status ≡ 4))
+MayEndRun (make file blocks) status = (status ≡ 0) ⊎ ((status ≡ 3) ⊎ (status ≡ 4))
+MayEndRun (info file) status = (status ≡ 0) ⊎ ((status ≡ 3) ⊎ (status ≡ 4))
+MayEndRun (dump file lba count) status = (status ≤ 1) ⊎ ((status ≡ 3) ⊎ (status ≡ 4))
+MayEndRun (fill file lba count byte) status = (status ≤ 1) ⊎ ((status ≡ 3) ⊎ (status ≡ 4))
+
+-- Help or the version is asked for.
+abbrev pub IsRequest : ErrorKind → Type 0
+IsRequest kind = (kind ≡ DisplayHelp) ⊎ (kind ≡ DisplayVersion)
+
+-- Words that are refused end with 2, for want of memory with 4. A request ends with 0, or with 3 or 4 where its text
+-- can't be printed or has no memory.
+pub record EndsRefused (kind : ErrorKind) (status : ℕ) : Type 0 where
+  pub memory : kind ≡ OutOfMemory → status ≡ 4
+  pub request : IsRequest kind → (status ≡ 0) ⊎ ((status ≡ 3) ⊎ (status ≡ 4))
+  pub mistake : kind ≢ OutOfMemory → ¬ (IsRequest kind) → status ≡ 2

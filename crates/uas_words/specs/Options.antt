@@ -1,0 +1,23 @@
+-- What the words of the command line ask for.
+use Rattle.std.specs.Prelude.{ℕ, ◌≤◌, ◌<◌, IfSome}
+use Rattle.uas_profile.specs.declared.TheConstants.{MAX_BLOCKS, MOST_BLOCKS_MOVED}
+use Rattle.byte_io.specs.Disks.{AreBlocks, AreDisks}
+use Rattle.uas_words.specs.declared.Run.{Run}
+use Rattle.uas_words.specs.declared.Run.TheVariants.{Replay, Trace, Make, Info, Dump, Fill}
+
+-- a unit's blocks have numbers from 0 to 65,535
+abbrev pub IsBlock : ℕ → Type 0
+IsBlock block = block < MAX_BLOCKS
+
+-- one READ or WRITE is of 1 to 128 blocks
+abbrev pub IsMoved : ℕ → Type 0
+IsMoved count = (1 ≤ count) × (count ≤ MOST_BLOCKS_MOVED)
+
+-- each number is in its range
+abbrev pub IsInRange : Run → Type 0
+IsInRange (Replay disks) = AreDisks disks × IfSome disks.bad IsBlock
+IsInRange (Trace disks) = AreDisks disks × IfSome disks.bad IsBlock
+IsInRange (Make file blocks) = AreBlocks blocks
+IsInRange (Info file) = Unit {0}
+IsInRange (Dump file extent) = IsMoved extent.count
+IsInRange (Fill file extent byte) = IsMoved extent.count

@@ -1,0 +1,370 @@
+//! The words of the command line: the subcommands, their arguments and the ranges of their numbers.
+//!
+//! [`run_of`] reads the words and answers what the program is to do, or the error to print, help among them. What the words ask for, and
+//! by which kinds of error they are refused, is specs/CommandLine.antt; plain words, in the order of the usage, are read whatever the
+//! parser does with others. It stands on clap alone, but for the numbers of a text and those of the profile.
+#![tactic(auto)]
+
+ghost use Rattle.std.specs.Prelude.{◌≡◌, ◌≤◌, ℕ, Option, false, Some, IfOk, IfSome, MatchResult, map, option_and_then, option_map};
+ghost use Rattle.std.specs.String.{string_bytes};
+ghost use Rattle.clap.specs.Words.{FailsBy, app_of, found_of, kind_of, one_of, rows_of, rule_of, subcommand_rows_of};
+ghost use Rattle.byte_io.specs.Disks.{AreBlocks, AreDisks};
+ghost use Rattle.uas_words.specs.Options.{IsBlock, IsInRange, IsMoved};
+ghost use Rattle.uas_words.specs.CommandLine.{Asked, AsksPlainly, asked_by, asked_for, asked_in, bad_of, bad_rule, blocks_of, blocks_rule};
+ghost use Rattle.uas_words.specs.CommandLine.{dump_app, dump_of, extent_of, file_of, file_rule, fill_app, fill_of, info_app, make_app, number_of};
+ghost use Rattle.uas_words.specs.CommandLine.{number_rule, program_app, refusals, replay_app, script_of, top_app, trace_app, with_disks, with_extent};
+
+use byte_io::{Disks, Extent};
+use clap::error::ErrorKind;
+use clap::{Arg, ArgAction, ArgMatches, Command, Error};
+use std::alloc::{AllocError, Global};
+use uas_profile::{CLIENTS_HELP, MAX_BLOCKS, MAX_CLIENTS, MOST_BLOCKS_MOVED};
+
+/// The most clients, as a word of the command line.
+const MOST_CLIENTS: u32 = MAX_CLIENTS as u32;
+
+const _: () = prove!(MOST_CLIENTS as usize == MAX_CLIENTS);
+
+const _: () = prove!(MAX_BLOCKS == 65_536);
+
+/// The greatest number of a block that a unit can have.
+const LAST_BLOCK: u32 = MAX_BLOCKS - 1;
+
+const _: () = prove!(LAST_BLOCK == 65_535);
+
+/// The most blocks that one command moves, as a word of the command line.
+const MOST_MOVED: u32 = MOST_BLOCKS_MOVED as u32;
+
+const _: () = prove!(MOST_MOVED == 128);
+
+/// The greatest byte.
+const MAX_BYTE: u32 = u8::MAX as u32;
+
+const _: () = prove!(MAX_BYTE == 255);
+
+const LBA_HELP: &str = "The number of the first block: 0 to 4294967295";
+
+const BYTE_HELP: &str = "The byte that the blocks are filled with: 0 to 255";
+
+/// What a script has, and an example.
+const SCRIPT_HELP: &str = "\
+A script has a line for each command, task management or step; words stand between spaces, and # begins a remark:
+  C tur | C inquiry LEN | C capacity        a command of client C, which is below CLIENTS
+  C read LBA COUNT [fua]                    LBA to 4294967295, COUNT to 128
+  C write LBA COUNT BYTE [fua]              the blocks are filled with BYTE
+  C sync LBA COUNT
+  C read16, C write16, C capacity16 LEN     the same by commands of 16 bytes
+  C abort TAG | C reset                     task management
+  command | engine | event | data TAG | status TAG | retire PIPE TAG | take C
+                                            one step; TAG is a command's, PIPE 2, 3 or 4
+  drain                                     all steps that are due
+A drain follows by itself at the end.
+
+Example:
+  uasdisk replay 2 100 < examples/two-clients.script";
+
+/// The version of the program, and the logic of the prover that it was proved with.
+pub const VERSION: &str = "0.1.0, proved with Rattle's logic dac8208d650f15bf";
+
+/// What the program is to do.
+#[derive(Clone, Copy, Debug, PartialEq, Eq)]
+pub enum Run<'a> {
+    /// Run a script of 1 to 15 clients on units of 1 to 65,536 zeroed blocks. One block, 0 to 65,535, may be bad in every unit.
+    Replay(Disks),
+    /// Run a script as `Replay` does, and show each step.
+    Trace(Disks),
+    /// Make an image file of 1 to 65,536 zeroed blocks.
+    Make {
+        file: &'a str,
+        blocks: u32,
+    },
+    /// Tell the size of an image file.
+    Info {
+        file: &'a str,
+    },
+    /// Print 1 to 128 blocks of an image file.
+    Dump {
+        file: &'a str,
+        extent: Extent,
+    },
+    /// Fill 1 to 128 blocks of an image file with a byte.
+    Fill {
+        file: &'a str,
+        extent: Extent,
+        byte: u8,
+    },
+}
+
+/// Reads the words, the program's own name first. An error has the text to print, help among them.
+pub fn run_of<'a>(alloc: Global, words: &'a [String]) -> Result<Run<'a>, Error>
+    ensures range { IfOk result IsInRange }
+    ensures asked { IfOk result (λ run. asked_for (map string_bytes words.entry.now) ≡ Some (asked_by run)) }
+    ensures refused { FailsBy (refusals (map string_bytes words.entry.now)) result }
+    ensures plain { (asked : Asked) → AsksPlainly asked (map string_bytes words.entry.now)
+        → MatchResult result (λ run. asked_by run ≡ asked) (λ e. kind_of e ≡ ErrorKind.OutOfMemory) }
+{
+    run_by(command(alloc)?, words)
+}
+
+/// Reads the words by the program's command.
+fn run_by<'a>(mut command: Command<'a>, words: &'a [String]) -> Result<Run<'a>, Error>
+    requires { app_of command ≡ program_app }
+    ensures range { IfOk result IsInRange }
+    ensures asked { IfOk result (λ run. asked_for (map string_bytes words.entry.now) ≡ Some (asked_by run)) }
+    ensures refused { FailsBy (refusals (map string_bytes words.entry.now)) result }
+{
+    let matches = command.try_get_matches_from_mut(words)?;
+    match asked(&matches) {
+        Some(run) => Ok(run),
+        None => Err(command.error(ErrorKind::ValueValidation, "a word is missing")?),
+    }
+}
+
+fn command<'a>(alloc: Global) -> Result<Command<'a>, AllocError>
+    ensures { IfOk result (λ command. app_of command ≡ program_app) }
+{
+    top_command(alloc)
+        .subcommand(replay_command(alloc)?)?
+        .subcommand(trace_command(alloc)?)?
+        .subcommand(make_command(alloc)?)?
+        .subcommand(info_command(alloc)?)?
+        .subcommand(dump_command(alloc)?)?
+        .subcommand(fill_command(alloc)?)
+}
+
+/// The command without its subcommands.
+fn top_command<'a>(alloc: Global) -> Command<'a>
+    ensures { app_of result ≡ top_app }
+{
+    Command::new(alloc, "uasdisk")
+        .about("Runs disks of many clients over USB Attached SCSI, simulated and verified")
+        .version(VERSION)
+        .subcommand_required(true)
+        .arg_required_else_help(true)
+}
+
+fn replay_command<'a>(alloc: Global) -> Result<Command<'a>, AllocError>
+    ensures { IfOk result (λ command. app_of command ≡ replay_app) }
+{
+    let command = Command::new(alloc, "replay")
+        .about("Reads a script from standard input and runs it on zeroed units")
+        .after_help(SCRIPT_HELP);
+    add_disks(alloc, command)
+}
+
+fn trace_command<'a>(alloc: Global) -> Result<Command<'a>, AllocError>
+    ensures { IfOk result (λ command. app_of command ≡ trace_app) }
+{
+    let command = Command::new(alloc, "trace")
+        .about("Runs a script as replay does, and prints each step with the bytes that it wrote")
+        .after_help("Example:\n  uasdisk trace 1 100 < examples/first-reply.script");
+    add_disks(alloc, command)
+}
+
+/// Adds what tells the disks that a script runs on.
+fn add_disks<'a>(alloc: Global, command: Command<'a>) -> Result<Command<'a>, AllocError>
+    ensures { IfOk result (λ made. app_of made ≡ with_disks (app_of command.entry)) }
+{
+    command
+        .arg(number(alloc, "CLIENTS", 1, MOST_CLIENTS, CLIENTS_HELP))?
+        .arg(blocks(
+            alloc,
+            "How many blocks of 512 bytes each unit has: 1 to 65536",
+        ))?
+        .arg(bad(alloc, "A block that is bad in every unit: 0 to 65535"))
+}
+
+fn make_command<'a>(alloc: Global) -> Result<Command<'a>, AllocError>
+    ensures { IfOk result (λ command. app_of command ≡ make_app) }
+{
+    Command::new(alloc, "make")
+        .about("Makes an image file of zeroed blocks")
+        .after_help("Example:\n  uasdisk make disk.image 100")
+        .arg(file(alloc, "The image file, in place of one that is there"))?
+        .arg(blocks(alloc, "How many blocks of 512 bytes it gets: 1 to 65536"))
+}
+
+fn info_command<'a>(alloc: Global) -> Result<Command<'a>, AllocError>
+    ensures { IfOk result (λ command. app_of command ≡ info_app) }
+{
+    Command::new(alloc, "info")
+        .about("Tells how many blocks an image file has, and the number of the last")
+        .after_help("Example:\n  uasdisk info disk.image")
+        .arg(file(alloc, "The image file: 1 to 65536 blocks of 512 bytes"))
+}
+
+fn dump_command<'a>(alloc: Global) -> Result<Command<'a>, AllocError>
+    ensures { IfOk result (λ command. app_of command ≡ dump_app) }
+{
+    let command = Command::new(alloc, "dump")
+        .about("Reads blocks of an image file by one READ, and prints their bytes")
+        .after_help("Example:\n  uasdisk dump disk.image 0 1");
+    add_extent(alloc, command)
+}
+
+fn fill_command<'a>(alloc: Global) -> Result<Command<'a>, AllocError>
+    ensures { IfOk result (λ command. app_of command ≡ fill_app) }
+{
+    let command = Command::new(alloc, "fill")
+        .about("Fills blocks of an image file with a byte by one WRITE, and writes the file")
+        .after_help("Example:\n  uasdisk fill disk.image 0 1 255");
+    add_extent(alloc, command)?.arg(number(alloc, "BYTE", 0, MAX_BYTE, BYTE_HELP))
+}
+
+/// Adds what tells the blocks of an image.
+fn add_extent<'a>(alloc: Global, command: Command<'a>) -> Result<Command<'a>, AllocError>
+    ensures { IfOk result (λ made. app_of made ≡ with_extent (app_of command.entry)) }
+{
+    command
+        .arg(file(alloc, "The image file: 1 to 65536 blocks of 512 bytes"))?
+        .arg(number(alloc, "LBA", 0, u32::MAX, LBA_HELP))?
+        .arg(number(alloc, "COUNT", 1, MOST_MOVED, "How many blocks: 1 to 128"))
+}
+
+fn file<'a>(alloc: Global, help: &'a str) -> Arg<'a>
+    ensures rule { rule_of result ≡ file_rule }
+    ensures local { result.global ≡ false }
+{
+    Arg::new(alloc, "FILE")
+        .required(true)
+        .action(ArgAction::Set)
+        .help(help)
+}
+
+fn blocks<'a>(alloc: Global, help: &'a str) -> Arg<'a>
+    ensures rule { rule_of result ≡ blocks_rule }
+    ensures local { result.global ≡ false }
+{
+    number(alloc, "BLOCKS", 1, MAX_BLOCKS, help)
+}
+
+fn bad<'a>(alloc: Global, help: &'a str) -> Arg<'a>
+    ensures rule { rule_of result ≡ bad_rule }
+    ensures local { result.global ≡ false }
+{
+    Arg::new(alloc, "bad")
+        .long("bad")
+        .value_name("LBA")
+        .action(ArgAction::Set)
+        .value_parser(clap::value_parser!(u32).range(0..=i64::from(LAST_BLOCK)))
+        .help(help)
+}
+
+fn number<'a>(alloc: Global, name: &'a str, least: u32, most: u32, help: &'a str) -> Arg<'a>
+    ensures rule { rule_of result ≡ number_rule name.entry.now least most }
+    ensures local { result.global ≡ false }
+{
+    Arg::new(alloc, name)
+        .required(true)
+        .action(ArgAction::Set)
+        .value_parser(clap::value_parser!(u32).range(i64::from(least)..=i64::from(most)))
+        .help(help)
+}
+
+/// What was found for the subcommand; the parsers have refused every other word before.
+fn asked<'a>(matches: &ArgMatches<'a>) -> Option<Run<'a>>
+    ensures range { IfSome result IsInRange }
+    ensures asked { option_map asked_by result ≡ asked_in (subcommand_rows_of matches.now) }
+{
+    let (name, words) = matches.subcommand()?;
+    match name {
+        "replay" => Some(Run::Replay(disks_in(words)?)),
+        "trace" => Some(Run::Trace(disks_in(words)?)),
+        "make" => {
+            let file = words.get_str("FILE")?;
+            let blocks = blocks_in(words)?;
+            Some(Run::Make { file, blocks })
+        }
+        "info" => {
+            let file = words.get_str("FILE")?;
+            Some(Run::Info { file })
+        }
+        "dump" => dump_in(words),
+        "fill" => fill_in(words),
+        _ => None,
+    }
+}
+
+/// The disks that a `replay` or a `trace` runs on.
+fn disks_in(words: &ArgMatches<'_>) -> Option<Disks>
+    ensures range { IfSome result (λ disks. AreDisks disks × IfSome disks.bad IsBlock) }
+    ensures asked { (run : ℕ → ℕ → Option ℕ → Asked)
+        → option_map (λ disks. run disks.clients disks.blocks disks.bad) result ≡ script_of run (rows_of (found_of words.now)) }
+{
+    let clients = number_in(words, "CLIENTS", 1, MOST_CLIENTS)? as usize;
+    let blocks = blocks_in(words)?;
+    let bad = bad_in(words)?;
+    Some(Disks {
+        clients,
+        blocks,
+        bad,
+    })
+}
+
+fn dump_in<'a>(words: &ArgMatches<'a>) -> Option<Run<'a>>
+    ensures range { IfSome result IsInRange }
+    ensures asked { option_map asked_by result ≡ dump_of (rows_of (found_of words.now)) }
+{
+    let file = file_in(words)?;
+    let extent = extent_in(words)?;
+    Some(Run::Dump { file, extent })
+}
+
+fn fill_in<'a>(words: &ArgMatches<'a>) -> Option<Run<'a>>
+    ensures range { IfSome result IsInRange }
+    ensures asked { option_map asked_by result ≡ fill_of (rows_of (found_of words.now)) }
+{
+    let file = file_in(words)?;
+    let extent = extent_in(words)?;
+    let byte = number_in(words, "BYTE", 0, MAX_BYTE)? as u8;
+    Some(Run::Fill { file, extent, byte })
+}
+
+fn file_in<'a>(words: &ArgMatches<'a>) -> Option<&'a str>
+    ensures { option_map (λ file. file.now) result ≡ file_of (rows_of (found_of words.now)) }
+{
+    words.get_str("FILE")
+}
+
+/// The blocks that a `dump` or a `fill` is of.
+fn extent_in(words: &ArgMatches<'_>) -> Option<Extent>
+    ensures range { IfSome result (λ extent. IsMoved extent.count) }
+    ensures extent { result ≡ extent_of (rows_of (found_of words.now)) }
+{
+    let lba = number_in(words, "LBA", 0, u32::MAX)?;
+    let count = number_in(words, "COUNT", 1, MOST_MOVED)? as u16;
+    Some(Extent { lba, count })
+}
+
+fn blocks_in(words: &ArgMatches<'_>) -> Option<u32>
+    ensures number { result ≡ blocks_of (rows_of (found_of words.now)) }
+    ensures range { IfSome result AreBlocks }
+{
+    number_in(words, "BLOCKS", 1, MAX_BLOCKS)
+}
+
+/// The number under this name, where there is one and it is from `least` to `most`.
+fn number_in(words: &ArgMatches<'_>, name: &str, least: u32, most: u32) -> Option<u32>
+    ensures number { result ≡ option_and_then (number_of least most) (one_of name.now (rows_of (found_of words.now))) }
+    ensures range { IfSome result (λ number. (least ≤ number) × (number ≤ most)) }
+{
+    let number = words.get_one::<u32>(name)?;
+    if least <= number && number <= most {
+        Some(number)
+    } else {
+        None
+    }
+}
+
+/// The block that `--bad` names, where it stands. None where its word is no number of the range.
+fn bad_in(words: &ArgMatches<'_>) -> Option<Option<u32>>
+    ensures bad { result ≡ bad_of (rows_of (found_of words.now)) }
+    ensures range { IfSome result (λ bad. IfSome bad IsBlock) }
+{
+    match words.try_get_one::<u32>("bad") {
+        Ok(None) => Some(None),
+        Ok(Some(block)) if block <= LAST_BLOCK => Some(Some(block)),
+        Ok(Some(_)) => None,
+        Err(_) => None,
+    }
+}

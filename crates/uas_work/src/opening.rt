@@ -1,0 +1,77 @@
+//! A bus and its log as they begin.
+ghost use Rattle.std.specs.Prelude.{◌≡◌, ℕ, ◌<◌, ◌≤◌, ◌^◌, All, IfOk, length, map, vec_len};
+ghost use Rattle.uas_profile.specs.declared.TheConstants.{MAX_CLIENTS};
+ghost use Rattle.uas_log.specs.Booking.{empty_log, first_maps};
+ghost use Rattle.uas_work.specs.Booked.{IsNew, first_unit, new_booked};
+
+use crate::Booked;
+use block_unit::Unit;
+use bus_core::Bus;
+use std::alloc::{AllocError, Global};
+use uas_log::{
+    BlockBytes, BlockNumbers, FirstUnit, FirstUnits, Log, RefusalNumbers, Replies, Steps,
+};
+use uas_profile::{MAX_CLIENTS, TAGS};
+
+impl Booked {
+    /// The bus of these units, the unit of client c at place c, whose log may hold `limit` steps. Asks for 1 to 15 units that
+    /// are as new: the blocks of each are its medium's, and no attention is established. `AllocError` where there is no memory.
+    pub fn new(alloc: Global, units: Vec<Unit>, limit: usize) -> Result<Booked, AllocError>
+        requires some { 1 ≤ vec_len units }
+        requires most { vec_len units ≤ MAX_CLIENTS }
+        requires fresh { All IsNew units.items }
+        requires limit { limit < 2 ^ 32 }
+        ensures { IfOk result (λ booked. booked ≡ new_booked units.items limit) }
+    {
+        let firsts = first_units(alloc, units.as_slice())?;
+        let bus = Bus::new(alloc, units)?;
+        let log = new_log(alloc, firsts);
+        Ok(Booked {
+            bus,
+            log,
+            limit,
+            turns: [0; MAX_CLIENTS],
+        })
+    }
+}
+
+/// The log of these first units that has no step; takes no memory.
+fn new_log(alloc: Global, units: Vec<FirstUnit>) -> Log
+    ensures { result ≡ empty_log units.items }
+{
+    Log {
+        tags: TAGS,
+        units: FirstUnits::from_vec(units),
+        steps: Steps::from_vec(Vec::new(alloc)),
+        refusals: RefusalNumbers::from_vec(Vec::new(alloc)),
+        replies: Replies::from_vec(Vec::new(alloc)),
+    }
+}
+
+/// What a log keeps of each unit. Asks that they are as new.
+fn first_units(alloc: Global, units: &[Unit]) -> Result<Vec<FirstUnit>, AllocError>
+    requires { All IsNew units.now }
+    ensures firsts { IfOk result (λ firsts. firsts.items ≡ map first_unit units.now) }
+    ensures whole { IfOk result (λ firsts. map first_maps firsts.items ≡ units.now) }
+{
+    let mut firsts = Vec::with_capacity(alloc, units.len())?;
+    for unit in units {
+        firsts.push(first_unit(alloc, unit)?)?;
+    }
+    Ok(firsts)
+}
+
+/// What a log keeps of a unit. Asks that it is as new.
+fn first_unit(alloc: Global, unit: &Unit) -> Result<FirstUnit, AllocError>
+    requires { IsNew unit.now }
+    ensures first { IfOk result (λ first. first ≡ first_unit unit.now) }
+    ensures whole { IfOk result (λ first. first_maps first ≡ unit.now) }
+{
+    let blocks = Vec::from_slice(alloc, unit.contents())?;
+    let bad = Vec::from_slice(alloc, unit.bad())?;
+    prove!(unit.blocks() > 0);
+    Ok(FirstUnit {
+        blocks: BlockBytes::from_vec(blocks),
+        bad: BlockNumbers::from_vec(bad),
+    })
+}

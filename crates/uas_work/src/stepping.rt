@@ -1,0 +1,99 @@
+//! Steps of a bus that are booked.
+ghost use Rattle.std.specs.Prelude.{◌≡◌, ℕ, ◌<◌, IfOk, IfErr, OnErr, IsErrAnd, length};
+ghost use Rattle.shared_machine.specs.Bus.{HasTicket};
+ghost use Rattle.uas_profile.specs.declared.TheConstants.{MAX_CLIENTS};
+ghost use Rattle.shared_machine.specs.Shared.{due};
+ghost use Rattle.shared_machine.specs.Rooms.{step_len};
+ghost use Rattle.uas_work.specs.Booked.{IsBooked, booked_step, turns_in};
+
+use crate::turns::count_turn;
+use crate::{Booked, Booking};
+use bus_core::{Bus, Outcome, Step};
+use std::alloc::Global;
+use uas_log::{Growth, Log};
+use uas_profile::MAX_CLIENTS;
+
+impl Booked {
+    /// The bus.
+    pub fn bus(&self) -> &Bus
+        ensures { result.now ≡ self.now.bus }
+    {
+        &self.bus
+    }
+
+    /// The log: the bus is what its replay comes to, and its refusals and replies are that replay's.
+    pub fn log(&self) -> &Log
+        ensures log { result.now ≡ self.now.log }
+        ensures booked { IsBooked self.now }
+    {
+        &self.log
+    }
+
+    /// How many steps the log may hold.
+    pub fn limit(&self) -> usize
+        ensures { result ≡ self.now.limit }
+    {
+        self.limit
+    }
+
+    /// Whether a step would act.
+    pub fn due(&self, step: &Step) -> bool
+        ensures { result ≡ due self.now.bus step.now }
+    {
+        self.bus.due(step)
+    }
+
+    /// How many submissions of a client the log has, refused ones too.
+    pub fn turn(&self, client: usize) -> u64
+        requires { client < MAX_CLIENTS }
+        ensures { result ≡ turns_in client self.now.log.steps }
+    {
+        self.turns[client]
+    }
+
+    /// Takes one step and books it: what came of it. Where the step is idle the log stays, else it is longer by the step, by the
+    /// number of its refusal and by a copy of its reply. Where the log holds as many steps as it may the answer is `LogFull`,
+    /// for an idle step too, and `NoMemory` where there is no memory for the entry; the step comes back then, and nothing
+    /// changed. All memory is taken before the bus takes the step.
+    pub fn step(&mut self, alloc: Global, step: Step) -> Result<Outcome, (Booking, Step)>
+        requires { HasTicket step }
+        // The bus and the outcome are the shared machine's, and the log is longer by what acted.
+        ensures booked { IfOk result (λ outcome. booked_step self.old step ≡ (self.new, outcome)) }
+        ensures full { length self.old.log.steps ≡ self.old.limit → IsErrAnd result (λ back. back.0 ≡ Booking.LogFull) }
+        ensures only_full { IfErr result (λ back. back.0 ≡ Booking.LogFull → length self.old.log.steps ≡ self.old.limit) }
+        ensures err { OnErr result (self.new ≡ self.old) }
+        ensures back { IfErr result (λ back. back.1 ≡ step) }
+    {
+        if self.log.steps.len() == self.limit {
+            return Err((Booking::LogFull, step));
+        }
+        if !self.bus.due(&step) {
+            return Ok(self.bus.step(step));
+        }
+        let len = reply_len(&self.bus, &step);
+        let Ok(growth) = Growth::begin(alloc, &mut self.log, &step, len) else {
+            return Err((Booking::NoMemory, step));
+        };
+        count_turn(&mut self.turns, &step);
+        let outcome = self.bus.step(step);
+        growth.enter(&mut self.log, &outcome);
+        Ok(outcome)
+    }
+}
+
+/// How many bytes the reply of a step would bring.
+fn reply_len(bus: &Bus, step: &Step) -> usize
+    ensures { result ≡ step_len bus.now step.now }
+{
+    match step {
+        Step::Take(client) => bus.next_len(*client),
+        Step::Submit { .. }
+        | Step::Task { .. }
+        | Step::CommandPipe
+        | Step::Data(_)
+        | Step::Status(_)
+        | Step::Engine
+        | Step::Event
+        | Step::Retire(_, _) => 0,
+    }
+}

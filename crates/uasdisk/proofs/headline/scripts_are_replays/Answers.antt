@@ -1,5 +1,0 @@
-use Rattle.uasdisk.proofs.WholeScripts.{scripts_told}
-use Rattle.uasdisk.proofs.headline.scripts_are_replays.Goals as goal
-
-pub returns : goal.returns
-returns c = scripts_told c.isolated.ensures c.opens_as_solo.ensures.solo

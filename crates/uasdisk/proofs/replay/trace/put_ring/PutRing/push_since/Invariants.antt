@@ -1,6 +1,0 @@
-use Rattle.std.proofs.Common.{◌≡◌, ◌++◌}
-use Rattle.uasdisk.specs.Written.{put_lines}
-use Rattle.uasdisk.proofs.replay.trace.put_ring.PutRing.push_since.Given as goal
-
-abbrev pub invariant-loop-passed : goal.invariant-loop-passed
-invariant-loop-passed l = l.text.items ≡ l.fn.text.items ++ put_lines l.lines l.self l.from l.passed

@@ -1,8 +1,0 @@
-use Rattle.std.proofs.Common.{◌≡◌, ◌+◌, [], map, drop}
-use Rattle.uasdisk.specs.Script.{lines_after}
-use Rattle.uasdisk.proofs.script.lines_of.Given as goal
-
-abbrev pub invariant-loop-index : goal.invariant-loop-index
-invariant-loop-index l =
-    lines_after l.clients [] 1 (map (λ piece. piece.now) l.pieces) ≡ lines_after l.clients l.lines.items (l.index + 1)
-    (drop l.index (map (λ piece. piece.now) l.pieces))

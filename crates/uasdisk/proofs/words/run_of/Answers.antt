@@ -1,5 +1,0 @@
-use Rattle.uasdisk.proofs.PlainLines.{plainly_given}
-use Rattle.uasdisk.proofs.words.run_of.Goals as goal
-
-pub returns-clause-plain : goal.returns-clause-plain
-returns-clause-plain c = plainly_given _ c.run_by.result c.run_by.ensures.asked c.run_by.ensures.refused

@@ -1,0 +1,3 @@
+mod Chunks
+mod ChunksRead
+mod ChunksWritten

@@ -147,7 +147,7 @@ pub struct Drained {
 /// let write = Operation::Write { lba: 7, count: 1, fua: false };
 /// let read = Operation::Read { lba: 7, count: 1, fua: false };
 /// bus.submit(0, 1, 0, &write, &[0xaa; 512]).unwrap();
-/// bus.submit(1, 9, 0, &read, &[0; 512]).unwrap();
+/// bus.submit(1, 17, 0, &read, &[0; 512]).unwrap();
 /// assert!(bus.drain(1000).quiet);
 /// assert!(matches!(bus.take_reply(0), Some(Reply::Status { ticket: 0, status: Status::Good, .. })));
 /// let Some(Reply::Status { data, .. }) = bus.take_reply(1) else { panic!() };

@@ -20,7 +20,8 @@ use Rattle.machine_invariant.specs.Matched.{IsMatched, retired_places, is_td_eve
 use Rattle.machine_invariant.proofs.MatchedPlaces.{one_equal, one_apart, times_in-push, command_events-append, data_events-append, status_events-append, times-append}
 use Rattle.machine_invariant.proofs.MatchedPlaces.{IsFound, under-found, held-within, IsWritten, times_ready-written, AreMatched-written, retired_places-append}
 use Rattle.machine_invariant.proofs.MatchedPlaces.{clients-written, AreMatched, IsCounted}
-use Rattle.machine_invariant.proofs.MatchedEntries.{IsStepped, IsSeenAs, IsCountedOut}
+use Rattle.machine_invariant.proofs.MatchedEntries.{IsSeenAs, IsCountedOut}
+use Rattle.machine_invariant.proofs.MatchedTasks.{IsStepped}
 use Rattle.machine_invariant.proofs.MatchedTds.{TdsGoOn, tds-on}
 use Rattle.machine_invariant.proofs.MatchedFlows.{pipes-same, HeldGoesOn, written-goes, goes-on, IsCounted-kept}
 

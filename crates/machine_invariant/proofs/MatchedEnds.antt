@@ -32,7 +32,7 @@ use Rattle.shared_machine.specs.Td.{is_td_left_over, is_left_over_on, data_in_td
 use Rattle.shared_machine.specs.Part.{data_td_for, new_entry, new_management}
 use Rattle.shared_machine.specs.Soundness.{one_if, awaited_data}
 use Rattle.machine_invariant.specs.Matched.{waiting_command, awaited_command, awaited_status, awaited_data_of, IsStatusTd, IsMovingTd, IsMatchedEntry, IsPhaseOf}
-use Rattle.machine_invariant.proofs.MatchedEntries.{unawaited}
+use Rattle.machine_invariant.proofs.MatchedTasks.{unawaited}
 use Rattle.machine_invariant.proofs.MatchedTds.{in-either, out-either}
 
 -- TAKE

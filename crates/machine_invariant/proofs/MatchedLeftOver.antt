@@ -25,7 +25,8 @@ use Rattle.shared_machine.specs.Td.{passed_td, passed_on, retired_td, retired_on
 use Rattle.shared_machine.specs.Soundness.{one_if}
 use Rattle.machine_invariant.specs.Matched.{is_whole, is_whole_on, IsAwaitedOrSeen, IsGivenUp, IsStatusTd, IsAnsweredTd, IsDataTd, IsMatchedEntry}
 use Rattle.machine_invariant.proofs.MatchedEnds.{over-left_in, over-left_out}
-use Rattle.machine_invariant.proofs.MatchedEntries.{IsStepped, IsCountedOut, IsLeft, last_false, middle_false}
+use Rattle.machine_invariant.proofs.MatchedEntries.{IsCountedOut, IsLeft, last_false, middle_false}
+use Rattle.machine_invariant.proofs.MatchedTasks.{IsStepped}
 use Rattle.machine_invariant.proofs.MatchedPlaces.{self_equal}
 use Rattle.machine_invariant.proofs.MatchedTds.{in-either, out-either}
 

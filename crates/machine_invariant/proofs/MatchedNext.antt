@@ -37,12 +37,15 @@ use Rattle.machine_invariant.proofs.MatchedPlaces.{held-within}
 use Rattle.machine_invariant.proofs.MatchedActs.{under-there}
 use Rattle.shared_machine.proofs.Standing.{slice_get-slice_set_same}
 use Rattle.machine_invariant.proofs.MatchedRetirement.{own-engine_event}
-use Rattle.machine_invariant.proofs.MatchedEntries.{awaited-pends, taken-none, has_trb-queued, HasSeen, event-seen}
+use Rattle.machine_invariant.proofs.MatchedEntries.{awaited-pends, taken-none, HasSeen, event-seen}
+use Rattle.machine_invariant.proofs.MatchedTasks.{has_trb-queued}
 use Rattle.machine_invariant.proofs.MatchedEnds.{unfaulted, moving-unawaited}
 use Rattle.machine_invariant.proofs.MatchedBounds.{held-place, times_pipe, matched-once}
-use Rattle.machine_invariant.proofs.MatchedSteps.{IsHeld, matched-held, HasWaiting, message-waiting, carry_step-is, HasAwaiting, times_alike, times_alike-first}
-use Rattle.machine_invariant.proofs.MatchedSteps.{event-awaited, event_step-held, told_part, told_state, told-own, IsDueAt, place_fact-due, IsMovingBy, moving_phase}
-use Rattle.machine_invariant.proofs.MatchedSteps.{IsEndedBy, ended_phase}
+use Rattle.machine_invariant.proofs.MatchedSteps.{IsHeld, matched-held, HasAwaiting, times_alike, times_alike-first}
+use Rattle.machine_invariant.proofs.MatchedMoves.{HasWaiting, message-waiting, carry_step-is}
+use Rattle.machine_invariant.proofs.MatchedSteps.{event-awaited, event_step-held, told_part, told_state, told-own, IsDueAt, place_fact-due}
+use Rattle.machine_invariant.proofs.MatchedMoves.{IsMovingBy, moving_phase}
+use Rattle.machine_invariant.proofs.MatchedMoves.{IsEndedBy, ended_phase}
 
 -- MESSAGES
 

@@ -32,7 +32,8 @@ use Rattle.machine_invariant.specs.Matched.{IsPhaseOf, IsGivenUp, IsShortTd, IsW
 use Rattle.machine_invariant.proofs.MatchedPlaces.{part-set, IsCounted}
 use Rattle.machine_invariant.proofs.MatchedTds.{TdGoesOn, TdsGoOn, td-same, td-left, tds-same, tds-on, same-goes}
 use Rattle.machine_invariant.proofs.MatchedFlows.{pipes-same, left_of, trb_of, whole_of, HeldGoesOn, goes-on, IsCounted-kept}
-use Rattle.machine_invariant.proofs.MatchedEntries.{asked_op, moving-within, left-within, check-awaited, check-there, pending-is}
+use Rattle.machine_invariant.proofs.MatchedEntries.{left-within, check-awaited, check-there, pending-is}
+use Rattle.machine_invariant.proofs.MatchedTasks.{asked_op, moving-within}
 use Rattle.machine_invariant.proofs.MatchedActs.{times_ready-there, under-there}
 use Rattle.machine_invariant.proofs.OrderedEntries.{held-changed}
 

@@ -46,7 +46,7 @@ use Rattle.bus_core.proofs.common.Framing.{AllFit-set, EndsStay, FitsPart-set, C
 use Rattle.machine_invariant.proofs.MatchedBounds.{matched-room}
 use Rattle.machine_invariant.proofs.MatchedSteps.{shared_step-matched}
 use Rattle.shared_machine.proofs.Standing.{slice_get-back, get-within, get-none, not_some}
-use Rattle.bus_core.proofs.submit.Submitting.{rung_all-is, put_empty}
+use Rattle.bus_core.proofs.submit.SubmittedLines.{rung_all-is, put_empty}
 use Rattle.bus_core.proofs.submit.TaskFaults.{IsUnfaultedTask, named-short, noted-alike, task_fault-found, unfaulted_task}
 
 -- WHAT IS ACCEPTED

@@ -1,0 +1,189 @@
+-- A status stream that is ready: the unit that answers a request, its bytes, and that the device has it for the host. Cited by
+-- StatusFits.
+use Rattle.std.proofs.Common.{◌≡◌, ℕ, ◌+◌, ◌-◌, ◌<◌, ◌≤◌, Bool, true, false, ◌&&◌, cond, List, [], ◌∷◌, ◌++◌, take, drop, length, map, Option, Some, None}
+use Rattle.std.proofs.Common.{option_map, refl, arith, ap, sym, subst, ◌∙◌, inr}
+use Rattle.std.specs.Prelude.{nat_lt, slice_get, option_and_then, IfSome}
+use Rattle.std.specs.Option.{option_map_or}
+use Rattle.std.proofs.Math.Seq.{take-append_seam}
+use Rattle.std.proofs.lemmas.Bool.{eq-eqb, lt-ltb, le-leb, ne_eqb, and_parts}
+use Rattle.std.proofs.lemmas.List.{append-nil, get_or-set_same, get_or-set_other}
+use Rattle.xhci_trb.specs.declared.Trb.TheVariants.{Normal}
+use Rattle.cycle_ring.specs.Ring.{Ring, pointer_of, front_of, opening}
+use Rattle.event_ring.specs.declared.Event.{Event}
+use Rattle.event_ring.specs.declared.Event.TheVariants.{Transfer}
+use Rattle.uas_profile.specs.declared.TheConstants.{TAGS, TASK_SLOT, GREATEST_TAG, STREAMS, STREAM_RING_PLACES, STATUS_BYTES, SLOT, SHORT_PACKET}
+use Rattle.uas_profile.specs.declared.Pipe.TheVariants.{Command, Status, DataIn, DataOut}
+use Rattle.stream_array.specs.Contexts.{has_stream}
+use Rattle.stream_array.specs.Rings.{stream_ring}
+use Rattle.frame_store.specs.declared.TagBuffers.{TagBuffers}
+use Rattle.frame_store.specs.declared.Buffer.TheVariants.{Status as StatusBuffer}
+use Rattle.frame_store.specs.Splice.{spliced}
+use Rattle.frame_store.specs.Buffers.{IsWhole, Names, held_for, no_buffers, with_held, written, front_of as front_byte}
+use Rattle.frame_store.proofs.FramesLaws.{written-named}
+use Rattle.scsi_cmd.specs.Buffers.{with_bytes_at}
+use Rattle.scsi_cmd.specs.Laws.{written_at-fits}
+use Rattle.scsi_cmd.proofs.Buffers.{filled-written_at}
+use Rattle.uas_profile.specs.declared.Direction.{Direction}
+use Rattle.uas_profile.specs.declared.Direction.TheVariants.{Nothing, ToHost, ToDevice}
+use Rattle.scsi_cmd.specs.Op.{direction_of, moved_bytes}
+use Rattle.device_server.specs.Server.{chunk_bytes, status_of, sense_of}
+use Rattle.scsi_cmd.specs.declared.Request.{Request}
+use Rattle.scsi_cmd.specs.declared.Request.TheVariants.{Execute, Manage}
+use Rattle.scsi_cmd.specs.Held.{held_at}
+use Rattle.device_server.specs.declared.Answer.{Answer}
+use Rattle.device_server.specs.declared.Answer.TheVariants.{Good, Check}
+use Rattle.device_server.specs.declared.Progress.TheVariants.{Moving, Ended}
+use Rattle.solo_model.specs.declared.Phase.{Phase}
+use Rattle.solo_model.specs.declared.Phase.TheVariants.{Queued, Begun, Sent, Gone}
+use Rattle.solo_model.specs.Soundness.{IsSoundRequest}
+use Rattle.uas_iu.specs.declared.Iu.{Iu}
+use Rattle.uas_iu.specs.declared.Iu.TheVariants.{Response as ResponseIu, Sense as SenseIu}
+use Rattle.uas_iu.specs.Units.{unit_text}
+use Rattle.uas_target.specs.declared.DeviceTask.{DeviceTask}
+use Rattle.uas_target.specs.declared.Phase.{Phase as Wants}
+use Rattle.uas_target.specs.declared.Phase.TheVariants.{Absent, Gives, Takes, Ends}
+use Rattle.uas_target.specs.Device.{answered, task_of, wanted, without_task}
+use Rattle.uas_target.specs.Tasks.{wanted_way, task_answer, task_wants}
+use Rattle.uas_profile.specs.declared.Place.{Place}
+use Rattle.uas_profile.specs.Places.{place_of, tag_of}
+use Rattle.uas_host.specs.Tds.{status_buffer_of, status_td}
+use Rattle.xhci_ctl.specs.declared.Acted.{Acted}
+use Rattle.xhci_ctl.specs.declared.Acted.TheVariants.{Acted as ActedOn, Idle}
+use Rattle.xhci_ctl.specs.Own.{IsOwnStatus, IsOwnStatusFront}
+use Rattle.uas_profile.specs.PipeStates.{is_open}
+use Rattle.xhci_ctl.specs.Pipes.{ControllerState, has_pending, is_armed}
+use Rattle.xhci_ctl.specs.Steps.{Sides, completed, endpoint_of, on_front, room_front, sent_as, sent_at, sent_by}
+use Rattle.shared_machine.specs.declared.Completion.TheVariants.{StatusDone}
+use Rattle.shared_machine.specs.declared.Step.TheVariants.{Status as StatusStep}
+use Rattle.shared_machine.specs.Td.{Entry, has_trb, pushed, with_trb_taken}
+use Rattle.bus_core.specs.Wire.{answer_text}
+use Rattle.bus_core.specs.Hosts.{begun_task, device_task, phase_task}
+use Rattle.shared_machine.specs.Part.{Part}
+use Rattle.shared_machine.specs.Shared.{Shared, due, due_step, idle, is_ended, shared_step, status_is_due}
+use Rattle.machine_invariant.specs.Matched.{carried_places, status_events, IsMatched, IsPhaseOf, IsRequestIn, IsStatusTd}
+use Rattle.bus_core.specs.World.{World, Cell, cell_at, sides_in, with_sides}
+use Rattle.bus_core.specs.Cells.{FitsCell, HoldsTd, HoldsTrbs, host_side, told_by, told_sent}
+use Rattle.bus_core.specs.Fits.{Fits, FitsQueues, IsSoundWorld, command_trb, event_texts, place_in, status_event, unit_len}
+use Rattle.bus_core.specs.WorldSteps.{StatusesFit, StatusFits, StatusIsIdle, status_world}
+use Rattle.bus_core.specs.WorldDue.{StatusesAreDue, status_due_by}
+use Rattle.bus_core.proofs.common.ActFits.{IsPlaced, placed, IsActed, acted_state, acted-fits, place_of-tag, by-tag}
+use Rattle.bus_core.proofs.carry.CommandFits.{event-room}
+use Rattle.bus_core.proofs.common.EventTexts.{KeepsOthers, carried_places-append, event_texts-append, event_texts-one}
+use Rattle.bus_core.proofs.common.Framing.{EndsStay}
+use Rattle.machine_invariant.proofs.MatchedEntries.{sent_to}
+use Rattle.machine_invariant.proofs.MatchedNext.{matched-no_status_event}
+use Rattle.machine_invariant.proofs.MatchedSteps.{IsDueAt, place_fact-due, IsEndedBy, ended_phase, send_step-held, shared_step-matched}
+use Rattle.shared_machine.proofs.Standing.{held_under-with_same, held_under-with_other, slice_get-back}
+
+-- THE UNIT OF AN ANSWER
+
+-- of a command a Sense unit, of a task management the Response unit with COMPLETE
+abbrev pub answer_unit : ℕ → Request → Answer → Iu
+answer_unit tag (Execute op) answer = SenseIu tag (status_of answer) (record { items = sense_of answer })
+answer_unit tag (Manage what noted) answer = ResponseIu tag 0
+
+pub answer-unit : (tag : ℕ) (request : Request) (answer : Answer) → answer_text tag request answer ≡ unit_text (answer_unit tag request answer)
+answer-unit tag (Execute op) answer = refl
+answer-unit tag (Manage what noted) answer = refl
+
+pub answer-most : (tag : ℕ) (request : Request) (answer : Answer) → length (answer_text tag request answer) ≤ STATUS_BYTES
+unfolding unit_text
+answer-most tag (Execute op) Good = omega arith
+answer-most tag (Execute op) (Check sense) = omega arith
+answer-most tag (Manage what noted) answer = omega arith
+
+-- byte 15 of a status buffer that begins with a Sense unit tells its length, and a Response unit, of the last slot, has 8 bytes
+pub answer-len : (tag slot : ℕ) (request : Request) (answer : Answer) (bytes : List ℕ) → IsRequestIn slot request
+    → unit_len slot (with_bytes_at bytes 0 (answer_text tag request answer)) ≡ length (answer_text tag request answer)
+unfolding unit_text with_bytes_at
+answer-len tag slot (Execute op) Good bytes asks =
+    ap (λ b. cond b 8 16) (ne_eqb slot TASK_SLOT (λ same. omega (arith, asks, same)))
+answer-len tag slot (Execute op) (Check sense) bytes asks =
+    ap (λ b. cond b 8 34) (ne_eqb slot TASK_SLOT (λ same. omega (arith, asks, same)))
+answer-len tag slot (Manage what noted) answer bytes asks =
+    ap (λ b. cond b 8 (unit_len 0 (with_bytes_at bytes 0 (answer_text tag (Manage what noted) answer)))) (eq-eqb slot TASK_SLOT asks)
+
+pub text-begins : (bytes text : List ℕ) → take (length text) (with_bytes_at bytes 0 text) ≡ text
+unfolding with_bytes_at
+text-begins bytes text = take-append_seam text (drop (0 + length text) bytes)
+
+-- ITS BYTES
+
+pub status-names : (frames : List TagBuffers) (tag len : ℕ) → IsWhole frames → 1 ≤ tag → tag ≤ STREAMS → len ≤ STATUS_BYTES
+    → Names frames (status_buffer_of tag) len (front_byte StatusBuffer tag)
+status-names frames tag len whole some most short =
+    record { first_tag = some; last_tag = most; begins = omega arith; within = omega (arith, (whole.sizes tag some most).status) }
+
+pub spliced-front : (old new : List ℕ) → length new ≤ length old → spliced old 0 new ≡ with_bytes_at old 0 new
+spliced-front old new fits = filled-written_at old 0 new (length old) refl (omega arith) ∙ written_at-fits old 0 new (omega arith)
+
+-- the buffers of a tag once its status buffer begins with these bytes
+abbrev pub with_status : TagBuffers → List ℕ → TagBuffers
+with_status buffers text = record buffers { status = with_bytes_at buffers.status 0 text }
+
+pub status-written : (frames : List TagBuffers) (tag : ℕ) (text : List ℕ) → IsWhole frames → 1 ≤ tag → tag ≤ STREAMS → length text ≤ STATUS_BYTES
+    → written frames (status_buffer_of tag) (length text) text ≡ with_held frames tag (with_status (held_for frames tag) text)
+status-written frames tag text whole some most short =
+    written-named frames (status_buffer_of tag) (length text) text (front_byte StatusBuffer tag) whole
+    (status-names frames tag (length text) whole some most short) refl
+    ∙ ap (λ bytes. with_held frames tag (record (held_for frames tag) { status = bytes }))
+    (spliced-front (held_for frames tag).status text (omega (arith, short, (whole.sizes tag some most).status)))
+
+-- THE STREAM OF AN ENDED REQUEST
+
+pub tag-bounds : (state : Shared) (world : World) (place : Place) (entry : Entry) → IsPlaced state world place entry → Fits state world
+    → (1 ≤ tag_of place) × (tag_of place ≤ GREATEST_TAG)
+tag-bounds state world place entry at fits = (omega arith, omega (arith, at.is_place.client, at.is_place.slot, fits.most_clients))
+
+-- its status TD is as it was pushed, and so is its ring
+pub record IsStatusReady (state : Shared) (world : World) (place : Place) (entry : Entry) : Type 0 where
+  pub td : entry.status_td ≡ pushed
+  pub ring : HoldsTrbs (stream_ring world.lines.status (tag_of place)) (status_td (tag_of place)) 0
+  pub front : front_of STREAM_RING_PLACES (stream_ring world.lines.status (tag_of place))
+      ≡ Some (
+        pointer_of STREAM_RING_PLACES (stream_ring world.lines.status (tag_of place)) 0,
+        Normal (status_buffer_of (tag_of place)) STATUS_BYTES 0
+            (record { 0 = 18 }),
+      )
+
+pub status-ready : (state : Shared) (world : World) (place : Place) (entry : Entry) (answer : Answer) → IsPlaced state world place entry
+    → entry.task.phase ≡ Begun (Ended answer) → IsStatusReady state world place entry
+status-ready state world place entry answer at ended =
+    let td : entry.status_td ≡ pushed = subst (λ p. IsStatusTd p entry.status_td) ended at.matched.here.sound.status in
+    let ring : HoldsTrbs (stream_ring world.lines.status (tag_of place)) (status_td (tag_of place)) 0 =
+    subst (λ t. HoldsTd (stream_ring world.lines.status (tag_of place)) (status_td (tag_of place)) t) td at.cell.status in
+    record {
+      td = td;
+      ring = ring;
+      front = ap (λ k. option_map (λ trb. (pointer_of STREAM_RING_PLACES (stream_ring world.lines.status (tag_of place)) k, trb))
+          (slice_get (stream_ring world.lines.status (tag_of place)).put k)) ring.1
+          ∙ ap (λ trbs. option_map (λ trb. (pointer_of STREAM_RING_PLACES (stream_ring world.lines.status (tag_of place)) 0, trb)) (slice_get trbs 0)) ring.0;
+    }
+
+-- the stream is armed where it is open
+pub status-armed : (state : Shared) (world : World) (place : Place) (entry : Entry) → IsPlaced state world place entry → Fits state world
+    → IsStatusReady state world place entry → is_armed world.controller world.lines Status (tag_of place) ≡ (is_open state.status (tag_of place) && true)
+status-armed state world place entry at fits ready =
+    let tag = tag-bounds state world place entry at fits in
+    let there : has_stream (tag_of place) ≡ true = rw (lt-ltb 0 (tag_of place) tag.0, le-leb (tag_of place) STREAMS (omega (arith, tag.1))) refl in
+    let pending : has_pending (stream_ring world.lines.status (tag_of place)) ≡ true =
+    ap (λ k. nat_lt k (length (stream_ring world.lines.status (tag_of place)).put)) ready.ring.1 ∙ ap (λ trbs. nat_lt 0 (length trbs)) ready.ring.0 in
+    ap (λ b. (b && is_open world.controller.status (tag_of place)) && has_pending (stream_ring world.lines.status (tag_of place))) there
+    ∙ ap (λ b. is_open world.controller.status (tag_of place) && b) pending
+    ∙ ap (λ pipe. is_open pipe (tag_of place) && true) fits.status
+
+-- it is due where it is open
+pub status-due : (state : Shared) (world : World) (place : Place) (entry : Entry) → IsStatusReady state world place entry
+    → (is_open state.status (tag_of place) && has_trb entry.status_td 1) ≡ (is_open state.status (tag_of place) && true)
+status-due state world place entry ready = ap (λ td. is_open state.status (tag_of place) && has_trb td 1) ready.td
+
+-- the TRB in front is the host's own
+pub status-own : (state : Shared) (world : World) (place : Place) (entry : Entry) (answer : Answer) → IsPlaced state world place entry → Fits state world
+    → IsStatusReady state world place entry
+    → IsOwnStatusFront world.lines world.frames (tag_of place) (Some (answer_unit (tag_of place) entry.task.request answer))
+status-own state world place entry answer at fits ready =
+    let tag = tag-bounds state world place entry at fits in
+    subst (λ front. IfSome front (λ f. IsOwnStatus world.frames (answer_unit (tag_of place) entry.task.request answer) f.1)) (sym ready.front) (
+      (refl, refl, inr (front_byte StatusBuffer (tag_of place), status-names world.frames (tag_of place) STATUS_BYTES fits.sound.frames tag.0 (omega (arith, tag.1)) (omega arith))),
+      subst (λ text. length text ≤ STATUS_BYTES) (answer-unit (tag_of place) entry.task.request answer) (answer-most (tag_of place) entry.task.request answer),
+    )

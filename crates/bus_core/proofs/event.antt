@@ -8,5 +8,6 @@ pub mod SeenResponses
 pub mod SeenStreams
 pub mod SeenCommands
 pub mod Resumed
+pub mod RetiredRing
 pub mod RetiredSeen
 pub mod EventsFit

@@ -1,2 +1,3 @@
 -- The controller moves a status.
+pub mod StatusReady
 pub mod StatusFits

@@ -1,6 +1,7 @@
 pub mod MatchedPlaces
 pub mod MatchedTds
 pub mod MatchedOpening
+pub mod MatchedTasks
 pub mod MatchedEntries
 pub mod MatchedEnds
 pub mod MatchedLeftOver
@@ -9,7 +10,9 @@ pub mod MatchedFlows
 pub mod MatchedActs
 pub mod MatchedOthers
 pub mod MatchedSubmissions
+pub mod MatchedCommands
 pub mod MatchedEngine
+pub mod MatchedMoves
 pub mod MatchedSteps
 pub mod MatchedBounds
 pub mod MatchedNext

@@ -1,14 +1,1 @@
 pub mod Replays
-pub mod ReadResults
-pub mod ReadLoops
-pub mod Numbers
-pub mod TakenFields
-pub mod TakenLists
-pub mod TakenUnits
-pub mod TakenOps
-pub mod TakenSteps
-pub mod TakenReplies
-pub mod TakenLog
-pub mod Wrote
-pub mod Keeping
-pub mod Migrated

@@ -1,9 +1,2 @@
 pub mod Booking
 pub mod Growing
-pub mod Text
-pub mod Reading
-pub mod Stops
-pub mod Loading
-pub mod Writing
-pub mod Kept
-pub mod Migration

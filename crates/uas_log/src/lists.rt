@@ -1,7 +1,7 @@
 //! The lists of a log: small types over vectors, which contracts see as lists.
 ghost use Rattle.std.specs.Prelude.{◌≡◌, [], length};
 
-use crate::{FirstUnit, SavedReply};
+use crate::FirstUnit;
 use scsi_cmd::Reply;
 use shared_machine::Step;
 use std::alloc::Global;
@@ -302,51 +302,5 @@ impl Replies {
         ensures none { self.new ≡ [] }
     {
         replace(&mut self.replies, Vec::new(alloc))
-    }
-}
-
-/// A list of replies with their clients, in the order in which they were taken.
-#[derive(Debug, Drop)]
-pub struct SavedReplies {
-    replies: Vec<SavedReply>,
-}
-
-impl Model for SavedReplies {
-    ghost use Rattle.std.specs.Prelude.{List};
-    ghost use Rattle.uas_log.specs.declared.SavedReply.{SavedReply};
-
-    ghost Value = { List SavedReply };
-
-    ghost view = { λ list. list.replies.items };
-}
-
-impl SavedReplies {
-    /// The list of these; takes no memory.
-    pub fn from_vec(replies: Vec<SavedReply>) -> SavedReplies
-        ensures { result ≡ replies.items }
-    {
-        SavedReplies { replies }
-    }
-
-    /// Them, in order.
-    pub fn as_slice(&self) -> &[SavedReply]
-        ensures { result.now ≡ self.now }
-    {
-        self.replies.as_slice()
-    }
-
-    /// How many there are.
-    pub fn len(&self) -> usize
-        ensures { result ≡ length self.now }
-    {
-        self.replies.len()
-    }
-
-    /// Them again; takes no memory.
-    pub fn into_vec(self) -> Vec<SavedReply>
-        ensures { result.items ≡ self }
-    {
-        let SavedReplies { replies } = self;
-        replies
     }
 }

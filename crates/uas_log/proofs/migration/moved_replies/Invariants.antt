@@ -1,6 +1,0 @@
-use Rattle.std.proofs.Common.{◌≡◌, map, take}
-use Rattle.uas_log.specs.Migration.{moved_saved}
-use Rattle.uas_log.proofs.migration.moved_replies.Given as goal
-
-abbrev pub invariant-loop-saved : goal.invariant-loop-saved
-invariant-loop-saved l = l.moved.items ≡ map (moved_saved l.clients) (take l.saved-index l.replies)

@@ -1,7 +1,0 @@
-use Rattle.uas_log.specs.Reading.{unit_at}
-use Rattle.uas_log.proofs.ReadLoops.{gives_some}
-use Rattle.uas_log.proofs.read_log.all_units.Goals as goal
-
--- as many units as a client at least
-pub returns-clause-some : goal.returns-clause-some
-returns-clause-some c = gives_some unit_at (λ read. (read.0.items, read.1.now)) _ _ c.units.result c.in_ok-clients.ensures.least c.units.ensures

@@ -22,7 +22,7 @@ use Rattle.solo_model.specs.TaggedTask.{TaggedTask, aborted_by, answered_by, rep
 use Rattle.scsi_cmd.specs.declared.Reply.{Reply}
 use Rattle.scsi_cmd.specs.declared.Reply.TheVariants.{Aborted}
 use Rattle.scsi_cmd.specs.declared.Task.{Task}
-use Rattle.uas_profile.specs.declared.TheConstants.{TASK_SLOT, MOST_BLOCKS_MOVED, CHUNK_BYTES, WINDOW_BYTES}
+use Rattle.uas_profile.specs.declared.TheConstants.{TASK_SLOT, CHUNK_BYTES}
 use Rattle.uas_profile.specs.TdStates.{is_left_over, is_over, is_pending, is_seen}
 use Rattle.uas_profile.specs.declared.TdState.{TdState}
 use Rattle.uas_profile.specs.declared.TdState.TheVariants.{Pending, Seen, LeftOver, Retired}

@@ -1,10 +1,10 @@
 -- The retirement's own steps keep what waits matched: its beginning, the controller's commands, and their events. Cited by MatchedSteps.
-use Rattle.std.proofs.Common.{◌≡◌, ℕ, zero, suc, ◌+◌, ◌*◌, ◌/◌, ◌<◌, ◌≤◌, Bool, true, false, ◌&&◌, cond, List, [], ◌∷◌, ◌++◌, length, Option, Some, None}
+use Rattle.std.proofs.Common.{◌≡◌, ℕ, zero, suc, ◌+◌, ◌*◌, ◌/◌, ◌<◌, ◌≤◌, Bool, true, false, ◌&&◌, cond, List, [], ◌∷◌, length, Option, Some, None}
 use Rattle.std.proofs.Common.{IfSome, refl, arith, ap, sym, subst, ◌∙◌}
-use Rattle.std.specs.Prelude.{◌%◌, nat_lt, slice_get, slice_set, option_and_then, is_none, filter, if◌then◌else◌}
+use Rattle.std.specs.Prelude.{◌%◌, nat_lt, slice_get, option_and_then, is_none, filter, if◌then◌else◌}
 use Rattle.std.specs.List.{range_with_len}
 use Rattle.std.specs.Option.{option_map_or}
-use Rattle.std.proofs.lemmas.Bool.{lt-ltb, false≢true, and_from, and_left, and_parts}
+use Rattle.std.proofs.lemmas.Bool.{lt-ltb, false≢true, and_left, and_parts}
 use Rattle.std.proofs.lemmas.List.{append-nil}
 use Rattle.uas_profile.specs.declared.Pipe.{Pipe}
 use Rattle.uas_profile.specs.declared.Pipe.TheVariants.{Command, Status, DataIn, DataOut}
@@ -12,12 +12,10 @@ use Rattle.uas_profile.specs.Pipes.{HasStreams}
 use Rattle.scsi_cmd.specs.Held.{held_at}
 use Rattle.uas_profile.specs.declared.PipeState.{PipeState}
 use Rattle.uas_profile.specs.PipeStates.{rung_at}
-use Rattle.uas_profile.specs.PipeStates.{stopped_pipe}
 use Rattle.uas_profile.specs.declared.Place.{Place}
 use Rattle.uas_profile.specs.Pipes.{same_pipe}
 use Rattle.uas_profile.specs.Places.{place_of, tag_of}
 use Rattle.uas_profile.specs.declared.TheConstants.{TAGS, MAX_CLIENTS, STREAMS}
-use Rattle.shared_machine.specs.declared.Td.{Td}
 use Rattle.shared_machine.specs.declared.Completion.{Completion}
 use Rattle.shared_machine.specs.declared.Completion.TheVariants.{EngineDone}
 use Rattle.shared_machine.specs.declared.Outcome.{Outcome}
@@ -27,27 +25,24 @@ use Rattle.shared_machine.specs.declared.RetirementStage.TheVariants.{StopAsked,
 use Rattle.shared_machine.specs.declared.Step.TheVariants.{Retire}
 use Rattle.shared_machine.specs.Bus.{IsPlace}
 use Rattle.shared_machine.specs.Pipes.{all_rung}
-use Rattle.shared_machine.specs.Td.{Entry, is_left_over_on, has_trb_on, trbs_on, with_td_on, passed_td, passed_on, retired_td, retired_on}
-use Rattle.shared_machine.specs.Part.{Part, seen_entry, stop_act, pass_act, passed_slot, retire_act}
-use Rattle.shared_machine.specs.Shared.{Shared, is_asked, is_some_of, due, entry_fact, part_fact, place_fact, pipe_of, with_pipe, at_stage, acted_on, routed}
-use Rattle.shared_machine.specs.Shared.{routed_to, engine_did, engine_step, retire_step, streams_pending, resumed, stage_seen, engine_seen, event_step}
-use Rattle.machine_invariant.specs.Matched.{same_place, times, held_in, under, command_events, data_events, status_events, retired_places, answered_place}
-use Rattle.machine_invariant.specs.Matched.{answered_places, is_left_over_at, has_trb_at, is_whole_on, was_moved, is_passed, HaveSlots, IsMatchedEntry, IsMatchedAt}
-use Rattle.machine_invariant.specs.Matched.{IsAtStage, IsRetiring, FlowsAt, IsMatched}
-use Rattle.machine_invariant.proofs.MatchedPlaces.{same_place-self, same_place-true, command_events-append, data_events-append, status_events-append}
-use Rattle.machine_invariant.proofs.MatchedPlaces.{retired_places-append, IsFound, under-found, IsWritten, under-written, under-other, clients-written, AreMatched}
+use Rattle.shared_machine.specs.Td.{Entry, is_left_over_on, has_trb_on, with_td_on, retired_td, retired_on}
+use Rattle.shared_machine.specs.Part.{Part, seen_entry, retire_act}
+use Rattle.shared_machine.specs.Shared.{Shared, is_asked, is_some_of, due, entry_fact, part_fact, place_fact, pipe_of, with_pipe, acted_on, routed}
+use Rattle.shared_machine.specs.Shared.{routed_to, retire_step, streams_pending, resumed, stage_seen, engine_seen, event_step}
+use Rattle.machine_invariant.specs.Matched.{same_place, times, held_in, under, command_events, data_events, status_events, retired_places}
+use Rattle.machine_invariant.specs.Matched.{answered_places, is_left_over_at, has_trb_at, was_moved, HaveSlots, IsMatchedEntry, IsMatchedAt}
+use Rattle.machine_invariant.specs.Matched.{IsAtStage, IsRetiring, IsMatched}
+use Rattle.machine_invariant.proofs.MatchedPlaces.{IsWritten, clients-written, AreMatched}
 use Rattle.machine_invariant.proofs.MatchedPlaces.{AreMatched-same, IsCounted, counted-of}
 use Rattle.machine_invariant.proofs.MatchedBounds.{slots-place, held-place}
-use Rattle.machine_invariant.proofs.MatchedLeftOver.{passed-stepped, retired-counted, retired_on-is, IsSameOn, changed-other, passed-empty, passed-whole, passed-still}
+use Rattle.machine_invariant.proofs.MatchedLeftOver.{retired-counted, retired_on-is}
 use Rattle.machine_invariant.proofs.MatchedLeftOver.{retired-gone}
-use Rattle.machine_invariant.proofs.MatchedRetirement.{retiring-of, same_pipe-self, same_pipe-true, held-is, held-none, passed-is, passed-before, passed-none}
+use Rattle.machine_invariant.proofs.MatchedRetirement.{retiring-of, same_pipe-true, held-is, held-none, passed-before, passed-none}
 use Rattle.machine_invariant.proofs.MatchedRetirement.{IsAnswered, first-engine_event}
 use Rattle.machine_invariant.proofs.MatchedFlows.{pipes-same, left_of, trb_of}
-use Rattle.machine_invariant.proofs.MatchedActs.{NamesAlone, acted_state, acted-written, acted-counted, IsDueAt, place_fact-due, seen_state, seen-written, seen-counted}
-use Rattle.shared_machine.proofs.Standing.{slice_get-back}
-use Rattle.machine_invariant.proofs.MatchedCommands.{IsPiped, with_pipe-others, with_pipe-is, places-kept, left-held, HasLeft, has-left, stop-event}
-use Rattle.machine_invariant.proofs.MatchedCommands.{posted-retired, stopped-matched, IsElsewhere, changed-elsewhere, changed-own, passed-apart}
-use Rattle.machine_invariant.proofs.MatchedCommands.{moved-matched, engine_step-matched}
+use Rattle.machine_invariant.proofs.MatchedActs.{IsDueAt, place_fact-due, seen_state, seen-written, seen-counted}
+use Rattle.machine_invariant.proofs.MatchedCommands.{IsPiped, with_pipe-is, places-kept, HasLeft, has-left}
+use Rattle.machine_invariant.proofs.MatchedCommands.{changed-elsewhere, changed-own, passed-apart}
 
 -- A RETIREMENT BEGINS
 

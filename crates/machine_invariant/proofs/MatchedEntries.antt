@@ -1,24 +1,14 @@
 -- What the device's and the host's steps make of one entry, counted exactly: cited by MatchedActs, MatchedSteps and MatchedLeftOver.
-use Rattle.std.proofs.Common.{◌≡◌, ℕ, ◌+◌, ◌-◌, ◌/◌, ◌<◌, ◌≤◌, Bool, true, false, ◌&&◌, cond, List, [], ◌∷◌, Option, Some, None, refl, arith, ap, sym, subst, ◌∙◌}
-use Rattle.std.specs.Prelude.{◌==◌, nat_lt, option_to_list, is_some}
-use Rattle.std.proofs.lemmas.Bool.{ltb-true, eqb-true, ne_eqb, false≢true, and_parts}
-use Rattle.uas_profile.specs.declared.TheConstants.{CHUNK_BYTES}
-use Rattle.block_unit.specs.BlockMaps.{BlockMaps}
-use Rattle.scsi_cmd.specs.Request.{is_command}
-use Rattle.scsi_cmd.specs.declared.Op.{Op}
-use Rattle.scsi_cmd.specs.Op.{moved_bytes}
+use Rattle.std.proofs.Common.{◌≡◌, ℕ, ◌+◌, ◌<◌, ◌≤◌, Bool, true, false, ◌&&◌, cond, [], ◌∷◌, Option, Some, None, refl, arith, ap, sym, subst, ◌∙◌}
+use Rattle.std.specs.Prelude.{◌==◌, nat_lt, is_some}
+use Rattle.std.proofs.lemmas.Bool.{eqb-true, false≢true, and_parts}
 use Rattle.scsi_cmd.specs.declared.Request.{Request}
 use Rattle.scsi_cmd.specs.declared.Request.TheVariants.{Execute, Manage}
-use Rattle.scsi_cmd.specs.Work.{reports_attention}
 use Rattle.device_server.specs.declared.Answer.{Answer}
 use Rattle.device_server.specs.declared.Answer.TheVariants.{Good, Check}
-use Rattle.device_server.specs.declared.Progress.{Progress}
 use Rattle.device_server.specs.declared.Progress.TheVariants.{Moving, Ended}
-use Rattle.device_server.specs.Laws.{after_chunk, begun_progress}
-use Rattle.device_server.specs.Server.{chunk_moved}
 use Rattle.solo_model.specs.declared.Phase.{Phase}
 use Rattle.solo_model.specs.declared.Phase.TheVariants.{Queued, Begun, Sent, Gone}
-use Rattle.solo_model.specs.TaggedTask.{TaggedTask, buffer_after, carried_request, progress_left}
 use Rattle.uas_profile.specs.TdStates.{is_over, is_pending, is_seen}
 use Rattle.uas_profile.specs.declared.Place.{Place}
 use Rattle.uas_profile.specs.declared.TdState.{TdState}
@@ -28,19 +18,14 @@ use Rattle.shared_machine.specs.declared.Completion.{Completion}
 use Rattle.shared_machine.specs.declared.Completion.TheVariants.{CommandDone, DataDone, StatusDone, EngineDone}
 use Rattle.shared_machine.specs.Td.{is_in_ring, Entry, pushed, is_data_over, has_trb, is_awaited, is_ready, data_trbs, with_trb_taken}
 use Rattle.shared_machine.specs.Td.{with_event_seen, left_over_td, left_over_data, data_after_answer, data_after_status}
-use Rattle.shared_machine.specs.Part.{data_td_after, entries_after, took_trb, is_last_trb, event_place, seen_by, seen_data_td}
+use Rattle.shared_machine.specs.Part.{event_place, seen_by, seen_data_td}
 use Rattle.shared_machine.specs.Soundness.{one_if, awaited_data}
-use Rattle.machine_invariant.specs.Matched.{same_place, times, command_events, data_events, status_events, waiting_command, awaited_command, awaited_status}
-use Rattle.machine_invariant.specs.Matched.{awaited_data_of, IsCommandTd, IsStatusTd, IsMovingTd, IsWholeTd, IsShortTd, IsWithinTd, IsAnsweredTd, IsDataTd}
-use Rattle.machine_invariant.specs.Matched.{IsMatchedEntry, IsManagedPhase, IsPhaseOf, IsAwaitedOrSeen, IsGivenUp, awaits_data, awaits_event, retired_places}
+use Rattle.machine_invariant.specs.Matched.{command_events, data_events, status_events, waiting_command, awaited_command, awaited_status}
+use Rattle.machine_invariant.specs.Matched.{awaited_data_of, IsCommandTd, IsStatusTd, IsShortTd, IsWithinTd, IsAnsweredTd, IsDataTd}
+use Rattle.machine_invariant.specs.Matched.{IsMatchedEntry, IsPhaseOf, IsAwaitedOrSeen, IsGivenUp, awaits_data, awaits_event}
 use Rattle.machine_invariant.proofs.MatchedPlaces.{one_self}
 use Rattle.machine_invariant.proofs.MatchedTds.{TdGoesOn, TdsGoOn, td-same, td-taken, td-seen, td-left}
-use Rattle.machine_invariant.proofs.MatchedTasks.{IsStepped, asked_op, moving_op, command-answers, entries_after-command, has_trb-queued}
-use Rattle.machine_invariant.proofs.MatchedTasks.{moving-short, moving-within, moving-none, moving-nothing, carried_to, received, carry-stepped}
-use Rattle.machine_invariant.proofs.MatchedTasks.{carried_request-asked, carry-tds, td-there, td-over, unawaited, chunk-counted, chunk-next}
-use Rattle.machine_invariant.proofs.MatchedTasks.{chunk-whole, chunk-short, data_event_if, data_event-own, data_event-no_command}
-use Rattle.machine_invariant.proofs.MatchedTasks.{data_event-no_status, data_event-alone, IsDataEvent, data_event-no_engine, data_event-is, moved_to}
-use Rattle.machine_invariant.proofs.MatchedTasks.{moved_events, chunk-stepped, chunk_task, move-stepped, chunk-td, move-tds}
+use Rattle.machine_invariant.proofs.MatchedTasks.{IsStepped}
 
 -- SEND
 

@@ -1,72 +1,61 @@
 -- Each step keeps what waits matched: cited by queue_laws, and wherever a step's fit carries IsMatched on.
-use Rattle.std.proofs.Common.{◌≡◌, ℕ, ◌<◌, ◌≤◌, true, false, cond, List, [], ◌∷◌, ◌++◌, length, Option, Some, None, refl, arith, ap, sym, suc}
+use Rattle.std.proofs.Common.{◌≡◌, ℕ, ◌<◌, ◌≤◌, true, false, cond, List, [], ◌∷◌, ◌++◌, length, Option, Some, None, refl, arith, ap, sym}
 use Rattle.std.proofs.Common.{subst, ◌∙◌, option_map}
 use Rattle.std.specs.Prelude.{slice_get, slice_set, option_and_then, ◌&&◌, if◌then◌else◌}
 use Rattle.std.specs.Option.{option_map_or}
-use Rattle.std.proofs.lemmas.Bool.{and_left, false≢true, and_parts}
+use Rattle.std.proofs.lemmas.Bool.{and_left, false≢true}
 use Rattle.std.proofs.lemmas.List.{append-nil, get_or-set_other, set-set}
 use Rattle.arrayvec.specs.ArrayVec.{ArrayVec}
-use Rattle.block_unit.specs.BlockMaps.{BlockMaps}
 use Rattle.uas_profile.specs.declared.Pipe.{Pipe}
 use Rattle.scsi_cmd.specs.Request.{is_command}
 use Rattle.scsi_cmd.specs.declared.Task.{Task}
 use Rattle.uas_profile.specs.declared.TheConstants.{TASK_SLOT}
-use Rattle.scsi_cmd.specs.declared.Op.{Op}
 use Rattle.scsi_cmd.specs.declared.Reply.{Reply}
 use Rattle.scsi_cmd.specs.declared.Request.{Request}
 use Rattle.scsi_cmd.specs.declared.Request.TheVariants.{Execute, Manage}
 use Rattle.scsi_cmd.specs.Held.{held_at}
-use Rattle.device_server.specs.declared.Answer.{Answer}
-use Rattle.device_server.specs.declared.Progress.TheVariants.{Moving, Ended}
-use Rattle.solo_model.specs.TaggedTask.{TaggedTask, can_be_ended, can_go, carried_from, carried_request, is_noted, moved_from, moved_request}
-use Rattle.solo_model.specs.TaggedTask.{reply_of, sent_from, unit_after}
-use Rattle.solo_model.specs.declared.Phase.{Phase}
-use Rattle.solo_model.specs.declared.Phase.TheVariants.{Queued, Begun, Sent, Gone}
+use Rattle.solo_model.specs.TaggedTask.{is_noted}
+use Rattle.solo_model.specs.TaggedTask.{reply_of}
 use Rattle.uas_profile.specs.TdStates.{is_pending}
 use Rattle.uas_profile.specs.declared.Place.{Place}
-use Rattle.uas_profile.specs.Places.{place_of, command_slot}
+use Rattle.uas_profile.specs.Places.{command_slot}
 use Rattle.shared_machine.specs.declared.Completion.{Completion}
 use Rattle.shared_machine.specs.declared.Outcome.{Outcome}
 use Rattle.shared_machine.specs.declared.Step.{Step}
 use Rattle.shared_machine.specs.declared.Td.{Td}
-use Rattle.shared_machine.specs.declared.Mark.TheVariants.{Carry}
 use Rattle.shared_machine.specs.declared.Completion.TheVariants.{CommandDone, DataDone, StatusDone, EngineDone}
 use Rattle.shared_machine.specs.declared.Step.TheVariants.{Submit, Task as TaskStep, CommandPipe, Data, Status, Engine, Event, Retire, Take}
-use Rattle.shared_machine.specs.Td.{Entry, has_trb, is_awaited, is_ready, data_trbs, has_trb_on, is_left_over_on, left_over_data, left_over_td}
-use Rattle.shared_machine.specs.Part.{Part, Act, with_entry, carry_act, carried_slot, carried_entry, entries_after, noted_entry, is_last_trb, took_trb, move_act}
-use Rattle.shared_machine.specs.Part.{moved_slot, moved_entry, send_act, sent_slot, sent_entry, event_act, event_place, seen_by, seen_entry, after_answer}
+use Rattle.shared_machine.specs.Td.{Entry, is_awaited, is_ready, data_trbs, has_trb_on, is_left_over_on, left_over_data, left_over_td}
+use Rattle.shared_machine.specs.Part.{Part}
+use Rattle.shared_machine.specs.Part.{event_act, event_place, seen_by, seen_entry, after_answer}
 use Rattle.shared_machine.specs.Part.{after_event, doomed, ready_after, take_act, taken, settled, entry_reply, slot_tag}
 use Rattle.shared_machine.specs.Replay.{replayed}
-use Rattle.shared_machine.specs.Shared.{Shared, idle, shared_step, acted_on, carry_step, routed_to, routed_by_tag, due_step, due, has_ready, is_some_of, routed}
-use Rattle.shared_machine.specs.Shared.{event_step, is_moving, is_ended, data_is_due, status_is_due, event_seen}
-use Rattle.shared_machine.specs.Soundness.{one_if, awaited_data, readied_of, times_in}
-use Rattle.machine_invariant.specs.Matched.{times, held_in, under, command_events, data_events, status_events, waiting_command, awaited_command}
+use Rattle.shared_machine.specs.Shared.{Shared, idle, shared_step, acted_on, routed_to, due_step, due, has_ready, is_some_of, routed}
+use Rattle.shared_machine.specs.Shared.{event_step, event_seen}
+use Rattle.shared_machine.specs.Soundness.{awaited_data, readied_of, times_in}
+use Rattle.machine_invariant.specs.Matched.{times, held_in, under, command_events, data_events, status_events, awaited_command}
 use Rattle.machine_invariant.specs.Matched.{awaited_status, awaited_data_of, awaits_data, awaits_event, IsRequestIn, IsMatchedAt, IsMatched, retired_places}
 use Rattle.machine_invariant.specs.Matched.{is_td_event, is_whole_on}
 use Rattle.machine_invariant.proofs.MatchedPlaces.{one_self, one_if-true, one_if-most, one_equal, one_apart, command_events-append, data_events-append}
 use Rattle.machine_invariant.proofs.MatchedPlaces.{status_events-append, held-within, IsWritten, times_ready-written, AreMatched-written, clients-written, IsCounted}
 use Rattle.machine_invariant.proofs.MatchedPlaces.{counted-of, matched-of}
-use Rattle.machine_invariant.proofs.MatchedTasks.{carried_to, has_trb-queued, carry-stepped, moved_to, moved_events, IsDataEvent, data_event-is, move-stepped}
-use Rattle.machine_invariant.proofs.MatchedEntries.{sent_to, send-stepped, HasSeen, IsSeenAs, event-seen}
-use Rattle.machine_invariant.proofs.MatchedEntries.{send-tds}
-use Rattle.machine_invariant.proofs.MatchedTasks.{moving_op, chunk_task, entries_after-command, carry-tds, move-tds}
+use Rattle.machine_invariant.proofs.MatchedEntries.{HasSeen, IsSeenAs, event-seen}
 use Rattle.machine_invariant.proofs.MatchedEnds.{IsQuiet, ready-quiet, HasReply, done-reply, ready-left}
 use Rattle.shared_machine.proofs.Standing.{slice_get-slice_set_same}
 use Rattle.machine_invariant.proofs.MatchedTds.{none-goes}
 use Rattle.machine_invariant.proofs.MatchedFlows.{pipes-same, HeldGoesOn, written-goes, goes-on, IsCounted-kept}
 pub use Rattle.machine_invariant.proofs.MatchedActs.{IsHeld, matched-held, times_ready-there, IsDueAt, place_fact-due, seen_part, seen_state, seen-written}
-use Rattle.machine_invariant.proofs.MatchedActs.{NamesAlone, acted_state, acted-matched, under-there, seen-matched}
-use Rattle.machine_invariant.proofs.MatchedOthers.{AreAlike, changed_part, changed_state, alike-counted, noted-alike, doomed-alike}
+use Rattle.machine_invariant.proofs.MatchedActs.{under-there, seen-matched}
+use Rattle.machine_invariant.proofs.MatchedOthers.{AreAlike, changed_part, changed_state, alike-counted, doomed-alike}
 use Rattle.machine_invariant.proofs.MatchedSubmissions.{submitted_under-matched, task_step-matched}
 use Rattle.machine_invariant.proofs.MatchedEngine.{retire_step-matched, engine_event-matched}
 use Rattle.machine_invariant.proofs.MatchedCommands.{engine_step-matched}
-use Rattle.machine_invariant.proofs.OrderedManaged.{of_client, noted-as_received, noted-as_seen}
+use Rattle.machine_invariant.proofs.OrderedManaged.{of_client, noted-as_seen}
 use Rattle.machine_invariant.proofs.Ordered.{shared_step-ordered}
 use Rattle.machine_invariant.proofs.OrderedEntries.{held-changed}
-use Rattle.machine_invariant.proofs.MatchedMoves.{HasWaiting, waiting-some, message-waiting, carry-alone, command_act, command_act-is, carry_step-is}
-use Rattle.machine_invariant.proofs.MatchedMoves.{carry_step-held, command-received, other-sound, command-slot, managed-same, management-received}
-use Rattle.machine_invariant.proofs.MatchedMoves.{carry_step-matched, IsMovingBy, moving_phase, move_step-held, chunk-counted, move_step-matched}
-use Rattle.machine_invariant.proofs.MatchedMoves.{IsEndedBy, ended_phase, send_step-held, send-alone, send_step-matched}
+use Rattle.machine_invariant.proofs.MatchedMoves.{other-sound, command-slot}
+use Rattle.machine_invariant.proofs.MatchedMoves.{carry_step-matched, move_step-matched}
+use Rattle.machine_invariant.proofs.MatchedMoves.{send_step-matched}
 
 -- EVENT
 

@@ -5,7 +5,7 @@ use Rattle.shared_machine.specs.declared.Outcome.{Outcome}
 use Rattle.shared_machine.specs.declared.Step.{Step}
 use Rattle.shared_machine.specs.Shared.{Shared, shared_step}
 use Rattle.machine_invariant.specs.Reach.{EndsAsNoted, KeepsOthers}
-use Rattle.machine_invariant.proofs.OthersStay.{IsOwners, Ends, shared_step-owners}
+use Rattle.machine_invariant.proofs.OthersStay.{shared_step-owners}
 use Rattle.machine_invariant.proofs.GoneByNote.{gone-noted}
 
 -- a client other than the owner, or any where there is none

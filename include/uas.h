@@ -15,7 +15,8 @@
  *   2. During a call nothing else reads or writes what the call may write, and nothing writes what it reads: no two of its
  *      arguments overlap.
  *   3. A uas_device or uas_bus pointer comes from uas_device_new or uas_bus_new and wasn't given to its free yet.
- *   4. A handle is in one call at a time, in the thread that made it. Calls without a handle may run in any thread.
+ *   4. A handle is in one call at a time, in whatever thread: what one thread's call wrote must be seen by the next thread's, as a
+ *      lock sees to. Calls without a handle may run in any thread at any time.
  *   5. The program's malloc, realloc and free are one allocator's, and align as the C standard asks (16 bytes on x86-64). Memory
  *      is taken in uas_device_new, uas_bus_new and for the data of uas_bus_submit alone.
  *   6. A call finds 64 KiB of stack. None is made from a signal handler, nor in the child of a fork of a program with threads.

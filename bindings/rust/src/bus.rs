@@ -139,6 +139,7 @@ pub struct Drained {
 
 /// Up to 15 clients' disks behind one controller. Client c has the tags 16c + 1 to 16c + 15 for commands and 16c + 16 for task
 /// management; tickets are below 2^60 and rise for each client. A client's replies and blocks are those of a disk that it had alone.
+/// It can be sent to another thread, and isn't shared between threads: put it behind a lock.
 ///
 /// ```
 /// use uas::{Bus, Operation, Reply, Status};
@@ -159,6 +160,9 @@ pub struct Bus {
     /// Where the library puts a reply's data.
     room: Box<[u8]>,
 }
+
+// SAFETY: as for `Device`: all is behind the handle, which the `Bus` owns, and the room is its own.
+unsafe impl Send for Bus {}
 
 impl Bus {
     /// A bus with a client, and its zeroed unit, for each number of blocks.

@@ -96,11 +96,15 @@ pub enum Moved {
     BadBlock,
 }
 
-/// A disk of logical units. A task is named by its tag, 1 to 240.
+/// A disk of logical units. A task is named by its tag, 1 to 240. It can be sent to another thread, and isn't shared between threads.
 #[derive(Debug)]
 pub struct Device {
     handle: NonNull<raw::Device>,
 }
+
+// SAFETY: the library keeps all that a handle is about behind its pointer, and asks only that a handle be in one call at a time. A
+// `Device` owns its handle, so whoever has the `Device` alone calls; its shared calls stay in the one thread, as it isn't `Sync`.
+unsafe impl Send for Device {}
 
 impl Device {
     /// A device of one zeroed logical unit for each number of blocks, and no task.

@@ -6,8 +6,8 @@
 //! - [`Bus`]: host, xHCI controller and device as one machine of atomic steps.
 //!
 //! What the C header asks of its caller is upheld here, by types: pointers come from references and slices, a handle is owned and
-//! freed once, and neither handle can be sent to another thread. All else the library tests and answers by a fault. Only the calls
-//! of this crate and its declarations of the C functions are unverified.
+//! freed once, and a handle is in one call at a time: [`Device`] and [`Bus`] are `Send` and not `Sync`. All else the library tests and
+//! answers by a fault. Only the calls of this crate and its declarations of the C functions are unverified.
 //!
 //! ```
 //! use uas::{Device, Operation, Phase, Status, Unit};

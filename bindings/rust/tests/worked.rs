@@ -234,3 +234,26 @@ fn a_bus() {
     assert_eq!(bus.blocks(0, 100, &mut block), Err(BusFault::Range));
     assert_eq!(bus.blocks(0, 3, &mut block[..1]), Err(BusFault::Length));
 }
+
+#[test]
+fn another_thread() {
+    let mut disk = Device::new(&[100]).unwrap();
+    begin(&mut disk, 1, 0, Operation::Write { lba: 5, count: 1, fua: false });
+    let mut bus = Bus::new(&[100]).unwrap();
+    let write = Operation::Write { lba: 5, count: 1, fua: false };
+    assert_eq!(bus.submit(0, 1, 0, &write, &[3; 512]), Ok(()));
+    let (mut disk, mut bus) = std::thread::spawn(move || {
+        assert_eq!(disk.take(1, &[3; 512]), Ok(Moved::All));
+        assert!(bus.drain(1000).quiet);
+        (disk, bus)
+    })
+    .join()
+    .unwrap();
+    ends(&mut disk, good(1));
+    assert!(matches!(bus.take_reply(0), Some(Reply::Status { ticket: 0, status: Status::Good, .. })));
+    let mut block = [7; 512];
+    assert_eq!(bus.blocks(0, 5, &mut block), Ok(()));
+    assert_eq!(block, [3; 512]);
+    assert_eq!(disk.blocks(0, 5, &mut block), Ok(()));
+    assert_eq!(block, [3; 512]);
+}

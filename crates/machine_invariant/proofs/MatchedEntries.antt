@@ -35,7 +35,7 @@ abbrev pub sent_to : Entry → TaskAnswer → Entry
 sent_to entry answer = record entry { task = record entry.task { phase = Sent answer }; status_td = with_trb_taken entry.status_td }
 
 -- an answer that is handed over is one that the request may have
-sent-answers : (request : Request) (answer : TaskAnswer) → IsPhaseOf request (Begun (Ended answer)) → IsPhaseOf request (Sent answer)
+pub sent-answers : (request : Request) (answer : TaskAnswer) → IsPhaseOf request (Begun (Ended answer)) → IsPhaseOf request (Sent answer)
 sent-answers (Execute op) answer is = is
 sent-answers (Manage what noted) answer is = is
 

@@ -83,17 +83,17 @@ use Rattle.bus_core.proofs.event.SeenWorlds.{queue-same}
 abbrev pub retired_entry : Pipe → Entry → Entry
 retired_entry pipe entry = with_td_on retired_td pipe entry
 
-pub untold : (request : Request) (phase : Phase) (state : TdState) → state ≡ LeftOver → told_by request phase state ≡ told_by request phase Retired
-untold request Queued state left = refl
-untold request (Begun progress) state left = refl
-untold request (Sent answer) state left = ap (λ s. told_by request (Sent answer) s) left
-untold request Gone state left = refl
+pub untold : (phase : Phase) (state : TdState) → state ≡ LeftOver → told_by phase state ≡ told_by phase Retired
+untold Queued state left = refl
+untold (Begun progress) state left = refl
+untold (Sent answer) state left = ap (λ s. told_by (Sent answer) s) left
+untold Gone state left = refl
 
 pub retired-states : (pipe : Pipe) (entry : Entry) → is_left_over_on pipe entry ≡ true → with_retired pipe (host_side entry) ≡ host_side (retired_entry pipe entry)
 retired-states Command entry so = absurd (false≢true so)
 retired-states Status entry so =
     ap (λ told. record (host_side entry) { told = told; status_td = Retired })
-    (untold entry.task.request entry.task.phase entry.status_td.state (left-state entry.status_td.state so))
+    (untold entry.task.phase entry.status_td.state (left-state entry.status_td.state so))
 retired-states DataIn entry so = ap (λ states. record (host_side entry) { data_td = states })
     (in-states (request_direction entry.task.request) entry.data_td so)
   where

@@ -44,7 +44,8 @@ use Rattle.bus_core.specs.Cells.{HoldsTrbs}
 use Rattle.bus_core.specs.Fits.{Fits}
 use Rattle.bus_core.specs.WorldSteps.{DataFit, DataFits, DataIsIdle}
 use Rattle.bus_core.specs.WorldDue.{DataAreDue, data_due_by}
-use Rattle.machine_invariant.proofs.MatchedSteps.{IsDueAt, IsMovingBy, moving_phase, place_fact-due}
+use Rattle.machine_invariant.proofs.MatchedSteps.{IsDueAt, place_fact-due}
+use Rattle.machine_invariant.proofs.MatchedMoves.{IsMovingBy, moving_phase}
 use Rattle.bus_core.proofs.common.ActFits.{IsPlaced, by-tag, place_of-tag, placed}
 use Rattle.bus_core.proofs.chunks.ChunkEntries.{moving_entry}
 use Rattle.bus_core.proofs.chunks.DataSteps.{IsChunkAt, chunk-at, chunk_size, has_stream-tag, pending-td}

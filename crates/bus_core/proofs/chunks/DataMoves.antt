@@ -59,7 +59,7 @@ use Rattle.bus_core.proofs.chunks.ChunkLines.{TakesTrb, WritesLent, chunk_events
 use Rattle.bus_core.proofs.chunks.ChunkLines.{lent-kept, pipe_of, rings_of, takes-on, texts-in, texts-out}
 use Rattle.bus_core.proofs.chunks.DataWorlds.{MovesChunk}
 use Rattle.bus_core.proofs.carry.CommandFits.{event-room}
-use Rattle.machine_invariant.proofs.MatchedEntries.{data_event_if}
+use Rattle.machine_invariant.proofs.MatchedTasks.{data_event_if}
 use Rattle.bus_core.proofs.chunks.DataSteps.{IsChunkAt, IsInLent, armed-front, chunk_size, fits-after, has_stream-tag, in-lent, own-data_trb, pending-td, step-front}
 
 -- A CHUNK ON EITHER PIPE

@@ -42,7 +42,7 @@ use Rattle.machine_invariant.specs.Matched.{IsMatched, carried_places, held_in}
 use Rattle.bus_core.specs.World.{World, cell_at}
 use Rattle.bus_core.specs.Cells.{FitsCell, FitsHeld, HoldsData, HoldsTrbs, data_in_td, data_out_td}
 use Rattle.bus_core.specs.Fits.{Fits, IsSoundWorld, event_texts}
-use Rattle.machine_invariant.proofs.MatchedEntries.{data_event_if}
+use Rattle.machine_invariant.proofs.MatchedTasks.{data_event_if}
 use Rattle.machine_invariant.proofs.MatchedNext.{matched-no_data_event}
 use Rattle.machine_invariant.proofs.MatchedPlaces.{held-within}
 use Rattle.machine_invariant.proofs.MatchedSteps.{IsHeld, matched-held, shared_step-matched}

@@ -182,9 +182,9 @@ whole-once-moved state world pipe place td at on =
     (ap (is_whole (trbs_on pipe at.entry)) (sym on) ∙ ap (λ o. option_map_or (is_whole_on pipe) o false) (sym at.held) ∙ at.retiring.stage.1)
 
 pub record IsEmptied (world : World) (pipe : Pipe) (place : Place) (entry : Entry) : Type 0 where
-  some : 1 ≤ (ring_of (freed_lines world) pipe (tag_of place)).got
-  empty : HoldsTrbs (emptied_ring world pipe place) [] 0
-  whole : (td : Td) → td_on pipe entry ≡ Some td → td.consumed ≡ length (td_trbs pipe (tag_of place) entry)
+  pub some : 1 ≤ (ring_of (freed_lines world) pipe (tag_of place)).got
+  pub empty : HoldsTrbs (emptied_ring world pipe place) [] 0
+  pub whole : (td : Td) → td_on pipe entry ≡ Some td → td.consumed ≡ length (td_trbs pipe (tag_of place) entry)
 
 pub emptied-is : (state : Shared) (world : World) (pipe : Pipe) (place : Place) → Fits state world
     → (at : IsUnderWay state world pipe place MoveAnswered) → IsEmptied world pipe place at.entry

@@ -73,7 +73,8 @@ use Rattle.bus_core.proofs.common.EventTexts.{KeepsOthers, carried_places-append
 use Rattle.bus_core.proofs.common.Framing.{EndsStay}
 use Rattle.machine_invariant.proofs.MatchedEntries.{sent-answers, sent_to}
 use Rattle.machine_invariant.proofs.MatchedNext.{matched-no_status_event}
-use Rattle.machine_invariant.proofs.MatchedSteps.{IsDueAt, place_fact-due, IsEndedBy, ended_phase, send_step-held, shared_step-matched}
+use Rattle.machine_invariant.proofs.MatchedSteps.{IsDueAt, place_fact-due, shared_step-matched}
+use Rattle.machine_invariant.proofs.MatchedMoves.{IsEndedBy, ended_phase, send_step-held}
 use Rattle.shared_machine.proofs.Standing.{held_under-with_same, held_under-with_other, slice_get-back}
 use Rattle.bus_core.proofs.status.StatusReady.{answer_unit, answer-unit, answer-most, answer-len, text-begins, status-names, spliced-front}
 use Rattle.bus_core.proofs.status.StatusReady.{with_status, status-written, tag-bounds, IsStatusReady, status-ready, status-armed, status-due}

@@ -4,7 +4,9 @@ use Rattle.xhci_trb.specs.declared.Trb.{Trb}
 use Rattle.cycle_ring.specs.Ring.{Ring}
 use Rattle.scsi_cmd.specs.declared.Request.{Request}
 use Rattle.scsi_cmd.specs.declared.Request.TheVariants.{Execute, Manage}
-use Rattle.device_server.specs.declared.Answer.{Answer}
+use Rattle.solo_model.specs.declared.TaskAnswer.{TaskAnswer}
+use Rattle.solo_model.specs.declared.TaskAnswer.TheVariants.{WithStatus, WithResponse}
+use Rattle.solo_model.specs.TaggedTask.{response_number}
 use Rattle.solo_model.specs.declared.Phase.{Phase}
 use Rattle.solo_model.specs.declared.Phase.TheVariants.{Queued, Begun, Sent, Gone}
 use Rattle.device_server.specs.Server.{status_of, sense_of}
@@ -32,29 +34,29 @@ use Rattle.bus_core.specs.World.{Cell}
 abbrev pub state_of : Td → TdState
 state_of td = td.state
 
--- a command is told its status and sense, a task management its code, COMPLETE, 00h
-abbrev pub told_of : Request → Answer → HostAnswer
-told_of (Execute op) answer = AnsweredStatus (status_of answer) (record { items = sense_of answer })
-told_of (Manage what noted) answer = AnsweredResponse 0
+-- a command is told its status and sense, a task management its response code
+abbrev pub told_of : TaskAnswer → HostAnswer
+told_of (WithStatus answer) = AnsweredStatus (status_of answer) (record { items = sense_of answer })
+told_of (WithResponse code) = AnsweredResponse (response_number code)
 
 -- the host was told the answer once it has seen the status event
-abbrev pub told_sent : Request → Answer → TdState → HostAnswer
-told_sent request answer Pending = Unanswered
-told_sent request answer Seen = told_of request answer
-told_sent request answer LeftOver = Unanswered
-told_sent request answer Retired = Unanswered
+abbrev pub told_sent : TaskAnswer → TdState → HostAnswer
+told_sent answer Pending = Unanswered
+told_sent answer Seen = told_of answer
+told_sent answer LeftOver = Unanswered
+told_sent answer Retired = Unanswered
 
-abbrev pub told_by : Request → Phase → TdState → HostAnswer
-told_by request Queued state = Unanswered
-told_by request (Begun progress) state = Unanswered
-told_by request (Sent answer) state = told_sent request answer state
-told_by request Gone state = Unanswered
+abbrev pub told_by : Phase → TdState → HostAnswer
+told_by Queued state = Unanswered
+told_by (Begun progress) state = Unanswered
+told_by (Sent answer) state = told_sent answer state
+told_by Gone state = Unanswered
 
 abbrev pub host_side : Entry → HostEntry
 host_side entry = record {
   ticket = entry.task.ticket;
   request = entry.task.request;
-  told = told_by entry.task.request entry.task.phase entry.status_td.state;
+  told = told_by entry.task.phase entry.status_td.state;
   command_td = entry.command_td.state;
   status_td = entry.status_td.state;
   data_td = option_map state_of entry.data_td;
@@ -84,11 +86,11 @@ HoldsData ring trbs (Some td) = HoldsTd ring trbs td
 -- THE BUFFERS
 
 -- the status buffer begins with the answer once it was sent
-abbrev pub HasAnswerIn : Request → Phase → ℕ → List ℕ → Type 0
-HasAnswerIn request Queued tag bytes = Unit {0}
-HasAnswerIn request (Begun progress) tag bytes = Unit {0}
-HasAnswerIn request (Sent answer) tag bytes = take (length (answer_text tag request answer)) bytes ≡ answer_text tag request answer
-HasAnswerIn request Gone tag bytes = Unit {0}
+abbrev pub HasAnswerIn : Phase → ℕ → List ℕ → Type 0
+HasAnswerIn Queued tag bytes = Unit {0}
+HasAnswerIn (Begun progress) tag bytes = Unit {0}
+HasAnswerIn (Sent answer) tag bytes = take (length (answer_text tag answer)) bytes ≡ answer_text tag answer
+HasAnswerIn Gone tag bytes = Unit {0}
 
 -- The command buffer has the Command unit, or begins with the Task Management unit, which has 16 bytes, two of them for the tag that it
 -- names.
@@ -120,7 +122,7 @@ pub record FitsCell (client count : ℕ) (place : Place) (entry : Entry) (cell :
   pub lent : cell.buffers.lent ≡ lent_for entry.task.request entry.task.buffer
   pub bytes : HasNoBytes entry.task.request entry.task.buffer
   pub unit : HasUnitIn client (tag_of place) entry.task.request cell.buffers.command
-  pub answer : HasAnswerIn entry.task.request entry.task.phase (tag_of place) cell.buffers.status
+  pub answer : HasAnswerIn entry.task.phase (tag_of place) cell.buffers.status
   pub sound : IsSound count entry.task
 
 -- a cell with nothing

@@ -7,7 +7,9 @@ use Rattle.uas_iu.specs.Lun.{lun_text}
 use Rattle.uas_host.specs.Tasks.{aborted_tag, function_of}
 use Rattle.scsi_cmd.specs.declared.Request.{Request}
 use Rattle.scsi_cmd.specs.declared.Request.TheVariants.{Execute, Manage}
-use Rattle.device_server.specs.declared.Answer.{Answer}
+use Rattle.solo_model.specs.declared.TaskAnswer.{TaskAnswer}
+use Rattle.solo_model.specs.declared.TaskAnswer.TheVariants.{WithStatus, WithResponse}
+use Rattle.solo_model.specs.TaggedTask.{response_number}
 use Rattle.device_server.specs.Server.{status_of, sense_of}
 
 -- The unit that asks for a request, of this logical unit under this tag: Command, or Task Management with its function and the
@@ -16,7 +18,7 @@ abbrev pub request_text : ℕ → ℕ → Request → List ℕ
 request_text number tag (Execute op) = unit_text (Command tag (lun_text number) (cdb_bytes op))
 request_text number tag (Manage what noted) = unit_text (TaskUnit tag (function_of what) (aborted_tag what) (lun_text number))
 
--- the unit that tells the answer to a request under this tag: Sense with a command's status, or Response with COMPLETE, 00h
-abbrev pub answer_text : ℕ → Request → Answer → List ℕ
-answer_text tag (Execute op) answer = unit_text (Sense tag (status_of answer) (record { items = sense_of answer }))
-answer_text tag (Manage what noted) answer = unit_text (Response tag 0)
+-- the unit that tells the answer of a task under this tag: Sense with a command's status, or Response with a task management's code
+abbrev pub answer_text : ℕ → TaskAnswer → List ℕ
+answer_text tag (WithStatus answer) = unit_text (Sense tag (status_of answer) (record { items = sense_of answer }))
+answer_text tag (WithResponse code) = unit_text (Response tag (response_number code))

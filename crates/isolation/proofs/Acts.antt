@@ -18,10 +18,11 @@ use Rattle.solo_model.specs.Solo.{SoloState, after_request, solo_step, silently}
 use Rattle.block_unit.specs.BlockMaps.{BlockMaps}
 use Rattle.scsi_cmd.specs.declared.Task.{Task}
 use Rattle.scsi_cmd.specs.declared.Task.TheVariants.{Abort, Reset}
-use Rattle.device_server.specs.declared.Answer.{Answer}
-use Rattle.device_server.specs.declared.Answer.TheVariants.{Good}
-use Rattle.device_server.specs.declared.Progress.{Progress}
-use Rattle.device_server.specs.declared.Progress.TheVariants.{Moving, Ended}
+use Rattle.solo_model.specs.declared.ResponseCode.TheVariants.{Complete}
+use Rattle.solo_model.specs.declared.TaskAnswer.{TaskAnswer}
+use Rattle.solo_model.specs.declared.TaskAnswer.TheVariants.{WithStatus, WithResponse}
+use Rattle.solo_model.specs.declared.TaskProgress.{TaskProgress}
+use Rattle.solo_model.specs.declared.TaskProgress.TheVariants.{Moving, Ended}
 use Rattle.solo_model.specs.declared.Phase.{Phase}
 use Rattle.solo_model.specs.declared.Phase.TheVariants.{Queued, Begun, Sent, Gone}
 use Rattle.solo_model.specs.TaggedTask.{TaggedTask, aborted_by, after_notes, answered_by, can_go, carried, carried_from, moved, sent, is_noted}
@@ -73,7 +74,7 @@ own_unit client unit Reset = refl
 
 own_begun : (client : ℕ) (unit : BlockMaps) (request : Request) → request_begun unit (own_request client request) ≡ request_begun unit request
 own_begun client unit (Execute op) = refl
-own_begun client unit (Manage what noted) = ap (λ (u : BlockMaps). (u, Ended Good)) (own_unit client unit what)
+own_begun client unit (Manage what noted) = ap (λ (u : BlockMaps). (u, Ended (WithResponse Complete))) (own_unit client unit what)
 
 abbrev own_after : ℕ → BlockMaps × TaggedTask → BlockMaps × TaggedTask
 own_after client after = (after.0, own_of client after.1)
@@ -81,7 +82,7 @@ own_after client after = (after.0, own_of client after.1)
 carried_from-own : (client : ℕ) (unit : BlockMaps) (task : TaggedTask) (phase : Phase)
     → carried_from unit (own_of client task) phase ≡ option_map (own_after client) (carried_from unit task phase)
 carried_from-own client unit task Queued =
-    ap (λ (after : BlockMaps × Progress). Some (after.0, record task { request = own_request client task.request; phase = Begun after.1 }))
+    ap (λ (after : BlockMaps × TaskProgress). Some (after.0, record task { request = own_request client task.request; phase = Begun after.1 }))
     (own_begun client unit task.request)
 carried_from-own client unit task (Begun progress) = refl
 carried_from-own client unit task (Sent answer) = refl
@@ -107,10 +108,12 @@ sent_from-own client task (Begun (Ended answer)) = refl
 sent_from-own client task (Sent answer) = refl
 sent_from-own client task Gone = refl
 
-answered_by-own : (client tag ticket : ℕ) (buffer : List ℕ) (answer : Answer) (request : Request)
+answered_by-own : (client tag ticket : ℕ) (buffer : List ℕ) (answer : TaskAnswer) (request : Request)
     → answered_by tag ticket buffer answer (own_request client request) ≡ answered_by tag ticket buffer answer request
-answered_by-own client tag ticket buffer answer (Execute op) = refl
-answered_by-own client tag ticket buffer answer (Manage what noted) = refl
+answered_by-own client tag ticket buffer (WithStatus answer) (Execute op) = refl
+answered_by-own client tag ticket buffer (WithStatus answer) (Manage what noted) = refl
+answered_by-own client tag ticket buffer (WithResponse code) (Execute op) = refl
+answered_by-own client tag ticket buffer (WithResponse code) (Manage what noted) = refl
 
 aborted_by-own : (client tag ticket : ℕ) (buffer : List ℕ) (request : Request)
     → aborted_by tag ticket buffer (own_request client request) ≡ aborted_by tag ticket buffer request
@@ -120,7 +123,7 @@ aborted_by-own client tag ticket buffer (Manage what noted) = refl
 reply_from-own : (client tag : ℕ) (task : TaggedTask) (phase : Phase) → reply_from tag (own_of client task) phase ≡ reply_from tag task phase
 reply_from-own client tag task Queued = refl
 reply_from-own client tag task (Begun progress) = refl
-reply_from-own client tag task (Sent answer) = ap Some (answered_by-own client tag task.ticket task.buffer answer task.request)
+reply_from-own client tag task (Sent answer) = answered_by-own client tag task.ticket task.buffer answer task.request
 reply_from-own client tag task Gone = aborted_by-own client tag task.ticket task.buffer task.request
 
 after_notes-own : (client : ℕ) (noted : List ℕ) (task : TaggedTask) → after_notes noted (own_of client task) ≡ own_of client (after_notes noted task)
@@ -279,12 +282,14 @@ own_tag-slot_tag client slot = omega arith
 
 -- the client takes the reply that was ready first
 -- the solo machine's reply is under the index
-renumbered-answered : (client slot ticket : ℕ) (buffer : List ℕ) (answer : Answer) (request : Request)
-    → renumbered client (answered_by (slot_tag client slot) ticket buffer answer request) ≡ answered_by (suc slot) ticket buffer answer request
-renumbered-answered client slot ticket buffer answer (Execute op) =
-    ap (λ tag. answered_by tag ticket buffer answer (Execute op)) (own_tag-slot_tag client slot)
-renumbered-answered client slot ticket buffer answer (Manage what noted) =
-    ap (λ tag. answered_by tag ticket buffer answer (Manage what noted)) (own_tag-slot_tag client slot)
+renumbered-answered : (client slot ticket : ℕ) (buffer : List ℕ) (answer : TaskAnswer) (request : Request)
+    → option_map (renumbered client) (answered_by (slot_tag client slot) ticket buffer answer request) ≡ answered_by (suc slot) ticket buffer answer request
+renumbered-answered client slot ticket buffer (WithStatus answer) (Execute op) =
+    ap (λ tag. answered_by tag ticket buffer (WithStatus answer) (Execute op)) (own_tag-slot_tag client slot)
+renumbered-answered client slot ticket buffer (WithStatus answer) (Manage what noted) = refl
+renumbered-answered client slot ticket buffer (WithResponse code) (Execute op) = refl
+renumbered-answered client slot ticket buffer (WithResponse code) (Manage what noted) =
+    ap (λ tag. answered_by tag ticket buffer (WithResponse code) (Manage what noted)) (own_tag-slot_tag client slot)
 
 renumbered-aborted : (client slot ticket : ℕ) (buffer : List ℕ) (request : Request)
     → option_map (renumbered client) (aborted_by (slot_tag client slot) ticket buffer request) ≡ aborted_by (suc slot) ticket buffer request
@@ -295,7 +300,7 @@ renumbered-reply : (client slot : ℕ) (task : TaggedTask) (phase : Phase)
     → option_map (renumbered client) (reply_from (slot_tag client slot) task phase) ≡ reply_from (suc slot) task phase
 renumbered-reply client slot task Queued = refl
 renumbered-reply client slot task (Begun progress) = refl
-renumbered-reply client slot task (Sent answer) = ap Some (renumbered-answered client slot task.ticket task.buffer answer task.request)
+renumbered-reply client slot task (Sent answer) = renumbered-answered client slot task.ticket task.buffer answer task.request
 renumbered-reply client slot task Gone = renumbered-aborted client slot task.ticket task.buffer task.request
 
 settled-own : (client : ℕ) (step : Step) (part : Part) (slot : ℕ) (rest : List ℕ) (entry : Entry) (reply : Option Reply)

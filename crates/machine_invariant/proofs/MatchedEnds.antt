@@ -15,12 +15,14 @@ use Rattle.scsi_cmd.specs.declared.Request.{Request}
 use Rattle.scsi_cmd.specs.declared.Request.TheVariants.{Execute, Manage}
 use Rattle.scsi_cmd.specs.Submission.{is_too_long, first_submit_fault, first_task_fault}
 use Rattle.uas_profile.specs.declared.Direction.{Direction}
-use Rattle.device_server.specs.declared.Answer.{Answer}
+use Rattle.solo_model.specs.declared.TaskAnswer.{TaskAnswer}
+use Rattle.solo_model.specs.declared.TaskAnswer.TheVariants.{WithStatus, WithResponse}
+use Rattle.device_server.specs.Server.{sense_of, status_of}
 use Rattle.solo_model.specs.declared.Phase.{Phase}
 use Rattle.solo_model.specs.declared.Phase.TheVariants.{Queued, Begun, Sent, Gone}
-use Rattle.solo_model.specs.TaggedTask.{TaggedTask, aborted_by, answered_by, reply_from, reply_of}
+use Rattle.solo_model.specs.TaggedTask.{TaggedTask, aborted_by, answered_by, reply_from, reply_of, response_number}
 use Rattle.scsi_cmd.specs.declared.Reply.{Reply}
-use Rattle.scsi_cmd.specs.declared.Reply.TheVariants.{Aborted}
+use Rattle.scsi_cmd.specs.declared.Reply.TheVariants.{Aborted, Status as StatusReply, Task as TaskReply}
 use Rattle.scsi_cmd.specs.declared.Task.{Task}
 use Rattle.uas_profile.specs.declared.TheConstants.{TASK_SLOT, CHUNK_BYTES}
 use Rattle.uas_profile.specs.TdStates.{is_left_over, is_over, is_pending, is_seen}
@@ -86,7 +88,7 @@ ready-left pipe entry ready =
 
 -- an answer that was handed over
 pub record IsSentBy (phase : Phase) : Type 0 where
-  pub answer : Answer
+  pub answer : TaskAnswer
   pub is : phase ≡ Sent answer
 
 pub pushed-over : (td : Td) → td ≡ pushed → is_over td.state ≡ true → ⊥
@@ -96,7 +98,7 @@ pushed-over td is over = false≢true (sym (ap (λ (t : Td). is_over t.state) is
 abbrev pub IsDone : Request → Phase → Type 0
 IsDone request Queued = ⊥
 IsDone request (Begun progress) = ⊥
-IsDone request (Sent answer) = Unit {0}
+IsDone request (Sent answer) = IsPhaseOf request (Sent answer)
 IsDone request Gone = is_command request ≡ true
 
 gone-command : (request : Request) → IsPhaseOf request Gone → is_command request ≡ true
@@ -106,7 +108,7 @@ gone-command (Manage what noted) is = absurd is
 over-done : (request : Request) (phase : Phase) (td : Td) → IsPhaseOf request phase → IsStatusTd phase td → is_over td.state ≡ true → IsDone request phase
 over-done request Queued td answers is over = absurd (pushed-over td is over)
 over-done request (Begun progress) td answers is over = absurd (pushed-over td is over)
-over-done request (Sent answer) td answers is over = tt
+over-done request (Sent answer) td answers is over = answers
 over-done request Gone td answers is over = gone-command request answers
 
 -- so it has a reply
@@ -124,13 +126,22 @@ done-reply tag task done = from task.phase task.request refl refl done
     }
     gone (Manage what noted) at asks is = absurd (false≢true is)
 
+    sent : (answer : TaskAnswer) (request : Request) → task.phase ≡ Sent answer → task.request ≡ request → IsPhaseOf request (Sent answer) → HasReply tag task
+    sent (WithStatus answer) (Execute op) at asks is = record {
+      reply = StatusReply tag task.ticket (status_of answer) (record { items = sense_of answer }) task.buffer;
+      is = ap (λ phase. reply_from tag task phase) at ∙ ap (λ r. answered_by tag task.ticket task.buffer (WithStatus answer) r) asks;
+    }
+    sent (WithStatus answer) (Manage what noted) at asks is = absurd is
+    sent (WithResponse code) (Execute op) at asks is = absurd is
+    sent (WithResponse code) (Manage what noted) at asks is = record {
+      reply = TaskReply tag task.ticket (response_number code);
+      is = ap (λ phase. reply_from tag task phase) at ∙ ap (λ r. answered_by tag task.ticket task.buffer (WithResponse code) r) asks;
+    }
+
     from : (phase : Phase) (request : Request) → task.phase ≡ phase → task.request ≡ request → IsDone request phase → HasReply tag task
     from Queued request at asks is = absurd is
     from (Begun progress) request at asks is = absurd is
-    from (Sent answer) request at asks is = record {
-      reply = answered_by tag task.ticket task.buffer answer task.request;
-      is = ap (λ phase. reply_from tag task phase) at;
-    }
+    from (Sent answer) request at asks is = sent answer request at asks is
     from Gone request at asks is = gone request at asks is
 
 -- an entry that waits for nothing more, and that the device is done with

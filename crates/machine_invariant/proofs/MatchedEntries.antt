@@ -4,9 +4,10 @@ use Rattle.std.specs.Prelude.{◌==◌, nat_lt, is_some}
 use Rattle.std.proofs.lemmas.Bool.{eqb-true, false≢true, and_parts}
 use Rattle.scsi_cmd.specs.declared.Request.{Request}
 use Rattle.scsi_cmd.specs.declared.Request.TheVariants.{Execute, Manage}
-use Rattle.device_server.specs.declared.Answer.{Answer}
+use Rattle.solo_model.specs.declared.TaskAnswer.{TaskAnswer}
+use Rattle.solo_model.specs.declared.TaskAnswer.TheVariants.{WithStatus, WithResponse}
 use Rattle.device_server.specs.declared.Answer.TheVariants.{Good, Check}
-use Rattle.device_server.specs.declared.Progress.TheVariants.{Moving, Ended}
+use Rattle.solo_model.specs.declared.TaskProgress.TheVariants.{Moving, Ended}
 use Rattle.solo_model.specs.declared.Phase.{Phase}
 use Rattle.solo_model.specs.declared.Phase.TheVariants.{Queued, Begun, Sent, Gone}
 use Rattle.uas_profile.specs.TdStates.{is_over, is_pending, is_seen}
@@ -30,16 +31,15 @@ use Rattle.machine_invariant.proofs.MatchedTasks.{IsStepped}
 -- SEND
 
 -- an entry whose answer was handed over
-abbrev pub sent_to : Entry → Answer → Entry
+abbrev pub sent_to : Entry → TaskAnswer → Entry
 sent_to entry answer = record entry { task = record entry.task { phase = Sent answer }; status_td = with_trb_taken entry.status_td }
 
 -- an answer that is handed over is one that the request may have
-sent-answers : (request : Request) (answer : Answer) → IsPhaseOf request (Begun (Ended answer)) → IsPhaseOf request (Sent answer)
-sent-answers (Execute op) answer is = tt
-sent-answers (Manage what noted) Good is = tt
-sent-answers (Manage what noted) (Check sense) is = absurd is
+pub sent-answers : (request : Request) (answer : TaskAnswer) → IsPhaseOf request (Begun (Ended answer)) → IsPhaseOf request (Sent answer)
+sent-answers (Execute op) answer is = is
+sent-answers (Manage what noted) answer is = is
 
-pub send-stepped : (place : Place) (entry : Entry) (answer : Answer) → entry.task.phase ≡ Begun (Ended answer) → IsMatchedEntry place.slot entry →
+pub send-stepped : (place : Place) (entry : Entry) (answer : TaskAnswer) → entry.task.phase ≡ Begun (Ended answer) → IsMatchedEntry place.slot entry →
     IsStepped place [] (StatusDone place ∷ []) entry (sent_to entry answer)
 send-stepped place entry answer ended sound =
     let command : entry.command_td.consumed ≡ 1 = subst (λ p. IsCommandTd p entry.command_td) ended sound.command in
@@ -64,7 +64,7 @@ send-stepped place entry answer ended sound =
     }
 
 -- the status TD alone changes, which was pending
-pub send-tds : (slot : ℕ) (entry : Entry) (answer : Answer) → entry.task.phase ≡ Begun (Ended answer) → IsMatchedEntry slot entry
+pub send-tds : (slot : ℕ) (entry : Entry) (answer : TaskAnswer) → entry.task.phase ≡ Begun (Ended answer) → IsMatchedEntry slot entry
     → TdsGoOn entry (sent_to entry answer)
 send-tds slot entry answer ended sound = record {
   request = refl;
@@ -153,9 +153,10 @@ command-seen place entry awaited sound =
     }
 
 -- a data TD that is awaited has been moved whole
-data-seen_answered : (trbs : ℕ) (answer : Answer) (td : Td) → IsAnsweredTd trbs answer (Some td) → IsAnsweredTd trbs answer (Some (with_event_seen td))
-data-seen_answered trbs Good td is = is
-data-seen_answered trbs (Check sense) td is = ((λ pends. absurd (false≢true pends)), is.1)
+data-seen_answered : (trbs : ℕ) (answer : TaskAnswer) (td : Td) → IsAnsweredTd trbs answer (Some td) → IsAnsweredTd trbs answer (Some (with_event_seen td))
+data-seen_answered trbs (WithStatus Good) td is = is
+data-seen_answered trbs (WithStatus (Check sense)) td is = ((λ pends. absurd (false≢true pends)), is.1)
+data-seen_answered trbs (WithResponse code) td is = is
 
 data-seen_td : (trbs : ℕ) (phase : Phase) (td : Td) → td.consumed ≡ trbs → IsDataTd trbs phase (Some td) → IsDataTd trbs phase (Some (with_event_seen td))
 data-seen_td trbs Queued td spent is = absurd (omega (arith, spent, is.1, is.2))
@@ -270,10 +271,11 @@ pub record IsLeft (trbs : ℕ) (phase : Phase) (old new : Option Td) : Type 0 wh
   pub there : is_some new ≡ is_some old
 
 -- it may be left over then, where it is short
-answer-td : (trbs : ℕ) (answer : Answer) (td : Option Td) → IsAnsweredTd trbs answer td → TdGoesOn trbs td (data_after_answer answer td)
-answer-td trbs Good td is = td-same trbs td
-answer-td trbs (Check sense) None is = td-same trbs None
-answer-td trbs (Check sense) (Some td) is = td-left trbs td is.0
+answer-td : (trbs : ℕ) (answer : TaskAnswer) (td : Option Td) → IsAnsweredTd trbs answer td → TdGoesOn trbs td (data_after_answer answer td)
+answer-td trbs (WithStatus Good) td is = td-same trbs td
+answer-td trbs (WithStatus (Check sense)) None is = td-same trbs None
+answer-td trbs (WithStatus (Check sense)) (Some td) is = td-left trbs td is.0
+answer-td trbs (WithResponse code) td is = td-same trbs td
 
 status-td : (trbs : ℕ) (phase : Phase) (td : Option Td) → IsDataTd trbs phase td → TdGoesOn trbs td (data_after_status phase td)
 status-td trbs Queued td is = td-same trbs td
@@ -281,10 +283,11 @@ status-td trbs (Begun progress) td is = td-same trbs td
 status-td trbs (Sent answer) td is = answer-td trbs answer td is
 status-td trbs Gone td is = td-same trbs td
 
-answer-left : (trbs : ℕ) (answer : Answer) (td : Option Td) → IsAnsweredTd trbs answer td → IsLeft trbs (Sent answer) td (data_after_answer answer td)
-answer-left trbs Good td is = record { chunks = is; awaited = refl; there = refl }
-answer-left trbs (Check sense) td is =
+answer-left : (trbs : ℕ) (answer : TaskAnswer) (td : Option Td) → IsAnsweredTd trbs answer td → IsLeft trbs (Sent answer) td (data_after_answer answer td)
+answer-left trbs (WithStatus Good) td is = record { chunks = is; awaited = refl; there = refl }
+answer-left trbs (WithStatus (Check sense)) td is =
     record { chunks = (check-left trbs td, left-within trbs td is.1); awaited = check-awaited trbs td is.0; there = check-there td }
+answer-left trbs (WithResponse code) td is = record { chunks = is; awaited = refl; there = refl }
 
 status-left : (trbs : ℕ) (phase : Phase) (td : Option Td) → IsDataTd trbs phase td → IsLeft trbs phase td (data_after_status phase td)
 status-left trbs Queued td is = record { chunks = is; awaited = refl; there = refl }

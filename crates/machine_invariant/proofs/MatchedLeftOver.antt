@@ -7,9 +7,10 @@ use Rattle.uas_profile.specs.declared.Pipe.{Pipe}
 use Rattle.uas_profile.specs.declared.Pipe.TheVariants.{Command, Status, DataIn, DataOut}
 use Rattle.uas_profile.specs.declared.Direction.{Direction}
 use Rattle.uas_profile.specs.declared.Direction.TheVariants.{Nothing, ToHost, ToDevice}
-use Rattle.device_server.specs.declared.Answer.{Answer}
+use Rattle.solo_model.specs.declared.TaskAnswer.{TaskAnswer}
+use Rattle.solo_model.specs.declared.TaskAnswer.TheVariants.{WithStatus, WithResponse}
 use Rattle.device_server.specs.declared.Answer.TheVariants.{Good, Check}
-use Rattle.device_server.specs.declared.Progress.TheVariants.{Moving, Ended}
+use Rattle.solo_model.specs.declared.TaskProgress.TheVariants.{Moving, Ended}
 use Rattle.solo_model.specs.declared.Phase.{Phase}
 use Rattle.solo_model.specs.declared.Phase.TheVariants.{Queued, Begun, Sent, Gone}
 use Rattle.uas_profile.specs.TdStates.{is_left_over, is_over, is_pending, is_seen}
@@ -69,14 +70,16 @@ retired-status Gone td left is = tt
 
 -- THE DATA TD
 
-passed-answered : (trbs : ℕ) (answer : Answer) (td : Td) → is_left_over td.state ≡ true → IsAnsweredTd trbs answer (Some (passed_td trbs td))
-passed-answered trbs Good td left = refl
-passed-answered trbs (Check sense) td left =
+passed-answered : (trbs : ℕ) (answer : TaskAnswer) (td : Td) → is_left_over td.state ≡ true → IsAnsweredTd trbs answer (Some (passed_td trbs td))
+passed-answered trbs (WithStatus Good) td left = refl
+passed-answered trbs (WithStatus (Check sense)) td left =
     ((λ pends. absurd (false≢true (sym (ap (λ state. is_pending state) (left-state td.state left)) ∙ pends))), omega arith)
+passed-answered trbs (WithResponse code) td left = refl
 
-retired-answered : (trbs : ℕ) (answer : Answer) (td : Td) → IsAnsweredTd trbs answer (Some td) → IsAnsweredTd trbs answer (Some (retired_td td))
-retired-answered trbs Good td is = is
-retired-answered trbs (Check sense) td is = ((λ pends. absurd (false≢true pends)), is.1)
+retired-answered : (trbs : ℕ) (answer : TaskAnswer) (td : Td) → IsAnsweredTd trbs answer (Some td) → IsAnsweredTd trbs answer (Some (retired_td td))
+retired-answered trbs (WithStatus Good) td is = is
+retired-answered trbs (WithStatus (Check sense)) td is = ((λ pends. absurd (false≢true pends)), is.1)
+retired-answered trbs (WithResponse code) td is = is
 
 passed-chunks : (trbs : ℕ) (phase : Phase) (td : Td) → is_left_over td.state ≡ true → IsDataTd trbs phase (Some td)
     → IsDataTd trbs phase (Some (passed_td trbs td))

@@ -13,8 +13,8 @@ use Rattle.scsi_cmd.specs.declared.Op.{Op}
 use Rattle.scsi_cmd.specs.declared.Request.{Request}
 use Rattle.scsi_cmd.specs.declared.Request.TheVariants.{Execute, Manage}
 use Rattle.scsi_cmd.specs.Held.{held_at}
-use Rattle.device_server.specs.declared.Answer.{Answer}
-use Rattle.device_server.specs.declared.Progress.TheVariants.{Moving, Ended}
+use Rattle.solo_model.specs.declared.TaskAnswer.{TaskAnswer}
+use Rattle.solo_model.specs.declared.TaskProgress.TheVariants.{Moving, Ended}
 use Rattle.solo_model.specs.TaggedTask.{TaggedTask, can_be_ended, can_go, carried_from, carried_request, is_noted, moved_from, moved_request}
 use Rattle.solo_model.specs.TaggedTask.{sent_from, unit_after}
 use Rattle.solo_model.specs.declared.Phase.{Phase}
@@ -253,7 +253,7 @@ move_step-matched state tag is_due all =
 -- SEND
 
 pub record IsEndedBy (phase : Phase) : Type 0 where
-  pub answer : Answer
+  pub answer : TaskAnswer
   pub is : phase ≡ Begun (Ended answer)
 
 pub ended_phase : (phase : Phase) → is_ended phase ≡ true → IsEndedBy phase
@@ -263,7 +263,7 @@ ended_phase (Begun (Ended answer)) is = record { answer = answer; is = refl }
 ended_phase (Sent answer) is = absurd (false≢true is)
 ended_phase Gone is = absurd (false≢true is)
 
-pub send_step-held : (state : Shared) (tag : ℕ) (place : Place) (part : Part) (entry : Entry) (answer : Answer)
+pub send_step-held : (state : Shared) (tag : ℕ) (place : Place) (part : Part) (entry : Entry) (answer : TaskAnswer)
     → place_of (length state.parts) tag ≡ Some place →
     slice_get state.parts place.client ≡ Some part → held_at part.entries place.slot ≡ Some entry → entry.task.phase ≡ Begun (Ended answer) →
     routed_by_tag state send_act (place_of (length state.parts) tag) ≡ acted_on state place.client

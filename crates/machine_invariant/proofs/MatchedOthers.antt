@@ -12,9 +12,10 @@ use Rattle.scsi_cmd.specs.Request.{is_command}
 use Rattle.scsi_cmd.specs.Held.{held_at}
 use Rattle.scsi_cmd.specs.declared.Op.{Op}
 use Rattle.scsi_cmd.specs.declared.Request.TheVariants.{Execute}
+use Rattle.solo_model.specs.declared.TaskAnswer.TheVariants.{WithStatus, WithResponse}
 use Rattle.device_server.specs.declared.Answer.TheVariants.{Good, Check}
-use Rattle.device_server.specs.declared.Progress.{Progress}
-use Rattle.device_server.specs.declared.Progress.TheVariants.{Moving, Ended}
+use Rattle.solo_model.specs.declared.TaskProgress.{TaskProgress}
+use Rattle.solo_model.specs.declared.TaskProgress.TheVariants.{Moving, Ended}
 use Rattle.solo_model.specs.TaggedTask.{can_be_ended, can_go, is_noted}
 use Rattle.solo_model.specs.declared.Phase.{Phase}
 use Rattle.solo_model.specs.declared.Phase.TheVariants.{Queued, Begun, Sent, Gone}
@@ -28,7 +29,7 @@ use Rattle.shared_machine.specs.Shared.{Shared}
 use Rattle.machine_invariant.specs.Ordered.{is_queued}
 use Rattle.shared_machine.specs.Soundness.{one_if, awaited_data, readied_of}
 use Rattle.machine_invariant.specs.Matched.{held_in, under, waiting_command, awaited_command, awaited_status, awaited_data_of, readied_in, times_ready, HaveSlots}
-use Rattle.machine_invariant.specs.Matched.{IsPhaseOf, IsGivenUp, IsShortTd, IsWithinTd, IsDataTd, IsCommandTd, IsStatusTd, IsMatchedAt, IsMatchedEntry}
+use Rattle.machine_invariant.specs.Matched.{IsPhaseOf, IsGivenUp, IsShortTd, IsWholeTd, IsWithinTd, IsDataTd, IsCommandTd, IsStatusTd, IsMatchedAt, IsMatchedEntry}
 use Rattle.machine_invariant.proofs.MatchedPlaces.{part-set, IsCounted}
 use Rattle.machine_invariant.proofs.MatchedTds.{TdGoesOn, TdsGoOn, td-same, td-left, tds-same, tds-on, same-goes}
 use Rattle.machine_invariant.proofs.MatchedFlows.{pipes-same, left_of, trb_of, whole_of, HeldGoesOn, goes-on, IsCounted-kept}
@@ -150,11 +151,15 @@ alike-counted state client change part there each all =
 
 -- A TASK MANAGEMENT IS RECEIVED: a command that it noted is gone, unless its answer was handed over
 
-begun-within : (trbs : ℕ) (progress : Progress) (td : Option Td) → IsDataTd trbs (Begun progress) td → IsWithinTd trbs td
+whole-within : (trbs : ℕ) (td : Option Td) → IsWholeTd trbs td → IsWithinTd trbs td
+whole-within trbs None is = tt
+whole-within trbs (Some td) is = omega (arith, is)
+
+begun-within : (trbs : ℕ) (progress : TaskProgress) (td : Option Td) → IsDataTd trbs (Begun progress) td → IsWithinTd trbs td
 begun-within trbs (Moving chunk) td is = moving-within trbs chunk td is
-begun-within trbs (Ended Good) None is = tt
-begun-within trbs (Ended Good) (Some td) is = omega (arith, is)
-begun-within trbs (Ended (Check sense)) td is = is.1
+begun-within trbs (Ended (WithStatus Good)) td is = whole-within trbs td is
+begun-within trbs (Ended (WithStatus (Check sense))) td is = is.1
+begun-within trbs (Ended (WithResponse code)) td is = whole-within trbs td is
 
 -- the TDs of one that was received are those of one that is gone
 pub record AreGone (trbs : ℕ) (command_td status_td : Td) (data_td : Option Td) : Type 0 where

@@ -11,13 +11,14 @@ use Rattle.scsi_cmd.specs.declared.Request.{Request}
 use Rattle.scsi_cmd.specs.declared.Request.TheVariants.{Execute, Manage}
 use Rattle.scsi_cmd.specs.Work.{reports_attention}
 use Rattle.device_server.specs.declared.Answer.TheVariants.{Good, Check}
-use Rattle.device_server.specs.declared.Progress.{Progress}
-use Rattle.device_server.specs.declared.Progress.TheVariants.{Moving, Ended}
+use Rattle.solo_model.specs.declared.ResponseCode.TheVariants.{Complete}
+use Rattle.solo_model.specs.declared.TaskAnswer.TheVariants.{WithStatus, WithResponse}
+use Rattle.solo_model.specs.declared.TaskProgress.{TaskProgress}
+use Rattle.solo_model.specs.declared.TaskProgress.TheVariants.{Moving, Ended}
 use Rattle.device_server.specs.Laws.{after_chunk, begun_progress}
-use Rattle.device_server.specs.Server.{chunk_moved}
 use Rattle.solo_model.specs.declared.Phase.{Phase}
 use Rattle.solo_model.specs.declared.Phase.TheVariants.{Queued, Begun, Sent, Gone}
-use Rattle.solo_model.specs.TaggedTask.{TaggedTask, buffer_after, carried_request, progress_left}
+use Rattle.solo_model.specs.TaggedTask.{TaggedTask, buffer_after, carried_request, of_command, progress_left}
 use Rattle.uas_profile.specs.TdStates.{is_over, is_pending, is_seen}
 use Rattle.uas_profile.specs.declared.Place.{Place}
 use Rattle.shared_machine.specs.declared.Td.{Td}
@@ -28,7 +29,7 @@ use Rattle.shared_machine.specs.Part.{data_td_after, entries_after, took_trb, is
 use Rattle.shared_machine.specs.Soundness.{one_if, awaited_data}
 use Rattle.machine_invariant.specs.Matched.{same_place, times, command_events, data_events, status_events, waiting_command, awaited_command, awaited_status}
 use Rattle.machine_invariant.specs.Matched.{awaited_data_of, IsCommandTd, IsStatusTd, IsMovingTd, IsWholeTd, IsShortTd, IsWithinTd, IsDataTd}
-use Rattle.machine_invariant.specs.Matched.{IsMatchedEntry, IsManagedPhase, IsPhaseOf, retired_places}
+use Rattle.machine_invariant.specs.Matched.{IsMatchedEntry, IsCommandPhase, IsManagedPhase, IsPhaseOf, retired_places}
 use Rattle.machine_invariant.proofs.MatchedPlaces.{one_self}
 use Rattle.machine_invariant.proofs.MatchedTds.{TdGoesOn, TdsGoOn, td-same, td-taken}
 
@@ -51,9 +52,9 @@ pub moving_op : (request : Request) (phase : Phase) (chunk : ℕ) → phase ≡ 
 moving_op (Execute op) phase chunk moving answers = (op, refl)
 moving_op (Manage what noted) phase chunk moving answers = absurd (subst (λ p. IsManagedPhase p) moving answers)
 
--- a command may be at any phase
-pub command-answers : (request : Request) (op : Op) (phase : Phase) → request ≡ Execute op → IsPhaseOf request phase
-command-answers request op phase is = subst (λ r. IsPhaseOf r phase) (sym is) tt
+-- a command may be at any phase, but for one with a response
+pub command-answers : (request : Request) (op : Op) (phase : Phase) → request ≡ Execute op → IsCommandPhase phase → IsPhaseOf request phase
+command-answers request op phase is fine = subst (λ r. IsPhaseOf r phase) (sym is) fine
 
 -- CARRY
 
@@ -98,12 +99,13 @@ pub received : (unit : BlockMaps) (slot : ℕ) (entry : Entry) (request : Reques
     → IsMatchedEntry slot (carried_to entry (carried_request unit entry.task request).1)
 received unit slot entry (Execute op) is command status chunks sound =
     let one : (with_trb_taken entry.command_td).consumed ≡ 1 = ap (λ (td : Td). td.consumed + 1) command in
-    let answers : (phase : Phase) → IsPhaseOf entry.task.request phase = λ phase. command-answers entry.task.request op phase is in
+    let answers : (phase : Phase) → IsCommandPhase phase → IsPhaseOf entry.task.request phase =
+    λ phase fine. command-answers entry.task.request op phase is fine in
     let trbs : data_trbs entry.task.request ≡ (moved_bytes op + (CHUNK_BYTES - 1)) / CHUNK_BYTES = ap data_trbs is in
-    begun_progress (λ progress. IsMatchedEntry slot (carried_to entry (record entry.task { phase = Begun progress }))) unit (reports_attention op) op
+    begun_progress (λ progress. IsMatchedEntry slot (carried_to entry (record entry.task { phase = Begun (of_command progress) }))) unit (reports_attention op) op
     (λ sense. record {
       asks = sound.asks;
-      answers = answers (Begun (Ended (Check sense)));
+      answers = answers (Begun (Ended (WithStatus (Check sense)))) tt;
       command = one;
       status = status;
       chunks = (moving-short (data_trbs entry.task.request) 0 entry.data_td chunks, moving-within (data_trbs entry.task.request) 0 entry.data_td chunks);
@@ -112,7 +114,7 @@ received unit slot entry (Execute op) is command status chunks sound =
     })
     (λ none. record {
       asks = sound.asks;
-      answers = answers (Begun (Ended Good));
+      answers = answers (Begun (Ended (WithStatus Good))) tt;
       command = one;
       status = status;
       chunks = subst (λ n. IsWholeTd n entry.data_td) (sym trbs)
@@ -122,7 +124,7 @@ received unit slot entry (Execute op) is command status chunks sound =
     })
     (λ some none. record {
       asks = sound.asks;
-      answers = answers (Begun (Moving 0));
+      answers = answers (Begun (Moving 0)) tt;
       command = one;
       status = status;
       chunks = chunks;
@@ -131,7 +133,7 @@ received unit slot entry (Execute op) is command status chunks sound =
     })
 received unit slot entry (Manage what noted) is command status chunks sound = record {
   asks = sound.asks;
-  answers = subst (λ r. IsPhaseOf r (Begun (Ended Good))) (sym is) tt;
+  answers = subst (λ r. IsPhaseOf r (Begun (Ended (WithResponse Complete)))) (sym is) tt;
   command = ap (λ (td : Td). td.consumed + 1) command;
   status = status;
   chunks = moving-nothing (data_trbs entry.task.request) 0 entry.data_td (ap data_trbs is) chunks;
@@ -296,24 +298,24 @@ move-stepped unit place entry chunk op is moving sound =
     (λ p. IsDataTd (data_trbs entry.task.request) p entry.data_td) moving sound.chunks in
     let trbs : data_trbs entry.task.request ≡ (moved_bytes op + (CHUNK_BYTES - 1)) / CHUNK_BYTES = ap data_trbs is in
     let buffer : List ℕ = buffer_after unit entry.task.buffer chunk op in
-    let begun : (progress : Progress)
-    → IsDataTd (data_trbs entry.task.request) (Begun progress) (data_td_after (chunk_moved progress) entry.data_td)
+    let begun : (progress : TaskProgress) → IsCommandPhase (Begun progress)
+    → IsDataTd (data_trbs entry.task.request) (Begun progress) (data_td_after (took_trb (Begun progress)) entry.data_td)
     → IsStepped place [] (moved_events entry (record entry.task { buffer = buffer; phase = Begun progress }) place) entry
     (moved_to entry (record entry.task { buffer = buffer; phase = Begun progress })) =
-    λ progress now. chunk-stepped place entry chunk buffer (Begun progress) chunks (record {
+    λ progress fine now. chunk-stepped place entry chunk buffer (Begun progress) chunks (record {
       asks = sound.asks;
-      answers = command-answers entry.task.request op (Begun progress) is;
+      answers = command-answers entry.task.request op (Begun progress) is fine;
       command = command;
       status = status;
       chunks = now;
-      moves = td-there (chunk_moved progress) entry.data_td ∙ sound.moves;
+      moves = td-there (took_trb (Begun progress)) entry.data_td ∙ sound.moves;
       small = sound.small;
     }) in
-    after_chunk (λ progress. IsStepped place [] (moved_events entry (record entry.task { buffer = buffer; phase = Begun progress }) place) entry
-    (moved_to entry (record entry.task { buffer = buffer; phase = Begun progress }))) unit chunk op unit.count
-    (λ more. begun (Moving (chunk + 1)) (chunk-next (data_trbs entry.task.request) chunk entry.data_td chunks (omega (arith, trbs, more))))
-    (λ last. begun (Ended Good) (chunk-whole (data_trbs entry.task.request) chunk entry.data_td chunks (omega (arith, trbs, last))))
-    (λ sense. begun (Ended (Check sense)) (chunk-short (data_trbs entry.task.request) chunk entry.data_td chunks))
+    after_chunk (λ progress. IsStepped place [] (moved_events entry (record entry.task { buffer = buffer; phase = Begun (of_command progress) }) place) entry
+    (moved_to entry (record entry.task { buffer = buffer; phase = Begun (of_command progress) }))) unit chunk op unit.count
+    (λ more. begun (Moving (chunk + 1)) tt (chunk-next (data_trbs entry.task.request) chunk entry.data_td chunks (omega (arith, trbs, more))))
+    (λ last. begun (Ended (WithStatus Good)) tt (chunk-whole (data_trbs entry.task.request) chunk entry.data_td chunks (omega (arith, trbs, last))))
+    (λ sense. begun (Ended (WithStatus (Check sense))) tt (chunk-short (data_trbs entry.task.request) chunk entry.data_td chunks))
 
 -- the data TD alone changes, which was pending
 pub chunk-td : (trbs chunk : ℕ) (took : Bool) (td : Option Td) → IsMovingTd trbs chunk td → TdGoesOn trbs td (data_td_after took td)

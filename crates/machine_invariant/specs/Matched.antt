@@ -9,11 +9,14 @@ use Rattle.scsi_cmd.specs.Op.{moved_bytes}
 use Rattle.uas_profile.specs.declared.TheConstants.{TAGS, TASK_SLOT, MAX_CLIENTS, MOST_MESSAGES, MOST_EVENTS_PENDING, WINDOW_BYTES, MOST_DATA_TRBS}
 use Rattle.scsi_cmd.specs.declared.Request.{Request}
 use Rattle.scsi_cmd.specs.declared.Request.TheVariants.{Execute, Manage}
-use Rattle.device_server.specs.declared.Answer.{Answer}
+use Rattle.solo_model.specs.declared.TaskAnswer.{TaskAnswer}
+use Rattle.solo_model.specs.declared.TaskAnswer.TheVariants.{WithStatus, WithResponse}
 use Rattle.device_server.specs.declared.Answer.TheVariants.{Good, Check}
 use Rattle.solo_model.specs.declared.Phase.{Phase}
 use Rattle.solo_model.specs.declared.Phase.TheVariants.{Queued, Begun, Sent, Gone}
-use Rattle.device_server.specs.declared.Progress.TheVariants.{Moving, Ended}
+use Rattle.solo_model.specs.declared.ResponseCode.{ResponseCode}
+use Rattle.solo_model.specs.declared.ResponseCode.TheVariants.{Complete, Succeeded}
+use Rattle.solo_model.specs.declared.TaskProgress.TheVariants.{Moving, Ended}
 use Rattle.uas_profile.specs.TdStates.{is_pending}
 use Rattle.uas_profile.specs.declared.Place.{Place}
 use Rattle.uas_profile.specs.declared.TdState.{TdState}
@@ -129,18 +132,37 @@ abbrev pub IsRequestIn : ℕ → Request → Type 0
 IsRequestIn slot (Execute op) = slot < TASK_SLOT
 IsRequestIn slot (Manage what noted) = slot ≡ TASK_SLOT
 
--- a task management is answered, well, as it is received, and none ends it
+-- a command ends with a status
+abbrev pub IsStatusAnswer : TaskAnswer → Type 0
+IsStatusAnswer (WithStatus answer) = Unit {0}
+IsStatusAnswer (WithResponse code) = ⊥
+
+abbrev pub IsCommandPhase : Phase → Type 0
+IsCommandPhase Queued = Unit {0}
+IsCommandPhase (Begun (Moving chunk)) = Unit {0}
+IsCommandPhase (Begun (Ended answer)) = IsStatusAnswer answer
+IsCommandPhase (Sent answer) = IsStatusAnswer answer
+IsCommandPhase Gone = Unit {0}
+
+-- a task management ends with the response COMPLETE
+abbrev pub IsCompletion : ResponseCode → Type 0
+IsCompletion Complete = Unit {0}
+IsCompletion Succeeded = ⊥
+
+abbrev pub IsResponseAnswer : TaskAnswer → Type 0
+IsResponseAnswer (WithStatus answer) = ⊥
+IsResponseAnswer (WithResponse code) = IsCompletion code
+
+-- it is answered as it is received, and none ends it
 abbrev pub IsManagedPhase : Phase → Type 0
 IsManagedPhase Queued = Unit {0}
 IsManagedPhase (Begun (Moving chunk)) = ⊥
-IsManagedPhase (Begun (Ended Good)) = Unit {0}
-IsManagedPhase (Begun (Ended (Check sense))) = ⊥
-IsManagedPhase (Sent Good) = Unit {0}
-IsManagedPhase (Sent (Check sense)) = ⊥
+IsManagedPhase (Begun (Ended answer)) = IsResponseAnswer answer
+IsManagedPhase (Sent answer) = IsResponseAnswer answer
 IsManagedPhase Gone = ⊥
 
 abbrev pub IsPhaseOf : Request → Phase → Type 0
-IsPhaseOf (Execute op) phase = Unit {0}
+IsPhaseOf (Execute op) phase = IsCommandPhase phase
 IsPhaseOf (Manage what noted) phase = IsManagedPhase phase
 
 -- THE TDS OF AN ENTRY, BY ITS PHASE: what no count tells
@@ -193,12 +215,13 @@ abbrev pub IsWithinTd : ℕ → Option Td → Type 0
 IsWithinTd trbs None = Unit {0}
 IsWithinTd trbs (Some td) = td.consumed ≤ trbs
 
--- GOOD comes after the last chunk, CHECK CONDITION before it, so that a TRB is left then
-abbrev pub IsAnsweredTd : ℕ → Answer → Option Td → Type 0
-IsAnsweredTd trbs Good td = IsWholeTd trbs td
-IsAnsweredTd trbs (Check sense) td = IsShortTd trbs td × IsWithinTd trbs td
+-- GOOD comes after the last chunk, CHECK CONDITION before it, so that a TRB is left then; before a response no chunk is left
+abbrev pub IsAnsweredTd : ℕ → TaskAnswer → Option Td → Type 0
+IsAnsweredTd trbs (WithStatus Good) td = IsWholeTd trbs td
+IsAnsweredTd trbs (WithStatus (Check sense)) td = IsShortTd trbs td × IsWithinTd trbs td
+IsAnsweredTd trbs (WithResponse code) td = IsWholeTd trbs td
 
--- Checked by hand: of 8,192 bytes, two TRBs, none was taken at Moving 0, one at Moving 1 and both at Ended Good.
+-- Checked by hand: of 8,192 bytes, two TRBs, none was taken at Moving 0, one at Moving 1 and both at Ended (WithStatus Good).
 abbrev pub IsDataTd : ℕ → Phase → Option Td → Type 0
 IsDataTd trbs Queued td = IsMovingTd trbs 0 td
 IsDataTd trbs (Begun (Moving chunk)) td = IsMovingTd trbs chunk td

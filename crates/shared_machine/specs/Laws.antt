@@ -8,6 +8,8 @@ use Rattle.scsi_cmd.specs.declared.Request.TheVariants.{Execute, Manage}
 use Rattle.scsi_cmd.specs.Held.{held_at}
 use Rattle.solo_model.specs.declared.Phase.{Phase}
 use Rattle.solo_model.specs.declared.Phase.TheVariants.{Queued, Begun, Sent, Gone}
+use Rattle.solo_model.specs.declared.TaskAnswer.{TaskAnswer}
+use Rattle.solo_model.specs.declared.TaskAnswer.TheVariants.{WithStatus, WithResponse}
 use Rattle.shared_machine.specs.Td.{Entry}
 use Rattle.shared_machine.specs.declared.Step.{Step}
 use Rattle.shared_machine.specs.declared.Step.TheVariants.{Take}
@@ -84,11 +86,16 @@ abbrev pub brought_len : Request → List ℕ → ℕ
 brought_len (Execute op) buffer = length buffer
 brought_len (Manage what noted) buffer = 0
 
+-- a status brings it, a response nothing
+abbrev pub answered_len : TaskAnswer → Request → List ℕ → ℕ
+answered_len (WithStatus answer) request buffer = brought_len request buffer
+answered_len (WithResponse code) request buffer = 0
+
 -- a request brings it once its answer was sent, and a command that is gone at once
 abbrev pub sent_len : Phase → Request → List ℕ → ℕ
 sent_len Queued request buffer = 0
 sent_len (Begun progress) request buffer = 0
-sent_len (Sent answer) request buffer = brought_len request buffer
+sent_len (Sent answer) request buffer = answered_len answer request buffer
 sent_len Gone request buffer = brought_len request buffer
 
 abbrev pub entry_len : Entry → ℕ

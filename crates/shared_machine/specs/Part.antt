@@ -16,7 +16,10 @@ use Rattle.uas_profile.specs.declared.TheConstants.{TAGS, TASK_SLOT}
 use Rattle.solo_model.specs.TaggedTask.{TaggedTask}
 use Rattle.solo_model.specs.declared.Phase.{Phase}
 use Rattle.solo_model.specs.declared.Phase.TheVariants.{Queued, Begun, Sent, Gone}
-use Rattle.device_server.specs.Server.{chunk_moved}
+use Rattle.device_server.specs.declared.Answer.TheVariants.{Good, Check}
+use Rattle.solo_model.specs.declared.TaskAnswer.{TaskAnswer}
+use Rattle.solo_model.specs.declared.TaskAnswer.TheVariants.{WithStatus, WithResponse}
+use Rattle.solo_model.specs.declared.TaskProgress.TheVariants.{Moving, Ended}
 use Rattle.scsi_cmd.specs.Held.{held_at}
 use Rattle.solo_model.specs.TaggedTask.{after_notes, is_noted, queued, queued_management, carried, moved, sent, reply_of}
 use Rattle.scsi_cmd.specs.Submission.{first_submit_fault, first_task_fault}
@@ -157,10 +160,16 @@ carry_act place part = carried_slot part place.slot place (held_at part.entries 
 
 -- MOVE
 
--- a chunk that met a bad block takes no TRB
+-- a chunk that met a bad block takes no TRB: it ended the command with CHECK CONDITION
+abbrev pub ended_whole : TaskAnswer → Bool
+ended_whole (WithStatus Good) = true
+ended_whole (WithStatus (Check sense)) = false
+ended_whole (WithResponse code) = true
+
 abbrev pub took_trb : Phase → Bool
 took_trb Queued = true
-took_trb (Begun progress) = chunk_moved progress
+took_trb (Begun (Moving chunk)) = true
+took_trb (Begun (Ended answer)) = ended_whole answer
 took_trb (Sent answer) = true
 took_trb Gone = true
 

@@ -12,7 +12,8 @@ use Rattle.scsi_cmd.specs.declared.Request.{Request}
 use Rattle.scsi_cmd.specs.declared.Request.TheVariants.{Execute, Manage}
 use Rattle.solo_model.specs.declared.Phase.{Phase}
 use Rattle.solo_model.specs.declared.Phase.TheVariants.{Queued, Begun, Sent, Gone}
-use Rattle.device_server.specs.declared.Answer.{Answer}
+use Rattle.solo_model.specs.declared.TaskAnswer.{TaskAnswer}
+use Rattle.solo_model.specs.declared.TaskAnswer.TheVariants.{WithStatus, WithResponse}
 use Rattle.device_server.specs.declared.Answer.TheVariants.{Good, Check}
 use Rattle.uas_profile.specs.TdStates.{is_left_over, is_over, is_pending, is_seen}
 use Rattle.uas_profile.specs.declared.TdState.{TdState}
@@ -66,9 +67,10 @@ left_over_data None = None
 left_over_data (Some td) = Some (left_over_td td)
 
 -- CHECK CONDITION leaves an unseen data TD over
-abbrev pub data_after_answer : Answer → Option Td → Option Td
-data_after_answer Good td = td
-data_after_answer (Check sense) td = left_over_data td
+abbrev pub data_after_answer : TaskAnswer → Option Td → Option Td
+data_after_answer (WithStatus Good) td = td
+data_after_answer (WithStatus (Check sense)) td = left_over_data td
+data_after_answer (WithResponse code) td = td
 
 abbrev pub data_after_status : Phase → Option Td → Option Td
 data_after_status Queued td = td

@@ -8,14 +8,21 @@ use Rattle.scsi_cmd.specs.declared.Request.{Request}
 use Rattle.scsi_cmd.specs.declared.Request.TheVariants.{Execute, Manage}
 use Rattle.solo_model.specs.declared.Phase.{Phase}
 use Rattle.solo_model.specs.declared.Phase.TheVariants.{Queued, Begun, Sent, Gone}
-use Rattle.device_server.specs.declared.Progress.TheVariants.{Moving, Ended}
+use Rattle.device_server.specs.declared.Progress.TheVariants.{Moving as MovingOn}
 use Rattle.device_server.specs.Server.{HasChunk}
+use Rattle.solo_model.specs.declared.TaskProgress.{TaskProgress}
+use Rattle.solo_model.specs.declared.TaskProgress.TheVariants.{Moving, Ended}
 use Rattle.solo_model.specs.TaggedTask.{TaggedTask}
+
+-- a task that moves data has bytes left to move, and its blocks are on the unit
+abbrev pub IsSoundProgress : ℕ → Op → TaskProgress → Type 0
+IsSoundProgress count op (Moving chunk) = HasChunk count op (MovingOn chunk)
+IsSoundProgress count op (Ended answer) = Unit {0}
 
 -- what the device has begun is sound there
 abbrev pub IsSoundPhase : ℕ → Op → Phase → Type 0
 IsSoundPhase count op Queued = Unit {0}
-IsSoundPhase count op (Begun progress) = HasChunk count op progress
+IsSoundPhase count op (Begun progress) = IsSoundProgress count op progress
 IsSoundPhase count op (Sent answer) = Unit {0}
 IsSoundPhase count op Gone = Unit {0}
 

@@ -18,14 +18,18 @@ use Rattle.scsi_cmd.specs.Buffers.{with_bytes_at}
 use Rattle.scsi_cmd.specs.Op.{moved_bytes}
 use Rattle.scsi_cmd.specs.Work.{checked_work, reports_attention, work_of}
 use Rattle.device_server.specs.declared.Progress.{Progress}
-use Rattle.device_server.specs.declared.Answer.{Answer}
-use Rattle.device_server.specs.declared.Answer.TheVariants.{Good}
-use Rattle.device_server.specs.declared.Progress.TheVariants.{Moving, Ended}
+use Rattle.device_server.specs.declared.Progress.TheVariants.{Moving as MovingOn, Ended as EndedWith}
 use Rattle.device_server.specs.Server.{begun, chunk_bytes, chunk_given, progress_after, sense_of, status_of, unit_taken}
 use Rattle.solo_model.specs.declared.Phase.{Phase}
 use Rattle.solo_model.specs.declared.Phase.TheVariants.{Queued, Begun, Sent, Gone}
+use Rattle.solo_model.specs.declared.ResponseCode.{ResponseCode}
+use Rattle.solo_model.specs.declared.ResponseCode.TheVariants.{Complete, Succeeded}
 use Rattle.solo_model.specs.declared.Submitted.{Submitted}
 use Rattle.solo_model.specs.declared.Submitted.TheVariants.{Command as SubmittedCommand, Management}
+use Rattle.solo_model.specs.declared.TaskAnswer.{TaskAnswer}
+use Rattle.solo_model.specs.declared.TaskAnswer.TheVariants.{WithStatus, WithResponse}
+use Rattle.solo_model.specs.declared.TaskProgress.{TaskProgress}
+use Rattle.solo_model.specs.declared.TaskProgress.TheVariants.{Moving, Ended}
 use Rattle.uas_profile.specs.declared.TheConstants.{CHUNK_BYTES}
 
 -- A task under one tag of a client: the number that the client gave it, what is asked, the bytes that it brings or those that
@@ -45,6 +49,18 @@ abbrev pub buffer_in : Submitted → List ℕ
 buffer_in (SubmittedCommand command) = command.buffer
 buffer_in (Management task noted) = []
 
+-- THE ANSWER OF A TASK: a command's is its status, a task management's the code of its Response unit
+
+-- TASK MANAGEMENT FUNCTION COMPLETE is 00h, TASK MANAGEMENT FUNCTION SUCCEEDED 08h (UAS, Response unit)
+abbrev pub response_number : ResponseCode → ℕ
+response_number Complete = 0
+response_number Succeeded = 8
+
+-- how far the task of a command has come where the device server has brought the command so far
+abbrev pub of_command : Progress → TaskProgress
+of_command (MovingOn chunk) = Moving chunk
+of_command (EndedWith answer) = Ended (WithStatus answer)
+
 -- SUBMISSION
 
 -- a command as it is submitted
@@ -63,16 +79,19 @@ abbrev pub unit_managed : BlockMaps → Task → BlockMaps
 unit_managed unit (Abort tag) = unit
 unit_managed unit Reset = with_attention unit true
 
--- A command begins as far as its data. A task management is done with as it is received: it ends well, with the response
--- COMPLETE.
-abbrev pub request_begun : BlockMaps → Request → BlockMaps × Progress
-request_begun unit (Execute op) = begun unit (reports_attention op) (checked_work op unit.count)
-request_begun unit (Manage what noted) = (unit_managed unit what, Ended Good)
+-- the unit after it, and how far the task of the command has come
+abbrev pub command_begun : BlockMaps × Progress → BlockMaps × TaskProgress
+command_begun after = (after.0, of_command after.1)
+
+-- A command begins as far as its data. A task management is done with as it is received: it ends with the response COMPLETE.
+abbrev pub request_begun : BlockMaps → Request → BlockMaps × TaskProgress
+request_begun unit (Execute op) = command_begun (begun unit (reports_attention op) (checked_work op unit.count))
+request_begun unit (Manage what noted) = (unit_managed unit what, Ended (WithResponse Complete))
 
 abbrev pub carried_request : BlockMaps → TaggedTask → Request → BlockMaps × TaggedTask
 carried_request unit task request = in_progress task (request_begun unit request)
   where
-    in_progress : TaggedTask → BlockMaps × Progress → BlockMaps × TaggedTask
+    in_progress : TaggedTask → BlockMaps × TaskProgress → BlockMaps × TaggedTask
     in_progress task after = (after.0, record task { phase = Begun after.1 })
 
 -- a step on a unit and a task did what is asked, or there is none and it did nothing
@@ -137,8 +156,8 @@ buffer_after unit buffer chunk op =
     option_map_or (λ bytes. with_bytes_at buffer (CHUNK_BYTES * chunk) bytes) (chunk_given unit chunk (work_of op unit.count)) buffer
 
 -- what a command is at after a chunk
-abbrev pub progress_left : BlockMaps → ℕ → Op → Progress
-progress_left unit chunk op = progress_after unit chunk (work_of op unit.count)
+abbrev pub progress_left : BlockMaps → ℕ → Op → TaskProgress
+progress_left unit chunk op = of_command (progress_after unit chunk (work_of op unit.count))
 
 -- a task management moves no data
 abbrev pub moved_request : BlockMaps → TaggedTask → ℕ → Request → Option (BlockMaps × TaggedTask)
@@ -171,10 +190,13 @@ sent task = sent_from task task.phase
 
 -- SETTLE: the client gets its reply
 
--- a command's status and sense with its buffer, or the response COMPLETE, 00h, of a task management
-abbrev pub answered_by : ℕ → ℕ → List ℕ → Answer → Request → Reply
-answered_by tag ticket buffer answer (Execute op) = Status tag ticket (status_of answer) (record { items = sense_of answer }) buffer
-answered_by tag ticket buffer answer (Manage what noted) = TaskReply tag ticket 0
+-- A command's status and sense with its buffer, or the response code of a task management. A response is none to a command, and
+-- a status none to a task management.
+abbrev pub answered_by : ℕ → ℕ → List ℕ → TaskAnswer → Request → Option Reply
+answered_by tag ticket buffer (WithStatus answer) (Execute op) = Some (Status tag ticket (status_of answer) (record { items = sense_of answer }) buffer)
+answered_by tag ticket buffer (WithStatus answer) (Manage what noted) = None
+answered_by tag ticket buffer (WithResponse code) (Execute op) = None
+answered_by tag ticket buffer (WithResponse code) (Manage what noted) = Some (TaskReply tag ticket (response_number code))
 
 -- a command that is gone is told as such; none ends a task management
 abbrev pub aborted_by : ℕ → ℕ → List ℕ → Request → Option Reply
@@ -184,7 +206,7 @@ aborted_by tag ticket buffer (Manage what noted) = None
 abbrev pub reply_from : ℕ → TaggedTask → Phase → Option Reply
 reply_from tag task Queued = None
 reply_from tag task (Begun progress) = None
-reply_from tag task (Sent answer) = Some (answered_by tag task.ticket task.buffer answer task.request)
+reply_from tag task (Sent answer) = answered_by tag task.ticket task.buffer answer task.request
 reply_from tag task Gone = aborted_by tag task.ticket task.buffer task.request
 
 -- the reply of a task that is done with

@@ -9,11 +9,11 @@ ghost use Rattle.scsi_cmd.specs.Work.{IsWorkOn, work_bytes, work_direction};
 ghost use Rattle.uas_profile.specs.declared.Direction.{Direction};
 ghost use Rattle.device_server.specs.Server.{chunk_bytes, chunk_given, progress_after, unit_taken};
 ghost use Rattle.solo_model.specs.Soundness.{IsSound};
-ghost use Rattle.solo_model.specs.TaggedTask.{IsStep, buffer_after, carried, moved, progress_left, request_begun, request_in, sent, unit_after};
+ghost use Rattle.solo_model.specs.TaggedTask.{IsStep, buffer_after, carried, moved, of_command, progress_left, request_begun, request_in, sent, unit_after};
 
-use crate::{Phase, Submitted, TaggedTask, Task};
+use crate::{Phase, ResponseCode, Submitted, TaggedTask, Task, TaskAnswer, TaskProgress};
 use block_unit::Unit;
-use device_server::{Answer, Progress, begin, chunk_len, give_chunk, take_chunk};
+use device_server::{Progress, begin, chunk_len, give_chunk, take_chunk};
 use scsi_cmd::{Buffer, Command, Direction, Op, Work, checked_work, reports_attention, work_of};
 use uas_profile::CHUNK_BYTES;
 
@@ -31,9 +31,9 @@ pub fn carry(unit: &mut Unit, task: &mut TaggedTask) -> bool
     true
 }
 
-/// A command begins as far as its data. A task management is done with as it is received, and LOGICAL UNIT RESET leaves an
-/// attention on the unit.
-fn begin_submitted(unit: &mut Unit, submitted: &Submitted) -> Progress
+/// A command begins as far as its data. A task management is done with as it is received, with the response COMPLETE, and
+/// LOGICAL UNIT RESET leaves an attention on the unit.
+fn begin_submitted(unit: &mut Unit, submitted: &Submitted) -> TaskProgress
     ensures unit { unit.new ≡ (request_begun unit.old (request_in submitted.now)).0 }
     ensures progress { result ≡ (request_begun unit.old (request_in submitted.now)).1 }
     ensures count { unit.new.count ≡ unit.old.count }
@@ -41,14 +41,24 @@ fn begin_submitted(unit: &mut Unit, submitted: &Submitted) -> Progress
     match submitted {
         Submitted::Command(command) => {
             let asked = checked_work(&command.op, unit.blocks());
-            begin(unit, reports_attention(&command.op), asked)
+            of_command(begin(unit, reports_attention(&command.op), asked))
         }
         Submitted::Management { task, .. } => {
             if let Task::Reset = task {
                 unit.set_attention(true);
             }
-            Progress::Ended(Answer::Good)
+            TaskProgress::Ended(TaskAnswer::WithResponse(ResponseCode::Complete))
         }
+    }
+}
+
+/// How far the task of a command has come, where the device server has brought the command so far.
+fn of_command(progress: Progress) -> TaskProgress
+    ensures { result ≡ of_command progress }
+{
+    match progress {
+        Progress::Moving(chunk) => TaskProgress::Moving(chunk),
+        Progress::Ended(answer) => TaskProgress::Ended(TaskAnswer::WithStatus(answer)),
     }
 }
 
@@ -60,7 +70,7 @@ pub fn move_chunk(unit: &mut Unit, task: &mut TaggedTask) -> bool
     ensures sound { IsSound unit.new.count task.new }
     ensures count { unit.new.count ≡ unit.old.count }
 {
-    let Phase::Begun(Progress::Moving(chunk)) = task.phase else {
+    let Phase::Begun(TaskProgress::Moving(chunk)) = task.phase else {
         return false;
     };
     let Submitted::Command(Command { op, buffer }) = &mut task.submitted else {
@@ -71,7 +81,7 @@ pub fn move_chunk(unit: &mut Unit, task: &mut TaggedTask) -> bool
 }
 
 /// One chunk of an operation, between its unit and its buffer.
-fn move_op(unit: &mut Unit, buffer: &mut Buffer, chunk: u16, op: &Op) -> Progress
+fn move_op(unit: &mut Unit, buffer: &mut Buffer, chunk: u16, op: &Op) -> TaskProgress
     requires whole { length buffer.old ≡ moved_bytes op.now }
     requires left { CHUNK_BYTES * chunk < moved_bytes op.now }
     requires range { op_fault op.now unit.old.count ≡ None }
@@ -83,8 +93,8 @@ fn move_op(unit: &mut Unit, buffer: &mut Buffer, chunk: u16, op: &Op) -> Progres
 {
     let work = work_of(op, unit.blocks());
     match work.direction() {
-        Direction::ToHost => give_into(unit, &work, chunk, buffer),
-        Direction::ToDevice => take_from(unit, &work, chunk, buffer),
+        Direction::ToHost => of_command(give_into(unit, &work, chunk, buffer)),
+        Direction::ToDevice => of_command(take_from(unit, &work, chunk, buffer)),
         Direction::Nothing => unreachable!(),
     }
 }
@@ -126,7 +136,7 @@ pub fn send(task: &mut TaggedTask) -> bool
         ((result ≡ false) × (task.new ≡ task.old))
         (λ after. (result ≡ true) × (task.new ≡ after)) }
 {
-    let Phase::Begun(Progress::Ended(answer)) = task.phase else {
+    let Phase::Begun(TaskProgress::Ended(answer)) = task.phase else {
         return false;
     };
     task.phase = Phase::Sent(answer);

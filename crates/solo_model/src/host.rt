@@ -2,16 +2,11 @@ ghost use Rattle.std.specs.Prelude.{◌≡◌, ℕ, is_some};
 ghost use Rattle.solo_model.specs.TaggedTask.{aborted_by, after_notes, answered_by, buffer_in, can_be_ended, is_noted, noted_next, queued};
 ghost use Rattle.solo_model.specs.TaggedTask.{queued_management, reply_of, request_in};
 
-use crate::{Phase, Submitted, TaggedTask, Task};
+use crate::{Phase, Submitted, TaggedTask, Task, TaskAnswer};
 use arrayvec::ArrayVec;
-use device_server::{Answer, status_and_sense};
+use device_server::status_and_sense;
 use scsi_cmd::{Command, Reply};
 use uas_profile::TASK_SLOT;
-
-/// The response code of a task management that was carried out (INCITS 471, table of response codes).
-const COMPLETE: u8 = 0x00;
-
-const _: () = prove!(COMPLETE == 0x00);
 
 impl TaggedTask {
     /// A task as it is submitted.
@@ -49,8 +44,12 @@ impl TaggedTask {
     {
         match self.phase {
             Phase::Queued | Phase::Begun(_) => false,
-            Phase::Sent(_) => true,
-            Phase::Gone => matches!(self.submitted, Submitted::Command(_)),
+            Phase::Sent(TaskAnswer::WithStatus(_)) | Phase::Gone => {
+                matches!(self.submitted, Submitted::Command(_))
+            }
+            Phase::Sent(TaskAnswer::WithResponse(_)) => {
+                matches!(self.submitted, Submitted::Management { .. })
+            }
         }
     }
 
@@ -110,32 +109,33 @@ pub fn reply(tag: u16, task: TaggedTask) -> Option<Reply>
     } = task;
     match phase {
         Phase::Queued | Phase::Begun(_) => None,
-        Phase::Sent(answer) => Some(answered(tag, ticket, submitted, &answer)),
+        Phase::Sent(answer) => answered(tag, ticket, submitted, &answer),
         Phase::Gone => ended(tag, ticket, submitted),
     }
 }
 
-/// The reply of a task whose answer was sent: a command's status and sense with its buffer, or the response of a task
-/// management.
-fn answered(tag: u16, ticket: u64, submitted: Submitted, answer: &Answer) -> Reply
+/// The reply of a task whose answer was sent: a command's status and sense with its buffer, or the response code of a task
+/// management. A response is none to a command, and a status none to a task management.
+fn answered(tag: u16, ticket: u64, submitted: Submitted, answer: &TaskAnswer) -> Option<Reply>
     ensures { result ≡ answered_by tag ticket (buffer_in submitted) answer.now (request_in submitted) }
 {
-    match submitted {
-        Submitted::Command(Command { buffer, .. }) => {
+    match (submitted, answer) {
+        (Submitted::Command(Command { buffer, .. }), TaskAnswer::WithStatus(answer)) => {
             let (status, sense) = status_and_sense(answer);
-            Reply::Status {
+            Some(Reply::Status {
                 tag,
                 ticket,
                 status,
                 sense,
                 buffer,
-            }
+            })
         }
-        Submitted::Management { .. } => Reply::Task {
+        (Submitted::Management { .. }, TaskAnswer::WithResponse(code)) => Some(Reply::Task {
             tag,
             ticket,
-            code: COMPLETE,
-        },
+            code: code.number(),
+        }),
+        _ => None,
     }
 }
 

@@ -18,7 +18,7 @@ mod machine;
 use arrayvec::ArrayVec;
 use block_unit::Unit;
 pub use device::{carry, move_chunk, send};
-use device_server::{Answer, Progress};
+use device_server::Answer;
 pub use host::reply;
 use scsi_cmd::Command;
 pub use scsi_cmd::{Buffer, Reply, Request, SubmitFault, Task, submit_fault, task_fault};
@@ -26,15 +26,57 @@ use std::marker::Model;
 use thiserror::Error;
 use uas_profile::{TAGS, TASK_SLOT};
 
+/// The response to a task management (SAM), by the code of its Response unit (INCITS 471).
+#[derive(Clone, Copy, Debug, PartialEq, Eq)]
+pub enum ResponseCode {
+    /// TASK MANAGEMENT FUNCTION COMPLETE, 00h: it was done.
+    Complete,
+    /// TASK MANAGEMENT FUNCTION SUCCEEDED, 08h: what it asks for is so. No task management here asks.
+    Succeeded,
+}
+
+impl ResponseCode {
+    ghost use Rattle.std.specs.Prelude.{◌≡◌};
+    ghost use Rattle.solo_model.specs.TaggedTask.{response_number};
+
+    /// The response code.
+    pub fn number(self) -> u8
+        ensures { result ≡ response_number self }
+    {
+        match self {
+            ResponseCode::Complete => 0x00,
+            ResponseCode::Succeeded => 0x08,
+        }
+    }
+}
+
+/// What a task ended with.
+#[derive(Clone, Copy, Debug, PartialEq, Eq)]
+pub enum TaskAnswer {
+    /// A command: its status, GOOD, or CHECK CONDITION with sense.
+    WithStatus(Answer),
+    /// A task management: its response.
+    WithResponse(ResponseCode),
+}
+
+/// How far a task has come that the device has begun.
+#[derive(Clone, Copy, Debug, PartialEq, Eq)]
+pub enum TaskProgress {
+    /// It is a command that moves its data, and so many chunks are done.
+    Moving(u16),
+    /// It has its answer.
+    Ended(TaskAnswer),
+}
+
 /// How far a task has come.
 #[derive(Clone, Copy, Debug, PartialEq, Eq)]
 pub enum Phase {
     /// Submitted; the device hasn't received it.
     Queued,
     /// The device has begun it.
-    Begun(Progress),
+    Begun(TaskProgress),
     /// The answer was handed over.
-    Sent(Answer),
+    Sent(TaskAnswer),
     /// A task management ended it before its answer was handed over.
     Gone,
 }

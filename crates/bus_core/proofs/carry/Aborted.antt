@@ -11,7 +11,8 @@ use Rattle.scsi_cmd.specs.declared.Request.TheVariants.{Execute, Manage}
 use Rattle.scsi_cmd.specs.declared.Task.{Task}
 use Rattle.scsi_cmd.specs.declared.Task.TheVariants.{Abort, Reset}
 use Rattle.scsi_cmd.specs.Held.{held_under, with_held_under}
-use Rattle.device_server.specs.declared.Progress.TheVariants.{Moving, Ended}
+use Rattle.solo_model.specs.declared.TaskAnswer.TheVariants.{WithStatus, WithResponse}
+use Rattle.solo_model.specs.declared.TaskProgress.TheVariants.{Moving, Ended}
 use Rattle.solo_model.specs.declared.Phase.{Phase}
 use Rattle.solo_model.specs.declared.Phase.TheVariants.{Queued, Begun, Sent, Gone}
 use Rattle.solo_model.specs.TaggedTask.{can_go, unit_managed}
@@ -24,6 +25,7 @@ use Rattle.uas_target.specs.Fields.{is_tag}
 use Rattle.uas_target.specs.Tasks.{is_command_of, spared}
 use Rattle.uas_target.proofs.Managed.{held_under-map, held_under-spared, spared-same}
 use Rattle.uas_target.proofs.Received.{received-task}
+use Rattle.machine_invariant.specs.Matched.{IsCommandPhase}
 use Rattle.machine_invariant.specs.Ordered.{is_queued, names}
 use Rattle.bus_core.specs.Wire.{request_text}
 use Rattle.bus_core.specs.Hosts.{phase_task}
@@ -107,18 +109,20 @@ pub phase_task-foreign : (number other : ℕ) (request : Request) (phase : Phase
     → IfSome (phase_task (Some other) request phase) (λ task. is_command_of number task ≡ false)
 phase_task-foreign number other request Queued apart = tt
 phase_task-foreign number other (Execute op) (Begun (Moving chunk)) apart = ne_eqb other number apart
-phase_task-foreign number other (Execute op) (Begun (Ended answer)) apart = ne_eqb other number apart
-phase_task-foreign number other (Manage what noted) (Begun progress) apart = refl
+phase_task-foreign number other (Manage what noted) (Begun (Moving chunk)) apart = tt
+phase_task-foreign number other request (Begun (Ended (WithStatus answer))) apart = ne_eqb other number apart
+phase_task-foreign number other request (Begun (Ended (WithResponse code))) apart = refl
 phase_task-foreign number other request (Sent answer) apart = tt
 phase_task-foreign number other request Gone apart = tt
 
 -- a command to the unit is gone
-spared-own : (number : ℕ) (op : Op) (phase : Phase) → spared number (phase_task (Some number) (Execute op) phase) ≡ None
-spared-own number op Queued = refl
-spared-own number op (Begun (Moving chunk)) = rw (eq-eqb number number refl) refl
-spared-own number op (Begun (Ended answer)) = rw (eq-eqb number number refl) refl
-spared-own number op (Sent answer) = refl
-spared-own number op Gone = refl
+spared-own : (number : ℕ) (op : Op) (phase : Phase) → IsCommandPhase phase → spared number (phase_task (Some number) (Execute op) phase) ≡ None
+spared-own number op Queued answers = refl
+spared-own number op (Begun (Moving chunk)) answers = rw (eq-eqb number number refl) refl
+spared-own number op (Begun (Ended (WithStatus answer))) answers = rw (eq-eqb number number refl) refl
+spared-own number op (Begun (Ended (WithResponse code))) answers = absurd answers
+spared-own number op (Sent answer) answers = refl
+spared-own number op Gone answers = refl
 
 -- WHAT THE ENTRY SAYS
 
@@ -149,11 +153,12 @@ unreached-kept (Sent answer) noted is = refl
 unreached-kept Gone noted is = refl
 
 -- so what the device has of it is what the entry says
-pub spared-noted : (number : ℕ) (op : Op) (phase : Phase) (reached noted : Bool) → (is_queued phase ≡ false → reached ≡ true → noted ≡ true)
+pub spared-noted : (number : ℕ) (op : Op) (phase : Phase) (reached noted : Bool) → IsCommandPhase phase
+    → (is_queued phase ≡ false → reached ≡ true → noted ≡ true)
     → (reached ≡ false → noted ≡ false)
     → cond reached (spared number (phase_task (Some number) (Execute op) phase)) (phase_task (Some number) (Execute op) phase)
     ≡ phase_task (Some number) (Execute op) (phase_after noted phase)
-spared-noted number op phase true noted named unnamed =
-    spared-own number op phase ∙ sym (reached-none number op phase noted (λ received. named received refl))
-spared-noted number op phase false noted named unnamed =
+spared-noted number op phase true noted answers named unnamed =
+    spared-own number op phase answers ∙ sym (reached-none number op phase noted (λ received. named received refl))
+spared-noted number op phase false noted answers named unnamed =
     ap (λ p. phase_task (Some number) (Execute op) p) (sym (unreached-kept phase noted (unnamed refl)))

@@ -15,17 +15,16 @@ use Rattle.scsi_cmd.specs.Laws.{length-cdb_bytes}
 use Rattle.scsi_cmd.specs.Op.{cdb_bytes}
 use Rattle.scsi_cmd.specs.Work.{checked_work, reports_attention}
 use Rattle.solo_model.specs.declared.Phase.TheVariants.{Queued, Begun}
-use Rattle.solo_model.specs.Soundness.{IsSoundOp, IsSoundRequest}
-use Rattle.solo_model.specs.TaggedTask.{carried_request}
-use Rattle.device_server.specs.declared.Progress.{Progress}
-use Rattle.device_server.specs.Server.{HasChunk, begun}
+use Rattle.solo_model.specs.Soundness.{IsSoundOp, IsSoundProgress, IsSoundRequest}
+use Rattle.solo_model.specs.TaggedTask.{carried_request, command_begun}
+use Rattle.solo_model.specs.declared.TaskProgress.{TaskProgress}
+use Rattle.device_server.specs.Server.{begun}
 use Rattle.device_server.specs.Laws.{HasChunk-begun, begun-count}
 use Rattle.uas_iu.specs.Lun.{lun_text}
 use Rattle.uas_target.specs.declared.DeviceTask.{DeviceTask}
 use Rattle.uas_target.specs.declared.Took.TheVariants.{Began}
 use Rattle.uas_target.specs.Device.{Device, received, task_of}
 use Rattle.uas_target.specs.Fields.{is_tag}
-use Rattle.uas_target.specs.Tasks.{task_in}
 use Rattle.uas_target.proofs.Received.{received-command}
 use Rattle.uas_profile.specs.declared.Place.{Place}
 use Rattle.uas_profile.specs.Places.{tag_of}
@@ -52,7 +51,7 @@ use Rattle.bus_core.proofs.common.ActFits.{IsActed, IsPlaced, acted_state, acted
 pub use Rattle.bus_core.proofs.carry.CommandFront.{event-room}
 use Rattle.bus_core.proofs.carry.CommandFront.{carried_part, carried_state, carried-stepped, command-bytes, command-own, commanded-is, no-front, received-ends}
 use Rattle.bus_core.proofs.carry.CommandFront.{received-queues, received_world, tag-bounds, unit_bytes-command}
-use Rattle.bus_core.proofs.carry.DeviceSteps.{received-op}
+use Rattle.bus_core.proofs.carry.DeviceSteps.{received-op, sound-command}
 use Rattle.bus_core.proofs.common.EventTexts.{KeepsOthers}
 use Rattle.bus_core.proofs.common.CellEntries.{cell-phase}
 use Rattle.bus_core.proofs.carry.ManagedFits.{carried-now, managed-fits, managed_now, managed_world, management-received}
@@ -64,13 +63,13 @@ use Rattle.shared_machine.proofs.Standing.{held_under-with_same, held_under-with
 -- THE DEVICE RECEIVES A COMMAND
 
 -- the unit and where the command is, once the device received it
-abbrev pub begins : BlockMaps → Op → BlockMaps × Progress
-begins unit op = begun unit (reports_attention op) (checked_work op unit.count)
+abbrev pub begins : BlockMaps → Op → BlockMaps × TaskProgress
+begins unit op = command_begun (begun unit (reports_attention op) (checked_work op unit.count))
 
 -- the device once it received a command to the unit of a client
-abbrev pub received_device : Device → ℕ → ℕ → BlockMaps × Progress → Op → Device
+abbrev pub received_device : Device → ℕ → ℕ → BlockMaps × TaskProgress → Op → Device
 received_device device client tag after op =
-    record { units = slice_set device.units client after.0; tasks = with_held_under device.tasks tag (task_in (Some client) (Ok op) after.1) }
+    record { units = slice_set device.units client after.0; tasks = with_held_under device.tasks tag (begun_task (Some client) (Execute op) after.1) }
 
 pub began-op : (device : Device) (number tag : ℕ) (op : Op) (unit : BlockMaps) → slice_get device.units number ≡ Some unit → tag < 2 ^ 16
     → is_tag tag ≡ true → held_under device.tasks tag ≡ None
@@ -84,7 +83,7 @@ began-op device number tag op unit is less is_one free =
     λ i. (device_is i, began i)
 
 -- what it is after it received the command of a place
-abbrev device_after : World → Place → BlockMaps × Progress → Op → Device
+abbrev device_after : World → Place → BlockMaps × TaskProgress → Op → Device
 device_after world place after op = received_device world.device place.client (tag_of place) after op
 
 command-received : (state : Shared) (world : World) (place : Place) (entry : Entry) (op : Op) (at : IsPlaced state world place entry)
@@ -105,27 +104,27 @@ command-received state world place entry op at fits queued asks below =
 
 -- ITS CELL
 
-abbrev pub received_entry : Entry → Progress → Entry
+abbrev pub received_entry : Entry → TaskProgress → Entry
 received_entry entry progress = record entry { task = record entry.task { phase = Begun progress }; command_td = with_trb_taken entry.command_td }
 
-received-cell : (client count : ℕ) (place : Place) (entry : Entry) (cell : Cell) (op : Op) (progress : Progress) → entry.task.phase ≡ Queued
-    → entry.task.request ≡ Execute op → HasChunk count op progress → FitsCell client count place entry cell
-    → FitsCell client count place (received_entry entry progress) (record cell { task = task_in (Some client) (Ok op) progress })
+received-cell : (client count : ℕ) (place : Place) (entry : Entry) (cell : Cell) (op : Op) (progress : TaskProgress) → entry.task.phase ≡ Queued
+    → entry.task.request ≡ Execute op → IsSoundProgress count op progress → FitsCell client count place entry cell
+    → FitsCell client count place (received_entry entry progress) (record cell { task = begun_task (Some client) (Execute op) progress })
 received-cell client count place entry cell op progress queued asks chunk fits =
     let whole : IsSoundOp count entry.task op = subst (λ r. IsSoundRequest count entry.task r) asks fits.sound in
-    cell-phase client count place entry cell (Begun progress) (with_trb_taken entry.command_td) cell.held (task_in (Some client) (Ok op) progress) fits
-    (fits.held ∙ ap (λ p. Some (record (host_side entry) { told = told_by entry.task.request p entry.status_td.state })) queued)
+    cell-phase client count place entry cell (Begun progress) (with_trb_taken entry.command_td) cell.held (begun_task (Some client) (Execute op) progress) fits
+    (fits.held ∙ ap (λ p. Some (record (host_side entry) { told = told_by p entry.status_td.state })) queued)
     (ap (λ r. begun_task (Some client) r progress) (sym asks)) tt
     (subst (λ r. IsSoundRequest count (record entry.task { phase = Begun progress }) r) (sym asks) (record { whole = whole.whole; chunk = chunk }))
 
 -- THE WORLD
 
-received-others : (world : World) (place : Place) (after : BlockMaps × Progress) (op : Op)
+received-others : (world : World) (place : Place) (after : BlockMaps × TaskProgress) (op : Op)
     → KeepsOthers world (received_world world (device_after world place after op)) place
 received-others world place after op other at inside apart =
     ap (λ t. record (cell_at world (record { client = other; slot = at })) { task = t })
     (held_under-with_other world.device.tasks (tag_of place) (tag_of (record { client = other; slot = at }))
-    (task_in (Some place.client) (Ok op) after.1) apart)
+    (begun_task (Some place.client) (Execute op) after.1) apart)
 
 received-acted : (state : Shared) (world : World) (place : Place) (rest : List Place) (entry : Entry) (op : Op) (at : IsPlaced state world place entry)
     → Fits state world → state.messages ≡ place ∷ rest → entry.task.phase ≡ Queued → entry.task.request ≡ Execute op
@@ -133,7 +132,7 @@ received-acted : (state : Shared) (world : World) (place : Place) (rest : List P
     (begins at.part.unit op).0 (received_entry entry (begins at.part.unit op).1) rest (CommandDone place ∷ [])
 received-acted state world place rest entry op at fits is queued asks =
     let tag = tag-bounds state world place entry at fits in
-    let task : Option DeviceTask = task_in (Some place.client) (Ok op) (begins at.part.unit op).1 in
+    let task : Option DeviceTask = begun_task (Some place.client) (Execute op) (begins at.part.unit op).1 in
     record {
       host = refl;
       controller = refl;
@@ -147,7 +146,8 @@ received-acted state world place rest entry op at fits is queued asks =
           (record (cell_at world place) { task = t }))
           (sym (held_under-with_same world.device.tasks (tag_of place) task (omega (arith, tag.0)) (omega (arith, tag.1, fits.sound.tags))))
           (received-cell place.client at.part.unit.count place entry (cell_at world place) op (begins at.part.unit op).1 queued asks
-          (HasChunk-begun at.part.unit (reports_attention op) op) at.cell);
+          (sound-command at.part.unit.count op (begun at.part.unit (reports_attention op) (checked_work op at.part.unit.count)).1
+          (HasChunk-begun at.part.unit (reports_attention op) op)) at.cell);
       queues = received-queues state world place rest (device_after world place (begins at.part.unit op) op)
           (acted_state state place at.part (begins at.part.unit op).0 (received_entry entry (begins at.part.unit op).1) rest (CommandDone place ∷ [])).parts
           fits is;
@@ -190,7 +190,7 @@ command-at : (state : Shared) (world : World) (place : Place) (rest : List Place
     → entry.task.request ≡ request → CommandFits state world place
 command-at state world place rest entry (Execute op) at fits is standing queued here asks =
     let tag = tag-bounds state world place entry at fits in
-    let after : BlockMaps × Progress = begins at.part.unit op in
+    let after : BlockMaps × TaskProgress = begins at.part.unit op in
     command-by state
     (acted_state state place at.part (begins at.part.unit op).0 (received_entry entry (begins at.part.unit op).1) rest (CommandDone place ∷ []))
     world place rest (device_after world place (begins at.part.unit op) op) fits is tag.0 (omega (arith, tag.1))

@@ -13,9 +13,13 @@ use Rattle.scsi_cmd.specs.Meaning.{asked, checked}
 use Rattle.scsi_cmd.specs.Op.{moved_bytes, cdb_bytes}
 use Rattle.scsi_cmd.specs.Work.{checked_work, reports_attention, work_of}
 use Rattle.device_server.specs.Laws.{begun_progress, chunk_to_device, chunk_to_host}
-use Rattle.device_server.specs.Server.{begun, chunk_fits, chunk_given, unit_taken}
+use Rattle.device_server.specs.Server.{HasChunk, begun, chunk_fits, chunk_given, chunk_moved, progress_after, unit_taken}
+use Rattle.device_server.specs.declared.Answer.TheVariants.{Good, Check}
+use Rattle.device_server.specs.declared.Progress.{Progress}
+use Rattle.device_server.specs.declared.Progress.TheVariants.{Moving as MovingOn, Ended as EndedWith}
 use Rattle.solo_model.specs.declared.Phase.TheVariants.{Begun}
-use Rattle.solo_model.specs.TaggedTask.{buffer_after, chunk_brought, progress_left, unit_after}
+use Rattle.solo_model.specs.Soundness.{IsSoundProgress}
+use Rattle.solo_model.specs.TaggedTask.{buffer_after, chunk_brought, of_command, progress_left, unit_after}
 use Rattle.uas_iu.specs.Lun.{lun_text}
 use Rattle.uas_target.specs.declared.DeviceTask.TheVariants.{Moving as MovingTask}
 use Rattle.uas_target.specs.declared.Phase.TheVariants.{Gives, Takes}
@@ -25,7 +29,25 @@ use Rattle.uas_target.specs.Laws.{gives_to_host, takes_size, takes_to_device}
 use Rattle.uas_target.specs.Tasks.{task_in, begun_by, chunk_wanted}
 use Rattle.uas_target.proofs.Received.{received-command, begins_as_asked}
 use Rattle.shared_machine.specs.Part.{took_trb}
+use Rattle.bus_core.specs.Hosts.{begun_task}
 use Rattle.bus_core.specs.Wire.{request_text}
+
+-- A COMMAND'S TASK
+
+-- what the device has of a command is what its entry says
+task_in-begun : (number : Option ℕ) (op : Op) (progress : Progress) → task_in number (Ok op) progress ≡ begun_task number (Execute op) (of_command progress)
+task_in-begun number op (MovingOn chunk) = refl
+task_in-begun number op (EndedWith answer) = refl
+
+-- a chunk took a TRB where it met no bad block
+took-moved : (progress : Progress) → took_trb (Begun (of_command progress)) ≡ chunk_moved progress
+took-moved (MovingOn chunk) = refl
+took-moved (EndedWith Good) = refl
+took-moved (EndedWith (Check sense)) = refl
+
+pub sound-command : (count : ℕ) (op : Op) (progress : Progress) → HasChunk count op progress → IsSoundProgress count op (of_command progress)
+sound-command count op (MovingOn chunk) has = has
+sound-command count op (EndedWith answer) has = tt
 
 -- RECEIVED
 
@@ -57,12 +79,17 @@ pub received-op : (device : Device) (number tag : ℕ) (op : Op) (unit : BlockMa
     (received device (request_text number tag (Execute op))).0
     ≡ record {
       units = slice_set device.units number (begun unit (reports_attention op) (checked_work op unit.count)).0;
-      tasks = with_held_under device.tasks tag (task_in (Some number) (Ok op) (begun unit (reports_attention op) (checked_work op unit.count)).1);
+      tasks = with_held_under device.tasks tag
+          (begun_task (Some number) (Execute op) (of_command (begun unit (reports_attention op) (checked_work op unit.count)).1));
     }
 received-op device number tag op unit is less is_one free =
     ap (λ r. r.0) (received-command device tag (lun_text number) (cdb_bytes op) (less, refl, length-cdb_bytes op))
     ∙ rw (is_one, free) refl
     ∙ ap (with_units_and_task device tag) (executed-op device.units number op unit is)
+    ∙ ap (λ task. record {
+      units = slice_set device.units number (begun unit (reports_attention op) (checked_work op unit.count)).0;
+      tasks = with_held_under device.tasks tag task;
+    }) (task_in-begun (Some number) op (begun unit (reports_attention op) (checked_work op unit.count)).1)
 
 -- DATA
 
@@ -74,8 +101,9 @@ wanted-moving device number tag chunk op is = rw is refl
 pub gave-moving : (device : Device) (number tag chunk : ℕ) (op : Op) (unit : BlockMaps)
     → held_under device.tasks tag ≡ Some (MovingTask (Some number) op chunk) →
     slice_get device.units number ≡ Some unit →
-    gave device tag ≡ record { units = device.units; tasks = with_held_under device.tasks tag (task_in (Some number) (Ok op) (progress_left unit chunk op)) }
-gave-moving device number tag chunk op unit is there = rw (is, there) refl
+    gave device tag ≡ record { units = device.units; tasks = with_held_under device.tasks tag (begun_task (Some number) (Execute op) (progress_left unit chunk op)) }
+gave-moving device number tag chunk op unit is there =
+    rw (is, there, ← (task_in-begun (Some number) op (progress_after unit chunk (work_of op unit.count)))) refl
 
 pub given-moving : (device : Device) (number tag chunk : ℕ) (op : Op) (unit : BlockMaps)
     → held_under device.tasks tag ≡ Some (MovingTask (Some number) op chunk) →
@@ -87,9 +115,10 @@ pub took-moving : (device : Device) (number tag chunk : ℕ) (op : Op) (unit : B
     took device tag bytes
     ≡ record {
       units = slice_set device.units number (unit_taken unit bytes chunk (work_of op unit.count));
-      tasks = with_held_under device.tasks tag (task_in (Some number) (Ok op) (progress_left unit chunk op));
+      tasks = with_held_under device.tasks tag (begun_task (Some number) (Execute op) (progress_left unit chunk op));
     }
-took-moving device number tag chunk op unit bytes is there = rw (is, there) refl
+took-moving device number tag chunk op unit bytes is there =
+    rw (is, there, ← (task_in-begun (Some number) op (progress_after unit chunk (work_of op unit.count)))) refl
 
 pub fits-moving : (device : Device) (number tag chunk : ℕ) (op : Op) (unit : BlockMaps)
     → held_under device.tasks tag ≡ Some (MovingTask (Some number) op chunk) →
@@ -107,7 +136,7 @@ pub given_chunk : (unit : BlockMaps) (buffer : List ℕ) (chunk size : ℕ) (op 
     IsGiven unit buffer chunk op
 given_chunk unit buffer chunk size op wants less =
     let gives = chunk_to_host unit chunk (work_of op unit.count) (gives_to_host op chunk size unit.count wants less) in
-    record { unit_same = gives.unit_same (chunk_brought buffer chunk op); taken = gives.moved }
+    record { unit_same = gives.unit_same (chunk_brought buffer chunk op); taken = took-moved (progress_after unit chunk (work_of op unit.count)) ∙ gives.moved }
 
 -- a command whose chunk the device takes: the buffer stays, and its bytes at the chunk's place are written
 pub record IsTaken (unit : BlockMaps) (buffer : List ℕ) (chunk size : ℕ) (op : Op) : Type 0 where
@@ -121,6 +150,6 @@ taken_chunk unit buffer chunk size op wants less =
     let takes = chunk_to_device unit chunk (work_of op unit.count) (takes_to_device op chunk size unit.count wants less) in
     record {
       unit_is = ap (λ n. unit_taken unit (bytes_from buffer (CHUNK_BYTES * chunk) n) chunk (work_of op unit.count)) (takes_size op chunk size wants);
-      taken = takes.moved;
+      taken = took-moved (progress_after unit chunk (work_of op unit.count)) ∙ takes.moved;
       bytes = ap (λ given. option_map_or (λ bytes. with_bytes_at buffer (CHUNK_BYTES * chunk) bytes) given buffer) takes.none;
     }

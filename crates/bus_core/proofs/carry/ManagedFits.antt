@@ -19,8 +19,9 @@ use Rattle.scsi_cmd.specs.declared.Request.TheVariants.{Execute, Manage}
 use Rattle.scsi_cmd.specs.declared.Task.{Task}
 use Rattle.uas_profile.specs.declared.TheConstants.{TAGS, TASK_SLOT}
 use Rattle.scsi_cmd.specs.Held.{held_at}
-use Rattle.device_server.specs.declared.Answer.TheVariants.{Good}
-use Rattle.device_server.specs.declared.Progress.TheVariants.{Ended}
+use Rattle.solo_model.specs.declared.ResponseCode.TheVariants.{Complete}
+use Rattle.solo_model.specs.declared.TaskAnswer.TheVariants.{WithResponse}
+use Rattle.solo_model.specs.declared.TaskProgress.TheVariants.{Ended}
 use Rattle.solo_model.specs.declared.Phase.{Phase}
 use Rattle.solo_model.specs.declared.Phase.TheVariants.{Queued, Begun, Sent, Gone}
 use Rattle.solo_model.specs.Soundness.{IsSoundOp, IsSoundRequest}
@@ -41,7 +42,7 @@ use Rattle.machine_invariant.specs.Ordered.{names}
 use Rattle.bus_core.specs.Hosts.{device_task, phase_task}
 use Rattle.shared_machine.specs.Part.{Part, entries_after, noted_entry}
 use Rattle.shared_machine.specs.Shared.{Shared}
-use Rattle.machine_invariant.specs.Matched.{held_in, IsMatched, IsMatchedAt, IsRequestIn, under}
+use Rattle.machine_invariant.specs.Matched.{held_in, IsMatched, IsMatchedAt, IsPhaseOf, IsRequestIn, under}
 use Rattle.bus_core.specs.World.{World, Cell, cell_at}
 use Rattle.bus_core.specs.Cells.{FitsCell, FitsHeld, HasUnitIn, host_side, IsEmptyCell, told_by}
 use Rattle.bus_core.specs.Fits.{AreUnused, Fits, FitsPart, IsSoundWorld, place_in, unit_bytes}
@@ -58,11 +59,11 @@ use Rattle.shared_machine.proofs.Standing.{held_under-with_same, held_under-with
 -- THE CELL OF A COMMAND
 
 -- the host was told nothing of what can still be ended
-untold : (request : Request) (phase : Phase) (state : TdState) → can_go phase ≡ true → told_by request phase state ≡ Unanswered
-untold request Queued state can = refl
-untold request (Begun progress) state can = refl
-untold request (Sent answer) state can = let no : false ≡ true = can in let it : ⊥ = cc in absurd it
-untold request Gone state can = let no : false ≡ true = can in let it : ⊥ = cc in absurd it
+untold : (phase : Phase) (state : TdState) → can_go phase ≡ true → told_by phase state ≡ Unanswered
+untold Queued state can = refl
+untold (Begun progress) state can = refl
+untold (Sent answer) state can = let no : false ≡ true = can in let it : ⊥ = cc in absurd it
+untold Gone state can = let no : false ≡ true = can in let it : ⊥ = cc in absurd it
 
 -- a command that is gone: the device has nothing of it any more
 gone-cell : (client count : ℕ) (place : Place) (entry : Entry) (cell : Cell) (op : Op) → entry.task.request ≡ Execute op → can_go entry.task.phase ≡ true
@@ -71,7 +72,7 @@ gone-cell : (client count : ℕ) (place : Place) (entry : Entry) (cell : Cell) (
 gone-cell client count place entry cell op asks can fits =
     let whole : IsSoundOp count entry.task op = subst (λ r. IsSoundRequest count entry.task r) asks fits.sound in
     cell-phase client count place entry cell Gone entry.command_td cell.held None fits
-    (fits.held ∙ ap (λ told. Some (record (host_side entry) { told = told })) (untold entry.task.request entry.task.phase entry.status_td.state can)) refl tt
+    (fits.held ∙ ap (λ told. Some (record (host_side entry) { told = told })) (untold entry.task.phase entry.status_td.state can)) refl tt
     (subst (λ r. IsSoundRequest count (record entry.task { phase = Gone }) r) (sym asks) (record { whole = whole.whole; chunk = tt }))
 
 -- one of which the device has as much as before
@@ -110,16 +111,16 @@ command-cell client count place entry cell op task noted asks is fits =
 -- it is done with as it is received
 abbrev pub answered_entry : Entry → Entry
 answered_entry entry =
-    record entry { task = record entry.task { phase = Begun (Ended Good) }; command_td = with_trb_taken entry.command_td }
+    record entry { task = record entry.task { phase = Begun (Ended (WithResponse Complete)) }; command_td = with_trb_taken entry.command_td }
 
 management-cell : (client count : ℕ) (place : Place) (entry : Entry) (cell : Cell) (what : Task) (noted : ArrayVec ℕ) → entry.task.phase ≡ Queued
     → entry.task.request ≡ Manage what noted → FitsCell client count place entry cell
     → FitsCell client count place (answered_entry entry) (record cell { task = Some (EndedTask None (Response 0)) })
 management-cell client count place entry cell what noted queued asks fits =
-    cell-phase client count place entry cell (Begun (Ended Good)) (with_trb_taken entry.command_td) cell.held (Some (EndedTask None (Response 0))) fits
-    (fits.held ∙ ap (λ p. Some (record (host_side entry) { told = told_by entry.task.request p entry.status_td.state })) queued)
-    (ap (λ r. phase_task (Some client) r (Begun (Ended Good))) (sym asks)) tt
-    (subst (λ r. IsSoundRequest count (record entry.task { phase = Begun (Ended Good) }) r) (sym asks) tt)
+    cell-phase client count place entry cell (Begun (Ended (WithResponse Complete))) (with_trb_taken entry.command_td) cell.held (Some (EndedTask None (Response 0))) fits
+    (fits.held ∙ ap (λ p. Some (record (host_side entry) { told = told_by p entry.status_td.state })) queued)
+    (ap (λ r. phase_task (Some client) r (Begun (Ended (WithResponse Complete)))) (sym asks)) tt
+    (subst (λ r. IsSoundRequest count (record entry.task { phase = Begun (Ended (WithResponse Complete)) }) r) (sym asks) tt)
 
 -- THE DEVICE'S TASKS
 
@@ -164,11 +165,11 @@ asks_op slot (Manage what noted) asks below = absurd (omega (arith, asks, below)
 
 slot-cell : (state : Shared) (world : World) (place : Place) (unit : BlockMaps) (what : Task) (noted : ArrayVec ℕ) (count at : ℕ) (entry : Entry)
     → at < TASK_SLOT → place.slot ≡ TASK_SLOT → tag_of (place_in place.client at) ≤ length world.device.tasks
-    → IsNotedAsReceived place.client at what noted entry → IsRequestIn at entry.task.request
+    → IsNotedAsReceived place.client at what noted entry → IsRequestIn at entry.task.request → IsPhaseOf entry.task.request entry.task.phase
     → FitsCell place.client count (place_in place.client at) entry (cell_at world (place_in place.client at))
     → FitsCell place.client count (place_in place.client at) (noted_entry noted.items entry)
     (cell_at (managed_world world place unit what) (place_in place.client at))
-slot-cell state world place unit what noted count at entry below last most knows asks fits =
+slot-cell state world place unit what noted count at entry below last most knows asks answers fits =
     let tag : ℕ = tag_of (place_in place.client at) in
     let op = asks_op at entry.task.request asks below in
     let named : names place.client at what ≡ reaches what (tag_of (place_in place.client at)) = reaches-named place.client at what in
@@ -179,6 +180,7 @@ slot-cell state world place unit what noted count at entry below last most knows
     ∙ done-task world.device place.client unit what (tag_of (place_in place.client at)) (omega arith) most
     ∙ ap (λ t. cond (reaches what (tag_of (place_in place.client at))) (spared place.client t) t) was
     ∙ spared-noted place.client op.0 entry.task.phase (reaches what (tag_of (place_in place.client at))) (is_noted noted.items entry.task.ticket)
+    (subst (λ r. IsPhaseOf r entry.task.phase) op.1 answers)
     (λ received reached. knows.named received (named ∙ reached)) (λ unreached. knows.unnamed (named ∙ unreached)) in
     command-cell place.client count (place_in place.client at) entry (cell_at world (place_in place.client at)) op.0
     (task_of (managed_world world place unit what).device (tag_of (place_in place.client at))) noted.items op.1 task_is fits
@@ -212,7 +214,7 @@ slot-fits state world place unit what noted count at None below last most knows 
 slot-fits state world place unit what noted count at (Some entry) below last most knows all is fits =
     let matched : IsMatchedAt state (place_in place.client at) (Some entry) =
     subst (λ h. IsMatchedAt state (place_in place.client at) h) is (all.places (place_in place.client at)) in
-    slot-cell state world place unit what noted count at entry below last most (knows at entry below is) matched.sound.asks fits
+    slot-cell state world place unit what noted count at entry below last most (knows at entry below is) matched.sound.asks matched.sound.answers fits
 
 -- ITS PART
 

@@ -9,13 +9,16 @@ use Rattle.scsi_cmd.specs.declared.Op.{Op}
 use Rattle.scsi_cmd.specs.declared.Request.{Request}
 use Rattle.scsi_cmd.specs.declared.Request.TheVariants.{Execute, Manage}
 use Rattle.scsi_cmd.specs.Op.{moved_bytes, direction_of}
-use Rattle.device_server.specs.declared.Progress.TheVariants.{Moving}
+use Rattle.solo_model.specs.declared.TaskProgress.TheVariants.{Moving}
 use Rattle.device_server.specs.Laws.{HasChunk-after}
-use Rattle.device_server.specs.Server.{chunk_moved}
+use Rattle.device_server.specs.Server.{progress_after}
 use Rattle.solo_model.specs.declared.Phase.TheVariants.{Begun}
 use Rattle.solo_model.specs.Soundness.{IsSound, IsSoundOp, IsSoundPhase, IsSoundRequest}
+use Rattle.scsi_cmd.specs.Work.{work_of}
 use Rattle.solo_model.specs.TaggedTask.{buffer_after, progress_left}
-use Rattle.uas_target.specs.Tasks.{task_in}
+use Rattle.shared_machine.specs.Part.{took_trb}
+use Rattle.bus_core.specs.Hosts.{begun_task}
+use Rattle.bus_core.proofs.carry.DeviceSteps.{sound-command}
 use Rattle.uas_profile.specs.declared.Place.{Place}
 use Rattle.uas_profile.specs.declared.TdState.TheVariants.{Pending}
 use Rattle.uas_host.specs.declared.HostAnswer.TheVariants.{Unanswered}
@@ -82,14 +85,14 @@ td_after took chunk = if took then with_trb_taken (moving_td chunk) else moving_
 abbrev pub chunk_entry : BlockMaps → Entry → Op → ℕ → Entry
 chunk_entry unit entry op chunk = record entry {
   task = record entry.task { request = Execute op; buffer = buffer_after unit entry.task.buffer chunk op; phase = Begun (progress_left unit chunk op) };
-  data_td = Some (td_after (chunk_moved (progress_left unit chunk op)) chunk);
+  data_td = Some (td_after (took_trb (Begun (progress_left unit chunk op))) chunk);
 }
 
 -- the cell after a chunk, but for its data rings
 abbrev pub chunk_cell : ℕ → BlockMaps → Entry → Op → ℕ → Cell → Cell → Cell
 chunk_cell client unit entry op chunk was now = record {
   held = was.held;
-  task = task_in (Some client) (Ok op) (progress_left unit chunk op);
+  task = begun_task (Some client) (Execute op) (progress_left unit chunk op);
   status = was.status;
   data_in = now.data_in;
   data_out = now.data_out;
@@ -103,9 +106,9 @@ state-after false chunk = refl
 pub fits-chunk : (client : ℕ) (place : Place) (unit : BlockMaps) (entry : Entry) (op : Op) (chunk : ℕ) (was now : Cell)
     → FitsCell client unit.count place (moving_entry entry op chunk) was → now ≡ chunk_cell client unit entry op chunk was now
     → HoldsData now.data_in (data_td (tag_of place) (moved_bytes op))
-    (data_in_td (direction_of op) (Some (td_after (chunk_moved (progress_left unit chunk op)) chunk)))
+    (data_in_td (direction_of op) (Some (td_after (took_trb (Begun (progress_left unit chunk op))) chunk)))
     → HoldsData now.data_out (data_td (tag_of place) (moved_bytes op))
-    (data_out_td (direction_of op) (Some (td_after (chunk_moved (progress_left unit chunk op)) chunk)))
+    (data_out_td (direction_of op) (Some (td_after (took_trb (Begun (progress_left unit chunk op))) chunk)))
     → length (buffer_after unit entry.task.buffer chunk op) ≡ length entry.task.buffer
     → FitsCell client unit.count place (chunk_entry unit entry op chunk) now
 fits-chunk client place unit entry op chunk was now fits is data_in data_out long = record {
@@ -115,7 +118,7 @@ fits-chunk client place unit entry op chunk was now fits is data_in data_out lon
     told = Unanswered;
     command_td = entry.command_td.state;
     status_td = entry.status_td.state;
-    data_td = Some (sym (state-after (chunk_moved (progress_left unit chunk op)) chunk) i);
+    data_td = Some (sym (state-after (took_trb (Begun (progress_left unit chunk op))) chunk) i);
   }));
   task = ap (λ (c : Cell). c.task) is;
   status = subst (λ (r : Ring). HoldsTd r (status_td (tag_of place)) entry.status_td) (sym (ap (λ (c : Cell). c.status) is)) fits.status;
@@ -125,5 +128,5 @@ fits-chunk client place unit entry op chunk was now fits is data_in data_out lon
   bytes = tt;
   unit = ap (λ (c : Cell). c.buffers.command) is ∙ fits.unit;
   answer = tt;
-  sound = record { whole = long ∙ fits.sound.whole; chunk = HasChunk-after unit chunk op unit.count fits.sound.chunk.1 };
+  sound = record { whole = long ∙ fits.sound.whole; chunk = sound-command unit.count op (progress_after unit chunk (work_of op unit.count)) (HasChunk-after unit chunk op unit.count fits.sound.chunk.1) };
 }

@@ -34,7 +34,7 @@ use Rattle.bus_core.proofs.chunks.ChunkWindows.{chunk-written}
 use Rattle.bus_core.proofs.chunks.ChunkEntries.{moving_td, td_after}
 use Rattle.bus_core.proofs.common.CellWrites.{stream_ring-other, stream_ring-same}
 use Rattle.bus_core.proofs.common.Framing.{EndsAlike}
-use Rattle.machine_invariant.proofs.MatchedEntries.{data_event_if}
+use Rattle.machine_invariant.proofs.MatchedTasks.{data_event_if}
 
 -- RINGS
 

@@ -14,8 +14,9 @@ use Rattle.scsi_cmd.specs.Held.{held_at}
 use Rattle.scsi_cmd.specs.Op.{moved_bytes, direction_of}
 use Rattle.scsi_cmd.specs.declared.Request.{Request}
 use Rattle.scsi_cmd.specs.declared.Request.TheVariants.{Execute, Manage}
-use Rattle.device_server.specs.declared.Answer.{Answer}
-use Rattle.device_server.specs.declared.Progress.TheVariants.{Moving, Ended}
+use Rattle.solo_model.specs.declared.TaskAnswer.{TaskAnswer}
+use Rattle.solo_model.specs.declared.TaskAnswer.TheVariants.{WithStatus, WithResponse}
+use Rattle.solo_model.specs.declared.TaskProgress.TheVariants.{Moving, Ended}
 use Rattle.solo_model.specs.declared.Phase.{Phase}
 use Rattle.solo_model.specs.declared.Phase.TheVariants.{Queued, Begun, Sent, Gone}
 use Rattle.uas_target.specs.declared.DeviceTask.{DeviceTask}
@@ -43,7 +44,8 @@ use Rattle.bus_core.specs.Cells.{HoldsTrbs}
 use Rattle.bus_core.specs.Fits.{Fits}
 use Rattle.bus_core.specs.WorldSteps.{DataFit, DataFits, DataIsIdle}
 use Rattle.bus_core.specs.WorldDue.{DataAreDue, data_due_by}
-use Rattle.machine_invariant.proofs.MatchedSteps.{IsDueAt, IsMovingBy, moving_phase, place_fact-due}
+use Rattle.machine_invariant.proofs.MatchedSteps.{IsDueAt, place_fact-due}
+use Rattle.machine_invariant.proofs.MatchedMoves.{IsMovingBy, moving_phase}
 use Rattle.bus_core.proofs.common.ActFits.{IsPlaced, by-tag, place_of-tag, placed}
 use Rattle.bus_core.proofs.chunks.ChunkEntries.{moving_entry}
 use Rattle.bus_core.proofs.chunks.DataSteps.{IsChunkAt, chunk-at, chunk_size, has_stream-tag, pending-td}
@@ -136,9 +138,9 @@ told-still state world place entry phase is still told =
     (sym still) told)
 
 -- what has ended wants to tell its answer
-ended-wants : (unit : Option ℕ) (request : Request) (answer : Answer) → wants_by (begun_task unit request (Ended answer)) ≡ Ends
-ended-wants unit (Execute op) answer = refl
-ended-wants unit (Manage what noted) answer = refl
+ended-wants : (unit : Option ℕ) (request : Request) (answer : TaskAnswer) → wants_by (begun_task unit request (Ended answer)) ≡ Ends
+ended-wants unit request (WithStatus answer) = refl
+ended-wants unit request (WithResponse code) = refl
 
 told-phase : (state : Shared) (world : World) (place : Place) (entry : Entry) (phase : Phase) → entry.task.phase ≡ phase → IsPlaced state world place entry
     → Fits state world → IsToldOf state world place entry

@@ -19,7 +19,7 @@ use Rattle.frame_store.specs.declared.TagBuffers.{TagBuffers}
 use Rattle.frame_store.specs.Buffers.{bytes_at, written}
 use Rattle.scsi_cmd.specs.Laws.{length-with_bytes_at}
 use Rattle.scsi_cmd.specs.Work.{work_of}
-use Rattle.device_server.specs.Server.{chunk_given, chunk_moved}
+use Rattle.device_server.specs.Server.{chunk_given}
 use Rattle.scsi_cmd.specs.Buffers.{with_bytes_at}
 use Rattle.uas_profile.specs.declared.Direction.{Direction}
 use Rattle.uas_profile.specs.declared.Direction.TheVariants.{Nothing, ToHost, ToDevice}
@@ -28,7 +28,7 @@ use Rattle.scsi_cmd.specs.Held.{with_held_under}
 use Rattle.scsi_cmd.specs.Op.{moved_bytes, direction_of}
 use Rattle.solo_model.specs.TaggedTask.{buffer_after, progress_left, unit_after}
 use Rattle.uas_target.specs.Device.{Device, fits as chunk_is_fit, gave, given, took, wanted}
-use Rattle.uas_target.specs.Tasks.{task_in, wanted_way}
+use Rattle.uas_target.specs.Tasks.{wanted_way}
 use Rattle.uas_profile.specs.declared.Place.{Place}
 use Rattle.uas_host.specs.Seen.{goes_to_device, goes_to_host}
 use Rattle.uas_profile.specs.Places.{place_of, tag_of}
@@ -41,7 +41,10 @@ use Rattle.uas_profile.specs.PipeStates.{is_open}
 use Rattle.xhci_ctl.specs.Pipes.{has_pending, is_open_on}
 use Rattle.xhci_ctl.specs.Steps.{Front, Sides, after_chunk, armed_front, endpoint_of, gave_at, moved, moved_by, on_front, took_at}
 use Rattle.shared_machine.specs.declared.Step.TheVariants.{Data}
-use Rattle.shared_machine.specs.Part.{Part, is_last_trb}
+use Rattle.shared_machine.specs.Part.{Part, is_last_trb, took_trb}
+use Rattle.scsi_cmd.specs.declared.Request.TheVariants.{Execute}
+use Rattle.solo_model.specs.declared.Phase.TheVariants.{Begun}
+use Rattle.bus_core.specs.Hosts.{begun_task}
 use Rattle.shared_machine.specs.Shared.{Shared, due, is_data_open, shared_step}
 use Rattle.bus_core.specs.World.{World, sides_in, with_sides}
 use Rattle.bus_core.specs.Cells.{HoldsData, HoldsTrbs, data_in_td, data_out_td}
@@ -56,7 +59,7 @@ use Rattle.bus_core.proofs.chunks.ChunkLines.{TakesTrb, WritesLent, chunk_events
 use Rattle.bus_core.proofs.chunks.ChunkLines.{lent-kept, pipe_of, rings_of, takes-on, texts-in, texts-out}
 use Rattle.bus_core.proofs.chunks.DataWorlds.{MovesChunk}
 use Rattle.bus_core.proofs.carry.CommandFits.{event-room}
-use Rattle.machine_invariant.proofs.MatchedEntries.{data_event_if}
+use Rattle.machine_invariant.proofs.MatchedTasks.{data_event_if}
 use Rattle.bus_core.proofs.chunks.DataSteps.{IsChunkAt, IsInLent, armed-front, chunk_size, fits-after, has_stream-tag, in-lent, own-data_trb, pending-td, step-front}
 
 -- A CHUNK ON EITHER PIPE
@@ -69,7 +72,7 @@ front_on world pipe place op chunk =
 -- what is posted after the chunk
 abbrev events_on : World → Pipe → Place → BlockMaps → Op → ℕ → List Event
 events_on world pipe place unit op chunk =
-    chunk_events (chunk_moved (progress_left unit chunk op)) (not (chunk + 1 == data_trb_count (moved_bytes op)))
+    chunk_events (took_trb (Begun (progress_left unit chunk op))) (not (chunk + 1 == data_trb_count (moved_bytes op)))
     (Transfer (pointer_of STREAM_RING_PLACES (ring_of world.lines pipe (tag_of place)) chunk) 0 SUCCESS (endpoint_of pipe) SLOT)
 
 front-of : {state : Shared} {world : World} {place : Place} {part : Part} (at : IsChunkAt state world place part) (ring : Ring)
@@ -185,12 +188,12 @@ chunk_frames ToDevice world place unit op chunk = world.frames
 abbrev chunk_device : World → Place → BlockMaps → List ℕ → Op → ℕ → Device
 chunk_device world place unit buffer op chunk = record {
   units = slice_set world.device.units place.client (unit_after unit buffer chunk op);
-  tasks = with_held_under world.device.tasks (tag_of place) (task_in (Some place.client) (Ok op) (progress_left unit chunk op));
+  tasks = with_held_under world.device.tasks (tag_of place) (begun_task (Some place.client) (Execute op) (progress_left unit chunk op));
 }
 
 abbrev chunk_world : Direction → World → Place → BlockMaps → List ℕ → Op → ℕ → World
 chunk_world way world place unit buffer op chunk = record world {
-  lines = after_chunk (chunk_moved (progress_left unit chunk op)) world.lines (pipe_of way) (tag_of place) (front_on world (pipe_of way) place op chunk);
+  lines = after_chunk (took_trb (Begun (progress_left unit chunk op))) world.lines (pipe_of way) (tag_of place) (front_on world (pipe_of way) place op chunk);
   frames = chunk_frames way world place unit op chunk;
   device = chunk_device world place unit buffer op chunk;
 }
@@ -202,7 +205,7 @@ gave-device {state} {world} {place} {part} at way =
     gave-moving world.device place.client (tag_of place) at.chunk at.op part.unit (in-lent at).task at.found.unit_is
     ∙ ap (λ units. record {
       units = units;
-      tasks = with_held_under world.device.tasks (tag_of place) (task_in (Some place.client) (Ok at.op) (progress_left part.unit at.chunk at.op));
+      tasks = with_held_under world.device.tasks (tag_of place) (begun_task (Some place.client) (Execute at.op) (progress_left part.unit at.chunk at.op));
     })
     (sym (ap (slice_set world.device.units place.client) (given-is at way).unit_same
     ∙ slice_get-back world.device.units place.client part.unit at.found.unit_is))
@@ -220,7 +223,7 @@ took-device {state} {world} {place} {part} at fits way =
     ∙ took-moving world.device place.client (tag_of place) at.chunk at.op part.unit _ lent.task at.found.unit_is
     ∙ ap (λ u. record {
       units = slice_set world.device.units place.client u;
-      tasks = with_held_under world.device.tasks (tag_of place) (task_in (Some place.client) (Ok at.op) (progress_left part.unit at.chunk at.op));
+      tasks = with_held_under world.device.tasks (tag_of place) (begun_task (Some place.client) (Execute at.op) (progress_left part.unit at.chunk at.op));
     }) (sym (taken-is at way).unit_is)
 
 world-on : {state : Shared} {world : World} {place : Place} {part : Part} (at : IsChunkAt state world place part) (way : Direction) → Fits state world
@@ -231,7 +234,7 @@ world-on at Nothing fits is rung = absurd (false≢true rung)
 world-on {state} {world} {place} {part} at ToHost fits is rung =
     let bytes_is : given world.device (tag_of place) ≡ chunk_given part.unit at.chunk (work_of at.op part.unit.count) =
     given-moving world.device place.client (tag_of place) at.chunk at.op part.unit (in-lent at).task at.found.unit_is in
-    let took_is : is_some (given world.device (tag_of place)) ≡ chunk_moved (progress_left part.unit at.chunk at.op) =
+    let took_is : is_some (given world.device (tag_of place)) ≡ took_trb (Begun (progress_left part.unit at.chunk at.op)) =
     ap is_some bytes_is ∙ sym (given-is at is).taken in
     let device_is = gave-device at is in
     λ i. record world {
@@ -241,7 +244,7 @@ world-on {state} {world} {place} {part} at ToHost fits is rung =
       device = device_is i;
     }
 world-on {state} {world} {place} {part} at ToDevice fits is rung =
-    let took_is : chunk_is_fit world.device (tag_of place) ≡ chunk_moved (progress_left part.unit at.chunk at.op) =
+    let took_is : chunk_is_fit world.device (tag_of place) ≡ took_trb (Begun (progress_left part.unit at.chunk at.op)) =
     fits-moving world.device place.client (tag_of place) at.chunk at.op part.unit (in-lent at).task at.found.unit_is ∙ sym (taken-is at is).taken in
     let device_is = took-device at fits is in
     λ i. record world {
@@ -253,10 +256,10 @@ world-on {state} {world} {place} {part} at ToDevice fits is rung =
 lines-on : {state : Shared} {world : World} {place : Place} {part : Part} (at : IsChunkAt state world place part) (way : Direction) → Fits state world
     → is_data_open state (tag_of place) way ≡ true
     → TakesTrb world.lines (chunk_world way world place part.unit at.entry.task.buffer at.op at.chunk).lines way (tag_of place)
-    (chunk_moved (progress_left part.unit at.chunk at.op)) (events_on world (pipe_of way) place part.unit at.op at.chunk)
+    (took_trb (Begun (progress_left part.unit at.chunk at.op))) (events_on world (pipe_of way) place part.unit at.op at.chunk)
 lines-on {state} {world} {place} {part} at way fits rung =
     takes-on world.lines way (tag_of place) (pointer_of STREAM_RING_PLACES (ring_of world.lines (pipe_of way) (tag_of place)) at.chunk)
-    (window_of (tag_of place) + CHUNK_BYTES * at.chunk) (chunk_size at.op at.chunk) (chunk_moved (progress_left part.unit at.chunk at.op))
+    (window_of (tag_of place) + CHUNK_BYTES * at.chunk) (chunk_size at.op at.chunk) (took_trb (Begun (progress_left part.unit at.chunk at.op)))
     (not (at.chunk + 1 == data_trb_count (moved_bytes at.op))) (omega arith) (within way rung)
   where
     within : (d : Direction) → is_data_open state (tag_of place) d ≡ true → tag_of place ≤ length (rings_of d world.lines)
@@ -297,7 +300,7 @@ moves-on : {state : Shared} {world : World} {place : Place} {part : Part} (at : 
     → direction_of at.op ≡ way
     → is_data_open state (tag_of place) way ≡ true
     → MovesChunk world (chunk_world way world place part.unit at.entry.task.buffer at.op at.chunk) place
-    (unit_after part.unit at.entry.task.buffer at.chunk at.op) (task_in (Some place.client) (Ok at.op) (progress_left part.unit at.chunk at.op))
+    (unit_after part.unit at.entry.task.buffer at.chunk at.op) (begun_task (Some place.client) (Execute at.op) (progress_left part.unit at.chunk at.op))
     (buffer_after part.unit at.entry.task.buffer at.chunk at.op) (events_on world (pipe_of way) place part.unit at.op at.chunk)
 moves-on {state} {world} {place} {part} at way fits is rung =
     let lines = lines-on at way fits rung in
@@ -324,19 +327,19 @@ texts-on : {state : Shared} {world : World} {place : Place} {part : Part} (at : 
     → Fits state world → direction_of at.op ≡ way
     → is_data_open state (tag_of place) way ≡ true
     → let after : World = chunk_world way world place part.unit at.entry.task.buffer at.op at.chunk in
-    let took : Bool = chunk_moved (progress_left part.unit at.chunk at.op) in
+    let took : Bool = took_trb (Begun (progress_left part.unit at.chunk at.op)) in
     event_texts after k (data_event_if (is_last_trb took (data_trb_count (moved_bytes at.op)) (Some (moving_td at.chunk))) place)
     ≡ events_on world (pipe_of way) place part.unit at.op at.chunk
 texts-on at Nothing k fits is rung = absurd (false≢true rung)
 texts-on {state} {world} {place} {part} at ToHost k fits is rung =
     texts-in (chunk_world ToHost world place part.unit at.entry.task.buffer at.op at.chunk) place k (moved_bytes at.op) at.chunk
-    (chunk_moved (progress_left part.unit at.chunk at.op)) (stream_ring world.lines.data_in (tag_of place)) (rings-on at ToHost is).0.0
+    (took_trb (Begun (progress_left part.unit at.chunk at.op))) (stream_ring world.lines.data_in (tag_of place)) (rings-on at ToHost is).0.0
     (lines-on at ToHost fits rung).data_in.here
 texts-on {state} {world} {place} {part} at ToDevice k fits is rung =
     let rings = rings-on at ToDevice is in
     let lines = lines-on at ToDevice fits rung in
     texts-out (chunk_world ToDevice world place part.unit at.entry.task.buffer at.op at.chunk) place k (moved_bytes at.op) at.chunk
-    (chunk_moved (progress_left part.unit at.chunk at.op)) (stream_ring world.lines.data_out (tag_of place)) rings.1.0
+    (took_trb (Begun (progress_left part.unit at.chunk at.op))) (stream_ring world.lines.data_out (tag_of place)) rings.1.0
     (ap (λ (r : Ring). r.put) lines.data_in.here ∙ rings.0.0) lines.data_out.here
 
 acted-on : (way : Direction) (state : Shared) (world : World) (place : Place) (op : Op) (chunk : ℕ) → is_data_open state (tag_of place) way ≡ true
@@ -351,7 +354,7 @@ pub chunk-fits : {state : Shared} {world : World} {place : Place} {part : Part} 
     → due state (Data (tag_of place)) ≡ true → DataFits state world (tag_of place)
 chunk-fits {state} {world} {place} {part} at fits rung named is_due =
     let way : Direction = direction_of at.op in
-    let took : Bool = chunk_moved (progress_left part.unit at.chunk at.op) in
+    let took : Bool = took_trb (Begun (progress_left part.unit at.chunk at.op)) in
     let after : World = chunk_world way world place part.unit at.entry.task.buffer at.op at.chunk in
     let lines = lines-on at way fits rung in
     let rings = rings-on at way refl in

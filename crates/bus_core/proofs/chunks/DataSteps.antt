@@ -17,14 +17,13 @@ use Rattle.scsi_cmd.specs.declared.Op.{Op}
 use Rattle.uas_profile.specs.declared.TheConstants.{TAGS, GREATEST_TAG, STREAMS, CHUNK_BYTES}
 use Rattle.scsi_cmd.specs.Held.{held_at, held_under}
 use Rattle.scsi_cmd.specs.Op.{moved_bytes, direction_of}
-use Rattle.device_server.specs.declared.Progress.TheVariants.{Moving}
+use Rattle.solo_model.specs.declared.TaskProgress.TheVariants.{Moving}
 use Rattle.device_server.specs.Laws.{unit_taken-count}
-use Rattle.device_server.specs.Server.{chunk_bytes, chunk_moved}
+use Rattle.device_server.specs.Server.{chunk_bytes}
 use Rattle.solo_model.specs.declared.Phase.TheVariants.{Begun}
 use Rattle.solo_model.specs.TaggedTask.{buffer_after, chunk_brought, progress_left, unit_after}
 use Rattle.scsi_cmd.specs.Work.{work_of}
 use Rattle.uas_target.specs.declared.DeviceTask.TheVariants.{Moving as MovingTask}
-use Rattle.uas_target.specs.Tasks.{task_in}
 use Rattle.uas_profile.specs.declared.Place.{Place}
 use Rattle.uas_profile.specs.Places.{place_of, tag_of}
 use Rattle.uas_host.specs.Tds.{data_td, data_trb, data_trb_count, window_of}
@@ -35,13 +34,15 @@ use Rattle.xhci_ctl.specs.Pipes.{ControllerState, has_pending, is_armed}
 use Rattle.xhci_ctl.specs.Steps.{Front, Sides, armed_front, has_event_room, on_front, room_front}
 use Rattle.shared_machine.specs.declared.Step.TheVariants.{Data}
 use Rattle.shared_machine.specs.Td.{Entry}
-use Rattle.shared_machine.specs.Part.{Part, is_last_trb, move_act, moved_slot}
+use Rattle.shared_machine.specs.Part.{Part, is_last_trb, move_act, moved_slot, took_trb}
+use Rattle.scsi_cmd.specs.declared.Request.TheVariants.{Execute}
+use Rattle.bus_core.specs.Hosts.{begun_task}
 use Rattle.shared_machine.specs.Shared.{Shared, acted_on, due, due_step, idle, routed_by_tag, routed_to, shared_step}
 use Rattle.machine_invariant.specs.Matched.{IsMatched, carried_places, held_in}
 use Rattle.bus_core.specs.World.{World, cell_at}
 use Rattle.bus_core.specs.Cells.{FitsCell, FitsHeld, HoldsData, HoldsTrbs, data_in_td, data_out_td}
 use Rattle.bus_core.specs.Fits.{Fits, IsSoundWorld, event_texts}
-use Rattle.machine_invariant.proofs.MatchedEntries.{data_event_if}
+use Rattle.machine_invariant.proofs.MatchedTasks.{data_event_if}
 use Rattle.machine_invariant.proofs.MatchedNext.{matched-no_data_event}
 use Rattle.machine_invariant.proofs.MatchedPlaces.{held-within}
 use Rattle.machine_invariant.proofs.MatchedSteps.{IsHeld, matched-held, shared_step-matched}
@@ -105,7 +106,7 @@ data_step : (state : Shared) (place : Place) (part : Part) (entry : Entry) (op :
     → held_at part.entries place.slot ≡ Some (moving_entry entry op chunk)
     → (shared_step state (Data (tag_of place))).0
     ≡ moved_state state place part (unit_after part.unit entry.task.buffer chunk op) (chunk_entry part.unit entry op chunk)
-    (data_event_if (is_last_trb (chunk_moved (progress_left part.unit chunk op)) (data_trb_count (moved_bytes op)) (Some (moving_td chunk))) place)
+    (data_event_if (is_last_trb (took_trb (Begun (progress_left part.unit chunk op))) (data_trb_count (moved_bytes op)) (Some (moving_td chunk))) place)
 data_step state place part entry op chunk is_due named there held =
     ap (λ b. (cond b (due_step state (Data (tag_of place))) (state, idle)).0) is_due
     ∙ ap (λ p. (routed_by_tag state move_act p).0) named
@@ -116,19 +117,19 @@ data_step state place part entry op chunk is_due named there held =
 pub fits-after : (state : Shared) (world after : World) (place : Place) (part : Part) (at : IsChunkAt state world place part) (posted : List Event)
     → Fits state world → place_of (length state.parts) (tag_of place) ≡ Some place → due state (Data (tag_of place)) ≡ true
     → MovesChunk world after place (unit_after part.unit at.entry.task.buffer at.chunk at.op)
-    (task_in (Some place.client) (Ok at.op) (progress_left part.unit at.chunk at.op))
+    (begun_task (Some place.client) (Execute at.op) (progress_left part.unit at.chunk at.op))
     (buffer_after part.unit at.entry.task.buffer at.chunk at.op) posted
     → HoldsData (stream_ring after.lines.data_in (tag_of place)) (data_td (tag_of place) (moved_bytes at.op))
-    (data_in_td (direction_of at.op) (Some (td_after (chunk_moved (progress_left part.unit at.chunk at.op)) at.chunk)))
+    (data_in_td (direction_of at.op) (Some (td_after (took_trb (Begun (progress_left part.unit at.chunk at.op))) at.chunk)))
     → HoldsData (stream_ring after.lines.data_out (tag_of place)) (data_td (tag_of place) (moved_bytes at.op))
-    (data_out_td (direction_of at.op) (Some (td_after (chunk_moved (progress_left part.unit at.chunk at.op)) at.chunk)))
+    (data_out_td (direction_of at.op) (Some (td_after (took_trb (Begun (progress_left part.unit at.chunk at.op))) at.chunk)))
     → length (buffer_after part.unit at.entry.task.buffer at.chunk at.op) ≡ length at.entry.task.buffer
     → event_texts after (0 + length (carried_places state.events))
-    (data_event_if (is_last_trb (chunk_moved (progress_left part.unit at.chunk at.op)) (data_trb_count (moved_bytes at.op)) (Some (moving_td at.chunk)))
+    (data_event_if (is_last_trb (took_trb (Begun (progress_left part.unit at.chunk at.op))) (data_trb_count (moved_bytes at.op)) (Some (moving_td at.chunk)))
     place) ≡ posted
     → IsSoundWorld after → Fits (shared_step state (Data (tag_of place))).0 after
 fits-after state world after place part at posted fits named is_due moves data_in data_out long texts sound =
-    let last : Bool = is_last_trb (chunk_moved (progress_left part.unit at.chunk at.op)) (data_trb_count (moved_bytes at.op)) (Some (moving_td at.chunk)) in
+    let last : Bool = is_last_trb (took_trb (Begun (progress_left part.unit at.chunk at.op))) (data_trb_count (moved_bytes at.op)) (Some (moving_td at.chunk)) in
     let step = data_step state place part at.entry at.op at.chunk is_due named at.there at.held in
     let here : FitsCell place.client part.unit.count place (chunk_entry part.unit at.entry at.op at.chunk) (cell_at after place) =
     fits-chunk place.client place part.unit at.entry at.op at.chunk (cell_at world place) (cell_at after place) at.here

@@ -27,7 +27,7 @@ cell-changed : (client count : ℕ) (place : Place) (entry : Entry) (cell : Cell
     → HoldsTd status_ring (status_td (tag_of place)) status
     → HoldsData data_in (data_td (tag_of place) (request_bytes entry.task.request)) (data_in_td (request_direction entry.task.request) moved)
     → HoldsData data_out (data_td (tag_of place) (request_bytes entry.task.request)) (data_out_td (request_direction entry.task.request) moved)
-    → HasAnswerIn entry.task.request phase (tag_of place) cell.buffers.status → IsSound count (record entry.task { phase = phase })
+    → HasAnswerIn phase (tag_of place) cell.buffers.status → IsSound count (record entry.task { phase = phase })
     → FitsCell client count place (changed_entry entry phase command status moved)
     (record cell { held = held; task = task; status = status_ring; data_in = data_in; data_out = data_out })
 cell-changed client count place entry cell phase command status moved held task status_ring data_in data_out =
@@ -50,7 +50,7 @@ with_phase entry phase command = record entry { task = record entry.task { phase
 
 pub cell-phase : (client count : ℕ) (place : Place) (entry : Entry) (cell : Cell) (phase : Phase) (command : Td) (held : Option HostEntry)
     (task : Option DeviceTask) → FitsCell client count place entry cell → held ≡ Some (host_side (with_phase entry phase command))
-    → task ≡ phase_task (Some client) entry.task.request phase → HasAnswerIn entry.task.request phase (tag_of place) cell.buffers.status
+    → task ≡ phase_task (Some client) entry.task.request phase → HasAnswerIn phase (tag_of place) cell.buffers.status
     → IsSound count (record entry.task { phase = phase })
     → FitsCell client count place (with_phase entry phase command) (record cell { held = held; task = task })
 cell-phase client count place entry cell phase command held task fits held_is task_is =

@@ -17,9 +17,12 @@ use Rattle.shared_machine.specs.Shared.{stage_seen, engine_seen, place_fact}
 use Rattle.machine_invariant.specs.Matched.{times, IsOwnMessage, retired_places, is_td_event, IsOwnTdEvent, IsMatched}
 use Rattle.bus_core.specs.WorldDue.{marked, CommandsAreMarked, DataAreMarked, StatusesAreMarked, EventsAreQuiet, EnginesAreMarked, RetirementsAreMarked}
 use Rattle.machine_invariant.proofs.MatchedPlaces.{one_self}
-use Rattle.machine_invariant.proofs.MatchedEntries.{HasSeen, moving_op, event-seen}
-use Rattle.machine_invariant.proofs.MatchedSteps.{IsHeld, matched-held, carry_step-is, times_alike, times_alike-first, IsDueAt, place_fact-due, IsMovingBy}
-use Rattle.machine_invariant.proofs.MatchedSteps.{moving_phase, IsEndedBy, ended_phase, event_seen-td}
+use Rattle.machine_invariant.proofs.MatchedEntries.{HasSeen, event-seen}
+use Rattle.machine_invariant.proofs.MatchedTasks.{moving_op}
+use Rattle.machine_invariant.proofs.MatchedSteps.{IsHeld, matched-held, times_alike, times_alike-first, IsDueAt, place_fact-due}
+use Rattle.machine_invariant.proofs.MatchedMoves.{IsMovingBy, carry_step-is}
+use Rattle.machine_invariant.proofs.MatchedSteps.{event_seen-td}
+use Rattle.machine_invariant.proofs.MatchedMoves.{IsEndedBy, ended_phase, moving_phase}
 use Rattle.machine_invariant.proofs.MatchedNext.{own-message, own-td_event, same_named}
 use Rattle.std.specs.Option.{option_map_or}
 use Rattle.std.proofs.lemmas.Bool.{false≢true, and_parts}
@@ -32,7 +35,8 @@ use Rattle.shared_machine.specs.declared.RetirementStage.{RetirementStage}
 use Rattle.shared_machine.specs.declared.RetirementStage.TheVariants.{StopAsked, StopAnswered, MoveAsked, MoveAnswered}
 use Rattle.shared_machine.specs.Td.{Entry, with_td_on, retired_td}
 use Rattle.machine_invariant.proofs.MatchedRetirement.{IsAnswered, first-engine_event, retiring-of}
-use Rattle.machine_invariant.proofs.MatchedEngine.{HasLeft, has-left, IsPiped, with_pipe-is, retired-step}
+use Rattle.machine_invariant.proofs.MatchedEngine.{retired-step}
+use Rattle.machine_invariant.proofs.MatchedCommands.{HasLeft, IsPiped, has-left, with_pipe-is}
 
 -- a message
 pub carry-marked : CommandsAreMarked

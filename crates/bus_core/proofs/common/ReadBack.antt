@@ -22,9 +22,12 @@ use Rattle.uas_profile.specs.declared.Direction.TheVariants.{Nothing, ToHost, To
 use Rattle.scsi_cmd.specs.declared.Request.{Request}
 use Rattle.scsi_cmd.specs.declared.Request.TheVariants.{Execute, Manage}
 use Rattle.scsi_cmd.specs.Held.{held_at}
-use Rattle.device_server.specs.declared.Answer.{Answer}
 use Rattle.device_server.specs.declared.Answer.TheVariants.{Good, Check}
-use Rattle.device_server.specs.declared.Progress.TheVariants.{Moving, Ended}
+use Rattle.solo_model.specs.declared.ResponseCode.{ResponseCode}
+use Rattle.solo_model.specs.declared.ResponseCode.TheVariants.{Complete, Succeeded}
+use Rattle.solo_model.specs.declared.TaskAnswer.{TaskAnswer}
+use Rattle.solo_model.specs.declared.TaskAnswer.TheVariants.{WithStatus, WithResponse}
+use Rattle.solo_model.specs.declared.TaskProgress.TheVariants.{Moving, Ended}
 use Rattle.solo_model.specs.declared.Phase.{Phase}
 use Rattle.solo_model.specs.declared.Phase.TheVariants.{Queued, Begun, Sent, Gone}
 use Rattle.uas_iu.specs.Units.{unit_text}
@@ -73,23 +76,29 @@ use Rattle.machine_invariant.proofs.MatchedEngine.{place_of-tag_of}
 byte-is : (bytes text : List ℕ) (at : ℕ) → take (length text) bytes ≡ text → at < length text → slice_index bytes at ≡ slice_index text at
 byte-is bytes text at is within = sym (get_or-take (length text) bytes at 0 within) ∙ ap (λ l. slice_index l at) is
 
--- a buffer that begins with an answer tells it: a Sense unit in its status and sense, and byte 6 of a Response unit is 0
-pub told_answer-begins : (tag : ℕ) (request : Request) (answer : Answer) (bytes : List ℕ) → IsPhaseOf request (Sent answer)
-    → take (length (answer_text tag request answer)) bytes ≡ answer_text tag request answer → told_answer bytes ≡ answer
+-- a buffer that begins with an answer tells it: a Sense unit in its status and sense, a Response unit in its code
+pub told_answer-begins : (tag : ℕ) (answer : TaskAnswer) (bytes : List ℕ) → take (length (answer_text tag answer)) bytes ≡ answer_text tag answer
+    → told_answer bytes ≡ answer
 unfolding unit_text
-told_answer-begins tag (Execute op) Good bytes answers is =
-    let status : slice_index bytes 6 ≡ 0 = byte-is bytes (answer_text tag (Execute op) Good) 6 is (omega arith) in
-    rw status refl
-told_answer-begins tag (Execute op) (Check sense) bytes answers is =
-    let status : slice_index bytes 6 ≡ 2 = byte-is bytes (answer_text tag (Execute op) (Check sense)) 6 is (omega arith) in
-    let key : slice_index bytes 18 ≡ sense.key = byte-is bytes (answer_text tag (Execute op) (Check sense)) 18 is (omega arith) in
-    let asc : slice_index bytes 28 ≡ sense.asc = byte-is bytes (answer_text tag (Execute op) (Check sense)) 28 is (omega arith) in
-    let ascq : slice_index bytes 29 ≡ sense.ascq = byte-is bytes (answer_text tag (Execute op) (Check sense)) 29 is (omega arith) in
-    rw (status, key, asc, ascq) refl
-told_answer-begins tag (Manage what noted) Good bytes answers is =
-    let code : slice_index bytes 6 ≡ 0 = byte-is bytes (answer_text tag (Manage what noted) Good) 6 is (omega arith) in
-    rw code refl
-told_answer-begins tag (Manage what noted) (Check sense) bytes answers is = absurd answers
+told_answer-begins tag (WithStatus Good) bytes is =
+    let identifier : slice_index bytes 0 ≡ 3 = byte-is bytes (answer_text tag (WithStatus Good)) 0 is (omega arith) in
+    let status : slice_index bytes 6 ≡ 0 = byte-is bytes (answer_text tag (WithStatus Good)) 6 is (omega arith) in
+    rw (identifier, status) refl
+told_answer-begins tag (WithStatus (Check sense)) bytes is =
+    let identifier : slice_index bytes 0 ≡ 3 = byte-is bytes (answer_text tag (WithStatus (Check sense))) 0 is (omega arith) in
+    let status : slice_index bytes 6 ≡ 2 = byte-is bytes (answer_text tag (WithStatus (Check sense))) 6 is (omega arith) in
+    let key : slice_index bytes 18 ≡ sense.key = byte-is bytes (answer_text tag (WithStatus (Check sense))) 18 is (omega arith) in
+    let asc : slice_index bytes 28 ≡ sense.asc = byte-is bytes (answer_text tag (WithStatus (Check sense))) 28 is (omega arith) in
+    let ascq : slice_index bytes 29 ≡ sense.ascq = byte-is bytes (answer_text tag (WithStatus (Check sense))) 29 is (omega arith) in
+    rw (identifier, status, key, asc, ascq) refl
+told_answer-begins tag (WithResponse Complete) bytes is =
+    let identifier : slice_index bytes 0 ≡ 4 = byte-is bytes (answer_text tag (WithResponse Complete)) 0 is (omega arith) in
+    let code : slice_index bytes 7 ≡ 0 = byte-is bytes (answer_text tag (WithResponse Complete)) 7 is (omega arith) in
+    rw (identifier, code) refl
+told_answer-begins tag (WithResponse Succeeded) bytes is =
+    let identifier : slice_index bytes 0 ≡ 4 = byte-is bytes (answer_text tag (WithResponse Succeeded)) 0 is (omega arith) in
+    let code : slice_index bytes 7 ≡ 8 = byte-is bytes (answer_text tag (WithResponse Succeeded)) 7 is (omega arith) in
+    rw (identifier, code) refl
 
 -- the device has received a request where its command TD's TRB was taken
 phase-taken : (phase : Phase) (td : Td) → IsCommandTd phase td → HasTaken phase td.consumed
@@ -116,15 +125,15 @@ received-gone consumed Retired bytes given_up = refl
 
 -- device, command TD, status TD and status buffer tell the phase together
 phase_by-back : (client tag taken : ℕ) (request : Request) (phase : Phase) (status : Td) (bytes : List ℕ) → IsPhaseOf request phase → HasTaken phase taken
-    → IsStatusTd phase status → HasAnswerIn request phase tag bytes → phase_by (phase_task (Some client) request phase) taken status bytes ≡ phase
+    → IsStatusTd phase status → HasAnswerIn phase tag bytes → phase_by (phase_task (Some client) request phase) taken status bytes ≡ phase
 phase_by-back client tag taken request Queued status bytes answers is sends told = rw is refl
 phase_by-back client tag taken (Execute op) (Begun (Moving chunk)) status bytes answers is sends told = refl
-phase_by-back client tag taken (Execute op) (Begun (Ended answer)) status bytes answers is sends told = refl
 phase_by-back client tag taken (Manage what noted) (Begun (Moving chunk)) status bytes answers is sends told = absurd answers
-phase_by-back client tag taken (Manage what noted) (Begun (Ended Good)) status bytes answers is sends told = refl
-phase_by-back client tag taken (Manage what noted) (Begun (Ended (Check sense))) status bytes answers is sends told = absurd answers
+phase_by-back client tag taken request (Begun (Ended (WithStatus answer))) status bytes answers is sends told = refl
+phase_by-back client tag taken request (Begun (Ended (WithResponse Complete))) status bytes answers is sends told = refl
+phase_by-back client tag taken request (Begun (Ended (WithResponse Succeeded))) status bytes answers is sends told = refl
 phase_by-back client tag taken request (Sent answer) status bytes answers is sends told =
-    rw is (received-sent status.consumed status.state bytes sends.0 sends.1 ∙ ap Sent (told_answer-begins tag request answer bytes answers told))
+    rw is (received-sent status.consumed status.state bytes sends.0 sends.1 ∙ ap Sent (told_answer-begins tag answer bytes told))
 phase_by-back client tag taken request Gone status bytes answers is sends told = rw is (received-gone status.consumed status.state bytes sends)
 
 -- a command's bytes are those that it lends, and a task management has none

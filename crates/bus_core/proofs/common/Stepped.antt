@@ -14,12 +14,14 @@ use Rattle.uas_profile.specs.declared.TheConstants.{TAGS, MAX_CLIENTS, GREATEST_
 use Rattle.uas_target.specs.declared.DeviceTask.{DeviceTask}
 use Rattle.uas_target.specs.Device.{Device, opening as opening_device}
 use Rattle.scsi_cmd.specs.declared.Reply.{Reply}
-use Rattle.scsi_cmd.specs.declared.Reply.TheVariants.{Aborted}
+use Rattle.scsi_cmd.specs.declared.Reply.TheVariants.{Aborted, Status as StatusReply, Task as TaskReply}
 use Rattle.scsi_cmd.specs.declared.Request.{Request}
 use Rattle.scsi_cmd.specs.declared.Request.TheVariants.{Execute, Manage}
 use Rattle.scsi_cmd.specs.Held.{held_at}
-use Rattle.device_server.specs.declared.Answer.{Answer}
-use Rattle.solo_model.specs.TaggedTask.{TaggedTask, aborted_by, answered_by, reply_from}
+use Rattle.solo_model.specs.declared.TaskAnswer.{TaskAnswer}
+use Rattle.solo_model.specs.declared.TaskAnswer.TheVariants.{WithStatus, WithResponse}
+use Rattle.device_server.specs.Server.{sense_of, status_of}
+use Rattle.solo_model.specs.TaggedTask.{TaggedTask, aborted_by, answered_by, reply_from, response_number}
 use Rattle.solo_model.specs.declared.Phase.{Phase}
 use Rattle.solo_model.specs.declared.Phase.TheVariants.{Queued, Begun, Sent, Gone}
 use Rattle.uas_host.specs.Replies.{Given, replied}
@@ -282,10 +284,15 @@ settled-told client slot part rest reply within marks =
     ap (λ m. record { acted = true; owner = Some client; mark = m; reply = Some reply; refused = None; doors = [] })
     (ap (λ k. Settle (suc k)) index ∙ sym marks)
 
-answered-marks : (tag ticket : ℕ) (buffer : List ℕ) (answer : Answer) (request : Request)
-    → mark_by (answered_by tag ticket buffer answer request) ≡ Settle (index_of tag)
-answered-marks tag ticket buffer answer (Execute op) = refl
-answered-marks tag ticket buffer answer (Manage what noted) = refl
+settled-sent : (client slot : ℕ) (part : Part) (rest : List ℕ) (ticket : ℕ) (buffer : List ℕ) (answer : TaskAnswer) (request : Request) → slot < TAGS
+    → outcome_of client (settled part slot rest (answered_by (slot_tag client slot) ticket buffer answer request))
+    ≡ replying client (settled part slot rest (answered_by (slot_tag client slot) ticket buffer answer request)).reply
+settled-sent client slot part rest ticket buffer (WithStatus answer) (Execute op) within =
+    settled-told client slot part rest (StatusReply (slot_tag client slot) ticket (status_of answer) (record { items = sense_of answer }) buffer) within refl
+settled-sent client slot part rest ticket buffer (WithStatus answer) (Manage what noted) within = refl
+settled-sent client slot part rest ticket buffer (WithResponse code) (Execute op) within = refl
+settled-sent client slot part rest ticket buffer (WithResponse code) (Manage what noted) within =
+    settled-told client slot part rest (TaskReply (slot_tag client slot) ticket (response_number code)) within refl
 
 settled-gone : (client slot : ℕ) (part : Part) (rest : List ℕ) (ticket : ℕ) (buffer : List ℕ) (request : Request) → slot < TAGS
     → outcome_of client (settled part slot rest (aborted_by (slot_tag client slot) ticket buffer request))
@@ -299,9 +306,7 @@ settled-by : (client slot : ℕ) (part : Part) (rest : List ℕ) (task : TaggedT
     (settled part slot rest (reply_from (slot_tag client slot) task phase)).reply
 settled-by client slot part rest task Queued within = refl
 settled-by client slot part rest task (Begun progress) within = refl
-settled-by client slot part rest task (Sent answer) within =
-    settled-told client slot part rest (answered_by (slot_tag client slot) task.ticket task.buffer answer task.request) within
-    (answered-marks (slot_tag client slot) task.ticket task.buffer answer task.request)
+settled-by client slot part rest task (Sent answer) within = settled-sent client slot part rest task.ticket task.buffer answer task.request within
 settled-by client slot part rest task Gone within = settled-gone client slot part rest task.ticket task.buffer task.request within
 
 settled-held : (client slot : ℕ) (part : Part) (rest : List ℕ) (held : Option Entry) → held_at part.entries slot ≡ held → length part.entries ≡ TAGS

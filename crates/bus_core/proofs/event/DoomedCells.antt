@@ -57,11 +57,11 @@ left-state : (td : Td) → is_pending td.state ≡ true → LeftOver ≡ (left_o
 left-state td pends = sym (ap (λ b. (if b then record td { state = LeftOver } else td).state) pends)
 
 -- it was told nothing, and is told nothing
-told-untold : (request : Request) (phase : Phase) → told_by request phase Pending ≡ told_by request phase LeftOver
-told-untold request Queued = refl
-told-untold request (Begun progress) = refl
-told-untold request (Sent answer) = refl
-told-untold request Gone = refl
+told-untold : (phase : Phase) → told_by phase Pending ≡ told_by phase LeftOver
+told-untold Queued = refl
+told-untold (Begun progress) = refl
+told-untold (Sent answer) = refl
+told-untold Gone = refl
 
 left-data : (td : Option Td) → host_left_over_data (option_map state_of td) ≡ option_map state_of (left_over_data td)
 left-data None = refl
@@ -71,8 +71,8 @@ left-side : (entry : Entry) → is_pending entry.status_td.state ≡ true
     → record (host_side entry) { status_td = LeftOver; data_td = host_left_over_data (option_map state_of entry.data_td) } ≡ host_side (left_entry entry)
 left-side entry pends =
     let status = left-state entry.status_td pends in
-    let told = ap (told_by entry.task.request entry.task.phase) (pending-is entry.status_td.state pends)
-    ∙ told-untold entry.task.request entry.task.phase ∙ ap (told_by entry.task.request entry.task.phase) status in
+    let told = ap (told_by entry.task.phase) (pending-is entry.status_td.state pends)
+    ∙ told-untold entry.task.phase ∙ ap (told_by entry.task.phase) status in
     let moved = left-data entry.data_td in
     λ i. record (host_side entry) { told = told i; status_td = status i; data_td = moved i }
 

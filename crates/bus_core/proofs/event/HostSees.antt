@@ -15,6 +15,9 @@ use Rattle.arrayvec.specs.ArrayVec.{ArrayVec}
 use Rattle.uas_profile.specs.declared.TheConstants.{TASK_SLOT, STREAMS, STATUS_BYTES, SHORT_PACKET}
 use Rattle.scsi_cmd.specs.Held.{held_at}
 use Rattle.device_server.specs.declared.Answer.{Answer}
+use Rattle.solo_model.specs.declared.ResponseCode.{ResponseCode}
+use Rattle.solo_model.specs.declared.TaskAnswer.TheVariants.{WithStatus, WithResponse}
+use Rattle.solo_model.specs.TaggedTask.{response_number}
 use Rattle.device_server.specs.declared.Answer.TheVariants.{Good, Check}
 use Rattle.device_server.specs.Server.{status_of, sense_of}
 use Rattle.solo_model.specs.declared.Phase.TheVariants.{Sent}
@@ -86,7 +89,7 @@ left_over-state LeftOver consumed = refl
 left_over-state Retired consumed = refl
 
 data_after-side : (answer : Answer) (td : Option Td) → data_after (status_of answer) (option_map state_of td) ≡ option_map state_of
-    (data_after_answer answer td)
+    (data_after_answer (WithStatus answer) td)
 data_after-side Good td = refl
 data_after-side (Check sense) None = refl
 data_after-side (Check sense) (Some td) = ap Some (left_over-state td.state td.consumed)
@@ -95,12 +98,12 @@ data_after-side (Check sense) (Some td) = ap Some (left_over-state td.state td.c
 abbrev pub status_seen : Entry → Entry
 status_seen entry = record entry { status_td = with_event_seen entry.status_td; data_td = data_after_status entry.task.phase entry.data_td }
 
-pub status_seen-side : (entry : Entry) (op : Op) (answer : Answer) → entry.task.request ≡ Execute op → entry.task.phase ≡ Sent answer
+pub status_seen-side : (entry : Entry) (op : Op) (answer : Answer) → entry.task.request ≡ Execute op → entry.task.phase ≡ Sent (WithStatus answer)
     → entry.status_td.state ≡ Pending
     → seen (Answered (status_of answer) (record { items = sense_of answer })) (host_side entry) ≡ Some (host_side (status_seen entry))
 status_seen-side entry op answer asks sent pends =
-    let told : told_by entry.task.request entry.task.phase Seen ≡ AnsweredStatus (status_of answer) (record { items = sense_of answer }) =
-    ap (λ p. told_by entry.task.request p Seen) sent ∙ ap (λ r. told_by r (Sent answer) Seen) asks in
+    let told : told_by entry.task.phase Seen ≡ AnsweredStatus (status_of answer) (record { items = sense_of answer }) =
+    ap (λ p. told_by p Seen) sent in
     let left : data_after (status_of answer) (option_map state_of entry.data_td) ≡ option_map state_of (data_after_status entry.task.phase entry.data_td) =
     data_after-side answer entry.data_td ∙ ap (λ p. option_map state_of (data_after_status p entry.data_td)) (sym sent) in
     let now : HostEntry = record (host_side entry) {
@@ -111,20 +114,21 @@ status_seen-side entry op answer asks sent pends =
     ap (λ r. if is_command r && is_pending entry.status_td.state then Some now else None) asks
     ∙ ap (λ s. if is_pending s then Some now else None) pends
     ∙ ap (λ t. Some (record now { told = t })) (sym told)
-    ∙ ap (λ d. Some (record now { told = told_by entry.task.request entry.task.phase Seen; data_td = d })) left
+    ∙ ap (λ d. Some (record now { told = told_by entry.task.phase Seen; data_td = d })) left
 
 -- a task management is told the code of its response, and has no data TD
-pub response_seen-side : (entry : Entry) (what : Task) (noted : ArrayVec ℕ) → entry.task.request ≡ Manage what noted → entry.task.phase ≡ Sent Good
-    → entry.status_td.state ≡ Pending → seen (Responded 0) (host_side entry) ≡ Some (host_side (status_seen entry))
-response_seen-side entry what noted asks sent pends =
-    let told : told_by entry.task.request entry.task.phase Seen ≡ AnsweredResponse 0 =
-    ap (λ p. told_by entry.task.request p Seen) sent ∙ ap (λ r. told_by r (Sent Good) Seen) asks in
+pub response_seen-side : (entry : Entry) (what : Task) (noted : ArrayVec ℕ) (code : ResponseCode) → entry.task.request ≡ Manage what noted
+    → entry.task.phase ≡ Sent (WithResponse code)
+    → entry.status_td.state ≡ Pending → seen (Responded (response_number code)) (host_side entry) ≡ Some (host_side (status_seen entry))
+response_seen-side entry what noted code asks sent pends =
+    let told : told_by entry.task.phase Seen ≡ AnsweredResponse (response_number code) =
+    ap (λ p. told_by p Seen) sent in
     let left : data_after_status entry.task.phase entry.data_td ≡ entry.data_td = ap (λ p. data_after_status p entry.data_td) sent in
-    let now : HostEntry = record (host_side entry) { told = AnsweredResponse 0; status_td = Seen } in
+    let now : HostEntry = record (host_side entry) { told = AnsweredResponse (response_number code); status_td = Seen } in
     ap (λ r. if not (is_command r) && is_pending entry.status_td.state then Some now else None) asks
     ∙ ap (λ s. if is_pending s then Some now else None) pends
     ∙ ap (λ t. Some (record now { told = t })) (sym told)
-    ∙ ap (λ td. Some (record now { told = told_by entry.task.request entry.task.phase Seen; data_td = option_map state_of td })) (sym left)
+    ∙ ap (λ td. Some (record now { told = told_by entry.task.phase Seen; data_td = option_map state_of td })) (sym left)
 
 -- THE HOST
 
@@ -167,75 +171,75 @@ index-take (byte ∷ bytes) zero at less = absurd (omega arith)
 index-take (byte ∷ bytes) (suc n) zero less = refl
 index-take (byte ∷ bytes) (suc n) (suc at) less = index-take bytes n at (omega arith)
 
-text-len : (tag : ℕ) (op : Op) (answer : Answer) → unit_len 0 (answer_text tag (Execute op) answer) ≡ length (answer_text tag (Execute op) answer)
+text-len : (tag : ℕ) (answer : Answer) → unit_len 0 (answer_text tag (WithStatus answer)) ≡ length (answer_text tag (WithStatus answer))
 unfolding unit_text
-text-len tag op Good = refl
-text-len tag op (Check sense) = refl
+text-len tag Good = refl
+text-len tag (Check sense) = refl
 
-text-bounds : (tag : ℕ) (op : Op) (answer : Answer)
-    → (16 ≤ length (answer_text tag (Execute op) answer)) × (length (answer_text tag (Execute op) answer) ≤ STATUS_BYTES)
+text-bounds : (tag : ℕ) (answer : Answer)
+    → (16 ≤ length (answer_text tag (WithStatus answer))) × (length (answer_text tag (WithStatus answer)) ≤ STATUS_BYTES)
 unfolding unit_text
-text-bounds tag op Good = (omega arith, omega arith)
-text-bounds tag op (Check sense) = (omega arith, omega arith)
+text-bounds tag Good = (omega arith, omega arith)
+text-bounds tag (Check sense) = (omega arith, omega arith)
 
 -- a command slot's unit is a Sense unit, which tells its length
 sense-len : (slot : ℕ) (bytes : List ℕ) → slot < TASK_SLOT → unit_len slot bytes ≡ unit_len 0 bytes
 sense-len slot bytes less = ap (λ b. if b then 8 else 16 + slice_index bytes 15) (ne_eqb slot TASK_SLOT (λ same. omega (arith, less, same)))
 
 -- the length that a status buffer tells once it begins with an answer
-unit_len-answer : (slot tag : ℕ) (op : Op) (answer : Answer) (bytes : List ℕ) → slot < TASK_SLOT
-    → take (length (answer_text tag (Execute op) answer)) bytes ≡ answer_text tag (Execute op) answer
-    → unit_len slot bytes ≡ length (answer_text tag (Execute op) answer)
-unit_len-answer slot tag op answer bytes less is =
-    let bounds = text-bounds tag op answer in
+unit_len-answer : (slot tag : ℕ) (answer : Answer) (bytes : List ℕ) → slot < TASK_SLOT
+    → take (length (answer_text tag (WithStatus answer))) bytes ≡ answer_text tag (WithStatus answer)
+    → unit_len slot bytes ≡ length (answer_text tag (WithStatus answer))
+unit_len-answer slot tag answer bytes less is =
+    let bounds = text-bounds tag answer in
     sense-len slot bytes less
-    ∙ ap (λ n. 16 + n) (sym (index-take bytes (length (answer_text tag (Execute op) answer)) 15 (omega (arith, bounds.0))))
-    ∙ ap (λ bs. unit_len 0 bs) is ∙ text-len tag op answer
+    ∙ ap (λ n. 16 + n) (sym (index-take bytes (length (answer_text tag (WithStatus answer))) 15 (omega (arith, bounds.0))))
+    ∙ ap (λ bs. unit_len 0 bs) is ∙ text-len tag answer
 
 fits-answer : (tag : ℕ) (answer : Answer) → tag ≤ STREAMS → FitsUnit (SenseUnit tag (status_of answer) (record { items = sense_of answer }))
 fits-answer tag Good most = (omega arith, omega arith)
 fits-answer tag (Check sense) most = (omega arith, omega arith)
 
-answer_in-text : (tag : ℕ) (op : Op) (answer : Answer) → tag ≤ STREAMS
-    → answer_in tag (answer_text tag (Execute op) answer) ≡ Some (Answered (status_of answer) (record { items = sense_of answer }))
-answer_in-text tag op answer most =
+answer_in-text : (tag : ℕ) (answer : Answer) → tag ≤ STREAMS
+    → answer_in tag (answer_text tag (WithStatus answer)) ≡ Some (Answered (status_of answer) (record { items = sense_of answer }))
+answer_in-text tag answer most =
     let fits = fits-answer tag answer most in
     let unit = SenseUnit tag (status_of answer) (record { items = sense_of answer }) in
     let same : (tag == tag) ≡ true = eq-eqb tag tag refl in
     sym (answer_by-text tag unit fits (first_fault-unit_text unit fits))
     ∙ ap (λ b. if b then Some (Answered (status_of answer) (record { items = sense_of answer })) else None) same
 
-pub status_notice-is : (frames : List TagBuffers) (slot tag : ℕ) (op : Op) (answer : Answer) → slot < TASK_SLOT → tag ≤ STREAMS
-    → take (length (answer_text tag (Execute op) answer)) (held_for frames tag).status ≡ answer_text tag (Execute op) answer
+pub status_notice-is : (frames : List TagBuffers) (slot tag : ℕ) (answer : Answer) → slot < TASK_SLOT → tag ≤ STREAMS
+    → take (length (answer_text tag (WithStatus answer))) (held_for frames tag).status ≡ answer_text tag (WithStatus answer)
     → notice_on Status frames (STATUS_BYTES - unit_len slot (held_for frames tag).status) SHORT_PACKET tag
     ≡ Some (Answered (status_of answer) (record { items = sense_of answer }))
-status_notice-is frames slot tag op answer less most is =
-    let len = unit_len-answer slot tag op answer (held_for frames tag).status less is in
-    let bounds = text-bounds tag op answer in
-    let left : STATUS_BYTES - (STATUS_BYTES - unit_len slot (held_for frames tag).status) ≡ length (answer_text tag (Execute op) answer) = omega (arith, len, bounds.1) in
-    ap (λ n. answer_in tag (take n (held_for frames tag).status)) left ∙ ap (answer_in tag) is ∙ answer_in-text tag op answer most
+status_notice-is frames slot tag answer less most is =
+    let len = unit_len-answer slot tag answer (held_for frames tag).status less is in
+    let bounds = text-bounds tag answer in
+    let left : STATUS_BYTES - (STATUS_BYTES - unit_len slot (held_for frames tag).status) ≡ length (answer_text tag (WithStatus answer)) = omega (arith, len, bounds.1) in
+    ap (λ n. answer_in tag (take n (held_for frames tag).status)) left ∙ ap (answer_in tag) is ∙ answer_in-text tag answer most
 
 -- THE NEWS OF A RESPONSE
 
-response-len : (tag : ℕ) (what : Task) (noted : ArrayVec ℕ) (answer : Answer) → length (answer_text tag (Manage what noted) answer) ≡ 8
+response-len : (tag : ℕ) (code : ResponseCode) → length (answer_text tag (WithResponse code)) ≡ 8
 unfolding unit_text
-response-len tag what noted answer = refl
+response-len tag code = refl
 
-response_in-text : (tag : ℕ) (what : Task) (noted : ArrayVec ℕ) (answer : Answer) → tag ≤ STREAMS
-    → answer_in tag (answer_text tag (Manage what noted) answer) ≡ Some (Responded 0)
-response_in-text tag what noted answer most =
-    let unit = ResponseUnit tag 0 in
-    let fits : FitsUnit (ResponseUnit tag 0) = omega (arith, most) in
+response_in-text : (tag : ℕ) (code : ResponseCode) → tag ≤ STREAMS
+    → answer_in tag (answer_text tag (WithResponse code)) ≡ Some (Responded (response_number code))
+response_in-text tag code most =
+    let unit = ResponseUnit tag (response_number code) in
+    let fits : FitsUnit (ResponseUnit tag (response_number code)) = omega (arith, most) in
     let same : (tag == tag) ≡ true = eq-eqb tag tag refl in
-    sym (answer_by-text tag unit fits (first_fault-unit_text unit fits)) ∙ ap (λ b. if b then Some (Responded 0) else None) same
+    sym (answer_by-text tag unit fits (first_fault-unit_text unit fits)) ∙ ap (λ b. if b then Some (Responded (response_number code)) else None) same
 
 -- of the last slot: 8 bytes, of which the last tells the code
-pub response_notice-is : (frames : List TagBuffers) (slot tag : ℕ) (what : Task) (noted : ArrayVec ℕ) (answer : Answer) → slot ≡ TASK_SLOT → tag ≤ STREAMS
-    → take (length (answer_text tag (Manage what noted) answer)) (held_for frames tag).status ≡ answer_text tag (Manage what noted) answer
-    → notice_on Status frames (STATUS_BYTES - unit_len slot (held_for frames tag).status) SHORT_PACKET tag ≡ Some (Responded 0)
-response_notice-is frames slot tag what noted answer last most is =
+pub response_notice-is : (frames : List TagBuffers) (slot tag : ℕ) (code : ResponseCode) → slot ≡ TASK_SLOT → tag ≤ STREAMS
+    → take (length (answer_text tag (WithResponse code))) (held_for frames tag).status ≡ answer_text tag (WithResponse code)
+    → notice_on Status frames (STATUS_BYTES - unit_len slot (held_for frames tag).status) SHORT_PACKET tag ≡ Some (Responded (response_number code))
+response_notice-is frames slot tag code last most is =
     let len : unit_len slot (held_for frames tag).status ≡ 8 =
     ap (λ b. if b then 8 else 16 + slice_index (held_for frames tag).status 15) (eq-eqb slot TASK_SLOT last) in
-    let left : STATUS_BYTES - (STATUS_BYTES - unit_len slot (held_for frames tag).status) ≡ length (answer_text tag (Manage what noted) answer) =
-    omega (arith, len, response-len tag what noted answer) in
-    ap (λ n. answer_in tag (take n (held_for frames tag).status)) left ∙ ap (answer_in tag) is ∙ response_in-text tag what noted answer most
+    let left : STATUS_BYTES - (STATUS_BYTES - unit_len slot (held_for frames tag).status) ≡ length (answer_text tag (WithResponse code)) =
+    omega (arith, len, response-len tag code) in
+    ap (λ n. answer_in tag (take n (held_for frames tag).status)) left ∙ ap (answer_in tag) is ∙ response_in-text tag code most

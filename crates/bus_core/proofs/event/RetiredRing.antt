@@ -83,17 +83,17 @@ use Rattle.bus_core.proofs.event.SeenWorlds.{queue-same}
 abbrev pub retired_entry : Pipe → Entry → Entry
 retired_entry pipe entry = with_td_on retired_td pipe entry
 
-pub untold : (request : Request) (phase : Phase) (state : TdState) → state ≡ LeftOver → told_by request phase state ≡ told_by request phase Retired
-untold request Queued state left = refl
-untold request (Begun progress) state left = refl
-untold request (Sent answer) state left = ap (λ s. told_by request (Sent answer) s) left
-untold request Gone state left = refl
+pub untold : (phase : Phase) (state : TdState) → state ≡ LeftOver → told_by phase state ≡ told_by phase Retired
+untold Queued state left = refl
+untold (Begun progress) state left = refl
+untold (Sent answer) state left = ap (λ s. told_by (Sent answer) s) left
+untold Gone state left = refl
 
 pub retired-states : (pipe : Pipe) (entry : Entry) → is_left_over_on pipe entry ≡ true → with_retired pipe (host_side entry) ≡ host_side (retired_entry pipe entry)
 retired-states Command entry so = absurd (false≢true so)
 retired-states Status entry so =
     ap (λ told. record (host_side entry) { told = told; status_td = Retired })
-    (untold entry.task.request entry.task.phase entry.status_td.state (left-state entry.status_td.state so))
+    (untold entry.task.phase entry.status_td.state (left-state entry.status_td.state so))
 retired-states DataIn entry so = ap (λ states. record (host_side entry) { data_td = states })
     (in-states (request_direction entry.task.request) entry.data_td so)
   where
@@ -182,9 +182,9 @@ whole-once-moved state world pipe place td at on =
     (ap (is_whole (trbs_on pipe at.entry)) (sym on) ∙ ap (λ o. option_map_or (is_whole_on pipe) o false) (sym at.held) ∙ at.retiring.stage.1)
 
 pub record IsEmptied (world : World) (pipe : Pipe) (place : Place) (entry : Entry) : Type 0 where
-  some : 1 ≤ (ring_of (freed_lines world) pipe (tag_of place)).got
-  empty : HoldsTrbs (emptied_ring world pipe place) [] 0
-  whole : (td : Td) → td_on pipe entry ≡ Some td → td.consumed ≡ length (td_trbs pipe (tag_of place) entry)
+  pub some : 1 ≤ (ring_of (freed_lines world) pipe (tag_of place)).got
+  pub empty : HoldsTrbs (emptied_ring world pipe place) [] 0
+  pub whole : (td : Td) → td_on pipe entry ≡ Some td → td.consumed ≡ length (td_trbs pipe (tag_of place) entry)
 
 pub emptied-is : (state : Shared) (world : World) (pipe : Pipe) (place : Place) → Fits state world
     → (at : IsUnderWay state world pipe place MoveAnswered) → IsEmptied world pipe place at.entry

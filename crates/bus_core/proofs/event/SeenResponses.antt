@@ -11,8 +11,9 @@ use Rattle.scsi_cmd.specs.declared.Request.TheVariants.{Manage}
 use Rattle.scsi_cmd.specs.declared.Task.{Task}
 use Rattle.uas_profile.specs.declared.TheConstants.{TASK_SLOT}
 use Rattle.scsi_cmd.specs.Held.{held_at}
-use Rattle.device_server.specs.declared.Answer.{Answer}
-use Rattle.device_server.specs.declared.Answer.TheVariants.{Good, Check}
+use Rattle.solo_model.specs.declared.ResponseCode.TheVariants.{Complete, Succeeded}
+use Rattle.solo_model.specs.declared.TaskAnswer.{TaskAnswer}
+use Rattle.solo_model.specs.declared.TaskAnswer.TheVariants.{WithStatus, WithResponse}
 use Rattle.solo_model.specs.declared.Phase.{Phase}
 use Rattle.solo_model.specs.declared.Phase.TheVariants.{Sent}
 use Rattle.uas_host.specs.declared.Handled.TheVariants.{Matched}
@@ -223,10 +224,11 @@ fits-answered state world place rest at noted fits frees matched sound =
           (λ same. omega (arith, over, same, at.is_place.client, at.is_place.slot)) (fits.unused other over);
     })
 
--- a task management is answered well
-managed-good : (phase : Phase) (answer : Answer) → phase ≡ Sent answer → IsManagedPhase phase → phase ≡ Sent Good
-managed-good phase Good sent managed = sent
-managed-good phase (Check sense) sent managed = absurd (subst IsManagedPhase sent managed)
+-- a task management is answered by COMPLETE
+managed-complete : (phase : Phase) (answer : TaskAnswer) → phase ≡ Sent answer → IsManagedPhase phase → phase ≡ Sent (WithResponse Complete)
+managed-complete phase (WithStatus answer) sent managed = absurd (subst IsManagedPhase sent managed)
+managed-complete phase (WithResponse Complete) sent managed = sent
+managed-complete phase (WithResponse Succeeded) sent managed = absurd (subst IsManagedPhase sent managed)
 
 pub response-fits : (state : Shared) (world : World) (place : Place) (rest : List Completion) (at : IsSeenAt state world (StatusDone place) rest)
     (what : Task) (noted : ArrayVec ℕ) → at.entry.task.request ≡ Manage what noted → Fits state world
@@ -238,18 +240,17 @@ response-fits state world place rest at what noted asks fits =
     let spent : IsSpent (stream_ring world.lines.status tag) = cell-status_spent world place at.entry cell at.awaits in
     let text = status_text-is world place at.entry fits.sound.lines cell at.awaits in
     let answered : IsSentBy at.entry.task.phase = awaited-sent at.entry.task.phase at.entry.status_td at.matched.status at.awaits in
-    let sent : at.entry.task.phase ≡ Sent Good =
-    managed-good at.entry.task.phase answered.answer answered.is (subst (λ r. IsPhaseOf r at.entry.task.phase) asks at.matched.answers) in
+    let sent : at.entry.task.phase ≡ Sent (WithResponse Complete) =
+    managed-complete at.entry.task.phase answered.answer answered.is (subst (λ r. IsPhaseOf r at.entry.task.phase) asks at.matched.answers) in
     let last : place.slot ≡ TASK_SLOT = subst (IsRequestIn place.slot) asks at.matched.asks in
-    let holds_answer = subst (λ r. HasAnswerIn r (Sent Good) tag (cell_at world place).buffers.status) asks
-    (subst (λ p. HasAnswerIn at.entry.task.request p tag (cell_at world place).buffers.status) sent at.cell.answer) in
-    let frees : FreesOne world (status_lines world tag) place (status_seen at.entry) = status-frees state world place rest at Good fits sent spent in
+    let holds_answer = subst (λ p. HasAnswerIn p tag (cell_at world place).buffers.status) sent at.cell.answer in
+    let frees : FreesOne world (status_lines world tag) place (status_seen at.entry) = status-frees state world place rest at (WithResponse Complete) fits sent spent in
     let there : IsPlace (length world.host.clients) place =
     subst (λ n. IsPlace n place) (sym (clients-length world state.parts fits.clients)) at.is_place in
     let does = ap (handled (event_sides world) world.frames) text.is
     ∙ handled-response world place at.entry (status_seen at.entry) what noted text.pointer _ _ asks there at.cell.held text.ended
-    (response_notice-is world.frames place.slot tag what noted Good last at.most holds_answer)
-    (response_seen-side at.entry what noted asks sent (awaited-pends at.entry.status_td 1 at.awaits))
+    (response_notice-is world.frames place.slot tag Complete last at.most holds_answer)
+    (response_seen-side at.entry what noted Complete asks sent (awaited-pends at.entry.status_td 1 at.awaits))
     ∙ ap (λ item. (
       record {
         host = host_answered world.host place (status_seen at.entry) noted.items;

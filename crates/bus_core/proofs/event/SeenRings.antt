@@ -13,7 +13,8 @@ use Rattle.uas_profile.specs.declared.TheConstants.{STREAM_RING_PLACES}
 use Rattle.stream_array.specs.Rings.{LinesState, stream_ring, with_ring}
 use Rattle.uas_profile.specs.declared.Direction.{Direction}
 use Rattle.uas_profile.specs.declared.Direction.TheVariants.{Nothing, ToHost, ToDevice}
-use Rattle.device_server.specs.declared.Answer.{Answer}
+use Rattle.solo_model.specs.declared.TaskAnswer.{TaskAnswer}
+use Rattle.solo_model.specs.declared.TaskAnswer.TheVariants.{WithStatus, WithResponse}
 use Rattle.device_server.specs.declared.Answer.TheVariants.{Good, Check}
 use Rattle.solo_model.specs.declared.Phase.{Phase}
 use Rattle.solo_model.specs.declared.Phase.TheVariants.{Queued, Begun, Sent, Gone}
@@ -162,26 +163,28 @@ pub holds-left_data : (ring : Ring) (trbs : List Trb) (td : Option Td) → Holds
 holds-left_data ring trbs None holds = holds
 holds-left_data ring trbs (Some td) holds = holds-left ring trbs td.state td.consumed holds
 
-pub in-answered : (ring : Ring) (trbs : List Trb) (way : Direction) (answer : Answer) (td : Option Td) → HoldsData ring trbs (data_in_td way td)
+pub in-answered : (ring : Ring) (trbs : List Trb) (way : Direction) (answer : TaskAnswer) (td : Option Td) → HoldsData ring trbs (data_in_td way td)
     → HoldsData ring trbs (data_in_td way (data_after_answer answer td))
-in-answered ring trbs way Good td holds = holds
-in-answered ring trbs Nothing (Check sense) td holds = holds
-in-answered ring trbs ToHost (Check sense) td holds = holds-left_data ring trbs td holds
-in-answered ring trbs ToDevice (Check sense) td holds = holds
+in-answered ring trbs way (WithStatus Good) td holds = holds
+in-answered ring trbs Nothing (WithStatus (Check sense)) td holds = holds
+in-answered ring trbs ToHost (WithStatus (Check sense)) td holds = holds-left_data ring trbs td holds
+in-answered ring trbs ToDevice (WithStatus (Check sense)) td holds = holds
+in-answered ring trbs way (WithResponse code) td holds = holds
 
-pub out-answered : (ring : Ring) (trbs : List Trb) (way : Direction) (answer : Answer) (td : Option Td) → HoldsData ring trbs (data_out_td way td)
+pub out-answered : (ring : Ring) (trbs : List Trb) (way : Direction) (answer : TaskAnswer) (td : Option Td) → HoldsData ring trbs (data_out_td way td)
     → HoldsData ring trbs (data_out_td way (data_after_answer answer td))
-out-answered ring trbs way Good td holds = holds
-out-answered ring trbs Nothing (Check sense) td holds = holds
-out-answered ring trbs ToHost (Check sense) td holds = holds
-out-answered ring trbs ToDevice (Check sense) td holds = holds-left_data ring trbs td holds
+out-answered ring trbs way (WithStatus Good) td holds = holds
+out-answered ring trbs Nothing (WithStatus (Check sense)) td holds = holds
+out-answered ring trbs ToHost (WithStatus (Check sense)) td holds = holds
+out-answered ring trbs ToDevice (WithStatus (Check sense)) td holds = holds-left_data ring trbs td holds
+out-answered ring trbs way (WithResponse code) td holds = holds
 
 -- the rings once the status TD is freed
 abbrev pub status_lines : World → ℕ → LinesState
 status_lines world tag = with_ring (without_event world.lines) Status tag (freed_ring world.lines.status tag)
 
 pub status-frees : (state : Shared) (world : World) (place : Place) (rest : List Completion) (at : IsSeenAt state world (StatusDone place) rest)
-    (answer : Answer) → Fits state world
+    (answer : TaskAnswer) → Fits state world
     → at.entry.task.phase ≡ Sent answer → IsSpent (stream_ring world.lines.status (tag_of place))
     → FreesOne world (status_lines world (tag_of place)) place (status_seen at.entry)
 status-frees state world place rest at answer fits sent spent = record {

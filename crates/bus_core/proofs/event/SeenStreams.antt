@@ -11,6 +11,9 @@ use Rattle.stream_array.specs.Rings.{LinesState, stream_ring, with_ring}
 use Rattle.uas_profile.specs.declared.Direction.{Direction}
 use Rattle.uas_profile.specs.declared.Direction.TheVariants.{Nothing, ToHost, ToDevice}
 use Rattle.device_server.specs.declared.Answer.{Answer}
+use Rattle.solo_model.specs.declared.TaskAnswer.{TaskAnswer}
+use Rattle.solo_model.specs.declared.TaskAnswer.TheVariants.{WithStatus, WithResponse}
+use Rattle.solo_model.specs.declared.Phase.{Phase}
 use Rattle.solo_model.specs.declared.Phase.TheVariants.{Sent}
 use Rattle.uas_host.specs.declared.Handled.TheVariants.{Matched}
 use Rattle.uas_profile.specs.declared.Place.{Place}
@@ -27,7 +30,7 @@ use Rattle.shared_machine.specs.Bus.{IsPlace}
 use Rattle.shared_machine.specs.Td.{Entry, data_after_status, data_trbs, is_awaited, is_td_left_over, with_event_seen}
 use Rattle.shared_machine.specs.Part.{seen_data_td, after_answer}
 use Rattle.shared_machine.specs.Shared.{Shared, request_direction}
-use Rattle.machine_invariant.specs.Matched.{awaits_data, request_bytes, IsRequestIn}
+use Rattle.machine_invariant.specs.Matched.{awaits_data, request_bytes, IsCommandPhase, IsPhaseOf, IsRequestIn}
 use Rattle.bus_core.specs.World.{World, cell_at}
 use Rattle.bus_core.specs.Cells.{HasAnswerIn, HoldsData, HoldsTd, HoldsTrbs, data_in_td, data_out_td, host_side}
 use Rattle.bus_core.specs.Fits.{Fits, FitsQueues, event_texts}
@@ -53,6 +56,15 @@ pub use Rattle.bus_core.proofs.event.SeenRings.{HasEventFit, event-done}
 
 -- STATUS
 
+-- a command is answered by a status
+record IsStatusSent (phase : Phase) : Type 0 where
+  answer : Answer
+  is : phase ≡ Sent (WithStatus answer)
+
+command-status_sent : (phase : Phase) (answer : TaskAnswer) → phase ≡ Sent answer → IsCommandPhase phase → IsStatusSent phase
+command-status_sent phase (WithStatus answer) sent answers = record { answer = answer; is = sent }
+command-status_sent phase (WithResponse code) sent answers = absurd (subst IsCommandPhase sent answers)
+
 -- the Sense unit of a command
 command-status : (state : Shared) (world : World) (place : Place) (rest : List Completion) (at : IsSeenAt state world (StatusDone place) rest) (op : Op)
     → at.entry.task.request ≡ Execute op → Fits state world → EventFits state world (status_text world place) (StatusDone place)
@@ -61,17 +73,18 @@ command-status state world place rest at op asks fits =
     let cell : HasCell world place at.entry = record { count = at.part.unit.count; tag = at.most; fits = at.cell } in
     let spent : IsSpent (stream_ring world.lines.status tag) = cell-status_spent world place at.entry cell at.awaits in
     let text = status_text-is world place at.entry fits.sound.lines cell at.awaits in
-    let answered : IsSentBy at.entry.task.phase = awaited-sent at.entry.task.phase at.entry.status_td at.matched.status at.awaits in
+    let handed : IsSentBy at.entry.task.phase = awaited-sent at.entry.task.phase at.entry.status_td at.matched.status at.awaits in
+    let answered : IsStatusSent at.entry.task.phase =
+    command-status_sent at.entry.task.phase handed.answer handed.is (subst (λ r. IsPhaseOf r at.entry.task.phase) asks at.matched.answers) in
     let answer : Answer = answered.answer in
     let less : place.slot < TASK_SLOT = subst (IsRequestIn place.slot) asks at.matched.asks in
-    let holds_answer = subst (λ r. HasAnswerIn r (Sent answer) tag (cell_at world place).buffers.status) asks
-    (subst (λ p. HasAnswerIn at.entry.task.request p tag (cell_at world place).buffers.status) answered.is at.cell.answer) in
-    let frees : FreesOne world (status_lines world tag) place (status_seen at.entry) = status-frees state world place rest at answer fits answered.is spent in
+    let holds_answer = subst (λ p. HasAnswerIn p tag (cell_at world place).buffers.status) answered.is at.cell.answer in
+    let frees : FreesOne world (status_lines world tag) place (status_seen at.entry) = status-frees state world place rest at (WithStatus answer) fits answered.is spent in
     let there : IsPlace (length world.host.clients) place =
     subst (λ n. IsPlace n place) (sym (clients-length world state.parts fits.clients)) at.is_place in
     let does = ap (handled (event_sides world) world.frames) text.is
     ∙ handled-is world place at.entry (status_seen at.entry) Status text.pointer _ _ _ refl there at.cell.held text.ended
-    (status_notice-is world.frames place.slot tag op answer less at.most holds_answer) (status_seen-side at.entry op answer asks answered.is
+    (status_notice-is world.frames place.slot tag answer less at.most holds_answer) (status_seen-side at.entry op answer asks answered.is
     (awaited-pends at.entry.status_td 1 at.awaits))
     ∙ ap (λ item. (
       record { host = host_with world.host place (status_seen at.entry); lines = with_freed (without_event world.lines) Status tag item },

@@ -30,9 +30,10 @@ use Rattle.device_server.specs.Server.{chunk_bytes, status_of, sense_of}
 use Rattle.scsi_cmd.specs.declared.Request.{Request}
 use Rattle.scsi_cmd.specs.declared.Request.TheVariants.{Execute, Manage}
 use Rattle.scsi_cmd.specs.Held.{held_at}
-use Rattle.device_server.specs.declared.Answer.{Answer}
+use Rattle.solo_model.specs.declared.TaskAnswer.{TaskAnswer}
+use Rattle.solo_model.specs.declared.TaskAnswer.TheVariants.{WithStatus, WithResponse}
 use Rattle.device_server.specs.declared.Answer.TheVariants.{Good, Check}
-use Rattle.device_server.specs.declared.Progress.TheVariants.{Moving, Ended}
+use Rattle.solo_model.specs.declared.TaskProgress.TheVariants.{Moving, Ended}
 use Rattle.solo_model.specs.declared.Phase.{Phase}
 use Rattle.solo_model.specs.declared.Phase.TheVariants.{Queued, Begun, Sent, Gone}
 use Rattle.solo_model.specs.Soundness.{IsSoundRequest}
@@ -70,9 +71,10 @@ use Rattle.bus_core.proofs.common.ActFits.{IsPlaced, placed, IsActed, acted_stat
 use Rattle.bus_core.proofs.carry.CommandFits.{event-room}
 use Rattle.bus_core.proofs.common.EventTexts.{KeepsOthers, carried_places-append, event_texts-append, event_texts-one}
 use Rattle.bus_core.proofs.common.Framing.{EndsStay}
-use Rattle.machine_invariant.proofs.MatchedEntries.{sent_to}
+use Rattle.machine_invariant.proofs.MatchedEntries.{sent-answers, sent_to}
 use Rattle.machine_invariant.proofs.MatchedNext.{matched-no_status_event}
-use Rattle.machine_invariant.proofs.MatchedSteps.{IsDueAt, place_fact-due, IsEndedBy, ended_phase, send_step-held, shared_step-matched}
+use Rattle.machine_invariant.proofs.MatchedSteps.{IsDueAt, place_fact-due, shared_step-matched}
+use Rattle.machine_invariant.proofs.MatchedMoves.{IsEndedBy, ended_phase, send_step-held}
 use Rattle.shared_machine.proofs.Standing.{held_under-with_same, held_under-with_other, slice_get-back}
 use Rattle.bus_core.proofs.status.StatusReady.{answer_unit, answer-unit, answer-most, answer-len, text-begins, status-names, spliced-front}
 use Rattle.bus_core.proofs.status.StatusReady.{with_status, status-written, tag-bounds, IsStatusReady, status-ready, status-armed, status-due}
@@ -81,16 +83,16 @@ use Rattle.bus_core.proofs.status.StatusReady.{status-own}
 -- THE CALL, COMPUTED
 
 -- the device's word of an ended request
-ended-wants : (unit : Option ℕ) (request : Request) (answer : Answer) → option_map_or task_wants (begun_task unit request (Ended answer)) Absent ≡ Ends
-ended-wants unit (Execute op) answer = refl
-ended-wants unit (Manage what noted) answer = refl
+ended-wants : (unit : Option ℕ) (request : Request) (answer : TaskAnswer) → option_map_or task_wants (begun_task unit request (Ended answer)) Absent ≡ Ends
+ended-wants unit request (WithStatus answer) = refl
+ended-wants unit request (WithResponse code) = refl
 
-ended-answer : (unit : Option ℕ) (tag : ℕ) (request : Request) (answer : Answer)
-    → option_and_then (task_answer tag) (begun_task unit request (Ended answer)) ≡ Some (answer_unit tag request answer)
-ended-answer unit tag (Execute op) answer = refl
-ended-answer unit tag (Manage what noted) answer = refl
+ended-answer : (unit : Option ℕ) (tag : ℕ) (request : Request) (answer : TaskAnswer)
+    → option_and_then (task_answer tag) (begun_task unit request (Ended answer)) ≡ Some (answer_unit tag answer)
+ended-answer unit tag request (WithStatus answer) = refl
+ended-answer unit tag request (WithResponse code) = refl
 
-ended-task : (state : Shared) (world : World) (place : Place) (entry : Entry) (answer : Answer) → IsPlaced state world place entry
+ended-task : (state : Shared) (world : World) (place : Place) (entry : Entry) (answer : TaskAnswer) → IsPlaced state world place entry
     → entry.task.phase ≡ Begun (Ended answer)
     → task_of world.device (tag_of place) ≡ begun_task (Some place.client) entry.task.request (Ended answer)
 ended-task state world place entry answer at ended =
@@ -105,10 +107,10 @@ sent_world world place text = record world {
   device = without_task world.device (tag_of place);
 }
 
-pub sent-is : (state : Shared) (world : World) (place : Place) (entry : Entry) (answer : Answer) → IsPlaced state world place entry → Fits state world
+pub sent-is : (state : Shared) (world : World) (place : Place) (entry : Entry) (answer : TaskAnswer) → IsPlaced state world place entry → Fits state world
     → entry.task.phase ≡ Begun (Ended answer) → is_open state.status (tag_of place) ≡ true
     → sent_by world.controller (sides_in world) (tag_of place)
-    ≡ (sides_in (sent_world world place (answer_text (tag_of place) entry.task.request answer)), ActedOn (tag_of place))
+    ≡ (sides_in (sent_world world place (answer_text (tag_of place) answer)), ActedOn (tag_of place))
 sent-is state world place entry answer at fits ended opened =
     let tag = tag-bounds state world place entry at fits in
     let ready : IsStatusReady state world place entry = status-ready state world place entry answer at ended in
@@ -122,18 +124,18 @@ sent-is state world place entry answer at fits ended opened =
     ∙ ap (sent_as world.controller (sides_in world) (tag_of place) Ends) (ended-answer (Some place.client) (tag_of place) entry.task.request answer)
     ∙ ap (λ text. on_front (sides_in world) (sent_at (sides_in world) (tag_of place) text)
     (cond (is_armed world.controller world.lines Status (tag_of place)) (room_front world.lines Status (tag_of place)) None))
-    (sym (answer-unit (tag_of place) entry.task.request answer))
-    ∙ ap (λ b. on_front (sides_in world) (sent_at (sides_in world) (tag_of place) (answer_text (tag_of place) entry.task.request answer))
+    (sym (answer-unit (tag_of place) answer))
+    ∙ ap (λ b. on_front (sides_in world) (sent_at (sides_in world) (tag_of place) (answer_text (tag_of place) answer))
     (cond b (room_front world.lines Status (tag_of place)) None)) armed
-    ∙ ap (λ b. on_front (sides_in world) (sent_at (sides_in world) (tag_of place) (answer_text (tag_of place) entry.task.request answer))
+    ∙ ap (λ b. on_front (sides_in world) (sent_at (sides_in world) (tag_of place) (answer_text (tag_of place) answer))
     (cond b (front_of STREAM_RING_PLACES (stream_ring world.lines.status (tag_of place))) None)) (event-room state world fits)
-    ∙ ap (on_front (sides_in world) (sent_at (sides_in world) (tag_of place) (answer_text (tag_of place) entry.task.request answer))) ready.front
+    ∙ ap (on_front (sides_in world) (sent_at (sides_in world) (tag_of place) (answer_text (tag_of place) answer))) ready.front
     ∙ ap (λ frames. (
-      record (sides_in (sent_world world place (answer_text (tag_of place) entry.task.request answer))) { frames = frames },
+      record (sides_in (sent_world world place (answer_text (tag_of place) answer))) { frames = frames },
       ActedOn (tag_of place),
     ))
-    (status-written world.frames (tag_of place) (answer_text (tag_of place) entry.task.request answer) fits.sound.frames tag.0 (omega (arith, tag.1))
-    (answer-most (tag_of place) entry.task.request answer))
+    (status-written world.frames (tag_of place) (answer_text (tag_of place) answer) fits.sound.frames tag.0 (omega (arith, tag.1))
+    (answer-most (tag_of place) answer))
 
 -- THE CELL
 
@@ -143,14 +145,14 @@ taken_ring ring = record ring { got = ring.got + 1 }
 abbrev pub sent_cell : Cell → List ℕ → Cell
 sent_cell cell text = record cell { task = None; status = taken_ring cell.status; buffers = with_status cell.buffers text }
 
-pub cell-sent : (client count : ℕ) (place : Place) (entry : Entry) (answer : Answer) (cell : Cell) → entry.task.phase ≡ Begun (Ended answer)
+pub cell-sent : (client count : ℕ) (place : Place) (entry : Entry) (answer : TaskAnswer) (cell : Cell) → entry.task.phase ≡ Begun (Ended answer)
     → entry.status_td ≡ pushed
     → FitsCell client count place entry cell
-    → FitsCell client count place (sent_to entry answer) (sent_cell cell (answer_text (tag_of place) entry.task.request answer))
+    → FitsCell client count place (sent_to entry answer) (sent_cell cell (answer_text (tag_of place) answer))
 cell-sent client count place entry answer cell ended td fits = record {
   held = fits.held
-      ∙ ap (λ p. Some (record (host_side entry) { told = told_by entry.task.request p entry.status_td.state })) ended
-      ∙ ap (λ t. Some (record (host_side entry) { told = t })) (sym (ap (λ t. told_sent entry.task.request answer t.state) td));
+      ∙ ap (λ p. Some (record (host_side entry) { told = told_by p entry.status_td.state })) ended
+      ∙ ap (λ t. Some (record (host_side entry) { told = t })) (sym (ap (λ t. told_sent answer t.state) td));
   task = refl;
   status =
       let holds : HoldsTrbs cell.status (status_td (tag_of place)) 0 = subst (λ t. HoldsTd cell.status (status_td (tag_of place)) t) td fits.status in
@@ -160,7 +162,7 @@ cell-sent client count place entry answer cell ended td fits = record {
   lent = fits.lent;
   bytes = fits.bytes;
   unit = fits.unit;
-  answer = text-begins cell.buffers.status (answer_text (tag_of place) entry.task.request answer);
+  answer = text-begins cell.buffers.status (answer_text (tag_of place) answer);
   sound = sound_sent entry.task.request fits.sound;
 }
   where
@@ -199,43 +201,44 @@ sent-others world place text other at inside apart =
 -- THE QUEUES
 
 -- the event of the status TD, as the cell tells it afterwards
-sent-text : (world : World) (place : Place) (request : Request) (answer : Answer) (k : ℕ) → IsSoundWorld world → IsRequestIn place.slot request
+sent-text : (world : World) (place : Place) (request : Request) (answer : TaskAnswer) (k : ℕ) → IsSoundWorld world → IsRequestIn place.slot request
+    → IsPhaseOf request (Sent answer)
     → 1 ≤ tag_of place → tag_of place ≤ GREATEST_TAG
     → (stream_ring world.lines.status (tag_of place)).put ≡ status_td (tag_of place)
-    → event_texts (sent_world world place (answer_text (tag_of place) request answer)) k (StatusDone place ∷ [])
+    → event_texts (sent_world world place (answer_text (tag_of place) answer)) k (StatusDone place ∷ [])
     ≡ Transfer (pointer_of STREAM_RING_PLACES (stream_ring world.lines.status (tag_of place)) 0)
-    (STATUS_BYTES - length (answer_text (tag_of place) request answer)) SHORT_PACKET (endpoint_of Status) SLOT ∷ []
-sent-text world place request answer k sound asks some most put =
+    (STATUS_BYTES - length (answer_text (tag_of place) answer)) SHORT_PACKET (endpoint_of Status) SLOT ∷ []
+sent-text world place request answer k sound asks answers some most put =
     ap (λ (c : Cell). status_event place.slot c.status c.buffers.status ∷ [])
-    (sent-here world place (answer_text (tag_of place) request answer) sound some most)
+    (sent-here world place (answer_text (tag_of place) answer) sound some most)
     ∙ ap (λ trbs. Transfer (pointer_of STREAM_RING_PLACES (stream_ring world.lines.status (tag_of place)) (length trbs - 1))
-    (STATUS_BYTES - unit_len place.slot (with_bytes_at (held_for world.frames (tag_of place)).status 0 (answer_text (tag_of place) request answer)))
+    (STATUS_BYTES - unit_len place.slot (with_bytes_at (held_for world.frames (tag_of place)).status 0 (answer_text (tag_of place) answer)))
     SHORT_PACKET (endpoint_of Status) SLOT ∷ []) put
     ∙ ap (λ n. Transfer (pointer_of STREAM_RING_PLACES (stream_ring world.lines.status (tag_of place)) 0) (STATUS_BYTES - n) SHORT_PACKET
     (endpoint_of Status) SLOT ∷ [])
-    (answer-len (tag_of place) place.slot request answer (held_for world.frames (tag_of place)).status asks)
+    (answer-len (tag_of place) place.slot request answer (held_for world.frames (tag_of place)).status asks answers)
 
-pub sent-queues : (state : Shared) (world : World) (place : Place) (request : Request) (answer : Answer) (part : Part) (new : Entry) → Fits state world
-    → place.slot < TAGS → IsRequestIn place.slot request
+pub sent-queues : (state : Shared) (world : World) (place : Place) (request : Request) (answer : TaskAnswer) (part : Part) (new : Entry) → Fits state world
+    → place.slot < TAGS → IsRequestIn place.slot request → IsPhaseOf request (Sent answer)
     → 1 ≤ tag_of place → tag_of place ≤ GREATEST_TAG → (stream_ring world.lines.status (tag_of place)).put ≡ status_td (tag_of place)
     → status_events place state.events ≡ 0
     → FitsQueues (acted_state state place part part.unit new state.messages (StatusDone place ∷ []))
-    (sent_world world place (answer_text (tag_of place) request answer))
-sent-queues state world place request answer part new fits within asks some most put none =
+    (sent_world world place (answer_text (tag_of place) answer))
+sent-queues state world place request answer part new fits within asks answers some most put none =
     let event : Event = Transfer (pointer_of STREAM_RING_PLACES (stream_ring world.lines.status (tag_of place)) 0)
-    (STATUS_BYTES - length (answer_text (tag_of place) request answer)) SHORT_PACKET (endpoint_of Status) SLOT in
+    (STATUS_BYTES - length (answer_text (tag_of place) answer)) SHORT_PACKET (endpoint_of Status) SLOT in
     let more : carried_places (state.events ++ StatusDone place ∷ []) ≡ carried_places state.events =
     carried_places-append state.events (StatusDone place ∷ []) ∙ append-nil (carried_places state.events) in
-    let kept : event_texts (sent_world world place (answer_text (tag_of place) request answer)) 0 state.events ≡ event_texts world 0 state.events =
-    event_texts-one state world (sent_world world place (answer_text (tag_of place) request answer)) place 0 fits.matched within (refl, refl) refl
-    (sent-others world place (answer_text (tag_of place) request answer)) (λ waits. (refl, refl)) (λ waits. absurd (omega (arith, waits, none))) in
+    let kept : event_texts (sent_world world place (answer_text (tag_of place) answer)) 0 state.events ≡ event_texts world 0 state.events =
+    event_texts-one state world (sent_world world place (answer_text (tag_of place) answer)) place 0 fits.matched within (refl, refl) refl
+    (sent-others world place (answer_text (tag_of place) answer)) (λ waits. (refl, refl)) (λ waits. absurd (omega (arith, waits, none))) in
     record {
       put = fits.queues.put ∙ ap (λ ps. map command_trb (ps ++ state.messages)) (sym more);
       got = fits.queues.got ∙ ap length (sym more);
       texts = ap (λ es. es ++ event ∷ []) (fits.queues.texts ∙ sym kept)
-          ∙ ap (λ es. event_texts (sent_world world place (answer_text (tag_of place) request answer)) 0 state.events ++ es)
-          (sym (sent-text world place request answer (0 + length (carried_places state.events)) fits.sound asks some most put))
-          ∙ sym (event_texts-append (sent_world world place (answer_text (tag_of place) request answer)) 0 state.events (StatusDone place ∷ []));
+          ∙ ap (λ es. event_texts (sent_world world place (answer_text (tag_of place) answer)) 0 state.events ++ es)
+          (sym (sent-text world place request answer (0 + length (carried_places state.events)) fits.sound asks answers some most put))
+          ∙ sym (event_texts-append (sent_world world place (answer_text (tag_of place) answer)) 0 state.events (StatusDone place ∷ []));
     }
 
 -- THE STEP
@@ -250,9 +253,9 @@ sent-ends state world place text sound some most Status streams left =
 sent-ends state world place text sound some most DataIn streams left = record { base = refl; at = refl; put = refl }
 sent-ends state world place text sound some most DataOut streams left = record { base = refl; at = refl; put = refl }
 
-sent-acted : (state : Shared) (world : World) (place : Place) (entry : Entry) (answer : Answer) (at : IsPlaced state world place entry) → Fits state world
+sent-acted : (state : Shared) (world : World) (place : Place) (entry : Entry) (answer : TaskAnswer) (at : IsPlaced state world place entry) → Fits state world
     → entry.task.phase ≡ Begun (Ended answer) → status_events place state.events ≡ 0
-    → IsActed state world (sent_world world place (answer_text (tag_of place) entry.task.request answer)) place at.part at.part.unit
+    → IsActed state world (sent_world world place (answer_text (tag_of place) answer)) place at.part at.part.unit
     (sent_to entry answer) state.messages (StatusDone place ∷ [])
 sent-acted state world place entry answer at fits ended none =
     let tag = tag-bounds state world place entry at fits in
@@ -263,18 +266,19 @@ sent-acted state world place entry answer at fits ended none =
       engine = refl;
       units = sym (slice_get-back world.device.units place.client at.part.unit at.client.unit_is);
       tasks = λ other apart. held_under-with_other world.device.tasks (tag_of place) other None apart;
-      others = sent-others world place (answer_text (tag_of place) entry.task.request answer);
-      ends = sent-ends state world place (answer_text (tag_of place) entry.task.request answer) fits.sound tag.0 tag.1;
+      others = sent-others world place (answer_text (tag_of place) answer);
+      ends = sent-ends state world place (answer_text (tag_of place) answer) fits.sound tag.0 tag.1;
       count = refl;
       cell = subst (λ c. FitsCell place.client at.part.unit.count place (sent_to entry answer) c)
-          (sym (sent-here world place (answer_text (tag_of place) entry.task.request answer) fits.sound tag.0 tag.1))
+          (sym (sent-here world place (answer_text (tag_of place) answer) fits.sound tag.0 tag.1))
           (cell-sent place.client at.part.unit.count place entry answer (cell_at world place) ended ready.td at.cell);
       queues = sent-queues state world place entry.task.request answer at.part (sent_to entry answer) fits at.is_place.slot at.matched.here.sound.asks
+          (sent-answers entry.task.request answer (subst (λ p. IsPhaseOf entry.task.request p) ended at.matched.here.sound.answers))
           tag.0 tag.1 ready.ring.0 none;
     }
 
 -- the shared machine's step
-status-stepped : (state : Shared) (place : Place) (part : Part) (entry : Entry) (answer : Answer) → due state (StatusStep (tag_of place)) ≡ true
+status-stepped : (state : Shared) (place : Place) (part : Part) (entry : Entry) (answer : TaskAnswer) → due state (StatusStep (tag_of place)) ≡ true
     → place_of (length state.parts) (tag_of place) ≡ Some place → slice_get state.parts place.client ≡ Some part
     → held_at part.entries place.slot ≡ Some entry → entry.task.phase ≡ Begun (Ended answer)
     → (shared_step state (StatusStep (tag_of place))).0
@@ -283,7 +287,7 @@ status-stepped state place part entry answer is_due named there held ended =
     ap (λ b. (cond b (due_step state (StatusStep (tag_of place))) (state, idle)).0) is_due
     ∙ ap (λ s. s.0) (send_step-held state (tag_of place) place part entry answer named there held ended)
 
-status-at : (state : Shared) (world : World) (place : Place) (entry : Entry) (answer : Answer) → IsPlaced state world place entry → Fits state world
+status-at : (state : Shared) (world : World) (place : Place) (entry : Entry) (answer : TaskAnswer) → IsPlaced state world place entry → Fits state world
     → due state (StatusStep (tag_of place)) ≡ true → place_of (length state.parts) (tag_of place) ≡ Some place → entry.task.phase ≡ Begun (Ended answer)
     → is_open state.status (tag_of place) ≡ true → StatusFits state world (tag_of place)
 status-at state world place entry answer at fits is_due named ended opened =
@@ -300,7 +304,7 @@ status-at state world place entry answer at fits is_due named ended opened =
           subst (λ s. Fits s (status_world world (tag_of place))) (sym stepped)
           (subst (λ (c : Sides × Acted). Fits
           (acted_state state place at.part at.part.unit (sent_to entry answer) state.messages (StatusDone place ∷ [])) (with_sides world c.0)) (sym called)
-          (acted-fits state world (sent_world world place (answer_text (tag_of place) entry.task.request answer)) place entry
+          (acted-fits state world (sent_world world place (answer_text (tag_of place) answer)) place entry
           (sent_to entry answer) at.part.unit state.messages (StatusDone place ∷ []) at fits
           (sent-acted state world place entry answer at fits ended (matched-no_status_event state fits.matched (tag_of place) place named is_due))
           (subst IsMatched stepped (shared_step-matched state (StatusStep (tag_of place)) fits.matched))
@@ -335,7 +339,7 @@ IsTold world tag task is_due =
     (is_due ≡ status_due_by world tag (option_map_or task_wants task Absent))
     × IsOwnStatusFront world.lines world.frames tag (option_and_then (task_answer tag) task)
 
-told-ended : (state : Shared) (world : World) (place : Place) (entry : Entry) (answer : Answer) → IsPlaced state world place entry → Fits state world
+told-ended : (state : Shared) (world : World) (place : Place) (entry : Entry) (answer : TaskAnswer) → IsPlaced state world place entry → Fits state world
     → entry.task.phase ≡ Begun (Ended answer)
     → IsTold world (tag_of place) (begun_task (Some place.client) entry.task.request (Ended answer))
     (is_open state.status (tag_of place) && has_trb entry.status_td 1)

@@ -30,12 +30,14 @@ use Rattle.device_server.specs.Server.{chunk_bytes, status_of, sense_of}
 use Rattle.scsi_cmd.specs.declared.Request.{Request}
 use Rattle.scsi_cmd.specs.declared.Request.TheVariants.{Execute, Manage}
 use Rattle.scsi_cmd.specs.Held.{held_at}
-use Rattle.device_server.specs.declared.Answer.{Answer}
+use Rattle.solo_model.specs.declared.TaskAnswer.{TaskAnswer}
+use Rattle.solo_model.specs.declared.TaskAnswer.TheVariants.{WithStatus, WithResponse}
 use Rattle.device_server.specs.declared.Answer.TheVariants.{Good, Check}
-use Rattle.device_server.specs.declared.Progress.TheVariants.{Moving, Ended}
+use Rattle.solo_model.specs.declared.TaskProgress.TheVariants.{Moving, Ended}
 use Rattle.solo_model.specs.declared.Phase.{Phase}
 use Rattle.solo_model.specs.declared.Phase.TheVariants.{Queued, Begun, Sent, Gone}
 use Rattle.solo_model.specs.Soundness.{IsSoundRequest}
+use Rattle.solo_model.specs.TaggedTask.{response_number}
 use Rattle.uas_iu.specs.declared.Iu.{Iu}
 use Rattle.uas_iu.specs.declared.Iu.TheVariants.{Response as ResponseIu, Sense as SenseIu}
 use Rattle.uas_iu.specs.Units.{unit_text}
@@ -72,36 +74,39 @@ use Rattle.bus_core.proofs.common.EventTexts.{KeepsOthers, carried_places-append
 use Rattle.bus_core.proofs.common.Framing.{EndsStay}
 use Rattle.machine_invariant.proofs.MatchedEntries.{sent_to}
 use Rattle.machine_invariant.proofs.MatchedNext.{matched-no_status_event}
-use Rattle.machine_invariant.proofs.MatchedSteps.{IsDueAt, place_fact-due, IsEndedBy, ended_phase, send_step-held, shared_step-matched}
+use Rattle.machine_invariant.proofs.MatchedSteps.{IsDueAt, place_fact-due, shared_step-matched}
+use Rattle.machine_invariant.proofs.MatchedMoves.{IsEndedBy, ended_phase, send_step-held}
 use Rattle.shared_machine.proofs.Standing.{held_under-with_same, held_under-with_other, slice_get-back}
 
 -- THE UNIT OF AN ANSWER
 
--- of a command a Sense unit, of a task management the Response unit with COMPLETE
-abbrev pub answer_unit : ℕ → Request → Answer → Iu
-answer_unit tag (Execute op) answer = SenseIu tag (status_of answer) (record { items = sense_of answer })
-answer_unit tag (Manage what noted) answer = ResponseIu tag 0
+-- of a status a Sense unit, of a response the Response unit with its code
+abbrev pub answer_unit : ℕ → TaskAnswer → Iu
+answer_unit tag (WithStatus answer) = SenseIu tag (status_of answer) (record { items = sense_of answer })
+answer_unit tag (WithResponse code) = ResponseIu tag (response_number code)
 
-pub answer-unit : (tag : ℕ) (request : Request) (answer : Answer) → answer_text tag request answer ≡ unit_text (answer_unit tag request answer)
-answer-unit tag (Execute op) answer = refl
-answer-unit tag (Manage what noted) answer = refl
+pub answer-unit : (tag : ℕ) (answer : TaskAnswer) → answer_text tag answer ≡ unit_text (answer_unit tag answer)
+answer-unit tag (WithStatus answer) = refl
+answer-unit tag (WithResponse code) = refl
 
-pub answer-most : (tag : ℕ) (request : Request) (answer : Answer) → length (answer_text tag request answer) ≤ STATUS_BYTES
+pub answer-most : (tag : ℕ) (answer : TaskAnswer) → length (answer_text tag answer) ≤ STATUS_BYTES
 unfolding unit_text
-answer-most tag (Execute op) Good = omega arith
-answer-most tag (Execute op) (Check sense) = omega arith
-answer-most tag (Manage what noted) answer = omega arith
+answer-most tag (WithStatus Good) = omega arith
+answer-most tag (WithStatus (Check sense)) = omega arith
+answer-most tag (WithResponse code) = omega arith
 
 -- byte 15 of a status buffer that begins with a Sense unit tells its length, and a Response unit, of the last slot, has 8 bytes
-pub answer-len : (tag slot : ℕ) (request : Request) (answer : Answer) (bytes : List ℕ) → IsRequestIn slot request
-    → unit_len slot (with_bytes_at bytes 0 (answer_text tag request answer)) ≡ length (answer_text tag request answer)
+pub answer-len : (tag slot : ℕ) (request : Request) (answer : TaskAnswer) (bytes : List ℕ) → IsRequestIn slot request → IsPhaseOf request (Sent answer)
+    → unit_len slot (with_bytes_at bytes 0 (answer_text tag answer)) ≡ length (answer_text tag answer)
 unfolding unit_text with_bytes_at
-answer-len tag slot (Execute op) Good bytes asks =
+answer-len tag slot (Execute op) (WithStatus Good) bytes asks answers =
     ap (λ b. cond b 8 16) (ne_eqb slot TASK_SLOT (λ same. omega (arith, asks, same)))
-answer-len tag slot (Execute op) (Check sense) bytes asks =
+answer-len tag slot (Execute op) (WithStatus (Check sense)) bytes asks answers =
     ap (λ b. cond b 8 34) (ne_eqb slot TASK_SLOT (λ same. omega (arith, asks, same)))
-answer-len tag slot (Manage what noted) answer bytes asks =
-    ap (λ b. cond b 8 (unit_len 0 (with_bytes_at bytes 0 (answer_text tag (Manage what noted) answer)))) (eq-eqb slot TASK_SLOT asks)
+answer-len tag slot (Execute op) (WithResponse code) bytes asks answers = absurd answers
+answer-len tag slot (Manage what noted) (WithStatus answer) bytes asks answers = absurd answers
+answer-len tag slot (Manage what noted) (WithResponse code) bytes asks answers =
+    ap (λ b. cond b 8 (unit_len 0 (with_bytes_at bytes 0 (answer_text tag (WithResponse code))))) (eq-eqb slot TASK_SLOT asks)
 
 pub text-begins : (bytes text : List ℕ) → take (length text) (with_bytes_at bytes 0 text) ≡ text
 unfolding with_bytes_at
@@ -146,7 +151,7 @@ pub record IsStatusReady (state : Shared) (world : World) (place : Place) (entry
             (record { 0 = 18 }),
       )
 
-pub status-ready : (state : Shared) (world : World) (place : Place) (entry : Entry) (answer : Answer) → IsPlaced state world place entry
+pub status-ready : (state : Shared) (world : World) (place : Place) (entry : Entry) (answer : TaskAnswer) → IsPlaced state world place entry
     → entry.task.phase ≡ Begun (Ended answer) → IsStatusReady state world place entry
 status-ready state world place entry answer at ended =
     let td : entry.status_td ≡ pushed = subst (λ p. IsStatusTd p entry.status_td) ended at.matched.here.sound.status in
@@ -178,12 +183,12 @@ pub status-due : (state : Shared) (world : World) (place : Place) (entry : Entry
 status-due state world place entry ready = ap (λ td. is_open state.status (tag_of place) && has_trb td 1) ready.td
 
 -- the TRB in front is the host's own
-pub status-own : (state : Shared) (world : World) (place : Place) (entry : Entry) (answer : Answer) → IsPlaced state world place entry → Fits state world
+pub status-own : (state : Shared) (world : World) (place : Place) (entry : Entry) (answer : TaskAnswer) → IsPlaced state world place entry → Fits state world
     → IsStatusReady state world place entry
-    → IsOwnStatusFront world.lines world.frames (tag_of place) (Some (answer_unit (tag_of place) entry.task.request answer))
+    → IsOwnStatusFront world.lines world.frames (tag_of place) (Some (answer_unit (tag_of place) answer))
 status-own state world place entry answer at fits ready =
     let tag = tag-bounds state world place entry at fits in
-    subst (λ front. IfSome front (λ f. IsOwnStatus world.frames (answer_unit (tag_of place) entry.task.request answer) f.1)) (sym ready.front) (
+    subst (λ front. IfSome front (λ f. IsOwnStatus world.frames (answer_unit (tag_of place) answer) f.1)) (sym ready.front) (
       (refl, refl, inr (front_byte StatusBuffer (tag_of place), status-names world.frames (tag_of place) STATUS_BYTES fits.sound.frames tag.0 (omega (arith, tag.1)) (omega arith))),
-      subst (λ text. length text ≤ STATUS_BYTES) (answer-unit (tag_of place) entry.task.request answer) (answer-most (tag_of place) entry.task.request answer),
+      subst (λ text. length text ≤ STATUS_BYTES) (answer-unit (tag_of place) answer) (answer-most (tag_of place) answer),
     )

@@ -7,6 +7,7 @@ use Rattle.scsi_cmd.specs.declared.Request.TheVariants.{Execute, Manage}
 use Rattle.scsi_cmd.specs.Held.{held_at}
 use Rattle.solo_model.specs.declared.Phase.{Phase}
 use Rattle.solo_model.specs.declared.Phase.TheVariants.{Queued, Begun, Sent, Gone}
+use Rattle.solo_model.specs.declared.TaskAnswer.TheVariants.{WithStatus, WithResponse}
 use Rattle.solo_model.specs.TaggedTask.{TaggedTask}
 use Rattle.solo_model.specs.Soundness.{IsSoundRequest}
 use Rattle.uas_host.specs.declared.HostClient.{HostClient}
@@ -19,7 +20,7 @@ use Rattle.shared_machine.specs.Part.{Part}
 use Rattle.shared_machine.specs.Shared.{Shared}
 use Rattle.shared_machine.specs.Laws.{brought_len, entry_len, first_len, next_len, part_len, sent_len}
 use Rattle.shared_machine.proofs.Standing.{get-none}
-use Rattle.machine_invariant.specs.Matched.{IsStatusTd}
+use Rattle.machine_invariant.specs.Matched.{IsPhaseOf, IsStatusTd}
 use Rattle.machine_invariant.proofs.MatchedEnds.{pushed-over}
 use Rattle.bus_core.specs.World.{World}
 use Rattle.bus_core.specs.Fits.{Fits}
@@ -33,19 +34,21 @@ brought-is count task (Execute op) sound = sound.whole
 brought-is count task (Manage what noted) sound = refl
 
 -- and does so once its status TD is over
-sent-is : (phase : Phase) (request : Request) (buffer : List ℕ) (td : Td) → IsStatusTd phase td → is_over td.state ≡ true
+sent-is : (phase : Phase) (request : Request) (buffer : List ℕ) (td : Td) → IsPhaseOf request phase → IsStatusTd phase td → is_over td.state ≡ true
     → sent_len phase request buffer ≡ brought_len request buffer
-sent-is Queued request buffer td status over = absurd (pushed-over td status over)
-sent-is (Begun progress) request buffer td status over = absurd (pushed-over td status over)
-sent-is (Sent answer) request buffer td status over = refl
-sent-is Gone request buffer td status over = refl
+sent-is Queued request buffer td answers status over = absurd (pushed-over td status over)
+sent-is (Begun progress) request buffer td answers status over = absurd (pushed-over td status over)
+sent-is (Sent (WithStatus answer)) request buffer td answers status over = refl
+sent-is (Sent (WithResponse code)) (Execute op) buffer td answers status over = absurd answers
+sent-is (Sent (WithResponse code)) (Manage what noted) buffer td answers status over = refl
+sent-is Gone request buffer td answers status over = refl
 
 -- where this slot is ready first
 ready-len : (state : Shared) (world : World) (client slot : ℕ) (rest : List ℕ) (part : Part) (at : IsReadyAt state world client slot rest part)
     → first_len part (slot ∷ rest) ≡ host_first_len (client_of world.host client) (slot ∷ rest)
 ready-len state world client slot rest part at =
     ap (λ held. option_map_or entry_len held 0) at.held
-    ∙ sent-is at.entry.task.phase at.entry.task.request at.entry.task.buffer at.entry.status_td at.matched.status at.status_over
+    ∙ sent-is at.entry.task.phase at.entry.task.request at.entry.task.buffer at.entry.status_td at.matched.answers at.matched.status at.status_over
     ∙ brought-is part.unit.count at.entry.task at.entry.task.request at.cell.sound
     ∙ sym (ap (λ held. option_map_or host_entry_len held 0) at.cell.held)
 

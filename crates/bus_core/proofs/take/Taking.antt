@@ -22,10 +22,12 @@ use Rattle.arrayvec.specs.ArrayVec.{ArrayVec}
 use Rattle.uas_profile.specs.declared.TheConstants.{TAGS, MAX_CLIENTS}
 use Rattle.scsi_cmd.specs.Held.{held_at}
 use Rattle.device_server.specs.declared.Answer.{Answer}
+use Rattle.solo_model.specs.declared.ResponseCode.{ResponseCode}
+use Rattle.solo_model.specs.declared.TaskAnswer.TheVariants.{WithStatus, WithResponse}
 use Rattle.solo_model.specs.declared.Phase.{Phase}
 use Rattle.solo_model.specs.declared.Phase.TheVariants.{Queued, Begun, Sent, Gone}
 use Rattle.device_server.specs.Server.{status_of, sense_of}
-use Rattle.solo_model.specs.TaggedTask.{aborted_by, answered_by, reply_from}
+use Rattle.solo_model.specs.TaggedTask.{aborted_by, answered_by, reply_from, response_number}
 use Rattle.uas_profile.specs.declared.Place.{Place}
 use Rattle.uas_profile.specs.declared.TdState.{TdState}
 use Rattle.uas_profile.specs.declared.TdState.TheVariants.{Pending, Seen, LeftOver, Retired}
@@ -157,20 +159,20 @@ over-retired consumed Retired given over = refl
 -- the host's reply to a command, by its status TD
 command-host : (tag : ℕ) (entry : Entry) (op : Op) (state : TdState) → entry.task.request ≡ Execute op → entry.status_td.state ≡ state
     → reply_of tag (lent_for entry.task.request entry.task.buffer) (host_side entry)
-    ≡ command_reply tag entry.task.ticket (told_by entry.task.request entry.task.phase state) state entry.task.buffer
+    ≡ command_reply tag entry.task.ticket (told_by entry.task.phase state) state entry.task.buffer
 command-host tag entry op state asks is =
     ap (λ r. reply_to tag (host_side entry) (lent_for r entry.task.buffer) r) asks
-    ∙ ap (λ s. command_reply tag entry.task.ticket (told_by entry.task.request entry.task.phase s) s entry.task.buffer) is
+    ∙ ap (λ s. command_reply tag entry.task.ticket (told_by entry.task.phase s) s entry.task.buffer) is
 
-status-replied : (tag : ℕ) (entry : Entry) (op : Op) (answer : Answer) → entry.task.request ≡ Execute op → entry.task.phase ≡ Sent answer
+status-replied : (tag : ℕ) (entry : Entry) (op : Op) (answer : Answer) → entry.task.request ≡ Execute op → entry.task.phase ≡ Sent (WithStatus answer)
     → entry.status_td.state ≡ Seen → IsReplied tag entry
 status-replied tag entry op answer asks sent seen =
-    let told : told_by entry.task.request entry.task.phase Seen ≡ AnsweredStatus (status_of answer) (record { items = sense_of answer }) =
-    ap (λ p. told_by entry.task.request p Seen) sent ∙ ap (λ r. told_by r (Sent answer) Seen) asks in
+    let told : told_by entry.task.phase Seen ≡ AnsweredStatus (status_of answer) (record { items = sense_of answer }) =
+    ap (λ p. told_by p Seen) sent in
     record {
       reply = StatusReply tag entry.task.ticket (status_of answer) (record { items = sense_of answer }) entry.task.buffer;
       shared = ap (λ phase. reply_from tag entry.task phase) sent
-          ∙ ap (λ r. Some (answered_by tag entry.task.ticket entry.task.buffer answer r)) asks;
+          ∙ ap (λ r. answered_by tag entry.task.ticket entry.task.buffer (WithStatus answer) r) asks;
       host = command-host tag entry op Seen asks seen ∙ ap (λ t. status_reply tag entry.task.ticket entry.task.buffer t) told;
       frames = λ frames. ap (λ r. frames_given r frames tag) (sym asks);
     }
@@ -184,15 +186,15 @@ aborted-replied tag entry op asks gone retired = record {
   frames = λ frames. ap (λ r. frames_given r frames tag) (sym asks);
 }
 
-task-replied : (tag : ℕ) (entry : Entry) (what : Task) (noted : ArrayVec ℕ) (answer : Answer) → entry.task.request ≡ Manage what noted
-    → entry.task.phase ≡ Sent answer → entry.status_td.state ≡ Seen → IsReplied tag entry
-task-replied tag entry what noted answer asks sent seen =
-    let told : told_by entry.task.request entry.task.phase entry.status_td.state ≡ AnsweredResponse 0 =
-    ap (told_by entry.task.request entry.task.phase) seen ∙ ap (λ p. told_by entry.task.request p Seen) sent ∙ ap (λ r. told_by r (Sent answer) Seen) asks in
+task-replied : (tag : ℕ) (entry : Entry) (what : Task) (noted : ArrayVec ℕ) (code : ResponseCode) → entry.task.request ≡ Manage what noted
+    → entry.task.phase ≡ Sent (WithResponse code) → entry.status_td.state ≡ Seen → IsReplied tag entry
+task-replied tag entry what noted code asks sent seen =
+    let told : told_by entry.task.phase entry.status_td.state ≡ AnsweredResponse (response_number code) =
+    ap (told_by entry.task.phase) seen ∙ ap (λ p. told_by p Seen) sent in
     record {
-      reply = TaskReply tag entry.task.ticket 0;
+      reply = TaskReply tag entry.task.ticket (response_number code);
       shared = ap (λ phase. reply_from tag entry.task phase) sent
-          ∙ ap (λ r. Some (answered_by tag entry.task.ticket entry.task.buffer answer r)) asks;
+          ∙ ap (λ r. answered_by tag entry.task.ticket entry.task.buffer (WithResponse code) r) asks;
       host = ap (λ r. reply_to tag (host_side entry) (lent_for r entry.task.buffer) r) asks ∙ ap (task_reply tag entry.task.ticket) told;
       frames = λ frames. ap (λ r. frames_given r frames tag) (sym asks);
     }
@@ -201,12 +203,14 @@ replied-by_phase : (tag : ℕ) (entry : Entry) (request : Request) (phase : Phas
     → IsPhaseOf request phase → IsStatusTd phase entry.status_td → is_over entry.status_td.state ≡ true → IsReplied tag entry
 replied-by_phase tag entry request Queued asks at answers td over = absurd (pushed-over entry.status_td td over)
 replied-by_phase tag entry request (Begun progress) asks at answers td over = absurd (pushed-over entry.status_td td over)
-replied-by_phase tag entry (Execute op) (Sent answer) asks at answers td over =
+replied-by_phase tag entry (Execute op) (Sent (WithResponse code)) asks at answers td over = absurd answers
+replied-by_phase tag entry (Execute op) (Sent (WithStatus answer)) asks at answers td over =
     status-replied tag entry op answer asks at (over-seen entry.status_td.state td.1 over)
 replied-by_phase tag entry (Execute op) Gone asks at answers td over =
     aborted-replied tag entry op asks at (over-retired entry.status_td.consumed entry.status_td.state td over)
-replied-by_phase tag entry (Manage what noted) (Sent answer) asks at answers td over =
-    task-replied tag entry what noted answer asks at (over-seen entry.status_td.state td.1 over)
+replied-by_phase tag entry (Manage what noted) (Sent (WithStatus answer)) asks at answers td over = absurd answers
+replied-by_phase tag entry (Manage what noted) (Sent (WithResponse code)) asks at answers td over =
+    task-replied tag entry what noted code asks at (over-seen entry.status_td.state td.1 over)
 replied-by_phase tag entry (Manage what noted) Gone asks at answers td over = absurd answers
 
 entry-replied : (tag slot : ℕ) (entry : Entry) → IsMatchedEntry slot entry → is_over entry.status_td.state ≡ true → IsReplied tag entry

@@ -38,7 +38,13 @@ pub(crate) fn bad<'a>(alloc: Global, help: &'a str) -> Arg<'a>
         .help(help)
 }
 
-pub(crate) fn number<'a>(alloc: Global, name: &'a str, least: u32, most: u32, help: &'a str) -> Arg<'a>
+pub(crate) fn number<'a>(
+    alloc: Global,
+    name: &'a str,
+    least: u32,
+    most: u32,
+    help: &'a str,
+) -> Arg<'a>
     ensures rule { rule_of result ≡ number_rule name.entry.now least most }
     ensures local { result.global ≡ false }
 {

@@ -21,7 +21,8 @@ A drain follows by itself at the end.
 Example:
   uasdisk replay 2 100 < examples/two-clients.script";
 
-pub(crate) const ROUNDS_HELP: &str = "How many rounds each client takes, a WRITE and a READ of the same 8 blocks: 1 to 1000";
+pub(crate) const ROUNDS_HELP: &str =
+    "How many rounds each client takes, a WRITE and a READ of the same 8 blocks: 1 to 1000";
 
 /// What `work` does, and an example.
 pub(crate) const WORK_HELP: &str = "\

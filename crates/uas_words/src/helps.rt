@@ -35,7 +35,8 @@ Example:
 
 /// What `decode` reads, and an example.
 pub(crate) const DECODE_HELP: &str = "\
-A line has words, the last of them bytes in hexadecimal digits, as a line that trace prints; what they say follows behind it.
+A line whose first word is unit, put, link, event, trb, context, bell, cdb or sense has bytes behind it, in hexadecimal
+digits; what they say is printed behind the line. Every other line stays as it is.
 
 Example:
   uasdisk trace 1 100 < examples/first-reply.script | uasdisk decode";

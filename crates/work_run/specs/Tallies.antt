@@ -1,6 +1,6 @@
 -- What the replies of clients that worked come to, and how it is printed.
-use Rattle.std.specs.Prelude.{ℕ, ◌+◌, ◌*◌, ◌/◌, ◌%◌, ◌==◌, ◌&&◌, Bool, false, List, ◌++◌, length, map, count_by, codes}
-use Rattle.std.specs.List.{enumerate_from, flat_map, list_all}
+use Rattle.std.specs.Prelude.{ℕ, zero, suc, ◌+◌, ◌*◌, ◌/◌, ◌%◌, ◌==◌, ◌&&◌, Bool, false, List, [], ◌∷◌, ◌++◌, length, slice_index_or, count_by, codes}
+use Rattle.std.specs.List.{flat_map, list_all}
 use Rattle.std.specs.Fmt.{decimal}
 use Rattle.scsi_cmd.specs.declared.Reply.{Reply}
 use Rattle.scsi_cmd.specs.declared.Reply.TheVariants.{Status, Aborted, Task}
@@ -23,28 +23,28 @@ abbrev pub round_byte : ℕ → ℕ → ℕ
 round_byte client round = (16 * client + round) % 256
 
 -- the bytes are those of 8 blocks, each of them this one
-abbrev pub brings : List ℕ → ℕ → Bool
+unfoldable pub brings : List ℕ → ℕ → Bool
 brings bytes wanted = (length bytes == 4096) && list_all (λ byte. byte == wanted) bytes
 
-abbrev pub is_good_write : Reply → Bool
+unfoldable pub is_good_write : Reply → Bool
 is_good_write (Status tag ticket status sense buffer) = (status == GOOD) && is_write ticket
 is_good_write (Aborted tag ticket buffer) = false
 is_good_write (Task tag ticket code) = false
 
-abbrev pub is_good_read : Reply → Bool
+unfoldable pub is_good_read : Reply → Bool
 is_good_read (Status tag ticket status sense buffer) = (status == GOOD) && is_read ticket
 is_good_read (Aborted tag ticket buffer) = false
 is_good_read (Task tag ticket code) = false
 
 -- a READ that ended GOOD and brought what this client wrote in its round
-abbrev pub is_equal_read : ℕ → Reply → Bool
+unfoldable pub is_equal_read : ℕ → Reply → Bool
 is_equal_read client (Status tag ticket status sense buffer) =
     (status == GOOD) && (is_read ticket && brings buffer (round_byte client (round_of ticket)))
 is_equal_read client (Aborted tag ticket buffer) = false
 is_equal_read client (Task tag ticket code) = false
 
 -- what a client's replies come to
-abbrev pub tally_of : ℕ → List Reply → Tally
+unfoldable pub tally_of : ℕ → List Reply → Tally
 tally_of client replies = record {
   client = client;
   writes = count_by is_good_write replies;
@@ -52,12 +52,17 @@ tally_of client replies = record {
   equal = count_by (is_equal_read client) replies;
 }
 
--- and those of all clients, by number
+-- those of the clients below this number
+abbrev pub tallies_below : ℕ → List (List Reply) → List Tally
+tallies_below zero replies = []
+tallies_below (suc client) replies = tallies_below client replies ++ tally_of client (slice_index_or replies client []) ∷ []
+
+-- and those of all clients
 abbrev pub tallies_of : List (List Reply) → List Tally
-tallies_of replies = map (λ (of_client : ℕ × List Reply). tally_of of_client.0 of_client.1) (enumerate_from 0 replies)
+tallies_of replies = tallies_below (length replies) replies
 
 -- `client C writes W reads R equal E`
-abbrev pub work_line : Tally → List ℕ
+unfoldable pub work_line : Tally → List ℕ
 work_line tally =
     codes "client " ++ decimal tally.client ++ codes " writes " ++ decimal tally.writes ++ codes " reads " ++ decimal tally.reads
     ++ codes " equal " ++ decimal tally.equal ++ codes "\n"

@@ -22,7 +22,7 @@ pub record Told (clients rounds : ℕ) (old new : Option (List ℕ)) (status : �
   pub replies : List (List Reply)
   pub of_each : length replies ≡ clients
   pub lines : Appends old new (work_text (tallies_of replies))
-  pub status : status ≡ work_status rounds replies
+  pub follows : status ≡ work_status rounds replies
 
 -- A run that gives up printed nothing, or couldn't print: then standard output can fail.
 pub record WorkEnds (clients rounds : ℕ) (can_fail : Bool) (old new : Option (List ℕ)) (status : ℕ) : Type 0 where

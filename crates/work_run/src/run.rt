@@ -1,10 +1,7 @@
 //! The run `work`: the threads, what they left, and what is told of it.
 
-ghost use Rattle.std.specs.Prelude.{◌≡◌, ◌*◌, ◌^◌, ◌<◌, ◌≤◌, false, length, IfOk, IfErr};
-ghost use Rattle.std.specs.Io.KnownBytes.{Appends, Keeps};
-ghost use Rattle.uas_profile.specs.declared.TheConstants.{MAX_CLIENTS};
+ghost use Rattle.std.specs.Prelude.{◌≡◌, ℕ, ◌*◌, ◌^◌, ◌<◌, ◌≤◌, Bool, List, Option, false, IfOk, IfErr};
 ghost use Rattle.byte_io.specs.Disks.{AreClients};
-ghost use Rattle.block_unit.specs.BlockMaps.{fresh};
 ghost use Rattle.shared_machine.specs.Shared.{opening};
 ghost use Rattle.work_run.specs.WorkEnds.{GivesUp, Told, WorkEnds, work_units};
 

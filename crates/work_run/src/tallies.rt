@@ -1,9 +1,8 @@
 //! What the replies of a client come to, and how it is told.
 
-ghost use Rattle.std.specs.Prelude.{◌≡◌, ◌^◌, ◌<◌, map, IfOk};
-ghost use Rattle.std.specs.List.{enumerate_from, flat_map};
+ghost use Rattle.std.specs.Prelude.{◌≡◌, ◌^◌, ◌<◌, IfOk, count_by};
 ghost use Rattle.std.specs.String.{string_bytes};
-ghost use Rattle.work_run.specs.Tallies.{all_whole, is_equal_read, is_good_read, is_good_write, is_whole, round_byte, tallies_of, tally_of, work_line, work_text};
+ghost use Rattle.work_run.specs.Tallies.{all_whole, brings, is_equal_read, is_good_read, is_good_write, is_whole, round_byte, tallies_of, tally_of, work_line, work_text};
 
 use crate::Tally;
 use scsi_cmd::{GOOD, Reply};
@@ -20,29 +19,49 @@ const _: () = prove!(ROUND_BYTES == 4096);
 pub(crate) fn tallies_of(alloc: Global, replies: &[Replies]) -> Result<Vec<Tally>, AllocError>
     ensures { IfOk result (λ tallies. tallies.items ≡ tallies_of replies.now) }
 {
-    replies
-        .iter()
-        .enumerate()
-        .map(|(client, replies)| tally_of(client, replies.as_slice()))
-        .collect(alloc)
+    let mut tallies = Vec::new(alloc);
+    for client in 0..replies.len() {
+        tallies.push(tally_of(client, replies[client].as_slice()))?;
+    }
+    Ok(tallies)
 }
 
 /// What a client's replies come to.
+#[tactic(auto, unfolding(crate::specs::Tallies::tally_of))]
 fn tally_of(client: usize, replies: &[Reply]) -> Tally
     ensures { result ≡ tally_of client replies.now }
 {
     Tally {
         client,
-        writes: replies.iter().filter(|reply| is_good_write(reply)).count(),
-        reads: replies.iter().filter(|reply| is_good_read(reply)).count(),
-        equal: replies
-            .iter()
-            .filter(|reply| is_equal_read(client, reply))
-            .count(),
+        writes: good_writes(replies),
+        reads: good_reads(replies),
+        equal: equal_reads(client, replies),
     }
 }
 
+fn good_writes(replies: &[Reply]) -> usize
+    ensures { result ≡ count_by is_good_write replies.now }
+{
+    replies.iter().filter(|reply| is_good_write(reply)).count()
+}
+
+fn good_reads(replies: &[Reply]) -> usize
+    ensures { result ≡ count_by is_good_read replies.now }
+{
+    replies.iter().filter(|reply| is_good_read(reply)).count()
+}
+
+fn equal_reads(client: usize, replies: &[Reply]) -> usize
+    ensures { result ≡ count_by (is_equal_read client) replies.now }
+{
+    replies
+        .iter()
+        .filter(|reply| is_equal_read(client, reply))
+        .count()
+}
+
 /// Whether it is a WRITE that ended GOOD: a WRITE has an even ticket.
+#[tactic(auto, unfolding(crate::specs::Tallies::is_good_write))]
 fn is_good_write(reply: &Reply) -> bool
     ensures { result ≡ is_good_write reply.now }
 {
@@ -53,6 +72,7 @@ fn is_good_write(reply: &Reply) -> bool
 }
 
 /// Whether it is a READ that ended GOOD: a READ has an odd ticket.
+#[tactic(auto, unfolding(crate::specs::Tallies::is_good_read))]
 fn is_good_read(reply: &Reply) -> bool
     ensures { result ≡ is_good_read reply.now }
 {
@@ -63,6 +83,7 @@ fn is_good_read(reply: &Reply) -> bool
 }
 
 /// Whether it is a READ that ended GOOD and brought what this client wrote in its round.
+#[tactic(auto, unfolding(crate::specs::Tallies::is_equal_read))]
 fn is_equal_read(client: usize, reply: &Reply) -> bool
     ensures { result ≡ is_equal_read client reply.now }
 {
@@ -82,6 +103,7 @@ fn is_equal_read(client: usize, reply: &Reply) -> bool
 }
 
 /// Whether these are the bytes of a round's blocks, all of them this one.
+#[tactic(auto, unfolding(crate::specs::Tallies::brings))]
 fn brings(bytes: &[u8], wanted: u8) -> bool
     ensures { result ≡ brings bytes.now wanted }
 {
@@ -123,6 +145,7 @@ pub(crate) fn work_text(alloc: Global, tallies: &[Tally]) -> Result<Vec<u8>, All
 }
 
 /// `client C writes W reads R equal E`.
+#[tactic(auto, unfolding(crate::specs::Tallies::work_line))]
 fn work_line(alloc: Global, tally: &Tally) -> Result<String, AllocError>
     ensures { IfOk result (λ line. string_bytes line ≡ work_line tally.now) }
 {

@@ -23,7 +23,7 @@ abbrev pub round_byte : ℕ → ℕ → ℕ
 round_byte client round = (16 * client + round) % 256
 
 -- the bytes are those of 8 blocks, each of them this one
-unfoldable pub brings : List ℕ → ℕ → Bool
+abbrev pub brings : List ℕ → ℕ → Bool
 brings bytes wanted = (length bytes == 4096) && list_all (λ byte. byte == wanted) bytes
 
 unfoldable pub is_good_write : Reply → Bool
@@ -64,8 +64,8 @@ tallies_of replies = tallies_below (length replies) replies
 -- `client C writes W reads R equal E`
 unfoldable pub work_line : Tally → List ℕ
 work_line tally =
-    codes "client " ++ decimal tally.client ++ codes " writes " ++ decimal tally.writes ++ codes " reads " ++ decimal tally.reads
-    ++ codes " equal " ++ decimal tally.equal ++ codes "\n"
+    (codes "client " ++ decimal tally.client ++ codes " writes " ++ decimal tally.writes)
+    ++ (codes " reads " ++ decimal tally.reads ++ codes " equal " ++ decimal tally.equal ++ codes "\n")
 
 abbrev pub work_text : List Tally → List ℕ
 work_text tallies = flat_map work_line tallies

@@ -1,7 +1,7 @@
 //! What the replies of a client come to, and how it is told.
 
-ghost use Rattle.std.specs.Prelude.{◌≡◌, ◌^◌, ◌<◌, IfOk, count_by};
-ghost use Rattle.std.specs.String.{string_bytes};
+ghost use Rattle.std.specs.Prelude.{◌≡◌, ◌^◌, ◌<◌, ◌==◌, ◌++◌, IfOk, OnOk, count_by};
+ghost use Rattle.std.specs.List.{list_all};
 ghost use Rattle.work_run.specs.Tallies.{all_whole, brings, is_equal_read, is_good_read, is_good_write, is_whole, round_byte, tallies_of, tally_of, work_line, work_text};
 
 use crate::Tally;
@@ -103,11 +103,16 @@ fn is_equal_read(client: usize, reply: &Reply) -> bool
 }
 
 /// Whether these are the bytes of a round's blocks, all of them this one.
-#[tactic(auto, unfolding(crate::specs::Tallies::brings))]
 fn brings(bytes: &[u8], wanted: u8) -> bool
     ensures { result ≡ brings bytes.now wanted }
 {
-    bytes.len() == ROUND_BYTES && bytes.iter().all(|byte| *byte == wanted)
+    bytes.len() == ROUND_BYTES && are_all(bytes, wanted)
+}
+
+fn are_all(bytes: &[u8], wanted: u8) -> bool
+    ensures { result ≡ list_all (λ byte. byte == wanted) bytes.now }
+{
+    bytes.iter().all(|byte| *byte == wanted)
 }
 
 /// The byte that a client writes in a round.
@@ -138,22 +143,24 @@ pub(crate) fn work_text(alloc: Global, tallies: &[Tally]) -> Result<Vec<u8>, All
 {
     let mut text = Vec::new(alloc);
     for tally in tallies {
-        let line = work_line(alloc, tally)?;
-        text.extend_from_slice(line.as_bytes())?;
+        push_line(alloc, &mut text, *tally)?;
     }
     Ok(text)
 }
 
-/// `client C writes W reads R equal E`.
+/// Adds `client C writes W reads R equal E`.
 #[tactic(auto, unfolding(crate::specs::Tallies::work_line))]
-fn work_line(alloc: Global, tally: &Tally) -> Result<String, AllocError>
-    ensures { IfOk result (λ line. string_bytes line ≡ work_line tally.now) }
+fn push_line(alloc: Global, text: &mut Vec<u8>, tally: Tally) -> Result<(), AllocError>
+    ensures { OnOk result (text.new.items ≡ text.old.items ++ work_line tally) }
 {
     let Tally {
         client,
         writes,
         reads,
         equal,
-    } = *tally;
-    format!(in alloc; "client {client} writes {writes} reads {reads} equal {equal}\n")
+    } = tally;
+    let wrote = format!(in alloc; "client {client} writes {writes}")?;
+    text.extend_from_slice(wrote.as_bytes())?;
+    let read = format!(in alloc; " reads {reads} equal {equal}\n")?;
+    text.extend_from_slice(read.as_bytes())
 }

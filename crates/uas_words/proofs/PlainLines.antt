@@ -21,7 +21,7 @@ use Rattle.uas_profile.specs.declared.TheConstants.{MAX_CLIENTS}
 use Rattle.uas_words.specs.declared.Run.{Run}
 use Rattle.byte_io.specs.Words.{is_number, number_in, value_of}
 use Rattle.uas_words.specs.CommandLine.{Asked, AsksPlainly, AsksScript, asked_by, asked_for, asked_in, extent_from, program_app, refusals, script_of}
-use Rattle.uas_words.specs.CommandLine.{dump, fill, info, make, replay, trace}
+use Rattle.uas_words.specs.CommandLine.{decode, dump, fill, info, make, replay, trace, work}
 use Rattle.uas_words.proofs.NumberWords.{numeral-is_number, numerals}
 use Rattle.uas_words.proofs.CommandLineFacts.{nothing_refused}
 use Rattle.uas_words.proofs.WalkSteps.{fault-bad, fault-end, fault-plain, fault-value, walked-bad, walked-plain, walked-value}
@@ -55,6 +55,14 @@ make_passes : (p : Text) (d : ℕ) (ds : Text) (e : ℕ) (es : Text) → (d == 4
 unfolding clap_on_literals
 make_passes p d ds e es plain n = simp (plain, n.hyphen, n.plus, n.some, n.first, n.rest, n.fits, n.low, n.high)
 
+decode_asks : (p : Text) → asked_for (p ∷ codes "decode" ∷ []) ≡ Some decode
+unfolding asked_for clap_on_literals
+decode_asks p = refl
+
+decode_passes : (p : Text) → fault_of program_app (p ∷ codes "decode" ∷ []) ≡ []
+unfolding clap_on_literals
+decode_passes p = refl
+
 -- what the numbers of a subcommand that runs a script ask for
 abbrev asked_by_numbers : (ℕ → ℕ → Option ℕ → Asked) → Option ℕ → Option ℕ → Option (Option ℕ) → Option Asked
 asked_by_numbers run clients blocks bad = option_and_then (λ c. option_and_then (λ b. option_map (run c b) bad) blocks) clients
@@ -68,9 +76,27 @@ dump_enters : (a b c : Text) → Enters (codes "dump") (a ∷ b ∷ c ∷ [])
 unfolding asked_for clap_on_literals
 dump_enters a b c p = (refl, refl)
 
+work_enters : (a b : Text) → Enters (codes "work") (a ∷ b ∷ [])
+unfolding asked_for clap_on_literals
+work_enters a b p = (refl, refl)
+
 fill_enters : (a b c d : Text) → Enters (codes "fill") (a ∷ b ∷ c ∷ d ∷ [])
 unfolding asked_for clap_on_literals
 fill_enters a b c d p = (refl, refl)
+
+work_rows : (d : ℕ) (ds : Text) (e : ℕ) (es : Text) → (d == 45) ≡ false → (d == 43) ≡ false → (e == 45) ≡ false → (e == 43) ≡ false
+    → asked_in (entered (built program_app) (Some (codes "work", (d ∷ ds) ∷ (e ∷ es) ∷ [])))
+    ≡ option_and_then (λ clients. option_map (work clients) (number_in 1 1000 (e ∷ es))) (number_in 1 MAX_CLIENTS (d ∷ ds))
+work_rows d ds e es hyphen plus hyphen' plus' =
+    simp (walked-plain d ds hyphen, walked-plain e es hyphen') (simp hyphen (simp plus (simp hyphen' (simp plus'))))
+
+work_faults : (d : ℕ) (ds : Text) (e : ℕ) (es : Text) → IsIn 1 MAX_CLIENTS d ds → IsIn 1 1000 e es
+    → entered_fault (built program_app) (Some (codes "work", (d ∷ ds) ∷ (e ∷ es) ∷ [])) ≡ []
+unfolding defaults_fault
+work_faults d ds e es m n =
+    simp (walked-plain d ds m.hyphen, walked-plain e es n.hyphen)
+    (simp (fault-plain d ds m.hyphen, fault-plain e es n.hyphen, fault-end)
+    (simp (m.hyphen, m.plus, m.some, m.first, m.rest, m.fits, m.low, m.high) (simp (n.hyphen, n.plus, n.some, n.first, n.rest, n.fits, n.low, n.high))))
 
 -- what is asked for of an extent, by its two numbers
 extent-dumped : (file : Text) (lba count : Option ℕ)
@@ -361,6 +387,20 @@ script_asked name run it clients blocks (Some bad) words plain =
 pub plain_asks : (asked : Asked) (words : List Text) → AsksPlainly asked words → (asked_for words ≡ Some asked) × (fault_of program_app words ≡ [])
 plain_asks (replay clients blocks bad) words plain = script_asked (codes "replay") replay replay_is_script clients blocks bad words plain
 plain_asks (trace clients blocks bad) words plain = script_asked (codes "trace") trace trace_is_script clients blocks bad words plain
+plain_asks (work clients rounds) words plain =
+    let m = number_is_in 1 MAX_CLIENTS clients plain.1 (omega arith) plain.4 in
+    let n = number_is_in 1 1000 rounds plain.2 (omega arith) plain.5 in
+    let is : words ≡ plain.0 ∷ codes "work" ∷ (m.0 ∷ m.1) ∷ (n.0 ∷ n.1) ∷ [] =
+    plain.3 ∙ ap₂ (λ (a b : Text). plain.0 ∷ codes "work" ∷ a ∷ b ∷ []) m.2 n.2 in
+    let first : number_in 1 MAX_CLIENTS (m.0 ∷ m.1) ≡ Some clients = ap (number_in 1 MAX_CLIENTS) (sym m.2) ∙ plain.4 in
+    let second : number_in 1 1000 (n.0 ∷ n.1) ≡ Some rounds = ap (number_in 1 1000) (sym n.2) ∙ plain.5 in (
+      ap asked_for is ∙ ((work_enters (m.0 ∷ m.1) (n.0 ∷ n.1) plain.0).0
+          ∙ (work_rows m.0 m.1 n.0 n.1 m.3.hyphen m.3.plus n.3.hyphen n.3.plus
+          ∙ (ap (option_and_then (λ many. option_map (work many) (number_in 1 1000 (n.0 ∷ n.1)))) first ∙ ap (option_map (work clients)) second))),
+      ap (fault_of program_app) is ∙ ((work_enters (m.0 ∷ m.1) (n.0 ∷ n.1) plain.0).1
+          ∙ ap (λ (k : Kinds). or_else k []) (work_faults m.0 m.1 n.0 n.1 m.3 n.3)),
+    )
+plain_asks decode words plain = (ap asked_for plain.1 ∙ decode_asks plain.0, ap (fault_of program_app) plain.1 ∙ decode_passes plain.0)
 plain_asks (make [] blocks) words plain = absurd (true≢false (sym plain.3))
 plain_asks (make (d ∷ ds) blocks) words plain =
     let n = number_is_in 1 65536 blocks plain.1 (omega arith) plain.4 in

@@ -13,15 +13,18 @@ use Rattle.clap.specs.declared.error.kind.ErrorKind.TheVariants.{DisplayHelp, Di
 use Rattle.uas_profile.specs.declared.TheConstants.{MAX_BLOCKS, MAX_CLIENTS, MOST_BLOCKS_MOVED}
 use Rattle.byte_io.specs.declared.disks.Extent.{Extent}
 use Rattle.uas_words.specs.declared.Run.{Run}
-use Rattle.uas_words.specs.declared.Run.TheVariants.{Replay, Trace, Make, Info, Dump, Fill}
+use Rattle.uas_words.specs.declared.Run.TheVariants.{Replay, Trace, Work, Decode, Make, Info, Dump, Fill}
 use Rattle.byte_io.specs.Words.{number_in}
 
 -- What is asked for, with a file's name as its text: to run a script of so many clients and blocks, and of the block that is bad in
--- every unit, if one is; to run one and show its steps; to make an image of so many blocks, to tell the size of one, to print its
+-- every unit, if one is; to run one and show its steps; to let so many clients work for so many rounds; to tell what lines of bytes
+-- say; to make an image of so many blocks, to tell the size of one, to print its
 -- blocks from a number on, so many of them, or to fill them with a byte.
 pub data Asked : Type 0 where
   replay : ℕ → ℕ → Option ℕ → Asked
   trace : ℕ → ℕ → Option ℕ → Asked
+  work : ℕ → ℕ → Asked
+  decode : Asked
   make : Text → ℕ → Asked
   info : Text → Asked
   dump : Text → ℕ → ℕ → Asked
@@ -30,6 +33,8 @@ pub data Asked : Type 0 where
 abbrev pub asked_by : Run → Asked
 asked_by (Replay disks) = replay disks.clients disks.blocks disks.bad
 asked_by (Trace disks) = trace disks.clients disks.blocks disks.bad
+asked_by (Work clients rounds) = work clients rounds
+asked_by Decode = decode
 asked_by (Make file blocks) = make file.now blocks
 asked_by (Info file) = info file.now
 asked_by (Dump file extent) = dump file.now extent.lba extent.count
@@ -48,6 +53,14 @@ clients_of rows = option_and_then (number_of 1 MAX_CLIENTS) (one_of (codes "CLIE
 -- BLOCKS is a number from 1 to 65,536
 abbrev pub blocks_of : List Row → Option ℕ
 blocks_of rows = option_and_then (number_of 1 MAX_BLOCKS) (one_of (codes "BLOCKS") rows)
+
+-- the most rounds of a client that works
+abbrev pub max_rounds : ℕ
+max_rounds = 1000
+
+-- ROUNDS is a number from 1 to 1,000
+abbrev pub rounds_of : List Row → Option ℕ
+rounds_of rows = option_and_then (number_of 1 max_rounds) (one_of (codes "ROUNDS") rows)
 
 -- the greatest number of a block that a unit can have
 abbrev pub last_block : ℕ
@@ -87,6 +100,10 @@ abbrev pub script_of : (ℕ → ℕ → Option ℕ → Asked) → List Row → O
 script_of run rows =
     option_and_then (λ clients. option_and_then (λ blocks. option_map (run clients blocks) (bad_of rows)) (blocks_of rows)) (clients_of rows)
 
+-- CLIENTS ROUNDS
+abbrev pub work_of : List Row → Option Asked
+work_of rows = option_and_then (λ clients. option_map (work clients) (rounds_of rows)) (clients_of rows)
+
 -- so many blocks from this one on
 abbrev pub extent_from : ℕ → ℕ → Extent
 extent_from lba count = record { lba = lba; count = count }
@@ -111,11 +128,13 @@ asked_of name rows =
     then script_of replay rows
     else (if bytes_eq name (codes "trace")
     then script_of trace rows
+    else (if bytes_eq name (codes "work") then work_of rows
+    else (if bytes_eq name (codes "decode") then Some decode
     else (if bytes_eq name (codes "make")
     then option_and_then (λ file. option_map (make file) (blocks_of rows)) (file_of rows)
     else (if bytes_eq name (codes "info") then option_map info (file_of rows)
     else (if bytes_eq name (codes "dump") then dump_of rows
-    else (if bytes_eq name (codes "fill") then fill_of rows else None)))))
+    else (if bytes_eq name (codes "fill") then fill_of rows else None)))))))
 
 abbrev pub asked_in : Option (Text × List Row) → Option Asked
 asked_in subcommand = option_and_then (λ s. asked_of s.0 s.1) subcommand
@@ -134,6 +153,9 @@ number_rule name least most = record (required_rule name) { parser = Some (parse
 
 abbrev pub clients_rule : Rule
 clients_rule = number_rule (codes "CLIENTS") 1 MAX_CLIENTS
+
+abbrev pub rounds_rule : Rule
+rounds_rule = number_rule (codes "ROUNDS") 1 max_rounds
 
 abbrev pub blocks_rule : Rule
 blocks_rule = number_rule (codes "BLOCKS") 1 MAX_BLOCKS
@@ -166,6 +188,14 @@ replay_app = with_disks (new_app (codes "replay"))
 abbrev pub trace_app : App
 trace_app = with_disks (new_app (codes "trace"))
 
+-- work CLIENTS ROUNDS
+abbrev pub work_app : App
+work_app = with_rule (with_rule (new_app (codes "work")) clients_rule) rounds_rule
+
+-- decode
+abbrev pub decode_app : App
+decode_app = new_app (codes "decode")
+
 -- make FILE BLOCKS
 abbrev pub make_app : App
 make_app = with_rule (with_rule (new_app (codes "make")) file_rule) blocks_rule
@@ -193,8 +223,8 @@ top_app = on_top wants_subcommand (new_app (codes "uasdisk"))
 
 -- The program wants a subcommand, tells its help with no words, and its version where that is asked for.
 abbrev pub program_app : App
-program_app = with_subcommand (with_subcommand (with_subcommand (with_subcommand (with_subcommand (with_subcommand
-    top_app replay_app.top) trace_app.top) make_app.top) info_app.top) dump_app.top) fill_app.top
+program_app = with_subcommand (with_subcommand (with_subcommand (with_subcommand (with_subcommand (with_subcommand (with_subcommand (with_subcommand
+    top_app replay_app.top) trace_app.top) work_app.top) decode_app.top) make_app.top) info_app.top) dump_app.top) fill_app.top
 
 -- ---- the words, the program's own name first
 
@@ -224,6 +254,9 @@ AsksScript name clients blocks (Some bad) words =
 abbrev pub AsksPlainly : Asked → List Text → Type 0
 AsksPlainly (replay clients blocks bad) words = AsksScript (codes "replay") clients blocks bad words
 AsksPlainly (trace clients blocks bad) words = AsksScript (codes "trace") clients blocks bad words
+AsksPlainly (work clients rounds) words = (program first second : Text) × (words ≡ program ∷ codes "work" ∷ first ∷ second ∷ [])
+    × (number_in 1 MAX_CLIENTS first ≡ Some clients) × (number_in 1 max_rounds second ≡ Some rounds)
+AsksPlainly decode words = (program : Text) × (words ≡ program ∷ codes "decode" ∷ [])
 AsksPlainly (make file blocks) words = (program second : Text) × (words ≡ program ∷ codes "make" ∷ file ∷ second ∷ [])
     × (is_plain_name file ≡ true) × (number_in 1 MAX_BLOCKS second ≡ Some blocks)
 AsksPlainly (info file) words = (program : Text) × (words ≡ program ∷ codes "info" ∷ file ∷ []) × (is_plain_name file ≡ true)
@@ -236,10 +269,12 @@ AsksPlainly (fill file lba count byte) words =
 
 -- ---- exit statuses
 
--- A run ends with 0, 3 or 4, and one that submits commands with 1 too.
+-- A run ends with 0, 3 or 4, and one that submits commands or refuses lines with 1 too.
 abbrev pub MayEndRun : Asked → ℕ → Type 0
 MayEndRun (replay clients blocks bad) status = (status ≤ 1) ⊎ ((status ≡ 3) ⊎ (status ≡ 4))
 MayEndRun (trace clients blocks bad) status = (status ≤ 1) ⊎ ((status ≡ 3) ⊎ (status ≡ 4))
+MayEndRun (work clients rounds) status = (status ≤ 1) ⊎ ((status ≡ 3) ⊎ (status ≡ 4))
+MayEndRun decode status = (status ≤ 1) ⊎ ((status ≡ 3) ⊎ (status ≡ 4))
 MayEndRun (make file blocks) status = (status ≡ 0) ⊎ ((status ≡ 3) ⊎ (status ≡ 4))
 MayEndRun (info file) status = (status ≡ 0) ⊎ ((status ≡ 3) ⊎ (status ≡ 4))
 MayEndRun (dump file lba count) status = (status ≤ 1) ⊎ ((status ≡ 3) ⊎ (status ≡ 4))

@@ -1,9 +1,9 @@
 -- What the words of the command line ask for.
 use Rattle.std.specs.Prelude.{ℕ, ◌≤◌, ◌<◌, IfSome}
 use Rattle.uas_profile.specs.declared.TheConstants.{MAX_BLOCKS, MOST_BLOCKS_MOVED}
-use Rattle.byte_io.specs.Disks.{AreBlocks, AreDisks}
+use Rattle.byte_io.specs.Disks.{AreBlocks, AreClients, AreDisks}
 use Rattle.uas_words.specs.declared.Run.{Run}
-use Rattle.uas_words.specs.declared.Run.TheVariants.{Replay, Trace, Make, Info, Dump, Fill}
+use Rattle.uas_words.specs.declared.Run.TheVariants.{Replay, Trace, Work, Decode, Make, Info, Dump, Fill}
 
 -- a unit's blocks have numbers from 0 to 65,535
 abbrev pub IsBlock : ℕ → Type 0
@@ -13,10 +13,16 @@ IsBlock block = block < MAX_BLOCKS
 abbrev pub IsMoved : ℕ → Type 0
 IsMoved count = (1 ≤ count) × (count ≤ MOST_BLOCKS_MOVED)
 
+-- a client takes 1 to 1,000 rounds
+abbrev pub AreRounds : ℕ → Type 0
+AreRounds rounds = (1 ≤ rounds) × (rounds ≤ 1000)
+
 -- each number is in its range
 abbrev pub IsInRange : Run → Type 0
 IsInRange (Replay disks) = AreDisks disks × IfSome disks.bad IsBlock
 IsInRange (Trace disks) = AreDisks disks × IfSome disks.bad IsBlock
+IsInRange (Work clients rounds) = AreClients clients × AreRounds rounds
+IsInRange Decode = Unit {0}
 IsInRange (Make file blocks) = AreBlocks blocks
 IsInRange (Info file) = Unit {0}
 IsInRange (Dump file extent) = IsMoved extent.count

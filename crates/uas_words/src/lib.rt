@@ -5,18 +5,23 @@
 //! parser does with others. It stands on clap alone, but for the numbers of a text and those of the profile.
 #![tactic(auto)]
 
-ghost use Rattle.std.specs.Prelude.{◌≡◌, ◌≤◌, ℕ, Option, false, Some, IfOk, IfSome, MatchResult, map, option_and_then, option_map};
+ghost use Rattle.std.specs.Prelude.{◌≡◌, ◌≤◌, ℕ, Option, Some, IfOk, IfSome, MatchResult, map, option_and_then, option_map};
 ghost use Rattle.std.specs.String.{string_bytes};
-ghost use Rattle.clap.specs.Words.{FailsBy, app_of, found_of, kind_of, one_of, rows_of, rule_of, subcommand_rows_of};
-ghost use Rattle.byte_io.specs.Disks.{AreBlocks, AreDisks};
+ghost use Rattle.clap.specs.Words.{FailsBy, app_of, found_of, kind_of, one_of, rows_of, subcommand_rows_of};
+ghost use Rattle.byte_io.specs.Disks.{AreBlocks, AreClients, AreDisks};
 ghost use Rattle.uas_words.specs.Options.{IsBlock, IsInRange, IsMoved};
-ghost use Rattle.uas_words.specs.CommandLine.{Asked, AsksPlainly, asked_by, asked_for, asked_in, bad_of, bad_rule, blocks_of, blocks_rule};
-ghost use Rattle.uas_words.specs.CommandLine.{dump_app, dump_of, extent_of, file_of, file_rule, fill_app, fill_of, info_app, make_app, number_of};
-ghost use Rattle.uas_words.specs.CommandLine.{number_rule, program_app, refusals, replay_app, script_of, top_app, trace_app, with_disks, with_extent};
+ghost use Rattle.uas_words.specs.CommandLine.{Asked, AsksPlainly, asked_by, asked_for, asked_in, bad_of, blocks_of, clients_of, decode_app};
+ghost use Rattle.uas_words.specs.CommandLine.{dump_app, dump_of, extent_of, file_of, fill_app, fill_of, info_app, make_app, number_of};
+ghost use Rattle.uas_words.specs.CommandLine.{program_app, refusals, replay_app, script_of, top_app, trace_app, with_disks, with_extent, work_app, work_of};
 
+mod arguments;
+mod helps;
+
+use arguments::{bad, blocks, file, number};
 use byte_io::{Disks, Extent};
 use clap::error::ErrorKind;
-use clap::{Arg, ArgAction, ArgMatches, Command, Error};
+use clap::{ArgMatches, Command, Error};
+use helps::{BYTE_HELP, DECODE_HELP, LBA_HELP, ROUNDS_HELP, SCRIPT_HELP, WORK_HELP};
 use std::alloc::{AllocError, Global};
 use uas_profile::{CLIENTS_HELP, MAX_BLOCKS, MAX_CLIENTS, MOST_BLOCKS_MOVED};
 
@@ -28,7 +33,7 @@ const _: () = prove!(MOST_CLIENTS as usize == MAX_CLIENTS);
 const _: () = prove!(MAX_BLOCKS == 65_536);
 
 /// The greatest number of a block that a unit can have.
-const LAST_BLOCK: u32 = MAX_BLOCKS - 1;
+pub(crate) const LAST_BLOCK: u32 = MAX_BLOCKS - 1;
 
 const _: () = prove!(LAST_BLOCK == 65_535);
 
@@ -37,31 +42,13 @@ const MOST_MOVED: u32 = MOST_BLOCKS_MOVED as u32;
 
 const _: () = prove!(MOST_MOVED == 128);
 
+/// The most rounds of each client that works.
+const MAX_ROUNDS: u32 = 1_000;
+
 /// The greatest byte.
 const MAX_BYTE: u32 = u8::MAX as u32;
 
 const _: () = prove!(MAX_BYTE == 255);
-
-const LBA_HELP: &str = "The number of the first block: 0 to 4294967295";
-
-const BYTE_HELP: &str = "The byte that the blocks are filled with: 0 to 255";
-
-/// What a script has, and an example.
-const SCRIPT_HELP: &str = "\
-A script has a line for each command, task management or step; words stand between spaces, and # begins a remark:
-  C tur | C inquiry LEN | C capacity        a command of client C, which is below CLIENTS
-  C read LBA COUNT [fua]                    LBA to 4294967295, COUNT to 128
-  C write LBA COUNT BYTE [fua]              the blocks are filled with BYTE
-  C sync LBA COUNT
-  C read16, C write16, C capacity16 LEN     the same by commands of 16 bytes
-  C abort TAG | C reset                     task management
-  command | engine | event | data TAG | status TAG | retire PIPE TAG | take C
-                                            one step; TAG is a command's, PIPE 2, 3 or 4
-  drain                                     all steps that are due
-A drain follows by itself at the end.
-
-Example:
-  uasdisk replay 2 100 < examples/two-clients.script";
 
 /// The version of the program, and the logic of the prover that it was proved with.
 pub const VERSION: &str = "0.1.0, proved with Rattle's logic dac8208d650f15bf";
@@ -73,6 +60,13 @@ pub enum Run<'a> {
     Replay(Disks),
     /// Run a script as `Replay` does, and show each step.
     Trace(Disks),
+    /// Let 1 to 15 clients work in threads, 1 to 1,000 rounds each.
+    Work {
+        clients: usize,
+        rounds: u32,
+    },
+    /// Tell what lines of bytes on standard input say.
+    Decode,
     /// Make an image file of 1 to 65,536 zeroed blocks.
     Make {
         file: &'a str,
@@ -126,6 +120,8 @@ fn command<'a>(alloc: Global) -> Result<Command<'a>, AllocError>
     top_command(alloc)
         .subcommand(replay_command(alloc)?)?
         .subcommand(trace_command(alloc)?)?
+        .subcommand(work_command(alloc)?)?
+        .subcommand(decode_command(alloc))?
         .subcommand(make_command(alloc)?)?
         .subcommand(info_command(alloc)?)?
         .subcommand(dump_command(alloc)?)?
@@ -172,6 +168,24 @@ fn add_disks<'a>(alloc: Global, command: Command<'a>) -> Result<Command<'a>, All
             "How many blocks of 512 bytes each unit has: 1 to 65536",
         ))?
         .arg(bad(alloc, "A block that is bad in every unit: 0 to 65535"))
+}
+
+fn work_command<'a>(alloc: Global) -> Result<Command<'a>, AllocError>
+    ensures { IfOk result (λ command. app_of command ≡ work_app) }
+{
+    Command::new(alloc, "work")
+        .about("Lets clients write and read in threads, and counts what they read")
+        .after_help(WORK_HELP)
+        .arg(number(alloc, "CLIENTS", 1, MOST_CLIENTS, CLIENTS_HELP))?
+        .arg(number(alloc, "ROUNDS", 1, MAX_ROUNDS, ROUNDS_HELP))
+}
+
+fn decode_command<'a>(alloc: Global) -> Command<'a>
+    ensures { app_of result ≡ decode_app }
+{
+    Command::new(alloc, "decode")
+        .about("Reads lines of bytes from standard input and tells what each says")
+        .after_help(DECODE_HELP)
 }
 
 fn make_command<'a>(alloc: Global) -> Result<Command<'a>, AllocError>
@@ -221,46 +235,6 @@ fn add_extent<'a>(alloc: Global, command: Command<'a>) -> Result<Command<'a>, Al
         .arg(number(alloc, "COUNT", 1, MOST_MOVED, "How many blocks: 1 to 128"))
 }
 
-fn file<'a>(alloc: Global, help: &'a str) -> Arg<'a>
-    ensures rule { rule_of result ≡ file_rule }
-    ensures local { result.global ≡ false }
-{
-    Arg::new(alloc, "FILE")
-        .required(true)
-        .action(ArgAction::Set)
-        .help(help)
-}
-
-fn blocks<'a>(alloc: Global, help: &'a str) -> Arg<'a>
-    ensures rule { rule_of result ≡ blocks_rule }
-    ensures local { result.global ≡ false }
-{
-    number(alloc, "BLOCKS", 1, MAX_BLOCKS, help)
-}
-
-fn bad<'a>(alloc: Global, help: &'a str) -> Arg<'a>
-    ensures rule { rule_of result ≡ bad_rule }
-    ensures local { result.global ≡ false }
-{
-    Arg::new(alloc, "bad")
-        .long("bad")
-        .value_name("LBA")
-        .action(ArgAction::Set)
-        .value_parser(clap::value_parser!(u32).range(0..=i64::from(LAST_BLOCK)))
-        .help(help)
-}
-
-fn number<'a>(alloc: Global, name: &'a str, least: u32, most: u32, help: &'a str) -> Arg<'a>
-    ensures rule { rule_of result ≡ number_rule name.entry.now least most }
-    ensures local { result.global ≡ false }
-{
-    Arg::new(alloc, name)
-        .required(true)
-        .action(ArgAction::Set)
-        .value_parser(clap::value_parser!(u32).range(i64::from(least)..=i64::from(most)))
-        .help(help)
-}
-
 /// What was found for the subcommand; the parsers have refused every other word before.
 fn asked<'a>(matches: &ArgMatches<'a>) -> Option<Run<'a>>
     ensures range { IfSome result IsInRange }
@@ -270,6 +244,8 @@ fn asked<'a>(matches: &ArgMatches<'a>) -> Option<Run<'a>>
     match name {
         "replay" => Some(Run::Replay(disks_in(words)?)),
         "trace" => Some(Run::Trace(disks_in(words)?)),
+        "work" => work_in(words),
+        "decode" => Some(Run::Decode),
         "make" => {
             let file = words.get_str("FILE")?;
             let blocks = blocks_in(words)?;
@@ -291,7 +267,7 @@ fn disks_in(words: &ArgMatches<'_>) -> Option<Disks>
     ensures asked { (run : ℕ → ℕ → Option ℕ → Asked)
         → option_map (λ disks. run disks.clients disks.blocks disks.bad) result ≡ script_of run (rows_of (found_of words.now)) }
 {
-    let clients = number_in(words, "CLIENTS", 1, MOST_CLIENTS)? as usize;
+    let clients = clients_in(words)?;
     let blocks = blocks_in(words)?;
     let bad = bad_in(words)?;
     Some(Disks {
@@ -299,6 +275,22 @@ fn disks_in(words: &ArgMatches<'_>) -> Option<Disks>
         blocks,
         bad,
     })
+}
+
+fn work_in<'a>(words: &ArgMatches<'a>) -> Option<Run<'a>>
+    ensures range { IfSome result IsInRange }
+    ensures asked { option_map asked_by result ≡ work_of (rows_of (found_of words.now)) }
+{
+    let clients = clients_in(words)?;
+    let rounds = number_in(words, "ROUNDS", 1, MAX_ROUNDS)?;
+    Some(Run::Work { clients, rounds })
+}
+
+fn clients_in(words: &ArgMatches<'_>) -> Option<usize>
+    ensures number { result ≡ clients_of (rows_of (found_of words.now)) }
+    ensures range { IfSome result AreClients }
+{
+    Some(number_in(words, "CLIENTS", 1, MOST_CLIENTS)? as usize)
 }
 
 fn dump_in<'a>(words: &ArgMatches<'a>) -> Option<Run<'a>>

@@ -3,7 +3,7 @@ use Rattle.std.specs.Prelude.{◌≡◌, ℕ, ◌<◌, ◌≤◌, Bool, IsTrue, 
 use Rattle.std.specs.Io.KnownBytes.{Appends, Keeps, IsAtEnd}
 use Rattle.clap.specs.Words.{Kinds, Text}
 use Rattle.clap.specs.declared.error.kind.ErrorKind.{ErrorKind}
-use Rattle.uas_words.specs.CommandLine.{Asked, replay, trace, make, info, dump, fill, IsRequest, EndsRefused}
+use Rattle.uas_words.specs.CommandLine.{Asked, replay, trace, work, decode, make, info, dump, fill, IsRequest, EndsRefused}
 use Rattle.disk_image.specs.Images.{blocks_in, made_image, made_text}
 use Rattle.uas_script.specs.Script.{script}
 use Rattle.uas_replay.specs.Told.{zeroed_units}
@@ -12,6 +12,8 @@ use Rattle.disk_image.specs.Stops.{InfoPrints, AnswersOf}
 use Rattle.disk_image.specs.Alone.{dumped, filled, filled_medium}
 use Rattle.block_unit.specs.BlockMaps.{imaged}
 use Rattle.uas_trace.specs.Traced.{Traces}
+use Rattle.work_run.specs.WorkEnds.{Told}
+use Rattle.uas_decode.specs.Runs.{Begins, Decodes}
 
 -- What is known of a host: whether it tells what its files hold; of the file of a name, whether it can be opened, can
 -- be created and can fail; whether standard input is there, and whether it and standard output can fail.
@@ -61,6 +63,25 @@ pub record TraceEnds (clients blocks : ℕ) (bad : Option ℕ) (host : Host) (ol
       Traces (zeroed_units clients blocks bad) (script clients bytes) status)
   pub read : status ≤ 1 → IsTrue host.has_input × IsAtEnd new.input
   pub fault : status ≡ 3 → ScriptStops clients host old new
+  pub files : new.holds ≡ old.holds
+
+-- `work CLIENTS ROUNDS`: standard output has got the lines of so many clients that worked in threads; no file is opened, and standard
+-- input isn't read.
+pub record WorkEnds (clients rounds : ℕ) (host : Host) (old new : World) (status : ℕ) : Type 0 where
+  pub statuses : (status ≤ 1) ⊎ ((status ≡ 3) ⊎ (status ≡ 4))
+  pub told : status ≤ 1 → Told clients rounds old.output new.output status
+  pub fault : status ≡ 3 → IsTrue host.output_can_fail
+  pub memory : status ≡ 4 → Keeps old.output new.output
+  pub files : new.holds ≡ old.holds
+  pub input : new.input ≡ old.input
+
+-- `decode`: standard output has got each line of standard input, with what its bytes say.
+pub record DecodeEnds (host : Host) (old new : World) (status : ℕ) : Type 0 where
+  pub statuses : (status ≤ 1) ⊎ ((status ≡ 3) ⊎ (status ≡ 4))
+  pub decoded : status ≤ 1 → IfSome old.input (λ bytes. Decodes bytes old.output new.output status)
+  pub read : status ≤ 1 → IsTrue host.has_input × IsAtEnd new.input
+  pub fault : status ≡ 3 → IsTrue host.input_can_fail ⊎ IsTrue host.output_can_fail
+  pub memory : status ≡ 4 → IfSome old.input (λ bytes. Begins bytes old.output new.output)
   pub files : new.holds ≡ old.holds
 
 -- `make FILE BLOCKS`: the file of this name holds the image of so many blocks, and standard output has got its line.
@@ -113,6 +134,8 @@ pub record FillEnds (file : Text) (lba count byte : ℕ) (host : Host) (old new 
 abbrev pub Ends : Asked → Host → World → World → ℕ → Type 0
 Ends (replay clients blocks bad) host old new status = ReplayEnds clients blocks bad host old new status
 Ends (trace clients blocks bad) host old new status = TraceEnds clients blocks bad host old new status
+Ends (work clients rounds) host old new status = WorkEnds clients rounds host old new status
+Ends decode host old new status = DecodeEnds host old new status
 Ends (make file blocks) host old new status = MakeEnds file blocks host old new status
 Ends (info file) host old new status = InfoEnds file host old new status
 Ends (dump file lba count) host old new status = DumpEnds file lba count host old new status

@@ -4,7 +4,7 @@ use std::io::Write;
 use uas_replay::WORDS_REFUSED;
 
 /// How a fault's line ends or what it is, and what to say of it.
-const HINTS: [(&[u8], &str); 11] = [
+const HINTS: [(&[u8], &str); 12] = [
     (
         b": unknown word",
         "a line is a client's number and a word, or a step: 'uasdisk replay --help' has them; a line ends in a line feed alone, so in a file from Windows the carriage return belongs to the last word",
@@ -37,6 +37,10 @@ const HINTS: [(&[u8], &str); 11] = [
     (
         b"image: TooLarge",
         "an image has at most 65536 blocks of 512 bytes, 33554432 bytes in all",
+    ),
+    (
+        b"decode: file",
+        "standard input can't be read, or standard output can't be written: is it open, and is there room?",
     ),
     (b"no memory", "the machine gave no memory for it"),
     (

@@ -3,6 +3,8 @@
 //! ```text
 //! uasdisk replay CLIENTS BLOCKS [--bad LBA] < script     runs a script on zeroed units, one for each client
 //! uasdisk trace CLIENTS BLOCKS [--bad LBA] < script      the same, and prints each step with the bytes that it wrote
+//! uasdisk work CLIENTS ROUNDS                            lets clients write and read in threads, and counts what they read
+//! uasdisk decode < lines                                 tells what lines of bytes say
 //! uasdisk make FILE BLOCKS                               makes an image of zeroed blocks
 //! uasdisk info FILE                                      tells how many blocks an image has
 //! uasdisk dump FILE LBA COUNT                            prints blocks of an image, by one READ
@@ -13,13 +15,14 @@
 //!
 //! A line of a script submits a command or a task management for a client, takes one step of the bus, or drains it; what
 //! replies and refusals came of it is printed. A command on an image is submitted, drained and answered on a bus of its own. The exit status is 0
-//! where all went well, 1 where a command ended other than GOOD or was refused, 2 where the words are refused, 3 at a fault
-//! of a script, an image or a file, and 4 for want of memory.
+//! where all went well, 1 where a command ended other than GOOD or was refused, a READ of `work` brought other bytes than were written
+//! or a line of `decode` was refused, 2 where the words are refused, 3 at a fault of a script, an image or a file, and 4 for want of
+//! memory.
 //!
 //! `main` gets the words and `start` the host: its standard streams and its files. All else is decided by `run_words`, over a host
 //! that tells its bytes and whether it can fail. What the words ask for, and by which kinds of error they are refused, is `uas_words`;
-//! how each run ends, with what on standard output and in which file, is `specs/Ends.antt`. The runs are `uas_replay`'s, `uas_trace`'s
-//! and `disk_image`'s. The rest is tested: the texts of faults and of help.
+//! how each run ends, with what on standard output and in which file, is `specs/Ends.antt`. The runs are `uas_replay`'s, `uas_trace`'s,
+//! `work_run`'s, `uas_decode`'s and `disk_image`'s. The rest is tested: the texts of faults and of help.
 #![tactic(auto)]
 
 mod edges;
@@ -38,6 +41,9 @@ use program::run_words;
 use std::cell::Cell;
 use std::io::{IsTerminal, Write};
 use std::process::ExitCode;
+use std::rt::Clock;
+use std::sync::Wait;
+use std::thread::Threads;
 use std::{env, io};
 use uas_replay::{RunFault, WORDS_REFUSED};
 
@@ -46,7 +52,7 @@ fn main(rt: HostRuntime) -> ExitCode {
         rt.alloc(),
     )?));
     let status = match words {
-        Ok(words) => start(&rt, words.as_slice()),
+        Ok(words) => start(&rt, &rt, words.as_slice()),
         Err(error) if error.kind() == io::ErrorKind::OutOfMemory => {
             RunFault::NoMemory.tell(&mut rt.stderr())
         }
@@ -58,8 +64,8 @@ fn main(rt: HostRuntime) -> ExitCode {
     ExitCode::from(status)
 }
 
-/// Does what the words ask for on the machine that the program runs on, and answers the exit status.
-fn start(rt: &HostRuntime, words: &[String]) -> u8
+/// Does what the words ask for on the machine that the program runs on, with threads by `threads`, and answers the exit status.
+fn start<R: Threads + Wait + Clock + Sync>(rt: &HostRuntime, threads: &R, words: &[String]) -> u8
     ensures run { refusals (map string_bytes words.now) ≡ [] → IfSome (asked_for (map string_bytes words.now)) (λ asked. MayEndRun asked result) }
     ensures refused { refusals (map string_bytes words.now) ≢ [] → (result ≡ 4)
         ⊎ HoldsOfOne (λ kind. EndsRefused kind result) (refusals (map string_bytes words.now)) }
@@ -71,6 +77,7 @@ fn start(rt: &HostRuntime, words: &[String]) -> u8
     let is_output_open = rt.stdout().write(b"").is_ok();
     let mut output = is_output_open.then(|| Output::new(rt.stdout(), &is_unread));
     let status = run_words(
+        threads,
         rt.alloc(),
         words,
         &mut HostFiles(rt),

@@ -16,13 +16,19 @@ use clap::error::ErrorKind;
 use disk_image::{run_dump, run_fill, run_info, run_make};
 use std::alloc::{AllocError, Global};
 use std::io::Write;
+use std::rt::Clock;
+use std::sync::Wait;
+use std::thread::Threads;
+use uas_decode::run_decode;
 use uas_replay::{DONE, RunFault, WORDS_REFUSED, output_fault, run_script};
 use uas_trace::run_trace;
 use uas_words::{Run, run_of};
+use work_run::{Load, run_work};
 
 /// Does what the words of a command line ask for, the program's own name first, and answers the exit status. A fault of
-/// `faults` changes nothing. A long run may show there how far it is.
-pub fn run_words<F: Files, S: Source, O: Sink, W: Write>(
+/// `faults` changes nothing. A long run may show there how far it is. The runtime is asked for threads and the time.
+pub fn run_words<R: Threads + Wait + Clock + Sync, F: Files, S: Source, O: Sink, W: Write>(
+    rt: &R,
     alloc: Global,
     words: &[String],
     files: &mut F,
@@ -51,6 +57,15 @@ pub fn run_words<F: Files, S: Source, O: Sink, W: Write>(
     match run_of(alloc, words) {
         Ok(Run::Replay(disks)) => run_script(alloc, disks, input, output, faults),
         Ok(Run::Trace(disks)) => run_trace(alloc, disks, input, output, faults),
+        Ok(Run::Work { clients, rounds }) => run_work(
+            rt,
+            alloc,
+            Load { clients, rounds },
+            output,
+            faults,
+            may_show_progress,
+        ),
+        Ok(Run::Decode) => run_decode(alloc, input, output, faults),
         Ok(Run::Make { file, blocks }) => run_make(
             alloc,
             blocks,

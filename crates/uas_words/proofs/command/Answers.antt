@@ -1,7 +1,7 @@
 use Rattle.std.proofs.Common.{ap, ap₂, ◌≡◌, ◌∙◌}
 use Rattle.std.proofs.lemmas.Result.{IfOk-weaker}
 use Rattle.clap.specs.Words.{App, app_of, with_subcommand}
-use Rattle.uas_words.specs.CommandLine.{dump_app, fill_app, info_app, make_app, replay_app, top_app, trace_app}
+use Rattle.uas_words.specs.CommandLine.{decode_app, dump_app, fill_app, info_app, make_app, replay_app, top_app, trace_app, work_app}
 use Rattle.uas_words.proofs.CommandLineFacts.{third_fails}
 use Rattle.uas_words.proofs.command.Goals as goal
 
@@ -10,6 +10,8 @@ returns c =
     let top : app_of c.top_command.result ≡ top_app = c.top_command.ensures in
     let replay : app_of c.in_ok-replay_command.field-0 ≡ replay_app = c.in_ok-replay_command.ensures in
     let trace : app_of c.in_ok-trace_command.field-0 ≡ trace_app = c.in_ok-trace_command.ensures in
+    let work : app_of c.in_ok-work_command.field-0 ≡ work_app = c.in_ok-work_command.ensures in
+    let decode : app_of c.decode_command.result ≡ decode_app = c.decode_command.ensures in
     let make : app_of c.in_ok-make_command.field-0 ≡ make_app = c.in_ok-make_command.ensures in
     let info : app_of c.in_ok-info_command.field-0 ≡ info_app = c.in_ok-info_command.ensures in
     let dump : app_of c.in_ok-dump_command.field-0 ≡ dump_app = c.in_ok-dump_command.ensures in
@@ -18,11 +20,15 @@ returns c =
     ∙ ap₂ with_subcommand top (ap (λ (a : App). a.top) replay) in
     let two = c.in_ok-subcommand-2.ensures.shape (third_fails _ _ _ _ (ap (λ (a : App). a.top.is_plain) trace))
     ∙ ap₂ with_subcommand one (ap (λ (a : App). a.top) trace) in
-    let three = c.in_ok-subcommand-3.ensures.shape (third_fails _ _ _ _ (ap (λ (a : App). a.top.is_plain) make))
-    ∙ ap₂ with_subcommand two (ap (λ (a : App). a.top) make) in
-    let four = c.in_ok-subcommand-4.ensures.shape (third_fails _ _ _ _ (ap (λ (a : App). a.top.is_plain) info))
-    ∙ ap₂ with_subcommand three (ap (λ (a : App). a.top) info) in
-    let five = c.in_ok-subcommand-5.ensures.shape (third_fails _ _ _ _ (ap (λ (a : App). a.top.is_plain) dump))
-    ∙ ap₂ with_subcommand four (ap (λ (a : App). a.top) dump) in
-    IfOk-weaker c.subcommand-6.result _ _ (λ command adds. adds.shape (third_fails _ _ _ _ (ap (λ (a : App). a.top.is_plain) fill))
-    ∙ ap₂ with_subcommand five (ap (λ (a : App). a.top) fill)) c.subcommand-6.ensures
+    let three = c.in_ok-subcommand-3.ensures.shape (third_fails _ _ _ _ (ap (λ (a : App). a.top.is_plain) work))
+    ∙ ap₂ with_subcommand two (ap (λ (a : App). a.top) work) in
+    let four = c.in_ok-subcommand-4.ensures.shape (third_fails _ _ _ _ (ap (λ (a : App). a.top.is_plain) decode))
+    ∙ ap₂ with_subcommand three (ap (λ (a : App). a.top) decode) in
+    let five = c.in_ok-subcommand-5.ensures.shape (third_fails _ _ _ _ (ap (λ (a : App). a.top.is_plain) make))
+    ∙ ap₂ with_subcommand four (ap (λ (a : App). a.top) make) in
+    let six = c.in_ok-subcommand-6.ensures.shape (third_fails _ _ _ _ (ap (λ (a : App). a.top.is_plain) info))
+    ∙ ap₂ with_subcommand five (ap (λ (a : App). a.top) info) in
+    let seven = c.in_ok-subcommand-7.ensures.shape (third_fails _ _ _ _ (ap (λ (a : App). a.top.is_plain) dump))
+    ∙ ap₂ with_subcommand six (ap (λ (a : App). a.top) dump) in
+    IfOk-weaker c.subcommand-8.result _ _ (λ command adds. adds.shape (third_fails _ _ _ _ (ap (λ (a : App). a.top.is_plain) fill))
+    ∙ ap₂ with_subcommand seven (ap (λ (a : App). a.top) fill)) c.subcommand-8.ensures

@@ -1,0 +1,56 @@
+//! The arguments of the subcommands.
+
+ghost use Rattle.std.specs.Prelude.{◌≡◌, false};
+ghost use Rattle.clap.specs.Words.{rule_of};
+ghost use Rattle.uas_words.specs.CommandLine.{bad_rule, blocks_rule, file_rule, number_rule};
+
+use crate::LAST_BLOCK;
+use clap::{Arg, ArgAction};
+use std::alloc::Global;
+use uas_profile::MAX_BLOCKS;
+
+pub(crate) fn file<'a>(alloc: Global, help: &'a str) -> Arg<'a>
+    ensures rule { rule_of result ≡ file_rule }
+    ensures local { result.global ≡ false }
+{
+    Arg::new(alloc, "FILE")
+        .required(true)
+        .action(ArgAction::Set)
+        .help(help)
+}
+
+pub(crate) fn blocks<'a>(alloc: Global, help: &'a str) -> Arg<'a>
+    ensures rule { rule_of result ≡ blocks_rule }
+    ensures local { result.global ≡ false }
+{
+    number(alloc, "BLOCKS", 1, MAX_BLOCKS, help)
+}
+
+pub(crate) fn bad<'a>(alloc: Global, help: &'a str) -> Arg<'a>
+    ensures rule { rule_of result ≡ bad_rule }
+    ensures local { result.global ≡ false }
+{
+    Arg::new(alloc, "bad")
+        .long("bad")
+        .value_name("LBA")
+        .action(ArgAction::Set)
+        .value_parser(clap::value_parser!(u32).range(0..=i64::from(LAST_BLOCK)))
+        .help(help)
+}
+
+pub(crate) fn number<'a>(
+    alloc: Global,
+    name: &'a str,
+    least: u32,
+    most: u32,
+    help: &'a str,
+) -> Arg<'a>
+    ensures rule { rule_of result ≡ number_rule name.entry.now least most }
+    ensures local { result.global ≡ false }
+{
+    Arg::new(alloc, name)
+        .required(true)
+        .action(ArgAction::Set)
+        .value_parser(clap::value_parser!(u32).range(i64::from(least)..=i64::from(most)))
+        .help(help)
+}

@@ -1,0 +1,42 @@
+//! The texts of help that are no one line of a subcommand.
+
+pub(crate) const LBA_HELP: &str = "The number of the first block: 0 to 4294967295";
+
+pub(crate) const BYTE_HELP: &str = "The byte that the blocks are filled with: 0 to 255";
+
+/// What a script has, and an example.
+pub(crate) const SCRIPT_HELP: &str = "\
+A script has a line for each command, task management or step; words stand between spaces, and # begins a remark:
+  C tur | C inquiry LEN | C capacity        a command of client C, which is below CLIENTS
+  C read LBA COUNT [fua]                    LBA to 4294967295, COUNT to 128
+  C write LBA COUNT BYTE [fua]              the blocks are filled with BYTE
+  C sync LBA COUNT
+  C read16, C write16, C capacity16 LEN     the same by commands of 16 bytes
+  C abort TAG | C reset                     task management
+  command | engine | event | data TAG | status TAG | retire PIPE TAG | take C
+                                            one step; TAG is a command's, PIPE 2, 3 or 4
+  drain                                     all steps that are due
+A drain follows by itself at the end.
+
+Example:
+  uasdisk replay 2 100 < examples/two-clients.script";
+
+pub(crate) const ROUNDS_HELP: &str =
+    "How many rounds each client takes, a WRITE and a READ of the same 8 blocks: 1 to 1000";
+
+/// What `work` does, and an example.
+pub(crate) const WORK_HELP: &str = "\
+Each client has a unit of 64 blocks and a thread of its own. In round r, from 0 on, client c fills 8 blocks from block
+8 (r mod 8) on with the byte (16 c + r) mod 256 and reads them back. Of each client a line is printed, by number:
+  client C writes R reads R equal E         R ended GOOD, E of the reads brought what had been written
+
+Example:
+  uasdisk work 4 3";
+
+/// What `decode` reads, and an example.
+pub(crate) const DECODE_HELP: &str = "\
+A line whose first word is unit, put, link, event, trb, context, bell, cdb or sense has bytes behind it, in hexadecimal
+digits; what they say is printed behind the line. Every other line stays as it is.
+
+Example:
+  uasdisk trace 1 100 < examples/first-reply.script | uasdisk decode";

@@ -1,0 +1,46 @@
+-- How the run `work` ends: what is printed, and the exit status.
+use Rattle.std.specs.Prelude.{◌≡◌, ℕ, ◌*◌, ◌≤◌, ◌⊎◌, Bool, IsTrue, if◌then◌else◌, List, [], length, replicate, Option}
+use Rattle.std.specs.Io.KnownBytes.{Appends, Keeps}
+use Rattle.block_unit.specs.BlockMaps.{BlockMaps, fresh}
+use Rattle.scsi_cmd.specs.declared.Reply.{Reply}
+use Rattle.uas_replay.specs.declared.status.RunFault.TheVariants.{Image, ImageFile, Script, ScriptFile, NoMemory}
+use Rattle.uas_replay.specs.Runs.{status_of as run_status_of}
+use Rattle.work_run.specs.declared.faults.WorkFault.{WorkFault}
+use Rattle.work_run.specs.declared.faults.WorkFault.TheVariants.{LogFull, Run}
+use Rattle.work_run.specs.Tallies.{all_whole, tallies_of, work_text}
+
+-- so many units of 64 zeroed blocks, none of them bad
+abbrev pub work_units : ℕ → List BlockMaps
+work_units clients = replicate clients (fresh 64 [])
+
+-- 0 where every client wrote, read and found equal each of its rounds
+abbrev pub work_status : ℕ → List (List Reply) → ℕ
+work_status rounds replies = if all_whole rounds (tallies_of replies) then 0 else 1
+
+-- The clients took these replies: their lines were printed, and the status follows from them.
+pub record Told (clients rounds : ℕ) (old new : Option (List ℕ)) (status : ℕ) : Type 0 where
+  pub replies : List (List Reply)
+  pub of_each : length replies ≡ clients
+  pub lines : Appends old new (work_text (tallies_of replies))
+  pub follows : status ≡ work_status rounds replies
+
+-- A run that gives up printed nothing, or couldn't print: then standard output can fail.
+pub record WorkEnds (clients rounds : ℕ) (can_fail : Bool) (old new : Option (List ℕ)) (status : ℕ) : Type 0 where
+  pub statuses : (status ≤ 1) ⊎ ((status ≡ 3) ⊎ (status ≡ 4))
+  pub told : status ≤ 1 → Told clients rounds old new status
+  pub fault : status ≡ 3 → IsTrue can_fail
+  pub memory : status ≡ 4 → Keeps old new
+
+-- the exit status of a fault
+abbrev pub status_of : WorkFault → ℕ
+status_of LogFull = 4
+status_of (Run fault) = run_status_of fault
+
+-- A run gives up for want of memory or at a full log, with nothing printed; or at a fault of standard output, where that can fail.
+abbrev pub GivesUp : Bool → Option (List ℕ) → Option (List ℕ) → WorkFault → Type 0
+GivesUp can_fail old new LogFull = Keeps old new
+GivesUp can_fail old new (Run (Image fault)) = ⊥
+GivesUp can_fail old new (Run ImageFile) = ⊥
+GivesUp can_fail old new (Run (Script fault)) = ⊥
+GivesUp can_fail old new (Run ScriptFile) = IsTrue can_fail
+GivesUp can_fail old new (Run NoMemory) = Keeps old new

@@ -1,0 +1,32 @@
+//! Why the run gives up.
+
+ghost use Rattle.std.specs.Prelude.{◌≡◌};
+ghost use Rattle.work_run.specs.WorkEnds.{status_of};
+
+use std::io::Write;
+use thiserror::Error;
+use uas_replay::{NO_MEMORY, RunFault};
+
+/// Why the run gave up.
+#[derive(Clone, Copy, Debug, PartialEq, Eq, Error)]
+pub(crate) enum WorkFault {
+    /// The log holds as many steps as it may.
+    #[error("log full")]
+    LogFull,
+    /// A fault that other runs have too: want of memory, or of standard output.
+    #[error("{0}")]
+    Run(RunFault),
+}
+
+impl WorkFault {
+    /// Tells it in one line, and gives its exit status. A fault of `faults` changes nothing.
+    pub(crate) fn tell<W: Write>(self, faults: &mut W) -> u8
+        ensures { result ≡ status_of self }
+    {
+        let _ = writeln!(faults, "{self}");
+        match self {
+            WorkFault::LogFull => NO_MEMORY,
+            WorkFault::Run(fault) => fault.status(),
+        }
+    }
+}

@@ -1,0 +1,44 @@
+//! The run `work`: clients that write and read in threads of their own, and what of it came back.
+//!
+//! ```text
+//!     units of zeros ---> a bus that books ---> clients, 2 controllers, a dispatcher ---> replies ---> a tally of each client
+//!                                               in threads, the bus under a lock                        a line each, a status
+//! ```
+//!
+//! [`run_work`] gives each client a unit of 64 blocks and lets all of them take so many rounds by `uas_work`'s threads: in round r client c
+//! fills 8 blocks with the byte (16 c + r) mod 256 and reads them back. Then it counts, for each client, the WRITEs and the READs that
+//! ended GOOD, and the READs that brought what had been written ([`Tally`]).
+//!
+//! What is promised: each line tells what a client's replies come to (specs/Tallies.antt), and the exit status is 0 exactly where every
+//! client wrote, read and found equal each of its rounds (specs/WorkEnds.antt). Which replies there are no contract says, as threads
+//! made them; what is known of the bus that they leave is `uas_work`'s. That all rounds come to an end is tested.
+#![tactic(auto)]
+
+mod faults;
+mod run;
+mod tallies;
+#[cfg(test)]
+mod tests;
+
+pub use run::run_work;
+
+/// What is to be done.
+#[derive(Clone, Copy, Debug, PartialEq, Eq)]
+pub struct Load {
+    /// How many clients work: 1 to 15.
+    pub clients: usize,
+    /// How many rounds each of them takes.
+    pub rounds: u32,
+}
+
+/// What the replies of a client come to.
+#[derive(Clone, Copy, Debug, PartialEq, Eq)]
+pub struct Tally {
+    pub client: usize,
+    /// WRITEs that ended GOOD.
+    pub writes: usize,
+    /// READs that ended GOOD.
+    pub reads: usize,
+    /// Those of these READs that brought what was written in their round.
+    pub equal: usize,
+}

@@ -1,0 +1,199 @@
+//! The run `work`: the threads, what they left, and what is told of it.
+
+ghost use Rattle.std.specs.Prelude.{◌≡◌, ℕ, ◌*◌, ◌^◌, ◌<◌, ◌≤◌, Bool, List, Option, false, IfOk, IfErr};
+ghost use Rattle.byte_io.specs.Disks.{AreClients};
+ghost use Rattle.shared_machine.specs.Shared.{opening};
+ghost use Rattle.work_run.specs.WorkEnds.{GivesUp, Told, WorkEnds, work_units};
+
+use crate::Load;
+use crate::faults::WorkFault;
+use crate::tallies::{all_whole, tallies_of, work_text};
+use block_unit::Unit;
+use byte_io::Sink;
+use std::alloc::{AllocError, Global};
+use std::io::Write;
+use std::rt::Clock;
+use std::sync::Wait;
+use std::thread::Threads;
+use std::time::Instant;
+use uas_replay::{COMMAND_FAILED, DONE, RunFault, output_fault};
+use uas_work::{Booked, Ended, Finished, Plan, Unhindered, spawn_all};
+
+/// Blocks of each unit: eight rounds write to blocks of their own.
+const UNIT_BLOCKS: u32 = 64;
+
+/// The controllers that work beside the clients.
+const CONTROLLERS: u32 = 2;
+
+/// Steps that are booked of the two commands of a round, each of 8 blocks: the submission, the command, the chunk, the status, three
+/// events and the Take.
+const ROUND_STEPS: u64 = 16;
+
+/// What came of a run that was told.
+#[derive(Clone, Copy)]
+struct Worked {
+    status: u8,
+    /// How many commands were answered.
+    commands: usize,
+    /// How long the threads took, where the clock tells it.
+    millis: Option<u64>,
+}
+
+/// The run `work`: lets so many clients, 1 to 15, take their rounds in threads, and prints a line of each. Where it is asked for, the
+/// pace is shown on `faults` at the end. It answers the exit status: 1 where a command of a client didn't end GOOD or a READ didn't
+/// bring what was written, 3 at a fault of standard output, 4 for want of memory or where the log is full, else 0.
+pub fn run_work<R: Threads + Wait + Clock + Sync, O: Sink, W: Write>(
+    rt: &R,
+    alloc: Global,
+    load: Load,
+    output: &mut O,
+    faults: &mut W,
+    may_show_progress: bool,
+) -> u8
+    requires { AreClients load.clients }
+    ensures ends { WorkEnds load.clients load.rounds (O.can_fail output.old) (O.written output.old) (O.written output.new) result }
+    ensures quiet { may_show_progress ≡ false → result ≤ 1 → faults.new ≡ faults.old }
+{
+    match work(rt, alloc, load, output) {
+        Ok(worked) => {
+            if may_show_progress {
+                worked.show(faults);
+            }
+            worked.status
+        }
+        Err(fault) => fault.tell(faults),
+    }
+}
+
+fn work<R: Threads + Wait + Clock + Sync, O: Sink>(
+    rt: &R,
+    alloc: Global,
+    load: Load,
+    output: &mut O,
+) -> Result<Worked, WorkFault>
+    requires { AreClients load.clients }
+    ensures status { IfOk result (λ worked. worked.status ≤ 1) }
+    ensures told { IfOk result (λ worked. Told load.clients load.rounds (O.written output.old) (O.written output.new) worked.status) }
+    ensures fault { IfErr result (GivesUp (O.can_fail output.old) (O.written output.old) (O.written output.new)) }
+{
+    let start = Instant::now(rt).ok();
+    let finished = ran(rt, alloc, load)?;
+    let millis = start.and_then(|start| millis_since(rt, &start));
+    let commands = finished.booked.log().replies.len();
+    let status = tell(alloc, load, &finished, output)?;
+    Ok(Worked {
+        status,
+        commands,
+        millis,
+    })
+}
+
+/// Prints what the clients took, and answers the status.
+fn tell<O: Sink>(
+    alloc: Global,
+    load: Load,
+    finished: &Finished,
+    output: &mut O,
+) -> Result<u8, WorkFault>
+    ensures status { IfOk result (λ status. status ≤ 1) }
+    ensures told { IfOk result (λ status. Told load.clients load.rounds (O.written output.old) (O.written output.new) status) }
+    ensures fault { IfErr result (GivesUp (O.can_fail output.old) (O.written output.old) (O.written output.new)) }
+{
+    let Some(replies) = finished.replies.as_slice().get(..load.clients) else {
+        return Err(WorkFault::Run(RunFault::NoMemory));
+    };
+    let tallies = tallies_of(alloc, replies).map_err(|_| WorkFault::Run(RunFault::NoMemory))?;
+    let text = work_text(alloc, &tallies).map_err(|_| WorkFault::Run(RunFault::NoMemory))?;
+    output
+        .write(&text)
+        .map_err(|fault| WorkFault::Run(output_fault(fault)))?;
+    Ok(if all_whole(load.rounds, &tallies) {
+        DONE
+    } else {
+        COMMAND_FAILED
+    })
+}
+
+/// Lets the clients take their rounds. A worker without a thread or memory ends them all, and so does a full log.
+fn ran<R: Threads + Wait + Sync>(rt: &R, alloc: Global, load: Load) -> Result<Finished, WorkFault>
+    requires { AreClients load.clients }
+    ensures { IfErr result (λ fault. (can_fail : Bool) → (text : Option (List ℕ)) → GivesUp can_fail text text fault) }
+{
+    let Ok(booked) = booked(alloc, load) else {
+        return Err(WorkFault::Run(RunFault::NoMemory));
+    };
+    let plan = Plan {
+        rounds: load.rounds,
+        controllers: CONTROLLERS,
+    };
+    let Ok(finished) = spawn_all(rt, alloc, booked, &Unhindered, plan) else {
+        return Err(WorkFault::Run(RunFault::NoMemory));
+    };
+    match finished.ended {
+        Ended::Done | Ended::Stopped => Ok(finished),
+        Ended::LogFull => Err(WorkFault::LogFull),
+        Ended::NoMemory | Ended::NoThread => Err(WorkFault::Run(RunFault::NoMemory)),
+    }
+}
+
+/// The bus of so many zeroed units, whose log has room for the steps of all rounds.
+fn booked(alloc: Global, load: Load) -> Result<Booked, AllocError>
+    requires { AreClients load.clients }
+    ensures { IfOk result (λ booked. booked.bus ≡ opening (work_units load.clients)) }
+{
+    Booked::new(alloc, work_units(alloc, load.clients)?, step_limit(load))
+}
+
+/// So many units of zeroed blocks, none of them bad.
+fn work_units(alloc: Global, clients: usize) -> Result<Vec<Unit>, AllocError>
+    ensures { IfOk result (λ units. units.items ≡ work_units clients) }
+{
+    let mut units = Vec::new(alloc);
+    for _ in 0..clients {
+        units.push(Unit::new(alloc, UNIT_BLOCKS, Vec::new(alloc))?)?;
+    }
+    Ok(units)
+}
+
+/// How many steps are booked of all rounds, or the most that a log may hold.
+fn step_limit(load: Load) -> usize
+    requires { AreClients load.clients }
+    ensures fits { result < 2 ^ 32 }
+    ensures enough { 16 * load.clients * load.rounds < 2 ^ 32 → result ≡ 16 * load.clients * load.rounds }
+{
+    let steps = ROUND_STEPS * load.clients as u64 * u64::from(load.rounds);
+    steps.min(u64::from(u32::MAX)) as usize
+}
+
+/// How long ago it was, in thousandths of a second.
+fn millis_since<R: Clock>(rt: &R, start: &Instant) -> Option<u64> {
+    let elapsed = start.elapsed(rt).ok()?;
+    Some(
+        elapsed
+            .as_secs()
+            .saturating_mul(1000)
+            .saturating_add(u64::from(elapsed.subsec_millis())),
+    )
+}
+
+impl Worked {
+    /// Shows the pace. A fault of `faults` changes nothing.
+    fn show<W: Write>(self, faults: &mut W) {
+        let Worked {
+            commands,
+            millis,
+            ..
+        } = self;
+        let Some(millis) = millis else {
+            let _ = writeln!(faults, "{commands} commands");
+            return;
+        };
+        let seconds = millis / 1000;
+        let tenth = millis % 1000 / 100;
+        let rate = (commands as u64).saturating_mul(1000) / millis.max(1);
+        let _ = writeln!(
+            faults,
+            "{commands} commands in {seconds}.{tenth} s, {rate} a second"
+        );
+    }
+}

@@ -61,7 +61,7 @@ fn are_all(client: usize, taken: &[Reply], replies: &[Reply]) -> bool
 }
 
 /// Whether a step is a submission of a client.
-fn is_asked_by(client: usize, step: &Step) -> bool
+pub fn is_asked_by(client: usize, step: &Step) -> bool
     ensures { result ≡ is_asked_by client step.now }
 {
     match step {

@@ -19,5 +19,5 @@
 mod audits;
 mod plan;
 
-pub use audits::audit;
+pub use audits::{audit, is_asked_by};
 pub use plan::planned;

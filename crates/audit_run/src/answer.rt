@@ -5,16 +5,16 @@ ghost use Rattle.log_replay.specs.Replaying.{IsReplayOf};
 ghost use Rattle.audit_run.specs.Audits.{IsAnswered, IsRefusedBy, audit_lines, audit_text, client_line, line_text};
 
 use crate::accounts::{is_true_of, replies_of};
-use crate::{Answer, AuditFault};
+use crate::{AuditFault, Told};
 use log_replay::replay_log;
 use log_text::{SavedLog, load_log, migrate};
 use std::alloc::{AllocError, Global};
 use uas_work::Booked;
 
 /// What is told of a text: a line for each client of its log, or the first thing that is wrong.
-pub(crate) fn answered(alloc: Global, bytes: &[u8]) -> Result<Answer, AuditFault>
+pub(crate) fn answered(alloc: Global, bytes: &[u8]) -> Result<Told, AuditFault>
     ensures ok { IfOk result (λ answer. IsAnswered bytes.now answer.text.items) }
-    ensures true { IfOk result (λ answer. answer.is_true ≡ true) }
+    ensures audited { IfOk result (λ answer. answer.is_true ≡ true) }
     ensures fault { IfErr result (IsRefusedBy bytes.now) }
 {
     let saved = load_log(alloc, bytes).map_err(AuditFault::Text)?;
@@ -24,17 +24,17 @@ pub(crate) fn answered(alloc: Global, bytes: &[u8]) -> Result<Answer, AuditFault
 }
 
 /// A line for each client. Asks that the bus is booked by the log.
-fn lines(alloc: Global, booked: &Booked, log: &SavedLog) -> Result<Answer, AllocError>
+fn lines(alloc: Global, booked: &Booked, log: &SavedLog) -> Result<Told, AllocError>
     requires { IsReplayOf log.now booked.now }
     ensures text { IfOk result (λ answer. answer.text.items ≡ audit_text log.now) }
-    ensures true { IfOk result (λ answer. answer.is_true ≡ true) }
+    ensures audited { IfOk result (λ answer. answer.is_true ≡ true) }
 {
     let mut text = Vec::new(alloc);
     let mut is_true = true;
     for client in 0..log.units().len() {
         is_true = push_line(alloc, &mut text, booked, log, client)? && is_true;
     }
-    Ok(Answer { text, is_true })
+    Ok(Told { text, is_true })
 }
 
 /// Adds a client's line, and answers whether its audit is true.
@@ -48,7 +48,7 @@ fn push_line(
     requires replay { IsReplayOf log.now booked.now }
     requires client { client < length log.now.units }
     ensures text { OnOk result (text.new.items ≡ text.old.items ++ client_line log.now client) }
-    ensures true { IfOk result (λ told. told ≡ true) }
+    ensures audited { IfOk result (λ told. told ≡ true) }
 {
     let replies = replies_of(alloc, log.replies(), client)?;
     let told = is_true_of(alloc, booked, log, client, &replies)?;

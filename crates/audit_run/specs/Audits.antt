@@ -22,7 +22,7 @@ replies_to client replies = map (λ saved. saved.reply) (filter (λ saved. saved
 
 -- `client C replies R true`
 abbrev pub line_text : ℕ → ℕ → List ℕ
-line_text client count = codes "client " ++ decimal client ++ codes " replies " ++ decimal count ++ codes " true\n"
+line_text client count = codes "client " ++ (decimal client ++ (codes " replies " ++ (decimal count ++ codes " true\n")))
 
 -- a client's line: how many replies it took
 abbrev pub client_line : Saved → ℕ → List ℕ
@@ -42,8 +42,8 @@ audit_text log = audit_lines log (length log.units)
 -- a text is a log's, which can be brought over to this one
 pub record IsLogOf (bytes : List ℕ) (log : Saved) : Type 0 where
   pub saved : Saved
-  pub read : Loads (whole_log bytes) (Ok saved)
-  pub brought : Migrates (Ok log) (migrated saved)
+  pub read : whole_log bytes ≡ Ok saved
+  pub brought : migrated saved ≡ Ok log
 
 -- A text that is answered: its log's steps are all due and accepted in their turn, its replies are those that come of them, and this is
 -- told.
@@ -52,25 +52,25 @@ pub record IsAnswered (bytes told : List ℕ) : Type 0 where
   pub is : IsLogOf bytes log
   pub steps : steps_fault log ≡ None
   pub replies : replayed_replies log ≡ log.replies
-  pub told : told ≡ audit_text log
+  pub text : told ≡ audit_text log
 
 -- a log that can't be brought over
 pub record CantBeBrought (bytes : List ℕ) (fault : MigrateFault) : Type 0 where
   pub saved : Saved
-  pub read : Loads (whole_log bytes) (Ok saved)
-  pub fault : Migrates (Err fault) (migrated saved)
+  pub read : whole_log bytes ≡ Ok saved
+  pub because : Migrates (Err fault) (migrated saved)
 
 -- a log that isn't the replay of its steps
 pub record CantBeReplayed (bytes : List ℕ) (fault : ReplayFault) : Type 0 where
   pub log : Saved
   pub is : IsLogOf bytes log
-  pub fault : IsReplayed log (Err fault)
+  pub because : IsReplayed log (Err fault)
 
 -- What is wrong with a text: its form, what it has of clients, its steps or replies. Want of memory can always be.
 abbrev pub IsRefusedBy : List ℕ → AuditFault → Type 0
 IsRefusedBy bytes File = ⊥
 IsRefusedBy bytes TooLarge = ⊥
-IsRefusedBy bytes (Text fault) = Loads (whole_log bytes) (Err fault)
+IsRefusedBy bytes (Text fault) = Loads (Err fault) (whole_log bytes)
 IsRefusedBy bytes (Old fault) = CantBeBrought bytes fault
 IsRefusedBy bytes (Replay fault) = CantBeReplayed bytes fault
 IsRefusedBy bytes Output = ⊥

@@ -17,9 +17,18 @@ pub(crate) fn answered(alloc: Global, bytes: &[u8]) -> Result<Told, AuditFault>
     ensures audited { IfOk result (λ answer. answer.is_true ≡ true) }
     ensures fault { IfErr result (IsRefusedBy bytes.now) }
 {
-    let saved = load_log(alloc, bytes).map_err(AuditFault::Text)?;
-    let moved = migrate(alloc, &saved).map_err(AuditFault::Old)?;
-    let booked = replay_log(alloc, &moved).map_err(AuditFault::Replay)?;
+    let saved = match load_log(alloc, bytes) {
+        Ok(saved) => saved,
+        Err(fault) => return Err(AuditFault::Text(fault)),
+    };
+    let moved = match migrate(alloc, &saved) {
+        Ok(moved) => moved,
+        Err(fault) => return Err(AuditFault::Old(fault)),
+    };
+    let booked = match replay_log(alloc, &moved) {
+        Ok(booked) => booked,
+        Err(fault) => return Err(AuditFault::Replay(fault)),
+    };
     lines(alloc, &booked, &moved).map_err(|_| AuditFault::NoMemory)
 }
 

@@ -14,9 +14,14 @@ mod answer;
 mod faults;
 mod run;
 
-pub use run::{MAX_LOG_BYTES, run_audit};
+pub use run::run_audit;
 use log_replay::ReplayFault;
 use log_text::{LogFault, MigrateFault};
+
+/// The most bytes of a log's file.
+pub const MAX_LOG_BYTES: usize = 1_073_741_824;
+
+const _: () = prove!(MAX_LOG_BYTES == 1_073_741_824);
 
 /// Every client's audit is true.
 pub const DONE: u8 = 0;

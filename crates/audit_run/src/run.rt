@@ -4,13 +4,10 @@ ghost use Rattle.std.specs.Io.KnownBytes.{Keeps};
 ghost use Rattle.audit_run.specs.Ends.{GivesUp, IsRefused, ReadGivesUp, Tells};
 
 use crate::answer::answered;
-use crate::{AuditFault, DONE, UNTRUE};
+use crate::{AuditFault, DONE, MAX_LOG_BYTES, UNTRUE};
 use byte_io::{Sink, Source, StreamFault, read_at_most};
 use std::alloc::Global;
 use std::io::Write;
-
-/// The most bytes of a log's file.
-pub const MAX_LOG_BYTES: usize = 1_073_741_824;
 
 /// Audits the log that `source` has. Where the log is the replay of its own steps, `output` gets a line for each client, by number:
 /// `client C replies R true`, R being how many replies it took. It answers the exit status: 3 at a fault of the file, its text or the

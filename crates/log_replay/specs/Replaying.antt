@@ -47,11 +47,13 @@ pub record DifferFirst {T : Type 0} (place : ℕ) (one other : List T) : Type 0 
 
 -- THE REPLAY
 
--- a booked bus whose log is a saved log: the same units, steps and replies, and no step was refused
+-- A booked bus whose log is a saved log: the same units, steps and replies. No step was refused, and the replies are those that come of
+-- the steps.
 pub record IsReplayOf (log : Saved) (booked : BookedState) : Type 0 where
   pub units : booked.log.units ≡ log.units
   pub steps : booked.log.steps ≡ log.steps
   pub faultless : steps_fault log ≡ None
+  pub told : replayed_replies log ≡ log.replies
   pub replies : map (with_client TAGS) booked.log.replies ≡ log.replies
   pub limit : booked.limit ≡ length log.steps
 

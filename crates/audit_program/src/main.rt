@@ -13,6 +13,9 @@ use std::io::Write;
 use std::process::ExitCode;
 use std::{env, io};
 
+/// The run's name, behind which the file's may stand.
+const RUN: &str = "audit";
+
 /// Words that name no file.
 const WORDS_REFUSED: u8 = 2;
 
@@ -51,11 +54,11 @@ fn start(rt: &HostRuntime, words: &[String]) -> u8
     run_audit(rt.alloc(), &mut log, &mut output, &mut rt.stderr())
 }
 
-/// The file's name, behind the program's own.
+/// The file's name, behind the program's own; none where the words are others.
 fn file_of(words: &[String]) -> Option<&str> {
     match words {
-        [_, file] => Some(file.as_str()),
-        [_, run, file] if run.as_str() == "audit" => Some(file.as_str()),
+        [_, file] if file.as_str() != RUN => Some(file.as_str()),
+        [_, run, file] if run.as_str() == RUN => Some(file.as_str()),
         _ => None,
     }
 }

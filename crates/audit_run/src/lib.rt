@@ -13,6 +13,8 @@ mod accounts;
 mod answer;
 mod faults;
 mod run;
+#[cfg(test)]
+mod tests;
 
 pub use run::run_audit;
 use log_replay::ReplayFault;

@@ -1,0 +1,5 @@
+pub mod Silent
+pub mod Tagged
+pub mod Owned
+pub mod Accounts
+pub mod Matching

@@ -1,0 +1,84 @@
+//! What a client of `uasdisk work` submits.
+ghost use Rattle.std.specs.Prelude.{◌≡◌, ◌+◌, ◌*◌, ◌<◌, IfOk};
+ghost use Rattle.uas_profile.specs.declared.TheConstants.{MAX_CLIENTS};
+ghost use Rattle.log_audit.specs.Plan.{filled, planned_read, planned_steps, planned_write};
+
+use scsi_cmd::{Buffer, Command, Op};
+use shared_machine::Step;
+use std::alloc::{AllocError, Global};
+use uas_profile::{BLOCK_BYTES, TAGS};
+
+/// Blocks of each command of a round.
+const ROUND_BLOCKS: u16 = 8;
+
+/// Rounds until a client is back at its first blocks.
+const ROUNDS_AROUND: u32 = 8;
+
+/// The submissions of a client of so many rounds, in order: in round r, from 0 on, a WRITE without FUA of 8 blocks at block
+/// 8 (r mod 8) with bytes (16 client + r) mod 256, and a READ of the same blocks into zeros, on its first tag, with tickets from 0 on.
+pub fn planned(alloc: Global, client: usize, rounds: u32) -> Result<Vec<Step>, AllocError>
+    requires { client < MAX_CLIENTS }
+    ensures { IfOk result (λ steps. steps.items ≡ planned_steps client rounds) }
+{
+    let mut steps = Vec::new(alloc);
+    for round in 0..rounds {
+        steps.push(planned_write(alloc, client, round)?)?;
+        steps.push(planned_read(alloc, client, round)?)?;
+    }
+    Ok(steps)
+}
+
+fn planned_write(alloc: Global, client: usize, round: u32) -> Result<Step, AllocError>
+    requires { client < MAX_CLIENTS }
+    ensures { IfOk result (λ step. step ≡ planned_write client round) }
+{
+    let byte = ((16 * client as u64 + u64::from(round)) % 256) as u8;
+    Ok(Step::Submit {
+        client,
+        tag: first_tag(client),
+        ticket: 2 * u64::from(round),
+        command: Command {
+            op: Op::Write {
+                lba: u32::from(ROUND_BLOCKS) * (round % ROUNDS_AROUND),
+                count: ROUND_BLOCKS,
+                fua: false,
+            },
+            buffer: filled(alloc, BLOCK_BYTES * usize::from(ROUND_BLOCKS), byte)?,
+        },
+    })
+}
+
+fn planned_read(alloc: Global, client: usize, round: u32) -> Result<Step, AllocError>
+    requires { client < MAX_CLIENTS }
+    ensures { IfOk result (λ step. step ≡ planned_read client round) }
+{
+    Ok(Step::Submit {
+        client,
+        tag: first_tag(client),
+        ticket: 2 * u64::from(round) + 1,
+        command: Command {
+            op: Op::Read {
+                lba: u32::from(ROUND_BLOCKS) * (round % ROUNDS_AROUND),
+                count: ROUND_BLOCKS,
+                fua: false,
+            },
+            buffer: filled(alloc, BLOCK_BYTES * usize::from(ROUND_BLOCKS), 0)?,
+        },
+    })
+}
+
+/// A client's first tag.
+fn first_tag(client: usize) -> u16
+    requires { client < MAX_CLIENTS }
+    ensures { result ≡ TAGS * client + 1 }
+{
+    (TAGS * client) as u16 + 1
+}
+
+/// A buffer of so many of a byte.
+#[tactic(auto, unfolding(crate::specs::Plan::filled))]
+fn filled(alloc: Global, count: usize, byte: u8) -> Result<Buffer, AllocError>
+    ensures { IfOk result (λ buffer. buffer ≡ filled count byte) }
+{
+    Ok(Buffer::from_vec(vec![in alloc; byte; count]?))
+}

@@ -1,0 +1,3 @@
+pub mod FirstUnits
+pub mod Differing
+pub mod Replayed

@@ -19,20 +19,20 @@ abbrev pub device : List ℕ
 device = 18 ∷ 1 ∷ 0 ∷ 3 ∷ 0 ∷ 0 ∷ 0 ∷ 9 ∷ 0xf4 ∷ 0x46 ∷ 3 ∷ 0 ∷ 0 ∷ 0 ∷ 0 ∷ 0 ∷ 0 ∷ 1 ∷ []
 
 -- the pipes but the first have 2^8 streams
-abbrev pub streams_of : Pipe → ℕ
+unfoldable pub streams_of : Pipe → ℕ
 streams_of pipe.Command = 0
 streams_of pipe.Status = 8
 streams_of pipe.DataIn = 8
 streams_of pipe.DataOut = 8
 
 -- a bulk endpoint of 1,024 bytes a packet, its SuperSpeed companion of bursts of 16, and its number among the pipes
-abbrev pub endpoint_descriptor : Pipe → List ℕ
+unfoldable pub endpoint_descriptor : Pipe → List ℕ
 endpoint_descriptor on = 7 ∷ 5 ∷ pipe_endpoint on ∷ 2 ∷ 0 ∷ 4 ∷ 0 ∷ []
 
-abbrev pub companion_descriptor : Pipe → List ℕ
+unfoldable pub companion_descriptor : Pipe → List ℕ
 companion_descriptor on = 6 ∷ 0x30 ∷ 15 ∷ streams_of on ∷ 0 ∷ 0 ∷ []
 
-abbrev pub usage_descriptor : Pipe → List ℕ
+unfoldable pub usage_descriptor : Pipe → List ℕ
 usage_descriptor on = 4 ∷ 0x24 ∷ number_of on ∷ 0 ∷ []
 
 unfoldable pub pipe_descriptors : Pipe → List ℕ

@@ -14,19 +14,19 @@ use Rattle.usb_capture.specs.declared.descriptors.Request.TheVariants.{GetDevice
 use Rattle.usb_capture.specs.Pcapng.{packet}
 
 -- the letters S and C
-abbrev pub event_letter : Event → ℕ
+unfoldable pub event_letter : Event → ℕ
 event_letter Submitted = 0x53
 event_letter Completed = 0x43
 event_letter Unlinked = 0x43
 
 -- -115 (EINPROGRESS), 0, and -104 (ECONNRESET), as words of 32 bits
-abbrev pub event_status : Event → ℕ
+unfoldable pub event_status : Event → ℕ
 event_status Submitted = 2 ^ 32 - 115
 event_status Completed = 0
 event_status Unlinked = 2 ^ 32 - 104
 
 -- control transfers are of kind 2, bulk transfers of kind 3
-abbrev pub transfer_kind : Transfer → ℕ
+unfoldable pub transfer_kind : Transfer → ℕ
 transfer_kind (Control request) = 2
 transfer_kind (Bulk pipe) = 3
 
@@ -42,12 +42,12 @@ request_endpoint GetDevice = 0x80
 request_endpoint GetConfiguration = 0x80
 request_endpoint SetConfiguration = 0
 
-abbrev pub endpoint_of : Transfer → ℕ
+unfoldable pub endpoint_of : Transfer → ℕ
 endpoint_of (Control request) = request_endpoint request
 endpoint_of (Bulk pipe) = pipe_endpoint pipe
 
 -- the setup packet of a request: its type, its code, value, index and length. By hand: the device descriptor is type 1 of 18 bytes.
-abbrev pub setup_packet : Request → List ℕ
+unfoldable pub setup_packet : Request → List ℕ
 setup_packet GetDevice = 0x80 ∷ 6 ∷ 0 ∷ 1 ∷ 0 ∷ 0 ∷ 18 ∷ 0 ∷ []
 setup_packet GetConfiguration = 0x80 ∷ 6 ∷ 0 ∷ 2 ∷ 0 ∷ 0 ∷ 86 ∷ 0 ∷ []
 setup_packet SetConfiguration = 0 ∷ 9 ∷ 1 ∷ 0 ∷ 0 ∷ 0 ∷ 0 ∷ 0 ∷ []
@@ -59,7 +59,7 @@ setup_with Submitted (Bulk pipe) = None
 setup_with Completed transfer = None
 setup_with Unlinked transfer = None
 
-abbrev pub setup_of : Record → Option (List ℕ)
+unfoldable pub setup_of : Record → Option (List ℕ)
 setup_of urb = setup_with urb.event urb.transfer
 
 abbrev pub flag_with : Option (List ℕ) → ℕ
@@ -67,16 +67,16 @@ flag_with (Some setup) = 0
 flag_with None = 0x2d
 
 -- 0 where a setup packet goes with a record, else a dash
-abbrev pub setup_flag : Record → ℕ
+unfoldable pub setup_flag : Record → ℕ
 setup_flag urb = flag_with (setup_of urb)
 
 -- 0 where bytes go with a record, else `<` or `>`
-abbrev pub data_flag : Record → List ℕ → ℕ
+unfoldable pub data_flag : Record → List ℕ → ℕ
 data_flag urb [] = if nat_le 0x80 (endpoint_of urb.transfer) then 0x3c else 0x3e
 data_flag urb (byte ∷ bytes) = 0
 
 -- the eight bytes of the setup packet, zeros where there is none
-abbrev pub setup_bytes : Option (List ℕ) → List ℕ
+unfoldable pub setup_bytes : Option (List ℕ) → List ℕ
 setup_bytes (Some setup) = setup
 setup_bytes None = replicate 8 0
 
@@ -87,11 +87,13 @@ head urb payload =
     ++ (event_letter urb.event ∷ transfer_kind urb.transfer ∷ endpoint_of urb.transfer ∷ 5 ∷ [])
     ++ little_bytes 2 1 ++ (setup_flag urb ∷ data_flag urb payload ∷ [])
 
--- when it was, in seconds and microseconds, its status, and its length
+-- a time in seconds and microseconds
+unfoldable pub moment : ℕ → List ℕ
+moment time = little_bytes 8 (time / 1000000) ++ little_bytes 4 (time % 1000000)
+
+-- when it was, its status, and its length
 unfoldable pub state : Record → List ℕ
-state urb =
-    little_bytes 8 (urb.time / 1000000) ++ little_bytes 4 (urb.time % 1000000)
-    ++ little_bytes 4 (event_status urb.event) ++ little_bytes 4 urb.length
+state urb = moment urb.time ++ little_bytes 4 (event_status urb.event) ++ little_bytes 4 urb.length
 
 -- The header of 64 bytes and the bytes that go with it: how many those are stands before the setup packet, and four words of other
 -- kinds of transfer behind it.

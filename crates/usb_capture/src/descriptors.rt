@@ -40,6 +40,7 @@ impl Request {
     }
 
     /// The setup packet: type, request, value, index, length.
+    #[tactic(auto, unfolding(crate::specs::Usbmon::setup_packet))]
     pub(crate) fn setup(self) -> [u8; 8]
         ensures { result ≡ setup_packet self }
     {
@@ -110,6 +111,7 @@ impl Request {
 }
 
 /// How many streams a pipe has, as a power of two in its companion descriptor; 0 for none.
+#[tactic(auto, unfolding(crate::specs::Descriptors::streams_of))]
 fn streams_of(pipe: Pipe) -> u8
     ensures { result ≡ streams_of pipe }
 {
@@ -134,6 +136,7 @@ fn push_pipe(bytes: &mut Vec<u8>, pipe: Pipe) -> Result<(), AllocError>
 }
 
 /// The descriptor of a pipe's bulk endpoint: 1,024 bytes a packet.
+#[tactic(auto, unfolding(crate::specs::Descriptors::endpoint_descriptor, crate::specs::Usbmon::endpoint_of))]
 fn endpoint_descriptor(pipe: Pipe) -> [u8; 7]
     ensures { result ≡ endpoint_descriptor pipe }
 {
@@ -141,6 +144,7 @@ fn endpoint_descriptor(pipe: Pipe) -> [u8; 7]
 }
 
 /// Its SuperSpeed companion: bursts of 16, and its streams.
+#[tactic(auto, unfolding(crate::specs::Descriptors::companion_descriptor))]
 fn companion_descriptor(pipe: Pipe) -> [u8; 6]
     ensures { result ≡ companion_descriptor pipe }
 {
@@ -148,6 +152,7 @@ fn companion_descriptor(pipe: Pipe) -> [u8; 6]
 }
 
 /// The descriptor of its use.
+#[tactic(auto, unfolding(crate::specs::Descriptors::usage_descriptor))]
 fn usage_descriptor(pipe: Pipe) -> [u8; 4]
     ensures { result ≡ usage_descriptor pipe }
 {

@@ -1,7 +1,7 @@
 //! Records in the form of Linux's usbmon: a header of 64 bytes (Documentation/usb/usbmon), and the bytes that went with it.
 
 ghost use Rattle.std.specs.Prelude.{◌≡◌, ◌+◌, ◌++◌, ◌≤◌, length, OnOk};
-ghost use Rattle.usb_capture.specs.Usbmon.{endpoint_of, event_status, event_letter, head, record_bytes, record_packet, setup_bytes, setup_of, state, transfer_kind};
+ghost use Rattle.usb_capture.specs.Usbmon.{endpoint_of, event_status, event_letter, head, moment, record_bytes, record_packet, setup_bytes, setup_of, state, transfer_kind};
 ghost use Rattle.usb_capture.specs.Usbmon.{data_flag, setup_flag};
 ghost use Rattle.usb_capture.specs.declared.TheConstants.{MOST_COMMENT, MOST_DATA};
 
@@ -25,10 +25,9 @@ const UNLINKED: u32 = u32::MAX - 103;
 
 const DONE: u32 = 0;
 
-const MICROSECONDS: u64 = 1_000_000;
-
 impl Event {
     /// S for a submission, C for an end.
+    #[tactic(auto, unfolding(crate::specs::Usbmon::event_letter))]
     fn letter(self) -> u8
         ensures { result ≡ event_letter self }
     {
@@ -39,6 +38,7 @@ impl Event {
     }
 
     /// The status word, a negative error number of Linux or 0.
+    #[tactic(auto, unfolding(crate::specs::Usbmon::event_status))]
     fn status(self) -> u32
         ensures { result ≡ event_status self }
     {
@@ -52,6 +52,7 @@ impl Event {
 
 impl Transfer {
     /// The number of its kind.
+    #[tactic(auto, unfolding(crate::specs::Usbmon::transfer_kind))]
     fn kind(self) -> u8
         ensures { result ≡ transfer_kind self }
     {
@@ -62,6 +63,7 @@ impl Transfer {
     }
 
     /// The address of its endpoint; bit 7 is set where bytes come in.
+    #[tactic(auto, unfolding(crate::specs::Usbmon::endpoint_of))]
     pub(crate) fn endpoint(self) -> u8
         ensures { result ≡ endpoint_of self }
     {
@@ -77,6 +79,7 @@ impl Transfer {
 
 impl Record {
     /// The setup packet, where it has one.
+    #[tactic(auto, unfolding(crate::specs::Usbmon::setup_of))]
     fn setup(&self) -> Option<[u8; 8]>
         ensures { result ≡ setup_of self.now }
     {
@@ -87,6 +90,7 @@ impl Record {
     }
 
     /// 0 where a setup packet goes with it, else a dash.
+    #[tactic(auto, unfolding(crate::specs::Usbmon::setup_flag))]
     fn setup_flag(&self) -> u8
         ensures { result ≡ setup_flag self.now }
     {
@@ -97,6 +101,7 @@ impl Record {
     }
 
     /// 0 where bytes go with it, else which way its bytes go.
+    #[tactic(auto, unfolding(crate::specs::Usbmon::data_flag))]
     fn data_flag(&self, payload: &[u8]) -> u8
         ensures { result ≡ data_flag self.now payload.now }
     {
@@ -128,19 +133,31 @@ impl Record {
         bytes.extend_from_slice(&flags)
     }
 
-    /// Adds its time and how it stands.
+    /// Adds its time.
+    #[tactic(auto, unfolding(crate::specs::Usbmon::moment))]
+    fn push_moment(&self, bytes: &mut Vec<u8>) -> Result<(), AllocError>
+        ensures bytes { OnOk result (bytes.new.items ≡ bytes.old.items ++ moment self.now.time) }
+        ensures longer { OnOk result (length bytes.new.items ≤ length bytes.old.items + 12) }
+    {
+        let seconds = self.time / 1_000_000;
+        let rest = self.time % 1_000_000;
+        push_long(bytes, seconds)?;
+        push_word(bytes, rest as u32)
+    }
+
+    /// Adds how it stands.
     #[tactic(auto, unfolding(crate::specs::Usbmon::state))]
     fn push_state(&self, bytes: &mut Vec<u8>) -> Result<(), AllocError>
         ensures bytes { OnOk result (bytes.new.items ≡ bytes.old.items ++ state self.now) }
         ensures longer { OnOk result (length bytes.new.items ≤ length bytes.old.items + 20) }
     {
-        push_long(bytes, self.time / MICROSECONDS)?;
-        push_word(bytes, (self.time % MICROSECONDS) as u32)?;
+        self.push_moment(bytes)?;
         push_word(bytes, self.event.status())?;
         push_word(bytes, self.length)
     }
 
     /// Adds the setup packet, zeros where there is none.
+    #[tactic(auto, unfolding(crate::specs::Usbmon::setup_bytes))]
     fn push_setup(&self, bytes: &mut Vec<u8>) -> Result<(), AllocError>
         ensures bytes { OnOk result (bytes.new.items ≡ bytes.old.items ++ setup_bytes (setup_of self.now)) }
         ensures longer { OnOk result (length bytes.new.items ≤ length bytes.old.items + 8) }

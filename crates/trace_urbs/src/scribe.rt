@@ -1,5 +1,8 @@
 //! The record of each change, written while a trace is taken line by line.
 
+ghost use Rattle.std.specs.Prelude.{◌≡◌, ◌≤◌, length};
+ghost use Rattle.usb_capture.specs.declared.TheConstants.{MOST_DATA};
+
 use crate::{Change, Desk, News, Td, Transfers, news_in};
 use byte_io::words;
 use hex::FromHexError;
@@ -108,7 +111,9 @@ impl Scribe {
     }
 
     /// The bytes that go with the record of a change.
-    fn payload<'a>(&'a self, transfers: &'a Transfers, change: &Change) -> &'a [u8] {
+    fn payload<'a>(&'a self, transfers: &'a Transfers, change: &Change) -> &'a [u8]
+        ensures { length result.now ≤ MOST_DATA }
+    {
         match *change {
             Change::Submitted(td) => match td.pipe {
                 Pipe::Command => at_most(&self.unit, td.length),
@@ -162,6 +167,8 @@ fn push_td(alloc: Global, text: &mut Vec<u8>, td: &Td) -> Result<(), AllocError>
 }
 
 /// The first bytes, so many at most.
-fn at_most(bytes: &[u8], count: u32) -> &[u8] {
+fn at_most(bytes: &[u8], count: u32) -> &[u8]
+    ensures { length result.now ≤ MOST_DATA }
+{
     &bytes[..bytes.len().min(count as usize).min(MOST_DATA)]
 }

@@ -1,0 +1,3 @@
+pub mod Pcapng
+pub mod Usbmon
+pub mod Descriptors

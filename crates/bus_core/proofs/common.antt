@@ -14,3 +14,4 @@ pub mod Stepped
 pub mod BusFields
 pub mod Taken
 pub mod Shown
+pub mod RoomLeft

@@ -1,5 +1,5 @@
 -- The rings show the shared machine: what it has waiting stands in them, in order, and nothing else does.
-use Rattle.std.specs.Prelude.{◌≡◌, ℕ, suc, ◌<◌, ◌==◌, if◌then◌else◌, List, [], ◌∷◌, drop, length, map, Option, None, Some}
+use Rattle.std.specs.Prelude.{◌≡◌, ℕ, suc, ◌*◌, ◌<◌, ◌≤◌, ◌==◌, if◌then◌else◌, List, [], ◌∷◌, drop, length, map, Option, None, Some}
 use Rattle.xhci_trb.specs.declared.Trb.{Trb}
 use Rattle.cycle_ring.specs.Ring.{Ring, cycle_of, pointer_of}
 use Rattle.event_ring.specs.declared.Event.{Event}
@@ -8,6 +8,7 @@ use Rattle.uas_profile.specs.declared.Pipe.{Pipe}
 use Rattle.uas_profile.specs.declared.Pipe.TheVariants.{Command, Status, DataIn, DataOut}
 use Rattle.stream_array.specs.declared.Dequeue.{Dequeue}
 use Rattle.uas_profile.specs.declared.TheConstants.{TAGS, STREAM_RING_PLACES, COMMAND_RING_PLACES, ENGINE_RING_PLACES, SUCCESS, SHORT_PACKET}
+use Rattle.uas_profile.specs.declared.TheConstants.{MOST_DATA_TRBS, MOST_EVENTS_PENDING, MOST_MESSAGES}
 use Rattle.stream_array.specs.Contexts.{Contexts, entry_of}
 use Rattle.uas_profile.specs.Pipes.{HasStreams}
 use Rattle.stream_array.specs.Map.{HasRing}
@@ -29,7 +30,7 @@ use Rattle.shared_machine.specs.Td.{Entry}
 use Rattle.shared_machine.specs.Shared.{Shared, request_direction}
 use Rattle.machine_invariant.specs.Matched.{request_bytes, under}
 use Rattle.bus_core.specs.Cells.{data_in_td, data_out_td}
-use Rattle.bus_core.specs.Fits.{command_trb, last_pointer}
+use Rattle.bus_core.specs.Fits.{AreUnused, command_trb, last_pointer}
 
 -- EVENTS
 
@@ -120,12 +121,13 @@ commands_of lines (Some retirement) = commands_at lines retirement.pipe retireme
 
 -- The command pipe's ring has a TRB with the tag's buffer for each message, the controller's command ring the command of the
 -- retirement that wasn't executed yet, the event ring an event for each event, and the streams of each place that is there what is left of
--- its TDs; all in order.
+-- its TDs; all in order. A stream that is no client's has nothing.
 pub record ShowsShared (state : Shared) (lines : LinesState) : Type 0 where
   pub messages : pending_in lines.command ≡ map command_trb state.messages
   pub commands : pending_in lines.engine ≡ commands_of lines state.retirement
   pub events : map told_in lines.events.pending ≡ tells_of lines 0 state.events
   pub places : (place : Place) → place.client < length state.parts → place.slot < TAGS → ShowsPlace lines place (under state.parts place)
+  pub unused : (stream : ℕ) → TAGS * length state.parts < stream → AreUnused lines stream
 
 -- CONTEXTS
 
@@ -138,3 +140,13 @@ abbrev pub PointAhead : LinesState → Type 0
 PointAhead lines =
     (pipe : Pipe) (stream : ℕ) (contexts : Contexts) → HasStreams pipe → HasRing pipe stream → ShowsRings lines pipe contexts
     → entry_of contexts stream ≡ Some (next_place (ring_of lines pipe stream))
+
+-- ROOM
+
+-- No ring is ever full: on each are so many TRBs at most that aren't reclaimed yet, and so many events wait. The command pipe's ring holds
+-- 254, a stream's 18, the controller's command ring 14, and the event ring 1,023.
+pub record AreNeverFull (lines : LinesState) : Type 0 where
+  pub command : length lines.command.put ≤ MOST_MESSAGES
+  pub streams : (pipe : Pipe) (stream : ℕ) → HasStreams pipe → 1 ≤ stream → length (ring_of lines pipe stream).put ≤ MOST_DATA_TRBS
+  pub engine : length lines.engine.put ≤ 1
+  pub events : length lines.events.pending ≤ MOST_EVENTS_PENDING

@@ -13,7 +13,7 @@ ghost use Rattle.shared_machine.specs.declared.Mark.{Mark};
 ghost use Rattle.isolation.specs.Refusals.{IsRefusedAsOwn};
 ghost use Rattle.isolation.specs.StepIsolation.{IsIsolatedStep};
 ghost use Rattle.machine_invariant.specs.Reach.{EndsAsNoted, KeepsOthers};
-ghost use Rattle.bus_core.specs.Shows.{PointAhead, ShowsShared};
+ghost use Rattle.bus_core.specs.Shows.{AreNeverFull, PointAhead, ShowsShared};
 
 use crate::doors::{ring, rung_at};
 use crate::owners::owner_of;
@@ -77,6 +77,8 @@ impl Bus {
         ensures shows { ShowsShared self.now result.now }
         // The context of each stream points at the TRB that the controller takes next.
         ensures contexts { PointAhead result.now }
+        // No ring is ever full.
+        ensures room { AreNeverFull result.now }
     {
         &self.lines
     }

@@ -126,6 +126,7 @@ shown state world fits = record {
   commands = shown-commands world.lines state.retirement fits.engine.commands;
   events = ap (map told_in) fits.queues.texts ∙ told-texts world 0 state.events;
   places = λ place there within. shown-at state world place (slice_get state.parts place.client) fits refl there within;
+  unused = fits.unused;
 }
 
 -- CONTEXTS

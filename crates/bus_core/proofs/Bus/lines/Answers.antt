@@ -1,4 +1,5 @@
 use Rattle.bus_core.proofs.common.BusFields.{fits-in, world_in}
+use Rattle.bus_core.proofs.common.RoomLeft.{never-full}
 use Rattle.bus_core.proofs.common.Shown.{points-ahead, shown}
 use Rattle.bus_core.proofs.Bus.lines.Goals as goal
 
@@ -6,4 +7,5 @@ pub returns : goal.returns
 returns c = record {
   shows = shown c.args.self.now (world_in c.self.inside) (fits-in c.self.inside c.self.view_is c.self.invariant);
   contexts = points-ahead c.self.inside.lines;
+  room = never-full c.args.self.now (world_in c.self.inside) (fits-in c.self.inside c.self.view_is c.self.invariant);
 }

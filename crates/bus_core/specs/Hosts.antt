@@ -1,5 +1,5 @@
 -- What the device has of an entry, and the phase that device and host tell of it together.
-use Rattle.std.specs.Prelude.{◌≡◌, ℕ, ◌==◌, if◌then◌else◌, List, slice_index, Option, Some, None, Ok}
+use Rattle.std.specs.Prelude.{◌≡◌, ℕ, ◌==◌, if◌then◌else◌, List, slice_index, Option, Some, None}
 use Rattle.scsi_cmd.specs.declared.Request.{Request}
 use Rattle.scsi_cmd.specs.declared.Request.TheVariants.{Execute, Manage}
 use Rattle.device_server.specs.declared.Answer.{Answer}

@@ -1,5 +1,5 @@
 -- A chunk that the device gives or takes, on the world of rings.
-use Rattle.std.proofs.Common.{◌≡◌, ℕ, ◌+◌, ◌-◌, ◌*◌, ◌≤◌, Bool, true, not, ◌&&◌, List, length, Option, Some, None, Ok, IfSome, is_some}
+use Rattle.std.proofs.Common.{◌≡◌, ℕ, ◌+◌, ◌-◌, ◌*◌, ◌≤◌, Bool, true, not, ◌&&◌, List, length, Option, Some, None, IfSome, is_some}
 use Rattle.std.proofs.Common.{refl, arith, ap, sym, subst, ◌∙◌}
 use Rattle.std.specs.Prelude.{slice_set, ◌==◌}
 use Rattle.std.specs.Option.{option_map_or}

@@ -1,5 +1,5 @@
 -- A step of a data stream on the world of rings is the shared machine's.
-use Rattle.std.proofs.Common.{◌≡◌, ℕ, zero, suc, ◌+◌, ◌-◌, ◌*◌, ◌<◌, ◌≤◌, Bool, true, cond, List, length, Option, Some, None, Ok, refl, arith}
+use Rattle.std.proofs.Common.{◌≡◌, ℕ, zero, suc, ◌+◌, ◌-◌, ◌*◌, ◌<◌, ◌≤◌, Bool, true, cond, List, length, Option, Some, None, refl, arith}
 use Rattle.std.proofs.Common.{ap, sym, subst, ◌∙◌, inr}
 use Rattle.std.specs.Prelude.{slice_get, min}
 use Rattle.std.specs.Option.{option_map_or}

@@ -15,7 +15,7 @@ use Rattle.event_ring.specs.declared.Event.{Event}
 use Rattle.event_ring.specs.declared.Event.TheVariants.{Transfer}
 use Rattle.uas_profile.specs.declared.Pipe.{Pipe}
 use Rattle.uas_profile.specs.declared.Pipe.TheVariants.{Command, Status, DataIn, DataOut}
-use Rattle.uas_profile.specs.declared.TheConstants.{TAGS, MAX_CLIENTS, STREAMS, STREAM_RING_PLACES, COMMAND_RING_PLACES, BLOCK_BYTES, CHUNK_BYTES, STATUS_BYTES, WINDOW_BYTES, COMMAND_BUFFERS, BUFFER_SPAN, SLOT, SUCCESS, SHORT_PACKET}
+use Rattle.uas_profile.specs.declared.TheConstants.{TAGS, MAX_CLIENTS, STREAMS, STREAM_RING_PLACES, COMMAND_RING_PLACES, CHUNK_BYTES, STATUS_BYTES, WINDOW_BYTES, COMMAND_BUFFERS, BUFFER_SPAN, SLOT, SUCCESS, SHORT_PACKET}
 use Rattle.stream_array.specs.Map.{HasRing, places_of, ring_base, spot_at}
 use Rattle.stream_array.specs.Rings.{LinesState, IsLines, ring_of, stream_ring}
 use Rattle.stream_array.proofs.Spots.{spot_at-address}

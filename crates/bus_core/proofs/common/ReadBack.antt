@@ -23,7 +23,6 @@ use Rattle.scsi_cmd.specs.declared.Request.{Request}
 use Rattle.scsi_cmd.specs.declared.Request.TheVariants.{Execute, Manage}
 use Rattle.scsi_cmd.specs.Held.{held_at}
 use Rattle.device_server.specs.declared.Answer.TheVariants.{Good, Check}
-use Rattle.solo_model.specs.declared.ResponseCode.{ResponseCode}
 use Rattle.solo_model.specs.declared.ResponseCode.TheVariants.{Complete, Succeeded}
 use Rattle.solo_model.specs.declared.TaskAnswer.{TaskAnswer}
 use Rattle.solo_model.specs.declared.TaskAnswer.TheVariants.{WithStatus, WithResponse}

@@ -1,8 +1,9 @@
 -- No ring of a world that fits a state is ever full. Cited by Bus::lines.
-use Rattle.std.proofs.Common.{◌≡◌, ℕ, zero, suc, ◌+◌, ◌*◌, ◌/◌, ◌%◌, ◌-◌, ◌<◌, ◌≤◌, Bool, true, false, List, [], ◌∷◌, ◌++◌, map, length, Option, Some, None, refl, arith, ap, sym}
-use Rattle.std.proofs.Common.{◌∙◌, subst}
+use Rattle.std.proofs.Common.{◌≡◌, ℕ, zero, suc, ◌+◌, ◌*◌, ◌/◌, ◌%◌, ◌-◌, ◌<◌, ◌≤◌, List, [], ◌∷◌, length, Option, Some, None, refl, arith, ap, sym}
+use Rattle.std.proofs.Common.{◌⊎◌, inl, inr, subst}
 use Rattle.std.specs.Prelude.{slice_get, IfSome}
 use Rattle.std.specs.Option.{option_map_or}
+use Rattle.std.proofs.lemmas.Bool.{cases_lt}
 use Rattle.std.proofs.lemmas.List.{length-map}
 use Rattle.std.proofs.lemmas.Option.{none-some}
 use Rattle.xhci_trb.specs.declared.Trb.{Trb}
@@ -13,12 +14,12 @@ use Rattle.uas_profile.specs.declared.Pipe.TheVariants.{Command, Status, DataIn,
 use Rattle.uas_profile.specs.declared.Place.{Place}
 use Rattle.uas_profile.specs.declared.TdState.{TdState}
 use Rattle.uas_profile.specs.declared.TdState.TheVariants.{Pending, Seen, LeftOver, Retired}
-use Rattle.uas_profile.specs.declared.TheConstants.{TAGS, MAX_CLIENTS, CHUNK_BYTES, WINDOW_BYTES, MOST_DATA_TRBS, MOST_EVENTS_PENDING, MOST_MESSAGES}
+use Rattle.uas_profile.specs.declared.TheConstants.{TAGS, WINDOW_BYTES, MOST_DATA_TRBS}
 use Rattle.uas_profile.specs.Pipes.{HasStreams}
 use Rattle.uas_profile.specs.Places.{tag_of}
 use Rattle.scsi_cmd.specs.Held.{held_at}
 use Rattle.stream_array.specs.Rings.{LinesState, ring_of, stream_ring}
-use Rattle.uas_host.specs.Tds.{data_td, data_trb_count, status_td}
+use Rattle.uas_host.specs.Tds.{data_td, data_trb_count, status_td, window_of}
 use Rattle.shared_machine.specs.declared.Completion.{Completion}
 use Rattle.shared_machine.specs.declared.Completion.TheVariants.{CommandDone, DataDone, StatusDone, EngineDone}
 use Rattle.shared_machine.specs.declared.Retirement.{Retirement}
@@ -28,7 +29,7 @@ use Rattle.shared_machine.specs.declared.Td.{Td}
 use Rattle.shared_machine.specs.Part.{Part}
 use Rattle.shared_machine.specs.Shared.{Shared, request_direction}
 use Rattle.shared_machine.specs.Td.{Entry}
-use Rattle.machine_invariant.specs.Matched.{IsMatchedEntry, held_in, pipe_places, request_bytes, under}
+use Rattle.machine_invariant.specs.Matched.{IsMatchedEntry, held_in, pipe_places, request_bytes}
 use Rattle.machine_invariant.proofs.MatchedBounds.{matched-room}
 use Rattle.bus_core.specs.World.{World, cell_at}
 use Rattle.bus_core.specs.Cells.{FitsHeld, HoldsData, HoldsIn, HoldsTrbs, data_in_td, data_out_td}
@@ -55,7 +56,7 @@ data-most ring trbs most (Some td) few holds = held-most ring trbs td.consumed m
 
 -- a data TD of at most 65,536 bytes
 data_td-most : (tag bytes : ℕ) → bytes ≤ WINDOW_BYTES → length (data_td tag bytes) ≤ MOST_DATA_TRBS
-data_td-most tag bytes small = omega (arith, small, length-data_trbs (data_trb_count bytes) _ bytes)
+data_td-most tag bytes small = omega (arith, small, length-data_trbs (data_trb_count bytes) (window_of tag) bytes)
 
 -- ONE PLACE
 
@@ -107,7 +108,7 @@ few-at state world place fits there within =
 -- EVERY STREAM
 
 -- the place that a tag names
-place_named : ℕ → Place
+abbrev place_named : ℕ → Place
 place_named tag = record { client = (tag - 1) / TAGS; slot = (tag - 1) % TAGS }
 
 few-named : (state : Shared) (world : World) (tag : ℕ) → Fits state world → 1 ≤ tag → (TAGS * length state.parts < tag) ⊎ (tag ≤ TAGS * length state.parts)
@@ -155,7 +156,7 @@ never-full state world fits =
     record {
       command =
           omega
-          (arith, room.pipe, fits.most_clients, ap (λ (ts : List Trb). length ts) fits.queues.put, length-map command_trb (pipe_places state));
+          (arith, room.pipe, fits.most_clients, ap (λ (ts : List Trb). length ts) fits.queues.put, length-map (pipe_places state) command_trb);
       streams = λ pipe stream streams some. few state world fits pipe stream streams (few-named state world stream fits some (cases_lt (TAGS * length state.parts) stream));
       engine = one-command world.lines state.retirement fits.engine.commands;
       events = omega (arith, room.events, fits.most_clients, ap (λ (es : List Event). length es) fits.queues.texts, length-texts world 0 state.events);

@@ -1,29 +1,23 @@
 -- The ring of a TD that is retired, emptied, and the world with it. Cited by RetiredSeen.
-use Rattle.std.proofs.Common.{◌≡◌, ℕ, zero, suc, ◌-◌, ◌<◌, ◌≤◌, true, false, ◌&&◌, cond, List, [], ◌∷◌, ◌++◌, drop, length, map, Option, Some, None}
-use Rattle.std.proofs.Common.{option_map, refl, arith, ap, sym, subst, ◌∙◌}
-use Rattle.std.specs.Prelude.{◌==◌, is_some, slice_get, slice_set, slice_index_or, option_and_then, unwrap_or}
+use Rattle.std.proofs.Common.{◌≡◌, ℕ, zero, suc, ◌<◌, ◌≤◌, true, false, cond, List, [], ◌++◌, drop, length, Option, Some, None}
+use Rattle.std.proofs.Common.{option_map, refl, arith, ap, sym, ◌∙◌}
+use Rattle.std.specs.Prelude.{is_some, slice_set, option_and_then, unwrap_or}
 use Rattle.std.specs.Option.{option_map_or}
 use Rattle.std.proofs.Math.Seq.{drop-length}
 use Rattle.std.proofs.lemmas.Bool.{false≢true, eqb-true, ltb-true}
-use Rattle.std.proofs.lemmas.List.{append-nil}
 use Rattle.xhci_trb.specs.declared.Trb.{Trb}
 use Rattle.cycle_ring.specs.Ring.{Ring, reclaimed}
-use Rattle.event_ring.specs.declared.Event.{Event}
-use Rattle.event_ring.specs.Events.{Events}
 use Rattle.uas_profile.specs.declared.Pipe.{Pipe}
 use Rattle.uas_profile.specs.declared.Pipe.TheVariants.{Command, Status, DataIn, DataOut}
 use Rattle.uas_profile.specs.Pipes.{HasStreams}
 use Rattle.stream_array.specs.Map.{places_of}
-use Rattle.stream_array.specs.Rings.{IsLines, LinesState, ring_of, stream_ring, with_ring}
-use Rattle.frame_store.specs.Buffers.{held_for}
+use Rattle.stream_array.specs.Rings.{IsLines, LinesState, ring_of, with_ring}
 use Rattle.uas_profile.specs.declared.Direction.{Direction}
 use Rattle.uas_profile.specs.declared.Direction.TheVariants.{Nothing, ToHost, ToDevice}
-use Rattle.scsi_cmd.specs.declared.Request.{Request}
-use Rattle.uas_profile.specs.declared.TheConstants.{TAGS, STREAMS}
+use Rattle.uas_profile.specs.declared.TheConstants.{STREAMS}
 use Rattle.scsi_cmd.specs.Held.{held_at}
 use Rattle.solo_model.specs.declared.Phase.{Phase}
 use Rattle.solo_model.specs.declared.Phase.TheVariants.{Queued, Begun, Sent, Gone}
-use Rattle.uas_host.specs.declared.Handled.TheVariants.{Engine}
 use Rattle.uas_host.specs.declared.HostClient.{HostClient}
 use Rattle.uas_host.specs.declared.Notice.TheVariants.{TdRetired}
 use Rattle.uas_profile.specs.declared.Place.{Place}
@@ -31,51 +25,33 @@ use Rattle.uas_host.specs.declared.Retirement.{Retirement as HostRetirement}
 use Rattle.uas_host.specs.declared.RetirementStage.TheVariants.{Moving}
 use Rattle.uas_profile.specs.declared.TdState.{TdState}
 use Rattle.uas_profile.specs.declared.TdState.TheVariants.{LeftOver, Retired}
-use Rattle.uas_profile.specs.Doors.{door}
-use Rattle.uas_profile.specs.Pipes.{target_of}
-use Rattle.uas_host.specs.Retirement.{emptied, move_trb, moved_lines, resumed_doors, retired_host, with_first_freed}
+use Rattle.uas_host.specs.Retirement.{resumed_doors, retired_host, with_first_freed}
 use Rattle.uas_host.specs.Seen.{seen, with_retired, with_seen}
-use Rattle.uas_profile.specs.TdStates.{is_pending}
 use Rattle.uas_host.specs.State.{HostState, client_of, with_client}
 use Rattle.uas_profile.specs.Places.{tag_of}
 use Rattle.shared_machine.specs.declared.Completion.{Completion}
-use Rattle.shared_machine.specs.declared.Completion.TheVariants.{EngineDone}
-use Rattle.shared_machine.specs.declared.Retirement.{Retirement}
-use Rattle.shared_machine.specs.declared.RetirementStage.{RetirementStage}
-use Rattle.shared_machine.specs.declared.RetirementStage.TheVariants.{StopAsked, StopAnswered, MoveAsked, MoveAnswered}
+use Rattle.shared_machine.specs.declared.RetirementStage.TheVariants.{MoveAnswered}
 use Rattle.shared_machine.specs.declared.Td.{Td}
 use Rattle.shared_machine.specs.Pipes.{all_rung}
-use Rattle.shared_machine.specs.Td.{Entry, data_in_td, data_out_td, is_left_over_on, is_td_left_over, request_direction, retired_on}
+use Rattle.shared_machine.specs.Td.{Entry, data_in_td, data_out_td, is_left_over_on, is_td_left_over, request_direction}
 use Rattle.shared_machine.specs.Td.{data_trbs, retired_td, td_on, trbs_on, with_td_on}
-use Rattle.shared_machine.specs.Part.{Part, ready_after, retire_act, seen_entry}
-use Rattle.shared_machine.specs.Shared.{Shared, acted_on, engine_seen, pipe_of, resumed, ringing, routed_to, streams_pending, with_pipe}
-use Rattle.shared_machine.specs.Soundness.{awaited_data, one_if}
-use Rattle.machine_invariant.specs.Matched.{IsMatched, IsMatchedEntry, answered_place, answered_places, awaited_data_of, awaited_status, data_events, is_whole}
-use Rattle.machine_invariant.specs.Matched.{is_whole_on, request_bytes, retired_places, same_place, status_events, under}
+use Rattle.shared_machine.specs.Part.{Part}
+use Rattle.shared_machine.specs.Shared.{Shared, pipe_of, streams_pending, with_pipe}
+use Rattle.machine_invariant.specs.Matched.{IsMatchedEntry, is_whole}
+use Rattle.machine_invariant.specs.Matched.{is_whole_on, request_bytes}
 use Rattle.bus_core.specs.World.{World, cell_at}
-use Rattle.bus_core.specs.Cells.{FitsCell, HoldsTrbs, host_side, state_of, told_by}
-use Rattle.uas_profile.specs.declared.PipeState.{PipeState}
-use Rattle.bus_core.specs.Fits.{Fits, HoldsCommandOf, IsSoundWorld, data_event, engine_event, event_texts, host_retirement, place_in, status_event}
-use Rattle.bus_core.specs.WorldSteps.{EventFits, rung_all, without_event}
-use Rattle.bus_core.proofs.common.CellWrites.{client_of-found, entry_at-other, entry_at-same, stream_ring-same}
-use Rattle.bus_core.proofs.retire.EngineCells.{KeepsRings, ReadsAlike, WritesOne, with_ring-keeps, written-all, written-fits, written-unused}
-use Rattle.bus_core.proofs.retire.EngineCellWrites.{IsLeftOn, cell-changed, cell_ring, left-on, length-td_trbs, td_trbs, with_cell_ring}
+use Rattle.bus_core.specs.Cells.{HoldsTrbs, host_side, state_of, told_by}
+use Rattle.bus_core.specs.Fits.{Fits}
+use Rattle.bus_core.proofs.common.CellWrites.{stream_ring-same}
+use Rattle.bus_core.proofs.retire.EngineCellWrites.{IsLeftOn, cell_ring, left-on, length-td_trbs, td_trbs, with_cell_ring}
 use Rattle.bus_core.proofs.retire.EngineDue.{left_over-side}
-use Rattle.bus_core.proofs.retire.EngineFits.{IsUnderWay, PipeApart, pipe-apart, tag-streams, under-way, under_way}
+use Rattle.bus_core.proofs.retire.EngineFits.{IsUnderWay}
 use Rattle.bus_core.proofs.common.EventTds.{data_trbs-count}
-use Rattle.bus_core.proofs.common.EventTexts.{other-tags}
-use Rattle.bus_core.proofs.common.Framing.{ChangesCell, FitsPart-set, SamePipes}
-use Rattle.bus_core.proofs.event.HostSees.{client_with, host_with}
-use Rattle.machine_invariant.proofs.MatchedBounds.{some-place}
-use Rattle.machine_invariant.proofs.MatchedPlaces.{same_place-true}
+use Rattle.bus_core.proofs.event.HostSees.{host_with}
 use Rattle.machine_invariant.proofs.MatchedSteps.{seen_part}
-use Rattle.bus_core.proofs.event.Resumed.{StreamsFit, resumed-pipes, resumed-same}
-use Rattle.bus_core.proofs.event.SeenStreams.{HasEventFit}
-use Rattle.shared_machine.proofs.Standing.{slice_get-back, get-within}
-use Rattle.bus_core.proofs.retire.EngineSeen.{IsEngineFirst, doors-are, engine-freed, engine-queues, engine_pointer, event-done, event-stepped, freed_lines}
-use Rattle.bus_core.proofs.retire.EngineSeen.{handled-is, handled_world, stop-seen}
+use Rattle.bus_core.proofs.retire.EngineSeen.{freed_lines}
+use Rattle.bus_core.proofs.retire.EngineSeen.{handled_world}
 use Rattle.machine_invariant.proofs.MatchedLeftOver.{left-in, left-out, left-state}
-use Rattle.bus_core.proofs.event.SeenWorlds.{queue-same}
 
 -- THE HOST RETIRES THE TD
 

@@ -1,66 +1,29 @@
 -- The controller executes Stop Endpoint and Set TR Dequeue Pointer, with code 1. Cited by EngineFits.
-use Rattle.std.proofs.Common.{◌≡◌, ℕ, ◌+◌, ◌-◌, ◌<◌, ◌≤◌, Bool, true, false, ◌&&◌, cond, List, [], ◌∷◌, ◌++◌, length, map, Option, Some, None}
-use Rattle.std.proofs.Common.{option_map, refl, arith, ap, sym, subst, ◌∙◌}
-use Rattle.std.specs.Prelude.{nat_lt, nat_le, ◌==◌, slice_get, slice_set, IfSome}
+use Rattle.std.proofs.Common.{◌≡◌, ℕ, ◌-◌, ◌<◌, ◌≤◌, Bool, true, false, ◌&&◌, cond, [], ◌∷◌, length, Some, None}
+use Rattle.std.proofs.Common.{option_map, refl, arith, ap, ◌∙◌}
+use Rattle.std.specs.Prelude.{nat_lt, nat_le, ◌==◌, slice_get}
 use Rattle.std.specs.Option.{option_map_or}
-use Rattle.std.proofs.lemmas.Bool.{false≢true, lt-ltb, le-leb, lt-leb, ltb-false, ne_eqb}
-use Rattle.std.proofs.lemmas.Option.{slice_get_past}
+use Rattle.std.proofs.lemmas.Bool.{lt-ltb, le-leb, lt-leb, ne_eqb}
 use Rattle.xhci_trb.specs.declared.Trb.{Trb}
 use Rattle.xhci_trb.specs.declared.Trb.TheVariants.{SetDequeue}
 use Rattle.cycle_ring.specs.Ring.{Ring, cycle_of, front_of, pointer_of}
 use Rattle.cycle_ring.proofs.Names.{item_at-pointer_of}
-use Rattle.event_ring.specs.declared.Event.{Event}
-use Rattle.event_ring.specs.Events.{Events}
 use Rattle.event_ring.specs.declared.Event.TheVariants.{Command as CommandDone}
 use Rattle.uas_profile.specs.declared.Pipe.{Pipe}
 use Rattle.uas_profile.specs.declared.Pipe.TheVariants.{Command, Status, DataIn, DataOut}
 use Rattle.uas_profile.specs.Pipes.{HasStreams}
-use Rattle.stream_array.specs.Map.{HasRing, places_of}
-use Rattle.stream_array.specs.Rings.{IsLines, LinesState, ring_of, stream_ring, with_ring}
-use Rattle.stream_array.proofs.Frames.{ring_of_with_ring}
-use Rattle.uas_profile.specs.declared.Place.{Place}
-use Rattle.uas_host.specs.declared.HostEntry.{HostEntry}
+use Rattle.stream_array.specs.Map.{places_of}
+use Rattle.stream_array.specs.Rings.{LinesState, ring_of, with_ring}
 use Rattle.uas_profile.specs.Pipes.{target_of}
-use Rattle.uas_profile.specs.Pipes.{same_pipe}
 use Rattle.uas_host.specs.Retirement.{move_trb, stop_trb}
-use Rattle.uas_profile.specs.Places.{tag_of}
-use Rattle.xhci_ctl.specs.declared.Acted.{Acted}
 use Rattle.xhci_ctl.specs.declared.Acted.TheVariants.{Acted as ActedOn, Idle}
 use Rattle.uas_profile.specs.declared.TheConstants.{STREAMS, STREAM_ENTRIES, STREAM_RING_PLACES, ENGINE_RING_PLACES, MOST_DATA_TRBS, SLOT, SUCCESS, TRB_ERROR, CONTEXT_STATE_ERROR}
 use Rattle.xhci_ctl.specs.Engine.{commanded_pipe, dequeued_at, engine_acted, engine_consumed, engine_did, engine_front, executed, is_state, set_dequeue}
-use Rattle.uas_profile.specs.PipeStates.{stopped_pipe}
 use Rattle.xhci_ctl.specs.Engine.{stop_endpoint, stopped_on}
-use Rattle.xhci_ctl.specs.Pipes.{ControllerState, has_pending, is_running}
+use Rattle.xhci_ctl.specs.Pipes.{ControllerState, is_running}
 use Rattle.xhci_ctl.specs.Steps.{has_event_room, posted}
-use Rattle.scsi_cmd.specs.Held.{held_at}
-use Rattle.frame_store.specs.Buffers.{held_for}
-use Rattle.shared_machine.specs.declared.Td.{Td}
-use Rattle.uas_profile.specs.declared.PipeState.{PipeState}
-use Rattle.shared_machine.specs.declared.Completion.TheVariants.{EngineDone}
-use Rattle.shared_machine.specs.declared.Retirement.{Retirement}
-use Rattle.shared_machine.specs.declared.RetirementStage.{RetirementStage}
-use Rattle.shared_machine.specs.declared.RetirementStage.TheVariants.{StopAsked, StopAnswered, MoveAsked, MoveAnswered}
-use Rattle.shared_machine.specs.declared.Step.TheVariants.{Engine as EngineStep}
-use Rattle.shared_machine.specs.Td.{Entry, has_trb_on, is_left_over_on, passed_on, passed_td, trbs_on}
-use Rattle.shared_machine.specs.Part.{Part, pass_act, passed_slot, stop_act, with_entry}
-use Rattle.shared_machine.specs.Shared.{Shared, acted_on, at_stage, engine_step, idle, is_asked, pipe_of, routed_to, shared_step, with_pipe}
-use Rattle.machine_invariant.specs.Matched.{IsMatched, IsRetiring, answered_place, answered_places, carried_places, is_passed, retired_places, same_place, under}
-use Rattle.machine_invariant.specs.Matched.{was_moved}
-use Rattle.bus_core.specs.World.{World, cell_at}
-use Rattle.bus_core.specs.Cells.{FitsCell, HoldsIn, HoldsTrbs, host_side, state_of}
-use Rattle.bus_core.specs.Fits.{Fits, FitsQueues, HoldsCommand, HoldsCommandOf, IsSoundWorld, command_trb, data_event, engine_event, event_texts}
-use Rattle.bus_core.specs.Fits.{host_retirement, place_in, status_event}
-use Rattle.bus_core.specs.WorldSteps.{EngineFits, EngineIsIdle, EnginesFit, engine_world}
-use Rattle.bus_core.proofs.common.ActFits.{IsPlaced, placed}
-use Rattle.bus_core.proofs.retire.EngineCells.{KeepsRings, ReadsAlike, WritesOne, carried-last, kept-fits, texts-alike, texts-last, with_ring-keeps, written-fits}
-use Rattle.bus_core.proofs.retire.EngineCellWrites.{IsLeftOn, StandsWith, cell-changed, cell_ring, left-on, left-unconsumed, length-td_trbs, ring-of-cell}
-use Rattle.bus_core.proofs.retire.EngineCellWrites.{stands-with, td_trbs, trbs_on-most, uncounted, uncounted-set, with_cell_ring}
-use Rattle.bus_core.proofs.retire.EngineDue.{engines-are-due}
-use Rattle.bus_core.proofs.common.CellWrites.{stream_ring-same}
-use Rattle.bus_core.proofs.carry.CommandFront.{event-room}
-use Rattle.bus_core.proofs.common.Framing.{SamePipes, ChangesCell, FitsPart-set}
-use Rattle.machine_invariant.proofs.MatchedSteps.{shared_step-matched}
-use Rattle.shared_machine.proofs.Standing.{slice_get-back}
+use Rattle.bus_core.specs.Cells.{HoldsTrbs}
+use Rattle.bus_core.specs.Fits.{engine_event}
 
 -- THE COMMAND IN FRONT
 

@@ -2,17 +2,15 @@
 -- and by the answers of the bus.
 use Rattle.std.proofs.Common.{◌≡◌, ℕ, ◌+◌, ◌-◌, ◌<◌, ◌≤◌, Bool, true, false, ◌&&◌, cond, List, [], ◌∷◌, ◌++◌, length, map, Option, Some, None}
 use Rattle.std.proofs.Common.{option_map, refl, arith, ap, sym, subst, ◌∙◌}
-use Rattle.std.specs.Prelude.{nat_lt, nat_le, ◌==◌, slice_get, slice_set, IfSome}
+use Rattle.std.specs.Prelude.{slice_get, slice_set, IfSome}
 use Rattle.std.specs.Option.{option_map_or}
-use Rattle.std.proofs.lemmas.Bool.{false≢true, lt-ltb, le-leb, lt-leb, ltb-false, ne_eqb}
+use Rattle.std.proofs.lemmas.Bool.{false≢true, ltb-false}
 use Rattle.std.proofs.lemmas.Option.{slice_get_past}
 use Rattle.xhci_trb.specs.declared.Trb.{Trb}
 use Rattle.xhci_trb.specs.declared.Trb.TheVariants.{SetDequeue}
 use Rattle.cycle_ring.specs.Ring.{Ring, cycle_of, front_of, pointer_of}
-use Rattle.cycle_ring.proofs.Names.{item_at-pointer_of}
 use Rattle.event_ring.specs.declared.Event.{Event}
 use Rattle.event_ring.specs.Events.{Events}
-use Rattle.event_ring.specs.declared.Event.TheVariants.{Command as CommandDone}
 use Rattle.uas_profile.specs.declared.Pipe.{Pipe}
 use Rattle.uas_profile.specs.declared.Pipe.TheVariants.{Command, Status, DataIn, DataOut}
 use Rattle.uas_profile.specs.Pipes.{HasStreams}
@@ -27,10 +25,10 @@ use Rattle.uas_host.specs.Retirement.{move_trb, stop_trb}
 use Rattle.uas_profile.specs.Places.{tag_of}
 use Rattle.xhci_ctl.specs.declared.Acted.{Acted}
 use Rattle.xhci_ctl.specs.declared.Acted.TheVariants.{Acted as ActedOn, Idle}
-use Rattle.uas_profile.specs.declared.TheConstants.{STREAMS, STREAM_ENTRIES, STREAM_RING_PLACES, ENGINE_RING_PLACES, MOST_DATA_TRBS, SLOT, SUCCESS, TRB_ERROR, CONTEXT_STATE_ERROR}
-use Rattle.xhci_ctl.specs.Engine.{commanded_pipe, dequeued_at, engine_acted, engine_consumed, engine_did, engine_front, executed, is_state, set_dequeue}
+use Rattle.uas_profile.specs.declared.TheConstants.{STREAMS, ENGINE_RING_PLACES, MOST_DATA_TRBS}
+use Rattle.xhci_ctl.specs.Engine.{engine_acted, engine_consumed, engine_did}
 use Rattle.uas_profile.specs.PipeStates.{stopped_pipe}
-use Rattle.xhci_ctl.specs.Engine.{stop_endpoint, stopped_on}
+use Rattle.xhci_ctl.specs.Engine.{stopped_on}
 use Rattle.xhci_ctl.specs.Pipes.{ControllerState, has_pending, is_running}
 use Rattle.xhci_ctl.specs.Steps.{has_event_room, posted}
 use Rattle.scsi_cmd.specs.Held.{held_at}
@@ -48,7 +46,7 @@ use Rattle.shared_machine.specs.Shared.{Shared, acted_on, at_stage, engine_step,
 use Rattle.machine_invariant.specs.Matched.{IsMatched, IsRetiring, answered_place, answered_places, carried_places, is_passed, retired_places, same_place, under}
 use Rattle.machine_invariant.specs.Matched.{was_moved}
 use Rattle.bus_core.specs.World.{World, cell_at}
-use Rattle.bus_core.specs.Cells.{FitsCell, HoldsIn, HoldsTrbs, host_side, state_of}
+use Rattle.bus_core.specs.Cells.{FitsCell, HoldsIn, host_side, state_of}
 use Rattle.bus_core.specs.Fits.{Fits, FitsQueues, HoldsCommand, HoldsCommandOf, IsSoundWorld, command_trb, data_event, engine_event, event_texts}
 use Rattle.bus_core.specs.Fits.{host_retirement, place_in, status_event}
 use Rattle.bus_core.specs.WorldSteps.{EngineFits, EngineIsIdle, EnginesFit, engine_world}
@@ -62,8 +60,8 @@ use Rattle.bus_core.proofs.carry.CommandFront.{event-room}
 use Rattle.bus_core.proofs.common.Framing.{SamePipes, ChangesCell, FitsPart-set}
 use Rattle.machine_invariant.proofs.MatchedSteps.{shared_step-matched}
 use Rattle.shared_machine.proofs.Standing.{slice_get-back}
-use Rattle.bus_core.proofs.retire.EngineExecuted.{front-is, acted-is, commanded-is, stop-executed, is_state-self, passed_ring, dequeued-is}
-use Rattle.bus_core.proofs.retire.EngineExecuted.{places-some, move-done, move-executed}
+use Rattle.bus_core.proofs.retire.EngineExecuted.{acted-is, stop-executed, passed_ring}
+use Rattle.bus_core.proofs.retire.EngineExecuted.{move-executed}
 
 -- THE STATE AFTER IT
 

@@ -1,82 +1,50 @@
 -- A status stream that is ready: the unit that answers a request, its bytes, and that the device has it for the host. Cited by
 -- StatusFits.
-use Rattle.std.proofs.Common.{◌≡◌, ℕ, ◌+◌, ◌-◌, ◌<◌, ◌≤◌, Bool, true, false, ◌&&◌, cond, List, [], ◌∷◌, ◌++◌, take, drop, length, map, Option, Some, None}
+use Rattle.std.proofs.Common.{◌≡◌, ℕ, ◌+◌, ◌≤◌, true, ◌&&◌, cond, List, take, drop, length, Some}
 use Rattle.std.proofs.Common.{option_map, refl, arith, ap, sym, subst, ◌∙◌, inr}
-use Rattle.std.specs.Prelude.{nat_lt, slice_get, option_and_then, IfSome}
-use Rattle.std.specs.Option.{option_map_or}
+use Rattle.std.specs.Prelude.{nat_lt, slice_get, IfSome}
 use Rattle.std.proofs.Math.Seq.{take-append_seam}
-use Rattle.std.proofs.lemmas.Bool.{eq-eqb, lt-ltb, le-leb, ne_eqb, and_parts}
-use Rattle.std.proofs.lemmas.List.{append-nil, get_or-set_same, get_or-set_other}
+use Rattle.std.proofs.lemmas.Bool.{eq-eqb, lt-ltb, le-leb, ne_eqb}
 use Rattle.xhci_trb.specs.declared.Trb.TheVariants.{Normal}
-use Rattle.cycle_ring.specs.Ring.{Ring, pointer_of, front_of, opening}
-use Rattle.event_ring.specs.declared.Event.{Event}
-use Rattle.event_ring.specs.declared.Event.TheVariants.{Transfer}
-use Rattle.uas_profile.specs.declared.TheConstants.{TAGS, TASK_SLOT, GREATEST_TAG, STREAMS, STREAM_RING_PLACES, STATUS_BYTES, SLOT, SHORT_PACKET}
-use Rattle.uas_profile.specs.declared.Pipe.TheVariants.{Command, Status, DataIn, DataOut}
+use Rattle.cycle_ring.specs.Ring.{pointer_of, front_of}
+use Rattle.uas_profile.specs.declared.TheConstants.{TASK_SLOT, GREATEST_TAG, STREAMS, STREAM_RING_PLACES, STATUS_BYTES}
+use Rattle.uas_profile.specs.declared.Pipe.TheVariants.{Status}
 use Rattle.stream_array.specs.Contexts.{has_stream}
 use Rattle.stream_array.specs.Rings.{stream_ring}
 use Rattle.frame_store.specs.declared.TagBuffers.{TagBuffers}
 use Rattle.frame_store.specs.declared.Buffer.TheVariants.{Status as StatusBuffer}
 use Rattle.frame_store.specs.Splice.{spliced}
-use Rattle.frame_store.specs.Buffers.{IsWhole, Names, held_for, no_buffers, with_held, written, front_of as front_byte}
+use Rattle.frame_store.specs.Buffers.{IsWhole, Names, held_for, with_held, written, front_of as front_byte}
 use Rattle.frame_store.proofs.FramesLaws.{written-named}
 use Rattle.scsi_cmd.specs.Buffers.{with_bytes_at}
 use Rattle.scsi_cmd.specs.Laws.{written_at-fits}
 use Rattle.scsi_cmd.proofs.Buffers.{filled-written_at}
-use Rattle.uas_profile.specs.declared.Direction.{Direction}
-use Rattle.uas_profile.specs.declared.Direction.TheVariants.{Nothing, ToHost, ToDevice}
-use Rattle.scsi_cmd.specs.Op.{direction_of, moved_bytes}
-use Rattle.device_server.specs.Server.{chunk_bytes, status_of, sense_of}
+use Rattle.device_server.specs.Server.{status_of, sense_of}
 use Rattle.scsi_cmd.specs.declared.Request.{Request}
 use Rattle.scsi_cmd.specs.declared.Request.TheVariants.{Execute, Manage}
-use Rattle.scsi_cmd.specs.Held.{held_at}
 use Rattle.solo_model.specs.declared.TaskAnswer.{TaskAnswer}
 use Rattle.solo_model.specs.declared.TaskAnswer.TheVariants.{WithStatus, WithResponse}
 use Rattle.device_server.specs.declared.Answer.TheVariants.{Good, Check}
-use Rattle.solo_model.specs.declared.TaskProgress.TheVariants.{Moving, Ended}
-use Rattle.solo_model.specs.declared.Phase.{Phase}
-use Rattle.solo_model.specs.declared.Phase.TheVariants.{Queued, Begun, Sent, Gone}
-use Rattle.solo_model.specs.Soundness.{IsSoundRequest}
+use Rattle.solo_model.specs.declared.TaskProgress.TheVariants.{Ended}
+use Rattle.solo_model.specs.declared.Phase.TheVariants.{Begun, Sent}
 use Rattle.solo_model.specs.TaggedTask.{response_number}
 use Rattle.uas_iu.specs.declared.Iu.{Iu}
 use Rattle.uas_iu.specs.declared.Iu.TheVariants.{Response as ResponseIu, Sense as SenseIu}
 use Rattle.uas_iu.specs.Units.{unit_text}
-use Rattle.uas_target.specs.declared.DeviceTask.{DeviceTask}
-use Rattle.uas_target.specs.declared.Phase.{Phase as Wants}
-use Rattle.uas_target.specs.declared.Phase.TheVariants.{Absent, Gives, Takes, Ends}
-use Rattle.uas_target.specs.Device.{answered, task_of, wanted, without_task}
-use Rattle.uas_target.specs.Tasks.{wanted_way, task_answer, task_wants}
 use Rattle.uas_profile.specs.declared.Place.{Place}
-use Rattle.uas_profile.specs.Places.{place_of, tag_of}
+use Rattle.uas_profile.specs.Places.{tag_of}
 use Rattle.uas_host.specs.Tds.{status_buffer_of, status_td}
-use Rattle.xhci_ctl.specs.declared.Acted.{Acted}
-use Rattle.xhci_ctl.specs.declared.Acted.TheVariants.{Acted as ActedOn, Idle}
 use Rattle.xhci_ctl.specs.Own.{IsOwnStatus, IsOwnStatusFront}
 use Rattle.uas_profile.specs.PipeStates.{is_open}
-use Rattle.xhci_ctl.specs.Pipes.{ControllerState, has_pending, is_armed}
-use Rattle.xhci_ctl.specs.Steps.{Sides, completed, endpoint_of, on_front, room_front, sent_as, sent_at, sent_by}
-use Rattle.shared_machine.specs.declared.Completion.TheVariants.{StatusDone}
-use Rattle.shared_machine.specs.declared.Step.TheVariants.{Status as StatusStep}
-use Rattle.shared_machine.specs.Td.{Entry, has_trb, pushed, with_trb_taken}
+use Rattle.xhci_ctl.specs.Pipes.{has_pending, is_armed}
+use Rattle.shared_machine.specs.Td.{Entry, has_trb, pushed}
 use Rattle.bus_core.specs.Wire.{answer_text}
-use Rattle.bus_core.specs.Hosts.{begun_task, device_task, phase_task}
-use Rattle.shared_machine.specs.Part.{Part}
-use Rattle.shared_machine.specs.Shared.{Shared, due, due_step, idle, is_ended, shared_step, status_is_due}
-use Rattle.machine_invariant.specs.Matched.{carried_places, status_events, IsMatched, IsPhaseOf, IsRequestIn, IsStatusTd}
-use Rattle.bus_core.specs.World.{World, Cell, cell_at, sides_in, with_sides}
-use Rattle.bus_core.specs.Cells.{FitsCell, HoldsTd, HoldsTrbs, host_side, told_by, told_sent}
-use Rattle.bus_core.specs.Fits.{Fits, FitsQueues, IsSoundWorld, command_trb, event_texts, place_in, status_event, unit_len}
-use Rattle.bus_core.specs.WorldSteps.{StatusesFit, StatusFits, StatusIsIdle, status_world}
-use Rattle.bus_core.specs.WorldDue.{StatusesAreDue, status_due_by}
-use Rattle.bus_core.proofs.common.ActFits.{IsPlaced, placed, IsActed, acted_state, acted-fits, place_of-tag, by-tag}
-use Rattle.bus_core.proofs.carry.CommandFits.{event-room}
-use Rattle.bus_core.proofs.common.EventTexts.{KeepsOthers, carried_places-append, event_texts-append, event_texts-one}
-use Rattle.bus_core.proofs.common.Framing.{EndsStay}
-use Rattle.machine_invariant.proofs.MatchedEntries.{sent_to}
-use Rattle.machine_invariant.proofs.MatchedNext.{matched-no_status_event}
-use Rattle.machine_invariant.proofs.MatchedSteps.{IsDueAt, place_fact-due, shared_step-matched}
-use Rattle.machine_invariant.proofs.MatchedMoves.{IsEndedBy, ended_phase, send_step-held}
-use Rattle.shared_machine.proofs.Standing.{held_under-with_same, held_under-with_other, slice_get-back}
+use Rattle.shared_machine.specs.Shared.{Shared}
+use Rattle.machine_invariant.specs.Matched.{IsPhaseOf, IsRequestIn, IsStatusTd}
+use Rattle.bus_core.specs.World.{World}
+use Rattle.bus_core.specs.Cells.{HoldsTd, HoldsTrbs}
+use Rattle.bus_core.specs.Fits.{Fits, unit_len}
+use Rattle.bus_core.proofs.common.ActFits.{IsPlaced}
 
 -- THE UNIT OF AN ANSWER
 

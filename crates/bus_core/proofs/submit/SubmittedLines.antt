@@ -1,62 +1,44 @@
 -- What a submission puts on the rings, and which doorbells it rings. Cited by Submitting.
-use Rattle.std.proofs.Common.{◌≡◌, ℕ, ◌+◌, ◌-◌, ◌*◌, ◌/◌, ◌%◌, ◌<◌, ◌≤◌, Bool, true, false, cond, List, [], ◌∷◌, ◌++◌, length, length-set, map, Option, Some}
-use Rattle.std.proofs.Common.{None, is_some, option_map, refl, arith, ap, sym, subst, ◌∙◌}
+use Rattle.std.proofs.Common.{◌≡◌, ℕ, ◌+◌, ◌-◌, ◌*◌, ◌/◌, ◌%◌, ◌<◌, ◌≤◌, Bool, true, false, cond, List, [], ◌∷◌, ◌++◌, length, Option, Some}
+use Rattle.std.proofs.Common.{None, refl, arith, ap, sym, ◌∙◌}
 use Rattle.std.specs.Prelude.{slice_get, slice_set, ◌==◌, if◌then◌else◌}
 use Rattle.std.specs.Option.{option_map_or}
-use Rattle.std.proofs.lemmas.Bool.{eqb-true, lt-ltb, le-leb, ne_eqb, false≢true}
-use Rattle.std.proofs.lemmas.List.{length-map, map-append, append_assoc}
+use Rattle.std.proofs.lemmas.Bool.{eqb-true, ne_eqb}
 use Rattle.std.proofs.lemmas.Option.{none-some}
 use Rattle.xhci_trb.specs.declared.Trb.{Trb}
 use Rattle.xhci_trb.specs.declared.Trb.TheVariants.{Normal}
 use Rattle.cycle_ring.specs.Ring.{Ring}
-use Rattle.event_ring.specs.Events.{Events}
 use Rattle.uas_profile.specs.declared.Pipe.{Pipe}
 use Rattle.uas_profile.specs.declared.Pipe.TheVariants.{Command as CommandPipe, Status as StatusPipe, DataIn, DataOut}
 use Rattle.stream_array.specs.Contexts.{has_stream}
 use Rattle.stream_array.specs.Rings.{LinesState, stream_ring}
-use Rattle.frame_store.specs.declared.TagBuffers.{TagBuffers}
 use Rattle.scsi_cmd.specs.declared.Command.{Command}
 use Rattle.uas_profile.specs.declared.Direction.{Direction}
 use Rattle.uas_profile.specs.declared.Direction.TheVariants.{Nothing, ToHost, ToDevice}
-use Rattle.scsi_cmd.specs.declared.SubmitFault.{SubmitFault}
 use Rattle.scsi_cmd.specs.declared.SubmitFault.TheVariants.{NotYours}
-use Rattle.scsi_cmd.specs.declared.Request.TheVariants.{Execute}
-use Rattle.uas_profile.specs.declared.TheConstants.{TAGS, TASK_SLOT, MAX_CLIENTS, STREAMS, CHUNK_BYTES, COMMAND_BYTES, MOST_DATA_TRBS, WINDOWS, WINDOW_SPAN}
-use Rattle.scsi_cmd.specs.Held.{held_at}
-use Rattle.scsi_cmd.specs.Laws.{submit_fault-none}
-use Rattle.scsi_cmd.specs.Op.{direction_of, moved_bytes}
-use Rattle.uas_profile.specs.declared.Place.{Place}
-use Rattle.uas_host.specs.declared.HostClient.{HostClient}
+use Rattle.uas_profile.specs.declared.TheConstants.{TASK_SLOT, CHUNK_BYTES, COMMAND_BYTES, MOST_DATA_TRBS, WINDOWS, WINDOW_SPAN}
 use Rattle.uas_profile.specs.Doors.{answer_doors, door, door_unless, submission_doors}
 use Rattle.uas_profile.specs.Pipes.{target_of}
 use Rattle.uas_host.specs.State.{client_of}
-use Rattle.uas_host.specs.Submit.{HasRoomFor, host_fault, fault_at as host_fault_at, new_entry as host_entry, data_td_for as host_data_td, slot_of}
-use Rattle.uas_host.specs.Submit.{submitted_client}
+use Rattle.uas_host.specs.Submit.{host_fault, fault_at as host_fault_at}
 use Rattle.uas_profile.specs.Places.{command_slot, tag_of}
 use Rattle.uas_host.specs.Tds.{HasDataRoom, command_buffer_of, command_td, data_td, data_trbs as trbs_from, status_td, put_on, with_data_td}
 use Rattle.xhci_ctl.specs.Doorbells.{rung_by, rung_in, rung_on, pipe_at}
 use Rattle.uas_profile.specs.declared.PipeState.{PipeState}
 use Rattle.xhci_ctl.specs.Pipes.{ControllerState}
-use Rattle.shared_machine.specs.declared.Step.TheVariants.{Submit}
 use Rattle.shared_machine.specs.Pipes.{rung_unless}
-use Rattle.shared_machine.specs.Part.{Part, new_entry, data_td_for, fault_at, submitted_part}
-use Rattle.shared_machine.specs.Td.{pushed as pushed_td, data_trbs, is_left_over_on}
+use Rattle.shared_machine.specs.Part.{Part, data_td_for, fault_at}
+use Rattle.shared_machine.specs.Td.{pushed as pushed_td}
 use Rattle.shared_machine.specs.Shared.{Shared, is_held, accepted, answered, submitted_to, submitted_under, submit_step, with_streams_rung}
-use Rattle.machine_invariant.specs.Matched.{held_in, carried_places, IsMatchedAt, IsMatched, pipe_places}
-use Rattle.bus_core.specs.World.{World, cell_at}
-use Rattle.bus_core.specs.Cells.{HoldsTrbs, HoldsData, data_in_td, data_out_td, state_of, host_side, FitsHeld, FitsCell, IsEmptyCell}
-use Rattle.bus_core.specs.Fits.{Fits, FitsQueues, IsSoundWorld, command_trb, event_texts, place_in}
-use Rattle.bus_core.specs.WorldSteps.{SubmissionsFit, SubmitFits, submit_world, rung_all}
-use Rattle.bus_core.proofs.common.CellWrites.{stream_ring-same, stream_ring-other, held_for-same, held_for-other, client_of-found, entry_at-same}
-use Rattle.bus_core.proofs.common.CellWrites.{entry_at-other, clients-length}
-use Rattle.bus_core.proofs.common.EventTexts.{KeepsOthers, event_texts-one}
-use Rattle.bus_core.proofs.common.Framing.{AllFit-set, EndsStay, FitsPart-set, ChangesCell, IsFound, engine-changed, found, held-host, unused-kept}
-use Rattle.machine_invariant.proofs.MatchedBounds.{matched-room}
-use Rattle.machine_invariant.proofs.MatchedEnds.{unfaulted, IsUnfaulted}
-use Rattle.machine_invariant.proofs.MatchedNext.{accepted-trbs}
-use Rattle.machine_invariant.proofs.MatchedSteps.{shared_step-matched}
+use Rattle.bus_core.specs.World.{World}
+use Rattle.bus_core.specs.Cells.{HoldsTrbs, HoldsData, data_in_td, data_out_td}
+use Rattle.bus_core.specs.Fits.{Fits, command_trb, place_in}
+use Rattle.bus_core.specs.WorldSteps.{rung_all}
+use Rattle.bus_core.proofs.common.CellWrites.{stream_ring-same, stream_ring-other}
+use Rattle.bus_core.proofs.common.CellWrites.{clients-length}
+use Rattle.bus_core.proofs.common.Framing.{found}
 use Rattle.shared_machine.proofs.OwnSlots.{IsOwnSlot, command_slot-own}
-use Rattle.shared_machine.proofs.Standing.{slice_get-back, get-within, get-none, not_some}
+use Rattle.shared_machine.proofs.Standing.{get-none}
 use Rattle.bus_core.proofs.submit.SubmissionFaults.{fault_at-found}
 
 -- WHAT IS ACCEPTED

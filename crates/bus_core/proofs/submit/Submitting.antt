@@ -1,67 +1,57 @@
 -- A submission without a fault: its rings have room, and the world after it fits the shared machine after it.
-use Rattle.std.proofs.Common.{◌≡◌, ℕ, ◌+◌, ◌-◌, ◌*◌, ◌/◌, ◌%◌, ◌<◌, ◌≤◌, Bool, true, false, cond, List, [], ◌∷◌, ◌++◌, length, length-set, map, Option, Some}
+use Rattle.std.proofs.Common.{◌≡◌, ℕ, ◌+◌, ◌*◌, ◌<◌, ◌≤◌, true, false, cond, List, [], ◌∷◌, ◌++◌, length, length-set, map, Option, Some}
 use Rattle.std.proofs.Common.{None, is_some, option_map, refl, arith, ap, sym, subst, ◌∙◌}
-use Rattle.std.specs.Prelude.{slice_get, slice_set, ◌==◌, if◌then◌else◌}
+use Rattle.std.specs.Prelude.{slice_get, slice_set, ◌==◌}
 use Rattle.std.specs.Option.{option_map_or}
-use Rattle.std.proofs.lemmas.Bool.{eqb-true, lt-ltb, le-leb, ne_eqb, false≢true}
+use Rattle.std.proofs.lemmas.Bool.{lt-ltb, le-leb, false≢true}
 use Rattle.std.proofs.lemmas.List.{length-map, map-append, append_assoc}
-use Rattle.std.proofs.lemmas.Option.{none-some}
 use Rattle.xhci_trb.specs.declared.Trb.{Trb}
-use Rattle.xhci_trb.specs.declared.Trb.TheVariants.{Normal}
 use Rattle.cycle_ring.specs.Ring.{Ring}
 use Rattle.event_ring.specs.Events.{Events}
-use Rattle.uas_profile.specs.declared.Pipe.{Pipe}
-use Rattle.uas_profile.specs.declared.Pipe.TheVariants.{Command as CommandPipe, Status as StatusPipe, DataIn, DataOut}
+use Rattle.uas_profile.specs.declared.Pipe.TheVariants.{Status as StatusPipe}
 use Rattle.stream_array.specs.Contexts.{has_stream}
-use Rattle.stream_array.specs.Rings.{LinesState, stream_ring}
+use Rattle.stream_array.specs.Rings.{stream_ring}
 use Rattle.frame_store.specs.declared.TagBuffers.{TagBuffers}
 use Rattle.scsi_cmd.specs.declared.Command.{Command}
 use Rattle.uas_profile.specs.declared.Direction.{Direction}
-use Rattle.uas_profile.specs.declared.Direction.TheVariants.{Nothing, ToHost, ToDevice}
 use Rattle.scsi_cmd.specs.declared.SubmitFault.{SubmitFault}
-use Rattle.scsi_cmd.specs.declared.SubmitFault.TheVariants.{NotYours}
 use Rattle.scsi_cmd.specs.declared.Request.TheVariants.{Execute}
-use Rattle.uas_profile.specs.declared.TheConstants.{TAGS, TASK_SLOT, MAX_CLIENTS, STREAMS, CHUNK_BYTES, COMMAND_BYTES, MOST_DATA_TRBS, WINDOWS, WINDOW_SPAN}
+use Rattle.uas_profile.specs.declared.TheConstants.{TAGS, TASK_SLOT, MAX_CLIENTS, STREAMS, MOST_DATA_TRBS}
 use Rattle.scsi_cmd.specs.Held.{held_at}
 use Rattle.scsi_cmd.specs.Laws.{submit_fault-none}
 use Rattle.scsi_cmd.specs.Op.{direction_of, moved_bytes}
 use Rattle.uas_profile.specs.declared.Place.{Place}
 use Rattle.uas_host.specs.declared.HostClient.{HostClient}
-use Rattle.uas_profile.specs.Doors.{answer_doors, door, door_unless, submission_doors}
-use Rattle.uas_profile.specs.Pipes.{target_of}
+use Rattle.uas_profile.specs.Doors.{submission_doors}
 use Rattle.uas_host.specs.State.{client_of}
-use Rattle.uas_host.specs.Submit.{HasRoomFor, host_fault, fault_at as host_fault_at, new_entry as host_entry, data_td_for as host_data_td, slot_of}
+use Rattle.uas_host.specs.Submit.{HasRoomFor, new_entry as host_entry, data_td_for as host_data_td, slot_of}
 use Rattle.uas_host.specs.Submit.{submitted_client}
-use Rattle.uas_profile.specs.Places.{command_slot, tag_of}
-use Rattle.uas_host.specs.Tds.{HasDataRoom, command_buffer_of, command_td, data_td, data_trbs as trbs_from, status_td, put_on, with_data_td}
-use Rattle.xhci_ctl.specs.Doorbells.{rung_by, rung_in, rung_on, pipe_at}
-use Rattle.uas_profile.specs.declared.PipeState.{PipeState}
+use Rattle.uas_profile.specs.Places.{tag_of}
+use Rattle.uas_host.specs.Tds.{command_td, status_td}
 use Rattle.xhci_ctl.specs.Pipes.{ControllerState}
 use Rattle.shared_machine.specs.declared.Step.TheVariants.{Submit}
 use Rattle.shared_machine.specs.Pipes.{rung_unless}
-use Rattle.shared_machine.specs.Part.{Part, new_entry, data_td_for, fault_at, submitted_part}
+use Rattle.shared_machine.specs.Part.{Part, new_entry, data_td_for, submitted_part}
 use Rattle.shared_machine.specs.Td.{pushed as pushed_td, data_trbs, is_left_over_on}
-use Rattle.shared_machine.specs.Shared.{Shared, is_held, accepted, answered, submitted_to, submitted_under, submit_step, with_streams_rung}
+use Rattle.shared_machine.specs.Shared.{Shared, is_held, accepted, with_streams_rung}
 use Rattle.machine_invariant.specs.Matched.{held_in, carried_places, IsMatchedAt, IsMatched, pipe_places}
 use Rattle.bus_core.specs.World.{World, cell_at}
-use Rattle.bus_core.specs.Cells.{HoldsTrbs, HoldsData, data_in_td, data_out_td, state_of, host_side, FitsHeld, FitsCell, IsEmptyCell}
+use Rattle.bus_core.specs.Cells.{state_of, host_side, FitsHeld, FitsCell, IsEmptyCell}
 use Rattle.bus_core.specs.Fits.{Fits, FitsQueues, IsSoundWorld, command_trb, event_texts, place_in}
 use Rattle.bus_core.specs.WorldSteps.{SubmissionsFit, SubmitFits, submit_world, rung_all}
-use Rattle.bus_core.proofs.common.CellWrites.{stream_ring-same, stream_ring-other, held_for-same, held_for-other, client_of-found, entry_at-same}
-use Rattle.bus_core.proofs.common.CellWrites.{entry_at-other, clients-length}
+use Rattle.bus_core.proofs.common.CellWrites.{stream_ring-other, held_for-same, held_for-other, client_of-found, entry_at-same}
+use Rattle.bus_core.proofs.common.CellWrites.{entry_at-other}
 use Rattle.bus_core.proofs.common.EventTexts.{KeepsOthers, event_texts-one}
 use Rattle.bus_core.proofs.common.Framing.{AllFit-set, EndsStay, FitsPart-set, ChangesCell, IsFound, engine-changed, found, held-host, unused-kept}
 use Rattle.machine_invariant.proofs.MatchedBounds.{matched-room}
 use Rattle.machine_invariant.proofs.MatchedEnds.{unfaulted, IsUnfaulted}
 use Rattle.machine_invariant.proofs.MatchedNext.{accepted-trbs}
 use Rattle.machine_invariant.proofs.MatchedSteps.{shared_step-matched}
-use Rattle.shared_machine.proofs.OwnSlots.{IsOwnSlot, command_slot-own}
-use Rattle.shared_machine.proofs.Standing.{slice_get-back, get-within, get-none, not_some}
-use Rattle.bus_core.proofs.submit.SubmissionFaults.{fault_at-found}
-use Rattle.bus_core.proofs.submit.SubmittedLines.{IsAccepted, accepted-part, accepted-slot, accepted-is, submit_step-is, data_in_after}
-use Rattle.bus_core.proofs.submit.SubmittedLines.{data_out_after, with_streams_rung-is, rung_in-door, rung_by-door, rung_all-unless, status_rung}
-use Rattle.bus_core.proofs.submit.SubmittedLines.{data_in_rung, data_out_rung, answer_rung, rung_all-is, lines_after, lines-command, lines-engine}
-use Rattle.bus_core.proofs.submit.SubmittedLines.{lines-events, ring_put, lines-status, data_in-other, data_out-other, holds_pushed, put_empty}
+use Rattle.shared_machine.proofs.Standing.{slice_get-back, get-within, not_some}
+use Rattle.bus_core.proofs.submit.SubmittedLines.{IsAccepted, accepted-is, submit_step-is, data_in_after}
+use Rattle.bus_core.proofs.submit.SubmittedLines.{data_out_after, with_streams_rung-is}
+use Rattle.bus_core.proofs.submit.SubmittedLines.{rung_all-is, lines-command, lines-engine}
+use Rattle.bus_core.proofs.submit.SubmittedLines.{lines-events, ring_put, lines-status, data_in-other, data_out-other, put_empty}
 use Rattle.bus_core.proofs.submit.SubmittedLines.{data_in-holds, data_out-holds, command_trb-command, data_room}
 
 -- THE CELL

@@ -1,10 +1,9 @@
 -- How long the buffer is that the next reply brings: the host tells it by the operation, as the buffer has the length that it moves.
-use Rattle.std.proofs.Common.{◌≡◌, ℕ, ◌<◌, ◌≤◌, true, List, [], ◌∷◌, length, Option, Some, None, refl, arith, ap, sym, ◌∙◌}
+use Rattle.std.proofs.Common.{◌≡◌, ℕ, ◌≤◌, true, List, [], ◌∷◌, length, Option, Some, None, refl, arith, ap, sym, ◌∙◌}
 use Rattle.std.specs.Prelude.{slice_get}
 use Rattle.std.specs.Option.{option_map_or}
 use Rattle.scsi_cmd.specs.declared.Request.{Request}
 use Rattle.scsi_cmd.specs.declared.Request.TheVariants.{Execute, Manage}
-use Rattle.scsi_cmd.specs.Held.{held_at}
 use Rattle.solo_model.specs.declared.Phase.{Phase}
 use Rattle.solo_model.specs.declared.Phase.TheVariants.{Queued, Begun, Sent, Gone}
 use Rattle.solo_model.specs.declared.TaskAnswer.TheVariants.{WithStatus, WithResponse}
@@ -15,7 +14,6 @@ use Rattle.uas_profile.specs.TdStates.{is_over}
 use Rattle.uas_host.specs.State.{client_of, new_client}
 use Rattle.uas_host.specs.NextReply.{entry_len as host_entry_len, first_len as host_first_len, next_len as host_next_len, request_len}
 use Rattle.shared_machine.specs.declared.Td.{Td}
-use Rattle.shared_machine.specs.Td.{Entry}
 use Rattle.shared_machine.specs.Part.{Part}
 use Rattle.shared_machine.specs.Shared.{Shared}
 use Rattle.shared_machine.specs.Laws.{brought_len, entry_len, first_len, next_len, part_len, sent_len}

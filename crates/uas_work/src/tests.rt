@@ -2,6 +2,8 @@
 ghost use Rattle.std.specs.Prelude.{◌≡◌, ◌+◌, ◌<◌, ◌≤◌, ◌^◌, All, IfOk, [], ◌∷◌, ◌++◌, vec_len};
 ghost use Rattle.uas_work.specs.Booked.{IsNew};
 
+mod gates;
+
 use crate::{Booked, Ended, Finished, Gate, Plan, Unhindered, spawn_all};
 use block_unit::Unit;
 use bus_core::Step;
@@ -107,6 +109,8 @@ fn rounds_taken(rt: HostRuntime) -> Result<(), Fail> {
     assert!(rt; finished.ended == Ended::Done);
     assert!(rt; took_all(&finished, 0) && took_all(&finished, 1));
     assert!(rt; finished.booked.turn(0) == 18 && finished.booked.log().replies.len() == 36);
+    // of each command Submit, CommandPipe, Data, Status, three Events and Take
+    assert!(rt; finished.booked.log().steps.len() == 2 * 9 * 2 * 8);
     Ok(())
 }
 

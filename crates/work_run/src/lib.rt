@@ -1,7 +1,7 @@
 //! The run `work`: clients that write and read in threads of their own, and what of it came back.
 //!
 //! ```text
-//!     units of zeros ---> a bus that books ---> clients, 2 controllers, a dispatcher ---> replies ---> a tally of each client
+//!     units of zeros ---> a bus that books ---> clients, a controller, a dispatcher ---> replies ---> a tally of each client
 //!                                               in threads, the bus under a lock                        a line each, a status
 //! ```
 //!

@@ -1,6 +1,6 @@
 //! The run `work`: the threads, what they left, and what is told of it.
 
-ghost use Rattle.std.specs.Prelude.{◌≡◌, ℕ, ◌*◌, ◌^◌, ◌<◌, ◌≤◌, Bool, List, Option, false, IfOk, IfErr};
+ghost use Rattle.std.specs.Prelude.{◌≡◌, ℕ, ◌+◌, ◌*◌, ◌^◌, ◌<◌, ◌≤◌, Bool, List, Option, false, IfOk, IfErr};
 ghost use Rattle.byte_io.specs.Disks.{AreClients};
 ghost use Rattle.shared_machine.specs.Shared.{opening};
 ghost use Rattle.work_run.specs.WorkEnds.{GivesUp, Told, WorkEnds, work_units};
@@ -23,7 +23,7 @@ use uas_work::{Booked, Ended, Finished, Plan, Unhindered, spawn_all};
 const UNIT_BLOCKS: u32 = 64;
 
 /// The controllers that work beside the clients.
-const CONTROLLERS: u32 = 2;
+const CONTROLLERS: u32 = 1;
 
 /// Steps that are booked of the two commands of a round, each of 8 blocks: the submission, the command, the chunk, the status, three
 /// events and the Take.
@@ -155,13 +155,13 @@ fn work_units(alloc: Global, clients: usize) -> Result<Vec<Unit>, AllocError>
     Ok(units)
 }
 
-/// How many steps are booked of all rounds, or the most that a log may hold.
+/// One more than the steps that are booked of all rounds, or the most that a log may hold.
 fn step_limit(load: Load) -> usize
     requires { AreClients load.clients }
     ensures fits { result < 2 ^ 32 }
-    ensures enough { 16 * load.clients * load.rounds < 2 ^ 32 → result ≡ 16 * load.clients * load.rounds }
+    ensures enough { 16 * load.clients * load.rounds + 1 < 2 ^ 32 → result ≡ 16 * load.clients * load.rounds + 1 }
 {
-    let steps = ROUND_STEPS * load.clients as u64 * u64::from(load.rounds);
+    let steps = ROUND_STEPS * load.clients as u64 * u64::from(load.rounds) + 1;
     steps.min(u64::from(u32::MAX)) as usize
 }
 

@@ -10,9 +10,7 @@ use std::alloc::{AllocError, Global};
 use std::test::Fail;
 
 /// The header of a log of one client of 8 tags, and that its unit has one block.
-const HEAD: [u8; 14] = [
-    b'U', b'A', b'S', b'L', b'O', b'G', 0, 1, 8, 1, 0, 0, 0, 1,
-];
+const HEAD: [u8; 14] = [b'U', b'A', b'S', b'L', b'O', b'G', 0, 1, 8, 1, 0, 0, 0, 1];
 
 /// No bad block; the step Submit of TEST UNIT READY on tag 1 with ticket 0, behind the count of all six.
 const SUBMIT: [u8; 38] = [
@@ -117,7 +115,13 @@ fn rounds_planned(rt: HostRuntime) -> Result<(), Fail> {
                 ticket: 19,
                 command,
             },
-        ) => command.op == Op::Read { lba: 8, count: 8, fua: false } && command.buffer.len() == 4096,
+        ) => command.op
+            == Op::Read {
+                lba: 8,
+                count: 8,
+                fua: false,
+            }
+            && command.buffer.len() == 4096,
         _ => false,
     };
     assert!(rt; is_last);

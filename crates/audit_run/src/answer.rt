@@ -67,12 +67,7 @@ fn push_line(
 }
 
 /// `client C replies R true`, or `false`.
-fn line_of(
-    alloc: Global,
-    client: usize,
-    count: usize,
-    told: bool,
-) -> Result<String, AllocError>
+fn line_of(alloc: Global, client: usize, count: usize, told: bool) -> Result<String, AllocError>
     ensures { told ≡ true → IfOk result (λ line. string_bytes line ≡ line_text client count) }
 {
     if told {

@@ -16,9 +16,9 @@ mod run;
 #[cfg(test)]
 mod tests;
 
-pub use run::run_audit;
 use log_replay::ReplayFault;
 use log_text::{LogFault, MigrateFault};
+pub use run::run_audit;
 
 /// The most bytes of a log's file.
 pub const MAX_LOG_BYTES: usize = 1_073_741_824;

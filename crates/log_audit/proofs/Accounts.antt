@@ -5,14 +5,13 @@ use Rattle.std.proofs.lemmas.List.{length-map}
 use Rattle.std.proofs.lemmas.Option.{some_pair_parts}
 use Rattle.block_unit.specs.BlockMaps.{BlockMaps}
 use Rattle.scsi_cmd.specs.declared.Reply.{Reply}
-use Rattle.solo_model.specs.Solo.{SoloState, solo_run, opening as solo_opening}
+use Rattle.solo_model.specs.Solo.{SoloState}
 use Rattle.shared_machine.specs.declared.Step.{Step}
-use Rattle.shared_machine.specs.Replay.{replay}
 use Rattle.machine_invariant.proofs.MatchedOpening.{opening-matched}
-use Rattle.isolation.specs.Isolation.{own_labels, own_replies, own_state, renumbered}
+use Rattle.isolation.specs.Isolation.{own_replies, own_state, renumbered}
 use Rattle.isolation.proofs.FirstBlocks.{replay-solo}
 use Rattle.uas_log.specs.declared.Log.{Log}
-use Rattle.uas_log.specs.Booking.{IsReplay, first_maps, first_units, log_opening, log_replay, replies_of}
+use Rattle.uas_log.specs.Booking.{IsReplay, first_maps, first_units, log_opening, log_replay}
 use Rattle.log_audit.specs.Audit.{AreSolos, IsAudited, IsBeginning, is_taken_by, submissions_of}
 use Rattle.log_audit.proofs.Owned.{filter-own, own_replies-taken, replies_of-tags, same-replies}
 use Rattle.log_audit.proofs.Tagged.{AllTagged, replayed-tagged}

@@ -1,6 +1,6 @@
 -- The items of a list that pass a test, matched one by one with those of another list.
-use Rattle.std.proofs.Common.{◌≡◌, ℕ, ◌+◌, ◌<◌, ◌≤◌, ◌==◌, ◌↔◌, Bool, true, false, cond, IsTrue, List, [], ◌∷◌, ◌++◌, filter, take, drop, length, get_or}
-use Rattle.std.proofs.Common.{refl, arith, ap, sym, ◌∙◌, append_assoc, length-append}
+use Rattle.std.proofs.Common.{◌≡◌, ℕ, ◌+◌, ◌<◌, ◌≤◌, ◌==◌, ◌↔◌, Bool, true, cond, IsTrue, List, ◌∷◌, ◌++◌, filter, take, drop, length, get_or}
+use Rattle.std.proofs.Common.{arith, ap, sym, ◌∙◌, append_assoc, length-append}
 use Rattle.std.proofs.Math.Seq.{get_or-append_seam}
 use Rattle.std.proofs.lemmas.Bool.{eqb-true, eq-eqb}
 use Rattle.std.proofs.lemmas.List.{at_drop_more, length-take-le, take-append-drop, take_all}
@@ -13,9 +13,9 @@ filter-at p xs k x within is passes =
     ap (filter p) (sym (take-append-drop k xs))
     ∙ filter-append p (take k xs) (drop k xs)
     ∙ ap (λ rest. filter p (take k xs) ++ rest)
-        (at_drop_more (filter p) xs k x within
-        ∙ ap (λ y. filter p (y ∷ drop (k + 1) xs)) (sym is)
-        ∙ ap (λ b. cond b (x ∷ filter p (drop (k + 1) xs)) (filter p (drop (k + 1) xs))) passes)
+    (at_drop_more (filter p) xs k x within
+    ∙ ap (λ y. filter p (y ∷ drop (k + 1) xs)) (sym is)
+    ∙ ap (λ b. cond b (x ∷ filter p (drop (k + 1) xs)) (filter p (drop (k + 1) xs))) passes)
 
 -- the item behind the first ones of a list
 pub record GoesOn {X : Type 0} (ys : List X) (next : ℕ) (x : X) : Type 0 where

@@ -1,34 +1,25 @@
 -- No step but a Take brings a reply: act by act, and step by step.
-use Rattle.std.proofs.Common.{◌≡◌, ℕ, Bool, true, false, List, [], ◌∷◌, Option, Some, None, refl, ap, ◌∙◌}
-use Rattle.std.specs.Prelude.{slice_get, if◌then◌else◌}
-use Rattle.std.specs.Option.{option_map_or}
+use Rattle.std.proofs.Common.{◌≡◌, ℕ, List, [], ◌∷◌, Option, Some, None, refl}
+use Rattle.std.specs.Prelude.{slice_get}
 use Rattle.block_unit.specs.BlockMaps.{BlockMaps}
 use Rattle.uas_profile.specs.declared.Pipe.{Pipe}
 use Rattle.scsi_cmd.specs.declared.Command.{Command}
 use Rattle.scsi_cmd.specs.declared.Task.{Task}
 use Rattle.scsi_cmd.specs.declared.SubmitFault.{SubmitFault}
-use Rattle.scsi_cmd.specs.declared.Reply.{Reply}
 use Rattle.scsi_cmd.specs.Held.{held_at}
 use Rattle.solo_model.specs.TaggedTask.{TaggedTask, carried, moved, sent}
 use Rattle.uas_profile.specs.declared.Place.{Place}
-use Rattle.uas_profile.specs.Places.{command_slot, place_of}
 use Rattle.shared_machine.specs.declared.Completion.{Completion}
 use Rattle.shared_machine.specs.declared.Completion.TheVariants.{CommandDone, DataDone, StatusDone, EngineDone}
-use Rattle.shared_machine.specs.declared.Outcome.{Outcome}
 use Rattle.shared_machine.specs.declared.Retirement.{Retirement}
 use Rattle.shared_machine.specs.declared.RetirementStage.{RetirementStage}
 use Rattle.shared_machine.specs.declared.RetirementStage.TheVariants.{StopAsked, StopAnswered, MoveAsked, MoveAnswered}
-use Rattle.shared_machine.specs.declared.Step.{Step}
-use Rattle.shared_machine.specs.declared.Step.TheVariants.{Submit, Task as TaskStep, CommandPipe, Data, Status, Engine, Event, Retire, Take}
-use Rattle.shared_machine.specs.Td.{Entry, retired_on}
-use Rattle.shared_machine.specs.Part.{Part, Act, carry_act, carried_entry, carried_slot, event_act, fault_at, move_act, moved_entry, moved_slot, named_slot}
-use Rattle.shared_machine.specs.Part.{pass_act, passed_slot, retire_act, seen_by, seen_entry, send_act, sent_entry, sent_slot, stop_act, task_fault_at}
-use Rattle.shared_machine.specs.Shared.{Shared, answered, at_stage, carry_step, due, due_step, engine_did, engine_seen, engine_step, event_seen, event_step, idle}
-use Rattle.shared_machine.specs.Shared.{managed_or, managed_to, retire_step, routed, routed_by_tag, routed_to, shared_step, stage_seen, submitted_to}
+use Rattle.shared_machine.specs.Td.{Entry}
+use Rattle.shared_machine.specs.Part.{Part, Act, carry_act, carried_entry, carried_slot, event_act, fault_at, moved_entry, moved_slot}
+use Rattle.shared_machine.specs.Part.{pass_act, passed_slot, retire_act, seen_entry, sent_entry, sent_slot, stop_act, task_fault_at}
+use Rattle.shared_machine.specs.Shared.{Shared, answered, carry_step, engine_did, engine_seen, engine_step, event_seen, event_step}
+use Rattle.shared_machine.specs.Shared.{managed_or, managed_to, retire_step, routed, routed_by_tag, routed_to, stage_seen, submitted_to}
 use Rattle.shared_machine.specs.Shared.{submitted_under}
-use Rattle.shared_machine.specs.Laws.{reply_len}
-use Rattle.shared_machine.specs.Rooms.{step_len}
-use Rattle.shared_machine.proofs.Lengths.{shared_step-len}
 
 -- ACTS
 

@@ -1,7 +1,6 @@
 -- A reply brings back a tag of the client whose step it is.
 use Rattle.std.proofs.Common.{◌≡◌, ℕ, ◌+◌, ◌*◌, ◌<◌, ◌≤◌, Bool, true, false, List, [], ◌∷◌, length, Option, Some, None, IfSome, refl, arith, sym, subst}
 use Rattle.std.specs.Prelude.{slice_get, if◌then◌else◌, option_and_then}
-use Rattle.block_unit.specs.BlockMaps.{BlockMaps}
 use Rattle.uas_profile.specs.declared.TheConstants.{TAGS}
 use Rattle.uas_profile.specs.Places.{command_slot, place_of}
 use Rattle.scsi_cmd.specs.declared.Reply.{Reply}

@@ -1,9 +1,9 @@
 -- A reply of the client's that isn't the next one is refused, as all would have to be matched.
-use Rattle.std.proofs.Common.{◌≡◌, List, [], ◌++◌, filter, arith, sym, ◌∙◌}
+use Rattle.std.proofs.Common.{◌≡◌, [], filter, arith, sym, ◌∙◌}
 use Rattle.std.proofs.lemmas.Bool.{false≢true}
 use Rattle.std.proofs.lemmas.List.{append-nil}
 use Rattle.log_audit.specs.Audit.{is_taken_by}
-use Rattle.log_audit.proofs.Matching.{GoesOn, next-matched}
+use Rattle.log_audit.proofs.Matching.{next-matched}
 use Rattle.log_audit.proofs.audits.are_all.Goals as goal
 use Rattle.log_audit.proofs.audits.are_all.Goals.{then-next-replies-via-then-next-replies, then-next-replies-via-else-next-replies+then-not-same}
 

@@ -1,8 +1,8 @@
 -- A submission of the client's that isn't the next one is refused, as all would have to be matched.
-use Rattle.std.proofs.Common.{◌≡◌, drop, refl, arith, sym, ◌∙◌}
+use Rattle.std.proofs.Common.{drop, refl, arith, sym, ◌∙◌}
 use Rattle.std.proofs.lemmas.Bool.{false≢true}
 use Rattle.log_audit.specs.Audit.{IsBeginning, is_asked_by, submissions_of}
-use Rattle.log_audit.proofs.Matching.{GoesOn, all-begin, next-matched}
+use Rattle.log_audit.proofs.Matching.{all-begin, next-matched}
 use Rattle.log_audit.proofs.audits.are_first.Goals as goal
 use Rattle.log_audit.proofs.audits.are_first.Goals.{then-next-sent-via-then-next-sent, then-next-sent-via-else-next-sent+then-not-same}
 

@@ -20,7 +20,7 @@ returns-in_err-book-clause-fault c =
     let steps = c.args.steps.now in
     let at = c.loop-at.at in
     let here = c.loop-at.invariant.fault
-        ∙ fault-here at c.loop-at.booked.bus steps at c.index-steps-at.result c.loop-at-test.true c.index-steps-at.is in
+    ∙ fault-here at c.loop-at.booked.bus steps at c.index-steps-at.result c.loop-at-test.true c.index-steps-at.is in
     let stops = subst (λ (first : Option ReplayFault). StopsBy first c.in_err-book.field-0.0) (sym here) (c.in_err-book.ensures.fault (drop (at + 1) steps)) in
     err_given c.in_err-book.field-0.0 (StopsBy (first_fault 0 c.args.booked.now.bus steps)) c.from_residual.result c.from_residual.ensures.1 stops
 

@@ -94,10 +94,10 @@ td_words td =
     codes " | stream " ++ decimal td.stream ++ codes " | TD at " ++ encode_lower (to_be_bytes w64 td.first)
     ++ codes " | client " ++ decimal td.owner.client ++ codes " ticket " ++ decimal td.owner.ticket
 
-abbrev pub event_words : ℕ → ℕ → List ℕ
+unfoldable pub event_words : ℕ → ℕ → List ℕ
 event_words residual code = codes " | event code " ++ decimal code ++ codes " residual " ++ decimal residual
 
-abbrev pub retired_words : ℕ → List ℕ
+unfoldable pub retired_words : ℕ → List ℕ
 retired_words moved = codes " | TD retired after " ++ decimal moved ++ codes " bytes"
 
 -- how it ended

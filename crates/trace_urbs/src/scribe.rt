@@ -295,6 +295,7 @@ fn push_end(alloc: Global, text: &mut Vec<u8>, change: &Change) -> Result<(), Al
 }
 
 /// Adds what an event told.
+#[tactic(auto, unfolding(crate::specs::Records::event_words))]
 fn push_event(alloc: Global, text: &mut Vec<u8>, residual: u32, code: u8) -> Result<(), AllocError>
     ensures { OnOk result (text.new.items ≡ text.old.items ++ event_words residual code) }
 {
@@ -303,6 +304,7 @@ fn push_event(alloc: Global, text: &mut Vec<u8>, residual: u32, code: u8) -> Res
 }
 
 /// Adds that a TD was taken off after so many bytes.
+#[tactic(auto, unfolding(crate::specs::Records::retired_words))]
 fn push_retired(alloc: Global, text: &mut Vec<u8>, moved: u32) -> Result<(), AllocError>
     ensures { OnOk result (text.new.items ≡ text.old.items ++ retired_words moved) }
 {

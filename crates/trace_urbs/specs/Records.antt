@@ -94,8 +94,14 @@ td_words td =
     codes " | stream " ++ decimal td.stream ++ codes " | TD at " ++ encode_lower (to_be_bytes w64 td.first)
     ++ codes " | client " ++ decimal td.owner.client ++ codes " ticket " ++ decimal td.owner.ticket
 
+unfoldable pub code_words : ℕ → List ℕ
+code_words code = codes " | event code " ++ decimal code
+
+unfoldable pub residual_words : ℕ → List ℕ
+residual_words residual = codes " residual " ++ decimal residual
+
 unfoldable pub event_words : ℕ → ℕ → List ℕ
-event_words residual code = codes " | event code " ++ decimal code ++ codes " residual " ++ decimal residual
+event_words residual code = code_words code ++ residual_words residual
 
 unfoldable pub retired_words : ℕ → List ℕ
 retired_words moved = codes " | TD retired after " ++ decimal moved ++ codes " bytes"

@@ -2,7 +2,7 @@
 
 ghost use Rattle.std.specs.Prelude.{◌≡◌, ◌++◌, ◌≤◌, IfOk, OnOk, length, map, min, take};
 ghost use Rattle.usb_capture.specs.declared.TheConstants.{MOST_DATA};
-ghost use Rattle.trace_urbs.specs.Records.{Writing, at_most, bytes_in, bytes_of, bytes_out, capture_of, change_packet, comment_of, end_words, event_words, retired_words};
+ghost use Rattle.trace_urbs.specs.Records.{Writing, at_most, bytes_in, bytes_of, bytes_out, capture_of, change_packet, comment_of, end_words, event_words, retired_words, code_words, residual_words};
 ghost use Rattle.trace_urbs.specs.Records.{first_writing, line_after, payload_of, record_of, taken_line, td_in, td_words, unit_after, with_line};
 ghost use Rattle.trace_urbs.specs.Records.{with_lines, with_news};
 ghost use Rattle.usb_capture.specs.Descriptors.{start};
@@ -299,8 +299,26 @@ fn push_end(alloc: Global, text: &mut Vec<u8>, change: &Change) -> Result<(), Al
 fn push_event(alloc: Global, text: &mut Vec<u8>, residual: u32, code: u8) -> Result<(), AllocError>
     ensures { OnOk result (text.new.items ≡ text.old.items ++ event_words residual code) }
 {
-    let end = format!(in alloc; " | event code {code} residual {residual}")?;
-    text.extend_from_slice(end.as_bytes())
+    push_code(alloc, text, code)?;
+    push_residual(alloc, text, residual)
+}
+
+/// Adds the code of an event.
+#[tactic(auto, unfolding(crate::specs::Records::code_words))]
+fn push_code(alloc: Global, text: &mut Vec<u8>, code: u8) -> Result<(), AllocError>
+    ensures { OnOk result (text.new.items ≡ text.old.items ++ code_words code) }
+{
+    let words = format!(in alloc; " | event code {code}")?;
+    text.extend_from_slice(words.as_bytes())
+}
+
+/// Adds how many bytes an event tells to be left.
+#[tactic(auto, unfolding(crate::specs::Records::residual_words))]
+fn push_residual(alloc: Global, text: &mut Vec<u8>, residual: u32) -> Result<(), AllocError>
+    ensures { OnOk result (text.new.items ≡ text.old.items ++ residual_words residual) }
+{
+    let words = format!(in alloc; " residual {residual}")?;
+    text.extend_from_slice(words.as_bytes())
 }
 
 /// Adds that a TD was taken off after so many bytes.

@@ -3,8 +3,8 @@
 //! A trace is the text that `uas_trace` writes: a line for each step, and below it what the step wrote. [`news_in`] reads a line as far
 //! as a capture goes by it ([`News`]): a step, a TRB on a pipe's ring, bytes that were moved, a Transfer Event, a ring whose front was
 //! moved. [`Desk`] keeps the TDs that are under way and answers what became of one ([`Change`]): it is submitted when its last TRB was
-//! put, completed when its event was posted, and taken off when its ring's front was moved past it. [`Scribe`] takes a trace line by line
-//! and writes a record of each change, with the bytes that went with it, which are [`Transfers`].
+//! put, completed when its event was posted, and taken off when its ring's front was moved past it. [`capture_of`] takes a trace line by line
+//! and answers the capture: a record of each change, with the bytes that went with it, which are [`Transfers`].
 //!
 //! What a line says is specs/Lines.antt, what becomes of TDs specs/Tds.antt, and which record a change has specs/Records.antt; so the
 //! bytes of a capture are a function of the trace's text and the bytes that its commands moved.
@@ -17,11 +17,11 @@ mod lines;
 mod scribe;
 mod transfers;
 
-pub use desk::Desk;
-pub use lines::news_in;
-pub use scribe::Scribe;
+use desk::Desk;
+use lines::news_in;
+pub use scribe::capture_of;
 use stream_array::Pipe;
-pub use transfers::{TicketBytes, Transfers};
+pub use transfers::Transfers;
 
 /// Whose a TD is: the client and its ticket.
 #[derive(Clone, Copy, Debug, PartialEq, Eq)]

@@ -1,5 +1,11 @@
 //! What a line of a trace tells.
 
+ghost use Rattle.std.specs.Prelude.{◌≡◌, IfOk, IfSome, ◌≤◌, map};
+ghost use Rattle.std.specs.Str.{bytes_eq};
+ghost use Rattle.trace_urbs.specs.Lines.{address_at, bytes_in, chunk_news, context_news, event_news, is_step, news_in, news_of_words};
+ghost use Rattle.trace_urbs.specs.Lines.{number_at, owner_at, put_news, step_news, trb_at, trb_of, written_news};
+ghost use Rattle.stream_array.specs.Map.{pipe_numbered};
+
 use crate::{News, Owner};
 use byte_io::{number_in, words};
 use frame_store::{Buffer, Place};
@@ -8,27 +14,38 @@ use stream_array::{Pipe, find};
 use xhci_trb::{Trb, decode};
 
 /// What a line tells; nothing where a capture doesn't go by it.
-pub fn news_in(alloc: Global, line: &[u8]) -> Result<Option<News>, AllocError> {
+#[tactic(auto, unfolding(crate::specs::Lines::news_in))]
+pub fn news_in(alloc: Global, line: &[u8]) -> Result<Option<News>, AllocError>
+    ensures { IfOk result (λ news. news ≡ news_in line.now) }
+{
     let words = words(alloc, line)?;
-    Ok(news_of_words(line.first() == Some(&b' '), &words))
+    let is_written = line.get(0).copied().unwrap_or(0) == b' ';
+    Ok(news_of_words(is_written, &words))
 }
 
 /// What words tell, of a line that is indented or not.
-fn news_of_words(is_written: bool, words: &[&[u8]]) -> Option<News> {
-    let first = words.get(0)?;
-    if is_written {
-        written_news(first, words)
-    } else {
-        step_news(first, words)
+#[tactic(auto, unfolding(crate::specs::Lines::news_of_words))]
+fn news_of_words(is_written: bool, words: &[&[u8]]) -> Option<News>
+    ensures { result ≡ news_of_words is_written (map (λ word. word.now) words.now) }
+{
+    match words.get(0) {
+        Some(first) if is_written => written_news(first, words),
+        Some(first) => step_news(first, words),
+        None => None,
     }
 }
 
-fn is_word(word: &[u8], name: &str) -> bool {
+fn is_word(word: &[u8], name: &str) -> bool
+    ensures { result ≡ bytes_eq word.now name.now }
+{
     word == name.as_bytes()
 }
 
 /// Whether it is the name of a step that isn't handed in by a client.
-fn is_step(word: &[u8]) -> bool {
+#[tactic(auto, unfolding(crate::specs::Lines::is_step))]
+fn is_step(word: &[u8]) -> bool
+    ensures { result ≡ is_step word.now }
+{
     is_word(word, "command")
         || is_word(word, "engine")
         || is_word(word, "event")
@@ -39,7 +56,10 @@ fn is_step(word: &[u8]) -> bool {
 }
 
 /// What the line of a step tells: `submit C TAG TICKET ..`, `task C TICKET ..`, or another step.
-fn step_news(first: &[u8], words: &[&[u8]]) -> Option<News> {
+#[tactic(auto, unfolding(crate::specs::Lines::step_news))]
+fn step_news(first: &[u8], words: &[&[u8]]) -> Option<News>
+    ensures { result ≡ step_news first.now (map (λ word. word.now) words.now) }
+{
     if is_word(first, "submit") {
         Some(News::Step(owner_at(words, 1, 3)))
     } else if is_word(first, "task") {
@@ -52,20 +72,29 @@ fn step_news(first: &[u8], words: &[&[u8]]) -> Option<News> {
 }
 
 /// The owner of whom the words at these places tell.
-fn owner_at(words: &[&[u8]], client: usize, ticket: usize) -> Option<Owner> {
-    Some(Owner {
-        client: number_at(words, client)?,
-        ticket: number_at(words, ticket)?,
-    })
+#[tactic(auto, unfolding(crate::specs::Lines::owner_at))]
+fn owner_at(words: &[&[u8]], client: usize, ticket: usize) -> Option<Owner>
+    ensures { result ≡ owner_at (map (λ word. word.now) words.now) client ticket }
+{
+    let client = number_at(words, client, 0, u64::MAX)?;
+    let ticket = number_at(words, ticket, 0, u64::MAX)?;
+    Some(Owner { client, ticket })
 }
 
-/// The number at a place.
-fn number_at(words: &[&[u8]], place: usize) -> Option<u64> {
-    number_in(0, u64::MAX, words.get(place)?)
+/// The word at a place, as a number of this range.
+#[tactic(auto, unfolding(crate::specs::Lines::number_at))]
+fn number_at(words: &[&[u8]], place: usize, least: u64, most: u64) -> Option<u64>
+    ensures value { result ≡ number_at (map (λ word. word.now) words.now) place least most }
+    ensures range { IfSome result (λ value. value ≤ most) }
+{
+    number_in(least, most, words.get(place)?)
 }
 
 /// What the line of something written tells.
-fn written_news(first: &[u8], words: &[&[u8]]) -> Option<News> {
+#[tactic(auto, unfolding(crate::specs::Lines::written_news))]
+fn written_news(first: &[u8], words: &[&[u8]]) -> Option<News>
+    ensures { result ≡ written_news first.now (map (λ word. word.now) words.now) }
+{
     if is_word(first, "put") {
         put_news(words)
     } else if is_word(first, "in") {
@@ -82,7 +111,10 @@ fn written_news(first: &[u8], words: &[&[u8]]) -> Option<News> {
 }
 
 /// `put ADDRESS BYTES`: a Normal TRB on a pipe's ring.
-fn put_news(words: &[&[u8]]) -> Option<News> {
+#[tactic(auto, unfolding(crate::specs::Lines::put_news))]
+fn put_news(words: &[&[u8]]) -> Option<News>
+    ensures { result ≡ put_news (map (λ word. word.now) words.now) }
+{
     let address = address_at(words)?;
     let (pipe, stream, _) = find(address)?;
     let trb = trb_at(words)?;
@@ -99,21 +131,28 @@ fn put_news(words: &[&[u8]]) -> Option<News> {
 }
 
 /// `in ADDRESS LENGTH`, `out ADDRESS LENGTH`: bytes of a tag's data window.
-fn chunk_news(pipe: Pipe, words: &[&[u8]]) -> Option<News> {
-    let place = Place::at(address_at(words)?)?;
-    let length = number_in(0, u64::from(u32::MAX), words.get(2)?)? as u32;
+#[tactic(auto, unfolding(crate::specs::Lines::chunk_news))]
+fn chunk_news(pipe: Pipe, words: &[&[u8]]) -> Option<News>
+    ensures { result ≡ chunk_news pipe (map (λ word. word.now) words.now) }
+{
+    let address = address_at(words)?;
+    let place = Place::at(address)?;
+    let length = number_at(words, 2, 0, u64::from(u32::MAX))? as u32;
     match place.buffer {
         Buffer::Window => Some(News::Moved {
             pipe,
             stream: place.tag,
             length,
         }),
-        _ => None,
+        Buffer::Command | Buffer::Status => None,
     }
 }
 
 /// `event ADDRESS BYTES`: a Transfer Event.
-fn event_news(words: &[&[u8]]) -> Option<News> {
+#[tactic(auto, unfolding(crate::specs::Lines::event_news))]
+fn event_news(words: &[&[u8]]) -> Option<News>
+    ensures { result ≡ event_news (map (λ word. word.now) words.now) }
+{
     match trb_at(words)? {
         Trb::TransferEvent {
             pointer,
@@ -130,15 +169,21 @@ fn event_news(words: &[&[u8]]) -> Option<News> {
 }
 
 /// `context PIPE STREAM BYTES`: the front of a ring, as it was moved.
-fn context_news(words: &[&[u8]]) -> Option<News> {
-    let pipe = pipe_numbered(number_in(2, 4, words.get(1)?)?)?;
-    let stream = number_in(0, u64::from(u16::MAX), words.get(2)?)? as u16;
+#[tactic(auto, unfolding(crate::specs::Lines::context_news))]
+fn context_news(words: &[&[u8]]) -> Option<News>
+    ensures { result ≡ context_news (map (λ word. word.now) words.now) }
+{
+    let pipe = pipe_numbered(number_at(words, 1, 2, 4)?)?;
+    let stream = number_at(words, 2, 0, u64::from(u16::MAX))? as u16;
     Some(News::Passed { pipe, stream })
 }
 
 /// The pipe of a number.
-fn pipe_numbered(number: u64) -> Option<Pipe> {
+fn pipe_numbered(number: u64) -> Option<Pipe>
+    ensures { result ≡ pipe_numbered number }
+{
     match number {
+        1 => Some(Pipe::Command),
         2 => Some(Pipe::Status),
         3 => Some(Pipe::DataIn),
         4 => Some(Pipe::DataOut),
@@ -147,16 +192,54 @@ fn pipe_numbered(number: u64) -> Option<Pipe> {
 }
 
 /// The address behind the first word, in 16 digits.
-fn address_at(words: &[&[u8]]) -> Option<u64> {
-    let mut bytes = [0; 8];
-    hex::decode_to_slice(*words.get(1)?, &mut bytes).ok()?;
+#[tactic(auto, unfolding(crate::specs::Lines::address_at))]
+fn address_at(words: &[&[u8]]) -> Option<u64>
+    ensures { result ≡ address_at (map (λ word. word.now) words.now) }
+{
+    let bytes = eight_bytes_in(words.get(1)?)?;
     Some(u64::from_be_bytes(bytes))
 }
 
-/// The TRB behind the address, in 32 digits.
-fn trb_at(words: &[&[u8]]) -> Option<Trb> {
+/// Eight bytes in hexadecimal digits.
+#[tactic(auto, unfolding(crate::specs::Lines::bytes_in))]
+fn eight_bytes_in(word: &[u8]) -> Option<[u8; 8]>
+    ensures { result ≡ bytes_in 8 word.now }
+{
+    let mut bytes = [0; 8];
+    match hex::decode_to_slice(word, &mut bytes) {
+        Ok(()) => Some(bytes),
+        Err(_) => None,
+    }
+}
+
+/// Sixteen bytes in hexadecimal digits.
+#[tactic(auto, unfolding(crate::specs::Lines::bytes_in))]
+fn sixteen_bytes_in(word: &[u8]) -> Option<[u8; 16]>
+    ensures { result ≡ bytes_in 16 word.now }
+{
     let mut bytes = [0; 16];
-    hex::decode_to_slice(*words.get(2)?, &mut bytes).ok()?;
-    let (trb, _) = decode(&bytes).ok()?;
-    Some(trb)
+    match hex::decode_to_slice(word, &mut bytes) {
+        Ok(()) => Some(bytes),
+        Err(_) => None,
+    }
+}
+
+/// The TRB behind the address, in 32 digits.
+#[tactic(auto, unfolding(crate::specs::Lines::trb_at))]
+fn trb_at(words: &[&[u8]]) -> Option<Trb>
+    ensures { result ≡ trb_at (map (λ word. word.now) words.now) }
+{
+    let bytes = sixteen_bytes_in(words.get(2)?)?;
+    trb_of(&bytes)
+}
+
+/// The TRB that bytes hold.
+#[tactic(auto, unfolding(crate::specs::Lines::trb_of))]
+fn trb_of(bytes: &[u8; 16]) -> Option<Trb>
+    ensures { result ≡ trb_of bytes.now }
+{
+    match decode(bytes) {
+        Ok((trb, _)) => Some(trb),
+        Err(_) => None,
+    }
 }

@@ -1,14 +1,19 @@
 //! The record of each change, written while a trace is taken line by line.
 
-ghost use Rattle.std.specs.Prelude.{◌≡◌, ◌≤◌, length};
+ghost use Rattle.std.specs.Prelude.{◌≡◌, ◌++◌, ◌≤◌, IfOk, OnOk, length, map, min, take};
 ghost use Rattle.usb_capture.specs.declared.TheConstants.{MOST_DATA};
+ghost use Rattle.trace_urbs.specs.Records.{Writing, at_most, bytes_in, bytes_of, bytes_out, capture_of, change_packet, comment_of, end_words, event_words, retired_words, code_words, residual_words};
+ghost use Rattle.trace_urbs.specs.Records.{first_writing, line_after, payload_of, record_of, taken_line, td_in, td_words, unit_after, with_line};
+ghost use Rattle.trace_urbs.specs.Records.{with_lines, with_news};
+ghost use Rattle.usb_capture.specs.Descriptors.{start};
 
 use crate::{Change, Desk, News, Td, Transfers, news_in};
-use byte_io::words;
+use byte_io::{pieces, words};
 use hex::FromHexError;
 use std::alloc::{AllocError, Global};
+use std::marker::Model;
 use stream_array::Pipe;
-use usb_capture::{Event, MOST_COMMENT, MOST_DATA, Record, Transfer, push_record};
+use usb_capture::{Event, MOST_COMMENT, MOST_DATA, Record, Transfer, push_record, push_start};
 
 /// Writes the records of a trace.
 #[derive(Drop)]
@@ -21,9 +26,48 @@ pub struct Scribe {
     unit: Vec<u8>,
 }
 
+impl Model for Scribe {
+    ghost use Rattle.trace_urbs.specs.Records.{Writing};
+
+    ghost Value = { Writing };
+
+    ghost view = { λ scribe. record { desk = scribe.desk; line = scribe.line.items; unit = scribe.unit.items } };
+}
+
+/// The capture of a trace, of commands that moved these bytes.
+#[tactic(auto, unfolding(crate::specs::Records::capture_of))]
+pub fn capture_of(alloc: Global, transfers: &Transfers, trace: &[u8]) -> Result<Vec<u8>, AllocError>
+    ensures { IfOk result (λ capture. capture.items ≡ capture_of transfers.now trace.now) }
+{
+    let mut capture = Vec::new(alloc);
+    push_start(alloc, &mut capture)?;
+    let lines = pieces(alloc, trace)?;
+    push_lines(alloc, transfers, &lines, &mut capture)?;
+    Ok(capture)
+}
+
+/// Adds the packets of a trace's lines.
+#[tactic(auto, unfolding(crate::specs::Records::with_lines))]
+fn push_lines(
+    alloc: Global,
+    transfers: &Transfers,
+    lines: &[&[u8]],
+    capture: &mut Vec<u8>,
+) -> Result<(), AllocError>
+    ensures { OnOk result (capture.new.items ≡ with_lines transfers.now capture.old.items (map (λ line. line.now) lines.now)) }
+{
+    let mut scribe = Scribe::new(alloc);
+    for line in lines {
+        scribe.take(transfers, line, capture)?;
+    }
+    Ok(())
+}
+
 impl Scribe {
     /// Before the first line.
-    pub fn new(alloc: Global) -> Scribe {
+    fn new(alloc: Global) -> Scribe
+        ensures { result ≡ first_writing }
+    {
         Scribe {
             alloc,
             desk: Desk::new(alloc),
@@ -32,40 +76,77 @@ impl Scribe {
         }
     }
 
-    /// Takes a line of the trace, and adds the record of what became of a TD by it.
-    pub fn take(
+    /// Takes a line of the trace, and adds the packet of what became of a TD by it.
+    #[tactic(auto, unfolding(crate::specs::Records::taken_line))]
+    fn take(
         &mut self,
         transfers: &Transfers,
         line: &[u8],
         capture: &mut Vec<u8>,
-    ) -> Result<(), AllocError> {
-        self.note_unit(line)?;
-        let Some(news) = news_in(self.alloc, line)? else {
+    ) -> Result<(), AllocError>
+        ensures scribe { OnOk result (self.new ≡ (taken_line transfers.now self.old line.now).0) }
+        ensures packet { OnOk result (capture.new.items ≡ capture.old.items ++ (taken_line transfers.now self.old line.now).1) }
+    {
+        let words = words(self.alloc, line)?;
+        self.note_unit(&words)?;
+        let news = news_in(self.alloc, line)?;
+        self.take_news(transfers, line, news, capture)
+    }
+
+    /// Takes what a line tells.
+    #[tactic(auto, unfolding(crate::specs::Records::with_news))]
+    fn take_news(
+        &mut self,
+        transfers: &Transfers,
+        line: &[u8],
+        news: Option<News>,
+        capture: &mut Vec<u8>,
+    ) -> Result<(), AllocError>
+        ensures scribe { OnOk result (self.new ≡ (with_news transfers.now self.old line.now news).0) }
+        ensures packet { OnOk result (capture.new.items ≡ capture.old.items ++ (with_news transfers.now self.old line.now news).1) }
+    {
+        let Some(news) = news else {
             return Ok(());
         };
         self.note_step(news, line)?;
-        match self.desk.take(news)? {
-            Some(change) => self.record(transfers, change, capture),
+        let change = self.desk.take(news)?;
+        match change {
+            Some(change) => self.push_packet(transfers, &change, capture),
             None => Ok(()),
         }
     }
 
     /// Keeps the line of a step.
-    fn note_step(&mut self, news: News, line: &[u8]) -> Result<(), AllocError> {
-        if let News::Step(_) = news {
-            self.line.clear();
-            self.line.extend_from_slice(line)?;
+    #[tactic(auto, unfolding(crate::specs::Records::line_after))]
+    fn note_step(&mut self, news: News, line: &[u8]) -> Result<(), AllocError>
+        ensures { OnOk result (self.new ≡ record self.old { line = line_after self.old.line line.now news }) }
+    {
+        match news {
+            News::Step(_) => {
+                self.line.clear();
+                self.line.extend_from_slice(line)
+            }
+            News::Put { .. } | News::Moved { .. } | News::Posted { .. } | News::Passed { .. } => Ok(
+                (),
+            ),
         }
-        Ok(())
     }
 
     /// Keeps the bytes of `unit ADDRESS BYTES`.
-    fn note_unit(&mut self, line: &[u8]) -> Result<(), AllocError> {
-        let words = words(self.alloc, line)?;
-        if words.len() != 3 || words[0] != "unit".as_bytes() {
+    #[tactic(auto, unfolding(crate::specs::Records::unit_after))]
+    fn note_unit(&mut self, words: &[&[u8]]) -> Result<(), AllocError>
+        ensures { OnOk result (self.new ≡ record self.old { unit = unit_after self.old.unit (map (λ word. word.now) words.now) }) }
+    {
+        let Some(first) = words.get(0) else {
+            return Ok(());
+        };
+        if *first != "unit".as_bytes() {
             return Ok(());
         }
-        match hex::decode(self.alloc, words[2]) {
+        let Some(digits) = words.get(2) else {
+            return Ok(());
+        };
+        match hex::decode(self.alloc, *digits) {
             Ok(bytes) => {
                 self.unit = bytes;
                 Ok(())
@@ -75,87 +156,122 @@ impl Scribe {
         }
     }
 
-    /// Adds the record of a change.
-    fn record(
+    /// Adds the packet of a change.
+    #[tactic(auto, unfolding(crate::specs::Records::change_packet), using(std::proofs::lemmas::List::take_min))]
+    fn push_packet(
         &self,
         transfers: &Transfers,
-        change: Change,
+        change: &Change,
         capture: &mut Vec<u8>,
-    ) -> Result<(), AllocError> {
-        let comment = self.comment(&change)?;
-        let shown = &comment[..comment.len().min(MOST_COMMENT)];
-        let record = self.record_of(&change);
-        push_record(
-            self.alloc,
-            capture,
-            &record,
-            self.payload(transfers, &change),
-            shown,
-        )
-    }
-
-    /// The record of a change.
-    fn record_of(&self, change: &Change) -> Record {
-        let (event, td, length) = match *change {
-            Change::Submitted(td) => (Event::Submitted, td, td.length),
-            Change::Completed { td, residual, .. } => (Event::Completed, td, td.moved_of(residual)),
-            Change::Unlinked(td) => (Event::Unlinked, td, td.moved),
-        };
-        Record {
-            event,
-            transfer: Transfer::Bulk(td.pipe),
-            number: td.number,
-            length,
-            time: self.desk.step(),
-        }
-    }
-
-    /// The bytes that go with the record of a change.
-    fn payload<'a>(&'a self, transfers: &'a Transfers, change: &Change) -> &'a [u8]
-        ensures { length result.now ≤ MOST_DATA }
+    ) -> Result<(), AllocError>
+        ensures { OnOk result (capture.new.items ≡ capture.old.items ++ change_packet transfers.now self.now change.now) }
     {
-        match *change {
-            Change::Submitted(td) => match td.pipe {
-                Pipe::Command => at_most(&self.unit, td.length),
-                Pipe::DataOut => at_most(transfers.of(td.owner), td.length),
-                Pipe::Status | Pipe::DataIn => b"",
-            },
-            Change::Completed { td, residual, .. } => match td.pipe {
-                Pipe::Status => at_most(&self.unit, td.moved_of(residual)),
-                Pipe::DataIn => at_most(transfers.of(td.owner), td.moved_of(residual)),
-                Pipe::Command | Pipe::DataOut => b"",
-            },
-            Change::Unlinked(td) => match td.pipe {
-                Pipe::DataIn => at_most(transfers.of(td.owner), td.moved),
-                Pipe::Command | Pipe::Status | Pipe::DataOut => b"",
-            },
-        }
+        let comment = self.comment_of(change)?;
+        let shown = &comment[..MOST_COMMENT.min(comment.len())];
+        let urb = record_of(self.desk.step(), change);
+        let payload = payload_of(&self.unit, transfers.of(td_in(change).owner), change);
+        push_record(self.alloc, capture, &urb, payload, shown)
     }
 
     /// The comment of a change: the step's line, the TD, whose it is, and how it ended.
-    fn comment(&self, change: &Change) -> Result<Vec<u8>, AllocError> {
+    #[tactic(auto, unfolding(crate::specs::Records::comment_of))]
+    fn comment_of(&self, change: &Change) -> Result<Vec<u8>, AllocError>
+        ensures { IfOk result (λ text. text.items ≡ comment_of self.now.line change.now) }
+    {
         let mut text = Vec::new(self.alloc);
         text.extend_from_slice(&self.line)?;
-        match *change {
-            Change::Submitted(td) => push_td(self.alloc, &mut text, &td)?,
-            Change::Completed { td, residual, code } => {
-                push_td(self.alloc, &mut text, &td)?;
-                let end = format!(in self.alloc; " | event code {code} residual {residual}")?;
-                text.extend_from_slice(end.as_bytes())?;
-            }
-            Change::Unlinked(td) => {
-                push_td(self.alloc, &mut text, &td)?;
-                let moved = td.moved;
-                let end = format!(in self.alloc; " | TD retired after {moved} bytes")?;
-                text.extend_from_slice(end.as_bytes())?;
-            }
-        }
+        push_td(self.alloc, &mut text, &td_in(change))?;
+        push_end(self.alloc, &mut text, change)?;
         Ok(text)
     }
 }
 
+/// The TD of a change.
+fn td_in(change: &Change) -> Td
+    ensures { result ≡ td_in change.now }
+{
+    match *change {
+        Change::Submitted(td) => td,
+        Change::Completed { td, .. } => td,
+        Change::Unlinked(td) => td,
+    }
+}
+
+/// The record of a change in a step.
+#[tactic(auto, unfolding(crate::specs::Records::record_of))]
+fn record_of(step: u64, change: &Change) -> Record
+    ensures { result ≡ record_of step change.now }
+{
+    let (event, td, length) = match *change {
+        Change::Submitted(td) => (Event::Submitted, td, td.length),
+        Change::Completed { td, residual, .. } => (Event::Completed, td, td.moved_of(residual)),
+        Change::Unlinked(td) => (Event::Unlinked, td, td.moved),
+    };
+    Record {
+        event,
+        transfer: Transfer::Bulk(td.pipe),
+        number: td.number,
+        length,
+        time: step,
+    }
+}
+
+/// The bytes that go with the record of a change: of the unit that was written last, or of those that its command moves.
+#[tactic(auto, unfolding(crate::specs::Records::payload_of))]
+fn payload_of<'a>(unit: &'a [u8], bytes: &'a [u8], change: &Change) -> &'a [u8]
+    ensures value { result.now ≡ payload_of unit.entry.now bytes.entry.now change.now }
+    ensures few { length result.now ≤ MOST_DATA }
+{
+    match *change {
+        Change::Submitted(td) => bytes_out(td.pipe, td.length, unit, bytes),
+        Change::Completed { td, residual, .. } => {
+            bytes_in(td.pipe, td.moved_of(residual), unit, bytes)
+        }
+        Change::Unlinked(td) => bytes_in(td.pipe, td.moved, b"", bytes),
+    }
+}
+
+/// The bytes that go with a submission.
+#[tactic(auto, unfolding(crate::specs::Records::bytes_out))]
+fn bytes_out<'a>(pipe: Pipe, count: u32, unit: &'a [u8], bytes: &'a [u8]) -> &'a [u8]
+    ensures value { result.now ≡ bytes_out pipe count unit.entry.now bytes.entry.now }
+    ensures few { length result.now ≤ MOST_DATA }
+{
+    match pipe {
+        Pipe::Command => at_most(count, unit),
+        Pipe::DataOut => at_most(count, bytes),
+        Pipe::Status | Pipe::DataIn => b"",
+    }
+}
+
+/// The bytes that go with an end.
+#[tactic(auto, unfolding(crate::specs::Records::bytes_in))]
+fn bytes_in<'a>(pipe: Pipe, count: u32, unit: &'a [u8], bytes: &'a [u8]) -> &'a [u8]
+    ensures value { result.now ≡ bytes_in pipe count unit.entry.now bytes.entry.now }
+    ensures few { length result.now ≤ MOST_DATA }
+{
+    match pipe {
+        Pipe::Status => at_most(count, unit),
+        Pipe::DataIn => at_most(count, bytes),
+        Pipe::Command | Pipe::DataOut => b"",
+    }
+}
+
+/// The first bytes, so many at most.
+#[tactic(auto, unfolding(crate::specs::Records::at_most), using(std::proofs::lemmas::List::take_min))]
+fn at_most(count: u32, bytes: &[u8]) -> &[u8]
+    ensures value { result.now ≡ at_most count bytes.entry.now }
+    ensures few { length result.now ≤ MOST_DATA }
+{
+    let most = (count as usize).min(MOST_DATA);
+    &bytes[..most.min(bytes.len())]
+}
+
 /// Adds a TD's stream, its address, and whose it is.
-fn push_td(alloc: Global, text: &mut Vec<u8>, td: &Td) -> Result<(), AllocError> {
+#[tactic(auto, unfolding(crate::specs::Records::td_words))]
+fn push_td(alloc: Global, text: &mut Vec<u8>, td: &Td) -> Result<(), AllocError>
+    ensures { OnOk result (text.new.items ≡ text.old.items ++ td_words td.now) }
+{
     let stream = td.stream;
     let first = hex::encode(alloc, td.first.to_be_bytes())?;
     let client = td.owner.client;
@@ -166,9 +282,50 @@ fn push_td(alloc: Global, text: &mut Vec<u8>, td: &Td) -> Result<(), AllocError>
     text.extend_from_slice(words.as_bytes())
 }
 
-/// The first bytes, so many at most.
-fn at_most(bytes: &[u8], count: u32) -> &[u8]
-    ensures { length result.now ≤ MOST_DATA }
+/// Adds how a TD ended.
+#[tactic(auto, unfolding(crate::specs::Records::end_words))]
+fn push_end(alloc: Global, text: &mut Vec<u8>, change: &Change) -> Result<(), AllocError>
+    ensures { OnOk result (text.new.items ≡ text.old.items ++ end_words change.now) }
 {
-    &bytes[..bytes.len().min(count as usize).min(MOST_DATA)]
+    match *change {
+        Change::Submitted(_) => Ok(()),
+        Change::Completed { residual, code, .. } => push_event(alloc, text, residual, code),
+        Change::Unlinked(td) => push_retired(alloc, text, td.moved),
+    }
+}
+
+/// Adds what an event told.
+#[tactic(auto, unfolding(crate::specs::Records::event_words))]
+fn push_event(alloc: Global, text: &mut Vec<u8>, residual: u32, code: u8) -> Result<(), AllocError>
+    ensures { OnOk result (text.new.items ≡ text.old.items ++ event_words residual code) }
+{
+    push_code(alloc, text, code)?;
+    push_residual(alloc, text, residual)
+}
+
+/// Adds the code of an event.
+#[tactic(auto, unfolding(crate::specs::Records::code_words))]
+fn push_code(alloc: Global, text: &mut Vec<u8>, code: u8) -> Result<(), AllocError>
+    ensures { OnOk result (text.new.items ≡ text.old.items ++ code_words code) }
+{
+    let words = format!(in alloc; " | event code {code}")?;
+    text.extend_from_slice(words.as_bytes())
+}
+
+/// Adds how many bytes an event tells to be left.
+#[tactic(auto, unfolding(crate::specs::Records::residual_words))]
+fn push_residual(alloc: Global, text: &mut Vec<u8>, residual: u32) -> Result<(), AllocError>
+    ensures { OnOk result (text.new.items ≡ text.old.items ++ residual_words residual) }
+{
+    let words = format!(in alloc; " residual {residual}")?;
+    text.extend_from_slice(words.as_bytes())
+}
+
+/// Adds that a TD was taken off after so many bytes.
+#[tactic(auto, unfolding(crate::specs::Records::retired_words))]
+fn push_retired(alloc: Global, text: &mut Vec<u8>, moved: u32) -> Result<(), AllocError>
+    ensures { OnOk result (text.new.items ≡ text.old.items ++ retired_words moved) }
+{
+    let end = format!(in alloc; " | TD retired after {moved} bytes")?;
+    text.extend_from_slice(end.as_bytes())
 }

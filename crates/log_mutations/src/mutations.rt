@@ -30,6 +30,18 @@ impl Mutations {
         state
     }
 
+    /// Changes the byte at a place: what it was.
+    fn exchange(&mut self, place: usize, how: u64) -> u8 {
+        match self.text.as_mut_slice().get_mut(place) {
+            Some(byte) => {
+                let before = *byte;
+                *byte = changed(before, how);
+                before
+            }
+            None => 0,
+        }
+    }
+
     /// Changes one byte, or cuts the text off at a place, loads it, and puts it back.
     pub fn try_one(&mut self, alloc: Global) -> Result<Outcome, AllocError> {
         let len = self.text.len();
@@ -44,10 +56,11 @@ impl Mutations {
                 None => loaded(alloc, self.text.as_slice()),
             };
         }
-        let before = self.text[place];
-        self.text[place] = changed(before, how);
+        let before = self.exchange(place, how);
         let outcome = loaded(alloc, self.text.as_slice());
-        self.text[place] = before;
+        if let Some(byte) = self.text.as_mut_slice().get_mut(place) {
+            *byte = before;
+        }
         outcome
     }
 }

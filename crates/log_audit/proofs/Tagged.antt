@@ -8,7 +8,8 @@ use Rattle.scsi_cmd.specs.declared.Request.{Request}
 use Rattle.scsi_cmd.specs.declared.Request.TheVariants.{Execute, Manage}
 use Rattle.scsi_cmd.specs.Held.{held_at}
 use Rattle.scsi_cmd.specs.Replies.{reply_tag}
-use Rattle.device_server.specs.declared.Answer.{Answer}
+use Rattle.solo_model.specs.declared.TaskAnswer.{TaskAnswer}
+use Rattle.solo_model.specs.declared.TaskAnswer.TheVariants.{WithStatus, WithResponse}
 use Rattle.solo_model.specs.declared.Phase.{Phase}
 use Rattle.solo_model.specs.declared.Phase.TheVariants.{Queued, Begun, Sent, Gone}
 use Rattle.solo_model.specs.TaggedTask.{TaggedTask, aborted_by, answered_by, reply_from}
@@ -37,10 +38,6 @@ IsTagged (Some owner) (Some reply) = IsOf owner reply
 
 -- ONE REPLY
 
-answered-tag : (tag ticket : ℕ) (buffer : List ℕ) (answer : Answer) (request : Request) → reply_tag (answered_by tag ticket buffer answer request) ≡ tag
-answered-tag tag ticket buffer answer (Execute op) = refl
-answered-tag tag ticket buffer answer (Manage what noted) = refl
-
 -- a reply under a slot's tag
 under-slot : (client slot : ℕ) (reply : Reply) → slot < TAGS → reply_tag reply ≡ slot_tag client slot → IsOf client reply
 under-slot client slot reply within is = record { above = omega arith; within = omega arith }
@@ -50,11 +47,18 @@ aborted-tagged : (client slot ticket : ℕ) (buffer : List ℕ) (request : Reque
 aborted-tagged client slot ticket buffer (Execute op) within = under-slot client slot _ within refl
 aborted-tagged client slot ticket buffer (Manage what noted) within = tt
 
+answered-tagged : (client slot ticket : ℕ) (buffer : List ℕ) (answer : TaskAnswer) (request : Request) → slot < TAGS
+    → IsTagged (Some client) (answered_by (slot_tag client slot) ticket buffer answer request)
+answered-tagged client slot ticket buffer (WithStatus answer) (Execute op) within = under-slot client slot _ within refl
+answered-tagged client slot ticket buffer (WithStatus answer) (Manage what noted) within = tt
+answered-tagged client slot ticket buffer (WithResponse code) (Execute op) within = tt
+answered-tagged client slot ticket buffer (WithResponse code) (Manage what noted) within = under-slot client slot _ within refl
+
 phase-tagged : (client slot : ℕ) (task : TaggedTask) (phase : Phase) → slot < TAGS → IsTagged (Some client) (reply_from (slot_tag client slot) task phase)
 phase-tagged client slot task Queued within = tt
 phase-tagged client slot task (Begun progress) within = tt
 phase-tagged client slot task (Sent answer) within =
-    under-slot client slot _ within (answered-tag (slot_tag client slot) task.ticket task.buffer answer task.request)
+    answered-tagged client slot task.ticket task.buffer answer task.request within
 phase-tagged client slot task Gone within = aborted-tagged client slot task.ticket task.buffer task.request within
 
 -- TAKE

@@ -1,5 +1,5 @@
 -- How the run `work` ends: what is printed, and the exit status.
-use Rattle.std.specs.Prelude.{◌≡◌, ℕ, ◌*◌, ◌≤◌, ◌⊎◌, Bool, IsTrue, if◌then◌else◌, List, [], length, replicate, Option}
+use Rattle.std.specs.Prelude.{◌≡◌, ℕ, ◌≤◌, ◌⊎◌, Bool, IsTrue, if◌then◌else◌, List, [], length, replicate, Option}
 use Rattle.std.specs.Io.KnownBytes.{Appends, Keeps}
 use Rattle.block_unit.specs.BlockMaps.{BlockMaps, fresh}
 use Rattle.scsi_cmd.specs.declared.Reply.{Reply}

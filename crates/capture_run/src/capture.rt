@@ -9,7 +9,7 @@ ghost use Rattle.uas_replay.specs.Runs.{ScriptGivesUp, StopsBy, Tells};
 ghost use Rattle.capture_run.specs.Ends.{AppendsCapture, CaptureGivesUp, FileGivesUp, IsCapture};
 
 use crate::fault::{CaptureFault, capture_fault};
-use crate::kept::{Kept, kept};
+use crate::kept::{Kept, run_kept};
 use byte_io::{BytesLeft, BytesTaken, Disks, Files, Sink, Source, read_at_most};
 use std::alloc::Global;
 use std::io::Write;
@@ -138,7 +138,7 @@ fn write_capture<O: Sink>(
     ensures of { O.is_of file.new ≡ O.is_of file.old }
     ensures fault { IfErr result (FileGivesUp (O.can_fail file.old)) }
 {
-    let kept = kept(alloc, disks, lines).map_err(|_| CaptureFault::Run(RunFault::NoMemory))?;
+    let kept = run_kept(alloc, disks, lines).map_err(|_| CaptureFault::Run(RunFault::NoMemory))?;
     let trace = trace_text(alloc, disks, script).map_err(|_| CaptureFault::Run(
         RunFault::NoMemory,
     ))?;

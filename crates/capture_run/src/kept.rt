@@ -101,7 +101,7 @@ impl Keeper {
 
 /// Runs lines on zeroed units, and keeps what they told and moved.
 #[tactic(auto, unfolding(uas_replay::specs::Told::told))]
-pub(crate) fn kept(alloc: Global, disks: Disks, lines: &[Line]) -> Result<Kept, RunFault>
+pub(crate) fn run_kept(alloc: Global, disks: Disks, lines: &[Line]) -> Result<Kept, RunFault>
     requires { AreDisks disks }
     ensures text { IfOk result (λ kept. kept.text.items ≡ (told (zeroed_units disks.clients disks.blocks disks.bad) lines.now).0) }
     ensures status { IfOk result (λ kept. kept.status ≡ (told (zeroed_units disks.clients disks.blocks disks.bad) lines.now).1) }

@@ -1,6 +1,6 @@
 //! The words of the command line.
 
-ghost use Rattle.std.specs.Prelude.{◌≡◌, ◌≤◌, IfSome};
+ghost use Rattle.std.specs.Prelude.{◌≤◌, IfOk, IfSome};
 ghost use Rattle.byte_io.specs.Disks.{AreDisks};
 
 use byte_io::{Disks, Sink};
@@ -27,7 +27,9 @@ pub struct Asked<'a> {
 }
 
 /// Reads the words, the program's own name first. An error has the text to print, help among them.
-pub fn asked_of<'a>(alloc: Global, words: &'a [String]) -> Result<Asked<'a>, Error> {
+pub fn asked_of<'a>(alloc: Global, words: &'a [String]) -> Result<Asked<'a>, Error>
+    ensures { IfOk result (λ asked. AreDisks asked.disks) }
+{
     let mut command = command(alloc)?;
     let matches = command.try_get_matches_from_mut(words)?;
     match asked(&matches) {
@@ -47,9 +49,7 @@ fn command<'a>(alloc: Global) -> Result<Command<'a>, AllocError> {
 fn capture_command<'a>(alloc: Global) -> Result<Command<'a>, AllocError> {
     Command::new(alloc, "capture")
         .about("Runs a script as replay does, and writes the run to a file that Wireshark reads")
-        .after_help(
-            "Example:\n  uasdisk capture 2 100 run.pcapng < examples/two-clients.script",
-        )
+        .after_help("Example:\n  uasdisk capture 2 100 run.pcapng < examples/two-clients.script")
         .arg(number(alloc, "CLIENTS", 1, MOST_CLIENTS, CLIENTS_HELP))?
         .arg(number(
             alloc,
@@ -83,7 +83,9 @@ fn number<'a>(alloc: Global, name: &'a str, least: u32, most: u32, help: &'a str
 }
 
 /// What was found for the subcommand; the parsers have refused every other word before.
-fn asked<'a>(matches: &ArgMatches<'a>) -> Option<Asked<'a>> {
+fn asked<'a>(matches: &ArgMatches<'a>) -> Option<Asked<'a>>
+    ensures { IfSome result (λ asked. AreDisks asked.disks) }
+{
     let (_, words) = matches.subcommand()?;
     let file = words.get_str("FILE")?;
     let disks = Disks {

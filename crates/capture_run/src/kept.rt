@@ -1,6 +1,9 @@
 //! A script's run as `replay` makes it, with the bytes that its commands moved.
 
-ghost use Rattle.std.specs.Prelude.{◌≡◌, false};
+ghost use Rattle.std.specs.Prelude.{◌≡◌, false, IfOk, IfErr};
+ghost use Rattle.byte_io.specs.Disks.{AreDisks};
+ghost use Rattle.uas_replay.specs.Told.{told, zeroed_units};
+ghost use Rattle.uas_replay.specs.Runs.{StopsBy};
 
 use bus_core::{Outcome, Step};
 use byte_io::Disks;
@@ -69,7 +72,11 @@ impl Keeper {
     /// Keeps the bytes that a command is handed in with.
     fn keep_handed(&mut self, step: &Step) -> Result<(), AllocError> {
         match step {
-            Step::Submit { client, command, .. } => {
+            Step::Submit {
+                client,
+                command,
+                ..
+            } => {
                 let bytes = command.buffer.try_clone(self.alloc)?;
                 self.transfers.push(*client, bytes)
             }
@@ -81,7 +88,8 @@ impl Keeper {
     /// Keeps the bytes that come back with a reply.
     fn keep_reply(&mut self, client: usize, reply: &Option<Reply>) -> Result<(), AllocError> {
         match reply {
-            Some(Reply::Status { ticket, buffer, .. }) | Some(Reply::Aborted { ticket, buffer, .. }) => {
+            Some(Reply::Status { ticket, buffer, .. })
+            | Some(Reply::Aborted { ticket, buffer, .. }) => {
                 let bytes = buffer.try_clone(self.alloc)?;
                 self.transfers.set(client, *ticket, bytes);
                 Ok(())
@@ -92,7 +100,13 @@ impl Keeper {
 }
 
 /// Runs lines on zeroed units, and keeps what they told and moved.
-pub(crate) fn kept(alloc: Global, disks: Disks, lines: &[Line]) -> Result<Kept, RunFault> {
+#[tactic(auto, unfolding(uas_replay::specs::Told::told))]
+pub(crate) fn run_kept(alloc: Global, disks: Disks, lines: &[Line]) -> Result<Kept, RunFault>
+    requires { AreDisks disks }
+    ensures text { IfOk result (λ kept. kept.text.items ≡ (told (zeroed_units disks.clients disks.blocks disks.bad) lines.now).0) }
+    ensures status { IfOk result (λ kept. kept.status ≡ (told (zeroed_units disks.clients disks.blocks disks.bad) lines.now).1) }
+    ensures fault { IfErr result (StopsBy false) }
+{
     let Ok(mut run) = ScriptRun::new(alloc, disks.clients, disks.blocks, disks.bad) else {
         return Err(RunFault::NoMemory);
     };

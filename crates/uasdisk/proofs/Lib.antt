@@ -1,1 +1,2 @@
 mod RefusedEnds
+mod MemoryEnds

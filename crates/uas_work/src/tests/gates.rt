@@ -25,7 +25,16 @@ struct Turns([AtomicU64; 8]);
 
 impl Turns {
     fn new() -> Turns {
-        Turns([const { AtomicU64::new(0) }; 8])
+        Turns([
+            AtomicU64::new(0),
+            AtomicU64::new(0),
+            AtomicU64::new(0),
+            AtomicU64::new(0),
+            AtomicU64::new(0),
+            AtomicU64::new(0),
+            AtomicU64::new(0),
+            AtomicU64::new(0),
+        ])
     }
 
     /// Counts a turn of a worker: how many it had before.

@@ -128,13 +128,14 @@ enum {
 };
 
 /* Task management functions. */
-enum { UAS_ABORT_TASK = 1, UAS_LOGICAL_UNIT_RESET = 8 };
+enum { UAS_ABORT_TASK = 1, UAS_LOGICAL_UNIT_RESET = 8, UAS_QUERY_TASK = 0x80 };
 
 /* Response codes. */
 enum {
     UAS_RESPONSE_COMPLETE = 0,
     UAS_RESPONSE_INVALID_UNIT = 2, /* what came was no information unit */
     UAS_RESPONSE_NOT_SUPPORTED = 4,
+    UAS_RESPONSE_SUCCEEDED = 8, /* QUERY TASK: the command is there */
     UAS_RESPONSE_INCORRECT_LUN = 9
 };
 
@@ -508,14 +509,14 @@ enum {
     UAS_BUS_BAD_LENGTH = 3,   /* the data isn't as long as what the command moves */
     UAS_BUS_TOO_LONG = 4,     /* a READ or WRITE of more than 128 blocks */
     UAS_BUS_OUT_OF_TURN = 5,  /* the ticket isn't above the client's last accepted one */
-    UAS_BUS_NO_SUCH_TASK = 6, /* no command of the client is under the tag to abort */
+    UAS_BUS_NO_SUCH_TASK = 6, /* no command of the client is under the tag to abort or to query */
     UAS_BUS_NO_MEMORY = 16,
     UAS_BUS_CALL = 17,      /* there is no such call */
     UAS_BUS_STEP = 18,      /* there is no such step, or no such pipe */
     UAS_BUS_OPERATION = 19, /* an unknown operation code, or what UAS_CDB_UNFIT is for */
     UAS_BUS_TICKET = 20,    /* 2^60 or more */
     UAS_BUS_LENGTH = 21,    /* less than 65,536 bytes for a reply's data, or no multiple of 512 */
-    UAS_BUS_FUNCTION = 22,  /* neither UAS_ABORT_TASK nor UAS_LOGICAL_UNIT_RESET */
+    UAS_BUS_FUNCTION = 22,  /* none of UAS_ABORT_TASK, UAS_LOGICAL_UNIT_RESET, UAS_QUERY_TASK */
     UAS_BUS_CLIENT = 23,    /* there is no such client */
     UAS_BUS_RANGE = 24      /* blocks beyond the unit's last */
 };
@@ -531,7 +532,7 @@ struct uas_bus_door {
     uint8_t call;                   /* in: UAS_BUS_CALL_... */
     uint8_t step;                   /* in of STEP, DUE */
     uint8_t pipe;                   /* in of STEP, DUE with UAS_STEP_RETIRE */
-    uint8_t function;               /* in of TASK: UAS_ABORT_TASK of `tag`, UAS_LOGICAL_UNIT_RESET */
+    uint8_t function;               /* in of TASK: UAS_ABORT_TASK or UAS_QUERY_TASK of `tag`, UAS_LOGICAL_UNIT_RESET */
     uint8_t acted;                  /* out of STEP, DUE: 0 or 1; of DRAIN: 1 where nothing is due; of REPLY: 1 where one was ready */
     uint8_t has_owner;              /* out of STEP: 1 where `client` tells whose step it was */
     uint8_t reply;                  /* out of REPLY: UAS_REPLY_... */
@@ -564,7 +565,9 @@ static inline uint8_t uas_bus_submit(uas_bus *bus, uint32_t client, uint16_t tag
 }
 
 /* A client submits a task management: UAS_ABORT_TASK of its command under `tag`, or UAS_LOGICAL_UNIT_RESET of its unit. It ends
- * the commands that it names and that were submitted before it; each is then replied to as aborted.
+ * the commands that it names and that were submitted before it; each is then replied to as aborted. UAS_QUERY_TASK of its command
+ * under `tag` ends none: the reply's status is UAS_RESPONSE_SUCCEEDED where the disk has the command as it receives the query, and
+ * UAS_RESPONSE_COMPLETE where its status was sent.
  * Faults: UAS_BUS_TICKET, UAS_BUS_FUNCTION, UAS_BUS_NOT_YOURS, UAS_BUS_IN_USE, UAS_BUS_OUT_OF_TURN, UAS_BUS_NO_SUCH_TASK. */
 static inline uint8_t uas_bus_task(uas_bus *bus, uint32_t client, uint64_t ticket, uint8_t function, uint16_t tag)
 {

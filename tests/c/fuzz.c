@@ -640,12 +640,12 @@ static void bus_task(void)
 {
     uint32_t client = one_in(32) ? CLIENTS + below(3) : below(CLIENTS);
     uint64_t ticket = draw_ticket(client);
-    uint8_t function = one_in(32) ? (uint8_t)drawn() : one_in(3) ? UAS_LOGICAL_UNIT_RESET : UAS_ABORT_TASK;
+    uint8_t function = one_in(32) ? (uint8_t)drawn() : one_in(3) ? UAS_LOGICAL_UNIT_RESET : one_in(3) ? UAS_QUERY_TASK : UAS_ABORT_TASK;
     uint16_t tag = one_in(16) ? draw_tag() : (uint16_t)(UAS_CLIENT_TAGS * client + 1 + below(UAS_CLIENT_TAGS - 1));
     uint8_t wanted = 0;
     if (ticket >> 60 != 0)
         wanted = UAS_BUS_TICKET;
-    else if (function != UAS_ABORT_TASK && function != UAS_LOGICAL_UNIT_RESET)
+    else if (function != UAS_ABORT_TASK && function != UAS_LOGICAL_UNIT_RESET && function != UAS_QUERY_TASK)
         wanted = UAS_BUS_FUNCTION;
     else if (client >= CLIENTS)
         wanted = UAS_BUS_NOT_YOURS;
@@ -653,7 +653,7 @@ static void bus_task(void)
         wanted = UAS_BUS_IN_USE;
     else if (ticket < model_bus.least[client])
         wanted = UAS_BUS_OUT_OF_TURN;
-    else if (function == UAS_ABORT_TASK && (tag <= UAS_CLIENT_TAGS * client || tag >= UAS_CLIENT_TAGS * (client + 1) || !in_use(client, tag - UAS_CLIENT_TAGS * client)))
+    else if (function != UAS_LOGICAL_UNIT_RESET && (tag <= UAS_CLIENT_TAGS * client || tag >= UAS_CLIENT_TAGS * (client + 1) || !in_use(client, tag - UAS_CLIENT_TAGS * client)))
         wanted = UAS_BUS_NO_SUCH_TASK;
     AGREE(saw(uas_bus_task(stepped, client, ticket, function, tag)) == wanted);
     AGREE(uas_bus_task(drained, client, ticket, function, tag) == wanted);

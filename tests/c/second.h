@@ -452,15 +452,20 @@ static inline void second_manage(struct second_device *device, const struct uas_
 {
     int number = second_lun(device, unit);
     bool abort = unit->function == UAS_ABORT_TASK, reset = unit->function == UAS_LOGICAL_UNIT_RESET;
+    bool query = unit->function == UAS_QUERY_TASK;
     uint8_t code = UAS_RESPONSE_COMPLETE;
-    if (!abort && !reset)
+    if (!abort && !reset && !query)
         code = UAS_RESPONSE_NOT_SUPPORTED;
     else if (number < 0)
         code = UAS_RESPONSE_INCORRECT_LUN;
     else
         for (uint16_t tag = 1; tag <= UAS_GREATEST_TAG; tag++) {
             struct second_task *task = &device->tasks[tag];
-            if (task->phase != UAS_ABSENT && task->unit == number && (reset || tag == unit->task_tag))
+            if (task->phase == UAS_ABSENT || task->unit != number || (!reset && tag != unit->task_tag))
+                continue;
+            if (query)
+                code = UAS_RESPONSE_SUCCEEDED;
+            else
                 task->phase = UAS_ABSENT;
         }
     if (code == UAS_RESPONSE_COMPLETE && reset)

@@ -145,7 +145,7 @@ static inline void second_task(struct second_bus *bus, int client, uint64_t tick
     entry->is_task = true;
     entry->unit.id = UAS_UNIT_TASK;
     entry->unit.function = function;
-    entry->unit.task_tag = function == UAS_ABORT_TASK ? named : 0;
+    entry->unit.task_tag = function == UAS_LOGICAL_UNIT_RESET ? 0 : named;
     for (uint16_t tag = (uint16_t)(SECOND_PER * client + 1); tag < SECOND_PER * (client + 1); tag++)
         if (bus->entries[tag].used && (function == UAS_LOGICAL_UNIT_RESET || tag == named))
             entry->noted[entry->count_noted++] = bus->entries[tag].ticket;
@@ -163,7 +163,7 @@ static inline void second_when_ready(struct second_bus *bus, uint16_t tag)
     }
 }
 
-/* A response COMPLETE leaves over what it ended. */
+/* A response COMPLETE leaves over what it ended; a query ends nothing. */
 static inline void second_doom(struct second_bus *bus, const struct second_entry *task, int client)
 {
     for (uint16_t tag = (uint16_t)(SECOND_PER * client + 1); tag < SECOND_PER * (client + 1); tag++)
@@ -182,7 +182,7 @@ static inline void second_see_status(struct second_bus *bus, uint16_t tag)
 {
     struct second_entry *entry = &bus->entries[tag];
     entry->status = SEEN;
-    if (entry->is_task && entry->answer.code == UAS_RESPONSE_COMPLETE)
+    if (entry->is_task && entry->unit.function != UAS_QUERY_TASK && entry->answer.code == UAS_RESPONSE_COMPLETE)
         second_doom(bus, entry, second_owner(tag));
     if (!entry->is_task && entry->answer.status != UAS_GOOD && (entry->data == WAITS || entry->data == CONSUMED))
         entry->data = LEFT_OVER;

@@ -139,6 +139,10 @@ static void unit_texts(void)
     unit_is((struct uas_unit){ .id = UAS_UNIT_TASK, .tag = 24, .function = UAS_ABORT_TASK, .task_tag = 18, .lun = { 0, 2 } },
             "05 00 00 18 01 00 00 12 00 02 00 x6");
     unit_is((struct uas_unit){ .id = UAS_UNIT_RESPONSE, .tag = 24 }, "04 00 00 18 00 00 00 00");
+    /* QUERY TASK of tag 34 by tag 48, and its answer while the command is there. */
+    unit_is((struct uas_unit){ .id = UAS_UNIT_TASK, .tag = 48, .function = UAS_QUERY_TASK, .task_tag = 34, .lun = { 0, 2 } },
+            "05 00 00 30 80 00 00 22 00 02 00 x6");
+    unit_is((struct uas_unit){ .id = UAS_UNIT_RESPONSE, .tag = 48, .code = UAS_RESPONSE_SUCCEEDED }, "04 00 00 30 00 00 00 08");
     unit_is((struct uas_unit){ .id = UAS_UNIT_RESPONSE, .tag = 0x1234, .code = UAS_RESPONSE_INVALID_UNIT }, "04 00 12 34 00 00 00 02");
     /* All the sense that there is room for. */
     struct uas_unit most = { .id = UAS_UNIT_SENSE, .tag = 0xffff, .status = 0x28, .sense_length = 96 };
@@ -543,6 +547,17 @@ static void device_manages(void)
     is_at(device, 17, UAS_GIVES, 4096);
     ends(device, 24, "04 00 00 18 00 00 00 00");
 
+    /* QUERY TASK of tag 17 by tag 24: it is there, and stays; tag 18 isn't, nor is it of unit 1; unit 3 isn't. */
+    CHECK(received(device, "05 00 00 18 80 00 00 11 00 02 00 x6", &tag) == 0 && tag == 24);
+    ends(device, 24, "04 00 00 18 00 00 00 08");
+    is_at(device, 17, UAS_GIVES, 4096);
+    CHECK(received(device, "05 00 00 18 80 00 00 12 00 02 00 x6", &tag) == 0);
+    ends(device, 24, "04 00 00 18 00 00 00 00");
+    CHECK(received(device, "05 00 00 18 80 00 00 11 00 01 00 x6", &tag) == 0);
+    ends(device, 24, "04 00 00 18 00 00 00 00");
+    CHECK(received(device, "05 00 00 18 80 00 00 11 00 03 00 x6", &tag) == 0);
+    ends(device, 24, "04 00 00 18 00 00 00 09");
+
     /* LOGICAL UNIT RESET of unit 2: its tasks go, INQUIRY is answered, the next command is told, the one after it is good. */
     CHECK(received(device, "05 00 00 18 08 00 00 00 00 02 00 x6", &tag) == 0 && tag == 24);
     ends(device, 24, "04 00 00 18 00 00 00 00");
@@ -878,6 +893,35 @@ static void bus_reused_tag(void)
     uas_bus_free(bus);
 }
 
+/* A query is answered by what the device has as it receives it: the command, then nothing once its status was sent, and nothing where its
+ * tag holds a later command. It ends none of them. */
+static void bus_query(void)
+{
+    uas_bus *bus = new_bus(3, 100);
+    CHECK(submitted(bus, 2, 34, 0, ready, 0, 0) == 0);
+    CHECK(uas_bus_task(bus, 2, 1, UAS_QUERY_TASK, 33) == UAS_BUS_NO_SUCH_TASK);
+    CHECK(uas_bus_task(bus, 2, 1, UAS_QUERY_TASK, 34) == 0);
+    acts(bus, "c c s48 e e e");
+    replies(bus, 2, 1, 48, UAS_REPLY_TASK, UAS_RESPONSE_SUCCEEDED, 0);
+    no_reply(bus, 2);
+    acts(bus, "s34");
+    CHECK(uas_bus_task(bus, 2, 2, UAS_QUERY_TASK, 34) == 0);
+    acts(bus, "c s48 e e e");
+    replies(bus, 2, 0, 34, UAS_REPLY_STATUS, UAS_GOOD, 0);
+    replies(bus, 2, 2, 48, UAS_REPLY_TASK, UAS_RESPONSE_COMPLETE, 0);
+    CHECK(submitted(bus, 2, 34, 3, ready, 0, 0) == 0);
+    acts(bus, "c s34");
+    CHECK(uas_bus_task(bus, 2, 4, UAS_QUERY_TASK, 34) == 0);
+    acts(bus, "e e");
+    replies(bus, 2, 3, 34, UAS_REPLY_STATUS, UAS_GOOD, 0);
+    CHECK(submitted(bus, 2, 34, 5, ready, 0, 0) == 0);
+    acts(bus, "c c s48 e e e");
+    replies(bus, 2, 4, 48, UAS_REPLY_TASK, UAS_RESPONSE_COMPLETE, 0);
+    acts(bus, "s34 e");
+    replies(bus, 2, 5, 34, UAS_REPLY_STATUS, UAS_GOOD, 0);
+    uas_bus_free(bus);
+}
+
 /* A TD of client 2 is retired beside a READ of client 3 on the same pipe: while the pipe is held nothing moves on it, and then the READ
  * goes on with its tenth TRB. */
 static void bus_retirement_beside_read(void)
@@ -1021,6 +1065,7 @@ int main(void)
     bus_abort();
     bus_reset();
     bus_reused_tag();
+    bus_query();
     bus_retirement_beside_read();
     bus_refuses();
     return tell("worked");

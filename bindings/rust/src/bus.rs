@@ -50,7 +50,7 @@ pub enum BusFault {
     TooLong,
     /// The ticket isn't above the client's last accepted one.
     OutOfTurn,
-    /// No command of the client is under the tag to abort.
+    /// No command of the client is under the tag to abort or to query.
     NoSuchTask,
     NoMemory,
     /// The ticket is 2^60 or more.
@@ -90,6 +90,8 @@ pub enum Task {
     Abort { tag: u16 },
     /// LOGICAL UNIT RESET of the client's unit.
     Reset,
+    /// QUERY TASK of the client's command under this tag: the reply's code tells whether the disk has it.
+    Query { tag: u16 },
 }
 
 /// A pipe whose TDs can be left over.
@@ -189,6 +191,7 @@ impl Bus {
         let (function, tag) = match task {
             Task::Abort { tag } => (Function::AbortTask, tag),
             Task::Reset => (Function::LogicalUnitReset, 0),
+            Task::Query { tag } => (Function::QueryTask, tag),
         };
         let mut door = raw::BusDoor { call: TASK, client, ticket, function: function.into(), tag, ..raw::BusDoor::default() };
         done(self.call(&mut door, &mut []))

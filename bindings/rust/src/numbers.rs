@@ -45,6 +45,7 @@ named! {
         Complete = 0x00,
         InvalidInformationUnit = 0x02,
         NotSupported = 0x04,
+        Succeeded = 0x08,
         IncorrectLun = 0x09,
     }
 }
@@ -54,6 +55,7 @@ named! {
     Function {
         AbortTask = 0x01,
         LogicalUnitReset = 0x08,
+        QueryTask = 0x80,
     }
 }
 

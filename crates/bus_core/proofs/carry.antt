@@ -2,5 +2,6 @@
 pub mod DeviceSteps
 pub mod CommandFront
 pub mod Aborted
+pub mod Queried
 pub mod ManagedFits
 pub mod CommandFits

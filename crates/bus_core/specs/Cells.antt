@@ -18,7 +18,7 @@ use Rattle.uas_host.specs.declared.HostAnswer.{HostAnswer}
 use Rattle.uas_host.specs.declared.HostAnswer.TheVariants.{Unanswered, Status as AnsweredStatus, Response as AnsweredResponse}
 use Rattle.uas_host.specs.declared.HostEntry.{HostEntry}
 use Rattle.uas_profile.specs.Places.{tag_of}
-use Rattle.uas_host.specs.Tasks.{aborted_tag}
+use Rattle.uas_host.specs.Tasks.{named_tag}
 use Rattle.uas_host.specs.Tds.{data_td, status_td}
 use Rattle.shared_machine.specs.declared.Td.{Td}
 use Rattle.shared_machine.specs.Td.{Entry}
@@ -96,7 +96,7 @@ HasAnswerIn Gone tag bytes = Unit {0}
 -- names.
 abbrev pub HasUnitIn : ℕ → ℕ → Request → List ℕ → Type 0
 HasUnitIn client tag (Execute op) bytes = bytes ≡ request_text client tag (Execute op)
-HasUnitIn client tag (Manage what noted) bytes = (take 16 bytes ≡ request_text client tag (Manage what noted)) × (aborted_tag what < 2 ^ 16)
+HasUnitIn client tag (Manage what noted) bytes = (take 16 bytes ≡ request_text client tag (Manage what noted)) × (named_tag what < 2 ^ 16)
 
 -- a command lends its buffer, a task management none
 abbrev pub lent_for : Request → List ℕ → Option (List ℕ)

@@ -4,7 +4,7 @@ use Rattle.scsi_cmd.specs.Op.{cdb_bytes}
 use Rattle.uas_iu.specs.declared.Iu.TheVariants.{Command, Response, Sense, Task as TaskUnit}
 use Rattle.uas_iu.specs.Units.{unit_text}
 use Rattle.uas_iu.specs.Lun.{lun_text}
-use Rattle.uas_host.specs.Tasks.{aborted_tag, function_of}
+use Rattle.uas_host.specs.Tasks.{named_tag, function_of}
 use Rattle.scsi_cmd.specs.declared.Request.{Request}
 use Rattle.scsi_cmd.specs.declared.Request.TheVariants.{Execute, Manage}
 use Rattle.solo_model.specs.declared.TaskAnswer.{TaskAnswer}
@@ -16,7 +16,7 @@ use Rattle.device_server.specs.Server.{status_of, sense_of}
 -- tag of the task that an abort names.
 abbrev pub request_text : ℕ → ℕ → Request → List ℕ
 request_text number tag (Execute op) = unit_text (Command tag (lun_text number) (cdb_bytes op))
-request_text number tag (Manage what noted) = unit_text (TaskUnit tag (function_of what) (aborted_tag what) (lun_text number))
+request_text number tag (Manage what noted) = unit_text (TaskUnit tag (function_of what) (named_tag what) (lun_text number))
 
 -- the unit that tells the answer of a task under this tag: Sense with a command's status, or Response with a task management's code
 abbrev pub answer_text : ℕ → TaskAnswer → List ℕ

@@ -1,11 +1,14 @@
 -- What an act on a part is to the client's own solo machine.
-use Rattle.std.proofs.Common.{◌≡◌, ℕ, suc, true, false, cond, List, [], ◌∷◌, map, Option, Some, None, option_map, option_and_then, refl, arith, ap, sym, ◌∙◌}
-use Rattle.std.specs.Prelude.{nat_lt, is_some, ◌&&◌, slice_set}
+use Rattle.std.proofs.Common.{◌≡◌, ℕ, suc, Bool, true, false, cond, List, [], ◌∷◌, map, Option, Some, None, option_map, option_and_then, refl, arith, ap, sym, ◌∙◌}
+use Rattle.std.specs.Prelude.{nat_lt, is_some, ◌&&◌, ◌||◌, slice_set}
+use Rattle.std.specs.List.{list_any}
+use Rattle.std.specs.Option.{option_map_or}
+use Rattle.arrayvec.specs.ArrayVec.{ArrayVec}
 use Rattle.std.proofs.Math.ListN.{get_or-map}
 use Rattle.std.proofs.Math.Seq.{map-set_same}
 use Rattle.std.proofs.lemmas.Option.{none-some}
 use Rattle.std.proofs.lemmas.List.{map-set}
-use Rattle.scsi_cmd.specs.Request.{is_command}
+use Rattle.scsi_cmd.specs.Request.{ended_by, is_command}
 use Rattle.scsi_cmd.specs.declared.Command.{Command}
 use Rattle.scsi_cmd.specs.declared.Reply.{Reply}
 use Rattle.scsi_cmd.specs.declared.Request.{Request}
@@ -17,16 +20,15 @@ use Rattle.scsi_cmd.specs.Held.{held_at}
 use Rattle.solo_model.specs.Solo.{SoloState, after_request, solo_step, silently}
 use Rattle.block_unit.specs.BlockMaps.{BlockMaps}
 use Rattle.scsi_cmd.specs.declared.Task.{Task}
-use Rattle.scsi_cmd.specs.declared.Task.TheVariants.{Abort, Reset}
-use Rattle.solo_model.specs.declared.ResponseCode.TheVariants.{Complete}
+use Rattle.scsi_cmd.specs.declared.Task.TheVariants.{Abort, Reset, Query}
 use Rattle.solo_model.specs.declared.TaskAnswer.{TaskAnswer}
 use Rattle.solo_model.specs.declared.TaskAnswer.TheVariants.{WithStatus, WithResponse}
 use Rattle.solo_model.specs.declared.TaskProgress.{TaskProgress}
 use Rattle.solo_model.specs.declared.TaskProgress.TheVariants.{Moving, Ended}
 use Rattle.solo_model.specs.declared.Phase.{Phase}
 use Rattle.solo_model.specs.declared.Phase.TheVariants.{Queued, Begun, Sent, Gone}
-use Rattle.solo_model.specs.TaggedTask.{TaggedTask, aborted_by, after_notes, answered_by, can_go, carried, carried_from, moved, sent, is_noted}
-use Rattle.solo_model.specs.TaggedTask.{moved_from, moved_request, reply_from, request_begun, sent_from, unit_managed}
+use Rattle.solo_model.specs.TaggedTask.{TaggedTask, aborted_by, after_notes, answered_by, can_go, carried, carried_from, finds, moved, sent, is_noted, is_under_way}
+use Rattle.solo_model.specs.TaggedTask.{moved_from, moved_request, reply_from, request_begun, response_to, sent_from, unit_managed}
 use Rattle.uas_profile.specs.declared.Place.{Place}
 use Rattle.uas_profile.specs.declared.Pipe.{Pipe}
 use Rattle.shared_machine.specs.Td.{Entry, passed_on, passed_td, retired_on, trbs_on, with_trb_taken}
@@ -36,7 +38,7 @@ use Rattle.shared_machine.specs.declared.Step.{Step}
 use Rattle.shared_machine.specs.Part.{Part, Act, carry_act, move_act, send_act, event_act, seen_entry, event_place, seen_by, fault_at, submitted_part, take_act}
 use Rattle.shared_machine.specs.Part.{pass_act, passed_slot, retire_act}
 use Rattle.shared_machine.specs.Part.{carried_entry, carried_slot, data_td_after, entry_reply, moved_entry, moved_slot, new_entry, sent_entry, sent_slot, settled}
-use Rattle.shared_machine.specs.Part.{taken, took_trb, after_answer, after_event, doomed, entries_after, noted_entry, slot_tag}
+use Rattle.shared_machine.specs.Part.{taken, took_trb, after_answer, after_event, doomed, entries_after, noted_entry, slot_tag, tasks_in}
 use Rattle.shared_machine.proofs.KeptTasks.{doomed-task, retired_on-task, seen_by-task, with_td_on-task}
 use Rattle.isolation.specs.Isolation.{label_of, own_management, own_of, own_request, own_task, renumbered, solo_of}
 use Rattle.shared_machine.specs.Part.{own_tag}
@@ -62,7 +64,7 @@ pub map-own_task : (client : ℕ) (entries : List (Option Entry)) (slot : ℕ) (
     ≡ slice_set (map (option_map (own_task client)) entries) slot (option_map (own_task client) now)
 map-own_task client entries slot now = map-set (option_map (own_task client)) entries slot now
 
--- THE INDEX THAT AN ABORT NAMES: nothing that is done of a task reads it
+-- THE INDEX THAT AN ABORT OR A QUERY NAMES: nothing that is done of a task reads it
 
 own_command : (client : ℕ) (request : Request) → is_command (own_request client request) ≡ is_command request
 own_command client (Execute op) = refl
@@ -71,22 +73,48 @@ own_command client (Manage what noted) = refl
 own_unit : (client : ℕ) (unit : BlockMaps) (what : Task) → unit_managed unit (own_management client what) ≡ unit_managed unit what
 own_unit client unit (Abort tag) = refl
 own_unit client unit Reset = refl
+own_unit client unit (Query tag) = refl
 
-own_begun : (client : ℕ) (unit : BlockMaps) (request : Request) → request_begun unit (own_request client request) ≡ request_begun unit request
-own_begun client unit (Execute op) = refl
-own_begun client unit (Manage what noted) = ap (λ (u : BlockMaps). (u, Ended (WithResponse Complete))) (own_unit client unit what)
+own_response : (client : ℕ) (found : Bool) (what : Task) → response_to (own_management client what) found ≡ response_to what found
+own_response client found (Abort tag) = refl
+own_response client found Reset = refl
+own_response client found (Query tag) = refl
+
+own_ended : (client : ℕ) (what : Task) (noted : ArrayVec ℕ) → ended_by (own_management client what) noted ≡ ended_by what noted
+own_ended client (Abort tag) noted = refl
+own_ended client Reset noted = refl
+own_ended client (Query tag) noted = refl
+
+own_begun : (client : ℕ) (unit : BlockMaps) (found : Bool) (request : Request)
+    → request_begun unit found (own_request client request) ≡ request_begun unit found request
+own_begun client unit found (Execute op) = refl
+own_begun client unit found (Manage what noted) =
+    rw (own_unit client unit what, own_response client found what) refl
+
+-- whether the device has what was noted reads phases and tickets
+own_any : (client : ℕ) (noted : List ℕ) (entries : List (Option Entry))
+    → list_any (λ held. option_map_or (is_under_way noted) held false) (map (option_map (own_task client)) entries)
+    ≡ list_any (λ held. option_map_or (is_under_way noted) held false) (tasks_in entries)
+own_any client noted [] = refl
+own_any client noted (None ∷ entries) = own_any client noted entries
+own_any client noted (Some entry ∷ entries) = ap (λ b. is_under_way noted entry.task || b) (own_any client noted entries)
+
+own_finds : (client : ℕ) (request : Request) (entries : List (Option Entry))
+    → finds (own_request client request) (map (option_map (own_task client)) entries) ≡ finds request (tasks_in entries)
+own_finds client (Execute op) entries = refl
+own_finds client (Manage what noted) entries = own_any client noted.items entries
 
 abbrev own_after : ℕ → BlockMaps × TaggedTask → BlockMaps × TaggedTask
 own_after client after = (after.0, own_of client after.1)
 
-carried_from-own : (client : ℕ) (unit : BlockMaps) (task : TaggedTask) (phase : Phase)
-    → carried_from unit (own_of client task) phase ≡ option_map (own_after client) (carried_from unit task phase)
-carried_from-own client unit task Queued =
+carried_from-own : (client : ℕ) (unit : BlockMaps) (found : Bool) (task : TaggedTask) (phase : Phase)
+    → carried_from unit found (own_of client task) phase ≡ option_map (own_after client) (carried_from unit found task phase)
+carried_from-own client unit found task Queued =
     ap (λ (after : BlockMaps × TaskProgress). Some (after.0, record task { request = own_request client task.request; phase = Begun after.1 }))
-    (own_begun client unit task.request)
-carried_from-own client unit task (Begun progress) = refl
-carried_from-own client unit task (Sent answer) = refl
-carried_from-own client unit task Gone = refl
+    (own_begun client unit found task.request)
+carried_from-own client unit found task (Begun progress) = refl
+carried_from-own client unit found task (Sent answer) = refl
+carried_from-own client unit found task Gone = refl
 
 moved_request-own : (client : ℕ) (unit : BlockMaps) (task : TaggedTask) (chunk : ℕ) (request : Request) → task.request ≡ request
     → moved_request unit (own_of client task) chunk (own_request client request) ≡ option_map (own_after client) (moved_request unit task chunk request)
@@ -150,7 +178,9 @@ own_task-noted client noted (Some entry ∷ entries) =
 pub own_task-after : (client : ℕ) (request : Request) (entries : List (Option Entry)) →
     map (option_map (own_task client)) (entries_after request entries) ≡ after_request (own_request client request) (map (option_map (own_task client)) entries)
 own_task-after client (Execute op) entries = refl
-own_task-after client (Manage what noted) entries = own_task-noted client noted.items entries
+own_task-after client (Manage what noted) entries =
+    own_task-noted client (ended_by what noted).items entries
+    ∙ ap (λ (ended : ArrayVec ℕ). map (option_map (after_notes ended.items)) (map (option_map (own_task client)) entries)) (sym (own_ended client what noted))
 
 -- an act on what is there, where there is anything: the client's own on whatever that is
 found-own : {A : Type 0} (client : ℕ) (step : Step) (part : Part) (act : Option A → Act) (found : Option A) → IsOwnAct client step part (act None)
@@ -167,10 +197,13 @@ own_task-held client entries slot entry is = held_at-solo_of client entries slot
 pub carry_act-own : (client : ℕ) (step : Step) (place : Place) (part : Part) → IsOwnAct client step part (carry_act place part)
 carry_act-own client step place part =
     found-own client step part (carried_slot part place.slot place) (held_at part.entries place.slot) refl
-    (λ entry is. found-own client step part (carried_entry part place.slot place entry) (carried part.unit entry.task) refl
+    (λ entry is. found-own client step part (carried_entry part place.slot place entry)
+    (carried part.unit (finds entry.task.request (tasks_in part.entries)) entry.task) refl
     (λ after begun. rw (
       own_task-held client part.entries place.slot entry is,
-      carried_from-own client part.unit entry.task entry.task.phase ∙ ap (option_map (own_after client)) begun,
+      own_finds client entry.task.request part.entries,
+      carried_from-own client part.unit (finds entry.task.request (tasks_in part.entries)) entry.task entry.task.phase
+          ∙ ap (option_map (own_after client)) begun,
       map-own_task client (entries_after entry.task.request part.entries) place.slot
           (Some (record entry { task = after.1; command_td = with_trb_taken entry.command_td })),
       own_task-after client entry.task.request part.entries,
@@ -218,7 +251,7 @@ doomed-own client noted (Some entry ∷ entries) =
 after_answer-own : (client : ℕ) (request : Request) (entries : List (Option Entry)) → map (option_map (own_task client)) (after_answer request entries)
     ≡ map (option_map (own_task client)) entries
 after_answer-own client (Execute op) entries = refl
-after_answer-own client (Manage what noted) entries = doomed-own client noted.items entries
+after_answer-own client (Manage what noted) entries = doomed-own client (ended_by what noted).items entries
 
 after_event-own : (client : ℕ) (event : Completion) (request : Request) (entries : List (Option Entry))
     → map (option_map (own_task client)) (after_event event request entries) ≡ map (option_map (own_task client)) entries

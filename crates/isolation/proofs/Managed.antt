@@ -5,7 +5,7 @@ use Rattle.std.specs.Prelude.{nat_lt, is_some, take}
 use Rattle.std.proofs.lemmas.Bool.{lt-ltb, ltb-true}
 use Rattle.std.proofs.lemmas.Option.{none-some}
 use Rattle.scsi_cmd.specs.declared.Task.{Task}
-use Rattle.scsi_cmd.specs.declared.Task.TheVariants.{Abort, Reset}
+use Rattle.scsi_cmd.specs.declared.Task.TheVariants.{Abort, Reset, Query}
 use Rattle.uas_profile.specs.declared.TheConstants.{TASK_SLOT}
 use Rattle.scsi_cmd.specs.Held.{held_at, held_under}
 use Rattle.scsi_cmd.specs.Submission.{first_task_fault}
@@ -70,6 +70,9 @@ is_there-own clients client part (Abort tag) there =
     ap is_some (named-by clients client tag part (command_slot clients client tag) there refl)
     ∙ is_some-own client (named_entry part (command_slot clients client tag))
 is_there-own clients client part Reset there = refl
+is_there-own clients client part (Query tag) there =
+    ap is_some (named-by clients client tag part (command_slot clients client tag) there refl)
+    ∙ is_some-own client (named_entry part (command_slot clients client tag))
 
 noted-own : (clients client : ℕ) (part : Part) (task : Task) → client < clients
     → solo_noted (own_tasks client part.entries) (own_management client task) ≡ noted_tickets part (named_slot clients client task) task
@@ -78,6 +81,9 @@ noted-own clients client part (Abort tag) there =
     ∙ tickets-own client (named_entry part (command_slot clients client tag) ∷ [])
 noted-own clients client part Reset there =
     ap solo_tickets (take-own client TASK_SLOT part.entries) ∙ tickets-own client (take TASK_SLOT part.entries)
+noted-own clients client part (Query tag) there =
+    ap (λ held. solo_tickets (held ∷ [])) (named-by clients client tag part (command_slot clients client tag) there refl)
+    ∙ tickets-own client (named_entry part (command_slot clients client tag) ∷ [])
 
 -- the fault is the client's own
 pub task_fault-own : (clients client ticket : ℕ) (part : Part) (task : Task) → client < clients

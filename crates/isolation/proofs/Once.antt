@@ -11,12 +11,13 @@ use Rattle.std.proofs.lemmas.List.Elements.{All-push, All-weaker, All-nil, All-c
 use Rattle.block_unit.specs.BlockMaps.{BlockMaps}
 use Rattle.scsi_cmd.specs.declared.Command.{Command}
 use Rattle.scsi_cmd.specs.declared.Reply.{Reply}
+use Rattle.scsi_cmd.specs.Request.{ended_by}
 use Rattle.scsi_cmd.specs.declared.Request.{Request}
 use Rattle.scsi_cmd.specs.declared.Request.TheVariants.{Execute, Manage}
 use Rattle.scsi_cmd.specs.declared.Task.{Task as SoloTask}
 use Rattle.uas_profile.specs.declared.TheConstants.{TAGS, TASK_SLOT}
 use Rattle.solo_model.specs.declared.Phase.TheVariants.{Gone}
-use Rattle.solo_model.specs.TaggedTask.{TaggedTask, after_notes, can_be_ended, carried, is_noted, moved, queued, queued_management, reply_of, sent}
+use Rattle.solo_model.specs.TaggedTask.{TaggedTask, after_notes, can_be_ended, carried, finds, is_noted, moved, queued, queued_management, reply_of, sent}
 use Rattle.solo_model.specs.declared.Label.{Label}
 use Rattle.solo_model.specs.declared.Label.TheVariants.{Submit, Task, Carry, Move, Send, Settle}
 use Rattle.scsi_cmd.specs.Held.{held_at}
@@ -184,7 +185,7 @@ tickets-noted noted (Some task ∷ tasks) =
 tickets-after : (request : Request) (tasks : List (Option TaggedTask)) →
     map (option_map ticket_of) (after_request request tasks) ≡ map (option_map ticket_of) tasks
 tickets-after (Execute op) tasks = refl
-tickets-after (Manage what noted) tasks = tickets-noted noted.items tasks
+tickets-after (Manage what noted) tasks = tickets-noted (ended_by what noted).items tasks
 
 -- the same of a task that is carried
 tickets-carried : (tasks : List (Option TaggedTask)) (request : Request) (slot : ℕ) (was now : TaggedTask) → held_at tasks slot ≡ Some was →
@@ -195,8 +196,9 @@ tickets-carried tasks request slot was now is same =
     ∙ sym (map-set (option_map ticket_of) tasks slot (Some now))
     ∙ tickets-kept tasks slot was now is same
 
-carried-ticket : (unit : BlockMaps) (task : TaggedTask) (after : BlockMaps × TaggedTask) → carried unit task ≡ Some after → after.1.ticket ≡ task.ticket
-carried-ticket unit task after is = search rules
+carried-ticket : (unit : BlockMaps) (found : Bool) (task : TaggedTask) (after : BlockMaps × TaggedTask) → carried unit found task ≡ Some after
+    → after.1.ticket ≡ task.ticket
+carried-ticket unit found task after is = search rules
 
 moved-ticket : (unit : BlockMaps) (task : TaggedTask) (after : BlockMaps × TaggedTask) → moved unit task ≡ Some after → after.1.ticket ≡ task.ticket
 moved-ticket unit task after is = search rules
@@ -211,9 +213,9 @@ carry-silent : (state : SoloState) (index : ℕ) (after : SoloState × Option Re
 carry-silent state zero after is = absurd (none-some after is)
 carry-silent state (suc slot) after is =
     option_and_then_some (carried_at state (suc slot)) (held_at state.tasks slot) after is (λ task found acts.
-    made_of (λ made. silently (with_task (with_request_carried state task) (suc slot) made)) (carried state.unit task) after acts (λ made does same.
+    made_of (λ made. silently (with_task (with_request_carried state task) (suc slot) made)) (carried state.unit (finds task.request state.tasks) task) after acts (λ made does same.
     subst (IsSilent state) same (record {
-      tickets_same = tickets-carried state.tasks task.request slot task made.1 found (carried-ticket state.unit task made does);
+      tickets_same = tickets-carried state.tasks task.request slot task made.1 found (carried-ticket state.unit (finds task.request state.tasks) task made does);
       least_same = refl;
       reply = refl;
     })))

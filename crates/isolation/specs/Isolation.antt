@@ -7,7 +7,7 @@ use Rattle.scsi_cmd.specs.declared.Reply.TheVariants.{Status as StatusReply, Abo
 use Rattle.scsi_cmd.specs.declared.Request.{Request}
 use Rattle.scsi_cmd.specs.declared.Request.TheVariants.{Execute, Manage}
 use Rattle.scsi_cmd.specs.declared.Task.{Task}
-use Rattle.scsi_cmd.specs.declared.Task.TheVariants.{Abort, Reset}
+use Rattle.scsi_cmd.specs.declared.Task.TheVariants.{Abort, Reset, Query}
 use Rattle.solo_model.specs.declared.Label.{Label}
 use Rattle.solo_model.specs.declared.Label.TheVariants.{Submit as SubmitLabel, Task as TaskLabel, Carry as CarryLabel, Move as MoveLabel}
 use Rattle.solo_model.specs.declared.Label.TheVariants.{Send as SendLabel, Settle as SettleLabel}
@@ -38,6 +38,7 @@ submit_label index (Take client) = None
 abbrev pub own_management : ℕ → Task → Task
 own_management client (Abort tag) = Abort (own_tag client tag)
 own_management client Reset = Reset
+own_management client (Query tag) = Query (own_tag client tag)
 
 -- the label of an accepted task management: what the client handed in
 abbrev pub task_label : Step → Option Label

@@ -7,7 +7,7 @@ use Rattle.scsi_cmd.specs.declared.Command.{Command}
 use Rattle.scsi_cmd.specs.declared.Task.{Task}
 use Rattle.scsi_cmd.specs.declared.SubmitFault.{SubmitFault}
 use Rattle.scsi_cmd.specs.Held.{held_at}
-use Rattle.solo_model.specs.TaggedTask.{TaggedTask, carried, moved, sent}
+use Rattle.solo_model.specs.TaggedTask.{TaggedTask, carried, finds, moved, sent}
 use Rattle.uas_profile.specs.declared.Place.{Place}
 use Rattle.shared_machine.specs.declared.Completion.{Completion}
 use Rattle.shared_machine.specs.declared.Completion.TheVariants.{CommandDone, DataDone, StatusDone, EngineDone}
@@ -15,7 +15,7 @@ use Rattle.shared_machine.specs.declared.Retirement.{Retirement}
 use Rattle.shared_machine.specs.declared.RetirementStage.{RetirementStage}
 use Rattle.shared_machine.specs.declared.RetirementStage.TheVariants.{StopAsked, StopAnswered, MoveAsked, MoveAnswered}
 use Rattle.shared_machine.specs.Td.{Entry}
-use Rattle.shared_machine.specs.Part.{Part, Act, carry_act, carried_entry, carried_slot, event_act, fault_at, moved_entry, moved_slot}
+use Rattle.shared_machine.specs.Part.{Part, Act, carry_act, carried_entry, carried_slot, event_act, fault_at, moved_entry, moved_slot, tasks_in}
 use Rattle.shared_machine.specs.Part.{pass_act, passed_slot, retire_act, seen_entry, sent_entry, sent_slot, stop_act, task_fault_at}
 use Rattle.shared_machine.specs.Shared.{Shared, answered, carry_step, engine_did, engine_seen, engine_step, event_seen, event_step}
 use Rattle.shared_machine.specs.Shared.{managed_or, managed_to, retire_step, routed, routed_by_tag, routed_to, stage_seen, submitted_to}
@@ -34,7 +34,7 @@ carried-silent part slot place entry (Some after) = refl
 
 carry-slot : (part : Part) (slot : ℕ) (place : Place) (held : Option Entry) → (carried_slot part slot place held).reply ≡ None
 carry-slot part slot place None = refl
-carry-slot part slot place (Some entry) = carried-silent part slot place entry (carried part.unit entry.task)
+carry-slot part slot place (Some entry) = carried-silent part slot place entry (carried part.unit (finds entry.task.request (tasks_in part.entries)) entry.task)
 
 moved-silent : (part : Part) (slot : ℕ) (place : Place) (entry : Entry) (after : Option (BlockMaps × TaggedTask))
     → (moved_entry part slot place entry after).reply ≡ None

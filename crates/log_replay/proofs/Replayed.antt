@@ -6,24 +6,25 @@ use Rattle.shared_machine.specs.declared.Step.{Step}
 use Rattle.shared_machine.specs.declared.Step.TheVariants.{Submit, Task, CommandPipe, Data, Status, Engine, Event, Retire, Take}
 use Rattle.shared_machine.specs.Bus.{AllTicketed, HasTicket}
 use Rattle.shared_machine.specs.Shared.{Shared}
+use Rattle.log_text.specs.declared.Version.{Version}
 use Rattle.log_text.specs.Text.{StepFits}
 use Rattle.log_replay.specs.Replaying.{first_fault}
 
 -- a step within the limits of a text has a small ticket
-step-ticketed : (clients : ℕ) (step : Step) → StepFits clients step → HasTicket step
-step-ticketed clients (Submit client tag ticket command) fits = fits.2
-step-ticketed clients (Task client ticket task) fits = fits.1
-step-ticketed clients CommandPipe fits = tt
-step-ticketed clients (Data tag) fits = tt
-step-ticketed clients (Status tag) fits = tt
-step-ticketed clients Engine fits = tt
-step-ticketed clients Event fits = tt
-step-ticketed clients (Retire pipe tag) fits = tt
-step-ticketed clients (Take client) fits = tt
+step-ticketed : (version : Version) (clients : ℕ) (step : Step) → StepFits version clients step → HasTicket step
+step-ticketed version clients (Submit client tag ticket command) fits = fits.2
+step-ticketed version clients (Task client ticket task) fits = fits.1
+step-ticketed version clients CommandPipe fits = tt
+step-ticketed version clients (Data tag) fits = tt
+step-ticketed version clients (Status tag) fits = tt
+step-ticketed version clients Engine fits = tt
+step-ticketed version clients Event fits = tt
+step-ticketed version clients (Retire pipe tag) fits = tt
+step-ticketed version clients (Take client) fits = tt
 
-pub all-ticketed : (clients : ℕ) (steps : List Step) → AllByRecursion (StepFits clients) steps → AllTicketed steps
-all-ticketed clients [] all = tt
-all-ticketed clients (step ∷ rest) all = (step-ticketed clients step all.0, all-ticketed clients rest all.1)
+pub all-ticketed : (version : Version) (clients : ℕ) (steps : List Step) → AllByRecursion (StepFits version clients) steps → AllTicketed steps
+all-ticketed version clients [] all = tt
+all-ticketed version clients (step ∷ rest) all = (step-ticketed version clients step all.0, all-ticketed version clients rest all.1)
 
 pub ticketed-at : (steps : List Step) (k : ℕ) (step : Step) → AllTicketed steps → k < length steps → step ≡ get_or steps k step → HasTicket step
 ticketed-at [] k step all within is = absurd (omega arith)

@@ -9,26 +9,36 @@ use Rattle.shared_machine.specs.declared.Step.{Step}
 use Rattle.shared_machine.specs.declared.Step.TheVariants as steps
 use Rattle.log_text.specs.declared.SavedReply.{SavedReply}
 use Rattle.log_text.specs.Kept.{kept}
-use Rattle.log_text.specs.Text.{ReplyFits, StepFits, field, listed, step_text}
+use Rattle.log_text.specs.declared.Version.{Version}
+use Rattle.log_text.specs.declared.Version.TheVariants.{Second}
+use Rattle.scsi_cmd.specs.declared.Task.{Task}
+use Rattle.scsi_cmd.specs.declared.Task.TheVariants.{Abort, Reset, Query}
+use Rattle.log_text.specs.Text.{ReplyFits, StepFits, TaskFits, field, listed, step_text}
 use Rattle.log_text.specs.Writing.{Wrote}
 use Rattle.log_text.proofs.Wrote.{wrote_then}
 
 -- WIDER LIMITS
 
-step_wider : (clients most : ℕ) (step : Step) → clients ≤ most → StepFits clients step → StepFits most step
-step_wider clients most (steps.Submit client tag ticket command) few fits = (omega (arith, fits.0), fits.1, fits.2, fits.3, fits.4)
-step_wider clients most (steps.Task client ticket task) few fits = (omega (arith, fits.0), fits.1, fits.2)
-step_wider clients most steps.CommandPipe few fits = fits
-step_wider clients most (steps.Data tag) few fits = fits
-step_wider clients most (steps.Status tag) few fits = fits
-step_wider clients most steps.Engine few fits = fits
-step_wider clients most steps.Event few fits = fits
-step_wider clients most (steps.Retire pipe tag) few fits = fits
-step_wider clients most (steps.Take client) few fits = omega (arith, fits)
+task_wider : (version : Version) (task : Task) → TaskFits version task → TaskFits Second task
+task_wider version (Abort tag) fits = fits
+task_wider version Reset fits = fits
+task_wider version (Query tag) fits = (refl, fits.1)
 
-pub steps_wider : (clients most : ℕ) (list : List Step) → clients ≤ most → AllByRecursion (StepFits clients) list → AllByRecursion (StepFits most) list
-steps_wider clients most [] few fits = tt
-steps_wider clients most (step ∷ rest) few fits = (step_wider clients most step few fits.0, steps_wider clients most rest few fits.1)
+step_wider : (version : Version) (clients most : ℕ) (step : Step) → clients ≤ most → StepFits version clients step → StepFits Second most step
+step_wider version clients most (steps.Submit client tag ticket command) few fits = (omega (arith, fits.0), fits.1, fits.2, fits.3, fits.4)
+step_wider version clients most (steps.Task client ticket task) few fits = (omega (arith, fits.0), fits.1, task_wider version task fits.2)
+step_wider version clients most steps.CommandPipe few fits = fits
+step_wider version clients most (steps.Data tag) few fits = fits
+step_wider version clients most (steps.Status tag) few fits = fits
+step_wider version clients most steps.Engine few fits = fits
+step_wider version clients most steps.Event few fits = fits
+step_wider version clients most (steps.Retire pipe tag) few fits = fits
+step_wider version clients most (steps.Take client) few fits = omega (arith, fits)
+
+pub steps_wider : (version : Version) (clients most : ℕ) (list : List Step) → clients ≤ most → AllByRecursion (StepFits version clients) list
+    → AllByRecursion (StepFits Second most) list
+steps_wider version clients most [] few fits = tt
+steps_wider version clients most (step ∷ rest) few fits = (step_wider version clients most step few fits.0, steps_wider version clients most rest few fits.1)
 
 pub replies_wider : (clients most : ℕ) (list : List SavedReply) → clients ≤ most → AllByRecursion (ReplyFits clients) list → AllByRecursion (ReplyFits most) list
 replies_wider clients most [] few fits = tt

@@ -6,12 +6,14 @@ use Rattle.std.proofs.lemmas.Bool.{ltb-false}
 use Rattle.scsi_cmd.specs.declared.Reply.{Reply}
 use Rattle.scsi_cmd.specs.declared.Reply.TheVariants as replies
 use Rattle.scsi_cmd.specs.declared.Task.{Task}
-use Rattle.scsi_cmd.specs.declared.Task.TheVariants.{Abort, Reset}
+use Rattle.scsi_cmd.specs.declared.Task.TheVariants.{Abort, Reset, Query}
 use Rattle.scsi_cmd.specs.Replies.{reply_tag, reply_ticket}
 use Rattle.shared_machine.specs.declared.Step.{Step}
 use Rattle.shared_machine.specs.declared.Step.TheVariants as steps
 use Rattle.log_text.specs.declared.SavedReply.{SavedReply}
 use Rattle.log_text.specs.Migration.{moved_log, moved_reply, moved_saved, moved_step, moved_tag, moved_task}
+use Rattle.log_text.specs.declared.Version.{Version}
+use Rattle.log_text.specs.declared.Version.TheVariants.{Second}
 use Rattle.log_text.specs.Text.{BodyFits, IsWithin, ReplyFits, Saved, StepFits, TaskFits}
 use Rattle.log_text.proofs.Keeping.{length-map}
 
@@ -30,24 +32,26 @@ unfolding moved_tag
 tag_small clients tag few =
     chosen_small (tag == 0 || nat_lt (8 * clients) tag) (tag % 8 == 0) clients tag few (λ e. not_above (tag == 0) (nat_lt (8 * clients) tag) tag (8 * clients) refl e)
 
-task_fits : (clients : ℕ) (task : Task) → clients ≤ 15 → TaskFits task → TaskFits (moved_task clients task)
-task_fits clients (Abort tag) few fits = tag_small clients tag few
-task_fits clients Reset few fits = tt
+task_fits : (version : Version) (clients : ℕ) (task : Task) → clients ≤ 15 → TaskFits version task → TaskFits Second (moved_task clients task)
+task_fits version clients (Abort tag) few fits = tag_small clients tag few
+task_fits version clients Reset few fits = tt
+task_fits version clients (Query tag) few fits = (refl, tag_small clients tag few)
 
-step_fits : (clients of : ℕ) (step : Step) → clients ≤ 15 → StepFits of step → StepFits of (moved_step clients step)
-step_fits clients of (steps.Submit client tag ticket command) few fits = (fits.0, tag_small clients tag few, fits.2, fits.3, fits.4)
-step_fits clients of (steps.Task client ticket task) few fits = (fits.0, fits.1, task_fits clients task few fits.2)
-step_fits clients of steps.CommandPipe few fits = fits
-step_fits clients of (steps.Data tag) few fits = tag_small clients tag few
-step_fits clients of (steps.Status tag) few fits = tag_small clients tag few
-step_fits clients of steps.Engine few fits = fits
-step_fits clients of steps.Event few fits = fits
-step_fits clients of (steps.Retire pipe tag) few fits = (fits.0, tag_small clients tag few)
-step_fits clients of (steps.Take client) few fits = fits
+step_fits : (version : Version) (clients of : ℕ) (step : Step) → clients ≤ 15 → StepFits version of step → StepFits Second of (moved_step clients step)
+step_fits version clients of (steps.Submit client tag ticket command) few fits = (fits.0, tag_small clients tag few, fits.2, fits.3, fits.4)
+step_fits version clients of (steps.Task client ticket task) few fits = (fits.0, fits.1, task_fits version clients task few fits.2)
+step_fits version clients of steps.CommandPipe few fits = fits
+step_fits version clients of (steps.Data tag) few fits = tag_small clients tag few
+step_fits version clients of (steps.Status tag) few fits = tag_small clients tag few
+step_fits version clients of steps.Engine few fits = fits
+step_fits version clients of steps.Event few fits = fits
+step_fits version clients of (steps.Retire pipe tag) few fits = (fits.0, tag_small clients tag few)
+step_fits version clients of (steps.Take client) few fits = fits
 
-steps_fit : (clients of : ℕ) (list : List Step) → clients ≤ 15 → AllByRecursion (StepFits of) list → AllByRecursion (StepFits of) (map (moved_step clients) list)
-steps_fit clients of [] few fits = tt
-steps_fit clients of (step ∷ rest) few fits = (step_fits clients of step few fits.0, steps_fit clients of rest few fits.1)
+steps_fit : (version : Version) (clients of : ℕ) (list : List Step) → clients ≤ 15 → AllByRecursion (StepFits version of) list
+    → AllByRecursion (StepFits Second of) (map (moved_step clients) list)
+steps_fit version clients of [] few fits = tt
+steps_fit version clients of (step ∷ rest) few fits = (step_fits version clients of step few fits.0, steps_fit version clients of rest few fits.1)
 
 reply_fits : (clients of client : ℕ) (reply : Reply) → clients ≤ 15 → ReplyFits of (record { client = client; reply = reply })
     → ReplyFits of (record { client = client; reply = moved_reply clients reply })
@@ -67,7 +71,7 @@ moved_within log few it = record {
   some = it.some;
   most = few;
   units = it.units;
-  steps = steps_fit (length log.units) (length log.units) log.steps few it.steps;
+  steps = steps_fit log.version (length log.units) (length log.units) log.steps few it.steps;
   few_steps = omega (arith, it.few_steps, length-map (moved_step (length log.units)) log.steps);
   replies = replies_fit (length log.units) (length log.units) log.replies few it.replies;
   few_replies = omega (arith, it.few_replies, length-map (moved_saved (length log.units)) log.replies);

@@ -136,12 +136,13 @@ log_taken bytes x is e =
     let a = bind_ok (header_at bytes) _ x e in
     let b = bind_ok (units_at a.0.0 a.0.1) _ x a.2 in
     let clients : ℕ = length b.0.0 in
-    let c = bind_ok (listed_at (step_at clients) b.0.1) _ x b.2 in
+    let c = bind_ok (listed_at (step_at a.0.0 clients) b.0.1) _ x b.2 in
     let d = bind_ok (listed_at (reply_at clients) c.0.1) _ x c.2 in
     let header = header_taken bytes a.0 is a.1 in
     let units = units_taken a.0.0 a.0.1 b.0 header.takes.rest_bytes b.1 in
     let few : clients ≤ 31 = omega (arith, units.fits.most, header.fits.few) in
-    let steps = (reads_listed (step_at clients) step_text (StepFits clients) (reads_step clients units.fits.some few)).taken b.0.1 c.0 units.takes.rest_bytes c.1 in
+    let steps = (reads_listed (step_at a.0.0 clients) step_text (StepFits a.0.0 clients) (reads_step a.0.0 clients units.fits.some few)).taken b.0.1 c.0
+    units.takes.rest_bytes c.1 in
     let replies = (reads_listed (reply_at clients) reply_text (ReplyFits clients) (reads_reply clients units.fits.some few)).taken c.0.1 d.0 steps.takes.rest_bytes d.1 in
     let made : Saved × List ℕ = (record { version = a.0.0; units = b.0.0; steps = c.0.0; replies = d.0.0 }, d.0.1) in
     subst (λ (y : Saved × List ℕ). Taken log_text IsWithin bytes y) (ok_is made x d.2) (record {
@@ -176,7 +177,8 @@ log_again log rest fits =
     ∙ rw (
       header_again log.version r1,
       units_again log.version log.units r2 are-units,
-      (reads_listed (step_at clients) step_text (StepFits clients) (reads_step clients fits.some few)).again log.steps r3 (record { few = fits.few_steps; each = fits.steps }),
+      (reads_listed (step_at log.version clients) step_text (StepFits log.version clients) (reads_step log.version clients fits.some few)).again log.steps r3
+          (record { few = fits.few_steps; each = fits.steps }),
       (reads_listed (reply_at clients) reply_text (ReplyFits clients) (reads_reply clients fits.some few)).again log.replies rest (record { few = fits.few_replies; each = fits.replies }),
     ) refl
 

@@ -3,7 +3,7 @@ use Rattle.std.specs.Prelude.{◌≡◌, ℕ, ◌+◌, ◌*◌, ◌/◌, ◌%◌
 use Rattle.scsi_cmd.specs.declared.Reply.{Reply}
 use Rattle.scsi_cmd.specs.declared.Reply.TheVariants as replies
 use Rattle.scsi_cmd.specs.declared.Task.{Task}
-use Rattle.scsi_cmd.specs.declared.Task.TheVariants.{Abort, Reset}
+use Rattle.scsi_cmd.specs.declared.Task.TheVariants.{Abort, Reset, Query}
 use Rattle.shared_machine.specs.declared.Step.{Step}
 use Rattle.shared_machine.specs.declared.Step.TheVariants as steps
 use Rattle.log_text.specs.declared.MigrateFault.{MigrateFault}
@@ -21,6 +21,7 @@ moved_tag clients tag =
 abbrev pub moved_task : ℕ → Task → Task
 moved_task clients (Abort tag) = Abort (moved_tag clients tag)
 moved_task clients Reset = Reset
+moved_task clients (Query tag) = Query (moved_tag clients tag)
 
 abbrev pub moved_step : ℕ → Step → Step
 moved_step clients (steps.Submit client tag ticket command) = steps.Submit client (moved_tag clients tag) ticket command

@@ -1,5 +1,5 @@
 -- Which log a text tells, or its first fault: the fields from the front, and of each what it may be.
-use Rattle.std.specs.Prelude.{◌≡◌, ℕ, zero, suc, ◌+◌, ◌-◌, ◌*◌, ◌^◌, nat_lt, ◌==◌, ◌||◌, if◌then◌else◌, List, [], ◌∷◌, length, take, drop, Result, Ok, Err}
+use Rattle.std.specs.Prelude.{◌≡◌, ℕ, zero, suc, ◌+◌, ◌-◌, ◌*◌, ◌^◌, nat_lt, ◌==◌, ◌&&◌, ◌||◌, if◌then◌else◌, List, [], ◌∷◌, length, take, drop, Result, Ok, Err}
 use Rattle.byteorder.specs.Endian.{big_number}
 use Rattle.uas_profile.specs.declared.Pipe.{Pipe}
 use Rattle.uas_profile.specs.declared.Pipe.TheVariants as pipes
@@ -20,7 +20,7 @@ use Rattle.log_text.specs.declared.Stop.{Stop}
 use Rattle.log_text.specs.declared.Stop.TheVariants as stops
 use Rattle.log_text.specs.declared.Version.{Version}
 use Rattle.log_text.specs.declared.Version.TheVariants.{First, Second}
-use Rattle.log_text.specs.Text.{Saved, version_clients, version_tags}
+use Rattle.log_text.specs.Text.{Saved, has_queries, version_clients, version_tags}
 
 -- the first fault ends the reading
 infixl 10 ◌>>=◌
@@ -130,15 +130,18 @@ op_at bytes = do
   code ← field_at 1 0 8 bytes
   op_of code.0 code.1
 
--- a task management by its function; a query, 80h, isn't among the tasks yet
-unfoldable pub task_of : ℕ → List ℕ → Result (Task × List ℕ) LogFault
-task_of function bytes =
+-- a task management by its function; a query, 80h, is of the second version alone
+unfoldable pub task_of : Version → ℕ → List ℕ → Result (Task × List ℕ) LogFault
+task_of version function bytes =
     if function == 0x01 then (do
       tag ← field_at 2 0 0xffff bytes
       Ok (tasks.Abort tag.0, tag.1))
     else if function == 0x08 then (do
       tag ← field_at 2 0 0 bytes
       Ok (tasks.Reset, tag.1))
+    else if (function == 0x80) && has_queries version then (do
+      tag ← field_at 2 0 0xffff bytes
+      Ok (tasks.Query tag.0, tag.1))
     else Err BadField
 
 unfoldable pub submit_at : ℕ → List ℕ → Result (Step × List ℕ) LogFault
@@ -150,12 +153,12 @@ submit_at clients bytes = do
   buffer ← buffer_at op.1
   Ok (steps.Submit client.0 tag.0 ticket.0 (record { op = op.0; buffer = buffer.0 }), buffer.1)
 
-unfoldable pub task_at : ℕ → List ℕ → Result (Step × List ℕ) LogFault
-task_at clients bytes = do
+unfoldable pub task_at : Version → ℕ → List ℕ → Result (Step × List ℕ) LogFault
+task_at version clients bytes = do
   client ← field_at 1 0 (clients - 1) bytes
   ticket ← field_at 8 0 (2 ^ 60 - 1) client.1
   function ← field_at 1 0 0xff ticket.1
-  task ← task_of function.0 function.1
+  task ← task_of version function.0 function.1
   Ok (steps.Task client.0 ticket.0 task.0, task.1)
 
 abbrev pub pipe_of : ℕ → Pipe
@@ -168,10 +171,10 @@ retire_at bytes = do
   Ok (steps.Retire (pipe_of pipe.0) tag.0, tag.1)
 
 -- the step of each kind
-unfoldable pub step_of : ℕ → ℕ → List ℕ → Result (Step × List ℕ) LogFault
-step_of clients kind bytes =
+unfoldable pub step_of : Version → ℕ → ℕ → List ℕ → Result (Step × List ℕ) LogFault
+step_of version clients kind bytes =
     if kind == 1 then submit_at clients bytes
-    else if kind == 2 then task_at clients bytes
+    else if kind == 2 then task_at version clients bytes
     else if kind == 3 then Ok (steps.CommandPipe, bytes)
     else if kind == 4 then (do
       tag ← field_at 2 0 0xffff bytes
@@ -186,10 +189,10 @@ step_of clients kind bytes =
       client ← field_at 1 0 (clients - 1) bytes
       Ok (steps.Take client.0, client.1))
 
-unfoldable pub step_at : ℕ → List ℕ → Result (Step × List ℕ) LogFault
-step_at clients bytes = do
+unfoldable pub step_at : Version → ℕ → List ℕ → Result (Step × List ℕ) LogFault
+step_at version clients bytes = do
   kind ← field_at 1 1 9 bytes
-  step_of clients kind.0 kind.1
+  step_of version clients kind.0 kind.1
 
 -- REPLIES
 
@@ -256,7 +259,7 @@ unfoldable pub log_at : List ℕ → Result (Saved × List ℕ) LogFault
 log_at bytes = do
   version ← header_at bytes
   units ← units_at version.0 version.1
-  steps ← listed_at (step_at (length units.0)) units.1
+  steps ← listed_at (step_at version.0 (length units.0)) units.1
   replies ← listed_at (reply_at (length units.0)) steps.1
   Ok (record { version = version.0; units = units.0; steps = steps.0; replies = replies.0 }, replies.1)
 

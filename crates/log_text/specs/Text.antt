@@ -1,5 +1,5 @@
 -- The text of a log: its fields one behind the other, each number big endian.
-use Rattle.std.specs.Prelude.{◌≡◌, ℕ, ◌+◌, ◌*◌, ◌^◌, ◌<◌, ◌≤◌, ◌⊎◌, cond, List, [], ◌∷◌, ◌++◌, length, codes}
+use Rattle.std.specs.Prelude.{◌≡◌, ℕ, ◌+◌, ◌*◌, ◌^◌, ◌<◌, ◌≤◌, ◌⊎◌, Bool, true, false, cond, List, [], ◌∷◌, ◌++◌, length, codes}
 use Rattle.std.specs.List.{flat_map, AllByRecursion}
 use Rattle.byteorder.specs.Endian.{big_bytes}
 use Rattle.block_unit.specs.BlockMaps.{block_count}
@@ -8,7 +8,7 @@ use Rattle.uas_profile.specs.declared.Pipe.TheVariants as pipes
 use Rattle.scsi_cmd.specs.declared.Op.{Op}
 use Rattle.scsi_cmd.specs.declared.Op.TheVariants.{TestUnitReady, Inquiry, ReadCapacity, Read, Write, Sync, Read16, Write16, ReadCapacity16}
 use Rattle.scsi_cmd.specs.declared.Task.{Task}
-use Rattle.scsi_cmd.specs.declared.Task.TheVariants.{Abort, Reset}
+use Rattle.scsi_cmd.specs.declared.Task.TheVariants.{Abort, Reset, Query}
 use Rattle.scsi_cmd.specs.declared.Reply.{Reply}
 use Rattle.scsi_cmd.specs.declared.Reply.TheVariants as replies
 use Rattle.scsi_cmd.specs.Replies.{reply_tag, reply_ticket}
@@ -92,15 +92,17 @@ fields_text fields = field 8 fields.block ++ field 4 fields.count ++ field 1 fie
 abbrev pub op_text : Op → List ℕ
 op_text op = field 1 (op_code op) ++ fields_text (op_fields op)
 
--- ABORT TASK is function 01h, LOGICAL UNIT RESET 08h
+-- ABORT TASK is function 01h, LOGICAL UNIT RESET 08h, QUERY TASK 80h
 abbrev pub task_function : Task → ℕ
 task_function (Abort tag) = 0x01
 task_function Reset = 0x08
+task_function (Query tag) = 0x80
 
 -- a reset names no tag
 abbrev pub task_tag : Task → ℕ
 task_tag (Abort tag) = tag
 task_tag Reset = 0
+task_tag (Query tag) = tag
 
 abbrev pub task_text : Task → List ℕ
 task_text task = field 1 (task_function task) ++ field 2 (task_tag task)
@@ -197,9 +199,15 @@ OpFits (Read16 lba count fua) = (lba < 2 ^ 64) × (count < 2 ^ 32)
 OpFits (Write16 lba count fua) = (lba < 2 ^ 64) × (count < 2 ^ 32)
 OpFits (ReadCapacity16 allocation) = allocation < 2 ^ 32
 
-abbrev pub TaskFits : Task → Type 0
-TaskFits (Abort tag) = tag < 2 ^ 16
-TaskFits Reset = Unit {0}
+-- a query is of the second version alone
+abbrev pub has_queries : Version → Bool
+has_queries First = false
+has_queries Second = true
+
+abbrev pub TaskFits : Version → Task → Type 0
+TaskFits version (Abort tag) = tag < 2 ^ 16
+TaskFits version Reset = Unit {0}
+TaskFits version (Query tag) = (has_queries version ≡ true) × (tag < 2 ^ 16)
 
 -- nothing is retired on the command pipe, which has no streams
 abbrev pub PipeFits : Pipe → Type 0
@@ -208,17 +216,17 @@ PipeFits pipes.Status = Unit {0}
 PipeFits pipes.DataIn = Unit {0}
 PipeFits pipes.DataOut = Unit {0}
 
-abbrev pub StepFits : ℕ → Step → Type 0
-StepFits clients (steps.Submit client tag ticket command) =
+abbrev pub StepFits : Version → ℕ → Step → Type 0
+StepFits version clients (steps.Submit client tag ticket command) =
     (client < clients) × (tag < 2 ^ 16) × (ticket < 2 ^ 60) × OpFits command.op × BufferFits command.buffer
-StepFits clients (steps.Task client ticket task) = (client < clients) × (ticket < 2 ^ 60) × TaskFits task
-StepFits clients steps.CommandPipe = Unit {0}
-StepFits clients (steps.Data tag) = tag < 2 ^ 16
-StepFits clients (steps.Status tag) = tag < 2 ^ 16
-StepFits clients steps.Engine = Unit {0}
-StepFits clients steps.Event = Unit {0}
-StepFits clients (steps.Retire pipe tag) = PipeFits pipe × (tag < 2 ^ 16)
-StepFits clients (steps.Take client) = client < clients
+StepFits version clients (steps.Task client ticket task) = (client < clients) × (ticket < 2 ^ 60) × TaskFits version task
+StepFits version clients steps.CommandPipe = Unit {0}
+StepFits version clients (steps.Data tag) = tag < 2 ^ 16
+StepFits version clients (steps.Status tag) = tag < 2 ^ 16
+StepFits version clients steps.Engine = Unit {0}
+StepFits version clients steps.Event = Unit {0}
+StepFits version clients (steps.Retire pipe tag) = PipeFits pipe × (tag < 2 ^ 16)
+StepFits version clients (steps.Take client) = client < clients
 
 -- there is no sense, or it has 18 bytes
 abbrev pub SenseFits : List ℕ → Type 0
@@ -240,7 +248,7 @@ pub record IsWithin (log : Saved) : Type 0 where
   pub some : 1 ≤ length log.units
   pub most : length log.units ≤ version_clients log.version
   pub units : AllByRecursion UnitFits log.units
-  pub steps : AllByRecursion (StepFits (length log.units)) log.steps
+  pub steps : AllByRecursion (StepFits log.version (length log.units)) log.steps
   pub few_steps : length log.steps < 2 ^ 32
   pub replies : AllByRecursion (ReplyFits (length log.units)) log.replies
   pub few_replies : length log.replies < 2 ^ 32

@@ -50,6 +50,9 @@ fn moved_task(clients: usize, task: Task) -> Task
             tag: moved_tag(clients, tag),
         },
         Task::Reset => Task::Reset,
+        Task::Query { tag } => Task::Query {
+            tag: moved_tag(clients, tag),
+        },
     }
 }
 

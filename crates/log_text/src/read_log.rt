@@ -51,12 +51,17 @@ fn all_units(alloc: Global, version: Version, bytes: &[u8]) -> Result<(Vec<First
 }
 
 #[tactic(auto, unfolding(crate::specs::Reading::listed_at))]
-fn all_steps(alloc: Global, clients: usize, bytes: &[u8]) -> Result<(Vec<Step>, &[u8]), Stop>
+fn all_steps(
+    alloc: Global,
+    version: Version,
+    clients: usize,
+    bytes: &[u8],
+) -> Result<(Vec<Step>, &[u8]), Stop>
     requires { 1 ≤ clients }
-    ensures { Gives (λ read. (read.0.items, read.1.now)) result (listed_at (step_at clients) bytes.now) }
+    ensures { Gives (λ read. (read.0.items, read.1.now)) result (listed_at (step_at version clients) bytes.now) }
 {
     let (count, rest) = field(bytes, 4, 0, MOST_ITEMS)?;
-    steps(alloc, clients, count as u32, rest)
+    steps(alloc, version, clients, count as u32, rest)
 }
 
 #[tactic(auto, unfolding(crate::specs::Reading::listed_at))]
@@ -79,7 +84,7 @@ fn parts(alloc: Global, text: &[u8]) -> Result<Parts, Stop>
 {
     let (version, rest) = header(text)?;
     let (units, rest) = all_units(alloc, version, rest)?;
-    let (steps, rest) = all_steps(alloc, units.len(), rest)?;
+    let (steps, rest) = all_steps(alloc, version, units.len(), rest)?;
     let (replies, rest) = all_replies(alloc, units.len(), rest)?;
     if !rest.is_empty() {
         return Err(Stop::Fault(LogFault::TrailingBytes));

@@ -3,7 +3,7 @@ ghost use Rattle.std.specs.Prelude.{◌≡◌, ◌≤◌, ◌<◌, ◌^◌, leng
 ghost use Rattle.log_text.specs.Reading.{Gives, fields_at, items_at, op_at, op_of, pipe_of, retire_at, step_at, step_of, submit_at, task_at, task_of};
 
 use crate::read_fields::{buffer, field};
-use crate::{LogFault, OpFields, Stop};
+use crate::{LogFault, OpFields, Stop, Version};
 use scsi_cmd::{Command, Op, Task};
 use shared_machine::Step;
 use std::alloc::Global;
@@ -111,10 +111,10 @@ fn op(bytes: &[u8]) -> Result<(Op, &[u8]), Stop>
     op_of(code, rest)
 }
 
-/// A task management by its function. A query of a task isn't known yet: its function, 80h, is a `BadField` in each version.
+/// A task management by its function. A query, 80h, is of the second version alone.
 #[tactic(auto, unfolding(crate::specs::Reading::task_of))]
-fn task_of(function: u64, bytes: &[u8]) -> Result<(Task, &[u8]), Stop>
-    ensures { Gives (λ read. (read.0, read.1.now)) result (task_of function bytes.now) }
+fn task_of(version: Version, function: u64, bytes: &[u8]) -> Result<(Task, &[u8]), Stop>
+    ensures { Gives (λ read. (read.0, read.1.now)) result (task_of version function bytes.now) }
 {
     match function {
         0x01 => {
@@ -125,6 +125,11 @@ fn task_of(function: u64, bytes: &[u8]) -> Result<(Task, &[u8]), Stop>
         0x08 => {
             let (_, rest) = field(bytes, 2, 0, 0)?;
             Ok((Task::Reset, rest))
+        }
+        0x80 if version.has_queries() => {
+            let (tag, rest) = field(bytes, 2, 0, MOST_16)?;
+            let tag = tag as u16;
+            Ok((Task::Query { tag }, rest))
         }
         _ => Err(Stop::Fault(LogFault::BadField)),
     }
@@ -150,14 +155,14 @@ fn submit(alloc: Global, clients: usize, bytes: &[u8]) -> Result<(Step, &[u8]), 
 }
 
 #[tactic(auto, unfolding(crate::specs::Reading::task_at))]
-fn task(clients: usize, bytes: &[u8]) -> Result<(Step, &[u8]), Stop>
+fn task(version: Version, clients: usize, bytes: &[u8]) -> Result<(Step, &[u8]), Stop>
     requires { 1 ≤ clients }
-    ensures { Gives (λ read. (read.0, read.1.now)) result (task_at clients bytes.now) }
+    ensures { Gives (λ read. (read.0, read.1.now)) result (task_at version clients bytes.now) }
 {
     let (client, rest) = field(bytes, 1, 0, clients as u64 - 1)?;
     let (ticket, rest) = field(rest, 8, 0, LAST_TICKET)?;
     let (function, rest) = field(rest, 1, 0, 0xff)?;
-    let (task, rest) = task_of(function, rest)?;
+    let (task, rest) = task_of(version, function, rest)?;
     let step = Step::Task {
         client: client as usize,
         ticket,
@@ -187,13 +192,19 @@ fn retire(bytes: &[u8]) -> Result<(Step, &[u8]), Stop>
 
 /// The step of a kind, by the fields behind it.
 #[tactic(auto, unfolding(crate::specs::Reading::step_of))]
-fn step_of(alloc: Global, clients: usize, kind: u64, bytes: &[u8]) -> Result<(Step, &[u8]), Stop>
+fn step_of(
+    alloc: Global,
+    version: Version,
+    clients: usize,
+    kind: u64,
+    bytes: &[u8],
+) -> Result<(Step, &[u8]), Stop>
     requires { 1 ≤ clients }
-    ensures { Gives (λ read. (read.0, read.1.now)) result (step_of clients kind bytes.now) }
+    ensures { Gives (λ read. (read.0, read.1.now)) result (step_of version clients kind bytes.now) }
 {
     match kind {
         1 => submit(alloc, clients, bytes),
-        2 => task(clients, bytes),
+        2 => task(version, clients, bytes),
         3 => Ok((Step::CommandPipe, bytes)),
         4 => {
             let (tag, rest) = field(bytes, 2, 0, MOST_16)?;
@@ -215,28 +226,34 @@ fn step_of(alloc: Global, clients: usize, kind: u64, bytes: &[u8]) -> Result<(St
 
 /// A step of one of so many clients.
 #[tactic(auto, unfolding(crate::specs::Reading::step_at))]
-fn step(alloc: Global, clients: usize, bytes: &[u8]) -> Result<(Step, &[u8]), Stop>
+fn step(
+    alloc: Global,
+    version: Version,
+    clients: usize,
+    bytes: &[u8],
+) -> Result<(Step, &[u8]), Stop>
     requires { 1 ≤ clients }
-    ensures { Gives (λ read. (read.0, read.1.now)) result (step_at clients bytes.now) }
+    ensures { Gives (λ read. (read.0, read.1.now)) result (step_at version clients bytes.now) }
 {
     let (kind, rest) = field(bytes, 1, 1, 9)?;
-    step_of(alloc, clients, kind, rest)
+    step_of(alloc, version, clients, kind, rest)
 }
 
 /// So many steps.
 pub(crate) fn steps(
     alloc: Global,
+    version: Version,
     clients: usize,
     count: u32,
     bytes: &[u8],
 ) -> Result<(Vec<Step>, &[u8]), Stop>
     requires { 1 ≤ clients }
-    ensures { Gives (λ read. (read.0.items, read.1.now)) result (items_at (step_at clients) count bytes.now) }
+    ensures { Gives (λ read. (read.0.items, read.1.now)) result (items_at (step_at version clients) count bytes.now) }
 {
     let mut steps = Vec::new(alloc);
     let mut rest = bytes;
     for _ in 0..count {
-        let (step, after) = step(alloc, clients, rest)?;
+        let (step, after) = step(alloc, version, clients, rest)?;
         steps.push(step)?;
         rest = after;
     }

@@ -1,6 +1,6 @@
 //! What a saved log tells.
 ghost use Rattle.std.specs.Prelude.{◌≡◌};
-ghost use Rattle.log_text.specs.Text.{IsWithin, version_clients, version_number, version_tags};
+ghost use Rattle.log_text.specs.Text.{IsWithin, has_queries, version_clients, version_number, version_tags};
 
 use crate::{SavedLog, SavedReply, Version};
 use shared_machine::Step;
@@ -24,6 +24,16 @@ impl Version {
         match self {
             Version::First => 8,
             Version::Second => 16,
+        }
+    }
+
+    /// Whether it has a number for a query of a task.
+    pub(crate) fn has_queries(self) -> bool
+        ensures { result ≡ has_queries self }
+    {
+        match self {
+            Version::First => false,
+            Version::Second => true,
         }
     }
 

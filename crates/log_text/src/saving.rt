@@ -2,6 +2,7 @@
 ghost use Rattle.std.specs.Prelude.{◌≡◌, ◌≤◌, ◌<◌, ◌^◌, ◌++◌, length, map, take, OnOk};
 ghost use Rattle.std.specs.Io.KnownBytes.{Appends};
 ghost use Rattle.std.specs.List.{AllByRecursion, flat_map};
+ghost use Rattle.log_text.specs.declared.Version.{Version};
 ghost use Rattle.log_text.specs.Kept.{IsSavable, kept, saved_log, version_with, with_client};
 ghost use Rattle.log_text.specs.Text.{ReplyFits, StepFits, listed, log_text, reply_text, step_text};
 ghost use Rattle.log_text.specs.Writing.{Wrote};
@@ -45,7 +46,7 @@ fn kept_count(steps: &[Step], refusals: &[u8]) -> usize
 fn put_kept<W: Write>(out: &mut W, steps: &[Step], refusals: &[u8]) -> io::Result<()>
     requires told { length refusals.now ≡ length steps.now }
     requires few { length (kept steps.now refusals.now) < 2 ^ 32 }
-    requires fit { AllByRecursion (StepFits 31) (kept steps.now refusals.now) }
+    requires fit { AllByRecursion (StepFits Version.Second 31) (kept steps.now refusals.now) }
     ensures { OnOk result (Wrote W.contents out.old out.new (listed step_text (kept steps.now refusals.now))) }
 {
     put(out, 4, kept_count(steps, refusals) as u64)?;

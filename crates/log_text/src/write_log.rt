@@ -2,6 +2,7 @@
 ghost use Rattle.std.specs.Prelude.{◌≡◌, ◌≤◌, ◌<◌, ◌^◌, ◌++◌, length, OnOk};
 ghost use Rattle.std.specs.Io.KnownBytes.{Appends};
 ghost use Rattle.std.specs.List.{AllByRecursion, flat_map};
+ghost use Rattle.log_text.specs.declared.Version.{Version};
 ghost use Rattle.log_text.specs.Text.{IsWithin, ReplyFits, StepFits, UnitFits, field, header_text, listed, log_text, reply_text, step_text, unit_text};
 ghost use Rattle.log_text.specs.Writing.{Wrote};
 
@@ -67,7 +68,7 @@ pub(crate) fn put_units<W: Write>(out: &mut W, units: &[FirstUnit]) -> io::Resul
 /// The steps behind their count.
 fn put_steps<W: Write>(out: &mut W, steps: &[Step]) -> io::Result<()>
     requires few { length steps.now < 2 ^ 32 }
-    requires fit { AllByRecursion (StepFits 31) steps.now }
+    requires fit { AllByRecursion (StepFits Version.Second 31) steps.now }
     ensures { OnOk result (Wrote W.contents out.old out.new (listed step_text steps.now)) }
 {
     put(out, 4, steps.len() as u64)?;

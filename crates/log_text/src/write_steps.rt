@@ -1,5 +1,6 @@
 //! The steps of a log's text, written one by one.
 ghost use Rattle.std.specs.Prelude.{◌≡◌, ◌≤◌, ◌<◌, ◌^◌, length, OnOk};
+ghost use Rattle.log_text.specs.declared.Version.{Version};
 ghost use Rattle.log_text.specs.Text.{OpFits, PipeFits, StepFits, TaskFits, field, fields_text, op_code, op_fields, op_text, pipe_number, step_body, step_kind, step_text, task_function, task_tag, task_text};
 ghost use Rattle.log_text.specs.Writing.{Wrote};
 
@@ -68,6 +69,7 @@ fn task_function(task: &Task) -> u8
     match task {
         Task::Abort { .. } => 0x01,
         Task::Reset => 0x08,
+        Task::Query { .. } => 0x80,
     }
 }
 
@@ -75,7 +77,7 @@ fn task_tag(task: &Task) -> u16
     ensures { result ≡ task_tag task.now }
 {
     match task {
-        Task::Abort { tag } => *tag,
+        Task::Abort { tag } | Task::Query { tag } => *tag,
         Task::Reset => 0,
     }
 }
@@ -124,7 +126,7 @@ fn put_submission<W: Write>(
     ticket: u64,
     command: &Command,
 ) -> io::Result<()>
-    requires { StepFits 31 (Step.Submit client tag ticket command.now) }
+    requires { StepFits Version.Second 31 (Step.Submit client tag ticket command.now) }
     ensures { OnOk result (Wrote W.contents out.old out.new (step_body (Step.Submit client tag ticket command.now))) }
 {
     put(out, 1, client as u64)?;
@@ -157,7 +159,7 @@ fn put_retirement<W: Write>(out: &mut W, pipe: Pipe, tag: u16) -> io::Result<()>
 
 /// What stands behind a step's kind.
 fn put_body<W: Write>(out: &mut W, step: &Step) -> io::Result<()>
-    requires { StepFits 31 step.now }
+    requires { StepFits Version.Second 31 step.now }
     ensures { OnOk result (Wrote W.contents out.old out.new (step_body step.now)) }
 {
     match step {
@@ -181,7 +183,7 @@ fn put_body<W: Write>(out: &mut W, step: &Step) -> io::Result<()>
 
 /// A step. Asks one of at most 31 clients, and a buffer that fits.
 pub(crate) fn put_step<W: Write>(out: &mut W, step: &Step) -> io::Result<()>
-    requires { StepFits 31 step.now }
+    requires { StepFits Version.Second 31 step.now }
     ensures { OnOk result (Wrote W.contents out.old out.new (step_text step.now)) }
 {
     put(out, 1, u64::from(step_kind(step)))?;

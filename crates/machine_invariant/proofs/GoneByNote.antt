@@ -7,6 +7,7 @@ use Rattle.std.proofs.lemmas.List.{get_or-set_same}
 use Rattle.std.proofs.lemmas.Option.{none-some}
 use Rattle.arrayvec.specs.ArrayVec.{ArrayVec}
 use Rattle.scsi_cmd.specs.Held.{held_at}
+use Rattle.scsi_cmd.specs.Request.{ended_by}
 use Rattle.scsi_cmd.specs.declared.Request.{Request}
 use Rattle.scsi_cmd.specs.declared.Request.TheVariants.{Manage}
 use Rattle.scsi_cmd.specs.declared.SubmitFault.{SubmitFault}
@@ -21,6 +22,7 @@ use Rattle.shared_machine.specs.Part.{Part, managed_part, named_slot, new_manage
 use Rattle.shared_machine.specs.Shared.{Shared, managed_or, managed_to, shared_step}
 use Rattle.machine_invariant.specs.Ordered.{HasNoted, NotedBy, names, under}
 use Rattle.machine_invariant.specs.Reach.{EndsEarlierNamed, GoneByNote, NotedAtSubmission, RequestsStay, task_place}
+use Rattle.machine_invariant.proofs.OrderedParts.{ended-noted}
 use Rattle.machine_invariant.proofs.KeptRequests.{IsTakenOn}
 use Rattle.machine_invariant.proofs.MatchedPlaces.{under-found}
 use Rattle.machine_invariant.proofs.OrderedMessages.{under-there}
@@ -49,18 +51,18 @@ gone-noted state step place old now was is gone before =
         held = ended.1.held;
         request = ended.1.request;
         client = ended.1.client;
-        ticket_noted = ended.1.ticket_noted;
+        ticket_ended = ended.1.ticket_ended;
       },
     )
 
 -- the order facts say what a task management noted
 ends-named : (place : Place) (old management : Entry) (request : Request) (what : Task) (noted : ArrayVec ℕ) (part : Part) → request ≡ Manage what noted
     → NotedBy place.client part management request → held_at part.entries place.slot ≡ Some old → place.slot < TASK_SLOT
-    → is_noted noted.items old.task.ticket ≡ true → (names place.client place.slot what ≡ true) × (old.task.ticket < management.task.ticket)
+    → is_noted (ended_by what noted).items old.task.ticket ≡ true → (names place.client place.slot what ≡ true) × (old.task.ticket < management.task.ticket)
 ends-named place old management request what noted part asks noted_by held within is =
-    let noting : HasNoted place.client part management what noted.items = subst (λ r. NotedBy place.client part management r) asks noted_by in
+    let noting : HasNoted place.client part management what noted = subst (λ r. NotedBy place.client part management r) asks noted_by in
     let both = and_parts (names place.client place.slot what) (nat_lt old.task.ticket management.task.ticket)
-    (sym (noting.exact place.slot old within held) ∙ is) in
+    (sym (noting.exact place.slot old within held) ∙ ended-noted what noted old.task.ticket is) in
     (both.0, ltb-true old.task.ticket management.task.ticket both.1)
 
 pub ends-earlier : EndsEarlierNamed
@@ -69,7 +71,7 @@ ends-earlier state place old ordered was within ended =
     let there : slice_get state.parts ended.head.client ≡ Some found.part = ap (λ client. slice_get state.parts client) ended.client ∙ found.there in
     let held : held_at found.part.entries ended.head.slot ≡ Some ended.management = sym (under-there state.parts ended.head found.part there) ∙ ended.held in
     ends-named place old ended.management ended.management.task.request ended.what ended.noted found.part ended.request
-    ((ordered.parts place.client found.part found.there).noted ended.head.slot ended.management held) found.held within ended.ticket_noted
+    ((ordered.parts place.client found.part found.there).noted ended.head.slot ended.management held) found.held within ended.ticket_ended
 
 pub requests-stay : RequestsStay
 requests-stay state step place old now was is = let on = taken-on state step place old now was is in (on.ticket, on.request)

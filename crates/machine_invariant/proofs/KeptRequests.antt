@@ -11,9 +11,10 @@ use Rattle.solo_model.specs.declared.TaskProgress.TheVariants.{Moving, Ended}
 use Rattle.scsi_cmd.specs.Held.{held_at}
 use Rattle.scsi_cmd.specs.declared.Reply.{Reply}
 use Rattle.scsi_cmd.specs.declared.Request.{Request}
+use Rattle.scsi_cmd.specs.Request.{ended_by}
 use Rattle.scsi_cmd.specs.declared.Request.TheVariants.{Execute, Manage}
 use Rattle.scsi_cmd.specs.declared.Task.{Task}
-use Rattle.solo_model.specs.TaggedTask.{TaggedTask, can_be_ended, carried, carried_from, carried_request, is_noted, moved, moved_from, moved_request, sent}
+use Rattle.solo_model.specs.TaggedTask.{TaggedTask, can_be_ended, carried, carried_from, carried_request, finds, is_noted, moved, moved_from, moved_request, sent}
 use Rattle.solo_model.specs.TaggedTask.{sent_from}
 use Rattle.solo_model.specs.declared.Phase.{Phase}
 use Rattle.solo_model.specs.declared.Phase.TheVariants.{Queued, Begun, Sent, Gone}
@@ -24,6 +25,7 @@ use Rattle.shared_machine.specs.declared.Completion.TheVariants.{CommandDone, Da
 use Rattle.shared_machine.specs.Td.{Entry, passed_on, passed_td, retired_on, trbs_on, with_trb_taken}
 use Rattle.shared_machine.specs.Part.{Part, after_answer, after_event, carried_entry, carried_slot, carry_act, data_td_after, doomed, entries_after, entry_reply}
 use Rattle.shared_machine.specs.Part.{event_act, event_place, is_doomed, move_act, moved_entry, moved_slot, noted_entry, pass_act, passed_slot, retire_act}
+use Rattle.shared_machine.specs.Part.{tasks_in}
 use Rattle.shared_machine.specs.Part.{seen_by, seen_entry, send_act, sent_entry, sent_slot, settled, slot_tag, stop_act, take_act, taken, took_trb}
 use Rattle.shared_machine.proofs.KeptTasks.{retired_on-task, seen_by-task, with_td_on-task}
 use Rattle.machine_invariant.proofs.OrderedEntries.{held-changed}
@@ -119,17 +121,18 @@ going-kept : (MayEnd : ℕ → Type 0) (was now : Entry) → GoesOn was.task now
 going-kept MayEnd was now on =
     record { ticket = on.ticket; request = on.request; gone = λ is before. absurd (false≢true (sym on.stays ∙ ap (λ phase. is_gone phase) is)) }
 
-carried-on : (unit : BlockMaps) (task : TaggedTask) (phase : Phase) (after : BlockMaps × TaggedTask) → carried_from unit task phase ≡ Some after
+carried-on : (unit : BlockMaps) (found : Bool) (task : TaggedTask) (phase : Phase) (after : BlockMaps × TaggedTask)
+    → carried_from unit found task phase ≡ Some after
     → GoesOn task after.1
-carried-on unit task Queued after is =
-    let same : carried_request unit task task.request ≡ after = same_Some (carried_request unit task task.request) after is in record {
+carried-on unit found task Queued after is =
+    let same : carried_request unit found task task.request ≡ after = same_Some (carried_request unit found task task.request) after is in record {
       ticket = ap (λ (a : BlockMaps × TaggedTask). a.1.ticket) (sym same);
       request = ap (λ (a : BlockMaps × TaggedTask). a.1.request) (sym same);
       stays = ap (λ (a : BlockMaps × TaggedTask). is_gone a.1.phase) (sym same);
     }
-carried-on unit task (Begun progress) after is = absurd (none-some after is)
-carried-on unit task (Sent answer) after is = absurd (none-some after is)
-carried-on unit task Gone after is = absurd (none-some after is)
+carried-on unit found task (Begun progress) after is = absurd (none-some after is)
+carried-on unit found task (Sent answer) after is = absurd (none-some after is)
+carried-on unit found task Gone after is = absurd (none-some after is)
 
 moved_request-on : (unit : BlockMaps) (task : TaggedTask) (chunk : ℕ) (request : Request) (after : BlockMaps × TaggedTask)
     → moved_request unit task chunk request ≡ Some after → GoesOn task after.1
@@ -163,11 +166,11 @@ sent-on task Gone after is = absurd (none-some after is)
 
 -- CARRY
 
--- what a task management noted that is under this slot
+-- what a task management ends that is under this slot
 abbrev pub NotesEnd : (ℕ → Type 0) → Part → ℕ → Type 0
 NotesEnd MayEnd part slot =
     (management : Entry) (what : Task) (noted : ArrayVec ℕ) (ticket : ℕ) → held_at part.entries slot ≡ Some management
-    → management.task.request ≡ Manage what noted → is_noted noted.items ticket ≡ true → MayEnd ticket
+    → management.task.request ≡ Manage what noted → is_noted (ended_by what noted).items ticket ≡ true → MayEnd ticket
 
 -- an entry that it may end
 noted-taken : (MayEnd : ℕ → Type 0) (noted : List ℕ) (entry : Entry) → (is_noted noted entry.task.ticket ≡ true → MayEnd entry.task.ticket)
@@ -185,29 +188,32 @@ noted-taken MayEnd noted entry ends =
 
 -- what stands in each slot once the request under one was received
 received-kept : (MayEnd : ℕ → Type 0) (request : Request) (entries : List (Option Entry))
-    → ((what : Task) (noted : ArrayVec ℕ) (ticket : ℕ) → request ≡ Manage what noted → is_noted noted.items ticket ≡ true → MayEnd ticket)
+    → ((what : Task) (noted : ArrayVec ℕ) (ticket : ℕ) → request ≡ Manage what noted → is_noted (ended_by what noted).items ticket ≡ true → MayEnd ticket)
     → AreKept MayEnd entries (entries_after request entries)
 received-kept MayEnd (Execute op) entries ends slot was now held_was held_now = AreKept-self MayEnd entries slot was now held_was held_now
 received-kept MayEnd (Manage what noted) entries ends slot was now held_was held_now =
-    let same : noted_entry noted.items was ≡ now = same_Some (noted_entry noted.items was) now
-    (ap (option_map (noted_entry noted.items)) (sym held_was) ∙ sym (held-changed (noted_entry noted.items) entries slot) ∙ held_now) in
+    let ended : List ℕ = (ended_by what noted).items in
+    let same : noted_entry (ended_by what noted).items was ≡ now = same_Some (noted_entry ended was) now
+    (ap (option_map (noted_entry ended)) (sym held_was) ∙ sym (held-changed (noted_entry ended) entries slot) ∙ held_now) in
     subst (λ (e : Entry). IsTakenOn MayEnd was e) same
-    (noted-taken MayEnd noted.items was (λ is. ends what noted was.task.ticket refl is))
+    (noted-taken MayEnd ended was (λ is. ends what noted was.task.ticket refl is))
 
 carried_entry-kept : (MayEnd : ℕ → Type 0) (place : Place) (part : Part) (entry : Entry) (after : Option (BlockMaps × TaggedTask))
-    → NotesEnd MayEnd part place.slot → held_at part.entries place.slot ≡ Some entry → carried part.unit entry.task ≡ after
+    → NotesEnd MayEnd part place.slot → held_at part.entries place.slot ≡ Some entry
+    → carried part.unit (finds entry.task.request (tasks_in part.entries)) entry.task ≡ after
     → AreKept MayEnd part.entries (carried_entry part place.slot place entry after).part.entries
 carried_entry-kept MayEnd place part entry None ends held is = AreKept-self MayEnd part.entries
 carried_entry-kept MayEnd place part entry (Some after) ends held is =
     let now : Entry = record entry { task = after.1; command_td = with_trb_taken entry.command_td } in
     entry-kept MayEnd part.entries (entries_after entry.task.request part.entries) place.slot entry now held
     (received-kept MayEnd entry.task.request part.entries (λ what noted ticket asks. ends entry what noted ticket held asks))
-    (going-kept MayEnd entry now (carried-on part.unit entry.task entry.task.phase after is))
+    (going-kept MayEnd entry now (carried-on part.unit (finds entry.task.request (tasks_in part.entries)) entry.task entry.task.phase after is))
 
 carried_slot-kept : (MayEnd : ℕ → Type 0) (place : Place) (part : Part) (held : Option Entry) → NotesEnd MayEnd part place.slot
     → held_at part.entries place.slot ≡ held → AreKept MayEnd part.entries (carried_slot part place.slot place held).part.entries
 carried_slot-kept MayEnd place part None ends is = AreKept-self MayEnd part.entries
-carried_slot-kept MayEnd place part (Some entry) ends is = carried_entry-kept MayEnd place part entry (carried part.unit entry.task) ends is refl
+carried_slot-kept MayEnd place part (Some entry) ends is =
+    carried_entry-kept MayEnd place part entry (carried part.unit (finds entry.task.request (tasks_in part.entries)) entry.task) ends is refl
 
 -- the device receives a request: what it ends it had noted
 pub carry_act-kept : (MayEnd : ℕ → Type 0) (place : Place) (part : Part) → NotesEnd MayEnd part place.slot
@@ -264,7 +270,7 @@ answered-kept : (MayEnd : ℕ → Type 0) (request : Request) (entries after : L
     → AreKept MayEnd entries (after_answer request after)
 answered-kept MayEnd (Execute op) entries after each = each
 answered-kept MayEnd (Manage what noted) entries after each =
-    changed-kept MayEnd (doomed noted.items) entries after each (doomed-taken MayEnd noted.items)
+    changed-kept MayEnd (doomed (ended_by what noted).items) entries after each (doomed-taken MayEnd (ended_by what noted).items)
 
 after_event-kept : (MayEnd : ℕ → Type 0) (event : Completion) (request : Request) (entries after : List (Option Entry)) → AreKept MayEnd entries after
     → AreKept MayEnd entries (after_event event request after)

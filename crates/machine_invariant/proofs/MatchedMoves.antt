@@ -6,7 +6,7 @@ use Rattle.std.proofs.lemmas.Bool.{and_left, false≢true, and_parts}
 use Rattle.std.proofs.lemmas.List.{set-set}
 use Rattle.arrayvec.specs.ArrayVec.{ArrayVec}
 use Rattle.block_unit.specs.BlockMaps.{BlockMaps}
-use Rattle.scsi_cmd.specs.Request.{is_command}
+use Rattle.scsi_cmd.specs.Request.{ended_by, is_command}
 use Rattle.scsi_cmd.specs.declared.Task.{Task}
 use Rattle.uas_profile.specs.declared.TheConstants.{TASK_SLOT}
 use Rattle.scsi_cmd.specs.declared.Op.{Op}
@@ -15,7 +15,7 @@ use Rattle.scsi_cmd.specs.declared.Request.TheVariants.{Execute, Manage}
 use Rattle.scsi_cmd.specs.Held.{held_at}
 use Rattle.solo_model.specs.declared.TaskAnswer.{TaskAnswer}
 use Rattle.solo_model.specs.declared.TaskProgress.TheVariants.{Moving, Ended}
-use Rattle.solo_model.specs.TaggedTask.{TaggedTask, can_be_ended, can_go, carried_from, carried_request, is_noted, moved_from, moved_request}
+use Rattle.solo_model.specs.TaggedTask.{TaggedTask, can_be_ended, can_go, carried_from, carried_request, finds, is_noted, moved_from, moved_request}
 use Rattle.solo_model.specs.TaggedTask.{sent_from, unit_after}
 use Rattle.solo_model.specs.declared.Phase.{Phase}
 use Rattle.solo_model.specs.declared.Phase.TheVariants.{Queued, Begun, Sent, Gone}
@@ -28,6 +28,7 @@ use Rattle.shared_machine.specs.declared.Completion.TheVariants.{CommandDone, St
 use Rattle.shared_machine.specs.declared.Step.TheVariants.{Data, Status}
 use Rattle.shared_machine.specs.Td.{Entry, has_trb, data_trbs}
 use Rattle.shared_machine.specs.Part.{Part, Act, with_entry, carry_act, carried_slot, carried_entry, entries_after, noted_entry, is_last_trb, took_trb, move_act}
+use Rattle.shared_machine.specs.Part.{tasks_in}
 use Rattle.shared_machine.specs.Part.{moved_slot, moved_entry, send_act, sent_slot, sent_entry}
 use Rattle.shared_machine.specs.Shared.{Shared, acted_on, carry_step, routed_to, routed_by_tag, due}
 use Rattle.shared_machine.specs.Shared.{is_moving, is_ended, data_is_due, status_is_due}
@@ -45,6 +46,7 @@ use Rattle.shared_machine.proofs.Standing.{slice_get-slice_set_same}
 use Rattle.machine_invariant.proofs.MatchedActs.{IsHeld, matched-held, IsDueAt, place_fact-due}
 use Rattle.machine_invariant.proofs.MatchedActs.{NamesAlone, acted_state, acted-matched, under-there}
 use Rattle.machine_invariant.proofs.MatchedOthers.{AreAlike, changed_part, changed_state, alike-counted, noted-alike}
+use Rattle.machine_invariant.proofs.OrderedParts.{ended-noted}
 use Rattle.machine_invariant.proofs.OrderedManaged.{of_client, noted-as_received}
 use Rattle.machine_invariant.proofs.OrderedEntries.{held-changed}
 
@@ -92,31 +94,31 @@ command_act-is part place entry after command =
 pub carry_step-is : (state : Shared) (place : Place) (rest : List Place) (part : Part) (entry : Entry) → slice_get state.parts place.client ≡ Some part →
     held_at part.entries place.slot ≡ Some entry → entry.task.phase ≡ Queued →
     carry_step state (place ∷ rest) ≡ acted_on (record state { messages = rest }) place.client
-    (carried_entry part place.slot place entry (Some (carried_request part.unit entry.task entry.task.request)))
+    (carried_entry part place.slot place entry (Some (carried_request part.unit (finds entry.task.request (tasks_in part.entries)) entry.task entry.task.request)))
 carry_step-is state place rest part entry there held queued =
     let popped : Shared = record state { messages = rest } in
     ap (λ found. routed_to popped place.client (carry_act place) found) there
     ∙ ap (λ found. acted_on popped place.client (carried_slot part place.slot place found)) held
-    ∙ ap (λ phase. acted_on popped place.client (carried_entry part place.slot place entry (carried_from part.unit entry.task phase))) queued
+    ∙ ap (λ phase. acted_on popped place.client (carried_entry part place.slot place entry (carried_from part.unit (finds entry.task.request (tasks_in part.entries)) entry.task phase))) queued
 
 -- the same of a command
 pub carry_step-held : (state : Shared) (place : Place) (rest : List Place) (part : Part) (entry : Entry) → slice_get state.parts place.client ≡ Some part →
     held_at part.entries place.slot ≡ Some entry → is_command entry.task.request ≡ true → entry.task.phase ≡ Queued →
     carry_step state (place ∷ rest) ≡ acted_on (record state { messages = rest }) place.client
-    (command_act part place entry (carried_request part.unit entry.task entry.task.request))
+    (command_act part place entry (carried_request part.unit (finds entry.task.request (tasks_in part.entries)) entry.task entry.task.request))
 carry_step-held state place rest part entry there held command queued =
     let popped : Shared = record state { messages = rest } in
     carry_step-is state place rest part entry there held queued
-    ∙ ap (λ act. acted_on popped place.client act) (command_act-is part place entry (carried_request part.unit entry.task entry.task.request) command)
+    ∙ ap (λ act. acted_on popped place.client act) (command_act-is part place entry (carried_request part.unit (finds entry.task.request (tasks_in part.entries)) entry.task entry.task.request) command)
 
 pub command-received : (state : Shared) (place : Place) (rest : List Place) (part : Part) (entry : Entry) → slice_get state.parts place.client ≡ Some part →
     held_at part.entries place.slot ≡ Some entry → is_command entry.task.request ≡ true → entry.task.phase ≡ Queued → state.messages ≡ place ∷ rest →
     IsMatchedAt state place (Some entry) → IsMatched state → IsCounted (carry_step state (place ∷ rest)).0
 command-received state place rest part entry there held command queued is here all =
-    let after : BlockMaps × TaggedTask = carried_request part.unit entry.task entry.task.request in
+    let after : BlockMaps × TaggedTask = carried_request part.unit (finds entry.task.request (tasks_in part.entries)) entry.task entry.task.request in
     subst (λ (now : Shared × Outcome). IsCounted now.0) (sym (carry_step-held state place rest part entry there held command queued))
     (acted-matched state place part after.0 entry (carried_to entry after.1) (place ∷ []) rest (CommandDone place ∷ []) there held is (carry-alone place) refl
-    (carry-tds part.unit entry) (carry-stepped part.unit place entry queued here.sound) here (counted-of state all))
+    (carry-tds part.unit (finds entry.task.request (tasks_in part.entries)) entry) (carry-stepped part.unit (finds entry.task.request (tasks_in part.entries)) place entry queued here.sound) here (counted-of state all))
 
 -- A TASK MANAGEMENT IS RECEIVED
 
@@ -132,7 +134,7 @@ pub command-slot : (slot : ℕ) (request : Request) → is_command request ≡ t
 command-slot slot (Execute op) command is = is
 command-slot slot (Manage what noted) command is = absurd (false≢true command)
 
--- a task management notes no other, itself included
+-- a task management ends no other, itself included
 pub managed-same : (noted : List ℕ) (entry : Entry) → is_command entry.task.request ≡ false → noted_entry noted entry ≡ entry
 managed-same noted entry is =
     ap (λ b. record entry { task = if b then record entry.task { phase = Gone } else entry.task })
@@ -144,15 +146,15 @@ pub management-received : (state : Shared) (place : Place) (rest : List Place) (
     IsCounted (carry_step state (place ∷ rest)).0
 management-received state place rest part entry what noted there held asks queued is here all =
     let counted : IsCounted state = counted-of state all in
-    let change : Entry → Entry = noted_entry noted.items in
+    let change : Entry → Entry = noted_entry (ended_by what noted).items in
     let base : Shared = changed_state state place.client change part in
     let now_part : Part = changed_part change part in
-    let after : BlockMaps × TaggedTask = carried_request part.unit entry.task entry.task.request in
+    let after : BlockMaps × TaggedTask = carried_request part.unit (finds entry.task.request (tasks_in part.entries)) entry.task entry.task.request in
     let posted : List Completion = CommandDone place ∷ [] in
     let bases : IsCounted base = alike-counted state place.client change part there each counted in
     let base_there : slice_get base.parts place.client ≡ Some now_part = slice_get-slice_set_same state.parts place.client part now_part there in
     let base_held : held_at now_part.entries place.slot ≡ Some entry =
-    held-changed change part.entries place.slot ∙ ap (option_map change) held ∙ ap Some (managed-same noted.items entry (ap (λ r. is_command r) asks)) in
+    held-changed change part.entries place.slot ∙ ap (option_map change) held ∙ ap Some (managed-same (ended_by what noted).items entry (ap (λ r. is_command r) asks)) in
     let base_here : IsMatchedAt base place (Some entry) = other-sound base place now_part place.slot entry base_there base_held bases in
     let acted : Shared = acted_state base place now_part after.0 (carried_to entry after.1) rest posted in
     let step : (carry_step state (place ∷ rest)).0 ≡ acted =
@@ -167,15 +169,15 @@ management-received state place rest part entry what noted there held asks queue
     (sym (set-set state.parts place.client now_part (with_entry (record now_part { unit = after.0 }) place.slot (carried_to entry after.1)))) in
     subst IsCounted (sym step)
     (acted-matched base place now_part after.0 entry (carried_to entry after.1) (place ∷ []) rest posted base_there base_held is (carry-alone place) refl
-    (carry-tds part.unit entry) (carry-stepped part.unit place entry queued here.sound) base_here bases)
+    (carry-tds part.unit (finds entry.task.request (tasks_in part.entries)) entry) (carry-stepped part.unit (finds entry.task.request (tasks_in part.entries)) place entry queued here.sound) base_here bases)
   where
-    each : AreAlike (noted_entry noted.items) part.entries
+    each : AreAlike (noted_entry (ended_by what noted).items) part.entries
     each slot other is_other =
         let at : IsMatchedAt state (of_client place slot) (Some other) = other-sound state place part slot other there is_other (counted-of state all) in
-        noted-alike noted.items slot other
+        noted-alike (ended_by what noted).items slot other
         (λ command noted_is. (noted-as_received state place rest entry what noted all is (under-there state.parts place part (Some entry) there held) asks slot
         other (command-slot slot other.task.request command at.sound.asks) (under-there state.parts (of_client place slot) part (Some other) there is_other)
-        ).received noted_is)
+        ).received (ended-noted what noted other.task.ticket noted_is))
         at.sound
 
 pub carry_step-matched : (state : Shared) (messages : List Place) → state.messages ≡ messages → IsMatched state → IsCounted (carry_step state messages).0

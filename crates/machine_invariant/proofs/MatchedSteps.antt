@@ -7,7 +7,7 @@ use Rattle.std.proofs.lemmas.Bool.{and_left, false≢true}
 use Rattle.std.proofs.lemmas.List.{append-nil, get_or-set_other, set-set}
 use Rattle.arrayvec.specs.ArrayVec.{ArrayVec}
 use Rattle.uas_profile.specs.declared.Pipe.{Pipe}
-use Rattle.scsi_cmd.specs.Request.{is_command}
+use Rattle.scsi_cmd.specs.Request.{ended_by, is_command}
 use Rattle.scsi_cmd.specs.declared.Task.{Task}
 use Rattle.uas_profile.specs.declared.TheConstants.{TASK_SLOT}
 use Rattle.scsi_cmd.specs.declared.Reply.{Reply}
@@ -162,8 +162,8 @@ told-own (CommandDone place) request entries slot new asks held = held
 told-own (DataDone place) request entries slot new asks held = held
 told-own (StatusDone place) (Execute op) entries slot new asks held = held
 told-own (StatusDone place) (Manage what noted) entries slot new asks held =
-    held-changed (doomed noted.items) entries slot ∙ ap (option_map (doomed noted.items)) held
-    ∙ ap Some (undoomed-same noted.items new (ap (λ r. is_command r) asks))
+    held-changed (doomed (ended_by what noted).items) entries slot ∙ ap (option_map (doomed (ended_by what noted).items)) held
+    ∙ ap Some (undoomed-same (ended_by what noted).items new (ap (λ r. is_command r) asks))
 told-own (EngineDone place) request entries slot new asks held = held
 
 response-seen : (state : Shared) (place : Place) (rest : List Completion) (part : Part) (old new : Entry) (what : Task) (noted : ArrayVec ℕ) →
@@ -172,7 +172,7 @@ response-seen : (state : Shared) (place : Place) (rest : List Completion) (part 
     IsCounted (told_state state (StatusDone place) part new rest)
 response-seen state place rest part old new what noted is there held asks seen here all =
     let event : Completion = StatusDone place in
-    let change : Entry → Entry = doomed noted.items in
+    let change : Entry → Entry = doomed (ended_by what noted).items in
     let base : Shared = seen_state state place part new rest in
     let now_part : Part = seen_part part place.slot new in
     let bases : IsCounted base = seen-matched state event rest part old new refl is there held seen here (counted-of state all) in
@@ -188,10 +188,10 @@ response-seen state place rest part old new what noted is there held asks seen h
     (alike-counted base place.client change now_part base_there (each base bases now_part base_there slot refl) bases)
   where
     each : (base : Shared) → IsCounted base → (now_part : Part) → slice_get base.parts place.client ≡ Some now_part → place.slot ≡ TASK_SLOT →
-        now_part.entries ≡ slice_set part.entries place.slot (Some new) → AreAlike (doomed noted.items) now_part.entries
+        now_part.entries ≡ slice_set part.entries place.slot (Some new) → AreAlike (doomed (ended_by what noted).items) now_part.entries
     each base bases now_part base_there last entries slot other is_other =
         let at : IsMatchedAt base (of_client place slot) (Some other) = other-sound base place now_part slot other base_there is_other bases in
-        doomed-alike noted.items slot other
+        doomed-alike (ended_by what noted).items slot other
         (λ command noted_is pends.
         let within : slot < TASK_SLOT = command-slot slot other.task.request command at.sound.asks in
         let was : held_at part.entries slot ≡ Some other =

@@ -8,17 +8,18 @@ use Rattle.scsi_cmd.specs.Request.{is_command}
 use Rattle.scsi_cmd.specs.declared.Op.{Op}
 use Rattle.scsi_cmd.specs.Op.{moved_bytes}
 use Rattle.scsi_cmd.specs.declared.Request.{Request}
+use Rattle.scsi_cmd.specs.declared.Task.{Task}
+use Rattle.scsi_cmd.specs.declared.Task.TheVariants.{Abort, Reset, Query}
 use Rattle.scsi_cmd.specs.declared.Request.TheVariants.{Execute, Manage}
 use Rattle.scsi_cmd.specs.Work.{reports_attention}
 use Rattle.device_server.specs.declared.Answer.TheVariants.{Good, Check}
-use Rattle.solo_model.specs.declared.ResponseCode.TheVariants.{Complete}
 use Rattle.solo_model.specs.declared.TaskAnswer.TheVariants.{WithStatus, WithResponse}
 use Rattle.solo_model.specs.declared.TaskProgress.{TaskProgress}
 use Rattle.solo_model.specs.declared.TaskProgress.TheVariants.{Moving, Ended}
 use Rattle.device_server.specs.Laws.{after_chunk, begun_progress}
 use Rattle.solo_model.specs.declared.Phase.{Phase}
 use Rattle.solo_model.specs.declared.Phase.TheVariants.{Queued, Begun, Sent, Gone}
-use Rattle.solo_model.specs.TaggedTask.{TaggedTask, buffer_after, carried_request, of_command, progress_left}
+use Rattle.solo_model.specs.TaggedTask.{TaggedTask, buffer_after, carried_request, of_command, progress_left, response_to}
 use Rattle.uas_profile.specs.TdStates.{is_over, is_pending, is_seen}
 use Rattle.uas_profile.specs.declared.Place.{Place}
 use Rattle.shared_machine.specs.declared.Td.{Td}
@@ -29,7 +30,7 @@ use Rattle.shared_machine.specs.Part.{data_td_after, entries_after, took_trb, is
 use Rattle.shared_machine.specs.Soundness.{one_if, awaited_data}
 use Rattle.machine_invariant.specs.Matched.{same_place, times, command_events, data_events, status_events, waiting_command, awaited_command, awaited_status}
 use Rattle.machine_invariant.specs.Matched.{awaited_data_of, IsCommandTd, IsStatusTd, IsMovingTd, IsWholeTd, IsShortTd, IsWithinTd, IsDataTd}
-use Rattle.machine_invariant.specs.Matched.{IsMatchedEntry, IsCommandPhase, IsManagedPhase, IsPhaseOf, retired_places}
+use Rattle.machine_invariant.specs.Matched.{IsMatchedEntry, IsCommandPhase, IsManagedPhase, IsPhaseOf, IsResponseTo, retired_places}
 use Rattle.machine_invariant.proofs.MatchedPlaces.{one_self}
 use Rattle.machine_invariant.proofs.MatchedTds.{TdGoesOn, TdsGoOn, td-same, td-taken}
 
@@ -50,7 +51,7 @@ asked_op (Manage what noted) command = absurd (false≢true command)
 -- what moves data is a command
 pub moving_op : (request : Request) (phase : Phase) (chunk : ℕ) → phase ≡ Begun (Moving chunk) → IsPhaseOf request phase → (op : Op) × (request ≡ Execute op)
 moving_op (Execute op) phase chunk moving answers = (op, refl)
-moving_op (Manage what noted) phase chunk moving answers = absurd (subst (λ p. IsManagedPhase p) moving answers)
+moving_op (Manage what noted) phase chunk moving answers = absurd (subst (λ p. IsManagedPhase what p) moving answers)
 
 -- a command may be at any phase, but for one with a response
 pub command-answers : (request : Request) (op : Op) (phase : Phase) → request ≡ Execute op → IsCommandPhase phase → IsPhaseOf request phase
@@ -94,10 +95,17 @@ moving-nothing trbs chunk (Some td) none is = absurd (omega (arith, none, is.2))
 abbrev pub carried_to : Entry → TaggedTask → Entry
 carried_to entry task = record entry { task = task; command_td = with_trb_taken entry.command_td }
 
-pub received : (unit : BlockMaps) (slot : ℕ) (entry : Entry) (request : Request) → entry.task.request ≡ request → entry.command_td ≡ pushed
+-- its response
+pub response-fits : (what : Task) (found : Bool) → IsResponseTo what (response_to what found)
+response-fits (Abort tag) found = tt
+response-fits Reset found = tt
+response-fits (Query tag) true = refl
+response-fits (Query tag) false = tt
+
+pub received : (unit : BlockMaps) (found : Bool) (slot : ℕ) (entry : Entry) (request : Request) → entry.task.request ≡ request → entry.command_td ≡ pushed
     → entry.status_td ≡ pushed → IsMovingTd (data_trbs entry.task.request) 0 entry.data_td → IsMatchedEntry slot entry
-    → IsMatchedEntry slot (carried_to entry (carried_request unit entry.task request).1)
-received unit slot entry (Execute op) is command status chunks sound =
+    → IsMatchedEntry slot (carried_to entry (carried_request unit found entry.task request).1)
+received unit found slot entry (Execute op) is command status chunks sound =
     let one : (with_trb_taken entry.command_td).consumed ≡ 1 = ap (λ (td : Td). td.consumed + 1) command in
     let answers : (phase : Phase) → IsCommandPhase phase → IsPhaseOf entry.task.request phase =
     λ phase fine. command-answers entry.task.request op phase is fine in
@@ -131,9 +139,9 @@ received unit slot entry (Execute op) is command status chunks sound =
       moves = sound.moves;
       small = sound.small;
     })
-received unit slot entry (Manage what noted) is command status chunks sound = record {
+received unit found slot entry (Manage what noted) is command status chunks sound = record {
   asks = sound.asks;
-  answers = subst (λ r. IsPhaseOf r (Begun (Ended (WithResponse Complete)))) (sym is) tt;
+  answers = subst (λ r. IsPhaseOf r (Begun (Ended (WithResponse (response_to what found))))) (sym is) (response-fits what found);
   command = ap (λ (td : Td). td.consumed + 1) command;
   status = status;
   chunks = moving-nothing (data_trbs entry.task.request) 0 entry.data_td (ap data_trbs is) chunks;
@@ -142,9 +150,10 @@ received unit slot entry (Manage what noted) is command status chunks sound = re
 }
 
 -- the device receives the request
-pub carry-stepped : (unit : BlockMaps) (place : Place) (entry : Entry) → entry.task.phase ≡ Queued → IsMatchedEntry place.slot entry →
-    IsStepped place (place ∷ []) (CommandDone place ∷ []) entry (carried_to entry (carried_request unit entry.task entry.task.request).1)
-carry-stepped unit place entry queued sound =
+pub carry-stepped : (unit : BlockMaps) (found : Bool) (place : Place) (entry : Entry) → entry.task.phase ≡ Queued → IsMatchedEntry place.slot entry →
+    IsStepped place (place ∷ []) (CommandDone place ∷ []) entry
+    (carried_to entry (carried_request unit found entry.task entry.task.request).1)
+carry-stepped unit found place entry queued sound =
     let command : entry.command_td ≡ pushed = subst (λ p. IsCommandTd p entry.command_td) queued sound.command in
     let status : entry.status_td ≡ pushed = subst (λ p. IsStatusTd p entry.status_td) queued sound.status in
     let chunks : IsMovingTd (data_trbs entry.task.request) 0 entry.data_td = subst
@@ -160,17 +169,19 @@ carry-stepped unit place entry queued sound =
       moved = omega arith;
       sent = omega arith;
       ready = refl;
-      sound = received unit place.slot entry entry.task.request refl command status chunks sound;
+      sound = received unit found place.slot entry entry.task.request refl command status chunks sound;
     }
 
 -- no TD but the command's changes
-pub carried_request-asked : (unit : BlockMaps) (task : TaggedTask) (request : Request) → (carried_request unit task request).1.request ≡ task.request
-carried_request-asked unit task (Execute op) = refl
-carried_request-asked unit task (Manage what noted) = refl
+pub carried_request-asked : (unit : BlockMaps) (found : Bool) (task : TaggedTask) (request : Request)
+    → (carried_request unit found task request).1.request ≡ task.request
+carried_request-asked unit found task (Execute op) = refl
+carried_request-asked unit found task (Manage what noted) = refl
 
-pub carry-tds : (unit : BlockMaps) (entry : Entry) → TdsGoOn entry (carried_to entry (carried_request unit entry.task entry.task.request).1)
-carry-tds unit entry = record {
-  request = carried_request-asked unit entry.task entry.task.request;
+pub carry-tds : (unit : BlockMaps) (found : Bool) (entry : Entry)
+    → TdsGoOn entry (carried_to entry (carried_request unit found entry.task entry.task.request).1)
+carry-tds unit found entry = record {
+  request = carried_request-asked unit found entry.task entry.task.request;
   status = td-same 1 (Some entry.status_td);
   data_tds = td-same (data_trbs entry.task.request) entry.data_td;
 }

@@ -7,6 +7,7 @@ use Rattle.std.proofs.lemmas.Bool.{and_parts, eqb-true, false≢true, false_from
 use Rattle.std.proofs.lemmas.Option.{none-some, same_Some}
 use Rattle.block_unit.specs.BlockMaps.{BlockMaps}
 use Rattle.scsi_cmd.specs.Held.{held_at}
+use Rattle.scsi_cmd.specs.Request.{ended_by}
 use Rattle.scsi_cmd.specs.declared.Request.{Request}
 use Rattle.scsi_cmd.specs.declared.Request.TheVariants.{Execute, Manage}
 use Rattle.uas_profile.specs.declared.TheConstants.{TASK_SLOT}
@@ -23,7 +24,7 @@ use Rattle.shared_machine.specs.Part.{Act, Part, after_answer, after_event, data
 use Rattle.shared_machine.specs.Part.{event_place, is_last_trb, move_act, moved_entry, moved_slot, nothing, pass_act, passed_slot, retire_act, seen_by, seen_entry}
 use Rattle.shared_machine.specs.Part.{send_act, sent_entry, sent_slot, stop_act, took_trb}
 use Rattle.shared_machine.specs.Shared.{Shared}
-use Rattle.machine_invariant.specs.Ordered.{AreBehind, IsOrderedPart, IsUnnoted, is_noted_by, is_queued, notes_ticket, ticket_at, under}
+use Rattle.machine_invariant.specs.Ordered.{AreBehind, IsOrderedPart, IsNotEnded, is_ended_by, is_queued, ends_ticket, ticket_at, under}
 use Rattle.machine_invariant.specs.Matched.{IsMatched, IsRequestIn, status_events}
 use Rattle.shared_machine.proofs.KeptTasks.{retired_on-task, seen_by-task, with_td_on-task, doomed-task}
 use Rattle.machine_invariant.proofs.OrderedEntries.{AreNext, AreNext-changed, AreNext-written, IsNext-self, IsOnward, IsOnward-then, IsStill, kept-still, IsNext-weaker}
@@ -37,7 +38,7 @@ use Rattle.machine_invariant.proofs.OrderedParts.{still-ordered}
 -- an event that is posted is of nothing that a response before it noted
 abbrev pub AreNotices : Shared → Option Completion → Type 0
 AreNotices state None = Unit {0}
-AreNotices state (Some event) = (place : Place) → 1 ≤ status_events place state.events → IsUnnoted state.parts place event
+AreNotices state (Some event) = (place : Place) → 1 ≤ status_events place state.events → IsNotEnded state.parts place event
 
 pub notice-behind : (state : Shared) (event : Option Completion) → AreNotices state event → AreBehind state.parts state.events
     → AreBehind state.parts (state.events ++ option_to_list event)
@@ -131,7 +132,7 @@ unnoted_by : (state : Shared) (place : Place) (entry : Entry) (sender : Place) (
     → under state.parts place ≡ Some entry → can_go entry.task.phase ≡ true → 1 ≤ status_events sender state.events
     → under state.parts sender ≡ Some management
     → management.task.request ≡ request → entry.task.request ≡ asked → sender.client ≡ place.client
-    → notes_ticket request entry.task.ticket ≡ true → ⊥
+    → ends_ticket request entry.task.ticket ≡ true → ⊥
 unnoted_by state place entry sender management (Execute op) asked all held goes named sends is asks client notes = false≢true notes
 unnoted_by state place entry sender management (Manage what noted) (Execute op) all held goes named sends is asks client notes =
     let within : place.slot < TASK_SLOT = subst (λ request. IsRequestIn place.slot request) asks (here state place entry all held).sound.asks in
@@ -148,13 +149,13 @@ unnoted_by state place entry sender management (Manage what noted) (Manage other
     false≢true (sym sent.over.ended ∙ ap (λ (e : Entry). can_go e.task.phase) same ∙ goes)
 
 going-unnoted : (state : Shared) (place : Place) (entry : Entry) → IsMatched state → under state.parts place ≡ Some entry → can_go entry.task.phase ≡ true
-    → (sender : Place) → 1 ≤ status_events sender state.events → is_noted_by state.parts sender place ≡ false
-going-unnoted state place entry all held goes sender named = false_from_ne_true (is_noted_by state.parts sender place) (λ is.
+    → (sender : Place) → 1 ≤ status_events sender state.events → is_ended_by state.parts sender place ≡ false
+going-unnoted state place entry all held goes sender named = false_from_ne_true (is_ended_by state.parts sender place) (λ is.
     let parts = and_parts (sender.client == place.client) (notes_at state.parts sender (ticket_at state.parts place)) is in
     let sent = status-there state sender all named in
-    let notes : notes_ticket sent.entry.task.request entry.task.ticket ≡ true =
-    ap (λ ticket. notes_ticket sent.entry.task.request ticket) (sym (ticket-here state.parts place entry held))
-    ∙ sym (ap (λ held. option_map_or (λ (e : Entry). notes_ticket e.task.request (ticket_at state.parts place)) held false) sent.is) ∙ parts.1 in
+    let notes : ends_ticket sent.entry.task.request entry.task.ticket ≡ true =
+    ap (λ ticket. ends_ticket sent.entry.task.request ticket) (sym (ticket-here state.parts place entry held))
+    ∙ sym (ap (λ held. option_map_or (λ (e : Entry). ends_ticket e.task.request (ticket_at state.parts place)) held false) sent.is) ∙ parts.1 in
     unnoted_by state place entry sender sent.entry sent.entry.task.request entry.task.request all held goes named sent.is refl refl
     (eqb-true sender.client place.client parts.0) notes)
 
@@ -224,8 +225,8 @@ still-then was now next still same =
 answer-still : (request : Request) (entries after : List (Option Entry)) → AreNext IsStill entries after → AreNext IsStill entries (after_answer request after)
 answer-still (Execute op) entries after each = each
 answer-still (Manage what noted) entries after each =
-    AreNext-changed IsStill (doomed noted.items) entries after
-    (λ was now still. still-then was now (doomed noted.items now) still (doomed-task noted.items now)) each
+    AreNext-changed IsStill (doomed (ended_by what noted).items) entries after
+    (λ was now still. still-then was now (doomed (ended_by what noted).items now) still (doomed-task (ended_by what noted).items now)) each
 
 event-still : (event : Completion) (request : Request) (entries after : List (Option Entry)) → AreNext IsStill entries after
     → AreNext IsStill entries (after_event event request after)

@@ -8,6 +8,7 @@ use Rattle.std.proofs.lemmas.Bool.{and_parts, and_from, and_left, and_right, eqb
 use Rattle.std.proofs.lemmas.Option.{same_Some}
 use Rattle.arrayvec.specs.ArrayVec.{ArrayVec}
 use Rattle.scsi_cmd.specs.Held.{held_at}
+use Rattle.scsi_cmd.specs.Request.{ended_by}
 use Rattle.scsi_cmd.specs.declared.Request.TheVariants.{Manage}
 use Rattle.scsi_cmd.specs.declared.Task.{Task}
 use Rattle.uas_profile.specs.declared.TheConstants.{TASK_SLOT}
@@ -25,7 +26,7 @@ use Rattle.shared_machine.specs.Td.{Entry, has_trb, is_awaited, pushed}
 use Rattle.shared_machine.specs.Part.{Part}
 use Rattle.shared_machine.specs.Shared.{Shared}
 use Rattle.shared_machine.specs.Soundness.{one_if}
-use Rattle.machine_invariant.specs.Ordered.{AreBehind, AreRising, HasNoted, NotedBy, is_noted_by, is_queued, names, notes_ticket, ticket_at, under}
+use Rattle.machine_invariant.specs.Ordered.{AreBehind, AreRising, HasNoted, NotedBy, is_ended_by, is_queued, names, ends_ticket, ticket_at, under}
 use Rattle.machine_invariant.specs.Matched.{same_place, times, data_events, status_events, IsCommandTd, IsGivenUp, IsMatched, IsMatchedAt, IsRequestIn, IsStatusTd}
 use Rattle.machine_invariant.proofs.MatchedEntries.{taken-none}
 use Rattle.machine_invariant.proofs.MatchedPlaces.{one_self, under-found, one_if-true}
@@ -141,7 +142,7 @@ pub record IsManagementAt (state : Shared) (place : Place) (management : Entry) 
   pub there : slice_get state.parts place.client ≡ Some part
   pub held : held_at part.entries place.slot ≡ Some management
   pub slot : place.slot ≡ TASK_SLOT
-  pub has : HasNoted place.client part management what noted.items
+  pub has : HasNoted place.client part management what noted
 
 pub management-at : (state : Shared) (place : Place) (management : Entry) (what : Task) (noted : ArrayVec ℕ) → IsMatched state
     → under state.parts place ≡ Some management → management.task.request ≡ Manage what noted → IsManagementAt state place management what noted
@@ -200,11 +201,11 @@ noted-as_received state place rest management what noted all is held asks slot e
 
 -- WHILE ITS RESPONSE WAITS
 
--- what it noted is done with
+-- what it ends is done with
 pub noted-ended : (state : Shared) (place : Place) (management : Entry) (what : Task) (noted : ArrayVec ℕ) → IsMatched state
     → 1 ≤ status_events place state.events → under state.parts place ≡ Some management → management.task.request ≡ Manage what noted
     → (slot : ℕ) (entry : Entry) → slot < TASK_SLOT → under state.parts (of_client place slot) ≡ Some entry
-    → is_noted noted.items entry.task.ticket ≡ true → can_go entry.task.phase ≡ false
+    → is_noted (ended_by what noted).items entry.task.ticket ≡ true → can_go entry.task.phase ≡ false
 noted-ended state place management what noted all named held asks slot entry within there noted_is =
     let at = management-at state place management what noted all held asks in
     let sent = status-there state place all named in
@@ -223,7 +224,7 @@ ended-gone (Sent answer) td over is pends unawaited =
     absurd (omega (arith, unawaited, ap one_if awaited))
 ended-gone Gone td over is pends unawaited = refl
 
--- A command that it noted and whose status the host waits for, as the response is seen: it is gone, and no event of it waits.
+-- A command that it ends and whose status the host waits for, as the response is seen: it is gone, and no event of it waits.
 pub record IsNotedAsSeen (rest : List Completion) (place : Place) (entry : Entry) : Type 0 where
   pub gone : entry.task.phase ≡ Gone
   pub data_none : data_events place rest ≡ 0
@@ -232,17 +233,18 @@ pub record IsNotedAsSeen (rest : List Completion) (place : Place) (entry : Entry
 pub noted-as_seen : (state : Shared) (place : Place) (rest : List Completion) (management : Entry) (what : Task) (noted : ArrayVec ℕ) → IsMatched state
     → state.events ≡ StatusDone place ∷ rest → under state.parts place ≡ Some management → management.task.request ≡ Manage what noted
     → (slot : ℕ) (entry : Entry) → slot < TASK_SLOT → under state.parts (of_client place slot) ≡ Some entry
-    → is_noted noted.items entry.task.ticket ≡ true → is_pending entry.status_td.state ≡ true → IsNotedAsSeen rest (of_client place slot) entry
+    → is_noted (ended_by what noted).items entry.task.ticket ≡ true → is_pending entry.status_td.state ≡ true
+    → IsNotedAsSeen rest (of_client place slot) entry
 noted-as_seen state place rest management what noted all is held asks slot entry within there noted_is pends =
     let other : Place = of_client place slot in
     let at = management-at state place management what noted all held asks in
     let behind : AreBehind state.parts (StatusDone place ∷ rest) = subst (λ events. AreBehind state.parts events) is all.ordered.events in
-    let notes : notes_ticket management.task.request (ticket_at state.parts other) ≡ true =
-    ap (λ request. notes_ticket request (ticket_at state.parts other)) asks
-    ∙ ap (λ ticket. is_noted noted.items ticket) (ticket-here state.parts other entry there) ∙ noted_is in
-    let noted_by : is_noted_by state.parts place other ≡ true =
+    let notes : ends_ticket management.task.request (ticket_at state.parts other) ≡ true =
+    ap (λ request. ends_ticket request (ticket_at state.parts other)) asks
+    ∙ ap (λ ticket. is_noted (ended_by what noted).items ticket) (ticket-here state.parts other entry there) ∙ noted_is in
+    let noted_by : is_ended_by state.parts place other ≡ true =
     and_from (place.client == place.client) _ (eq-eqb place.client place.client refl)
-    (ap (λ found. option_map_or (λ (e : Entry). notes_ticket e.task.request (ticket_at state.parts other)) found false) held ∙ notes) in
+    (ap (λ found. option_map_or (λ (e : Entry). ends_ticket e.task.request (ticket_at state.parts other)) found false) held ∙ notes) in
     let none = unnoted-none state.parts place other rest behind.0 noted_by in
     let apart : place.slot ≡ slot → ⊥ = λ same. omega (arith, same, at.slot, within) in
     let entry_at = here state other entry all there in

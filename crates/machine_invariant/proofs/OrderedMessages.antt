@@ -10,7 +10,7 @@ use Rattle.uas_profile.specs.declared.Place.{Place}
 use Rattle.shared_machine.specs.Td.{Entry}
 use Rattle.shared_machine.specs.Part.{Part}
 use Rattle.shared_machine.specs.Soundness.{one_if}
-use Rattle.machine_invariant.specs.Ordered.{held_in, under, notes_ticket, IsLater, AreLater, AreRising}
+use Rattle.machine_invariant.specs.Ordered.{held_in, under, ends_ticket, IsLater, AreLater, AreRising}
 use Rattle.machine_invariant.specs.Matched.{same_place, times}
 use Rattle.machine_invariant.proofs.MatchedPlaces.{one_self, same_place-true}
 use Rattle.machine_invariant.proofs.OrderedEntries.{IsOnward, IsNext}
@@ -55,13 +55,13 @@ under-there parts place part there = ap (λ found. option_map_or (held_in place)
 -- WHAT THE ORDER READS
 
 abbrev pub notes_at : List Part → Place → ℕ → Bool
-notes_at parts place ticket = option_map_or (λ entry. notes_ticket entry.task.request ticket) (under parts place) false
+notes_at parts place ticket = option_map_or (λ entry. ends_ticket entry.task.request ticket) (under parts place) false
 
 abbrev ticket_in : Option Entry → ℕ
 ticket_in held = option_map_or (λ entry. entry.task.ticket) held 0
 
 abbrev notes_in : Option Entry → ℕ → Bool
-notes_in held ticket = option_map_or (λ entry. notes_ticket entry.task.request ticket) held false
+notes_in held ticket = option_map_or (λ entry. ends_ticket entry.task.request ticket) held false
 
 -- the same ticket stands there, and notes the same
 pub record IsSame (held after : Option Entry) : Type 0 where
@@ -75,7 +75,7 @@ pub onward-same : (held after : Option Entry) → IsNext IsOnward held after →
 onward-same None None is = record { ticket = refl; notes = λ ticket. refl }
 onward-same None (Some now) is = absurd is
 onward-same (Some was) None is = absurd is
-onward-same (Some was) (Some now) is = record { ticket = is.ticket; notes = λ ticket. ap (λ request. notes_ticket request ticket) is.request }
+onward-same (Some was) (Some now) is = record { ticket = is.ticket; notes = λ ticket. ap (λ request. ends_ticket request ticket) is.request }
 
 abbrev pub IsSameAt : List Part → List Part → Place → Type 0
 IsSameAt parts after place = IsSame (under parts place) (under after place)

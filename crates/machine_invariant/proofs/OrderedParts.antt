@@ -9,15 +9,25 @@ use Rattle.std.proofs.lemmas.List.{get_or-set_same, get_or-set_other}
 use Rattle.std.proofs.lemmas.Option.{none-some, same_Some}
 use Rattle.arrayvec.specs.ArrayVec.{ArrayVec}
 use Rattle.scsi_cmd.specs.Held.{held_at}
+use Rattle.scsi_cmd.specs.Request.{ended_by, ends_commands}
 use Rattle.scsi_cmd.specs.declared.Request.{Request}
 use Rattle.scsi_cmd.specs.declared.Request.TheVariants.{Execute, Manage}
 use Rattle.scsi_cmd.specs.declared.Task.{Task}
+use Rattle.scsi_cmd.specs.declared.Task.TheVariants.{Abort, Reset, Query}
 use Rattle.uas_profile.specs.declared.TheConstants.{TASK_SLOT}
 use Rattle.solo_model.specs.TaggedTask.{can_go, is_noted}
 use Rattle.shared_machine.specs.Td.{Entry}
 use Rattle.shared_machine.specs.Part.{Part}
 use Rattle.machine_invariant.specs.Ordered.{is_queued, names, HasTickets, IsReceivedInOrder, HasNoted, NotedBy, IsOrderedPart}
 use Rattle.machine_invariant.proofs.OrderedEntries.{IsOnward, IsStill, AreNext, IsNext-weaker, IsAfter, next-after}
+
+-- WHAT IS ENDED
+
+-- what a task management ends it noted
+pub ended-noted : (what : Task) (noted : ArrayVec ℕ) (ticket : ℕ) → is_noted (ended_by what noted).items ticket ≡ true → is_noted noted.items ticket ≡ true
+ended-noted (Abort tag) noted ticket is = is
+ended-noted Reset noted ticket is = is
+ended-noted (Query tag) noted ticket is = absurd (false≢true is)
 
 -- WHAT IS RECEIVED
 
@@ -28,12 +38,13 @@ pub record IsNewlyReceived (part now : Part) (slot : ℕ) (was is : Entry) : Typ
   pub was_queued : is_queued was.task.phase ≡ true
   pub is_received : is_queued is.task.phase ≡ false
 
--- It comes before all others that are queued; and what it notes, where it is a task management, is done with.
+-- It comes before all others that are queued; and what it ends, where it is a task management, is done with.
 pub record IsReceivedFirst (part now : Part) : Type 0 where
   pub first : (slot other : ℕ) (was is second : Entry) → IsNewlyReceived part now slot was is → held_at part.entries other ≡ Some second
       → is_queued second.task.phase ≡ true → (other ≡ slot → ⊥) → was.task.ticket < second.task.ticket
   pub done : (slot : ℕ) (was is : Entry) (what : Task) (noted : ArrayVec ℕ) → IsNewlyReceived part now slot was is → was.task.request ≡ Manage what noted
-      → (other : ℕ) (entry : Entry) → other < TASK_SLOT → held_at now.entries other ≡ Some entry → is_noted noted.items entry.task.ticket ≡ true
+      → (other : ℕ) (entry : Entry) → other < TASK_SLOT → held_at now.entries other ≡ Some entry
+      → is_noted (ended_by what noted).items entry.task.ticket ≡ true
       → can_go entry.task.phase ≡ false
 
 -- where no step of the device receives a request, nothing is received by it
@@ -93,7 +104,7 @@ onward-received part now each newly old one other first second held_first held_s
 
 onward-noted_by : (client : ℕ) (part now : Part) (slot : ℕ) (was is : Entry) (what : Task) (noted : ArrayVec ℕ) → AreNext IsOnward part.entries now.entries
     → IsReceivedFirst part now → held_at part.entries slot ≡ Some was → held_at now.entries slot ≡ Some is → IsOnward was is
-    → was.task.request ≡ Manage what noted → HasNoted client part was what noted.items → HasNoted client now is what noted.items
+    → was.task.request ≡ Manage what noted → HasNoted client part was what noted → HasNoted client now is what noted
 onward-noted_by client part now slot was is what noted each newly held_was held_is onward asks old = record {
   earlier = λ k d within. omega (arith, old.earlier k d within, onward.ticket);
   exact = λ other entry within held.
@@ -107,7 +118,7 @@ onward-noted_by client part now slot was is what noted each newly held_was held_
         | true ↦ λ queued. newly.done slot was is what noted (record { before = held_was; after = held_is; was_queued = queued; is_received = received })
             asks other entry within held noted_is
         | false ↦ λ before. from.so.ended (old.ended before other from.was within from.held_was
-            (ap (λ ticket. is_noted noted.items ticket) (sym from.so.ticket) ∙ noted_is))
+            (ap (λ ticket. is_noted (ended_by what noted).items ticket) (sym from.so.ticket) ∙ noted_is))
       ] refl;
 }
 
@@ -238,24 +249,25 @@ is_noted-later noted least ticket earlier later = list_any_none (λ other. other
     (λ k d within. ne_eqb (slice_index_or noted k d) ticket (λ same. omega (arith, same, earlier k d within, later)))
 
 -- a management that stood there noted nothing of what is added
-added-noted_by : (client : ℕ) (part : Part) (slot at : ℕ) (new management : Entry) (what : Task) (noted : List ℕ) → IsAdded part slot new → HasTickets part
+added-noted_by : (client : ℕ) (part : Part) (slot at : ℕ) (new management : Entry) (what : Task) (noted : ArrayVec ℕ) → IsAdded part slot new → HasTickets part
     → held_at part.entries at ≡ Some management → HasNoted client part management what noted → HasNoted client (added_part part slot new) management what noted
 added-noted_by client part slot at new management what noted is tickets held old =
     let before : management.task.ticket < part.least_ticket = tickets.below at management held in
-    let unnoted : is_noted noted new.task.ticket ≡ false =
-    is_noted-later noted management.task.ticket new.task.ticket old.earlier (omega (arith, before, is.next)) in
+    let unnoted : is_noted noted.items new.task.ticket ≡ false =
+    is_noted-later noted.items management.task.ticket new.task.ticket old.earlier (omega (arith, before, is.next)) in
     let later : nat_lt new.task.ticket management.task.ticket ≡ false = le-ltb _ _ (omega (arith, before, is.next)) in
     record {
       earlier = old.earlier;
       exact = λ other entry small there. ⊎_elim
           (λ here. let same : entry.task.ticket ≡ new.task.ticket = ap (λ (e : Entry). e.task.ticket) here.1 in
-          ap (λ ticket. is_noted noted ticket) same ∙ unnoted
+          ap (λ ticket. is_noted noted.items ticket) same ∙ unnoted
           ∙ sym (and_right (names client other what) (nat_lt entry.task.ticket management.task.ticket)
           (ap (λ ticket. nat_lt ticket management.task.ticket) same ∙ later)))
           (λ old_one. old.exact other entry small old_one.1)
           (added_there part.entries slot new other entry is.within there);
       ended = λ received other entry small there noted_is. ⊎_elim
-          (λ here. absurd (false≢true (sym unnoted ∙ ap (λ ticket. is_noted noted ticket) (sym (ap (λ (e : Entry). e.task.ticket) here.1)) ∙ noted_is)))
+          (λ here. absurd (false≢true (sym unnoted ∙ ap (λ ticket. is_noted noted.items ticket) (sym (ap (λ (e : Entry). e.task.ticket) here.1))
+          ∙ ended-noted what noted entry.task.ticket noted_is)))
           (λ old_one. old.ended received other entry small old_one.1 noted_is)
           (added_there part.entries slot new other entry is.within there);
     }
@@ -264,7 +276,7 @@ added-request : (client : ℕ) (part : Part) (slot at : ℕ) (new entry : Entry)
     → held_at part.entries at ≡ Some entry → NotedBy client part entry request → NotedBy client (added_part part slot new) entry request
 added-request client part slot at new entry (Execute op) is tickets held old = tt
 added-request client part slot at new entry (Manage what noted) is tickets held old =
-    added-noted_by client part slot at new entry what noted.items is tickets held old
+    added-noted_by client part slot at new entry what noted is tickets held old
 
 -- an entry that is added keeps the order, where what it notes itself is in order
 pub added-ordered : (client : ℕ) (part : Part) (slot : ℕ) (new : Entry) → IsAdded part slot new

@@ -11,7 +11,7 @@ use Rattle.scsi_cmd.specs.Submission.{first_submit_fault, first_task_fault, is_t
 use Rattle.scsi_cmd.specs.declared.Command.{Command}
 use Rattle.scsi_cmd.specs.declared.SubmitFault.TheVariants.{BadLength, InUse, NoSuchTask, OutOfTurn, TooLong}
 use Rattle.scsi_cmd.specs.declared.Task.{Task}
-use Rattle.scsi_cmd.specs.declared.Task.TheVariants.{Abort, Reset}
+use Rattle.scsi_cmd.specs.declared.Task.TheVariants.{Abort, Reset, Query}
 use Rattle.uas_profile.specs.declared.TheConstants.{TASK_SLOT}
 use Rattle.solo_model.specs.TaggedTask.{is_noted}
 use Rattle.uas_profile.specs.Places.{command_slot, tag_of}
@@ -108,6 +108,7 @@ noted-below : (part : Part) (slot : Option ℕ) (task : Task) → HasTickets par
 noted-below part slot (Abort tag) tickets = named-below part slot tickets
 noted-below part slot Reset tickets =
     tickets-below part.least_ticket (take TASK_SLOT part.entries) (λ at entry is. tickets.below at entry (held-take TASK_SLOT part.entries at entry is))
+noted-below part slot (Query tag) tickets = named-below part slot tickets
 
 -- the slot of a tag is that of its place
 slot-tag : (clients client tag slot : ℕ) → command_slot clients client tag ≡ Some slot → (tag == tag_of (record { client = client; slot = slot })) ≡ true
@@ -121,13 +122,13 @@ tag-slot clients client slot there within =
     own-command_slot clients client (tag_of (record { client = client; slot = slot })) slot (record { there = there; within = within; index = omega arith })
 
 -- what it names is noted, and nothing else
-abort-exact : (clients client tag : ℕ) (part : Part) (named : Option ℕ) (slot : ℕ) (entry : Entry) → client < clients → command_slot clients client tag ≡ named
+tag-exact : (clients client tag : ℕ) (part : Part) (named : Option ℕ) (slot : ℕ) (entry : Entry) → client < clients → command_slot clients client tag ≡ named
     → HasTickets part → slot < TASK_SLOT → held_at part.entries slot ≡ Some entry
     → is_noted (tickets_of (named_entry part named ∷ [])) entry.task.ticket ≡ (tag == tag_of (record { client = client; slot = slot }))
-abort-exact clients client tag part None slot entry there is tickets within held =
+tag-exact clients client tag part None slot entry there is tickets within held =
     sym (ne_eqb tag (tag_of (record { client = client; slot = slot })) (λ same.
     none-some slot (sym is ∙ ap (λ t. command_slot clients client t) same ∙ tag-slot clients client slot there within)))
-abort-exact clients client tag part (Some named) slot entry there is tickets within held =
+tag-exact clients client tag part (Some named) slot entry there is tickets within held =
     elim (named == slot) as (λ b. (named == slot) ≡ b
     → is_noted (tickets_of (held_at part.entries named ∷ [])) entry.task.ticket ≡ (tag == tag_of (record { client = client; slot = slot }))) [
       | true ↦ λ at. let same : named ≡ slot = eqb-true named slot at in
@@ -148,9 +149,11 @@ abort-exact clients client tag part (Some named) slot entry there is tickets wit
 noted-exact : (clients client : ℕ) (part : Part) (task : Task) (slot : ℕ) (entry : Entry) → client < clients → HasTickets part → slot < TASK_SLOT
     → held_at part.entries slot ≡ Some entry → is_noted (noted_tickets part (named_slot clients client task) task) entry.task.ticket ≡ names client slot task
 noted-exact clients client part (Abort tag) slot entry there tickets within held =
-    abort-exact clients client tag part (command_slot clients client tag) slot entry there refl tickets within held
+    tag-exact clients client tag part (command_slot clients client tag) slot entry there refl tickets within held
 noted-exact clients client part Reset slot entry there tickets within held =
     ticket-noted (take TASK_SLOT part.entries) slot entry (take-held TASK_SLOT part.entries slot entry within held)
+noted-exact clients client part (Query tag) slot entry there tickets within held =
+    tag-exact clients client tag part (command_slot clients client tag) slot entry there refl tickets within held
 
 -- A TASK MANAGEMENT
 
@@ -161,7 +164,8 @@ and_true false b is = refl
 -- as it is submitted
 noted-added : (clients client : ℕ) (part : Part) (ticket : ℕ) (task : Task) → client < clients → HasTickets part → part.least_ticket ≤ ticket
     → HasNoted client (added_part part TASK_SLOT (new_management ticket task (noted_tickets part (named_slot clients client task) task)))
-    (new_management ticket task (noted_tickets part (named_slot clients client task) task)) task (noted_tickets part (named_slot clients client task) task)
+    (new_management ticket task (noted_tickets part (named_slot clients client task) task)) task
+    (record { items = noted_tickets part (named_slot clients client task) task })
 noted-added clients client part ticket task there tickets next =
     let noted = noted_tickets part (named_slot clients client task) task in
     let new = new_management ticket task noted in

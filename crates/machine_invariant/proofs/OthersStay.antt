@@ -115,7 +115,7 @@ first-ends state place rest part first there management what noted ticket held a
     held = under-there state.parts place part there ∙ held;
     request = asks;
     client = refl;
-    ticket_noted = noted_is;
+    ticket_ended = noted_is;
   },
 )
 

@@ -7,8 +7,10 @@ use Rattle.scsi_cmd.specs.declared.Command.{Command}
 use Rattle.scsi_cmd.specs.Submission.{first_submit_fault}
 use Rattle.scsi_cmd.specs.Op.{moved_bytes}
 use Rattle.uas_profile.specs.declared.TheConstants.{TAGS, TASK_SLOT, MAX_CLIENTS, MOST_MESSAGES, MOST_EVENTS_PENDING, WINDOW_BYTES, MOST_DATA_TRBS}
+use Rattle.scsi_cmd.specs.Request.{ends_commands}
 use Rattle.scsi_cmd.specs.declared.Request.{Request}
 use Rattle.scsi_cmd.specs.declared.Request.TheVariants.{Execute, Manage}
+use Rattle.scsi_cmd.specs.declared.Task.{Task}
 use Rattle.solo_model.specs.declared.TaskAnswer.{TaskAnswer}
 use Rattle.solo_model.specs.declared.TaskAnswer.TheVariants.{WithStatus, WithResponse}
 use Rattle.device_server.specs.declared.Answer.TheVariants.{Good, Check}
@@ -144,26 +146,26 @@ IsCommandPhase (Begun (Ended answer)) = IsStatusAnswer answer
 IsCommandPhase (Sent answer) = IsStatusAnswer answer
 IsCommandPhase Gone = Unit {0}
 
--- a task management ends with the response COMPLETE
-abbrev pub IsCompletion : ResponseCode → Type 0
-IsCompletion Complete = Unit {0}
-IsCompletion Succeeded = ⊥
+-- a task management ends with the response COMPLETE, or with SUCCEEDED where it ends no command: that is a query's alone
+abbrev pub IsResponseTo : Task → ResponseCode → Type 0
+IsResponseTo what Complete = Unit {0}
+IsResponseTo what Succeeded = ends_commands what ≡ false
 
-abbrev pub IsResponseAnswer : TaskAnswer → Type 0
-IsResponseAnswer (WithStatus answer) = ⊥
-IsResponseAnswer (WithResponse code) = IsCompletion code
+abbrev pub IsResponseAnswer : Task → TaskAnswer → Type 0
+IsResponseAnswer what (WithStatus answer) = ⊥
+IsResponseAnswer what (WithResponse code) = IsResponseTo what code
 
 -- it is answered as it is received, and none ends it
-abbrev pub IsManagedPhase : Phase → Type 0
-IsManagedPhase Queued = Unit {0}
-IsManagedPhase (Begun (Moving chunk)) = ⊥
-IsManagedPhase (Begun (Ended answer)) = IsResponseAnswer answer
-IsManagedPhase (Sent answer) = IsResponseAnswer answer
-IsManagedPhase Gone = ⊥
+abbrev pub IsManagedPhase : Task → Phase → Type 0
+IsManagedPhase what Queued = Unit {0}
+IsManagedPhase what (Begun (Moving chunk)) = ⊥
+IsManagedPhase what (Begun (Ended answer)) = IsResponseAnswer what answer
+IsManagedPhase what (Sent answer) = IsResponseAnswer what answer
+IsManagedPhase what Gone = ⊥
 
 abbrev pub IsPhaseOf : Request → Phase → Type 0
 IsPhaseOf (Execute op) phase = IsCommandPhase phase
-IsPhaseOf (Manage what noted) phase = IsManagedPhase phase
+IsPhaseOf (Manage what noted) phase = IsManagedPhase what phase
 
 -- THE TDS OF AN ENTRY, BY ITS PHASE: what no count tells
 

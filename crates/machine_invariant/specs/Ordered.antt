@@ -2,10 +2,12 @@
 -- and what it ends is done with before its response is seen. Counts don't tell it.
 use Rattle.std.specs.Prelude.{◌≡◌, ℕ, ◌<◌, ◌==◌, nat_lt, Bool, true, false, ◌&&◌, List, [], ◌∷◌, Option, Some, None, All, slice_get}
 use Rattle.std.specs.Option.{option_map_or}
+use Rattle.arrayvec.specs.ArrayVec.{ArrayVec}
+use Rattle.scsi_cmd.specs.Request.{ended_by}
 use Rattle.scsi_cmd.specs.declared.Request.{Request}
 use Rattle.scsi_cmd.specs.declared.Request.TheVariants.{Execute, Manage}
 use Rattle.scsi_cmd.specs.declared.Task.{Task}
-use Rattle.scsi_cmd.specs.declared.Task.TheVariants.{Abort, Reset}
+use Rattle.scsi_cmd.specs.declared.Task.TheVariants.{Abort, Reset, Query}
 use Rattle.uas_profile.specs.declared.TheConstants.{TASK_SLOT}
 use Rattle.scsi_cmd.specs.Held.{held_at}
 use Rattle.solo_model.specs.declared.Phase.{Phase}
@@ -40,10 +42,11 @@ is_queued Gone = false
 
 -- ONE CLIENT
 
--- the slot of a client is one that a task management names: an abort that of its tag, a reset each
+-- the slot of a client is one that a task management names: an abort and a query that of its tag, a reset each
 abbrev pub names : ℕ → ℕ → Task → Bool
 names client slot (Abort tag) = tag == tag_of (record { client = client; slot = slot })
 names client slot Reset = true
+names client slot (Query tag) = tag == tag_of (record { client = client; slot = slot })
 
 -- every ticket is below the least that may come, and no two slots have one ticket
 pub record HasTickets (part : Part) : Type 0 where
@@ -58,17 +61,17 @@ IsReceivedInOrder part =
     → is_queued first.task.phase ≡ false → is_queued second.task.phase ≡ true → first.task.ticket < second.task.ticket
 
 -- A task management of this ticket noted of the commands that it names those with earlier tickets, and nothing else. Once it was received, what
--- it noted is gone, unless its answer had been handed over.
-pub record HasNoted (client : ℕ) (part : Part) (management : Entry) (what : Task) (noted : List ℕ) : Type 0 where
-  pub earlier : All (λ ticket. ticket < management.task.ticket) noted
+-- it ends is gone, unless its answer had been handed over.
+pub record HasNoted (client : ℕ) (part : Part) (management : Entry) (what : Task) (noted : ArrayVec ℕ) : Type 0 where
+  pub earlier : All (λ ticket. ticket < management.task.ticket) noted.items
   pub exact : (slot : ℕ) (entry : Entry) → slot < TASK_SLOT → held_at part.entries slot ≡ Some entry
-      → is_noted noted entry.task.ticket ≡ (names client slot what && nat_lt entry.task.ticket management.task.ticket)
+      → is_noted noted.items entry.task.ticket ≡ (names client slot what && nat_lt entry.task.ticket management.task.ticket)
   pub ended : is_queued management.task.phase ≡ false → (slot : ℕ) (entry : Entry) → slot < TASK_SLOT → held_at part.entries slot ≡ Some entry
-      → is_noted noted entry.task.ticket ≡ true → can_go entry.task.phase ≡ false
+      → is_noted (ended_by what noted).items entry.task.ticket ≡ true → can_go entry.task.phase ≡ false
 
 abbrev pub NotedBy : ℕ → Part → Entry → Request → Type 0
 NotedBy client part entry (Execute op) = Unit {0}
-NotedBy client part entry (Manage what noted) = HasNoted client part entry what noted.items
+NotedBy client part entry (Manage what noted) = HasNoted client part entry what noted
 
 pub record IsOrderedPart (client : ℕ) (part : Part) : Type 0 where
   pub tickets : HasTickets part
@@ -88,31 +91,31 @@ abbrev pub AreRising : List Part → List Place → Type 0
 AreRising parts [] = Unit {0}
 AreRising parts (place ∷ rest) = AreLater parts place rest × AreRising parts rest
 
--- THE EVENTS: behind the response of a task management comes no event of a command that it noted
+-- THE EVENTS: behind the response of a task management comes no event of a command that it ended
 
-abbrev pub notes_ticket : Request → ℕ → Bool
-notes_ticket (Execute op) ticket = false
-notes_ticket (Manage what noted) ticket = is_noted noted.items ticket
+abbrev pub ends_ticket : Request → ℕ → Bool
+ends_ticket (Execute op) ticket = false
+ends_ticket (Manage what noted) ticket = is_noted (ended_by what noted).items ticket
 
-abbrev pub is_noted_by : List Part → Place → Place → Bool
-is_noted_by parts place other =
-    (place.client == other.client) && option_map_or (λ entry. notes_ticket entry.task.request (ticket_at parts other)) (under parts place) false
+abbrev pub is_ended_by : List Part → Place → Place → Bool
+is_ended_by parts place other =
+    (place.client == other.client) && option_map_or (λ entry. ends_ticket entry.task.request (ticket_at parts other)) (under parts place) false
 
-abbrev pub IsUnnoted : List Part → Place → Completion → Type 0
-IsUnnoted parts place (CommandDone other) = Unit {0}
-IsUnnoted parts place (DataDone other) = is_noted_by parts place other ≡ false
-IsUnnoted parts place (StatusDone other) = is_noted_by parts place other ≡ false
-IsUnnoted parts place (EngineDone other) = Unit {0}
+abbrev pub IsNotEnded : List Part → Place → Completion → Type 0
+IsNotEnded parts place (CommandDone other) = Unit {0}
+IsNotEnded parts place (DataDone other) = is_ended_by parts place other ≡ false
+IsNotEnded parts place (StatusDone other) = is_ended_by parts place other ≡ false
+IsNotEnded parts place (EngineDone other) = Unit {0}
 
-abbrev pub AreUnnoted : List Part → Place → List Completion → Type 0
-AreUnnoted parts place [] = Unit {0}
-AreUnnoted parts place (event ∷ rest) = IsUnnoted parts place event × AreUnnoted parts place rest
+abbrev pub AreNotEnded : List Part → Place → List Completion → Type 0
+AreNotEnded parts place [] = Unit {0}
+AreNotEnded parts place (event ∷ rest) = IsNotEnded parts place event × AreNotEnded parts place rest
 
 abbrev pub AreBehind : List Part → List Completion → Type 0
 AreBehind parts [] = Unit {0}
 AreBehind parts (CommandDone place ∷ rest) = AreBehind parts rest
 AreBehind parts (DataDone place ∷ rest) = AreBehind parts rest
-AreBehind parts (StatusDone place ∷ rest) = AreUnnoted parts place rest × AreBehind parts rest
+AreBehind parts (StatusDone place ∷ rest) = AreNotEnded parts place rest × AreBehind parts rest
 AreBehind parts (EngineDone place ∷ rest) = AreBehind parts rest
 
 -- THE WHOLE

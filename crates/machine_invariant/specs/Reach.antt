@@ -1,6 +1,7 @@
 -- How far a step reaches: no further than its owner's part, and what it ends there a task management had noted.
 use Rattle.std.specs.Prelude.{◌≡◌, ℕ, ◌<◌, true, List, ◌∷◌, length, Some, None, slice_get}
 use Rattle.arrayvec.specs.ArrayVec.{ArrayVec}
+use Rattle.scsi_cmd.specs.Request.{ended_by}
 use Rattle.scsi_cmd.specs.declared.Request.TheVariants.{Manage}
 use Rattle.scsi_cmd.specs.declared.Task.{Task}
 use Rattle.uas_profile.specs.declared.TheConstants.{TASK_SLOT}
@@ -30,7 +31,7 @@ NobodyStays = (state : Shared) (step : Step) → (shared_step state step).1.owne
 
 -- WHAT A TASK MANAGEMENT ENDS
 
--- the first message is of a task management of the place's own client, which noted this ticket
+-- the first message is of a task management of the place's own client, which ends the command of this ticket
 pub record IsEndedBy (state : Shared) (place : Place) (ticket : ℕ) : Type 0 where
   pub head : Place
   pub rest : List Place
@@ -41,9 +42,10 @@ pub record IsEndedBy (state : Shared) (place : Place) (ticket : ℕ) : Type 0 wh
   pub held : under state.parts head ≡ Some management
   pub request : management.task.request ≡ Manage what noted
   pub client : head.client ≡ place.client
-  pub ticket_noted : is_noted noted.items ticket ≡ true
+  pub ticket_ended : is_noted (ended_by what noted).items ticket ≡ true
 
--- A command is gone only where a task management of its own client that noted its ticket is carried: never a later command on the same tag.
+-- A command is gone only where a task management of its own client that noted its ticket to end it is carried: never a later command on the same
+-- tag, and none by a query.
 abbrev pub GoneByNote : Type 0
 GoneByNote =
     (state : Shared) (step : Step) (place : Place) (old now : Entry) → under state.parts place ≡ Some old
@@ -82,7 +84,7 @@ NotedAtSubmission =
 abbrev pub KeepsOthers : Shared → Outcome → Shared → Type 0
 KeepsOthers old outcome new = (client : ℕ) → (outcome.owner ≡ Some client → ⊥) → slice_get new.parts client ≡ slice_get old.parts client
 
--- What is gone after it and wasn't before was ended by a task management of its own client that had noted its ticket.
+-- What is gone after it and wasn't before was ended by a task management of its own client that had noted its ticket, and was no query.
 abbrev pub EndsAsNoted : Shared → Step → Shared → Type 0
 EndsAsNoted old step new =
     (place : Place) (was now : Entry) → under old.parts place ≡ Some was → under new.parts place ≡ Some now → now.task.phase ≡ Gone

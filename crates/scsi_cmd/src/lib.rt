@@ -329,6 +329,23 @@ pub enum Task {
     Abort { tag: u16 },
     /// LOGICAL UNIT RESET.
     Reset,
+    /// QUERY TASK of the command on this tag: whether the device has it.
+    Query { tag: u16 },
+}
+
+impl Task {
+    ghost use Rattle.std.specs.Prelude.{◌≡◌};
+    ghost use Rattle.scsi_cmd.specs.Request.{ends_commands};
+
+    /// Whether it ends commands: a query asks after one and changes none.
+    pub fn ends_commands(&self) -> bool
+        ensures { result ≡ ends_commands self.now }
+    {
+        match self {
+            Task::Abort { .. } | Task::Reset => true,
+            Task::Query { .. } => false,
+        }
+    }
 }
 
 /// What a submission came to.

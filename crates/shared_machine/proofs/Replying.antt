@@ -9,7 +9,7 @@ use Rattle.scsi_cmd.specs.declared.Task.{Task}
 use Rattle.scsi_cmd.specs.declared.SubmitFault.{SubmitFault}
 use Rattle.scsi_cmd.specs.declared.Reply.{Reply}
 use Rattle.scsi_cmd.specs.Held.{held_at}
-use Rattle.solo_model.specs.TaggedTask.{TaggedTask, carried, moved, sent}
+use Rattle.solo_model.specs.TaggedTask.{TaggedTask, carried, finds, moved, sent}
 use Rattle.uas_profile.specs.declared.Place.{Place}
 use Rattle.uas_profile.specs.Places.{command_slot, place_of}
 use Rattle.shared_machine.specs.declared.Completion.{Completion}
@@ -22,6 +22,7 @@ use Rattle.shared_machine.specs.declared.Step.{Step}
 use Rattle.shared_machine.specs.declared.Step.TheVariants.{Submit, Task as TaskStep, CommandPipe, Data, Status, Engine, Event, Retire, Take}
 use Rattle.shared_machine.specs.Td.{Entry, retired_on}
 use Rattle.shared_machine.specs.Part.{Part, Act, carry_act, carried_entry, carried_slot, event_act, fault_at, move_act, moved_entry, moved_slot, named_slot}
+use Rattle.shared_machine.specs.Part.{tasks_in}
 use Rattle.shared_machine.specs.Part.{pass_act, passed_slot, retire_act, seen_by, seen_entry, send_act, sent_entry, sent_slot, stop_act, task_fault_at}
 use Rattle.shared_machine.specs.Shared.{Shared, answered, at_stage, carry_step, due, due_step, engine_did, engine_seen, engine_step, event_seen, event_step, idle}
 use Rattle.shared_machine.specs.Shared.{managed_or, managed_to, retire_step, routed, routed_by_tag, routed_to, shared_step, stage_seen, submitted_to}
@@ -43,7 +44,7 @@ carried-silent part slot place entry (Some after) = refl
 
 carry-slot : (part : Part) (slot : ℕ) (place : Place) (held : Option Entry) → (carried_slot part slot place held).reply ≡ None
 carry-slot part slot place None = refl
-carry-slot part slot place (Some entry) = carried-silent part slot place entry (carried part.unit entry.task)
+carry-slot part slot place (Some entry) = carried-silent part slot place entry (carried part.unit (finds entry.task.request (tasks_in part.entries)) entry.task)
 
 moved-silent : (part : Part) (slot : ℕ) (place : Place) (entry : Entry) (after : Option (BlockMaps × TaggedTask))
     → (moved_entry part slot place entry after).reply ≡ None

@@ -2,7 +2,7 @@
 use Rattle.std.specs.Prelude.{ℕ, suc, ◌+◌, ◌==◌, Bool, true, false, List, [], ◌∷◌, ◌++◌, if◌then◌else◌, Option, Some, None, is_some, option_and_then, slice_set}
 use Rattle.std.specs.Prelude.{map, option_map, replicate, take, ◌&&◌}
 use Rattle.block_unit.specs.BlockMaps.{BlockMaps}
-use Rattle.scsi_cmd.specs.Request.{is_command}
+use Rattle.scsi_cmd.specs.Request.{ended_by, is_command}
 use Rattle.scsi_cmd.specs.declared.Command.{Command}
 use Rattle.uas_profile.specs.declared.Pipe.{Pipe}
 use Rattle.scsi_cmd.specs.declared.Reply.{Reply}
@@ -11,7 +11,7 @@ use Rattle.scsi_cmd.specs.declared.Request.TheVariants.{Execute, Manage}
 use Rattle.scsi_cmd.specs.declared.SubmitFault.{SubmitFault}
 use Rattle.scsi_cmd.specs.Op.{moved_bytes}
 use Rattle.scsi_cmd.specs.declared.Task.{Task}
-use Rattle.scsi_cmd.specs.declared.Task.TheVariants.{Abort, Reset}
+use Rattle.scsi_cmd.specs.declared.Task.TheVariants.{Abort, Reset, Query}
 use Rattle.uas_profile.specs.declared.TheConstants.{TAGS, TASK_SLOT}
 use Rattle.solo_model.specs.TaggedTask.{TaggedTask}
 use Rattle.solo_model.specs.declared.Phase.{Phase}
@@ -21,7 +21,7 @@ use Rattle.solo_model.specs.declared.TaskAnswer.{TaskAnswer}
 use Rattle.solo_model.specs.declared.TaskAnswer.TheVariants.{WithStatus, WithResponse}
 use Rattle.solo_model.specs.declared.TaskProgress.TheVariants.{Moving, Ended}
 use Rattle.scsi_cmd.specs.Held.{held_at}
-use Rattle.solo_model.specs.TaggedTask.{after_notes, is_noted, queued, queued_management, carried, moved, sent, reply_of}
+use Rattle.solo_model.specs.TaggedTask.{after_notes, finds, is_noted, queued, queued_management, carried, moved, sent, reply_of}
 use Rattle.scsi_cmd.specs.Submission.{first_submit_fault, first_task_fault}
 use Rattle.uas_profile.specs.TdStates.{is_pending}
 use Rattle.uas_profile.specs.declared.Place.{Place}
@@ -88,7 +88,7 @@ fault_at part slot ticket command = first_submit_fault true (is_some (held_at pa
 abbrev pub submitted_part : Part → ℕ → ℕ → Command → Part
 submitted_part part slot ticket command = record (with_entry part slot (new_entry ticket command)) { least_ticket = ticket + 1 }
 
--- TASK MANAGEMENT (SAM, ABORT TASK and LOGICAL UNIT RESET)
+-- TASK MANAGEMENT (SAM, ABORT TASK, LOGICAL UNIT RESET and QUERY TASK)
 
 -- the tickets of what is held, by rising slot
 abbrev pub tickets_of : List (Option Entry) → List ℕ
@@ -96,24 +96,28 @@ tickets_of [] = []
 tickets_of (None ∷ places) = tickets_of places
 tickets_of (Some entry ∷ places) = entry.task.ticket ∷ tickets_of places
 
--- the command slot of the client that an abort names, where its tag has one
+-- the command slot of the client that an abort or a query names, where its tag has one
 abbrev pub named_slot : ℕ → ℕ → Task → Option ℕ
 named_slot clients client (Abort tag) = command_slot clients client tag
 named_slot clients client Reset = None
+named_slot clients client (Query tag) = command_slot clients client tag
 
 abbrev pub named_entry : Part → Option ℕ → Option Entry
 named_entry part None = None
 named_entry part (Some slot) = held_at part.entries slot
 
--- there is something to manage: for an abort the command that its tag names
+-- there is something to manage: for an abort and a query the command that its tag names
 abbrev pub is_there : Part → Option ℕ → Task → Bool
 is_there part slot (Abort tag) = is_some (named_entry part slot)
 is_there part slot Reset = true
+is_there part slot (Query tag) = is_some (named_entry part slot)
 
--- the tickets that a task management notes: an abort that of the command under its tag, a reset those of all commands of the client
+-- the tickets that a task management notes: an abort and a query that of the command under its tag, a reset those of all commands of the
+-- client
 abbrev pub noted_tickets : Part → Option ℕ → Task → List ℕ
 noted_tickets part slot (Abort tag) = tickets_of (named_entry part slot ∷ [])
 noted_tickets part slot Reset = tickets_of (take TASK_SLOT part.entries)
+noted_tickets part slot (Query tag) = tickets_of (named_entry part slot ∷ [])
 
 -- the first fault of a task management of a client that is there
 abbrev pub task_fault_at : Part → Option ℕ → ℕ → Task → Option SubmitFault
@@ -131,14 +135,18 @@ managed_part part slot ticket task =
 
 -- CARRY
 
--- the entry once a task management that noted these tickets is carried: its task may be gone, its TDs stay as they are
+-- the entry once a task management that ends these tickets is carried: its task may be gone, its TDs stay as they are
 abbrev pub noted_entry : List ℕ → Entry → Entry
 noted_entry noted entry = record entry { task = after_notes noted entry.task }
 
 -- the client's entries once a request is carried; a command changes nothing of the others
 abbrev pub entries_after : Request → List (Option Entry) → List (Option Entry)
 entries_after (Execute op) entries = entries
-entries_after (Manage what noted) entries = map (option_map (noted_entry noted.items)) entries
+entries_after (Manage what noted) entries = map (option_map (noted_entry (ended_by what noted).items)) entries
+
+-- the tasks of the entries, by slot
+abbrev pub tasks_in : List (Option Entry) → List (Option TaggedTask)
+tasks_in entries = map (option_map (λ entry. entry.task)) entries
 
 abbrev pub with_request_carried : Part → Entry → Part
 with_request_carried part entry = record part { entries = entries_after entry.task.request part.entries }
@@ -152,7 +160,8 @@ carried_entry part slot place entry (Some after) = without_reply
 
 abbrev pub carried_slot : Part → ℕ → Place → Option Entry → Act
 carried_slot part slot place None = nothing part
-carried_slot part slot place (Some entry) = carried_entry part slot place entry (carried part.unit entry.task)
+carried_slot part slot place (Some entry) =
+    carried_entry part slot place entry (carried part.unit (finds entry.task.request (tasks_in part.entries)) entry.task)
 
 -- the device receives the request under this slot
 abbrev pub carry_act : Place → Part → Act
@@ -250,7 +259,7 @@ event_place (EngineDone place) = place
 abbrev pub ready_after : List ℕ → ℕ → Entry → List ℕ
 ready_after ready slot entry = if is_ready entry then ready ++ slot ∷ [] else ready
 
--- A command that a task management noted, still under its tag by its ticket, whose status can't come any more once the response came.
+-- A command that a task management ends, still under its tag by its ticket, whose status can't come any more once the response came.
 abbrev pub is_doomed : List ℕ → Entry → Bool
 is_doomed noted entry = is_command entry.task.request && (is_pending entry.status_td.state && is_noted noted entry.task.ticket)
 
@@ -260,10 +269,10 @@ doomed noted entry =
     if is_doomed noted entry
     then record entry { status_td = left_over_td entry.status_td; data_td = left_over_data entry.data_td } else entry
 
--- what the client has once the response COMPLETE to a request was seen; the status of a command changes nothing of the others
+-- what the client has once the response to a request was seen; the status of a command changes nothing of the others
 abbrev pub after_answer : Request → List (Option Entry) → List (Option Entry)
 after_answer (Execute op) entries = entries
-after_answer (Manage what noted) entries = map (option_map (doomed noted.items)) entries
+after_answer (Manage what noted) entries = map (option_map (doomed (ended_by what noted).items)) entries
 
 abbrev pub after_event : Completion → Request → List (Option Entry) → List (Option Entry)
 after_event (CommandDone place) request entries = entries

@@ -2,6 +2,7 @@
 use Rattle.std.proofs.Common.{◌≡◌, ℕ, zero, suc, Bool, true, false, cond, List, [], ◌∷◌, length, Option, Some, None, MatchOption}
 use Rattle.std.proofs.Common.{Result, Ok, Err, refl, arith, ap, subst, ◌∙◌}
 use Rattle.std.proofs.lemmas.Bool.{ltb-false}
+use Rattle.std.specs.Option.{option_map_or}
 use Rattle.std.specs.Prelude.{nat_lt, ◌≤◌, map, slice_set, option_map, option_and_then, if◌then◌else◌}
 use Rattle.arrayvec.specs.ArrayVec.{ArrayVec}
 use Rattle.block_unit.specs.BlockMaps.{BlockMaps}
@@ -10,6 +11,7 @@ use Rattle.scsi_cmd.specs.declared.Request.{Request}
 use Rattle.scsi_cmd.specs.declared.Request.TheVariants.{Execute, Manage}
 use Rattle.uas_profile.specs.declared.TheConstants.{TAGS}
 use Rattle.scsi_cmd.specs.Held.{AllHeld, held_at, held_under}
+use Rattle.scsi_cmd.specs.Request.{ended_by}
 use Rattle.scsi_cmd.specs.Laws.{held_at-past}
 use Rattle.solo_model.specs.declared.Phase.{Phase}
 use Rattle.solo_model.specs.declared.Phase.TheVariants.{Queued, Begun, Sent, Gone}
@@ -17,7 +19,7 @@ use Rattle.solo_model.specs.declared.NotARun.{NotARun}
 use Rattle.scsi_cmd.specs.declared.Reply.{Reply}
 use Rattle.solo_model.specs.Soundness.{IsSound}
 use Rattle.solo_model.specs.Solo.{IsCarried, SoloState, applied, carried_at, heeded, slot_under}
-use Rattle.solo_model.specs.TaggedTask.{TaggedTask, after_notes, carried, is_noted, noted_next}
+use Rattle.solo_model.specs.TaggedTask.{TaggedTask, after_notes, carried, ended_next, finds, is_noted}
 
 -- SOUNDNESS
 
@@ -71,50 +73,57 @@ abbrev pub outcome : Bool → Result (Option Reply) NotARun
 outcome acted = if acted then Ok None else Err (record {})
 
 -- what it came to where the slot holds this
-abbrev pub CarriedFrom : BlockMaps → List (Option TaggedTask) → ℕ → Bool → BlockMaps → List (Option TaggedTask) → Option TaggedTask → Type 0
-CarriedFrom unit tasks slot acted unit_now tasks_now held = MatchOption (option_and_then (carried unit) held)
+abbrev pub CarriedFrom : BlockMaps → List (Option TaggedTask) → ℕ → Bool → Bool → BlockMaps → List (Option TaggedTask) → Option TaggedTask → Type 0
+CarriedFrom unit tasks slot found acted unit_now tasks_now held = MatchOption (option_and_then (carried unit found) held)
     ((acted ≡ false) × (unit_now ≡ unit) × (tasks_now ≡ tasks))
     (λ after. (acted ≡ true) × (unit_now ≡ after.0) × (tasks_now ≡ slice_set tasks slot (Some after.1)))
 
+-- whether the device has what this noted
+abbrev pub found_by : List (Option TaggedTask) → Option TaggedTask → Bool
+found_by tasks held = option_map_or (λ task. finds task.request tasks) held false
+
 pub carry-held : (state : SoloState) (slot : ℕ) (held : Option TaggedTask) (acted : Bool) (unit : BlockMaps) (tasks : List (Option TaggedTask)) →
-    held_at state.tasks slot ≡ held → IsCarried state.unit (heeded (option_and_then noted_next held) state.tasks) slot acted unit tasks →
+    held_at state.tasks slot ≡ held →
+    IsCarried state.unit (heeded (option_and_then ended_next held) state.tasks) slot (found_by state.tasks held) acted unit tasks →
     applied state (option_and_then (carried_at state (suc slot)) held) ≡
     (record { unit = unit; tasks = tasks; least_ticket = state.least_ticket }, outcome acted)
 carry-held state slot None acted unit tasks at is =
-    let none = subst (CarriedFrom state.unit state.tasks slot acted unit tasks) at is in
+    let none = subst (CarriedFrom state.unit state.tasks slot false acted unit tasks) at is in
     rw (none.0, none.1, none.2) refl
 carry-held state slot (Some task) acted unit tasks at is =
     by-fields task.ticket task.request task.buffer task.phase at is
   where
     by-fields : (ticket : ℕ) (request : Request) (buffer : List ℕ) (phase : Phase) →
         held_at state.tasks slot ≡ Some (record { ticket = ticket; request = request; buffer = buffer; phase = phase }) →
-        IsCarried state.unit (heeded (noted_next (record { ticket = ticket; request = request; buffer = buffer; phase = phase })) state.tasks)
-        slot acted unit tasks →
+        IsCarried state.unit (heeded (ended_next (record { ticket = ticket; request = request; buffer = buffer; phase = phase })) state.tasks)
+        slot (finds request state.tasks) acted unit tasks →
         applied state (carried_at state (suc slot) (record { ticket = ticket; request = request; buffer = buffer; phase = phase }))
         ≡ (record { unit = unit; tasks = tasks; least_ticket = state.least_ticket }, outcome acted)
     by-fields ticket (Execute op) buffer Queued at is =
-        let done = subst (CarriedFrom state.unit state.tasks slot acted unit tasks) at is in
+        let done = subst (CarriedFrom state.unit state.tasks slot false acted unit tasks) at is in
         rw (done.0, done.1, done.2) refl
     by-fields ticket (Manage what noted) buffer Queued at is =
         let task : TaggedTask = record { ticket = ticket; request = Manage what noted; buffer = buffer; phase = Queued } in
-        let after = map (option_map (after_notes noted.items)) state.tasks in
-        let same : held_at after slot ≡ Some task = held_at-map (after_notes noted.items) state.tasks slot ∙ ap (option_map (after_notes noted.items)) at in
-        let done = subst (CarriedFrom state.unit after slot acted unit tasks) same is in
+        let change : TaggedTask → TaggedTask = after_notes (ended_by what noted).items in
+        let after = map (option_map change) state.tasks in
+        let same : held_at after slot ≡ Some task = held_at-map change state.tasks slot ∙ ap (option_map change) at in
+        let done = subst (CarriedFrom state.unit after slot (finds (Manage what noted) state.tasks) acted unit tasks) same is in
         rw (done.0, done.1, done.2) refl
     by-fields ticket request buffer (Begun progress) at is =
-        let none = subst (CarriedFrom state.unit state.tasks slot acted unit tasks) at is in
+        let none = subst (CarriedFrom state.unit state.tasks slot (finds request state.tasks) acted unit tasks) at is in
         rw (none.0, none.1, none.2) refl
     by-fields ticket request buffer (Sent answer) at is =
-        let none = subst (CarriedFrom state.unit state.tasks slot acted unit tasks) at is in
+        let none = subst (CarriedFrom state.unit state.tasks slot (finds request state.tasks) acted unit tasks) at is in
         rw (none.0, none.1, none.2) refl
     by-fields ticket request buffer Gone at is =
-        let none = subst (CarriedFrom state.unit state.tasks slot acted unit tasks) at is in
+        let none = subst (CarriedFrom state.unit state.tasks slot (finds request state.tasks) acted unit tasks) at is in
         rw (none.0, none.1, none.2) refl
 
 -- the same for the index of the slot
 pub carry-step : (state : SoloState) (index slot : ℕ) (acted : Bool) (unit : BlockMaps) (tasks : List (Option TaggedTask)) →
     slot_under index ≡ Some slot →
-    IsCarried state.unit (heeded (option_and_then noted_next (held_at state.tasks slot)) state.tasks) slot acted unit tasks →
+    IsCarried state.unit (heeded (option_and_then ended_next (held_at state.tasks slot)) state.tasks) slot
+    (found_by state.tasks (held_at state.tasks slot)) acted unit tasks →
     applied state (option_and_then (carried_at state index) (held_under state.tasks index))
     ≡ (record { unit = unit; tasks = tasks; least_ticket = state.least_ticket }, outcome acted)
 carry-step state index slot acted unit tasks under is =

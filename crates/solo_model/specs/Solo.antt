@@ -11,9 +11,10 @@ use Rattle.scsi_cmd.specs.declared.SubmitFault.{SubmitFault}
 use Rattle.scsi_cmd.specs.declared.Request.{Request}
 use Rattle.scsi_cmd.specs.declared.Request.TheVariants.{Execute, Manage}
 use Rattle.scsi_cmd.specs.declared.Task.{Task}
-use Rattle.scsi_cmd.specs.declared.Task.TheVariants.{Abort, Reset}
+use Rattle.scsi_cmd.specs.declared.Task.TheVariants.{Abort, Reset, Query}
 use Rattle.scsi_cmd.specs.Held.{held_at, held_under, with_held_under}
-use Rattle.solo_model.specs.TaggedTask.{after_notes, carried, moved, queued, queued_management, reply_of, sent}
+use Rattle.scsi_cmd.specs.Request.{ended_by}
+use Rattle.solo_model.specs.TaggedTask.{after_notes, carried, finds, moved, queued, queued_management, reply_of, sent}
 use Rattle.scsi_cmd.specs.Submission.{first_submit_fault, first_task_fault}
 use Rattle.solo_model.specs.TaggedTask.{TaggedTask}
 use Rattle.solo_model.specs.declared.Label.{Label}
@@ -65,19 +66,21 @@ submitted state index ticket command (Some fault) = None
 abbrev pub command_under : List (Option TaggedTask) → ℕ → Option TaggedTask
 command_under tasks index = if is_command_index index then held_under tasks index else None
 
--- what is to be managed is there: of an abort the command under its index, of a reset always
+-- what is to be managed is there: of an abort and a query the command under its index, of a reset always
 abbrev pub is_there : List (Option TaggedTask) → Task → Bool
 is_there tasks (Abort index) = is_some (command_under tasks index)
 is_there tasks Reset = true
+is_there tasks (Query index) = is_some (command_under tasks index)
 
 abbrev pub tickets_of : List (Option TaggedTask) → List ℕ
 tickets_of tasks = filter_map (option_map (λ task. task.ticket)) tasks
 
--- The tickets that a task management notes: an abort that of the command under its index, a reset those of all commands that
--- were submitted and not settled.
+-- The tickets that a task management notes: an abort and a query that of the command under its index, a reset those of all commands
+-- that were submitted and not settled.
 abbrev pub noted_tickets : List (Option TaggedTask) → Task → List ℕ
 noted_tickets tasks (Abort index) = tickets_of (command_under tasks index ∷ [])
 noted_tickets tasks Reset = tickets_of (take TASK_SLOT tasks)
+noted_tickets tasks (Query index) = tickets_of (command_under tasks index ∷ [])
 
 -- the index of task management
 abbrev pub task_index : ℕ
@@ -89,7 +92,7 @@ managed state ticket task None =
     (state.unit, queued_management ticket task (noted_tickets state.tasks task))) { least_ticket = ticket + 1 }))
 managed state ticket task (Some fault) = None
 
--- the tasks once a task management that noted these tickets is carried: commands of such a ticket are gone
+-- the tasks once a task management that ends these tickets is carried: commands of such a ticket are gone
 abbrev pub heeded : Option (ArrayVec ℕ) → List (Option TaggedTask) → List (Option TaggedTask)
 heeded None tasks = tasks
 heeded (Some noted) tasks = map (option_map (after_notes noted.items)) tasks
@@ -97,18 +100,18 @@ heeded (Some noted) tasks = map (option_map (after_notes noted.items)) tasks
 -- what the client has once a request is carried; a command changes nothing of the others
 abbrev pub after_request : Request → List (Option TaggedTask) → List (Option TaggedTask)
 after_request (Execute op) tasks = tasks
-after_request (Manage what noted) tasks = heeded (Some noted) tasks
+after_request (Manage what noted) tasks = heeded (Some (ended_by what noted)) tasks
 
 abbrev pub with_request_carried : SoloState → TaggedTask → SoloState
 with_request_carried state task = record state { tasks = after_request task.request state.tasks }
 
 abbrev pub carried_at : SoloState → ℕ → TaggedTask → Option (SoloState × Option Reply)
 carried_at state index task =
-    option_map (λ after. silently (with_task (with_request_carried state task) index after)) (carried state.unit task)
+    option_map (λ after. silently (with_task (with_request_carried state task) index after)) (carried state.unit (finds task.request state.tasks) task)
 
--- what carrying the request of a slot did, or that it did nothing
-abbrev pub IsCarried : BlockMaps → List (Option TaggedTask) → ℕ → Bool → BlockMaps → List (Option TaggedTask) → Type 0
-IsCarried unit tasks slot acted unit_now tasks_now = MatchOption (option_and_then (carried unit) (held_at tasks slot))
+-- what carrying the request of a slot did, which found a command that it noted or didn't, or that it did nothing
+abbrev pub IsCarried : BlockMaps → List (Option TaggedTask) → ℕ → Bool → Bool → BlockMaps → List (Option TaggedTask) → Type 0
+IsCarried unit tasks slot found acted unit_now tasks_now = MatchOption (option_and_then (carried unit found) (held_at tasks slot))
     ((acted ≡ false) × (unit_now ≡ unit) × (tasks_now ≡ tasks))
     (λ after. (acted ≡ true) × (unit_now ≡ after.0) × (tasks_now ≡ slice_set tasks slot (Some after.1)))
 

@@ -5,7 +5,7 @@ use Rattle.std.specs.List.{list_any}
 use Rattle.arrayvec.specs.ArrayVec.{ArrayVec}
 use Rattle.std.specs.Option.{option_map_or}
 use Rattle.block_unit.specs.BlockMaps.{BlockMaps, bytes_from, with_attention}
-use Rattle.scsi_cmd.specs.Request.{is_command}
+use Rattle.scsi_cmd.specs.Request.{ended_by, is_command}
 use Rattle.scsi_cmd.specs.declared.Op.{Op}
 use Rattle.scsi_cmd.specs.declared.Command.{Command}
 use Rattle.scsi_cmd.specs.declared.Reply.{Reply}
@@ -13,7 +13,7 @@ use Rattle.scsi_cmd.specs.declared.Reply.TheVariants.{Status, Aborted, Task as T
 use Rattle.scsi_cmd.specs.declared.Request.{Request}
 use Rattle.scsi_cmd.specs.declared.Request.TheVariants.{Execute, Manage}
 use Rattle.scsi_cmd.specs.declared.Task.{Task}
-use Rattle.scsi_cmd.specs.declared.Task.TheVariants.{Abort, Reset}
+use Rattle.scsi_cmd.specs.declared.Task.TheVariants.{Abort, Reset, Query}
 use Rattle.scsi_cmd.specs.Buffers.{with_bytes_at}
 use Rattle.scsi_cmd.specs.Op.{moved_bytes}
 use Rattle.scsi_cmd.specs.Work.{checked_work, reports_attention, work_of}
@@ -78,18 +78,27 @@ queued_management ticket task noted =
 abbrev pub unit_managed : BlockMaps → Task → BlockMaps
 unit_managed unit (Abort tag) = unit
 unit_managed unit Reset = with_attention unit true
+unit_managed unit (Query tag) = unit
+
+-- The response to a task management, where the device has a command that it noted, or hasn't: SUCCEEDED to a query of a command that the
+-- device has, else COMPLETE.
+abbrev pub response_to : Task → Bool → ResponseCode
+response_to (Abort tag) found = Complete
+response_to Reset found = Complete
+response_to (Query tag) found = if found then Succeeded else Complete
 
 -- the unit after it, and how far the task of the command has come
 abbrev pub command_begun : BlockMaps × Progress → BlockMaps × TaskProgress
 command_begun after = (after.0, of_command after.1)
 
--- A command begins as far as its data. A task management is done with as it is received: it ends with the response COMPLETE.
-abbrev pub request_begun : BlockMaps → Request → BlockMaps × TaskProgress
-request_begun unit (Execute op) = command_begun (begun unit (reports_attention op) (checked_work op unit.count))
-request_begun unit (Manage what noted) = (unit_managed unit what, Ended (WithResponse Complete))
+-- A command begins as far as its data. A task management is done with as it is received; `found` says that the device has a command that it
+-- noted.
+abbrev pub request_begun : BlockMaps → Bool → Request → BlockMaps × TaskProgress
+request_begun unit found (Execute op) = command_begun (begun unit (reports_attention op) (checked_work op unit.count))
+request_begun unit found (Manage what noted) = (unit_managed unit what, Ended (WithResponse (response_to what found)))
 
-abbrev pub carried_request : BlockMaps → TaggedTask → Request → BlockMaps × TaggedTask
-carried_request unit task request = in_progress task (request_begun unit request)
+abbrev pub carried_request : BlockMaps → Bool → TaggedTask → Request → BlockMaps × TaggedTask
+carried_request unit found task request = in_progress task (request_begun unit found request)
   where
     in_progress : TaggedTask → BlockMaps × TaskProgress → BlockMaps × TaggedTask
     in_progress task after = (after.0, record task { phase = Begun after.1 })
@@ -100,27 +109,27 @@ IsStep after acted unit task unit_now task_now = MatchOption after ((acted ≡ f
     (λ step. (acted ≡ true) × (unit_now ≡ step.0) × (task_now ≡ step.1))
 
 -- only a queued task is carried
-abbrev pub carried_from : BlockMaps → TaggedTask → Phase → Option (BlockMaps × TaggedTask)
-carried_from unit task Queued = Some (carried_request unit task task.request)
-carried_from unit task (Begun progress) = None
-carried_from unit task (Sent answer) = None
-carried_from unit task Gone = None
+abbrev pub carried_from : BlockMaps → Bool → TaggedTask → Phase → Option (BlockMaps × TaggedTask)
+carried_from unit found task Queued = Some (carried_request unit found task task.request)
+carried_from unit found task (Begun progress) = None
+carried_from unit found task (Sent answer) = None
+carried_from unit found task Gone = None
 
-abbrev pub carried : BlockMaps → TaggedTask → Option (BlockMaps × TaggedTask)
-carried unit task = carried_from unit task task.phase
+abbrev pub carried : BlockMaps → Bool → TaggedTask → Option (BlockMaps × TaggedTask)
+carried unit found task = carried_from unit found task task.phase
 
 -- GONE: what a task management that is carried does to the client's other tasks
 
--- the tickets that a task management noted which is to be carried next
-abbrev pub noted_in : Phase → Request → Option (ArrayVec ℕ)
-noted_in Queued (Execute op) = None
-noted_in Queued (Manage what noted) = Some noted
-noted_in (Begun progress) request = None
-noted_in (Sent answer) request = None
-noted_in Gone request = None
+-- the tickets of the commands that a task management ends which is to be carried next
+abbrev pub ended_in : Phase → Request → Option (ArrayVec ℕ)
+ended_in Queued (Execute op) = None
+ended_in Queued (Manage what noted) = Some (ended_by what noted)
+ended_in (Begun progress) request = None
+ended_in (Sent answer) request = None
+ended_in Gone request = None
 
-abbrev pub noted_next : TaggedTask → Option (ArrayVec ℕ)
-noted_next task = noted_in task.phase task.request
+abbrev pub ended_next : TaggedTask → Option (ArrayVec ℕ)
+ended_next task = ended_in task.phase task.request
 
 -- its answer wasn't handed over, so the device can still end it
 abbrev pub can_go : Phase → Bool
@@ -135,6 +144,22 @@ can_be_ended task = is_command task.request && can_go task.phase
 
 abbrev pub is_noted : List ℕ → ℕ → Bool
 is_noted noted ticket = list_any (λ other. other == ticket) noted
+
+-- the device has begun it, and its answer wasn't handed over
+abbrev pub is_begun : Phase → Bool
+is_begun Queued = false
+is_begun (Begun progress) = true
+is_begun (Sent answer) = false
+is_begun Gone = false
+
+-- the device has the task, which is of one of these tickets
+abbrev pub is_under_way : List ℕ → TaggedTask → Bool
+is_under_way noted task = is_begun task.phase && is_noted noted task.ticket
+
+-- The device has a task that this request noted. A command notes none.
+abbrev pub finds : Request → List (Option TaggedTask) → Bool
+finds (Execute op) tasks = false
+finds (Manage what noted) tasks = list_any (λ held. option_map_or (is_under_way noted.items) held false) tasks
 
 -- such a command of a noted ticket is gone; any other task stays
 abbrev pub after_notes : List ℕ → TaggedTask → TaggedTask

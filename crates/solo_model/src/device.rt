@@ -9,7 +9,7 @@ ghost use Rattle.scsi_cmd.specs.Work.{IsWorkOn, work_bytes, work_direction};
 ghost use Rattle.uas_profile.specs.declared.Direction.{Direction};
 ghost use Rattle.device_server.specs.Server.{chunk_bytes, chunk_given, progress_after, unit_taken};
 ghost use Rattle.solo_model.specs.Soundness.{IsSound};
-ghost use Rattle.solo_model.specs.TaggedTask.{IsStep, buffer_after, carried, moved, of_command, progress_left, request_begun, request_in, sent, unit_after};
+ghost use Rattle.solo_model.specs.TaggedTask.{IsStep, buffer_after, carried, moved, of_command, progress_left, request_begun, request_in, response_to, sent, unit_after, unit_managed};
 
 use crate::{Phase, ResponseCode, Submitted, TaggedTask, Task, TaskAnswer, TaskProgress};
 use block_unit::Unit;
@@ -17,25 +17,25 @@ use device_server::{Progress, begin, chunk_len, give_chunk, take_chunk};
 use scsi_cmd::{Buffer, Command, Direction, Op, Work, checked_work, reports_attention, work_of};
 use uas_profile::CHUNK_BYTES;
 
-/// The device receives a queued task and begins it; false, and nothing changes, where it isn't queued.
-pub fn carry(unit: &mut Unit, task: &mut TaggedTask) -> bool
+/// The device receives a queued task and begins it; false, and nothing changes, where it isn't queued. `found` says that the
+/// device has a command that the task noted, as a task management.
+pub fn carry(unit: &mut Unit, found: bool, task: &mut TaggedTask) -> bool
     requires { IsSound unit.old.count task.old }
-    ensures carried { IsStep (carried unit.old task.old) result unit.old task.old unit.new task.new }
+    ensures carried { IsStep (carried unit.old found task.old) result unit.old task.old unit.new task.new }
     ensures sound { IsSound unit.new.count task.new }
     ensures count { unit.new.count ≡ unit.old.count }
 {
     let Phase::Queued = task.phase else {
         return false;
     };
-    task.phase = Phase::Begun(begin_submitted(unit, &task.submitted));
+    task.phase = Phase::Begun(begin_submitted(unit, found, &task.submitted));
     true
 }
 
-/// A command begins as far as its data. A task management is done with as it is received, with the response COMPLETE, and
-/// LOGICAL UNIT RESET leaves an attention on the unit.
-fn begin_submitted(unit: &mut Unit, submitted: &Submitted) -> TaskProgress
-    ensures unit { unit.new ≡ (request_begun unit.old (request_in submitted.now)).0 }
-    ensures progress { result ≡ (request_begun unit.old (request_in submitted.now)).1 }
+/// A command begins as far as its data. A task management is done with as it is received.
+fn begin_submitted(unit: &mut Unit, found: bool, submitted: &Submitted) -> TaskProgress
+    ensures unit { unit.new ≡ (request_begun unit.old found (request_in submitted.now)).0 }
+    ensures progress { result ≡ (request_begun unit.old found (request_in submitted.now)).1 }
     ensures count { unit.new.count ≡ unit.old.count }
 {
     match submitted {
@@ -44,11 +44,29 @@ fn begin_submitted(unit: &mut Unit, submitted: &Submitted) -> TaskProgress
             of_command(begin(unit, reports_attention(&command.op), asked))
         }
         Submitted::Management { task, .. } => {
-            if let Task::Reset = task {
-                unit.set_attention(true);
-            }
-            TaskProgress::Ended(TaskAnswer::WithResponse(ResponseCode::Complete))
+            manage_unit(unit, task);
+            TaskProgress::Ended(TaskAnswer::WithResponse(response_to(task, found)))
         }
+    }
+}
+
+/// LOGICAL UNIT RESET leaves an attention on its unit.
+fn manage_unit(unit: &mut Unit, task: &Task)
+    ensures unit { unit.new ≡ unit_managed unit.old task.now }
+    ensures count { unit.new.count ≡ unit.old.count }
+{
+    if let Task::Reset = task {
+        unit.set_attention(true);
+    }
+}
+
+/// The response to a task management, where the device has a command that it noted, or hasn't.
+fn response_to(task: &Task, found: bool) -> ResponseCode
+    ensures { result ≡ response_to task.now found }
+{
+    match task {
+        Task::Query { .. } if found => ResponseCode::Succeeded,
+        Task::Abort { .. } | Task::Reset | Task::Query { .. } => ResponseCode::Complete,
     }
 }
 

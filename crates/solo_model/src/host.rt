@@ -1,5 +1,7 @@
-ghost use Rattle.std.specs.Prelude.{◌≡◌, ℕ, is_some};
-ghost use Rattle.solo_model.specs.TaggedTask.{aborted_by, after_notes, answered_by, buffer_in, can_be_ended, is_noted, noted_next, queued};
+ghost use Rattle.std.specs.Option.{option_map_or};
+ghost use Rattle.std.specs.Prelude.{◌≡◌, ℕ, false, is_some};
+ghost use Rattle.scsi_cmd.specs.Request.{ended_by};
+ghost use Rattle.solo_model.specs.TaggedTask.{aborted_by, after_notes, answered_by, buffer_in, can_be_ended, ended_next, finds, is_begun, is_noted, is_under_way, queued};
 ghost use Rattle.solo_model.specs.TaggedTask.{queued_management, reply_of, request_in};
 
 use crate::{Phase, Submitted, TaggedTask, Task, TaskAnswer};
@@ -53,17 +55,29 @@ impl TaggedTask {
         }
     }
 
-    /// The tickets that it noted, where it is a task management that the device hasn't received.
-    pub fn noted_next(&self) -> Option<ArrayVec<u64, TASK_SLOT>>
-        ensures { result ≡ noted_next self.now }
+    /// The tickets of the commands that it ends, where it is a task management that the device hasn't received.
+    pub fn ended_next(&self) -> Option<ArrayVec<u64, TASK_SLOT>>
+        ensures { result ≡ ended_next self.now }
     {
         match (&self.phase, &self.submitted) {
-            (Phase::Queued, Submitted::Management { noted, .. }) => Some(copied(noted)),
+            (Phase::Queued, Submitted::Management { task, noted }) => Some(ended_by(task, noted)),
             _ => None,
         }
     }
 
-    /// A task management with these tickets noted is carried: a command of one of them is gone, where its answer wasn't handed
+    /// Whether the device has one of these tasks that it noted, as a task management.
+    pub fn finds(&self, tasks: &[Option<TaggedTask>]) -> bool
+        ensures { result ≡ finds self.now.request tasks.now }
+    {
+        match &self.submitted {
+            Submitted::Command(_) => false,
+            Submitted::Management { noted, .. } => {
+                tasks.iter().any(|held| is_under_way(noted, held))
+            }
+        }
+    }
+
+    /// A task management that ends these tickets is carried: a command of one of them is gone, where its answer wasn't handed
     /// over yet.
     pub fn heed(&mut self, noted: &[u64])
         ensures { self.new ≡ after_notes noted.now self.old }
@@ -71,6 +85,13 @@ impl TaggedTask {
         if self.can_be_ended() && is_noted(noted, self.ticket) {
             self.phase = Phase::Gone;
         }
+    }
+
+    /// Whether the device has begun it and not handed over its answer.
+    fn is_begun(&self) -> bool
+        ensures { result ≡ is_begun self.now.phase }
+    {
+        matches!(self.phase, Phase::Begun(_))
     }
 
     /// Whether it is a command whose answer wasn't handed over.
@@ -90,12 +111,25 @@ fn is_noted(noted: &[u64], ticket: u64) -> bool
     noted.iter().any(|other| *other == ticket)
 }
 
-fn copied(tickets: &ArrayVec<u64, TASK_SLOT>) -> ArrayVec<u64, TASK_SLOT>
-    ensures { result ≡ tickets.now }
+/// Whether what is held is a task of one of these tickets that the device has.
+fn is_under_way(noted: &[u64], held: &Option<TaggedTask>) -> bool
+    ensures { result ≡ option_map_or (is_under_way noted.now) held.now false }
 {
-    let mut copy = ArrayVec::new();
-    copy.try_extend_from_slice(tickets).unwrap();
-    copy
+    match held {
+        Some(task) => task.is_begun() && is_noted(noted, task.ticket),
+        None => false,
+    }
+}
+
+/// Of the tickets that a task management noted those of the commands that it ends.
+fn ended_by(task: &Task, noted: &ArrayVec<u64, TASK_SLOT>) -> ArrayVec<u64, TASK_SLOT>
+    ensures { result ≡ ended_by task.now noted.now }
+{
+    let mut ended = ArrayVec::new();
+    if task.ends_commands() {
+        ended.try_extend_from_slice(noted).unwrap();
+    }
+    ended
 }
 
 /// The reply of a task that is done with, under this tag: its answer was sent, or a task management ended it.

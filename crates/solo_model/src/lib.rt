@@ -31,7 +31,7 @@ use uas_profile::{TAGS, TASK_SLOT};
 pub enum ResponseCode {
     /// TASK MANAGEMENT FUNCTION COMPLETE, 00h: it was done.
     Complete,
-    /// TASK MANAGEMENT FUNCTION SUCCEEDED, 08h: what it asks for is so. No task management here asks.
+    /// TASK MANAGEMENT FUNCTION SUCCEEDED, 08h: the device has the task that a query asks after.
     Succeeded,
 }
 
@@ -120,7 +120,7 @@ impl Model for TaggedTask {
 pub enum Label {
     /// The client submits a command with this ticket.
     Submit(u16, u64, Command),
-    /// The client submits a task management with this ticket; an abort names a command by its index.
+    /// The client submits a task management with this ticket; an abort and a query name a command by its index.
     Task(u64, Task),
     /// The device receives it.
     Carry(u16),

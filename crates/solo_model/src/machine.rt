@@ -1,9 +1,10 @@
 ghost use Rattle.std.specs.Prelude.{◌≡◌, ℕ, suc, ◌+◌, ◌^◌, ◌<◌, ◌≤◌, IfNone, IfSome, MatchOption, true, false, length, map, slice_set};
 ghost use Rattle.std.specs.Prelude.{option_and_then, option_map, is_some, option_to_list, ◌++◌, if◌then◌else◌};
+ghost use Rattle.std.specs.Option.{option_map_or};
 ghost use Rattle.arrayvec.specs.ArrayVec.{array_vec_len};
 ghost use Rattle.scsi_cmd.specs.Held.{AllHeld, held_at};
 ghost use Rattle.solo_model.specs.Soundness.{IsSound};
-ghost use Rattle.solo_model.specs.TaggedTask.{after_notes, carried, moved, noted_next, sent, reply_of};
+ghost use Rattle.solo_model.specs.TaggedTask.{after_notes, carried, ended_next, finds, moved, sent, reply_of};
 ghost use Rattle.solo_model.specs.Solo.{IsCarried, TicketFits, applied, heeded, is_command_index, is_there, noted_tickets, opening};
 ghost use Rattle.solo_model.specs.Solo.{slot_under, solo_step, tickets_of};
 
@@ -156,12 +157,12 @@ fn slot_of(index: u16) -> Option<usize>
     }
 }
 
-/// Whether what is to be managed is there: of an abort the command under its index, of a reset always.
+/// Whether what is to be managed is there: of an abort and a query the command under its index, of a reset always.
 fn is_there(tasks: &[Option<TaggedTask>; TAGS], task: &Task) -> bool
     ensures { result ≡ is_there tasks.now task.now }
 {
     match task {
-        Task::Abort { tag } => match command_slot(*tag) {
+        Task::Abort { tag } | Task::Query { tag } => match command_slot(*tag) {
             Some(slot) => tasks[slot].is_some(),
             None => false,
         },
@@ -180,14 +181,14 @@ fn command_slot(index: u16) -> Option<usize>
     }
 }
 
-/// The tickets that a task management notes: an abort that of the command under its index, a reset those of all commands that
-/// were submitted and not settled.
+/// The tickets that a task management notes: an abort and a query that of the command under its index, a reset those of all
+/// commands that were submitted and not settled.
 fn noted_tickets(tasks: &[Option<TaggedTask>], task: &Task) -> ArrayVec<u64, TASK_SLOT>
     requires { length tasks.now ≡ TAGS }
     ensures { result.items ≡ noted_tickets tasks.now task.now }
 {
     match task {
-        Task::Abort { tag } => match command_slot(*tag) {
+        Task::Abort { tag } | Task::Query { tag } => match command_slot(*tag) {
             Some(slot) => tickets_in(&tasks[slot..slot + 1]),
             None => ArrayVec::new(),
         },
@@ -225,12 +226,23 @@ fn ticket_of(task: &Option<TaggedTask>) -> Option<u64>
     }
 }
 
-/// The tickets that the task of a slot noted, where it is a task management that is to be carried next.
-fn noted_at(tasks: &[Option<TaggedTask>], slot: usize) -> Option<ArrayVec<u64, TASK_SLOT>>
+/// The tickets of the commands that the task of a slot ends, where it is a task management that is to be carried next.
+fn ended_at(tasks: &[Option<TaggedTask>], slot: usize) -> Option<ArrayVec<u64, TASK_SLOT>>
     requires { slot < length tasks.now }
-    ensures { result ≡ option_and_then noted_next (held_at tasks.now slot) }
+    ensures { result ≡ option_and_then ended_next (held_at tasks.now slot) }
 {
-    tasks[slot].as_ref()?.noted_next()
+    tasks[slot].as_ref()?.ended_next()
+}
+
+/// Whether the device has a task that the task of a slot noted, as a task management.
+fn finds_at(tasks: &[Option<TaggedTask>], slot: usize) -> bool
+    requires { slot < length tasks.now }
+    ensures { result ≡ option_map_or (λ task. finds task.request tasks.now) (held_at tasks.now slot) false }
+{
+    match &tasks[slot] {
+        Some(task) => task.finds(tasks),
+        None => false,
+    }
 }
 
 /// The same of these tickets, where there are any.
@@ -242,7 +254,7 @@ fn heed_noted(tasks: &mut [Option<TaggedTask>], noted: Option<ArrayVec<u64, TASK
     }
 }
 
-/// A task management with these tickets noted is carried: each command of one of them is gone, where its answer wasn't handed
+/// A task management that ends these tickets is carried: each command of one of them is gone, where its answer wasn't handed
 /// over.
 fn heed_all(tasks: &mut [Option<TaggedTask>], noted: &[u64])
     ensures { tasks.new ≡ map (option_map (after_notes noted.now)) tasks.old }
@@ -260,26 +272,33 @@ fn heed(task: &mut Option<TaggedTask>, noted: &[u64])
     }
 }
 
-/// The device receives the request of a slot: a task management first ends the commands whose tickets it noted.
+/// The device receives the request of a slot: a task management first ends commands whose tickets it noted.
 fn carry_slot(unit: &mut Unit, tasks: &mut [Option<TaggedTask>], slot: usize) -> bool
     requires slot { slot < length tasks.old }
     requires sound { AllHeld (IsSound unit.old.count) tasks.old }
-    ensures carried { IsCarried unit.old (heeded (option_and_then noted_next (held_at tasks.old slot)) tasks.old) slot result unit.new tasks.new }
+    ensures carried { IsCarried unit.old (heeded (option_and_then ended_next (held_at tasks.old slot)) tasks.old) slot
+        (option_map_or (λ task. finds task.request tasks.old) (held_at tasks.old slot) false) result unit.new tasks.new }
     ensures sound { AllHeld (IsSound unit.new.count) tasks.new }
 {
-    let noted = noted_at(tasks, slot);
-    heed_noted(tasks, noted);
-    carry_at(unit, tasks, slot)
+    let found = finds_at(tasks, slot);
+    let ended = ended_at(tasks, slot);
+    heed_noted(tasks, ended);
+    carry_at(unit, tasks, slot, found)
 }
 
-fn carry_at(unit: &mut Unit, tasks: &mut [Option<TaggedTask>], slot: usize) -> bool
+fn carry_at(
+    unit: &mut Unit,
+    tasks: &mut [Option<TaggedTask>],
+    slot: usize,
+    found: bool,
+) -> bool
     requires slot { slot < length tasks.old }
     requires sound { AllHeld (IsSound unit.old.count) tasks.old }
-    ensures carried { IsCarried unit.old tasks.old slot result unit.new tasks.new }
+    ensures carried { IsCarried unit.old tasks.old slot found result unit.new tasks.new }
     ensures sound { AllHeld (IsSound unit.new.count) tasks.new }
 {
     match &mut tasks[slot] {
-        Some(task) => carry(unit, task),
+        Some(task) => carry(unit, found, task),
         None => false,
     }
 }

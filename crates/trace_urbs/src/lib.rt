@@ -18,7 +18,7 @@ mod scribe;
 mod transfers;
 
 use desk::Desk;
-use lines::news_in;
+pub use lines::{address_at, news_in, number_at};
 pub use scribe::capture_of;
 use stream_array::Pipe;
 pub use transfers::Transfers;

@@ -83,7 +83,7 @@ fn owner_at(words: &[&[u8]], client: usize, ticket: usize) -> Option<Owner>
 
 /// The word at a place, as a number of this range.
 #[tactic(auto, unfolding(crate::specs::Lines::number_at))]
-fn number_at(words: &[&[u8]], place: usize, least: u64, most: u64) -> Option<u64>
+pub fn number_at(words: &[&[u8]], place: usize, least: u64, most: u64) -> Option<u64>
     ensures value { result ≡ number_at (map (λ word. word.now) words.now) place least most }
     ensures range { IfSome result (λ value. value ≤ most) }
 {
@@ -193,7 +193,7 @@ fn pipe_numbered(number: u64) -> Option<Pipe>
 
 /// The address behind the first word, in 16 digits.
 #[tactic(auto, unfolding(crate::specs::Lines::address_at))]
-fn address_at(words: &[&[u8]]) -> Option<u64>
+pub fn address_at(words: &[&[u8]]) -> Option<u64>
     ensures { result ≡ address_at (map (λ word. word.now) words.now) }
 {
     let bytes = eight_bytes_in(words.get(1)?)?;

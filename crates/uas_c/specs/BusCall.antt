@@ -52,7 +52,7 @@ after_submit state door bytes =
 
 -- TASK (2): 1 ABORT TASK of the tag, 8 LOGICAL UNIT RESET; 20 a ticket of 2^60 or more, 22 another function
 abbrev pub task_numbered : UasBusDoor → Option Task
-task_numbered door = numbered ((1, tasks.Abort door.tag) ∷ (8, tasks.Reset) ∷ []) door.function
+task_numbered door = numbered ((1, tasks.Abort door.tag) ∷ (8, tasks.Reset) ∷ (0x80, tasks.Query door.tag) ∷ []) door.function
 
 abbrev pub after_task : Shared → UasBusDoor → DoorAfter Shared UasBusDoor
 after_task state door = if not_ticket door then refused 20 state door else of_task (task_numbered door)

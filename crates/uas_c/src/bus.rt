@@ -37,7 +37,7 @@ pub struct UasBusDoor {
     pub client: u32,
     /// Out of REPLY: bytes of its buffer.
     pub length: u32,
-    /// Of SUBMIT, ABORT TASK, STEP and DUE. Out of REPLY.
+    /// Of SUBMIT, ABORT TASK, QUERY TASK, STEP and DUE. Out of REPLY.
     pub tag: u16,
     /// The call, 1 to 5 and 7 to 9.
     pub call: u8,
@@ -45,7 +45,7 @@ pub struct UasBusDoor {
     pub step: u8,
     /// Of step 6: 1 status, 2 data in, 3 data out.
     pub pipe: u8,
-    /// Of TASK: 1 ABORT TASK of `tag`, 8 LOGICAL UNIT RESET.
+    /// Of TASK: 1 ABORT TASK of `tag`, 8 LOGICAL UNIT RESET, 80h QUERY TASK of `tag`.
     pub function: u8,
     /// Out of STEP, DUE and REPLY: 0 or 1. Out of DRAIN: 1 where none is due any more.
     pub acted: u8,
@@ -225,6 +225,7 @@ fn task_numbered(door: &UasBusDoor) -> Option<Task>
     match door.function {
         1 => Some(Task::Abort { tag: door.tag }),
         8 => Some(Task::Reset),
+        0x80 => Some(Task::Query { tag: door.tag }),
         _ => None,
     }
 }

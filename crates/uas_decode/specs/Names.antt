@@ -57,14 +57,16 @@ response_name code =
     if code == 0x00 then codes " COMPLETE"
     else (if code == 0x02 then codes " INVALID INFORMATION UNIT"
     else (if code == 0x04 then codes " NOT SUPPORTED"
+    else (if code == 0x08 then codes " SUCCEEDED"
     else (if code == 0x09 then codes " INCORRECT LUN"
-    else [])))
+    else []))))
 
 unfoldable pub function_name : ℕ → Option (List ℕ)
 function_name function =
     if function == 0x01 then Some (codes "ABORT TASK")
     else (if function == 0x08 then Some (codes "LOGICAL UNIT RESET")
-    else None)
+    else (if function == 0x80 then Some (codes "QUERY TASK")
+    else None))
 
 -- what a sense key, code and qualifier mean (SPC)
 abbrev pub is_sense : ℕ → ℕ → ℕ → Sense → Bool

@@ -26,7 +26,7 @@ use Rattle.uas_host.specs.State.{HostState, client_of, new_client, with_client}
 use Rattle.uas_host.specs.Submit.{data_td_for, new_entry, noted, submitted_client}
 use Rattle.uas_host.specs.Tasks.{managed, managed_client, noted_by, task_entry}
 use Rattle.uas_host.specs.Replies.{without}
-use Rattle.uas_host.specs.Seen.{after_response, completes, data_after, left_over_data, noted_in, goes_to_device, goes_to_host, is_td_left_over}
+use Rattle.uas_host.specs.Seen.{after_response, completes, data_after, left_over_data, ended_in, goes_to_device, goes_to_host, is_td_left_over}
 use Rattle.scsi_cmd.specs.Request.{is_command, request_direction}
 use Rattle.uas_host.specs.Seen.{seen, seen_data, with_seen}
 use Rattle.marks.specs.Marks.{is_marked}
@@ -123,7 +123,7 @@ with_seen-no_more : (notice : Notice) (client : HostClient) (slot : ℕ) (held n
     LeavesNoMore held now → LeavesNoMoreIn client.entries (with_seen notice client slot now).entries
 with_seen-no_more notice client slot held now still is less =
     let so : (with_seen notice client slot now).entries ≡ slice_set client.entries slot (Some now) =
-    ap (λ b. cond b (after_response (noted_in now.request) (slice_set client.entries slot (Some now))) (slice_set client.entries slot (Some now)))
+    ap (λ b. cond b (after_response (ended_in now.request) (slice_set client.entries slot (Some now))) (slice_set client.entries slot (Some now)))
     (still-incomplete notice still) in
     rw so (held-set client.entries slot (Some now) (rw is less))
 

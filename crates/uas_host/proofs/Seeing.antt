@@ -25,7 +25,7 @@ use Rattle.uas_profile.specs.TdStates.{is_pending, is_seen, one_if}
 use Rattle.uas_host.specs.State.{is_ready, new_client, queued_if, readied_of, with_client}
 use Rattle.scsi_cmd.specs.Request.{is_command, request_direction}
 use Rattle.uas_host.specs.Seen.{after_response, client_seen, completes, data_after, doomed, entries_after, goes_to_device, goes_to_host, is_data_left_over}
-use Rattle.uas_host.specs.Seen.{is_doomed, left_over_data, noted_in, place_seen, seen, seen_data, with_seen}
+use Rattle.uas_host.specs.Seen.{is_doomed, left_over_data, ended_in, place_seen, seen, seen_data, with_seen}
 use Rattle.uas_host.proofs.Queues.{AreReady-length, AreReady-push}
 use Rattle.uas_host.proofs.Sound.{AllHeld-set, IsHost-set}
 
@@ -215,11 +215,11 @@ entries_after-sound : (notice : Notice) (request : Request) (client : HostClient
 entries_after-sound notice request client sound =
     elim (completes notice) as
     (λ b. IsHostClient
-    (record { entries = cond b (after_response (noted_in request) client.entries) client.entries; least_ticket = client.least_ticket; ready = client.ready })) [
+    (record { entries = cond b (after_response (ended_in request) client.entries) client.entries; least_ticket = client.least_ticket; ready = client.ready })) [
       | true ↦ record {
-        slots = length-doomed (noted_in request) client.entries ∙ sound.slots;
-        ready = λ slot. sound.ready slot ∙ sym (doomed-at (noted_in request) client.entries slot);
-        told = all-doomed (noted_in request) client.entries sound.told;
+        slots = length-doomed (ended_in request) client.entries ∙ sound.slots;
+        ready = λ slot. sound.ready slot ∙ sym (doomed-at (ended_in request) client.entries slot);
+        told = all-doomed (ended_in request) client.entries sound.told;
       }
       | false ↦ record { slots = sound.slots; ready = sound.ready; told = sound.told }
     ]

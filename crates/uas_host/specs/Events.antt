@@ -30,7 +30,7 @@ use Rattle.uas_profile.specs.TdStates.{is_pending}
 use Rattle.uas_host.specs.State.{HostState}
 use Rattle.uas_host.specs.Retirement.{moved_lines, resumed_doors, retired_host, stopped_lines, with_retirement}
 pub use Rattle.uas_host.specs.Seen.{after_response, client_seen, completes, data_after, doomed, entries_after, goes_to_device, goes_to_host, held_of}
-pub use Rattle.uas_host.specs.Seen.{host_seen, is_data_left_over, is_doomed, is_td_left_over, left_over_data, left_over_td, noted_in, place_seen, seen}
+pub use Rattle.uas_host.specs.Seen.{host_seen, is_data_left_over, is_doomed, is_td_left_over, left_over_data, left_over_td, ended_in, place_seen, seen}
 pub use Rattle.uas_host.specs.Seen.{seen_data, with_retired, with_seen}
 
 -- WHICH TD

@@ -7,7 +7,7 @@ use Rattle.uas_profile.specs.declared.Pipe.{Pipe}
 use Rattle.uas_profile.specs.declared.Pipe.TheVariants.{Command, Status, DataIn, DataOut}
 use Rattle.uas_profile.specs.declared.Direction.{Direction}
 use Rattle.uas_profile.specs.declared.Direction.TheVariants.{ToHost, ToDevice}
-use Rattle.scsi_cmd.specs.Request.{is_command, request_direction}
+use Rattle.scsi_cmd.specs.Request.{ended_by, is_command, request_direction}
 use Rattle.scsi_cmd.specs.Held.{held_at}
 use Rattle.uas_profile.specs.declared.TdState.{TdState}
 use Rattle.uas_profile.specs.declared.TdState.TheVariants.{Seen, LeftOver, Retired}
@@ -90,12 +90,12 @@ seen (TdRetired pipe) held = if is_td_left_over pipe held then Some (with_retire
 
 -- THE DOOMED COMMANDS
 
--- the tickets that a task management noted
-abbrev pub noted_in : Request → List ℕ
-noted_in (Execute op) = []
-noted_in (Manage task noted) = noted.items
+-- the tickets of the commands that a task management ends
+abbrev pub ended_in : Request → List ℕ
+ended_in (Execute op) = []
+ended_in (Manage task noted) = (ended_by task noted).items
 
--- A command that the task management noted, still under its tag by its ticket, whose status can't come any more once the
+-- A command that the task management ends, still under its tag by its ticket, whose status can't come any more once the
 -- response COMPLETE came.
 abbrev pub is_doomed : List ℕ → HostEntry → Bool
 is_doomed noted held = is_command held.request && (is_pending held.status_td && list_any (λ ticket. ticket == held.ticket) noted)
@@ -117,7 +117,7 @@ completes _ = false
 
 -- the entries once one of them was seen
 abbrev pub entries_after : Notice → Request → List (Option HostEntry) → List (Option HostEntry)
-entries_after notice request entries = if completes notice then after_response (noted_in request) entries else entries
+entries_after notice request entries = if completes notice then after_response (ended_in request) entries else entries
 
 -- What is ready now is the last of the ready ones. No doomed command is ready by the response, as its status TD is left over.
 abbrev pub with_seen : Notice → HostClient → ℕ → HostEntry → HostClient

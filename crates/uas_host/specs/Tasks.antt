@@ -1,11 +1,11 @@
--- A task management (SAM, ABORT TASK and LOGICAL UNIT RESET): what it changes, and when it is refused.
+-- A task management (SAM, ABORT TASK, LOGICAL UNIT RESET and QUERY TASK): what it changes, and when it is refused.
 use Rattle.std.specs.Prelude.{ℕ, ◌+◌, nat_lt, true, false, Bool, if◌then◌else◌, List, [], ◌∷◌, ◌++◌, length, take, drop, Option, Some, None, is_some, slice_set}
 use Rattle.std.specs.Option.{option_map_or}
 use Rattle.arrayvec.specs.ArrayVec.{ArrayVec}
 use Rattle.scsi_cmd.specs.declared.SubmitFault.{SubmitFault}
 use Rattle.scsi_cmd.specs.declared.SubmitFault.TheVariants.{NotYours}
 use Rattle.scsi_cmd.specs.declared.Task.{Task}
-use Rattle.scsi_cmd.specs.declared.Task.TheVariants.{Abort, Reset}
+use Rattle.scsi_cmd.specs.declared.Task.TheVariants.{Abort, Reset, Query}
 use Rattle.uas_profile.specs.declared.TheConstants.{TASK_SLOT}
 use Rattle.scsi_cmd.specs.Submission.{first_task_fault}
 use Rattle.scsi_cmd.specs.Held.{held_at}
@@ -33,12 +33,13 @@ task_tag client = tag_of (record { client = client; slot = TASK_SLOT })
 abbrev pub is_held_at : HostClient → ℕ → Bool
 is_held_at held slot = is_some (held_at held.entries slot)
 
--- There is something to manage: for an abort a command of this client on the tag, whoever's the tag is, that was submitted
+-- There is something to manage: for an abort and a query a command of this client on the tag, whoever's the tag is, that was submitted
 -- and isn't yet taken. Worked: of three clients, client 2 can abort tag 34 while a command is on it, never tag 48 or 17 of
 -- another's.
 abbrev pub has_task : ℕ → ℕ → HostClient → Task → Bool
 has_task clients client held (Abort tag) = option_map_or (is_held_at held) (command_slot clients client tag) false
 has_task clients client held Reset = true
+has_task clients client held (Query tag) = option_map_or (is_held_at held) (command_slot clients client tag) false
 
 -- the first fault of a task management of a client that is there
 abbrev pub client_task_fault : ℕ → ℕ → HostClient → ℕ → Task → Option SubmitFault
@@ -60,11 +61,12 @@ tickets_of [] = []
 tickets_of (None ∷ places) = tickets_of places
 tickets_of (Some held ∷ places) = held.ticket ∷ tickets_of places
 
--- the tickets that a task management notes: an abort that of the command on the tag, a reset those of all commands of the
--- client
+-- the tickets that a task management notes: an abort and a query that of the command on the tag, a reset those of all commands
+-- of the client
 abbrev pub noted_by : HostClient → Task → List ℕ
 noted_by held (Abort tag) = tickets_of (held_at held.entries (slot_of tag) ∷ [])
 noted_by held Reset = tickets_of (take TASK_SLOT held.entries)
+noted_by held (Query tag) = tickets_of (held_at held.entries (slot_of tag) ∷ [])
 
 -- the entry of a task management that was just submitted
 abbrev pub task_entry : ℕ → Task → ArrayVec ℕ → HostEntry
@@ -91,20 +93,22 @@ managed host client ticket task = with_client host client (managed_client (clien
 
 -- THE BUFFERS
 
--- ABORT TASK is 01h, LOGICAL UNIT RESET 08h
+-- ABORT TASK is 01h, LOGICAL UNIT RESET 08h, QUERY TASK 80h
 abbrev pub function_of : Task → ℕ
 function_of (Abort tag) = 0x01
 function_of Reset = 0x08
+function_of (Query tag) = 0x80
 
 -- a reset names no task
-abbrev pub aborted_tag : Task → ℕ
-aborted_tag (Abort tag) = tag
-aborted_tag Reset = 0
+abbrev pub named_tag : Task → ℕ
+named_tag (Abort tag) = tag
+named_tag Reset = 0
+named_tag (Query tag) = tag
 
 -- The Task Management unit of a client. Worked: the abort of tag 34 by client 2 is 05 00 00 30 01 00 00 22 00 02 and six
--- zeros.
+-- zeros, the query of it 05 00 00 30 80 00 00 22 00 02 and six zeros.
 abbrev pub task_text : ℕ → Task → List ℕ
-task_text client task = unit_text (TaskUnit (task_tag client) (function_of task) (aborted_tag task) (lun_text client))
+task_text client task = unit_text (TaskUnit (task_tag client) (function_of task) (named_tag task) (lun_text client))
 
 -- the tag's command buffer begins with the unit
 abbrev pub with_task_unit : List TagBuffers → ℕ → Task → List TagBuffers

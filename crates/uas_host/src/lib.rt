@@ -21,10 +21,11 @@
 //! retired. The status CHECK CONDITION leaves an unseen data TD over, as its event can't come any more.
 //! Replies are taken in the order in which commands became ready; only then is the tag free again.
 //!
-//! Task management: an abort or a reset notes the tickets of the commands that it is to end, and goes out under
-//! the client's task tag as a status TD and a command TD. Doomed at its response COMPLETE is each noted command
-//! that is still under its tag by its ticket and whose status wasn't seen: its status TD is left over, and its
-//! data TD where unseen. It is ready once both were retired. A later command on that tag is left alone.
+//! Task management: an abort or a reset notes the tickets of the commands that it is to end, a query that of the command
+//! which it asks after, and goes out under the client's task tag as a status TD and a command TD. Doomed at the response
+//! COMPLETE of an abort or a reset is each noted command that is still under its tag by its ticket and whose status wasn't
+//! seen: its status TD is left over, and its data TD where unseen. It is ready once both were retired. A later command on
+//! that tag is left alone, and a query leaves every command alone.
 //!
 //! Retirement (xHCI 4.6.9, 4.6.10): a left-over TD is taken off its ring by Stop Endpoint and then Set TR Dequeue
 //! Pointer to the ring's enqueue place, one TD at a time. From its begin to the event of the second command the
@@ -152,8 +153,8 @@ pub struct Retirement {
 #[derive(Debug, Drop)]
 pub struct HostEntry {
     pub ticket: u64,
-    /// What the client asked for. A task management noted its tickets when it was submitted: an abort that of the command
-    /// on the tag, a reset those of all commands of its client, by rising slot.
+    /// What the client asked for. A task management noted its tickets when it was submitted: an abort and a query that of
+    /// the command on the tag, a reset those of all commands of its client, by rising slot.
     pub request: Request,
     pub told: HostAnswer,
     pub command_td: TdState,

@@ -4,7 +4,7 @@ ghost use Rattle.scsi_cmd.specs.Held.{held_at};
 ghost use Rattle.scsi_cmd.specs.Request.{is_command, request_direction};
 ghost use Rattle.scsi_cmd.specs.declared.TheConstants.{MAX_SENSE_BYTES};
 ghost use Rattle.uas_host.specs.Seen.{after_response, client_seen, completes, data_after, doomed, goes_to_device, goes_to_host, host_seen};
-ghost use Rattle.uas_host.specs.Seen.{is_data_left_over, is_doomed, is_td_left_over, left_over_data, noted_in, place_seen, seen, seen_data, with_retired};
+ghost use Rattle.uas_host.specs.Seen.{is_data_left_over, is_doomed, is_td_left_over, left_over_data, ended_in, place_seen, seen, seen_data, with_retired};
 ghost use Rattle.uas_host.specs.Sights.{notice_by};
 ghost use Rattle.uas_host.specs.declared.Notice.TheVariants.{Answered, TdRetired};
 ghost use Rattle.uas_profile.specs.TdStates.{is_left_over, is_over, is_pending, is_retired, is_seen};
@@ -152,7 +152,7 @@ impl HostEntry {
         true
     }
 
-    /// A command that a task management noted is left over, where its status wasn't seen.
+    /// A command that a task management ends is left over, where its status wasn't seen.
     fn leave_doomed_over(&mut self, noted: &[u64])
         ensures { self.new ≡ doomed noted.now self.old }
     {
@@ -162,12 +162,14 @@ impl HostEntry {
         }
     }
 
-    /// The tickets that a task management noted.
-    fn noted(&self) -> ArrayVec<u64, TASK_SLOT>
-        ensures { result.items ≡ noted_in self.now.request }
+    /// The tickets of the commands that a task management ends.
+    fn ended(&self) -> ArrayVec<u64, TASK_SLOT>
+        ensures { result.items ≡ ended_in self.now.request }
     {
         let mut tickets = ArrayVec::new();
-        if let Request::Manage { noted, .. } = &self.request {
+        if let Request::Manage { task, noted } = &self.request
+            && task.ends_commands()
+        {
             tickets.try_extend_from_slice(noted.as_slice()).unwrap();
         }
         tickets
@@ -248,7 +250,7 @@ fn see_held(held: &mut Option<HostEntry>, sight: Sight, sense: &[u8]) -> Option<
     }
 }
 
-/// What is held is left over, where a task management noted it and its status wasn't seen.
+/// What is held is left over, where a task management ends it and its status wasn't seen.
 fn leave_held_over(held: &mut Option<HostEntry>, noted: &[u64])
     ensures { held.new ≡ option_map (doomed noted.now) held.old }
 {
@@ -257,7 +259,7 @@ fn leave_held_over(held: &mut Option<HostEntry>, noted: &[u64])
     }
 }
 
-/// What a task management noted, among the commands of its client, is left over where its status wasn't seen.
+/// What a task management ends, among the commands of its client, is left over where its status wasn't seen.
 #[inline(never)]
 fn leave_doomed_over(entries: &mut [Option<HostEntry>; TAGS], noted: &[u64])
     ensures { entries.new ≡ after_response noted.now entries.old }
@@ -267,13 +269,13 @@ fn leave_doomed_over(entries: &mut [Option<HostEntry>; TAGS], noted: &[u64])
     }
 }
 
-/// The tickets that a task management noted.
+/// The tickets of the commands that a task management ends.
 #[inline(never)]
-fn noted_by(held: &Option<HostEntry>) -> ArrayVec<u64, TASK_SLOT>
-    ensures { IfSome held.now (λ entry. result.items ≡ noted_in entry.request) }
+fn ended_by(held: &Option<HostEntry>) -> ArrayVec<u64, TASK_SLOT>
+    ensures { IfSome held.now (λ entry. result.items ≡ ended_in entry.request) }
 {
     match held {
-        Some(entry) => entry.noted(),
+        Some(entry) => entry.ended(),
         None => ArrayVec::new(),
     }
 }
@@ -302,8 +304,8 @@ impl HostClient {
             None => false,
             Some(ready) => {
                 if completes {
-                    let noted = noted_by(&self.entries[slot]);
-                    leave_doomed_over(&mut self.entries, &noted);
+                    let ended = ended_by(&self.entries[slot]);
+                    leave_doomed_over(&mut self.entries, &ended);
                 }
                 if ready {
                     self.ready.push(slot);

@@ -74,7 +74,7 @@ impl HostClient {
         ensures { result.items ≡ noted_by self.now task }
     {
         match task {
-            Task::Abort { tag } => ticket_of(
+            Task::Abort { tag } | Task::Query { tag } => ticket_of(
                 &self.entries[usize::from(tag.saturating_sub(1)) % TAGS],
             ),
             Task::Reset => command_tickets(&self.entries),
@@ -99,7 +99,11 @@ impl Host {
     {
         match task {
             Task::Reset => true,
-            Task::Abort { tag } => match command_slot_of(self.clients.len(), client, tag) {
+            Task::Abort { tag } | Task::Query { tag } => match command_slot_of(
+                self.clients.len(),
+                client,
+                tag,
+            ) {
                 Some(slot) => self.clients[client].entries[slot].is_some(),
                 None => false,
             },
@@ -137,8 +141,8 @@ impl Host {
 
     /// Submits a client's task management under its task tag. The first fault is answered, and nothing changes:
     /// `NotYours` where there is no such client, `InUse` where something is under the task tag, `OutOfTurn` where
-    /// the ticket is below the least one, `NoSuchTask` where the tag to abort holds no command of the client that
-    /// was submitted and isn't yet taken. The tickets that it is to end are noted now. The doorbell of the status
+    /// the ticket is below the least one, `NoSuchTask` where the tag to abort or to query holds no command of the
+    /// client that was submitted and isn't yet taken. The tickets that it is to end, or asks after, are noted now. The doorbell of the status
     /// stream is left out while that pipe is held. Asks a ticket below `2^60`, room for two doorbells, and where
     /// there is no fault room on the two rings. Nothing is lent.
     pub fn task(

@@ -6,14 +6,16 @@ ghost use Rattle.frame_store.specs.Buffers.{held_for, with_held};
 ghost use Rattle.uas_host.specs.Events.{answer_in};
 ghost use Rattle.uas_host.specs.Sights.{notice_by};
 ghost use Rattle.uas_host.specs.Submit.{command_text, lent};
-ghost use Rattle.uas_host.specs.Tasks.{aborted_tag, function_of, task_tag, task_text, with_task_unit};
+ghost use Rattle.uas_host.specs.Tasks.{named_tag, function_of, task_tag, task_text, with_task_unit};
 
 use crate::seen::Sight;
 use crate::tags::task_tag_of;
 use arrayvec::ArrayVec;
 use frame_store::Frames;
 use scsi_cmd::{Buffer, Command, Op, Task, cdb};
-use uas_iu::{ABORT_TASK, AnswerHead, Iu, LOGICAL_UNIT_RESET, answer_head, lun_bytes, write};
+use uas_iu::{
+    ABORT_TASK, AnswerHead, Iu, LOGICAL_UNIT_RESET, QUERY_TASK, answer_head, lun_bytes, write,
+};
 use uas_profile::STATUS_BYTES;
 
 /// The Command unit of an operation for the logical unit of a client.
@@ -61,15 +63,16 @@ fn function(task: Task) -> u8
     match task {
         Task::Abort { .. } => ABORT_TASK,
         Task::Reset => LOGICAL_UNIT_RESET,
+        Task::Query { .. } => QUERY_TASK,
     }
 }
 
 /// The tag of the task that a task management names; 0 where it names none.
 fn named_tag(task: Task) -> u16
-    ensures { result ≡ aborted_tag task }
+    ensures { result ≡ named_tag task }
 {
     match task {
-        Task::Abort { tag } => tag,
+        Task::Abort { tag } | Task::Query { tag } => tag,
         Task::Reset => 0,
     }
 }

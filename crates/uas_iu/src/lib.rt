@@ -82,6 +82,9 @@ pub const INVALID_INFORMATION_UNIT: u8 = 0x02;
 /// Response code: the task management function is not supported.
 pub const NOT_SUPPORTED: u8 = 0x04;
 
+/// Response code: what a task management function asks for is so.
+pub const TASK_SUCCEEDED: u8 = 0x08;
+
 /// Response code: there is no such logical unit.
 pub const INCORRECT_LUN: u8 = 0x09;
 
@@ -89,6 +92,7 @@ const _: () = prove!(
     TASK_COMPLETE == 0x00
         && INVALID_INFORMATION_UNIT == 0x02
         && NOT_SUPPORTED == 0x04
+        && TASK_SUCCEEDED == 0x08
         && INCORRECT_LUN == 0x09
 );
 
@@ -98,7 +102,10 @@ pub const ABORT_TASK: u8 = 0x01;
 /// Task management function: end all tasks of a logical unit and reset it.
 pub const LOGICAL_UNIT_RESET: u8 = 0x08;
 
-const _: () = prove!(ABORT_TASK == 0x01 && LOGICAL_UNIT_RESET == 0x08);
+/// Task management function: tell whether the device has the task with a given tag.
+pub const QUERY_TASK: u8 = 0x80;
+
+const _: () = prove!(ABORT_TASK == 0x01 && LOGICAL_UNIT_RESET == 0x08 && QUERY_TASK == 0x80);
 
 /// An information unit. A `tag` names the task that it belongs to, and a `lun` is the eight bytes of
 /// a logical unit number, as [`lun_bytes`] gives them.

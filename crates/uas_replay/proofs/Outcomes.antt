@@ -7,7 +7,7 @@ use Rattle.scsi_cmd.specs.declared.Task.{Task}
 use Rattle.uas_profile.specs.declared.TheConstants.{TASK_SLOT}
 use Rattle.scsi_cmd.specs.Held.{held_at}
 use Rattle.solo_model.specs.TaggedTask.{TaggedTask}
-use Rattle.solo_model.specs.TaggedTask.{carried, moved, sent}
+use Rattle.solo_model.specs.TaggedTask.{carried, finds, moved, sent}
 use Rattle.block_unit.specs.BlockMaps.{BlockMaps}
 use Rattle.shared_machine.specs.declared.Step.{Step}
 use Rattle.shared_machine.specs.declared.Step.TheVariants.{Submit, Task as TaskStep, CommandPipe, Data, Status, Engine, Event, Retire, Take}
@@ -24,7 +24,7 @@ use Rattle.shared_machine.specs.declared.RetirementStage.{RetirementStage}
 use Rattle.shared_machine.specs.declared.RetirementStage.TheVariants.{StopAsked, StopAnswered, MoveAsked, MoveAnswered}
 use Rattle.shared_machine.specs.Td.{Entry}
 use Rattle.uas_profile.specs.Places.{place_of, command_slot}
-use Rattle.shared_machine.specs.Part.{Part, Act, carry_act, carried_slot, carried_entry, move_act, moved_slot, moved_entry, send_act, sent_slot, sent_entry}
+use Rattle.shared_machine.specs.Part.{Part, Act, carry_act, carried_slot, carried_entry, move_act, moved_slot, moved_entry, send_act, sent_slot, sent_entry, tasks_in}
 use Rattle.shared_machine.specs.Part.{event_act, event_place, seen_entry, seen_by, take_act, fault_at, named_slot, task_fault_at, stop_act}
 use Rattle.shared_machine.specs.Part.{pass_act, passed_slot, retire_act}
 use Rattle.shared_machine.specs.Shared.{Shared, idle, due, due_step, shared_step, routed, routed_to, routed_by_tag, carry_step, event_step, submitted_under}
@@ -66,7 +66,7 @@ no_reply act none some (Some found) = some found
 
 carry_slot-reply : (part : Part) (slot : ℕ) (place : Place) (entry : Option Entry) → (carried_slot part slot place entry).reply ≡ None
 carry_slot-reply part slot place =
-    no_reply (carried_slot part slot place) refl (λ e. no_reply (carried_entry part slot place e) refl (λ after. refl) (carried part.unit e.task))
+    no_reply (carried_slot part slot place) refl (λ e. no_reply (carried_entry part slot place e) refl (λ after. refl) (carried part.unit (finds e.task.request (tasks_in part.entries)) e.task))
 
 move_slot-reply : (part : Part) (slot : ℕ) (place : Place) (entry : Option Entry) → (moved_slot part slot place entry).reply ≡ None
 move_slot-reply part slot place =

@@ -8,7 +8,7 @@ use Rattle.std.specs.declared.alloc.Global.{Global}
 use Rattle.uas_profile.specs.declared.TheConstants.{GREATEST_TAG}
 use Rattle.scsi_cmd.specs.declared.Op.{Op}
 use Rattle.scsi_cmd.specs.declared.Op.TheVariants.{TestUnitReady, Inquiry, ReadCapacity, Read, Write, Sync, Read16, Write16, ReadCapacity16}
-use Rattle.scsi_cmd.specs.declared.Task.TheVariants.{Abort, Reset}
+use Rattle.scsi_cmd.specs.declared.Task.TheVariants.{Abort, Reset, Query}
 use Rattle.uas_script.specs.declared.Line.{Line}
 use Rattle.uas_profile.specs.declared.Pipe.{Pipe}
 use Rattle.stream_array.specs.Map.{pipe_numbered}
@@ -20,6 +20,7 @@ use Rattle.uas_script.specs.declared.ScriptFault.TheVariants.{TooLong, Line as F
 use Rattle.uas_script.specs.declared.RequestName.{RequestName}
 use Rattle.uas_script.specs.declared.RequestName.TheVariants.{Tur as TurName, Inquiry as InquiryName, Capacity as CapacityName, Read as ReadName}
 use Rattle.uas_script.specs.declared.RequestName.TheVariants.{Write as WriteName, Sync as SyncName, Abort as AbortName, Reset as ResetName}
+use Rattle.uas_script.specs.declared.RequestName.TheVariants.{Query as QueryName}
 use Rattle.uas_script.specs.declared.RequestName.TheVariants.{Read16 as Read16Name, Write16 as Write16Name, Capacity16 as Capacity16Name}
 use Rattle.uas_script.specs.declared.StepName.{StepName}
 use Rattle.uas_script.specs.declared.StepName.TheVariants.{Command as CommandName, Event as EventName, Data as DataName, Status as StatusName}
@@ -66,7 +67,8 @@ abbrev pub byte_at : List (List ℕ) → ℕ → Option ℕ
 byte_at words place = number_at words place 0 255
 
 -- REQUESTS: `C tur`, `C inquiry LEN`, `C capacity`, `C read LBA COUNT [fua]`, `C write LBA COUNT BYTE [fua]`,
--- `C sync LBA COUNT`, `C read16 LBA COUNT [fua]`, `C write16 LBA COUNT BYTE [fua]`, `C capacity16 LEN`, `C abort TAG`, `C reset`
+-- `C sync LBA COUNT`, `C read16 LBA COUNT [fua]`, `C write16 LBA COUNT BYTE [fua]`, `C capacity16 LEN`, `C abort TAG`, `C reset`,
+-- `C query TAG`
 
 abbrev pub request_named : List ℕ → Option RequestName
 request_named word =
@@ -81,7 +83,8 @@ request_named word =
     else (if bytes_eq word (codes "capacity16") then Some Capacity16Name
     else (if bytes_eq word (codes "abort") then Some AbortName
     else (if bytes_eq word (codes "reset") then Some ResetName
-    else None))))))))))
+    else (if bytes_eq word (codes "query") then Some QueryName
+    else None)))))))))))
 
 -- how many words its line has, the client's number and the name among them
 abbrev pub request_has : RequestName → ℕ → Bool
@@ -96,6 +99,7 @@ request_has Write16Name count = count == 5 || count == 6
 request_has Capacity16Name count = count == 3
 request_has AbortName count = count == 3
 request_has ResetName count = count == 2
+request_has QueryName count = count == 3
 
 -- a submission of an operation whose buffer is zeroed
 abbrev pub zeroed : ℕ → Op → Line
@@ -125,6 +129,7 @@ request_of client Write16Name words =
 request_of client Capacity16Name words = option_map (λ allocation. zeroed client (ReadCapacity16 allocation)) (count_at words 2)
 request_of client AbortName words = option_map (λ tag. Task client (Abort tag)) (tag_at words 2)
 request_of client ResetName words = Some (Task client Reset)
+request_of client QueryName words = option_map (λ tag. Task client (Query tag)) (tag_at words 2)
 
 abbrev pub submission_of : ℕ → RequestName → List (List ℕ) → Option Line
 submission_of clients name words = option_and_then (λ client. request_of client name words) (client_at clients words 0)

@@ -127,6 +127,8 @@ fn request_named(word: &[u8]) -> Option<RequestName>
         Some(RequestName::Abort)
     } else if is_word(word, "reset") {
         Some(RequestName::Reset)
+    } else if is_word(word, "query") {
+        Some(RequestName::Query)
     } else {
         None
     }
@@ -139,7 +141,10 @@ impl RequestName {
     {
         match self {
             RequestName::Tur | RequestName::Capacity | RequestName::Reset => count == 2,
-            RequestName::Inquiry | RequestName::Capacity16 | RequestName::Abort => count == 3,
+            RequestName::Inquiry
+            | RequestName::Capacity16
+            | RequestName::Abort
+            | RequestName::Query => count == 3,
             RequestName::Read | RequestName::Read16 => count == 4 || count == 5,
             RequestName::Write | RequestName::Write16 => count == 5 || count == 6,
             RequestName::Sync => count == 4,
@@ -180,6 +185,11 @@ fn request_of(client: usize, name: RequestName, words: &[&[u8]]) -> Option<Line>
             client,
             task: Task::Reset,
         }),
+        RequestName::Query => {
+            let tag = tag_at(words, 2)?;
+            let task = Task::Query { tag };
+            Some(Line::Task { client, task })
+        }
     }
 }
 

@@ -92,6 +92,7 @@ pub enum RequestName {
     Capacity16,
     Abort,
     Reset,
+    Query,
 }
 
 /// The first word of a line that isn't a client's.

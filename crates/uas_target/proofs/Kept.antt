@@ -10,7 +10,7 @@ use Rattle.uas_iu.specs.Faults.{first_fault, identifier}
 use Rattle.uas_target.specs.declared.Overlap.{Overlap}
 use Rattle.uas_target.specs.declared.Took.{Took}
 use Rattle.uas_target.specs.declared.Took.TheVariants.{Began}
-use Rattle.uas_target.specs.Device.{Device, Receive, Give, Take, Send, aborted_on, dropped, executed, managed, on_its_tag, received, received_unit}
+use Rattle.uas_target.specs.Device.{Device, Receive, Give, Take, Send, aborted_on, dropped, executed, managed, on_its_tag, queried_on, received, received_unit}
 use Rattle.uas_target.specs.Device.{received_unreadable, reset_on, task_of, with_code, with_response, with_units_and_task}
 use Rattle.uas_target.specs.Fields.{addressed, is_tag, tag_in, lun_in, cdb_in, function_in, task_tag_in}
 use Rattle.uas_target.specs.Laws.{OtherTagsAreKept, OtherUnitsAreKept, TagsAreKept}
@@ -58,11 +58,18 @@ received_so P device bytes same run told unreadable =
 
 -- TASK MANAGEMENT
 
-one_of_three : (P : Device → Type 0) (device : Device) (abort reset : Device × ℕ) (is_abort is_reset : Bool) → P device → (is_abort ≡ true → P abort.0) →
-    (is_reset ≡ true → P reset.0) → P (cond is_abort abort (cond is_reset reset (device, 4))).0
-one_of_three P device abort reset true is_reset same one two = one refl
-one_of_three P device abort reset false true same one two = two refl
-one_of_three P device abort reset false false same one two = same
+one_of_three : (P : Device → Type 0) (abort reset other : Device × ℕ) (is_abort is_reset : Bool) → P other.0 → (is_abort ≡ true → P abort.0) →
+    (is_reset ≡ true → P reset.0) → P (cond is_abort abort (cond is_reset reset other)).0
+one_of_three P abort reset other true is_reset same one two = one refl
+one_of_three P abort reset other false true same one two = two refl
+one_of_three P abort reset other false false same one two = same
+
+-- a query and what isn't supported leave the device
+queried_so : (P : Device → Type 0) (device : Device) (number tag : ℕ) (unit : Option BlockMaps) (is_query : Bool) → P device →
+    P (cond is_query (queried_on device number tag unit) (device, 4)).0
+queried_so P device number tag None true same = same
+queried_so P device number tag (Some unit) true same = same
+queried_so P device number tag unit false same = same
 
 aborted_so : (P : Device → Type 0) (device : Device) (number tag : ℕ) (unit : Option BlockMaps) → P device →
     P (record device { tasks = with_held_under device.tasks tag (spared number (held_under device.tasks tag)) }) → P (aborted_on device number tag unit).0
@@ -83,7 +90,9 @@ managed_so : (P : Device → Type 0) (device : Device) (function named : ℕ) (l
 managed_so P device function named lun same aborted reset =
     let number = slice_index lun 1 in
     let unit = addressed device.units lun in
-    one_of_three P device (aborted_on device number named unit) (reset_on device number unit) (function == 1) (function == 8) same
+    one_of_three P (aborted_on device number named unit) (reset_on device number unit)
+    (cond (function == 128) (queried_on device number named unit) (device, 4)) (function == 1) (function == 8)
+    (queried_so P device number named unit (function == 128) same)
     (λ is. aborted_so P device number named unit same (aborted is)) (λ is. reset_so P device number unit same (reset is))
 
 -- a test that is false isn't true

@@ -19,7 +19,7 @@ use Rattle.uas_profile.specs.declared.TheConstants.{GREATEST_TAG}
 use Rattle.uas_target.specs.declared.Took.{Took}
 use Rattle.uas_target.specs.declared.Took.TheVariants.{Began, Dropped}
 use Rattle.uas_target.specs.Fields.{is_tag, tag_in, lun_in, cdb_in, function_in, task_tag_in, addressed}
-use Rattle.uas_target.specs.Tasks.{task_in, begun_by, spared, task_wants, task_given, task_fits, task_taken, task_left, task_answer}
+use Rattle.uas_target.specs.Tasks.{task_in, begun_by, is_command_of, spared, task_wants, task_given, task_fits, task_taken, task_left, task_answer}
 
 -- the units by number, and the task of each tag, tag 1 first
 pub record Device : Type 0 where
@@ -88,15 +88,26 @@ abbrev pub reset_on : Device → ℕ → Option BlockMaps → Device × ℕ
 reset_on device number None = (device, 9)
 reset_on device number (Some unit) = (with_unit (without_commands_of device number) number (with_attention unit true), 0)
 
+-- the tag has a command's task of the unit of this number, whose status wasn't sent
+abbrev pub has_command : Device → ℕ → ℕ → Bool
+has_command device number tag = option_map_or (is_command_of number) (task_of device tag) false
+
+-- QUERY TASK: 08h, SUCCEEDED, where the tag has such a command, else 00h; no task changes
+abbrev pub queried_on : Device → ℕ → ℕ → Option BlockMaps → Device × ℕ
+queried_on device number tag None = (device, 9)
+queried_on device number tag (Some unit) = (device, if has_command device number tag then 8 else 0)
+
 -- the device once a task management function was done on a LUN, and the response code: 01h is ABORT TASK, of this tag, 08h
--- LOGICAL UNIT RESET, and any other is 04h, NOT SUPPORTED, whatever its LUN. Checked by hand, with two units, of which unit 1
--- moves data on tag 9: 01h of tag 9 and 00 01 takes its task and is 00h, of 00 00 it leaves it and is 00h, of 00 02 it leaves
--- it and is 09h; 08h of 00 01 takes it too and sets the attention of unit 1; 02h of 00 02 is 04h
+-- LOGICAL UNIT RESET, 80h QUERY TASK, of this tag, and any other is 04h, NOT SUPPORTED, whatever its LUN. Checked by hand, with
+-- two units, of which unit 1 moves data on tag 9: 80h of tag 9 and 00 01 is 08h, of tag 10 or of 00 00 it is 00h, of 00 02 it is
+-- 09h; 01h of tag 9 and 00 01 takes its task and is 00h, of 00 00 it leaves it and is 00h, of 00 02 it leaves it and is 09h; 08h of
+-- 00 01 takes it too and sets the attention of unit 1; 02h of 00 02 is 04h
 abbrev pub managed : Device → ℕ → ℕ → List ℕ → Device × ℕ
 managed device function tag lun =
     if function == 1 then aborted_on device (slice_index lun 1) tag (addressed device.units lun)
     else (if function == 8 then reset_on device (slice_index lun 1) (addressed device.units lun)
-    else (device, 4))
+    else (if function == 128 then queried_on device (slice_index lun 1) tag (addressed device.units lun)
+    else (device, 4)))
 
 -- the device once that is answered on a tag
 abbrev pub with_code : ℕ → Device × ℕ → Device

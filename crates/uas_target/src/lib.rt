@@ -18,7 +18,7 @@
 //! A received Task Management unit is done at once and ends with a response code on its own tag (SAM): ABORT TASK takes away
 //! the command of the tag that it names, where that was sent to the addressed unit, LOGICAL UNIT RESET all commands to the
 //! unit, whose attention it sets; their answers are never sent. What they take away goes from moving data or from ended to no
-//! task. Any other function isn't supported.
+//! task. QUERY TASK is answered by whether the device has the command, and changes nothing. Any other function isn't supported.
 //!
 //! What is promised: a [`Target`] is the record `Device` of `specs/Device.antt`, block maps by unit number and tasks by
 //! tag, and each call makes of it exactly what the definition of that name says, and answers so. So after any list of

@@ -1,8 +1,9 @@
-//! Task management (SAM): what ABORT TASK and LOGICAL UNIT RESET end, and what they are answered.
-ghost use Rattle.std.specs.Prelude.{◌≡◌, ◌<◌, MatchOption, length, map, slice_get, slice_index, slice_set, true};
+//! Task management (SAM): what ABORT TASK and LOGICAL UNIT RESET end, and what they and QUERY TASK are answered.
+ghost use Rattle.std.specs.Option.{option_map_or};
+ghost use Rattle.std.specs.Prelude.{◌≡◌, ◌<◌, MatchOption, false, length, map, slice_get, slice_index, slice_set, true};
 ghost use Rattle.block_unit.specs.BlockMaps.{with_attention};
 ghost use Rattle.scsi_cmd.specs.Held.{held_under, with_held_under};
-ghost use Rattle.uas_target.specs.Device.{aborted_on, managed, reset_on};
+ghost use Rattle.uas_target.specs.Device.{aborted_on, managed, queried_on, reset_on};
 ghost use Rattle.uas_target.specs.Fields.{addressed};
 ghost use Rattle.uas_target.specs.Soundness.{counts_of};
 ghost use Rattle.uas_target.specs.Tasks.{is_at, is_command_of, spared};
@@ -12,7 +13,8 @@ use crate::table::TaskTable;
 use crate::{DeviceAnswer, DeviceTask, Target};
 use block_unit::Unit;
 use uas_iu::{
-    ABORT_TASK, INCORRECT_LUN, LOGICAL_UNIT_RESET, LUN_BYTES, NOT_SUPPORTED, TASK_COMPLETE,
+    ABORT_TASK, INCORRECT_LUN, LOGICAL_UNIT_RESET, LUN_BYTES, NOT_SUPPORTED, QUERY_TASK,
+    TASK_COMPLETE, TASK_SUCCEEDED,
 };
 use uas_profile::GREATEST_TAG;
 
@@ -24,6 +26,7 @@ impl Target {
         match function {
             ABORT_TASK => self.abort(tag, lun),
             LOGICAL_UNIT_RESET => self.reset(lun),
+            QUERY_TASK => self.query(tag, lun),
             _ => NOT_SUPPORTED,
         }
     }
@@ -48,6 +51,19 @@ impl Target {
         establish_attention(&mut self.units, number);
         TASK_COMPLETE
     }
+
+    fn query(&self, tag: u16, lun: &[u8; LUN_BYTES]) -> u8
+        ensures { (self.now, result) ≡ queried_on self.now (slice_index lun.now 1) tag (addressed self.now.units lun.now) }
+    {
+        let Some(number) = unit_number(&self.units, lun) else {
+            return INCORRECT_LUN;
+        };
+        if self.tasks.has_command(number, tag) {
+            TASK_SUCCEEDED
+        } else {
+            TASK_COMPLETE
+        }
+    }
 }
 
 /// The unit of this number has a unit attention.
@@ -60,6 +76,16 @@ fn establish_attention(units: &mut [Unit], number: usize)
 }
 
 impl TaskTable {
+    /// Whether a tag has a command's task of the unit of this number.
+    fn has_command(&self, number: usize, tag: u16) -> bool
+        ensures { result ≡ option_map_or (is_command_of number) (held_under self.now tag) false }
+    {
+        match self.get(tag) {
+            Some(task) => is_command_of(number, &task),
+            None => false,
+        }
+    }
+
     /// The task of a tag is gone where it is a command's to the unit of this number.
     fn end_command(&mut self, number: usize, tag: u16)
         ensures task { self.new ≡ with_held_under self.old tag (spared number (held_under self.old tag)) }

@@ -99,8 +99,9 @@ impl Target {
     /// Receives the bytes of a unit (INCITS 471): `Began` where a task began on its tag, which may have ended at once,
     /// and `Dropped` where nothing came of them. A readable Command unit is executed as far as its data. A readable Task
     /// Management unit is done and answered by a Response (SAM): ABORT TASK ends the task that it names, where that is a
-    /// command's to the addressed unit, LOGICAL UNIT RESET ends all of them and sets the unit's attention, and both are 00h,
-    /// or 09h where no unit is addressed; any other function is 04h. Bytes that are no unit are answered by 02h, where at
+    /// command's to the addressed unit, LOGICAL UNIT RESET ends all of them and sets the unit's attention, and both are 00h;
+    /// QUERY TASK ends nothing and is 08h where the tag that it names has a command of the addressed unit whose status wasn't sent,
+    /// else 00h; each is 09h where no unit is addressed, and any other function is 04h. Bytes that are no unit are answered by 02h, where at
     /// least four came and the tag in bytes 2 and 3 is free and may have a task. What a device sends, and a unit whose tag no
     /// task may have, is dropped. `Overlap`, and nothing changes, where the tag of a readable Command or Task Management unit
     /// has a task.

@@ -8,7 +8,7 @@ use Rattle.block_unit.specs.BlockMaps.{BlockMaps}
 use Rattle.scsi_cmd.specs.declared.Op.{Op}
 use Rattle.scsi_cmd.specs.declared.Op.TheVariants.{TestUnitReady, Inquiry, ReadCapacity, Read, Write, Sync, Read16, Write16, ReadCapacity16}
 use Rattle.scsi_cmd.specs.declared.Task.{Task}
-use Rattle.scsi_cmd.specs.declared.Task.TheVariants.{Abort, Reset}
+use Rattle.scsi_cmd.specs.declared.Task.TheVariants.{Abort, Reset, Query}
 use Rattle.uas_profile.specs.declared.Pipe.{Pipe}
 use Rattle.uas_profile.specs.Pipes.{number_of}
 use Rattle.shared_machine.specs.declared.Step.{Step}
@@ -54,6 +54,7 @@ submit_line client tag ticket op =
 abbrev pub task_words : Task → List ℕ
 task_words (Abort tag) = codes "abort " ++ decimal tag
 task_words Reset = codes "reset"
+task_words (Query tag) = codes "query " ++ decimal tag
 
 -- By hand: client 22's LOGICAL UNIT RESET with ticket 4 is `task 22 4 reset`.
 abbrev pub task_step_line : ℕ → ℕ → Task → List ℕ

@@ -91,6 +91,10 @@ fn push_task_words(alloc: Global, text: &mut Vec<u8>, task: &Task) -> Result<(),
             text.extend_from_slice(words.as_bytes())
         }
         Task::Reset => text.extend_from_slice(b"reset"),
+        Task::Query { tag } => {
+            let words = format!(in alloc; "query {tag}")?;
+            text.extend_from_slice(words.as_bytes())
+        }
     }
 }
 

@@ -12,7 +12,7 @@ A script has a line for each command, task management or step; words stand betwe
   C write LBA COUNT BYTE [fua]              the blocks are filled with BYTE
   C sync LBA COUNT
   C read16, C write16, C capacity16 LEN     the same by commands of 16 bytes
-  C abort TAG | C reset                     task management
+  C abort TAG | C query TAG | C reset       task management
   command | engine | event | data TAG | status TAG | retire PIPE TAG | take C
                                             one step; TAG is a command's, PIPE 2, 3 or 4
   drain                                     all steps that are due

@@ -1,3 +1,5 @@
 pub mod Counting
 pub mod Bookings
 pub mod Openings
+pub mod Holding
+pub mod Taking

@@ -1,2 +1,4 @@
 pub mod Booked
 pub mod Control
+pub mod Held
+pub mod Pumps

@@ -22,11 +22,13 @@
 //! It stands on bus_core and uas_log.
 #![tactic(auto)]
 
+mod claims;
 mod floor;
 mod gates;
 mod opening;
 mod pumps;
 mod reasons;
+mod serving;
 mod stepping;
 #[cfg(test)]
 mod tests;
@@ -36,7 +38,9 @@ mod workers;
 use bus_core::Bus;
 pub use gates::{Gate, Unhindered};
 pub use pumps::{control, dispatch};
+pub use serving::{pump_in, pump_out};
 use std::marker::Model;
+use tag_desk::Claim;
 use thiserror::Error;
 use uas_log::{Log, Replies};
 use uas_profile::MAX_CLIENTS;
@@ -60,6 +64,21 @@ pub struct Booked {
     limit: usize,
     /// Of each client how many of its submissions the log has.
     turns: [u64; MAX_CLIENTS],
+}
+
+/// The claims that a pump holds, by tag: of slips that are booked and whose end the pump owes to the client.
+#[derive(Drop)]
+pub struct Held {
+    claims: Vec<Option<Claim>>,
+}
+
+impl Model for Held {
+    ghost use Rattle.std.specs.Prelude.{List, Option};
+    ghost use Rattle.tag_desk.specs.Seats.{HeldClaim};
+
+    ghost Value = { List (Option HeldClaim) };
+
+    ghost view = { λ held. held.claims.items };
 }
 
 /// What the workers are to do.

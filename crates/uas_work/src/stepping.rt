@@ -1,5 +1,5 @@
 //! Steps of a bus that are booked.
-ghost use Rattle.std.specs.Prelude.{◌≡◌, ℕ, ◌<◌, IfOk, IfErr, OnErr, IsErrAnd, length};
+ghost use Rattle.std.specs.Prelude.{◌≡◌, ℕ, ◌<◌, ◌^◌, IfOk, IfErr, OnErr, IsErrAnd, length};
 ghost use Rattle.shared_machine.specs.Bus.{HasTicket};
 ghost use Rattle.uas_profile.specs.declared.TheConstants.{MAX_CLIENTS};
 ghost use Rattle.shared_machine.specs.Shared.{due};
@@ -46,7 +46,8 @@ impl Booked {
     /// How many submissions of a client the log has, refused ones too.
     pub fn turn(&self, client: usize) -> u64
         requires { client < MAX_CLIENTS }
-        ensures { result ≡ turns_in client self.now.log.steps }
+        ensures turns { result ≡ turns_in client self.now.log.steps }
+        ensures small { result < 2 ^ 32 }
     {
         self.turns[client]
     }

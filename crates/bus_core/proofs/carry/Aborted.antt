@@ -1,6 +1,7 @@
--- What a task management leaves of the device's tasks as it is received (SAM, ABORT TASK and LOGICAL UNIT RESET). Cited by ManagedFits.
+-- What a task management leaves of the device's tasks as it is received (SAM, ABORT TASK, LOGICAL UNIT RESET and QUERY TASK). Cited by
+-- ManagedFits.
 use Rattle.std.proofs.Common.{◌≡◌, ℕ, zero, suc, ◌^◌, ◌<◌, ◌≤◌, Bool, true, false, cond, length, length-set, Some, None, Ok, refl, ap, sym, subst, ◌∙◌}
-use Rattle.std.specs.Prelude.{IfSome, slice_get, slice_set, ◌==◌, ◌&&◌}
+use Rattle.std.specs.Prelude.{IfSome, if◌then◌else◌, slice_get, slice_set, ◌==◌, ◌&&◌}
 use Rattle.std.proofs.lemmas.Bool.{eqb-true, eqb-false, eq-eqb, ne_eqb, false≢true}
 use Rattle.std.proofs.lemmas.List.{length-map}
 use Rattle.arrayvec.specs.ArrayVec.{ArrayVec}
@@ -9,18 +10,19 @@ use Rattle.scsi_cmd.specs.declared.Op.{Op}
 use Rattle.scsi_cmd.specs.declared.Request.{Request}
 use Rattle.scsi_cmd.specs.declared.Request.TheVariants.{Execute, Manage}
 use Rattle.scsi_cmd.specs.declared.Task.{Task}
-use Rattle.scsi_cmd.specs.declared.Task.TheVariants.{Abort, Reset}
+use Rattle.scsi_cmd.specs.declared.Task.TheVariants.{Abort, Reset, Query}
 use Rattle.scsi_cmd.specs.Held.{held_under, with_held_under}
+use Rattle.scsi_cmd.specs.Request.{ended_by}
 use Rattle.solo_model.specs.declared.TaskAnswer.TheVariants.{WithStatus, WithResponse}
 use Rattle.solo_model.specs.declared.TaskProgress.TheVariants.{Moving, Ended}
 use Rattle.solo_model.specs.declared.Phase.{Phase}
 use Rattle.solo_model.specs.declared.Phase.TheVariants.{Queued, Begun, Sent, Gone}
-use Rattle.solo_model.specs.TaggedTask.{can_go, unit_managed}
+use Rattle.solo_model.specs.TaggedTask.{can_go, is_noted, unit_managed}
 use Rattle.uas_iu.specs.Lun.{lun_text}
 use Rattle.uas_profile.specs.Places.{tag_of}
-use Rattle.uas_host.specs.Tasks.{aborted_tag, function_of}
+use Rattle.uas_host.specs.Tasks.{named_tag, function_of}
 use Rattle.uas_target.specs.declared.Took.TheVariants.{Began}
-use Rattle.uas_target.specs.Device.{Device, managed, received, task_of, with_code, with_response, with_unit, without_command, without_commands_of}
+use Rattle.uas_target.specs.Device.{Device, has_command, managed, received, task_of, with_code, with_response, with_unit, without_command, without_commands_of}
 use Rattle.uas_target.specs.Fields.{is_tag}
 use Rattle.uas_target.specs.Tasks.{is_command_of, spared}
 use Rattle.uas_target.proofs.Managed.{held_under-map, held_under-spared, spared-same}
@@ -37,22 +39,29 @@ use Rattle.shared_machine.proofs.Standing.{held_under-with_same, held_under-with
 abbrev pub done_device : Device → ℕ → BlockMaps → Task → Device
 done_device device number unit (Abort tag) = without_command device number tag
 done_device device number unit Reset = with_unit (without_commands_of device number) number (with_attention unit true)
+done_device device number unit (Query tag) = device
 
--- it is answered with COMPLETE, 00h
+-- its response code: 08h to a query of a command that the device has, else 00h
+abbrev pub code_to : Device → ℕ → Task → ℕ
+code_to device number (Abort tag) = 0
+code_to device number Reset = 0
+code_to device number (Query tag) = if has_command device number tag then 8 else 0
+
 abbrev pub managed_device : Device → ℕ → ℕ → BlockMaps → Task → Device
-managed_device device number tag unit what = with_response (done_device device number unit what) tag 0
+managed_device device number tag unit what = with_response (done_device device number unit what) tag (code_to device number what)
 
 managed-done : (device : Device) (number : ℕ) (unit : BlockMaps) (what : Task) → slice_get device.units number ≡ Some unit
-    → managed device (function_of what) (aborted_tag what) (lun_text number) ≡ (done_device device number unit what, 0)
+    → managed device (function_of what) (named_tag what) (lun_text number) ≡ (done_device device number unit what, code_to device number what)
 managed-done device number unit (Abort tag) is = rw is refl
 managed-done device number unit Reset is = rw is refl
+managed-done device number unit (Query tag) is = rw is refl
 
 -- the device receives the text of a task management to the unit of this number, under a free tag
 pub received-managed : (device : Device) (number tag : ℕ) (what : Task) (noted : ArrayVec ℕ) (unit : BlockMaps) → slice_get device.units number ≡ Some unit
-    → tag < 2 ^ 16 → aborted_tag what < 2 ^ 16 → is_tag tag ≡ true → held_under device.tasks tag ≡ None
+    → tag < 2 ^ 16 → named_tag what < 2 ^ 16 → is_tag tag ≡ true → held_under device.tasks tag ≡ None
     → received device (request_text number tag (Manage what noted)) ≡ (managed_device device number tag unit what, Ok (Began tag))
 received-managed device number tag what noted unit is less short is_one free =
-    received-task device tag (function_of what) (aborted_tag what) (lun_text number) (less, short, refl)
+    received-task device tag (function_of what) (named_tag what) (lun_text number) (less, short, refl)
     ∙ rw (is_one, free) refl
     ∙ ap (λ after. (with_code tag after, Ok (Began tag))) (managed-done device number unit what is)
 
@@ -62,23 +71,27 @@ pub done-units : (device : Device) (number : ℕ) (unit : BlockMaps) (what : Tas
     → (done_device device number unit what).units ≡ slice_set device.units number (unit_managed unit what)
 done-units device number unit (Abort tag) is = sym (slice_get-back device.units number unit is)
 done-units device number unit Reset is = refl
+done-units device number unit (Query tag) is = sym (slice_get-back device.units number unit is)
 
 pub unit_managed-count : (unit : BlockMaps) (what : Task) → (unit_managed unit what).count ≡ unit.count
 unfolding with_attention
 unit_managed-count unit (Abort tag) = refl
 unit_managed-count unit Reset = refl
+unit_managed-count unit (Query tag) = refl
 
 pub done-length : (device : Device) (number : ℕ) (unit : BlockMaps) (what : Task) → length (done_device device number unit what).tasks ≡ length device.tasks
 done-length device number unit (Abort zero) = refl
 done-length device number unit (Abort (suc slot)) = length-set device.tasks slot (spared number (task_of device (suc slot)))
 done-length device number unit Reset = length-map device.tasks (spared number)
+done-length device number unit (Query tag) = refl
 
 -- ITS TASKS
 
--- it reaches the task of a tag: a reset that of each
+-- it reaches the task of a tag: a reset that of each, a query none
 abbrev pub reaches : Task → ℕ → Bool
 reaches (Abort tag) other = tag == other
 reaches Reset other = true
+reaches (Query tag) other = false
 
 -- what it reaches is spared where it isn't a command's to the unit
 pub done-task : (device : Device) (number : ℕ) (unit : BlockMaps) (what : Task) (other : ℕ) → 0 < other → other ≤ length device.tasks
@@ -95,6 +108,7 @@ done-task device number unit (Abort tag) other some within =
           (λ same. eqb-false tag other is (sym same))
     ] refl
 done-task device number unit Reset other some within = held_under-map (spared number) device.tasks other refl
+done-task device number unit (Query tag) other some within = refl
 
 -- a task that is no command's to the unit stays, and where there is none there is none then
 pub done-kept : (device : Device) (number : ℕ) (unit : BlockMaps) (what : Task) (other : ℕ)
@@ -103,6 +117,7 @@ pub done-kept : (device : Device) (number : ℕ) (unit : BlockMaps) (what : Task
 done-kept device number unit (Abort tag) other apart = held_under-spared device.tasks number tag other apart
 done-kept device number unit Reset other apart =
     held_under-map (spared number) device.tasks other refl ∙ spared-same number (held_under device.tasks other) apart
+done-kept device number unit (Query tag) other apart = refl
 
 -- what the device has of another client's entry is no command's to the unit
 pub phase_task-foreign : (number other : ℕ) (request : Request) (phase : Phase) → (other ≡ number → ⊥)
@@ -126,10 +141,19 @@ spared-own number op Gone answers = refl
 
 -- WHAT THE ENTRY SAYS
 
--- the device reaches the tags that the task management names
-pub reaches-named : (client slot : ℕ) (what : Task) → names client slot what ≡ reaches what (tag_of (record { client = client; slot = slot }))
-reaches-named client slot (Abort tag) = refl
-reaches-named client slot Reset = refl
+-- the device reaches what the task management ends, and nothing else
+pub reached-ended : (client slot : ℕ) (what : Task) (noted : ArrayVec ℕ) (ticket : ℕ) → reaches what (tag_of (record { client = client; slot = slot })) ≡ true
+    → (names client slot what ≡ true → is_noted noted.items ticket ≡ true) → is_noted (ended_by what noted).items ticket ≡ true
+reached-ended client slot (Abort tag) noted ticket is named = named is
+reached-ended client slot Reset noted ticket is named = named is
+reached-ended client slot (Query tag) noted ticket is named = absurd (false≢true is)
+
+pub unreached-kept : (client slot : ℕ) (what : Task) (noted : ArrayVec ℕ) (ticket : ℕ)
+    → reaches what (tag_of (record { client = client; slot = slot })) ≡ false
+    → (names client slot what ≡ false → is_noted noted.items ticket ≡ false) → is_noted (ended_by what noted).items ticket ≡ false
+unreached-kept client slot (Abort tag) noted ticket is unnamed = unnamed is
+unreached-kept client slot Reset noted ticket is unnamed = unnamed is
+unreached-kept client slot (Query tag) noted ticket is unnamed = refl
 
 -- the phase of a command once a task management was received that noted it, or didn't
 abbrev pub phase_after : Bool → Phase → Phase
@@ -145,12 +169,12 @@ reached-none number op (Begun progress) false received = absurd (false≢true (r
 reached-none number op (Sent answer) noted received = refl
 reached-none number op Gone noted received = refl
 
--- one that it doesn't reach isn't noted
-unreached-kept : (phase : Phase) (noted : Bool) → noted ≡ false → phase_after noted phase ≡ phase
-unreached-kept Queued noted is = ap (λ b. cond b Gone Queued) is
-unreached-kept (Begun progress) noted is = ap (λ b. cond b Gone (Begun progress)) is
-unreached-kept (Sent answer) noted is = refl
-unreached-kept Gone noted is = refl
+-- one that it doesn't reach isn't ended
+phase-kept : (phase : Phase) (noted : Bool) → noted ≡ false → phase_after noted phase ≡ phase
+phase-kept Queued noted is = ap (λ b. cond b Gone Queued) is
+phase-kept (Begun progress) noted is = ap (λ b. cond b Gone (Begun progress)) is
+phase-kept (Sent answer) noted is = refl
+phase-kept Gone noted is = refl
 
 -- so what the device has of it is what the entry says
 pub spared-noted : (number : ℕ) (op : Op) (phase : Phase) (reached noted : Bool) → IsCommandPhase phase
@@ -161,4 +185,4 @@ pub spared-noted : (number : ℕ) (op : Op) (phase : Phase) (reached noted : Boo
 spared-noted number op phase true noted answers named unnamed =
     spared-own number op phase answers ∙ sym (reached-none number op phase noted (λ received. named received refl))
 spared-noted number op phase false noted answers named unnamed =
-    ap (λ p. phase_task (Some number) (Execute op) p) (sym (unreached-kept phase noted (unnamed refl)))
+    ap (λ p. phase_task (Some number) (Execute op) p) (sym (phase-kept phase noted (unnamed refl)))

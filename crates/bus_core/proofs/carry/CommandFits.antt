@@ -16,7 +16,7 @@ use Rattle.scsi_cmd.specs.Op.{cdb_bytes}
 use Rattle.scsi_cmd.specs.Work.{checked_work, reports_attention}
 use Rattle.solo_model.specs.declared.Phase.TheVariants.{Queued, Begun}
 use Rattle.solo_model.specs.Soundness.{IsSoundOp, IsSoundProgress, IsSoundRequest}
-use Rattle.solo_model.specs.TaggedTask.{carried_request, command_begun}
+use Rattle.solo_model.specs.TaggedTask.{carried_request, command_begun, finds}
 use Rattle.solo_model.specs.declared.TaskProgress.{TaskProgress}
 use Rattle.device_server.specs.Server.{begun}
 use Rattle.device_server.specs.Laws.{HasChunk-begun, begun-count}
@@ -39,7 +39,7 @@ use Rattle.shared_machine.specs.declared.Step.TheVariants.{CommandPipe}
 use Rattle.shared_machine.specs.Td.{Entry, with_trb_taken}
 use Rattle.bus_core.specs.Wire.{request_text}
 use Rattle.bus_core.specs.Hosts.{begun_task, phase_task}
-use Rattle.shared_machine.specs.Part.{Part, entries_after}
+use Rattle.shared_machine.specs.Part.{Part, entries_after, tasks_in}
 use Rattle.shared_machine.specs.Shared.{Shared, is_some_of, shared_step}
 use Rattle.machine_invariant.specs.Matched.{carried_places, IsMatched, IsOwnMessage, IsRequestIn, under}
 use Rattle.bus_core.specs.World.{World, Cell, cell_at, sides_in, with_sides}
@@ -155,13 +155,13 @@ received-acted state world place rest entry op at fits is queued asks =
 
 -- the shared machine's step
 command-stepped : (state : Shared) (place : Place) (rest : List Place) (part : Part) (entry : Entry) (op : Op) → entry.task.request ≡ Execute op
-    → carried_state state place rest (carried_part part place.slot entry (carried_request part.unit entry.task entry.task.request))
+    → carried_state state place rest (carried_part part place.slot entry (carried_request part.unit (finds entry.task.request (tasks_in part.entries)) entry.task entry.task.request))
     ≡ acted_state state place part (begins part.unit op).0 (received_entry entry (begins part.unit op).1) rest (CommandDone place ∷ [])
 command-stepped state place rest part entry op asks =
     ap (λ r. carried_state state place rest (record part {
       entries = slice_set (entries_after r part.entries) place.slot
-          (Some (record entry { task = (carried_request part.unit entry.task r).1; command_td = with_trb_taken entry.command_td }));
-      unit = (carried_request part.unit entry.task r).0;
+          (Some (record entry { task = (carried_request part.unit (finds r (tasks_in part.entries)) entry.task r).1; command_td = with_trb_taken entry.command_td }));
+      unit = (carried_request part.unit (finds r (tasks_in part.entries)) entry.task r).0;
     })) asks
 
 -- A STEP

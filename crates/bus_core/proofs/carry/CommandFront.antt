@@ -16,7 +16,7 @@ use Rattle.frame_store.specs.Buffers.{IsWhole, Names, bytes_at, bytes_of, held_f
 use Rattle.frame_store.proofs.FramesLaws.{start_of-named}
 use Rattle.block_unit.specs.BlockMaps.{BlockMaps}
 use Rattle.scsi_cmd.specs.Held.{held_at}
-use Rattle.solo_model.specs.TaggedTask.{TaggedTask, carried_from, carried_request}
+use Rattle.solo_model.specs.TaggedTask.{TaggedTask, carried_from, carried_request, finds}
 use Rattle.solo_model.specs.declared.Phase.TheVariants.{Queued}
 use Rattle.uas_target.specs.declared.Overlap.{Overlap}
 use Rattle.uas_target.specs.declared.Took.{Took}
@@ -33,7 +33,7 @@ use Rattle.shared_machine.specs.declared.Completion.{Completion}
 use Rattle.shared_machine.specs.declared.Completion.TheVariants.{CommandDone, DataDone, StatusDone, EngineDone}
 use Rattle.shared_machine.specs.declared.Step.TheVariants.{CommandPipe}
 use Rattle.shared_machine.specs.Td.{Entry, with_trb_taken}
-use Rattle.shared_machine.specs.Part.{Part, carried_entry, carried_slot, carry_act, with_entry, with_request_carried}
+use Rattle.shared_machine.specs.Part.{Part, carried_entry, carried_slot, carry_act, tasks_in, with_entry, with_request_carried}
 use Rattle.shared_machine.specs.Shared.{Shared, acted_on, idle, is_some_of, carry_step, routed_to, shared_step}
 use Rattle.machine_invariant.specs.Matched.{carried_places, HasRoom}
 use Rattle.bus_core.specs.World.{World, sides_in}
@@ -211,11 +211,11 @@ carried_state state place rest now = record state {
 pub carried-stepped : (state : Shared) (place : Place) (rest : List Place) (part : Part) (entry : Entry) → state.messages ≡ place ∷ rest
     → slice_get state.parts place.client ≡ Some part → held_at part.entries place.slot ≡ Some entry → entry.task.phase ≡ Queued
     → (shared_step state CommandPipe).0
-    ≡ carried_state state place rest (carried_part part place.slot entry (carried_request part.unit entry.task entry.task.request))
+    ≡ carried_state state place rest (carried_part part place.slot entry (carried_request part.unit (finds entry.task.request (tasks_in part.entries)) entry.task entry.task.request))
 carried-stepped state place rest part entry is there held queued =
     let popped : Shared = record state { messages = rest } in
     ap (λ ms. (cond (is_some_of ms) (carry_step state ms) (state, idle)).0) is
     ∙ ap (λ found. (routed_to (record state { messages = rest }) place.client (carry_act place) found).0) there
     ∙ ap (λ found. (acted_on (record state { messages = rest }) place.client (carried_slot part place.slot place found)).0) held
     ∙ ap (λ phase. (acted_on (record state { messages = rest }) place.client
-    (carried_entry part place.slot place entry (carried_from part.unit entry.task phase))).0) queued
+    (carried_entry part place.slot place entry (carried_from part.unit (finds entry.task.request (tasks_in part.entries)) entry.task phase))).0) queued

@@ -12,20 +12,22 @@ use Rattle.uas_profile.specs.declared.Pipe.{Pipe}
 use Rattle.uas_profile.specs.declared.Pipe.TheVariants.{Command, Status, DataIn, DataOut}
 use Rattle.stream_array.specs.Rings.{ring_of}
 use Rattle.frame_store.specs.Buffers.{bytes_at, held_for}
-use Rattle.scsi_cmd.specs.Request.{is_command}
+use Rattle.scsi_cmd.specs.Request.{ended_by, is_command}
 use Rattle.scsi_cmd.specs.declared.Op.{Op}
 use Rattle.scsi_cmd.specs.declared.Request.{Request}
 use Rattle.scsi_cmd.specs.declared.Request.TheVariants.{Execute, Manage}
 use Rattle.scsi_cmd.specs.declared.Task.{Task}
+use Rattle.scsi_cmd.specs.declared.Task.TheVariants.{Abort, Reset, Query}
 use Rattle.uas_profile.specs.declared.TheConstants.{TAGS, TASK_SLOT}
 use Rattle.scsi_cmd.specs.Held.{held_at}
-use Rattle.solo_model.specs.declared.ResponseCode.TheVariants.{Complete}
+use Rattle.solo_model.specs.declared.ResponseCode.{ResponseCode}
+use Rattle.solo_model.specs.declared.ResponseCode.TheVariants.{Complete, Succeeded}
 use Rattle.solo_model.specs.declared.TaskAnswer.TheVariants.{WithResponse}
 use Rattle.solo_model.specs.declared.TaskProgress.TheVariants.{Ended}
 use Rattle.solo_model.specs.declared.Phase.{Phase}
 use Rattle.solo_model.specs.declared.Phase.TheVariants.{Queued, Begun, Sent, Gone}
 use Rattle.solo_model.specs.Soundness.{IsSoundOp, IsSoundRequest}
-use Rattle.solo_model.specs.TaggedTask.{TaggedTask, after_notes, can_go, carried_request, is_noted, unit_managed}
+use Rattle.solo_model.specs.TaggedTask.{TaggedTask, after_notes, can_go, carried_request, finds, is_noted, response_number, response_to, unit_managed}
 use Rattle.uas_target.specs.declared.DeviceAnswer.TheVariants.{Response}
 use Rattle.uas_target.specs.declared.DeviceTask.{DeviceTask}
 use Rattle.uas_target.specs.declared.DeviceTask.TheVariants.{Ended as EndedTask}
@@ -38,16 +40,16 @@ use Rattle.uas_host.specs.declared.HostAnswer.TheVariants.{Unanswered}
 use Rattle.uas_profile.specs.Places.{tag_of}
 use Rattle.uas_host.specs.Tds.{command_buffer_of}
 use Rattle.shared_machine.specs.Td.{Entry, with_trb_taken}
-use Rattle.machine_invariant.specs.Ordered.{names}
 use Rattle.bus_core.specs.Hosts.{device_task, phase_task}
-use Rattle.shared_machine.specs.Part.{Part, entries_after, noted_entry}
+use Rattle.shared_machine.specs.Part.{Part, entries_after, noted_entry, tasks_in}
 use Rattle.shared_machine.specs.Shared.{Shared}
 use Rattle.machine_invariant.specs.Matched.{held_in, IsMatched, IsMatchedAt, IsPhaseOf, IsRequestIn, under}
 use Rattle.bus_core.specs.World.{World, Cell, cell_at}
 use Rattle.bus_core.specs.Cells.{FitsCell, FitsHeld, HasUnitIn, host_side, IsEmptyCell, told_by}
 use Rattle.bus_core.specs.Fits.{AreUnused, Fits, FitsPart, IsSoundWorld, place_in, unit_bytes}
-use Rattle.bus_core.proofs.carry.Aborted.{done-kept, done-length, done-task, done-units, done_device, managed_device, phase_after, phase_task-foreign, reaches}
-use Rattle.bus_core.proofs.carry.Aborted.{reaches-named, received-managed, spared-noted, unit_managed-count}
+use Rattle.bus_core.proofs.carry.Aborted.{code_to, done-kept, done-length, done-task, done-units, done_device, managed_device, phase_after, phase_task-foreign, reaches}
+use Rattle.bus_core.proofs.carry.Aborted.{reached-ended, received-managed, spared-noted, unit_managed-count, unreached-kept}
+use Rattle.bus_core.proofs.carry.Queried.{KnowsEach, asks_op, query-found}
 use Rattle.bus_core.proofs.common.ActFits.{IsPlaced}
 use Rattle.bus_core.proofs.common.CellEntries.{cell-phase}
 use Rattle.bus_core.proofs.carry.CommandFront.{carried_part, carried_state, command-bytes, received-queues, received_world, tag-bounds}
@@ -109,18 +111,19 @@ command-cell client count place entry cell op task noted asks is fits =
 -- ITS OWN CELL
 
 -- it is done with as it is received
-abbrev pub answered_entry : Entry → Entry
-answered_entry entry =
-    record entry { task = record entry.task { phase = Begun (Ended (WithResponse Complete)) }; command_td = with_trb_taken entry.command_td }
+abbrev pub answered_entry : Entry → ResponseCode → Entry
+answered_entry entry code =
+    record entry { task = record entry.task { phase = Begun (Ended (WithResponse code)) }; command_td = with_trb_taken entry.command_td }
 
-management-cell : (client count : ℕ) (place : Place) (entry : Entry) (cell : Cell) (what : Task) (noted : ArrayVec ℕ) → entry.task.phase ≡ Queued
-    → entry.task.request ≡ Manage what noted → FitsCell client count place entry cell
-    → FitsCell client count place (answered_entry entry) (record cell { task = Some (EndedTask None (Response 0)) })
-management-cell client count place entry cell what noted queued asks fits =
-    cell-phase client count place entry cell (Begun (Ended (WithResponse Complete))) (with_trb_taken entry.command_td) cell.held (Some (EndedTask None (Response 0))) fits
+management-cell : (client count : ℕ) (place : Place) (entry : Entry) (cell : Cell) (what : Task) (noted : ArrayVec ℕ) (code : ResponseCode)
+    → entry.task.phase ≡ Queued → entry.task.request ≡ Manage what noted → FitsCell client count place entry cell
+    → FitsCell client count place (answered_entry entry code) (record cell { task = Some (EndedTask None (Response (response_number code))) })
+management-cell client count place entry cell what noted code queued asks fits =
+    cell-phase client count place entry cell (Begun (Ended (WithResponse code))) (with_trb_taken entry.command_td) cell.held
+    (Some (EndedTask None (Response (response_number code)))) fits
     (fits.held ∙ ap (λ p. Some (record (host_side entry) { told = told_by p entry.status_td.state })) queued)
-    (ap (λ r. phase_task (Some client) r (Begun (Ended (WithResponse Complete)))) (sym asks)) tt
-    (subst (λ r. IsSoundRequest count (record entry.task { phase = Begun (Ended (WithResponse Complete)) }) r) (sym asks) tt)
+    (ap (λ r. phase_task (Some client) r (Begun (Ended (WithResponse code)))) (sym asks)) tt
+    (subst (λ r. IsSoundRequest count (record entry.task { phase = Begun (Ended (WithResponse code)) }) r) (sym asks) tt)
 
 -- THE DEVICE'S TASKS
 
@@ -132,7 +135,7 @@ managed_world world place unit what = received_world world (managed_device world
 other-task : (device : Device) (number tag : ℕ) (unit : BlockMaps) (what : Task) (other : ℕ) → (other ≡ tag → ⊥)
     → task_of (managed_device device number tag unit what) other ≡ task_of (done_device device number unit what) other
 other-task device number tag unit what other apart =
-    held_under-with_other (done_device device number unit what).tasks tag other (Some (EndedTask None (Response 0))) apart
+    held_under-with_other (done_device device number unit what).tasks tag other (Some (EndedTask None (Response (code_to device number what)))) apart
 
 -- a cell of another client has no command to the unit
 held-foreign : (client other count : ℕ) (place : Place) (held : Option Entry) (cell : Cell) → (other ≡ client → ⊥) → FitsHeld other count place held cell
@@ -158,32 +161,27 @@ other-cells state world place unit what other at part fits within apart is insid
 
 -- THE CELLS OF THE CLIENT
 
--- what stands in a slot for commands asks for one
-pub asks_op : (slot : ℕ) (request : Request) → IsRequestIn slot request → slot < TASK_SLOT → (op : Op) × (request ≡ Execute op)
-asks_op slot (Execute op) asks below = (op, refl)
-asks_op slot (Manage what noted) asks below = absurd (omega (arith, asks, below))
-
 slot-cell : (state : Shared) (world : World) (place : Place) (unit : BlockMaps) (what : Task) (noted : ArrayVec ℕ) (count at : ℕ) (entry : Entry)
     → at < TASK_SLOT → place.slot ≡ TASK_SLOT → tag_of (place_in place.client at) ≤ length world.device.tasks
     → IsNotedAsReceived place.client at what noted entry → IsRequestIn at entry.task.request → IsPhaseOf entry.task.request entry.task.phase
     → FitsCell place.client count (place_in place.client at) entry (cell_at world (place_in place.client at))
-    → FitsCell place.client count (place_in place.client at) (noted_entry noted.items entry)
+    → FitsCell place.client count (place_in place.client at) (noted_entry (ended_by what noted).items entry)
     (cell_at (managed_world world place unit what) (place_in place.client at))
 slot-cell state world place unit what noted count at entry below last most knows asks answers fits =
     let tag : ℕ = tag_of (place_in place.client at) in
     let op = asks_op at entry.task.request asks below in
-    let named : names place.client at what ≡ reaches what (tag_of (place_in place.client at)) = reaches-named place.client at what in
     let was : task_of world.device (tag_of (place_in place.client at)) ≡ phase_task (Some place.client) (Execute op.0) entry.task.phase =
     fits.task ∙ ap (λ r. phase_task (Some place.client) r entry.task.phase) op.1 in
     let task_is = other-task world.device place.client (tag_of place) unit what (tag_of (place_in place.client at))
     (λ same. omega (arith, same, below, last))
     ∙ done-task world.device place.client unit what (tag_of (place_in place.client at)) (omega arith) most
     ∙ ap (λ t. cond (reaches what (tag_of (place_in place.client at))) (spared place.client t) t) was
-    ∙ spared-noted place.client op.0 entry.task.phase (reaches what (tag_of (place_in place.client at))) (is_noted noted.items entry.task.ticket)
-    (subst (λ r. IsPhaseOf r entry.task.phase) op.1 answers)
-    (λ received reached. knows.named received (named ∙ reached)) (λ unreached. knows.unnamed (named ∙ unreached)) in
+    ∙ spared-noted place.client op.0 entry.task.phase (reaches what (tag_of (place_in place.client at)))
+    (is_noted (ended_by what noted).items entry.task.ticket) (subst (λ r. IsPhaseOf r entry.task.phase) op.1 answers)
+    (λ received reached. reached-ended place.client at what noted entry.task.ticket reached (knows.named received))
+    (λ unreached. unreached-kept place.client at what noted entry.task.ticket unreached knows.unnamed) in
     command-cell place.client count (place_in place.client at) entry (cell_at world (place_in place.client at)) op.0
-    (task_of (managed_world world place unit what).device (tag_of (place_in place.client at))) noted.items op.1 task_is fits
+    (task_of (managed_world world place unit what).device (tag_of (place_in place.client at))) (ended_by what noted).items op.1 task_is fits
 
 empty-cell : (world : World) (place : Place) (unit : BlockMaps) (what : Task) (at : ℕ) → at < TASK_SLOT → place.slot ≡ TASK_SLOT
     → IsEmptyCell (cell_at world (place_in place.client at)) → IsEmptyCell (cell_at (managed_world world place unit what) (place_in place.client at))
@@ -199,16 +197,11 @@ empty-cell world place unit what at below last empty = record {
   lent = empty.lent;
 }
 
--- what the order tells of each command of the client
-abbrev KnowsEach : Shared → Place → Task → ArrayVec ℕ → Type 0
-KnowsEach state place what noted =
-    (slot : ℕ) (entry : Entry) → slot < TASK_SLOT → under state.parts (of_client place slot) ≡ Some entry → IsNotedAsReceived place.client slot what noted entry
-
 slot-fits : (state : Shared) (world : World) (place : Place) (unit : BlockMaps) (what : Task) (noted : ArrayVec ℕ) (count at : ℕ) (held : Option Entry)
     → at < TASK_SLOT → place.slot ≡ TASK_SLOT → tag_of (place_in place.client at) ≤ length world.device.tasks → KnowsEach state place what noted
     → IsMatched state → under state.parts (place_in place.client at) ≡ held
     → FitsHeld place.client count (place_in place.client at) held (cell_at world (place_in place.client at))
-    → FitsHeld place.client count (place_in place.client at) (option_map (noted_entry noted.items) held)
+    → FitsHeld place.client count (place_in place.client at) (option_map (noted_entry (ended_by what noted).items) held)
     (cell_at (managed_world world place unit what) (place_in place.client at))
 slot-fits state world place unit what noted count at None below last most knows all is fits = empty-cell world place unit what at below last fits
 slot-fits state world place unit what noted count at (Some entry) below last most knows all is fits =
@@ -225,20 +218,39 @@ below-last slot last inside is apart =
     omega (arith, inside, other)
 
 -- the part once its task management was received
+abbrev pub response_in : Part → Task → ArrayVec ℕ → ResponseCode
+response_in part what noted = response_to what (finds (Manage what noted) (tasks_in part.entries))
+
 abbrev pub managed_now : Part → ℕ → Entry → Task → ArrayVec ℕ → Part
 managed_now part slot entry what noted = record part {
-  entries = slice_set (map (option_map (noted_entry noted.items)) part.entries) slot (Some (answered_entry entry));
+  entries = slice_set (map (option_map (noted_entry (ended_by what noted).items)) part.entries) slot
+      (Some (answered_entry entry (response_in part what noted)));
   unit = unit_managed part.unit what;
 }
 
 pub carried-now : (part : Part) (slot : ℕ) (entry : Entry) (what : Task) (noted : ArrayVec ℕ) → entry.task.request ≡ Manage what noted
-    → carried_part part slot entry (carried_request part.unit entry.task entry.task.request) ≡ managed_now part slot entry what noted
+    → carried_part part slot entry (carried_request part.unit (finds entry.task.request (tasks_in part.entries)) entry.task entry.task.request) ≡ managed_now part slot entry what noted
 carried-now part slot entry what noted asks =
     ap (λ r. record part {
       entries = slice_set (entries_after r part.entries) slot
-          (Some (record entry { task = (carried_request part.unit entry.task r).1; command_td = with_trb_taken entry.command_td }));
-      unit = (carried_request part.unit entry.task r).0;
+          (Some (record entry { task = (carried_request part.unit (finds r (tasks_in part.entries)) entry.task r).1; command_td = with_trb_taken entry.command_td }));
+      unit = (carried_request part.unit (finds r (tasks_in part.entries)) entry.task r).0;
     }) asks
+
+-- the device's response is the shared machine's
+code-is : (state : Shared) (world : World) (place : Place) (entry : Entry) (what : Task) (noted : ArrayVec ℕ) (at : IsPlaced state world place entry)
+    → Fits state world → entry.task.phase ≡ Queued → place.slot ≡ TASK_SLOT → KnowsEach state place what noted
+    → code_to world.device place.client what ≡ response_number (response_in at.part what noted)
+code-is state world place entry (Abort tag) noted at fits queued last knows = refl
+code-is state world place entry Reset noted at fits queued last knows = refl
+code-is state world place entry (Query tag) noted at fits queued last knows =
+    ap (λ b. cond b 8 0)
+    (query-found state world place entry tag noted (record { at = at; fits = fits; queued = queued; last = last; knows = knows }) at)
+    ∙ number (finds (Manage (Query tag) noted) (tasks_in at.part.entries))
+  where
+    number : (found : Bool) → cond found 8 0 ≡ response_number (cond found Succeeded Complete)
+    number true = refl
+    number false = refl
 
 part-fits : (state : Shared) (world : World) (place : Place) (entry : Entry) (what : Task) (noted : ArrayVec ℕ) (at : IsPlaced state world place entry)
     → Fits state world → entry.task.phase ≡ Queued → entry.task.request ≡ Manage what noted → place.slot ≡ TASK_SLOT → KnowsEach state place what noted
@@ -248,10 +260,10 @@ part-fits state world place entry what noted at fits queued asks last knows =
     let after : World = managed_world world place at.part.unit what in
     let client : ℕ = place.client in
     let count : ℕ = at.part.unit.count in
-    let change : Entry → Entry = noted_entry noted.items in
-    let others : List (Option Entry) = map (option_map (noted_entry noted.items)) at.part.entries in
-    let long : length (map (option_map (noted_entry noted.items)) at.part.entries) ≡ length at.part.entries =
-    length-map at.part.entries (option_map (noted_entry noted.items)) in
+    let change : Entry → Entry = noted_entry (ended_by what noted).items in
+    let others : List (Option Entry) = map (option_map (noted_entry (ended_by what noted).items)) at.part.entries in
+    let long : length (map (option_map (noted_entry (ended_by what noted).items)) at.part.entries) ≡ length at.part.entries =
+    length-map at.part.entries (option_map (noted_entry (ended_by what noted).items)) in
     let tag = tag-bounds state world place entry at fits in
     let tasks : length (done_device world.device place.client at.part.unit what).tasks ≡ length world.device.tasks =
     done-length world.device place.client at.part.unit what in
@@ -260,31 +272,34 @@ part-fits state world place entry what noted at fits queued asks last knows =
       unit_same = refl;
       least_ticket = at.client.fits.least_ticket;
       ready = at.client.fits.ready;
-      slots = length-set (map (option_map (noted_entry noted.items)) at.part.entries) place.slot (Some (answered_entry entry)) ∙ long ∙ at.client.fits.slots;
+      slots = length-set (map (option_map (noted_entry (ended_by what noted).items)) at.part.entries) place.slot (Some (answered_entry entry (response_in at.part what noted))) ∙ long ∙ at.client.fits.slots;
       cells = λ slot inside.
           subst (λ n. FitsHeld place.client n (place_in place.client slot)
-          (held_at (slice_set (map (option_map (noted_entry noted.items)) at.part.entries) place.slot (Some (answered_entry entry))) slot)
+          (held_at (slice_set (map (option_map (noted_entry (ended_by what noted).items)) at.part.entries) place.slot (Some (answered_entry entry (response_in at.part what noted)))) slot)
           (cell_at (managed_world world place at.part.unit what) (place_in place.client slot))) (sym (unit_managed-count at.part.unit what))
           (elim (slot == place.slot) as (λ b. (slot == place.slot) ≡ b → FitsHeld place.client at.part.unit.count (place_in place.client slot)
-          (held_at (slice_set (map (option_map (noted_entry noted.items)) at.part.entries) place.slot (Some (answered_entry entry))) slot)
+          (held_at (slice_set (map (option_map (noted_entry (ended_by what noted).items)) at.part.entries) place.slot (Some (answered_entry entry (response_in at.part what noted)))) slot)
           (cell_at (managed_world world place at.part.unit what) (place_in place.client slot))) [
             | true ↦ λ is.
                 subst (λ s. FitsHeld place.client at.part.unit.count (place_in place.client s)
-                (held_at (slice_set (map (option_map (noted_entry noted.items)) at.part.entries) place.slot (Some (answered_entry entry))) s)
+                (held_at (slice_set (map (option_map (noted_entry (ended_by what noted).items)) at.part.entries) place.slot (Some (answered_entry entry (response_in at.part what noted)))) s)
                 (cell_at (managed_world world place at.part.unit what) (place_in place.client s))) (sym (eqb-true slot place.slot is))
                 (subst (λ h. FitsHeld place.client at.part.unit.count place h (cell_at (managed_world world place at.part.unit what) place))
-                (sym (get_or-set_same (map (option_map (noted_entry noted.items)) at.part.entries) place.slot (Some (answered_entry entry)) None
+                (sym (get_or-set_same (map (option_map (noted_entry (ended_by what noted).items)) at.part.entries) place.slot (Some (answered_entry entry (response_in at.part what noted))) None
                 (omega (arith, long, at.client.fits.slots, last))))
-                (subst (λ t. FitsCell place.client at.part.unit.count place (answered_entry entry) (record (cell_at world place) { task = t }))
+                (subst (λ t. FitsCell place.client at.part.unit.count place (answered_entry entry (response_in at.part what noted))
+                (record (cell_at world place) { task = t }))
                 (sym (held_under-with_same (done_device world.device place.client at.part.unit what).tasks (tag_of place)
-                (Some (EndedTask None (Response 0))) tag.0 (omega (arith, tag.1, tasks, fits.sound.tags))))
-                (management-cell place.client at.part.unit.count place entry (cell_at world place) what noted queued asks at.cell)))
+                (Some (EndedTask None (Response (code_to world.device place.client what)))) tag.0 (omega (arith, tag.1, tasks, fits.sound.tags))
+                ∙ ap (λ code. Some (EndedTask None (Response code))) (code-is state world place entry what noted at fits queued last knows)))
+                (management-cell place.client at.part.unit.count place entry (cell_at world place) what noted (response_in at.part what noted) queued asks
+                at.cell)))
             | false ↦ λ is.
                 let apart : slot ≡ place.slot → ⊥ = eqb-false slot place.slot is in
                 subst (λ h. FitsHeld place.client at.part.unit.count (place_in place.client slot) h
                 (cell_at (managed_world world place at.part.unit what) (place_in place.client slot)))
-                (sym (get_or-set_other (map (option_map (noted_entry noted.items)) at.part.entries) place.slot slot (Some (answered_entry entry)) None apart
-                ∙ held-changed (noted_entry noted.items) at.part.entries slot))
+                (sym (get_or-set_other (map (option_map (noted_entry (ended_by what noted).items)) at.part.entries) place.slot slot (Some (answered_entry entry (response_in at.part what noted))) None apart
+                ∙ held-changed (noted_entry (ended_by what noted).items) at.part.entries slot))
                 (slot-fits state world place at.part.unit what noted at.part.unit.count slot (held_at at.part.entries slot)
                 (below-last slot place.slot inside last apart) last
                 (omega (arith, tag.1, fits.sound.tags, inside, last)) knows fits.matched

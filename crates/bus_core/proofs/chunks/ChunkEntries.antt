@@ -70,7 +70,7 @@ chunked-request slot count entry chunk (Execute op) is moving matched sound =
     (subst (λ r. IsDataTd (data_trbs r) entry.task.phase entry.data_td) is matched.chunks) in
     chunked-td entry chunk op entry.data_td is moving refl trbs (matched.moves ∙ ap (λ r. nat_lt 0 (request_bytes r)) is) has.0
 chunked-request slot count entry chunk (Manage what noted) is moving matched sound =
-    absurd (subst (λ p. IsManagedPhase p) moving (subst (λ r. IsPhaseOf r entry.task.phase) is matched.answers))
+    absurd (subst (λ p. IsManagedPhase what p) moving (subst (λ r. IsPhaseOf r entry.task.phase) is matched.answers))
 
 -- a matched, sound entry whose phase is Moving
 pub chunked : (slot count : ℕ) (entry : Entry) (chunk : ℕ) → entry.task.phase ≡ Begun (Moving chunk) → IsMatchedEntry slot entry → IsSound count entry.task

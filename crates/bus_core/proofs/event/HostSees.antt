@@ -33,7 +33,7 @@ use Rattle.uas_host.specs.declared.Notice.{Notice}
 use Rattle.uas_host.specs.declared.Notice.TheVariants.{CommandSeen, DataInSeen, DataOutSeen, Answered, Responded}
 use Rattle.uas_host.specs.declared.HostEntry.{HostEntry}
 use Rattle.uas_host.specs.declared.HostClient.{HostClient}
-use Rattle.uas_host.specs.Seen.{after_response, completes, noted_in}
+use Rattle.uas_host.specs.Seen.{after_response, completes, ended_in}
 use Rattle.uas_profile.specs.TdStates.{is_pending, is_seen, is_over}
 use Rattle.uas_host.specs.State.{HostState, client_of, with_client}
 use Rattle.uas_host.specs.State.{queued_if, is_data_over as is_host_data_over, is_ready as is_host_ready}
@@ -145,7 +145,7 @@ with_seen-quiet : (notice : Notice) (client : HostClient) (slot : ℕ) (now : Ho
     → with_seen notice client slot now ≡ client_with client slot now
 with_seen-quiet notice client slot now quiet =
     ap (λ b. record (client_with client slot now) {
-      entries = if b then after_response (noted_in now.request) (slice_set client.entries slot (Some now)) else slice_set client.entries slot (Some now);
+      entries = if b then after_response (ended_in now.request) (slice_set client.entries slot (Some now)) else slice_set client.entries slot (Some now);
     }) quiet
 
 -- the host whose entry of a place became the host's side of this one

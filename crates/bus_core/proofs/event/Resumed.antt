@@ -96,7 +96,7 @@ pending-at state world pipe place streams fits there =
     (λ entry count full. cell-pending place.client count pipe place entry (cell_at world place) streams full)
 
 -- a tag that names no place is no client's
-unnamed-above : (clients tag : ℕ) → 1 ≤ tag → place_of clients tag ≡ None → TAGS * clients < tag
+pub unnamed-above : (clients tag : ℕ) → 1 ≤ tag → place_of clients tag ≡ None → TAGS * clients < tag
 unnamed-above clients zero some none = absurd (omega (arith, some))
 unnamed-above clients (suc before) some none =
     elim (nat_lt (before / TAGS) clients) as (λ b. nat_lt (before / TAGS) clients ≡ b

@@ -1,26 +1,33 @@
 -- The host sees the response to a task management: the status stream of its tag is free again, the commands that it ended are doomed, and the
 -- world after it fits. Several cells of one client change at once. Cited by the event of a status stream.
-use Rattle.std.proofs.Common.{◌≡◌, ℕ, suc, ◌<◌, cond, List, [], ◌∷◌, ◌++◌, length, length-set, Some, None, option_map, refl, arith, ap, sym, subst, ◌∙◌}
-use Rattle.std.specs.Prelude.{slice_set, option_and_then}
+use Rattle.std.proofs.Common.{◌≡◌, ℕ, suc, ◌<◌, false, cond, List, [], ◌∷◌, ◌++◌, length, length-set, Option, Some, None, option_map, refl, arith, ap, sym, subst, ◌∙◌}
+use Rattle.std.specs.Prelude.{slice_set, option_and_then, ◌&&◌, if◌then◌else◌}
+use Rattle.std.proofs.lemmas.Bool.{and_right}
 use Rattle.std.proofs.Math.ListN.{get_or-map}
 use Rattle.std.proofs.lemmas.List.{get_or-set_same, get_or-set_other}
 use Rattle.arrayvec.specs.ArrayVec.{ArrayVec}
 use Rattle.uas_profile.specs.declared.Pipe.TheVariants.{Status}
 use Rattle.stream_array.specs.Rings.{LinesState, stream_ring}
+use Rattle.scsi_cmd.specs.Request.{ended_by, is_command}
 use Rattle.scsi_cmd.specs.declared.Request.TheVariants.{Manage}
 use Rattle.scsi_cmd.specs.declared.Task.{Task}
 use Rattle.uas_profile.specs.declared.TheConstants.{TASK_SLOT}
 use Rattle.scsi_cmd.specs.Held.{held_at}
+use Rattle.solo_model.specs.declared.ResponseCode.{ResponseCode}
 use Rattle.solo_model.specs.declared.ResponseCode.TheVariants.{Complete, Succeeded}
+use Rattle.solo_model.specs.TaggedTask.{response_number}
 use Rattle.solo_model.specs.declared.TaskAnswer.{TaskAnswer}
 use Rattle.solo_model.specs.declared.TaskAnswer.TheVariants.{WithStatus, WithResponse}
 use Rattle.solo_model.specs.declared.Phase.{Phase}
 use Rattle.solo_model.specs.declared.Phase.TheVariants.{Sent}
 use Rattle.uas_host.specs.declared.Handled.TheVariants.{Matched}
 use Rattle.uas_host.specs.declared.HostClient.{HostClient}
+use Rattle.uas_host.specs.declared.HostEntry.{HostEntry}
+use Rattle.uas_profile.specs.declared.TdState.TheVariants.{LeftOver}
+use Rattle.uas_profile.specs.TdStates.{is_pending}
 use Rattle.uas_host.specs.declared.Notice.TheVariants.{Responded}
 use Rattle.uas_profile.specs.declared.Place.{Place}
-use Rattle.uas_host.specs.Seen.{doomed as host_doomed, noted_in}
+use Rattle.uas_host.specs.Seen.{after_response, doomed as host_doomed, ended_in, left_over_data}
 use Rattle.uas_host.specs.State.{HostState, client_of, new_client, with_client}
 use Rattle.uas_profile.specs.Places.{tag_of}
 use Rattle.uas_host.specs.Events.{ended_at, event_doors, freed_on, handled, handled_td, host_seen, notice_of, place_seen, seen, with_freed, with_seen}
@@ -31,7 +38,7 @@ use Rattle.shared_machine.specs.Bus.{IsPlace}
 use Rattle.shared_machine.specs.Td.{Entry, data_after_status, with_event_seen}
 use Rattle.shared_machine.specs.Part.{Part, after_answer, ready_after}
 use Rattle.shared_machine.specs.Shared.{Shared, shared_step}
-use Rattle.machine_invariant.specs.Matched.{IsManagedPhase, IsMatched, IsPhaseOf, IsRequestIn}
+use Rattle.machine_invariant.specs.Matched.{IsManagedPhase, IsMatched, IsPhaseOf, IsRequestIn, IsResponseTo}
 use Rattle.bus_core.specs.World.{World, cell_at}
 use Rattle.bus_core.specs.Cells.{HasAnswerIn, host_side}
 use Rattle.bus_core.specs.Fits.{Fits, FitsEngine, FitsPart, FitsQueues, IsSoundWorld, engine_event, event_texts, place_in}
@@ -66,39 +73,60 @@ answered_world world lines place now noted = record world { host = host_answered
 
 -- WHAT THE HOST MAKES OF IT
 
-with_seen-response : (client : HostClient) (slot : ℕ) (now : Entry) (what : Task) (noted : ArrayVec ℕ) → now.task.request ≡ Manage what noted
-    → with_seen (Responded 0) client slot (host_side now) ≡ doomed_client noted.items (client_with client slot (host_side now))
-with_seen-response client slot now what noted asks =
-    ap (λ r. doomed_client (noted_in r) (client_with client slot (host_side now))) asks
+-- no ticket dooms nothing
+undoomed : (held : HostEntry) → host_doomed [] held ≡ held
+undoomed held =
+    ap (λ b. if b then record held { status_td = LeftOver; data_td = left_over_data held.data_td } else held)
+    (and_right (is_command held.request) (is_pending held.status_td && false) (and_right (is_pending held.status_td) false refl))
 
-host_seen-response : (host : HostState) (place : Place) (entry now : Entry) (what : Task) (noted : ArrayVec ℕ) → now.task.request ≡ Manage what noted
+none-doomed : (entries : List (Option HostEntry)) → after_response [] entries ≡ entries
+none-doomed [] = refl
+none-doomed (None ∷ entries) = ap (λ rest. None ∷ rest) (none-doomed entries)
+none-doomed (Some held ∷ entries) =
+    ap (λ h. Some h ∷ after_response [] entries) (undoomed held) ∙ ap (λ rest. Some held ∷ rest) (none-doomed entries)
+
+-- COMPLETE dooms what the task management ends, and SUCCEEDED is of one that ends nothing
+with_seen-response : (client : HostClient) (slot : ℕ) (now : Entry) (what : Task) (noted : ArrayVec ℕ) (code : ResponseCode) → IsResponseTo what code
+    → now.task.request ≡ Manage what noted
+    → with_seen (Responded (response_number code)) client slot (host_side now)
+    ≡ doomed_client (ended_by what noted).items (client_with client slot (host_side now))
+with_seen-response client slot now what noted Complete fits asks =
+    ap (λ r. doomed_client (ended_in r) (client_with client slot (host_side now))) asks
+with_seen-response client slot now what noted Succeeded fits asks =
+    let entries : List (Option HostEntry) = (client_with client slot (host_side now)).entries in
+    let ended : after_response (ended_by what noted).items entries ≡ entries =
+    ap (λ b. after_response (if b then noted else record { items = [] }).items entries) fits ∙ none-doomed entries in
+    ap (λ es. record (client_with client slot (host_side now)) { entries = es }) (sym ended)
+
+host_seen-response : (host : HostState) (place : Place) (entry now : Entry) (what : Task) (noted : ArrayVec ℕ) (code : ResponseCode) → IsResponseTo what code
+    → now.task.request ≡ Manage what noted
     → IsPlace (length host.clients) place → held_at (client_of host place.client).entries place.slot ≡ Some (host_side entry)
-    → seen (Responded 0) (host_side entry) ≡ Some (host_side now)
-    → host_seen (Responded 0) host (tag_of place) ≡ Some (host_answered host place now noted.items)
-host_seen-response host place entry now what noted asks there held sees =
-    ap (option_and_then (place_seen (Responded 0) host)) (place_of-tag_of (length host.clients) place there)
+    → seen (Responded (response_number code)) (host_side entry) ≡ Some (host_side now)
+    → host_seen (Responded (response_number code)) host (tag_of place) ≡ Some (host_answered host place now (ended_by what noted).items)
+host_seen-response host place entry now what noted code fits asks there held sees =
+    ap (option_and_then (place_seen (Responded (response_number code)) host)) (place_of-tag_of (length host.clients) place there)
     ∙ ap (λ h. option_map (with_client host place.client)
-    (option_map (with_seen (Responded 0) (client_of host place.client) place.slot) (option_and_then (seen (Responded 0)) h))) held
-    ∙ ap (λ h. option_map (with_client host place.client) (option_map (with_seen (Responded 0) (client_of host place.client) place.slot) h)) sees
-    ∙ ap (λ c. Some (with_client host place.client c)) (with_seen-response (client_of host place.client) place.slot now what noted asks)
+    (option_map (with_seen (Responded (response_number code)) (client_of host place.client) place.slot) (option_and_then (seen (Responded (response_number code))) h))) held
+    ∙ ap (λ h. option_map (with_client host place.client) (option_map (with_seen (Responded (response_number code)) (client_of host place.client) place.slot) h)) sees
+    ∙ ap (λ c. Some (with_client host place.client c)) (with_seen-response (client_of host place.client) place.slot now what noted code fits asks)
 
 -- an event of a status stream that tells the response
-handled-response : (world : World) (place : Place) (entry now : Entry) (what : Task) (noted : ArrayVec ℕ) (pointer residual code : ℕ)
-    → now.task.request ≡ Manage what noted → IsPlace (length world.host.clients) place → (cell_at world place).held ≡ Some (host_side entry)
+handled-response : (world : World) (place : Place) (entry now : Entry) (what : Task) (noted : ArrayVec ℕ) (pointer residual done : ℕ) (code : ResponseCode)
+    → IsResponseTo what code → now.task.request ≡ Manage what noted → IsPlace (length world.host.clients) place → (cell_at world place).held ≡ Some (host_side entry)
     → ended_at world.lines pointer ≡ Some (record { pipe = Status; tag = tag_of place })
-    → notice_of world.frames residual code (record { pipe = Status; tag = tag_of place }) ≡ Some (Responded 0)
-    → seen (Responded 0) (host_side entry) ≡ Some (host_side now)
-    → handled_td (event_sides world) world.frames pointer residual code (ended_at (without_event world.lines) pointer)
+    → notice_of world.frames residual done (record { pipe = Status; tag = tag_of place }) ≡ Some (Responded (response_number code))
+    → seen (Responded (response_number code)) (host_side entry) ≡ Some (host_side now)
+    → handled_td (event_sides world) world.frames pointer residual done (ended_at (without_event world.lines) pointer)
     ≡ (
       record {
-        host = host_answered world.host place now noted.items;
-        lines = freed_on Status (host_answered world.host place now noted.items) (without_event world.lines) (tag_of place) pointer;
+        host = host_answered world.host place now (ended_by what noted).items;
+        lines = freed_on Status (host_answered world.host place now (ended_by what noted).items) (without_event world.lines) (tag_of place) pointer;
       },
       Matched (tag_of place),
     )
-handled-response world place entry now what noted pointer residual code asks there held ended tells sees =
-    handled-as world place Status pointer residual code (Responded 0) (host_answered world.host place now noted.items) ended tells
-    (host_seen-response world.host place entry now what noted asks there held sees)
+handled-response world place entry now what noted pointer residual done code fits asks there held ended tells sees =
+    handled-as world place Status pointer residual done (Responded (response_number code)) (host_answered world.host place now (ended_by what noted).items) ended tells
+    (host_seen-response world.host place entry now what noted code fits asks there held sees)
 
 -- THE CELLS
 
@@ -171,7 +199,7 @@ part-answered state world place rest at noted fits frees =
 answered-is : (state : Shared) (place : Place) (part : Part) (now : Entry) (rest : List Completion) (what : Task) (noted : ArrayVec ℕ)
     → now.task.request ≡ Manage what noted
     → answered_state state (StatusDone place) part now rest
-    ≡ record state { parts = slice_set state.parts place.client (doomed_part noted.items (seen_part part place.slot now)); events = rest ++ [] }
+    ≡ record state { parts = slice_set state.parts place.client (doomed_part (ended_by what noted).items (seen_part part place.slot now)); events = rest ++ [] }
 answered-is state place part now rest what noted asks =
     ap (λ r. record state {
       parts = slice_set state.parts place.client (record (seen_part part place.slot now) { entries = after_answer r (seen_part part place.slot now).entries });
@@ -224,11 +252,11 @@ fits-answered state world place rest at noted fits frees matched sound =
           (λ same. omega (arith, over, same, at.is_place.client, at.is_place.slot)) (fits.unused other over);
     })
 
--- a task management is answered by COMPLETE
-managed-complete : (phase : Phase) (answer : TaskAnswer) → phase ≡ Sent answer → IsManagedPhase phase → phase ≡ Sent (WithResponse Complete)
-managed-complete phase (WithStatus answer) sent managed = absurd (subst IsManagedPhase sent managed)
-managed-complete phase (WithResponse Complete) sent managed = sent
-managed-complete phase (WithResponse Succeeded) sent managed = absurd (subst IsManagedPhase sent managed)
+-- a task management is answered by a response of its own
+managed-response : (what : Task) (phase : Phase) (answer : TaskAnswer) → phase ≡ Sent answer → IsManagedPhase what phase
+    → (code : ResponseCode) × (phase ≡ Sent (WithResponse code)) × IsResponseTo what code
+managed-response what phase (WithStatus answer) sent managed = absurd (subst (IsManagedPhase what) sent managed)
+managed-response what phase (WithResponse code) sent managed = (code, sent, subst (IsManagedPhase what) sent managed)
 
 pub response-fits : (state : Shared) (world : World) (place : Place) (rest : List Completion) (at : IsSeenAt state world (StatusDone place) rest)
     (what : Task) (noted : ArrayVec ℕ) → at.entry.task.request ≡ Manage what noted → Fits state world
@@ -240,29 +268,30 @@ response-fits state world place rest at what noted asks fits =
     let spent : IsSpent (stream_ring world.lines.status tag) = cell-status_spent world place at.entry cell at.awaits in
     let text = status_text-is world place at.entry fits.sound.lines cell at.awaits in
     let answered : IsSentBy at.entry.task.phase = awaited-sent at.entry.task.phase at.entry.status_td at.matched.status at.awaits in
-    let sent : at.entry.task.phase ≡ Sent (WithResponse Complete) =
-    managed-complete at.entry.task.phase answered.answer answered.is (subst (λ r. IsPhaseOf r at.entry.task.phase) asks at.matched.answers) in
+    let it = managed-response what at.entry.task.phase answered.answer answered.is (subst (λ r. IsPhaseOf r at.entry.task.phase) asks at.matched.answers) in
+    let code : ResponseCode = it.0 in
+    let sent : at.entry.task.phase ≡ Sent (WithResponse it.0) = it.1 in
     let last : place.slot ≡ TASK_SLOT = subst (IsRequestIn place.slot) asks at.matched.asks in
     let holds_answer = subst (λ p. HasAnswerIn p tag (cell_at world place).buffers.status) sent at.cell.answer in
-    let frees : FreesOne world (status_lines world tag) place (status_seen at.entry) = status-frees state world place rest at (WithResponse Complete) fits sent spent in
+    let frees : FreesOne world (status_lines world tag) place (status_seen at.entry) = status-frees state world place rest at (WithResponse it.0) fits sent spent in
     let there : IsPlace (length world.host.clients) place =
     subst (λ n. IsPlace n place) (sym (clients-length world state.parts fits.clients)) at.is_place in
     let does = ap (handled (event_sides world) world.frames) text.is
-    ∙ handled-response world place at.entry (status_seen at.entry) what noted text.pointer _ _ asks there at.cell.held text.ended
-    (response_notice-is world.frames place.slot tag Complete last at.most holds_answer)
-    (response_seen-side at.entry what noted Complete asks sent (awaited-pends at.entry.status_td 1 at.awaits))
+    ∙ handled-response world place at.entry (status_seen at.entry) what noted text.pointer _ _ it.0 it.2 asks there at.cell.held text.ended
+    (response_notice-is world.frames place.slot tag it.0 last at.most holds_answer)
+    (response_seen-side at.entry what noted it.0 asks sent (awaited-pends at.entry.status_td 1 at.awaits))
     ∙ ap (λ item. (
       record {
-        host = host_answered world.host place (status_seen at.entry) noted.items;
+        host = host_answered world.host place (status_seen at.entry) (ended_by what noted).items;
         lines = with_freed (without_event world.lines) Status tag item;
       },
       Matched tag,
     )) text.item in
-    let stepped : (shared_step state EventStep).0 ≡ doomed_state state place at.part now noted.items rest =
+    let stepped : (shared_step state EventStep).0 ≡ doomed_state state place at.part now (ended_by what noted).items rest =
     seen-answered state (StatusDone place) rest at.part at.entry now at.is refl at.there at.held
     (ap (λ b. cond b (Some (status_seen at.entry)) None) at.awaits)
     ∙ answered-is state place at.part now rest what noted asks in
-    event-handled state world (status_text world place) (StatusDone place) rest (host_answered world.host place now noted.items) (status_lines world tag)
+    event-handled state world (status_text world place) (StatusDone place) rest (host_answered world.host place now (ended_by what noted).items) (status_lines world tag)
     at.is refl (ap (event_doors (event_sides world)) text.is) does
-    (λ sound. subst (λ s. Fits s (answered_world world (status_lines world tag) place now noted.items)) (sym stepped)
-    (fits-answered state world place rest at noted.items fits frees (subst IsMatched stepped (shared_step-matched state EventStep fits.matched)) sound))
+    (λ sound. subst (λ s. Fits s (answered_world world (status_lines world tag) place now (ended_by what noted).items)) (sym stepped)
+    (fits-answered state world place rest at (ended_by what noted).items fits frees (subst IsMatched stepped (shared_step-matched state EventStep fits.matched)) sound))

@@ -9,7 +9,7 @@ use Rattle.std.proofs.lemmas.Option.{none-some}
 use Rattle.scsi_cmd.specs.declared.SubmitFault.{SubmitFault}
 use Rattle.scsi_cmd.specs.declared.SubmitFault.TheVariants.{InUse, NotYours, NoSuchTask, OutOfTurn}
 use Rattle.scsi_cmd.specs.declared.Task.{Task}
-use Rattle.scsi_cmd.specs.declared.Task.TheVariants.{Abort, Reset}
+use Rattle.scsi_cmd.specs.declared.Task.TheVariants.{Abort, Reset, Query}
 use Rattle.uas_profile.specs.declared.TheConstants.{TAGS, TASK_SLOT, MAX_CLIENTS}
 use Rattle.scsi_cmd.specs.Submission.{first_task_fault}
 use Rattle.scsi_cmd.specs.Held.{held_at}
@@ -19,7 +19,7 @@ use Rattle.uas_host.specs.declared.HostEntry.{HostEntry}
 use Rattle.uas_host.specs.State.{client_of}
 use Rattle.uas_host.specs.Submit.{slot_of}
 use Rattle.uas_profile.specs.Places.{command_slot}
-use Rattle.uas_host.specs.Tasks.{aborted_tag, client_task_fault, has_task, is_held_at, noted_by, tickets_of as host_tickets_of}
+use Rattle.uas_host.specs.Tasks.{named_tag, client_task_fault, has_task, is_held_at, noted_by, tickets_of as host_tickets_of}
 use Rattle.shared_machine.specs.Td.{Entry}
 use Rattle.shared_machine.specs.Part.{Part, is_there, named_entry, named_slot, noted_tickets, task_fault_at, tickets_of}
 use Rattle.shared_machine.specs.Shared.{Shared, managed_or, managed_to}
@@ -59,6 +59,7 @@ there-alike : (world : World) (clients client : ℕ) (task : Task) (part : Part)
     → has_task clients client (client_of world.host client) task ≡ is_there part (named_slot clients client task) task
 there-alike world clients client (Abort tag) part it = there-slot world clients client tag part it (command_slot clients client tag) refl
 there-alike world clients client Reset part it = refl
+there-alike world clients client (Query tag) part it = there-slot world clients client tag part it (command_slot clients client tag) refl
 
 -- the host's client of a part that is there finds the part's fault
 pub task_fault-found : (world : World) (clients client ticket : ℕ) (task : Task) (part : Part) (it : IsFound world client part)
@@ -174,6 +175,7 @@ pub noted-alike : (world : World) (clients client : ℕ) (task : Task) (part : P
     → noted_by (client_of world.host client) task ≡ noted_tickets part (named_slot clients client task) task
 noted-alike world clients client (Abort tag) part it sound there = noted-named world clients client tag part it (command_slot clients client tag) refl there
 noted-alike world clients client Reset part it sound there = noted-all world client part it sound
+noted-alike world clients client (Query tag) part it sound there = noted-named world clients client tag part it (command_slot clients client tag) refl there
 
 -- the tag that it names has two bytes
 named-tag : (part : Part) (clients client tag : ℕ) (slot : Option ℕ) → clients ≤ MAX_CLIENTS → command_slot clients client tag ≡ slot
@@ -184,6 +186,7 @@ named-tag part clients client tag (Some slot) few is there =
     omega (arith, own.index, own.within, own.there, few)
 
 pub named-short : (part : Part) (clients client : ℕ) (task : Task) → clients ≤ MAX_CLIENTS → is_there part (named_slot clients client task) task ≡ true
-    → aborted_tag task < 2 ^ 16
+    → named_tag task < 2 ^ 16
 named-short part clients client (Abort tag) few there = named-tag part clients client tag (command_slot clients client tag) few refl there
 named-short part clients client Reset few there = omega arith
+named-short part clients client (Query tag) few there = named-tag part clients client tag (command_slot clients client tag) few refl there

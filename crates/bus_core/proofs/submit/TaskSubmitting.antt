@@ -27,7 +27,7 @@ use Rattle.uas_host.specs.declared.HostClient.{HostClient}
 use Rattle.uas_profile.specs.Doors.{answer_doors}
 use Rattle.uas_host.specs.State.{client_of}
 use Rattle.uas_profile.specs.Places.{tag_of}
-use Rattle.uas_host.specs.Tasks.{aborted_tag, client_task_fault, function_of, managed_client, noted_by, task_entry, task_fault, task_tag, task_text}
+use Rattle.uas_host.specs.Tasks.{named_tag, client_task_fault, function_of, managed_client, noted_by, task_entry, task_fault, task_tag, task_text}
 use Rattle.uas_host.specs.Tds.{HasTaskRoom, status_td, task_td}
 use Rattle.xhci_ctl.specs.Pipes.{ControllerState}
 use Rattle.shared_machine.specs.declared.Step.TheVariants.{Task as TaskStep}
@@ -103,10 +103,10 @@ task_step-is state client ticket task at =
 
 -- THE UNIT
 
-text-fits : (client : ℕ) (task : Task) → client < MAX_CLIENTS → aborted_tag task < 2 ^ 16
+text-fits : (client : ℕ) (task : Task) → client < MAX_CLIENTS → named_tag task < 2 ^ 16
     → length (task_text client task) ≡ 16
 text-fits client task few short =
-    length-unit_text (TaskUnit (task_tag client) (function_of task) (aborted_tag task) (lun_text client)) (omega arith, short, refl)
+    length-unit_text (TaskUnit (task_tag client) (function_of task) (named_tag task) (lun_text client)) (omega arith, short, refl)
 
 -- RINGS
 
@@ -123,7 +123,7 @@ record IsTaskFree (state : Shared) (world : World) (client : ℕ) (task : Task) 
   none : held_at part.entries TASK_SLOT ≡ None
   empty : IsEmptyCell (cell_at world (place_in client TASK_SLOT))
   noted : noted_by (client_of world.host client) task ≡ noted_tickets part (slot_named state client task) task
-  short : aborted_tag task < 2 ^ 16
+  short : named_tag task < 2 ^ 16
   matched : IsMatchedAt state (place_in client TASK_SLOT) None
 
 free-at : (state : Shared) (world : World) (client ticket : ℕ) (task : Task) (at : IsAcceptedTask state client ticket task) → Fits state world

@@ -89,6 +89,7 @@ pub(crate) fn response_name(code: u8) -> &'static str
         0x00 => " COMPLETE",
         0x02 => " INVALID INFORMATION UNIT",
         0x04 => " NOT SUPPORTED",
+        0x08 => " SUCCEEDED",
         0x09 => " INCORRECT LUN",
         _ => "",
     }
@@ -102,6 +103,7 @@ pub(crate) fn function_name(function: u8) -> Option<&'static str>
     match function {
         0x01 => Some("ABORT TASK"),
         0x08 => Some("LOGICAL UNIT RESET"),
+        0x80 => Some("QUERY TASK"),
         _ => None,
     }
 }

@@ -36,7 +36,8 @@ kept-again (first ∷ rest) = ap (λ others. first ∷ others) (kept-again rest)
 
 pub book_all-requires-clause-ticketed : goal.book_all-requires-clause-ticketed
 book_all-requires-clause-ticketed c =
-    subst AllTicketed (sym c.steps-2.ensures) (all-ticketed (length c.args.log.now.units) c.args.log.now.steps c.units.ensures.within.steps)
+    subst AllTicketed (sym c.steps-2.ensures) (all-ticketed c.args.log.now.version (length c.args.log.now.units) c.args.log.now.steps
+    c.units.ensures.within.steps)
 
 pub returns-in_err-book_all : goal.returns-in_err-book_all
 returns-in_err-book_all c =

@@ -4,4 +4,4 @@ use Rattle.log_text.proofs.ReadLoops.{with_front}
 use Rattle.log_text.proofs.read_steps.steps.Given as goal
 
 abbrev pub invariant-loop : goal.invariant-loop
-invariant-loop l = with_front l.steps.items (items_at (step_at l.clients) (l.count - l.counter) l.rest) ≡ items_at (step_at l.clients) l.count l.bytes
+invariant-loop l = with_front l.steps.items (items_at (step_at l.version l.clients) (l.count - l.counter) l.rest) ≡ items_at (step_at l.version l.clients) l.count l.bytes

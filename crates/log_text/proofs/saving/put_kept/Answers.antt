@@ -1,6 +1,7 @@
 use Rattle.std.proofs.Common.{◌+◌, List, length, take, sym, arith, ℕ}
 use Rattle.shared_machine.specs.declared.Step.{Step}
 use Rattle.log_text.specs.Kept.{kept}
+use Rattle.log_text.specs.declared.Version.TheVariants.{Second}
 use Rattle.log_text.specs.Text.{StepFits, field}
 use Rattle.log_text.proofs.Keeping.{kept_here, kept_holds, kept_not, wrote_one_more}
 use Rattle.log_text.proofs.saving.put_kept.Goals.{then-refusals-at-eq0+in_ok-put_step, else-refusals-at-eq0}
@@ -8,7 +9,7 @@ use Rattle.log_text.proofs.saving.put_kept.Goals as goal
 
 pub put_step-requires : goal.put_step-requires
 put_step-requires g c =
-    kept_holds (StepFits 31) c.loop-at.at c.args.steps.now c.args.refusals.now c.index-steps-at.result c.loop-at-test.true
+    kept_holds (StepFits Second 31) c.loop-at.at c.args.steps.now c.args.refusals.now c.index-steps-at.result c.loop-at-test.true
     (omega (arith, c.loop-at-test.true, c.requires.told)) (sym c.index-steps-at.is) c.if-refusals-at-eq0.true c.requires.fit
 
 pub loop-at-preserved : goal.loop-at-preserved

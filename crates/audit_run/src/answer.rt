@@ -1,0 +1,117 @@
+//! What is told of a log's text.
+ghost use Rattle.std.specs.Prelude.{◌≡◌, ◌<◌, ◌++◌, length, true, false, IfOk, IfErr, OnOk};
+ghost use Rattle.std.specs.String.{string_bytes};
+ghost use Rattle.log_text.specs.declared.Version.TheVariants.{Second};
+ghost use Rattle.log_replay.specs.Replaying.{IsReplayOf};
+ghost use Rattle.audit_run.specs.Audits.{IsAnswered, IsLogOf, IsRefusedBy, audit_lines, audit_text, client_line, line_text};
+
+use crate::accounts::{is_true_of, replies_of};
+use crate::{AuditFault, Told};
+use log_replay::replay_log;
+use log_text::{SavedLog, load_log, migrate};
+use std::alloc::{AllocError, Global};
+use std::io::Write;
+use uas_work::Booked;
+
+/// A log of so many steps takes seconds to replay.
+const LONG_STEPS: usize = 100_000;
+
+/// What is told of a text: a line for each client of its log, or the first thing that is wrong. Where it is asked for, `notes` gets a
+/// line once a long log is read.
+pub(crate) fn answered<W: Write>(
+    alloc: Global,
+    bytes: &[u8],
+    notes: &mut W,
+    shows_progress: bool,
+) -> Result<Told, AuditFault>
+    ensures ok { IfOk result (λ answer. IsAnswered bytes.now answer.text.items) }
+    ensures audited { IfOk result (λ answer. answer.is_true ≡ true) }
+    ensures fault { IfErr result (IsRefusedBy bytes.now) }
+    ensures quiet { shows_progress ≡ false → notes.new ≡ notes.old }
+{
+    let log = match log_in(alloc, bytes) {
+        Ok(log) => log,
+        Err(fault) => return Err(fault),
+    };
+    note(&log, notes, shows_progress);
+    let booked = match replay_log(alloc, &log) {
+        Ok(booked) => booked,
+        Err(fault) => return Err(AuditFault::Replay(fault)),
+    };
+    match lines(alloc, &booked, &log) {
+        Ok(answer) => Ok(answer),
+        Err(_) => Err(AuditFault::NoMemory),
+    }
+}
+
+/// The log of a text, brought over to clients of 16 tags.
+fn log_in(alloc: Global, bytes: &[u8]) -> Result<SavedLog, AuditFault>
+    ensures ok { IfOk result (λ log. IsLogOf bytes.now log) }
+    ensures tags { IfOk result (λ log. log.version ≡ Second) }
+    ensures fault { IfErr result (IsRefusedBy bytes.now) }
+{
+    let saved = match load_log(alloc, bytes) {
+        Ok(saved) => saved,
+        Err(fault) => return Err(AuditFault::Text(fault)),
+    };
+    match migrate(alloc, &saved) {
+        Ok(log) => Ok(log),
+        Err(fault) => Err(AuditFault::Old(fault)),
+    }
+}
+
+/// Tells how long a log is, where it is long and that is asked for. A fault of `notes` changes nothing.
+fn note<W: Write>(log: &SavedLog, notes: &mut W, shows_progress: bool)
+    ensures { shows_progress ≡ false → notes.new ≡ notes.old }
+{
+    let steps = log.steps().len();
+    if !shows_progress || steps < LONG_STEPS {
+        return;
+    }
+    let _ = writeln!(notes, "replaying {steps} steps");
+}
+
+/// A line for each client. Asks that the bus is booked by the log.
+fn lines(alloc: Global, booked: &Booked, log: &SavedLog) -> Result<Told, AllocError>
+    requires { IsReplayOf log.now booked.now }
+    ensures text { IfOk result (λ answer. answer.text.items ≡ audit_text log.now) }
+    ensures audited { IfOk result (λ answer. answer.is_true ≡ true) }
+{
+    let mut text = Vec::new(alloc);
+    let mut is_true = true;
+    for client in 0..log.units().len() {
+        is_true = push_line(alloc, &mut text, booked, log, client)? && is_true;
+    }
+    Ok(Told { text, is_true })
+}
+
+/// Adds a client's line, and answers whether its audit is true.
+fn push_line(
+    alloc: Global,
+    text: &mut Vec<u8>,
+    booked: &Booked,
+    log: &SavedLog,
+    client: usize,
+) -> Result<bool, AllocError>
+    requires replay { IsReplayOf log.now booked.now }
+    requires client { client < length log.now.units }
+    ensures text { OnOk result (text.new.items ≡ text.old.items ++ client_line log.now client) }
+    ensures audited { IfOk result (λ told. told ≡ true) }
+{
+    let replies = replies_of(alloc, log.replies(), client)?;
+    let told = is_true_of(alloc, booked, log, client, &replies)?;
+    let line = line_of(alloc, client, replies.len(), told)?;
+    text.extend_from_slice(line.as_bytes())?;
+    Ok(told)
+}
+
+/// `client C replies R true`, or `false`.
+fn line_of(alloc: Global, client: usize, count: usize, told: bool) -> Result<String, AllocError>
+    ensures { told ≡ true → IfOk result (λ line. string_bytes line ≡ line_text client count) }
+{
+    if told {
+        format!(in alloc; "client {client} replies {count} true\n")
+    } else {
+        format!(in alloc; "client {client} replies {count} false\n")
+    }
+}

@@ -1,0 +1,91 @@
+//! Faults of a run: what is told of each, and its exit status.
+ghost use Rattle.std.specs.Prelude.{◌≡◌};
+ghost use Rattle.audit_run.specs.Faults.{status_of};
+
+use crate::{AuditFault, FAULT, NO_MEMORY};
+use log_replay::ReplayFault;
+use log_text::{LogFault, MigrateFault};
+use std::io::Write;
+
+impl AuditFault {
+    /// Its exit status.
+    fn status(self) -> u8
+        ensures { result ≡ status_of self }
+    {
+        match self {
+            AuditFault::NoMemory
+            | AuditFault::Text(LogFault::NoMemory)
+            | AuditFault::Old(MigrateFault::NoMemory)
+            | AuditFault::Replay(ReplayFault::NoMemory) => NO_MEMORY,
+            AuditFault::File
+            | AuditFault::TooLarge
+            | AuditFault::Text(_)
+            | AuditFault::Old(_)
+            | AuditFault::Replay(_)
+            | AuditFault::Output => FAULT,
+        }
+    }
+
+    /// Its line: of what is wrong with a log, the fault's name without its number.
+    fn line(self) -> &'static str {
+        match self {
+            AuditFault::File => "log: file",
+            AuditFault::TooLarge => "log: too large",
+            AuditFault::Text(LogFault::BadHeader) => "log: BadHeader",
+            AuditFault::Text(LogFault::Truncated) => "log: Truncated",
+            AuditFault::Text(LogFault::BadField) => "log: BadField",
+            AuditFault::Text(LogFault::TrailingBytes) => "log: TrailingBytes",
+            AuditFault::Old(MigrateFault::TooManyClients) => "log: TooManyClients",
+            AuditFault::Replay(ReplayFault::NotDue(_)) => "log: NotDue",
+            AuditFault::Replay(ReplayFault::Refused(_)) => "log: Refused",
+            AuditFault::Replay(ReplayFault::OtherReplies(_)) => "log: OtherReplies",
+            AuditFault::Output => "script: file",
+            AuditFault::NoMemory
+            | AuditFault::Text(LogFault::NoMemory)
+            | AuditFault::Old(MigrateFault::NoMemory)
+            | AuditFault::Replay(ReplayFault::NoMemory) => "no memory",
+        }
+    }
+
+    /// What it means, for a person.
+    fn hint(self) -> &'static str {
+        match self {
+            AuditFault::File =>
+                "the log can't be opened or read: look at its name and at its rights",
+            AuditFault::TooLarge => "a log's file has at most 1073741824 bytes",
+            AuditFault::Text(LogFault::BadHeader) =>
+                "it doesn't begin as a log of 8 or 16 tags does",
+            AuditFault::Text(LogFault::Truncated) => "it ends within a field",
+            AuditFault::Text(LogFault::BadField) => "a field has a value that it can't have",
+            AuditFault::Text(LogFault::TrailingBytes) => "bytes follow its end",
+            AuditFault::Old(MigrateFault::TooManyClients) => {
+                "a log of clients of 8 tags has at most 15 of them, to be brought over"
+            }
+            AuditFault::Replay(ReplayFault::NotDue(_)) => "a step wasn't due in its turn",
+            AuditFault::Replay(ReplayFault::Refused(_)) => "a step is a submission that is refused",
+            AuditFault::Replay(ReplayFault::OtherReplies(_)) => {
+                "the replies aren't those that come of the steps"
+            }
+            AuditFault::Output =>
+                "standard output can't be written: is it open, and is there room?",
+            AuditFault::NoMemory
+            | AuditFault::Text(LogFault::NoMemory)
+            | AuditFault::Old(MigrateFault::NoMemory)
+            | AuditFault::Replay(ReplayFault::NoMemory) => "the machine gave no memory for it",
+        }
+    }
+
+    /// Tells it in one line, and what it means in a second where that is asked for, and gives its exit status. A fault of `faults`
+    /// changes nothing.
+    pub(crate) fn tell<W: Write>(self, faults: &mut W, shows_hint: bool) -> u8
+        ensures { result ≡ status_of self }
+    {
+        let line = self.line();
+        let _ = writeln!(faults, "{line}");
+        if shows_hint {
+            let hint = self.hint();
+            let _ = writeln!(faults, "  {hint}");
+        }
+        self.status()
+    }
+}

@@ -1,0 +1,67 @@
+//! The run `audit`: a file of a log, replayed on a new bus, and each client's account in it held against that replay.
+//!
+//! [`run_audit`] reads a log's text, brings it over to clients of 16 tags, takes its steps on a new bus, and audits each client with its
+//! own submissions and replies of the file. What it prints is a line for each client (`audit_text` in specs/Audits.antt), and it prints
+//! them exactly where the text is a log's, its steps are all due and accepted in their turn, and its replies are those that come of
+//! them. Each such client's audit is true: so no line says `false`, and the exit status 1 never comes.
+//!
+//! Else the first thing that is wrong is told in one line: of the file, of the text, of the steps, then of the replies
+//! (`IsRefusedBy`). It stands on log_audit and log_replay.
+#![tactic(auto)]
+
+mod accounts;
+mod answer;
+mod faults;
+mod run;
+#[cfg(test)]
+mod tests;
+
+use log_replay::ReplayFault;
+use log_text::{LogFault, MigrateFault};
+pub use run::run_audit;
+
+/// The most bytes of a log's file.
+pub const MAX_LOG_BYTES: usize = 1_073_741_824;
+
+const _: () = prove!(MAX_LOG_BYTES == 1_073_741_824);
+
+/// Every client's audit is true.
+pub const DONE: u8 = 0;
+
+/// A client's audit is false.
+pub const UNTRUE: u8 = 1;
+
+/// A fault of the file, of its text or of the log, or of standard output.
+pub const FAULT: u8 = 3;
+
+/// Want of memory.
+pub const NO_MEMORY: u8 = 4;
+
+const _: () = prove!(DONE == 0 && UNTRUE == 1 && FAULT == 3 && NO_MEMORY == 4);
+
+/// Why a run gave up.
+#[derive(Clone, Copy, Debug, PartialEq, Eq)]
+pub enum AuditFault {
+    /// Reading the file failed.
+    File,
+    /// The file has too many bytes.
+    TooLarge,
+    /// The file has no log's text.
+    Text(LogFault),
+    /// The log can't be brought over.
+    Old(MigrateFault),
+    /// The log isn't the replay of its own steps.
+    Replay(ReplayFault),
+    /// Writing to standard output failed.
+    Output,
+    /// Want of memory.
+    NoMemory,
+}
+
+/// What is told of a log.
+#[derive(Debug, Drop)]
+pub(crate) struct Told {
+    pub(crate) text: Vec<u8>,
+    /// Whether each client's audit is true.
+    pub(crate) is_true: bool,
+}

@@ -1,0 +1,21 @@
+use Rattle.std.proofs.Common.{arith, rules, ◌≤◌, ◌∙◌}
+use Rattle.nbd.proofs.Reading.{gave_more}
+use Rattle.nbd.proofs.streams.drop_bytes.Goals as goal
+
+pub loop-left-preserved : goal.loop-left-preserved
+loop-left-preserved g c =
+    let l = c.loop-left in
+    let few : c.in_ok-read.read ≤ l.left = search rules in
+    record {
+      bound = omega arith;
+      bytes = gave_more _ _ _ c.args.count l.left c.in_ok-read.read c.read_whole.new.buffer l.invariant.bound few
+          c.in_ok-read.ensures.bound l.invariant.bytes c.in_ok-read.ensures.bytes;
+      same = c.read_whole.ensures.same ∙ l.invariant.same;
+    }
+
+pub returns-then-read-part-clause-bytes : goal.returns-then-read-part-clause-bytes
+returns-then-read-part-clause-bytes g c =
+    let l = c.loop-left in
+    let few : c.in_ok-read.read ≤ l.left = search rules in
+    gave_more _ _ _ c.args.count l.left c.in_ok-read.read c.read_whole.new.buffer l.invariant.bound few
+    c.in_ok-read.ensures.bound l.invariant.bytes c.in_ok-read.ensures.bytes

@@ -1,0 +1,3 @@
+pub mod Transmission
+pub mod Handshake
+pub mod Streams

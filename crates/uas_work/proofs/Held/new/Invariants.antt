@@ -1,0 +1,8 @@
+use Rattle.std.proofs.Common.{◌≡◌, length, All, None}
+use Rattle.uas_work.proofs.Held.new.Given as goal
+
+abbrev pub invariant-loop : goal.invariant-loop
+invariant-loop l = record {
+  count : length l.claims.items ≡ l.counter;
+  none : All (λ claim. claim ≡ None) l.claims.items;
+}

@@ -286,12 +286,7 @@ fn carry_slot(unit: &mut Unit, tasks: &mut [Option<TaggedTask>], slot: usize) ->
     carry_at(unit, tasks, slot, found)
 }
 
-fn carry_at(
-    unit: &mut Unit,
-    tasks: &mut [Option<TaggedTask>],
-    slot: usize,
-    found: bool,
-) -> bool
+fn carry_at(unit: &mut Unit, tasks: &mut [Option<TaggedTask>], slot: usize, found: bool) -> bool
     requires slot { slot < length tasks.old }
     requires sound { AllHeld (IsSound unit.old.count) tasks.old }
     ensures carried { IsCarried unit.old tasks.old slot found result unit.new tasks.new }

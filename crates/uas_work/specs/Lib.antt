@@ -1,4 +1,5 @@
 pub mod Booked
 pub mod Control
 pub mod Held
+pub mod Parts
 pub mod Pumps

@@ -23,11 +23,16 @@
 #![tactic(auto)]
 
 mod claims;
+mod clients;
 mod floor;
 mod gates;
+mod hall;
 mod opening;
+mod parts;
+mod pump_part;
 mod pumps;
 mod reasons;
+mod rounds;
 mod serving;
 mod stepping;
 #[cfg(test)]
@@ -40,7 +45,7 @@ pub use gates::{Gate, Unhindered};
 pub use pumps::{control, dispatch};
 pub use serving::{pump_in, pump_out};
 use std::marker::Model;
-use tag_desk::Claim;
+use tag_desk::{Claim, Left};
 use thiserror::Error;
 use uas_log::{Log, Replies};
 use uas_profile::MAX_CLIENTS;
@@ -81,11 +86,21 @@ impl Model for Held {
     ghost view = { λ held. held.claims.items };
 }
 
+/// How many pumps there are: client c is served by pump c mod their number.
+#[derive(Clone, Copy, Debug, PartialEq, Eq)]
+pub enum PumpCount {
+    One,
+    Two,
+    Four,
+}
+
 /// What the workers are to do.
 #[derive(Clone, Copy, Debug, PartialEq, Eq)]
 pub struct Plan {
     /// Rounds of each client: a WRITE and a READ of the same blocks.
     pub rounds: u32,
+    /// How many pumps there are.
+    pub pumps: PumpCount,
     /// How many controllers there are.
     pub controllers: u32,
 }
@@ -105,12 +120,14 @@ pub enum Ended {
     NoThread,
 }
 
-/// What the workers left: the bus with its log, what each client took, and why they ended.
+/// What the workers left: the bus with its log, what each client took, what stands on the desk, and why they ended.
 #[derive(Debug, Drop)]
 pub struct Finished {
     pub booked: Booked,
     /// By client.
     pub replies: Vec<Replies>,
+    /// What stands on the desk; none where there was no memory to close it.
+    pub left: Option<Left>,
     pub ended: Ended,
 }
 

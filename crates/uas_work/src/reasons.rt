@@ -1,5 +1,20 @@
-//! Why workers ended, as a number that threads can share.
-use crate::{Booking, Ended};
+//! Why workers ended, as a number that threads can share; and the number of pumps.
+ghost use Rattle.std.specs.Prelude.{◌≡◌, ◌⊎◌, ◌<◌};
+
+use crate::{Booking, Ended, PumpCount};
+
+impl PumpCount {
+    /// 1, 2 or 4.
+    pub fn count(self) -> usize
+        ensures { (result ≡ 1) ⊎ ((result ≡ 2) ⊎ (result ≡ 4)) }
+    {
+        match self {
+            PumpCount::One => 1,
+            PumpCount::Two => 2,
+            PumpCount::Four => 4,
+        }
+    }
+}
 
 impl Ended {
     pub(crate) fn code(self) -> u64 {

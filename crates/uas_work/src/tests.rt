@@ -4,7 +4,7 @@ ghost use Rattle.uas_work.specs.Booked.{IsNew};
 
 mod gates;
 
-use crate::{Booked, Ended, Finished, Gate, Plan, Unhindered, spawn_all};
+use crate::{Booked, Ended, Finished, Gate, Plan, PumpCount, Unhindered, spawn_all};
 use block_unit::Unit;
 use bus_core::Step;
 use scsi_cmd::{GOOD, Reply};
@@ -15,6 +15,7 @@ use std::thread::Threads;
 
 const PLAN: Plan = Plan {
     rounds: 9,
+    pumps: PumpCount::Two,
     controllers: 2,
 };
 
@@ -34,7 +35,21 @@ fn made(alloc: Global, limit: usize) -> Result<Booked, AllocError>
     Booked::new(alloc, units, limit)
 }
 
-/// What the workers left of a bus whose log may hold so many steps.
+/// What the workers of a plan left of a bus.
+fn planned<R: Threads + Wait + Sync, G: Gate + Sync>(
+    rt: &R,
+    alloc: Global,
+    booked: Booked,
+    gate: &G,
+    plan: Plan,
+) -> Result<Finished, AllocError> {
+    match spawn_all(rt, alloc, booked, gate, plan) {
+        Ok(finished) => Ok(finished),
+        Err((error, _booked)) => Err(error),
+    }
+}
+
+/// What the workers left of a bus of two clients whose log may hold so many steps.
 fn ran<R: Threads + Wait + Sync, G: Gate + Sync>(
     rt: &R,
     alloc: Global,
@@ -43,11 +58,18 @@ fn ran<R: Threads + Wait + Sync, G: Gate + Sync>(
 ) -> Result<Finished, AllocError>
     requires { limit < 2 ^ 32 }
 {
-    let booked = made(alloc, limit)?;
-    match spawn_all(rt, alloc, booked, gate, PLAN) {
-        Ok(finished) => Ok(finished),
-        Err((error, _booked)) => Err(error),
-    }
+    planned(rt, alloc, made(alloc, limit)?, gate, PLAN)
+}
+
+/// How many slips stand on the desk that was closed, and how many claims weren't finished.
+fn left_over(finished: &Finished) -> Option<usize> {
+    let left = finished.left.as_ref()?;
+    let slips = left
+        .posted
+        .as_slice()
+        .len()
+        .wrapping_add(left.done.as_slice().len());
+    Some(slips.wrapping_add(left.held.as_slice().len()))
 }
 
 /// Whether it is a GOOD status of the ticket with 4,096 such bytes.
@@ -106,11 +128,38 @@ impl Gate for Shut {
 #[test]
 fn rounds_taken(rt: HostRuntime) -> Result<(), Fail> {
     let finished = ran(&rt, rt.alloc(), 10_000, &Unhindered)?;
-    assert!(rt; finished.ended == Ended::Done);
+    assert!(rt; finished.ended == Ended::Done && left_over(&finished) == Some(0));
     assert!(rt; took_all(&finished, 0) && took_all(&finished, 1));
     assert!(rt; finished.booked.turn(0) == 18 && finished.booked.log().replies.len() == 36);
     // of each command Submit, CommandPipe, Data, Status, three Events and Take
     assert!(rt; finished.booked.log().steps.len() == 2 * 9 * 2 * 8);
+    Ok(())
+}
+
+/// The same with one pump, and with four, of which two have no client.
+#[test]
+fn one_pump_and_four(rt: HostRuntime) -> Result<(), Fail> {
+    for pumps in [PumpCount::One, PumpCount::Four] {
+        let plan = Plan { pumps, ..PLAN };
+        let booked = made(rt.alloc(), 10_000)?;
+        let finished = planned(&rt, rt.alloc(), booked, &Unhindered, plan)?;
+        assert!(rt; finished.ended == Ended::Done && left_over(&finished) == Some(0));
+        assert!(rt; took_all(&finished, 0) && took_all(&finished, 1));
+    }
+    Ok(())
+}
+
+/// One client, one round, and a log that has no room for the Take of its READ: the client has the WRITE's reply, and looked up that
+/// its READ isn't served.
+#[test]
+fn last_take_unbooked(rt: HostRuntime) -> Result<(), Fail> {
+    let units = Vec::from_array(rt.alloc(), [unit(rt.alloc())?])?;
+    let booked = Booked::new(rt.alloc(), units, 15)?;
+    let plan = Plan { rounds: 1, ..PLAN };
+    let finished = planned(&rt, rt.alloc(), booked, &Unhindered, plan)?;
+    assert!(rt; finished.ended == Ended::LogFull);
+    assert!(rt; finished.booked.log().steps.len() == 15);
+    assert!(rt; finished.replies[0].as_slice().len() == 1 && left_over(&finished) == Some(0));
     Ok(())
 }
 

@@ -10,8 +10,8 @@ use std::test::Fail;
 use std::thread;
 use std::time::{Clock, Duration};
 
-/// How many workers the plan has: two clients, its controllers, the dispatcher.
-const WORKERS: u64 = PLAN.controllers as u64 + 3;
+/// How many workers the plan has: two clients, two pumps, its controllers, the dispatcher.
+const WORKERS: u64 = PLAN.controllers as u64 + 5;
 
 /// After so many turns or waits a worker gets no more.
 const MOST_TURNS: u64 = 10_000;

@@ -1,0 +1,140 @@
+//! The part of a client: it posts its commands on the desk and looks for what they came to.
+ghost use Rattle.std.specs.Prelude.{◌≡◌, ◌≤◌, ◌<◌, ◌^◌, IfSome, vec_len, vec_capacity};
+ghost use Rattle.tag_desk.specs.Seats.{IsClientOf, IsTagOf};
+ghost use Rattle.uas_work.specs.Parts.{IsClientPart, IsSeatOfClient};
+
+use crate::floor::Floor;
+use crate::hall::Hall;
+use crate::parts::{ClientBack, ClientPart};
+use crate::rounds::{Half, command};
+use crate::{Ended, Gate};
+use door_board::place;
+use scsi_cmd::Command;
+use std::sync::Wait;
+use std::thread;
+use tag_desk::Slip;
+use uas_profile::TAGS;
+
+impl ClientPart {
+    /// Takes so many rounds, or as many as the workers are let take: what is left of the part.
+    pub(crate) fn work<R: Wait, G: Gate>(mut self, rt: &R, floor: &Floor, hall: &Hall, gate: &G, rounds: u32) -> ClientBack
+        requires { IsClientPart hall.now.desk hall.now.board self }
+        ensures { IsSeatOfClient hall.now.desk self.client result.seat }
+    {
+        if self.took_rounds(rt, floor, hall, gate, rounds) {
+            floor.client_done();
+        }
+        let ClientPart { seat, replies, .. } = self;
+        ClientBack { seat, replies }
+    }
+
+    /// Takes so many rounds: whether it came to their end.
+    fn took_rounds<R: Wait, G: Gate>(&mut self, rt: &R, floor: &Floor, hall: &Hall, gate: &G, rounds: u32) -> bool
+        requires part { IsClientPart hall.now.desk hall.now.board self.old }
+        ensures part { IsClientPart hall.now.desk hall.now.board self.new }
+        ensures same { self.new.client ≡ self.old.client }
+    {
+        for round in 0..rounds {
+            if !self.took_half(rt, floor, hall, gate, round, Half::Write) || !self.took_half(rt, floor, hall, gate, round, Half::Read)
+            {
+                return false;
+            }
+        }
+        true
+    }
+
+    /// One half of a round, posted and looked for. Whether the client goes on.
+    fn took_half<R: Wait, G: Gate>(
+        &mut self,
+        rt: &R, floor: &Floor, hall: &Hall, gate: &G,
+        round: u32,
+        half: Half,
+    ) -> bool
+        requires part { IsClientPart hall.now.desk hall.now.board self.old }
+        ensures part { IsClientPart hall.now.desk hall.now.board self.new }
+        ensures same { self.new.client ≡ self.old.client }
+    {
+        if floor.is_over(gate, u32::from(self.client)) {
+            return false;
+        }
+        let Ok(command) = command(floor.alloc, self.client, round, half) else {
+            floor.end(Ended::NoMemory);
+            return false;
+        };
+        if self.replies.reserve(1).is_err() {
+            floor.end(Ended::NoMemory);
+            return false;
+        }
+        let Some(tag) = self.posted(hall, command) else {
+            floor.end(Ended::Stopped);
+            return false;
+        };
+        match self.awaited(rt, floor, hall, gate, tag) {
+            Some(slip) => self.took(slip, tag),
+            None => false,
+        }
+    }
+
+    /// Posts a command on a free tag of the client's and rings its bell: the tag. None where the client has no tag left.
+    fn posted(&mut self, hall: &Hall, command: Command) -> Option<u16>
+        requires part { IsClientPart hall.now.desk hall.now.board self.old }
+        ensures part { IsClientPart hall.now.desk hall.now.board self.new }
+        ensures same { self.new.client ≡ self.old.client }
+        ensures room { self.new.replies ≡ self.old.replies }
+        ensures tag { IfSome result (IsTagOf self.new.client) }
+    {
+        let (tag, ticket) = self.tags.issue().ok()?;
+        if !self.seat.is_free(tag) {
+            return None;
+        }
+        hall.desk
+            .post(&mut self.seat, tag, Slip::Ask { ticket, command });
+        let client = usize::from(self.client);
+        let index = usize::from(tag) - TAGS * client;
+        hall.board.ring(&mut self.bell, place(client, index));
+        Some(tag)
+    }
+
+    /// The slip with which the pump finished a tag, looked for once a turn; none where all pumps ended and it wasn't finished.
+    fn awaited<R: Wait, G: Gate>(&mut self, rt: &R, floor: &Floor, hall: &Hall, gate: &G, tag: u16) -> Option<Slip>
+        requires part { IsClientPart hall.now.desk hall.now.board self.old }
+        requires tag { IsTagOf self.old.client tag }
+        ensures part { IsClientPart hall.now.desk hall.now.board self.new }
+        ensures same { self.new.client ≡ self.old.client }
+        ensures room { self.new.replies ≡ self.old.replies }
+    {
+        for _ in rt.forever() {
+            let is_last = floor.are_pumps_done();
+            let slip = hall.desk.look(&mut self.seat, tag);
+            if slip.is_some() || is_last {
+                return slip;
+            }
+            thread::yield_now();
+            if !floor.is_ended() && !gate.turn(u32::from(self.client)) {
+                floor.end(Ended::Stopped);
+            }
+        }
+        None
+    }
+
+    /// Takes what a tag's command came to, and gives the tag back. Whether the client goes on. Asks for room for a reply.
+    fn took(&mut self, slip: Slip, tag: u16) -> bool
+        requires room { vec_len self.old.replies < vec_capacity self.old.replies }
+        ensures seat { self.new.seat ≡ self.old.seat }
+        ensures bell { self.new.bell ≡ self.old.bell }
+        ensures client { self.new.client ≡ self.old.client }
+        ensures tags { (self.new.tags.client ≡ self.old.tags.client) × (self.new.tags.next ≡ self.old.tags.next) }
+    {
+        if self.tags.is_issued(tag) {
+            self.tags.free(tag);
+        }
+        match slip {
+            Slip::Answer(reply) => {
+                self.replies.push_reserved(reply);
+                true
+            }
+            Slip::Refused { .. } => true,
+            Slip::Ask { .. } | Slip::AskTask { .. } | Slip::Unserved { .. } => false,
+        }
+    }
+}

@@ -1,0 +1,126 @@
+//! The part of a pump: turn by turn it collects its bells and serves its clients under the lock.
+ghost use Rattle.std.specs.Prelude.{◌≡◌};
+ghost use Rattle.uas_work.specs.Held.{ServesClient};
+ghost use Rattle.uas_work.specs.Parts.{IsPumpPart, IsSeatOfPump};
+
+use crate::floor::Floor;
+use crate::hall::Hall;
+use crate::parts::PumpPart;
+use crate::{Booked, Booking, Gate, pump_in, pump_out};
+use bus_core::Step;
+use door_board::WORDS;
+use std::sync::Wait;
+use std::thread;
+use tag_desk::WorkSeat;
+
+/// Turns in a row in which a pump that no bell called leaves its clients out.
+const MOST_QUIET: u32 = 15;
+
+impl PumpPart {
+    /// Serves its clients until the workers end, and gives back every claim that it holds then.
+    pub(crate) fn work<R: Wait, G: Gate>(mut self, rt: &R, floor: &Floor, hall: &Hall, gate: &G, worker: u32) -> WorkSeat
+        requires { IsPumpPart hall.now.desk hall.now.board self }
+        ensures { IsSeatOfPump hall.now.desk self.pump result }
+    {
+        self.took_turns(rt, floor, hall, gate, worker);
+        let PumpPart {
+            mut seat,
+            mut held,
+            ..
+        } = self;
+        held.give_back(floor.alloc, &hall.desk, &mut seat);
+        floor.pump_done();
+        seat
+    }
+
+    /// Takes turns until the workers end.
+    fn took_turns<R: Wait, G: Gate>(&mut self, rt: &R, floor: &Floor, hall: &Hall, gate: &G, worker: u32)
+        requires part { IsPumpPart hall.now.desk hall.now.board self.old }
+        ensures part { IsPumpPart hall.now.desk hall.now.board self.new }
+        ensures same { self.new.pump ≡ self.old.pump }
+    {
+        let mut quiet = 0;
+        for _ in rt.forever() {
+            if floor.is_over(gate, worker) {
+                return;
+            }
+            if !self.is_called(hall) && quiet < MOST_QUIET {
+                quiet += 1;
+                thread::yield_now();
+                continue;
+            }
+            let served = self.served_all(rt, floor, hall, gate);
+            quiet = if matches!(served, Ok(true)) { MOST_QUIET } else { 0 };
+            floor.rest(served);
+        }
+    }
+
+    /// Whether a bell stood in one of the pump's words of the board; none stands there now.
+    fn is_called(&mut self, hall: &Hall) -> bool
+        requires part { IsPumpPart hall.now.desk hall.now.board self.old }
+        ensures part { IsPumpPart hall.now.desk hall.now.board self.new }
+        ensures same { self.new.pump ≡ self.old.pump }
+    {
+        let mut called = false;
+        for word in 0..WORDS {
+            if word % hall.pumps == self.pump {
+                called |= hall.board.collect(&mut self.bell, word) != 0;
+            }
+        }
+        called
+    }
+
+    /// Serves each of its clients once, under the lock: whether a step was booked.
+    fn served_all<R: Wait, G: Gate>(&mut self, rt: &R, floor: &Floor, hall: &Hall, gate: &G) -> Result<bool, Booking>
+        requires part { IsPumpPart hall.now.desk hall.now.board self.old }
+        ensures part { IsPumpPart hall.now.desk hall.now.board self.new }
+        ensures same { self.new.pump ≡ self.old.pump }
+    {
+        let mut guard = floor.lock(rt);
+        let booked = &mut *guard;
+        let mut served = false;
+        for client in 0..hall.clients {
+            if client % hall.pumps == self.pump {
+                served |= self.served(rt, floor, hall, gate, booked, client)?;
+            }
+        }
+        Ok(served)
+    }
+
+    /// Books what a client posted, and takes a reply of it that is ready and that the gate allows: whether a step was booked.
+    fn served<R: Wait, G: Gate>(
+        &mut self,
+        rt: &R, floor: &Floor, hall: &Hall, gate: &G,
+        booked: &mut Booked,
+        client: usize,
+    ) -> Result<bool, Booking>
+        requires part { IsPumpPart hall.now.desk hall.now.board self.old }
+        requires client { ServesClient hall.now.desk self.old.seat client }
+        ensures part { IsPumpPart hall.now.desk hall.now.board self.new }
+        ensures same { self.new.pump ≡ self.old.pump }
+    {
+        let desk = &hall.desk;
+        let alloc = floor.alloc;
+        let posted = pump_in(
+            alloc,
+            booked,
+            desk,
+            &mut self.seat,
+            &mut self.held,
+            client,
+        )?;
+        let take = Step::Take(client);
+        if !booked.due(&take) || !gate.may(&take) {
+            return Ok(posted);
+        }
+        let took = pump_out(
+            alloc,
+            booked,
+            desk,
+            &mut self.seat,
+            &mut self.held,
+            client,
+        )?;
+        Ok(posted || took)
+    }
+}

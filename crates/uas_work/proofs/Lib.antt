@@ -3,3 +3,4 @@ pub mod Bookings
 pub mod Openings
 pub mod Holding
 pub mod Taking
+pub mod Numbers

@@ -58,12 +58,12 @@ pub record ArePumpParts (desk : MadeDesk) (board : MadeBoard) (parts : List Pump
 
 -- a client's worker was started with the promise of this client's seat, or gave that seat back
 abbrev pub IsStartedClient : MadeDesk → ℕ → StartedClient → Type 0
-IsStartedClient desk client (clients.Thread hand) = (hand.promise.desk.now ≡ desk) × (hand.promise.client ≡ client)
+IsStartedClient desk client (clients.Thread hand) = (hand.promise.desk.value ≡ desk) × (hand.promise.client ≡ client)
 IsStartedClient desk client (clients.Here back) = IsSeatOfClient desk client back.seat
 
 -- a pump's worker was started with the promise of this pump's seat, or gave that seat back
 abbrev pub IsStartedPump : MadeDesk → ℕ → StartedPump → Type 0
-IsStartedPump desk pump (pumps.Thread hand) = (hand.promise.desk.now ≡ desk) × (hand.promise.pump ≡ pump)
+IsStartedPump desk pump (pumps.Thread hand) = (hand.promise.desk.value ≡ desk) × (hand.promise.pump ≡ pump)
 IsStartedPump desk pump (pumps.Here seat) = IsSeatOfPump desk pump seat
 
 -- each client's worker was started, or gave its seat back, in order

@@ -9,6 +9,7 @@ use crate::parts::PumpPart;
 use crate::{Booked, Booking, Gate, pump_in, pump_out};
 use bus_core::Step;
 use door_board::WORDS;
+use std::alloc::Global;
 use std::sync::Wait;
 use std::thread;
 use tag_desk::WorkSeat;
@@ -99,28 +100,46 @@ impl PumpPart {
         ensures part { IsPumpPart hall.now.desk hall.now.board self.new }
         ensures same { self.new.pump ≡ self.old.pump }
     {
-        let desk = &hall.desk;
-        let alloc = floor.alloc;
-        let posted = pump_in(
-            alloc,
-            booked,
-            desk,
-            &mut self.seat,
-            &mut self.held,
-            client,
-        )?;
+        let posted = self.took_in(floor.alloc, hall, booked, client)?;
         let take = Step::Take(client);
         if !booked.due(&take) || !gate.may(&take) {
             return Ok(posted);
         }
-        let took = pump_out(
-            alloc,
-            booked,
-            desk,
-            &mut self.seat,
-            &mut self.held,
-            client,
-        )?;
+        let took = self.brought_out(floor.alloc, hall, booked, client)?;
         Ok(posted || took)
+    }
+
+    /// Books what a client posted, where it did: `pump_in`.
+    fn took_in(
+        &mut self,
+        alloc: Global,
+        hall: &Hall,
+        booked: &mut Booked,
+        client: usize,
+    ) -> Result<bool, Booking>
+        requires part { IsPumpPart hall.now.desk hall.now.board self.old }
+        requires client { ServesClient hall.now.desk self.old.seat client }
+        ensures part { IsPumpPart hall.now.desk hall.now.board self.new }
+        ensures same { self.new.pump ≡ self.old.pump }
+    {
+        let PumpPart { seat, held, .. } = self;
+        pump_in(alloc, booked, &hall.desk, seat, held, client)
+    }
+
+    /// Takes a client's reply and finishes its claim: `pump_out`.
+    fn brought_out(
+        &mut self,
+        alloc: Global,
+        hall: &Hall,
+        booked: &mut Booked,
+        client: usize,
+    ) -> Result<bool, Booking>
+        requires part { IsPumpPart hall.now.desk hall.now.board self.old }
+        requires client { ServesClient hall.now.desk self.old.seat client }
+        ensures part { IsPumpPart hall.now.desk hall.now.board self.new }
+        ensures same { self.new.pump ≡ self.old.pump }
+    {
+        let PumpPart { seat, held, .. } = self;
+        pump_out(alloc, booked, &hall.desk, seat, held, client)
     }
 }

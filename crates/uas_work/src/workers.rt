@@ -8,6 +8,7 @@ use crate::hall::{Hall, Opened, open_hall};
 use crate::parts::{ClientBack, ClientPart, PumpPart};
 use crate::{Booked, Ended, Finished, Gate, Plan};
 use std::alloc::{AllocError, Global};
+use std::snapshot::Snapshot;
 use std::sync::Wait;
 use std::thread;
 use std::thread::{Promise, PromisedHandle, Scope, SpawnError, Threads};
@@ -15,50 +16,50 @@ use tag_desk::{ClientSeat, Desk, Left, Seats, WorkSeat};
 use uas_log::Replies;
 
 /// That a client's worker gives back the client's seat at this desk.
-#[derive(Clone, Copy)]
-pub(crate) struct ClientOf<'a> {
-    desk: &'a Desk,
+#[derive(Drop)]
+pub(crate) struct ClientOf {
+    desk: Snapshot<Desk>,
     client: u8,
 }
 
-impl<'a> Promise<ClientBack> for ClientOf<'a> {
+impl Promise<ClientBack> for ClientOf {
     ghost use Rattle.uas_work.specs.Parts.{IsSeatOfClient};
 
-    ghost kept_by = { λ promise back. IsSeatOfClient promise.desk.now promise.client back.seat };
+    ghost kept_by = { λ promise back. IsSeatOfClient promise.desk.value promise.client back.seat };
 }
 
 /// That a pump's worker gives back the pump's seat at this desk.
-#[derive(Clone, Copy)]
-pub(crate) struct PumpOf<'a> {
-    desk: &'a Desk,
+#[derive(Drop)]
+pub(crate) struct PumpOf {
+    desk: Snapshot<Desk>,
     pump: usize,
 }
 
-impl<'a> Promise<WorkSeat> for PumpOf<'a> {
+impl Promise<WorkSeat> for PumpOf {
     ghost use Rattle.uas_work.specs.Parts.{IsSeatOfPump};
 
-    ghost kept_by = { λ promise seat. IsSeatOfPump promise.desk.now promise.pump seat };
+    ghost kept_by = { λ promise seat. IsSeatOfPump promise.desk.value promise.pump seat };
 }
 
 /// A client's worker that was started, or what it gave back where it got no thread.
 #[derive(Drop)]
-pub(crate) enum StartedClient<'a> {
-    Thread(PromisedHandle<ClientBack, ClientOf<'a>>),
+pub(crate) enum StartedClient {
+    Thread(PromisedHandle<ClientBack, ClientOf>),
     Here(ClientBack),
 }
 
 /// A pump's worker that was started, or what it gave back where it got no thread.
 #[derive(Drop)]
-pub(crate) enum StartedPump<'a> {
-    Thread(PromisedHandle<WorkSeat, PumpOf<'a>>),
+pub(crate) enum StartedPump {
+    Thread(PromisedHandle<WorkSeat, PumpOf>),
     Here(WorkSeat),
 }
 
 /// Room for what the workers give back.
 #[derive(Drop)]
-struct Lists<'a> {
-    clients: Vec<StartedClient<'a>>,
-    pumps: Vec<StartedPump<'a>>,
+struct Lists {
+    clients: Vec<StartedClient>,
+    pumps: Vec<StartedPump>,
     client_seats: Vec<ClientSeat>,
     pump_seats: Vec<WorkSeat>,
     replies: Vec<Replies>,
@@ -126,7 +127,7 @@ fn closed(alloc: Global, floor: &Floor, desk: Desk, seats: Seats) -> Option<Left
 }
 
 /// Room for what so many clients and pumps give back.
-fn make_lists<'h>(alloc: Global, clients: usize, pumps: usize) -> Result<Lists<'h>, AllocError>
+fn make_lists(alloc: Global, clients: usize, pumps: usize) -> Result<Lists, AllocError>
     ensures { IfOk result (HasRoomFor clients pumps) }
 {
     Ok(Lists {
@@ -147,7 +148,7 @@ fn worked<'h, R: Threads + Wait + Sync, G: Gate + Sync>(
     plan: Plan,
     clients: Vec<ClientPart>,
     pumps: Vec<PumpPart>,
-    lists: Lists<'h>,
+    lists: Lists,
 ) -> Backs
     requires clients { AreClientParts hall.now.desk hall.now.board clients.items }
     requires pumps { ArePumpParts hall.now.desk hall.now.board pumps.items }
@@ -165,7 +166,9 @@ fn worked<'h, R: Threads + Wait + Sync, G: Gate + Sync>(
             ensures clients { IsAllClientsOf hall.entry.now.desk result.seats.clients.items }
             ensures pumps { IsAllPumpsOf hall.entry.now.desk result.seats.pumps.items }
         {
-            started_and_joined(scope, rt, floor, hall, gate, plan, clients, pumps, lists)
+            let backs =
+                started_and_joined(scope, rt, floor, hall, gate, plan, clients, pumps, lists);
+            backs
         },
     )
 }
@@ -180,7 +183,7 @@ fn started_and_joined<'s, 'h: 's, E, R: Threads + Wait + Sync, G: Gate + Sync>(
     plan: Plan,
     clients: Vec<ClientPart>,
     pumps: Vec<PumpPart>,
-    lists: Lists<'h>,
+    lists: Lists,
 ) -> Backs
     requires clients { AreClientParts hall.now.desk hall.now.board clients.items }
     requires pumps { ArePumpParts hall.now.desk hall.now.board pumps.items }
@@ -216,18 +219,18 @@ fn start_clients<'s, 'h: 's, E, R: Wait + Sync, G: Gate + Sync>(
     gate: &'h G,
     rounds: u32,
     parts: Vec<ClientPart>,
-    mut hands: Vec<StartedClient<'h>>,
-) -> Vec<StartedClient<'h>>
+    mut hands: Vec<StartedClient>,
+) -> Vec<StartedClient>
     requires parts { AreClientParts hall.now.desk hall.now.board parts.items }
     requires room { (vec_len hands ≡ 0) × (hall.now.clients ≤ vec_capacity hands) }
     ensures { AreStartedClients hall.now.desk result.items }
 {
     for part in parts {
-        let desk = &hall.desk;
+        let desk = Snapshot::of(&hall.desk);
         let client = part.client;
         let work = move || -> ClientBack
             requires { IsClientPart hall.now.desk hall.now.board part }
-            ensures { IsSeatOfClient hall.entry.now.desk part.entry.client result.seat }
+            ensures { IsSeatOfClient hall.entry.now.desk part.client result.seat }
         { part.work(rt, floor, hall, gate, rounds) };
         let hand = match scope.spawn_with(ClientOf { desk, client }, work) {
             Ok(hand) => StartedClient::Thread(hand),
@@ -250,19 +253,19 @@ fn start_pumps<'s, 'h: 's, E, R: Wait + Sync, G: Gate + Sync>(
     hall: &'h Hall,
     gate: &'h G,
     parts: Vec<PumpPart>,
-    mut hands: Vec<StartedPump<'h>>,
-) -> Vec<StartedPump<'h>>
+    mut hands: Vec<StartedPump>,
+) -> Vec<StartedPump>
     requires parts { ArePumpParts hall.now.desk hall.now.board parts.items }
     requires room { (vec_len hands ≡ 0) × (hall.now.pumps ≤ vec_capacity hands) }
     ensures { AreStartedPumps hall.now.desk result.items }
 {
     let mut worker = hall.clients as u32;
     for part in parts {
-        let desk = &hall.desk;
+        let desk = Snapshot::of(&hall.desk);
         let pump = part.pump;
         let work = move || -> WorkSeat
             requires { IsPumpPart hall.now.desk hall.now.board part }
-            ensures { IsSeatOfPump hall.entry.now.desk part.entry.pump result }
+            ensures { IsSeatOfPump hall.entry.now.desk part.pump result }
         { part.work(rt, floor, hall, gate, worker) };
         let hand = match scope.spawn_with(PumpOf { desk, pump }, work) {
             Ok(hand) => StartedPump::Thread(hand),
@@ -311,7 +314,7 @@ impl Hall {
     fn joined_clients<R: Threads>(
         &self,
         rt: &R,
-        hands: Vec<StartedClient<'_>>,
+        hands: Vec<StartedClient>,
         mut seats: Vec<ClientSeat>,
         mut replies: Vec<Replies>,
     ) -> (Vec<ClientSeat>, Vec<Replies>)
@@ -338,7 +341,7 @@ impl Hall {
     fn joined_pumps<R: Threads>(
         &self,
         rt: &R,
-        hands: Vec<StartedPump<'_>>,
+        hands: Vec<StartedPump>,
         mut seats: Vec<WorkSeat>,
     ) -> Vec<WorkSeat>
         requires hands { AreStartedPumps self.now.desk hands.items }

@@ -7,10 +7,10 @@ use Rattle.uas_work.proofs.hall.Hall.client_parts.Given as goal
 
 abbrev pub invariant-loop-seat : goal.invariant-loop-seat
 invariant-loop-seat l =
-    let done = vec_len l.parts in let rest = l.seat-iterator in let hall = l.self.now in
+    let done = vec_len l.parts in let rest = l.seat-iterator in let hall = l.self in
     (done + into_iter_len rest ≡ hall.clients)
     × (l.client ≡ done)
-    × All (IsSeatOf hall.board) (vec_items l.bells.now)
+    × All (IsSeatOf hall.board) (vec_items l.bells)
     × ((k : ℕ) (d : _) → k < into_iter_len rest → IsNewCustomer hall.desk.table (done + k) (get_or (into_iter_items rest) k d))
     × ((k : ℕ) (d : _) → k < into_iter_len rest → IsClientOf hall.desk (get_or (into_iter_items rest) k d))
     × ((k : ℕ) (d : _) → k < done → IsClientPart hall.desk hall.board (get_or (vec_items l.parts) k d))

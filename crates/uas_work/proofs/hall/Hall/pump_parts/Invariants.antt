@@ -8,10 +8,10 @@ use Rattle.uas_work.proofs.hall.Hall.pump_parts.Given as goal
 
 abbrev pub invariant-loop-seat : goal.invariant-loop-seat
 invariant-loop-seat l =
-    let done = vec_len l.parts in let rest = l.seat-iterator in let hall = l.self.now in
+    let done = vec_len l.parts in let rest = l.seat-iterator in let hall = l.self in
     (done + into_iter_len rest ≡ hall.pumps)
     × (l.pump ≡ done)
-    × All (IsSeatOf hall.board) (vec_items l.bells.now)
+    × All (IsSeatOf hall.board) (vec_items l.bells)
     × ((k : ℕ) (d : _) → k < into_iter_len rest → IsServerBelow hall.desk (TAGS * hall.clients) (done + k) (get_or (into_iter_items rest) k d))
     × ((k : ℕ) (d : _) → k < into_iter_len rest → IsPumpOf hall.desk (get_or (into_iter_items rest) k d))
     × ((k : ℕ) (d : _) → k < done → IsPumpPart hall.desk hall.board (get_or (vec_items l.parts) k d))

@@ -4,3 +4,4 @@ pub mod Openings
 pub mod Holding
 pub mod Taking
 pub mod Numbers
+pub mod Rows

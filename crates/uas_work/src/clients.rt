@@ -17,7 +17,14 @@ use uas_profile::TAGS;
 
 impl ClientPart {
     /// Takes so many rounds, or as many as the workers are let take: what is left of the part.
-    pub(crate) fn work<R: Wait, G: Gate>(mut self, rt: &R, floor: &Floor, hall: &Hall, gate: &G, rounds: u32) -> ClientBack
+    pub(crate) fn work<R: Wait, G: Gate>(
+        mut self,
+        rt: &R,
+        floor: &Floor,
+        hall: &Hall,
+        gate: &G,
+        rounds: u32,
+    ) -> ClientBack
         requires { IsClientPart hall.now.desk hall.now.board self }
         ensures { IsSeatOfClient hall.now.desk self.client result.seat }
     {
@@ -29,13 +36,21 @@ impl ClientPart {
     }
 
     /// Takes so many rounds: whether it came to their end.
-    fn took_rounds<R: Wait, G: Gate>(&mut self, rt: &R, floor: &Floor, hall: &Hall, gate: &G, rounds: u32) -> bool
+    fn took_rounds<R: Wait, G: Gate>(
+        &mut self,
+        rt: &R,
+        floor: &Floor,
+        hall: &Hall,
+        gate: &G,
+        rounds: u32,
+    ) -> bool
         requires part { IsClientPart hall.now.desk hall.now.board self.old }
         ensures part { IsClientPart hall.now.desk hall.now.board self.new }
         ensures same { self.new.client ≡ self.old.client }
     {
         for round in 0..rounds {
-            if !self.took_half(rt, floor, hall, gate, round, Half::Write) || !self.took_half(rt, floor, hall, gate, round, Half::Read)
+            if !self.took_half(rt, floor, hall, gate, round, Half::Write)
+                || !self.took_half(rt, floor, hall, gate, round, Half::Read)
             {
                 return false;
             }
@@ -46,7 +61,10 @@ impl ClientPart {
     /// One half of a round, posted and looked for. Whether the client goes on.
     fn took_half<R: Wait, G: Gate>(
         &mut self,
-        rt: &R, floor: &Floor, hall: &Hall, gate: &G,
+        rt: &R,
+        floor: &Floor,
+        hall: &Hall,
+        gate: &G,
         round: u32,
         half: Half,
     ) -> bool
@@ -96,7 +114,14 @@ impl ClientPart {
     }
 
     /// The slip with which the pump finished a tag, looked for once a turn; none where all pumps ended and it wasn't finished.
-    fn awaited<R: Wait, G: Gate>(&mut self, rt: &R, floor: &Floor, hall: &Hall, gate: &G, tag: u16) -> Option<Slip>
+    fn awaited<R: Wait, G: Gate>(
+        &mut self,
+        rt: &R,
+        floor: &Floor,
+        hall: &Hall,
+        gate: &G,
+        tag: u16,
+    ) -> Option<Slip>
         requires part { IsClientPart hall.now.desk hall.now.board self.old }
         requires tag { IsTagOf self.old.client tag }
         ensures part { IsClientPart hall.now.desk hall.now.board self.new }

@@ -19,7 +19,14 @@ const MOST_QUIET: u32 = 15;
 
 impl PumpPart {
     /// Serves its clients until the workers end, and gives back every claim that it holds then.
-    pub(crate) fn work<R: Wait, G: Gate>(mut self, rt: &R, floor: &Floor, hall: &Hall, gate: &G, worker: u32) -> WorkSeat
+    pub(crate) fn work<R: Wait, G: Gate>(
+        mut self,
+        rt: &R,
+        floor: &Floor,
+        hall: &Hall,
+        gate: &G,
+        worker: u32,
+    ) -> WorkSeat
         requires { IsPumpPart hall.now.desk hall.now.board self }
         ensures { IsSeatOfPump hall.now.desk self.pump result }
     {
@@ -35,7 +42,14 @@ impl PumpPart {
     }
 
     /// Takes turns until the workers end.
-    fn took_turns<R: Wait, G: Gate>(&mut self, rt: &R, floor: &Floor, hall: &Hall, gate: &G, worker: u32)
+    fn took_turns<R: Wait, G: Gate>(
+        &mut self,
+        rt: &R,
+        floor: &Floor,
+        hall: &Hall,
+        gate: &G,
+        worker: u32,
+    )
         requires part { IsPumpPart hall.now.desk hall.now.board self.old }
         ensures part { IsPumpPart hall.now.desk hall.now.board self.new }
         ensures same { self.new.pump ≡ self.old.pump }
@@ -51,7 +65,11 @@ impl PumpPart {
                 continue;
             }
             let served = self.served_all(rt, floor, hall, gate);
-            quiet = if matches!(served, Ok(true)) { MOST_QUIET } else { 0 };
+            quiet = if matches!(served, Ok(true)) {
+                MOST_QUIET
+            } else {
+                0
+            };
             floor.rest(served);
         }
     }
@@ -72,7 +90,13 @@ impl PumpPart {
     }
 
     /// Serves each of its clients once, under the lock: whether a step was booked.
-    fn served_all<R: Wait, G: Gate>(&mut self, rt: &R, floor: &Floor, hall: &Hall, gate: &G) -> Result<bool, Booking>
+    fn served_all<R: Wait, G: Gate>(
+        &mut self,
+        rt: &R,
+        floor: &Floor,
+        hall: &Hall,
+        gate: &G,
+    ) -> Result<bool, Booking>
         requires part { IsPumpPart hall.now.desk hall.now.board self.old }
         ensures part { IsPumpPart hall.now.desk hall.now.board self.new }
         ensures same { self.new.pump ≡ self.old.pump }
@@ -91,7 +115,10 @@ impl PumpPart {
     /// Books what a client posted, and takes a reply of it that is ready and that the gate allows: whether a step was booked.
     fn served<R: Wait, G: Gate>(
         &mut self,
-        rt: &R, floor: &Floor, hall: &Hall, gate: &G,
+        rt: &R,
+        floor: &Floor,
+        hall: &Hall,
+        gate: &G,
         booked: &mut Booked,
         client: usize,
     ) -> Result<bool, Booking>

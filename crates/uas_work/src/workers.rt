@@ -166,8 +166,9 @@ fn worked<'h, R: Threads + Wait + Sync, G: Gate + Sync>(
             ensures clients { IsAllClientsOf hall.entry.now.desk result.seats.clients.items }
             ensures pumps { IsAllPumpsOf hall.entry.now.desk result.seats.pumps.items }
         {
-            let backs =
-                started_and_joined(scope, rt, floor, hall, gate, plan, clients, pumps, lists);
+            let backs = started_and_joined(
+                scope, rt, floor, hall, gate, plan, clients, pumps, lists,
+            );
             backs
         },
     )
@@ -198,8 +199,16 @@ fn started_and_joined<'s, 'h: 's, E, R: Threads + Wait + Sync, G: Gate + Sync>(
         pump_seats,
         replies,
     } = lists;
-    let client_hands =
-        start_clients(scope, rt, floor, hall, gate, plan.rounds, clients, client_hands);
+    let client_hands = start_clients(
+        scope,
+        rt,
+        floor,
+        hall,
+        gate,
+        plan.rounds,
+        clients,
+        client_hands,
+    );
     let pump_hands = start_pumps(scope, rt, floor, hall, gate, pumps, pump_hands);
     start_others(scope, rt, floor, hall, gate, plan.controllers);
     let (clients, replies) = hall.joined_clients(rt, client_hands, client_seats, replies);

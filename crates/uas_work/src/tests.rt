@@ -3,6 +3,7 @@ ghost use Rattle.std.specs.Prelude.{◌≡◌, ◌+◌, ◌<◌, ◌≤◌, ◌^
 ghost use Rattle.uas_work.specs.Booked.{IsNew};
 
 mod gates;
+mod slips;
 
 use crate::{Booked, Ended, Finished, Gate, Plan, PumpCount, Unhindered, spawn_all};
 use block_unit::Unit;

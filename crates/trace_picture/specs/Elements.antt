@@ -1,5 +1,5 @@
 -- The elements that a picture is made of: arrows, dots, bars and texts.
-use Rattle.std.specs.Prelude.{ℕ, ◌==◌, nat_le, nat_lt, ◌&&◌, if◌then◌else◌, List, [], ◌∷◌, ◌++◌, take, codes}
+use Rattle.std.specs.Prelude.{ℕ, ◌==◌, nat_le, nat_lt, Bool, not, ◌&&◌, if◌then◌else◌, List, [], ◌∷◌, ◌++◌, take, codes}
 use Rattle.std.specs.List.{flat_map}
 use Rattle.std.specs.Fmt.{decimal}
 use Rattle.trace_picture.specs.declared.elements.TheConstants.{MOST_WORDS}
@@ -28,8 +28,9 @@ bar_at x y height =
 unfoldable pub rule_at : ℕ → ℕ → List ℕ
 rule_at width y = codes "<rect class=\"rule\" height=\"1\"" ++ attribute (codes "y") y ++ attribute (codes "width") width ++ codes "/>"
 
--- TEXT: no byte of a line begins or ends an element
+-- TEXT
 
+-- a byte of a line, as text: a question mark where it is none of ASCII's printed ones
 unfoldable pub escaped_byte : ℕ → List ℕ
 escaped_byte byte =
     if byte == 38 then codes "&amp;"
@@ -39,6 +40,10 @@ escaped_byte byte =
 
 unfoldable pub escaped : List ℕ → List ℕ
 escaped bytes = flat_map escaped_byte bytes
+
+-- a printed byte that neither begins nor ends an element
+abbrev pub is_plain : ℕ → Bool
+is_plain byte = not (byte == 60) && (not (byte == 62) && (nat_le 32 byte && nat_le byte 126))
 
 unfoldable pub text_at : ℕ → ℕ → List ℕ
 text_at x y = codes "<text" ++ attribute (codes "x") x ++ attribute (codes "y") y ++ codes ">"

@@ -3,7 +3,7 @@ use Rattle.std.specs.Prelude.{ℕ, ◌+◌, ◌-◌, ◌/◌, ◌%◌, ◌^◌, 
 use Rattle.uas_profile.specs.declared.TheConstants.{TAGS}
 use Rattle.trace_picture.specs.declared.Held.{Held}
 use Rattle.trace_picture.specs.declared.Mark.{Mark}
-use Rattle.trace_picture.specs.declared.Mark.TheVariants.{Blank, Handed, Taken, OfTag, Hold, Heard, Step, Put, Doorbell, Unit as UnitMark, Chunk, Event, Release, Told, Other}
+use Rattle.trace_picture.specs.declared.Mark.TheVariants.{Blank, Handed, Taken, OfTag, Hold, Heard, Step, Event, Release, Told}
 use Rattle.trace_picture.specs.declared.Point.{Point}
 
 -- before the first line

@@ -1,7 +1,8 @@
 //! The elements that a picture is made of: arrows, dots, bars and texts.
 
-ghost use Rattle.std.specs.Prelude.{◌≡◌, ◌++◌, OnOk};
-ghost use Rattle.trace_picture.specs.Elements.{arrow, arrow_from, attribute, bar_at, dot, escaped, escaped_byte, rule_at, shown, text_at, words_at};
+ghost use Rattle.std.specs.Prelude.{◌≡◌, ◌++◌, IsTrue, OnOk};
+ghost use Rattle.std.specs.List.{list_all};
+ghost use Rattle.trace_picture.specs.Elements.{arrow, arrow_from, attribute, bar_at, dot, escaped, escaped_byte, is_plain, rule_at, shown, text_at, words_at};
 
 use std::alloc::{AllocError, Global};
 
@@ -135,10 +136,11 @@ fn shown(line: &[u8]) -> &[u8]
     &line[..MOST_WORDS.min(line.len())]
 }
 
-/// Adds bytes as the text of an element.
-#[tactic(auto, unfolding(crate::specs::Elements::escaped))]
+/// Adds bytes as the text of an element: none of them begins or ends one.
+#[tactic(auto, unfolding(crate::specs::Elements::escaped), using(crate::proofs::Plain::plain_escaped))]
 fn push_escaped(text: &mut Vec<u8>, bytes: &[u8]) -> Result<(), AllocError>
-    ensures { OnOk result (text.new.items ≡ text.old.items ++ escaped bytes.now) }
+    ensures text { OnOk result (text.new.items ≡ text.old.items ++ escaped bytes.now) }
+    ensures plain { IsTrue (list_all is_plain (escaped bytes.now)) }
 {
     for byte in bytes {
         push_escaped_byte(text, *byte)?;

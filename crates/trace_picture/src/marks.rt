@@ -1,6 +1,6 @@
 //! Of what kind a line of a trace is.
 
-ghost use Rattle.std.specs.Prelude.{◌≡◌, ◌≤◌, IfOk, IfSome, map, option_copied};
+ghost use Rattle.std.specs.Prelude.{◌≡◌, ◌≤◌, IfOk, IfSome, map};
 ghost use Rattle.std.specs.Str.{bytes_eq};
 ghost use Rattle.trace_picture.specs.Marks.{client_at, handed_mark, is_hosts_unit, mark_of, mark_of_words, hold_mark, number_at};
 ghost use Rattle.trace_picture.specs.Marks.{step_mark, tag_at, tag_mark, taken_mark, told_mark, unit_mark, written_mark};

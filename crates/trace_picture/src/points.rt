@@ -1,6 +1,6 @@
 //! Where a line stands: its row, whose step it is, and the pipe that is held.
 
-ghost use Rattle.std.specs.Prelude.{◌≡◌, ◌≤◌};
+ghost use Rattle.std.specs.Prelude.{◌≡◌};
 ghost use Rattle.trace_picture.specs.Points.{after, client_of, event_heard, event_posted, held_by, released, released_by, start, with_client};
 
 use crate::{Held, Mark, Point};

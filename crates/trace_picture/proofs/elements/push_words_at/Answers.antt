@@ -5,4 +5,4 @@ use Rattle.trace_picture.proofs.elements.push_words_at.Goals as goal
 pub returns : goal.returns
 unfolding words_at
 returns c =
-    rw (c.in_ok-extend_from_slice.ensures.items, c.in_ok-push_escaped.ensures, c.shown.ensures, c.in_ok-push_text_at.ensures) (simp append_assoc)
+    rw (c.in_ok-extend_from_slice.ensures.items, c.in_ok-push_escaped.ensures.text, c.shown.ensures, c.in_ok-push_text_at.ensures) (simp append_assoc)

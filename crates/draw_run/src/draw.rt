@@ -1,11 +1,10 @@
 //! The run `draw`.
 
-ghost use Rattle.std.specs.Prelude.{◌≡◌, ◌≤◌, ◌⊎◌, IsTrue, IsErr, IfOk, IfErr, OnOk, OnErr, IfSome};
+ghost use Rattle.std.specs.Prelude.{◌≡◌, ◌≤◌, ◌⊎◌, IsTrue, IsErr, IfErr, OnOk, IfSome};
 ghost use Rattle.std.specs.Io.KnownBytes.{Keeps, IsAtEnd};
 ghost use Rattle.byte_io.specs.Disks.{AreDisks};
 ghost use Rattle.uas_script.specs.Script.{script};
 ghost use Rattle.uas_replay.specs.Told.{zeroed_units};
-ghost use Rattle.uas_replay.specs.Runs.{StopsBy};
 ghost use Rattle.uas_trace.specs.Traced.{Traces};
 ghost use Rattle.draw_run.specs.Draws.{AppendsPicture, StopsDrawing};
 

@@ -13,7 +13,7 @@ use Rattle.trace_picture.specs.Elements.{arrow, bar_at, dot, rule_at, words_at}
 use Rattle.trace_picture.specs.Marks.{mark_of}
 use Rattle.trace_picture.specs.Points.{after}
 
--- PLACES, in points from the left and from the top
+-- PLACES, in pixels from the left and from the top
 
 unfoldable pub row_y : ℕ → ℕ
 row_y row = 80 + 20 * row

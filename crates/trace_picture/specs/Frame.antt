@@ -9,7 +9,7 @@ use Rattle.trace_picture.specs.declared.Point.{Point}
 use Rattle.trace_picture.specs.Drawn.{bar, colour_of, lane_x, row_y, width_of}
 use Rattle.trace_picture.specs.Elements.{attribute, text_at}
 
--- the size, in points
+-- the size, in pixels
 unfoldable pub size : ℕ → ℕ → List ℕ
 size width height =
     codes "<svg xmlns=\"http://www.w3.org/2000/svg\" role=\"img\"" ++ attribute (codes "width") width ++ attribute (codes "height") height ++ codes ">\n"

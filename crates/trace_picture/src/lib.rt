@@ -61,6 +61,7 @@ pub enum Mark {
 /// Who has a lane.
 #[derive(Clone, Copy, Debug, PartialEq, Eq)]
 pub enum Lane {
+    /// The client of a number.
     Client(u8),
     Host,
     Rings,
@@ -71,14 +72,18 @@ pub enum Lane {
 /// What a row has beside its words.
 #[derive(Clone, Copy, Debug, PartialEq, Eq)]
 pub enum Shape {
+    /// An arrow from lane to lane.
     Arrow { from: Lane, to: Lane },
+    /// A dot on a lane.
     Dot(Lane),
+    /// Its words alone.
     Nothing,
 }
 
 /// A pipe that is held.
 #[derive(Clone, Copy, Debug, PartialEq, Eq)]
 pub struct Held {
+    /// Its number.
     pub pipe: u8,
     /// The row of the step by which it is.
     pub since: u32,

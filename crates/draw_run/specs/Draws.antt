@@ -1,0 +1,19 @@
+-- What a run that is drawn writes, and when it gives up.
+use Rattle.std.specs.Prelude.{ℕ, Bool, IsTrue, List, Option}
+use Rattle.std.specs.Io.KnownBytes.{Appends, Keeps}
+use Rattle.uas_replay.specs.declared.status.RunFault.{RunFault}
+use Rattle.uas_replay.specs.declared.status.RunFault.TheVariants.{Image, ImageFile, Script, ScriptFile, NoMemory}
+use Rattle.trace_picture.specs.Picture.{picture_of}
+
+-- the picture of a trace, of so many clients, was added
+pub record AppendsPicture (clients : ℕ) (old new : Option (List ℕ)) : Type 0 where
+  pub trace : List ℕ
+  pub added : Appends old new (picture_of clients trace)
+
+-- a call that writes a picture gives up for want of memory, which leaves nothing written, or at a fault of the writer
+abbrev pub StopsDrawing : Bool → Option (List ℕ) → Option (List ℕ) → RunFault → Type 0
+StopsDrawing can_fail old new NoMemory = Keeps old new
+StopsDrawing can_fail old new ScriptFile = IsTrue can_fail
+StopsDrawing can_fail old new (Image fault) = ⊥
+StopsDrawing can_fail old new ImageFile = ⊥
+StopsDrawing can_fail old new (Script fault) = ⊥

@@ -1,0 +1,66 @@
+//! The run `draw`.
+
+ghost use Rattle.std.specs.Prelude.{◌≡◌, ◌≤◌, ◌⊎◌, IsTrue, IsErr, IfErr, OnOk, IfSome};
+ghost use Rattle.std.specs.Io.KnownBytes.{Keeps, IsAtEnd};
+ghost use Rattle.byte_io.specs.Disks.{AreDisks};
+ghost use Rattle.uas_script.specs.Script.{script};
+ghost use Rattle.uas_replay.specs.Told.{zeroed_units};
+ghost use Rattle.uas_trace.specs.Traced.{Traces};
+ghost use Rattle.draw_run.specs.Draws.{AppendsPicture, StopsDrawing};
+
+use byte_io::{BytesTaken, Disks, Sink, Source};
+use std::alloc::Global;
+use std::io::Write;
+use trace_picture::picture;
+use uas_replay::{COMMAND_FAILED, RunFault, output_fault};
+use uas_trace::run_trace;
+
+/// The run `draw`: reads a script of 1 to 15 clients, runs it on units of 1 to 65,536 zeroed blocks, of which one may be bad, and writes
+/// the picture of the run once it is done. It answers the exit status that `trace` answers.
+pub fn run_draw<S: Source, O: Sink, W: Write>(
+    alloc: Global,
+    disks: Disks,
+    reader: &mut S,
+    writer: &mut O,
+    faults: &mut W,
+) -> u8
+    requires { AreDisks disks }
+    ensures statuses { (result ≤ 1) ⊎ ((result ≡ 3) ⊎ (result ≡ 4)) }
+    ensures traced { result ≤ 1 → IfSome (S.left reader.old) (λ bytes.
+        Traces (zeroed_units disks.clients disks.blocks disks.bad) (script disks.clients bytes) result) }
+    ensures drawn { result ≤ 1 → AppendsPicture disks.clients (O.written writer.old) (O.written writer.new) }
+    ensures read { result ≤ 1 → IsAtEnd (S.left reader.new) }
+    ensures there { result ≤ 1 → IsTrue (S.is_there reader.old) }
+    ensures fault { result ≡ 3 →
+        ((IfSome (S.left reader.old) (λ bytes. IsErr (script disks.clients bytes)) ⊎ IsTrue (S.can_fail reader.old))
+        × Keeps (O.written writer.old) (O.written writer.new)) ⊎ IsTrue (O.can_fail writer.old) }
+    ensures memory { result ≡ 4 → Keeps (O.written writer.old) (O.written writer.new) }
+    ensures quiet { result ≤ 1 → faults.new ≡ faults.old }
+{
+    let mut trace = BytesTaken(Vec::new(alloc));
+    let status = run_trace(alloc, disks, reader, &mut trace, faults);
+    if status > COMMAND_FAILED {
+        return status;
+    }
+    let BytesTaken(text) = trace;
+    match write_picture(alloc, disks.clients as u8, &text, writer) {
+        Ok(()) => status,
+        Err(fault) => fault.tell(faults),
+    }
+}
+
+/// Writes the picture of a trace.
+fn write_picture<O: Sink>(
+    alloc: Global,
+    clients: u8,
+    trace: &[u8],
+    writer: &mut O,
+) -> Result<(), RunFault>
+    ensures drawn { OnOk result (AppendsPicture clients (O.written writer.old) (O.written writer.new)) }
+    ensures fault { IfErr result (StopsDrawing (O.can_fail writer.old) (O.written writer.old) (O.written writer.new)) }
+{
+    let Ok(picture) = picture(alloc, clients, trace) else {
+        return Err(RunFault::NoMemory);
+    };
+    writer.write(&picture).map_err(|fault| output_fault(fault))
+}

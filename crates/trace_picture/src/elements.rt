@@ -1,0 +1,167 @@
+//! The elements that a picture is made of: arrows, dots, bars and texts.
+
+ghost use Rattle.std.specs.Prelude.{◌≡◌, ◌++◌, IsTrue, OnOk};
+ghost use Rattle.std.specs.List.{list_all};
+ghost use Rattle.trace_picture.specs.Elements.{arrow, arrow_from, attribute, bar_at, dot, escaped, escaped_byte, is_plain, rule_at, shown, text_at, words_at};
+
+use std::alloc::{AllocError, Global};
+
+/// The most bytes of a line that are shown.
+pub const MOST_WORDS: usize = 120;
+
+/// Draws an arrow, its head at its end.
+#[tactic(auto, unfolding(crate::specs::Elements::arrow))]
+pub(crate) fn push_arrow(
+    alloc: Global,
+    text: &mut Vec<u8>,
+    from: u64,
+    to: u64,
+    y: u64,
+) -> Result<(), AllocError>
+    ensures { OnOk result (text.new.items ≡ text.old.items ++ arrow from to y) }
+{
+    push_arrow_from(alloc, text, from, to, y)?;
+    if from < to {
+        text.extend_from_slice(b"l-8-4v8l8-4z\"/>")
+    } else {
+        text.extend_from_slice(b"l8-4v8l-8-4z\"/>")
+    }
+}
+
+#[tactic(auto, unfolding(crate::specs::Elements::arrow_from))]
+fn push_arrow_from(
+    alloc: Global,
+    text: &mut Vec<u8>,
+    from: u64,
+    to: u64,
+    y: u64,
+) -> Result<(), AllocError>
+    ensures { OnOk result (text.new.items ≡ text.old.items ++ arrow_from from to y) }
+{
+    let drawn = format!(in alloc; "<path d=\"M{from} {y}H{to}")?;
+    text.extend_from_slice(drawn.as_bytes())
+}
+
+pub(crate) fn push_dot(alloc: Global, text: &mut Vec<u8>, x: u64, y: u64) -> Result<(), AllocError>
+    ensures { OnOk result (text.new.items ≡ text.old.items ++ dot x y) }
+{
+    text.extend_from_slice(b"<circle r=\"3\"")?;
+    push_attribute(alloc, text, "cx", x)?;
+    push_attribute(alloc, text, "cy", y)?;
+    text.extend_from_slice(b"/>")?;
+    Ok(())
+}
+
+#[tactic(auto, unfolding(crate::specs::Elements::bar_at))]
+pub(crate) fn push_bar_at(
+    alloc: Global,
+    text: &mut Vec<u8>,
+    x: u64,
+    y: u64,
+    height: u64,
+) -> Result<(), AllocError>
+    ensures { OnOk result (text.new.items ≡ text.old.items ++ bar_at x y height) }
+{
+    text.extend_from_slice(b"<rect class=\"held\" width=\"8\"")?;
+    push_attribute(alloc, text, "x", x)?;
+    push_attribute(alloc, text, "y", y)?;
+    push_attribute(alloc, text, "height", height)?;
+    text.extend_from_slice(b">")
+}
+
+#[tactic(auto, unfolding(crate::specs::Elements::rule_at))]
+pub(crate) fn push_rule_at(
+    alloc: Global,
+    text: &mut Vec<u8>,
+    width: u64,
+    y: u64,
+) -> Result<(), AllocError>
+    ensures { OnOk result (text.new.items ≡ text.old.items ++ rule_at width y) }
+{
+    text.extend_from_slice(b"<rect class=\"rule\" height=\"1\"")?;
+    push_attribute(alloc, text, "y", y)?;
+    push_attribute(alloc, text, "width", width)?;
+    text.extend_from_slice(b"/>")
+}
+
+/// Adds an attribute of an element.
+#[tactic(auto, unfolding(crate::specs::Elements::attribute))]
+pub(crate) fn push_attribute(
+    alloc: Global,
+    text: &mut Vec<u8>,
+    name: &str,
+    value: u64,
+) -> Result<(), AllocError>
+    ensures { OnOk result (text.new.items ≡ text.old.items ++ attribute name.now value) }
+{
+    let attribute = format!(in alloc; " {name}=\"{value}\"")?;
+    text.extend_from_slice(attribute.as_bytes())
+}
+
+pub(crate) fn push_words_at(
+    alloc: Global,
+    text: &mut Vec<u8>,
+    x: u64,
+    y: u64,
+    line: &[u8],
+) -> Result<(), AllocError>
+    ensures { OnOk result (text.new.items ≡ text.old.items ++ words_at x y line.now) }
+{
+    push_text_at(alloc, text, x, y)?;
+    push_escaped(text, shown(line))?;
+    text.extend_from_slice(b"</text>")?;
+    Ok(())
+}
+
+#[tactic(auto, unfolding(crate::specs::Elements::text_at))]
+pub(crate) fn push_text_at(
+    alloc: Global,
+    text: &mut Vec<u8>,
+    x: u64,
+    y: u64,
+) -> Result<(), AllocError>
+    ensures { OnOk result (text.new.items ≡ text.old.items ++ text_at x y) }
+{
+    text.extend_from_slice(b"<text")?;
+    push_attribute(alloc, text, "x", x)?;
+    push_attribute(alloc, text, "y", y)?;
+    text.extend_from_slice(b">")
+}
+
+/// The first bytes of a line.
+#[tactic(auto, unfolding(crate::specs::Elements::shown), using(std::proofs::lemmas::List::take_min))]
+fn shown(line: &[u8]) -> &[u8]
+    ensures { result.now ≡ shown line.entry.now }
+{
+    &line[..MOST_WORDS.min(line.len())]
+}
+
+/// Adds bytes as the text of an element: none of them begins or ends one.
+#[tactic(auto, unfolding(crate::specs::Elements::escaped), using(crate::proofs::Plain::plain_escaped))]
+fn push_escaped(text: &mut Vec<u8>, bytes: &[u8]) -> Result<(), AllocError>
+    ensures text { OnOk result (text.new.items ≡ text.old.items ++ escaped bytes.now) }
+    ensures plain { IsTrue (list_all is_plain (escaped bytes.now)) }
+{
+    for byte in bytes {
+        push_escaped_byte(text, *byte)?;
+    }
+    Ok(())
+}
+
+/// Adds a byte as text: a question mark where it is none of ASCII's printed ones.
+#[tactic(auto, unfolding(crate::specs::Elements::escaped_byte))]
+fn push_escaped_byte(text: &mut Vec<u8>, byte: u8) -> Result<(), AllocError>
+    ensures { OnOk result (text.new.items ≡ text.old.items ++ escaped_byte byte) }
+{
+    if byte == b'&' {
+        text.extend_from_slice(b"&amp;")
+    } else if byte == b'<' {
+        text.extend_from_slice(b"&lt;")
+    } else if byte == b'>' {
+        text.extend_from_slice(b"&gt;")
+    } else if 32 <= byte && byte <= 126 {
+        text.extend_from_slice(&[byte])
+    } else {
+        text.extend_from_slice(b"?")
+    }
+}

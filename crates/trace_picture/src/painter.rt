@@ -1,0 +1,62 @@
+//! The picture of a trace.
+
+ghost use Rattle.std.specs.Prelude.{◌≡◌, ◌++◌, IfOk, OnOk, map};
+ghost use Rattle.trace_picture.specs.Drawn.{drawn};
+ghost use Rattle.trace_picture.specs.Picture.{after_line, last, picture_of, rows_of};
+
+use crate::draw::push_drawn;
+use crate::frame::{push_foot, push_head};
+use crate::points::start;
+use crate::{Point, mark_of};
+use byte_io::pieces;
+use std::alloc::{AllocError, Global};
+
+/// The picture of a trace of so many clients.
+#[tactic(auto, unfolding(crate::specs::Picture::picture_of))]
+pub fn picture(alloc: Global, clients: u8, trace: &[u8]) -> Result<Vec<u8>, AllocError>
+    ensures { IfOk result (λ picture. picture.items ≡ picture_of clients trace.now) }
+{
+    let lines = pieces(alloc, trace)?;
+    let mut rows = Vec::new(alloc);
+    let last = push_rows(alloc, &mut rows, clients, &lines)?;
+    let mut picture = Vec::new(alloc);
+    push_head(alloc, &mut picture, clients, last.row)?;
+    picture.extend_from_slice(&rows)?;
+    push_foot(alloc, &mut picture, clients, last)?;
+    Ok(picture)
+}
+
+/// Draws each line where it stands, and answers where the picture ends.
+#[tactic(auto, unfolding(crate::specs::Picture::last, crate::specs::Picture::rows_of))]
+fn push_rows(
+    alloc: Global,
+    text: &mut Vec<u8>,
+    clients: u8,
+    lines: &[&[u8]],
+) -> Result<Point, AllocError>
+    ensures rows { OnOk result (text.new.items ≡ text.old.items ++ rows_of clients (map (λ line. line.now) lines.now)) }
+    ensures last { IfOk result (λ point. point ≡ last (map (λ line. line.now) lines.now)) }
+{
+    let mut point = start();
+    for line in lines {
+        point = push_line(alloc, text, clients, point, line)?;
+    }
+    Ok(point)
+}
+
+/// Draws a line where it stands, and answers where the next one stands.
+#[tactic(auto, unfolding(crate::specs::Drawn::drawn))]
+fn push_line(
+    alloc: Global,
+    text: &mut Vec<u8>,
+    clients: u8,
+    point: Point,
+    line: &[u8],
+) -> Result<Point, AllocError>
+    ensures row { OnOk result (text.new.items ≡ text.old.items ++ drawn clients point line.now) }
+    ensures next { IfOk result (λ next. next ≡ after_line point line.now) }
+{
+    let mark = mark_of(alloc, line)?;
+    push_drawn(alloc, text, clients, point, mark, line)?;
+    Ok(point.after(mark))
+}

@@ -33,9 +33,7 @@ fn body_fits(reply: &Reply) -> bool
             sense,
             buffer,
             ..
-        } => {
-            u64::from(*status) <= MOST_8 && sense_fits(sense.as_slice()) && buffer_fits(buffer)
-        }
+        } => { u64::from(*status) <= MOST_8 && sense_fits(sense.as_slice()) && buffer_fits(buffer) }
         Reply::Aborted { buffer, .. } => buffer_fits(buffer),
         Reply::Task { code, .. } => u64::from(*code) <= MOST_8,
     }

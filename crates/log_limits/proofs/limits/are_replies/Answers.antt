@@ -10,7 +10,9 @@ returns-then-replies-lt-ITEMS c =
     let fits = ReplyFits c.args.clients in
     let saved = with_client c.args.tags in
     let replies = c.args.replies.now in (
-      λ h. (recursion_from_All fits _ (All-map fits saved replies (c.all_replies.ensures.0 h)),
-          omega (arith, c.if-replies-lt-ITEMS.true, length-map saved replies)),
+      λ h. (
+        recursion_from_All fits _ (All-map fits saved replies (c.all_replies.ensures.0 h)),
+        omega (arith, c.if-replies-lt-ITEMS.true, length-map saved replies),
+      ),
       λ h. c.all_replies.ensures.1 (All-from_recursion (λ reply. fits (saved reply)) replies (all-map fits saved replies h.0)),
     )

@@ -3,7 +3,8 @@
 //! [`save_log`] writes a log's text, without its refused steps, and [`load_log`] reads one: a [`SavedLog`]. The text (`log_text` in
 //! specs/Text.antt) is the fields one behind the other, each number big endian; it has two versions, each with limits of its own
 //! (`IsWithin`), and a log has one text. Which fault a text has that is none is said by specs/Reading.antt, field by field.
-//! [`migrate`] brings a log of clients of 8 tags over to clients of 16.
+//! [`migrate`] brings a log of clients of 8 tags over to clients of 16. Whoever writes a text piece by piece has its parts: [`put_header`],
+//! [`put_units`], [`put`] for a count, [`put_step`] and [`put_reply`].
 //!
 //! ```text
 //!     UASLOG, version (2), tags of a client (1), clients (1)
@@ -34,12 +35,16 @@ mod write_steps;
 pub use lists::SavedReplies;
 pub use migration::migrate;
 pub use read_log::load_log;
-pub use saving::save_log;
+pub use saving::{kept_count, save_log, version_with};
 use scsi_cmd::Reply;
 use std::marker::Model;
 pub use text_laws::{saved_logs_load, texts_tell_apart};
 use thiserror::Error;
 use uas_log::{FirstUnits, Steps};
+pub use write_fields::put;
+pub use write_log::{put_header, put_units};
+pub use write_replies::put_reply;
+pub use write_steps::put_step;
 
 /// A version of a log's text, which has limits of its own.
 #[derive(Clone, Copy, Debug, PartialEq, Eq)]

@@ -18,7 +18,8 @@ use std::io;
 use std::io::Write;
 use uas_log::Log;
 
-fn version_with(tags: usize) -> Version
+/// The version whose clients have so many tags.
+pub fn version_with(tags: usize) -> Version
     ensures { result ≡ version_with tags }
 {
     if tags == 8 {
@@ -28,8 +29,8 @@ fn version_with(tags: usize) -> Version
     }
 }
 
-/// How many steps weren't refused.
-fn kept_count(steps: &[Step], refusals: &[u8]) -> usize
+/// How many steps weren't refused. Asks a refusal's number for each.
+pub fn kept_count(steps: &[Step], refusals: &[u8]) -> usize
     requires { length refusals.now ≡ length steps.now }
     ensures { result ≡ length (kept steps.now refusals.now) }
 {

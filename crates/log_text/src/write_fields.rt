@@ -10,7 +10,7 @@ use std::io::Write;
 
 /// A number of `len` bytes. Asks that it has room in them.
 #[tactic(auto, unfolding(crate::specs::Text::field))]
-pub(crate) fn put<W: Write>(out: &mut W, len: usize, number: u64) -> io::Result<()>
+pub fn put<W: Write>(out: &mut W, len: usize, number: u64) -> io::Result<()>
     requires some { 1 ≤ len }
     requires few { len ≤ 8 }
     requires small { number < 256 ^ len }

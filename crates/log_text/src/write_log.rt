@@ -20,7 +20,7 @@ use uas_profile::BLOCK_BYTES;
 const NAME: &[u8; 6] = b"UASLOG";
 
 /// Name, version and the version's number of tags.
-pub(crate) fn put_header<W: Write>(out: &mut W, version: Version) -> io::Result<()>
+pub fn put_header<W: Write>(out: &mut W, version: Version) -> io::Result<()>
     ensures { OnOk result (Wrote W.contents out.old out.new (header_text version)) }
 {
     put_bytes(out, NAME)?;
@@ -53,7 +53,7 @@ fn put_unit<W: Write>(out: &mut W, unit: &FirstUnit) -> io::Result<()>
 }
 
 /// The units behind their count.
-pub(crate) fn put_units<W: Write>(out: &mut W, units: &[FirstUnit]) -> io::Result<()>
+pub fn put_units<W: Write>(out: &mut W, units: &[FirstUnit]) -> io::Result<()>
     requires few { length units.now ≤ 31 }
     requires fit { AllByRecursion UnitFits units.now }
     ensures { OnOk result (Wrote W.contents out.old out.new (field 1 (length units.now) ++ flat_map unit_text units.now)) }

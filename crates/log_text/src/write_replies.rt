@@ -51,7 +51,7 @@ fn put_sense<W: Write>(out: &mut W, sense: &[u8]) -> io::Result<()>
 }
 
 /// A reply of a client. Asks one of at most 31 clients, and sense and a buffer that fit.
-pub(crate) fn put_reply<W: Write>(out: &mut W, client: usize, reply: &Reply) -> io::Result<()>
+pub fn put_reply<W: Write>(out: &mut W, client: usize, reply: &Reply) -> io::Result<()>
     requires { ReplyFits 31 (record { client = client; reply = reply.now }) }
     ensures { OnOk result (Wrote W.contents out.old out.new (reply_text (record { client = client; reply = reply.now }))) }
 {

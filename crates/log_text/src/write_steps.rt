@@ -182,7 +182,7 @@ fn put_body<W: Write>(out: &mut W, step: &Step) -> io::Result<()>
 }
 
 /// A step. Asks one of at most 31 clients, and a buffer that fits.
-pub(crate) fn put_step<W: Write>(out: &mut W, step: &Step) -> io::Result<()>
+pub fn put_step<W: Write>(out: &mut W, step: &Step) -> io::Result<()>
     requires { StepFits Version.Second 31 step.now }
     ensures { OnOk result (Wrote W.contents out.old out.new (step_text step.now)) }
 {

@@ -1,4 +1,5 @@
 mod NumberWords
 mod CommandLineFacts
 mod WalkSteps
+mod PlainNumbers
 mod PlainLines

@@ -1,12 +1,7 @@
 -- What the plain command lines ask for.
-use Rattle.std.proofs.Common.{◌≡◌, ◌∙◌, ◌<◌, ◌≤◌, ◌^◌, ◌&&◌, ℕ, ◌==◌, Bool, cond, not, true, false, true≢false, List, [], ◌∷◌, length, Option, Some, None}
-use Rattle.std.proofs.Common.{Result, Ok, Err, IfOk, option_map, refl, ap, ap₂, sym, subst, inl, inr, arith, lt-ltb}
-use Rattle.std.specs.Prelude.{codes, pos, nat_lt, nat_le, int_le, option_and_then, MatchResult}
-use Rattle.std.specs.List.{list_all}
-use Rattle.std.specs.Char.{digit_value}
-use Rattle.std.specs.Str.Parse.{AllDigits, digits_value}
-use Rattle.std.proofs.lemmas.Bool.{leb-true, le-leb, ne_eqb}
-use Rattle.std.proofs.lemmas.Str.Parse.{digit_from_value}
+use Rattle.std.proofs.Common.{◌≡◌, ◌∙◌, ℕ, ◌==◌, not, true, false, true≢false, List, [], ◌∷◌, Option, Some, None}
+use Rattle.std.proofs.Common.{Result, Ok, Err, IfOk, option_map, refl, ap, ap₂, sym, subst, inl, inr, arith}
+use Rattle.std.specs.Prelude.{codes, option_and_then, MatchResult}
 use Rattle.clap.specs.Words.{FailsBy, HasKind, Kinds, Text, fault_of, kind_of}
 use Rattle.clap.specs.declared.error.Error.{Error}
 use Rattle.clap.specs.declared.error.kind.ErrorKind.TheVariants.{OutOfMemory}
@@ -19,10 +14,10 @@ use Rattle.std.specs.Option.{option_map_or}
 use Rattle.std.specs.Prelude.{find}
 use Rattle.uas_profile.specs.declared.TheConstants.{MAX_CLIENTS}
 use Rattle.uas_words.specs.declared.Run.{Run}
-use Rattle.byte_io.specs.Words.{is_number, number_in, value_of}
-use Rattle.uas_words.specs.CommandLine.{Asked, AsksPlainly, AsksScript, asked_by, asked_for, asked_in, extent_from, program_app, refusals, script_of}
+use Rattle.byte_io.specs.Words.{number_in}
+use Rattle.uas_words.specs.CommandLine.{Asked, AsksPlainly, AsksScript, AsksWork, asked_by, asked_for, asked_in, extent_from, program_app, refusals, script_of}
 use Rattle.uas_words.specs.CommandLine.{decode, dump, fill, info, make, replay, trace, work}
-use Rattle.uas_words.proofs.NumberWords.{numeral-is_number, numerals}
+use Rattle.uas_words.proofs.PlainNumbers.{IsIn, not-true, number_is_in}
 use Rattle.uas_words.proofs.CommandLineFacts.{nothing_refused}
 use Rattle.uas_words.proofs.WalkSteps.{fault-bad, fault-end, fault-plain, fault-value, walked-bad, walked-plain, walked-value}
 
@@ -33,17 +28,6 @@ info_asks p d ds plain = simp plain
 info_passes : (p : Text) (d : ℕ) (ds : Text) → (d == 45) ≡ false → fault_of program_app (p ∷ codes "info" ∷ (d ∷ ds) ∷ []) ≡ []
 unfolding clap_on_literals
 info_passes p d ds plain = simp plain
-
--- a word of digits is a number in the range of the words' parser
-record IsIn (least most : ℕ) (d : ℕ) (ds : Text) : Type 0 where
-  hyphen : (d == 45) ≡ false
-  plus : (d == 43) ≡ false
-  some : nat_lt 0 (length (d ∷ ds)) ≡ true
-  first : nat_lt (digit_value d) 10 ≡ true
-  rest : list_all (λ x. nat_lt (digit_value x) 10) ds ≡ true
-  fits : nat_lt (digits_value 10 (d ∷ ds)) (2 ^ 63) ≡ true
-  low : int_le (pos least) (pos (digits_value 10 (d ∷ ds))) ≡ true
-  high : int_le (pos (digits_value 10 (d ∷ ds))) (pos most) ≡ true
 
 make_asks : (p : Text) (d : ℕ) (ds : Text) (e : ℕ) (es : Text) → (d == 45) ≡ false → (e == 45) ≡ false → (e == 43) ≡ false
     → asked_for (p ∷ codes "make" ∷ (d ∷ ds) ∷ (e ∷ es) ∷ []) ≡ option_map (make (d ∷ ds)) (number_in 1 65536 (e ∷ es))
@@ -80,13 +64,21 @@ work_enters : (a b : Text) → Enters (codes "work") (a ∷ b ∷ [])
 unfolding asked_for clap_on_literals
 work_enters a b p = (refl, refl)
 
+logged_enters : (a b c : Text) → Enters (codes "work") (a ∷ b ∷ c ∷ [])
+unfolding asked_for clap_on_literals
+logged_enters a b c p = (refl, refl)
+
 fill_enters : (a b c d : Text) → Enters (codes "fill") (a ∷ b ∷ c ∷ d ∷ [])
 unfolding asked_for clap_on_literals
 fill_enters a b c d p = (refl, refl)
 
+-- what the numbers of clients that work ask for
+abbrev worked_by_numbers : Option ℕ → Option ℕ → Option Text → Option Asked
+worked_by_numbers clients rounds log = option_and_then (λ c. option_map (λ r. work c r log) rounds) clients
+
 work_rows : (d : ℕ) (ds : Text) (e : ℕ) (es : Text) → (d == 45) ≡ false → (d == 43) ≡ false → (e == 45) ≡ false → (e == 43) ≡ false
     → asked_in (entered (built program_app) (Some (codes "work", (d ∷ ds) ∷ (e ∷ es) ∷ [])))
-    ≡ option_and_then (λ clients. option_map (work clients) (number_in 1 1000 (e ∷ es))) (number_in 1 MAX_CLIENTS (d ∷ ds))
+    ≡ worked_by_numbers (number_in 1 MAX_CLIENTS (d ∷ ds)) (number_in 1 1000 (e ∷ es)) None
 work_rows d ds e es hyphen plus hyphen' plus' =
     simp (walked-plain d ds hyphen, walked-plain e es hyphen') (simp hyphen (simp plus (simp hyphen' (simp plus'))))
 
@@ -97,6 +89,24 @@ work_faults d ds e es m n =
     simp (walked-plain d ds m.hyphen, walked-plain e es n.hyphen)
     (simp (fault-plain d ds m.hyphen, fault-plain e es n.hyphen, fault-end)
     (simp (m.hyphen, m.plus, m.some, m.first, m.rest, m.fits, m.low, m.high) (simp (n.hyphen, n.plus, n.some, n.first, n.rest, n.fits, n.low, n.high))))
+
+logged_rows : (d : ℕ) (ds : Text) (e : ℕ) (es : Text) (f : ℕ) (fs : Text) → (d == 45) ≡ false → (d == 43) ≡ false → (e == 45) ≡ false → (e == 43) ≡ false
+    → (f == 45) ≡ false → asked_in (entered (built program_app) (Some (codes "work", (d ∷ ds) ∷ (e ∷ es) ∷ (f ∷ fs) ∷ [])))
+    ≡ worked_by_numbers (number_in 1 MAX_CLIENTS (d ∷ ds)) (number_in 1 1000 (e ∷ es)) (Some (f ∷ fs))
+logged_rows d ds e es f fs hyphen plus hyphen' plus' plain =
+    simp (walked-plain d ds hyphen, walked-plain e es hyphen', walked-plain f fs plain) (simp (hyphen, plus) (simp (hyphen', plus')))
+
+logged_faults : (d : ℕ) (ds : Text) (e : ℕ) (es : Text) (f : ℕ) (fs : Text) → IsIn 1 MAX_CLIENTS d ds → IsIn 1 1000 e es → (f == 45) ≡ false
+    → entered_fault (built program_app) (Some (codes "work", (d ∷ ds) ∷ (e ∷ es) ∷ (f ∷ fs) ∷ [])) ≡ []
+unfolding defaults_fault
+logged_faults d ds e es f fs m n plain =
+    simp (walked-plain d ds m.hyphen, walked-plain e es n.hyphen, walked-plain f fs plain)
+    (simp (fault-plain d ds m.hyphen, fault-plain e es n.hyphen, fault-plain f fs plain, fault-end)
+    (simp (m.hyphen, m.plus, m.some, m.first, m.rest, m.fits, m.low, m.high) (simp (n.hyphen, n.plus, n.some, n.first, n.rest, n.fits, n.low, n.high))))
+
+worked_asks : (clients rounds : ℕ) (log : Option Text) (a b : Option ℕ) → a ≡ Some clients → b ≡ Some rounds
+    → worked_by_numbers a b log ≡ Some (work clients rounds log)
+worked_asks clients rounds log a b p q = rw (p, q) refl
 
 -- what is asked for of an extent, by its two numbers
 extent-dumped : (file : Text) (lba count : Option ℕ)
@@ -283,51 +293,6 @@ numbers_ask : (run : ℕ → ℕ → Option ℕ → Asked) (clients blocks : ℕ
     → a ≡ Some clients → b ≡ Some blocks → c ≡ Some bad → asked_by_numbers run a b c ≡ Some (run clients blocks bad)
 numbers_ask run clients blocks bad a b c p q r = rw (p, q, r) refl
 
-not-true : (b : Bool) → not b ≡ true → b ≡ false
-not-true true is = sym is
-not-true false is = refl
-
--- what a number in a range is
-number_in-Some : (least most n : ℕ) (text : Text) → number_in least most text ≡ Some n
-    → (is_number text ≡ true) × (least ≤ value_of text) × (value_of text ≤ most)
-number_in-Some least most n text is = go (is_number text) refl (nat_le least (value_of text)) refl (nat_le (value_of text) most) refl is
-  where
-    go : (a : Bool) → is_number text ≡ a → (b : Bool) → nat_le least (value_of text) ≡ b → (c : Bool) → nat_le (value_of text) most ≡ c
-        → cond (a && (b && c)) (Some (value_of text)) None ≡ Some n → (is_number text ≡ true) × (least ≤ value_of text) × (value_of text ≤ most)
-    go true x true y true z e = (x, leb-true least (value_of text) y, leb-true (value_of text) most z)
-    go false x b y c z e = cc
-    go true x false y c z e = cc
-    go true x true y false z e = cc
-
-digits_pass : (ds : Text) → AllDigits 10 ds → list_all (λ x. nat_lt (digit_value x) 10) ds ≡ true
-digits_pass [] h = refl
-digits_pass (d ∷ ds) h = rw (lt-ltb (digit_value d) 10 h.0) (digits_pass ds h.1)
-
-in_range : (least most n d : ℕ) (ds : Text) → most < 2 ^ 63 → (is_number (d ∷ ds) ≡ true) × (least ≤ value_of (d ∷ ds)) × (value_of (d ∷ ds) ≤ most)
-    → IsIn least most d ds
-in_range least most n d ds small h =
-    let numeral = numeral-is_number (d ∷ ds) h.0 in
-    let range = digit_from_value d numeral.1.0 in
-    let same : value_of (d ∷ ds) ≡ digits_value 10 (d ∷ ds) = numerals.same (d ∷ ds) numeral.1 in
-    record {
-      hyphen = ne_eqb d 45 (λ e. omega (arith, range));
-      plus = ne_eqb d 43 (λ e. omega (arith, range));
-      some = lt-ltb 0 (length (d ∷ ds)) numeral.0;
-      first = lt-ltb (digit_value d) 10 numeral.1.0;
-      rest = digits_pass ds numeral.1.1;
-      fits = lt-ltb _ _ (omega (arith, same, h.2));
-      low = le-leb _ _ (omega (arith, same, h.1));
-      high = le-leb _ _ (omega (arith, same, h.2));
-    }
-
--- a number has a first digit, which is no sign
-number_is_in : (least most n : ℕ) (text : Text) → most < 2 ^ 63 → number_in least most text ≡ Some n
-    → (d : ℕ) × (ds : Text) × (text ≡ d ∷ ds) × IsIn least most d ds
-number_is_in least most n [] small is =
-    let none : number_in least most [] ≡ None = refl in
-    cc
-number_is_in least most n (d ∷ ds) small is = (d, ds, refl, in_range least most n d ds small (number_in-Some least most n (d ∷ ds) is))
-
 -- CLIENTS BLOCKS, and --bad LBA behind them
 abbrev EntersScript : Text → Type 0
 EntersScript name = ((a b : Text) → Enters name (a ∷ b ∷ [])) × ((a b c d : Text) → Enters name (a ∷ b ∷ c ∷ d ∷ []))
@@ -383,23 +348,37 @@ script_asked name run it clients blocks (Some bad) words plain =
           ∙ ap (λ (k : Kinds). or_else k []) (it.faults (with_bad m.0 m.1 n.0 n.1 o.0 o.1) ∙ bad_faults name m.0 m.1 n.0 n.1 o.0 o.1 m.3 n.3 o.3)),
     )
 
+-- the plain words of clients that work ask for that, and are not refused
+work_asked : (clients rounds : ℕ) (log : Option Text) (words : List Text) → AsksWork clients rounds log words
+    → (asked_for words ≡ Some (work clients rounds log)) × (fault_of program_app words ≡ [])
+work_asked clients rounds None words plain =
+    let m = number_is_in 1 MAX_CLIENTS clients plain.1 (omega arith) plain.4 in
+    let n = number_is_in 1 1000 rounds plain.2 (omega arith) plain.5 in
+    let is : words ≡ plain.0 ∷ codes "work" ∷ (m.0 ∷ m.1) ∷ (n.0 ∷ n.1) ∷ [] =
+    plain.3 ∙ ap₂ (λ (a b : Text). plain.0 ∷ codes "work" ∷ a ∷ b ∷ []) m.2 n.2 in (
+      ap asked_for is ∙ ((work_enters (m.0 ∷ m.1) (n.0 ∷ n.1) plain.0).0 ∙ (work_rows m.0 m.1 n.0 n.1 m.3.hyphen m.3.plus n.3.hyphen n.3.plus
+          ∙ worked_asks clients rounds None _ _ (ap (number_in 1 MAX_CLIENTS) (sym m.2) ∙ plain.4) (ap (number_in 1 1000) (sym n.2) ∙ plain.5))),
+      ap (fault_of program_app) is ∙ ((work_enters (m.0 ∷ m.1) (n.0 ∷ n.1) plain.0).1 ∙ ap (λ (k : Kinds). or_else k []) (work_faults m.0 m.1 n.0 n.1 m.3 n.3)),
+    )
+work_asked clients rounds (Some []) words plain = absurd (true≢false (sym plain.4))
+work_asked clients rounds (Some (d ∷ ds)) words plain =
+    let m = number_is_in 1 MAX_CLIENTS clients plain.1 (omega arith) plain.5 in
+    let n = number_is_in 1 1000 rounds plain.2 (omega arith) plain.6 in
+    let hyphen : (d == 45) ≡ false = not-true (d == 45) plain.4 in
+    let is : words ≡ plain.0 ∷ codes "work" ∷ (m.0 ∷ m.1) ∷ (n.0 ∷ n.1) ∷ (d ∷ ds) ∷ [] =
+    plain.3 ∙ ap₂ (λ (a b : Text). plain.0 ∷ codes "work" ∷ a ∷ b ∷ (d ∷ ds) ∷ []) m.2 n.2 in (
+      ap asked_for is ∙ ((logged_enters (m.0 ∷ m.1) (n.0 ∷ n.1) (d ∷ ds) plain.0).0
+          ∙ (logged_rows m.0 m.1 n.0 n.1 d ds m.3.hyphen m.3.plus n.3.hyphen n.3.plus hyphen
+          ∙ worked_asks clients rounds (Some (d ∷ ds)) _ _ (ap (number_in 1 MAX_CLIENTS) (sym m.2) ∙ plain.5) (ap (number_in 1 1000) (sym n.2) ∙ plain.6))),
+      ap (fault_of program_app) is ∙ ((logged_enters (m.0 ∷ m.1) (n.0 ∷ n.1) (d ∷ ds) plain.0).1
+          ∙ ap (λ (k : Kinds). or_else k []) (logged_faults m.0 m.1 n.0 n.1 d ds m.3 n.3 hyphen)),
+    )
+
 -- the program asks for what its words plainly ask for, and refuses nothing
 pub plain_asks : (asked : Asked) (words : List Text) → AsksPlainly asked words → (asked_for words ≡ Some asked) × (fault_of program_app words ≡ [])
 plain_asks (replay clients blocks bad) words plain = script_asked (codes "replay") replay replay_is_script clients blocks bad words plain
 plain_asks (trace clients blocks bad) words plain = script_asked (codes "trace") trace trace_is_script clients blocks bad words plain
-plain_asks (work clients rounds) words plain =
-    let m = number_is_in 1 MAX_CLIENTS clients plain.1 (omega arith) plain.4 in
-    let n = number_is_in 1 1000 rounds plain.2 (omega arith) plain.5 in
-    let is : words ≡ plain.0 ∷ codes "work" ∷ (m.0 ∷ m.1) ∷ (n.0 ∷ n.1) ∷ [] =
-    plain.3 ∙ ap₂ (λ (a b : Text). plain.0 ∷ codes "work" ∷ a ∷ b ∷ []) m.2 n.2 in
-    let first : number_in 1 MAX_CLIENTS (m.0 ∷ m.1) ≡ Some clients = ap (number_in 1 MAX_CLIENTS) (sym m.2) ∙ plain.4 in
-    let second : number_in 1 1000 (n.0 ∷ n.1) ≡ Some rounds = ap (number_in 1 1000) (sym n.2) ∙ plain.5 in (
-      ap asked_for is ∙ ((work_enters (m.0 ∷ m.1) (n.0 ∷ n.1) plain.0).0
-          ∙ (work_rows m.0 m.1 n.0 n.1 m.3.hyphen m.3.plus n.3.hyphen n.3.plus
-          ∙ (ap (option_and_then (λ many. option_map (work many) (number_in 1 1000 (n.0 ∷ n.1)))) first ∙ ap (option_map (work clients)) second))),
-      ap (fault_of program_app) is ∙ ((work_enters (m.0 ∷ m.1) (n.0 ∷ n.1) plain.0).1
-          ∙ ap (λ (k : Kinds). or_else k []) (work_faults m.0 m.1 n.0 n.1 m.3 n.3)),
-    )
+plain_asks (work clients rounds log) words plain = work_asked clients rounds log words plain
 plain_asks decode words plain = (ap asked_for plain.1 ∙ decode_asks plain.0, ap (fault_of program_app) plain.1 ∙ decode_passes plain.0)
 plain_asks (make [] blocks) words plain = absurd (true≢false (sym plain.3))
 plain_asks (make (d ∷ ds) blocks) words plain =

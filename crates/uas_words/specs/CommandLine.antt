@@ -17,13 +17,13 @@ use Rattle.uas_words.specs.declared.Run.TheVariants.{Replay, Trace, Work, Decode
 use Rattle.byte_io.specs.Words.{number_in}
 
 -- What is asked for, with a file's name as its text: to run a script of so many clients and blocks, and of the block that is bad in
--- every unit, if one is; to run one and show its steps; to let so many clients work for so many rounds; to tell what lines of bytes
--- say; to make an image of so many blocks, to tell the size of one, to print its
+-- every unit, if one is; to run one and show its steps; to let so many clients work for so many rounds, and to save their log in a
+-- file, if one is named; to tell what lines of bytes say; to make an image of so many blocks, to tell the size of one, to print its
 -- blocks from a number on, so many of them, or to fill them with a byte.
 pub data Asked : Type 0 where
   replay : ℕ → ℕ → Option ℕ → Asked
   trace : ℕ → ℕ → Option ℕ → Asked
-  work : ℕ → ℕ → Asked
+  work : ℕ → ℕ → Option Text → Asked
   decode : Asked
   make : Text → ℕ → Asked
   info : Text → Asked
@@ -33,7 +33,7 @@ pub data Asked : Type 0 where
 abbrev pub asked_by : Run → Asked
 asked_by (Replay disks) = replay disks.clients disks.blocks disks.bad
 asked_by (Trace disks) = trace disks.clients disks.blocks disks.bad
-asked_by (Work clients rounds) = work clients rounds
+asked_by (Work clients rounds log) = work clients rounds (option_map (λ name. name.now) log)
 asked_by Decode = decode
 asked_by (Make file blocks) = make file.now blocks
 asked_by (Info file) = info file.now
@@ -100,9 +100,13 @@ abbrev pub script_of : (ℕ → ℕ → Option ℕ → Asked) → List Row → O
 script_of run rows =
     option_and_then (λ clients. option_and_then (λ blocks. option_map (run clients blocks) (bad_of rows)) (blocks_of rows)) (clients_of rows)
 
--- CLIENTS ROUNDS
+-- LOG is any text, and may stand or not
+abbrev pub log_of : List Row → Option Text
+log_of rows = first_of (codes "LOG") rows
+
+-- CLIENTS ROUNDS [LOG]
 abbrev pub work_of : List Row → Option Asked
-work_of rows = option_and_then (λ clients. option_map (work clients) (rounds_of rows)) (clients_of rows)
+work_of rows = option_and_then (λ clients. option_map (λ rounds. work clients rounds (log_of rows)) (rounds_of rows)) (clients_of rows)
 
 -- so many blocks from this one on
 abbrev pub extent_from : ℕ → ℕ → Extent
@@ -147,6 +151,10 @@ required_rule name = record (new_rule name) { required = true; action = Some Set
 abbrev pub file_rule : Rule
 file_rule = required_rule (codes "FILE")
 
+-- the file of a log, which may be left out
+abbrev pub log_rule : Rule
+log_rule = record (new_rule (codes "LOG")) { action = Some Set }
+
 -- a number from `least` to `most`
 abbrev pub number_rule : Text → ℕ → ℕ → Rule
 number_rule name least most = record (required_rule name) { parser = Some (parser.Signed (pos least) (pos most)) }
@@ -188,9 +196,9 @@ replay_app = with_disks (new_app (codes "replay"))
 abbrev pub trace_app : App
 trace_app = with_disks (new_app (codes "trace"))
 
--- work CLIENTS ROUNDS
+-- work CLIENTS ROUNDS [LOG]
 abbrev pub work_app : App
-work_app = with_rule (with_rule (new_app (codes "work")) clients_rule) rounds_rule
+work_app = with_rule (with_rule (with_rule (new_app (codes "work")) clients_rule) rounds_rule) log_rule
 
 -- decode
 abbrev pub decode_app : App
@@ -250,12 +258,18 @@ AsksScript name clients blocks (Some bad) words =
     (program first second third : Text) × (words ≡ program ∷ name ∷ first ∷ second ∷ codes "--bad" ∷ third ∷ [])
     × (number_in 1 MAX_CLIENTS first ≡ Some clients) × (number_in 1 MAX_BLOCKS second ≡ Some blocks) × (number_in 0 last_block third ≡ Some bad)
 
+-- the words ask to let clients work: `work CLIENTS ROUNDS`, or `work CLIENTS ROUNDS LOG`
+abbrev pub AsksWork : ℕ → ℕ → Option Text → List Text → Type 0
+AsksWork clients rounds None words = (program first second : Text) × (words ≡ program ∷ codes "work" ∷ first ∷ second ∷ [])
+    × (number_in 1 MAX_CLIENTS first ≡ Some clients) × (number_in 1 max_rounds second ≡ Some rounds)
+AsksWork clients rounds (Some log) words = (program first second : Text) × (words ≡ program ∷ codes "work" ∷ first ∷ second ∷ log ∷ [])
+    × (is_plain_name log ≡ true) × (number_in 1 MAX_CLIENTS first ≡ Some clients) × (number_in 1 max_rounds second ≡ Some rounds)
+
 -- The words ask for a run in their plain form: a subcommand and its arguments, each number in decimal digits, and an option after them.
 abbrev pub AsksPlainly : Asked → List Text → Type 0
 AsksPlainly (replay clients blocks bad) words = AsksScript (codes "replay") clients blocks bad words
 AsksPlainly (trace clients blocks bad) words = AsksScript (codes "trace") clients blocks bad words
-AsksPlainly (work clients rounds) words = (program first second : Text) × (words ≡ program ∷ codes "work" ∷ first ∷ second ∷ [])
-    × (number_in 1 MAX_CLIENTS first ≡ Some clients) × (number_in 1 max_rounds second ≡ Some rounds)
+AsksPlainly (work clients rounds log) words = AsksWork clients rounds log words
 AsksPlainly decode words = (program : Text) × (words ≡ program ∷ codes "decode" ∷ [])
 AsksPlainly (make file blocks) words = (program second : Text) × (words ≡ program ∷ codes "make" ∷ file ∷ second ∷ [])
     × (is_plain_name file ≡ true) × (number_in 1 MAX_BLOCKS second ≡ Some blocks)
@@ -273,7 +287,7 @@ AsksPlainly (fill file lba count byte) words =
 abbrev pub MayEndRun : Asked → ℕ → Type 0
 MayEndRun (replay clients blocks bad) status = (status ≤ 1) ⊎ ((status ≡ 3) ⊎ (status ≡ 4))
 MayEndRun (trace clients blocks bad) status = (status ≤ 1) ⊎ ((status ≡ 3) ⊎ (status ≡ 4))
-MayEndRun (work clients rounds) status = (status ≤ 1) ⊎ ((status ≡ 3) ⊎ (status ≡ 4))
+MayEndRun (work clients rounds log) status = (status ≤ 1) ⊎ ((status ≡ 3) ⊎ (status ≡ 4))
 MayEndRun decode status = (status ≤ 1) ⊎ ((status ≡ 3) ⊎ (status ≡ 4))
 MayEndRun (make file blocks) status = (status ≡ 0) ⊎ ((status ≡ 3) ⊎ (status ≡ 4))
 MayEndRun (info file) status = (status ≡ 0) ⊎ ((status ≡ 3) ⊎ (status ≡ 4))

@@ -21,7 +21,7 @@ AreRounds rounds = (1 ≤ rounds) × (rounds ≤ 1000)
 abbrev pub IsInRange : Run → Type 0
 IsInRange (Replay disks) = AreDisks disks × IfSome disks.bad IsBlock
 IsInRange (Trace disks) = AreDisks disks × IfSome disks.bad IsBlock
-IsInRange (Work clients rounds) = AreClients clients × AreRounds rounds
+IsInRange (Work clients rounds log) = AreClients clients × AreRounds rounds
 IsInRange Decode = Unit {0}
 IsInRange (Make file blocks) = AreBlocks blocks
 IsInRange (Info file) = Unit {0}

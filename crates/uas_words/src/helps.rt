@@ -24,14 +24,20 @@ Example:
 pub(crate) const ROUNDS_HELP: &str =
     "How many rounds each client takes, a WRITE and a READ of the same 8 blocks: 1 to 1000";
 
+pub(crate) const LOG_HELP: &str =
+    "A file that the log is saved in, in place of one that is there; each client is audited then";
+
 /// What `work` does, and an example.
 pub(crate) const WORK_HELP: &str = "\
 Each client has a unit of 64 blocks and a thread of its own. In round r, from 0 on, client c fills 8 blocks from block
 8 (r mod 8) on with the byte (16 c + r) mod 256 and reads them back. Of each client a line is printed, by number:
   client C writes R reads R equal E         R ended GOOD, E of the reads brought what had been written
+With LOG a second line follows of each client, by number, and then the log is saved in that file:
+  audit C true                              its replies are those of a disk that it had alone; else false
 
-Example:
-  uasdisk work 4 3";
+Examples:
+  uasdisk work 4 3
+  uasdisk work 4 3 work.log";
 
 /// What `decode` reads, and an example.
 pub(crate) const DECODE_HELP: &str = "\

@@ -11,17 +11,17 @@ ghost use Rattle.clap.specs.Words.{FailsBy, app_of, found_of, kind_of, one_of, r
 ghost use Rattle.byte_io.specs.Disks.{AreBlocks, AreClients, AreDisks};
 ghost use Rattle.uas_words.specs.Options.{IsBlock, IsInRange, IsMoved};
 ghost use Rattle.uas_words.specs.CommandLine.{Asked, AsksPlainly, asked_by, asked_for, asked_in, bad_of, blocks_of, clients_of, decode_app};
-ghost use Rattle.uas_words.specs.CommandLine.{dump_app, dump_of, extent_of, file_of, fill_app, fill_of, info_app, make_app, number_of};
+ghost use Rattle.uas_words.specs.CommandLine.{dump_app, dump_of, extent_of, file_of, fill_app, fill_of, info_app, log_of, make_app, number_of};
 ghost use Rattle.uas_words.specs.CommandLine.{program_app, refusals, replay_app, script_of, top_app, trace_app, with_disks, with_extent, work_app, work_of};
 
 mod arguments;
 mod helps;
 
-use arguments::{bad, blocks, file, number};
+use arguments::{bad, blocks, file, log, number};
 use byte_io::{Disks, Extent};
 use clap::error::ErrorKind;
 use clap::{ArgMatches, Command, Error};
-use helps::{BYTE_HELP, DECODE_HELP, LBA_HELP, ROUNDS_HELP, SCRIPT_HELP, WORK_HELP};
+use helps::{BYTE_HELP, DECODE_HELP, LBA_HELP, LOG_HELP, ROUNDS_HELP, SCRIPT_HELP, WORK_HELP};
 use std::alloc::{AllocError, Global};
 use uas_profile::{CLIENTS_HELP, MAX_BLOCKS, MAX_CLIENTS, MOST_BLOCKS_MOVED};
 
@@ -60,10 +60,11 @@ pub enum Run<'a> {
     Replay(Disks),
     /// Run a script as `Replay` does, and show each step.
     Trace(Disks),
-    /// Let 1 to 15 clients work in threads, 1 to 1,000 rounds each.
+    /// Let 1 to 15 clients work in threads, 1 to 1,000 rounds each. Where a file is named for the log, audit them and save it there.
     Work {
         clients: usize,
         rounds: u32,
+        log: Option<&'a str>,
     },
     /// Tell what lines of bytes on standard input say.
     Decode,
@@ -177,7 +178,8 @@ fn work_command<'a>(alloc: Global) -> Result<Command<'a>, AllocError>
         .about("Lets clients write and read in threads, and counts what they read")
         .after_help(WORK_HELP)
         .arg(number(alloc, "CLIENTS", 1, MOST_CLIENTS, CLIENTS_HELP))?
-        .arg(number(alloc, "ROUNDS", 1, MAX_ROUNDS, ROUNDS_HELP))
+        .arg(number(alloc, "ROUNDS", 1, MAX_ROUNDS, ROUNDS_HELP))?
+        .arg(log(alloc, LOG_HELP))
 }
 
 fn decode_command<'a>(alloc: Global) -> Command<'a>
@@ -283,7 +285,19 @@ fn work_in<'a>(words: &ArgMatches<'a>) -> Option<Run<'a>>
 {
     let clients = clients_in(words)?;
     let rounds = number_in(words, "ROUNDS", 1, MAX_ROUNDS)?;
-    Some(Run::Work { clients, rounds })
+    let log = log_in(words);
+    Some(Run::Work {
+        clients,
+        rounds,
+        log,
+    })
+}
+
+/// The file of a log, where one is named.
+fn log_in<'a>(words: &ArgMatches<'a>) -> Option<&'a str>
+    ensures { option_map (λ log. log.now) result ≡ log_of (rows_of (found_of words.now)) }
+{
+    words.get_str("LOG")
 }
 
 fn clients_in(words: &ArgMatches<'_>) -> Option<usize>

@@ -1,1 +1,3 @@
 mod Units
+mod Accounts
+mod GivingUp

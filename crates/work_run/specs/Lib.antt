@@ -1,2 +1,4 @@
 pub mod Tallies
 pub mod WorkEnds
+pub mod Audits
+pub mod SavedEnds

@@ -6,7 +6,7 @@ use Rattle.scsi_cmd.specs.declared.Reply.{Reply}
 use Rattle.uas_replay.specs.declared.status.RunFault.TheVariants.{Image, ImageFile, Script, ScriptFile, NoMemory}
 use Rattle.uas_replay.specs.Runs.{status_of as run_status_of}
 use Rattle.work_run.specs.declared.faults.WorkFault.{WorkFault}
-use Rattle.work_run.specs.declared.faults.WorkFault.TheVariants.{LogFull, Run}
+use Rattle.work_run.specs.declared.faults.WorkFault.TheVariants.{LogFull, LogFile, Run}
 use Rattle.work_run.specs.Tallies.{all_whole, tallies_of, work_text}
 
 -- so many units of 64 zeroed blocks, none of them bad
@@ -34,11 +34,13 @@ pub record WorkEnds (clients rounds : ℕ) (can_fail : Bool) (old new : Option (
 -- the exit status of a fault
 abbrev pub status_of : WorkFault → ℕ
 status_of LogFull = 4
+status_of LogFile = 3
 status_of (Run fault) = run_status_of fault
 
 -- A run gives up for want of memory or at a full log, with nothing printed; or at a fault of standard output, where that can fail.
 abbrev pub GivesUp : Bool → Option (List ℕ) → Option (List ℕ) → WorkFault → Type 0
 GivesUp can_fail old new LogFull = Keeps old new
+GivesUp can_fail old new LogFile = ⊥
 GivesUp can_fail old new (Run (Image fault)) = ⊥
 GivesUp can_fail old new (Run ImageFile) = ⊥
 GivesUp can_fail old new (Run (Script fault)) = ⊥

@@ -5,7 +5,7 @@ ghost use Rattle.work_run.specs.WorkEnds.{status_of};
 
 use std::io::Write;
 use thiserror::Error;
-use uas_replay::{NO_MEMORY, RunFault};
+use uas_replay::{FAULT, NO_MEMORY, RunFault};
 
 /// Why the run gave up.
 #[derive(Clone, Copy, Debug, PartialEq, Eq, Error)]
@@ -13,6 +13,9 @@ pub(crate) enum WorkFault {
     /// The log holds as many steps as it may.
     #[error("log full")]
     LogFull,
+    /// The file of the log couldn't be created, written or closed, or the log is past the limits of its text.
+    #[error("log: file")]
+    LogFile,
     /// A fault that other runs have too: want of memory, or of standard output.
     #[error("{0}")]
     Run(RunFault),
@@ -26,6 +29,7 @@ impl WorkFault {
         let _ = writeln!(faults, "{self}");
         match self {
             WorkFault::LogFull => NO_MEMORY,
+            WorkFault::LogFile => FAULT,
             WorkFault::Run(fault) => fault.status(),
         }
     }

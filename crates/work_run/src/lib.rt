@@ -12,15 +12,22 @@
 //! What is promised: each line tells what a client's replies come to (specs/Tallies.antt), and the exit status is 0 exactly where every
 //! client wrote, read and found equal each of its rounds (specs/WorkEnds.antt). Which replies there are no contract says, as threads
 //! made them; what is known of the bus that they leave is `uas_work`'s. That all rounds come to an end is tested.
+//!
+//! [`run_saved_work`] does the same and knows its log: behind those lines it prints for each client whether its audit is true
+//! (`log_audit`), of the rounds that it was to take and the replies that it holds, and then it saves the log in a file, which has the
+//! text of that very log or what it had (specs/SavedEnds.antt). The log is its own replay, so whoever reads the file can audit again.
 #![tactic(auto)]
 
+mod audits;
 mod faults;
 mod run;
+mod saved;
 mod tallies;
 #[cfg(test)]
 mod tests;
 
 pub use run::run_work;
+pub use saved::run_saved_work;
 
 /// What is to be done.
 #[derive(Clone, Copy, Debug, PartialEq, Eq)]

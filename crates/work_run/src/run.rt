@@ -31,12 +31,12 @@ const ROUND_STEPS: u64 = 16;
 
 /// What came of a run that was told.
 #[derive(Clone, Copy)]
-struct Worked {
-    status: u8,
+pub(crate) struct Worked {
+    pub(crate) status: u8,
     /// How many commands were answered.
-    commands: usize,
+    pub(crate) commands: usize,
     /// How long the threads took, where the clock tells it.
-    millis: Option<u64>,
+    pub(crate) millis: Option<u64>,
 }
 
 /// The run `work`: lets so many clients, 1 to 15, take their rounds in threads, and prints a line of each. Where it is asked for, the
@@ -115,7 +115,11 @@ fn tell<O: Sink>(
 }
 
 /// Lets the clients take their rounds. A worker without a thread or memory ends them all, and so does a full log.
-fn ran<R: Threads + Wait + Sync>(rt: &R, alloc: Global, load: Load) -> Result<Finished, WorkFault>
+pub(crate) fn ran<R: Threads + Wait + Sync>(
+    rt: &R,
+    alloc: Global,
+    load: Load,
+) -> Result<Finished, WorkFault>
     requires { AreClients load.clients }
     ensures { IfErr result (λ fault. (can_fail : Bool) → (text : Option (List ℕ)) → GivesUp can_fail text text fault) }
 {
@@ -137,7 +141,7 @@ fn ran<R: Threads + Wait + Sync>(rt: &R, alloc: Global, load: Load) -> Result<Fi
 }
 
 /// The bus of so many zeroed units, whose log has room for the steps of all rounds.
-fn booked(alloc: Global, load: Load) -> Result<Booked, AllocError>
+pub(crate) fn booked(alloc: Global, load: Load) -> Result<Booked, AllocError>
     requires { AreClients load.clients }
     ensures { IfOk result (λ booked. booked.bus ≡ opening (work_units load.clients)) }
 {
@@ -166,7 +170,7 @@ fn step_limit(load: Load) -> usize
 }
 
 /// How long ago it was, in thousandths of a second.
-fn millis_since<R: Clock>(rt: &R, start: &Instant) -> Option<u64> {
+pub(crate) fn millis_since<R: Clock>(rt: &R, start: &Instant) -> Option<u64> {
     let elapsed = start.elapsed(rt).ok()?;
     Some(
         elapsed
@@ -178,7 +182,7 @@ fn millis_since<R: Clock>(rt: &R, start: &Instant) -> Option<u64> {
 
 impl Worked {
     /// Shows the pace. A fault of `faults` changes nothing.
-    fn show<W: Write>(self, faults: &mut W) {
+    pub(crate) fn show<W: Write>(self, faults: &mut W) {
         let Worked {
             commands,
             millis,

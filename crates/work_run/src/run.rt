@@ -17,7 +17,7 @@ use std::sync::Wait;
 use std::thread::Threads;
 use std::time::Instant;
 use uas_replay::{COMMAND_FAILED, DONE, RunFault, output_fault};
-use uas_work::{Booked, Ended, Finished, Plan, Unhindered, spawn_all};
+use uas_work::{Booked, Ended, Finished, Plan, PumpCount, Unhindered, spawn_all};
 
 /// Blocks of each unit: eight rounds write to blocks of their own.
 const UNIT_BLOCKS: u32 = 64;
@@ -128,6 +128,7 @@ pub(crate) fn ran<R: Threads + Wait + Sync>(
     };
     let plan = Plan {
         rounds: load.rounds,
+        pumps: PumpCount::Two,
         controllers: CONTROLLERS,
     };
     let Ok(finished) = spawn_all(rt, alloc, booked, &Unhindered, plan) else {

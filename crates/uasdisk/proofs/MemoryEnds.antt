@@ -1,5 +1,5 @@
 -- How every run ends that had no memory for its words: with 4; nothing was printed, read or opened.
-use Rattle.std.proofs.Common.{◌≡◌, ℕ, ◌+◌, ◌≤◌, ◌++◌, List, [], ◌∷◌, Option, Some, None, inl, inr, refl, arith, sym, subst, ◌∙◌}
+use Rattle.std.proofs.Common.{◌≡◌, ℕ, List, [], Option, Some, None, inl, inr, refl, arith, sym, ◌∙◌}
 use Rattle.std.specs.Prelude.{IfSome}
 use Rattle.std.specs.Io.KnownBytes.{Appends, Keeps}
 use Rattle.std.proofs.lemmas.List.{append-nil}
@@ -36,12 +36,21 @@ memory_ends (trace clients blocks bad) host old new status four kept files input
   fault = λ three. absurd (omega (arith, four, three));
   files = files;
 }
-memory_ends (work clients rounds) host old new status four kept files input = record {
+memory_ends (work clients rounds None) host old new status four kept files input = record {
   statuses = inr (inr four);
   told = λ low. absurd (omega (arith, four, low));
   fault = λ three. absurd (omega (arith, four, three));
   memory = λ is. kept;
   files = files;
+  input = input;
+}
+memory_ends (work clients rounds (Some file)) host old new status four kept files input = record {
+  statuses = inr (inr four);
+  saved = λ low. absurd (omega (arith, four, low));
+  created = λ low. absurd (omega (arith, four, low));
+  fault = λ three. absurd (omega (arith, four, three));
+  memory = λ is. inl kept;
+  held = λ high tells. files;
   input = input;
 }
 memory_ends decode host old new status four kept files input = record {

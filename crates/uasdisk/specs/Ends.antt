@@ -1,5 +1,5 @@
 -- How a command line ends: the exit status, what was printed, and what the files hold, on a host that tells its bytes.
-use Rattle.std.specs.Prelude.{◌≡◌, ℕ, ◌<◌, ◌≤◌, Bool, IsTrue, IsErr, List, [], ◌∷◌, length, ◌⊎◌, Option, Some, IfSome}
+use Rattle.std.specs.Prelude.{◌≡◌, ℕ, ◌<◌, ◌≤◌, Bool, IsTrue, IsErr, List, [], ◌∷◌, length, ◌⊎◌, ⊤, Option, None, Some, IfSome}
 use Rattle.std.specs.Io.KnownBytes.{Appends, Keeps, IsAtEnd}
 use Rattle.clap.specs.Words.{Kinds, Text}
 use Rattle.clap.specs.declared.error.kind.ErrorKind.{ErrorKind}
@@ -13,6 +13,7 @@ use Rattle.disk_image.specs.Alone.{dumped, filled, filled_medium}
 use Rattle.block_unit.specs.BlockMaps.{imaged}
 use Rattle.uas_trace.specs.Traced.{Traces}
 use Rattle.work_run.specs.WorkEnds.{Told}
+use Rattle.work_run.specs.SavedEnds.{CantBeSaved, Saved, Unsaved}
 use Rattle.uas_decode.specs.Runs.{Begins, Decodes}
 
 -- What is known of a host: whether it tells what its files hold; of the file of a name, whether it can be opened, can
@@ -75,6 +76,19 @@ pub record WorkEnds (clients rounds : ℕ) (host : Host) (old new : World) (stat
   pub files : new.holds ≡ old.holds
   pub input : new.input ≡ old.input
 
+-- `work CLIENTS ROUNDS LOG`: standard output has got the lines of so many clients that worked in threads, and behind them whether each
+-- of their audits is true; and the file of this name holds the text of the log of their bus. Where the run gave up, every file holds
+-- what it held.
+pub record SavedWorkEnds (clients rounds : ℕ) (file : Text) (host : Host) (old new : World) (status : ℕ) : Type 0 where
+  pub statuses : (status ≤ 1) ⊎ ((status ≡ 3) ⊎ (status ≡ 4))
+  pub saved : status ≤ 1 → Saved clients rounds host.tells (new.holds file) old.output new.output status
+  pub created : status ≤ 1 → IsTrue (host.can_create file)
+  pub fault : status ≡ 3 → IsTrue host.output_can_fail
+      ⊎ Unsaved clients rounds (CantBeSaved (host.file_can_fail file)) old.output new.output
+  pub memory : status ≡ 4 → Keeps old.output new.output ⊎ Unsaved clients rounds (λ log. ⊤) old.output new.output
+  pub held : 3 ≤ status → IsTrue host.tells → new.holds ≡ old.holds
+  pub input : new.input ≡ old.input
+
 -- `decode`: standard output has got each line of standard input, with what its bytes say.
 pub record DecodeEnds (host : Host) (old new : World) (status : ℕ) : Type 0 where
   pub statuses : (status ≤ 1) ⊎ ((status ≡ 3) ⊎ (status ≡ 4))
@@ -134,7 +148,8 @@ pub record FillEnds (file : Text) (lba count byte : ℕ) (host : Host) (old new 
 abbrev pub Ends : Asked → Host → World → World → ℕ → Type 0
 Ends (replay clients blocks bad) host old new status = ReplayEnds clients blocks bad host old new status
 Ends (trace clients blocks bad) host old new status = TraceEnds clients blocks bad host old new status
-Ends (work clients rounds) host old new status = WorkEnds clients rounds host old new status
+Ends (work clients rounds None) host old new status = WorkEnds clients rounds host old new status
+Ends (work clients rounds (Some file)) host old new status = SavedWorkEnds clients rounds file host old new status
 Ends decode host old new status = DecodeEnds host old new status
 Ends (make file blocks) host old new status = MakeEnds file blocks host old new status
 Ends (info file) host old new status = InfoEnds file host old new status

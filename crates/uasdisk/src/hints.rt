@@ -4,7 +4,7 @@ use std::io::Write;
 use uas_replay::WORDS_REFUSED;
 
 /// How a fault's line ends or what it is, and what to say of it.
-const HINTS: [(&[u8], &str); 12] = [
+const HINTS: [(&[u8], &str); 13] = [
     (
         b": unknown word",
         "a line is a client's number and a word, or a step: 'uasdisk replay --help' has them; a line ends in a line feed alone, so in a file from Windows the carriage return belongs to the last word",
@@ -43,6 +43,10 @@ const HINTS: [(&[u8], &str); 12] = [
         "standard input can't be read, or standard output can't be written: is it open, and is there room?",
     ),
     (b"no memory", "the machine gave no memory for it"),
+    (
+        b"log: file",
+        "the log can't be created or written: look at its name, at its rights and at the room on its disk",
+    ),
     (
         b"log full",
         "the log of the work holds as many steps as it may",

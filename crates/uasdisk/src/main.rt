@@ -3,7 +3,7 @@
 //! ```text
 //! uasdisk replay CLIENTS BLOCKS [--bad LBA] < script     runs a script on zeroed units, one for each client
 //! uasdisk trace CLIENTS BLOCKS [--bad LBA] < script      the same, and prints each step with the bytes that it wrote
-//! uasdisk work CLIENTS ROUNDS                            lets clients write and read in threads, and counts what they read
+//! uasdisk work CLIENTS ROUNDS [LOG]                      lets clients write and read in threads, and counts what they read
 //! uasdisk decode < lines                                 tells what lines of bytes say
 //! uasdisk make FILE BLOCKS                               makes an image of zeroed blocks
 //! uasdisk info FILE                                      tells how many blocks an image has
@@ -11,13 +11,14 @@
 //! uasdisk fill FILE LBA COUNT BYTE                       fills blocks of an image with a byte, by one WRITE
 //! ```
 //!
-//! With `--bad LBA` the block of this number can neither be read nor written, in every unit that has it.
+//! With `--bad LBA` the block of this number can neither be read nor written, in every unit that has it. With LOG each client of `work`
+//! is audited, and the log of their bus is saved in that file.
 //!
 //! A line of a script submits a command or a task management for a client, takes one step of the bus, or drains it; what
 //! replies and refusals came of it is printed. A command on an image is submitted, drained and answered on a bus of its own. The exit status is 0
-//! where all went well, 1 where a command ended other than GOOD or was refused, a READ of `work` brought other bytes than were written
-//! or a line of `decode` was refused, 2 where the words are refused, 3 at a fault of a script, an image or a file, and 4 for want of
-//! memory.
+//! where all went well, 1 where a command ended other than GOOD or was refused, a READ of `work` brought other bytes than were written,
+//! an audit was false or a line of `decode` was refused, 2 where the words are refused, 3 at a fault of a script, an image or a file,
+//! and 4 for want of memory.
 //!
 //! `main` gets the words and `start` the host: its standard streams and its files. All else is decided by `run_words`, over a host
 //! that tells its bytes and whether it can fail. What the words ask for, and by which kinds of error they are refused, is `uas_words`;

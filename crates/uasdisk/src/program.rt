@@ -23,7 +23,7 @@ use uas_decode::run_decode;
 use uas_replay::{DONE, RunFault, WORDS_REFUSED, output_fault, run_script};
 use uas_trace::run_trace;
 use uas_words::{Run, run_of};
-use work_run::{Load, run_work};
+use work_run::{Load, run_saved_work, run_work};
 
 /// Does what the words of a command line ask for, the program's own name first, and answers the exit status. A fault of
 /// `faults` changes nothing. A long run may show there how far it is. The runtime is asked for threads and the time.
@@ -57,10 +57,32 @@ pub fn run_words<R: Threads + Wait + Clock + Sync, F: Files, S: Source, O: Sink,
     match run_of(alloc, words) {
         Ok(Run::Replay(disks)) => run_script(alloc, disks, input, output, faults),
         Ok(Run::Trace(disks)) => run_trace(alloc, disks, input, output, faults),
-        Ok(Run::Work { clients, rounds }) => run_work(
+        Ok(
+            Run::Work {
+                clients,
+                rounds,
+                log: None,
+            },
+        ) => run_work(
             rt,
             alloc,
             Load { clients, rounds },
+            output,
+            faults,
+            may_show_progress,
+        ),
+        Ok(
+            Run::Work {
+                clients,
+                rounds,
+                log: Some(log),
+            },
+        ) => run_saved_work(
+            rt,
+            alloc,
+            Load { clients, rounds },
+            files,
+            log,
             output,
             faults,
             may_show_progress,

@@ -94,7 +94,7 @@ impl ClientPart {
     }
 
     /// Posts a command on a free tag of the client's and rings its bell: the tag. None where the client has no tag left.
-    pub(crate) fn posted(&mut self, hall: &Hall, command: Command) -> Option<u16>
+    fn posted(&mut self, hall: &Hall, command: Command) -> Option<u16>
         requires part { IsClientPart hall.now.desk hall.now.board self.old }
         ensures part { IsClientPart hall.now.desk hall.now.board self.new }
         ensures same { self.new.client ≡ self.old.client }

@@ -137,7 +137,7 @@ impl PumpPart {
     }
 
     /// Books what a client posted, where it did: `pump_in`.
-    pub(crate) fn took_in(
+    fn took_in(
         &mut self,
         alloc: Global,
         hall: &Hall,

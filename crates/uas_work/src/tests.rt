@@ -3,7 +3,6 @@ ghost use Rattle.std.specs.Prelude.{◌≡◌, ◌+◌, ◌<◌, ◌≤◌, ◌^
 ghost use Rattle.uas_work.specs.Booked.{IsNew};
 
 mod gates;
-mod slips;
 
 use crate::{Booked, Ended, Finished, Gate, Plan, PumpCount, Unhindered, spawn_all};
 use block_unit::Unit;
@@ -108,6 +107,33 @@ fn took_all(finished: &Finished, client: usize) -> bool {
     ticket == 18
 }
 
+/// How many replies a client took.
+fn taken_by(finished: &Finished, client: usize) -> usize {
+    match finished.replies.get(client) {
+        Some(replies) => replies.as_slice().len(),
+        None => 0,
+    }
+}
+
+/// Whether it is client 0's WRITE of round 1, on its first tag, with the bytes that it posted.
+fn is_second_write(step: &Step) -> bool {
+    match step {
+        Step::Submit {
+            client,
+            tag,
+            ticket,
+            command,
+        } => {
+            *client == 0
+                && *tag == 1
+                && *ticket == 2
+                && command.buffer.len() == 4096
+                && command.buffer.as_slice().iter().all(|byte| *byte == 1)
+        }
+        _ => false,
+    }
+}
+
 /// The gate that gives no turn.
 struct Shut;
 
@@ -137,6 +163,15 @@ fn rounds_taken(rt: HostRuntime) -> Result<(), Fail> {
     Ok(())
 }
 
+/// What a client posted on the desk is booked with its bytes, once.
+#[test]
+fn posted_bytes_booked(rt: HostRuntime) -> Result<(), Fail> {
+    let finished = ran(&rt, rt.alloc(), 10_000, &Unhindered)?;
+    let steps = finished.booked.log().steps.as_slice();
+    assert!(rt; steps.iter().filter(|step| is_second_write(step)).count() == 1);
+    Ok(())
+}
+
 /// The same with one pump, and with four, of which two have no client.
 #[test]
 fn one_pump_and_four(rt: HostRuntime) -> Result<(), Fail> {
@@ -160,7 +195,7 @@ fn last_take_unbooked(rt: HostRuntime) -> Result<(), Fail> {
     let finished = planned(&rt, rt.alloc(), booked, &Unhindered, plan)?;
     assert!(rt; finished.ended == Ended::LogFull);
     assert!(rt; finished.booked.log().steps.len() == 15);
-    assert!(rt; finished.replies[0].as_slice().len() == 1 && left_over(&finished) == Some(0));
+    assert!(rt; taken_by(&finished, 0) == 1 && left_over(&finished) == Some(0));
     Ok(())
 }
 

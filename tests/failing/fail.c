@@ -15,6 +15,7 @@
 #include <stdio.h>
 #include <stdlib.h>
 #include <string.h>
+#include <sys/syscall.h>
 #include <sys/uio.h>
 #include <unistd.h>
 
@@ -49,6 +50,14 @@ __attribute__((destructor)) static void end(void)
         fprintf(file, "%ld\n", atomic_load(&calls));
         fclose(file);
     }
+}
+
+/* The program ends by _exit, which runs no destructor. */
+_Noreturn void _exit(int status)
+{
+    end();
+    for (;;)
+        syscall(SYS_exit_group, status);
 }
 
 #define REAL(name) ((__typeof__(&name))dlsym(RTLD_NEXT, #name))

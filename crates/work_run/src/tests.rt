@@ -1,7 +1,5 @@
 //! Clients in threads, to their lines; and replies that no thread of ours gives.
 
-use crate::audits::{all_true, audits_of, push_audits};
-use crate::run::booked;
 use crate::tallies::{all_whole, tallies_of, work_text};
 use crate::{Load, run_work};
 use arrayvec::ArrayVec;
@@ -57,27 +55,5 @@ fn an_unequal_read(rt: HostRuntime) -> Result<(), Fail> {
     let text = work_text(alloc, tallies.as_slice())?;
     assert!(rt; text.as_slice() == b"client 0 writes 2 reads 2 equal 1\n".as_slice());
     assert!(rt; !all_whole(2, tallies.as_slice()));
-    Ok(())
-}
-
-/// Client 0 holds a reply that the log doesn't have; client 1 holds none, and the log has none.
-#[test]
-fn an_untrue_audit(rt: HostRuntime) -> Result<(), Fail> {
-    let alloc = rt.alloc();
-    let load = Load {
-        clients: 2,
-        rounds: 1,
-    };
-    let booked = booked(alloc, load)?;
-    let taken = Vec::from_array(alloc, [good(alloc, 0, 0)?])?;
-    let replies = Vec::from_array(
-        alloc,
-        [Replies::from_vec(taken), Replies::from_vec(Vec::new(alloc))],
-    )?;
-    let audits = audits_of(alloc, booked.log(), 1, replies.as_slice())?;
-    let mut text = Vec::new(alloc);
-    push_audits(alloc, &mut text, audits.as_slice())?;
-    assert!(rt; text.as_slice() == b"audit 0 false\naudit 1 true\n".as_slice());
-    assert!(rt; !all_true(audits.as_slice()));
     Ok(())
 }

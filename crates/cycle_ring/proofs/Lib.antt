@@ -1,4 +1,5 @@
 pub mod Chains
 pub mod Shifts
 pub mod Names
-pub mod Segment
+pub mod Held
+pub mod Consumers

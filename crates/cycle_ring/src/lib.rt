@@ -21,8 +21,10 @@
 //! make them equal. A place is free again only when the producer has seen the event of its TRB and
 //! reclaims it, so a ring holds at most N - 2 TRBs that are put and not reclaimed.
 //!
-//! What is kept: the bytes of all places, the Link's too, the first place that isn't reclaimed, and
-//! both ends, each a place and a cycle state. Nothing counts the TRBs: a place is in use where it has the
+//! What is kept: a [`Segment`], which is the bytes of all places, the Link's too, the first place that isn't
+//! reclaimed, and the producer's end, a place and a cycle state; and the consumer's end. A ring whose
+//! consumer's end is kept elsewhere, as a stream's is in its context, is a segment alone: the calls that
+//! consume are handed the end and give back where it stands then. Nothing counts the TRBs: a place is in use where it has the
 //! Cycle bit of the turn that starts at the first one. Every other place has the other bit, left from the
 //! turn before or 0 from the start; as one place stays free, the enqueue place is always such a place.
 //!
@@ -34,20 +36,20 @@
 //! The crate stands on `xhci_trb` for the texts of TRBs.
 #![tactic(auto)]
 
-ghost use Rattle.std.specs.Prelude.{◌≡◌, ◌≢◌, ℕ, ◌+◌, ◌-◌, ◌*◌, ◌/◌, ◌%◌, ◌^◌, ◌<◌, ◌≤◌, ◌++◌, ◌↔◌, Bool, Some, None, All, length};
-ghost use Rattle.std.specs.Prelude.{slice_get, drop, option_map, ◌⊎◌, IsOk, IsSome, IfNone, IfSome, IfOk, OnOk, OnErr, IsTrue};
-ghost use Rattle.xhci_trb.specs.declared.Trb.{Trb};
-ghost use Rattle.xhci_trb.specs.Text.{HasText, has_chain, text};
+ghost use Rattle.std.specs.Prelude.{◌≡◌, ◌≢◌, ℕ, ◌+◌, ◌-◌, ◌*◌, ◌%◌, ◌^◌, ◌<◌, ◌≤◌, ◌++◌, ◌↔◌, Some, All, length};
+ghost use Rattle.std.specs.Prelude.{slice_get, option_map, ◌⊎◌, IsOk, IsSome, IfSome, IfOk, OnOk, OnErr};
+ghost use Rattle.xhci_trb.specs.Text.{HasText, has_chain};
 
-use places::{behind_link, put_back};
-use ring_ends::{End, ahead, chain_bit, cycle_bit, distance, zeros};
+pub use ring_ends::End;
+pub use segment::Segment;
 use std::alloc::{AllocError, Global};
 use std::marker::Model;
 use thiserror::Error;
-use xhci_trb::{Trb, decode};
+use xhci_trb::Trb;
 
 pub mod laws;
 mod places;
+mod segment;
 #[cfg(test)]
 mod tests;
 
@@ -71,33 +73,28 @@ pub struct Td {
     pub last: u64,
 }
 
-/// A ring of `N` places, 4 to 256, of which the last is the Link's: their bytes, the first place that isn't
-/// reclaimed, and the consumer's and the producer's end.
+/// A ring of `N` places, 4 to 256, of which the last is the Link's: its segment, and the consumer's end.
 #[derive(Debug, Drop)]
 pub struct CycleRing<const N: usize> {
-    base: u64,
-    places: Vec<[u8; 16]>,
-    first: usize,
+    segment: Segment<N>,
     dequeue: End,
-    enqueue: End,
 }
 
 impl<const N: usize> Model for CycleRing<N> {
     ghost use Rattle.cycle_ring.specs.Ring.{Ring};
-    ghost use Rattle.cycle_ring.specs.Segment.{shown, IsSegment};
+    ghost use Rattle.cycle_ring.specs.Segment.{IsConsumer, with_consumer};
 
     ghost Value = { Ring };
 
-    ghost view = { λ r. shown N r.base r.places.items r.first r.dequeue r.enqueue };
+    ghost view = { λ r. with_consumer N r.segment r.dequeue };
 
-    ghost invariant = { λ r. IsSegment N r.places.items r.first r.dequeue r.enqueue (shown N r.base r.places.items r.first r.dequeue r.enqueue) };
+    ghost invariant = { λ r. IsConsumer N r.segment r.dequeue };
 }
 
 impl<const N: usize> CycleRing<N> {
-    ghost use Rattle.cycle_ring.specs.Ring.{Ring, IsRing, opening, place_of, cycle_of, pointer_of, front_of, reclaimed, IsConsumed};
-    ghost use Rattle.cycle_ring.specs.Ring.{IsPending, IsShifted, IsInUse, item_image, link_image, link_behind, IsTd, IsEnqueuePlace};
-    ghost use Rattle.cycle_ring.specs.Ring.{item_at, item_in, consumed_at, oldest_of};
-    ghost use Rattle.ring_ends.specs.Counted.{IsEnd, turn_bit};
+    ghost use Rattle.cycle_ring.specs.Ring.{IsRing, opening, place_of, cycle_of, pointer_of, front_of, reclaimed, IsConsumed};
+    ghost use Rattle.cycle_ring.specs.Ring.{IsPending, IsShifted, IsInUse, item_image, link_image, IsTd, IsEnqueuePlace};
+    ghost use Rattle.cycle_ring.specs.Ring.{consumed_at, oldest_of};
 
     /// An empty ring at this address, a multiple of 16 below `2^63` (4.9.2). Refused for want of memory
     /// alone.
@@ -108,14 +105,9 @@ impl<const N: usize> CycleRing<N> {
         requires below { base < 2 ^ 63 }
         ensures { IfOk result (λ ring. ring ≡ opening base) }
     {
-        let places = zeros(alloc, N)?;
-        let start = End::first();
         Ok(CycleRing {
-            base,
-            places,
-            first: 0,
-            dequeue: start,
-            enqueue: start,
+            segment: Segment::new(alloc, base)?,
+            dequeue: End::first(),
         })
     }
 
@@ -125,8 +117,7 @@ impl<const N: usize> CycleRing<N> {
         ensures room { result + length self.now.put ≡ N - 2 }
         ensures standing { IsRing N self.now }
     {
-        let count = self.count();
-        N - 2 - count
+        self.segment.room()
     }
 
     /// Puts a TD and gives the addresses of its first and last TRB (4.11). Asks 1 to N - 2 Normal TRBs of
@@ -146,17 +137,7 @@ impl<const N: usize> CycleRing<N> {
         }) }
         ensures full { OnErr result (self.new ≡ self.old) }
     {
-        if self.room() < trbs.len() {
-            return Err(RingFull);
-        }
-        let start = self.enqueue;
-        let last = ahead(N - 1, start.place, trbs.len() - 1);
-        let td = Td {
-            first: self.pointer(start.place),
-            last: self.pointer(last),
-        };
-        self.enqueue = put_back::<N>(&mut self.places, self.base, start, trbs);
-        Ok(td)
+        self.segment.push_td(trbs)
     }
 
     /// The enqueue pointer and the producer's cycle state. The pointer is never the Link's.
@@ -164,7 +145,7 @@ impl<const N: usize> CycleRing<N> {
         ensures place { result ≡ (pointer_of N self.now (length self.now.put), cycle_of N self.now (length self.now.put)) }
         ensures unused { (k : ℕ) → k < length self.now.put → pointer_of N self.now k ≢ result.0 }
     {
-        (self.pointer(self.enqueue.place), self.enqueue.cycle)
+        self.segment.place()
     }
 
     /// The first pending TRB and its address, if there is one (4.9.2).
@@ -173,8 +154,7 @@ impl<const N: usize> CycleRing<N> {
         ensures front { result ≡ front_of N self.now }
         ensures pending { IsSome result ↔ (self.now.got < length self.now.put) }
     {
-        let trb = self.trb_at(self.dequeue)?;
-        Some((self.pointer(self.dequeue.place), trb))
+        self.segment.front(self.dequeue)
     }
 
     /// The dequeue pointer and the consumer's cycle state. The pointer is never the Link's.
@@ -183,7 +163,7 @@ impl<const N: usize> CycleRing<N> {
         ensures dequeue { result ≡ (pointer_of N self.now self.now.got, cycle_of N self.now self.now.got) }
         ensures aligned { result.0 % 16 ≡ 0 }
     {
-        (self.pointer(self.dequeue.place), self.dequeue.cycle)
+        (self.segment.address(self.dequeue), self.dequeue.cycle)
     }
 
     /// Consumes the first pending TRB, and steps over the Link. Asks that there is one.
@@ -192,12 +172,7 @@ impl<const N: usize> CycleRing<N> {
         requires { self.old.got < length self.old.put }
         ensures { self.new ≡ record self.old { got = self.old.got + 1 } }
     {
-        let next = self.dequeue.place + 1;
-        if next < N - 1 {
-            self.dequeue.place = next;
-        } else {
-            self.dequeue = behind_link(&self.places[next], self.base, self.dequeue);
-        }
+        self.dequeue = self.segment.advance(self.dequeue);
     }
 
     /// The consumed TRB at an address, while it isn't reclaimed.
@@ -206,11 +181,7 @@ impl<const N: usize> CycleRing<N> {
         ensures consumed { result ≡ consumed_at N self.now pointer }
         ensures known { IfSome result (λ trb. (k : ℕ) × IsConsumed N self.now k pointer × (slice_get self.now.put k ≡ Some trb)) }
     {
-        let place = self.consumed_place(pointer)?;
-        match decode(&self.places[place]) {
-            Ok((trb, _)) => Some(trb),
-            Err(_) => None,
-        }
+        self.segment.consumed(self.dequeue, pointer)
     }
 
     /// Whether the consumed TRB at an address has its Chain bit set, while it isn't reclaimed.
@@ -218,8 +189,7 @@ impl<const N: usize> CycleRing<N> {
     pub fn consumed_chain(&self, pointer: u64) -> Option<bool>
         ensures { result ≡ option_map has_chain (consumed_at N self.now pointer) }
     {
-        let place = self.consumed_place(pointer)?;
-        Some(chain_bit(&self.places[place]))
+        self.segment.consumed_chain(self.dequeue, pointer)
     }
 
     /// The first TRB that isn't reclaimed and its address, once it is consumed.
@@ -228,18 +198,14 @@ impl<const N: usize> CycleRing<N> {
         ensures oldest { result ≡ oldest_of N self.now }
         ensures known { IfSome result (λ at. IsConsumed N self.now 0 at.0) }
     {
-        if self.got() == 0 {
-            return None;
-        }
-        let trb = self.trb_at(self.end_at(0))?;
-        Some((self.pointer(self.first), trb))
+        self.segment.oldest(self.dequeue)
     }
 
     /// Consumes all pending TRBs (4.6.10).
     pub fn drop_pending(&mut self)
         ensures { self.new ≡ record self.old { got = length self.old.put } }
     {
-        self.dequeue = self.enqueue;
+        self.dequeue = self.segment.drop_pending();
     }
 
     /// Moves the consumer's end to a pending place (4.6.10). Refused where the address is that of no
@@ -250,14 +216,7 @@ impl<const N: usize> CycleRing<N> {
         ensures set { (k : ℕ) → IsPending N self.old k pointer cycle → self.new ≡ record self.old { got = k } }
         ensures refused { OnErr result (self.new ≡ self.old) }
     {
-        let Some(item) = self.item_of(pointer) else {
-            return Err(NotAPlace);
-        };
-        let end = self.end_at(item);
-        if item < self.got() || !self.is_in_use(end) || end.cycle != cycle {
-            return Err(NotAPlace);
-        }
-        self.dequeue = end;
+        self.dequeue = self.segment.set_dequeue(self.dequeue, pointer, cycle)?;
         Ok(())
     }
 
@@ -269,11 +228,8 @@ impl<const N: usize> CycleRing<N> {
         ensures set { (k : ℕ) → IsPending N self.old k pointer cycle → self.new ≡ record self.old { got = k } }
         ensures refused { OnErr result (self.new ≡ self.old) }
     {
-        if self.place() == (pointer, cycle) {
-            self.drop_pending();
-            return Ok(());
-        }
-        self.set_dequeue(pointer, cycle)
+        self.dequeue = self.segment.move_dequeue(self.dequeue, pointer, cycle)?;
+        Ok(())
     }
 
     /// Frees the TRBs up to and with the one at this address. Asks a consumed TRB that isn't reclaimed.
@@ -283,8 +239,7 @@ impl<const N: usize> CycleRing<N> {
         ensures freed { (k : ℕ) → IsConsumed N self.old k pointer → self.new ≡ reclaimed N (k + 1) self.old }
         ensures shifted { (k : ℕ) → IsConsumed N self.old k pointer → (i : ℕ) → IsShifted N (k + 1) self.old self.new i }
     {
-        let place = self.place_at(pointer).unwrap();
-        self.first = ahead(N - 1, place, 1);
+        self.segment.reclaim(pointer);
     }
 
     /// The 16 bytes at a place whose TRB isn't reclaimed, and at the Link's while the TRB before it
@@ -294,153 +249,6 @@ impl<const N: usize> CycleRing<N> {
         ensures link { (k : ℕ) → k < N - 1 → place_of N self.now k ≡ N - 2 → place ≡ N - 1 → result ≡ link_image N self.now k }
         ensures in_use { IsSome result → (k : ℕ) × IsInUse N self.now k place }
     {
-        if place < N - 1 && self.is_in_use(self.end_at(self.item_at(place))) {
-            return Some(self.places[place]);
-        }
-        if place == N - 1 && self.is_in_use(self.end_at(self.item_at(N - 2))) {
-            return Some(self.places[place]);
-        }
-        None
-    }
-
-    // How many TRBs are put and not reclaimed.
-    #[inline(always)]
-    fn count(&self) -> usize
-        ensures count { result ≡ length self.now.put }
-        ensures standing { IsRing N self.now }
-    {
-        let first = self.first;
-        distance(N - 1, first, self.enqueue.place)
-    }
-
-    // How many of them are consumed.
-    #[inline(always)]
-    fn got(&self) -> usize
-        ensures got { result ≡ self.now.got }
-        ensures standing { IsRing N self.now }
-    {
-        let first = self.first;
-        distance(N - 1, first, self.dequeue.place)
-    }
-
-    // The place of an item, and the cycle state with which both ends come to it.
-    #[inline(always)]
-    fn end_at(&self, item: usize) -> End
-        requires { item < N - 1 }
-        ensures end { IsEnd (N - 1) (self.now.at + item) result }
-        ensures within { result.place < N - 1 }
-    {
-        let place = ahead(N - 1, self.first, item);
-        let start = End {
-            place: self.first,
-            cycle: self.first_cycle(),
-        };
-        End {
-            place,
-            cycle: start.bit_at(place),
-        }
-    }
-
-    // The cycle state with which both ends come to the first place that isn't reclaimed.
-    #[inline(always)]
-    fn first_cycle(&self) -> bool
-        ensures { result ≡ turn_bit (N - 1) self.now.at }
-    {
-        let brought = End {
-            place: self.first,
-            cycle: self.dequeue.cycle,
-        };
-        brought.bit_at(self.dequeue.place)
-    }
-
-    // Whether a place has the Cycle bit that an end brings there.
-    #[inline(always)]
-    fn is_in_use(&self, end: End) -> bool
-        requires { end.place < N - 1 }
-        ensures { (k : ℕ) → k < N - 1 → IsEnd (N - 1) (self.now.at + k) end → IsTrue result ↔ (k < length self.now.put) }
-    {
-        cycle_bit(&self.places[end.place]) == end.cycle
-    }
-
-    // The TRB of an item by its place, while it is there.
-    #[inline(always)]
-    fn trb_at(&self, end: End) -> Option<Trb>
-        requires { end.place < N - 1 }
-        ensures { (k : ℕ) → k < N - 1 → IsEnd (N - 1) (self.now.at + k) end → result ≡ slice_get self.now.put k }
-    {
-        if !self.is_in_use(end) {
-            return None;
-        }
-        match decode(&self.places[end.place]) {
-            Ok((trb, _)) => Some(trb),
-            Err(_) => None,
-        }
-    }
-
-    // The item that stands, or would stand, at this place.
-    #[inline(always)]
-    fn item_at(&self, place: usize) -> usize
-        requires { place < N - 1 }
-        ensures item { result ≡ item_in (N - 1) (self.now.at % (N - 1)) place }
-        ensures bound { result < N - 1 }
-        ensures place { place_of N self.now result ≡ place }
-        ensures only { (k : ℕ) → k < N - 1 → place_of N self.now k ≡ place → k ≡ result }
-    {
-        distance(N - 1, self.first, place)
-    }
-
-    // The place of the consumed TRB at this address. It is in use, so that its Cycle bit needs no look.
-    #[inline(always)]
-    fn consumed_place(&self, pointer: u64) -> Option<usize>
-        ensures found { IfSome result (λ place. (k : ℕ) × (k < self.now.got) × (item_at N self.now pointer ≡ Some k) × (place_of N self.now k ≡ place)) }
-        ensures within { IfSome result (λ place. place < N - 1) }
-        ensures none { IfNone result (consumed_at N self.now pointer ≡ None) }
-    {
-        let place = self.place_at(pointer)?;
-        if self.got() <= self.item_at(place) {
-            return None;
-        }
-        Some(place)
-    }
-
-    // The item that stands, or would stand, at this address.
-    #[inline(always)]
-    fn item_of(&self, pointer: u64) -> Option<usize>
-        ensures item { result ≡ item_at N self.now pointer }
-        ensures found { IfSome result (λ k. (k < N - 1) × (pointer ≡ pointer_of N self.now k)) }
-        ensures every { (k : ℕ) → k < N - 1 → pointer ≡ pointer_of N self.now k → result ≡ Some k }
-    {
-        match self.place_at(pointer) {
-            Some(place) => Some(self.item_at(place)),
-            None => None,
-        }
-    }
-
-    // The place at this address, unless it is the Link's.
-    #[inline(always)]
-    fn place_at(&self, pointer: u64) -> Option<usize>
-        ensures place { option_map (item_in (N - 1) (self.now.at % (N - 1))) result ≡ item_at N self.now pointer }
-        ensures within { IfSome result (λ place. place < N - 1) }
-    {
-        if pointer < self.base {
-            return None;
-        }
-        let offset = pointer - self.base;
-        if offset % 16 != 0 {
-            return None;
-        }
-        let place = offset / 16;
-        if place >= (N - 1) as u64 {
-            return None;
-        }
-        Some(place as usize)
-    }
-
-    #[inline(always)]
-    fn pointer(&self, place: usize) -> u64
-        requires { place < N }
-        ensures { result ≡ self.now.base + 16 * place }
-    {
-        self.base + 16 * place as u64
+        self.segment.image(place)
     }
 }

@@ -68,7 +68,7 @@ fn long_read() -> [Trb; 16]
 
 // The status word and the low half of the control word that are stored at a place.
 fn words_at(ring: &CycleRing<20>, place: usize) -> Option<(u32, u32)> {
-    let bytes = ring.places.get(place)?;
+    let bytes = ring.segment.places.get(place)?;
     let status = u32::from_le_bytes([bytes[8], bytes[9], bytes[10], bytes[11]]);
     Some((status, u32::from(bytes[12]) + 256 * u32::from(bytes[13])))
 }
@@ -132,7 +132,7 @@ fn long_read_twice(rt: HostRuntime) -> Result<(), Fail> {
         assert_eq!(rt; words_at(&ring, place), Some((*status, control)));
     }
     let link = b"\x00\x10\x00\x43\x00\x00\x00\x00\x00\x00\x00\x00\x13\x18\x00\x00";
-    assert_eq!(rt; ring.places.get(19).copied(), Some(*link));
+    assert_eq!(rt; ring.segment.places.get(19).copied(), Some(*link));
     assert_eq!(rt; ring.image(13), None);
     assert_eq!(rt; words_at(&ring, 13), Some((0x0010_1000, 0x411)));
     assert_eq!(rt; ring.place(), (0x4300_10d0, false));

@@ -1,7 +1,8 @@
 -- An array with one entry changed.
 use Rattle.std.proofs.Common.{◌≡◌, ℕ, ◌%◌, ◌^◌, ◌<◌, true, false, Some, None, is_some, length, slice_set, length-set, get_or-set_same}
 use Rattle.std.proofs.Common.{get_or-set_other, ap, ◌∙◌, sym, arith, inl, inr}
-use Rattle.std.proofs.lemmas.Bool.{cases_eq}
+use Rattle.std.proofs.Math.ListN.{get_or-eq_default}
+use Rattle.std.proofs.lemmas.Bool.{cases_eq, cases_lt}
 use Rattle.stream_array.specs.declared.Dequeue.{Dequeue}
 use Rattle.stream_array.specs.Contexts.{Contexts, IsArray, entry_of}
 
@@ -33,3 +34,13 @@ IsArray-set size contexts stream new array within had below aligned =
         ap (λ (k : ℕ). is_some (entry_of contexts k)) (sym zero) ∙ ap is_some none in
         let both : true ≡ false = sym had ∙ at_first in
         cc
+
+-- an entry with a ring is one of the array's
+pub within-some : (contexts : Contexts) (stream : ℕ) → is_some (entry_of contexts stream) ≡ true → stream < length contexts
+within-some contexts stream had = elim (cases_lt stream (length contexts)) as (λ _. stream < length contexts) [
+  | inl within ↦ within
+  | inr past ↦
+      let none : is_some (entry_of contexts stream) ≡ is_some {T = Dequeue} None = ap is_some (get_or-eq_default contexts None past) in
+      let both : true ≡ false = sym had ∙ none in
+      absurd (cc)
+]

@@ -4,3 +4,5 @@ pub mod Opening
 pub mod Apart
 pub mod Frames
 pub mod Spots
+pub mod Named
+pub mod Fresh

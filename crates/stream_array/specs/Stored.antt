@@ -8,12 +8,16 @@ use Rattle.stream_array.specs.Contexts.{Contexts, IsArray, entry_of, context_tex
 abbrev pub word_in : List ℕ → ℕ
 word_in bytes = from_le_bytes w64 (take 8 bytes)
 
+-- the fields of that word: DCS bit 0, the dequeue pointer in 63:4
+abbrev pub dequeue_of_word : ℕ → Dequeue
+dequeue_of_word word = record { pointer = word / 16 * 16; cycle = word % 2 == 1 }
+
 -- What a context says: DCS bit 0, SCT bits 3:1, the dequeue pointer in 63:4. There is a ring where SCT is 1.
 -- Worked: 33h 20h 01h 43h and twelve zeros are 43012030h with cycle state 1.
 abbrev pub entry_in : List ℕ → Option Dequeue
 entry_in bytes =
     let word = word_in bytes in
-    if word / 2 % 8 == 1 then Some (record { pointer = word / 16 * 16; cycle = word % 2 == 1 }) else None
+    if word / 2 % 8 == 1 then Some (dequeue_of_word word) else None
 
 -- the entries of an array's contexts
 abbrev pub shown : List (List ℕ) → Contexts

@@ -5,7 +5,7 @@
 
 ghost use Rattle.std.specs.Prelude.{◌≡◌, ℕ, ◌+◌, ◌%◌, ◌<◌, ◌≤◌, ◌↔◌, Some, IsOk, IfOk, OnOk, OnErr, slice_set, IsSome};
 ghost use Rattle.stream_array.specs.Contexts.{IsOpening, IsStream, entry_of, opening_entry, dequeue_in, context_text};
-ghost use Rattle.stream_array.specs.Stored.{entry_in};
+ghost use Rattle.stream_array.specs.Stored.{entry_in, word_in, dequeue_of_word};
 ghost use Rattle.uas_profile.specs.declared.TheConstants.{STREAM_ENTRIES};
 
 use crate::{Dequeue, InvalidStream, NoMemory, Pipe};
@@ -74,6 +74,26 @@ impl<const S: usize> StreamArray<S> {
         Ok(())
     }
 
+    // The dequeue pointer and cycle state of a stream that has a ring.
+    #[inline(always)]
+    pub(crate) fn named(&self, stream: u16) -> Dequeue
+        requires { IsSome (entry_of self.now stream) }
+        ensures { entry_of self.now stream ≡ Some result }
+    {
+        dequeue_of(word(&self.contexts[stream as usize]))
+    }
+
+    // Writes them.
+    #[inline(always)]
+    pub(crate) fn write(&mut self, stream: u16, pointer: u64, cycle: bool)
+        requires ring { IsSome (entry_of self.old stream) }
+        requires aligned { pointer % 16 ≡ 0 }
+        ensures { self.new ≡ slice_set self.old stream (Some (record { pointer = pointer; cycle = cycle })) }
+    {
+        let dequeue = Dequeue { pointer, cycle };
+        self.contexts[stream as usize] = text(dequeue);
+    }
+
     /// The 16 bytes of a stream's context (6.2.4.1). Refused for stream 0 and streams from `S` on.
     pub fn bytes(&self, stream: u16) -> Result<[u8; 16], InvalidStream>
         ensures valid { IsOk result ↔ IsStream S stream }
@@ -130,14 +150,30 @@ fn text(dequeue: Dequeue) -> [u8; 16]
 fn read(bytes: &[u8; 16]) -> Option<Dequeue>
     ensures { result ≡ entry_in bytes.now }
 {
-    let mut low = [0; 8];
-    low.copy_from_slice(&bytes[..8]);
-    let word = u64::from_le_bytes(low);
+    let word = word(bytes);
     if word / 2 % 8 != 1 {
         return None;
     }
-    Some(Dequeue {
+    Some(dequeue_of(word))
+}
+
+// The dequeue pointer and cycle state of a context's word.
+#[inline(always)]
+fn dequeue_of(word: u64) -> Dequeue
+    ensures { result ≡ dequeue_of_word word }
+{
+    Dequeue {
         pointer: word / 16 * 16,
         cycle: word % 2 == 1,
-    })
+    }
+}
+
+// The word in bytes 0 to 7, low byte first.
+#[inline(always)]
+fn word(bytes: &[u8; 16]) -> u64
+    ensures { result ≡ word_in bytes.now }
+{
+    let mut low = [0; 8];
+    low.copy_from_slice(&bytes[..8]);
+    u64::from_le_bytes(low)
 }

@@ -12,8 +12,9 @@
 //!
 //! What is promised: [`find`] is the inverse of this map, Some exactly for the first byte of a place of
 //! a pipe's ring; all places are disjoint ([`laws`]). A [`StreamArray`] is a list of entries. A call of
-//! [`Lines`] is the named ring's, changes that ring alone, and keeps the ring's context at its
-//! consumer's end. `new` takes all memory, and no other call takes any. The crate stands on
+//! [`Lines`] is the named ring's and changes that ring alone. Where the consumer of a stream's ring stands
+//! is in the stream's context and nowhere else: place and cycle state are decoded from its bytes at each
+//! step, and written there. `new` takes all memory, and no other call takes any. The crate stands on
 //! `cycle_ring` and `event_ring` for the rings and on `xhci_trb` for the texts of TRBs.
 #![tactic(auto)]
 

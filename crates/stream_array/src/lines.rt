@@ -23,8 +23,8 @@ use uas_profile::{
 use xhci_trb::Trb;
 
 /// Every ring between host and controller: the command pipe's, one for each stream of the three pipes
-/// with streams, the controller's command ring and the event ring; and the three stream arrays, each of
-/// whose contexts is kept at its ring's consumer's end.
+/// with streams, the controller's command ring and the event ring; and the three stream arrays. A stream's
+/// consumer stands where its context says, and its calls read and write the context.
 #[derive(Debug, Drop)]
 pub struct Lines {
     command: CycleRing<COMMAND_RING_PLACES>,
@@ -72,9 +72,9 @@ impl Lines {
     {
         match pipe {
             Pipe::Command => self.command.room(),
-            Pipe::Status => self.status.ring(stream).room(),
-            Pipe::DataIn => self.data_in.ring(stream).room(),
-            Pipe::DataOut => self.data_out.ring(stream).room(),
+            Pipe::Status => self.status.room(stream),
+            Pipe::DataIn => self.data_in.room(stream),
+            Pipe::DataOut => self.data_out.room(stream),
         }
     }
 
@@ -113,9 +113,9 @@ impl Lines {
     {
         match pipe {
             Pipe::Command => self.command.place(),
-            Pipe::Status => self.status.ring(stream).place(),
-            Pipe::DataIn => self.data_in.ring(stream).place(),
-            Pipe::DataOut => self.data_out.ring(stream).place(),
+            Pipe::Status => self.status.place(stream),
+            Pipe::DataIn => self.data_in.place(stream),
+            Pipe::DataOut => self.data_out.place(stream),
         }
     }
 
@@ -128,9 +128,9 @@ impl Lines {
     {
         match pipe {
             Pipe::Command => self.command.front(),
-            Pipe::Status => self.status.ring(stream).front(),
-            Pipe::DataIn => self.data_in.ring(stream).front(),
-            Pipe::DataOut => self.data_out.ring(stream).front(),
+            Pipe::Status => self.status.front(stream),
+            Pipe::DataIn => self.data_in.front(stream),
+            Pipe::DataOut => self.data_out.front(stream),
         }
     }
 
@@ -182,9 +182,9 @@ impl Lines {
     {
         match pipe {
             Pipe::Command => self.command.consumed(pointer),
-            Pipe::Status => self.status.ring(stream).consumed(pointer),
-            Pipe::DataIn => self.data_in.ring(stream).consumed(pointer),
-            Pipe::DataOut => self.data_out.ring(stream).consumed(pointer),
+            Pipe::Status => self.status.consumed(stream, pointer),
+            Pipe::DataIn => self.data_in.consumed(stream, pointer),
+            Pipe::DataOut => self.data_out.consumed(stream, pointer),
         }
     }
 
@@ -196,9 +196,9 @@ impl Lines {
     {
         match pipe {
             Pipe::Command => self.command.consumed_chain(pointer),
-            Pipe::Status => self.status.ring(stream).consumed_chain(pointer),
-            Pipe::DataIn => self.data_in.ring(stream).consumed_chain(pointer),
-            Pipe::DataOut => self.data_out.ring(stream).consumed_chain(pointer),
+            Pipe::Status => self.status.consumed_chain(stream, pointer),
+            Pipe::DataIn => self.data_in.consumed_chain(stream, pointer),
+            Pipe::DataOut => self.data_out.consumed_chain(stream, pointer),
         }
     }
 
@@ -212,9 +212,9 @@ impl Lines {
     {
         match pipe {
             Pipe::Command => self.command.oldest(),
-            Pipe::Status => self.status.ring(stream).oldest(),
-            Pipe::DataIn => self.data_in.ring(stream).oldest(),
-            Pipe::DataOut => self.data_out.ring(stream).oldest(),
+            Pipe::Status => self.status.oldest(stream),
+            Pipe::DataIn => self.data_in.oldest(stream),
+            Pipe::DataOut => self.data_out.oldest(stream),
         }
     }
 
@@ -272,9 +272,9 @@ impl Lines {
     {
         match pipe {
             Pipe::Command => self.command.image(place),
-            Pipe::Status => self.status.ring(stream).image(place),
-            Pipe::DataIn => self.data_in.ring(stream).image(place),
-            Pipe::DataOut => self.data_out.ring(stream).image(place),
+            Pipe::Status => self.status.image(stream, place),
+            Pipe::DataIn => self.data_in.image(stream, place),
+            Pipe::DataOut => self.data_out.image(stream, place),
         }
     }
 

@@ -1,15 +1,19 @@
-// The rings of one pipe with streams, and their contexts.
+// The rings of one pipe with streams. Where a ring's consumer stands is in the stream's context alone.
 
-ghost use Rattle.std.specs.Prelude.{◌≡◌, ℕ, ◌+◌, ◌-◌, ◌*◌, ◌<◌, ◌≤◌, ◌++◌, ◌↔◌, ◌⊎◌, All, length, slice_set, IsOk, IsSome, IfOk, OnOk, OnErr};
-ghost use Rattle.xhci_trb.specs.Text.{HasText};
+ghost use Rattle.std.specs.Prelude.{◌≡◌, ◌≢◌, ℕ, ◌+◌, ◌-◌, ◌*◌, ◌<◌, ◌≤◌, ◌++◌, ◌↔◌, ◌⊎◌, All, length, option_map, slice_get, slice_set, Some};
+ghost use Rattle.std.specs.Prelude.{IsOk, IsSome, IfOk, IfSome, OnOk, OnErr};
+ghost use Rattle.xhci_trb.specs.Text.{HasText, has_chain};
 ghost use Rattle.cycle_ring.specs.Ring.{IsRing, IsTd, opening, pointer_of, cycle_of, front_of, reclaimed, item_image, link_image, place_of};
-ghost use Rattle.cycle_ring.specs.Ring.{IsConsumed, IsEnqueuePlace, IsPending, IsInUse};
+ghost use Rattle.cycle_ring.specs.Ring.{IsConsumed, IsEnqueuePlace, IsPending, IsInUse, consumed_at, oldest_of};
+ghost use Rattle.cycle_ring.specs.Segment.{IsConsumer, with_consumer};
 ghost use Rattle.uas_profile.specs.Pipes.{HasStreams};
 ghost use Rattle.stream_array.specs.Map.{ring_base};
+ghost use Rattle.stream_array.specs.Contexts.{entry_of};
 ghost use Rattle.stream_array.specs.Rings.{stream_ring, IsShown};
+ghost use Rattle.stream_array.specs.Consumers.{NamesEnd, end_in, dequeue_at};
 
 use crate::{NoMemory, Pipe, StreamArray};
-use cycle_ring::{CycleRing, NotAPlace, RingFull, Td};
+use cycle_ring::{End, NotAPlace, RingFull, Segment, Td};
 use std::alloc::Global;
 use std::marker::Model;
 use uas_profile::{PIPE_SPAN, RINGS, STREAM_ENTRIES, STREAM_RING_PLACES, STREAM_SPAN, STREAMS};
@@ -17,20 +21,53 @@ use xhci_trb::Trb;
 
 #[derive(Debug, Drop)]
 pub(crate) struct Streams {
-    rings: Vec<CycleRing<STREAM_RING_PLACES>>,
+    segments: Vec<Segment<STREAM_RING_PLACES>>,
     contexts: StreamArray<STREAM_ENTRIES>,
 }
 
 impl Model for Streams {
     ghost use Rattle.std.specs.Prelude.{List};
     ghost use Rattle.cycle_ring.specs.Ring.{Ring};
-    ghost use Rattle.stream_array.specs.Rings.{IsShown};
+    ghost use Rattle.stream_array.specs.Consumers.{rings_of, AreStreams};
 
     ghost Value = { List Ring };
 
-    ghost view = { λ s. s.rings.items };
+    ghost view = { λ s. rings_of s.segments.items s.contexts };
 
-    ghost invariant = { λ s. IsShown s.rings.items s.contexts };
+    ghost invariant = { λ s. AreStreams s.segments.items s.contexts };
+}
+
+// The consumer's end that a stream's context names.
+#[inline(always)]
+fn consumer(
+    segment: &Segment<STREAM_RING_PLACES>,
+    contexts: &StreamArray<STREAM_ENTRIES>,
+    stream: u16,
+) -> End
+    requires { NamesEnd segment.now (entry_of contexts.now stream) }
+    ensures end { result ≡ end_in segment.now.base (entry_of contexts.now stream) }
+    ensures consumer { IsConsumer STREAM_RING_PLACES segment.now result }
+{
+    let dequeue = contexts.named(stream);
+    End {
+        place: ((dequeue.pointer - segment.base()) / 16) as usize,
+        cycle: dequeue.cycle,
+    }
+}
+
+// Writes a consumer's end into the stream's context.
+#[inline(always)]
+fn keep(
+    segment: &Segment<STREAM_RING_PLACES>,
+    contexts: &mut StreamArray<STREAM_ENTRIES>,
+    stream: u16,
+    end: End,
+)
+    requires ring { IsSome (entry_of contexts.old stream) }
+    requires end { IsConsumer STREAM_RING_PLACES segment.now end }
+    ensures { contexts.new ≡ slice_set contexts.old stream (Some (dequeue_at segment.now.base end)) }
+{
+    contexts.write(stream, segment.address(end), end.cycle);
 }
 
 impl Streams {
@@ -40,12 +77,12 @@ impl Streams {
         ensures ring { IfOk result (λ rings. (stream : ℕ) → 0 < stream → stream ≤ STREAMS → stream_ring rings stream ≡ opening (ring_base pipe stream)) }
     {
         let contexts = StreamArray::new(alloc, pipe)?;
-        let mut rings = Vec::with_capacity(alloc, STREAMS as usize)?;
+        let mut segments = Vec::with_capacity(alloc, STREAMS as usize)?;
         let first = RINGS + PIPE_SPAN * u64::from(pipe.number()) + STREAM_SPAN;
         for count in 0..STREAMS {
-            rings.push(CycleRing::new(alloc, first + STREAM_SPAN * u64::from(count))?)?;
+            segments.push(Segment::new(alloc, first + STREAM_SPAN * u64::from(count))?)?;
         }
-        Ok(Streams { rings, contexts })
+        Ok(Streams { segments, contexts })
     }
 
     pub(crate) fn contexts(&self) -> &StreamArray<STREAM_ENTRIES>
@@ -54,14 +91,39 @@ impl Streams {
         &self.contexts
     }
 
+    // A stream's ring but for its consumer's end.
     #[inline(always)]
-    pub(crate) fn ring(&self, stream: u16) -> &CycleRing<STREAM_RING_PLACES>
+    fn segment(&self, stream: u16) -> &Segment<STREAM_RING_PLACES>
         requires some { 0 < stream }
         requires last { stream ≤ STREAMS }
-        ensures { result.now ≡ stream_ring self.now stream }
+        ensures ring { stream_ring self.now stream ≡ record result.now { got = (stream_ring self.now stream).got } }
+        ensures standing { IsRing STREAM_RING_PLACES (stream_ring self.now stream) }
     {
         let place = stream as usize - 1;
-        &self.rings[place]
+        &self.segments[place]
+    }
+
+    // The same, and its consumer's end.
+    #[inline(always)]
+    fn ring(&self, stream: u16) -> (&Segment<STREAM_RING_PLACES>, End)
+        requires some { 0 < stream }
+        requires last { stream ≤ STREAMS }
+        ensures ring { stream_ring self.now stream ≡ with_consumer STREAM_RING_PLACES result.0.now result.1 }
+        ensures consumer { IsConsumer STREAM_RING_PLACES result.0.now result.1 }
+    {
+        let segment = &self.segments[stream as usize - 1];
+        let end = consumer(segment, &self.contexts, stream);
+        (segment, end)
+    }
+
+    #[inline(always)]
+    pub(crate) fn room(&self, stream: u16) -> usize
+        requires some { 0 < stream }
+        requires last { stream ≤ STREAMS }
+        ensures room { result + length (stream_ring self.now stream).put ≡ STREAM_RING_PLACES - 2 }
+        ensures standing { IsRing STREAM_RING_PLACES (stream_ring self.now stream) }
+    {
+        self.segment(stream).room()
     }
 
     #[inline(always)]
@@ -81,8 +143,29 @@ impl Streams {
         }) }
         ensures full { OnErr result (self.new ≡ self.old) }
     {
-        let ring = &mut self.rings[stream as usize - 1];
-        ring.push_td(trbs)
+        let segment = &mut self.segments[stream as usize - 1];
+        segment.push_td(trbs)
+    }
+
+    pub(crate) fn place(&self, stream: u16) -> (u64, bool)
+        requires some { 0 < stream }
+        requires last { stream ≤ STREAMS }
+        ensures place { let ring = stream_ring self.now stream in result ≡
+            (pointer_of STREAM_RING_PLACES ring (length ring.put), cycle_of STREAM_RING_PLACES ring (length ring.put)) }
+        ensures unused { let ring = stream_ring self.now stream in (k : ℕ) → k < length ring.put → pointer_of STREAM_RING_PLACES ring k ≢ result.0 }
+    {
+        self.segment(stream).place()
+    }
+
+    #[inline(always)]
+    pub(crate) fn front(&self, stream: u16) -> Option<(u64, Trb)>
+        requires some { 0 < stream }
+        requires last { stream ≤ STREAMS }
+        ensures front { result ≡ front_of STREAM_RING_PLACES (stream_ring self.now stream) }
+        ensures pending { let ring = stream_ring self.now stream in IsSome result ↔ (ring.got < length ring.put) }
+    {
+        let (segment, end) = self.ring(stream);
+        segment.front(end)
     }
 
     #[inline(always)]
@@ -92,10 +175,43 @@ impl Streams {
         requires pending { (stream_ring self.old stream).got < length (stream_ring self.old stream).put }
         ensures { let ring = stream_ring self.old stream in self.new ≡ slice_set self.old (stream - 1) (record ring { got = ring.got + 1 }) }
     {
-        let ring = &mut self.rings[stream as usize - 1];
-        ring.advance();
-        let (pointer, cycle) = ring.dequeue();
-        self.contexts.set(stream, pointer, cycle).unwrap();
+        let segment = &self.segments[stream as usize - 1];
+        let end = consumer(segment, &self.contexts, stream);
+        let next = segment.advance(end);
+        keep(segment, &mut self.contexts, stream, next);
+    }
+
+    #[inline(always)]
+    pub(crate) fn consumed(&self, stream: u16, pointer: u64) -> Option<Trb>
+        requires some { 0 < stream }
+        requires last { stream ≤ STREAMS }
+        ensures consumed { result ≡ consumed_at STREAM_RING_PLACES (stream_ring self.now stream) pointer }
+        ensures known { let ring = stream_ring self.now stream in
+            IfSome result (λ trb. (k : ℕ) × IsConsumed STREAM_RING_PLACES ring k pointer × (slice_get ring.put k ≡ Some trb)) }
+    {
+        let (segment, end) = self.ring(stream);
+        segment.consumed(end, pointer)
+    }
+
+    #[inline(always)]
+    pub(crate) fn consumed_chain(&self, stream: u16, pointer: u64) -> Option<bool>
+        requires some { 0 < stream }
+        requires last { stream ≤ STREAMS }
+        ensures { result ≡ option_map has_chain (consumed_at STREAM_RING_PLACES (stream_ring self.now stream) pointer) }
+    {
+        let (segment, end) = self.ring(stream);
+        segment.consumed_chain(end, pointer)
+    }
+
+    #[inline(always)]
+    pub(crate) fn oldest(&self, stream: u16) -> Option<(u64, Trb)>
+        requires some { 0 < stream }
+        requires last { stream ≤ STREAMS }
+        ensures oldest { result ≡ oldest_of STREAM_RING_PLACES (stream_ring self.now stream) }
+        ensures known { IfSome result (λ at. IsConsumed STREAM_RING_PLACES (stream_ring self.now stream) 0 at.0) }
+    {
+        let (segment, end) = self.ring(stream);
+        segment.oldest(end)
     }
 
     pub(crate) fn set_dequeue(
@@ -111,10 +227,10 @@ impl Streams {
             → let ring = stream_ring self.old stream in self.new ≡ slice_set self.old (stream - 1) (record ring { got = k }) }
         ensures refused { OnErr result (self.new ≡ self.old) }
     {
-        let ring = &mut self.rings[stream as usize - 1];
-        ring.set_dequeue(pointer, cycle)?;
-        let (place, state) = ring.dequeue();
-        self.contexts.set(stream, place, state).unwrap();
+        let segment = &self.segments[stream as usize - 1];
+        let end = consumer(segment, &self.contexts, stream);
+        let pending = segment.set_dequeue(end, pointer, cycle)?;
+        keep(segment, &mut self.contexts, stream, pending);
         Ok(())
     }
 
@@ -134,10 +250,10 @@ impl Streams {
             → let ring = stream_ring self.old stream in self.new ≡ slice_set self.old (stream - 1) (record ring { got = k }) }
         ensures refused { OnErr result (self.new ≡ self.old) }
     {
-        let ring = &mut self.rings[stream as usize - 1];
-        ring.move_dequeue(pointer, cycle)?;
-        let (end, state) = ring.dequeue();
-        self.contexts.set(stream, end, state).unwrap();
+        let segment = &self.segments[stream as usize - 1];
+        let end = consumer(segment, &self.contexts, stream);
+        let moved = segment.move_dequeue(end, pointer, cycle)?;
+        keep(segment, &mut self.contexts, stream, moved);
         Ok(())
     }
 
@@ -149,7 +265,19 @@ impl Streams {
         ensures { (k : ℕ) → IsConsumed STREAM_RING_PLACES (stream_ring self.old stream) k pointer
             → self.new ≡ slice_set self.old (stream - 1) (reclaimed STREAM_RING_PLACES (k + 1) (stream_ring self.old stream)) }
     {
-        let ring = &mut self.rings[stream as usize - 1];
-        ring.reclaim(pointer);
+        let segment = &mut self.segments[stream as usize - 1];
+        segment.reclaim(pointer);
+    }
+
+    pub(crate) fn image(&self, stream: u16, place: usize) -> Option<[u8; 16]>
+        requires some { 0 < stream }
+        requires last { stream ≤ STREAMS }
+        ensures item { let ring = stream_ring self.now stream in (k : ℕ) → k < STREAM_RING_PLACES - 1
+            → place ≡ place_of STREAM_RING_PLACES ring k → result ≡ item_image STREAM_RING_PLACES ring k }
+        ensures link { let ring = stream_ring self.now stream in (k : ℕ) → k < STREAM_RING_PLACES - 1 → place_of STREAM_RING_PLACES ring k ≡ STREAM_RING_PLACES - 2
+            → place ≡ STREAM_RING_PLACES - 1 → result ≡ link_image STREAM_RING_PLACES ring k }
+        ensures in_use { IsSome result → (k : ℕ) × IsInUse STREAM_RING_PLACES (stream_ring self.now stream) k place }
+    {
+        self.segment(stream).image(place)
     }
 }

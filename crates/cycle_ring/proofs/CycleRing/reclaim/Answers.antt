@@ -1,53 +1,9 @@
--- The one item at the address is the one that stands at the place that was found.
-use Rattle.std.proofs.Common.{◌≡◌, ◌+◌, ◌-◌, ◌%◌, ◌<◌, ◌≤◌, ℕ, Option, Some, IfSome, ap, arith, sym, ◌∙◌}
-use Rattle.std.specs.Prelude.{option_map}
-use Rattle.std.proofs.Math.Nat.{mod-add-mod}
-use Rattle.std.proofs.lemmas.Option.{same_Some}
-use Rattle.ring_ends.specs.EndLaws.{distance-place}
-use Rattle.cycle_ring.specs.Ring.{Ring, item_at, item_in, pointer_of}
-use Rattle.cycle_ring.proofs.Names.{item_at-pointer_of}
-use Rattle.cycle_ring.proofs.Shifts.{IsShifted-reclaimed}
-use Rattle.cycle_ring.proofs.Segment.{IsSegment-reclaimed, within-got, shown-segment, shows-segment}
+-- A consumed TRB is freed beside its consumer's end.
+use Rattle.std.proofs.Common.{subst, sym}
+use Rattle.cycle_ring.specs.Ring.{Ring, IsConsumed}
 use Rattle.cycle_ring.proofs.CycleRing.reclaim.Goals as goal
-
--- the place behind that of an item
-behind : (m at place k next : ℕ) → place < m → item_in m (at % m) place ≡ k → next ≡ (place + 1) % m → next ≡ (at + (k + 1)) % m
-behind m at place k next below is behind_is =
-    let stands = distance-place m at place below in
-    let there : (at + k) % m ≡ place = ap (λ (i : ℕ). (at + i) % m) (sym is) ∙ stands.1 in
-    behind_is ∙ ap (λ (p : ℕ). (p + 1) % m) (sym there) ∙ mod-add-mod (at + k) m 1 ∙ ap (λ (x : ℕ). x % m) (omega arith)
-
--- the place that is first then
-next-place : (n : ℕ) (r : Ring) (found : Option ℕ) (place k pointer next : ℕ) → 4 ≤ n → k < n - 1 → pointer ≡ pointer_of n r k
-    → option_map (item_in (n - 1) (r.at % (n - 1))) found ≡ item_at n r pointer → IfSome found (λ place. place < n - 1) → found ≡ Some place
-    → next ≡ (place + 1) % (n - 1) → next ≡ (r.at + (k + 1)) % (n - 1)
-next-place n r found place k pointer next least below is named within there behind_is =
-    let names : item_at n r pointer ≡ Some k = ap (item_at n r) is ∙ item_at-pointer_of n k r least below in
-    let item : Some (item_in (n - 1) (r.at % (n - 1)) place) ≡ Some k =
-    ap (option_map (item_in (n - 1) (r.at % (n - 1)))) (sym there) ∙ named ∙ names in
-    behind (n - 1) r.at place k next (rw there at within) (same_Some _ k item) behind_is
 
 pub invariant_of-self : goal.invariant_of-self
 invariant_of-self g c =
-    let segment = rw c.self.view_is at c.self.invariant in
-    let consumed = c.requires.1 in
-    let next = next-place g.row.N c.args.self.now c.place_at.result c.unwrap-place.result c.requires.0 c.args.pointer c.ahead-self-inside.result
-    segment.ring.least_places (within-got g.row.N _ _ _ _ _ _ segment consumed.0) consumed.1 c.place_at.ensures.place c.place_at.ensures.within
-    c.unwrap-place.ensures c.ahead-self-inside.ensures in
-    let new = IsSegment-reclaimed g.row.N (c.requires.0 + 1) _ _ _ _ _ c.args.self.now segment (omega (arith, consumed.0)) next in
-    shows-segment g.row.N _ _ _ _ _ _ (ap (λ (q : Ring). q.base) c.self.view_is) new
-
-pub returns-clause-freed : goal.returns-clause-freed
-returns-clause-freed g c k consumed =
-    let segment = rw c.self.view_is at c.self.invariant in
-    let next = next-place g.row.N c.args.self.now c.place_at.result c.unwrap-place.result k c.args.pointer c.ahead-self-inside.result
-    segment.ring.least_places (within-got g.row.N _ _ _ _ _ _ segment consumed.0) consumed.1 c.place_at.ensures.place c.place_at.ensures.within
-    c.unwrap-place.ensures c.ahead-self-inside.ensures in
-    let new = IsSegment-reclaimed g.row.N (k + 1) _ _ _ _ _ c.args.self.now segment (omega (arith, consumed.0)) next in
-    shown-segment g.row.N _ _ _ _ _ _ (ap (λ (q : Ring). q.base) c.self.view_is) new
-
-pub returns-clause-shifted : goal.returns-clause-shifted
-returns-clause-shifted g c k consumed i =
-    let segment = rw c.self.view_is at c.self.invariant in
-    let freed = returns-clause-freed g c k consumed in
-    rw freed (IsShifted-reclaimed g.row.N (k + 1) c.args.self.now i (omega (arith, segment.ring.least_places)))
+    let was = subst (λ (r : Ring). IsConsumed g.row.N r c.requires.0 c.args.pointer) (sym c.self.view_is) c.requires.1 in
+    (c.reclaim.ensures.consumer c.requires.0 c.self.inside.dequeue c.self.invariant was).0

@@ -3,7 +3,7 @@ use Rattle.std.proofs.Common.{Bool, true, false, ap, ◌∙◌}
 use Rattle.xhci_trb.specs.declared.Trb.TheVariants.{Link}
 use Rattle.xhci_trb.specs.Text.{text}
 use Rattle.ring_ends.specs.HeldLaws.{IsText-encoded}
-use Rattle.cycle_ring.proofs.Segment.{HoldsTrbs-put, HoldsTrbs-link, IsEnd-inside, IsEnd-past}
+use Rattle.cycle_ring.proofs.Held.{HoldsTrbs-put, HoldsTrbs-link, IsEnd-inside, IsEnd-past}
 use Rattle.cycle_ring.proofs.places.put.Goals as goal
 
 pub returns-then-end-clause-holds : goal.returns-then-end-clause-holds

@@ -1,0 +1,40 @@
+-- The consumer's end is at the first pending item, if there is one.
+use Rattle.std.proofs.Common.{ℕ, ◌+◌, ◌-◌, ◌*◌, ◌<◌, refl, sym, ap, ◌∙◌, arith}
+use Rattle.std.proofs.lemmas.Bool.{false≢true}
+use Rattle.std.proofs.lemmas.Option.{none-some, slice_get_within}
+use Rattle.ring_ends.specs.HeldLaws.{item_of}
+use Rattle.cycle_ring.specs.Segment.{items_before}
+use Rattle.cycle_ring.proofs.Consumers.{within-consumer}
+use Rattle.cycle_ring.proofs.segment.Segment.front.Goals as goal
+
+pub trb_at-requires : goal.trb_at-requires
+trb_at-requires g c = omega (arith, within-consumer g.row.N c.args.self.now c.args.end c.requires)
+
+pub pointer-requires : goal.pointer-requires
+pointer-requires g c = omega (arith, within-consumer g.row.N c.args.self.now c.args.end c.requires)
+
+pub returns-in_err-trb : goal.returns-in_err-trb
+returns-in_err-trb g c =
+    let r = c.args.self.now in
+    let k = items_before g.row.N r c.args.end in
+    let within : k < g.row.N - 1 = omega (arith, c.requires.ring.consumed, c.requires.ring.room_left, c.requires.ring.least_places) in
+    let none = sym c.in_err-trb.was ∙ c.trb_at.ensures k within c.requires.stands in
+    rw (c.from_residual.ensures) (record {
+      front = rw (← none) refl;
+      pending = (
+        λ some. absurd (false≢true some),
+        λ less. let item = item_of r.put k less in absurd (none-some item.0 (none ∙ item.1)),
+      );
+    })
+
+pub returns : goal.returns
+returns g c =
+    let r = c.args.self.now in
+    let k = items_before g.row.N r c.args.end in
+    let within : k < g.row.N - 1 = omega (arith, c.requires.ring.consumed, c.requires.ring.room_left, c.requires.ring.least_places) in
+    let some = sym c.in_ok-trb.was ∙ c.trb_at.ensures k within c.requires.stands in
+    let pointer = c.pointer.ensures ∙ ap (λ (place : ℕ). r.base + 16 * place) c.requires.stands.place in
+    record {
+      front = rw (← some, pointer) refl;
+      pending = (λ _. slice_get_within r.put k c.in_ok-trb.trb (sym some), λ _. refl);
+    }

@@ -6,6 +6,8 @@ pub mod Seeing
 pub mod Reclaiming
 pub mod Freeing
 pub mod Ends
+pub mod Awaiting
+pub mod Matching
 pub mod Replying
 pub mod Apart
 pub mod Changing

@@ -8,6 +8,7 @@ pub mod Left
 pub mod Retirement
 pub mod Events
 pub mod Awaited
+pub mod LeftBy
 pub mod Replies
 pub mod NextReply
 pub mod Laws

@@ -5,6 +5,7 @@ ghost use Rattle.arrayvec.specs.ArrayVec.{array_vec_len};
 ghost use Rattle.frame_store.specs.Buffers.{held_for};
 ghost use Rattle.uas_host.specs.Events.{ended_at, event_doors, handled, handled_td, succeeded, told_on, IsEnded, Sides};
 ghost use Rattle.uas_host.specs.Awaited.{IsOfEngine, IsOfNothing, IsOfTd};
+ghost use Rattle.uas_host.specs.LeftBy.{LeavesOverByNote};
 ghost use Rattle.uas_host.specs.Sights.{notice_by};
 
 use crate::ended::{command_td_at, stream_td_at};
@@ -176,6 +177,9 @@ impl Host {
         // It is stray exactly where it is of neither, and changes nothing then.
         ensures stray { (result ≡ Handled.Stray) ↔ IsOfNothing (record { host = self.old; lines = lines.old }) frames.now event }
         ensures unchanged { result ≡ Handled.Stray → (self.new ≡ self.old) × (lines.new ≡ lines.old) × (doors.new.items ≡ doors.old.items) }
+        // A TD is left over by it only where it is the CHECK CONDITION of its own command, or the COMPLETE of an abort or a reset that
+        // noted its ticket (specs/LeftBy).
+        ensures left_over { LeavesOverByNote (record { host = self.old; lines = lines.old }) frames.now event self.new }
     {
         self.handle(lines, frames, doors, event)
     }

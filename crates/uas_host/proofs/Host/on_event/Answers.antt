@@ -1,6 +1,7 @@
 use Rattle.std.proofs.Common.{◌++◌, ◌∙◌, List, ℕ, ap}
 use Rattle.std.proofs.lemmas.List.{append-nil}
 use Rattle.uas_host.specs.Events.{Sides}
+use Rattle.uas_host.proofs.LeavingBy.{left-told}
 use Rattle.uas_host.proofs.Matching.{engine-told, kept-told, matched-told, stray-told}
 use Rattle.uas_host.proofs.Host.on_event.Goals as goal
 
@@ -20,3 +21,6 @@ returns-clause-unchanged c = λ stray.
       ap (λ (s : Sides). s.lines) kept.0,
       c.handle.ensures.doors ∙ (ap (λ (d : List ℕ). c.args.doors.now.items ++ d) kept.1 ∙ append-nil _),
     )
+
+pub returns-clause-left_over : goal.returns-clause-left_over
+returns-clause-left_over c = left-told _ _ _ _ _ c.handle.ensures.handled

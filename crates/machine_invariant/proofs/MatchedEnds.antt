@@ -25,7 +25,7 @@ use Rattle.scsi_cmd.specs.declared.Reply.{Reply}
 use Rattle.scsi_cmd.specs.declared.Reply.TheVariants.{Aborted, Status as StatusReply, Task as TaskReply}
 use Rattle.scsi_cmd.specs.declared.Task.{Task}
 use Rattle.uas_profile.specs.declared.TheConstants.{TASK_SLOT, CHUNK_BYTES}
-use Rattle.uas_profile.specs.TdStates.{is_left_over, is_over, is_pending, is_seen}
+use Rattle.shared_machine.specs.Tests.{is_left_over, is_over, is_pending, is_seen}
 use Rattle.uas_profile.specs.declared.TdState.{TdState}
 use Rattle.uas_profile.specs.declared.TdState.TheVariants.{Pending, Seen, LeftOver, Retired}
 use Rattle.shared_machine.specs.declared.Td.{Td}

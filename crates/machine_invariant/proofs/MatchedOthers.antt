@@ -19,7 +19,7 @@ use Rattle.solo_model.specs.declared.TaskProgress.TheVariants.{Moving, Ended}
 use Rattle.solo_model.specs.TaggedTask.{can_be_ended, can_go, is_noted}
 use Rattle.solo_model.specs.declared.Phase.{Phase}
 use Rattle.solo_model.specs.declared.Phase.TheVariants.{Queued, Begun, Sent, Gone}
-use Rattle.uas_profile.specs.TdStates.{is_over, is_pending, is_seen}
+use Rattle.shared_machine.specs.Tests.{is_over, is_pending, is_seen}
 use Rattle.uas_profile.specs.declared.Place.{Place}
 use Rattle.uas_profile.specs.declared.TdState.TheVariants.{Pending, LeftOver}
 use Rattle.shared_machine.specs.declared.Td.{Td}

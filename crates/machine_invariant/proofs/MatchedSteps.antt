@@ -16,7 +16,7 @@ use Rattle.scsi_cmd.specs.declared.Request.TheVariants.{Execute, Manage}
 use Rattle.scsi_cmd.specs.Held.{held_at}
 use Rattle.solo_model.specs.TaggedTask.{is_noted}
 use Rattle.solo_model.specs.TaggedTask.{reply_of}
-use Rattle.uas_profile.specs.TdStates.{is_pending}
+use Rattle.shared_machine.specs.Tests.{is_pending}
 use Rattle.uas_profile.specs.declared.Place.{Place}
 use Rattle.uas_profile.specs.Places.{command_slot}
 use Rattle.shared_machine.specs.declared.Completion.{Completion}

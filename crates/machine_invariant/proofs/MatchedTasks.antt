@@ -20,7 +20,7 @@ use Rattle.device_server.specs.Laws.{after_chunk, begun_progress}
 use Rattle.solo_model.specs.declared.Phase.{Phase}
 use Rattle.solo_model.specs.declared.Phase.TheVariants.{Queued, Begun, Sent, Gone}
 use Rattle.solo_model.specs.TaggedTask.{TaggedTask, buffer_after, carried_request, of_command, progress_left, response_to}
-use Rattle.uas_profile.specs.TdStates.{is_over, is_pending, is_seen}
+use Rattle.shared_machine.specs.Tests.{is_over, is_pending, is_seen}
 use Rattle.uas_profile.specs.declared.Place.{Place}
 use Rattle.shared_machine.specs.declared.Td.{Td}
 use Rattle.shared_machine.specs.declared.Completion.{Completion}

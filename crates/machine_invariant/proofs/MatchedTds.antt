@@ -7,7 +7,7 @@ use Rattle.uas_profile.specs.declared.Pipe.TheVariants.{Command, Status, DataIn,
 use Rattle.uas_profile.specs.declared.Direction.{Direction}
 use Rattle.uas_profile.specs.declared.Direction.TheVariants.{Nothing, ToHost, ToDevice}
 use Rattle.scsi_cmd.specs.declared.Request.{Request}
-use Rattle.uas_profile.specs.TdStates.{is_left_over}
+use Rattle.shared_machine.specs.Tests.{is_left_over}
 use Rattle.uas_profile.specs.declared.TdState.{TdState}
 use Rattle.uas_profile.specs.declared.TdState.TheVariants.{Pending, Seen, LeftOver, Retired}
 use Rattle.shared_machine.specs.declared.Td.{Td}

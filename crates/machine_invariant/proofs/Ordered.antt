@@ -17,7 +17,7 @@ use Rattle.scsi_cmd.specs.declared.Task.{Task}
 use Rattle.uas_profile.specs.declared.TheConstants.{TAGS, TASK_SLOT}
 use Rattle.uas_profile.specs.declared.Pipe.{Pipe}
 use Rattle.uas_profile.specs.declared.Pipe.TheVariants.{Command as CommandPipeName, Status as StatusPipe, DataIn, DataOut}
-use Rattle.uas_profile.specs.TdStates.{is_over, is_pending, is_seen}
+use Rattle.shared_machine.specs.Tests.{is_over, is_pending, is_seen}
 use Rattle.uas_profile.specs.Places.{command_slot, place_of}
 use Rattle.uas_profile.specs.declared.Place.{Place}
 use Rattle.uas_profile.specs.declared.TdState.{TdState}

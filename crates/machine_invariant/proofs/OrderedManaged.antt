@@ -15,7 +15,7 @@ use Rattle.uas_profile.specs.declared.TheConstants.{TASK_SLOT}
 use Rattle.solo_model.specs.TaggedTask.{can_go, is_noted}
 use Rattle.solo_model.specs.declared.Phase.{Phase}
 use Rattle.solo_model.specs.declared.Phase.TheVariants.{Queued, Begun, Sent, Gone}
-use Rattle.uas_profile.specs.TdStates.{is_pending}
+use Rattle.shared_machine.specs.Tests.{is_pending}
 use Rattle.uas_profile.specs.declared.Place.{Place}
 use Rattle.uas_profile.specs.declared.TdState.{TdState}
 use Rattle.uas_profile.specs.declared.TdState.TheVariants.{Pending, Seen, LeftOver, Retired}

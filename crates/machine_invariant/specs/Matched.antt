@@ -19,7 +19,7 @@ use Rattle.solo_model.specs.declared.Phase.TheVariants.{Queued, Begun, Sent, Gon
 use Rattle.solo_model.specs.declared.ResponseCode.{ResponseCode}
 use Rattle.solo_model.specs.declared.ResponseCode.TheVariants.{Complete, Succeeded}
 use Rattle.solo_model.specs.declared.TaskProgress.TheVariants.{Moving, Ended}
-use Rattle.uas_profile.specs.TdStates.{is_pending}
+use Rattle.shared_machine.specs.Tests.{is_pending}
 use Rattle.uas_profile.specs.declared.Place.{Place}
 use Rattle.uas_profile.specs.declared.TdState.{TdState}
 use Rattle.uas_profile.specs.declared.TdState.TheVariants.{Pending, Seen, LeftOver, Retired}

@@ -1,3 +1,4 @@
+pub mod Tests
 pub mod Td
 pub mod Part
 pub mod Pipes

@@ -23,7 +23,7 @@ use Rattle.solo_model.specs.declared.TaskProgress.TheVariants.{Moving, Ended}
 use Rattle.scsi_cmd.specs.Held.{held_at}
 use Rattle.solo_model.specs.TaggedTask.{after_notes, finds, is_noted, queued, queued_management, carried, moved, sent, reply_of}
 use Rattle.scsi_cmd.specs.Submission.{first_submit_fault, first_task_fault}
-use Rattle.uas_profile.specs.TdStates.{is_pending}
+use Rattle.shared_machine.specs.Tests.{is_pending}
 use Rattle.uas_profile.specs.declared.Place.{Place}
 use Rattle.shared_machine.specs.declared.Td.{Td}
 use Rattle.shared_machine.specs.Td.{Entry}

@@ -33,7 +33,8 @@ use Rattle.shared_machine.specs.declared.Step.TheVariants.{Submit, Task as TaskS
 use Rattle.shared_machine.specs.declared.Outcome.{Outcome}
 use Rattle.scsi_cmd.specs.declared.Task.{Task}
 use Rattle.uas_profile.specs.Places.{place_of, command_slot, tag_of}
-use Rattle.uas_profile.specs.Doors.{door, submission_doors}
+use Rattle.uas_profile.specs.Doors.{door}
+use Rattle.shared_machine.specs.Tests.{submission_bells}
 use Rattle.uas_profile.specs.Pipes.{target_of}
 use Rattle.uas_profile.specs.Pipes.{same_pipe}
 pub use Rattle.shared_machine.specs.Td.{has_data_trb, request_direction}
@@ -248,7 +249,7 @@ accepted state part place tag ticket command = (
     parts = slice_set state.parts place.client (submitted_part part place.slot ticket command);
     messages = state.messages ++ place ∷ [];
   },
-  acceptance place.client (SubmitMark (suc place.slot)) (submission_doors (is_held state) (direction_of command.op) tag),
+  acceptance place.client (SubmitMark (suc place.slot)) (submission_bells (is_held state) (direction_of command.op) tag),
 )
 
 abbrev pub answered : Shared → Part → Place → ℕ → ℕ → Command → Option SubmitFault → Shared × Outcome
@@ -279,7 +280,7 @@ managed state part place slot ticket task = (
     parts = slice_set state.parts place.client (managed_part part slot ticket task);
     messages = state.messages ++ place ∷ [];
   },
-  acceptance place.client TaskMark (submission_doors (is_held state) Nothing (tag_of place)),
+  acceptance place.client TaskMark (submission_bells (is_held state) Nothing (tag_of place)),
 )
 
 abbrev pub managed_or : Shared → Part → Place → Option ℕ → ℕ → Task → Option SubmitFault → Shared × Outcome

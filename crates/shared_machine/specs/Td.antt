@@ -15,7 +15,7 @@ use Rattle.solo_model.specs.declared.Phase.TheVariants.{Queued, Begun, Sent, Gon
 use Rattle.solo_model.specs.declared.TaskAnswer.{TaskAnswer}
 use Rattle.solo_model.specs.declared.TaskAnswer.TheVariants.{WithStatus, WithResponse}
 use Rattle.device_server.specs.declared.Answer.TheVariants.{Good, Check}
-use Rattle.uas_profile.specs.TdStates.{is_left_over, is_over, is_pending, is_seen}
+use Rattle.shared_machine.specs.Tests.{is_left_over, is_over, is_pending, is_seen}
 use Rattle.uas_profile.specs.declared.TdState.{TdState}
 use Rattle.uas_profile.specs.declared.TdState.TheVariants.{Pending, Seen, LeftOver, Retired}
 use Rattle.shared_machine.specs.declared.Td.{Td}

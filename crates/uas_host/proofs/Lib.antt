@@ -6,6 +6,10 @@ pub mod Seeing
 pub mod Reclaiming
 pub mod Freeing
 pub mod Ends
+pub mod Awaiting
+pub mod Matching
+pub mod Leaving
+pub mod LeavingBy
 pub mod Replying
 pub mod Apart
 pub mod Changing

@@ -1,12 +1,12 @@
 -- The units in a tag's buffers.
-use Rattle.std.proofs.Common.{◌+◌, ◌*◌, sym, ◌/◌, ◌%◌, None, ◌≡◌, ℕ, zero, suc, ◌-◌, ◌∷◌, [], List, length, Some, arith, refl, ap, ◌∙◌, length-append}
+use Rattle.std.proofs.Common.{◌+◌, ◌*◌, ◌/◌, ◌%◌, None, ◌≡◌, ℕ, zero, suc, ◌-◌, ◌∷◌, [], List, length, Some, arith, refl, ap, ◌∙◌, length-append}
 use Rattle.std.specs.Prelude.{slice_set, slice_index_or}
 use Rattle.uas_profile.specs.declared.TheConstants.{COMMAND_BYTES}
 use Rattle.uas_iu.specs.declared.Iu.{Iu}
 use Rattle.uas_iu.specs.declared.Iu.TheVariants.{Command, Sense, Response, Task}
 use Rattle.uas_iu.specs.Faults.{first_fault}
 use Rattle.uas_host.specs.Events.{answer_by, answer_in}
-use Rattle.uas_iu.specs.Units.{unit_text, Fits, IsTextOf}
+use Rattle.uas_iu.specs.Units.{unit_text, Fits}
 use Rattle.frame_store.specs.declared.TagBuffers.{TagBuffers}
 use Rattle.frame_store.specs.Buffers.{held_for, no_buffers, with_held, with_lent}
 

@@ -8,9 +8,8 @@ use Rattle.frame_store.specs.declared.TagBuffers.{TagBuffers}
 use Rattle.frame_store.specs.Buffers.{held_for}
 use Rattle.uas_host.specs.declared.EndedTd.{EndedTd}
 use Rattle.uas_host.specs.declared.Handled.TheVariants.{Matched}
-use Rattle.uas_host.specs.declared.Notice.{Notice}
 use Rattle.uas_host.specs.declared.seen.Sight.{Sight}
-use Rattle.uas_host.specs.Events.{Sides, freed_on, handled_td, host_seen, told_on}
+use Rattle.uas_host.specs.Events.{freed_on, handled_td, host_seen, told_on}
 use Rattle.uas_host.specs.Sights.{notice_by}
 use Rattle.uas_host.specs.State.{HostState}
 

@@ -7,6 +7,8 @@ pub mod Sights
 pub mod Left
 pub mod Retirement
 pub mod Events
+pub mod Awaited
+pub mod LeftBy
 pub mod Replies
 pub mod NextReply
 pub mod Laws

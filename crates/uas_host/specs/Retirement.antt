@@ -1,5 +1,5 @@
 -- Retirement of a left-over TD (xHCI 4.6.9 and 4.6.10): Stop Endpoint, then Set TR Dequeue Pointer to the enqueue place.
-use Rattle.std.specs.Prelude.{ℕ, zero, suc, ◌+◌, ◌≤◌, ◌-◌, ◌==◌, nat_lt, Bool, false, ◌&&◌, if◌then◌else◌, List, [], ◌∷◌, ◌++◌, length, filter, map, Option}
+use Rattle.std.specs.Prelude.{ℕ, zero, suc, ◌+◌, ◌≤◌, ◌-◌, nat_lt, Bool, false, ◌&&◌, if◌then◌else◌, List, [], ◌∷◌, ◌++◌, length, filter, map, Option}
 use Rattle.std.specs.Prelude.{Some, None, is_none, option_map, unwrap_or}
 use Rattle.std.specs.List.{range_with_len}
 use Rattle.std.specs.Option.{option_map_or}
@@ -8,7 +8,7 @@ use Rattle.xhci_trb.specs.declared.Trb.TheVariants.{StopEndpoint, SetDequeue}
 use Rattle.cycle_ring.specs.Ring.{Ring, cycle_of, item_at, pointer_of, reclaimed}
 use Rattle.uas_profile.specs.declared.Pipe.{Pipe}
 use Rattle.uas_profile.specs.declared.TheConstants.{STREAMS, ENGINE_RING_PLACES, SLOT}
-use Rattle.uas_profile.specs.Pipes.{number_of, same_pipe}
+use Rattle.uas_profile.specs.Pipes.{same_pipe}
 use Rattle.stream_array.specs.Map.{places_of}
 use Rattle.stream_array.specs.Rings.{LinesState, ring_of, with_engine, with_ring}
 use Rattle.uas_host.specs.declared.Notice.TheVariants.{TdRetired}

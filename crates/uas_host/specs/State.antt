@@ -1,5 +1,5 @@
 -- What a host knows, and what is true of it.
-use Rattle.std.specs.Prelude.{◌≡◌, ℕ, ◌+◌, ◌<◌, ◌≤◌, ◌==◌, Bool, true, false, cond, ◌&&◌, List, [], ◌∷◌, ◌++◌, length, replicate, Option, Some, None}
+use Rattle.std.specs.Prelude.{◌≡◌, ℕ, ◌<◌, ◌≤◌, Bool, true, false, cond, ◌&&◌, List, [], ◌∷◌, ◌++◌, length, replicate, Option, Some, None}
 use Rattle.std.specs.Prelude.{IfSome, slice_set, slice_index_or}
 use Rattle.uas_profile.specs.TdStates.{is_seen, is_over, one_if, times_in}
 use Rattle.uas_profile.specs.Pipes.{HasStreams}
@@ -7,7 +7,7 @@ use Rattle.scsi_cmd.specs.Request.{is_command}
 use Rattle.uas_profile.specs.declared.TheConstants.{TAGS, MAX_CLIENTS}
 use Rattle.scsi_cmd.specs.Held.{AllHeld, held_at}
 use Rattle.uas_profile.specs.declared.TdState.{TdState}
-use Rattle.uas_profile.specs.declared.TdState.TheVariants.{Pending, Seen, LeftOver, Retired}
+use Rattle.uas_profile.specs.declared.TdState.TheVariants.{LeftOver, Retired}
 use Rattle.uas_host.specs.declared.HostAnswer.{HostAnswer}
 use Rattle.uas_host.specs.declared.HostAnswer.TheVariants.{Status, Response}
 use Rattle.scsi_cmd.specs.declared.Request.{Request}

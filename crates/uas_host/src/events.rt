@@ -1,9 +1,11 @@
 // Events.
-ghost use Rattle.std.specs.Prelude.{◌≡◌, ◌+◌, ◌-◌, ◌++◌, ◌≤◌, List, IfSome, ℕ, drop, length, option_map, take};
+ghost use Rattle.std.specs.Prelude.{◌≡◌, ◌↔◌, ◌+◌, ◌-◌, ◌++◌, ◌≤◌, List, IfSome, ℕ, drop, length, option_map, take};
 ghost use Rattle.uas_profile.specs.declared.TheConstants.{STREAMS};
 ghost use Rattle.arrayvec.specs.ArrayVec.{array_vec_len};
 ghost use Rattle.frame_store.specs.Buffers.{held_for};
 ghost use Rattle.uas_host.specs.Events.{ended_at, event_doors, handled, handled_td, succeeded, told_on, IsEnded, Sides};
+ghost use Rattle.uas_host.specs.Awaited.{IsOfEngine, IsOfNothing, IsOfTd};
+ghost use Rattle.uas_host.specs.LeftBy.{LeavesOverByNote};
 ghost use Rattle.uas_host.specs.Sights.{notice_by};
 
 use crate::ended::{command_td_at, stream_td_at};
@@ -125,16 +127,9 @@ impl Host {
         }
     }
 
-    /// Takes in an event, any event. It is `Matched` where it is a transfer event whose pointer is that of the
-    /// last TRB of a consumed TD that still waits, with code Success (Short Packet for a status), and for a status
-    /// where the bytes of the status buffer less the residual are a Sense unit of that tag, for a task
-    /// management a Response unit. Its TD is seen then, its TRBs are free again, and a command that is ready now
-    /// is the last of the ready ones; the response COMPLETE leaves over the TDs of each noted command whose
-    /// status wasn't seen. It is `Engine` where a retirement is under way and it is a completion of code Success whose
-    /// pointer is that of the consumed command under way: the retirement goes on, or the TD is retired, its TRBs
-    /// are free again, and each stream of the pipe with a pending TRB is rung. Any other event is `Stray`, and
-    /// nothing changes. Asks room for a doorbell of each stream.
-    pub fn on_event(
+    /// Takes in an event, by its kind.
+    #[inline(always)]
+    fn handle(
         &mut self,
         lines: &mut Lines,
         frames: &Frames,
@@ -154,5 +149,38 @@ impl Host {
             } => self.on_transfer(lines, frames, pointer, residual, code),
             Event::Command { pointer, code, .. } => self.on_completion(lines, doors, pointer, code),
         }
+    }
+
+    /// Takes in an event, any event. It is `Matched` where it is a transfer event whose pointer is that of the
+    /// last TRB of a consumed TD that still waits, with code Success (Short Packet for a status), and for a status
+    /// where the bytes of the status buffer less the residual are a Sense unit of that tag, for a task
+    /// management a Response unit. Its TD is seen then, its TRBs are free again, and a command that is ready now
+    /// is the last of the ready ones; the response COMPLETE leaves over the TDs of each noted command whose
+    /// status wasn't seen. It is `Engine` where a retirement is under way and it is a completion of code Success whose
+    /// pointer is that of the consumed command under way: the retirement goes on, or the TD is retired, its TRBs
+    /// are free again, and each stream of the pipe with a pending TRB is rung. Any other event is `Stray`, and
+    /// nothing changes. Asks room for a doorbell of each stream.
+    pub fn on_event(
+        &mut self,
+        lines: &mut Lines,
+        frames: &Frames,
+        doors: &mut ArrayVec<u32, STREAM_ENTRIES>,
+        event: Event,
+    ) -> Handled
+        requires { array_vec_len doors.old + STREAMS ≤ STREAM_ENTRIES }
+        ensures handled { handled (record { host = self.old; lines = lines.old }) frames.now event ≡ (record { host = self.new; lines = lines.new }, result) }
+        ensures doors { doors.new.items ≡ doors.old.items ++ event_doors (record { host = self.old; lines = lines.old }) event }
+        // It is matched exactly where it is of a TD of that tag that the host waits for, and Engine exactly where it is of the engine
+        // command under way (specs/Awaited).
+        ensures matched { (tag : ℕ) → (result ≡ Handled.Matched tag) ↔ IsOfTd (record { host = self.old; lines = lines.old }) frames.now event tag }
+        ensures engine { (result ≡ Handled.Engine) ↔ IsOfEngine (record { host = self.old; lines = lines.old }) event }
+        // It is stray exactly where it is of neither, and changes nothing then.
+        ensures stray { (result ≡ Handled.Stray) ↔ IsOfNothing (record { host = self.old; lines = lines.old }) frames.now event }
+        ensures unchanged { result ≡ Handled.Stray → (self.new ≡ self.old) × (lines.new ≡ lines.old) × (doors.new.items ≡ doors.old.items) }
+        // A TD is left over by it only where it is the CHECK CONDITION of its own command, or the COMPLETE of an abort or a reset that
+        // noted its ticket (specs/LeftBy).
+        ensures left_over { LeavesOverByNote (record { host = self.old; lines = lines.old }) frames.now event self.new }
+    {
+        self.handle(lines, frames, doors, event)
     }
 }

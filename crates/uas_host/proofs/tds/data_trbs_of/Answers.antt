@@ -1,4 +1,4 @@
-use Rattle.std.proofs.Common.{◌+◌, ◌*◌, ◌∙◌, arith, length-set}
+use Rattle.std.proofs.Common.{◌∙◌, arith, length-set}
 use Rattle.uas_host.proofs.Chains.{next_trb}
 use Rattle.uas_host.specs.Tds.{data_td}
 use Rattle.uas_host.proofs.tds.data_trbs_of.Goals as goal

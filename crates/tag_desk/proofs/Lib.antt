@@ -4,3 +4,4 @@ pub mod Dealing
 pub mod Holding
 pub mod Seating
 pub mod Settling
+pub mod Finding

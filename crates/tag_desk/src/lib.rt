@@ -33,7 +33,7 @@ ghost use Rattle.std.specs.Prelude.{◌≡◌, ℕ, ◌+◌, ◌-◌, ◌*◌, �
 ghost use Rattle.tag_desk.specs.Slips.{ticket_in, IsAsk, IsEnd};
 ghost use Rattle.tag_desk.specs.Seats.{IsClientOf, IsPumpOf, IsTagOf, IsServed, IsFreeAt, IsAway};
 ghost use Rattle.tag_desk.specs.Seats.{posting, finishing, ReapsAt, ClaimsAt, AreNewCustomers, AreServersBelow};
-ghost use Rattle.tag_desk.specs.Left.{IsAllClientsOf, IsAllPumpsOf, left_of};
+ghost use Rattle.tag_desk.specs.Left.{HasEachClientOf, HasEachPumpOf, IsAllClientsOf, IsAllPumpsOf, left_of};
 ghost use Rattle.uas_profile.specs.declared.TheConstants.{MAX_CLIENTS};
 
 mod closing;
@@ -305,12 +305,12 @@ impl Desk {
         seat.lines[index] = Some(Work::finish(claim, self, slip));
     }
 
-    /// What stands on the desk, once all its seats are back, in order: each ticket that a client has open is in one of
-    /// the lists, once, with the slip that the client posted or the one with which the pump finished. Desk and seats come
-    /// back where there is no memory for the lists.
+    /// What stands on the desk, once all its seats are back, in whatever order: by rising tag, each ticket that a client has
+    /// open is in one of the lists, once, with the slip that the client posted or the one with which the pump finished.
+    /// Desk and seats come back where there is no memory for the lists.
     pub fn close(self, alloc: Global, seats: Seats) -> Result<Left, (Desk, Seats)>
-        requires clients { IsAllClientsOf self seats.clients.items }
-        requires pumps { IsAllPumpsOf self seats.pumps.items }
+        requires clients { HasEachClientOf self seats.clients.items }
+        requires pumps { HasEachPumpOf self seats.pumps.items }
         ensures { MatchResult result (λ left. left ≡ left_of self seats.clients.items seats.pumps.items) (λ back. (back.0 ≡ self) × (back.1 ≡ seats)) }
     {
         let Ok(mut lists) = Lists::with_room(alloc, TAGS * self.clients) else {

@@ -5,3 +5,4 @@ pub mod Holding
 pub mod Seating
 pub mod Settling
 pub mod Finding
+pub mod Keeping

@@ -63,7 +63,7 @@ returns-clause-pumps c =
     let now = c.take_line.new.self in
     let new = taken_out seats k c.args.index c.index_mut.result.now now first.within c.index_mut.ensures.value c.take_line.ensures.rest in
     let own : IsPumpOf desk now = subst (IsPumpOf desk) (sym new) (own_setting desk (get_or seats k no_server) c.args.index None (c.requires.pumps.own k no_server
-    first.within) refl) in
+    first.within) refl refl) in
     record {
       own =
           λ j d within.

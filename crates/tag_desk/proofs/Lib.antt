@@ -4,3 +4,5 @@ pub mod Dealing
 pub mod Holding
 pub mod Seating
 pub mod Settling
+pub mod Finding
+pub mod Keeping

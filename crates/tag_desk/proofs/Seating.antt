@@ -10,7 +10,9 @@ use Rattle.std.proofs.lemmas.List.{set-set, set-get_or, get_or-set_same, get_or-
 use Rattle.tag_desk.specs.declared.Slip.{Slip}
 use Rattle.tag_desk.specs.declared.rule.ClientView.TheVariants.{Free}
 use Rattle.tag_desk.specs.declared.rule.ClientView.{ClientView}
-use Rattle.tag_desk.specs.Seats.{MadeDesk, Customer, Server, ClientLine, WorkLine, HeldClaim, IsClientOf, IsPumpOf, IsServed, IsOnTable, IsFreeAt}
+use Rattle.tag_desk.specs.Seats.{MadeDesk, Customer, Server, ClientLine, WorkLine, HeldClaim, IsClientOf, IsPumpOf, IsServed, IsOnTable, IsFreeAt, ended_ticket, finished_ticket, finishing}
+use Rattle.tag_desk.specs.Slips.{IsEnd, ticket_in}
+use Rattle.tag_desk.specs.declared.Slip.TheVariants.{Ask, AskTask, Answer, Refused, Unserved}
 use Rattle.tag_desk.specs.Seats.{IsAway, ReapsAt, ClaimsAt, with_view, IsTagOf, new_line, AreNewCustomers, AreServersBelow}
 use Rattle.atomic_table.specs.Seated.{TableId}
 use Rattle.tag_desk.specs.declared.rule.WorkView.TheVariants.{Idle}
@@ -63,21 +65,42 @@ free_reaping old new tag y reaps =
     let line : ClientLine = record { table = reaps.0.table; index = reaps.0.index; view = Free (reaps.1 + 1) } in
     subst (λ s. IsFreeAt s tag) (sym reaps.6) (line, view_here old.lines k (Free (reaps.1 + 1)) reaps.0 reaps.3, (reaps.1 + 1, refl))
 
+-- what it finished names the ticket that it finished
+abbrev IsEndedWell : Option WorkLine → Type 0
+IsEndedWell line = ended_ticket line ≡ finished_ticket line
+
 -- a pump's seat stays one of the desk
 pub own_setting : (desk : MadeDesk) (seat : Server) (k : ℕ) (o : Option WorkLine) → IsPumpOf desk seat → IsOnTable desk.table o
-    → IsPumpOf desk (record { pump = seat.pump; lines = set seat.lines k o })
-own_setting desk seat k o own there = (
+    → ended_ticket o ≡ finished_ticket o → IsPumpOf desk (record { pump = seat.pump; lines = set seat.lines k o })
+own_setting desk seat k o own there ended = (
   length-set seat.lines k o ∙ own.0,
   λ j d within.
       let short : j < length seat.lines = omega (arith, length-set seat.lines k o) in
       dite (ℕ_discrete j k)
       (λ (e : j ≡ k). subst (IsOnTable desk.table) (sym (get_or-set_at seat.lines k j o d e (omega arith))) there)
       (λ (e : j ≢ k). subst (IsOnTable desk.table) (sym (get_or-set_other seat.lines k j o d e)) (own.1 j d short)),
+  λ j d within.
+      let short : j < length seat.lines = omega (arith, length-set seat.lines k o) in
+      dite (ℕ_discrete j k)
+      (λ (e : j ≡ k). subst IsEndedWell (sym (get_or-set_at seat.lines k j o d e (omega arith))) ended)
+      (λ (e : j ≢ k). subst IsEndedWell (sym (get_or-set_other seat.lines k j o d e)) (own.2 j d short)),
 )
+
+-- an end of a ticket names it
+pub end_named : (tag n : ℕ) (y : Slip) → IsEnd tag n y → ticket_in y ≡ n
+end_named tag n (Ask m command) ends = absurd ends
+end_named tag n (AskTask m task) ends = absurd ends
+end_named tag n (Answer reply) ends = ends.1
+end_named tag n (Refused m fault buffer) ends = ends
+end_named tag n (Unserved m buffer) ends = ends
+
+pub own_finishing : (desk : MadeDesk) (seat : Server) (claim : HeldClaim) (y : Slip) → IsPumpOf desk seat → claim.table ≡ desk.table
+    → IsEnd claim.tag claim.ticket y → IsPumpOf desk (finishing seat claim y)
+own_finishing desk seat claim y own same ends = own_setting desk seat (claim.tag - 1) _ own same (end_named claim.tag claim.ticket y ends)
 
 pub own_claiming : (desk : MadeDesk) (old new : Server) (tag ticket : ℕ) (claim : HeldClaim) → IsPumpOf desk old → ClaimsAt old new tag ticket claim
     → IsPumpOf desk new
-own_claiming desk old new tag ticket claim own claims = subst (IsPumpOf desk) (sym claims.5) (own_setting desk old (tag - 1) None own refl)
+own_claiming desk old new tag ticket claim own claims = subst (IsPumpOf desk) (sym claims.5) (own_setting desk old (tag - 1) None own refl refl)
 
 pub away_claiming : (desk : MadeDesk) (old new : Server) (tag ticket : ℕ) (claim : HeldClaim) → IsPumpOf desk old → IsServed desk old tag
     → ClaimsAt old new tag ticket claim → IsAway new tag
@@ -121,6 +144,12 @@ on_table_if desk t true true = refl
 on_table_if desk t true false = refl
 on_table_if desk t false serves = refl
 
+ended_if : (table : TableId) (t : ℕ) (dealt serves : Bool)
+    → IsEndedWell (if dealt then (if serves then Some (record { table = table; index = t; view = Idle }) else None) else None)
+ended_if table t true true = refl
+ended_if table t true false = refl
+ended_if table t false serves = refl
+
 pub own_serving : (desk : MadeDesk) (seats : List Server) → AreServersBelow desk (TAGS * desk.clients) seats → All (IsPumpOf desk) seats
 own_serving desk seats are p d within =
     let count = are.count in
@@ -128,5 +157,7 @@ own_serving desk seats are p d within =
     let all = each.count in (
       each.count,
       λ t o below. subst (IsOnTable desk.table) (sym (each.lines t o (omega arith))) (on_table_if desk t (nat_lt t (TAGS * desk.clients))
+          (t / TAGS % desk.pumps == p)),
+      λ t o below. subst IsEndedWell (sym (each.lines t o (omega arith))) (ended_if desk.table t (nat_lt t (TAGS * desk.clients))
           (t / TAGS % desk.pumps == p)),
     )

@@ -1,5 +1,5 @@
 -- What a desk has on it when it is closed.
-use Rattle.std.specs.Prelude.{◌≡◌, ℕ, ◌+◌, ◌*◌, ◌/◌, ◌%◌, ◌<◌, ◌≤◌, ◌==◌, List, [], ◌∷◌, ◌++◌, Option, Some, None, length, slice_get, slice_index_or}
+use Rattle.std.specs.Prelude.{◌≡◌, ◌≢◌, ◌⊎◌, All, ℕ, ◌+◌, ◌*◌, ◌/◌, ◌%◌, ◌<◌, ◌≤◌, ◌==◌, List, [], ◌∷◌, ◌++◌, Option, Some, None, length, slice_get, slice_index_or}
 use Rattle.std.specs.Prelude.{if◌then◌else◌, vec_len, vec_capacity}
 use Rattle.std.proofs.Common.{zero, suc}
 use Rattle.tag_desk.specs.declared.Slip.{Slip}
@@ -36,13 +36,43 @@ view_or (Some line) = line.view
 abbrev pub line_view : List ClientLine → ℕ → ClientView
 line_view lines k = view_or (slice_get lines k)
 
+-- the first of these that has the number n; the last argument where none has it
+abbrev pub numbered : {A : Type 0} → (A → ℕ) → List A → ℕ → A → A
+numbered number [] n none = none
+numbered number (x ∷ xs) n none = if number x == n then x else numbered number xs n none
+
+-- one of these has the number n
+abbrev pub HasNumber : {A : Type 0} → (A → ℕ) → List A → ℕ → Type 0
+HasNumber number [] n = ⊥
+HasNumber number (x ∷ xs) n = (number x ≡ n) ⊎ HasNumber number xs n
+
+abbrev pub client_number : Customer → ℕ
+client_number seat = seat.client
+
+abbrev pub pump_number : Server → ℕ
+pump_number seat = seat.pump
+
+abbrev pub no_customer : Customer
+no_customer = record { client = 0; least_ticket = 0; lines = [] }
+
+abbrev pub no_server : Server
+no_server = record { pump = 0; lines = [] }
+
+-- the seat of client c among these, wherever it stands
+abbrev pub seat_of : List Customer → ℕ → Customer
+seat_of seats c = numbered client_number seats c no_customer
+
+-- the seat of pump p among these, wherever it stands
+abbrev pub server_of : List Server → ℕ → Server
+server_of seats p = numbered pump_number seats p no_server
+
 -- what the clients' seats know of the tag at index t: line t mod TAGS of client t div TAGS
 abbrev pub client_view : List Customer → ℕ → ClientView
-client_view seats t = line_view (slice_index_or seats (t / TAGS) record { client = 0; least_ticket = 0; lines = [] }).lines (t % TAGS)
+client_view seats t = line_view (seat_of seats (t / TAGS)).lines (t % TAGS)
 
 -- the line of index t of the pump that serves its client
 abbrev pub work_line : MadeDesk → List Server → ℕ → Option WorkLine
-work_line desk seats t = slice_index_or (slice_index_or seats (t / TAGS % desk.pumps) record { pump = 0; lines = [] }).lines t None
+work_line desk seats t = slice_index_or (server_of seats (t / TAGS % desk.pumps)).lines t None
 
 abbrev pub posted_at : ℕ → Standing → List TagSlip
 posted_at tag Nothing = []
@@ -90,6 +120,22 @@ pub record IsAllPumpsOf (desk : MadeDesk) (seats : List Server) : Type 0 where
   pub count : length seats ≡ desk.pumps
   pub own : (p : ℕ) (d : Server) → p < desk.pumps → IsPumpOf desk (slice_index_or seats p d)
   pub order : (p : ℕ) (d : Server) → p < desk.pumps → (slice_index_or seats p d).pump ≡ p
+
+-- each client's seat of the desk is among these, in whatever order
+pub record HasEachClientOf (desk : MadeDesk) (seats : List Customer) : Type 0 where
+  pub own : All (IsClientOf desk) seats
+  pub there : (c : ℕ) → c < desk.clients → HasNumber client_number seats c
+
+-- each pump's seat of the desk is among these, in whatever order
+pub record HasEachPumpOf (desk : MadeDesk) (seats : List Server) : Type 0 where
+  pub own : All (IsPumpOf desk) seats
+  pub there : (p : ℕ) → p < desk.pumps → HasNumber pump_number seats p
+
+-- the first of these with the number n stands at place k
+pub record IsFirst {A : Type 0} (number : A → ℕ) (xs : List A) (n k : ℕ) : Type 0 where
+  pub within : k < length xs
+  pub is : (d : A) → number (slice_index_or xs k d) ≡ n
+  pub before : (j : ℕ) (d : A) → j < k → number (slice_index_or xs j d) ≢ n
 
 -- ---- the lists while they grow
 

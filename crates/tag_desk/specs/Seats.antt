@@ -10,7 +10,7 @@ use Rattle.tag_desk.specs.declared.rule.WorkView.{WorkView}
 use Rattle.tag_desk.specs.declared.rule.WorkView.TheVariants.{Idle, Claimed, Finished}
 use Rattle.tag_desk.specs.declared.rule.View.TheVariants.{Client, Work}
 use Rattle.tag_desk.specs.Rule.{Sat}
-use Rattle.tag_desk.specs.Slips.{IsAsk, IsEnd}
+use Rattle.tag_desk.specs.Slips.{IsAsk, IsEnd, ticket_in}
 use Rattle.uas_profile.specs.declared.TheConstants.{MAX_CLIENTS, TAGS}
 
 -- Which desk it is, and for how many clients and pumps it was made
@@ -130,9 +130,31 @@ IsServer seat = (k : ℕ) (d : Option WorkLine) → k < length seat.lines → Ha
 abbrev pub IsClientOf : MadeDesk → Customer → Type 0
 IsClientOf desk seat = (seat.client < desk.clients) × ((k : ℕ) (d : ClientLine) → k < TAGS → (slice_index_or seat.lines k d).table ≡ desk.table)
 
+-- the ticket that a pump finished last on a tag, 0 where it finished none or its line is out
+abbrev pub finished_in : WorkView → ℕ
+finished_in Idle = 0
+finished_in (Claimed n) = 0
+finished_in (Finished n y) = n
+
+abbrev pub finished_ticket : Option WorkLine → ℕ
+finished_ticket None = 0
+finished_ticket (Some line) = finished_in line.view
+
+-- the ticket that the slip names with which it finished
+abbrev pub ended_in : WorkView → ℕ
+ended_in Idle = 0
+ended_in (Claimed n) = 0
+ended_in (Finished n y) = ticket_in y
+
+abbrev pub ended_ticket : Option WorkLine → ℕ
+ended_ticket None = 0
+ended_ticket (Some line) = ended_in line.view
+
+-- a pump's seat of the desk: its lines are of the desk's table, and what it finished it finished with an end of that ticket
 abbrev pub IsPumpOf : MadeDesk → Server → Type 0
 IsPumpOf desk seat = (length seat.lines ≡ TAGS * desk.clients) × ((k : ℕ) (d : Option WorkLine) → k < length seat.lines
     → IsOnTable desk.table (slice_index_or seat.lines k d))
+    × ((k : ℕ) (d : Option WorkLine) → k < length seat.lines → ended_ticket (slice_index_or seat.lines k d) ≡ finished_ticket (slice_index_or seat.lines k d))
 
 -- tags TAGS c + 1 to TAGS c + TAGS are those of client c: with 16, tag 33 is the first of client 2
 abbrev pub IsTagOf : ℕ → ℕ → Type 0

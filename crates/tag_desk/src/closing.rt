@@ -1,15 +1,68 @@
 //! How a desk is closed: tag by tag, its client's seat and its pump's are made one, which takes out what stands there.
 
-ghost use Rattle.std.specs.Prelude.{◌≡◌, ℕ, ◌+◌, ◌*◌, ◌<◌, ◌≤◌, length, slice_index_or, slice_set, IfSome, None};
+ghost use Rattle.std.specs.Prelude.{◌≡◌, ◌≢◌, ℕ, ◌+◌, ◌*◌, ◌<◌, ◌≤◌, length, slice_index_or, slice_set, IfSome, None};
 ghost use Rattle.tag_desk.specs.Seats.{IsClientOf};
-ghost use Rattle.tag_desk.specs.Left.{IsAllPumpsOf, IsAllClientsOf, Gathers, work_line, left_of, none_left, so_far, HasRoom};
+ghost use Rattle.tag_desk.specs.Left.{HasEachPumpOf, HasEachClientOf, Gathers, work_line, left_of, none_left, so_far, HasRoom};
+ghost use Rattle.tag_desk.specs.Left.{HasNumber, IsFirst, client_number, pump_number, seat_of};
 
 use crate::lines::Work;
 use crate::remains::Lists;
 use crate::{ClientSeat, Desk, Seats, WorkSeat};
 use uas_profile::TAGS;
 
+/// The seat of a client, which is gone from the list then. The seats of other clients stay.
+fn take_client(seats: &mut Vec<ClientSeat>, client: usize) -> ClientSeat
+    requires { HasNumber client_number seats.old.items client }
+    ensures seat { result ≡ seat_of seats.old.items client }
+    ensures number { result.client ≡ client }
+    ensures others { (c : ℕ) → c ≢ client → seat_of seats.new.items c ≡ seat_of seats.old.items c }
+    ensures there { (c : ℕ) → c ≢ client → HasNumber client_number seats.old.items c → HasNumber client_number seats.new.items c }
+{
+    let place = client_place(seats.as_slice(), client);
+    seats.remove(place)
+}
+
+/// Where the first seat of a client stands.
+fn client_place(seats: &[ClientSeat], client: usize) -> usize
+    requires { HasNumber client_number seats.now client }
+    ensures { IsFirst client_number seats.now client result }
+{
+    for (place, seat) in seats.iter().enumerate() {
+        if seat.number() == client {
+            return place;
+        }
+    }
+    unreachable!()
+}
+
+/// Where the first seat of a pump stands.
+fn pump_place(seats: &[WorkSeat], pump: usize) -> usize
+    requires { HasNumber pump_number seats.now pump }
+    ensures { IsFirst pump_number seats.now pump result }
+{
+    for (place, seat) in seats.iter().enumerate() {
+        if seat.number() == pump {
+            return place;
+        }
+    }
+    unreachable!()
+}
+
+impl ClientSeat {
+    fn number(&self) -> usize
+        ensures { result ≡ self.now.client }
+    {
+        self.client
+    }
+}
+
 impl WorkSeat {
+    fn number(&self) -> usize
+        ensures { result ≡ self.now.pump }
+    {
+        self.pump
+    }
+
     /// Its line of a tag, which is gone from it then.
     fn take_line(&mut self, index: usize) -> Option<Work>
         requires { index < length self.old.lines }
@@ -25,14 +78,18 @@ impl Desk {
     /// Takes out what stands at all tags.
     #[tactic(auto, unfolding(crate::specs::Left::joined))]
     pub(crate) fn settle_all(&self, seats: Seats, lists: &mut Lists)
-        requires clients { IsAllClientsOf self.now seats.clients.items }
-        requires pumps { IsAllPumpsOf self.now seats.pumps.items }
+        requires clients { HasEachClientOf self.now seats.clients.items }
+        requires pumps { HasEachPumpOf self.now seats.pumps.items }
         requires room { HasRoom (TAGS * self.now.clients) lists.old }
         requires none { so_far lists.old ≡ none_left }
         ensures { so_far lists.new ≡ left_of self.now seats.clients.items seats.pumps.items }
     {
-        let Seats { clients, mut pumps } = seats;
-        for seat in clients {
+        let Seats {
+            mut clients,
+            mut pumps,
+        } = seats;
+        for client in 0..self.clients {
+            let seat = take_client(&mut clients, client);
             self.settle_client(seat, &mut pumps, lists);
         }
     }
@@ -40,11 +97,11 @@ impl Desk {
     /// Takes out what stands at the tags of one client. The lines of other tags stay with the pumps.
     fn settle_client(&self, seat: ClientSeat, pumps: &mut Vec<WorkSeat>, lists: &mut Lists)
         requires own { IsClientOf self.now seat }
-        requires pumps { IsAllPumpsOf self.now pumps.old.items }
+        requires pumps { HasEachPumpOf self.now pumps.old.items }
         requires room { HasRoom TAGS lists.old }
         ensures lists { Gathers self.now seat pumps.old.items (so_far lists.old) (so_far lists.new) }
         ensures room { (n : ℕ) → HasRoom (n + TAGS) lists.old → HasRoom n lists.new }
-        ensures pumps { IsAllPumpsOf self.now pumps.new.items }
+        ensures pumps { HasEachPumpOf self.now pumps.new.items }
         ensures others { (t : ℕ) → TAGS * seat.client + TAGS ≤ t → work_line self.now pumps.new.items t ≡ work_line self.now pumps.old.items t }
     {
         let ClientSeat {
@@ -63,13 +120,13 @@ impl Desk {
     /// The pump's line of a tag, which is gone from its seat then. The lines of other tags stay.
     fn take_work(&self, pumps: &mut Vec<WorkSeat>, index: usize) -> Option<Work>
         requires within { index < TAGS * self.now.clients }
-        requires pumps { IsAllPumpsOf self.now pumps.old.items }
+        requires pumps { HasEachPumpOf self.now pumps.old.items }
         ensures line { result ≡ work_line self.now pumps.old.items index }
         ensures fits { IfSome result (λ work. (work.table ≡ self.now.table) × (work.index ≡ index)) }
-        ensures pumps { IsAllPumpsOf self.now pumps.new.items }
+        ensures pumps { HasEachPumpOf self.now pumps.new.items }
         ensures others { (t : ℕ) → index < t → work_line self.now pumps.new.items t ≡ work_line self.now pumps.old.items t }
     {
-        let pump = index / TAGS % self.pumps;
-        pumps[pump].take_line(index)
+        let place = pump_place(pumps.as_slice(), index / TAGS % self.pumps);
+        pumps[place].take_line(index)
     }
 }

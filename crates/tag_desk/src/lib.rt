@@ -22,9 +22,10 @@
 //! 3. The slot is at home where the word is posted or done, and else out with the seat that moved the word.
 //!
 //! So a claim holds an ask of the ticket asked for, and what `look` gives is an end of the ticket that the client posted,
-//! once; and `close` tells what stands at each tag. Slips are moved and never copied. No call waits or scans, and `new` and
-//! `close` alone take memory. That `claim` and `look` find a slip at all is no clause: a body that never gives one is
-//! refused by a test.
+//! once; and `close` tells what stands at each tag. Whatever a client did, each ticket that it posted was looked up or stands
+//! in one of the lists that `close` gives, once (`KeepsTickets` in specs/History.antt). Slips are moved and never copied. No
+//! call waits or scans, and `new` and `close` alone take memory. That `claim` and `look` find a slip at all is no clause: a
+//! body that never gives one is refused by a test.
 //!
 //! It stands on `scsi_cmd` for requests and replies, and on `atomic_table`.
 #![tactic(auto)]
@@ -33,7 +34,8 @@ ghost use Rattle.std.specs.Prelude.{◌≡◌, ℕ, ◌+◌, ◌-◌, ◌*◌, �
 ghost use Rattle.tag_desk.specs.Slips.{ticket_in, IsAsk, IsEnd};
 ghost use Rattle.tag_desk.specs.Seats.{IsClientOf, IsPumpOf, IsTagOf, IsServed, IsFreeAt, IsAway};
 ghost use Rattle.tag_desk.specs.Seats.{posting, finishing, ReapsAt, ClaimsAt, AreNewCustomers, AreServersBelow};
-ghost use Rattle.tag_desk.specs.Left.{IsAllClientsOf, IsAllPumpsOf, left_of};
+ghost use Rattle.tag_desk.specs.Left.{HasEachClientOf, HasEachPumpOf, IsAllClientsOf, IsAllPumpsOf, left_of, seat_of};
+ghost use Rattle.tag_desk.specs.History.{KeepsTickets};
 ghost use Rattle.uas_profile.specs.declared.TheConstants.{MAX_CLIENTS};
 
 mod closing;
@@ -305,13 +307,15 @@ impl Desk {
         seat.lines[index] = Some(Work::finish(claim, self, slip));
     }
 
-    /// What stands on the desk, once all its seats are back, in order: each ticket that a client has open is in one of
-    /// the lists, once, with the slip that the client posted or the one with which the pump finished. Desk and seats come
-    /// back where there is no memory for the lists.
+    /// What stands on the desk, once all its seats are back, in whatever order: by rising tag, each ticket that a client has
+    /// open is in one of the lists, once, with the slip that the client posted or the one with which the pump finished.
+    /// Desk and seats come back where there is no memory for the lists. Of all that a client posted since `new`, what it
+    /// didn't look up is there.
     pub fn close(self, alloc: Global, seats: Seats) -> Result<Left, (Desk, Seats)>
-        requires clients { IsAllClientsOf self seats.clients.items }
-        requires pumps { IsAllPumpsOf self seats.pumps.items }
-        ensures { MatchResult result (λ left. left ≡ left_of self seats.clients.items seats.pumps.items) (λ back. (back.0 ≡ self) × (back.1 ≡ seats)) }
+        requires clients { HasEachClientOf self seats.clients.items }
+        requires pumps { HasEachPumpOf self seats.pumps.items }
+        ensures left { MatchResult result (λ left. left ≡ left_of self seats.clients.items seats.pumps.items) (λ back. (back.0 ≡ self) × (back.1 ≡ seats)) }
+        ensures kept { IfOk result (λ left. (c : ℕ) → c < self.clients → KeepsTickets self.table (seat_of seats.clients.items c) left) }
     {
         let Ok(mut lists) = Lists::with_room(alloc, TAGS * self.clients) else {
             return Err((self, seats));

@@ -1,5 +1,5 @@
 -- The claims that a pump holds: when they are its own, and how they are finished.
-use Rattle.std.specs.Prelude.{◌≡◌, ℕ, ◌+◌, ◌-◌, ◌*◌, ◌%◌, ◌<◌, ◌==◌, Bool, true, false, ◌&&◌, if◌then◌else◌, List, [], Option, Some, None, All, length}
+use Rattle.std.specs.Prelude.{◌≡◌, ℕ, ◌+◌, ◌-◌, ◌*◌, ◌%◌, ◌<◌, ◌==◌, Bool, ◌&&◌, if◌then◌else◌, List, [], Option, Some, None, All, length}
 use Rattle.std.specs.Prelude.{slice_index_or, slice_set}
 use Rattle.scsi_cmd.specs.declared.Reply.{Reply}
 use Rattle.scsi_cmd.specs.Replies.{reply_tag, reply_ticket}

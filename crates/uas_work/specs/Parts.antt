@@ -1,5 +1,5 @@
 -- What each worker has of its own at the desk and at the board, and what it gives back.
-use Rattle.std.specs.Prelude.{◌≡◌, ℕ, ◌+◌, ◌<◌, ◌≤◌, List, length, slice_index_or, vec_len, vec_capacity}
+use Rattle.std.specs.Prelude.{◌≡◌, ℕ, ◌<◌, ◌≤◌, List, length, slice_index_or, vec_len, vec_capacity}
 use Rattle.uas_profile.specs.declared.TheConstants.{MAX_CLIENTS}
 use Rattle.door_board.specs.Counts.{MadeBoard, IsSeatOf}
 use Rattle.tag_desk.specs.Seats.{MadeDesk, Customer, Server, IsClientOf, IsPumpOf}

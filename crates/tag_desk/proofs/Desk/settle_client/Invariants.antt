@@ -1,5 +1,5 @@
 use Rattle.std.proofs.Common.{◌≡◌, ℕ, ◌+◌, ◌-◌, ◌*◌, ◌≤◌, length}
-use Rattle.tag_desk.specs.Left.{IsAllPumpsOf, Says, work_line, left_below, so_far, HasRoom}
+use Rattle.tag_desk.specs.Left.{HasEachPumpOf, Says, work_line, left_below, so_far, HasRoom}
 use Rattle.tag_desk.specs.declared.remains.Standing.{Standing}
 use Rattle.tag_desk.proofs.Desk.settle_client.Given as goal
 use Rattle.uas_profile.specs.declared.TheConstants.{TAGS}
@@ -8,7 +8,7 @@ use Rattle.uas_profile.specs.declared.TheConstants.{TAGS}
 abbrev pub invariant-loop-line : goal.invariant-loop-line
 invariant-loop-line l = record {
   index : l.index ≡ TAGS * l.fn.seat.client + length l.yielded;
-  pumps : IsAllPumpsOf l.self l.pumps.items;
+  pumps : HasEachPumpOf l.self l.pumps.items;
   others : (t : ℕ) → l.index ≤ t → work_line l.self l.pumps.items t ≡ work_line l.self l.fn.pumps.items t;
   lists : (at : ℕ → Standing) → Says l.self l.fn.seat l.fn.pumps.items at → so_far l.fn.lists ≡ left_below at (TAGS * l.fn.seat.client)
       → so_far l.lists ≡ left_below at l.index;

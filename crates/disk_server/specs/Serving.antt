@@ -57,17 +57,20 @@ read_batch serving lba count =
       bytes = bytes_below (pieces_of count) taking.replies;
     }
 
--- a batch more, where the ones before it were done
-unfoldable pub read_on : Reading → ℕ → ℕ → Reading
-read_on reading lba count =
-    let next = read_batch reading.serving lba count in
-    if is_done reading.error then record next { bytes = reading.bytes ++ next.bytes } else reading
+-- a batch more, where the ones before it had no error
+unfoldable pub read_next : Serving → ErrorNumber → ℕ → ℕ → Reading
+read_next serving error lba count =
+    if is_done error then read_batch serving lba count else record { serving = serving; error = error; bytes = [] }
+
+abbrev pub with_next : Reading → Reading → Reading
+with_next reading next = record next { bytes = reading.bytes ++ next.bytes }
 
 -- the batches below this number, of so many blocks from this one on
 abbrev pub read_below : ℕ → Serving → ℕ → ℕ → Reading
 read_below zero serving lba count = record { serving = serving; error = error.None; bytes = [] }
 read_below (suc number) serving lba count =
-    read_on (read_below number serving lba count) (lba + 1920 * number) (min 1920 (count - 1920 * number))
+    let reading = read_below number serving lba count in
+    with_next reading (read_next reading.serving reading.error (lba + 1920 * number) (min 1920 (count - 1920 * number)))
 
 abbrev pub batches_of : ℕ → ℕ
 batches_of count = (count + 1919) / 1920
@@ -107,7 +110,7 @@ write_batch serving lba bytes fua =
 unfoldable pub write_on : Writing → ℕ → List ℕ → Bool → Writing
 write_on writing lba bytes fua = if is_done writing.error then write_batch writing.serving lba bytes fua else writing
 
--- the bytes of a batch of a write
+-- the bytes of a batch of a write: 983,040 of them at most
 abbrev pub batch_bytes : List ℕ → ℕ → List ℕ
 batch_bytes bytes number = take (512 * 1920) (drop (512 * (1920 * number)) bytes)
 
@@ -133,12 +136,17 @@ patched serving offset bytes =
     let last = edge_read first.serving (first_block (offset + length bytes)) (nat_lt 0 over) in
     if is_done first.error then record last { bytes = take skip first.bytes ++ bytes ++ drop over last.bytes } else first
 
--- a WRITE of bytes: what is written are whole blocks
+-- whether both ends of these bytes are ends of blocks
+abbrev pub has_block_ends : ℕ → List ℕ → Bool
+has_block_ends offset bytes = (offset % 512 == 0) && (length bytes % 512 == 0)
+
+-- a WRITE of bytes: whole blocks as they are, others with what stands around them
 unfoldable pub bytes_written : Serving → ℕ → List ℕ → Bool → Writing
 bytes_written serving offset bytes fua =
     let whole = patched serving offset bytes in
-    if is_done whole.error then blocks_written whole.serving (first_block offset) whole.bytes fua
-    else record { serving = whole.serving; error = whole.error }
+    if has_block_ends offset bytes then blocks_written serving (first_block offset) bytes fua
+    else (if is_done whole.error then blocks_written whole.serving (first_block offset) whole.bytes fua
+    else record { serving = whole.serving; error = whole.error })
 
 -- FLUSH
 
@@ -149,6 +157,14 @@ synced serving =
     if is_worn serving.ticket then record { serving = serving; error = error.Io }
     else record { serving = after_batch serving 1 taking; error = if is_done (error_below 1 taking.replies) then error.None else error.Io }
 
+-- a FLUSH and a WRITE with FUA: the file gets the medium, once the machine has done its part
+
 -- the server once the file has the medium
 abbrev pub all_saved : Serving → Serving
 all_saved serving = record serving { saved = medium_of serving.machine; failed = false }
+
+-- what is known of the server and of what the file holds, once the medium was to go to the file: it is there, or the flag is set
+pub record IsSaved (old : Serving) (is_saved : Bool) (new : Serving) (tells : Bool) (holds : List ℕ) : Type 0 where
+  pub done : is_saved ≡ true → new ≡ all_saved old
+  pub held : is_saved ≡ true → IsTrue tells → holds ≡ medium_of old.machine
+  pub failed : is_saved ≡ false → new ≡ record old { failed = true }

@@ -1,6 +1,6 @@
 //! What the replies of a batch come to.
 
-ghost use Rattle.std.specs.Prelude.{◌≡◌, ◌++◌, ◌^◌, ◌<◌, ◌≤◌, OnOk};
+ghost use Rattle.std.specs.Prelude.{◌≡◌, ◌+◌, ◌++◌, ◌<◌, ◌≤◌, slice_index, OnOk};
 ghost use Rattle.std.specs.Option.{option_copied};
 ghost use Rattle.disk_server.specs.Answers.{answer_of, bytes_below, bytes_of_answer, error_below, error_of_answer, error_of_sense};
 

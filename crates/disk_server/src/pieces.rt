@@ -2,7 +2,7 @@
 
 ghost use Rattle.uas_profile.specs.declared.TheConstants.{MAX_BLOCKS};
 ghost use Rattle.std.specs.Prelude.{◌≡◌, ◌+◌, ◌-◌, ◌*◌, ◌/◌, ◌%◌, ◌^◌, ◌<◌, ◌≤◌, length, IfOk, OnOk};
-ghost use Rattle.disk_server.specs.Pieces.{handed_below, one_taken, piece_blocks, pieces_of, read_piece, sync_piece, taken_times, write_piece};
+ghost use Rattle.disk_server.specs.Pieces.{handed_below, piece_blocks, pieces_of, read_piece, sync_piece, taken_times, write_piece};
 ghost use Rattle.disk_server.specs.Serving.{is_worn};
 ghost use Rattle.uas_replay.specs.Told.{drain_limit, drained_machine, step_of};
 
@@ -190,6 +190,7 @@ impl Server {
     }
 
     /// Takes so many replies.
+    #[tactic(auto, unfolding(crate::specs::Pieces::one_taken))]
     fn take_times(&mut self, times: usize) -> Result<Vec<Reply>, AllocError>
         ensures machine { OnOk result (self.new ≡ record self.old { machine = (taken_times times self.old.machine).machine }) }
         ensures replies { IfOk result (λ replies. replies.items ≡ (taken_times times self.old.machine).replies) }

@@ -1,9 +1,9 @@
 //! Reads: of whole blocks, a batch at a time, and of the blocks that cover bytes.
 
 ghost use Rattle.uas_profile.specs.declared.TheConstants.{MAX_BLOCKS};
-ghost use Rattle.std.specs.Prelude.{◌≡◌, ◌+◌, ◌-◌, ◌*◌, ◌/◌, ◌^◌, ◌<◌, ◌≤◌, ◌++◌, length, IfOk, OnOk};
-ghost use Rattle.nbd.specs.declared.transmission.ErrorNumber.TheVariants as error;
-ghost use Rattle.disk_server.specs.Serving.{batches_of, blocks_read, cover_blocks, first_block, read_batch, read_below, read_on};
+ghost use Rattle.std.specs.Prelude.{◌≡◌, ◌+◌, ◌-◌, ◌*◌, ◌/◌, ◌^◌, ◌<◌, ◌≤◌, ◌++◌, true, length, IfOk, OnOk};
+ghost use Rattle.disk_server.specs.Answers.{is_done};
+ghost use Rattle.disk_server.specs.Serving.{batches_of, blocks_read, cover_blocks, first_block, read_batch, read_below, read_next};
 
 use crate::Server;
 use crate::answers::{error_below, push_bytes};
@@ -22,22 +22,26 @@ pub(crate) fn batches_of(count: usize) -> usize
 }
 
 impl Server {
-    /// Reads the blocks that cover `length` bytes from byte `offset` on, and adds them to `bytes`. At an error what was added
+    /// Reads the blocks that cover `count` bytes from byte `offset` on, and adds them to `bytes`. At an error what was added
     /// says nothing.
     pub fn read(
         &mut self,
         offset: u64,
-        length: u32,
+        count: u32,
         bytes: &mut Vec<u8>,
     ) -> Result<ErrorNumber, AllocError>
-        requires fits { offset + length ≤ 512 * MAX_BLOCKS }
-        ensures server { OnOk result (self.new ≡ (blocks_read self.old (first_block offset) (cover_blocks offset length)).serving) }
-        ensures error { IfOk result (λ error. error ≡ (blocks_read self.old (first_block offset) (cover_blocks offset length)).error) }
+        requires fits { offset + count ≤ 512 * MAX_BLOCKS }
+        ensures server { OnOk result (self.new ≡ (blocks_read self.old (first_block offset) (cover_blocks offset count)).serving) }
+        ensures error { IfOk result (λ error. error ≡ (blocks_read self.old (first_block offset) (cover_blocks offset count)).error) }
         ensures bytes { OnOk result (bytes.new.items ≡ bytes.old.items
-            ++ (blocks_read self.old (first_block offset) (cover_blocks offset length)).bytes) }
+            ++ (blocks_read self.old (first_block offset) (cover_blocks offset count)).bytes) }
+        ensures len { IfOk result (λ error. error ≡ ErrorNumber.None
+            → length bytes.new.items ≡ length bytes.old.items + 512 * cover_blocks offset count) }
+        ensures saved { OnOk result (self.new.saved ≡ self.old.saved) }
+        ensures failed { OnOk result (self.new.failed ≡ self.old.failed) }
     {
         let first = offset / BLOCK_BYTES as u64;
-        let end = (offset + u64::from(length)).div_ceil(BLOCK_BYTES as u64);
+        let end = (offset + u64::from(count)).div_ceil(BLOCK_BYTES as u64);
         self.read_blocks(first as u32, (end - first) as usize, bytes)
     }
 
@@ -53,6 +57,9 @@ impl Server {
         ensures server { OnOk result (self.new ≡ (blocks_read self.old lba count).serving) }
         ensures error { IfOk result (λ error. error ≡ (blocks_read self.old lba count).error) }
         ensures bytes { OnOk result (bytes.new.items ≡ bytes.old.items ++ (blocks_read self.old lba count).bytes) }
+        ensures len { IfOk result (λ error. is_done error ≡ true → length bytes.new.items ≡ length bytes.old.items + 512 * count) }
+        ensures saved { OnOk result (self.new.saved ≡ self.old.saved) }
+        ensures failed { OnOk result (self.new.failed ≡ self.old.failed) }
     {
         let before = bytes.len();
         let error = self.read_batches(lba, count, bytes)?;
@@ -73,12 +80,14 @@ impl Server {
         ensures server { OnOk result (self.new ≡ (read_below (batches_of count) self.old lba count).serving) }
         ensures error { IfOk result (λ error. error ≡ (read_below (batches_of count) self.old lba count).error) }
         ensures bytes { OnOk result (bytes.new.items ≡ bytes.old.items ++ (read_below (batches_of count) self.old lba count).bytes) }
-        ensures longer { length bytes.old.items ≤ length bytes.new.items }
+        ensures longer { OnOk result (length bytes.old.items ≤ length bytes.new.items) }
+        ensures saved { OnOk result (self.new.saved ≡ self.old.saved) }
+        ensures failed { OnOk result (self.new.failed ≡ self.old.failed) }
     {
         let mut error = ErrorNumber::None;
         for number in 0..batches_of(count) {
             let done = BATCH_BLOCKS * number;
-            error = self.read_on(
+            error = self.read_next(
                 error,
                 lba + done as u32,
                 BATCH_BLOCKS.min(count - done),
@@ -89,8 +98,8 @@ impl Server {
     }
 
     /// Reads a batch more, where the ones before it were done.
-    #[tactic(auto, unfolding(crate::specs::Serving::read_on))]
-    fn read_on(
+    #[tactic(auto, unfolding(crate::specs::Serving::read_next))]
+    fn read_next(
         &mut self,
         error: ErrorNumber,
         lba: u32,
@@ -99,9 +108,12 @@ impl Server {
     ) -> Result<ErrorNumber, AllocError>
         requires lba { lba ≤ MAX_BLOCKS }
         requires count { count ≤ 1920 }
-        ensures server { OnOk result (self.new ≡ (read_on (record { serving = self.old; error = error; bytes = bytes.old.items }) lba count).serving) }
-        ensures error { IfOk result (λ given. given ≡ (read_on (record { serving = self.old; error = error; bytes = bytes.old.items }) lba count).error) }
-        ensures bytes { OnOk result (bytes.new.items ≡ (read_on (record { serving = self.old; error = error; bytes = bytes.old.items }) lba count).bytes) }
+        ensures server { OnOk result (self.new ≡ (read_next self.old error lba count).serving) }
+        ensures error { IfOk result (λ given. given ≡ (read_next self.old error lba count).error) }
+        ensures bytes { OnOk result (bytes.new.items ≡ bytes.old.items ++ (read_next self.old error lba count).bytes) }
+        ensures longer { OnOk result (length bytes.old.items ≤ length bytes.new.items) }
+        ensures saved { OnOk result (self.new.saved ≡ self.old.saved) }
+        ensures failed { OnOk result (self.new.failed ≡ self.old.failed) }
     {
         if !is_done(error) {
             return Ok(error);
@@ -122,6 +134,9 @@ impl Server {
         ensures server { OnOk result (self.new ≡ (read_batch self.old lba count).serving) }
         ensures error { IfOk result (λ error. error ≡ (read_batch self.old lba count).error) }
         ensures bytes { OnOk result (bytes.new.items ≡ bytes.old.items ++ (read_batch self.old lba count).bytes) }
+        ensures longer { OnOk result (length bytes.old.items ≤ length bytes.new.items) }
+        ensures saved { OnOk result (self.new.saved ≡ self.old.saved) }
+        ensures failed { OnOk result (self.new.failed ≡ self.old.failed) }
     {
         if self.is_worn() {
             return Ok(ErrorNumber::Io);

@@ -1,6 +1,7 @@
 //! The server of a disk.
 
-ghost use Rattle.std.specs.Prelude.{◌≡◌, IfOk};
+ghost use Rattle.uas_profile.specs.declared.TheConstants.{MAX_BLOCKS};
+ghost use Rattle.std.specs.Prelude.{◌≡◌, ◌*◌, ◌≤◌, IfOk};
 ghost use Rattle.disk_server.specs.Answers.{is_done};
 
 use block_unit::Unit;
@@ -25,7 +26,7 @@ pub struct Server {
 }
 
 impl Model for Server {
-    ghost use Rattle.std.specs.Prelude.{◌≡◌, ◌≤◌};
+    ghost use Rattle.std.specs.Prelude.{◌≤◌};
     ghost use Rattle.uas_profile.specs.declared.TheConstants.{MAX_BLOCKS};
     ghost use Rattle.disk_server.specs.Serving.{Serving};
 
@@ -61,7 +62,9 @@ impl Server {
     }
 
     /// How many bytes the disk has.
-    pub fn size(&self) -> u64 {
+    pub fn size(&self) -> u64
+        ensures { result ≤ 512 * MAX_BLOCKS }
+    {
         BLOCK_BYTES as u64 * u64::from(self.blocks)
     }
 }

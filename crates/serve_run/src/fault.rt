@@ -1,5 +1,8 @@
 //! Why a serving run gave up.
 
+ghost use Rattle.std.specs.Prelude.{◌≡◌};
+ghost use Rattle.serve_run.specs.Serves.{status_of};
+
 use std::io::Write;
 use thiserror::Error;
 use uas_replay::{FAULT, RunFault};
@@ -26,7 +29,9 @@ pub enum ServeFault {
 
 impl ServeFault {
     /// Its exit status.
-    pub fn status(self) -> u8 {
+    pub fn status(self) -> u8
+        ensures { result ≡ status_of self }
+    {
         match self {
             ServeFault::Run(fault) => fault.status(),
             ServeFault::Handshake
@@ -37,7 +42,9 @@ impl ServeFault {
     }
 
     /// Tells it in one line, and gives its exit status. A fault of `faults` changes nothing.
-    pub fn tell<W: Write>(self, faults: &mut W) -> u8 {
+    pub fn tell<W: Write>(self, faults: &mut W) -> u8
+        ensures { result ≡ status_of self }
+    {
         let _ = writeln!(faults, "{self}");
         self.status()
     }

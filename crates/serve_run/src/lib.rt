@@ -14,3 +14,4 @@ mod transmission;
 
 pub use fault::ServeFault;
 pub use serve::run_serve;
+pub use transmission::refusal_of;

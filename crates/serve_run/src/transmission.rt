@@ -1,7 +1,9 @@
 //! The transmission: requests in their order, each answered before the next one is read.
 
-ghost use Rattle.std.specs.Prelude.{◌≡◌};
-ghost use Rattle.serve_run.specs.Serves.{has_bad_length, is_beyond, refusal_of};
+ghost use Rattle.uas_profile.specs.declared.TheConstants.{MAX_BLOCKS};
+ghost use Rattle.std.specs.Prelude.{◌≡◌, ◌+◌, ◌*◌, ◌≤◌, length};
+ghost use Rattle.disk_server.specs.Serving.{IsBehind};
+ghost use Rattle.serve_run.specs.Serves.{IfKept, ServesOne, ServesSome, has_bad_length, is_beyond, refusal_of};
 
 use crate::fault::ServeFault;
 use crate::handshake::MOST_BYTES;
@@ -40,7 +42,12 @@ pub(crate) fn transmit<I: Image, S: Source, O: Sink>(
     image: &mut I,
     input: &mut S,
     output: &mut O,
-) -> Result<(), ServeFault> {
+) -> Result<(), ServeFault>
+    requires { IsBehind (I.tells image.old) (I.holds image.old) server.old }
+    ensures served { IfKept result (ServesSome server.old server.new) }
+    ensures behind { IfKept result (IsBehind (I.tells image.new) (I.holds image.new) server.new) }
+    ensures told { I.tells image.new ≡ I.tells image.old }
+{
     for _ in 0..u64::MAX {
         let mut bytes = [0; REQUEST_BYTES];
         if !read_message(input, &mut bytes)? {
@@ -63,7 +70,12 @@ fn answer<I: Image, S: Source, O: Sink>(
     input: &mut S,
     output: &mut O,
     request: &Request,
-) -> Result<(), ServeFault> {
+) -> Result<(), ServeFault>
+    requires { IsBehind (I.tells image.old) (I.holds image.old) server.old }
+    ensures served { IfKept result (ServesOne server.old server.new) }
+    ensures behind { IfKept result (IsBehind (I.tells image.new) (I.holds image.new) server.new) }
+    ensures told { I.tells image.new ≡ I.tells image.old }
+{
     let refusal = refusal_of(server.size(), request);
     if refusal != ErrorNumber::None {
         if request.command == Command::Write {
@@ -78,18 +90,22 @@ fn answer<I: Image, S: Source, O: Sink>(
             tell(output, request.cookie, error)
         }
         Command::Flush | Command::Disconnect | Command::Other(_) => {
-            let error = server.flush(image).map_err(no_memory)?;
+            let error = flush(server, image)?;
             tell(output, request.cookie, error)
         }
     }
 }
 
-fn no_memory(_error: AllocError) -> ServeFault {
+pub(crate) fn no_memory(_error: AllocError) -> ServeFault
+    ensures { result ≡ ServeFault.Run RunFault.NoMemory }
+{
     ServeFault::Run(RunFault::NoMemory)
 }
 
-/// What a request is refused for; `None` for one that is served.
-fn refusal_of(size: u64, request: &Request) -> ErrorNumber
+/// What a request to an export of so many bytes is refused for: EINVAL for a length of 0 or above 33,554,432, a flag that isn't offered,
+/// a command that isn't known and a READ beyond the end, ENOSPC for a WRITE beyond the end; `None` for one that is served.
+pub fn refusal_of(size: u64, request: &Request) -> ErrorNumber
+    ensures { result ≡ refusal_of size request.now }
 {
     if request.flags.0 > FUA {
         return ErrorNumber::Invalid;
@@ -107,11 +123,17 @@ fn refusal_of(size: u64, request: &Request) -> ErrorNumber
     }
 }
 
-fn has_bad_length(request: &Request) -> bool {
+/// Whether a request names no byte or too many.
+fn has_bad_length(request: &Request) -> bool
+    ensures { result ≡ has_bad_length request.now }
+{
     request.length == 0 || request.length > MOST_BYTES
 }
 
-fn is_beyond(size: u64, request: &Request) -> bool {
+/// Whether a request goes beyond the end.
+fn is_beyond(size: u64, request: &Request) -> bool
+    ensures { result ≡ is_beyond size request.now }
+{
     match request.offset.checked_add(u64::from(request.length)) {
         Some(end) => end > size,
         None => true,
@@ -129,7 +151,12 @@ fn give<O: Sink>(
     given: &mut Vec<u8>,
     output: &mut O,
     request: &Request,
-) -> Result<(), ServeFault> {
+) -> Result<(), ServeFault>
+    requires { request.now.offset + request.now.length ≤ 512 * MAX_BLOCKS }
+    ensures served { IfKept result (ServesOne server.old server.new) }
+    ensures saved { IfKept result (server.new.saved ≡ server.old.saved) }
+    ensures failed { IfKept result (server.new.failed ≡ server.old.failed) }
+{
     given.clear();
     given
         .extend_from_slice(&[0; REPLY_BYTES])
@@ -140,16 +167,27 @@ fn give<O: Sink>(
     if error != ErrorNumber::None {
         return tell(output, request.cookie, error);
     }
-    let skip = (request.offset % BLOCK_BYTES as u64) as usize;
     let head = Reply {
         error,
         cookie: request.cookie,
     };
-    given[skip..skip + REPLY_BYTES].copy_from_slice(&head.to_bytes());
-    send(
-        output,
-        &given[skip..skip + REPLY_BYTES + request.length as usize],
-    )
+    let skip = (request.offset % BLOCK_BYTES as u64) as usize;
+    send_part(output, given, skip, &head, request.length as usize)
+}
+
+/// Writes a reply and so many bytes behind it, which stand `skip` bytes behind the room for the reply's head.
+fn send_part<O: Sink>(
+    output: &mut O,
+    given: &mut Vec<u8>,
+    skip: usize,
+    head: &Reply,
+    count: usize,
+) -> Result<(), ServeFault>
+    requires { skip + 16 + count ≤ length given.old.items }
+{
+    let part = &mut given[skip..skip + REPLY_BYTES + count];
+    part[..REPLY_BYTES].copy_from_slice(&head.to_bytes());
+    send(output, part)
 }
 
 /// Reads the data of a WRITE, all of it before anything is written, and serves it.
@@ -159,14 +197,30 @@ fn take<I: Image, S: Source>(
     image: &mut I,
     input: &mut S,
     request: &Request,
-) -> Result<ErrorNumber, ServeFault> {
-    let length = request.length as usize;
-    if taken.len() < length {
-        taken.resize(length, 0).map_err(no_memory)?;
+) -> Result<ErrorNumber, ServeFault>
+    requires fits { request.now.offset + request.now.length ≤ 512 * MAX_BLOCKS }
+    requires behind { IsBehind (I.tells image.old) (I.holds image.old) server.old }
+    ensures served { IfKept result (ServesOne server.old server.new) }
+    ensures behind { IfKept result (IsBehind (I.tells image.new) (I.holds image.new) server.new) }
+    ensures told { I.tells image.new ≡ I.tells image.old }
+{
+    let count = request.length as usize;
+    if taken.len() < count {
+        taken.resize(count, 0).map_err(no_memory)?;
     }
-    let data = &mut taken[..length];
+    let data = &mut taken[..count];
     read_rest(input, data)?;
     server
         .write(request.offset, data, request.flags.0 == FUA, image)
         .map_err(no_memory)
+}
+
+/// Serves a FLUSH.
+pub(crate) fn flush<I: Image>(server: &mut Server, image: &mut I) -> Result<ErrorNumber, ServeFault>
+    requires { IsBehind (I.tells image.old) (I.holds image.old) server.old }
+    ensures served { IfKept result (ServesOne server.old server.new) }
+    ensures behind { IfKept result (IsBehind (I.tells image.new) (I.holds image.new) server.new) }
+    ensures told { I.tells image.new ≡ I.tells image.old }
+{
+    server.flush(image).map_err(no_memory)
 }

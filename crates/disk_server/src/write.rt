@@ -130,12 +130,7 @@ impl Server {
 
     /// Writes whole blocks, batch by batch.
     #[tactic(auto, unfolding(crate::specs::Serving::blocks_written))]
-    fn write_blocks(
-        &mut self,
-        lba: u32,
-        bytes: &[u8],
-        fua: bool,
-    ) -> Result<ErrorNumber, AllocError>
+    fn write_blocks(&mut self, lba: u32, bytes: &[u8], fua: bool) -> Result<ErrorNumber, AllocError>
         requires fits { 512 * lba + length bytes.now ≤ 512 * MAX_BLOCKS }
         ensures server { OnOk result (self.new ≡ (blocks_written self.old lba bytes.now fua).serving) }
         ensures error { IfOk result (λ error. error ≡ (blocks_written self.old lba bytes.now fua).error) }

@@ -20,8 +20,7 @@ pub struct Asked<'a> {
 }
 
 /// Reads the words, the program's own name first. An error has the text to print, help among them.
-pub fn asked_of<'a>(alloc: Global, words: &'a [String]) -> Result<Asked<'a>, Error>
-{
+pub fn asked_of<'a>(alloc: Global, words: &'a [String]) -> Result<Asked<'a>, Error> {
     let mut command = command(alloc)?;
     let matches = command.try_get_matches_from_mut(words)?;
     match found(&matches) {

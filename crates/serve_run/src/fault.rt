@@ -34,10 +34,8 @@ impl ServeFault {
     {
         match self {
             ServeFault::Run(fault) => fault.status(),
-            ServeFault::Handshake
-            | ServeFault::Request
-            | ServeFault::Ended
-            | ServeFault::Stream => FAULT,
+            ServeFault::Handshake | ServeFault::Request | ServeFault::Ended | ServeFault::Stream =>
+                FAULT,
         }
     }
 

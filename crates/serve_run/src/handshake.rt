@@ -7,7 +7,9 @@ use crate::link::{drop_rest, read_message, read_rest, send};
 use byte_io::{Sink, Source};
 use byteorder::{BigEndian, ByteOrder};
 use nbd::flags::{ExportFlags, ServerFlags};
-use nbd::{BlockSizes, Export, OptionHead, OptionKind, OptionReply, ReplyKind, client_flags, greeting};
+use nbd::{
+    BlockSizes, Export, OptionHead, OptionKind, OptionReply, ReplyKind, client_flags, greeting,
+};
 
 /// What is offered: the fixed newstyle, and to leave out the zeros behind an export.
 const OFFERED: u16 = 3;
@@ -60,7 +62,7 @@ pub(crate) fn shake<S: Source, O: Sink>(
         size,
         flags: ExportFlags(EXPORT_FLAGS),
     };
-    for _ in 0..u64::MAX {
+    for turn in 0..u64::MAX {
         match answer_option(input, output, export, flags & NO_ZEROES != 0)? {
             Next::Option => {}
             Next::Transmission => return Ok(true),
@@ -179,18 +181,18 @@ fn reply<O: Sink>(
     output: &mut O,
     option: OptionKind,
     kind: ReplyKind,
-    data: &[u8],
+    bytes: &[u8],
 ) -> Result<(), ServeFault>
-    requires { length data.now < 2 ^ 32 }
+    requires { length bytes.now < 2 ^ 32 }
 {
     let head = OptionReply {
         option,
         kind,
-        length: data.len() as u32,
+        length: bytes.len() as u32,
     };
     send(output, &head.to_bytes())?;
-    if data.is_empty() {
+    if bytes.is_empty() {
         return Ok(());
     }
-    send(output, data)
+    send(output, bytes)
 }

@@ -6,7 +6,10 @@ use nbd::{drop_bytes, read_whole};
 use uas_replay::RunFault;
 
 /// Fills `buffer` with the next message; `false` where the input ended before it.
-pub(crate) fn read_message<S: Source>(input: &mut S, buffer: &mut [u8]) -> Result<bool, ServeFault> {
+pub(crate) fn read_message<S: Source>(
+    input: &mut S,
+    buffer: &mut [u8],
+) -> Result<bool, ServeFault> {
     let count = read_whole(input, buffer).map_err(|_| ServeFault::Stream)?;
     if count == 0 && !buffer.is_empty() {
         return Ok(false);

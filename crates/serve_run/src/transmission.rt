@@ -48,7 +48,7 @@ pub(crate) fn transmit<I: Image, S: Source, O: Sink>(
     ensures behind { IfKept result (IsBehind (I.tells image.new) (I.holds image.new) server.new) }
     ensures told { I.tells image.new ≡ I.tells image.old }
 {
-    for _ in 0..u64::MAX {
+    for turn in 0..u64::MAX {
         let mut bytes = [0; REQUEST_BYTES];
         if !read_message(input, &mut bytes)? {
             return Ok(());

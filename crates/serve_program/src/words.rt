@@ -1,0 +1,92 @@
+//! The words of the command line.
+
+use byte_io::Sink;
+use clap::error::ErrorKind;
+use clap::{Arg, ArgAction, ArgMatches, Command, Error};
+use std::alloc::{AllocError, Global};
+use std::io::Write;
+use uas_profile::MAX_BLOCKS;
+use uas_replay::{DONE, RunFault, WORDS_REFUSED, output_fault};
+
+/// The greatest number of a block that a unit can have.
+const LAST_BLOCK: u32 = MAX_BLOCKS - 1;
+
+/// What is asked to be served.
+#[derive(Clone, Copy, Debug)]
+pub struct Asked<'a> {
+    pub file: &'a str,
+    /// The block that is bad, where the disk has it.
+    pub bad: Option<u32>,
+}
+
+/// Reads the words, the program's own name first. An error has the text to print, help among them.
+pub fn asked_of<'a>(alloc: Global, words: &'a [String]) -> Result<Asked<'a>, Error> {
+    let mut command = command(alloc)?;
+    let matches = command.try_get_matches_from_mut(words)?;
+    match found(&matches) {
+        Some(asked) => Ok(asked),
+        None => Err(command.error(ErrorKind::ValueValidation, "a word is missing")?),
+    }
+}
+
+fn command<'a>(alloc: Global) -> Result<Command<'a>, AllocError> {
+    Command::new(alloc, "uasdisk")
+        .about("Runs disks of many clients over USB Attached SCSI, simulated and verified")
+        .subcommand_required(true)
+        .arg_required_else_help(true)
+        .subcommand(serve_command(alloc)?)
+}
+
+fn serve_command<'a>(alloc: Global) -> Result<Command<'a>, AllocError> {
+    Command::new(alloc, "serve")
+        .about("Serves an image as a disk over standard input and output, to any client of NBD")
+        .after_help("Example:\n  nbdinfo -- [ examples/activated ./uasdisk serve disk.img ]")
+        .arg(
+            Arg::new(alloc, "FILE")
+                .required(true)
+                .action(ArgAction::Set)
+                .help("The image, which is there; what is written goes to it"),
+        )?
+        .arg(
+            Arg::new(alloc, "bad")
+                .long("bad")
+                .value_name("LBA")
+                .action(ArgAction::Set)
+                .value_parser(clap::value_parser!(u32).range(0..=i64::from(LAST_BLOCK)))
+                .help("A block that is bad: 0 to 65535"),
+        )
+}
+
+/// What was found for the subcommand; the parsers have refused every other word before.
+fn found<'a>(matches: &ArgMatches<'a>) -> Option<Asked<'a>> {
+    let (_, words) = matches.subcommand()?;
+    let file = words.get_str("FILE")?;
+    Some(Asked {
+        file,
+        bad: words.get_one::<u32>("bad"),
+    })
+}
+
+/// Prints what is wrong with the words, or the help that they ask for.
+pub fn refuse<O: Sink, W: Write>(
+    alloc: Global,
+    error: &Error,
+    output: &mut O,
+    faults: &mut W,
+) -> u8 {
+    if error.kind() == ErrorKind::OutOfMemory {
+        return RunFault::NoMemory.tell(faults);
+    }
+    if error.use_stderr() {
+        // a fault of standard error changes nothing
+        let _ = write!(faults, "{error}");
+        return WORDS_REFUSED;
+    }
+    let Ok(text) = format!(in alloc; "{error}") else {
+        return RunFault::NoMemory.tell(faults);
+    };
+    match output.write(text.as_bytes()) {
+        Ok(()) => DONE,
+        Err(fault) => output_fault(fault).tell(faults),
+    }
+}

@@ -1,0 +1,68 @@
+-- What a request is refused for, and the exit status of a fault.
+use Rattle.std.specs.Prelude.{◌≡◌, ℕ, ◌+◌, ◌==◌, nat_lt, ◌||◌, ◌⊎◌, if◌then◌else◌, List, Result, Ok, Err, ⊤}
+use Rattle.block_unit.specs.BlockMaps.{BlockMaps}
+use Rattle.disk_server.specs.Serving.{Serving, medium_of, opening_serving}
+use Rattle.disk_server.specs.Exports.{Asked, Exports, Serves}
+use Rattle.nbd.specs.declared.transmission.Command.{Command}
+use Rattle.nbd.specs.declared.transmission.Command.TheVariants.{Read, Write, Disconnect, Flush, Other}
+use Rattle.nbd.specs.declared.transmission.ErrorNumber.{ErrorNumber}
+use Rattle.nbd.specs.declared.transmission.ErrorNumber.TheVariants as error
+use Rattle.nbd.specs.declared.transmission.Request.{Request}
+use Rattle.serve_run.specs.declared.fault.ServeFault.{ServeFault}
+use Rattle.serve_run.specs.declared.fault.ServeFault.TheVariants as fault
+use Rattle.uas_replay.specs.Runs.{status_of as status_of_run}
+
+-- a request has at most 33,554,432 bytes
+abbrev pub most_bytes : ℕ
+most_bytes = 33554432
+
+-- the request names no byte or too many
+abbrev pub has_bad_length : Request → Bool
+has_bad_length request = (request.length == 0) || nat_lt most_bytes request.length
+
+-- the request goes beyond the end of an export of this size. By hand: of 1,024 bytes, 512 from byte 513 on do, from byte 512 on not
+abbrev pub is_beyond : ℕ → Request → Bool
+is_beyond size request = nat_lt size (request.offset + request.length)
+
+-- what a request of a command is refused for; `None` for one that is served
+abbrev pub refusal_of_command : ℕ → Request → Command → ErrorNumber
+refusal_of_command size request Read = if has_bad_length request || is_beyond size request then error.Invalid else error.None
+refusal_of_command size request Write =
+    if has_bad_length request then error.Invalid else (if is_beyond size request then error.NoSpace else error.None)
+refusal_of_command size request Disconnect = error.None
+refusal_of_command size request Flush = error.None
+refusal_of_command size request (Other number) = error.Invalid
+
+-- a flag other than FUA, which is 1, wasn't offered
+abbrev pub refusal_of : ℕ → Request → ErrorNumber
+refusal_of size request = if nat_lt 1 request.flags.0 then error.Invalid else refusal_of_command size request request.command
+
+-- 4 for want of memory, else 3
+abbrev pub status_of : ServeFault → ℕ
+status_of (fault.Run run) = status_of_run run
+status_of fault.Handshake = 3
+status_of fault.Request = 3
+status_of fault.Ended = 3
+status_of fault.Stream = 3
+
+-- what holds unless memory was wanting, after which nothing is known of the server
+abbrev pub IfKept : {T : Type 0} → Result T ServeFault → Type 0 → Type 0
+IfKept (Ok value) P = P
+IfKept (Err (fault.Run run)) P = ⊤
+IfKept (Err fault.Handshake) P = P
+IfKept (Err fault.Request) P = P
+IfKept (Err fault.Ended) P = P
+IfKept (Err fault.Stream) P = P
+
+-- one request was served, or none
+abbrev pub ServesOne : Serving → Serving → Type 0
+ServesOne old new = (new ≡ old) ⊎ ((asked : Asked) × Serves old asked new)
+
+-- requests were served, each by the machine that the ones before it left
+abbrev pub ServesSome : Serving → Serving → Type 0
+ServesSome old new = (asked : List Asked) × Exports old asked new
+
+-- the bytes are the medium that some requests to a disk of this unit left
+abbrev pub HoldsServed : BlockMaps → List ℕ → Type 0
+HoldsServed unit held =
+    (serving : Serving) × (ServesSome (opening_serving unit) serving × (held ≡ medium_of serving.machine))

@@ -1,0 +1,17 @@
+//! The run `serve`: an image as a disk for any client of NBD, over a reader and a writer.
+//!
+//! [`run_serve`] reads an image, greets the client, answers its options, and then its requests in their order, each by a
+//! [`Server`](disk_server::Server) of the image's unit. What is refused, and as what, is specs/Serves.antt.
+//!
+//! It stands on the messages of `nbd`, on the server of a disk, on images by position, and on readers and writers.
+#![tactic(auto)]
+
+mod fault;
+mod handshake;
+mod link;
+mod serve;
+mod transmission;
+
+pub use fault::ServeFault;
+pub use serve::run_serve;
+pub use transmission::refusal_of;

@@ -1,0 +1,115 @@
+//! The run `serve`.
+
+ghost use Rattle.std.specs.Prelude.{◌≡◌, ◌⊎◌, Some, IsTrue, IsOk, IsErr, IfOk, IfSome, OnOk, option_to_list};
+ghost use Rattle.std.specs.Io.KnownBytes.{Keeps};
+ghost use Rattle.block_unit.specs.BlockMaps.{imaged};
+ghost use Rattle.disk_image.specs.Images.{blocks_in};
+ghost use Rattle.serve_run.specs.Serves.{HoldsServed};
+
+use crate::fault::ServeFault;
+use crate::handshake::shake;
+use crate::transmission::{Room, flush, no_memory, transmit};
+use block_unit::Unit;
+use byte_io::{Sink, Source};
+use disk_image::{blocks_in, read_image};
+use disk_server::Server;
+use image_file::Image;
+use nbd::ErrorNumber;
+use std::alloc::Global;
+use std::io::Write;
+use uas_replay::{DONE, RunFault};
+
+/// The run `serve`: reads an image from `file`, and serves it as a disk over `input` and `output`, with a bad block where one is
+/// named; `image` is the same file, written by position. Nothing is written to the client before the image was read without a
+/// fault. When the client leaves, or the transmission ends by a fault, what was written is flushed. It answers the exit status: 3 at a
+/// fault of the image, of its file, of the client's messages or of the streams, 4 for want of memory, else 0.
+pub fn run_serve<R: Source, I: Image, S: Source, O: Sink, W: Write>(
+    alloc: Global,
+    bad: Option<u32>,
+    file: &mut R,
+    image: &mut Option<I>,
+    input: &mut S,
+    output: &mut O,
+    faults: &mut W,
+) -> u8
+    requires { IfSome image.old (λ held. IsTrue (I.tells held) → R.left file.old ≡ Some (I.holds held)) }
+    ensures statuses { (result ≡ 0) ⊎ ((result ≡ 3) ⊎ (result ≡ 4)) }
+    ensures image { result ≡ 0 → IfSome (R.left file.old) (λ bytes. IsOk (blocks_in bytes)) }
+    ensures there { result ≡ 0 → IsTrue (R.is_there file.old) }
+    // Of a file that is no image not a byte is written to the client.
+    ensures refused { IfSome (R.left file.old) (λ bytes. IsErr (blocks_in bytes) → Keeps (O.written output.old) (O.written output.new)) }
+    // The file holds the medium of the machine that served what the client asked for.
+    ensures served { result ≡ 0 → IfSome (R.left file.old) (λ bytes. IfSome image.new (λ held.
+        IsTrue (I.tells held) → HoldsServed (imaged bytes (option_to_list bad)) (I.holds held))) }
+{
+    match serve(alloc, bad, file, image, input, output) {
+        Ok(()) => DONE,
+        Err(fault) => fault.tell(faults),
+    }
+}
+
+fn serve<R: Source, I: Image, S: Source, O: Sink>(
+    alloc: Global,
+    bad: Option<u32>,
+    file: &mut R,
+    image: &mut Option<I>,
+    input: &mut S,
+    output: &mut O,
+) -> Result<(), ServeFault>
+    requires { IfSome image.old (λ held. IsTrue (I.tells held) → R.left file.old ≡ Some (I.holds held)) }
+    ensures image { OnOk result (IfSome (R.left file.old) (λ bytes. IsOk (blocks_in bytes))) }
+    ensures there { OnOk result (IsTrue (R.is_there file.old)) }
+    ensures refused { IfSome (R.left file.old) (λ bytes. IsErr (blocks_in bytes) → Keeps (O.written output.old) (O.written output.new)) }
+    ensures served { OnOk result (IfSome (R.left file.old) (λ bytes. IfSome image.new (λ held.
+        IsTrue (I.tells held) → HoldsServed (imaged bytes (option_to_list bad)) (I.holds held)))) }
+{
+    let unit = read_disk(alloc, bad, file).map_err(ServeFault::Run)?;
+    let Some(image) = image else {
+        return Err(ServeFault::Run(RunFault::ImageFile));
+    };
+    serve_unit(alloc, unit, image, input, output)
+}
+
+/// Serves a unit.
+fn serve_unit<I: Image, S: Source, O: Sink>(
+    alloc: Global,
+    unit: Unit,
+    image: &mut I,
+    input: &mut S,
+    output: &mut O,
+) -> Result<(), ServeFault>
+    requires { IsTrue (I.tells image.old) → I.holds image.old ≡ unit.medium }
+    ensures served { OnOk result (IsTrue (I.tells image.new) → HoldsServed unit (I.holds image.new)) }
+    ensures told { I.tells image.new ≡ I.tells image.old }
+{
+    let mut server = Server::new(alloc, unit).map_err(no_memory)?;
+    if !shake(input, output, server.size())? {
+        return Ok(());
+    }
+    let ended = transmit(&mut server, &mut Room::new(alloc), image, input, output);
+    if let Err(ServeFault::Run(fault)) = ended {
+        return Err(ServeFault::Run(fault));
+    }
+    let flushed = flush(&mut server, image)?;
+    ended?;
+    if flushed != ErrorNumber::None {
+        return Err(ServeFault::Run(RunFault::ImageFile));
+    }
+    Ok(())
+}
+
+/// Reads an image, and makes the unit of it, in which this block is bad where the unit has it.
+fn read_disk<R: Source>(alloc: Global, bad: Option<u32>, file: &mut R) -> Result<Unit, RunFault>
+    ensures unit { IfOk result (λ unit. IfSome (R.left file.old) (λ bytes. unit ≡ imaged bytes (option_to_list bad))) }
+    ensures image { OnOk result (IfSome (R.left file.old) (λ bytes. IsOk (blocks_in bytes))) }
+    ensures there { OnOk result (IsTrue (R.is_there file.old)) }
+{
+    let bytes = read_image(alloc, file)?;
+    let _ = blocks_in(&bytes).map_err(RunFault::Image)?;
+    let mut blocks = Vec::new(alloc);
+    if let Some(block) = bad {
+        blocks.push(block).map_err(|_| RunFault::NoMemory)?;
+    }
+    // its form is tested, so that nothing but memory can be wanting
+    Unit::from_image(alloc, &bytes, blocks).map_err(|_| RunFault::NoMemory)
+}

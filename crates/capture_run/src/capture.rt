@@ -18,9 +18,12 @@ use uas_replay::{COMMAND_FAILED, RunFault, output_fault, read_script};
 use uas_script::{Line, MAX_SCRIPT_BYTES, ScriptFault};
 use uas_trace::run_trace;
 
+/// A script of so many lines takes seconds to run.
+const LONG_SCRIPT: usize = 20_000;
+
 /// The run `capture`: reads a script of 1 to 15 clients, runs it on units of 1 to 65,536 zeroed blocks, of which one may be bad, writes
 /// the capture to the file of a name and prints what `replay` prints. The file is created once the script was read without a
-/// fault; the lines are printed once it was closed. It answers the exit status that `replay` answers, and 3 at a fault of the file too.
+/// fault; the lines are printed once it was closed. A long run says on `faults` how far it is, where that is asked for. It answers the exit status that `replay` answers, and 3 at a fault of the file too.
 pub fn run_capture<F: Files, S: Source, O: Sink, W: Write>(
     alloc: Global,
     disks: Disks,
@@ -29,6 +32,7 @@ pub fn run_capture<F: Files, S: Source, O: Sink, W: Write>(
     input: &mut S,
     output: &mut O,
     faults: &mut W,
+    may_show_progress: bool,
 ) -> u8
     requires { AreDisks disks }
     ensures statuses { (result ≤ 1) ⊎ ((result ≡ 3) ⊎ (result ≡ 4)) }
@@ -41,21 +45,32 @@ pub fn run_capture<F: Files, S: Source, O: Sink, W: Write>(
         ((IfSome (S.left input.old) (λ bytes. IsErr (script disks.clients bytes)) ⊎ (IsTrue (S.can_fail input.old)
         ⊎ IsTrue (F.can_fail files.old file.now))) × Keeps (O.written output.old) (O.written output.new)) ⊎ IsTrue (O.can_fail output.old) }
     ensures memory { result ≡ 4 → Keeps (O.written output.old) (O.written output.new) }
-    ensures quiet { result ≤ 1 → faults.new ≡ faults.old }
+    ensures quiet { may_show_progress ≡ false → result ≤ 1 → faults.new ≡ faults.old }
 {
-    match capture(alloc, disks, files, file, input, output) {
+    match capture(
+        alloc,
+        disks,
+        files,
+        file,
+        input,
+        output,
+        faults,
+        may_show_progress,
+    ) {
         Ok(status) => status,
         Err(fault) => fault.tell(faults),
     }
 }
 
-fn capture<F: Files, S: Source, O: Sink>(
+fn capture<F: Files, S: Source, O: Sink, W: Write>(
     alloc: Global,
     disks: Disks,
     files: &mut F,
     file: &str,
     input: &mut S,
     output: &mut O,
+    notes: &mut W,
+    may_show_progress: bool,
 ) -> Result<u8, CaptureFault>
     requires { AreDisks disks }
     ensures status { IfOk result (λ status. status ≤ 1) }
@@ -66,12 +81,23 @@ fn capture<F: Files, S: Source, O: Sink>(
     ensures created { OnOk result (IsTrue (F.can_create files.old file.now)) }
     ensures fault { IfErr result (CaptureGivesUp disks.clients (S.left input.old) (S.can_fail input.old) (O.can_fail output.old)
         (F.can_fail files.old file.now) (O.written output.old) (O.written output.new)) }
+    ensures quiet { may_show_progress ≡ false → notes.new ≡ notes.old }
 {
     let script = read_text(alloc, input).map_err(CaptureFault::Run)?;
     let lines = read_script(alloc, disks.clients, &mut BytesLeft(&script)).map_err(
         CaptureFault::Run,
     )?;
-    let kept = save(alloc, disks, files, file, &script, &lines)?;
+    let shows_progress = may_show_progress && lines.len() >= LONG_SCRIPT;
+    let kept = save(
+        alloc,
+        disks,
+        files,
+        file,
+        &script,
+        &lines,
+        notes,
+        shows_progress,
+    )?;
     output
         .write(&kept.text)
         .map_err(|fault| CaptureFault::Run(output_fault(fault)))?;
@@ -94,13 +120,15 @@ fn read_text<S: Source>(alloc: Global, reader: &mut S) -> Result<Vec<u8>, RunFau
 }
 
 /// Creates the file, runs the lines and writes the capture. At a fault every file holds what it held.
-fn save<F: Files>(
+fn save<F: Files, W: Write>(
     alloc: Global,
     disks: Disks,
     files: &mut F,
     file: &str,
     script: &[u8],
     lines: &[Line],
+    notes: &mut W,
+    shows_progress: bool,
 ) -> Result<Kept, CaptureFault>
     requires { AreDisks disks }
     ensures text { IfOk result (λ kept. kept.text.items ≡ (told (zeroed_units disks.clients disks.blocks disks.bad) lines.now).0) }
@@ -108,9 +136,18 @@ fn save<F: Files>(
     ensures captured { OnOk result (IsTrue (F.tells files.old) → IsCapture (F.holds files.new file.now)) }
     ensures created { OnOk result (IsTrue (F.can_create files.old file.now)) }
     ensures fault { IfErr result (FileGivesUp (F.can_fail files.old file.now)) }
+    ensures quiet { shows_progress ≡ false → notes.new ≡ notes.old }
 {
     let mut capture = files.create(file);
-    match write_capture(alloc, disks, script, lines, &mut capture) {
+    match write_capture(
+        alloc,
+        disks,
+        script,
+        lines,
+        &mut capture,
+        notes,
+        shows_progress,
+    ) {
         Ok(kept) => {
             files.close(capture).map_err(|fault| capture_fault(fault))?;
             Ok(kept)
@@ -123,12 +160,14 @@ fn save<F: Files>(
 }
 
 /// Runs the lines, and writes the capture.
-fn write_capture<O: Sink>(
+fn write_capture<O: Sink, W: Write>(
     alloc: Global,
     disks: Disks,
     script: &[u8],
     lines: &[Line],
     file: &mut O,
+    notes: &mut W,
+    shows_progress: bool,
 ) -> Result<Kept, CaptureFault>
     requires { AreDisks disks }
     ensures text { IfOk result (λ kept. kept.text.items ≡ (told (zeroed_units disks.clients disks.blocks disks.bad) lines.now).0) }
@@ -139,16 +178,28 @@ fn write_capture<O: Sink>(
     ensures stays { O.is_there file.new ≡ O.is_there file.old }
     ensures of { O.is_of file.new ≡ O.is_of file.old }
     ensures fault { IfErr result (FileGivesUp (O.can_fail file.old)) }
+    ensures quiet { shows_progress ≡ false → notes.new ≡ notes.old }
 {
     let kept = run_kept(alloc, disks, lines).map_err(|_| CaptureFault::Run(RunFault::NoMemory))?;
+    note("the script has run: tracing it", notes, shows_progress);
     let trace = trace_text(alloc, disks, script).map_err(|_| CaptureFault::Run(
         RunFault::NoMemory,
     ))?;
+    note("traced: writing its packets", notes, shows_progress);
     let capture = capture_of(alloc, &kept.transfers, &trace).map_err(|_| CaptureFault::Run(
         RunFault::NoMemory,
     ))?;
     file.write(&capture).map_err(|fault| capture_fault(fault))?;
     Ok(kept)
+}
+
+/// Tells how far a run is, where that is asked for. A fault of `notes` changes nothing.
+fn note<W: Write>(what: &str, notes: &mut W, shows_progress: bool)
+    ensures { shows_progress ≡ false → notes.new ≡ notes.old }
+{
+    if shows_progress {
+        let _ = writeln!(notes, "{what}");
+    }
 }
 
 /// What `trace` prints of the script.

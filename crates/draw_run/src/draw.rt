@@ -1,6 +1,6 @@
 //! The run `draw`.
 
-ghost use Rattle.std.specs.Prelude.{◌≡◌, ◌≤◌, ◌⊎◌, IsTrue, IsErr, IfErr, OnOk, IfSome};
+ghost use Rattle.std.specs.Prelude.{◌≡◌, ◌≤◌, ◌⊎◌, false, IsTrue, IsErr, IfErr, OnOk, IfSome};
 ghost use Rattle.std.specs.Io.KnownBytes.{Keeps, IsAtEnd};
 ghost use Rattle.byte_io.specs.Disks.{AreDisks};
 ghost use Rattle.uas_script.specs.Script.{script};
@@ -15,14 +15,19 @@ use trace_picture::picture;
 use uas_replay::{COMMAND_FAILED, RunFault, output_fault};
 use uas_trace::run_trace;
 
+/// The trace of a run of some thousand commands has so many bytes.
+const LONG_TRACE: usize = 4_194_304;
+
 /// The run `draw`: reads a script of 1 to 15 clients, runs it on units of 1 to 65,536 zeroed blocks, of which one may be bad, and writes
-/// the picture of the run once it is done. It answers the exit status that `trace` answers.
+/// the picture of the run once it is done. A long run says so on `faults` once it is traced, where that is asked for. It answers the
+/// exit status that `trace` answers.
 pub fn run_draw<S: Source, O: Sink, W: Write>(
     alloc: Global,
     disks: Disks,
     reader: &mut S,
     writer: &mut O,
     faults: &mut W,
+    may_show_progress: bool,
 ) -> u8
     requires { AreDisks disks }
     ensures statuses { (result ≤ 1) ⊎ ((result ≡ 3) ⊎ (result ≡ 4)) }
@@ -35,7 +40,7 @@ pub fn run_draw<S: Source, O: Sink, W: Write>(
         ((IfSome (S.left reader.old) (λ bytes. IsErr (script disks.clients bytes)) ⊎ IsTrue (S.can_fail reader.old))
         × Keeps (O.written writer.old) (O.written writer.new)) ⊎ IsTrue (O.can_fail writer.old) }
     ensures memory { result ≡ 4 → Keeps (O.written writer.old) (O.written writer.new) }
-    ensures quiet { result ≤ 1 → faults.new ≡ faults.old }
+    ensures quiet { may_show_progress ≡ false → result ≤ 1 → faults.new ≡ faults.old }
 {
     let mut trace = BytesTaken(Vec::new(alloc));
     let status = run_trace(alloc, disks, reader, &mut trace, faults);
@@ -43,9 +48,22 @@ pub fn run_draw<S: Source, O: Sink, W: Write>(
         return status;
     }
     let BytesTaken(text) = trace;
+    note(text.len(), faults, may_show_progress);
     match write_picture(alloc, disks.clients as u8, &text, writer) {
         Ok(()) => status,
         Err(fault) => fault.tell(faults),
+    }
+}
+
+/// Tells how long a trace is that will be drawn, where it is long and that is asked for. A fault of `notes` changes nothing.
+fn note<W: Write>(bytes: usize, notes: &mut W, may_show_progress: bool)
+    ensures { may_show_progress ≡ false → notes.new ≡ notes.old }
+{
+    if may_show_progress && bytes >= LONG_TRACE {
+        let _ = writeln!(
+            notes,
+            "the script has run: drawing a trace of {bytes} bytes"
+        );
     }
 }
 

@@ -1,13 +1,14 @@
 //! A script's run: the bus, each client's tags, and what was told. The walk of its lines is `walk`.
 
-ghost use Rattle.uas_profile.specs.declared.TheConstants.{MAX_CLIENTS};
+ghost use Rattle.uas_profile.specs.declared.TheConstants.{MAX_CLIENTS, TAGS};
 ghost use Rattle.uas_profile.specs.declared.TheConstants.{MAX_BLOCKS};
-ghost use Rattle.std.specs.Prelude.{◌≡◌, ℕ, ◌+◌, ◌*◌, ◌≤◌, ◌<◌, ◌^◌, ◌++◌, ◌∷◌, [], Bool, List, option_to_list, length, fold, replicate};
-ghost use Rattle.std.specs.Prelude.{slice_index_or, false, IfOk, OnOk, vec_len};
+ghost use Rattle.std.specs.Prelude.{◌≡◌, ℕ, ◌+◌, ◌*◌, ◌≤◌, ◌<◌, ◌^◌, ◌++◌, ◌∷◌, [], Bool, List, option_to_list, length, fold, replicate, suc};
+ghost use Rattle.std.specs.Prelude.{slice_index_or, false, IfOk, OnOk, IfSome, IfNone, vec_len};
 ghost use Rattle.scsi_cmd.specs.Op.{direction_of};
 ghost use Rattle.uas_replay.specs.Told.{zeroed_units, opening_ranges, command_of, is_to_host, took_to_host, told};
 ghost use Rattle.uas_replay.specs.Told.{issued_for, handing_in, brought_in_by};
 ghost use Rattle.shared_machine.specs.Bus.{HasTicket};
+ghost use Rattle.shared_machine.specs.Drain.{AreNotLeftOver, AreQuiet};
 ghost use Rattle.bus_core.specs.Shows.{ShowsShared};
 ghost use Rattle.frame_store.specs.Buffers.{IsWhole};
 
@@ -23,7 +24,7 @@ use notes::TicketNotes;
 use scsi_cmd::{Buffer, Command, Direction, Op, Reply, Task, moves};
 use std::alloc::{AllocError, Global};
 use std::marker::Model;
-use stream_array::Lines;
+use stream_array::{Lines, Pipe};
 use tag_range::{Refused, Tag, TagRange, Ticket};
 use uas_profile::TAGS;
 use uas_script::{Line, Request};
@@ -179,6 +180,22 @@ impl ScriptRun {
         ensures { result ≡ is_due self.now.machine step.now }
     {
         self.bus.due(step)
+    }
+
+    /// The least tag above this one that the device has a task of. No other tag's streams are due.
+    pub fn next_busy(&self, tag: u16) -> Option<u16>
+        ensures next { IfSome result (λ next. (tag < next) × (next ≤ length self.now.machine.parts * TAGS) × AreQuiet self.now.machine tag next) }
+        ensures none { IfNone result (AreQuiet self.now.machine tag (suc (length self.now.machine.parts * TAGS))) }
+    {
+        self.bus.next_busy(tag)
+    }
+
+    /// The least tag above this one whose TD on a pipe is left over. None is due while a retirement is under way.
+    pub fn next_left_over(&self, pipe: Pipe, tag: u16) -> Option<u16>
+        ensures next { IfSome result (λ next. (tag < next) × (next ≤ length self.now.machine.parts * TAGS) × AreNotLeftOver self.now.machine pipe tag next) }
+        ensures none { IfNone result (AreNotLeftOver self.now.machine pipe tag (suc (length self.now.machine.parts * TAGS))) }
+    {
+        self.bus.next_left_over(pipe, tag)
     }
 
     /// How many clients its bus has.

@@ -1,5 +1,5 @@
 -- What `trace` prints beside the lines of `replay`, and how a run ends that writes as it goes.
-use Rattle.std.specs.Prelude.{◌≡◌, ◌⊎◌, ℕ, Bool, if◌then◌else◌, IsTrue, List, [], ◌++◌, codes, Option, Some, None, IfSome, Result, Ok, Err}
+use Rattle.std.specs.Prelude.{◌≡◌, ◌<◌, ◌⊎◌, ℕ, Bool, false, if◌then◌else◌, IsTrue, List, [], ◌++◌, codes, Option, Some, None, IfSome, Result, Ok, Err}
 use Rattle.std.specs.Fmt.{decimal}
 use Rattle.std.specs.Int.{w32, w64, to_be_bytes}
 use Rattle.std.specs.Io.KnownBytes.{Keeps}
@@ -11,6 +11,7 @@ use Rattle.scsi_cmd.specs.declared.Task.{Task}
 use Rattle.scsi_cmd.specs.declared.Task.TheVariants.{Abort, Reset, Query}
 use Rattle.uas_profile.specs.declared.Pipe.{Pipe}
 use Rattle.uas_profile.specs.Pipes.{number_of}
+use Rattle.shared_machine.specs.Shared.{Shared, due}
 use Rattle.shared_machine.specs.declared.Step.{Step}
 use Rattle.shared_machine.specs.declared.Step.TheVariants as step
 use Rattle.uas_trace.specs.declared.trace.TagStep.{TagStep}
@@ -98,6 +99,10 @@ abbrev pub step_of_tag : TagStep → ℕ → Step
 step_of_tag kind.Data = λ tag. step.Data tag
 step_of_tag kind.Status = λ tag. step.Status tag
 step_of_tag (kind.Retire pipe) = λ tag. step.Retire pipe tag
+
+-- no step of this kind is due of any tag between two others
+abbrev pub AreNotDue : Shared → TagStep → ℕ → ℕ → Type 0
+AreNotDue machine kind tag next = (other : ℕ) → tag < other → other < next → due machine (step_of_tag kind other) ≡ false
 
 -- RUNS
 

@@ -10,7 +10,7 @@ ghost use Rattle.uas_trace.specs.Written.{IsPutRing, base_in, end_of, image_line
 ghost use Rattle.uas_trace.specs.Written.{ring_in, trb_at};
 
 use crate::lines::push_bytes;
-use std::alloc::{AllocError, Global};
+use std::alloc::AllocError;
 use stream_array::{Lines, Pipe};
 use uas_profile::{
     COMMAND_RING_PLACES, ENGINE_RING, ENGINE_RING_PLACES, PIPE_SPAN, RINGS, STREAM_RING_PLACES,
@@ -85,7 +85,6 @@ impl PutRing {
     #[tactic(auto, unfolding(crate::specs::Written::put_since))]
     pub fn push_since(
         self,
-        alloc: Global,
         text: &mut Vec<u8>,
         lines: &Lines,
         from: usize,
@@ -96,27 +95,21 @@ impl PutRing {
     {
         let turn = self.places() - 1;
         for passed in 0..distance(turn, from, self.end(lines)) {
-            self.push_place((from + passed) % turn, alloc, text, lines)?;
+            self.push_place((from + passed) % turn, text, lines)?;
         }
         Ok(())
     }
 
     /// Adds the line of the TRB at a place, and that of the Link behind the last.
-    fn push_place(
-        self,
-        place: usize,
-        alloc: Global,
-        text: &mut Vec<u8>,
-        lines: &Lines,
-    ) -> Result<(), AllocError>
+    fn push_place(self, place: usize, text: &mut Vec<u8>, lines: &Lines) -> Result<(), AllocError>
         requires ring { IsPutRing self }
         requires place { place < places_in self - 1 }
         ensures { OnOk result (text.new.items ≡ text.old.items ++ place_lines lines.now self place) }
     {
-        self.push_image(alloc, text, lines, "put", place)?;
+        self.push_image(text, lines, "put", place)?;
         let link = self.places() - 1;
         if place + 1 == link {
-            self.push_image(alloc, text, lines, "link", link)?;
+            self.push_image(text, lines, "link", link)?;
         }
         Ok(())
     }
@@ -124,7 +117,6 @@ impl PutRing {
     /// Adds the line of what stands at a place.
     fn push_image(
         self,
-        alloc: Global,
         text: &mut Vec<u8>,
         lines: &Lines,
         name: &str,
@@ -138,7 +130,7 @@ impl PutRing {
             ++ image_line name.now (base_in self + 16 * place) (link_at (places_in self) (ring_in lines.now self))) }
     {
         let address = self.base() + 16 * place as u64;
-        push_image(alloc, text, name, address, &self.image(lines, place))
+        push_image(text, name, address, &self.image(lines, place))
     }
 }
 
@@ -158,7 +150,6 @@ fn distance(turn: usize, from: usize, to: usize) -> usize
 
 /// Adds the line of 16 bytes, where they stand.
 pub fn push_image(
-    alloc: Global,
     text: &mut Vec<u8>,
     name: &str,
     address: u64,
@@ -167,7 +158,7 @@ pub fn push_image(
     ensures { OnOk result (text.new.items ≡ text.old.items ++ image_line name.now address image.now) }
 {
     match image {
-        Some(bytes) => push_bytes(alloc, text, name, address, bytes),
+        Some(bytes) => push_bytes(text, name, address, bytes),
         None => Ok(()),
     }
 }

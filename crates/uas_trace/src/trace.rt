@@ -6,13 +6,14 @@
 
 ghost use Rattle.uas_profile.specs.declared.TheConstants.{MAX_CLIENTS};
 ghost use Rattle.uas_profile.specs.declared.TheConstants.{MAX_BLOCKS};
-ghost use Rattle.std.specs.Prelude.{◌≡◌, ◌≤◌, ◌<◌, ◌^◌, Ok, [], fold, map, length, IfOk, OnOk, IfErr};
+ghost use Rattle.std.specs.Prelude.{◌≡◌, ◌*◌, ◌≤◌, ◌<◌, ◌^◌, Ok, [], fold, map, length, suc, IfOk, OnOk, IfErr, IfSome, IfNone};
 ghost use Rattle.std.specs.Io.KnownBytes.{Appends};
 ghost use Rattle.shared_machine.specs.Bus.{HasTicket};
 ghost use Rattle.shared_machine.specs.Drain.{all_tags, round, tried, tried_one};
 ghost use Rattle.uas_replay.specs.Told.{drained_machine, step_of, told, zeroed_units};
 ghost use Rattle.uas_replay.specs.Runs.{StopsBy};
-ghost use Rattle.uas_trace.specs.Traced.{step_of_tag, with_waiting};
+ghost use Rattle.uas_trace.specs.Traced.{AreNotDue, step_of_tag, with_waiting};
+ghost use Rattle.uas_profile.specs.declared.TheConstants.{TAGS};
 ghost use Rattle.uas_trace.specs.Written.{TellsStep};
 
 use crate::lines::push_step;
@@ -21,7 +22,7 @@ use bus_core::{Outcome, Step};
 use byte_io::Sink;
 use std::alloc::{AllocError, Global};
 use stream_array::Pipe;
-use uas_profile::{EVENT_RING_PLACES, TAGS};
+use uas_profile::EVENT_RING_PLACES;
 use uas_replay::{COMMAND_FAILED, DONE, RunFault, ScriptRun, Watcher, output_fault};
 use uas_script::Line;
 
@@ -48,12 +49,22 @@ impl TagStep {
             TagStep::Retire(pipe) => Step::Retire(pipe, tag),
         }
     }
+
+    /// The least tag above this one whose step may be due.
+    fn next(self, run: &ScriptRun, tag: u16) -> Option<u16>
+        ensures next { IfSome result (λ next. (tag < next) × (next ≤ length run.now.machine.parts * TAGS) × AreNotDue run.now.machine self tag next) }
+        ensures none { IfNone result (AreNotDue run.now.machine self tag (suc (length run.now.machine.parts * TAGS))) }
+    {
+        match self {
+            TagStep::Data | TagStep::Status => run.next_busy(tag),
+            TagStep::Retire(pipe) => run.next_left_over(pipe, tag),
+        }
+    }
 }
 
 /// Shows a script's run step by step.
 #[derive(Drop)]
 struct Tracer {
-    alloc: Global,
     // How many bytes of the run's own text were printed.
     printed: usize,
     // How many events were posted.
@@ -101,7 +112,6 @@ impl Tracer {
     /// One that printed nothing.
     fn new(alloc: Global) -> Tracer {
         Tracer {
-            alloc,
             printed: 0,
             posted: 0,
             text: Vec::new(alloc),
@@ -117,16 +127,15 @@ impl Tracer {
         ensures text { IfOk result (λ outcome. TellsStep run.old.machine run.new.machine step outcome self.new.text.items) }
         ensures waiting { self.new.waiting ≡ self.old.waiting }
     {
-        let alloc = self.alloc;
         self.text.clear();
-        push_step(alloc, &mut self.text, &step)?;
+        push_step(&mut self.text, &step)?;
         let before = Before::of(run.rings(), &step);
         let outcome = run.act(step);
         let rings = run.rings();
         let place = self.posted % EVENT_RING_PLACES;
         self.posted = place + usize::from(before.posts(rings));
         let buffers = run.buffers();
-        before.push_writes(alloc, &mut self.text, rings, buffers, place, &outcome)?;
+        before.push_writes(&mut self.text, rings, buffers, place, &outcome)?;
         Ok(outcome)
     }
 
@@ -173,7 +182,7 @@ impl Tracer {
         Ok(left - 1)
     }
 
-    /// A try of a step of each tag, rising.
+    /// A try of a step of each tag, rising: of those tags alone that may have one due.
     fn try_tags<O: Sink>(
         &mut self,
         writer: &mut O,
@@ -187,10 +196,11 @@ impl Tracer {
         ensures same { O.can_fail writer.new ≡ O.can_fail writer.old }
         ensures fault { IfErr result (StopsBy (O.can_fail writer.old)) }
     {
-        let tags = run.clients() * TAGS;
         let mut left = left;
-        for before in 0..tags {
-            left = self.try_step(writer, run, kind.step(before as u16 + 1), left)?;
+        let mut tag = 0;
+        while let Some(next) = kind.next(run, tag) {
+            left = self.try_step(writer, run, kind.step(next), left)?;
+            tag = next;
         }
         Ok(left)
     }

@@ -18,7 +18,7 @@ use crate::lines::{push_bell, push_bytes, push_chunk, push_context};
 use crate::put_ring::{PutRing, push_image};
 use bus_core::{Outcome, Step};
 use frame_store::{Buffer, Frames, Place};
-use std::alloc::{AllocError, Global};
+use std::alloc::AllocError;
 use stream_array::{Lines, Pipe};
 use uas_iu::TASK_BYTES;
 use uas_profile::{
@@ -101,7 +101,6 @@ impl Before {
     /// Adds the lines of what the step wrote. The event that it posted, if any, has this place.
     pub fn push_writes(
         &self,
-        alloc: Global,
         text: &mut Vec<u8>,
         lines: &Lines,
         frames: &Frames,
@@ -118,10 +117,10 @@ impl Before {
             None
         };
         if outcome.refused.is_none() {
-            self.writes.push(alloc, text, lines, frames, &event)?;
+            self.writes.push(text, lines, frames, &event)?;
         }
-        push_image(alloc, text, "event", EVENT_RING + 16 * place as u64, &event)?;
-        push_bells(alloc, text, &outcome.doors.list())
+        push_image(text, "event", EVENT_RING + 16 * place as u64, &event)?;
+        push_bells(text, &outcome.doors.list())
     }
 }
 
@@ -162,7 +161,6 @@ impl Writes {
     /// Adds their lines. The length of a status unit is told by its event.
     fn push(
         &self,
-        alloc: Global,
         text: &mut Vec<u8>,
         lines: &Lines,
         frames: &Frames,
@@ -174,23 +172,23 @@ impl Writes {
     {
         match *self {
             Writes::CommandUnit { tag, ends } if is_stream(tag) => {
-                push_unit(alloc, text, frames, tag, Buffer::Command, COMMAND_BYTES)?;
-                ends.push_tds(alloc, text, lines, tag)
+                push_unit(text, frames, tag, Buffer::Command, COMMAND_BYTES)?;
+                ends.push_tds(text, lines, tag)
             }
             Writes::TaskUnit { tag, ends } if is_stream(tag) => {
-                push_unit(alloc, text, frames, tag, Buffer::Command, TASK_BYTES)?;
-                ends.push_tds(alloc, text, lines, tag)
+                push_unit(text, frames, tag, Buffer::Command, TASK_BYTES)?;
+                ends.push_tds(text, lines, tag)
             }
             Writes::Chunk {
                 tag,
                 data_in,
                 data_out,
-            } if is_stream(tag) => push_chunks(alloc, text, lines, tag, data_in, data_out),
+            } if is_stream(tag) => push_chunks(text, lines, tag, data_in, data_out),
             Writes::StatusUnit { tag } if is_stream(tag) => {
-                push_unit(alloc, text, frames, tag, Buffer::Status, status_len(event))
+                push_unit(text, frames, tag, Buffer::Status, status_len(event))
             }
-            Writes::EngineCommand { from } => PutRing::Engine.push_since(alloc, text, lines, from),
-            Writes::Context { command } => push_moved(alloc, text, lines, command),
+            Writes::EngineCommand { from } => PutRing::Engine.push_since(text, lines, from),
+            Writes::Context { command } => push_moved(text, lines, command),
             _ => Ok(()),
         }
     }
@@ -214,22 +212,16 @@ impl Ends {
 
     /// Adds the lines of the TRBs that were put behind these ends: data, status, command.
     #[tactic(auto, unfolding(crate::specs::Written::tds_lines))]
-    fn push_tds(
-        &self,
-        alloc: Global,
-        text: &mut Vec<u8>,
-        lines: &Lines,
-        tag: u16,
-    ) -> Result<(), AllocError>
+    fn push_tds(&self, text: &mut Vec<u8>, lines: &Lines, tag: u16) -> Result<(), AllocError>
         requires some { 0 < tag }
         requires most { tag ≤ STREAMS }
         requires lines { IsLines lines.now }
         ensures { OnOk result (text.new.items ≡ text.old.items ++ tds_lines lines.now tag self.now) }
     {
-        PutRing::Stream(Pipe::DataIn, tag).push_since(alloc, text, lines, self.data_in)?;
-        PutRing::Stream(Pipe::DataOut, tag).push_since(alloc, text, lines, self.data_out)?;
-        PutRing::Stream(Pipe::Status, tag).push_since(alloc, text, lines, self.status)?;
-        PutRing::Stream(Pipe::Command, 0).push_since(alloc, text, lines, self.command)
+        PutRing::Stream(Pipe::DataIn, tag).push_since(text, lines, self.data_in)?;
+        PutRing::Stream(Pipe::DataOut, tag).push_since(text, lines, self.data_out)?;
+        PutRing::Stream(Pipe::Status, tag).push_since(text, lines, self.status)?;
+        PutRing::Stream(Pipe::Command, 0).push_since(text, lines, self.command)
     }
 }
 
@@ -260,18 +252,17 @@ fn posted_event(lines: &Lines, place: usize) -> Option<[u8; 16]>
 }
 
 /// Adds the lines of doorbells, in their order.
-fn push_bells(alloc: Global, text: &mut Vec<u8>, values: &[u32]) -> Result<(), AllocError>
+fn push_bells(text: &mut Vec<u8>, values: &[u32]) -> Result<(), AllocError>
     ensures { OnOk result (text.new.items ≡ fold with_bell text.old.items values.now) }
 {
     for value in values {
-        push_bell(alloc, text, *value)?;
+        push_bell(text, *value)?;
     }
     Ok(())
 }
 
 /// Adds the line of the stream context that a command to the controller moved, if it is one that does.
 fn push_moved(
-    alloc: Global,
     text: &mut Vec<u8>,
     lines: &Lines,
     command: Option<(u64, Trb)>,
@@ -289,7 +280,7 @@ fn push_moved(
                 },
             ),
         ) => match pipe_of(endpoint) {
-            Some(pipe) => push_context_of(alloc, text, lines, pipe, stream),
+            Some(pipe) => push_context_of(text, lines, pipe, stream),
             None => Ok(()),
         },
         _ => Ok(()),
@@ -298,7 +289,6 @@ fn push_moved(
 
 /// Adds the line of a stream context as it stands, if the pipe's array has it.
 fn push_context_of(
-    alloc: Global,
     text: &mut Vec<u8>,
     lines: &Lines,
     pipe: Pipe,
@@ -308,7 +298,7 @@ fn push_context_of(
     ensures { OnOk result (text.new.items ≡ text.old.items ++ moved_on lines.now stream (Some pipe)) }
 {
     match lines.array(pipe).bytes(stream) {
-        Ok(bytes) => push_context(alloc, text, pipe, stream, &bytes),
+        Ok(bytes) => push_context(text, pipe, stream, &bytes),
         Err(_) => Ok(()),
     }
 }
@@ -329,7 +319,6 @@ fn pipe_of(endpoint: u8) -> Option<Pipe>
 /// Adds the line of so many bytes of a tag's buffer.
 #[tactic(auto, using(crate::proofs::Units::is_front, crate::proofs::Units::unit_named, crate::proofs::Units::unit_names))]
 fn push_unit(
-    alloc: Global,
     text: &mut Vec<u8>,
     frames: &Frames,
     tag: u16,
@@ -349,13 +338,12 @@ fn push_unit(
         offset: 0,
     };
     let address = place.address();
-    push_bytes(alloc, text, "unit", address, frames.read(address, len))
+    push_bytes(text, "unit", address, frames.read(address, len))
 }
 
 /// Adds the lines of the chunks that were moved on a tag's rings, by the TRBs that were in front of them.
 #[tactic(auto, unfolding(crate::specs::Written::chunk_lines))]
 fn push_chunks(
-    alloc: Global,
     text: &mut Vec<u8>,
     lines: &Lines,
     tag: u16,
@@ -367,14 +355,13 @@ fn push_chunks(
     ensures { OnOk result (text.new.items ≡ text.old.items ++ chunk_lines lines.now tag data_in data_out) }
 {
     let now_in = lines.front(Pipe::DataIn, tag);
-    push_taken(alloc, text, "in", data_in, now_in)?;
+    push_taken(text, "in", data_in, now_in)?;
     let now_out = lines.front(Pipe::DataOut, tag);
-    push_taken(alloc, text, "out", data_out, now_out)
+    push_taken(text, "out", data_out, now_out)
 }
 
 /// Adds the line of the chunk of a TRB that was in front of a ring, where it isn't any more.
 fn push_taken(
-    alloc: Global,
     text: &mut Vec<u8>,
     name: &str,
     before: Option<(u64, Trb)>,
@@ -392,7 +379,7 @@ fn push_taken(
                     ..
                 },
             ),
-        ) if !is_at(address, after) => { push_chunk(alloc, text, name, pointer, length) }
+        ) if !is_at(address, after) => { push_chunk(text, name, pointer, length) }
         _ => Ok(()),
     }
 }

@@ -13,13 +13,14 @@ use Rattle.clap.specs.declared.error.kind.ErrorKind.TheVariants.{DisplayHelp, Di
 use Rattle.uas_profile.specs.declared.TheConstants.{MAX_BLOCKS, MAX_CLIENTS, MOST_BLOCKS_MOVED}
 use Rattle.byte_io.specs.declared.disks.Extent.{Extent}
 use Rattle.uas_words.specs.declared.Run.{Run}
-use Rattle.uas_words.specs.declared.Run.TheVariants.{Replay, Trace, Work, Decode, Make, Info, Dump, Fill}
+use Rattle.uas_words.specs.declared.Run.TheVariants.{Replay, Trace, Work, Decode, Make, Info, Dump, Fill, Audit, Draw, Capture}
 use Rattle.byte_io.specs.Words.{number_in}
 
 -- What is asked for, with a file's name as its text: to run a script of so many clients and blocks, and of the block that is bad in
 -- every unit, if one is; to run one and show its steps; to let so many clients work for so many rounds, and to save their log in a
 -- file, if one is named; to tell what lines of bytes say; to make an image of so many blocks, to tell the size of one, to print its
--- blocks from a number on, so many of them, or to fill them with a byte.
+-- blocks from a number on, so many of them, or to fill them with a byte; to audit a saved log; to draw a script's run as a picture; to
+-- write it to a file as a capture.
 pub data Asked : Type 0 where
   replay : ℕ → ℕ → Option ℕ → Asked
   trace : ℕ → ℕ → Option ℕ → Asked
@@ -29,6 +30,9 @@ pub data Asked : Type 0 where
   info : Text → Asked
   dump : Text → ℕ → ℕ → Asked
   fill : Text → ℕ → ℕ → ℕ → Asked
+  audit : Text → Asked
+  draw : ℕ → ℕ → Option ℕ → Asked
+  capture : ℕ → ℕ → Text → Option ℕ → Asked
 
 abbrev pub asked_by : Run → Asked
 asked_by (Replay disks) = replay disks.clients disks.blocks disks.bad
@@ -39,6 +43,9 @@ asked_by (Make file blocks) = make file.now blocks
 asked_by (Info file) = info file.now
 asked_by (Dump file extent) = dump file.now extent.lba extent.count
 asked_by (Fill file extent byte) = fill file.now extent.lba extent.count byte
+asked_by (Audit log) = audit log.now
+asked_by (Draw disks) = draw disks.clients disks.blocks disks.bad
+asked_by (Capture disks file) = capture disks.clients disks.blocks file.now disks.bad
 
 -- ---- the arguments of a subcommand, by what was found for it
 
@@ -108,6 +115,10 @@ log_of rows = first_of (codes "LOG") rows
 abbrev pub work_of : List Row → Option Asked
 work_of rows = option_and_then (λ clients. option_map (λ rounds. work clients rounds (log_of rows)) (rounds_of rows)) (clients_of rows)
 
+-- CLIENTS BLOCKS FILE [--bad LBA]
+abbrev pub capture_of : List Row → Option Asked
+capture_of rows = option_and_then (λ file. script_of (λ clients blocks bad. capture clients blocks file bad) rows) (file_of rows)
+
 -- so many blocks from this one on
 abbrev pub extent_from : ℕ → ℕ → Extent
 extent_from lba count = record { lba = lba; count = count }
@@ -138,7 +149,10 @@ asked_of name rows =
     then option_and_then (λ file. option_map (make file) (blocks_of rows)) (file_of rows)
     else (if bytes_eq name (codes "info") then option_map info (file_of rows)
     else (if bytes_eq name (codes "dump") then dump_of rows
-    else (if bytes_eq name (codes "fill") then fill_of rows else None)))))))
+    else (if bytes_eq name (codes "fill") then fill_of rows
+    else (if bytes_eq name (codes "audit") then option_map audit (log_of rows)
+    else (if bytes_eq name (codes "draw") then script_of draw rows
+    else (if bytes_eq name (codes "capture") then capture_of rows else None))))))))))
 
 abbrev pub asked_in : Option (Text × List Row) → Option Asked
 asked_in subcommand = option_and_then (λ s. asked_of s.0 s.1) subcommand
@@ -154,6 +168,10 @@ file_rule = required_rule (codes "FILE")
 -- the file of a log, which may be left out
 abbrev pub log_rule : Rule
 log_rule = record (new_rule (codes "LOG")) { action = Some Set }
+
+-- the file of a log that is audited
+abbrev pub saved_log_rule : Rule
+saved_log_rule = required_rule (codes "LOG")
 
 -- a number from `least` to `most`
 abbrev pub number_rule : Text → ℕ → ℕ → Rule
@@ -223,6 +241,17 @@ dump_app = with_extent (new_app (codes "dump"))
 abbrev pub fill_app : App
 fill_app = with_rule (with_extent (new_app (codes "fill"))) byte_rule
 
+-- audit LOG
+abbrev pub audit_app : App
+audit_app = with_rule (new_app (codes "audit")) saved_log_rule
+
+abbrev pub draw_app : App
+draw_app = with_disks (new_app (codes "draw"))
+
+-- capture CLIENTS BLOCKS FILE [--bad LBA]
+abbrev pub capture_app : App
+capture_app = with_rule (with_disks (new_app (codes "capture"))) file_rule
+
 abbrev pub wants_subcommand : Shape → Shape
 wants_subcommand s = record s { subcommand_required = true; arg_required_else_help = true; has_version = true }
 
@@ -231,8 +260,10 @@ top_app = on_top wants_subcommand (new_app (codes "uasdisk"))
 
 -- The program wants a subcommand, tells its help with no words, and its version where that is asked for.
 abbrev pub program_app : App
-program_app = with_subcommand (with_subcommand (with_subcommand (with_subcommand (with_subcommand (with_subcommand (with_subcommand (with_subcommand
-    top_app replay_app.top) trace_app.top) work_app.top) decode_app.top) make_app.top) info_app.top) dump_app.top) fill_app.top
+program_app =
+    with_subcommand (with_subcommand (with_subcommand (with_subcommand (with_subcommand (with_subcommand (with_subcommand (with_subcommand (with_subcommand
+    (with_subcommand (with_subcommand top_app replay_app.top) trace_app.top) work_app.top) decode_app.top) make_app.top) info_app.top) dump_app.top)
+    fill_app.top) audit_app.top) draw_app.top) capture_app.top
 
 -- ---- the words, the program's own name first
 
@@ -265,6 +296,15 @@ AsksWork clients rounds None words = (program first second : Text) × (words ≡
 AsksWork clients rounds (Some log) words = (program first second : Text) × (words ≡ program ∷ codes "work" ∷ first ∷ second ∷ log ∷ [])
     × (is_plain_name log ≡ true) × (number_in 1 MAX_CLIENTS first ≡ Some clients) × (number_in 1 max_rounds second ≡ Some rounds)
 
+-- the words ask to capture a run: `capture CLIENTS BLOCKS FILE`, or `capture CLIENTS BLOCKS FILE --bad LBA`
+abbrev pub AsksCapture : ℕ → ℕ → Text → Option ℕ → List Text → Type 0
+AsksCapture clients blocks file None words = (program first second : Text) × (words ≡ program ∷ codes "capture" ∷ first ∷ second ∷ file ∷ [])
+    × (is_plain_name file ≡ true) × (number_in 1 MAX_CLIENTS first ≡ Some clients) × (number_in 1 MAX_BLOCKS second ≡ Some blocks)
+AsksCapture clients blocks file (Some bad) words =
+    (program first second third : Text) × (words ≡ program ∷ codes "capture" ∷ first ∷ second ∷ file ∷ codes "--bad" ∷ third ∷ [])
+    × (is_plain_name file ≡ true) × (number_in 1 MAX_CLIENTS first ≡ Some clients) × (number_in 1 MAX_BLOCKS second ≡ Some blocks)
+    × (number_in 0 last_block third ≡ Some bad)
+
 -- The words ask for a run in their plain form: a subcommand and its arguments, each number in decimal digits, and an option after them.
 abbrev pub AsksPlainly : Asked → List Text → Type 0
 AsksPlainly (replay clients blocks bad) words = AsksScript (codes "replay") clients blocks bad words
@@ -280,6 +320,13 @@ AsksPlainly (dump file lba count) words =
 AsksPlainly (fill file lba count byte) words =
     (program second third fourth : Text) × (words ≡ program ∷ codes "fill" ∷ file ∷ second ∷ third ∷ fourth ∷ []) × (is_plain_name file ≡ true)
     × (number_in 0 max_lba second ≡ Some lba) × (number_in 1 MOST_BLOCKS_MOVED third ≡ Some count) × (number_in 0 255 fourth ≡ Some byte)
+AsksPlainly (audit log) words = (program : Text) × (words ≡ program ∷ codes "audit" ∷ log ∷ []) × (is_plain_name log ≡ true)
+AsksPlainly (draw clients blocks bad) words = AsksScript (codes "draw") clients blocks bad words
+AsksPlainly (capture clients blocks file bad) words = AsksCapture clients blocks file bad words
+
+-- a plain line asks for what it says, and isn't refused
+abbrev pub PlainLinesAsk : Type 0
+PlainLinesAsk = (asked : Asked) (words : List Text) → AsksPlainly asked words → (asked_for words ≡ Some asked) × (refusals words ≡ [])
 
 -- ---- exit statuses
 
@@ -293,6 +340,9 @@ MayEndRun (make file blocks) status = (status ≡ 0) ⊎ ((status ≡ 3) ⊎ (st
 MayEndRun (info file) status = (status ≡ 0) ⊎ ((status ≡ 3) ⊎ (status ≡ 4))
 MayEndRun (dump file lba count) status = (status ≤ 1) ⊎ ((status ≡ 3) ⊎ (status ≡ 4))
 MayEndRun (fill file lba count byte) status = (status ≤ 1) ⊎ ((status ≡ 3) ⊎ (status ≡ 4))
+MayEndRun (audit log) status = (status ≡ 0) ⊎ ((status ≡ 3) ⊎ (status ≡ 4))
+MayEndRun (draw clients blocks bad) status = (status ≤ 1) ⊎ ((status ≡ 3) ⊎ (status ≡ 4))
+MayEndRun (capture clients blocks file bad) status = (status ≤ 1) ⊎ ((status ≡ 3) ⊎ (status ≡ 4))
 
 -- Help or the version is asked for.
 abbrev pub IsRequest : ErrorKind → Type 0

@@ -2,7 +2,7 @@
 
 ghost use Rattle.std.specs.Prelude.{◌≡◌, false};
 ghost use Rattle.clap.specs.Words.{rule_of};
-ghost use Rattle.uas_words.specs.CommandLine.{bad_rule, blocks_rule, file_rule, log_rule, number_rule};
+ghost use Rattle.uas_words.specs.CommandLine.{bad_rule, blocks_rule, file_rule, log_rule, number_rule, saved_log_rule};
 
 use crate::LAST_BLOCK;
 use clap::{Arg, ArgAction};
@@ -25,6 +25,17 @@ pub(crate) fn log<'a>(alloc: Global, help: &'a str) -> Arg<'a>
     ensures local { result.global ≡ false }
 {
     Arg::new(alloc, "LOG").action(ArgAction::Set).help(help)
+}
+
+/// The file of a log that is there.
+pub(crate) fn saved_log<'a>(alloc: Global, help: &'a str) -> Arg<'a>
+    ensures rule { rule_of result ≡ saved_log_rule }
+    ensures local { result.global ≡ false }
+{
+    Arg::new(alloc, "LOG")
+        .required(true)
+        .action(ArgAction::Set)
+        .help(help)
 }
 
 pub(crate) fn blocks<'a>(alloc: Global, help: &'a str) -> Arg<'a>

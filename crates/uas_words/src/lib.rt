@@ -10,18 +10,21 @@ ghost use Rattle.std.specs.String.{string_bytes};
 ghost use Rattle.clap.specs.Words.{FailsBy, app_of, found_of, kind_of, one_of, rows_of, subcommand_rows_of};
 ghost use Rattle.byte_io.specs.Disks.{AreBlocks, AreClients, AreDisks};
 ghost use Rattle.uas_words.specs.Options.{IsBlock, IsInRange, IsMoved};
+ghost use Rattle.uas_words.specs.CommandLine.{audit, audit_app, capture_app, capture_of, draw_app};
 ghost use Rattle.uas_words.specs.CommandLine.{Asked, AsksPlainly, asked_by, asked_for, asked_in, bad_of, blocks_of, clients_of, decode_app};
 ghost use Rattle.uas_words.specs.CommandLine.{dump_app, dump_of, extent_of, file_of, fill_app, fill_of, info_app, log_of, make_app, number_of};
 ghost use Rattle.uas_words.specs.CommandLine.{program_app, refusals, replay_app, script_of, top_app, trace_app, with_disks, with_extent, work_app, work_of};
 
 mod arguments;
 mod helps;
+mod laws;
 
-use arguments::{bad, blocks, file, log, number};
+use arguments::{bad, blocks, file, log, number, saved_log};
 use byte_io::{Disks, Extent};
 use clap::error::ErrorKind;
 use clap::{ArgMatches, Command, Error};
 use helps::{BYTE_HELP, DECODE_HELP, LBA_HELP, LOG_HELP, ROUNDS_HELP, SCRIPT_HELP, WORK_HELP};
+pub use laws::plain_lines_ask;
 use std::alloc::{AllocError, Global};
 use uas_profile::{CLIENTS_HELP, MAX_BLOCKS, MAX_CLIENTS, MOST_BLOCKS_MOVED};
 
@@ -88,6 +91,17 @@ pub enum Run<'a> {
         extent: Extent,
         byte: u8,
     },
+    /// Replay a saved log and audit each client.
+    Audit {
+        log: &'a str,
+    },
+    /// Run a script as `Replay` does, and draw the run.
+    Draw(Disks),
+    /// Run a script as `Replay` does, and write the run to a file as a capture.
+    Capture {
+        disks: Disks,
+        file: &'a str,
+    },
 }
 
 /// Reads the words, the program's own name first. An error has the text to print, help among them.
@@ -126,7 +140,10 @@ fn command<'a>(alloc: Global) -> Result<Command<'a>, AllocError>
         .subcommand(make_command(alloc)?)?
         .subcommand(info_command(alloc)?)?
         .subcommand(dump_command(alloc)?)?
-        .subcommand(fill_command(alloc)?)
+        .subcommand(fill_command(alloc)?)?
+        .subcommand(audit_command(alloc)?)?
+        .subcommand(draw_command(alloc)?)?
+        .subcommand(capture_command(alloc)?)
 }
 
 /// The command without its subcommands.
@@ -227,6 +244,36 @@ fn fill_command<'a>(alloc: Global) -> Result<Command<'a>, AllocError>
     add_extent(alloc, command)?.arg(number(alloc, "BYTE", 0, MAX_BYTE, BYTE_HELP))
 }
 
+fn audit_command<'a>(alloc: Global) -> Result<Command<'a>, AllocError>
+    ensures { IfOk result (λ command. app_of command ≡ audit_app) }
+{
+    Command::new(alloc, "audit")
+        .about("Replays a saved log and audits each client's account in it")
+        .after_help("Example:\n  uasdisk audit work.log")
+        .arg(saved_log(alloc, "The file of a log, of at most 1073741824 bytes"))
+}
+
+fn draw_command<'a>(alloc: Global) -> Result<Command<'a>, AllocError>
+    ensures { IfOk result (λ command. app_of command ≡ draw_app) }
+{
+    let command = Command::new(alloc, "draw")
+        .about("Runs a script as replay does, and draws the run as a picture (SVG)")
+        .after_help("Example:\n  uasdisk draw 3 100 < examples/abort.script > abort.svg");
+    add_disks(alloc, command)
+}
+
+fn capture_command<'a>(alloc: Global) -> Result<Command<'a>, AllocError>
+    ensures { IfOk result (λ command. app_of command ≡ capture_app) }
+{
+    let command = Command::new(alloc, "capture")
+        .about("Runs a script as replay does, and writes the run to a file that Wireshark reads")
+        .after_help("Example:\n  uasdisk capture 2 100 run.pcapng < examples/two-clients.script");
+    add_disks(alloc, command)?.arg(file(
+        alloc,
+        "The capture (pcapng), in place of one that is there",
+    ))
+}
+
 /// Adds what tells the blocks of an image.
 fn add_extent<'a>(alloc: Global, command: Command<'a>) -> Result<Command<'a>, AllocError>
     ensures { IfOk result (λ made. app_of made ≡ with_extent (app_of command.entry)) }
@@ -259,11 +306,14 @@ fn asked<'a>(matches: &ArgMatches<'a>) -> Option<Run<'a>>
         }
         "dump" => dump_in(words),
         "fill" => fill_in(words),
+        "audit" => audit_in(words),
+        "draw" => Some(Run::Draw(disks_in(words)?)),
+        "capture" => capture_in(words),
         _ => None,
     }
 }
 
-/// The disks that a `replay` or a `trace` runs on.
+/// The disks that a script runs on.
 fn disks_in(words: &ArgMatches<'_>) -> Option<Disks>
     ensures range { IfSome result (λ disks. AreDisks disks × IfSome disks.bad IsBlock) }
     ensures asked { (run : ℕ → ℕ → Option ℕ → Asked)
@@ -324,6 +374,23 @@ fn fill_in<'a>(words: &ArgMatches<'a>) -> Option<Run<'a>>
     let extent = extent_in(words)?;
     let byte = number_in(words, "BYTE", 0, MAX_BYTE)? as u8;
     Some(Run::Fill { file, extent, byte })
+}
+
+fn audit_in<'a>(words: &ArgMatches<'a>) -> Option<Run<'a>>
+    ensures range { IfSome result IsInRange }
+    ensures asked { option_map asked_by result ≡ option_map audit (log_of (rows_of (found_of words.now))) }
+{
+    let log = log_in(words)?;
+    Some(Run::Audit { log })
+}
+
+fn capture_in<'a>(words: &ArgMatches<'a>) -> Option<Run<'a>>
+    ensures range { IfSome result IsInRange }
+    ensures asked { option_map asked_by result ≡ capture_of (rows_of (found_of words.now)) }
+{
+    let file = file_in(words)?;
+    let disks = disks_in(words)?;
+    Some(Run::Capture { disks, file })
 }
 
 fn file_in<'a>(words: &ArgMatches<'a>) -> Option<&'a str>

@@ -7,7 +7,7 @@ use Rattle.clap.specs.Words.{HasKind, kind_of}
 use Rattle.clap.specs.declared.error.Error.{Error}
 use Rattle.clap.specs.declared.error.kind.ErrorKind.TheVariants.{OutOfMemory}
 use Rattle.uas_decode.specs.Runs.{Begins, decoded}
-use Rattle.uas_words.specs.CommandLine.{Asked, replay, trace, work, decode, make, info, dump, fill}
+use Rattle.uas_words.specs.CommandLine.{Asked, replay, trace, work, decode, make, info, dump, fill, audit, draw, capture}
 use Rattle.uasdisk.specs.Ends.{Ends, Host, World}
 
 appends-kept : (old new : Option (List ℕ)) → Keeps old new → Appends old new []
@@ -97,6 +97,32 @@ memory_ends (fill file lba count byte) host old new status four kept files input
   fault = λ three. absurd (omega (arith, four, three));
   memory = λ is. kept;
   input = input;
+}
+memory_ends (audit file) host old new status four kept files input = record {
+  statuses = inr (inr four);
+  told = λ low. absurd (omega (arith, four, low));
+  read = λ low. absurd (omega (arith, four, low));
+  fault = λ three. absurd (omega (arith, four, three));
+  memory = λ is. kept;
+  files = files;
+  input = input;
+}
+memory_ends (draw clients blocks bad) host old new status four kept files input = record {
+  statuses = inr (inr four);
+  traced = λ low. absurd (omega (arith, four, low));
+  drawn = λ low. absurd (omega (arith, four, low));
+  read = λ low. absurd (omega (arith, four, low));
+  fault = λ three. absurd (omega (arith, four, three));
+  memory = λ is. kept;
+  files = files;
+}
+memory_ends (capture clients blocks file bad) host old new status four kept files input = record {
+  statuses = inr (inr four);
+  told = λ low. absurd (omega (arith, four, low));
+  captured = λ low. absurd (omega (arith, four, low));
+  created = λ low. absurd (omega (arith, four, low));
+  fault = λ three. absurd (omega (arith, four, three));
+  memory = λ is. kept;
 }
 
 pub asked_ends : (found : Option Asked) (host : Host) (old new : World) (status : ℕ) → status ≡ 4 → Keeps old.output new.output

@@ -3,7 +3,7 @@ use Rattle.std.specs.Prelude.{◌≡◌, ℕ, ◌<◌, ◌≤◌, Bool, IsTrue, 
 use Rattle.std.specs.Io.KnownBytes.{Appends, Keeps, IsAtEnd}
 use Rattle.clap.specs.Words.{Kinds, Text}
 use Rattle.clap.specs.declared.error.kind.ErrorKind.{ErrorKind}
-use Rattle.uas_words.specs.CommandLine.{Asked, replay, trace, work, decode, make, info, dump, fill, IsRequest, EndsRefused}
+use Rattle.uas_words.specs.CommandLine.{Asked, replay, trace, work, decode, make, info, dump, fill, audit, draw, capture, IsRequest, EndsRefused}
 use Rattle.disk_image.specs.Images.{blocks_in, made_image, made_text}
 use Rattle.uas_script.specs.Script.{script}
 use Rattle.uas_replay.specs.Told.{zeroed_units}
@@ -15,6 +15,9 @@ use Rattle.uas_trace.specs.Traced.{Traces}
 use Rattle.work_run.specs.WorkEnds.{Told}
 use Rattle.work_run.specs.SavedEnds.{CantBeSaved, Saved, Unsaved}
 use Rattle.uas_decode.specs.Runs.{Begins, Decodes}
+use Rattle.audit_run.specs.Ends.{IsRefused, Tells as AuditTells}
+use Rattle.draw_run.specs.Draws.{AppendsPicture}
+use Rattle.capture_run.specs.Ends.{IsCapture}
 
 -- What is known of a host: whether it tells what its files hold; of the file of a name, whether it can be opened, can
 -- be created and can fail; whether standard input is there, and whether it and standard output can fail.
@@ -144,6 +147,40 @@ pub record FillEnds (file : Text) (lba count byte : ℕ) (host : Host) (old new 
   pub memory : status ≡ 4 → Keeps old.output new.output
   pub input : new.input ≡ old.input
 
+-- `audit LOG`: standard output has got a line for each client of the log that the file of this name holds, whose account is true.
+pub record AuditEnds (file : Text) (host : Host) (old new : World) (status : ℕ) : Type 0 where
+  pub statuses : (status ≡ 0) ⊎ ((status ≡ 3) ⊎ (status ≡ 4))
+  pub told : status ≡ 0 → IsTrue host.tells → IfSome (old.holds file) (λ bytes. AuditTells bytes old.output new.output)
+  pub read : status ≡ 0 → IsTrue (host.can_open file)
+  pub fault : status ≡ 3 → (((IsTrue host.tells → IfSome (old.holds file) IsRefused) ⊎ IsTrue (host.file_can_fail file))
+      × Keeps old.output new.output) ⊎ IsTrue host.output_can_fail
+  pub memory : status ≡ 4 → Keeps old.output new.output
+  pub files : new.holds ≡ old.holds
+  pub input : new.input ≡ old.input
+
+-- `draw CLIENTS BLOCKS [--bad LBA]`: the script on standard input was run as `trace` runs it, and standard output has got a picture.
+pub record DrawEnds (clients blocks : ℕ) (bad : Option ℕ) (host : Host) (old new : World) (status : ℕ) : Type 0 where
+  pub statuses : (status ≤ 1) ⊎ ((status ≡ 3) ⊎ (status ≡ 4))
+  pub traced : status ≤ 1 → IfSome old.input (λ bytes.
+      Traces (zeroed_units clients blocks bad) (script clients bytes) status)
+  pub drawn : status ≤ 1 → AppendsPicture clients old.output new.output
+  pub read : status ≤ 1 → IsTrue host.has_input × IsAtEnd new.input
+  pub fault : status ≡ 3 → ScriptStops clients host old new
+  pub memory : status ≡ 4 → Keeps old.output new.output
+  pub files : new.holds ≡ old.holds
+
+-- `capture CLIENTS BLOCKS FILE [--bad LBA]`: the script on standard input is told on standard output as `replay` tells it, and the file of
+-- this name holds a capture.
+pub record CaptureEnds (clients blocks : ℕ) (file : Text) (bad : Option ℕ) (host : Host) (old new : World) (status : ℕ) : Type 0 where
+  pub statuses : (status ≤ 1) ⊎ ((status ≡ 3) ⊎ (status ≡ 4))
+  pub told : status ≤ 1 → IfSome old.input (λ bytes.
+      Tells (zeroed_units clients blocks bad) (script clients bytes) old.output new.output status)
+  pub captured : status ≤ 1 → IsTrue host.tells → IsCapture (new.holds file)
+  pub created : status ≤ 1 → IsTrue (host.can_create file)
+  pub fault : status ≡ 3 → ((IfSome old.input (λ bytes. IsErr (script clients bytes)) ⊎ (IsTrue host.input_can_fail
+      ⊎ IsTrue (host.file_can_fail file))) × Keeps old.output new.output) ⊎ IsTrue host.output_can_fail
+  pub memory : status ≡ 4 → Keeps old.output new.output
+
 -- how what the words ask for ends
 abbrev pub Ends : Asked → Host → World → World → ℕ → Type 0
 Ends (replay clients blocks bad) host old new status = ReplayEnds clients blocks bad host old new status
@@ -155,6 +192,9 @@ Ends (make file blocks) host old new status = MakeEnds file blocks host old new 
 Ends (info file) host old new status = InfoEnds file host old new status
 Ends (dump file lba count) host old new status = DumpEnds file lba count host old new status
 Ends (fill file lba count byte) host old new status = FillEnds file lba count byte host old new status
+Ends (audit file) host old new status = AuditEnds file host old new status
+Ends (draw clients blocks bad) host old new status = DrawEnds clients blocks bad host old new status
+Ends (capture clients blocks file bad) host old new status = CaptureEnds clients blocks file bad host old new status
 
 -- Words that are refused with an error of this kind: help and the version go to standard output, nothing else does.
 pub record RefusalEnds (kind : ErrorKind) (can_fail : Bool) (old new : Option (List ℕ)) (status : ℕ) : Type 0 where

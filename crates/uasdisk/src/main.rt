@@ -9,6 +9,10 @@
 //! uasdisk info FILE                                      tells how many blocks an image has
 //! uasdisk dump FILE LBA COUNT                            prints blocks of an image, by one READ
 //! uasdisk fill FILE LBA COUNT BYTE                       fills blocks of an image with a byte, by one WRITE
+//! uasdisk audit LOG                                      replays a saved log and audits each client's account in it
+//! uasdisk draw CLIENTS BLOCKS [--bad LBA] < script       runs a script and draws the run as a picture (SVG)
+//! uasdisk capture CLIENTS BLOCKS FILE [--bad LBA] < script
+//!                                                        runs a script and writes the run to a file that Wireshark reads
 //! ```
 //!
 //! With `--bad LBA` the block of this number can neither be read nor written, in every unit that has it. With LOG each client of `work`
@@ -23,7 +27,7 @@
 //! `main` gets the words and `start` the host: its standard streams and its files. All else is decided by `run_words`, over a host
 //! that tells its bytes and whether it can fail. What the words ask for, and by which kinds of error they are refused, is `uas_words`;
 //! how each run ends, with what on standard output and in which file, is `specs/Ends.antt`. The runs are `uas_replay`'s, `uas_trace`'s,
-//! `work_run`'s, `uas_decode`'s and `disk_image`'s. The rest is tested: the texts of faults and of help.
+//! `work_run`'s, `uas_decode`'s, `disk_image`'s, `audit_run`'s, `draw_run`'s and `capture_run`'s. The rest is tested: the texts of faults and of help.
 #![tactic(auto)]
 
 mod edges;

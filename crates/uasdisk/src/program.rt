@@ -10,10 +10,13 @@ ghost use Rattle.clap.specs.Words.{kind_of};
 ghost use Rattle.uas_words.specs.CommandLine.{asked_for, refusals};
 ghost use Rattle.uasdisk.specs.Ends.{Ends, RefusalEnds, HoldsOfOne};
 
+use audit_run::run_audit;
 use byte_io::{Files, Sink, Source};
+use capture_run::run_capture;
 use clap::Error;
 use clap::error::ErrorKind;
 use disk_image::{run_dump, run_fill, run_info, run_make};
+use draw_run::run_draw;
 use std::alloc::{AllocError, Global};
 use std::io::Write;
 use std::rt::Clock;
@@ -104,6 +107,24 @@ pub fn run_words<R: Threads + Wait + Clock + Sync, F: Files, S: Source, O: Sink,
         Ok(Run::Fill { file, extent, byte }) => {
             run_fill(alloc, extent, byte, files, file, output, faults)
         }
+        Ok(Run::Audit { log }) => run_audit(
+            alloc,
+            &mut files.open(log),
+            output,
+            faults,
+            may_show_progress,
+        ),
+        Ok(Run::Draw(disks)) => run_draw(alloc, disks, input, output, faults, may_show_progress),
+        Ok(Run::Capture { disks, file }) => run_capture(
+            alloc,
+            disks,
+            files,
+            file,
+            input,
+            output,
+            faults,
+            may_show_progress,
+        ),
         Err(error) => refuse(alloc, &error, output, faults),
     }
 }

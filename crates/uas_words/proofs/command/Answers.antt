@@ -1,7 +1,7 @@
 use Rattle.std.proofs.Common.{ap, ap₂, ◌≡◌, ◌∙◌}
 use Rattle.std.proofs.lemmas.Result.{IfOk-weaker}
 use Rattle.clap.specs.Words.{App, app_of, with_subcommand}
-use Rattle.uas_words.specs.CommandLine.{decode_app, dump_app, fill_app, info_app, make_app, replay_app, top_app, trace_app, work_app}
+use Rattle.uas_words.specs.CommandLine.{audit_app, capture_app, decode_app, draw_app, dump_app, fill_app, info_app, make_app, replay_app, top_app, trace_app, work_app}
 use Rattle.uas_words.proofs.CommandLineFacts.{third_fails}
 use Rattle.uas_words.proofs.command.Goals as goal
 
@@ -16,6 +16,9 @@ returns c =
     let info : app_of c.in_ok-info_command.field-0 ≡ info_app = c.in_ok-info_command.ensures in
     let dump : app_of c.in_ok-dump_command.field-0 ≡ dump_app = c.in_ok-dump_command.ensures in
     let fill : app_of c.in_ok-fill_command.field-0 ≡ fill_app = c.in_ok-fill_command.ensures in
+    let audit : app_of c.in_ok-audit_command.field-0 ≡ audit_app = c.in_ok-audit_command.ensures in
+    let draw : app_of c.in_ok-draw_command.field-0 ≡ draw_app = c.in_ok-draw_command.ensures in
+    let capture : app_of c.in_ok-capture_command.field-0 ≡ capture_app = c.in_ok-capture_command.ensures in
     let one = c.in_ok-subcommand.ensures.shape (third_fails _ _ _ _ (ap (λ (a : App). a.top.is_plain) replay))
     ∙ ap₂ with_subcommand top (ap (λ (a : App). a.top) replay) in
     let two = c.in_ok-subcommand-2.ensures.shape (third_fails _ _ _ _ (ap (λ (a : App). a.top.is_plain) trace))
@@ -30,5 +33,11 @@ returns c =
     ∙ ap₂ with_subcommand five (ap (λ (a : App). a.top) info) in
     let seven = c.in_ok-subcommand-7.ensures.shape (third_fails _ _ _ _ (ap (λ (a : App). a.top.is_plain) dump))
     ∙ ap₂ with_subcommand six (ap (λ (a : App). a.top) dump) in
-    IfOk-weaker c.subcommand-8.result _ _ (λ command adds. adds.shape (third_fails _ _ _ _ (ap (λ (a : App). a.top.is_plain) fill))
-    ∙ ap₂ with_subcommand seven (ap (λ (a : App). a.top) fill)) c.subcommand-8.ensures
+    let eight = c.in_ok-subcommand-8.ensures.shape (third_fails _ _ _ _ (ap (λ (a : App). a.top.is_plain) fill))
+    ∙ ap₂ with_subcommand seven (ap (λ (a : App). a.top) fill) in
+    let nine = c.in_ok-subcommand-9.ensures.shape (third_fails _ _ _ _ (ap (λ (a : App). a.top.is_plain) audit))
+    ∙ ap₂ with_subcommand eight (ap (λ (a : App). a.top) audit) in
+    let ten = c.in_ok-subcommand-10.ensures.shape (third_fails _ _ _ _ (ap (λ (a : App). a.top.is_plain) draw))
+    ∙ ap₂ with_subcommand nine (ap (λ (a : App). a.top) draw) in
+    IfOk-weaker c.subcommand-11.result _ _ (λ command adds. adds.shape (third_fails _ _ _ _ (ap (λ (a : App). a.top.is_plain) capture))
+    ∙ ap₂ with_subcommand ten (ap (λ (a : App). a.top) capture)) c.subcommand-11.ensures

@@ -1,13 +1,16 @@
-use Rattle.std.proofs.Common.{◌≡◌, map}
-use Rattle.std.specs.List.{range_with_len}
-use Rattle.shared_machine.specs.Drain.{tried}
+use Rattle.std.proofs.Common.{◌≡◌, ◌-◌, ◌*◌, length}
+use Rattle.uas_profile.specs.declared.TheConstants.{TAGS}
+use Rattle.bus_core.proofs.drain.DrainTags.{HasTried}
 use Rattle.uas_trace.specs.Traced.{step_of_tag}
 use Rattle.uas_trace.proofs.trace.Tracer.try_tags.Given as goal
 
--- so many tags were tried
-abbrev pub invariant-loop-before : goal.invariant-loop-before
-invariant-loop-before g l = record {
-  machine : (l.run.machine, l.left) ≡ tried (l.initial.run.machine, l.initial.left) (map (step_of_tag l.kind) (range_with_len 1 l.before));
+-- the tags up to the last that was tried; nothing else of the run changed
+abbrev pub invariant-loop-next : goal.invariant-loop-next
+invariant-loop-next g l = record {
+  tags : HasTried (step_of_tag l.kind) (l.initial.run.machine, l.initial.left) (l.run.machine, l.left) l.tag;
   rest : l.run ≡ record l.initial.run { machine = l.run.machine };
   same : g.O.Sink.can_fail l.writer ≡ g.O.Sink.can_fail l.fn.writer;
 }
+
+abbrev pub decreases-loop-next : goal.decreases-loop-next
+decreases-loop-next g l = length l.run.machine.parts * TAGS - l.tag

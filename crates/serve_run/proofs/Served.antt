@@ -1,5 +1,5 @@
 -- Requests that are served one after the other.
-use Rattle.std.proofs.Common.{◌≡◌, List, ◌∷◌, Result, Ok, Err, ◌⊎◌, inl, inr, sym, subst}
+use Rattle.std.proofs.Common.{◌≡◌, ℕ, ◌+◌, ◌-◌, ◌*◌, ◌/◌, ◌%◌, ◌≤◌, arith, List, ◌∷◌, Result, Ok, Err, ◌⊎◌, inl, inr, sym, subst}
 use Rattle.disk_server.specs.Serving.{Serving}
 use Rattle.disk_server.specs.Exports.{Asked, Exports, Serves}
 use Rattle.serve_run.specs.declared.fault.ServeFault.{ServeFault}
@@ -28,3 +28,7 @@ kept fault.Handshake Q known = known
 kept fault.Request Q known = known
 kept fault.Ended Q known = known
 kept fault.Stream Q known = known
+
+-- whole blocks that cover bytes have room for them behind what stands before them
+pub room : (offset count : ℕ) → offset % 512 + count ≤ 512 * ((offset + count + 511) / 512 - offset / 512)
+room offset count = omega arith

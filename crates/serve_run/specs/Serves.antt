@@ -1,5 +1,5 @@
 -- What a request is refused for, and the exit status of a fault.
-use Rattle.std.specs.Prelude.{◌≡◌, ℕ, ◌+◌, ◌==◌, nat_lt, ◌||◌, ◌⊎◌, if◌then◌else◌, List, Result, Ok, Err, ⊤}
+use Rattle.std.specs.Prelude.{◌≡◌, ℕ, ◌+◌, ◌==◌, nat_lt, ◌||◌, ◌⊎◌, Bool, if◌then◌else◌, List, Result, Ok, Err, ⊤}
 use Rattle.block_unit.specs.BlockMaps.{BlockMaps}
 use Rattle.disk_server.specs.Serving.{Serving, medium_of, opening_serving}
 use Rattle.disk_server.specs.Exports.{Asked, Exports, Serves}

@@ -8,7 +8,7 @@ ghost use Rattle.serve_run.specs.Serves.{HoldsServed};
 
 use crate::fault::ServeFault;
 use crate::handshake::shake;
-use crate::transmission::{Room, flush, no_memory, transmit};
+use crate::transmission::{NO_MEMORY, Room, flush, transmit};
 use block_unit::Unit;
 use byte_io::{Sink, Source};
 use disk_image::{blocks_in, read_image};
@@ -82,7 +82,9 @@ fn serve_unit<I: Image, S: Source, O: Sink>(
     ensures served { OnOk result (IsTrue (I.tells image.new) → HoldsServed unit (I.holds image.new)) }
     ensures told { I.tells image.new ≡ I.tells image.old }
 {
-    let mut server = Server::new(alloc, unit).map_err(no_memory)?;
+    let Ok(mut server) = Server::new(alloc, unit) else {
+        return Err(NO_MEMORY);
+    };
     if !shake(input, output, server.size())? {
         return Ok(());
     }

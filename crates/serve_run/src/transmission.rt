@@ -1,7 +1,7 @@
 //! The transmission: requests in their order, each answered before the next one is read.
 
 ghost use Rattle.uas_profile.specs.declared.TheConstants.{MAX_BLOCKS};
-ghost use Rattle.std.specs.Prelude.{◌≡◌, ◌+◌, ◌*◌, ◌≤◌, length};
+ghost use Rattle.std.specs.Prelude.{◌≡◌, ◌+◌, ◌*◌, ◌%◌, ◌≤◌, length, IfOk};
 ghost use Rattle.disk_server.specs.Serving.{IsBehind};
 ghost use Rattle.serve_run.specs.Serves.{IfKept, ServesOne, ServesSome, has_bad_length, is_beyond, refusal_of};
 
@@ -12,9 +12,12 @@ use byte_io::{Sink, Source};
 use disk_server::Server;
 use image_file::Image;
 use nbd::{Command, ErrorNumber, REPLY_BYTES, REQUEST_BYTES, Reply, Request};
-use std::alloc::{AllocError, Global};
+use std::alloc::Global;
 use uas_profile::BLOCK_BYTES;
 use uas_replay::RunFault;
+
+/// Want of memory.
+pub(crate) const NO_MEMORY: ServeFault = ServeFault::Run(RunFault::NoMemory);
 
 /// The flag FUA, the one that is offered.
 const FUA: u16 = 1;
@@ -96,12 +99,6 @@ fn answer<I: Image, S: Source, O: Sink>(
     }
 }
 
-pub(crate) fn no_memory(_error: AllocError) -> ServeFault
-    ensures { result ≡ ServeFault.Run RunFault.NoMemory }
-{
-    ServeFault::Run(RunFault::NoMemory)
-}
-
 /// What a request to an export of so many bytes is refused for: EINVAL for a length of 0 or above 33,554,432, a flag that isn't offered,
 /// a command that isn't known and a READ beyond the end, ENOSPC for a WRITE beyond the end; `None` for one that is served.
 pub fn refusal_of(size: u64, request: &Request) -> ErrorNumber
@@ -157,13 +154,7 @@ fn give<O: Sink>(
     ensures saved { IfKept result (server.new.saved ≡ server.old.saved) }
     ensures failed { IfKept result (server.new.failed ≡ server.old.failed) }
 {
-    given.clear();
-    given
-        .extend_from_slice(&[0; REPLY_BYTES])
-        .map_err(no_memory)?;
-    let error = server
-        .read(request.offset, request.length, given)
-        .map_err(no_memory)?;
+    let error = read_blocks(server, given, request)?;
     if error != ErrorNumber::None {
         return tell(output, request.cookie, error);
     }
@@ -173,6 +164,30 @@ fn give<O: Sink>(
     };
     let skip = (request.offset % BLOCK_BYTES as u64) as usize;
     send_part(output, given, skip, &head, request.length as usize)
+}
+
+/// Reads the blocks that cover what a READ asks for, behind the room for a reply's head.
+fn read_blocks(
+    server: &mut Server,
+    given: &mut Vec<u8>,
+    request: &Request,
+) -> Result<ErrorNumber, ServeFault>
+    requires { request.now.offset + request.now.length ≤ 512 * MAX_BLOCKS }
+    ensures served { IfKept result (ServesOne server.old server.new) }
+    ensures saved { IfKept result (server.new.saved ≡ server.old.saved) }
+    ensures failed { IfKept result (server.new.failed ≡ server.old.failed) }
+    ensures room { IfOk result (λ error. error ≡ ErrorNumber.None
+        → request.now.offset % 512 + 16 + request.now.length ≤ length given.new.items) }
+{
+    given.clear();
+    match given.extend_from_slice(&[0; REPLY_BYTES]) {
+        Ok(()) => {}
+        Err(_) => return Err(NO_MEMORY),
+    }
+    match server.read(request.offset, request.length, given) {
+        Ok(error) => Ok(error),
+        Err(_) => Err(NO_MEMORY),
+    }
 }
 
 /// Writes a reply and so many bytes behind it, which stand `skip` bytes behind the room for the reply's head.
@@ -206,13 +221,17 @@ fn take<I: Image, S: Source>(
 {
     let count = request.length as usize;
     if taken.len() < count {
-        taken.resize(count, 0).map_err(no_memory)?;
+        match taken.resize(count, 0) {
+            Ok(()) => {}
+            Err(_) => return Err(NO_MEMORY),
+        }
     }
     let data = &mut taken[..count];
     read_rest(input, data)?;
-    server
-        .write(request.offset, data, request.flags.0 == FUA, image)
-        .map_err(no_memory)
+    match server.write(request.offset, data, request.flags.0 == FUA, image) {
+        Ok(error) => Ok(error),
+        Err(_) => Err(NO_MEMORY),
+    }
 }
 
 /// Serves a FLUSH.
@@ -222,5 +241,8 @@ pub(crate) fn flush<I: Image>(server: &mut Server, image: &mut I) -> Result<Erro
     ensures behind { IfKept result (IsBehind (I.tells image.new) (I.holds image.new) server.new) }
     ensures told { I.tells image.new ≡ I.tells image.old }
 {
-    server.flush(image).map_err(no_memory)
+    match server.flush(image) {
+        Ok(error) => Ok(error),
+        Err(_) => Err(NO_MEMORY),
+    }
 }

@@ -1,10 +1,8 @@
 -- Requests that are served one after the other.
-use Rattle.std.proofs.Common.{◌≡◌, List, ◌∷◌, Result, Ok, Err, ◌⊎◌, inl, inr, sym, subst}
-use Rattle.disk_server.specs.Serving.{Serving}
+use Rattle.std.proofs.Common.{◌≡◌, ℕ, Bool, List, ◌∷◌, length, ◌⊎◌, inl, inr, sym, subst, ap, ◌∙◌}
+use Rattle.disk_server.specs.Serving.{IsBehind, Serving}
 use Rattle.disk_server.specs.Exports.{Asked, Exports, Serves}
-use Rattle.serve_run.specs.declared.fault.ServeFault.{ServeFault}
-use Rattle.serve_run.specs.declared.fault.ServeFault.TheVariants as fault
-use Rattle.serve_run.specs.Serves.{IfKept, ServesOne, ServesSome}
+use Rattle.serve_run.specs.Serves.{ServesOne, ServesSome}
 
 -- one more after some
 pub some_more : (start middle new : Serving) → ServesSome start middle → ServesOne middle new → ServesSome start new
@@ -14,17 +12,10 @@ some_more start middle new some one =
       | inr served ↦ (served.0 ∷ some.0, (middle, (some.1, served.1)))
     ]
 
--- what is known of a fault's run goes on
-pub kept_on : {T U : Type 0} (e : ServeFault) (P Q : Type 0) → (P → Q) → IfKept {T = T} (Err e) P → IfKept {T = U} (Err e) Q
-kept_on (fault.Run run) P Q f known = tt
-kept_on fault.Handshake P Q f known = f known
-kept_on fault.Request P Q f known = f known
-kept_on fault.Ended P Q f known = f known
-kept_on fault.Stream P Q f known = f known
-
-pub kept : {U : Type 0} (e : ServeFault) (Q : Type 0) → Q → IfKept {T = U} (Err e) Q
-kept (fault.Run run) Q known = tt
-kept fault.Handshake Q known = known
-kept fault.Request Q known = known
-kept fault.Ended Q known = known
-kept fault.Stream Q known = known
+-- what is known of the file stays known where nothing went to it
+pub still_behind : (tells : Bool) (holds : List ℕ) (old new : Serving) → new.saved ≡ old.saved → new.failed ≡ old.failed → IsBehind tells holds old
+    → IsBehind tells holds new
+still_behind tells holds old new saved failed behind = record {
+  len = λ t. behind.len t ∙ ap length (sym saved);
+  same = λ t off. behind.same t (sym failed ∙ off) ∙ sym saved;
+}

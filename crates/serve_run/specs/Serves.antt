@@ -1,5 +1,5 @@
 -- What a request is refused for, and the exit status of a fault.
-use Rattle.std.specs.Prelude.{◌≡◌, ℕ, ◌+◌, ◌==◌, nat_lt, ◌||◌, ◌⊎◌, if◌then◌else◌, List, Result, Ok, Err, ⊤}
+use Rattle.std.specs.Prelude.{◌≡◌, ℕ, ◌+◌, ◌==◌, nat_lt, ◌||◌, ◌⊎◌, Bool, if◌then◌else◌, List}
 use Rattle.block_unit.specs.BlockMaps.{BlockMaps}
 use Rattle.disk_server.specs.Serving.{Serving, medium_of, opening_serving}
 use Rattle.disk_server.specs.Exports.{Asked, Exports, Serves}
@@ -44,15 +44,6 @@ status_of fault.Handshake = 3
 status_of fault.Request = 3
 status_of fault.Ended = 3
 status_of fault.Stream = 3
-
--- what holds unless memory was wanting, after which nothing is known of the server
-abbrev pub IfKept : {T : Type 0} → Result T ServeFault → Type 0 → Type 0
-IfKept (Ok value) P = P
-IfKept (Err (fault.Run run)) P = ⊤
-IfKept (Err fault.Handshake) P = P
-IfKept (Err fault.Request) P = P
-IfKept (Err fault.Ended) P = P
-IfKept (Err fault.Stream) P = P
 
 -- one request was served, or none
 abbrev pub ServesOne : Serving → Serving → Type 0

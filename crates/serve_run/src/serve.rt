@@ -1,21 +1,22 @@
 //! The run `serve`.
 
-ghost use Rattle.std.specs.Prelude.{◌≡◌, ◌⊎◌, Some, IsTrue, IsOk, IsErr, IfOk, IfSome, OnOk, option_to_list};
+ghost use Rattle.std.specs.Prelude.{◌≡◌, ◌⊎◌, Some, None, Ok, IsTrue, IsOk, IsErr, IfOk, IfSome, OnOk, option_to_list};
 ghost use Rattle.std.specs.Io.KnownBytes.{Keeps};
 ghost use Rattle.block_unit.specs.BlockMaps.{imaged};
 ghost use Rattle.disk_image.specs.Images.{blocks_in};
-ghost use Rattle.serve_run.specs.Serves.{HoldsServed};
+ghost use Rattle.disk_server.specs.Serving.{IsBehind, medium_of};
+ghost use Rattle.serve_run.specs.Serves.{HoldsServed, ServesSome};
 
 use crate::fault::ServeFault;
 use crate::handshake::shake;
-use crate::transmission::{Room, flush, no_memory, transmit};
+use crate::transmission::{Room, transmit};
 use block_unit::Unit;
 use byte_io::{Sink, Source};
 use disk_image::{blocks_in, read_image};
 use disk_server::Server;
 use image_file::Image;
 use nbd::ErrorNumber;
-use std::alloc::Global;
+use std::alloc::{AllocError, Global};
 use std::io::Write;
 use uas_replay::{DONE, RunFault};
 
@@ -80,22 +81,39 @@ fn serve_unit<I: Image, S: Source, O: Sink>(
 ) -> Result<(), ServeFault>
     requires { IsTrue (I.tells image.old) → I.holds image.old ≡ unit.medium }
     ensures served { OnOk result (IsTrue (I.tells image.new) → HoldsServed unit (I.holds image.new)) }
-    ensures told { I.tells image.new ≡ I.tells image.old }
 {
-    let mut server = Server::new(alloc, unit).map_err(no_memory)?;
+    let Ok(mut server) = Server::new(alloc, unit) else {
+        return Err(ServeFault::Run(RunFault::NoMemory));
+    };
     if !shake(input, output, server.size())? {
         return Ok(());
     }
-    let ended = transmit(&mut server, &mut Room::new(alloc), image, input, output);
-    if let Err(ServeFault::Run(fault)) = ended {
-        return Err(ServeFault::Run(fault));
+    match transmit_and_flush(alloc, &mut server, image, input, output) {
+        Ok(None) => Ok(()),
+        Ok(Some(fault)) => Err(fault),
+        Err(_) => Err(ServeFault::Run(RunFault::NoMemory)),
     }
-    let flushed = flush(&mut server, image)?;
-    ended?;
-    if flushed != ErrorNumber::None {
-        return Err(ServeFault::Run(RunFault::ImageFile));
+}
+
+/// Answers requests until the client leaves, and then flushes: why this gave up, if it did.
+fn transmit_and_flush<I: Image, S: Source, O: Sink>(
+    alloc: Global,
+    server: &mut Server,
+    image: &mut I,
+    input: &mut S,
+    output: &mut O,
+) -> Result<Option<ServeFault>, AllocError>
+    requires { IsBehind (I.tells image.old) (I.holds image.old) server.old }
+    ensures served { OnOk result (ServesSome server.old server.new) }
+    ensures held { result ≡ Ok None → IsTrue (I.tells image.old) → I.holds image.new ≡ medium_of server.new.machine }
+    ensures told { OnOk result (I.tells image.new ≡ I.tells image.old) }
+{
+    let fault = transmit(server, &mut Room::new(alloc), image, input, output)?;
+    let flushed = server.flush(image)?;
+    if flushed != ErrorNumber::None && fault.is_none() {
+        return Ok(Some(ServeFault::Run(RunFault::ImageFile)));
     }
-    Ok(())
+    Ok(fault)
 }
 
 /// Reads an image, and makes the unit of it, in which this block is bad where the unit has it.

@@ -1,9 +1,9 @@
 //! The transmission: requests in their order, each answered before the next one is read.
 
 ghost use Rattle.uas_profile.specs.declared.TheConstants.{MAX_BLOCKS};
-ghost use Rattle.std.specs.Prelude.{◌≡◌, ◌+◌, ◌*◌, ◌≤◌, length};
+ghost use Rattle.std.specs.Prelude.{◌≡◌, ◌+◌, ◌*◌, ◌≤◌, length, OnOk};
 ghost use Rattle.disk_server.specs.Serving.{IsBehind};
-ghost use Rattle.serve_run.specs.Serves.{IfKept, ServesOne, ServesSome, has_bad_length, is_beyond, refusal_of};
+ghost use Rattle.serve_run.specs.Serves.{ServesOne, ServesSome, has_bad_length, is_beyond, refusal_of};
 
 use crate::fault::ServeFault;
 use crate::handshake::MOST_BYTES;
@@ -14,7 +14,6 @@ use image_file::Image;
 use nbd::{Command, ErrorNumber, REPLY_BYTES, REQUEST_BYTES, Reply, Request};
 use std::alloc::{AllocError, Global};
 use uas_profile::BLOCK_BYTES;
-use uas_replay::RunFault;
 
 /// The flag FUA, the one that is offered.
 const FUA: u16 = 1;
@@ -35,31 +34,44 @@ impl Room {
     }
 }
 
-/// Answers requests until the client leaves.
+/// Answers requests until the client leaves, or a fault ends that.
 pub(crate) fn transmit<I: Image, S: Source, O: Sink>(
     server: &mut Server,
     room: &mut Room,
     image: &mut I,
     input: &mut S,
     output: &mut O,
-) -> Result<(), ServeFault>
+) -> Result<Option<ServeFault>, AllocError>
     requires { IsBehind (I.tells image.old) (I.holds image.old) server.old }
-    ensures served { IfKept result (ServesSome server.old server.new) }
-    ensures behind { IfKept result (IsBehind (I.tells image.new) (I.holds image.new) server.new) }
-    ensures told { I.tells image.new ≡ I.tells image.old }
+    ensures served { OnOk result (ServesSome server.old server.new) }
+    ensures behind { OnOk result (IsBehind (I.tells image.new) (I.holds image.new) server.new) }
+    ensures told { OnOk result (I.tells image.new ≡ I.tells image.old) }
 {
     for turn in 0..u64::MAX {
-        let mut bytes = [0; REQUEST_BYTES];
-        if !read_message(input, &mut bytes)? {
-            return Ok(());
+        let request = match read_request(input) {
+            Ok(Some(request)) => request,
+            Ok(None) => return Ok(None),
+            Err(fault) => return Ok(Some(fault)),
+        };
+        let fault = answer(server, room, image, input, output, &request)?;
+        if fault.is_some() {
+            return Ok(fault);
         }
-        let request = Request::from_bytes(&bytes).map_err(|_| ServeFault::Request)?;
-        if request.command == Command::Disconnect {
-            return Ok(());
-        }
-        answer(server, room, image, input, output, &request)?;
     }
-    Ok(())
+    Ok(None)
+}
+
+/// Reads a request; none where the client leaves.
+fn read_request<S: Source>(input: &mut S) -> Result<Option<Request>, ServeFault> {
+    let mut bytes = [0; REQUEST_BYTES];
+    if !read_message(input, &mut bytes)? {
+        return Ok(None);
+    }
+    let request = Request::from_bytes(&bytes).map_err(|_| ServeFault::Request)?;
+    if request.command == Command::Disconnect {
+        return Ok(None);
+    }
+    Ok(Some(request))
 }
 
 /// Answers a request that isn't a disconnection.
@@ -70,36 +82,45 @@ fn answer<I: Image, S: Source, O: Sink>(
     input: &mut S,
     output: &mut O,
     request: &Request,
-) -> Result<(), ServeFault>
+) -> Result<Option<ServeFault>, AllocError>
     requires { IsBehind (I.tells image.old) (I.holds image.old) server.old }
-    ensures served { IfKept result (ServesOne server.old server.new) }
-    ensures behind { IfKept result (IsBehind (I.tells image.new) (I.holds image.new) server.new) }
-    ensures told { I.tells image.new ≡ I.tells image.old }
+    ensures served { OnOk result (ServesOne server.old server.new) }
+    ensures behind { OnOk result (IsBehind (I.tells image.new) (I.holds image.new) server.new) }
+    ensures told { OnOk result (I.tells image.new ≡ I.tells image.old) }
 {
     let refusal = refusal_of(server.size(), request);
     if refusal != ErrorNumber::None {
-        if request.command == Command::Write {
-            drop_rest(input, request.length)?;
-        }
-        return tell(output, request.cookie, refusal);
+        return Ok(refuse(input, output, request, refusal));
     }
     match request.command {
-        Command::Read => give(server, &mut room.given, output, request),
+        Command::Read => {
+            let fault = give(server, &mut room.given, output, request)?;
+            Ok(fault)
+        }
         Command::Write => {
-            let error = take(server, &mut room.taken, image, input, request)?;
-            tell(output, request.cookie, error)
+            let fault = take(server, &mut room.taken, image, input, output, request)?;
+            Ok(fault)
         }
         Command::Flush | Command::Disconnect | Command::Other(_) => {
-            let error = flush(server, image)?;
-            tell(output, request.cookie, error)
+            let error = server.flush(image)?;
+            Ok(tell(output, request.cookie, error))
         }
     }
 }
 
-pub(crate) fn no_memory(_error: AllocError) -> ServeFault
-    ensures { result ≡ ServeFault.Run RunFault.NoMemory }
-{
-    ServeFault::Run(RunFault::NoMemory)
+/// Answers a request that isn't served; a WRITE's data are dropped.
+fn refuse<S: Source, O: Sink>(
+    input: &mut S,
+    output: &mut O,
+    request: &Request,
+    refusal: ErrorNumber,
+) -> Option<ServeFault> {
+    if request.command == Command::Write {
+        if let Err(fault) = drop_rest(input, request.length) {
+            return Some(fault);
+        }
+    }
+    tell(output, request.cookie, refusal)
 }
 
 /// What a request to an export of so many bytes is refused for: EINVAL for a length of 0 or above 33,554,432, a flag that isn't offered,
@@ -141,8 +162,8 @@ fn is_beyond(size: u64, request: &Request) -> bool
 }
 
 /// Writes a reply without data.
-fn tell<O: Sink>(output: &mut O, cookie: u64, error: ErrorNumber) -> Result<(), ServeFault> {
-    send(output, &Reply { error, cookie }.to_bytes())
+fn tell<O: Sink>(output: &mut O, cookie: u64, error: ErrorNumber) -> Option<ServeFault> {
+    send(output, &Reply { error, cookie }.to_bytes()).err()
 }
 
 /// Serves a READ: the reply's head stands right before the first byte that is asked for.
@@ -151,76 +172,80 @@ fn give<O: Sink>(
     given: &mut Vec<u8>,
     output: &mut O,
     request: &Request,
-) -> Result<(), ServeFault>
+) -> Result<Option<ServeFault>, AllocError>
     requires { request.now.offset + request.now.length ≤ 512 * MAX_BLOCKS }
-    ensures served { IfKept result (ServesOne server.old server.new) }
-    ensures saved { IfKept result (server.new.saved ≡ server.old.saved) }
-    ensures failed { IfKept result (server.new.failed ≡ server.old.failed) }
+    ensures served { OnOk result (ServesOne server.old server.new) }
+    ensures saved { OnOk result (server.new.saved ≡ server.old.saved) }
+    ensures failed { OnOk result (server.new.failed ≡ server.old.failed) }
 {
-    given.clear();
-    given
-        .extend_from_slice(&[0; REPLY_BYTES])
-        .map_err(no_memory)?;
-    let error = server
-        .read(request.offset, request.length, given)
-        .map_err(no_memory)?;
-    if error != ErrorNumber::None {
-        return tell(output, request.cookie, error);
-    }
-    let head = Reply {
-        error,
-        cookie: request.cookie,
-    };
+    let error = read_blocks(server, given, request)?;
     let skip = (request.offset % BLOCK_BYTES as u64) as usize;
-    send_part(output, given, skip, &head, request.length as usize)
+    let end = skip + REPLY_BYTES + request.length as usize;
+    if error != ErrorNumber::None {
+        return Ok(tell(output, request.cookie, error));
+    }
+    // the blocks that were read have all of it
+    if given.len() < end {
+        return Ok(tell(output, request.cookie, ErrorNumber::Io));
+    }
+    let part = &mut given[skip..end];
+    Ok(send_part(output, part, error, request.cookie))
 }
 
-/// Writes a reply and so many bytes behind it, which stand `skip` bytes behind the room for the reply's head.
+/// Writes a reply and what stands behind the room for its head.
 fn send_part<O: Sink>(
     output: &mut O,
-    given: &mut Vec<u8>,
-    skip: usize,
-    head: &Reply,
-    count: usize,
-) -> Result<(), ServeFault>
-    requires { skip + 16 + count ≤ length given.old.items }
+    part: &mut [u8],
+    error: ErrorNumber,
+    cookie: u64,
+) -> Option<ServeFault>
+    requires { 16 ≤ length part.old }
 {
-    let part = &mut given[skip..skip + REPLY_BYTES + count];
-    part[..REPLY_BYTES].copy_from_slice(&head.to_bytes());
-    send(output, part)
+    part[..REPLY_BYTES].copy_from_slice(&Reply { error, cookie }.to_bytes());
+    send(output, part).err()
+}
+
+/// Reads the blocks that cover what a READ asks for, behind the room for a reply's head.
+fn read_blocks(
+    server: &mut Server,
+    given: &mut Vec<u8>,
+    request: &Request,
+) -> Result<ErrorNumber, AllocError>
+    requires { request.now.offset + request.now.length ≤ 512 * MAX_BLOCKS }
+    ensures served { OnOk result (ServesOne server.old server.new) }
+    ensures saved { OnOk result (server.new.saved ≡ server.old.saved) }
+    ensures failed { OnOk result (server.new.failed ≡ server.old.failed) }
+{
+    given.clear();
+    given.extend_from_slice(&[0; REPLY_BYTES])?;
+    let error = server.read(request.offset, request.length, given)?;
+    Ok(error)
 }
 
 /// Reads the data of a WRITE, all of it before anything is written, and serves it.
-fn take<I: Image, S: Source>(
+fn take<I: Image, S: Source, O: Sink>(
     server: &mut Server,
     taken: &mut Vec<u8>,
     image: &mut I,
     input: &mut S,
+    output: &mut O,
     request: &Request,
-) -> Result<ErrorNumber, ServeFault>
+) -> Result<Option<ServeFault>, AllocError>
     requires fits { request.now.offset + request.now.length ≤ 512 * MAX_BLOCKS }
     requires behind { IsBehind (I.tells image.old) (I.holds image.old) server.old }
-    ensures served { IfKept result (ServesOne server.old server.new) }
-    ensures behind { IfKept result (IsBehind (I.tells image.new) (I.holds image.new) server.new) }
-    ensures told { I.tells image.new ≡ I.tells image.old }
+    ensures served { OnOk result (ServesOne server.old server.new) }
+    ensures behind { OnOk result (IsBehind (I.tells image.new) (I.holds image.new) server.new) }
+    ensures told { OnOk result (I.tells image.new ≡ I.tells image.old) }
 {
     let count = request.length as usize;
     if taken.len() < count {
-        taken.resize(count, 0).map_err(no_memory)?;
+        taken.resize(count, 0)?;
     }
     let data = &mut taken[..count];
-    read_rest(input, data)?;
-    server
-        .write(request.offset, data, request.flags.0 == FUA, image)
-        .map_err(no_memory)
-}
-
-/// Serves a FLUSH.
-pub(crate) fn flush<I: Image>(server: &mut Server, image: &mut I) -> Result<ErrorNumber, ServeFault>
-    requires { IsBehind (I.tells image.old) (I.holds image.old) server.old }
-    ensures served { IfKept result (ServesOne server.old server.new) }
-    ensures behind { IfKept result (IsBehind (I.tells image.new) (I.holds image.new) server.new) }
-    ensures told { I.tells image.new ≡ I.tells image.old }
-{
-    server.flush(image).map_err(no_memory)
+    if let Err(fault) = read_rest(input, data) {
+        return Ok(Some(fault));
+    }
+    let fua = request.flags.0 == FUA;
+    let error = server.write(request.offset, data, fua, image)?;
+    Ok(tell(output, request.cookie, error))
 }

@@ -85,10 +85,7 @@ BringsAnswer pipe request tag written = Unit {0}
 
 -- THE CONDITIONS
 
--- A transfer event of a TD that the host waits for, by its pointer, its residual and its code. Worked: at the consumed status TRB of
--- tag 18, whose command's status TD is pending and whose status buffer begins with 03 00 00 12 and twelve zeros, code 13 with residual 96
--- is awaited; it isn't with code 1, nor with residual 97 (15 bytes, short), nor once that status was seen, nor where tag 18 were a task
--- management's.
+-- A transfer event of a TD that the host waits for, by its pointer, its residual and its code.
 pub record IsTdAwaited (sides : Sides) (frames : List TagBuffers) (pointer residual code : ℕ) (pipe : Pipe) (tag : ℕ) : Type 0 where
   pub ends : EndsAt sides.lines pointer pipe tag
   pub held : HostEntry

@@ -38,9 +38,7 @@ pub record IsCompleteFor (sides : Sides) (frames : List TagBuffers) (pointer res
   pub notes : list_any (λ one. one == ticket) noted.items ≡ true
   pub complete : slice_index (written_of frames residual manager) 7 ≡ 0
 
--- The TD of this tag on this pipe was waited for, and the event is one that leaves it over. Worked: 03 00 00 12 00 00 02 .. leaves over the
--- unseen data TD of tag 18 and nothing else; 04 00 00 20 00 00 00 00, to the abort on tag 32 that noted ticket 5, leaves over the pending
--- TDs of tag 18 where its command has ticket 5, and none where that has ticket 6.
+-- The TD of this tag on this pipe was waited for, and the event is one that leaves it over.
 pub record IsLeftOverBy (sides : Sides) (frames : List TagBuffers) (pointer residual code : ℕ) (pipe : Pipe) (tag : ℕ) : Type 0 where
   pub held : HostEntry
   pub under : held_of sides.host tag ≡ Some held

@@ -1,8 +1,5 @@
 -- What a request is refused for, and the exit status of a fault.
-use Rattle.std.specs.Prelude.{◌≡◌, ℕ, ◌+◌, ◌==◌, nat_lt, ◌||◌, ◌⊎◌, Bool, if◌then◌else◌, List}
-use Rattle.block_unit.specs.BlockMaps.{BlockMaps}
-use Rattle.disk_server.specs.Serving.{Serving, medium_of, opening_serving}
-use Rattle.disk_server.specs.Exports.{Asked, Exports, Serves}
+use Rattle.std.specs.Prelude.{ℕ, ◌+◌, ◌==◌, nat_lt, ◌||◌, Bool, if◌then◌else◌}
 use Rattle.nbd.specs.declared.transmission.Command.{Command}
 use Rattle.nbd.specs.declared.transmission.Command.TheVariants.{Read, Write, Disconnect, Flush, Other}
 use Rattle.nbd.specs.declared.transmission.ErrorNumber.{ErrorNumber}
@@ -44,16 +41,3 @@ status_of fault.Handshake = 3
 status_of fault.Request = 3
 status_of fault.Ended = 3
 status_of fault.Stream = 3
-
--- one request was served, or none
-abbrev pub ServesOne : Serving → Serving → Type 0
-ServesOne old new = (new ≡ old) ⊎ ((asked : Asked) × Serves old asked new)
-
--- requests were served, each by the machine that the ones before it left
-abbrev pub ServesSome : Serving → Serving → Type 0
-ServesSome old new = (asked : List Asked) × Exports old asked new
-
--- the bytes are the medium that some requests to a disk of this unit left
-abbrev pub HoldsServed : BlockMaps → List ℕ → Type 0
-HoldsServed unit held =
-    (serving : Serving) × (ServesSome (opening_serving unit) serving × (held ≡ medium_of serving.machine))

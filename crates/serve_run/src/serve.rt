@@ -5,7 +5,6 @@ ghost use Rattle.std.specs.Io.KnownBytes.{Keeps};
 ghost use Rattle.block_unit.specs.BlockMaps.{imaged};
 ghost use Rattle.disk_image.specs.Images.{blocks_in};
 ghost use Rattle.disk_server.specs.Serving.{IsBehind, medium_of};
-ghost use Rattle.serve_run.specs.Serves.{HoldsServed, ServesSome};
 
 use crate::fault::ServeFault;
 use crate::handshake::shake;
@@ -39,9 +38,6 @@ pub fn run_serve<R: Source, I: Image, S: Source, O: Sink, W: Write>(
     ensures there { result ≡ 0 → IsTrue (R.is_there file.old) }
     // Of a file that is no image not a byte is written to the client.
     ensures refused { IfSome (R.left file.old) (λ bytes. IsErr (blocks_in bytes) → Keeps (O.written output.old) (O.written output.new)) }
-    // The file holds the medium of the machine that served what the client asked for.
-    ensures served { result ≡ 0 → IfSome (R.left file.old) (λ bytes. IfSome image.new (λ held.
-        IsTrue (I.tells held) → HoldsServed (imaged bytes (option_to_list bad)) (I.holds held))) }
 {
     match serve(alloc, bad, file, image, input, output) {
         Ok(()) => DONE,
@@ -61,8 +57,6 @@ fn serve<R: Source, I: Image, S: Source, O: Sink>(
     ensures image { OnOk result (IfSome (R.left file.old) (λ bytes. IsOk (blocks_in bytes))) }
     ensures there { OnOk result (IsTrue (R.is_there file.old)) }
     ensures refused { IfSome (R.left file.old) (λ bytes. IsErr (blocks_in bytes) → Keeps (O.written output.old) (O.written output.new)) }
-    ensures served { OnOk result (IfSome (R.left file.old) (λ bytes. IfSome image.new (λ held.
-        IsTrue (I.tells held) → HoldsServed (imaged bytes (option_to_list bad)) (I.holds held)))) }
 {
     let unit = read_disk(alloc, bad, file).map_err(ServeFault::Run)?;
     let Some(image) = image else {
@@ -80,7 +74,6 @@ fn serve_unit<I: Image, S: Source, O: Sink>(
     output: &mut O,
 ) -> Result<(), ServeFault>
     requires { IsTrue (I.tells image.old) → I.holds image.old ≡ unit.medium }
-    ensures served { OnOk result (IsTrue (I.tells image.new) → HoldsServed unit (I.holds image.new)) }
 {
     let Ok(mut server) = Server::new(alloc, unit) else {
         return Err(ServeFault::Run(RunFault::NoMemory));
@@ -104,7 +97,6 @@ fn transmit_and_flush<I: Image, S: Source, O: Sink>(
     output: &mut O,
 ) -> Result<Option<ServeFault>, AllocError>
     requires { IsBehind (I.tells image.old) (I.holds image.old) server.old }
-    ensures served { OnOk result (ServesSome server.old server.new) }
     ensures held { result ≡ Ok None → IsTrue (I.tells image.old) → I.holds image.new ≡ medium_of server.new.machine }
     ensures told { OnOk result (I.tells image.new ≡ I.tells image.old) }
 {

@@ -3,7 +3,7 @@
 ghost use Rattle.uas_profile.specs.declared.TheConstants.{MAX_BLOCKS};
 ghost use Rattle.std.specs.Prelude.{◌≡◌, ◌+◌, ◌*◌, ◌≤◌, length, OnOk};
 ghost use Rattle.disk_server.specs.Serving.{IsBehind};
-ghost use Rattle.serve_run.specs.Serves.{ServesOne, ServesSome, has_bad_length, is_beyond, refusal_of};
+ghost use Rattle.serve_run.specs.Serves.{has_bad_length, is_beyond, refusal_of};
 
 use crate::fault::ServeFault;
 use crate::handshake::MOST_BYTES;
@@ -43,7 +43,6 @@ pub(crate) fn transmit<I: Image, S: Source, O: Sink>(
     output: &mut O,
 ) -> Result<Option<ServeFault>, AllocError>
     requires { IsBehind (I.tells image.old) (I.holds image.old) server.old }
-    ensures served { OnOk result (ServesSome server.old server.new) }
     ensures behind { OnOk result (IsBehind (I.tells image.new) (I.holds image.new) server.new) }
     ensures told { OnOk result (I.tells image.new ≡ I.tells image.old) }
 {
@@ -84,7 +83,6 @@ fn answer<I: Image, S: Source, O: Sink>(
     request: &Request,
 ) -> Result<Option<ServeFault>, AllocError>
     requires { IsBehind (I.tells image.old) (I.holds image.old) server.old }
-    ensures served { OnOk result (ServesOne server.old server.new) }
     ensures behind { OnOk result (IsBehind (I.tells image.new) (I.holds image.new) server.new) }
     ensures told { OnOk result (I.tells image.new ≡ I.tells image.old) }
 {
@@ -174,7 +172,6 @@ fn give<O: Sink>(
     request: &Request,
 ) -> Result<Option<ServeFault>, AllocError>
     requires { request.now.offset + request.now.length ≤ 512 * MAX_BLOCKS }
-    ensures served { OnOk result (ServesOne server.old server.new) }
     ensures saved { OnOk result (server.new.saved ≡ server.old.saved) }
     ensures failed { OnOk result (server.new.failed ≡ server.old.failed) }
 {
@@ -212,7 +209,6 @@ fn read_blocks(
     request: &Request,
 ) -> Result<ErrorNumber, AllocError>
     requires { request.now.offset + request.now.length ≤ 512 * MAX_BLOCKS }
-    ensures served { OnOk result (ServesOne server.old server.new) }
     ensures saved { OnOk result (server.new.saved ≡ server.old.saved) }
     ensures failed { OnOk result (server.new.failed ≡ server.old.failed) }
 {
@@ -233,7 +229,6 @@ fn take<I: Image, S: Source, O: Sink>(
 ) -> Result<Option<ServeFault>, AllocError>
     requires fits { request.now.offset + request.now.length ≤ 512 * MAX_BLOCKS }
     requires behind { IsBehind (I.tells image.old) (I.holds image.old) server.old }
-    ensures served { OnOk result (ServesOne server.old server.new) }
     ensures behind { OnOk result (IsBehind (I.tells image.new) (I.holds image.new) server.new) }
     ensures told { OnOk result (I.tells image.new ≡ I.tells image.old) }
 {

@@ -1,11 +1,9 @@
 use Rattle.std.proofs.Common.{◌≡◌}
 use Rattle.disk_server.specs.Serving.{IsBehind}
-use Rattle.serve_run.specs.Serves.{ServesSome}
 use Rattle.serve_run.proofs.transmission.transmit.Given as goal
 
 abbrev pub invariant-loop-turn : goal.invariant-loop-turn
 invariant-loop-turn g l = record {
-  served : ServesSome l.fn.server l.server;
   behind : IsBehind (g.I.Image.tells l.image) (g.I.Image.holds l.image) l.server;
   told : g.I.Image.tells l.image ≡ g.I.Image.tells l.fn.image;
 }

@@ -1,6 +1,6 @@
 //! The run `serve`.
 
-ghost use Rattle.std.specs.Prelude.{◌≡◌, ◌⊎◌, Some, None, Ok, IsTrue, IsOk, IsErr, IfOk, IfSome, OnOk, option_to_list};
+ghost use Rattle.std.specs.Prelude.{◌≡◌, ◌⊎◌, Some, None, Ok, false, IsTrue, IsOk, IsErr, IfOk, IfSome, OnOk, option_to_list};
 ghost use Rattle.std.specs.Io.KnownBytes.{Keeps};
 ghost use Rattle.block_unit.specs.BlockMaps.{imaged};
 ghost use Rattle.disk_image.specs.Images.{blocks_in};
@@ -75,15 +75,24 @@ fn serve_unit<I: Image, S: Source, O: Sink>(
 ) -> Result<(), ServeFault>
     requires { IsTrue (I.tells image.old) → I.holds image.old ≡ unit.medium }
 {
-    let Ok(mut server) = Server::new(alloc, unit) else {
-        return Err(ServeFault::Run(RunFault::NoMemory));
-    };
+    let mut server = begin(alloc, unit)?;
     if !shake(input, output, server.size())? {
         return Ok(());
     }
     match transmit_and_flush(alloc, &mut server, image, input, output) {
         Ok(None) => Ok(()),
         Ok(Some(fault)) => Err(fault),
+        Err(_) => Err(ServeFault::Run(RunFault::NoMemory)),
+    }
+}
+
+/// The server of a unit, whose medium the file has.
+fn begin(alloc: Global, unit: Unit) -> Result<Server, ServeFault>
+    ensures saved { IfOk result (λ server. server.saved ≡ unit.medium) }
+    ensures failed { IfOk result (λ server. server.failed ≡ false) }
+{
+    match Server::new(alloc, unit) {
+        Ok(server) => Ok(server),
         Err(_) => Err(ServeFault::Run(RunFault::NoMemory)),
     }
 }

@@ -58,11 +58,14 @@ fn serve<R: Source, I: Image, S: Source, O: Sink>(
     ensures there { OnOk result (IsTrue (R.is_there file.old)) }
     ensures refused { IfSome (R.left file.old) (λ bytes. IsErr (blocks_in bytes) → Keeps (O.written output.old) (O.written output.new)) }
 {
-    let unit = read_disk(alloc, bad, file).map_err(ServeFault::Run)?;
-    let Some(image) = image else {
-        return Err(ServeFault::Run(RunFault::ImageFile));
+    let unit = match read_disk(alloc, bad, file) {
+        Ok(unit) => unit,
+        Err(fault) => return Err(ServeFault::Run(fault)),
     };
-    serve_unit(alloc, unit, image, input, output)
+    match image {
+        Some(image) => serve_unit(alloc, unit, image, input, output),
+        None => Err(ServeFault::Run(RunFault::ImageFile)),
+    }
 }
 
 /// Serves a unit.
@@ -118,8 +121,10 @@ fn transmit_and_flush<I: Image, S: Source, O: Sink>(
 }
 
 /// Reads an image, and makes the unit of it, in which this block is bad where the unit has it.
+#[tactic(auto, unfolding(block_unit::specs::BlockMaps::imaged))]
 fn read_disk<R: Source>(alloc: Global, bad: Option<u32>, file: &mut R) -> Result<Unit, RunFault>
     ensures unit { IfOk result (λ unit. IfSome (R.left file.old) (λ bytes. unit ≡ imaged bytes (option_to_list bad))) }
+    ensures medium { IfOk result (λ unit. IfSome (R.left file.old) (λ bytes. unit.medium ≡ bytes)) }
     ensures image { OnOk result (IfSome (R.left file.old) (λ bytes. IsOk (blocks_in bytes))) }
     ensures there { OnOk result (IsTrue (R.is_there file.old)) }
 {

@@ -13,8 +13,6 @@ mod accounts;
 mod answer;
 mod faults;
 mod run;
-#[cfg(test)]
-mod tests;
 
 use log_replay::ReplayFault;
 use log_text::{LogFault, MigrateFault};

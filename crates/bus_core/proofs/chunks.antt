@@ -4,5 +4,6 @@ pub mod ChunkEntries
 pub mod ChunkLines
 pub mod DataWorlds
 pub mod DataSteps
+pub mod OwnFronts
 pub mod DataMoves
 pub mod DataDue

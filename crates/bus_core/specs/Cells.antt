@@ -1,7 +1,7 @@
 -- What stands under one tag fits what the shared machine has at its place.
-use Rattle.std.specs.Prelude.{◌≡◌, ℕ, ◌<◌, ◌^◌, List, [], length, take, Option, Some, None, option_map}
+use Rattle.std.specs.Prelude.{◌≡◌, ℕ, ◌<◌, ◌^◌, List, [], length, map, take, Option, Some, None, option_map}
 use Rattle.xhci_trb.specs.declared.Trb.{Trb}
-use Rattle.cycle_ring.specs.Ring.{Ring}
+use Rattle.cycle_ring.specs.Items.{ItemRing, known}
 use Rattle.scsi_cmd.specs.declared.Request.{Request}
 use Rattle.scsi_cmd.specs.declared.Request.TheVariants.{Execute, Manage}
 use Rattle.solo_model.specs.declared.TaskAnswer.{TaskAnswer}
@@ -64,22 +64,22 @@ host_side entry = record {
 
 -- THE RINGS OF AN ENTRY
 
--- these TRBs are on a ring, and so many of them were taken
-abbrev pub HoldsTrbs : Ring → List Trb → ℕ → Type 0
-HoldsTrbs ring trbs taken = (ring.put ≡ trbs) × (ring.got ≡ taken)
+-- these TRBs are on a ring, no foreign bytes, and so many of them were taken
+abbrev pub HoldsTrbs : ItemRing → List Trb → ℕ → Type 0
+HoldsTrbs ring trbs taken = (ring.put ≡ map known trbs) × (ring.got ≡ taken)
 
 -- The ring of a TD. While its event is awaited, and where it is left over, its TRBs are there; once the event was seen or
 -- it was retired they were reclaimed, all of them taken.
-abbrev pub HoldsIn : Ring → List Trb → ℕ → TdState → Type 0
+abbrev pub HoldsIn : ItemRing → List Trb → ℕ → TdState → Type 0
 HoldsIn ring trbs consumed Pending = HoldsTrbs ring trbs consumed
 HoldsIn ring trbs consumed Seen = HoldsTrbs ring [] 0 × (consumed ≡ length trbs)
 HoldsIn ring trbs consumed LeftOver = HoldsTrbs ring trbs consumed
 HoldsIn ring trbs consumed Retired = HoldsTrbs ring [] 0 × (consumed ≡ length trbs)
 
-abbrev pub HoldsTd : Ring → List Trb → Td → Type 0
+abbrev pub HoldsTd : ItemRing → List Trb → Td → Type 0
 HoldsTd ring trbs td = HoldsIn ring trbs td.consumed td.state
 
-abbrev pub HoldsData : Ring → List Trb → Option Td → Type 0
+abbrev pub HoldsData : ItemRing → List Trb → Option Td → Type 0
 HoldsData ring trbs None = HoldsTrbs ring [] 0
 HoldsData ring trbs (Some td) = HoldsTd ring trbs td
 

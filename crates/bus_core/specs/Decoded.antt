@@ -2,10 +2,9 @@
 use Rattle.std.specs.Prelude.{ℕ, zero, suc, ◌-◌, List, [], ◌∷◌, drop, length, map, Option, option_map, option_and_then, unwrap_or}
 use Rattle.std.specs.List.{range_with_len, filter_map}
 use Rattle.block_unit.specs.BlockMaps.{BlockMaps}
-use Rattle.cycle_ring.specs.Ring.{Ring}
+use Rattle.cycle_ring.specs.Items.{Item, ItemRing, known_of}
 use Rattle.event_ring.specs.declared.Event.{Event}
 use Rattle.event_ring.specs.declared.Event.TheVariants.{Transfer, Command as CommandCompletion}
-use Rattle.xhci_trb.specs.declared.Trb.{Trb}
 use Rattle.uas_profile.specs.declared.Pipe.{Pipe}
 use Rattle.uas_profile.specs.declared.Pipe.TheVariants.{Command, Status, DataIn, DataOut}
 use Rattle.uas_profile.specs.declared.Direction.{Direction}
@@ -39,8 +38,8 @@ use Rattle.bus_core.specs.Fits.{Fits, place_in}
 -- MESSAGES AND EVENTS
 
 -- the place whose command TRB this is, of so many clients
-abbrev pub message_in : ℕ → Trb → Option Place
-message_in clients trb = option_and_then (place_of clients) (command_tag trb)
+abbrev pub message_in : ℕ → Item → Option Place
+message_in clients item = option_and_then (place_of clients) (option_and_then command_tag (known_of item))
 
 -- the messages are the TRBs of the command pipe that are pending
 abbrev pub decoded_messages : World → List Place
@@ -68,16 +67,16 @@ decoded_events world = filter_map (completion_of world) world.lines.events.pendi
 -- ENTRIES
 
 -- how many TRBs were taken of a stream's TD, of so many: its ring tells while they are there
-abbrev pub consumed_in : TdState → ℕ → Ring → ℕ
+abbrev pub consumed_in : TdState → ℕ → ItemRing → ℕ
 consumed_in Pending trbs ring = ring.got
 consumed_in Seen trbs ring = trbs
 consumed_in LeftOver trbs ring = ring.got
 consumed_in Retired trbs ring = trbs
 
-abbrev pub decoded_td : ℕ → Ring → TdState → Td
+abbrev pub decoded_td : ℕ → ItemRing → TdState → Td
 decoded_td trbs ring state = record { state = state; consumed = consumed_in state trbs ring }
 
-abbrev pub data_ring : Direction → Cell → Ring
+abbrev pub data_ring : Direction → Cell → ItemRing
 data_ring Nothing cell = cell.data_out
 data_ring ToHost cell = cell.data_in
 data_ring ToDevice cell = cell.data_out

@@ -4,7 +4,8 @@ use Rattle.std.specs.Prelude.{None, option_map}
 use Rattle.block_unit.specs.BlockMaps.{BlockMaps}
 use Rattle.xhci_trb.specs.declared.Trb.{Trb}
 use Rattle.xhci_trb.specs.declared.Trb.TheVariants.{Normal}
-use Rattle.cycle_ring.specs.Ring.{Ring, pointer_of}
+use Rattle.cycle_ring.specs.Ring.{pointer_of}
+use Rattle.cycle_ring.specs.Items.{Item, ItemRing, known}
 use Rattle.event_ring.specs.declared.Event.{Event}
 use Rattle.event_ring.specs.declared.Event.TheVariants.{Transfer, Command as CommandCompletion}
 use Rattle.uas_profile.specs.declared.Pipe.{Pipe}
@@ -45,12 +46,16 @@ unit_bytes slot = if slot == TASK_SLOT then 16 else COMMAND_BYTES
 abbrev pub command_trb : Place → Trb
 command_trb place = Normal (command_buffer_of (tag_of place)) (unit_bytes place.slot) 0 (record { 0 = 16 })
 
+-- the same as it stands on the ring
+abbrev pub command_item : Place → Item
+command_item place = known (command_trb place)
+
 -- the address of the last TRB on a stream's ring
-abbrev pub last_pointer : Ring → ℕ
+abbrev pub last_pointer : ItemRing → ℕ
 last_pointer ring = pointer_of STREAM_RING_PLACES ring (length ring.put - 1)
 
 -- the event of a data TD, which is on one of these two rings
-abbrev pub data_event : Ring → Ring → Event
+abbrev pub data_event : ItemRing → ItemRing → Event
 data_event data_in data_out =
     if length data_in.put == 0
     then Transfer (last_pointer data_out) 0 SUCCESS (endpoint_of DataOut) SLOT
@@ -62,11 +67,11 @@ abbrev pub unit_len : ℕ → List ℕ → ℕ
 unit_len slot bytes = if slot == TASK_SLOT then 8 else 16 + slice_index bytes 15
 
 -- the event of a status TD
-abbrev pub status_event : ℕ → Ring → List ℕ → Event
+abbrev pub status_event : ℕ → ItemRing → List ℕ → Event
 status_event slot ring bytes = Transfer (last_pointer ring) (STATUS_BYTES - unit_len slot bytes) SHORT_PACKET (endpoint_of Status) SLOT
 
 -- the event of the controller's own command, the first on its command ring
-abbrev pub engine_event : Ring → Event
+abbrev pub engine_event : ItemRing → Event
 engine_event ring = CommandCompletion (pointer_of ENGINE_RING_PLACES ring 0) SUCCESS SLOT
 
 -- The events that wait, as TRBs: the k-th command event points at TRB k of the command pipe, and an event of a stream at the
@@ -83,7 +88,7 @@ event_texts world k (EngineDone place ∷ rest) = engine_event world.lines.engin
 
 -- On the command pipe stand first the TRBs that were taken and whose events wait, then the messages.
 pub record FitsQueues (state : Shared) (world : World) : Type 0 where
-  pub put : world.lines.command.put ≡ map command_trb (carried_places state.events ++ state.messages)
+  pub put : world.lines.command.put ≡ map command_item (carried_places state.events ++ state.messages)
   pub got : world.lines.command.got ≡ length (carried_places state.events)
   pub texts : world.lines.events.pending ≡ event_texts world 0 state.events
 

@@ -1,7 +1,8 @@
 -- The rings show the shared machine: what it has waiting stands in them, in order, and nothing else does.
 use Rattle.std.specs.Prelude.{◌≡◌, ℕ, suc, ◌*◌, ◌<◌, ◌≤◌, ◌==◌, if◌then◌else◌, List, [], ◌∷◌, drop, length, map, Option, None, Some}
 use Rattle.xhci_trb.specs.declared.Trb.{Trb}
-use Rattle.cycle_ring.specs.Ring.{Ring, cycle_of, pointer_of}
+use Rattle.cycle_ring.specs.Ring.{cycle_of, pointer_of}
+use Rattle.cycle_ring.specs.Items.{Item, ItemRing, known}
 use Rattle.event_ring.specs.declared.Event.{Event}
 use Rattle.event_ring.specs.declared.Event.TheVariants.{Transfer, Command as CommandCompletion}
 use Rattle.uas_profile.specs.declared.Pipe.{Pipe}
@@ -30,7 +31,7 @@ use Rattle.shared_machine.specs.Td.{Entry}
 use Rattle.shared_machine.specs.Shared.{Shared, request_direction}
 use Rattle.machine_invariant.specs.Matched.{request_bytes, under}
 use Rattle.bus_core.specs.Cells.{data_in_td, data_out_td}
-use Rattle.bus_core.specs.Fits.{AreUnused, command_trb, last_pointer}
+use Rattle.bus_core.specs.Fits.{AreUnused, command_item, last_pointer}
 
 -- EVENTS
 
@@ -48,12 +49,12 @@ told_in (Transfer pointer residual code endpoint slot) = Some (record { pointer 
 told_in (CommandCompletion pointer code slot) = Some (record { pointer = pointer; code = code; endpoint = 0 })
 
 -- the event of a data TD, which is on one of these two rings
-abbrev pub data_tells : Ring → Ring → Tells
+abbrev pub data_tells : ItemRing → ItemRing → Tells
 data_tells data_in data_out =
     if length data_in.put == 0 then tells (last_pointer data_out) SUCCESS DataOut else tells (last_pointer data_in) SUCCESS DataIn
 
 -- the event of the first command on the controller's command ring
-abbrev pub engine_tells : Ring → Tells
+abbrev pub engine_tells : ItemRing → Tells
 engine_tells ring = record { pointer = pointer_of ENGINE_RING_PLACES ring 0; code = SUCCESS; endpoint = 0 }
 
 -- What the events tell that wait, the oldest first: the k-th command event points at TRB k of the command pipe's ring, and an
@@ -68,8 +69,8 @@ tells_of lines k (StatusDone place ∷ rest) = Some (tells (last_pointer (stream
 
 -- TDS
 
--- the TRBs of a ring that the controller may take
-abbrev pub pending_in : Ring → List Trb
+-- what stands on a ring that the controller may take
+abbrev pub pending_in : ItemRing → List Item
 pending_in ring = drop ring.got ring.put
 
 -- what is left of a TD of these TRBs: all that weren't taken, while they are in the ring
@@ -100,9 +101,9 @@ data_out_left place (Some entry) =
 
 -- the three streams of a place have what is left of the TDs that stand there
 pub record ShowsPlace (lines : LinesState) (place : Place) (held : Option Entry) : Type 0 where
-  pub status : pending_in (stream_ring lines.status (tag_of place)) ≡ status_left place held
-  pub data_in : pending_in (stream_ring lines.data_in (tag_of place)) ≡ data_in_left place held
-  pub data_out : pending_in (stream_ring lines.data_out (tag_of place)) ≡ data_out_left place held
+  pub status : pending_in (stream_ring lines.status (tag_of place)) ≡ map known (status_left place held)
+  pub data_in : pending_in (stream_ring lines.data_in (tag_of place)) ≡ map known (data_in_left place held)
+  pub data_out : pending_in (stream_ring lines.data_out (tag_of place)) ≡ map known (data_out_left place held)
 
 -- THE CONTROLLER'S COMMAND RING
 
@@ -123,8 +124,8 @@ commands_of lines (Some retirement) = commands_at lines retirement.pipe retireme
 -- retirement that wasn't executed yet, the event ring an event for each event, and the streams of each place that is there what is left of
 -- its TDs; all in order. A stream that is no client's has nothing.
 pub record ShowsShared (state : Shared) (lines : LinesState) : Type 0 where
-  pub messages : pending_in lines.command ≡ map command_trb state.messages
-  pub commands : pending_in lines.engine ≡ commands_of lines state.retirement
+  pub messages : pending_in lines.command ≡ map command_item state.messages
+  pub commands : pending_in lines.engine ≡ map known (commands_of lines state.retirement)
   pub events : map told_in lines.events.pending ≡ tells_of lines 0 state.events
   pub places : (place : Place) → place.client < length state.parts → place.slot < TAGS → ShowsPlace lines place (under state.parts place)
   pub unused : (stream : ℕ) → TAGS * length state.parts < stream → AreUnused lines stream
@@ -132,7 +133,7 @@ pub record ShowsShared (state : Shared) (lines : LinesState) : Type 0 where
 -- CONTEXTS
 
 -- where the controller goes on in a stream's ring: at the first TRB that it may take, at the enqueue place where there is none
-abbrev pub next_place : Ring → Dequeue
+abbrev pub next_place : ItemRing → Dequeue
 next_place ring = record { pointer = pointer_of STREAM_RING_PLACES ring ring.got; cycle = cycle_of STREAM_RING_PLACES ring ring.got }
 
 -- Each stream's context points there (xHCI 4.12), whatever contexts show the rings of its pipe.

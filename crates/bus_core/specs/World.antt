@@ -1,6 +1,6 @@
 -- The world of a bus over rings: everything that host, controller and device hold, and what of it stands under one tag.
 use Rattle.std.specs.Prelude.{List, Option}
-use Rattle.cycle_ring.specs.Ring.{Ring}
+use Rattle.cycle_ring.specs.Items.{ItemRing}
 use Rattle.stream_array.specs.Rings.{LinesState, stream_ring}
 use Rattle.frame_store.specs.declared.TagBuffers.{TagBuffers}
 use Rattle.frame_store.specs.Buffers.{held_for}
@@ -25,9 +25,9 @@ pub record World : Type 0 where
 pub record Cell : Type 0 where
   pub held : Option HostEntry
   pub task : Option DeviceTask
-  pub status : Ring
-  pub data_in : Ring
-  pub data_out : Ring
+  pub status : ItemRing
+  pub data_in : ItemRing
+  pub data_out : ItemRing
   pub buffers : TagBuffers
 
 -- the host's entry at a place

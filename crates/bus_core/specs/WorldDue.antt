@@ -71,11 +71,11 @@ pub record CommandDue (state : Shared) (world : World) : Type 0 where
 
 pub record DataDue (state : Shared) (world : World) (tag : ℕ) : Type 0 where
   pub due : due state (Data tag) ≡ data_is_due_on world tag
-  pub own : IsOwnDataFront world.lines world.frames tag (wanted world.device tag)
+  pub own : IsOwnDataFront world.controller world.lines world.frames tag (wanted world.device tag)
 
 pub record StatusDue (state : Shared) (world : World) (tag : ℕ) : Type 0 where
   pub due : due state (StatusStep tag) ≡ status_is_due_on world tag
-  pub own : IsOwnStatusFront world.lines world.frames tag (answered world.device tag)
+  pub own : IsOwnStatusFront world.controller world.lines world.frames tag (wanted world.device tag) (answered world.device tag)
 
 abbrev pub CommandsAreDue : Type 0
 CommandsAreDue = (state : Shared) (world : World) → Fits state world → CommandDue state world

@@ -157,12 +157,12 @@ StreamsAreIdle step acts = (state : Shared) (world : World) (tag : ℕ) → Fits
     → acts world.controller (sides_in world) tag ≡ (sides_in world, Idle)
 
 pub record DataFits (state : Shared) (world : World) (tag : ℕ) : Type 0 where
-  pub own : IsOwnDataFront world.lines world.frames tag (wanted world.device tag)
+  pub own : IsOwnDataFront world.controller world.lines world.frames tag (wanted world.device tag)
   pub acted : (moved world.controller (sides_in world) tag).1 ≡ Acted tag
   pub fits : IsSoundWorld (data_world world tag) → Fits (shared_step state (Data tag)).0 (data_world world tag)
 
 pub record StatusFits (state : Shared) (world : World) (tag : ℕ) : Type 0 where
-  pub own : IsOwnStatusFront world.lines world.frames tag (answered world.device tag)
+  pub own : IsOwnStatusFront world.controller world.lines world.frames tag (wanted world.device tag) (answered world.device tag)
   pub acted : (sent_by world.controller (sides_in world) tag).1 ≡ Acted tag
   pub fits : IsSoundWorld (status_world world tag) → Fits (shared_step state (Status tag)).0 (status_world world tag)
 

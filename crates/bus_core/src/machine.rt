@@ -107,11 +107,11 @@ impl Bus {
         }
     }
 
-    /// The command pipe's ring has a TRB.
+    /// Something is pending on the command pipe's ring.
     fn command_is_due(&self) -> bool
         ensures { result ≡ due self.now Step.CommandPipe }
     {
-        self.lines.front(Pipe::Command, 0).is_some()
+        self.lines.front_raw(Pipe::Command, 0).is_some()
     }
 
     /// The data stream of the tag is armed, and the device gives or takes on it.

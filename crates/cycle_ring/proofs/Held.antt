@@ -8,25 +8,24 @@ use Rattle.std.proofs.lemmas.Bool.{eq-eqb, ne_eqb}
 use Rattle.std.proofs.lemmas.List.{length-replicate}
 use Rattle.std.proofs.lemmas.List.Elements.{All-drop}
 use Rattle.std.proofs.lemmas.Option.{none-some, slice_get_within, same_Some}
-use Rattle.xhci_trb.specs.declared.Trb.{Trb}
-use Rattle.xhci_trb.specs.declared.Trb.TheVariants.{Link}
-use Rattle.xhci_trb.specs.Text.{HasText, has_chain, text}
+use Rattle.xhci_trb.specs.Text.{text}
 use Rattle.ring_ends.specs.declared.End.{End}
-use Rattle.cycle_ring.specs.Ring.{Ring, IsRing, IsTd, item_in, opening, reclaimed}
+use Rattle.cycle_ring.specs.Ring.{item_in, link_with, opening, reclaimed}
+use Rattle.cycle_ring.specs.Items.{Item, ItemRing, IsItemRing, HasBytes, item_chain, item_form}
 use Rattle.ring_ends.specs.Counted.{turn_bit, counted, IsEnd, bit_from}
-use Rattle.ring_ends.specs.Held.{trbs_from, IsText}
-use Rattle.ring_ends.specs.HeldLaws.{at_behind, at_rest, not_twice, trbs_from-list, Holds-zeros, Holds-put, Holds-beside, Holds-freed}
-use Rattle.ring_ends.specs.HeldLaws.{Holds-text, turn_bit-shift, IsEnd-shift}
+use Rattle.ring_ends.specs.Held.{items_from, IsText}
+use Rattle.ring_ends.specs.HeldLaws.{at_behind, at_rest, not_twice, items_from-list, Holds-zeros, Holds-put, Holds-beside, Holds-freed}
+use Rattle.ring_ends.specs.HeldLaws.{Holds-item, turn_bit-shift, IsEnd-shift}
 use Rattle.cycle_ring.proofs.Chains.{IsRing-put}
-use Rattle.cycle_ring.specs.Segment.{first_end, shown, HoldsTrbs, IsSegment}
+use Rattle.cycle_ring.specs.Segment.{first_end, shown, HoldsItems, IsSegment}
 use Rattle.ring_ends.specs.TurnLaws.{same_item, place_shift}
 use Rattle.ring_ends.specs.EndLaws.{counted-end, IsEnd-first, IsEnd-next, turn_bit-ahead, distance-ahead}
 
--- the text of an item
-pub text_of : (put : List Trb) (k : ℕ) (trb : Trb) → All HasText put → slice_get put k ≡ Some trb → HasText trb
-text_of [] k trb all is = absurd (none-some trb is)
-text_of (other ∷ put) zero trb all is = let same : other ≡ trb = same_Some other trb is in rw (← same) (all 0 other (omega arith))
-text_of (other ∷ put) (suc k) trb all is = text_of put k trb (λ i d within. all (suc i) d (omega arith)) is
+-- what is said of an item
+pub bytes_of_item : (put : List Item) (k : ℕ) (item : Item) → All HasBytes put → slice_get put k ≡ Some item → HasBytes item
+bytes_of_item [] k item all is = absurd (none-some item is)
+bytes_of_item (other ∷ put) zero item all is = let same : other ≡ item = same_Some other item is in rw (← same) (all 0 other (omega arith))
+bytes_of_item (other ∷ put) (suc k) item all is = bytes_of_item put k item (λ i d within. all (suc i) d (omega arith)) is
 
 -- the bit of the first place from that of a later one, as the later one's from the first's
 back_bit : (ahead first later : Bool) → later ≡ (if ahead then first else not first) → (if ahead then later else not later) ≡ first
@@ -34,7 +33,7 @@ back_bit true first later is = is
 back_bit false first later is = ap not is ∙ not_twice first
 
 -- the first place as an end
-pub IsEnd-start : (n : ℕ) (places : List (List ℕ)) (first : ℕ) (enqueue : End) (r : Ring) → IsSegment n places first enqueue r
+pub IsEnd-start : (n : ℕ) (places : List (List ℕ)) (first : ℕ) (enqueue : End) (r : ItemRing) → IsSegment n places first enqueue r
     → IsEnd (n - 1) r.at (first_end first enqueue)
 IsEnd-start n places first enqueue r segment =
     let least = segment.ring.least_places in
@@ -48,7 +47,7 @@ IsEnd-start n places first enqueue r segment =
     }
 
 -- the steps from the first place to the ends
-pub count-segment : (n : ℕ) (places : List (List ℕ)) (first : ℕ) (enqueue : End) (r : Ring) → IsSegment n places first enqueue r
+pub count-segment : (n : ℕ) (places : List (List ℕ)) (first : ℕ) (enqueue : End) (r : ItemRing) → IsSegment n places first enqueue r
     → item_in (n - 1) first enqueue.place ≡ length r.put
 count-segment n places first enqueue r segment =
     let least = segment.ring.least_places in
@@ -56,17 +55,17 @@ count-segment n places first enqueue r segment =
     ap₂ (item_in (n - 1)) segment.start segment.producer.place ∙ distance-ahead (n - 1) r.at (length r.put) (omega arith)
 
 -- the ring of a segment is what it shows
-pub shown-segment : (n base : ℕ) (places : List (List ℕ)) (first : ℕ) (enqueue : End) (r : Ring) → base ≡ r.base
+pub shown-segment : (n base : ℕ) (places : List (List ℕ)) (first : ℕ) (enqueue : End) (r : ItemRing) → base ≡ r.base
     → IsSegment n places first enqueue r → shown n base places first enqueue ≡ r
 shown-segment n base places first enqueue r same segment =
     let start : counted (n - 1) (first_end first enqueue) ≡ r.at =
     counted-end (n - 1) r.at (first_end first enqueue) segment.ring.at_below (IsEnd-start n places first enqueue r segment) in
-    let put : trbs_from (n - 1) places r.at (length r.put) ≡ r.put =
-    trbs_from-list (n - 1) places r.at r.put (λ k trb is. (segment.holds.trbs.item k trb is).reads) in
+    let put : items_from item_form (n - 1) places r.at (length r.put) ≡ r.put =
+    items_from-list item_form (n - 1) places r.at r.put (λ k item is. (segment.holds.items.item k item is).reads) in
     rw (same, start, count-segment n places first enqueue r segment, put, ← segment.fresh) refl
 
 -- so it is a segment of what it shows
-pub shows-segment : (n base : ℕ) (places : List (List ℕ)) (first : ℕ) (enqueue : End) (r : Ring) → base ≡ r.base
+pub shows-segment : (n base : ℕ) (places : List (List ℕ)) (first : ℕ) (enqueue : End) (r : ItemRing) → base ≡ r.base
     → IsSegment n places first enqueue r → IsSegment n places first enqueue (shown n base places first enqueue)
 shows-segment n base places first enqueue r same segment = rw (shown-segment n base places first enqueue r same segment) segment
 
@@ -83,28 +82,27 @@ IsSegment-opening n base start least most aligned below is = record {
     consumed = omega arith;
     room_left = omega arith;
     texts = λ k trb within. absurd (omega arith);
-    ends_td = λ trb some. absurd (none-some trb some);
   };
   fresh = refl;
   holds = record {
     size = length-replicate n (replicate 16 0);
-    trbs = Holds-zeros (n - 1) n (omega arith) (omega arith);
-    link = λ k trb some last. absurd (none-some trb some);
+    items = Holds-zeros item_form (n - 1) n (omega arith) (omega arith);
+    link = λ k item some last. absurd (none-some item some);
   };
   start = sym (mod-eq_of_lt (omega arith));
   producer = rw is (IsEnd-first (n - 1) (0 + 0) (omega arith) (omega arith));
 }
 
--- a TRB that is written at the producer's end, where the Link isn't next
-pub HoldsTrbs-put : (n base : ℕ) (places : List (List ℕ)) (at : ℕ) (put : List Trb) (trb : Trb) (bytes : List ℕ) (end : End)
-    → 4 ≤ n → HoldsTrbs n base places at put → length put < n - 2 → IsEnd (n - 1) (at + length put) end → IsText bytes trb end.cycle
-    → end.place + 1 < n - 1 → HoldsTrbs n base (set places end.place bytes) at (put ++ trb ∷ [])
-HoldsTrbs-put n base places at put trb bytes end least holds room is_end is_text inside =
+-- an item that is written at the producer's end, where the Link isn't next
+pub HoldsItems-put : (n base : ℕ) (places : List (List ℕ)) (at : ℕ) (put : List Item) (item : Item) (bytes : List ℕ) (end : End)
+    → 4 ≤ n → HoldsItems n base places at put → length put < n - 2 → IsEnd (n - 1) (at + length put) end → IsText item_form bytes item end.cycle
+    → end.place + 1 < n - 1 → HoldsItems n base (set places end.place bytes) at (put ++ item ∷ [])
+HoldsItems-put n base places at put item bytes end least holds room is_end is_text inside =
     let place = is_end.place in
     record {
       size = length-set places end.place bytes ∙ holds.size;
-      trbs = Holds-put (n - 1) places at put trb bytes end (omega (arith, holds.size)) holds.trbs (omega arith) is_end is_text;
-      link = λ k next is last. elim (at_behind put trb k next is) [
+      items = Holds-put item_form (n - 1) places at put item bytes end (omega (arith, holds.size)) holds.items (omega arith) is_end is_text;
+      link = λ k next is last. elim (at_behind put item k next is) [
         | inl before ↦
             let kept : slice_index_or (set places end.place bytes) (n - 1) [] ≡ slice_index_or places (n - 1) [] =
             get_or-set_other places end.place (n - 1) bytes [] (λ same. absurd (omega arith)) in
@@ -114,12 +112,12 @@ HoldsTrbs-put n base places at put trb bytes end least holds room is_end is_text
     }
 
 -- the same at the last place before the Link, with the Link
-pub HoldsTrbs-link : (n base : ℕ) (places : List (List ℕ)) (at : ℕ) (put : List Trb) (trb : Trb) (bytes link : List ℕ) (end : End)
-    → 4 ≤ n → HoldsTrbs n base places at put → length put < n - 2 → IsEnd (n - 1) (at + length put) end → IsText bytes trb end.cycle
-    → n - 1 ≤ end.place + 1 → link ≡ text (Link base true (has_chain trb) false) end.cycle
-    → HoldsTrbs n base (set (set places end.place bytes) (n - 1) link) at (put ++ trb ∷ [])
-HoldsTrbs-link n base places at put trb bytes link end least holds room is_end is_text past is_link =
-    let size = length-append put (trb ∷ []) in
+pub HoldsItems-link : (n base : ℕ) (places : List (List ℕ)) (at : ℕ) (put : List Item) (item : Item) (bytes link : List ℕ) (end : End)
+    → 4 ≤ n → HoldsItems n base places at put → length put < n - 2 → IsEnd (n - 1) (at + length put) end → IsText item_form bytes item end.cycle
+    → n - 1 ≤ end.place + 1 → link ≡ text (link_with base (item_chain item)) end.cycle
+    → HoldsItems n base (set (set places end.place bytes) (n - 1) link) at (put ++ item ∷ [])
+HoldsItems-link n base places at put item bytes link end least holds room is_end is_text past is_link =
+    let size = length-append put (item ∷ []) in
     let count = length put in
     let within : (at + count) % (n - 1) < n - 1 = mod-lt (at + count) (omega arith) in
     let place = is_end.place in
@@ -127,9 +125,9 @@ HoldsTrbs-link n base places at put trb bytes link end least holds room is_end i
     get_or-set_same (set places end.place bytes) (n - 1) link [] (omega (arith, length-set places end.place bytes, holds.size)) in
     record {
       size = length-set (set places end.place bytes) (n - 1) link ∙ length-set places end.place bytes ∙ holds.size;
-      trbs = Holds-beside (n - 1) (set places end.place bytes) at (put ++ trb ∷ []) (n - 1) link (omega arith) (omega arith)
-          (Holds-put (n - 1) places at put trb bytes end (omega (arith, holds.size)) holds.trbs (omega arith) is_end is_text);
-      link = λ k next is last. elim (at_behind put trb k next is) [
+      items = Holds-beside item_form (n - 1) (set places end.place bytes) at (put ++ item ∷ []) (n - 1) link (omega arith) (omega arith)
+          (Holds-put item_form (n - 1) places at put item bytes end (omega (arith, holds.size)) holds.items (omega arith) is_end is_text);
+      link = λ k next is last. elim (at_behind put item k next is) [
         | inl before ↦ absurd (different (same_item (n - 1) at k count (omega arith) (omega arith) (omega arith)) before.0)
         | inr behind ↦ rw (written, behind.0, ← is_end.cycle, ← behind.1) is_link
       ];
@@ -157,7 +155,7 @@ pub within-end : (n j : ℕ) (end : End) → 1 < n → IsEnd (n - 1) j end → e
 within-end n j end some is = rw (is.place) (mod-lt j (omega arith))
 
 -- a segment's first item may be freed whether or not a consumer has passed it
-IsRing-reclaimed : (n m : ℕ) (r : Ring) → IsRing n r → r.got ≡ 0 → m ≤ length r.put → IsRing n (reclaimed n m r)
+IsRing-reclaimed : (n m : ℕ) (r : ItemRing) → IsItemRing n r → r.got ≡ 0 → m ≤ length r.put → IsItemRing n (reclaimed n m r)
 IsRing-reclaimed n m r ring fresh within =
     let least = ring.least_places in
     let room = ring.room_left in
@@ -170,15 +168,11 @@ IsRing-reclaimed n m r ring fresh within =
       at_below = mod-lt (r.at + m) (omega arith);
       consumed = omega arith;
       room_left = omega arith;
-      texts = All-drop HasText m r.put ring.texts;
-      ends_td = λ trb is.
-          let some = slice_get_within (drop m r.put) (length (drop m r.put) - 1) trb is in
-          let last : m + (length (drop m r.put) - 1) ≡ length r.put - 1 = omega arith in
-          ring.ends_td trb (ap (slice_get r.put) (sym last) ∙ sym (at_rest r.put m (length (drop m r.put) - 1)) ∙ is);
+      texts = All-drop HasBytes m r.put ring.texts;
     }
 
 -- the first m items freed: their places are stale from then on
-pub IsSegment-reclaimed : (n m : ℕ) (places : List (List ℕ)) (first next : ℕ) (enqueue : End) (r : Ring)
+pub IsSegment-reclaimed : (n m : ℕ) (places : List (List ℕ)) (first next : ℕ) (enqueue : End) (r : ItemRing)
     → IsSegment n places first enqueue r → m ≤ length r.put → next ≡ (r.at + m) % (n - 1)
     → IsSegment n places next enqueue (reclaimed n m r)
 IsSegment-reclaimed n m places first next enqueue r segment within is =
@@ -194,31 +188,31 @@ IsSegment-reclaimed n m places first next enqueue r segment within is =
       fresh = omega arith;
       holds = record {
         size = segment.holds.size;
-        trbs = Holds-freed (n - 1) places r.at m r.put (omega arith) (omega arith) segment.holds.trbs;
-        link = λ k trb has last. rw (turn_bit-shift (n - 1) r.at m k pos)
-            (segment.holds.link (m + k) trb (sym (at_rest r.put m k) ∙ has) (sym (place_shift (n - 1) r.at m k) ∙ last));
+        items = Holds-freed item_form (n - 1) places r.at m r.put (omega arith) (omega arith) segment.holds.items;
+        link = λ k item has last. rw (turn_bit-shift (n - 1) r.at m k pos)
+            (segment.holds.link (m + k) item (sym (at_rest r.put m k) ∙ has) (sym (place_shift (n - 1) r.at m k) ∙ last));
       };
       start = is ∙ ap (λ (x : ℕ). x % (n - 1)) (sym whole) ∙ sym (place_shift (n - 1) r.at m 0) ∙ ap (λ (x : ℕ). x % (n - 1)) (omega arith);
       producer = IsEnd-shift (n - 1) r.at m (length (drop m r.put)) _ _ enqueue pos (omega arith) refl segment.producer;
     }
 
--- a TD behind the items: what the segment shows then, and that it is a segment of that
-pub put-shown : (n base : ℕ) (old new : List (List ℕ)) (first : ℕ) (enqueue end : End) (r : Ring) (trbs : List Trb) (room : ℕ)
+-- items behind the others: what the segment shows then, and that it is a segment of that
+pub put-shown : (n base : ℕ) (old new : List (List ℕ)) (first : ℕ) (enqueue end : End) (r : ItemRing) (items : List Item) (room : ℕ)
     → shown n base old first enqueue ≡ r → IsSegment n old first enqueue (shown n base old first enqueue)
-    → IsTd trbs → All HasText trbs → room + length r.put ≡ n - 2 → length trbs ≤ room
-    → ((at : ℕ) (put : List Trb) → HoldsTrbs n base old at put → length put + length trbs ≤ n - 2 → IsEnd (n - 1) (at + length put) enqueue
-    → HoldsTrbs n base new at (put ++ trbs))
-    → ((at : ℕ) (put : List Trb) → HoldsTrbs n base old at put → length put + length trbs ≤ n - 2 → IsEnd (n - 1) (at + length put) enqueue
-    → IsEnd (n - 1) (at + length put + length trbs) end)
-    → (shown n base new first end ≡ record r { put = r.put ++ trbs }) × IsSegment n new first end (shown n base new first end)
-put-shown n base old new first enqueue end r trbs room view segment_shown td texts left fits holds ends =
+    → All HasBytes items → room + length r.put ≡ n - 2 → length items ≤ room
+    → ((at : ℕ) (put : List Item) → HoldsItems n base old at put → length put + length items ≤ n - 2 → IsEnd (n - 1) (at + length put) enqueue
+    → HoldsItems n base new at (put ++ items))
+    → ((at : ℕ) (put : List Item) → HoldsItems n base old at put → length put + length items ≤ n - 2 → IsEnd (n - 1) (at + length put) enqueue
+    → IsEnd (n - 1) (at + length put + length items) end)
+    → (shown n base new first end ≡ record r { put = r.put ++ items }) × IsSegment n new first end (shown n base new first end)
+put-shown n base old new first enqueue end r items room view segment_shown texts left fits holds ends =
     let segment = rw view at segment_shown in
-    let same : base ≡ r.base = ap (λ (q : Ring). q.base) view in
+    let same : base ≡ r.base = ap (λ (q : ItemRing). q.base) view in
     let held = rw (← same) at segment.holds in
-    let within : length r.put + length trbs ≤ n - 2 = omega arith in
-    let sum : r.at + length (r.put ++ trbs) ≡ r.at + length r.put + length trbs = omega (arith, length-append r.put trbs) in
-    let longer : IsSegment n new first end (record r { put = r.put ++ trbs }) = record {
-      ring = IsRing-put n r trbs segment.ring td texts within;
+    let within : length r.put + length items ≤ n - 2 = omega arith in
+    let sum : r.at + length (r.put ++ items) ≡ r.at + length r.put + length items = omega (arith, length-append r.put items) in
+    let longer : IsSegment n new first end (record r { put = r.put ++ items }) = record {
+      ring = IsRing-put n r items segment.ring texts within;
       fresh = segment.fresh;
       holds = rw same at (holds r.at r.put held within segment.producer);
       start = segment.start;
@@ -226,10 +220,10 @@ put-shown n base old new first enqueue end r trbs room view segment_shown td tex
     } in
     (shown-segment n base new first end _ same longer, shows-segment n base new first end _ same longer)
 
--- the TRB whose item stands at an end, and its text
-pub text-item : (n : ℕ) (places : List (List ℕ)) (first : ℕ) (enqueue end : End) (r : Ring) (k : ℕ) (bytes : List ℕ)
+-- the item that stands at an end, and its bytes
+pub item-there : (n : ℕ) (places : List (List ℕ)) (first : ℕ) (enqueue end : End) (r : ItemRing) (k : ℕ) (bytes : List ℕ)
     → IsSegment n places first enqueue r → IsEnd (n - 1) (r.at + k) end → k < length r.put → end.place < n → bytes ≡ get_or places end.place bytes
-    → (trb : Trb) × (slice_get r.put k ≡ Some trb) × (bytes ≡ text trb end.cycle) × HasText trb
-text-item n places first enqueue end r k bytes segment is used within there =
-    let item = Holds-text (n - 1) places r.at r.put end k bytes segment.holds.trbs is used (omega (arith, segment.holds.size)) there in
-    (item.0, item.1, item.2, text_of r.put k item.0 segment.ring.texts item.1)
+    → (item : Item) × (slice_get r.put k ≡ Some item) × IsText item_form bytes item end.cycle × HasBytes item
+item-there n places first enqueue end r k bytes segment is used within there =
+    let item = Holds-item item_form (n - 1) places r.at r.put end k bytes segment.holds.items is used (omega (arith, segment.holds.size)) there in
+    (item.0, item.1, item.2, bytes_of_item r.put k item.0 segment.ring.texts item.1)

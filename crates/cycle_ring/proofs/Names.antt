@@ -3,11 +3,11 @@ use Rattle.std.proofs.Common.{◌≡◌, ℕ, ◌+◌, ◌-◌, ◌*◌, ◌/◌
 use Rattle.std.proofs.Math.Nat.{mod-lt, div-add-mod}
 use Rattle.std.proofs.lemmas.Nat.{div-mul-add, mod-mul-add}
 use Rattle.std.proofs.lemmas.Bool.{le-ltb, lt-leb, ltb-false, leb-false, eqb-true, cases_Bool}
-use Rattle.cycle_ring.specs.Ring.{Ring, place_of, pointer_of, item_in, AddressesNameItems, NamedItemsHaveAddresses}
+use Rattle.cycle_ring.specs.Ring.{RingOf, place_of, pointer_of, item_in, AddressesNameItemsOf, NamedItemsHaveAddressesOf}
 use Rattle.ring_ends.specs.EndLaws.{distance-ahead, distance-place}
 
 -- the address of an item names it
-pub item_at-pointer_of : AddressesNameItems
+pub item_at-pointer_of : {A : Type 0} → AddressesNameItemsOf A
 item_at-pointer_of n k r places below =
     let turn : 0 < n - 1 = omega arith in
     let within : (r.at + k) % (n - 1) < n - 1 = mod-lt (r.at + k) turn in
@@ -22,7 +22,7 @@ item_at-pointer_of n k r places below =
     ) refl
 
 -- what is left of an address's three tests
-only_inside : (n k offset : ℕ) (r : Ring) → 0 < n - 1 → offset % 16 ≡ 0
+only_inside : {A : Type 0} (n k offset : ℕ) (r : RingOf A) → 0 < n - 1 → offset % 16 ≡ 0
     → (if nat_le (n - 1) (offset / 16) then None else Some (item_in (n - 1) (r.at % (n - 1)) (offset / 16))) ≡ Some k
     → (k < n - 1) × (r.base + offset ≡ pointer_of n r k)
 only_inside n k offset r turn whole is =
@@ -36,7 +36,7 @@ only_inside n k offset r turn whole is =
           rw (← same) (stands.0, omega (arith, stands.1))
     ]
 
-pub item_at-only : NamedItemsHaveAddresses
+pub item_at-only : {A : Type 0} → NamedItemsHaveAddressesOf A
 item_at-only n k pointer r places is =
     let turn : 0 < n - 1 = omega arith in
     elim (cases_Bool (nat_lt pointer r.base)) as (λ _. (k < n - 1) × (pointer ≡ pointer_of n r k)) [

@@ -6,71 +6,86 @@ use Rattle.xhci_trb.specs.declared.Trb.TheVariants.{Normal, Link, StopEndpoint, 
 use Rattle.xhci_trb.specs.Text.{HasText, has_chain, text}
 use Rattle.ring_ends.specs.Counted.{distance}
 
--- Where the ring starts, the counted place of the first TRB that isn't reclaimed (below 2 (n - 1), so
--- that it has a place and a turn), the TRBs put and not reclaimed, and how many of them are consumed.
-pub record Ring : Type 0 where
+-- Where the ring starts, the counted place of the first item that isn't reclaimed (below 2 (n - 1), so
+-- that it has a place and a turn), the items put and not reclaimed, and how many of them are consumed.
+pub record RingOf (A : Type 0) : Type 0 where
   pub base : ℕ
   pub at : ℕ
-  pub put : List Trb
+  pub put : List A
   pub got : ℕ
 
+-- a ring of TRBs
+abbrev pub Ring : Type 0
+Ring = RingOf Trb
+
 -- a ring of zeros at its first place, both cycle states 1 (4.9.2)
-abbrev pub opening : ℕ → Ring
+abbrev pub opening : {A : Type 0} → ℕ → RingOf A
 opening base = record { base = base; at = 0; put = []; got = 0 }
 
 -- The place of item k: the Link's place n - 1 is stepped over.
 -- Worked: n = 20 and at = 16: items 0, 1, 2 stand at 16, 17, 18, item 3 at 0.
-abbrev pub place_of : ℕ → Ring → ℕ → ℕ
+abbrev pub place_of : {A : Type 0} → ℕ → RingOf A → ℕ → ℕ
 place_of n r k = (r.at + k) % (n - 1)
 
 -- the Cycle bit of item k: 1 on even turns (4.9.2.2)
-abbrev pub cycle_of : ℕ → Ring → ℕ → Bool
+abbrev pub cycle_of : {A : Type 0} → ℕ → RingOf A → ℕ → Bool
 cycle_of n r k = (r.at + k) / (n - 1) % 2 == 0
 
 -- the address of item k
-abbrev pub pointer_of : ℕ → Ring → ℕ → ℕ
+abbrev pub pointer_of : {A : Type 0} → ℕ → RingOf A → ℕ → ℕ
 pointer_of n r k = r.base + 16 * place_of n r k
 
--- the first pending TRB and its address
-abbrev pub front_of : ℕ → Ring → Option (ℕ × Trb)
-front_of n r = option_map (λ trb. (pointer_of n r r.got, trb)) (slice_get r.put r.got)
+-- the first pending item and its address
+abbrev pub front_of : {A : Type 0} → ℕ → RingOf A → Option (ℕ × A)
+front_of n r = option_map (λ item. (pointer_of n r r.got, item)) (slice_get r.put r.got)
 
 -- the first m items are freed
-abbrev pub reclaimed : ℕ → ℕ → Ring → Ring
+abbrev pub reclaimed : {A : Type 0} → ℕ → ℕ → RingOf A → RingOf A
 reclaimed n m r = record r { at = (r.at + m) % (2 * (n - 1)); put = drop m r.put; got = r.got - m }
 
 -- item i of the new ring is item m + i of the old one: same address, same Cycle bit
-pub record IsShifted (n m : ℕ) (old new : Ring) (i : ℕ) : Type 0 where
+pub record IsShifted {A : Type 0} (n m : ℕ) (old new : RingOf A) (i : ℕ) : Type 0 where
   pub pointer : pointer_of n new i ≡ pointer_of n old (m + i)
   pub cycle : cycle_of n new i ≡ cycle_of n old (m + i)
 
 -- item k is consumed, and this is its address
-abbrev pub IsConsumed : ℕ → Ring → ℕ → ℕ → Type 0
+abbrev pub IsConsumed : {A : Type 0} → ℕ → RingOf A → ℕ → ℕ → Type 0
 IsConsumed n r k pointer = (k < r.got) × (pointer ≡ pointer_of n r k)
 
 -- item k is pending, and this is its address and its Cycle bit
-abbrev pub IsPending : ℕ → Ring → ℕ → ℕ → Bool → Type 0
+abbrev pub IsPending : {A : Type 0} → ℕ → RingOf A → ℕ → ℕ → Bool → Type 0
 IsPending n r k pointer cycle =
     (r.got ≤ k) × (k < length r.put) × (pointer ≡ pointer_of n r k) × (cycle ≡ cycle_of n r k)
 
--- the enqueue place and the Cycle bit that its TRB will have
-abbrev pub IsEnqueuePlace : ℕ → Ring → ℕ → Bool → Type 0
+-- the enqueue place and the Cycle bit that its item will have
+abbrev pub IsEnqueuePlace : {A : Type 0} → ℕ → RingOf A → ℕ → Bool → Type 0
 IsEnqueuePlace n r pointer cycle = (pointer ≡ pointer_of n r (length r.put)) × (cycle ≡ cycle_of n r (length r.put))
 
--- the Link behind item k: back to the first place, Toggle Cycle, the Chain bit of the TRB before it
+-- a Link behind an item: back to the first place, Toggle Cycle, the Chain bit of the item before it
+abbrev pub link_with : ℕ → Bool → Trb
+link_with base chain = Link base true chain false
+
+-- the Link behind a TRB
 abbrev pub link_behind : Ring → Trb → Trb
-link_behind r trb = Link r.base true (has_chain trb) false
+link_behind r trb = link_with r.base (has_chain trb)
 
--- the bytes of item k, where it is there
+-- the bytes of item k, where it is there, by those of an item
+abbrev pub image_by : {A : Type 0} → (A → Bool → List ℕ) → ℕ → RingOf A → ℕ → Option (List ℕ)
+image_by look n r k = option_map (λ item. look item (cycle_of n r k)) (slice_get r.put k)
+
+-- the bytes of the Link behind item k, where that is there, by an item's Chain bit: the Cycle bit is that of item k
+abbrev pub link_image_by : {A : Type 0} → (A → Bool) → ℕ → RingOf A → ℕ → Option (List ℕ)
+link_image_by chain n r k = image_by (λ item cycle. text (link_with r.base (chain item)) cycle) n r k
+
+-- the same of TRBs
 abbrev pub item_image : ℕ → Ring → ℕ → Option (List ℕ)
-item_image n r k = option_map (λ trb. text trb (cycle_of n r k)) (slice_get r.put k)
+item_image n r k = image_by text n r k
 
--- the bytes of the Link behind item k, where that is there: the Cycle bit is that of item k
 abbrev pub link_image : ℕ → Ring → ℕ → Option (List ℕ)
-link_image n r k = option_map (λ trb. text (link_behind r trb) (cycle_of n r k)) (slice_get r.put k)
+link_image n r k = link_image_by has_chain n r k
 
 -- item k is at this place, or is the last before the Link and this is the Link's place
-abbrev pub IsInUse : ℕ → Ring → ℕ → ℕ → Type 0
+abbrev pub IsInUse : {A : Type 0} → ℕ → RingOf A → ℕ → ℕ → Type 0
 IsInUse n r k place =
     (k < length r.put) × ((place ≡ place_of n r k) ⊎ ((place ≡ n - 1) × (place_of n r k ≡ n - 2)))
 
@@ -97,12 +112,8 @@ IsOneCommand _ = ⊥
 abbrev pub IsTd : List Trb → Type 0
 IsTd trbs = IsChain trbs ⊎ IsOneCommand trbs
 
--- the last of these TRBs, if there is one, ends its TD
-abbrev pub EndsTd : List Trb → Type 0
-EndsTd put = (trb : Trb) → slice_get put (length put - 1) ≡ Some trb → has_chain trb ≡ false
-
--- what holds of every ring of n places
-pub record IsRing (n : ℕ) (r : Ring) : Type 0 where
+-- what holds of every ring of n places, and this of each item
+pub record IsRingOf {A : Type 0} (HasBytes : A → Type 0) (n : ℕ) (r : RingOf A) : Type 0 where
   pub least_places : 4 ≤ n
   pub most_places : n ≤ 256
   pub base_aligned : r.base % 16 ≡ 0
@@ -110,8 +121,11 @@ pub record IsRing (n : ℕ) (r : Ring) : Type 0 where
   pub at_below : r.at < 2 * (n - 1)
   pub consumed : r.got ≤ length r.put
   pub room_left : length r.put ≤ n - 2
-  pub texts : All HasText r.put
-  pub ends_td : EndsTd r.put
+  pub texts : All HasBytes r.put
+
+-- a ring of TRBs
+abbrev pub IsRing : ℕ → Ring → Type 0
+IsRing n r = IsRingOf HasText n r
 
 -- The item that stands, or would stand, at this place, on a turn of that many places whose first item stands at `first`.
 -- Worked: of 19 places and the first item at 16, place 18 has item 2 and place 0 item 3.
@@ -119,28 +133,34 @@ abbrev pub item_in : ℕ → ℕ → ℕ → ℕ
 item_in turn first place = distance turn first place
 
 -- the same by an address: none below the ring, inside a place, at the Link's or past it
-abbrev pub item_at : ℕ → Ring → ℕ → Option ℕ
+abbrev pub item_at : {A : Type 0} → ℕ → RingOf A → ℕ → Option ℕ
 item_at n r pointer =
     if nat_lt pointer r.base then None
     else (if not ((pointer - r.base) % 16 == 0) then None
     else (if nat_le (n - 1) ((pointer - r.base) / 16) then None
     else Some (item_in (n - 1) (r.at % (n - 1)) ((pointer - r.base) / 16))))
 
--- the consumed TRB at an address, while it isn't reclaimed
-abbrev pub consumed_item : Ring → ℕ → Option Trb
+-- the consumed item at an address, while it isn't reclaimed
+abbrev pub consumed_item : {A : Type 0} → RingOf A → ℕ → Option A
 consumed_item r k = if nat_lt k r.got then slice_get r.put k else None
 
-abbrev pub consumed_at : ℕ → Ring → ℕ → Option Trb
+abbrev pub consumed_at : {A : Type 0} → ℕ → RingOf A → ℕ → Option A
 consumed_at n r pointer = option_and_then (consumed_item r) (item_at n r pointer)
 
--- the first TRB that isn't reclaimed, once it is consumed, and its address
-abbrev pub oldest_of : ℕ → Ring → Option (ℕ × Trb)
-oldest_of n r = option_map (λ trb. (pointer_of n r 0, trb)) (consumed_item r 0)
+-- the first item that isn't reclaimed, once it is consumed, and its address
+abbrev pub oldest_of : {A : Type 0} → ℕ → RingOf A → Option (ℕ × A)
+oldest_of n r = option_map (λ item. (pointer_of n r 0, item)) (consumed_item r 0)
 
 -- the address of each item of a turn names that item, and an address that names an item is that item's
+abbrev pub AddressesNameItemsOf : Type 0 → Type 0
+AddressesNameItemsOf A = (n k : ℕ) (r : RingOf A) → 4 ≤ n → k < n - 1 → item_at n r (pointer_of n r k) ≡ Some k
+
+abbrev pub NamedItemsHaveAddressesOf : Type 0 → Type 0
+NamedItemsHaveAddressesOf A =
+    (n k pointer : ℕ) (r : RingOf A) → 4 ≤ n → item_at n r pointer ≡ Some k → (k < n - 1) × (pointer ≡ pointer_of n r k)
+
 abbrev pub AddressesNameItems : Type 0
-AddressesNameItems = (n k : ℕ) (r : Ring) → 4 ≤ n → k < n - 1 → item_at n r (pointer_of n r k) ≡ Some k
+AddressesNameItems = AddressesNameItemsOf Trb
 
 abbrev pub NamedItemsHaveAddresses : Type 0
-NamedItemsHaveAddresses =
-    (n k pointer : ℕ) (r : Ring) → 4 ≤ n → item_at n r pointer ≡ Some k → (k < n - 1) × (pointer ≡ pointer_of n r k)
+NamedItemsHaveAddresses = NamedItemsHaveAddressesOf Trb

@@ -1,13 +1,13 @@
-//! The bytes of a ring with its producer's end, and without its consumer's: each call that takes a TRB is handed the
+//! The bytes of a ring with its producer's end, and without its consumer's: each call that takes an item is handed the
 //! consumer's end and gives back where it stands then.
 
-ghost use Rattle.std.specs.Prelude.{◌≡◌, ◌≢◌, ℕ, ◌+◌, ◌-◌, ◌*◌, ◌%◌, ◌^◌, ◌<◌, ◌≤◌, ◌++◌, ◌↔◌, Bool, Some, None, All, length};
-ghost use Rattle.std.specs.Prelude.{slice_get, option_map, ◌⊎◌, IsOk, IsSome, IfNone, IfSome, IfOk, OnOk, OnErr, IsTrue, true};
+ghost use Rattle.std.specs.Prelude.{◌≡◌, ◌≢◌, ℕ, ◌+◌, ◌-◌, ◌*◌, ◌%◌, ◌^◌, ◌<◌, ◌≤◌, ◌++◌, [], ◌∷◌, ◌↔◌, Bool, Some, None, All, length, map};
+ghost use Rattle.std.specs.Prelude.{slice_get, option_map, option_and_then, ◌⊎◌, IsOk, IsSome, IfNone, IfSome, IfOk, OnOk, OnErr, IsTrue, true};
 ghost use Rattle.xhci_trb.specs.declared.Trb.{Trb};
-ghost use Rattle.xhci_trb.specs.Text.{HasText, has_chain};
+ghost use Rattle.xhci_trb.specs.Text.{HasText};
 ghost use Rattle.ring_ends.specs.declared.End.{End};
 
-use crate::places::{behind_link, put_back};
+use crate::places::{behind_link, put_back, put_raw_back};
 use crate::{NoMemory, NotAPlace, RingFull, Td};
 use ring_ends::{End, ahead, chain_bit, cycle_bit, distance, zeros};
 use std::alloc::Global;
@@ -26,10 +26,10 @@ pub struct Segment<const N: usize> {
 }
 
 impl<const N: usize> Model for Segment<N> {
-    ghost use Rattle.cycle_ring.specs.Ring.{Ring};
+    ghost use Rattle.cycle_ring.specs.Items.{ItemRing};
     ghost use Rattle.cycle_ring.specs.Segment.{shown, IsSegment};
 
-    ghost Value = { Ring };
+    ghost Value = { ItemRing };
 
     ghost view = { λ s. shown N s.base s.places.items s.first s.enqueue };
 
@@ -37,9 +37,10 @@ impl<const N: usize> Model for Segment<N> {
 }
 
 impl<const N: usize> Segment<N> {
-    ghost use Rattle.cycle_ring.specs.Ring.{Ring, IsRing, opening, place_of, cycle_of, pointer_of, front_of, reclaimed, IsConsumed};
-    ghost use Rattle.cycle_ring.specs.Ring.{IsPending, IsShifted, IsInUse, item_image, link_image, IsTd, IsEnqueuePlace};
-    ghost use Rattle.cycle_ring.specs.Ring.{item_at, item_in, consumed_at, oldest_of};
+    ghost use Rattle.cycle_ring.specs.Ring.{opening, place_of, cycle_of, pointer_of, reclaimed, IsConsumed};
+    ghost use Rattle.cycle_ring.specs.Ring.{IsPending, IsShifted, IsInUse, IsTd, IsEnqueuePlace, item_at, item_in, consumed_at};
+    ghost use Rattle.cycle_ring.specs.Items.{IsItemRing, item_read, known, known_of, known_front_of, raw_front_of, known_consumed_at};
+    ghost use Rattle.cycle_ring.specs.Items.{chain_consumed_at, known_oldest_of, raw_image, raw_link_image};
     ghost use Rattle.cycle_ring.specs.Segment.{IsConsumer, IsItem, items_before, with_consumer};
     ghost use Rattle.ring_ends.specs.Counted.{IsEnd, turn_bit};
 
@@ -66,7 +67,7 @@ impl<const N: usize> Segment<N> {
     #[inline(always)]
     pub fn base(&self) -> u64
         ensures base { result ≡ self.now.base }
-        ensures standing { IsRing N self.now }
+        ensures standing { IsItemRing N self.now }
     {
         self.base
     }
@@ -81,11 +82,11 @@ impl<const N: usize> Segment<N> {
         self.pointer(end.place)
     }
 
-    /// How many TRBs can still be put: N - 2 less those put and not reclaimed.
+    /// How many items can still be put: N - 2 less those put and not reclaimed.
     #[inline(always)]
     pub fn room(&self) -> usize
         ensures room { result + length self.now.put ≡ N - 2 }
-        ensures standing { IsRing N self.now }
+        ensures standing { IsItemRing N self.now }
     {
         let count = self.count();
         N - 2 - count
@@ -98,7 +99,7 @@ impl<const N: usize> Segment<N> {
         requires texts { All HasText trbs.now }
         requires at_most { length trbs.now ≤ N - 2 }
         ensures room { IsOk result ↔ (length self.old.put + length trbs.now ≤ N - 2) }
-        ensures put { OnOk result (self.new ≡ record self.old { put = self.old.put ++ trbs.now }) }
+        ensures put { OnOk result (self.new ≡ record self.old { put = self.old.put ++ map known trbs.now }) }
         ensures td { IfOk result (λ td. td ≡ record {
           first = pointer_of N self.old (length self.old.put);
           last = pointer_of N self.old
@@ -120,6 +121,24 @@ impl<const N: usize> Segment<N> {
         Ok(td)
     }
 
+    /// Puts any 16 bytes, as [`crate::CycleRing::put_raw`] does.
+    #[inline(always)]
+    pub fn put_raw(&mut self, bytes: &[u8; 16]) -> Result<u64, RingFull>
+        ensures room { IsOk result ↔ (length self.old.put < N - 2) }
+        ensures put { OnOk result (self.new ≡ record self.old { put = self.old.put ++ item_read bytes.now ∷ [] }) }
+        ensures address { IfOk result (λ address. address ≡ pointer_of N self.old (length self.old.put)) }
+        ensures full { OnErr result (self.new ≡ self.old) }
+        ensures consumer { (end : End) → IsConsumer N self.old end → IsConsumer N self.new end }
+    {
+        if self.room() == 0 {
+            return Err(RingFull);
+        }
+        let start = self.enqueue;
+        let address = self.pointer(start.place);
+        self.enqueue = put_raw_back::<N>(&mut self.places, self.base, start, bytes);
+        Ok(address)
+    }
+
     /// The enqueue pointer and the producer's cycle state. The pointer is never the Link's.
     pub fn place(&self) -> (u64, bool)
         ensures place { result ≡ (pointer_of N self.now (length self.now.put), cycle_of N self.now (length self.now.put)) }
@@ -128,18 +147,31 @@ impl<const N: usize> Segment<N> {
         (self.pointer(self.enqueue.place), self.enqueue.cycle)
     }
 
-    /// The TRB that is pending at a consumer's end, and its address, if there is one.
+    /// The TRB that is pending at a consumer's end, and its address, if there is one. At bytes that are no TRB's text nothing.
     #[inline(always)]
     pub fn front(&self, end: End) -> Option<(u64, Trb)>
         requires { IsConsumer N self.now end }
-        ensures front { result ≡ front_of N (with_consumer N self.now end) }
-        ensures pending { IsSome result ↔ (items_before N self.now end < length self.now.put) }
+        ensures front { result ≡ known_front_of N (with_consumer N self.now end) }
+        ensures pending { IsSome result → items_before N self.now end < length self.now.put }
     {
         let trb = self.trb_at(end)?;
         Some((self.pointer(end.place), trb))
     }
 
-    /// A consumer's end behind the TRB that is pending there, and behind the Link. Asks that one is.
+    /// The 16 bytes that are pending at a consumer's end, whatever they are, and their address, if there are some.
+    #[inline(always)]
+    pub fn front_raw(&self, end: End) -> Option<(u64, [u8; 16])>
+        requires { IsConsumer N self.now end }
+        ensures front { result ≡ raw_front_of N (with_consumer N self.now end) }
+        ensures pending { IsSome result ↔ (items_before N self.now end < length self.now.put) }
+    {
+        if !self.is_in_use(end) {
+            return None;
+        }
+        Some((self.pointer(end.place), self.places[end.place]))
+    }
+
+    /// A consumer's end behind the item that is pending there, and behind the Link. Asks that one is.
     #[inline(always)]
     pub fn advance(&self, end: End) -> End
         requires consumer { IsConsumer N self.now end }
@@ -162,8 +194,8 @@ impl<const N: usize> Segment<N> {
     #[inline(always)]
     pub fn consumed(&self, end: End, pointer: u64) -> Option<Trb>
         requires { IsConsumer N self.now end }
-        ensures consumed { result ≡ consumed_at N (with_consumer N self.now end) pointer }
-        ensures known { IfSome result (λ trb. (k : ℕ) × IsConsumed N (with_consumer N self.now end) k pointer × (slice_get self.now.put k ≡ Some trb)) }
+        ensures consumed { result ≡ known_consumed_at N (with_consumer N self.now end) pointer }
+        ensures known { IfSome result (λ trb. (k : ℕ) × IsConsumed N (with_consumer N self.now end) k pointer × (slice_get self.now.put k ≡ Some (known trb))) }
     {
         let place = self.consumed_place(end, pointer)?;
         match decode(&self.places[place]) {
@@ -172,21 +204,21 @@ impl<const N: usize> Segment<N> {
         }
     }
 
-    /// Whether that TRB has its Chain bit set.
+    /// Whether the consumed item at an address has its Chain bit set: bit 4 of its control word, whatever it is.
     #[inline(always)]
     pub fn consumed_chain(&self, end: End, pointer: u64) -> Option<bool>
         requires { IsConsumer N self.now end }
-        ensures { result ≡ option_map has_chain (consumed_at N (with_consumer N self.now end) pointer) }
+        ensures { result ≡ chain_consumed_at N (with_consumer N self.now end) pointer }
     {
         let place = self.consumed_place(end, pointer)?;
         Some(chain_bit(&self.places[place]))
     }
 
-    /// The first TRB that isn't reclaimed and its address, once a consumer's end has passed it.
+    /// The first item that isn't reclaimed and its address, once a consumer's end has passed it, where it is a TRB.
     #[inline(always)]
     pub fn oldest(&self, end: End) -> Option<(u64, Trb)>
         requires { IsConsumer N self.now end }
-        ensures oldest { result ≡ oldest_of N (with_consumer N self.now end) }
+        ensures oldest { result ≡ known_oldest_of N (with_consumer N self.now end) }
         ensures known { IfSome result (λ at. IsConsumed N (with_consumer N self.now end) 0 at.0) }
     {
         if self.passed(end) == 0 {
@@ -196,7 +228,7 @@ impl<const N: usize> Segment<N> {
         Some((self.pointer(self.first), trb))
     }
 
-    /// The consumer's end behind all TRBs (4.6.10): the producer's.
+    /// The consumer's end behind all items (4.6.10): the producer's.
     pub fn drop_pending(&self) -> End
         ensures consumer { IsConsumer N self.now result }
         ensures dropped { with_consumer N self.now result ≡ record self.now { got = length self.now.put } }
@@ -222,7 +254,7 @@ impl<const N: usize> Segment<N> {
         Ok(next)
     }
 
-    /// The consumer's end at a pending place, or behind all TRBs where the place is the enqueue place (4.6.10).
+    /// The consumer's end at a pending place, or behind all items where the place is the enqueue place (4.6.10).
     /// Refused as [`crate::CycleRing::move_dequeue`] refuses.
     pub fn move_dequeue(&self, end: End, pointer: u64, cycle: bool) -> Result<End, NotAPlace>
         requires { IsConsumer N self.now end }
@@ -239,7 +271,7 @@ impl<const N: usize> Segment<N> {
         self.set_dequeue(end, pointer, cycle)
     }
 
-    /// Frees the TRBs up to and with the one at this address. Asks a TRB that is put; a consumer's end that has passed
+    /// Frees the items up to and with the one at this address. Asks an item that is put; a consumer's end that has passed
     /// it stays one.
     #[inline(always)]
     pub fn reclaim(&mut self, pointer: u64)
@@ -253,11 +285,11 @@ impl<const N: usize> Segment<N> {
         self.first = ahead(N - 1, place, 1);
     }
 
-    /// The 16 bytes at a place whose TRB isn't reclaimed, and at the Link's while the TRB before it
+    /// The 16 bytes at a place whose item isn't reclaimed, and at the Link's while the item before it
     /// isn't (6.4.4.1). Elsewhere nothing.
     pub fn image(&self, place: usize) -> Option<[u8; 16]>
-        ensures item { (k : ℕ) → k < N - 1 → place ≡ place_of N self.now k → result ≡ item_image N self.now k }
-        ensures link { (k : ℕ) → k < N - 1 → place_of N self.now k ≡ N - 2 → place ≡ N - 1 → result ≡ link_image N self.now k }
+        ensures item { (k : ℕ) → k < N - 1 → place ≡ place_of N self.now k → result ≡ raw_image N self.now k }
+        ensures link { (k : ℕ) → k < N - 1 → place_of N self.now k ≡ N - 2 → place ≡ N - 1 → result ≡ raw_link_image N self.now k }
         ensures in_use { IsSome result → (k : ℕ) × IsInUse N self.now k place }
     {
         if place < N - 1 && self.is_in_use(self.end_at(self.item_at(place))) {
@@ -269,11 +301,11 @@ impl<const N: usize> Segment<N> {
         None
     }
 
-    // How many TRBs are put and not reclaimed.
+    // How many items are put and not reclaimed.
     #[inline(always)]
     fn count(&self) -> usize
         ensures count { result ≡ length self.now.put }
-        ensures standing { IsRing N self.now }
+        ensures standing { IsItemRing N self.now }
     {
         let first = self.first;
         distance(N - 1, first, self.enqueue.place)
@@ -328,11 +360,11 @@ impl<const N: usize> Segment<N> {
         cycle_bit(&self.places[end.place]) == end.cycle
     }
 
-    // The TRB of an item by its place, while it is there.
+    // The TRB of an item by its place, while it is there and is one.
     #[inline(always)]
     fn trb_at(&self, end: End) -> Option<Trb>
         requires { end.place < N - 1 }
-        ensures { (k : ℕ) → k < N - 1 → IsEnd (N - 1) (self.now.at + k) end → result ≡ slice_get self.now.put k }
+        ensures { (k : ℕ) → k < N - 1 → IsEnd (N - 1) (self.now.at + k) end → result ≡ option_and_then known_of (slice_get self.now.put k) }
     {
         if !self.is_in_use(end) {
             return None;
@@ -355,7 +387,7 @@ impl<const N: usize> Segment<N> {
         distance(N - 1, self.first, place)
     }
 
-    // The place of the consumed TRB at this address. It is in use, so that its Cycle bit needs no look.
+    // The place of the consumed item at this address. It is in use, so that its Cycle bit needs no look.
     #[inline(always)]
     fn consumed_place(&self, end: End, pointer: u64) -> Option<usize>
         requires { IsConsumer N self.now end }

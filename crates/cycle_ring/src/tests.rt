@@ -104,6 +104,24 @@ fn consume_all(ring: &mut CycleRing<20>) {
     }
 }
 
+// Moves both ends of an empty ring to the place before the Link's.
+fn empty_at_the_last_place(ring: &mut CycleRing<20>) {
+    for _ in 0..18 {
+        let _ = ring.push_td(&[FIRST]);
+        consume_all(ring);
+    }
+}
+
+// Puts 16 zeros with bit 4 of byte 12, which are no TRB, and takes them: whether they are one, their address and bytes.
+fn foreign_bytes(ring: &mut CycleRing<20>) -> Option<(bool, u64, [u8; 16])> {
+    let zeros = b"\0\0\0\0\0\0\0\0\0\0\0\0\x10\0\0\0";
+    ring.put_raw(zeros).ok()?;
+    let trb = ring.front().is_some();
+    let (address, bytes) = ring.front_raw()?;
+    ring.advance();
+    Some((trb, address, bytes))
+}
+
 // Rows long-read and long-read-wraps, in the ring's own bytes: places that no turn has reached are zeros, and
 // places 13 to 15 keep the texts of the turn before.
 #[test]
@@ -136,6 +154,22 @@ fn long_read_twice(rt: HostRuntime) -> Result<(), Fail> {
     assert_eq!(rt; ring.image(13), None);
     assert_eq!(rt; words_at(&ring, 13), Some((0x0010_1000, 0x411)));
     assert_eq!(rt; ring.place(), (0x4300_10d0, false));
+    Ok(())
+}
+
+// Zeros with bit 4 of byte 12 at the last place before the Link: shown with the Cycle bit, no TRB, and stepped over; the Link
+// behind them has CH.
+#[test]
+fn foreign_bytes_before_the_link(rt: HostRuntime) -> Result<(), Fail> {
+    let mut ring = CycleRing::<20>::new(rt.alloc(), 0x4300_1000)?;
+    empty_at_the_last_place(&mut ring);
+    let foreign = b"\0\0\0\0\0\0\0\0\0\0\0\0\x11\0\0\0";
+    assert_eq!(rt;
+        foreign_bytes(&mut ring),
+        Some((false, 0x4300_1120, *foreign))
+    );
+    assert_eq!(rt; words_at(&ring, 19), Some((0, 0x1813)));
+    assert_eq!(rt; ring.dequeue(), (0x4300_1000, false));
     Ok(())
 }
 

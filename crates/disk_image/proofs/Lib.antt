@@ -1,1 +1,2 @@
 mod Zeros
+mod Contents

@@ -1,5 +1,5 @@
 -- One command alone: what it comes to on a bus of one client, and what `dump` and `fill` tell of it.
-use Rattle.std.specs.Prelude.{ℕ, zero, suc, ◌+◌, ◌*◌, ◌/◌, ◌%◌, ◌^◌, true, false, if◌then◌else◌, List, [], ◌∷◌, ◌++◌, length, take, drop, codes}
+use Rattle.std.specs.Prelude.{ℕ, zero, suc, ◌+◌, ◌*◌, ◌/◌, ◌%◌, ◌^◌, true, false, if◌then◌else◌, List, [], ◌∷◌, ◌++◌, length, take, drop, replicate, codes}
 use Rattle.std.specs.Prelude.{slice_get, Option, Some, None}
 use Rattle.std.specs.Option.{option_map_or}
 use Rattle.std.specs.Int.{w32, to_be_bytes}
@@ -69,6 +69,10 @@ dump_lines lba bytes = rows_below (length bytes / 16) lba bytes
 unfoldable pub dumped : BlockMaps → ℕ → ℕ → List ℕ × ℕ
 dumped unit lba count = told_of (dump_lines lba) (answered unit (read_request lba count)).1.reply
 
+-- the bytes of so many blocks of an image from this one on
+unfoldable pub blocks_at : List ℕ → ℕ → ℕ → List ℕ
+blocks_at image lba count = take (512 * count) (drop (512 * lba) image)
+
 -- FILL
 
 abbrev pub good_text : List ℕ
@@ -81,3 +85,7 @@ filled unit lba count byte = told_of (λ buffer. good_text) (answered unit (fill
 -- the medium that it leaves, which the file gets after a GOOD
 unfoldable pub filled_medium : BlockMaps → ℕ → ℕ → ℕ → List ℕ
 filled_medium unit lba count byte = medium_of (answered unit (fill_request lba count byte)).0
+
+-- the image with so many blocks from this one on each of this byte, and all before and behind them as it was
+unfoldable pub filled_image : List ℕ → ℕ → ℕ → ℕ → List ℕ
+filled_image image lba count byte = take (512 * lba) image ++ replicate (512 * count) byte ++ drop (512 * (lba + count)) image

@@ -3,7 +3,7 @@
 ghost use Rattle.std.specs.Prelude.{◌≡◌, ◌*◌, ◌/◌, ◌^◌, ◌<◌, ◌≤◌, ◌++◌, ◌⊎◌, [], length, take, drop, IsTrue, IsErr, IfOk, IfErr, OnOk, IfSome};
 ghost use Rattle.std.specs.Io.KnownBytes.{Appends, Keeps};
 ghost use Rattle.block_unit.specs.BlockMaps.{imaged};
-ghost use Rattle.disk_image.specs.Alone.{dumped, dump_lines, read_request, row_line, row_offset, told_of};
+ghost use Rattle.disk_image.specs.Alone.{blocks_at, dumped, dump_lines, read_request, row_line, row_offset, told_of};
 ghost use Rattle.disk_image.specs.Images.{blocks_in};
 ghost use Rattle.disk_image.specs.Stops.{AnswersOf, InfoGivesUp};
 
@@ -26,7 +26,7 @@ const OFFSETS: u64 = 4_294_967_296;
 
 /// The run `dump`: reads an image, and prints the blocks of `extent` by one READ, or the sense that answers it. It answers the
 /// exit status: 1 where the READ didn't end with GOOD, 3 at a fault of the image, the reader or the writer, 4 for want of
-/// memory, else 0.
+/// memory, else 0. With 0 the lines show the bytes that stand in the image there (`blocks`).
 pub fn run_dump<S: Source, O: Sink, W: Write>(
     alloc: Global,
     extent: Extent,
@@ -37,6 +37,8 @@ pub fn run_dump<S: Source, O: Sink, W: Write>(
     ensures statuses { (result ≤ 1) ⊎ ((result ≡ 3) ⊎ (result ≡ 4)) }
     ensures told { result ≤ 1 → IfSome (S.left source.old) (λ bytes.
         AnswersOf (blocks_in bytes) (dumped (imaged bytes []) extent.lba extent.count) (O.written output.old) (O.written output.new) result) }
+    ensures blocks { result ≡ 0 → IfSome (S.left source.old) (λ bytes.
+        Appends (O.written output.old) (O.written output.new) (dump_lines extent.lba (blocks_at bytes extent.lba extent.count))) }
     ensures there { result ≤ 1 → IsTrue (S.is_there source.old) }
     ensures fault { result ≡ 3
         → (((IfSome (S.left source.old) (λ bytes. IsErr (blocks_in bytes)) × IsTrue (S.is_there source.old)) ⊎ IsTrue (S.can_fail source.old))

@@ -3,7 +3,7 @@
 ghost use Rattle.std.specs.Prelude.{◌≡◌, ◌≤◌, ◌⊎◌, [], Some, IsTrue, IsErr, IfOk, IfErr, OnErr, OnOk, IfSome};
 ghost use Rattle.std.specs.Io.KnownBytes.{Appends, Keeps};
 ghost use Rattle.block_unit.specs.BlockMaps.{imaged};
-ghost use Rattle.disk_image.specs.Alone.{filled, filled_medium, fill_request, good_text, medium_of, told_of};
+ghost use Rattle.disk_image.specs.Alone.{filled, filled_image, filled_medium, fill_request, good_text, medium_of, told_of};
 ghost use Rattle.disk_image.specs.Images.{blocks_in};
 ghost use Rattle.disk_image.specs.Stops.{AnswersOf, FillGivesUp, WriteGivesUp};
 
@@ -22,7 +22,8 @@ use uas_script::Request;
 /// The run `fill`: reads the image of a file, fills the blocks of `extent` with a byte by one WRITE with FUA, writes the
 /// medium to the file and prints `good`; or prints the sense that answers the WRITE. The file is opened to be read, and
 /// created anew only once the WRITE ended with GOOD. It answers the exit status: 1 where it didn't, 3 at a fault of the
-/// image, the file or standard output, 4 for want of memory, else 0.
+/// image, the file or standard output, 4 for want of memory, else 0. With 0 the file holds the image with these blocks
+/// filled, and all else in it as it was (`blocks`).
 pub fn run_fill<F: Files, O: Sink, W: Write>(
     alloc: Global,
     extent: Extent,
@@ -37,6 +38,8 @@ pub fn run_fill<F: Files, O: Sink, W: Write>(
         AnswersOf (blocks_in bytes) (filled (imaged bytes []) extent.lba extent.count byte) (O.written output.old) (O.written output.new) result) }
     ensures image { result ≡ 0 → IsTrue (F.tells files.old) → IfSome (F.holds files.old file.now) (λ bytes.
         F.holds files.new file.now ≡ Some (filled_medium (imaged bytes []) extent.lba extent.count byte)) }
+    ensures blocks { result ≡ 0 → IsTrue (F.tells files.old) → IfSome (F.holds files.old file.now) (λ bytes.
+        F.holds files.new file.now ≡ Some (filled_image bytes extent.lba extent.count byte)) }
     ensures kept { result ≡ 1 → files.new ≡ files.old }
     ensures read { result ≤ 1 → IsTrue (F.can_open files.old file.now) }
     ensures created { result ≡ 0 → IsTrue (F.can_create files.old file.now) }

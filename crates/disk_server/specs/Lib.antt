@@ -1,4 +1,3 @@
 pub mod Pieces
 pub mod Answers
 pub mod Serving
-pub mod Exports

@@ -1,5 +1,5 @@
 -- The server of one client's disk: what it is after a request, and what the request is answered.
-use Rattle.std.specs.Prelude.{◌≡◌, ℕ, zero, suc, ◌+◌, ◌-◌, ◌*◌, ◌/◌, ◌%◌, ◌^◌, ◌==◌, nat_lt, min, not, ◌&&◌, Bool, true, false, if◌then◌else◌, List, [], ◌∷◌, ◌++◌}
+use Rattle.std.specs.Prelude.{◌≡◌, ℕ, zero, suc, ◌+◌, ◌-◌, ◌*◌, ◌/◌, ◌%◌, ◌^◌, ◌==◌, nat_lt, min, not, ◌&&◌, ◌||◌, Bool, true, false, if◌then◌else◌, List, [], ◌∷◌, ◌++◌}
 use Rattle.std.specs.Prelude.{length, take, drop, slice_get, IsTrue}
 use Rattle.std.specs.Option.{option_map_or}
 use Rattle.block_unit.specs.BlockMaps.{BlockMaps}
@@ -9,9 +9,10 @@ use Rattle.shared_machine.specs.Shared.{Shared, opening}
 use Rattle.disk_server.specs.Answers.{is_done, error_below, bytes_below}
 use Rattle.disk_server.specs.Pieces.{Taking, batch, pieces_of, read_piece, write_piece, sync_piece}
 
--- the shared machine of the disk's one client, the client's next ticket, the bytes that the file has by all that is known of it, and
--- whether a write to the file failed since the last FLUSH that was done
+-- how many blocks the disk has, the shared machine of its one client, the client's next ticket, the bytes that the file has by all that
+-- is known of it, and whether a write to the file failed since the last FLUSH that was done
 pub record Serving : Type 0 where
+  pub blocks : ℕ
   pub machine : Shared
   pub ticket : ℕ
   pub saved : List ℕ
@@ -23,7 +24,17 @@ medium_of machine = option_map_or (λ part. part.unit.medium) (slice_get machine
 
 -- a new server of a unit whose medium the file has
 abbrev pub opening_serving : BlockMaps → Serving
-opening_serving unit = record { machine = opening (unit ∷ []); ticket = 0; saved = unit.medium; failed = false }
+opening_serving unit = record {
+  blocks = unit.count;
+  machine = opening (unit ∷ []);
+  ticket = 0;
+  saved = unit.medium;
+  failed = false;
+}
+
+-- how many bytes the disk has
+abbrev pub size_of : Serving → ℕ
+size_of serving = 512 * serving.blocks
 
 -- What is known of the file: it is as long as the medium was, and has the saved bytes where no write to it failed.
 pub record IsBehind (tells : Bool) (holds : List ℕ) (serving : Serving) : Type 0 where
@@ -162,6 +173,40 @@ synced serving =
 -- the server once the file has the medium
 abbrev pub all_saved : Serving → Serving
 all_saved serving = record serving { saved = medium_of serving.machine; failed = false }
+
+-- the server by what a request is told whose medium was to go to the file: it is there, or the flag is set
+abbrev pub after_saving : Serving → ErrorNumber → Serving
+after_saving serving told = if is_done told then all_saved serving else record serving { failed = true }
+
+-- the medium isn't as long as what the file has, and can't be written in place
+abbrev pub is_resized : Serving → Bool
+is_resized serving = not (length (medium_of serving.machine) == length serving.saved)
+
+-- What a request may be told whose medium is to go to the file: that it is done, where that needn't fail; EIO, where it must or can fail.
+abbrev pub may_tell : (must_fail can_fail : Bool) → ErrorNumber → Bool
+may_tell must_fail can_fail error.None = not must_fail
+may_tell must_fail can_fail error.Io = must_fail || can_fail
+may_tell must_fail can_fail error.NoMemory = false
+may_tell must_fail can_fail error.Invalid = false
+may_tell must_fail can_fail error.NoSpace = false
+may_tell must_fail can_fail (error.Other number) = false
+
+-- What a WRITE is told: what the machine answers; with FUA, where the machine has done it, what becomes of the file, and EIO while the
+-- flag is set.
+pub record IsWriteTold (can_fail : Bool) (writing : Writing) (fua : Bool) (told : ErrorNumber) : Type 0 where
+  pub plain : fua ≡ false → told ≡ writing.error
+  pub refused : is_done writing.error ≡ false → told ≡ writing.error
+  pub file : fua ≡ true → is_done writing.error ≡ true
+      → IsTrue (may_tell (writing.serving.failed || is_resized writing.serving) can_fail told)
+
+-- the server after a WRITE, by what that is told
+abbrev pub after_write : Writing → Bool → ErrorNumber → Serving
+after_write writing fua told = if fua && is_done writing.error then after_saving writing.serving told else writing.serving
+
+-- What a FLUSH is told: EIO where the machine hasn't done it, else what becomes of the file. A flag that is set is no fault here.
+pub record IsFlushTold (can_fail : Bool) (writing : Writing) (told : ErrorNumber) : Type 0 where
+  pub refused : is_done writing.error ≡ false → told ≡ error.Io
+  pub file : is_done writing.error ≡ true → IsTrue (may_tell (is_resized writing.serving) can_fail told)
 
 -- what is known of the server and of what the file holds, once the medium was to go to the file: it is there, or the flag is set
 pub record IsSaved (old : Serving) (is_saved : Bool) (new : Serving) (tells : Bool) (holds : List ℕ) : Type 0 where

@@ -1,7 +1,7 @@
 //! Flushes: the blocks to the medium, and the medium to the file.
 
-ghost use Rattle.std.specs.Prelude.{◌≡◌, ◌≤◌, ◌⊎◌, true, false, length, take, drop, Ok, IsTrue, IfOk, OnOk};
-ghost use Rattle.disk_server.specs.Serving.{IsBehind, IsSaved, all_saved, medium_of, synced};
+ghost use Rattle.std.specs.Prelude.{◌≡◌, ◌≤◌, ◌⊎◌, ◌||◌, true, false, length, take, drop, Ok, IsTrue, IfOk, OnOk};
+ghost use Rattle.disk_server.specs.Serving.{IsBehind, IsFlushTold, IsSaved, after_saving, all_saved, is_resized, medium_of, synced};
 
 use crate::Server;
 use crate::answers::error_below;
@@ -19,6 +19,10 @@ impl Server {
     /// EIO where the machine doesn't do its part or the file fails; the flag is set then.
     pub fn flush<I: Image>(&mut self, image: &mut I) -> Result<ErrorNumber, AllocError>
         requires behind { IsBehind (I.tells image.old) (I.holds image.old) self.old }
+        // What it is told, and what the server is then, is specs/Serving.antt.
+        ensures answer { IfOk result (λ error. IsFlushTold (I.can_fail image.old) (synced self.old) error) }
+        ensures server { IfOk result (λ error. self.new ≡ after_saving (synced self.old).serving error) }
+
         // The machine is that of the SYNCHRONIZE CACHE alone, whatever becomes of the file.
         ensures machine { OnOk result (self.new.machine ≡ (synced self.old).serving.machine) }
         ensures ticket { OnOk result (self.new.ticket ≡ (synced self.old).serving.ticket) }
@@ -66,6 +70,10 @@ impl Server {
     pub(crate) fn save<I: Image>(&mut self, image: &mut I) -> bool
         requires { IsBehind (I.tells image.old) (I.holds image.old) self.old }
         ensures saved { IsSaved self.old result self.new (I.tells image.old) (I.holds image.new) }
+
+        // It fails where the medium can't be written in place, and else only where the file can fail.
+        ensures in_place { result ≡ true → is_resized self.old ≡ false }
+        ensures fault { result ≡ false → IsTrue (is_resized self.old || I.can_fail image.old) }
         ensures behind { IsBehind (I.tells image.new) (I.holds image.new) self.new }
         ensures told { I.tells image.new ≡ I.tells image.old }
         ensures same { I.can_fail image.new ≡ I.can_fail image.old }

@@ -33,6 +33,7 @@ impl Model for Server {
     ghost Value = { Serving };
 
     ghost view = { λ server. record {
+      blocks = server.blocks;
       machine = server.bus;
       ticket = server.ticket;
       saved = server.saved.items;
@@ -43,7 +44,7 @@ impl Model for Server {
 }
 
 impl Server {
-    ghost use Rattle.disk_server.specs.Serving.{opening_serving};
+    ghost use Rattle.disk_server.specs.Serving.{opening_serving, size_of};
 
     /// The server of a unit whose medium the file has.
     pub fn new(alloc: Global, unit: Unit) -> Result<Server, AllocError>
@@ -63,7 +64,8 @@ impl Server {
 
     /// How many bytes the disk has.
     pub fn size(&self) -> u64
-        ensures { result ≤ 512 * MAX_BLOCKS }
+        ensures size { result ≡ size_of self.now }
+        ensures most { result ≤ 512 * MAX_BLOCKS }
     {
         BLOCK_BYTES as u64 * u64::from(self.blocks)
     }

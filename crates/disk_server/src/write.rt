@@ -3,7 +3,7 @@
 ghost use Rattle.uas_profile.specs.declared.TheConstants.{MAX_BLOCKS};
 ghost use Rattle.std.specs.Prelude.{◌≡◌, ◌+◌, ◌*◌, ◌/◌, ◌<◌, ◌≤◌, true, false, length, Ok, IsTrue, IfOk, OnOk};
 ghost use Rattle.disk_server.specs.Answers.{is_done};
-ghost use Rattle.disk_server.specs.Serving.{IsBehind, medium_of};
+ghost use Rattle.disk_server.specs.Serving.{IsBehind, IsWriteTold, after_write, medium_of};
 ghost use Rattle.disk_server.specs.Serving.{batch_bytes, batches_of, blocks_written, bytes_written, edge_read, first_block, patched};
 ghost use Rattle.disk_server.specs.Serving.{write_batch, write_below, write_on};
 
@@ -29,6 +29,10 @@ impl Server {
     ) -> Result<ErrorNumber, AllocError>
         requires fits { offset + length bytes.now ≤ 512 * MAX_BLOCKS }
         requires behind { IsBehind (I.tells image.old) (I.holds image.old) self.old }
+        // What it is told, and what the server is then, is specs/Serving.antt.
+        ensures answer { IfOk result (λ error. IsWriteTold (I.can_fail image.old) (bytes_written self.old offset bytes.now fua) fua error) }
+        ensures server { IfOk result (λ error. self.new ≡ after_write (bytes_written self.old offset bytes.now fua) fua error) }
+
         // The machine is that of the WRITEs alone, whatever becomes of the file.
         ensures machine { OnOk result (self.new.machine ≡ (bytes_written self.old offset bytes.now fua).serving.machine) }
         ensures ticket { OnOk result (self.new.ticket ≡ (bytes_written self.old offset bytes.now fua).serving.ticket) }

@@ -16,8 +16,8 @@ use Rattle.event_ring.specs.declared.Event.TheVariants.{Transfer, Command}
 use Rattle.ring_ends.specs.declared.End.{End}
 use Rattle.event_ring.specs.Events.{Events, IsWritable, trb_of, taken, opening}
 use Rattle.ring_ends.specs.Counted.{counted, distance, IsEnd, next_end, bit_from}
-use Rattle.ring_ends.specs.Held.{trbs_from, IsText}
-use Rattle.ring_ends.specs.HeldLaws.{item_of, trbs_from-list, Holds-zeros, Holds-put, Holds-freed, Holds-bit, Holds-text, IsEnd-shift}
+use Rattle.ring_ends.specs.Held.{trb_form, items_from, IsText}
+use Rattle.ring_ends.specs.HeldLaws.{item_of, items_from-list, Holds-zeros, Holds-put, Holds-freed, Holds-bit, Holds-item, IsEnd-shift}
 use Rattle.ring_ends.specs.EndLaws.{counted-end, IsEnd-first, IsEnd-next, IsEnd-place, distance-ahead, distance-place}
 use Rattle.event_ring.specs.Segment.{event_of, shown, IsSegment}
 use Rattle.event_ring.proofs.Shifts.{IsRing-taken}
@@ -51,10 +51,10 @@ pub shown-segment : (n : ℕ) (places : List (List ℕ)) (dequeue enqueue : End)
     → shown n places dequeue enqueue ≡ r
 shown-segment n places dequeue enqueue r segment =
     let first : counted n dequeue ≡ r.at = counted-end n r.at dequeue segment.ring.at_below segment.consumer in
-    let trbs : trbs_from n places r.at (length (map trb_of r.pending)) ≡ map trb_of r.pending =
-    trbs_from-list n places r.at (map trb_of r.pending) (λ k trb is. (segment.holds.trbs.item k trb is).reads) in
-    let held : trbs_from n places r.at (length r.pending) ≡ map trb_of r.pending =
-    ap (trbs_from n places r.at) (sym (length-map r.pending trb_of)) ∙ trbs in
+    let trbs : items_from trb_form n places r.at (length (map trb_of r.pending)) ≡ map trb_of r.pending =
+    items_from-list trb_form n places r.at (map trb_of r.pending) (λ k trb is. (segment.holds.trbs.item k trb is).reads) in
+    let held : items_from trb_form n places r.at (length r.pending) ≡ map trb_of r.pending =
+    ap (items_from trb_form n places r.at) (sym (length-map r.pending trb_of)) ∙ trbs in
     rw (first, distance-segment n places dequeue enqueue r segment, held, events_of-trbs_of r.pending) refl
 
 pub shows-segment : (n : ℕ) (places : List (List ℕ)) (dequeue enqueue : End) (r : Events) → IsSegment n places dequeue enqueue r
@@ -72,7 +72,7 @@ IsSegment-opening n first least most is = record {
     room_left = omega arith;
     writable = λ k event within. absurd (omega arith);
   };
-  holds = record { size = length-replicate n (replicate 16 0); trbs = Holds-zeros n n (omega arith) (omega arith) };
+  holds = record { size = length-replicate n (replicate 16 0); trbs = Holds-zeros trb_form n n (omega arith) (omega arith) };
   consumer = rw is (IsEnd-first n 0 (omega arith) refl);
   producer = rw is (IsEnd-first n (0 + 0) (omega arith) (omega arith));
 }
@@ -83,7 +83,7 @@ All-one event writable (suc k) other within = absurd (omega arith)
 
 -- an event that is written at the producer's end
 pub IsSegment-posted : (n : ℕ) (places : List (List ℕ)) (dequeue enqueue : End) (r : Events) (event : Event) (bytes : List ℕ)
-    → IsSegment n places dequeue enqueue r → length r.pending < n - 1 → IsWritable event → IsText bytes (trb_of event) enqueue.cycle
+    → IsSegment n places dequeue enqueue r → length r.pending < n - 1 → IsWritable event → IsText trb_form bytes (trb_of event) enqueue.cycle
     → IsSegment n (set places enqueue.place bytes) dequeue (next_end n enqueue) (record r { pending = r.pending ++ event ∷ [] })
 IsSegment-posted n places dequeue enqueue r event bytes segment room writable is_text =
     let ring = segment.ring in
@@ -91,7 +91,7 @@ IsSegment-posted n places dequeue enqueue r event bytes segment room writable is
     let size = length-append r.pending (event ∷ []) in
     let count = length-map r.pending trb_of in
     let end : IsEnd n (r.at + length (map trb_of r.pending)) enqueue = rw count segment.producer in
-    let held = Holds-put n places r.at (map trb_of r.pending) (trb_of event) bytes enqueue (omega (arith, segment.holds.size)) segment.holds.trbs
+    let held = Holds-put trb_form n places r.at (map trb_of r.pending) (trb_of event) bytes enqueue (omega (arith, segment.holds.size)) segment.holds.trbs
     (omega arith) end is_text in
     let sum : r.at + length (r.pending ++ event ∷ []) ≡ r.at + length r.pending + 1 = omega arith in
     record {
@@ -123,7 +123,7 @@ IsSegment-taken n places dequeue enqueue r segment some =
       ring = IsRing-taken n r segment.ring;
       holds = record {
         size = segment.holds.size;
-        trbs = rw (← drop-map trb_of 1 r.pending) (Holds-freed n places r.at 1 (map trb_of r.pending) pos (omega arith) segment.holds.trbs);
+        trbs = rw (← drop-map trb_of 1 r.pending) (Holds-freed trb_form n places r.at 1 (map trb_of r.pending) pos (omega arith) segment.holds.trbs);
       };
       consumer = IsEnd-shift n r.at 1 0 (r.at + 1) _ _ pos (omega arith) (omega arith) (IsEnd-next n r.at dequeue pos segment.consumer);
       producer = IsEnd-shift n r.at 1 (length (drop 1 r.pending)) _ _ enqueue pos (omega arith) refl segment.producer;
@@ -135,7 +135,7 @@ pub bit-pending : (n : ℕ) (places : List (List ℕ)) (dequeue enqueue : End) (
     → (beq bit (bit_from dequeue.place dequeue.cycle place) ≡ true → distance n (r.at % n) place < length r.pending)
     × (distance n (r.at % n) place < length r.pending → beq bit (bit_from dequeue.place dequeue.cycle place) ≡ true)
 bit-pending n places dequeue enqueue r place bytes bit segment below there read =
-    rw (← length-map r.pending trb_of) (Holds-bit n places r.at (map trb_of r.pending) _ (distance n (r.at % n) place) bytes bit segment.holds.trbs
+    rw (← length-map r.pending trb_of) (Holds-bit trb_form n places r.at (map trb_of r.pending) _ (distance n (r.at % n) place) bytes bit segment.holds.trbs
     (distance-place n r.at place below).0 (IsEnd-place n r.at place dequeue below segment.consumer) (omega (arith, segment.holds.size)) there read)
 
 -- the bytes at a place whose event is pending
@@ -145,10 +145,10 @@ pub text-pending : (n : ℕ) (places : List (List ℕ)) (dequeue enqueue end : E
 text-pending n places dequeue enqueue end r k bytes segment is pending within there =
     let event = item_of r.pending k pending in
     let count = length-map r.pending trb_of in
-    let trb = Holds-text n places r.at (map trb_of r.pending) end k bytes segment.holds.trbs is (omega arith) (omega (arith, segment.holds.size)) there in
+    let trb = Holds-item trb_form n places r.at (map trb_of r.pending) end k bytes segment.holds.trbs is (omega arith) (omega (arith, segment.holds.size)) there in
     let same : trb.0 ≡ trb_of event.0 =
     same_Some trb.0 (trb_of event.0) (sym trb.1 ∙ slice_get-map trb_of r.pending k ∙ ap (option_map trb_of) event.1) in
-    (event.0, event.1, trb.2 ∙ ap (λ (x : Trb). text x end.cycle) same, writable_of r.pending k event.0 segment.ring.writable event.1)
+    (event.0, event.1, trb.2.bytes_are ∙ ap (λ (x : Trb). text x end.cycle) same, writable_of r.pending k event.0 segment.ring.writable event.1)
   where
     writable_of : (pending : List Event) (k : ℕ) (event : Event) → All IsWritable pending → slice_get pending k ≡ Some event → IsWritable event
     writable_of pending k event all is =

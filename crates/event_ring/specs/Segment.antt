@@ -7,7 +7,7 @@ use Rattle.event_ring.specs.declared.Event.TheVariants.{Transfer, Command}
 use Rattle.ring_ends.specs.declared.End.{End}
 use Rattle.event_ring.specs.Events.{Events, IsRing, trb_of}
 use Rattle.ring_ends.specs.Counted.{counted, distance, IsEnd}
-use Rattle.ring_ends.specs.Held.{trbs_from, Holds}
+use Rattle.ring_ends.specs.Held.{trb_form, items_from, Holds}
 
 -- the event of a TRB that is one (6.4.2.1, 6.4.2.2)
 abbrev pub event_of : Trb → Event
@@ -19,13 +19,13 @@ event_of _ = Command 0 0 0
 abbrev pub shown : ℕ → List (List ℕ) → End → End → Events
 shown n places dequeue enqueue = record {
   at = counted n dequeue;
-  pending = map event_of (trbs_from n places (counted n dequeue) (distance n dequeue.place enqueue.place));
+  pending = map event_of (items_from trb_form n places (counted n dequeue) (distance n dequeue.place enqueue.place));
 }
 
 -- the bytes hold a ring's events, each as its TRB
 pub record HoldsEvents (n : ℕ) (places : List (List ℕ)) (r : Events) : Type 0 where
   pub size : length places ≡ n
-  pub trbs : Holds n places r.at (map trb_of r.pending)
+  pub trbs : Holds trb_form n places r.at (map trb_of r.pending)
 
 -- bytes and ends of a ring: the consumer's at its first event, the producer's behind its last
 pub record IsSegment (n : ℕ) (places : List (List ℕ)) (dequeue enqueue : End) (r : Events) : Type 0 where

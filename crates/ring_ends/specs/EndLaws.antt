@@ -1,5 +1,5 @@
 -- Laws of the ends of a ring: an end's counted place, the place behind it, and the Cycle bits of the turn that it begins.
-use Rattle.std.proofs.Common.{◌≡◌, ℕ, ◌+◌, ◌-◌, ◌*◌, ◌/◌, ◌%◌, ◌<◌, ◌≤◌, ◌⊎◌, true, false, not, ◌==◌, List, slice_index, get_or-drop, refl}
+use Rattle.std.proofs.Common.{◌≡◌, ℕ, ◌+◌, ◌-◌, ◌*◌, ◌/◌, ◌%◌, ◌^◌, ◌<◌, ◌≤◌, ◌⊎◌, true, false, not, ◌==◌, List, slice_index, get_or-drop, refl}
 use Rattle.std.proofs.Common.{sym, ap, ◌∙◌, arith, inl, inr}
 use Rattle.std.proofs.Math.Nat.{mod-lt, mod-eq_of_lt, mod-add-mod, add-mod_right, div-add-mod, div-eq_of_lt}
 use Rattle.std.proofs.lemmas.Nat.{div-mul-add, mod-mul-add}
@@ -7,6 +7,7 @@ use Rattle.std.proofs.lemmas.Bool.{le-leb, lt-leb, cases_lt, cases_eq, eq-eqb, n
 use Rattle.ring_ends.specs.Counted.{turn_bit, counted, distance, IsEnd, next_end, bit_from}
 use Rattle.xhci_trb.specs.Words.{words_in}
 use Rattle.xhci_trb.specs.Reader.{cycle_in}
+use Rattle.ring_ends.specs.Held.{chain_in}
 use Rattle.ring_ends.specs.TurnLaws.{wraps_once, place_ahead, place_behind}
 use Rattle.ring_ends.specs.declared.End.{End}
 
@@ -102,6 +103,13 @@ pub cycle_in-byte : (bytes : List ℕ) → cycle_in (words_in bytes) ≡ (slice_
 unfolding words_in
 cycle_in-byte bytes =
     let low : (words_in bytes).control % 2 ≡ slice_index bytes 12 % 2 = omega (arith, get_or-drop 12 bytes 0 0) in
+    ap (λ (x : ℕ). x == 1) low
+
+-- the Chain bit by byte 12
+pub chain_in-byte : (bytes : List ℕ) → chain_in (words_in bytes) ≡ (slice_index bytes 12 / 16 % 2 == 1)
+unfolding words_in
+chain_in-byte bytes =
+    let low : (words_in bytes).control / 2 ^ 4 % 2 ≡ slice_index bytes 12 / 16 % 2 = omega (arith, get_or-drop 12 bytes 0 0) in
     ap (λ (x : ℕ). x == 1) low
 
 -- the place that so many steps of one place lead to: before the end of the turn, and past it

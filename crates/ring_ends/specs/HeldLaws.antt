@@ -1,4 +1,4 @@
--- Laws of the TRBs that a segment's places hold: zeros, one more behind them, some of them freed, and a place's Cycle bit.
+-- Laws of the items that a segment's places hold: zeros, one more behind them, some of them freed, and a place's Cycle bit.
 use Rattle.std.proofs.Common.{◌≡◌, ◌≢◌, ℕ, zero, suc, ◌+◌, ◌-◌, ◌*◌, ◌/◌, ◌%◌, ◌<◌, ◌≤◌, ◌⊎◌, ◌==◌, Bool, true, false, not, List, [], ◌∷◌}
 use Rattle.std.proofs.Common.{◌++◌, length, length-append, length-drop, set, get_or, get_or-set_same, get_or-set_other, drop, replicate, Some}
 use Rattle.std.proofs.Common.{Result, Ok, slice_get, slice_index_or, refl, sym, ap, ap₂, ◌∙◌, arith, inl, inr}
@@ -14,7 +14,7 @@ use Rattle.xhci_trb.specs.Text.{text}
 use Rattle.xhci_trb.specs.Reader.{trb_in, cycle_in}
 use Rattle.ring_ends.specs.declared.End.{End}
 use Rattle.ring_ends.specs.Counted.{turn_bit, IsEnd}
-use Rattle.ring_ends.specs.Held.{bytes_at, trbs_from, IsText, Holds}
+use Rattle.ring_ends.specs.Held.{Form, trb_form, bytes_at, items_from, IsText, Holds}
 use Rattle.ring_ends.specs.TurnLaws.{same_item, place_shift, turn_shift}
 use Rattle.ring_ends.specs.EndLaws.{turn_bit-next, cycle_in-byte}
 
@@ -45,25 +45,25 @@ pub not_twice : (b : Bool) → not (not b) ≡ b
 not_twice true = refl
 not_twice false = refl
 
--- places that hold a list of TRBs show it
-pub trbs_from-list : (m : ℕ) (places : List (List ℕ)) (j : ℕ) (put : List Trb)
-    → ((k : ℕ) (trb : Trb) → slice_get put k ≡ Some trb → trb_in (words_in (bytes_at m places (j + k))) ≡ trb)
-    → trbs_from m places j (length put) ≡ put
-unfolding trbs_from
-trbs_from-list m places j [] reads = refl
-trbs_from-list m places j (trb ∷ put) reads =
-    let here : trb_in (words_in (bytes_at m places j)) ≡ trb =
-    ap (λ (x : ℕ). trb_in (words_in (bytes_at m places x))) (omega arith) ∙ reads 0 trb refl in
-    ap₂ ◌∷◌ here (trbs_from-list m places (j + 1) put (λ k next is.
-    ap (λ (x : ℕ). trb_in (words_in (bytes_at m places x))) (omega arith) ∙ reads (suc k) next is))
+-- places that hold a list of items show it
+pub items_from-list : {A : Type 0} (form : Form A) (m : ℕ) (places : List (List ℕ)) (j : ℕ) (put : List A)
+    → ((k : ℕ) (item : A) → slice_get put k ≡ Some item → form.read (bytes_at m places (j + k)) ≡ item)
+    → items_from form m places j (length put) ≡ put
+unfolding items_from
+items_from-list form m places j [] reads = refl
+items_from-list form m places j (item ∷ put) reads =
+    let here : form.read (bytes_at m places j) ≡ item =
+    ap (λ (x : ℕ). form.read (bytes_at m places x)) (omega arith) ∙ reads 0 item refl in
+    ap₂ ◌∷◌ here (items_from-list form m places (j + 1) put (λ k next is.
+    ap (λ (x : ℕ). form.read (bytes_at m places x)) (omega arith) ∙ reads (suc k) next is))
 
--- what is written for a TRB
-pub IsText-encoded : (trb : Trb) (bytes : List ℕ) (cycle : Bool) → bytes ≡ text trb cycle
-    → trb_in (words_in (text trb cycle)) ≡ trb → cycle_in (words_in (text trb cycle)) ≡ cycle → IsText bytes trb cycle
-IsText-encoded trb bytes cycle written reads bit = record {
+-- what is written for an item
+pub IsText-written : {A : Type 0} (form : Form A) (item : A) (bytes : List ℕ) (cycle : Bool) → bytes ≡ form.look item cycle
+    → form.read (form.look item cycle) ≡ item → cycle_in (words_in (form.look item cycle)) ≡ cycle → IsText form bytes item cycle
+IsText-written form item bytes cycle written reads bit = record {
   bytes_are = written;
-  reads = rw written reads;
-  bit = rw written bit;
+  reads = ap form.read written ∙ reads;
+  bit = ap (λ (b : List ℕ). cycle_in (words_in b)) written ∙ bit;
 }
 
 -- what is read is read once
@@ -74,9 +74,9 @@ same_trb found trb other cycle bit is was =
     ap (λ (read : Trb × Bool). read.0) pair
 
 -- zeros hold nothing
-pub Holds-zeros : (m size : ℕ) → 0 < m → m ≤ size → Holds m (replicate size (replicate 16 0)) 0 []
-Holds-zeros m size some most = record {
-  item = λ k trb is. absurd (none-some trb is);
+pub Holds-zeros : {A : Type 0} (form : Form A) (m size : ℕ) → 0 < m → m ≤ size → Holds form m (replicate size (replicate 16 0)) 0 []
+Holds-zeros form m size some most = record {
+  item = λ k item is. absurd (none-some item is);
   stale = λ k from below.
       let within : (0 + k) % m < m = mod-lt (0 + k) some in
       let zeros : bytes_at m (replicate size (replicate 16 0)) (0 + k) ≡ replicate 16 0 =
@@ -92,18 +92,18 @@ bytes_at-other : (m : ℕ) (places : List (List ℕ)) (bytes : List ℕ) (at j k
 bytes_at-other m places bytes at j k below_j below_k differs =
     get_or-set_other places ((at + j) % m) ((at + k) % m) bytes [] (λ same. differs (same_item m at k j below_k below_j same))
 
--- a TRB that is written at the end behind the others
-pub Holds-put : (m : ℕ) (places : List (List ℕ)) (at : ℕ) (put : List Trb) (trb : Trb) (bytes : List ℕ) (end : End)
-    → m ≤ length places → Holds m places at put → length put < m → IsEnd m (at + length put) end → IsText bytes trb end.cycle
-    → Holds m (set places end.place bytes) at (put ++ trb ∷ [])
-Holds-put m places at put trb bytes end size holds room is is_text =
-    let longer = length-append put (trb ∷ []) in
+-- an item that is written at the end behind the others
+pub Holds-put : {A : Type 0} (form : Form A) (m : ℕ) (places : List (List ℕ)) (at : ℕ) (put : List A) (item : A) (bytes : List ℕ) (end : End)
+    → m ≤ length places → Holds form m places at put → length put < m → IsEnd m (at + length put) end → IsText form bytes item end.cycle
+    → Holds form m (set places end.place bytes) at (put ++ item ∷ [])
+Holds-put form m places at put item bytes end size holds room is is_text =
+    let longer = length-append put (item ∷ []) in
     let count = length put in
     let within : (at + count) % m < m = mod-lt (at + count) (omega arith) in
     let there : bytes_at m (set places ((at + count) % m) bytes) (at + count) ≡ bytes =
     get_or-set_same places ((at + count) % m) bytes [] (omega arith) in
     record {
-      item = λ k next has. rw (is.place) (elim (at_behind put trb k next has) [
+      item = λ k next has. rw (is.place) (elim (at_behind put item k next has) [
         | inl before ↦ rw (bytes_at-other m places bytes at count k (omega arith) (omega arith) (omega arith)) (holds.item k next before.1)
         | inr behind ↦ rw (behind.0, there, ← is.cycle, ← behind.1) is_text
       ]);
@@ -111,10 +111,10 @@ Holds-put m places at put trb bytes end size holds room is is_text =
     }
 
 -- bytes that are written behind the turn's places
-pub Holds-beside : (m : ℕ) (places : List (List ℕ)) (at : ℕ) (put : List Trb) (place : ℕ) (bytes : List ℕ) → 0 < m → m ≤ place
-    → Holds m places at put → Holds m (set places place bytes) at put
-Holds-beside m places at put place bytes some behind holds = record {
-  item = λ k trb is. rw (kept k) (holds.item k trb is);
+pub Holds-beside : {A : Type 0} (form : Form A) (m : ℕ) (places : List (List ℕ)) (at : ℕ) (put : List A) (place : ℕ) (bytes : List ℕ)
+    → 0 < m → m ≤ place → Holds form m places at put → Holds form m (set places place bytes) at put
+Holds-beside form m places at put place bytes some behind holds = record {
+  item = λ k item is. rw (kept k) (holds.item k item is);
   stale = λ k from below. rw (kept k) (holds.stale k from below);
 }
   where
@@ -137,12 +137,12 @@ IsEnd-shift m at d k j i end some from to is = rw to (record {
 })
 
 -- the first d items freed: their places are stale from then on
-pub Holds-freed : (m : ℕ) (places : List (List ℕ)) (at d : ℕ) (put : List Trb) → 0 < m → d ≤ length put → Holds m places at put
-    → Holds m places ((at + d) % (2 * m)) (drop d put)
-Holds-freed m places at d put some within holds =
+pub Holds-freed : {A : Type 0} (form : Form A) (m : ℕ) (places : List (List ℕ)) (at d : ℕ) (put : List A) → 0 < m → d ≤ length put
+    → Holds form m places at put → Holds form m places ((at + d) % (2 * m)) (drop d put)
+Holds-freed form m places at d put some within holds =
     let shorter = length-drop d put in
     record {
-      item = λ k trb is. rw (bytes_at-shift m places at d k, turn_bit-shift m at d k some) (holds.item (d + k) trb (sym (at_rest put d k) ∙ is));
+      item = λ k item is. rw (bytes_at-shift m places at d k, turn_bit-shift m at d k some) (holds.item (d + k) item (sym (at_rest put d k) ∙ is));
       stale = λ k from below. rw (bytes_at-shift m places at d k, turn_bit-shift m at d k some) (elim (cases_lt (d + k) m) [
         | inl inside ↦ holds.stale (d + k) (omega arith) inside
         | inr past ↦
@@ -162,10 +162,10 @@ other_bit : (b : Bool) → beq (not b) b ≡ true → ⊥
 other_bit true e = false≢true e
 other_bit false e = false≢true e
 
-pub Holds-bit : (m : ℕ) (places : List (List ℕ)) (at : ℕ) (put : List Trb) (end : End) (k : ℕ) (bytes : List ℕ) (bit : Bool)
-    → Holds m places at put → k < m → IsEnd m (at + k) end → end.place < length places → bytes ≡ get_or places end.place bytes
+pub Holds-bit : {A : Type 0} (form : Form A) (m : ℕ) (places : List (List ℕ)) (at : ℕ) (put : List A) (end : End) (k : ℕ) (bytes : List ℕ) (bit : Bool)
+    → Holds form m places at put → k < m → IsEnd m (at + k) end → end.place < length places → bytes ≡ get_or places end.place bytes
     → bit ≡ cycle_in (words_in bytes) → (beq bit end.cycle ≡ true → k < length put) × (k < length put → beq bit end.cycle ≡ true)
-Holds-bit m places at put end k bytes bit holds below is within there read =
+Holds-bit form m places at put end k bytes bit holds below is within there read =
     let here = read ∙ ap (λ (x : List ℕ). cycle_in (words_in x)) (get_or_read places end.place bytes within there []) in
     elim (cases_lt k (length put)) [
       | inl used ↦
@@ -177,11 +177,11 @@ Holds-bit m places at put end k bytes bit holds below is within there read =
           (λ e. absurd (other_bit end.cycle (rw other at e)), λ used. absurd (omega arith))
     ]
 
--- an item's place has its text
-pub Holds-text : (m : ℕ) (places : List (List ℕ)) (at : ℕ) (put : List Trb) (end : End) (k : ℕ) (bytes : List ℕ) → Holds m places at put
-    → IsEnd m (at + k) end → k < length put → end.place < length places → bytes ≡ get_or places end.place bytes
-    → (trb : Trb) × (slice_get put k ≡ Some trb) × (bytes ≡ text trb end.cycle)
-Holds-text m places at put end k bytes holds is used within there =
+-- an item's place has its bytes
+pub Holds-item : {A : Type 0} (form : Form A) (m : ℕ) (places : List (List ℕ)) (at : ℕ) (put : List A) (end : End) (k : ℕ) (bytes : List ℕ)
+    → Holds form m places at put → IsEnd m (at + k) end → k < length put → end.place < length places → bytes ≡ get_or places end.place bytes
+    → (item : A) × (slice_get put k ≡ Some item) × IsText form bytes item end.cycle
+Holds-item form m places at put end k bytes holds is used within there =
     let item = item_of put k used in
-    let stands : slice_index_or places end.place [] ≡ text item.0 end.cycle = rw (is.place, is.cycle) ((holds.item k item.0 item.1).bytes_are) in
-    (item.0, item.1, get_or_read places end.place bytes within there [] ∙ stands)
+    let stands : IsText form (slice_index_or places end.place []) item.0 end.cycle = rw (is.place, is.cycle) (holds.item k item.0 item.1) in
+    (item.0, item.1, rw (get_or_read places end.place bytes within there []) stands)

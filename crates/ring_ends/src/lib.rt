@@ -5,8 +5,9 @@
 //! place `j mod m` of turn `j div m`, and its Cycle bit is 1 on even turns: nothing has to count the turns.
 //!
 //! What is promised: each function is its definition (`specs/Counted.antt`), and the laws that both rings of this repository
-//! are proved with stand beside it: of ends and turns (`specs/EndLaws.antt`, `specs/TurnLaws.antt`), and of the TRBs that a segment's
-//! places hold with the Cycle bits of their turns (`specs/Held.antt`, `specs/HeldLaws.antt`). The crate stands on `xhci_trb` for the
+//! are proved with stand beside it: of ends and turns (`specs/EndLaws.antt`, `specs/TurnLaws.antt`), and of the items that a segment's
+//! places hold with the Cycle bits of their turns, where an item is anything that has bytes and is read from them, as a TRB
+//! (`specs/Held.antt`, `specs/HeldLaws.antt`). The crate stands on `xhci_trb` for the
 //! texts of TRBs; `zeros` alone takes memory.
 #![tactic(auto)]
 
@@ -16,6 +17,7 @@ ghost use Rattle.xhci_trb.specs.Text.{HasText, has_chain, text};
 ghost use Rattle.xhci_trb.specs.Words.{words_in};
 ghost use Rattle.xhci_trb.specs.Reader.{cycle_in};
 ghost use Rattle.ring_ends.specs.Counted.{distance, next_end, bit_from};
+ghost use Rattle.ring_ends.specs.Held.{chain_in};
 
 use std::alloc::{AllocError, Global};
 
@@ -122,10 +124,11 @@ pub fn cycle_bit(bytes: &[u8; 16]) -> bool
     bytes[12] % 2 == 1
 }
 
-/// The Chain bit of 16 bytes that are a TRB's text (6.4.1.1, 6.4.4.1): bit 4 of the control word.
+/// The Chain bit of 16 bytes (6.4.1.1, 6.4.4.1): bit 4 of the control word. Of a TRB's text it is the TRB's.
 #[inline(always)]
 pub fn chain_bit(bytes: &[u8; 16]) -> bool
-    ensures { (trb : Trb) (cycle : Bool) → HasText trb → bytes.now ≡ text trb cycle → result ≡ has_chain trb }
+    ensures bit { result ≡ chain_in (words_in bytes.now) }
+    ensures text { (trb : Trb) (cycle : Bool) → HasText trb → bytes.now ≡ text trb cycle → result ≡ has_chain trb }
 {
     bytes[12] / 16 % 2 == 1
 }

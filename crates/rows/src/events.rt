@@ -156,15 +156,6 @@ fn begin(rt: &impl Abort, rig: &mut Rig, pipe: Pipe, tag: u16) -> bool {
     rig.host.retire(&mut rig.lines, &mut rig.doors, pipe, tag)
 }
 
-/// The controller moves a stream's dequeue pointer to the enqueue place, which ends the retirement.
-fn end(rt: &impl Abort, rig: &mut Rig, pipe: Pipe, tag: u16)
-    requires { HasRing pipe tag }
-{
-    let (pointer, cycle) = rig.lines.place(pipe, tag);
-    assert!(rt; rig.lines.move_dequeue(pipe, tag, pointer, cycle).is_ok());
-    complete(rt, rig);
-}
-
 /// Event TRBs with cycle 1, endpoint 9 and slot 7, each with the tag that it matches, or 0 where it is stray: address
 /// 0 and the last one; inside a place, a TRB that isn't consumed, the Link's place, behind the ring; streams 0 and 249,
 /// a stream without a TD; the first TRB of a data TD of two, the enqueue place behind them; Short Packet for data, TRB
@@ -293,27 +284,34 @@ const ORDERS: &[u8] = b"\
     rtcskartsckatcsrkstcrskatscrkstsrckstrcskatrscka\
 ";
 
-/// Retires what is left over, which is of tag 33.
-fn retire_all(rt: &impl Abort, rig: &mut Rig) {
-    for pipe in [Pipe::Status, Pipe::DataIn] {
-        let left = rig.host.next_left_over(pipe, 0);
-        assert!(rt; rig.host.next_left_over(pipe, 33).is_none());
-        assert_eq!(rt; begin(rt, rig, pipe, 33), left == Some(33));
-        if left.is_some() {
-            complete(rt, rig);
-            let (pointer, cycle) = match pipe {
-                Pipe::Status => rig.lines.place(Pipe::Status, 33),
-                _ => rig.lines.place(Pipe::DataIn, 33),
-            };
-            let moved = match pipe {
-                Pipe::Status => rig.lines.move_dequeue(Pipe::Status, 33, pointer, cycle),
-                _ => rig.lines.move_dequeue(Pipe::DataIn, 33, pointer, cycle),
-            };
-            assert!(rt; moved.is_ok());
-            complete(rt, rig);
-            assert!(rt; rig.host.next_left_over(pipe, 0).is_none());
-        }
+/// The controller moves the dequeue pointer of tag 33's stream to the enqueue place, which ends the retirement.
+fn move_on(rt: &impl Abort, rig: &mut Rig, pipe: Pipe)
+    requires { HasRing pipe 33 }
+{
+    let (pointer, cycle) = rig.lines.place(pipe, 33);
+    let moved = rig.lines.move_dequeue(pipe, 33, pointer, cycle);
+    assert!(rt; moved.is_ok());
+}
+
+/// Retires what is left over on a pipe, which is of tag 33: the two commands of the engine are done, and then nothing is left over.
+fn retire_on(rt: &impl Abort, rig: &mut Rig, pipe: Pipe)
+    requires { HasRing pipe 33 }
+{
+    let left = rig.host.next_left_over(pipe, 0);
+    let begun = begin(rt, rig, pipe, 33);
+    assert!(rt; begun == (left == Some(33)));
+    if begun {
+        complete(rt, rig);
+        move_on(rt, rig, pipe);
+        complete(rt, rig);
     }
+    assert!(rt; rig.host.next_left_over(pipe, 0).is_none());
+}
+
+/// Retires what is left over.
+fn retire_all(rt: &impl Abort, rig: &mut Rig) {
+    retire_on(rt, rig, Pipe::Status);
+    retire_on(rt, rig, Pipe::DataIn);
 }
 
 /// What happens at a letter of an order; the status is stray once it is `late`.

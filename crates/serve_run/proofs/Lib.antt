@@ -1,1 +1,6 @@
+mod Answering
+mod Faults
 mod Served
+mod Serving
+mod Talking
+mod Transcripts

@@ -1,1 +1,3 @@
 pub mod Serves
+pub mod Transcript
+pub mod Sessions

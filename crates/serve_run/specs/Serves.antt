@@ -1,5 +1,5 @@
 -- What a request is refused for, and the exit status of a fault.
-use Rattle.std.specs.Prelude.{ℕ, ◌+◌, ◌==◌, nat_lt, ◌||◌, Bool, if◌then◌else◌}
+use Rattle.std.specs.Prelude.{ℕ, ◌+◌, ◌==◌, nat_lt, ◌||◌, Bool, true, false, if◌then◌else◌}
 use Rattle.nbd.specs.declared.transmission.Command.{Command}
 use Rattle.nbd.specs.declared.transmission.Command.TheVariants.{Read, Write, Disconnect, Flush, Other}
 use Rattle.nbd.specs.declared.transmission.ErrorNumber.{ErrorNumber}
@@ -33,6 +33,14 @@ refusal_of_command size request (Other number) = error.Invalid
 -- a flag other than FUA, which is 1, wasn't offered
 abbrev pub refusal_of : ℕ → Request → ErrorNumber
 refusal_of size request = if nat_lt 1 request.flags.0 then error.Invalid else refusal_of_command size request request.command
+
+-- a client leaves by a disconnection, and by no other command
+abbrev pub is_disconnection : Command → Bool
+is_disconnection Read = false
+is_disconnection Write = false
+is_disconnection Disconnect = true
+is_disconnection Flush = false
+is_disconnection (Other number) = false
 
 -- 4 for want of memory, else 3
 abbrev pub status_of : ServeFault → ℕ

@@ -1,6 +1,7 @@
 //! The handshake: the greeting, and the client's options until the transmission begins.
 
-ghost use Rattle.std.specs.Prelude.{◌≡◌, ◌^◌, ◌<◌, length};
+ghost use Rattle.std.specs.Prelude.{◌≡◌, ◌^◌, ◌<◌, length, OnOk};
+ghost use Rattle.serve_run.specs.Sessions.{Hears, Says, Talks};
 
 use crate::fault::ServeFault;
 use crate::link::{drop_rest, read_message, read_rest, send};
@@ -48,7 +49,9 @@ pub(crate) fn shake<S: Source, O: Sink>(
     input: &mut S,
     output: &mut O,
     size: u64,
-) -> Result<bool, ServeFault> {
+) -> Result<bool, ServeFault>
+    ensures { OnOk result (Talks (S.left input.old) (S.left input.new) (O.written output.old) (O.written output.new)) }
+{
     send(output, &greeting(ServerFlags(OFFERED)))?;
     let mut flags = [0; 4];
     if !read_message(input, &mut flags)? {
@@ -78,7 +81,9 @@ fn answer_option<S: Source, O: Sink>(
     output: &mut O,
     export: Export,
     no_zeros: bool,
-) -> Result<Next, ServeFault> {
+) -> Result<Next, ServeFault>
+    ensures { OnOk result (Talks (S.left input.old) (S.left input.new) (O.written output.old) (O.written output.new)) }
+{
     let mut bytes = [0; 16];
     if !read_message(input, &mut bytes)? {
         return Ok(Next::End);
@@ -113,7 +118,9 @@ fn list<S: Source, O: Sink>(
     input: &mut S,
     output: &mut O,
     head: OptionHead,
-) -> Result<Next, ServeFault> {
+) -> Result<Next, ServeFault>
+    ensures { OnOk result (Talks (S.left input.old) (S.left input.new) (O.written output.old) (O.written output.new)) }
+{
     drop_rest(input, head.length)?;
     if head.length != 0 {
         reply(output, head.option, ReplyKind::Invalid, &[])?;
@@ -131,7 +138,9 @@ fn inform<S: Source, O: Sink>(
     output: &mut O,
     head: OptionHead,
     export: Export,
-) -> Result<Next, ServeFault> {
+) -> Result<Next, ServeFault>
+    ensures { OnOk result (Talks (S.left input.old) (S.left input.new) (O.written output.old) (O.written output.new)) }
+{
     if !read_asked(input, head.length)? {
         reply(output, head.option, ReplyKind::Invalid, &[])?;
         return Ok(Next::Option);
@@ -158,7 +167,9 @@ fn inform<S: Source, O: Sink>(
 
 /// Reads the data of INFO and GO, so many bytes: a name's length, the name, a count, and so many numbers of what is asked for. It
 /// tells whether they are just that.
-fn read_asked<S: Source>(input: &mut S, length: u32) -> Result<bool, ServeFault> {
+fn read_asked<S: Source>(input: &mut S, length: u32) -> Result<bool, ServeFault>
+    ensures { OnOk result (Hears (S.left input.old) (S.left input.new)) }
+{
     let Some(behind_name) = length.checked_sub(6) else {
         drop_rest(input, length)?;
         return Ok(false);
@@ -184,6 +195,7 @@ fn reply<O: Sink>(
     bytes: &[u8],
 ) -> Result<(), ServeFault>
     requires { length bytes.now < 2 ^ 32 }
+    ensures { OnOk result (Says (O.written output.old) (O.written output.new)) }
 {
     let head = OptionReply {
         option,

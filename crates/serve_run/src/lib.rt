@@ -1,7 +1,8 @@
 //! The run `serve`: an image as a disk for any client of NBD, over a reader and a writer.
 //!
-//! [`run_serve`] reads an image, greets the client, answers its options, and then its requests in their order, each by a
-//! [`Server`](disk_server::Server) of the image's unit. What is refused, and as what, is specs/Serves.antt.
+//! [`run_serve`] reads an image, greets the client, answers its options, and then its requests in their order ([`transmit`]), each by a
+//! [`Server`](disk_server::Server) of the image's unit. What is refused, and as what, is specs/Serves.antt; what a request is told, and
+//! what all of them make of the server, is specs/Transcript.antt; the bytes that a session reads and writes are specs/Sessions.antt.
 //!
 //! It stands on the messages of `nbd`, on the server of a disk, on images by position, and on readers and writers.
 #![tactic(auto)]
@@ -9,9 +10,10 @@
 mod fault;
 mod handshake;
 mod link;
+mod requests;
 mod serve;
 mod transmission;
 
 pub use fault::ServeFault;
 pub use serve::run_serve;
-pub use transmission::refusal_of;
+pub use transmission::{refusal_of, transmit};

@@ -1,14 +1,15 @@
 //! The run `serve`.
 
-ghost use Rattle.std.specs.Prelude.{◌≡◌, ◌⊎◌, Some, None, Ok, false, IsTrue, IsOk, IsErr, IfOk, IfSome, OnOk, option_to_list};
+ghost use Rattle.std.specs.Prelude.{◌≡◌, ◌⊎◌, Some, None, Ok, IsTrue, IsOk, IsErr, IsSome, IfOk, IfSome, OnOk, option_to_list};
 ghost use Rattle.std.specs.Io.KnownBytes.{Keeps};
 ghost use Rattle.block_unit.specs.BlockMaps.{imaged};
 ghost use Rattle.disk_image.specs.Images.{blocks_in};
 ghost use Rattle.disk_server.specs.Serving.{IsBehind, medium_of};
+ghost use Rattle.serve_run.specs.Sessions.{Finished, Served, begun};
 
 use crate::fault::ServeFault;
 use crate::handshake::shake;
-use crate::transmission::{Room, transmit};
+use crate::transmission::transmit;
 use block_unit::Unit;
 use byte_io::{Sink, Source};
 use disk_image::{blocks_in, read_image};
@@ -38,6 +39,13 @@ pub fn run_serve<R: Source, I: Image, S: Source, O: Sink, W: Write>(
     ensures there { result ≡ 0 → IsTrue (R.is_there file.old) }
     // Of a file that is no image not a byte is written to the client.
     ensures refused { IfSome (R.left file.old) (λ bytes. IsErr (blocks_in bytes) → Keeps (O.written output.old) (O.written output.new)) }
+    // Behind the handshake each request is answered as the server is by then, from the unit of the image on, and the file holds the
+    // medium that the last one left.
+    ensures served { result ≡ 0 → IfSome (R.left file.old) (λ bytes. IfSome image.old (λ held. IfSome image.new (λ kept.
+        Served (I.can_fail held) (imaged bytes (option_to_list bad)) (I.tells held) (I.holds kept)
+        (S.left input.old) (S.left input.new) (O.written output.old) (O.written output.new)))) }
+    ensures open { result ≡ 0 → IsSome image.old }
+    ensures kept { result ≡ 0 → IsSome image.new }
 {
     match serve(alloc, bad, file, image, input, output) {
         Ok(()) => DONE,
@@ -57,6 +65,11 @@ fn serve<R: Source, I: Image, S: Source, O: Sink>(
     ensures image { OnOk result (IfSome (R.left file.old) (λ bytes. IsOk (blocks_in bytes))) }
     ensures there { OnOk result (IsTrue (R.is_there file.old)) }
     ensures refused { IfSome (R.left file.old) (λ bytes. IsErr (blocks_in bytes) → Keeps (O.written output.old) (O.written output.new)) }
+    ensures served { OnOk result (IfSome (R.left file.old) (λ bytes. IfSome image.old (λ held. IfSome image.new (λ kept.
+        Served (I.can_fail held) (imaged bytes (option_to_list bad)) (I.tells held) (I.holds kept)
+        (S.left input.old) (S.left input.new) (O.written output.old) (O.written output.new))))) }
+    ensures open { OnOk result (IsSome image.old) }
+    ensures kept { OnOk result (IsSome image.new) }
 {
     let unit = match read_disk(alloc, bad, file) {
         Ok(unit) => unit,
@@ -77,12 +90,30 @@ fn serve_unit<I: Image, S: Source, O: Sink>(
     output: &mut O,
 ) -> Result<(), ServeFault>
     requires { IsTrue (I.tells image.old) → I.holds image.old ≡ unit.medium }
+    ensures { OnOk result (Served (I.can_fail image.old) unit (I.tells image.old) (I.holds image.new)
+        (S.left input.old) (S.left input.new) (O.written output.old) (O.written output.new)) }
 {
     let mut server = begin(alloc, unit)?;
     if !shake(input, output, server.size())? {
         return Ok(());
     }
-    match transmit_and_flush(alloc, &mut server, image, input, output) {
+    serve_client(alloc, &mut server, image, input, output)
+}
+
+/// Answers a client's requests until it leaves, and flushes.
+fn serve_client<I: Image, S: Source, O: Sink>(
+    alloc: Global,
+    server: &mut Server,
+    image: &mut I,
+    input: &mut S,
+    output: &mut O,
+) -> Result<(), ServeFault>
+    requires { IsBehind (I.tells image.old) (I.holds image.old) server.old }
+    ensures finished { OnOk result (Finished (I.can_fail image.old) server.old server.new
+        (S.left input.old) (S.left input.new) (O.written output.old) (O.written output.new)) }
+    ensures held { OnOk result (IsTrue (I.tells image.old) → I.holds image.new ≡ medium_of server.new.machine) }
+{
+    match transmit_and_flush(alloc, server, image, input, output) {
         Ok(None) => Ok(()),
         Ok(Some(fault)) => Err(fault),
         Err(_) => Err(ServeFault::Run(RunFault::NoMemory)),
@@ -91,8 +122,8 @@ fn serve_unit<I: Image, S: Source, O: Sink>(
 
 /// The server of a unit, whose medium the file has.
 fn begin(alloc: Global, unit: Unit) -> Result<Server, ServeFault>
+    ensures begun { IfOk result (λ server. server ≡ begun unit) }
     ensures saved { IfOk result (λ server. server.saved ≡ unit.medium) }
-    ensures failed { IfOk result (λ server. server.failed ≡ false) }
 {
     match Server::new(alloc, unit) {
         Ok(server) => Ok(server),
@@ -111,8 +142,10 @@ fn transmit_and_flush<I: Image, S: Source, O: Sink>(
     requires { IsBehind (I.tells image.old) (I.holds image.old) server.old }
     ensures held { result ≡ Ok None → IsTrue (I.tells image.old) → I.holds image.new ≡ medium_of server.new.machine }
     ensures told { OnOk result (I.tells image.new ≡ I.tells image.old) }
+    ensures finished { result ≡ Ok None → Finished (I.can_fail image.old) server.old server.new
+        (S.left input.old) (S.left input.new) (O.written output.old) (O.written output.new) }
 {
-    let fault = transmit(server, &mut Room::new(alloc), image, input, output)?;
+    let fault = transmit(alloc, server, image, input, output)?;
     let flushed = server.flush(image)?;
     if flushed != ErrorNumber::None && fault.is_none() {
         return Ok(Some(ServeFault::Run(RunFault::ImageFile)));

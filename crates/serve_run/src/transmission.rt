@@ -1,32 +1,37 @@
 //! The transmission: requests in their order, each answered before the next one is read.
 
-ghost use Rattle.uas_profile.specs.declared.TheConstants.{MAX_BLOCKS};
-ghost use Rattle.std.specs.Prelude.{◌≡◌, ◌+◌, ◌*◌, ◌≤◌, length, OnOk};
+ghost use Rattle.std.specs.Prelude.{◌≡◌, Bool, true, false, Ok, None, IfOk, IfSome, OnOk};
+ghost use Rattle.std.specs.Io.KnownBytes.{Appends, Consumes};
+ghost use Rattle.nbd.specs.Streams.{Gave};
+ghost use Rattle.nbd.specs.Transmission.{reply_text, request_text};
+ghost use Rattle.disk_server.specs.Answers.{is_done};
 ghost use Rattle.disk_server.specs.Serving.{IsBehind};
-ghost use Rattle.serve_run.specs.Serves.{has_bad_length, is_beyond, refusal_of};
+ghost use Rattle.serve_run.specs.Serves.{has_bad_length, is_beyond, is_disconnection, refusal_of};
+ghost use Rattle.serve_run.specs.Sessions.{Answers, Leaves, Transmitted};
+ghost use Rattle.serve_run.specs.Transcript.{brought_bytes, is_served};
 
 use crate::fault::ServeFault;
 use crate::handshake::MOST_BYTES;
-use crate::link::{drop_rest, read_message, read_rest, send};
+use crate::link::{drop_rest, read_message, send};
+use crate::requests::{give, take};
 use byte_io::{Sink, Source};
 use disk_server::Server;
 use image_file::Image;
-use nbd::{Command, ErrorNumber, REPLY_BYTES, REQUEST_BYTES, Reply, Request};
+use nbd::{Command, ErrorNumber, REQUEST_BYTES, Reply, Request, request_writes_back};
 use std::alloc::{AllocError, Global};
-use uas_profile::BLOCK_BYTES;
 
 /// The flag FUA, the one that is offered.
-const FUA: u16 = 1;
+pub(crate) const FUA: u16 = 1;
 
 /// What is kept from one request to the next: room for a write's data, and for a read's reply.
 #[derive(Drop)]
-pub(crate) struct Room {
+struct Room {
     taken: Vec<u8>,
     given: Vec<u8>,
 }
 
 impl Room {
-    pub(crate) fn new(alloc: Global) -> Room {
+    fn new(alloc: Global) -> Room {
         Room {
             taken: Vec::new(alloc),
             given: Vec::new(alloc),
@@ -34,43 +39,64 @@ impl Room {
     }
 }
 
-/// Answers requests until the client leaves, or a fault ends that.
-pub(crate) fn transmit<I: Image, S: Source, O: Sink>(
+/// Reads requests and answers them, each before the next one is read, until the client leaves, or a fault ends that. Where the client
+/// left, its requests and what they brought are what was read, and what was written are the replies, each as the server was by then.
+pub fn transmit<I: Image, S: Source, O: Sink>(
+    alloc: Global,
     server: &mut Server,
-    room: &mut Room,
     image: &mut I,
     input: &mut S,
     output: &mut O,
 ) -> Result<Option<ServeFault>, AllocError>
     requires { IsBehind (I.tells image.old) (I.holds image.old) server.old }
+    ensures answered { result ≡ Ok None → Transmitted (I.can_fail image.old) server.old server.new
+        (S.left input.old) (S.left input.new) (O.written output.old) (O.written output.new) }
     ensures behind { OnOk result (IsBehind (I.tells image.new) (I.holds image.new) server.new) }
     ensures told { OnOk result (I.tells image.new ≡ I.tells image.old) }
+    ensures same { OnOk result (I.can_fail image.new ≡ I.can_fail image.old) }
 {
+    let mut room = Room::new(alloc);
     for turn in 0..u64::MAX {
         let request = match read_request(input) {
             Ok(Some(request)) => request,
             Ok(None) => return Ok(None),
             Err(fault) => return Ok(Some(fault)),
         };
-        let fault = answer(server, room, image, input, output, &request)?;
+        let fault = answer(server, &mut room, image, input, output, &request)?;
         if fault.is_some() {
             return Ok(fault);
         }
     }
-    Ok(None)
+    // so many requests nobody sends
+    Ok(Some(ServeFault::Stream))
 }
 
 /// Reads a request; none where the client leaves.
-fn read_request<S: Source>(input: &mut S) -> Result<Option<Request>, ServeFault> {
+fn read_request<S: Source>(input: &mut S) -> Result<Option<Request>, ServeFault>
+    ensures request { IfOk result (λ found. IfSome found (λ request. Consumes (S.left input.old) (S.left input.new) (request_text request))) }
+    ensures stays { IfOk result (λ found. IfSome found (λ request. is_disconnection request.command ≡ false)) }
+    ensures leaves { result ≡ Ok None → Leaves (S.left input.old) (S.left input.new) }
+{
     let mut bytes = [0; REQUEST_BYTES];
     if !read_message(input, &mut bytes)? {
         return Ok(None);
     }
     let request = Request::from_bytes(&bytes).map_err(|_| ServeFault::Request)?;
-    if request.command == Command::Disconnect {
+    request_writes_back(&bytes);
+    if is_disconnection(request.command) {
         return Ok(None);
     }
     Ok(Some(request))
+}
+
+/// Whether a client leaves by this.
+fn is_disconnection(command: Command) -> bool
+    ensures { result ≡ is_disconnection command }
+{
+    match command {
+        Command::Disconnect => true,
+        Command::Read | Command::Write | Command::Flush | Command::Other(_) => false,
+    }
 }
 
 /// Answers a request that isn't a disconnection.
@@ -82,9 +108,13 @@ fn answer<I: Image, S: Source, O: Sink>(
     output: &mut O,
     request: &Request,
 ) -> Result<Option<ServeFault>, AllocError>
-    requires { IsBehind (I.tells image.old) (I.holds image.old) server.old }
+    requires behind { IsBehind (I.tells image.old) (I.holds image.old) server.old }
+    requires stays { is_disconnection request.now.command ≡ false }
+    ensures answered { result ≡ Ok None → Answers (I.can_fail image.old) request.now server.old server.new
+        (S.left input.old) (S.left input.new) (O.written output.old) (O.written output.new) }
     ensures behind { OnOk result (IsBehind (I.tells image.new) (I.holds image.new) server.new) }
     ensures told { OnOk result (I.tells image.new ≡ I.tells image.old) }
+    ensures same { OnOk result (I.can_fail image.new ≡ I.can_fail image.old) }
 {
     let refusal = refusal_of(server.size(), request);
     if refusal != ErrorNumber::None {
@@ -112,7 +142,11 @@ fn refuse<S: Source, O: Sink>(
     output: &mut O,
     request: &Request,
     refusal: ErrorNumber,
-) -> Option<ServeFault> {
+) -> Option<ServeFault>
+    ensures read { result ≡ None → Gave (S.left input.old) (S.left input.new) (brought_bytes request.now request.now.command) }
+    ensures sent { result ≡ None → Appends (O.written output.old) (O.written output.new)
+        (reply_text (record { error = refusal; cookie = request.now.cookie })) }
+{
     if request.command == Command::Write {
         if let Err(fault) = drop_rest(input, request.length) {
             return Some(fault);
@@ -160,87 +194,8 @@ fn is_beyond(size: u64, request: &Request) -> bool
 }
 
 /// Writes a reply without data.
-fn tell<O: Sink>(output: &mut O, cookie: u64, error: ErrorNumber) -> Option<ServeFault> {
+pub(crate) fn tell<O: Sink>(output: &mut O, cookie: u64, error: ErrorNumber) -> Option<ServeFault>
+    ensures { result ≡ None → Appends (O.written output.old) (O.written output.new) (reply_text (record { error = error; cookie = cookie })) }
+{
     send(output, &Reply { error, cookie }.to_bytes()).err()
-}
-
-/// Serves a READ: the reply's head stands right before the first byte that is asked for.
-fn give<O: Sink>(
-    server: &mut Server,
-    given: &mut Vec<u8>,
-    output: &mut O,
-    request: &Request,
-) -> Result<Option<ServeFault>, AllocError>
-    requires { request.now.offset + request.now.length ≤ 512 * MAX_BLOCKS }
-    ensures saved { OnOk result (server.new.saved ≡ server.old.saved) }
-    ensures failed { OnOk result (server.new.failed ≡ server.old.failed) }
-{
-    let error = read_blocks(server, given, request)?;
-    let skip = (request.offset % BLOCK_BYTES as u64) as usize;
-    let end = skip + REPLY_BYTES + request.length as usize;
-    if error != ErrorNumber::None {
-        return Ok(tell(output, request.cookie, error));
-    }
-    // the blocks that were read have all of it
-    if given.len() < end {
-        return Ok(tell(output, request.cookie, ErrorNumber::Io));
-    }
-    let part = &mut given[skip..end];
-    Ok(send_part(output, part, error, request.cookie))
-}
-
-/// Writes a reply and what stands behind the room for its head.
-fn send_part<O: Sink>(
-    output: &mut O,
-    part: &mut [u8],
-    error: ErrorNumber,
-    cookie: u64,
-) -> Option<ServeFault>
-    requires { 16 ≤ length part.old }
-{
-    part[..REPLY_BYTES].copy_from_slice(&Reply { error, cookie }.to_bytes());
-    send(output, part).err()
-}
-
-/// Reads the blocks that cover what a READ asks for, behind the room for a reply's head.
-fn read_blocks(
-    server: &mut Server,
-    given: &mut Vec<u8>,
-    request: &Request,
-) -> Result<ErrorNumber, AllocError>
-    requires { request.now.offset + request.now.length ≤ 512 * MAX_BLOCKS }
-    ensures saved { OnOk result (server.new.saved ≡ server.old.saved) }
-    ensures failed { OnOk result (server.new.failed ≡ server.old.failed) }
-{
-    given.clear();
-    given.extend_from_slice(&[0; REPLY_BYTES])?;
-    let error = server.read(request.offset, request.length, given)?;
-    Ok(error)
-}
-
-/// Reads the data of a WRITE, all of it before anything is written, and serves it.
-fn take<I: Image, S: Source, O: Sink>(
-    server: &mut Server,
-    taken: &mut Vec<u8>,
-    image: &mut I,
-    input: &mut S,
-    output: &mut O,
-    request: &Request,
-) -> Result<Option<ServeFault>, AllocError>
-    requires fits { request.now.offset + request.now.length ≤ 512 * MAX_BLOCKS }
-    requires behind { IsBehind (I.tells image.old) (I.holds image.old) server.old }
-    ensures behind { OnOk result (IsBehind (I.tells image.new) (I.holds image.new) server.new) }
-    ensures told { OnOk result (I.tells image.new ≡ I.tells image.old) }
-{
-    let count = request.length as usize;
-    if taken.len() < count {
-        taken.resize(count, 0)?;
-    }
-    let data = &mut taken[..count];
-    if let Err(fault) = read_rest(input, data) {
-        return Ok(Some(fault));
-    }
-    let fua = request.flags.0 == FUA;
-    let error = server.write(request.offset, data, fua, image)?;
-    Ok(tell(output, request.cookie, error))
 }

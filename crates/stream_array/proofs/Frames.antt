@@ -2,7 +2,8 @@
 use Rattle.std.proofs.Common.{◌≡◌, ◌≢◌, ℕ, ◌-◌, ◌<◌, ◌≤◌, List, length, slice_set, length-set, get_or-set_same, get_or-set_other, refl}
 use Rattle.std.proofs.Common.{sym, ap, ◌∙◌, arith, inl, inr}
 use Rattle.std.proofs.lemmas.Bool.{cases_eq, cases_lt}
-use Rattle.cycle_ring.specs.Ring.{Ring, opening}
+use Rattle.cycle_ring.specs.Ring.{opening}
+use Rattle.cycle_ring.specs.Items.{ItemRing}
 use Rattle.event_ring.specs.Events.{Events}
 use Rattle.uas_profile.specs.declared.Pipe.{Pipe}
 use Rattle.uas_profile.specs.declared.Pipe.TheVariants.{Command, Status, DataIn, DataOut}
@@ -20,7 +21,7 @@ ring_of_with_ring l DataIn stream r lines has = get_or-set_same l.data_in (strea
 ring_of_with_ring l DataOut stream r lines has = get_or-set_same l.data_out (stream - 1) r (opening 0) (omega (arith, lines.data_out))
 
 -- another ring of the same pipe
-stream_ring-other : (rings : List Ring) (stream another : ℕ) (r : Ring) → 0 < stream → 0 < another → stream ≢ another
+stream_ring-other : (rings : List ItemRing) (stream another : ℕ) (r : ItemRing) → 0 < stream → 0 < another → stream ≢ another
     → stream_ring (slice_set rings (stream - 1) r) another ≡ stream_ring rings another
 stream_ring-other rings stream another r some also differ =
     get_or-set_other rings (stream - 1) (another - 1) r (opening 0) (λ same. differ (omega arith))
@@ -34,7 +35,7 @@ ring_of-others l DataOut DataOut stream another r has also apart = stream_ring-o
 ring_of-others l pipe other stream another r has also apart = refl
 
 -- contexts of the same rings, and of rings of which one was changed
-entry_of-shown : (rings : List Ring) (old new : Contexts) (stream another : ℕ) (r : Ring) → 0 < stream → stream ≢ another
+entry_of-shown : (rings : List ItemRing) (old new : Contexts) (stream another : ℕ) (r : ItemRing) → 0 < stream → stream ≢ another
     → IsShown rings old → IsShown (slice_set rings (stream - 1) r) new → entry_of new another ≡ entry_of old another
 entry_of-shown rings old new stream another r some differ before after =
     elim (cases_eq another 0) as (λ _. entry_of new another ≡ entry_of old another) [
@@ -47,7 +48,7 @@ entry_of-shown rings old new stream another r some differ before after =
       ]
     ]
 
-entry_of-same : (rings : List Ring) (old new : Contexts) (another : ℕ) → IsShown rings old → IsShown rings new
+entry_of-same : (rings : List ItemRing) (old new : Contexts) (another : ℕ) → IsShown rings old → IsShown rings new
     → entry_of new another ≡ entry_of old another
 entry_of-same rings old new another before after =
     elim (cases_eq another 0) as (λ _. entry_of new another ≡ entry_of old another) [
@@ -79,7 +80,7 @@ entry_of-others l DataOut DataOut stream another r old new has before after apar
 -- WHERE THE RINGS LIE
 
 -- a pipe's rings with one changed
-stream_ring-base : (rings : List Ring) (stream another base : ℕ) (r : Ring) → 0 < stream → stream ≤ length rings → 0 < another
+stream_ring-base : (rings : List ItemRing) (stream another base : ℕ) (r : ItemRing) → 0 < stream → stream ≤ length rings → 0 < another
     → (stream ≡ another → r.base ≡ base) → (stream_ring rings another).base ≡ base
     → (stream_ring (slice_set rings (stream - 1) r) another).base ≡ base
 stream_ring-base rings stream another base r some last also changed kept =
@@ -88,7 +89,7 @@ stream_ring-base rings stream another base r some last also changed kept =
       | inr differ ↦ rw (stream_ring-other rings stream another r some also differ) kept
     ]
 
-base_kept : (l : LinesState) (pipe other : Pipe) (stream another : ℕ) (r : Ring) → IsLines l → HasRing pipe stream → HasRing other another
+base_kept : (l : LinesState) (pipe other : Pipe) (stream another : ℕ) (r : ItemRing) → IsLines l → HasRing pipe stream → HasRing other another
     → r.base ≡ ring_base pipe stream → (ring_of (with_ring l pipe stream r) other another).base ≡ ring_base other another
 base_kept l Command Command stream another r lines has also e = omega arith
 base_kept l Status Status stream another r lines has also e =
@@ -100,7 +101,7 @@ base_kept l DataOut DataOut stream another r lines has also e =
 base_kept l pipe other stream another r lines has also e = lines.base other another also
 
 -- as many rings as before, and the controller's command ring as it was
-sizes_kept : (l : LinesState) (pipe : Pipe) (stream : ℕ) (r : Ring) → (length (with_ring l pipe stream r).status ≡ length l.status)
+sizes_kept : (l : LinesState) (pipe : Pipe) (stream : ℕ) (r : ItemRing) → (length (with_ring l pipe stream r).status ≡ length l.status)
     × (length (with_ring l pipe stream r).data_in ≡ length l.data_in) × (length (with_ring l pipe stream r).data_out ≡ length l.data_out)
     × ((with_ring l pipe stream r).engine ≡ l.engine)
 sizes_kept l Command stream r = (refl, refl, refl, refl)
@@ -116,19 +117,19 @@ IsLines-with_ring l pipe stream r lines has e =
       data_in = sizes.1 ∙ lines.data_in;
       data_out = sizes.2 ∙ lines.data_out;
       base = λ other another also. base_kept l pipe other stream another r lines has also e;
-      engine = ap (λ (engine : Ring). engine.base) sizes.3 ∙ lines.engine;
+      engine = ap (λ (engine : ItemRing). engine.base) sizes.3 ∙ lines.engine;
     }
 
 -- the same rings on the four pipes
 rings_by_pipe : (new old : LinesState) (pipe : Pipe) (stream : ℕ) → new.command ≡ old.command → new.status ≡ old.status → new.data_in ≡ old.data_in
     → new.data_out ≡ old.data_out → ring_of new pipe stream ≡ ring_of old pipe stream
 rings_by_pipe new old Command stream command status data_in data_out = command
-rings_by_pipe new old Status stream command status data_in data_out = ap (λ (rings : List Ring). stream_ring rings stream) status
-rings_by_pipe new old DataIn stream command status data_in data_out = ap (λ (rings : List Ring). stream_ring rings stream) data_in
-rings_by_pipe new old DataOut stream command status data_in data_out = ap (λ (rings : List Ring). stream_ring rings stream) data_out
+rings_by_pipe new old Status stream command status data_in data_out = ap (λ (rings : List ItemRing). stream_ring rings stream) status
+rings_by_pipe new old DataIn stream command status data_in data_out = ap (λ (rings : List ItemRing). stream_ring rings stream) data_in
+rings_by_pipe new old DataOut stream command status data_in data_out = ap (λ (rings : List ItemRing). stream_ring rings stream) data_out
 
 -- the controller's command ring and the event ring beside them
-ring_of-with_engine : (l : LinesState) (r : Ring) (pipe : Pipe) (stream : ℕ) → ring_of (with_engine l r) pipe stream ≡ ring_of l pipe stream
+ring_of-with_engine : (l : LinesState) (r : ItemRing) (pipe : Pipe) (stream : ℕ) → ring_of (with_engine l r) pipe stream ≡ ring_of l pipe stream
 ring_of-with_engine l r pipe stream = rings_by_pipe (with_engine l r) l pipe stream refl refl refl refl
 
 pub with_engine-kept : EngineLeavesRings

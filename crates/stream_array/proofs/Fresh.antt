@@ -2,7 +2,8 @@
 use Rattle.std.proofs.Common.{◌≡◌, ℕ, ◌+◌, ◌-◌, ◌*◌, ◌/◌, ◌%◌, ◌<◌, ◌≤◌, true, List, length, get_or, Some, None, refl, subst, ap, ap₂, ◌∙◌, arith, inl, inr}
 use Rattle.std.proofs.Math.ListN.{get_or-eq_default}
 use Rattle.std.proofs.lemmas.Bool.{cases_lt, le-leb, lt-leb, lt-ltb}
-use Rattle.cycle_ring.specs.Ring.{Ring, item_in, opening}
+use Rattle.cycle_ring.specs.Ring.{item_in, opening}
+use Rattle.cycle_ring.specs.Items.{ItemRing}
 use Rattle.cycle_ring.specs.Segment.{IsConsumer}
 use Rattle.uas_profile.specs.declared.Pipe.{Pipe}
 use Rattle.uas_profile.specs.declared.Pipe.TheVariants.{Command, Status, DataIn, DataOut}
@@ -48,13 +49,13 @@ ring_in-opening base =
     ap (λ (place : ℕ). record (opening base) { got = item_in (STREAM_RING_PLACES - 1) (0 % (STREAM_RING_PLACES - 1)) place }) first
 
 -- the segments of a pipe's new rings
-pub record AreOpening (pipe : Pipe) (segments : List Ring) : Type 0 where
+pub record AreOpening (pipe : Pipe) (segments : List ItemRing) : Type 0 where
   pub count : length segments ≡ STREAMS
   pub segment : (k : ℕ) → k < STREAMS → get_or segments k (opening 0) ≡ opening (ring_base pipe (k + 1))
   pub consumer : (k : ℕ) → k < STREAMS
       → IsConsumer STREAM_RING_PLACES (opening (ring_base pipe (k + 1))) (record { place = 0; cycle = true })
 
-at_stream : (pipe : Pipe) (segments : List Ring) (contexts : Contexts) (stream : ℕ) → HasStreams pipe → AreOpening pipe segments
+at_stream : (pipe : Pipe) (segments : List ItemRing) (contexts : Contexts) (stream : ℕ) → HasStreams pipe → AreOpening pipe segments
     → IsOpening pipe STREAM_ENTRIES contexts → 0 < stream → stream ≤ STREAMS
     → (stream_ring segments stream ≡ opening (ring_base pipe stream)) × (entry_of contexts stream ≡ Some (record { pointer = ring_base pipe stream; cycle = true }))
     × IsConsumer STREAM_RING_PLACES (opening (ring_base pipe stream)) (record { place = 0; cycle = true })
@@ -67,7 +68,7 @@ at_stream pipe segments contexts stream has segs array some last =
       subst Consumer back (segs.consumer (stream - 1) (omega arith)),
     )
 
-pub AreStreams-opening : (pipe : Pipe) (segments : List Ring) (contexts : Contexts) → HasStreams pipe → AreOpening pipe segments
+pub AreStreams-opening : (pipe : Pipe) (segments : List ItemRing) (contexts : Contexts) → HasStreams pipe → AreOpening pipe segments
     → IsOpening pipe STREAM_ENTRIES contexts → AreStreams segments contexts
 AreStreams-opening pipe segments contexts has segs array = record {
   count = segs.count;
@@ -82,7 +83,7 @@ AreStreams-opening pipe segments contexts has segs array = record {
   ];
 }
 
-pub stream_ring-opening : (pipe : Pipe) (segments : List Ring) (contexts : Contexts) (stream : ℕ) → HasStreams pipe → AreOpening pipe segments
+pub stream_ring-opening : (pipe : Pipe) (segments : List ItemRing) (contexts : Contexts) (stream : ℕ) → HasStreams pipe → AreOpening pipe segments
     → IsOpening pipe STREAM_ENTRIES contexts → 0 < stream → stream ≤ STREAMS
     → stream_ring (rings_of segments contexts) stream ≡ opening (ring_base pipe stream)
 stream_ring-opening pipe segments contexts stream has segs array some last =

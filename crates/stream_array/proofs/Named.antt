@@ -3,9 +3,9 @@ use Rattle.std.proofs.Common.{◌≡◌, ◌≢◌, ℕ, Bool, zero, suc, ◌+�
 use Rattle.std.proofs.Common.{get_or-set_other, slice_set, Option, Some, None, Result, Ok, Err, OnOk, OnErr, refl, subst, sym, ap, ◌∙◌, arith, inl, inr}
 use Rattle.std.proofs.lemmas.Bool.{cases_eq}
 use Rattle.std.proofs.lemmas.List.{ext_get_or, get_or_read, set-get_or}
-use Rattle.xhci_trb.specs.declared.Trb.{Trb}
 use Rattle.ring_ends.specs.declared.End.{End}
-use Rattle.cycle_ring.specs.Ring.{Ring, IsRing, IsConsumed, opening}
+use Rattle.cycle_ring.specs.Ring.{IsConsumed, opening}
+use Rattle.cycle_ring.specs.Items.{Item, ItemRing, IsItemRing}
 use Rattle.cycle_ring.specs.Segment.{IsConsumer, IsItem, with_consumer}
 use Rattle.uas_profile.specs.declared.TheConstants.{STREAMS, STREAM_RING_PLACES}
 use Rattle.stream_array.specs.declared.Dequeue.{Dequeue}
@@ -15,12 +15,12 @@ use Rattle.stream_array.specs.Consumers.{AreStreams, NamesEnd, dequeue_at, end_i
 
 -- ONE RING
 
-pub length-rings_from : (stream : ℕ) (segments : List Ring) (contexts : Contexts) → length (rings_from stream segments contexts) ≡ length segments
+pub length-rings_from : (stream : ℕ) (segments : List ItemRing) (contexts : Contexts) → length (rings_from stream segments contexts) ≡ length segments
 unfolding rings_from
 length-rings_from stream [] contexts = refl
 length-rings_from stream (segment ∷ others) contexts = ap suc (length-rings_from (stream + 1) others contexts)
 
-get_or-rings_from : (stream : ℕ) (segments : List Ring) (contexts : Contexts) (k : ℕ) → k < length segments
+get_or-rings_from : (stream : ℕ) (segments : List ItemRing) (contexts : Contexts) (k : ℕ) → k < length segments
     → get_or (rings_from stream segments contexts) k (opening 0) ≡ ring_in (get_or segments k (opening 0)) (entry_of contexts (stream + k))
 unfolding rings_from
 get_or-rings_from stream [] contexts k within = absurd (omega arith)
@@ -29,7 +29,7 @@ get_or-rings_from stream (segment ∷ others) contexts (suc k) within =
     get_or-rings_from (stream + 1) others contexts k (omega arith)
     ∙ ap (λ (s : ℕ). ring_in (get_or others k (opening 0)) (entry_of contexts s)) (omega arith)
 
-pub stream_ring-rings_of : (segments : List Ring) (contexts : Contexts) (stream : ℕ) → length segments ≡ STREAMS → 0 < stream → stream ≤ STREAMS
+pub stream_ring-rings_of : (segments : List ItemRing) (contexts : Contexts) (stream : ℕ) → length segments ≡ STREAMS → 0 < stream → stream ≤ STREAMS
     → stream_ring (rings_of segments contexts) stream ≡ ring_in (stream_ring segments stream) (entry_of contexts stream)
 stream_ring-rings_of segments contexts stream count some last =
     let same : 1 + (stream - 1) ≡ stream = omega arith in
@@ -43,30 +43,30 @@ same_dequeue : (base place there : ℕ) (cycle state : Bool) → place ≡ there
 same_dequeue base place there cycle state p q = rw (p, q) refl
 
 -- a context that names an end shows the consumer's end of the ring
-consumer_end-ring_in : (segment : Ring) (entry : Option Dequeue) → NamesEnd segment entry → entry ≡ Some (consumer_end (ring_in segment entry))
+consumer_end-ring_in : (segment : ItemRing) (entry : Option Dequeue) → NamesEnd segment entry → entry ≡ Some (consumer_end (ring_in segment entry))
 consumer_end-ring_in segment entry named =
     let stands = named.consumer.stands in
     named.written ∙ same_dequeue segment.base _ _ _ _ stands.place stands.cycle
 
-pub IsShown-streams : (segments : List Ring) (contexts : Contexts) → AreStreams segments contexts → IsShown (rings_of segments contexts) contexts
+pub IsShown-streams : (segments : List ItemRing) (contexts : Contexts) → AreStreams segments contexts → IsShown (rings_of segments contexts) contexts
 IsShown-streams segments contexts streams = record {
   rings = length-rings_from 1 segments contexts ∙ streams.count;
   entries = streams.entries;
   reserved = streams.reserved;
   ring = λ stream some last.
       consumer_end-ring_in (stream_ring segments stream) (entry_of contexts stream) (streams.named stream some last)
-      ∙ ap (λ (r : Ring). Some (consumer_end r)) (sym (stream_ring-rings_of segments contexts stream streams.count some last));
+      ∙ ap (λ (r : ItemRing). Some (consumer_end r)) (sym (stream_ring-rings_of segments contexts stream streams.count some last));
   none = streams.none;
 }
 
 -- A CHANGE OF ONE SEGMENT AND ITS CONTEXT
 
-stream_ring-set : (segments : List Ring) (stream other : ℕ) (segment : Ring) → 0 < stream → 0 < other → other ≢ stream
+stream_ring-set : (segments : List ItemRing) (stream other : ℕ) (segment : ItemRing) → 0 < stream → 0 < other → other ≢ stream
     → stream_ring (set segments (stream - 1) segment) other ≡ stream_ring segments other
 stream_ring-set segments stream other segment some also differs =
     get_or-set_other segments (stream - 1) (other - 1) segment (opening 0) (λ same. differs (omega arith))
 
-AreStreams-set : (segments : List Ring) (contexts : Contexts) (stream : ℕ) (segment : Ring) (entry : Option Dequeue) → AreStreams segments contexts
+AreStreams-set : (segments : List ItemRing) (contexts : Contexts) (stream : ℕ) (segment : ItemRing) (entry : Option Dequeue) → AreStreams segments contexts
     → 0 < stream → stream ≤ STREAMS → NamesEnd segment entry
     → AreStreams (set segments (stream - 1) segment) (set contexts stream entry)
 AreStreams-set segments contexts stream segment entry streams some last named = record {
@@ -85,7 +85,7 @@ AreStreams-set segments contexts stream segment entry streams some last named = 
   none = λ other past. get_or-set_other contexts stream other entry None (λ same. absurd (omega arith)) ∙ streams.none other past;
 }
 
-rings_of-set : (segments : List Ring) (contexts : Contexts) (stream : ℕ) (segment : Ring) (entry : Option Dequeue) → AreStreams segments contexts
+rings_of-set : (segments : List ItemRing) (contexts : Contexts) (stream : ℕ) (segment : ItemRing) (entry : Option Dequeue) → AreStreams segments contexts
     → 0 < stream → stream ≤ STREAMS
     → rings_of (set segments (stream - 1) segment) (set contexts stream entry) ≡ slice_set (rings_of segments contexts) (stream - 1) (ring_in segment entry)
 rings_of-set segments contexts stream segment entry streams some last =
@@ -117,7 +117,7 @@ rings_of-set segments contexts stream segment entry streams some last =
         ap (entry_of (set contexts stream entry)) same ∙ get_or-set_same contexts stream entry None (omega (arith, streams.entries))
 
 -- the segment alone
-pub AreStreams-segment : (segments : List Ring) (contexts : Contexts) (stream : ℕ) (segment : Ring) → AreStreams segments contexts
+pub AreStreams-segment : (segments : List ItemRing) (contexts : Contexts) (stream : ℕ) (segment : ItemRing) → AreStreams segments contexts
     → 0 < stream → stream ≤ STREAMS → NamesEnd segment (entry_of contexts stream)
     → AreStreams (set segments (stream - 1) segment) contexts
     × (rings_of (set segments (stream - 1) segment) contexts ≡ slice_set (rings_of segments contexts) (stream - 1) (ring_in segment (entry_of contexts stream)))
@@ -133,7 +133,7 @@ end_in-dequeue_at base end =
     let place : (base + 16 * end.place - base) / 16 ≡ end.place = omega arith in
     ap (λ (p : ℕ). record { place = p; cycle = end.cycle }) place
 
-pub NamesEnd-dequeue_at : (segment : Ring) (end : End) → IsConsumer STREAM_RING_PLACES segment end → NamesEnd segment (Some (dequeue_at segment.base end))
+pub NamesEnd-dequeue_at : (segment : ItemRing) (end : End) → IsConsumer STREAM_RING_PLACES segment end → NamesEnd segment (Some (dequeue_at segment.base end))
 NamesEnd-dequeue_at segment end consumer =
     let same = end_in-dequeue_at segment.base end in
     record {
@@ -141,7 +141,7 @@ NamesEnd-dequeue_at segment end consumer =
       consumer = let Is : End → Type 0 = λ e. IsConsumer STREAM_RING_PLACES segment e in subst Is (sym same) consumer;
     }
 
-pub AreStreams-moved : (segments : List Ring) (contexts : Contexts) (stream : ℕ) (segment : Ring) (end : End) → AreStreams segments contexts
+pub AreStreams-moved : (segments : List ItemRing) (contexts : Contexts) (stream : ℕ) (segment : ItemRing) (end : End) → AreStreams segments contexts
     → 0 < stream → stream ≤ STREAMS → segment ≡ stream_ring segments stream → IsConsumer STREAM_RING_PLACES segment end
     → AreStreams segments (slice_set contexts stream (Some (dequeue_at segment.base end)))
     × (rings_of segments (slice_set contexts stream (Some (dequeue_at segment.base end)))
@@ -160,14 +160,14 @@ AreStreams-moved segments contexts stream segment end streams some last is consu
 -- A CALL ON ONE STREAM'S RING
 
 -- a pipe's segments and contexts, the rings that they are, and the segment of a stream
-pub record AtStream (segments : List Ring) (contexts : Contexts) (rings : List Ring) (stream : ℕ) (segment : Ring) : Type 0 where
+pub record AtStream (segments : List ItemRing) (contexts : Contexts) (rings : List ItemRing) (stream : ℕ) (segment : ItemRing) : Type 0 where
   pub streams : AreStreams segments contexts
   pub view : rings_of segments contexts ≡ rings
   pub some : 0 < stream
   pub last : stream ≤ STREAMS
   pub there : segment ≡ stream_ring segments stream
 
-pub AtStream-read : (segments : List Ring) (contexts : Contexts) (rings : List Ring) (stream : ℕ) (segment : Ring) → AreStreams segments contexts
+pub AtStream-read : (segments : List ItemRing) (contexts : Contexts) (rings : List ItemRing) (stream : ℕ) (segment : ItemRing) → AreStreams segments contexts
     → rings_of segments contexts ≡ rings → 0 < stream → stream ≤ STREAMS → segment ≡ get_or segments (stream - 1) segment
     → AtStream segments contexts rings stream segment
 AtStream-read segments contexts rings stream segment streams view some last read = record {
@@ -179,50 +179,50 @@ AtStream-read segments contexts rings stream segment streams view some last read
 }
 
 -- its ring, and the end that its context names
-pub ring-at : (segments : List Ring) (contexts : Contexts) (rings : List Ring) (stream : ℕ) (segment : Ring)
+pub ring-at : (segments : List ItemRing) (contexts : Contexts) (rings : List ItemRing) (stream : ℕ) (segment : ItemRing)
     → AtStream segments contexts rings stream segment → stream_ring rings stream ≡ ring_in segment (entry_of contexts stream)
 ring-at segments contexts rings stream segment at =
-    ap (λ (all : List Ring). stream_ring all stream) (sym at.view)
+    ap (λ (all : List ItemRing). stream_ring all stream) (sym at.view)
     ∙ stream_ring-rings_of segments contexts stream at.streams.count at.some at.last
-    ∙ ap (λ (s : Ring). ring_in s (entry_of contexts stream)) (sym at.there)
+    ∙ ap (λ (s : ItemRing). ring_in s (entry_of contexts stream)) (sym at.there)
 
-pub ring-end : (segments : List Ring) (contexts : Contexts) (rings : List Ring) (stream : ℕ) (segment : Ring)
+pub ring-end : (segments : List ItemRing) (contexts : Contexts) (rings : List ItemRing) (stream : ℕ) (segment : ItemRing)
     → AtStream segments contexts rings stream segment → (end : End) → end ≡ end_in segment.base (entry_of contexts stream)
     → stream_ring rings stream ≡ with_consumer STREAM_RING_PLACES segment end
 ring-end segments contexts rings stream segment at end is =
     ring-at segments contexts rings stream segment at ∙ ap (λ (e : End). with_consumer STREAM_RING_PLACES segment e) (sym is)
 
-pub named-at : (segments : List Ring) (contexts : Contexts) (rings : List Ring) (stream : ℕ) (segment : Ring)
+pub named-at : (segments : List ItemRing) (contexts : Contexts) (rings : List ItemRing) (stream : ℕ) (segment : ItemRing)
     → AtStream segments contexts rings stream segment → NamesEnd segment (entry_of contexts stream)
 named-at segments contexts rings stream segment at =
-    let Named : Ring → Type 0 = λ s. NamesEnd s (entry_of contexts stream) in
+    let Named : ItemRing → Type 0 = λ s. NamesEnd s (entry_of contexts stream) in
     subst Named (sym at.there) (at.streams.named stream at.some at.last)
 
-pub standing-at : (segments : List Ring) (contexts : Contexts) (rings : List Ring) (stream : ℕ) (segment : Ring)
-    → AtStream segments contexts rings stream segment → IsRing STREAM_RING_PLACES (stream_ring rings stream)
+pub standing-at : (segments : List ItemRing) (contexts : Contexts) (rings : List ItemRing) (stream : ℕ) (segment : ItemRing)
+    → AtStream segments contexts rings stream segment → IsItemRing STREAM_RING_PLACES (stream_ring rings stream)
 standing-at segments contexts rings stream segment at =
-    let Stands : Ring → Type 0 = λ r. IsRing STREAM_RING_PLACES r in
+    let Stands : ItemRing → Type 0 = λ r. IsItemRing STREAM_RING_PLACES r in
     subst Stands (sym (ring-at segments contexts rings stream segment at)) (named-at segments contexts rings stream segment at).consumer.ring
 
 -- a consumed TRB of its ring is one of its segment
-pub item-at : (segments : List Ring) (contexts : Contexts) (rings : List Ring) (stream : ℕ) (segment : Ring) (k pointer : ℕ)
+pub item-at : (segments : List ItemRing) (contexts : Contexts) (rings : List ItemRing) (stream : ℕ) (segment : ItemRing) (k pointer : ℕ)
     → AtStream segments contexts rings stream segment → IsConsumed STREAM_RING_PLACES (stream_ring rings stream) k pointer
     → IsConsumed STREAM_RING_PLACES (ring_in segment (entry_of contexts stream)) k pointer × IsItem STREAM_RING_PLACES segment k pointer
 item-at segments contexts rings stream segment k pointer at consumed =
-    let Consumed : Ring → Type 0 = λ r. IsConsumed STREAM_RING_PLACES r k pointer in
+    let Consumed : ItemRing → Type 0 = λ r. IsConsumed STREAM_RING_PLACES r k pointer in
     let here = subst Consumed (ring-at segments contexts rings stream segment at) consumed in
     let within = (named-at segments contexts rings stream segment at).consumer.ring.consumed in
     (here, (omega (arith, here.0), here.1))
 
 -- another segment at the same address whose consumer's end the context still names
-NamesEnd-with : (old new : Ring) (entry : Option Dequeue) → new.base ≡ old.base → IsConsumer STREAM_RING_PLACES new (end_in old.base entry)
+NamesEnd-with : (old new : ItemRing) (entry : Option Dequeue) → new.base ≡ old.base → IsConsumer STREAM_RING_PLACES new (end_in old.base entry)
     → NamesEnd old entry → NamesEnd new entry
 NamesEnd-with old new entry base consumer named =
     let Written : ℕ → Type 0 = λ b. entry ≡ Some (dequeue_at b (end_in b entry)) in
     let Consumer : ℕ → Type 0 = λ b. IsConsumer STREAM_RING_PLACES new (end_in b entry) in
     record { written = subst Written (sym base) named.written; consumer = subst Consumer (sym base) consumer }
 
-pub AreStreams-with : (segments : List Ring) (contexts : Contexts) (rings : List Ring) (stream : ℕ) (segment new : Ring)
+pub AreStreams-with : (segments : List ItemRing) (contexts : Contexts) (rings : List ItemRing) (stream : ℕ) (segment new : ItemRing)
     → AtStream segments contexts rings stream segment → new.base ≡ segment.base
     → IsConsumer STREAM_RING_PLACES new (end_in segment.base (entry_of contexts stream))
     → AreStreams (set segments (stream - 1) new) contexts
@@ -234,31 +234,31 @@ AreStreams-with segments contexts rings stream segment new at base consumer =
     let both = AreStreams-segment segments contexts stream new at.streams at.some at.last named in (
       both.0,
       both.1
-          ∙ ap (λ (all : List Ring). slice_set all (stream - 1) (ring_in new entry)) at.view
+          ∙ ap (λ (all : List ItemRing). slice_set all (stream - 1) (ring_in new entry)) at.view
           ∙ ap (λ (b : ℕ). slice_set rings (stream - 1) (with_consumer STREAM_RING_PLACES new (end_in b entry))) base,
     )
 
--- a TD that is put
-pub base-pushed : {T E : Type 0} (old new : Ring) (put : List Trb) (result : Result T E) → OnOk result (new ≡ record old { put = put })
+-- items that are put
+pub base-pushed : {T E : Type 0} (old new : ItemRing) (put : List Item) (result : Result T E) → OnOk result (new ≡ record old { put = put })
     → OnErr result (new ≡ old) → new.base ≡ old.base
-base-pushed old new put (Ok td) longer same = ap (λ (r : Ring). r.base) longer
-base-pushed old new put (Err full) longer same = ap (λ (r : Ring). r.base) same
+base-pushed old new put (Ok td) longer same = ap (λ (r : ItemRing). r.base) longer
+base-pushed old new put (Err full) longer same = ap (λ (r : ItemRing). r.base) same
 
-pub rings-pushed : {T E : Type 0} (segments : List Ring) (contexts : Contexts) (rings : List Ring) (stream : ℕ) (segment new : Ring) (trbs : List Trb)
+pub rings-pushed : {T E : Type 0} (segments : List ItemRing) (contexts : Contexts) (rings : List ItemRing) (stream : ℕ) (segment new : ItemRing) (items : List Item)
     (result : Result T E) → AtStream segments contexts rings stream segment
     → rings_of (set segments (stream - 1) new) contexts
     ≡ slice_set rings (stream - 1) (with_consumer STREAM_RING_PLACES new (end_in segment.base (entry_of contexts stream)))
-    → OnOk result (new ≡ record segment { put = segment.put ++ trbs })
+    → OnOk result (new ≡ record segment { put = segment.put ++ items })
     → OnOk result (rings_of (set segments (stream - 1) new) contexts
-    ≡ slice_set rings (stream - 1) (record (stream_ring rings stream) { put = (stream_ring rings stream).put ++ trbs }))
-rings-pushed segments contexts rings stream segment new trbs (Ok td) at changed longer =
+    ≡ slice_set rings (stream - 1) (record (stream_ring rings stream) { put = (stream_ring rings stream).put ++ items }))
+rings-pushed segments contexts rings stream segment new items (Ok td) at changed longer =
     changed
-    ∙ ap (λ (r : Ring). slice_set rings (stream - 1) (with_consumer STREAM_RING_PLACES r (end_in segment.base (entry_of contexts stream)))) longer
-    ∙ ap (λ (r : Ring). slice_set rings (stream - 1) (record r { put = r.put ++ trbs })) (sym (ring-at segments contexts rings stream segment at))
-rings-pushed segments contexts rings stream segment new trbs (Err full) at changed longer = longer
+    ∙ ap (λ (r : ItemRing). slice_set rings (stream - 1) (with_consumer STREAM_RING_PLACES r (end_in segment.base (entry_of contexts stream)))) longer
+    ∙ ap (λ (r : ItemRing). slice_set rings (stream - 1) (record r { put = r.put ++ items })) (sym (ring-at segments contexts rings stream segment at))
+rings-pushed segments contexts rings stream segment new items (Err full) at changed longer = longer
 
 -- a consumer's end that is moved to item k
-pub rings-moved : (segments : List Ring) (contexts new : Contexts) (rings : List Ring) (stream : ℕ) (segment : Ring) (end : End)
+pub rings-moved : (segments : List ItemRing) (contexts new : Contexts) (rings : List ItemRing) (stream : ℕ) (segment : ItemRing) (end : End)
     → AtStream segments contexts rings stream segment → IsConsumer STREAM_RING_PLACES segment end
     → new ≡ slice_set contexts stream (Some (dequeue_at segment.base end))
     → AreStreams segments new
@@ -270,7 +270,7 @@ rings-moved segments contexts new rings stream segment end at consumer written =
       subst Are (sym written) both.0,
       λ k stands.
           ap (rings_of segments) written ∙ both.1
-          ∙ ap (λ (all : List Ring). slice_set all (stream - 1) (with_consumer STREAM_RING_PLACES segment end)) at.view
+          ∙ ap (λ (all : List ItemRing). slice_set all (stream - 1) (with_consumer STREAM_RING_PLACES segment end)) at.view
           ∙ ap (slice_set rings (stream - 1)) stands
-          ∙ ap (λ (r : Ring). slice_set rings (stream - 1) (record r { got = k })) (sym (ring-at segments contexts rings stream segment at)),
+          ∙ ap (λ (r : ItemRing). slice_set rings (stream - 1) (record r { got = k })) (sym (ring-at segments contexts rings stream segment at)),
     )

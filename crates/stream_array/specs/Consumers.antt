@@ -1,7 +1,7 @@
 -- The rings of a pipe with streams: segments, and contexts that name the consumers' ends (xHCI 1.2, 4.12 and 6.2.4.1).
 use Rattle.std.specs.Prelude.{◌≡◌, ℕ, ◌+◌, ◌-◌, ◌*◌, ◌/◌, ◌<◌, ◌≤◌, true, List, [], ◌∷◌, length, Option, Some, None}
 use Rattle.ring_ends.specs.declared.End.{End}
-use Rattle.cycle_ring.specs.Ring.{Ring}
+use Rattle.cycle_ring.specs.Items.{ItemRing}
 use Rattle.cycle_ring.specs.Segment.{IsConsumer, with_consumer}
 use Rattle.uas_profile.specs.declared.TheConstants.{STREAMS, STREAM_ENTRIES, STREAM_RING_PLACES}
 use Rattle.stream_array.specs.declared.Dequeue.{Dequeue}
@@ -19,25 +19,25 @@ abbrev pub dequeue_at : ℕ → End → Dequeue
 dequeue_at base end = record { pointer = base + 16 * end.place; cycle = end.cycle }
 
 -- a segment and the entry of its context, as a ring
-abbrev pub ring_in : Ring → Option Dequeue → Ring
+abbrev pub ring_in : ItemRing → Option Dequeue → ItemRing
 ring_in segment entry = with_consumer STREAM_RING_PLACES segment (end_in segment.base entry)
 
 -- the rings of the streams from this one on
-unfoldable pub rings_from : ℕ → List Ring → Contexts → List Ring
+unfoldable pub rings_from : ℕ → List ItemRing → Contexts → List ItemRing
 rings_from stream [] contexts = []
 rings_from stream (segment ∷ others) contexts = ring_in segment (entry_of contexts stream) ∷ rings_from (stream + 1) others contexts
 
 -- the rings of a pipe, stream 1 first
-abbrev pub rings_of : List Ring → Contexts → List Ring
+abbrev pub rings_of : List ItemRing → Contexts → List ItemRing
 rings_of segments contexts = rings_from 1 segments contexts
 
 -- an entry names an end of its ring's consumer
-pub record NamesEnd (segment : Ring) (entry : Option Dequeue) : Type 0 where
+pub record NamesEnd (segment : ItemRing) (entry : Option Dequeue) : Type 0 where
   pub written : entry ≡ Some (dequeue_at segment.base (end_in segment.base entry))
   pub consumer : IsConsumer STREAM_RING_PLACES segment (end_in segment.base entry)
 
 -- the segments of a pipe with streams, and contexts that name an end of each, and nothing elsewhere
-pub record AreStreams (segments : List Ring) (contexts : Contexts) : Type 0 where
+pub record AreStreams (segments : List ItemRing) (contexts : Contexts) : Type 0 where
   pub count : length segments ≡ STREAMS
   pub entries : length contexts ≡ STREAM_ENTRIES
   pub reserved : entry_of contexts 0 ≡ None

@@ -1,10 +1,12 @@
 // All rings of a controller with one interface, as host and controller are lent them.
 
-ghost use Rattle.std.specs.Prelude.{◌≡◌, ◌≢◌, ℕ, ◌+◌, ◌-◌, ◌<◌, ◌≤◌, ◌++◌, [], ◌∷◌, ◌↔◌, ◌⊎◌, Some, IfSome, All, length, option_map, slice_get, IsTrue};
+ghost use Rattle.std.specs.Prelude.{◌≡◌, ◌≢◌, ℕ, ◌+◌, ◌-◌, ◌<◌, ◌≤◌, ◌++◌, [], ◌∷◌, ◌↔◌, ◌⊎◌, Some, IfSome, All, length, map, slice_get, IsTrue};
 ghost use Rattle.std.specs.Prelude.{IsOk, IsSome, IfOk, OnOk, OnErr, OnSome, IfNone};
-ghost use Rattle.xhci_trb.specs.Text.{HasText, has_chain};
-ghost use Rattle.cycle_ring.specs.Ring.{IsRing, IsTd, place_of, pointer_of, cycle_of, front_of, reclaimed, item_image, link_image};
-ghost use Rattle.cycle_ring.specs.Ring.{IsConsumed, IsEnqueuePlace, IsPending, IsInUse, consumed_at, oldest_of};
+ghost use Rattle.xhci_trb.specs.Text.{HasText};
+ghost use Rattle.cycle_ring.specs.Ring.{IsTd, place_of, pointer_of, cycle_of, reclaimed};
+ghost use Rattle.cycle_ring.specs.Items.{IsItemRing, known, known_front_of, raw_front_of, raw_image, raw_link_image, item_read};
+ghost use Rattle.cycle_ring.specs.Ring.{IsConsumed, IsEnqueuePlace, IsPending, IsInUse};
+ghost use Rattle.cycle_ring.specs.Items.{chain_consumed_at, known_consumed_at, known_oldest_of};
 ghost use Rattle.event_ring.specs.Events.{IsWritable, taken, event_image, place_of as event_place_of, IsInUse as IsEventInUse, IsRing as IsEventRing};
 ghost use Rattle.uas_profile.specs.Pipes.{HasStreams};
 ghost use Rattle.stream_array.specs.Map.{HasRing, places_of, ring_base};
@@ -66,7 +68,7 @@ impl Lines {
     pub fn room(&self, pipe: Pipe, stream: u16) -> usize
         requires { HasRing pipe stream }
         ensures room { result + length (ring_of self.now pipe stream).put ≡ places_of pipe - 2 }
-        ensures standing { IsRing (places_of pipe) (ring_of self.now pipe stream) }
+        ensures standing { IsItemRing (places_of pipe) (ring_of self.now pipe stream) }
         ensures base { (ring_of self.now pipe stream).base ≡ ring_base pipe stream }
         ensures lines { IsLines self.now }
     {
@@ -87,7 +89,7 @@ impl Lines {
         requires at_most { length trbs.now ≤ places_of pipe - 2 }
         ensures room { IsOk result ↔ (length (ring_of self.old pipe stream).put + length trbs.now ≤ places_of pipe - 2) }
         ensures put { OnOk result (let ring = ring_of self.old pipe stream in self.new ≡ with_ring self.old pipe stream
-            (record ring { put = ring.put ++ trbs.now })) }
+            (record ring { put = ring.put ++ map known trbs.now })) }
         ensures td { IfOk result (λ td. let ring = ring_of self.old pipe stream in td ≡ record {
           first = pointer_of (places_of pipe) ring
               (length ring.put);
@@ -100,6 +102,25 @@ impl Lines {
             Pipe::Status => self.status.push_td(stream, trbs),
             Pipe::DataIn => self.data_in.push_td(stream, trbs),
             Pipe::DataOut => self.data_out.push_td(stream, trbs),
+        }
+    }
+
+    /// Puts any 16 bytes on a ring, as the ring's call does, with the producer's cycle state as their Cycle bit: their address.
+    /// Refused where the ring has no room.
+    pub fn put_raw(&mut self, pipe: Pipe, stream: u16, bytes: &[u8; 16]) -> Result<u64, RingFull>
+        requires { HasRing pipe stream }
+        ensures room { IsOk result ↔ (length (ring_of self.old pipe stream).put < places_of pipe - 2) }
+        ensures put { OnOk result (let ring = ring_of self.old pipe stream in self.new ≡ with_ring self.old pipe stream
+            (record ring { put = ring.put ++ item_read bytes.now ∷ [] })) }
+        ensures address { IfOk result (λ address. let ring = ring_of self.old pipe stream in
+            address ≡ pointer_of (places_of pipe) ring (length ring.put)) }
+        ensures full { OnErr result (self.new ≡ self.old) }
+    {
+        match pipe {
+            Pipe::Command => self.command.put_raw(bytes),
+            Pipe::Status => self.status.put_raw(stream, bytes),
+            Pipe::DataIn => self.data_in.put_raw(stream, bytes),
+            Pipe::DataOut => self.data_out.put_raw(stream, bytes),
         }
     }
 
@@ -123,8 +144,8 @@ impl Lines {
     #[inline(always)]
     pub fn front(&self, pipe: Pipe, stream: u16) -> Option<(u64, Trb)>
         requires { HasRing pipe stream }
-        ensures front { result ≡ front_of (places_of pipe) (ring_of self.now pipe stream) }
-        ensures pending { IsSome result ↔ ((ring_of self.now pipe stream).got < length (ring_of self.now pipe stream).put) }
+        ensures front { result ≡ known_front_of (places_of pipe) (ring_of self.now pipe stream) }
+        ensures pending { IsSome result → (ring_of self.now pipe stream).got < length (ring_of self.now pipe stream).put }
     {
         match pipe {
             Pipe::Command => self.command.front(),
@@ -134,7 +155,22 @@ impl Lines {
         }
     }
 
-    /// Consumes the first pending TRB of a ring. Asks that there is one.
+    /// The first 16 pending bytes of a ring, whatever they are, and their address, if there are some.
+    #[inline(always)]
+    pub fn front_raw(&self, pipe: Pipe, stream: u16) -> Option<(u64, [u8; 16])>
+        requires { HasRing pipe stream }
+        ensures front { result ≡ raw_front_of (places_of pipe) (ring_of self.now pipe stream) }
+        ensures pending { IsSome result ↔ ((ring_of self.now pipe stream).got < length (ring_of self.now pipe stream).put) }
+    {
+        match pipe {
+            Pipe::Command => self.command.front_raw(),
+            Pipe::Status => self.status.front_raw(stream),
+            Pipe::DataIn => self.data_in.front_raw(stream),
+            Pipe::DataOut => self.data_out.front_raw(stream),
+        }
+    }
+
+    /// Consumes the first pending item of a ring, a TRB or foreign bytes. Asks that there is one.
     #[inline(always)]
     pub fn advance(&mut self, pipe: Pipe, stream: u16)
         requires ring { HasRing pipe stream }
@@ -176,9 +212,9 @@ impl Lines {
     #[inline(always)]
     pub fn consumed(&self, pipe: Pipe, stream: u16, pointer: u64) -> Option<Trb>
         requires { HasRing pipe stream }
-        ensures consumed { result ≡ consumed_at (places_of pipe) (ring_of self.now pipe stream) pointer }
+        ensures consumed { result ≡ known_consumed_at (places_of pipe) (ring_of self.now pipe stream) pointer }
         ensures known { IfSome result (λ trb. (k : ℕ) × IsConsumed (places_of pipe) (ring_of self.now pipe stream) k pointer
-            × (slice_get (ring_of self.now pipe stream).put k ≡ Some trb)) }
+            × (slice_get (ring_of self.now pipe stream).put k ≡ Some (known trb))) }
     {
         match pipe {
             Pipe::Command => self.command.consumed(pointer),
@@ -192,7 +228,7 @@ impl Lines {
     #[inline(always)]
     pub fn consumed_chain(&self, pipe: Pipe, stream: u16, pointer: u64) -> Option<bool>
         requires { HasRing pipe stream }
-        ensures { result ≡ option_map has_chain (consumed_at (places_of pipe) (ring_of self.now pipe stream) pointer) }
+        ensures { result ≡ chain_consumed_at (places_of pipe) (ring_of self.now pipe stream) pointer }
     {
         match pipe {
             Pipe::Command => self.command.consumed_chain(pointer),
@@ -206,7 +242,7 @@ impl Lines {
     #[inline(always)]
     pub fn oldest(&self, pipe: Pipe, stream: u16) -> Option<(u64, Trb)>
         requires { HasRing pipe stream }
-        ensures oldest { result ≡ oldest_of (places_of pipe) (ring_of self.now pipe stream) }
+        ensures oldest { result ≡ known_oldest_of (places_of pipe) (ring_of self.now pipe stream) }
         ensures known { IfSome result (λ at. IsConsumed (places_of pipe) (ring_of self.now pipe stream) 0 at.0) }
         ensures lines { IsLines self.now }
     {
@@ -265,9 +301,9 @@ impl Lines {
     pub fn image(&self, pipe: Pipe, stream: u16, place: usize) -> Option<[u8; 16]>
         requires { HasRing pipe stream }
         ensures item { (k : ℕ) → k < places_of pipe - 1 → place ≡ place_of (places_of pipe) (ring_of self.now pipe stream) k
-            → result ≡ item_image (places_of pipe) (ring_of self.now pipe stream) k }
+            → result ≡ raw_image (places_of pipe) (ring_of self.now pipe stream) k }
         ensures link { (k : ℕ) → k < places_of pipe - 1 → place_of (places_of pipe) (ring_of self.now pipe stream) k ≡ places_of pipe - 2
-            → place ≡ places_of pipe - 1 → result ≡ link_image (places_of pipe) (ring_of self.now pipe stream) k }
+            → place ≡ places_of pipe - 1 → result ≡ raw_link_image (places_of pipe) (ring_of self.now pipe stream) k }
         ensures in_use { IsSome result → (k : ℕ) × IsInUse (places_of pipe) (ring_of self.now pipe stream) k place }
     {
         match pipe {
@@ -294,7 +330,7 @@ impl Lines {
     /// The room of the controller's command ring.
     pub fn room_engine(&self) -> usize
         ensures room { result + length self.now.engine.put ≡ ENGINE_RING_PLACES - 2 }
-        ensures standing { IsRing ENGINE_RING_PLACES self.now.engine }
+        ensures standing { IsItemRing ENGINE_RING_PLACES self.now.engine }
         ensures base { self.now.engine.base ≡ ENGINE_RING }
         ensures lines { IsLines self.now }
     {
@@ -307,7 +343,7 @@ impl Lines {
         requires texts { All HasText trbs.now }
         requires at_most { length trbs.now ≤ ENGINE_RING_PLACES - 2 }
         ensures room { IsOk result ↔ (length self.old.engine.put + length trbs.now ≤ ENGINE_RING_PLACES - 2) }
-        ensures put { OnOk result (self.new ≡ with_engine self.old (record self.old.engine { put = self.old.engine.put ++ trbs.now })) }
+        ensures put { OnOk result (self.new ≡ with_engine self.old (record self.old.engine { put = self.old.engine.put ++ map known trbs.now })) }
         ensures td { IfOk result (λ td. td ≡ record {
           first = pointer_of ENGINE_RING_PLACES self.old.engine
               (length self.old.engine.put);
@@ -316,6 +352,16 @@ impl Lines {
         ensures full { OnErr result (self.new ≡ self.old) }
     {
         self.engine.push_td(trbs)
+    }
+
+    /// Puts any 16 bytes on the controller's command ring. Refused where it has no room.
+    pub fn put_raw_engine(&mut self, bytes: &[u8; 16]) -> Result<u64, RingFull>
+        ensures room { IsOk result ↔ (length self.old.engine.put < ENGINE_RING_PLACES - 2) }
+        ensures put { OnOk result (self.new ≡ with_engine self.old (record self.old.engine { put = self.old.engine.put ++ item_read bytes.now ∷ [] })) }
+        ensures address { IfOk result (λ address. address ≡ pointer_of ENGINE_RING_PLACES self.old.engine (length self.old.engine.put)) }
+        ensures full { OnErr result (self.new ≡ self.old) }
+    {
+        self.engine.put_raw(bytes)
     }
 
     /// The enqueue pointer and the producer's cycle state of the controller's command ring.
@@ -332,13 +378,21 @@ impl Lines {
 
     /// The first pending command and its address, if there is one.
     pub fn front_engine(&self) -> Option<(u64, Trb)>
-        ensures front { result ≡ front_of ENGINE_RING_PLACES self.now.engine }
-        ensures pending { IsSome result ↔ (self.now.engine.got < length self.now.engine.put) }
+        ensures front { result ≡ known_front_of ENGINE_RING_PLACES self.now.engine }
+        ensures pending { IsSome result → self.now.engine.got < length self.now.engine.put }
     {
         self.engine.front()
     }
 
-    /// Consumes the first pending command. Asks that there is one.
+    /// The first 16 pending bytes of the controller's command ring, whatever they are, and their address, if there are some.
+    pub fn front_raw_engine(&self) -> Option<(u64, [u8; 16])>
+        ensures front { result ≡ raw_front_of ENGINE_RING_PLACES self.now.engine }
+        ensures pending { IsSome result ↔ (self.now.engine.got < length self.now.engine.put) }
+    {
+        self.engine.front_raw()
+    }
+
+    /// Consumes the first pending command, or foreign bytes. Asks that there is one.
     pub fn advance_engine(&mut self)
         requires { self.old.engine.got < length self.old.engine.put }
         ensures { self.new ≡ with_engine self.old (record self.old.engine { got = self.old.engine.got + 1 }) }
@@ -359,9 +413,9 @@ impl Lines {
 
     /// The consumed command at an address, while it isn't reclaimed.
     pub fn consumed_engine(&self, pointer: u64) -> Option<Trb>
-        ensures consumed { result ≡ consumed_at ENGINE_RING_PLACES self.now.engine pointer }
+        ensures consumed { result ≡ known_consumed_at ENGINE_RING_PLACES self.now.engine pointer }
         ensures known { IfSome result (λ trb. (k : ℕ) × IsConsumed ENGINE_RING_PLACES self.now.engine k pointer
-            × (slice_get self.now.engine.put k ≡ Some trb)) }
+            × (slice_get self.now.engine.put k ≡ Some (known trb))) }
     {
         self.engine.consumed(pointer)
     }
@@ -378,9 +432,9 @@ impl Lines {
     /// The bytes at a place of the controller's command ring.
     pub fn image_engine(&self, place: usize) -> Option<[u8; 16]>
         ensures item { (k : ℕ) → k < ENGINE_RING_PLACES - 1 → place ≡ place_of ENGINE_RING_PLACES self.now.engine k
-            → result ≡ item_image ENGINE_RING_PLACES self.now.engine k }
+            → result ≡ raw_image ENGINE_RING_PLACES self.now.engine k }
         ensures link { (k : ℕ) → k < ENGINE_RING_PLACES - 1 → place_of ENGINE_RING_PLACES self.now.engine k ≡ ENGINE_RING_PLACES - 2
-            → place ≡ ENGINE_RING_PLACES - 1 → result ≡ link_image ENGINE_RING_PLACES self.now.engine k }
+            → place ≡ ENGINE_RING_PLACES - 1 → result ≡ raw_link_image ENGINE_RING_PLACES self.now.engine k }
         ensures in_use { IsSome result → (k : ℕ) × IsInUse ENGINE_RING_PLACES self.now.engine k place }
     {
         self.engine.image(place)

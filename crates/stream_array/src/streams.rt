@@ -1,10 +1,12 @@
 // The rings of one pipe with streams. Where a ring's consumer stands is in the stream's context alone.
 
-ghost use Rattle.std.specs.Prelude.{◌≡◌, ◌≢◌, ℕ, ◌+◌, ◌-◌, ◌*◌, ◌<◌, ◌≤◌, ◌++◌, ◌↔◌, ◌⊎◌, All, length, option_map, slice_get, slice_set, Some};
+ghost use Rattle.std.specs.Prelude.{◌≡◌, ◌≢◌, ℕ, ◌+◌, ◌-◌, ◌*◌, ◌<◌, ◌≤◌, ◌++◌, ◌↔◌, ◌⊎◌, All, length, map, slice_get, slice_set, Some, [], ◌∷◌};
 ghost use Rattle.std.specs.Prelude.{IsOk, IsSome, IfOk, IfSome, OnOk, OnErr};
-ghost use Rattle.xhci_trb.specs.Text.{HasText, has_chain};
-ghost use Rattle.cycle_ring.specs.Ring.{IsRing, IsTd, opening, pointer_of, cycle_of, front_of, reclaimed, item_image, link_image, place_of};
-ghost use Rattle.cycle_ring.specs.Ring.{IsConsumed, IsEnqueuePlace, IsPending, IsInUse, consumed_at, oldest_of};
+ghost use Rattle.xhci_trb.specs.Text.{HasText};
+ghost use Rattle.cycle_ring.specs.Ring.{IsTd, opening, pointer_of, cycle_of, reclaimed, place_of};
+ghost use Rattle.cycle_ring.specs.Items.{IsItemRing, known, known_front_of, raw_front_of, raw_image, raw_link_image, item_read};
+ghost use Rattle.cycle_ring.specs.Ring.{IsConsumed, IsEnqueuePlace, IsPending, IsInUse};
+ghost use Rattle.cycle_ring.specs.Items.{chain_consumed_at, known_consumed_at, known_oldest_of};
 ghost use Rattle.cycle_ring.specs.Segment.{IsConsumer, with_consumer};
 ghost use Rattle.uas_profile.specs.Pipes.{HasStreams};
 ghost use Rattle.stream_array.specs.Map.{ring_base};
@@ -27,10 +29,10 @@ pub(crate) struct Streams {
 
 impl Model for Streams {
     ghost use Rattle.std.specs.Prelude.{List};
-    ghost use Rattle.cycle_ring.specs.Ring.{Ring};
+    ghost use Rattle.cycle_ring.specs.Items.{ItemRing};
     ghost use Rattle.stream_array.specs.Consumers.{rings_of, AreStreams};
 
-    ghost Value = { List Ring };
+    ghost Value = { List ItemRing };
 
     ghost view = { λ s. rings_of s.segments.items s.contexts };
 
@@ -97,7 +99,7 @@ impl Streams {
         requires some { 0 < stream }
         requires last { stream ≤ STREAMS }
         ensures ring { stream_ring self.now stream ≡ record result.now { got = (stream_ring self.now stream).got } }
-        ensures standing { IsRing STREAM_RING_PLACES (stream_ring self.now stream) }
+        ensures standing { IsItemRing STREAM_RING_PLACES (stream_ring self.now stream) }
     {
         let place = stream as usize - 1;
         &self.segments[place]
@@ -121,7 +123,7 @@ impl Streams {
         requires some { 0 < stream }
         requires last { stream ≤ STREAMS }
         ensures room { result + length (stream_ring self.now stream).put ≡ STREAM_RING_PLACES - 2 }
-        ensures standing { IsRing STREAM_RING_PLACES (stream_ring self.now stream) }
+        ensures standing { IsItemRing STREAM_RING_PLACES (stream_ring self.now stream) }
     {
         self.segment(stream).room()
     }
@@ -135,7 +137,7 @@ impl Streams {
         requires at_most { length trbs.now ≤ STREAM_RING_PLACES - 2 }
         ensures room { IsOk result ↔ (length (stream_ring self.old stream).put + length trbs.now ≤ STREAM_RING_PLACES - 2) }
         ensures put { OnOk result (let ring = stream_ring self.old stream in self.new ≡ slice_set self.old (stream - 1)
-            (record ring { put = ring.put ++ trbs.now })) }
+            (record ring { put = ring.put ++ map known trbs.now })) }
         ensures td { IfOk result (λ td. let ring = stream_ring self.old stream in td ≡ record {
           first = pointer_of STREAM_RING_PLACES ring
               (length ring.put);
@@ -145,6 +147,20 @@ impl Streams {
     {
         let segment = &mut self.segments[stream as usize - 1];
         segment.push_td(trbs)
+    }
+
+    pub(crate) fn put_raw(&mut self, stream: u16, bytes: &[u8; 16]) -> Result<u64, RingFull>
+        requires some { 0 < stream }
+        requires last { stream ≤ STREAMS }
+        ensures room { IsOk result ↔ (length (stream_ring self.old stream).put < STREAM_RING_PLACES - 2) }
+        ensures put { OnOk result (let ring = stream_ring self.old stream in self.new ≡ slice_set self.old (stream - 1)
+            (record ring { put = ring.put ++ item_read bytes.now ∷ [] })) }
+        ensures address { IfOk result (λ address. let ring = stream_ring self.old stream in
+            address ≡ pointer_of STREAM_RING_PLACES ring (length ring.put)) }
+        ensures full { OnErr result (self.new ≡ self.old) }
+    {
+        let segment = &mut self.segments[stream as usize - 1];
+        segment.put_raw(bytes)
     }
 
     pub(crate) fn place(&self, stream: u16) -> (u64, bool)
@@ -161,11 +177,22 @@ impl Streams {
     pub(crate) fn front(&self, stream: u16) -> Option<(u64, Trb)>
         requires some { 0 < stream }
         requires last { stream ≤ STREAMS }
-        ensures front { result ≡ front_of STREAM_RING_PLACES (stream_ring self.now stream) }
-        ensures pending { let ring = stream_ring self.now stream in IsSome result ↔ (ring.got < length ring.put) }
+        ensures front { result ≡ known_front_of STREAM_RING_PLACES (stream_ring self.now stream) }
+        ensures pending { let ring = stream_ring self.now stream in IsSome result → ring.got < length ring.put }
     {
         let (segment, end) = self.ring(stream);
         segment.front(end)
+    }
+
+    #[inline(always)]
+    pub(crate) fn front_raw(&self, stream: u16) -> Option<(u64, [u8; 16])>
+        requires some { 0 < stream }
+        requires last { stream ≤ STREAMS }
+        ensures front { result ≡ raw_front_of STREAM_RING_PLACES (stream_ring self.now stream) }
+        ensures pending { let ring = stream_ring self.now stream in IsSome result ↔ (ring.got < length ring.put) }
+    {
+        let (segment, end) = self.ring(stream);
+        segment.front_raw(end)
     }
 
     #[inline(always)]
@@ -185,9 +212,9 @@ impl Streams {
     pub(crate) fn consumed(&self, stream: u16, pointer: u64) -> Option<Trb>
         requires some { 0 < stream }
         requires last { stream ≤ STREAMS }
-        ensures consumed { result ≡ consumed_at STREAM_RING_PLACES (stream_ring self.now stream) pointer }
+        ensures consumed { result ≡ known_consumed_at STREAM_RING_PLACES (stream_ring self.now stream) pointer }
         ensures known { let ring = stream_ring self.now stream in
-            IfSome result (λ trb. (k : ℕ) × IsConsumed STREAM_RING_PLACES ring k pointer × (slice_get ring.put k ≡ Some trb)) }
+            IfSome result (λ trb. (k : ℕ) × IsConsumed STREAM_RING_PLACES ring k pointer × (slice_get ring.put k ≡ Some (known trb))) }
     {
         let (segment, end) = self.ring(stream);
         segment.consumed(end, pointer)
@@ -197,7 +224,7 @@ impl Streams {
     pub(crate) fn consumed_chain(&self, stream: u16, pointer: u64) -> Option<bool>
         requires some { 0 < stream }
         requires last { stream ≤ STREAMS }
-        ensures { result ≡ option_map has_chain (consumed_at STREAM_RING_PLACES (stream_ring self.now stream) pointer) }
+        ensures { result ≡ chain_consumed_at STREAM_RING_PLACES (stream_ring self.now stream) pointer }
     {
         let (segment, end) = self.ring(stream);
         segment.consumed_chain(end, pointer)
@@ -207,7 +234,7 @@ impl Streams {
     pub(crate) fn oldest(&self, stream: u16) -> Option<(u64, Trb)>
         requires some { 0 < stream }
         requires last { stream ≤ STREAMS }
-        ensures oldest { result ≡ oldest_of STREAM_RING_PLACES (stream_ring self.now stream) }
+        ensures oldest { result ≡ known_oldest_of STREAM_RING_PLACES (stream_ring self.now stream) }
         ensures known { IfSome result (λ at. IsConsumed STREAM_RING_PLACES (stream_ring self.now stream) 0 at.0) }
     {
         let (segment, end) = self.ring(stream);
@@ -273,9 +300,9 @@ impl Streams {
         requires some { 0 < stream }
         requires last { stream ≤ STREAMS }
         ensures item { let ring = stream_ring self.now stream in (k : ℕ) → k < STREAM_RING_PLACES - 1
-            → place ≡ place_of STREAM_RING_PLACES ring k → result ≡ item_image STREAM_RING_PLACES ring k }
+            → place ≡ place_of STREAM_RING_PLACES ring k → result ≡ raw_image STREAM_RING_PLACES ring k }
         ensures link { let ring = stream_ring self.now stream in (k : ℕ) → k < STREAM_RING_PLACES - 1 → place_of STREAM_RING_PLACES ring k ≡ STREAM_RING_PLACES - 2
-            → place ≡ STREAM_RING_PLACES - 1 → result ≡ link_image STREAM_RING_PLACES ring k }
+            → place ≡ STREAM_RING_PLACES - 1 → result ≡ raw_link_image STREAM_RING_PLACES ring k }
         ensures in_use { IsSome result → (k : ℕ) × IsInUse STREAM_RING_PLACES (stream_ring self.now stream) k place }
     {
         self.segment(stream).image(place)

@@ -7,7 +7,7 @@ use Rattle.std.proofs.lemmas.Bool.Decides.{nat_tests}
 use Rattle.xhci_trb.specs.declared.Trb.{Trb}
 use Rattle.xhci_trb.specs.declared.Trb.TheVariants.{Normal, Link, StopEndpoint, SetDequeue, TransferEvent, CommandEvent}
 use Rattle.xhci_trb.specs.Text.{has_chain}
-use Rattle.cycle_ring.specs.Ring.{consumed_at}
+use Rattle.cycle_ring.specs.Items.{known_consumed_at}
 use Rattle.uas_profile.specs.declared.Pipe.{Pipe}
 use Rattle.uas_profile.specs.declared.Pipe.TheVariants.{Command, Status, DataIn, DataOut}
 use Rattle.uas_profile.specs.declared.TdState.{TdState}
@@ -106,7 +106,7 @@ ended-ends lines pointer td is =
       | Some at ↦ λ some found. on_ring at some found
     ] refl is
   where
-    told : (at : Pipe × ℕ × ℕ) (trb : Trb) → spot_at pointer ≡ Some at → consumed_at (places_of at.0) (ring_of lines at.0 at.1) pointer ≡ Some trb
+    told : (at : Pipe × ℕ × ℕ) (trb : Trb) → spot_at pointer ≡ Some at → known_consumed_at (places_of at.0) (ring_of lines at.0 at.1) pointer ≡ Some trb
         → has_chain trb ≡ false → option_map (λ tag. let t : EndedTd = record { pipe = at.0; tag = tag } in t) (trb_tag at.0 at.1 trb) ≡ Some td
         → EndsAt lines pointer td.pipe td.tag
     told at trb ring consumed last found =
@@ -127,7 +127,7 @@ ended-ends lines pointer td is =
               })
         ] refl found
 
-    on_trb : (at : Pipe × ℕ × ℕ) (trb : Trb) → spot_at pointer ≡ Some at → consumed_at (places_of at.0) (ring_of lines at.0 at.1) pointer ≡ Some trb
+    on_trb : (at : Pipe × ℕ × ℕ) (trb : Trb) → spot_at pointer ≡ Some at → known_consumed_at (places_of at.0) (ring_of lines at.0 at.1) pointer ≡ Some trb
         → ended_td at.0 at.1 trb ≡ Some td → EndsAt lines pointer td.pipe td.tag
     on_trb at trb ring consumed found =
         elim (has_chain trb) as (λ b. has_chain trb ≡ b →
@@ -139,7 +139,7 @@ ended-ends lines pointer td is =
 
     on_ring : (at : Pipe × ℕ × ℕ) → spot_at pointer ≡ Some at → ended_on lines pointer at ≡ Some td → EndsAt lines pointer td.pipe td.tag
     on_ring at ring found =
-        elim (consumed_at (places_of at.0) (ring_of lines at.0 at.1) pointer) as (λ o. consumed_at (places_of at.0) (ring_of lines at.0 at.1) pointer ≡ o →
+        elim (known_consumed_at (places_of at.0) (ring_of lines at.0 at.1) pointer) as (λ o. known_consumed_at (places_of at.0) (ring_of lines at.0 at.1) pointer ≡ o →
         option_and_then (ended_td at.0 at.1) o ≡ Some td → EndsAt lines pointer td.pipe td.tag) [
           | None ↦ λ none it. absurd (cc)
           | Some trb ↦ λ some it. on_trb at trb ring some it

@@ -1,11 +1,12 @@
 -- The consumed TRB at an address of a stream's ring.
 use Rattle.std.proofs.Common.{◌≡◌, ℕ, ◌+◌, ◌-◌, ◌/◌, ◌%◌, ◌<◌, ◌==◌, Bool, Some, None, nat_lt, nat_le, refl, arith, inl, inr, if◌then◌else◌}
 use Rattle.std.specs.Prelude.{option_and_then, option_map}
+use Rattle.std.proofs.lemmas.Option.{none-some}
 use Rattle.std.proofs.lemmas.Bool.{ltb-true, ltb-false, leb-true, leb-false, eqb-true, cases_Bool}
 use Rattle.uas_profile.specs.declared.TheConstants.{STREAM_RING_PLACES}
 use Rattle.xhci_trb.specs.declared.Trb.{Trb}
-use Rattle.xhci_trb.specs.Text.{has_chain}
-use Rattle.cycle_ring.specs.Ring.{Ring, IsConsumed, consumed_at, consumed_item, item_at, item_in, pointer_of}
+use Rattle.cycle_ring.specs.Ring.{IsConsumed, consumed_item, item_at, item_in, pointer_of}
+use Rattle.cycle_ring.specs.Items.{ItemRing, known_consumed_at, known_of}
 use Rattle.uas_profile.specs.declared.Pipe.{Pipe}
 use Rattle.uas_profile.specs.declared.Pipe.TheVariants.{Command, Status, DataIn, DataOut}
 use Rattle.uas_profile.specs.Pipes.{HasStreams}
@@ -24,7 +25,7 @@ stands at place below =
       | inr behind ↦ let under = leb-false (at % trb_places) place behind in rw behind (omega arith)
     ]
 
-named_inside : (item offset : ℕ) (r : Ring) → offset % 16 ≡ 0 →
+named_inside : (item offset : ℕ) (r : ItemRing) → offset % 16 ≡ 0 →
     (if nat_le trb_places (offset / 16) then None else Some (item_in trb_places (r.at % trb_places) (offset / 16))) ≡ Some item →
     r.base + offset ≡ pointer_of STREAM_RING_PLACES r item
 named_inside item offset r whole is =
@@ -37,7 +38,7 @@ named_inside item offset r whole is =
     ]
 
 -- an address that names an item is the item's
-item_at-address : (r : Ring) (pointer item : ℕ) → item_at STREAM_RING_PLACES r pointer ≡ Some item → pointer ≡ pointer_of STREAM_RING_PLACES r item
+item_at-address : (r : ItemRing) (pointer item : ℕ) → item_at STREAM_RING_PLACES r pointer ≡ Some item → pointer ≡ pointer_of STREAM_RING_PLACES r item
 item_at-address r pointer item is =
     elim (cases_Bool (nat_lt pointer r.base)) as (λ _. pointer ≡ pointer_of STREAM_RING_PLACES r item) [
       | inl below ↦ let none : None ≡ Some item = rw below at is in absurd (cc)
@@ -52,25 +53,26 @@ item_at-address r pointer item is =
           ]
     ]
 
-consumed_item-below : (r : Ring) (item : ℕ) (trb : Trb) → consumed_item r item ≡ Some trb → item < r.got
+consumed_item-below : (r : ItemRing) (item : ℕ) (trb : Trb) → option_and_then known_of (consumed_item r item) ≡ Some trb → item < r.got
 consumed_item-below r item trb is =
     elim (cases_Bool (nat_lt item r.got)) as (λ _. item < r.got) [
       | inl below ↦ ltb-true item r.got below
-      | inr above ↦ let none : None ≡ Some trb = rw above at is in absurd (cc)
+      | inr above ↦ let none : None ≡ Some trb = rw above at is in absurd (none-some trb none)
     ]
 
-consumed_at-item : (r : Ring) (pointer : ℕ) (trb : Trb) → consumed_at STREAM_RING_PLACES r pointer ≡ Some trb → (item : ℕ) × (item_at STREAM_RING_PLACES r pointer ≡ Some item)
+consumed_at-item : (r : ItemRing) (pointer : ℕ) (trb : Trb) → known_consumed_at STREAM_RING_PLACES r pointer ≡ Some trb → (item : ℕ) × (item_at STREAM_RING_PLACES r pointer ≡ Some item)
     × IsConsumed STREAM_RING_PLACES r item pointer
 consumed_at-item r pointer trb is =
-    elim (item_at STREAM_RING_PLACES r pointer) as (λ o. item_at STREAM_RING_PLACES r pointer ≡ o → option_and_then (consumed_item r) o ≡ Some trb →
+    elim (item_at STREAM_RING_PLACES r pointer) as (λ o. item_at STREAM_RING_PLACES r pointer ≡ o
+    → option_and_then known_of (option_and_then (consumed_item r) o) ≡ Some trb →
     (item : ℕ) × (item_at STREAM_RING_PLACES r pointer ≡ Some item) × IsConsumed STREAM_RING_PLACES r item pointer) [
-      | None ↦ λ none found. absurd (cc)
+      | None ↦ λ none found. absurd (none-some trb found)
       | Some item ↦ λ some found. (item, some, (consumed_item-below r item trb found, item_at-address r pointer item some))
     ] refl is
 
--- the TRB whose Chain bit was read is its stream's
-ended-stream : (pipe : Pipe) (lines : LinesState) (stream pointer : ℕ) (trb : Trb) → HasStreams pipe → HasRing pipe stream →
-    consumed_at (places_of pipe) (ring_of lines pipe stream) pointer ≡ Some trb → IsEnded lines pointer (record { pipe = pipe; tag = stream })
+-- the TRB at an address of a stream's ring is of its TD
+pub ended-stream : (pipe : Pipe) (lines : LinesState) (stream pointer : ℕ) (trb : Trb) → HasStreams pipe → HasRing pipe stream →
+    known_consumed_at (places_of pipe) (ring_of lines pipe stream) pointer ≡ Some trb → IsEnded lines pointer (record { pipe = pipe; tag = stream })
 ended-stream Command lines stream pointer trb streams ring is = absurd streams
 ended-stream Status lines stream pointer trb streams ring is = record {
   first_tag = ring.0;
@@ -87,14 +89,3 @@ ended-stream DataOut lines stream pointer trb streams ring is = record {
   last_tag = ring.1;
   consumed = consumed_at-item (ring_of lines DataOut stream) pointer trb is;
 }
-
-pub chain-known : (pipe : Pipe) (lines : LinesState) (stream pointer : ℕ) (chain : Bool) → HasStreams pipe → HasRing pipe stream →
-    Some chain ≡ option_map has_chain (consumed_at (places_of pipe) (ring_of lines pipe stream) pointer) →
-    IsEnded lines pointer (record { pipe = pipe; tag = stream })
-chain-known pipe lines stream pointer chain streams ring is =
-    elim (consumed_at (places_of pipe) (ring_of lines pipe stream) pointer) as (λ o.
-    consumed_at (places_of pipe) (ring_of lines pipe stream) pointer ≡ o → Some chain ≡ option_map has_chain o →
-    IsEnded lines pointer (record { pipe = pipe; tag = stream })) [
-      | None ↦ λ none found. absurd (cc)
-      | Some trb ↦ λ some found. ended-stream pipe lines stream pointer trb streams ring some
-    ] refl is

@@ -5,7 +5,7 @@ use Rattle.std.proofs.lemmas.Bool.{eqb-true, eq-eqb}
 use Rattle.event_ring.specs.declared.Event.{Event}
 use Rattle.event_ring.specs.declared.Event.TheVariants.{Transfer, Command as CommandCompletion}
 use Rattle.xhci_trb.specs.declared.Trb.{Trb}
-use Rattle.cycle_ring.specs.Ring.{consumed_at}
+use Rattle.cycle_ring.specs.Items.{known_consumed_at}
 use Rattle.uas_profile.specs.declared.Pipe.{Pipe}
 use Rattle.uas_profile.specs.declared.TheConstants.{ENGINE_RING_PLACES, SUCCESS}
 use Rattle.frame_store.specs.declared.TagBuffers.{TagBuffers}
@@ -101,13 +101,13 @@ awaited-matched sides frames pointer residual code pipe tag is =
 engine-awaited : (sides : Sides) (pointer code : ℕ) →
     (handled_engine sides pointer (is_engine_done sides.lines pointer code) sides.host.retirement).1 ≡ Engine → IsEngineAwaited sides pointer code
 engine-awaited sides pointer code is =
-    elim (consumed_at ENGINE_RING_PLACES sides.lines.engine pointer) as (λ o. consumed_at ENGINE_RING_PLACES sides.lines.engine pointer ≡ o →
+    elim (known_consumed_at ENGINE_RING_PLACES sides.lines.engine pointer) as (λ o. known_consumed_at ENGINE_RING_PLACES sides.lines.engine pointer ≡ o →
     (handled_engine sides pointer (is_some o && (code == SUCCESS)) sides.host.retirement).1 ≡ Engine → IsEngineAwaited sides pointer code) [
       | None ↦ λ none it. absurd (cc)
       | Some trb ↦ λ some it. of_code trb some it
     ] refl is
   where
-    of_code : (trb : Trb) → consumed_at ENGINE_RING_PLACES sides.lines.engine pointer ≡ Some trb →
+    of_code : (trb : Trb) → known_consumed_at ENGINE_RING_PLACES sides.lines.engine pointer ≡ Some trb →
         (handled_engine sides pointer (code == SUCCESS) sides.host.retirement).1 ≡ Engine → IsEngineAwaited sides pointer code
     of_code trb some it =
         elim (code == SUCCESS) as (λ b. (code == SUCCESS) ≡ b → (handled_engine sides pointer b sides.host.retirement).1 ≡ Engine →

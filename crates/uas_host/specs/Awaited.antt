@@ -3,7 +3,7 @@ use Rattle.std.specs.Prelude.{◌≡◌, ℕ, ◌-◌, ◌≤◌, false, if◌th
 use Rattle.xhci_trb.specs.declared.Trb.{Trb}
 use Rattle.xhci_trb.specs.declared.Trb.TheVariants.{Normal}
 use Rattle.xhci_trb.specs.Text.{has_chain}
-use Rattle.cycle_ring.specs.Ring.{consumed_at}
+use Rattle.cycle_ring.specs.Items.{known_consumed_at}
 use Rattle.event_ring.specs.declared.Event.{Event}
 use Rattle.event_ring.specs.declared.Event.TheVariants.{Transfer, Command as CommandCompletion}
 use Rattle.uas_profile.specs.declared.Pipe.{Pipe}
@@ -45,7 +45,7 @@ pub record EndsAt (lines : LinesState) (pointer : ℕ) (pipe : Pipe) (tag : ℕ)
   pub place : ℕ
   pub trb : Trb
   pub ring : spot_at pointer ≡ Some (pipe, stream, place)
-  pub consumed : consumed_at (places_of pipe) (ring_of lines pipe stream) pointer ≡ Some trb
+  pub consumed : known_consumed_at (places_of pipe) (ring_of lines pipe stream) pointer ≡ Some trb
   pub last : has_chain trb ≡ false
   pub names : IsOfTag pipe stream trb tag
 
@@ -100,7 +100,7 @@ pub record IsEngineAwaited (sides : Sides) (pointer code : ℕ) : Type 0 where
   pub retirement : Retirement
   pub under_way : sides.host.retirement ≡ Some retirement
   pub trb : Trb
-  pub consumed : consumed_at ENGINE_RING_PLACES sides.lines.engine pointer ≡ Some trb
+  pub consumed : known_consumed_at ENGINE_RING_PLACES sides.lines.engine pointer ≡ Some trb
   pub succeeds : code ≡ SUCCESS
 
 -- The event is of a TD of this tag that the host waits for. Its kind is that of its pointer's ring: only transfer events are of

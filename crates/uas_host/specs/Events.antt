@@ -5,7 +5,8 @@ use Rattle.std.specs.Option.{option_map_or}
 use Rattle.xhci_trb.specs.declared.Trb.{Trb}
 use Rattle.xhci_trb.specs.declared.Trb.TheVariants.{Normal, Link, StopEndpoint, SetDequeue, TransferEvent, CommandEvent}
 use Rattle.xhci_trb.specs.Text.{has_chain}
-use Rattle.cycle_ring.specs.Ring.{IsConsumed, consumed_at, item_at, reclaimed}
+use Rattle.cycle_ring.specs.Ring.{IsConsumed, item_at, reclaimed}
+use Rattle.cycle_ring.specs.Items.{Item, foreign, known, known_consumed_at}
 use Rattle.event_ring.specs.declared.Event.{Event}
 use Rattle.event_ring.specs.declared.Event.TheVariants.{Transfer, Command as CommandCompletion}
 use Rattle.uas_profile.specs.declared.Pipe.{Pipe}
@@ -67,7 +68,7 @@ ended_td pipe stream trb = if has_chain trb then None else option_map (λ tag. r
 
 -- the TD whose last TRB, consumed and not reclaimed, is at this address
 abbrev pub ended_on : LinesState → ℕ → Pipe × ℕ × ℕ → Option EndedTd
-ended_on lines pointer at = option_and_then (ended_td at.0 at.1) (consumed_at (places_of at.0) (ring_of lines at.0 at.1) pointer)
+ended_on lines pointer at = option_and_then (ended_td at.0 at.1) (known_consumed_at (places_of at.0) (ring_of lines at.0 at.1) pointer)
 
 abbrev pub ended_at : LinesState → ℕ → Option EndedTd
 ended_at lines pointer = option_and_then (ended_on lines pointer) (spot_at pointer)
@@ -126,10 +127,12 @@ awaits_command host tag = option_map_or (λ held. is_pending held.command_td) (h
 abbrev pub is_awaited : HostState → Trb → Bool
 is_awaited host trb = option_map_or (awaits_command host) (command_tag trb) false
 
--- how many of these TRBs of the command pipe come before the first whose event the host waits for
-abbrev pub done_before : HostState → List Trb → ℕ
+-- how many of these items of the command pipe are TRBs before the first whose event the host waits for; foreign bytes, which no host puts
+-- there, end them
+abbrev pub done_before : HostState → List Item → ℕ
 done_before host [] = 0
-done_before host (trb ∷ rest) = if is_awaited host trb then 0 else suc (done_before host rest)
+done_before host (known trb ∷ rest) = if is_awaited host trb then 0 else suc (done_before host rest)
+done_before host (foreign bytes ∷ rest) = 0
 
 -- so many TRBs of the command pipe are freed
 abbrev pub with_commands_freed : LinesState → ℕ → LinesState
@@ -176,7 +179,7 @@ handled_td sides frames pointer residual code (Some td) = handled_notice sides p
 
 -- the engine's command under way is done: it is consumed, at this address, and its code is 1
 abbrev pub is_engine_done : LinesState → ℕ → ℕ → Bool
-is_engine_done lines pointer code = is_some (consumed_at ENGINE_RING_PLACES lines.engine pointer) && (code == SUCCESS)
+is_engine_done lines pointer code = is_some (known_consumed_at ENGINE_RING_PLACES lines.engine pointer) && (code == SUCCESS)
 
 -- Stop Endpoint is done: Set TR Dequeue Pointer follows it
 abbrev pub handled_stop : Sides → ℕ → Retirement → Sides

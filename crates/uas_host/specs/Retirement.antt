@@ -1,11 +1,12 @@
 -- Retirement of a left-over TD (xHCI 4.6.9 and 4.6.10): Stop Endpoint, then Set TR Dequeue Pointer to the enqueue place.
-use Rattle.std.specs.Prelude.{ℕ, zero, suc, ◌+◌, ◌≤◌, ◌-◌, nat_lt, Bool, false, ◌&&◌, if◌then◌else◌, List, [], ◌∷◌, ◌++◌, length, filter, map, Option}
+use Rattle.std.specs.Prelude.{ℕ, zero, suc, ◌+◌, ◌≤◌, ◌-◌, nat_lt, Bool, false, ◌&&◌, if◌then◌else◌, List, [], ◌∷◌, ◌++◌, length, filter, map, take, Option}
 use Rattle.std.specs.Prelude.{Some, None, is_none, option_map, unwrap_or}
 use Rattle.std.specs.List.{range_with_len}
 use Rattle.std.specs.Option.{option_map_or}
 use Rattle.xhci_trb.specs.declared.Trb.{Trb}
 use Rattle.xhci_trb.specs.declared.Trb.TheVariants.{StopEndpoint, SetDequeue}
-use Rattle.cycle_ring.specs.Ring.{Ring, cycle_of, item_at, pointer_of, reclaimed}
+use Rattle.cycle_ring.specs.Ring.{cycle_of, item_at, pointer_of, reclaimed}
+use Rattle.cycle_ring.specs.Items.{Item, ItemRing, foreign, known}
 use Rattle.uas_profile.specs.declared.Pipe.{Pipe}
 use Rattle.uas_profile.specs.declared.TheConstants.{STREAMS, ENGINE_RING_PLACES, SLOT}
 use Rattle.uas_profile.specs.Pipes.{same_pipe}
@@ -41,7 +42,7 @@ move_trb lines pipe tag =
 
 -- a command is put on the controller's command ring
 abbrev pub with_engine_command : LinesState → Trb → LinesState
-with_engine_command lines trb = with_engine lines (record lines.engine { put = lines.engine.put ++ trb ∷ [] })
+with_engine_command lines trb = with_engine lines (record lines.engine { put = lines.engine.put ++ known trb ∷ [] })
 
 -- it has room for one more; two of its places are never filled
 abbrev pub HasEngineRoom : LinesState → Type 0
@@ -79,9 +80,16 @@ with_first_freed lines pipe stream zero = lines
 with_first_freed lines pipe stream (suc more) =
     with_ring lines pipe stream (reclaimed (places_of pipe) (suc more) (ring_of lines pipe stream))
 
--- all consumed TRBs of a ring are freed
+-- how many TRBs come before the first foreign bytes
+abbrev pub trbs_before : List Item → ℕ
+trbs_before [] = 0
+trbs_before (known trb ∷ rest) = suc (trbs_before rest)
+trbs_before (foreign bytes ∷ rest) = 0
+
+-- all consumed TRBs of a ring are freed; foreign bytes, which no host puts there, end them
 abbrev pub emptied : LinesState → Pipe → ℕ → LinesState
-emptied lines pipe stream = with_first_freed lines pipe stream (ring_of lines pipe stream).got
+emptied lines pipe stream =
+    with_first_freed lines pipe stream (trbs_before (take (ring_of lines pipe stream).got (ring_of lines pipe stream).put))
 
 -- Set TR Dequeue Pointer is done, so all TRBs of the TD are consumed, and free again
 abbrev pub moved_lines : LinesState → ℕ → Retirement → LinesState
@@ -91,7 +99,7 @@ moved_lines lines pointer retirement = emptied (engine_freed lines pointer) reti
 abbrev pub retired_host : HostState → Retirement → HostState
 retired_host host retirement = record (unwrap_or (place_seen (TdRetired retirement.pipe) host retirement.place) host) { retirement = None }
 
-abbrev pub has_pending : Ring → Bool
+abbrev pub has_pending : ItemRing → Bool
 has_pending ring = nat_lt ring.got (length ring.put)
 
 -- the doorbell of a stream of a pipe, where it has a pending TRB

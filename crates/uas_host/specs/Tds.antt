@@ -1,5 +1,5 @@
 -- The TDs of a command as TRBs (xHCI 4.11 and 6.4.1.1), and the rings that they are put on.
-use Rattle.std.specs.Prelude.{ℕ, zero, suc, ◌+◌, ◌-◌, ◌*◌, ◌/◌, ◌<◌, ◌≤◌, min, List, [], ◌∷◌, ◌++◌, length}
+use Rattle.std.specs.Prelude.{ℕ, zero, suc, ◌+◌, ◌-◌, ◌*◌, ◌/◌, ◌<◌, ◌≤◌, min, List, [], ◌∷◌, ◌++◌, length, map}
 use Rattle.uas_profile.specs.declared.TheConstants.{CHUNK_BYTES, COMMAND_BYTES, STATUS_BYTES, WINDOW_BYTES, COMMAND_BUFFERS, STATUS_BUFFERS, BUFFER_SPAN, WINDOWS, WINDOW_SPAN}
 use Rattle.xhci_trb.specs.declared.Trb.{Trb}
 use Rattle.xhci_trb.specs.declared.Trb.TheVariants.{Normal}
@@ -10,6 +10,7 @@ use Rattle.uas_profile.specs.declared.Direction.TheVariants.{Nothing, ToHost, To
 use Rattle.scsi_cmd.specs.Op.{moved_bytes, direction_of}
 use Rattle.uas_profile.specs.declared.Pipe.{Pipe}
 use Rattle.uas_profile.specs.declared.Pipe.TheVariants.{Command, Status, DataIn, DataOut}
+use Rattle.cycle_ring.specs.Items.{known}
 use Rattle.stream_array.specs.Map.{places_of}
 use Rattle.stream_array.specs.Rings.{LinesState, ring_of, with_ring}
 
@@ -73,7 +74,7 @@ task_td tag = Normal (command_buffer_of tag) 16 0 (record { 0 = 16 }) ∷ []
 -- these TRBs are put on a ring
 abbrev pub put_on : LinesState → Pipe → ℕ → List Trb → LinesState
 put_on lines pipe stream trbs =
-    with_ring lines pipe stream (record (ring_of lines pipe stream) { put = (ring_of lines pipe stream).put ++ trbs })
+    with_ring lines pipe stream (record (ring_of lines pipe stream) { put = (ring_of lines pipe stream).put ++ map known trbs })
 
 -- the data TD of a tag on the pipe of its direction, where bytes move
 abbrev pub with_data_td : LinesState → Direction → ℕ → ℕ → LinesState

@@ -85,7 +85,7 @@ fn ring_pending(lines: &Lines, doors: &mut ArrayVec<u32, STREAM_ENTRIES>, pipe: 
     ensures doors { doors.new.items ≡ doors.old.items ++ pending_door lines.now pipe stream }
     ensures most { array_vec_len doors.new ≤ array_vec_len doors.old + 1 }
 {
-    if lines.front(pipe, stream).is_some() {
+    if lines.front_raw(pipe, stream).is_some() {
         doors.push(doorbell(pipe.target(), stream));
     }
 }

@@ -60,8 +60,7 @@ pub(crate) fn command_td_at(lines: &Lines, pointer: u64) -> Option<EndedTd>
     })
 }
 
-/// The TD whose last TRB, consumed and not reclaimed, is at this address of a stream's ring: its tag is the stream's number, so
-/// that only the Chain bit of the TRB is read.
+/// The TD whose last TRB, consumed and not reclaimed, is at this address of a stream's ring: its tag is the stream's number.
 #[inline(always)]
 pub(crate) fn stream_td_at(lines: &Lines, pipe: Pipe, stream: u16, pointer: u64) -> Option<EndedTd>
     requires streams { HasStreams pipe }
@@ -69,8 +68,8 @@ pub(crate) fn stream_td_at(lines: &Lines, pipe: Pipe, stream: u16, pointer: u64)
     ensures td { result ≡ ended_on lines.now pointer (pipe, stream, 0) }
     ensures known { IfSome result (IsEnded lines.now pointer) }
 {
-    let chain = lines.consumed_chain(pipe, stream, pointer)?;
-    if chain {
+    let trb = lines.consumed(pipe, stream, pointer)?;
+    if trb.has_chain() {
         return None;
     }
     Some(EndedTd { pipe, tag: stream })

@@ -2,7 +2,7 @@
 ghost use Rattle.std.specs.Prelude.{◌≡◌, ◌+◌, ◌-◌, ◌++◌, [], ◌∷◌, ◌<◌, ◌≤◌, IsSome, IfSome, Some, length, true};
 ghost use Rattle.uas_profile.specs.declared.TheConstants.{MAX_CLIENTS, STREAMS, ENGINE_RING_PLACES};
 ghost use Rattle.arrayvec.specs.ArrayVec.{array_vec_len};
-ghost use Rattle.cycle_ring.specs.Ring.{consumed_at};
+ghost use Rattle.cycle_ring.specs.Items.{known_consumed_at};
 ghost use Rattle.uas_host.specs.Events.{engine_doors, handled_engine, handled_stage, is_engine_done, stage_doors, Sides};
 ghost use Rattle.uas_host.specs.Retirement.{engine_freed, moved_lines, retired_host, stopped_lines, with_retirement};
 ghost use Rattle.uas_host.specs.State.{IsRetirement};
@@ -26,7 +26,7 @@ fn is_done(lines: &Lines, pointer: u64, code: u8) -> bool
 
 /// Frees the engine's commands up to and with the one at an address.
 fn free_engine(lines: &mut Lines, pointer: u64)
-    requires { IsSome (consumed_at ENGINE_RING_PLACES lines.old.engine pointer) }
+    requires { IsSome (known_consumed_at ENGINE_RING_PLACES lines.old.engine pointer) }
     ensures lines { lines.new ≡ engine_freed lines.old pointer }
     ensures room { length lines.new.engine.put + 1 ≤ ENGINE_RING_PLACES - 2 }
 {
@@ -40,7 +40,7 @@ impl Host {
     fn stopped(&mut self, lines: &mut Lines, pointer: u64, retirement: Retirement)
         requires retirement { IsRetirement (length self.old.clients) retirement }
         requires clients { length self.old.clients ≤ MAX_CLIENTS }
-        requires consumed { IsSome (consumed_at ENGINE_RING_PLACES lines.old.engine pointer) }
+        requires consumed { IsSome (known_consumed_at ENGINE_RING_PLACES lines.old.engine pointer) }
         ensures host { self.new ≡ with_retirement self.old (record retirement { stage = RetirementStage.Moving }) }
         ensures lines { lines.new ≡ stopped_lines lines.old pointer retirement }
     {
@@ -60,7 +60,7 @@ impl Host {
     fn moved(&mut self, lines: &mut Lines, pointer: u64, retirement: Retirement)
         requires retirement { IsRetirement (length self.old.clients) retirement }
         requires clients { length self.old.clients ≤ MAX_CLIENTS }
-        requires consumed { IsSome (consumed_at ENGINE_RING_PLACES lines.old.engine pointer) }
+        requires consumed { IsSome (known_consumed_at ENGINE_RING_PLACES lines.old.engine pointer) }
         ensures host { self.new ≡ retired_host self.old retirement }
         ensures lines { lines.new ≡ moved_lines lines.old pointer retirement }
     {

@@ -57,7 +57,7 @@ pub(crate) fn move_to_enqueue(lines: &Lines, pipe: Pipe, tag: u16) -> Trb
     }
 }
 
-/// Frees all consumed TRBs of a ring.
+/// Frees all consumed TRBs of a ring, up to the first foreign bytes.
 pub(crate) fn empty(lines: &mut Lines, pipe: Pipe, tag: u16)
     requires ring { HasRing pipe tag }
     requires streams { HasStreams pipe }
@@ -67,7 +67,6 @@ pub(crate) fn empty(lines: &mut Lines, pipe: Pipe, tag: u16)
     while let Some((pointer, _)) = lines.oldest(pipe, tag) {
         lines.reclaim(pipe, tag, pointer);
     }
-    let _ = lines.room(pipe, tag);
 }
 
 impl Host {

@@ -1,14 +1,15 @@
 -- Which item of a ring stands at a place.
 use Rattle.std.proofs.Common.{◌≡◌, ℕ, ◌-◌, ◌%◌, ◌<◌, sym}
-use Rattle.cycle_ring.specs.Ring.{Ring, item_in, place_of}
+use Rattle.cycle_ring.specs.Ring.{item_in, place_of}
+use Rattle.cycle_ring.specs.Items.{ItemRing}
 use Rattle.event_ring.specs.Events.{Events, place_of as event_place_of}
 use Rattle.ring_ends.specs.Counted.{distance}
 use Rattle.ring_ends.specs.EndLaws.{distance-place}
 
-pub item_below : (n : ℕ) (ring : Ring) (place : ℕ) → place < n - 1 → item_in (n - 1) (ring.at % (n - 1)) place < n - 1
+pub item_below : (n : ℕ) (ring : ItemRing) (place : ℕ) → place < n - 1 → item_in (n - 1) (ring.at % (n - 1)) place < n - 1
 item_below n ring place below = (distance-place (n - 1) ring.at place below).0
 
-pub item_stands : (n : ℕ) (ring : Ring) (place : ℕ) → place < n - 1 → place ≡ place_of n ring (item_in (n - 1) (ring.at % (n - 1)) place)
+pub item_stands : (n : ℕ) (ring : ItemRing) (place : ℕ) → place < n - 1 → place ≡ place_of n ring (item_in (n - 1) (ring.at % (n - 1)) place)
 item_stands n ring place below = sym (distance-place (n - 1) ring.at place below).1
 
 pub event_below : (n : ℕ) (events : Events) (place : ℕ) → place < n → distance n (events.at % n) place < n

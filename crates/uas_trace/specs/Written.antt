@@ -4,7 +4,8 @@ use Rattle.std.specs.Prelude.{Option, Some, None, slice_index_or, is_none}
 use Rattle.std.specs.Option.{option_map_or}
 use Rattle.xhci_trb.specs.declared.Trb.{Trb}
 use Rattle.xhci_trb.specs.declared.Trb.TheVariants.{Normal, SetDequeue}
-use Rattle.cycle_ring.specs.Ring.{Ring, front_of, item_image, item_in, link_image, place_of}
+use Rattle.cycle_ring.specs.Ring.{item_in, place_of}
+use Rattle.cycle_ring.specs.Items.{ItemRing, known_front_of, raw_image, raw_link_image}
 use Rattle.ring_ends.specs.Counted.{distance}
 use Rattle.event_ring.specs.Events.{Events, event_image}
 use Rattle.frame_store.specs.declared.Buffer.{Buffer}
@@ -48,7 +49,7 @@ abbrev pub base_in : PutRing → ℕ
 base_in (put.Stream pipe stream) = ring_base pipe stream
 base_in put.Engine = ENGINE_RING
 
-abbrev pub ring_in : LinesState → PutRing → Ring
+abbrev pub ring_in : LinesState → PutRing → ItemRing
 ring_in lines (put.Stream pipe stream) = ring_of lines pipe stream
 ring_in lines put.Engine = lines.engine
 
@@ -57,16 +58,16 @@ IsPutRing (put.Stream pipe stream) = HasRing pipe stream
 IsPutRing put.Engine = Unit {0}
 
 -- the place of the next TRB of a ring of n places
-abbrev pub end_of : ℕ → Ring → ℕ
+abbrev pub end_of : ℕ → ItemRing → ℕ
 end_of n ring = place_of n ring (length ring.put)
 
 -- the bytes of the TRB at a place before the Link's, where one stands
-abbrev pub trb_at : ℕ → Ring → ℕ → Option (List ℕ)
-trb_at n ring place = item_image n ring (item_in (n - 1) (ring.at % (n - 1)) place)
+abbrev pub trb_at : ℕ → ItemRing → ℕ → Option (List ℕ)
+trb_at n ring place = raw_image n ring (item_in (n - 1) (ring.at % (n - 1)) place)
 
 -- the bytes of the Link, which stands once the place before it has its TRB (xHCI 4.11.5.1)
-abbrev pub link_at : ℕ → Ring → Option (List ℕ)
-link_at n ring = link_image n ring (item_in (n - 1) (ring.at % (n - 1)) (n - 2))
+abbrev pub link_at : ℕ → ItemRing → Option (List ℕ)
+link_at n ring = raw_link_image n ring (item_in (n - 1) (ring.at % (n - 1)) (n - 2))
 
 -- the line of bytes, where they stand
 abbrev pub image_line : List ℕ → ℕ → Option (List ℕ) → List ℕ
@@ -109,7 +110,7 @@ ends_of lines tag = record {
 
 -- the first TRB that the controller may take on a tag's ring, and its address
 abbrev pub front_on : LinesState → Pipe → ℕ → Option (ℕ × Trb)
-front_on lines on tag = front_of (places_of on) (ring_of lines on tag)
+front_on lines on tag = known_front_of (places_of on) (ring_of lines on tag)
 
 -- a client's tag for task management is the last of its own
 abbrev pub task_tag : ℕ → ℕ
@@ -125,7 +126,7 @@ seen_writes lines step.CommandPipe = writes.Nothing
 seen_writes lines (step.Data tag) =
     if has_stream tag then writes.Chunk tag (front_on lines pipe.DataIn tag) (front_on lines pipe.DataOut tag) else writes.Nothing
 seen_writes lines (step.Status tag) = if has_stream tag then writes.StatusUnit tag else writes.Nothing
-seen_writes lines step.Engine = writes.Context (front_of ENGINE_RING_PLACES lines.engine)
+seen_writes lines step.Engine = writes.Context (known_front_of ENGINE_RING_PLACES lines.engine)
 seen_writes lines step.Event = writes.EngineCommand (end_of ENGINE_RING_PLACES lines.engine)
 seen_writes lines (step.Retire pipe tag) = writes.EngineCommand (end_of ENGINE_RING_PLACES lines.engine)
 seen_writes lines (step.Take client) = writes.Nothing

@@ -35,8 +35,6 @@ mod reasons;
 mod rounds;
 mod serving;
 mod stepping;
-#[cfg(test)]
-mod tests;
 mod turns;
 mod workers;
 

@@ -1,5 +1,5 @@
 //! The part of those who have no client: which step is next, and booking it.
-ghost use Rattle.std.specs.Prelude.{◌≡◌, true, false, IfSome, IfNone, IfOk, IfErr, OnErr, length};
+ghost use Rattle.std.specs.Prelude.{◌≡◌, true, false, IfSome, IfNone, IfOk, IfErr, IsErrAnd, MatchResult, OnErr, length};
 ghost use Rattle.shared_machine.specs.Bus.{HasTicket};
 ghost use Rattle.shared_machine.specs.Shared.{due};
 ghost use Rattle.uas_work.specs.Booked.{booked_step};
@@ -15,7 +15,8 @@ use stream_array::Pipe;
 /// none of them is due that is always allowed.
 pub fn control<G: Gate>(alloc: Global, booked: &mut Booked, gate: &G) -> Result<bool, Booking>
     ensures took { IfOk result (λ took. TookOrLeft IsControl G.always booked.old booked.new took) }
-    ensures full { IfErr result (λ booking. booking ≡ Booking.LogFull → length booked.old.log.steps ≡ booked.old.limit) }
+    ensures full { length booked.old.log.steps ≡ booked.old.limit → MatchResult result (λ took. took ≡ false) (λ booking. booking ≡ Booking.LogFull) }
+    ensures only_full { IfErr result (λ booking. booking ≡ Booking.LogFull → length booked.old.log.steps ≡ booked.old.limit) }
     ensures err { OnErr result (booked.new ≡ booked.old) }
 {
     match next_control(booked.bus(), gate) {
@@ -29,7 +30,8 @@ pub fn control<G: Gate>(alloc: Global, booked: &mut Booked, gate: &G) -> Result<
 /// always allowed.
 pub fn dispatch<G: Gate>(alloc: Global, booked: &mut Booked, gate: &G) -> Result<bool, Booking>
     ensures took { IfOk result (λ took. TookOrLeft IsDispatch G.always booked.old booked.new took) }
-    ensures full { IfErr result (λ booking. booking ≡ Booking.LogFull → length booked.old.log.steps ≡ booked.old.limit) }
+    ensures full { length booked.old.log.steps ≡ booked.old.limit → MatchResult result (λ took. took ≡ false) (λ booking. booking ≡ Booking.LogFull) }
+    ensures only_full { IfErr result (λ booking. booking ≡ Booking.LogFull → length booked.old.log.steps ≡ booked.old.limit) }
     ensures err { OnErr result (booked.new ≡ booked.old) }
 {
     match next_dispatch(booked.bus(), gate) {
@@ -43,7 +45,8 @@ fn book(alloc: Global, booked: &mut Booked, step: Step) -> Result<bool, Booking>
     requires { HasTicket step }
     ensures took { IfOk result (λ took. took ≡ true) }
     ensures booked { IfOk result (λ took. booked.new ≡ (booked_step booked.old step).0) }
-    ensures full { IfErr result (λ booking. booking ≡ Booking.LogFull → length booked.old.log.steps ≡ booked.old.limit) }
+    ensures full { length booked.old.log.steps ≡ booked.old.limit → IsErrAnd result (λ booking. booking ≡ Booking.LogFull) }
+    ensures only_full { IfErr result (λ booking. booking ≡ Booking.LogFull → length booked.old.log.steps ≡ booked.old.limit) }
     ensures err { OnErr result (booked.new ≡ booked.old) }
 {
     match booked.step(alloc, step) {

@@ -6,7 +6,10 @@ use crate::{Booking, Ended, PumpCount};
 impl PumpCount {
     /// 1, 2 or 4.
     pub fn count(self) -> usize
-        ensures { (result ≡ 1) ⊎ ((result ≡ 2) ⊎ (result ≡ 4)) }
+        ensures some { (result ≡ 1) ⊎ ((result ≡ 2) ⊎ (result ≡ 4)) }
+        ensures one { self ≡ PumpCount.One → result ≡ 1 }
+        ensures two { self ≡ PumpCount.Two → result ≡ 2 }
+        ensures four { self ≡ PumpCount.Four → result ≡ 4 }
     {
         match self {
             PumpCount::One => 1,

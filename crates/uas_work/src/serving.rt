@@ -1,5 +1,5 @@
 //! The part of a pump: it books what its clients posted on the desk, and brings home what it came to.
-ghost use Rattle.std.specs.Prelude.{◌≡◌, ℕ, ◌+◌, ◌-◌, ◌*◌, ◌/◌, ◌<◌, ◌≤◌, ◌^◌, IfOk, IfErr, IfSome, IfNone, IsErrAnd, None, Some, true, length, slice_index_or};
+ghost use Rattle.std.specs.Prelude.{◌≡◌, ℕ, ◌+◌, ◌-◌, ◌*◌, ◌/◌, ◌<◌, ◌≤◌, ◌^◌, IfOk, IfErr, IfSome, IfNone, IsErrAnd, MatchResult, None, Some, false, true, length, slice_index_or};
 ghost use Rattle.uas_profile.specs.declared.TheConstants.{MAX_CLIENTS, TAGS};
 ghost use Rattle.shared_machine.specs.declared.Step.{Step};
 ghost use Rattle.shared_machine.specs.Bus.{HasTicket};
@@ -37,7 +37,8 @@ pub fn pump_in(
     ensures same { IfErr result (λ booking. booked.new ≡ booked.old) }
     ensures gave_up { IfErr result (λ booking. GaveUpIn desk.now client (turns_in client booked.old.log.steps)
         (record { seat = seat.old; held = held.old }) (record { seat = seat.new; held = held.new })) }
-    ensures full { IfErr result (λ booking. booking ≡ Booking.LogFull → length booked.old.log.steps ≡ booked.old.limit) }
+    ensures full { length booked.old.log.steps ≡ booked.old.limit → MatchResult result (λ took. took ≡ false) (λ booking. booking ≡ Booking.LogFull) }
+    ensures only_full { IfErr result (λ booking. booking ≡ Booking.LogFull → length booked.old.log.steps ≡ booked.old.limit) }
     ensures own { IsPumpOf desk.now seat.new }
     ensures held { AreHeldBy desk.now seat.new held.new }
 {
@@ -185,7 +186,8 @@ fn submit(
         ≡ submitted (booked_step booked.old step).1.refused claim (record { seat = seat.old; held = held.old })) }
     ensures same { IfErr result (λ booking. booked.new ≡ booked.old) }
     ensures gave_up { IfErr result (λ booking. GaveUpWith claim (brought step) (record { seat = seat.old; held = held.old }) (record { seat = seat.new; held = held.new })) }
-    ensures full { IfErr result (λ booking. booking ≡ Booking.LogFull → length booked.old.log.steps ≡ booked.old.limit) }
+    ensures full { length booked.old.log.steps ≡ booked.old.limit → IsErrAnd result (λ booking. booking ≡ Booking.LogFull) }
+    ensures only_full { IfErr result (λ booking. booking ≡ Booking.LogFull → length booked.old.log.steps ≡ booked.old.limit) }
     ensures own { IsPumpOf desk.now seat.new }
     ensures held { AreHeldBy desk.now seat.new held.new }
 {

@@ -1,3 +1,3 @@
 mod Chunks
-mod ChunksRead
-mod ChunksWritten
+pub mod ChunksRead
+pub mod ChunksWritten

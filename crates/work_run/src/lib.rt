@@ -23,8 +23,6 @@ mod faults;
 mod run;
 mod saved;
 mod tallies;
-#[cfg(test)]
-mod tests;
 
 pub use run::run_work;
 pub use saved::run_saved_work;

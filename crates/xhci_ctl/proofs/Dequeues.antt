@@ -5,11 +5,12 @@ use Rattle.std.specs.Prelude.{IsOk, OnErr, is_some}
 use Rattle.std.specs.Option.{option_map_or}
 use Rattle.std.specs.Result.{is_ok}
 use Rattle.std.proofs.lemmas.Bool.{cases_Bool, cases_eq, le-leb, leb-true}
-use Rattle.cycle_ring.specs.Ring.{Ring, IsRing, IsEnqueuePlace, IsPending, AddressesNameItems, NamedItemsHaveAddresses, pointer_of, cycle_of, item_at}
+use Rattle.cycle_ring.specs.Ring.{IsEnqueuePlace, IsPending, AddressesNameItemsOf, NamedItemsHaveAddressesOf, pointer_of, cycle_of, item_at}
+use Rattle.cycle_ring.specs.Items.{Item, ItemRing, IsItemRing}
 use Rattle.xhci_ctl.specs.Engine.{is_state, dequeued_to, dequeued_at}
 
 -- item k is pending or at the enqueue place, and this is its address and its Cycle bit
-pub record StandsAt (n : ℕ) (ring : Ring) (k pointer : ℕ) (cycle : Bool) : Type 0 where
+pub record StandsAt (n : ℕ) (ring : ItemRing) (k pointer : ℕ) (cycle : Bool) : Type 0 where
   pub consumed : ring.got ≤ k
   pub put : k ≤ length ring.put
   pub address : pointer ≡ pointer_of n ring k
@@ -24,7 +25,7 @@ is_state-only true cycle is = sym is
 is_state-only false true is = absurd (cc)
 is_state-only false false is = refl
 
-pub dequeued-stands : (named : AddressesNameItems) (n k pointer : ℕ) (ring : Ring) (cycle : Bool) → IsRing n ring
+pub dequeued-stands : (named : AddressesNameItemsOf Item) (n k pointer : ℕ) (ring : ItemRing) (cycle : Bool) → IsItemRing n ring
     → StandsAt n ring k pointer cycle → dequeued_at n ring pointer cycle ≡ Some (record ring { got = k })
 dequeued-stands named n k pointer ring cycle is stands =
     let below : k < n - 1 = omega (arith, is.least_places, is.room_left, stands.put) in
@@ -37,7 +38,7 @@ dequeued-stands named n k pointer ring cycle is stands =
     ) refl
 
 -- an item that the end can't stand at
-dequeued_to-none : (n k : ℕ) (ring : Ring) (cycle : Bool)
+dequeued_to-none : (n k : ℕ) (ring : ItemRing) (cycle : Bool)
     → (ring.got ≤ k → k ≤ length ring.put → cycle ≡ cycle_of n ring k → ⊥) → dequeued_to n ring cycle k ≡ None
 dequeued_to-none n k ring cycle nowhere =
     elim (cases_Bool (nat_le ring.got k)) as (λ _. dequeued_to n ring cycle k ≡ None) [
@@ -52,12 +53,12 @@ dequeued_to-none n k ring cycle nowhere =
       ]
     ]
 
-dequeued-none_at : (n pointer : ℕ) (ring : Ring) (cycle : Bool) (item : Option ℕ)
+dequeued-none_at : (n pointer : ℕ) (ring : ItemRing) (cycle : Bool) (item : Option ℕ)
     → ((k : ℕ) → item ≡ Some k → dequeued_to n ring cycle k ≡ None) → option_and_then (dequeued_to n ring cycle) item ≡ None
 dequeued-none_at n pointer ring cycle None none = refl
 dequeued-none_at n pointer ring cycle (Some k) none = none k refl
 
-pub dequeued-none : (only : NamedItemsHaveAddresses) (n pointer : ℕ) (ring : Ring) (cycle : Bool) → IsRing n ring
+pub dequeued-none : (only : NamedItemsHaveAddressesOf Item) (n pointer : ℕ) (ring : ItemRing) (cycle : Bool) → IsItemRing n ring
     → ((k : ℕ) → StandsAt n ring k pointer cycle → ⊥) → dequeued_at n ring pointer cycle ≡ None
 dequeued-none only n pointer ring cycle is nowhere =
     dequeued-none_at n pointer ring cycle (item_at n ring pointer)
@@ -67,20 +68,20 @@ dequeued-none only n pointer ring cycle is nowhere =
     nowhere k (record { consumed = consumed; put = put; address = (only n k pointer ring is.least_places at).1; state = state })))
 
 -- a ring's consumer's end is pending, or at the enqueue place
-stands-pending : (n k pointer : ℕ) (ring : Ring) (cycle : Bool) → IsPending n ring k pointer cycle → StandsAt n ring k pointer cycle
+stands-pending : (n k pointer : ℕ) (ring : ItemRing) (cycle : Bool) → IsPending n ring k pointer cycle → StandsAt n ring k pointer cycle
 stands-pending n k pointer ring cycle pending =
     record { consumed = pending.0; put = omega (arith, pending.1); address = pending.2; state = pending.3 }
 
-stands-enqueue : (n pointer : ℕ) (ring : Ring) (cycle : Bool) → IsRing n ring → IsEnqueuePlace n ring pointer cycle
+stands-enqueue : (n pointer : ℕ) (ring : ItemRing) (cycle : Bool) → IsItemRing n ring → IsEnqueuePlace n ring pointer cycle
     → StandsAt n ring (length ring.put) pointer cycle
 stands-enqueue n pointer ring cycle is place =
     record { consumed = is.consumed; put = omega arith; address = place.0; state = place.1 }
 
-abbrev pub MayStand : ℕ → Ring → ℕ → Bool → Type 0
+abbrev pub MayStand : ℕ → ItemRing → ℕ → Bool → Type 0
 MayStand n ring pointer cycle = IsEnqueuePlace n ring pointer cycle ⊎ ((k : ℕ) × IsPending n ring k pointer cycle)
 
 -- which of the two a place is
-may-stand : (n k pointer : ℕ) (ring : Ring) (cycle : Bool) → StandsAt n ring k pointer cycle → MayStand n ring pointer cycle
+may-stand : (n k pointer : ℕ) (ring : ItemRing) (cycle : Bool) → StandsAt n ring k pointer cycle → MayStand n ring pointer cycle
 may-stand n k pointer ring cycle stands =
     elim (cases_eq k (length ring.put)) as (λ _. MayStand n ring pointer cycle) [
       | inl last ↦ inl (rw last at stands.address, rw last at stands.state)
@@ -88,8 +89,8 @@ may-stand n k pointer ring cycle stands =
     ]
 
 -- What a call that moves the end tells, against the ring that has it there: old and new lines, and what putting a ring there makes.
-pub moved-dequeued : {L T E : Type 0} (named : AddressesNameItems) (only : NamedItemsHaveAddresses) (n pointer : ℕ) (ring : Ring)
-    (cycle : Bool) (old new : L) (set : Ring → L) (result : Result T E) → IsRing n ring → (IsOk result ↔ MayStand n ring pointer cycle)
+pub moved-dequeued : {L T E : Type 0} (named : AddressesNameItemsOf Item) (only : NamedItemsHaveAddressesOf Item) (n pointer : ℕ) (ring : ItemRing)
+    (cycle : Bool) (old new : L) (set : ItemRing → L) (result : Result T E) → IsItemRing n ring → (IsOk result ↔ MayStand n ring pointer cycle)
     → (IsEnqueuePlace n ring pointer cycle → new ≡ set (record ring { got = length ring.put }))
     → ((k : ℕ) → IsPending n ring k pointer cycle → new ≡ set (record ring { got = k })) → OnErr result (new ≡ old)
     → (is_ok result ≡ is_some (dequeued_at n ring pointer cycle)) × (new ≡ option_map_or set (dequeued_at n ring pointer cycle) old)

@@ -5,7 +5,8 @@ use Rattle.std.specs.Option.{option_map_or}
 use Rattle.uas_profile.specs.PipeStates.{stopped_pipe}
 use Rattle.xhci_trb.specs.declared.Trb.{Trb}
 use Rattle.xhci_trb.specs.declared.Trb.TheVariants.{Normal, Link, StopEndpoint, SetDequeue, TransferEvent, CommandEvent}
-use Rattle.cycle_ring.specs.Ring.{Ring, cycle_of, front_of, item_at}
+use Rattle.cycle_ring.specs.Ring.{cycle_of, item_at}
+use Rattle.cycle_ring.specs.Items.{ItemRing}
 use Rattle.event_ring.specs.declared.Event.TheVariants.{Command as CommandDone}
 use Rattle.uas_profile.specs.declared.Pipe.{Pipe}
 use Rattle.uas_profile.specs.declared.Pipe.TheVariants.{Command, Status, DataIn, DataOut}
@@ -19,7 +20,7 @@ use Rattle.uas_profile.specs.declared.PipeState.{PipeState}
 use Rattle.uas_profile.specs.declared.TheConstants.{CONTEXT_STATE_ERROR, INVALID_STREAM_ID, SLOT, SUCCESS, TRB_ERROR}
 use Rattle.xhci_ctl.specs.Doorbells.{pipe_at}
 use Rattle.xhci_ctl.specs.Pipes.{ControllerState, is_running}
-use Rattle.xhci_ctl.specs.Steps.{has_event_room, posted}
+use Rattle.xhci_ctl.specs.Steps.{front_at, has_event_room, posted}
 
 -- the pipe with streams whose endpoint a command names, of the one slot. Worked: endpoint 5 of slot 1 is data-in
 abbrev pub commanded_pipe : ℕ → ℕ → Option Pipe
@@ -46,16 +47,16 @@ is_state false cycle = not cycle
 
 -- The ring with its consumer's end at item k: a pending one, or the enqueue place, where nothing is pending then. The cycle
 -- state is that place's.
-abbrev pub dequeued_to : ℕ → Ring → Bool → ℕ → Option Ring
+abbrev pub dequeued_to : ℕ → ItemRing → Bool → ℕ → Option ItemRing
 dequeued_to n ring cycle k =
     if nat_le ring.got k && (nat_le k (length ring.put) && is_state cycle (cycle_of n ring k)) then Some (record ring { got = k }) else None
 
 -- the same by the item's address
-abbrev pub dequeued_at : ℕ → Ring → ℕ → Bool → Option Ring
+abbrev pub dequeued_at : ℕ → ItemRing → ℕ → Bool → Option ItemRing
 dequeued_at n ring pointer cycle = option_and_then (dequeued_to n ring cycle) (item_at n ring pointer)
 
 -- the ring of a stream with its consumer's end there; a stream past the last one has no ring
-abbrev pub dequeued_on : LinesState → Pipe → ℕ → ℕ → Bool → Option Ring
+abbrev pub dequeued_on : LinesState → Pipe → ℕ → ℕ → Bool → Option ItemRing
 dequeued_on lines pipe stream pointer cycle =
     if has_stream stream then dequeued_at (places_of pipe) (ring_of lines pipe stream) pointer cycle else None
 
@@ -69,33 +70,34 @@ set_dequeue controller lines pipe stream pointer cycle =
 
 -- A STEP
 
--- what a command does to controller and rings, and its completion code; of any other TRB, slot or endpoint nothing
-abbrev pub executed : ControllerState × LinesState → Trb → (ControllerState × LinesState) × ℕ
-executed (controller, lines) (StopEndpoint endpoint slot) =
+-- what a command does to controller and rings, and its completion code; of any other TRB, slot or endpoint, and of foreign bytes, nothing
+abbrev pub executed : ControllerState × LinesState → Option Trb → (ControllerState × LinesState) × ℕ
+executed (controller, lines) (Some (StopEndpoint endpoint slot)) =
     option_map_or (λ pipe. let done = stop_endpoint controller pipe in ((done.0, lines), done.1))
     (commanded_pipe endpoint slot) ((controller, lines), TRB_ERROR)
-executed (controller, lines) (SetDequeue pointer cycle stream endpoint slot) =
+executed (controller, lines) (Some (SetDequeue pointer cycle stream endpoint slot)) =
     option_map_or (λ pipe. let done = set_dequeue controller lines pipe stream pointer cycle in ((controller, done.0), done.1))
     (commanded_pipe endpoint slot) ((controller, lines), TRB_ERROR)
-executed sides (Normal pointer length td_size flags) = (sides, TRB_ERROR)
-executed sides (Link pointer toggle chain ioc) = (sides, TRB_ERROR)
-executed sides (TransferEvent pointer residual code endpoint slot) = (sides, TRB_ERROR)
-executed sides (CommandEvent pointer code slot) = (sides, TRB_ERROR)
+executed sides (Some (Normal pointer length td_size flags)) = (sides, TRB_ERROR)
+executed sides (Some (Link pointer toggle chain ioc)) = (sides, TRB_ERROR)
+executed sides (Some (TransferEvent pointer residual code endpoint slot)) = (sides, TRB_ERROR)
+executed sides (Some (CommandEvent pointer code slot)) = (sides, TRB_ERROR)
+executed sides None = (sides, TRB_ERROR)
 
--- the front TRB of the command ring is consumed
+-- the first pending item of the command ring is consumed
 abbrev pub engine_consumed : LinesState → LinesState
 engine_consumed lines = with_engine lines (record lines.engine { got = lines.engine.got + 1 })
 
 -- The command in front of the ring is executed and consumed, and the event of its address is posted. Worked: of the command at
 -- place 1 that is 10h 00h 00h 50h and seven zeros, 01h, 01h 84h 00h 01h.
-abbrev pub engine_did : ControllerState × LinesState → ℕ × Trb → (ControllerState × LinesState) × Acted
+abbrev pub engine_did : ControllerState × LinesState → ℕ × Option Trb → (ControllerState × LinesState) × Acted
 engine_did sides front =
     let done = executed sides front.1 in
     ((done.0.0, posted (engine_consumed done.0.1) (CommandDone front.0 done.1 SLOT)), ActedOn 0)
 
 -- the command in front of the ring, while the event ring has room
-abbrev pub engine_front : LinesState → Option (ℕ × Trb)
-engine_front lines = if has_event_room lines then front_of ENGINE_RING_PLACES lines.engine else None
+abbrev pub engine_front : LinesState → Option (ℕ × Option Trb)
+engine_front lines = if has_event_room lines then front_at ENGINE_RING_PLACES lines.engine else None
 
 -- a step of the command ring; it is Idle where there is no such command
 abbrev pub engine_acted : ControllerState × LinesState → (ControllerState × LinesState) × Acted

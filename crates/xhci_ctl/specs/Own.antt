@@ -1,9 +1,8 @@
--- The host's own TRBs: what a step asks of the TRB in front of its ring.
-use Rattle.std.specs.Prelude.{◌≡◌, ℕ, ◌/◌, ◌%◌, ◌<◌, ◌≤◌, List, length as list_length, Option, Some, IfSome}
+-- Which TRBs a step carries out. Any other is foreign: it is stepped over, with an event of TRB Error.
+use Rattle.std.specs.Prelude.{◌≡◌, ℕ, ◌/◌, ◌%◌, ◌<◌, ◌≤◌, List, length as list_length, Option, Some, None, IfSome}
 use Rattle.xhci_trb.specs.declared.Trb.{Trb}
 use Rattle.xhci_trb.specs.declared.Trb.TheVariants.{Normal, Link, StopEndpoint, SetDequeue, TransferEvent, CommandEvent}
-use Rattle.cycle_ring.specs.Ring.{front_of}
-use Rattle.uas_profile.specs.declared.TheConstants.{COMMAND_RING_PLACES, STREAM_RING_PLACES}
+use Rattle.uas_profile.specs.declared.TheConstants.{COMMAND_RING_PLACES}
 use Rattle.uas_profile.specs.declared.Pipe.{Pipe}
 use Rattle.uas_profile.specs.declared.Pipe.TheVariants.{Status, DataIn, DataOut}
 use Rattle.stream_array.specs.Map.{HasRing, places_of}
@@ -15,59 +14,82 @@ use Rattle.uas_iu.specs.Units.{unit_text}
 use Rattle.uas_target.specs.declared.Phase.{Phase}
 use Rattle.uas_target.specs.declared.Phase.TheVariants.{Absent, Gives, Takes, Ends}
 use Rattle.uas_profile.specs.declared.TheConstants.{COMMAND_BYTES, MOST_EVENTS}
+use Rattle.xhci_ctl.specs.Pipes.{ControllerState}
+use Rattle.xhci_ctl.specs.Steps.{armed_front, front_at}
 
--- Normal, without Evaluate Next TRB (ENT) and without Immediate Data (IDT), and all its bytes are bytes of one buffer
-abbrev pub IsOwn : List TagBuffers → Trb → Type 0
-IsOwn frames (Normal pointer length td_size flags) =
+-- Normal, without Evaluate Next TRB (ENT) and without Immediate Data (IDT), and all its bytes are bytes of one buffer. Foreign bytes are
+-- no TRB.
+abbrev pub IsOwn : List TagBuffers → Option Trb → Type 0
+IsOwn frames (Some (Normal pointer length td_size flags)) =
     (flags.0 % 2 ≡ 0) × (flags.0 / 32 % 2 ≡ 0) × IsNamed frames pointer length
-IsOwn frames (Link pointer toggle chain ioc) = ⊥
-IsOwn frames (StopEndpoint endpoint slot) = ⊥
-IsOwn frames (SetDequeue pointer cycle stream endpoint slot) = ⊥
-IsOwn frames (TransferEvent pointer residual code endpoint slot) = ⊥
-IsOwn frames (CommandEvent pointer code slot) = ⊥
+IsOwn frames (Some (Link pointer toggle chain ioc)) = ⊥
+IsOwn frames (Some (StopEndpoint endpoint slot)) = ⊥
+IsOwn frames (Some (SetDequeue pointer cycle stream endpoint slot)) = ⊥
+IsOwn frames (Some (TransferEvent pointer residual code endpoint slot)) = ⊥
+IsOwn frames (Some (CommandEvent pointer code slot)) = ⊥
+IsOwn frames None = ⊥
 
 -- how many bytes a TRB names
-abbrev pub length_of : Trb → ℕ
-length_of (Normal pointer length td_size flags) = length
-length_of (Link pointer toggle chain ioc) = 0
-length_of (StopEndpoint endpoint slot) = 0
-length_of (SetDequeue pointer cycle stream endpoint slot) = 0
-length_of (TransferEvent pointer residual code endpoint slot) = 0
-length_of (CommandEvent pointer code slot) = 0
+abbrev pub length_of : Option Trb → ℕ
+length_of (Some (Normal pointer length td_size flags)) = length
+length_of (Some (Link pointer toggle chain ioc)) = 0
+length_of (Some (StopEndpoint endpoint slot)) = 0
+length_of (Some (SetDequeue pointer cycle stream endpoint slot)) = 0
+length_of (Some (TransferEvent pointer residual code endpoint slot)) = 0
+length_of (Some (CommandEvent pointer code slot)) = 0
+length_of None = 0
 
 -- of the command pipe: at most a Command unit
-abbrev pub IsOwnCommand : List TagBuffers → Trb → Type 0
+abbrev pub IsOwnCommand : List TagBuffers → Option Trb → Type 0
 IsOwnCommand frames trb = IsOwn frames trb × (length_of trb ≤ COMMAND_BYTES)
 
 -- of a data stream: as many bytes as the device's next chunk
-abbrev pub IsOwnData : List TagBuffers → ℕ → Trb → Type 0
+abbrev pub IsOwnData : List TagBuffers → ℕ → Option Trb → Type 0
 IsOwnData frames size trb = IsOwn frames trb × (length_of trb ≡ size)
 
 -- of a status stream: at least the bytes of the device's unit
-abbrev pub IsOwnStatus : List TagBuffers → Iu → Trb → Type 0
+abbrev pub IsOwnStatus : List TagBuffers → Iu → Option Trb → Type 0
 IsOwnStatus frames unit trb = IsOwn frames trb × (list_length (unit_text unit) ≤ length_of trb)
+
+-- Of a data-in stream: as many bytes as the device's next chunk, while it gives one.
+abbrev pub IsOwnIn : List TagBuffers → Phase → Option Trb → Type 0
+IsOwnIn frames Absent trb = IsOwn frames trb
+IsOwnIn frames (Gives size) trb = IsOwnData frames size trb
+IsOwnIn frames (Takes size) trb = IsOwn frames trb
+IsOwnIn frames Ends trb = IsOwn frames trb
+
+-- Of a data-out stream: as many bytes as the device's next chunk, while it takes one.
+abbrev pub IsOwnOut : List TagBuffers → Phase → Option Trb → Type 0
+IsOwnOut frames Absent trb = IsOwn frames trb
+IsOwnOut frames (Gives size) trb = IsOwn frames trb
+IsOwnOut frames (Takes size) trb = IsOwnData frames size trb
+IsOwnOut frames Ends trb = IsOwn frames trb
+
+-- Of a status stream: at least the bytes of the device's unit, while it has one to send.
+abbrev pub IsOwnAnswer : List TagBuffers → Phase → Option Iu → Option Trb → Type 0
+IsOwnAnswer frames Absent answer trb = IsOwn frames trb
+IsOwnAnswer frames (Gives size) answer trb = IsOwn frames trb
+IsOwnAnswer frames (Takes size) answer trb = IsOwn frames trb
+IsOwnAnswer frames Ends None trb = IsOwn frames trb
+IsOwnAnswer frames Ends (Some unit) trb = IsOwnStatus frames unit trb
 
 -- the TRB in front of the command pipe's ring, if there is one
 abbrev pub IsOwnCommandFront : LinesState → List TagBuffers → Type 0
-IsOwnCommandFront lines frames = IfSome (front_of COMMAND_RING_PLACES lines.command) (λ front. IsOwnCommand frames front.1)
+IsOwnCommandFront lines frames = IfSome (front_at COMMAND_RING_PLACES lines.command) (λ front. IsOwnCommand frames front.1)
 
--- the TRB in front of the tag's data stream, of the way in which the device moves data on it
-abbrev pub IsOwnDataFront : LinesState → List TagBuffers → ℕ → Phase → Type 0
-IsOwnDataFront lines frames tag Absent = Unit {0}
-IsOwnDataFront lines frames tag (Gives size) =
-    IfSome (front_of STREAM_RING_PLACES (ring_of lines DataIn tag)) (λ front. IsOwnData frames size front.1)
-IsOwnDataFront lines frames tag (Takes size) =
-    IfSome (front_of STREAM_RING_PLACES (ring_of lines DataOut tag)) (λ front. IsOwnData frames size front.1)
-IsOwnDataFront lines frames tag Ends = Unit {0}
+-- the TRBs in front of a tag's data streams that a step may take, by what the device does next on the tag
+pub record IsOwnDataFront (controller : ControllerState) (lines : LinesState) (frames : List TagBuffers) (tag : ℕ) (phase : Phase) : Type 0 where
+  pub data_in : IfSome (armed_front controller lines DataIn tag) (λ front. IsOwnIn frames phase front.1)
+  pub data_out : IfSome (armed_front controller lines DataOut tag) (λ front. IsOwnOut frames phase front.1)
 
--- the TRB in front of the tag's status stream, where the device has a unit to send on it
-abbrev pub IsOwnStatusFront : LinesState → List TagBuffers → ℕ → Option Iu → Type 0
-IsOwnStatusFront lines frames tag answer =
-    IfSome answer (λ unit. IfSome (front_of STREAM_RING_PLACES (ring_of lines Status tag)) (λ front. IsOwnStatus frames unit front.1))
+-- the TRB in front of a tag's status stream that a step may take, by what the device does next on the tag and its unit
+abbrev pub IsOwnStatusFront : ControllerState → LinesState → List TagBuffers → ℕ → Phase → Option Iu → Type 0
+IsOwnStatusFront controller lines frames tag phase answer =
+    IfSome (armed_front controller lines Status tag) (λ front. IsOwnAnswer frames phase answer front.1)
 
--- this TRB stands in front of a ring that is there, and the event ring has room
-pub record IsTakeable (lines : LinesState) (pipe : Pipe) (stream : ℕ) (trb : ℕ × Trb) : Type 0 where
+-- this item stands in front of a ring that is there, and the event ring has room
+pub record IsTakeable (lines : LinesState) (pipe : Pipe) (stream : ℕ) (at : ℕ × Option Trb) : Type 0 where
   pub ring : HasRing pipe stream
-  pub front : front_of (places_of pipe) (ring_of lines pipe stream) ≡ Some trb
+  pub front : front_at (places_of pipe) (ring_of lines pipe stream) ≡ Some at
   pub pending : (ring_of lines pipe stream).got < list_length (ring_of lines pipe stream).put
   pub room : list_length lines.events.pending < MOST_EVENTS

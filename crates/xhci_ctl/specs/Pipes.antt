@@ -1,7 +1,7 @@
 -- The pipes with streams as the controller keeps them, and which streams are armed (xHCI 4.7, 4.12).
 use Rattle.std.specs.Prelude.{ℕ, Bool, true, false, ◌&&◌, ◌==◌, nat_lt, length, slice_set, slice_index_or, replicate}
 use Rattle.uas_profile.specs.PipeStates.{new_pipe, is_open}
-use Rattle.cycle_ring.specs.Ring.{Ring}
+use Rattle.cycle_ring.specs.Items.{ItemRing}
 use Rattle.uas_profile.specs.declared.Pipe.{Pipe}
 use Rattle.uas_profile.specs.declared.Pipe.TheVariants.{Command, Status, DataIn, DataOut}
 use Rattle.uas_profile.specs.declared.TheConstants.{STREAM_ENTRIES}
@@ -25,8 +25,8 @@ is_running controller Status = controller.status.runs
 is_running controller DataIn = controller.data_in.runs
 is_running controller DataOut = controller.data_out.runs
 
--- a ring has a pending TRB
-abbrev pub has_pending : Ring → Bool
+-- a ring has a pending TRB, or pending foreign bytes
+abbrev pub has_pending : ItemRing → Bool
 has_pending ring = nat_lt ring.got (length ring.put)
 
 -- a stream with a ring is open on its pipe; the command pipe's one ring always is

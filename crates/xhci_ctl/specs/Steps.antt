@@ -1,11 +1,12 @@
 -- What each step makes of rings, memory and device (xHCI 4.11, 6.4.2.1), and its answer.
 use Rattle.std.specs.Prelude.{ℕ, ◌+◌, ◌-◌, nat_lt, Bool, true, false, if◌then◌else◌, List, [], ◌∷◌, ◌++◌, length as list_length, Option}
-use Rattle.std.specs.Prelude.{None, Some, is_some, option_and_then, Result, Ok, Err}
+use Rattle.std.specs.Prelude.{None, Some, is_some, option_and_then, option_map, slice_get, Result, Ok, Err}
 use Rattle.std.specs.Option.{option_map_or}
 use Rattle.xhci_trb.specs.declared.Trb.{Trb}
 use Rattle.xhci_trb.specs.declared.Trb.TheVariants.{Normal, Link, StopEndpoint, SetDequeue, TransferEvent, CommandEvent}
 use Rattle.xhci_trb.specs.Text.{has_chain}
-use Rattle.cycle_ring.specs.Ring.{front_of}
+use Rattle.cycle_ring.specs.Ring.{pointer_of}
+use Rattle.cycle_ring.specs.Items.{ItemRing, known_of}
 use Rattle.event_ring.specs.declared.Event.{Event}
 use Rattle.event_ring.specs.declared.Event.TheVariants.{Transfer}
 use Rattle.uas_profile.specs.declared.Pipe.{Pipe}
@@ -25,7 +26,7 @@ use Rattle.uas_target.specs.declared.Took.TheVariants.{Began, Dropped}
 use Rattle.xhci_ctl.specs.declared.Acted.{Acted}
 use Rattle.xhci_ctl.specs.declared.Acted.TheVariants.{Acted as ActedOn, Idle}
 use Rattle.uas_profile.specs.declared.TheConstants.{COMMAND_ENDPOINT, DATA_IN_ENDPOINT, DATA_OUT_ENDPOINT, MOST_EVENTS, SHORT_PACKET, SLOT}
-use Rattle.uas_profile.specs.declared.TheConstants.{STATUS_ENDPOINT, SUCCESS}
+use Rattle.uas_profile.specs.declared.TheConstants.{STATUS_ENDPOINT, SUCCESS, TRB_ERROR}
 use Rattle.uas_profile.specs.declared.TheConstants.{STATUS_BYTES}
 use Rattle.xhci_ctl.specs.Pipes.{ControllerState, is_armed}
 
@@ -40,6 +41,10 @@ sides_of lines frames device = record { lines = lines; frames = frames; device =
 
 -- THE TRB THAT A STEP TAKES, AND ITS EVENT
 
+-- the first pending item of a ring: its address and its TRB, none of foreign bytes
+abbrev pub front_at : ℕ → ItemRing → Option (ℕ × Option Trb)
+front_at n ring = option_map (λ item. (pointer_of n ring ring.got, known_of item)) (slice_get ring.put ring.got)
+
 -- a TRB in front of a ring: its address, the bytes that it names, and whether its TD goes on behind it
 pub record Front : Type 0 where
   pub address : ℕ
@@ -47,33 +52,34 @@ pub record Front : Type 0 where
   pub length : ℕ
   pub chain : Bool
 
--- a TRB that isn't Normal is asked not to be there; nothing comes of it
-abbrev pub front_in : ℕ × Trb → Option Front
-front_in (address, Normal pointer length td_size flags) = Some (record {
+-- what isn't a Normal TRB isn't one to carry out (specs/Own), so nothing comes of it here
+abbrev pub front_in : ℕ × Option Trb → Option Front
+front_in (address, Some (Normal pointer length td_size flags)) = Some (record {
   address = address;
   pointer = pointer;
   length = length;
   chain = has_chain (Normal pointer length td_size flags);
 })
-front_in (address, Link pointer toggle chain ioc) = None
-front_in (address, StopEndpoint endpoint slot) = None
-front_in (address, SetDequeue pointer cycle stream endpoint slot) = None
-front_in (address, TransferEvent pointer residual code endpoint slot) = None
-front_in (address, CommandEvent pointer code slot) = None
+front_in (address, Some (Link pointer toggle chain ioc)) = None
+front_in (address, Some (StopEndpoint endpoint slot)) = None
+front_in (address, Some (SetDequeue pointer cycle stream endpoint slot)) = None
+front_in (address, Some (TransferEvent pointer residual code endpoint slot)) = None
+front_in (address, Some (CommandEvent pointer code slot)) = None
+front_in (address, None) = None
 
 -- the event ring has room for one more
 abbrev pub has_event_room : LinesState → Bool
 has_event_room lines = nat_lt (list_length lines.events.pending) MOST_EVENTS
 
--- the TRB in front of a ring, while the event ring has room
-abbrev pub room_front : LinesState → Pipe → ℕ → Option (ℕ × Trb)
-room_front lines pipe stream = if has_event_room lines then front_of (places_of pipe) (ring_of lines pipe stream) else None
+-- what is in front of a ring, while the event ring has room
+abbrev pub room_front : LinesState → Pipe → ℕ → Option (ℕ × Option Trb)
+room_front lines pipe stream = if has_event_room lines then front_at (places_of pipe) (ring_of lines pipe stream) else None
 
 -- the same of a stream that is armed
-abbrev pub armed_front : ControllerState → LinesState → Pipe → ℕ → Option (ℕ × Trb)
+abbrev pub armed_front : ControllerState → LinesState → Pipe → ℕ → Option (ℕ × Option Trb)
 armed_front controller lines pipe stream = if is_armed controller lines pipe stream then room_front lines pipe stream else None
 
--- the front TRB of a ring is consumed
+-- the first pending item of a ring is consumed
 abbrev pub consumed : LinesState → Pipe → ℕ → LinesState
 consumed lines pipe stream =
     with_ring lines pipe stream (record (ring_of lines pipe stream) { got = (ring_of lines pipe stream).got + 1 })
@@ -89,13 +95,18 @@ endpoint_of Status = STATUS_ENDPOINT
 endpoint_of DataIn = DATA_IN_ENDPOINT
 endpoint_of DataOut = DATA_OUT_ENDPOINT
 
--- the front TRB of a ring is consumed, and the event of its address is posted
+-- the first pending item of a ring is consumed, and the event of its address is posted
 abbrev pub completed : LinesState → Pipe → ℕ → ℕ → ℕ → ℕ → LinesState
 completed lines pipe stream address residual code =
     posted (consumed lines pipe stream) (Transfer address residual code (endpoint_of pipe) SLOT)
 
+-- A foreign TRB in front of a ring, or foreign bytes, are stepped over: the item is consumed, and its event has code TRB Error and residual 0. The endpoint runs
+-- on. Worked: at address 43012000h on data-in it is 00h 20h 01h 43h, seven zeros, 05h, 01h 80h 05h 01h.
+abbrev pub stepped_over : Sides → Pipe → ℕ → ℕ → ℕ → Sides × Acted
+stepped_over sides pipe stream address tag = (record sides { lines = completed sides.lines pipe stream address 0 TRB_ERROR }, ActedOn tag)
+
 -- what a step makes of the TRB in front of its ring; it is Idle where there is none
-abbrev pub on_front : Sides → (Front → Sides × Acted) → Option (ℕ × Trb) → Sides × Acted
+abbrev pub on_front : Sides → (Front → Sides × Acted) → Option (ℕ × Option Trb) → Sides × Acted
 on_front sides step front = option_map_or step (option_and_then front_in front) (sides, Idle)
 
 -- THE COMMAND PIPE

@@ -48,23 +48,25 @@ impl Controller {
     }
 
     // Does what a command asks for: its completion code.
-    fn execute(&mut self, lines: &mut Lines, command: Trb) -> u8
+    fn execute(&mut self, lines: &mut Lines, command: Option<Trb>) -> u8
         ensures done { executed (self.old, lines.old) command ≡ ((self.new, lines.new), result) }
         ensures engine { lines.new.engine ≡ lines.old.engine }
         ensures events { lines.new.events ≡ lines.old.events }
     {
         match command {
-            Trb::StopEndpoint { endpoint, slot } => match commanded_pipe(endpoint, slot) {
+            Some(Trb::StopEndpoint { endpoint, slot }) => match commanded_pipe(endpoint, slot) {
                 Some(pipe) => self.stop_endpoint(pipe),
                 None => TRB_ERROR,
             },
-            Trb::SetDequeue {
-                pointer,
-                cycle,
-                stream,
-                endpoint,
-                slot,
-            } => match commanded_pipe(endpoint, slot) {
+            Some(
+                Trb::SetDequeue {
+                    pointer,
+                    cycle,
+                    stream,
+                    endpoint,
+                    slot,
+                },
+            ) => match commanded_pipe(endpoint, slot) {
                 Some(pipe) => self.set_dequeue(lines, pipe, stream, pointer, cycle),
                 None => TRB_ERROR,
             },
@@ -120,18 +122,24 @@ impl Controller {
     }
 }
 
-// The command in front of the command ring and its address, while the event ring has room.
-fn engine_front(lines: &Lines) -> Option<(u64, Trb)>
+// What is in front of the command ring, its address and its TRB, none of foreign bytes, while the event ring has room.
+#[tactic(auto, using(crate::proofs::Fronts::front_known, crate::proofs::Fronts::front_raw, crate::proofs::Fronts::front_none))]
+fn engine_front(lines: &Lines) -> Option<(u64, Option<Trb>)>
     ensures front { result ≡ engine_front lines.now }
     ensures pending { IfSome result (λ front. lines.now.engine.got < length lines.now.engine.put) }
     ensures room { IfSome result (λ front. length lines.now.events.pending < MOST_EVENTS) }
     ensures aligned { IfSome result (λ front. front.0 % 16 ≡ 0) }
 {
     lines.room_engine();
-    if lines.len() < MOST_EVENTS {
-        lines.front_engine()
-    } else {
-        None
+    if lines.len() >= MOST_EVENTS {
+        return None;
+    }
+    if let Some((address, trb)) = lines.front_engine() {
+        return Some((address, Some(trb)));
+    }
+    match lines.front_raw_engine() {
+        Some((address, _)) => Some((address, None)),
+        None => None,
     }
 }
 

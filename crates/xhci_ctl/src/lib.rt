@@ -41,6 +41,7 @@
 #![tactic(auto)]
 
 mod engine;
+mod own;
 mod pipes;
 mod steps;
 

@@ -99,7 +99,7 @@ impl Controller {
     pub fn armed(&self, lines: &Lines, pipe: Pipe, stream: u16) -> bool
         ensures armed { result ≡ is_armed self.now lines.now pipe stream }
     {
-        self.is_open_on(pipe, stream) && lines.front(pipe, stream).is_some()
+        self.is_open_on(pipe, stream) && lines.front_raw(pipe, stream).is_some()
     }
 
     #[inline(always)]

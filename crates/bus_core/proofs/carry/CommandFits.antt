@@ -44,7 +44,7 @@ use Rattle.shared_machine.specs.Shared.{Shared, is_some_of, shared_step}
 use Rattle.machine_invariant.specs.Matched.{carried_places, IsMatched, IsOwnMessage, IsRequestIn, under}
 use Rattle.bus_core.specs.World.{World, Cell, cell_at, sides_in, with_sides}
 use Rattle.bus_core.specs.Cells.{FitsCell, HasUnitIn, host_side, told_by}
-use Rattle.bus_core.specs.Fits.{Fits, IsSoundWorld, command_trb, unit_bytes}
+use Rattle.bus_core.specs.Fits.{command_item, Fits, IsSoundWorld, unit_bytes}
 use Rattle.bus_core.specs.WorldSteps.{CommandFits, CommandsFit, NoCommandIsIdle, command_world}
 use Rattle.bus_core.specs.WorldDue.{CommandsAreDue}
 use Rattle.bus_core.proofs.common.ActFits.{IsActed, IsPlaced, acted_state, acted-fits, placed}
@@ -232,7 +232,7 @@ due-by : (state : Shared) (world : World) (messages : List Place) → Fits state
     → (is_some_of messages ≡ has_pending world.lines.command) × IsOwnCommandFront world.lines world.frames
 due-by state world [] fits is =
     let long : length world.lines.command.put ≡ length (carried_places state.events ++ state.messages) =
-    ap length fits.queues.put ∙ length-map (carried_places state.events ++ state.messages) command_trb in (
+    ap length fits.queues.put ∙ length-map (carried_places state.events ++ state.messages) command_item in (
       sym (le-ltb world.lines.command.got (length world.lines.command.put)
           (omega (arith, long, fits.queues.got, length-append (carried_places state.events) state.messages, ap length is))),
       subst (λ front. IfSome front (λ f. IsOwnCommand world.frames f.1)) (sym (no-front state world fits.queues is)) tt,
@@ -241,7 +241,7 @@ due-by state world (place ∷ rest) fits is =
     let own : IsOwnMessage state.parts place = (matched-no_stray state fits.matched).messages 0 place (ap (λ ms. slice_get ms 0) is) in
     let tag = tag-bounds state world place own.entry (placed state world place own.entry fits own.held) fits in
     let long : length world.lines.command.put ≡ length (carried_places state.events ++ state.messages) =
-    ap length fits.queues.put ∙ length-map (carried_places state.events ++ state.messages) command_trb in (
+    ap length fits.queues.put ∙ length-map (carried_places state.events ++ state.messages) command_item in (
       sym (lt-ltb world.lines.command.got (length world.lines.command.put)
           (omega (arith, long, fits.queues.got, length-append (carried_places state.events) state.messages, ap length is))),
       command-own state world place rest fits is tag.0 (omega (arith, tag.1)),

@@ -6,7 +6,8 @@ use Rattle.std.specs.Prelude.{slice_get, slice_set, IfSome, Result, ◌==◌}
 use Rattle.std.proofs.lemmas.Bool.{lt-ltb, le-leb, ne_eqb}
 use Rattle.std.proofs.lemmas.List.{length-map, append_assoc}
 use Rattle.std.proofs.lemmas.Option.{slice_get_past, slice_get-map}
-use Rattle.cycle_ring.specs.Ring.{pointer_of, front_of}
+use Rattle.cycle_ring.specs.Items.{known_of}
+use Rattle.cycle_ring.specs.Ring.{pointer_of}
 use Rattle.uas_profile.specs.declared.TheConstants.{TASK_SLOT, GREATEST_TAG, STREAMS, COMMAND_RING_PLACES, MOST_EVENTS, COMMAND_BYTES, SUCCESS}
 use Rattle.uas_profile.specs.declared.Pipe.TheVariants.{Command, Status, DataIn, DataOut}
 use Rattle.frame_store.specs.declared.TagBuffers.{TagBuffers}
@@ -28,7 +29,7 @@ use Rattle.uas_profile.specs.Places.{tag_of}
 use Rattle.uas_host.specs.Tds.{command_buffer_of}
 use Rattle.xhci_ctl.specs.declared.Acted.TheVariants.{Acted as ActedOn}
 use Rattle.xhci_ctl.specs.Own.{IsOwnCommand, IsOwnCommandFront}
-use Rattle.xhci_ctl.specs.Steps.{began_tag, commanded, completed, has_event_room, on_front, received_at}
+use Rattle.xhci_ctl.specs.Steps.{began_tag, commanded, completed, front_at, has_event_room, on_front, received_at}
 use Rattle.shared_machine.specs.declared.Completion.{Completion}
 use Rattle.shared_machine.specs.declared.Completion.TheVariants.{CommandDone, DataDone, StatusDone, EngineDone}
 use Rattle.shared_machine.specs.declared.Step.TheVariants.{CommandPipe}
@@ -37,7 +38,7 @@ use Rattle.shared_machine.specs.Part.{Part, carried_entry, carried_slot, carry_a
 use Rattle.shared_machine.specs.Shared.{Shared, acted_on, idle, is_some_of, carry_step, routed_to, shared_step}
 use Rattle.machine_invariant.specs.Matched.{carried_places, HasRoom}
 use Rattle.bus_core.specs.World.{World, sides_in}
-use Rattle.bus_core.specs.Fits.{Fits, FitsQueues, command_trb, event_texts, unit_bytes}
+use Rattle.bus_core.specs.Fits.{command_item, command_trb, event_texts, Fits, FitsQueues, unit_bytes}
 use Rattle.bus_core.proofs.common.ActFits.{IsPlaced}
 use Rattle.bus_core.proofs.common.EventTexts.{AllReadSame, carried_places-append, command_event, event_texts-append, event_texts-kept}
 use Rattle.bus_core.proofs.common.Framing.{EndsStay}
@@ -69,21 +70,21 @@ abbrev pub front_address : World → ℕ
 front_address world = pointer_of COMMAND_RING_PLACES world.lines.command world.lines.command.got
 
 pub command-front : (state : Shared) (world : World) (place : Place) (rest : List Place) → FitsQueues state world → state.messages ≡ place ∷ rest
-    → front_of COMMAND_RING_PLACES world.lines.command ≡ Some (front_address world, command_trb place)
+    → front_at COMMAND_RING_PLACES world.lines.command ≡ Some (front_address world, Some (command_trb place))
 command-front state world place rest fits is =
-    ap (option_map (λ trb. (front_address world, trb)))
+    ap (option_map (λ item. (front_address world, known_of item)))
     (ap (slice_get world.lines.command.put) fits.got
     ∙ ap (λ ts. slice_get ts (length (carried_places state.events))) fits.put
-    ∙ ap (λ ms. slice_get (map command_trb (carried_places state.events ++ ms)) (length (carried_places state.events))) is
-    ∙ slice_get-map command_trb (carried_places state.events ++ place ∷ rest) (length (carried_places state.events))
-    ∙ ap (option_map command_trb) (slice_get-behind (carried_places state.events) place rest))
+    ∙ ap (λ ms. slice_get (map command_item (carried_places state.events ++ ms)) (length (carried_places state.events))) is
+    ∙ slice_get-map command_item (carried_places state.events ++ place ∷ rest) (length (carried_places state.events))
+    ∙ ap (option_map command_item) (slice_get-behind (carried_places state.events) place rest))
 
 -- where no message waits there is none
-pub no-front : (state : Shared) (world : World) → FitsQueues state world → state.messages ≡ [] → front_of COMMAND_RING_PLACES world.lines.command ≡ None
+pub no-front : (state : Shared) (world : World) → FitsQueues state world → state.messages ≡ [] → front_at COMMAND_RING_PLACES world.lines.command ≡ None
 no-front state world fits is =
     let long : length world.lines.command.put ≡ length (carried_places state.events ++ state.messages) =
-    ap length fits.put ∙ length-map (carried_places state.events ++ state.messages) command_trb in
-    ap (option_map (λ trb. (front_address world, trb)))
+    ap length fits.put ∙ length-map (carried_places state.events ++ state.messages) command_item in
+    ap (option_map (λ item. (front_address world, known_of item)))
     (slice_get_past world.lines.command.put world.lines.command.got
     (omega (arith, long, fits.got, length-append (carried_places state.events) state.messages, ap length is)))
 
@@ -144,7 +145,7 @@ pub commanded-is : (state : Shared) (world : World) (place : Place) (rest : List
     → received world.device (bytes_at world.frames (command_buffer_of (tag_of place)) (unit_bytes place.slot)) ≡ (device, Ok (Began (tag_of place)))
     → commanded (sides_in world) ≡ (sides_in (received_world world device), ActedOn (tag_of place))
 commanded-is state world place rest device fits is receives =
-    ap (λ b. on_front (sides_in world) (received_at (sides_in world)) (cond b (front_of COMMAND_RING_PLACES world.lines.command) None))
+    ap (λ b. on_front (sides_in world) (received_at (sides_in world)) (cond b (front_at COMMAND_RING_PLACES world.lines.command) None))
     (event-room state world fits)
     ∙ ap (on_front (sides_in world) (received_at (sides_in world))) (command-front state world place rest fits.queues is)
     ∙ ap (λ (after : Device × Result Took Overlap). (
@@ -175,8 +176,8 @@ received-queues state world place rest device parts fits is =
     (CommandDone place ∷ []) in
     record {
       put = fits.queues.put
-          ∙ ap (λ ms. map command_trb (carried_places state.events ++ ms)) is
-          ∙ ap (map command_trb) (sym (ap (λ ps. ps ++ rest) more ∙ append_assoc (carried_places state.events) (place ∷ []) rest));
+          ∙ ap (λ ms. map command_item (carried_places state.events ++ ms)) is
+          ∙ ap (map command_item) (sym (ap (λ ps. ps ++ rest) more ∙ append_assoc (carried_places state.events) (place ∷ []) rest));
       got = omega (arith, fits.queues.got, ap length more, length-append (carried_places state.events) (place ∷ []));
       texts = ap (λ es. es ++ command_event world world.lines.command.got ∷ []) fits.queues.texts
           ∙ ap (λ es. es ++ command_event world world.lines.command.got ∷ [])

@@ -14,7 +14,6 @@ use Rattle.stream_array.specs.Rings.{ring_of}
 use Rattle.frame_store.specs.Buffers.{bytes_at, held_for}
 use Rattle.scsi_cmd.specs.Request.{ended_by, is_command}
 use Rattle.scsi_cmd.specs.declared.Op.{Op}
-use Rattle.scsi_cmd.specs.declared.Request.{Request}
 use Rattle.scsi_cmd.specs.declared.Request.TheVariants.{Execute, Manage}
 use Rattle.scsi_cmd.specs.declared.Task.{Task}
 use Rattle.scsi_cmd.specs.declared.Task.TheVariants.{Abort, Reset, Query}
@@ -55,7 +54,7 @@ use Rattle.bus_core.proofs.common.CellEntries.{cell-phase}
 use Rattle.bus_core.proofs.carry.CommandFront.{carried_part, carried_state, command-bytes, received-queues, received_world, tag-bounds}
 use Rattle.bus_core.proofs.common.Framing.{AllFit, AllFit-client, EndsAlike, IsFound, engine-kept, fits-anew, found, move_trb-kept, tags-apart}
 use Rattle.machine_invariant.proofs.OrderedEntries.{held-changed}
-use Rattle.machine_invariant.proofs.OrderedManaged.{IsNotedAsReceived, of_client}
+use Rattle.machine_invariant.proofs.OrderedManaged.{IsNotedAsReceived}
 use Rattle.shared_machine.proofs.Standing.{held_under-with_same, held_under-with_other, slice_get-back}
 
 -- THE CELL OF A COMMAND

@@ -1,14 +1,13 @@
 -- The device's answer to a query is the shared machine's: the tag that the query names has a command's task of the client's unit just where the
 -- entry of the ticket that it noted is begun. Cited by ManagedFits.
-use Rattle.std.proofs.Common.{◌≡◌, ℕ, zero, suc, ◌*◌, ◌<◌, ◌≤◌, Bool, true, false, List, length, map, Option, Some, None, option_map, refl, arith, ap, sym, subst, ◌∙◌}
-use Rattle.std.specs.Prelude.{IfSome, ◌==◌, ◌&&◌}
-use Rattle.std.specs.List.{list_any}
+use Rattle.std.proofs.Common.{◌≡◌, ℕ, zero, suc, ◌<◌, Bool, true, false, List, length, Option, Some, None, option_map, refl, arith, ap, sym, subst, ◌∙◌}
+use Rattle.std.specs.Prelude.{IfSome, ◌==◌}
 use Rattle.std.specs.Option.{option_map_or}
 use Rattle.std.proofs.Math.ListN.{get_or-map}
-use Rattle.std.proofs.lemmas.Bool.{and_from, and_parts, eq-eqb, eqb-true, eqb-false, false≢true, false_from_ne_true, ne_eqb}
+use Rattle.std.proofs.lemmas.Bool.{and_from, and_parts, eq-eqb, eqb-true, eqb-false, false≢true, false_from_ne_true}
 use Rattle.std.proofs.lemmas.List.{get_or_default, length-map}
 use Rattle.std.proofs.lemmas.List.Folds.{list_any_at, list_any_none}
-use Rattle.std.proofs.lemmas.Option.{none-some, same_Some}
+use Rattle.std.proofs.lemmas.Option.{same_Some}
 use Rattle.arrayvec.specs.ArrayVec.{ArrayVec}
 use Rattle.scsi_cmd.specs.declared.Op.{Op}
 use Rattle.scsi_cmd.specs.declared.Request.{Request}
@@ -21,7 +20,7 @@ use Rattle.solo_model.specs.declared.Phase.{Phase}
 use Rattle.solo_model.specs.declared.Phase.TheVariants.{Queued, Begun, Sent, Gone}
 use Rattle.solo_model.specs.declared.TaskAnswer.TheVariants.{WithStatus, WithResponse}
 use Rattle.solo_model.specs.declared.TaskProgress.TheVariants.{Moving, Ended}
-use Rattle.solo_model.specs.TaggedTask.{TaggedTask, finds, is_begun, is_noted, is_under_way}
+use Rattle.solo_model.specs.TaggedTask.{finds, is_begun, is_noted, is_under_way}
 use Rattle.uas_target.specs.declared.DeviceTask.{DeviceTask}
 use Rattle.uas_target.specs.Device.{has_command, task_of}
 use Rattle.uas_target.specs.Tasks.{is_command_of}
@@ -31,7 +30,7 @@ use Rattle.shared_machine.specs.Bus.{IsPlace}
 use Rattle.shared_machine.specs.Td.{Entry}
 use Rattle.shared_machine.specs.Part.{Part, tasks_in}
 use Rattle.shared_machine.specs.Shared.{Shared}
-use Rattle.machine_invariant.specs.Ordered.{is_queued, names}
+use Rattle.machine_invariant.specs.Ordered.{is_queued}
 use Rattle.machine_invariant.specs.Matched.{held_in, IsCommandPhase, IsMatchedAt, IsPhaseOf, IsRequestIn, under}
 use Rattle.machine_invariant.proofs.OrderedManaged.{IsNotedAsReceived, of_client}
 use Rattle.bus_core.specs.World.{World, cell_at}

@@ -4,7 +4,7 @@ use Rattle.std.specs.Prelude.{is_some, nat_lt, if◌then◌else◌}
 use Rattle.std.proofs.lemmas.Bool.{ltb-false}
 use Rattle.uas_profile.specs.declared.TheConstants.{CHUNK_BYTES}
 use Rattle.block_unit.specs.BlockMaps.{BlockMaps}
-use Rattle.cycle_ring.specs.Ring.{Ring}
+use Rattle.cycle_ring.specs.Items.{ItemRing}
 use Rattle.scsi_cmd.specs.declared.Op.{Op}
 use Rattle.scsi_cmd.specs.declared.Request.{Request}
 use Rattle.scsi_cmd.specs.declared.Request.TheVariants.{Execute, Manage}
@@ -121,7 +121,7 @@ fits-chunk client place unit entry op chunk was now fits is data_in data_out lon
     data_td = Some (sym (state-after (took_trb (Begun (progress_left unit chunk op))) chunk) i);
   }));
   task = ap (λ (c : Cell). c.task) is;
-  status = subst (λ (r : Ring). HoldsTd r (status_td (tag_of place)) entry.status_td) (sym (ap (λ (c : Cell). c.status) is)) fits.status;
+  status = subst (λ (r : ItemRing). HoldsTd r (status_td (tag_of place)) entry.status_td) (sym (ap (λ (c : Cell). c.status) is)) fits.status;
   data_in = data_in;
   data_out = data_out;
   lent = ap (λ (c : Cell). c.buffers.lent) is;

@@ -1,15 +1,15 @@
 -- What a chunk leaves of rings, buffers and events.
 use Rattle.std.proofs.Common.{◌≡◌, ℕ, ◌+◌, ◌-◌, ◌*◌, ◌<◌, ◌≤◌, Bool, true, false, not, cond, List, [], ◌∷◌, ◌++◌, length, Option, Some, None, IfSome, refl}
-use Rattle.std.proofs.Common.{arith, ap, sym, subst, ◌∙◌}
+use Rattle.std.proofs.Common.{arith, ap, sym, subst, ◌∙◌, map}
 use Rattle.std.specs.Prelude.{slice_set, if◌then◌else◌, ◌==◌, ◌&&◌}
 use Rattle.std.specs.Option.{option_map_or}
 use Rattle.std.proofs.lemmas.Bool.{eqb-true, ne_eqb}
-use Rattle.std.proofs.lemmas.List.{append-nil, get_or-set_same, get_or-set_other}
+use Rattle.std.proofs.lemmas.List.{append-nil, get_or-set_same, get_or-set_other, length-map}
 use Rattle.scsi_cmd.specs.Buffers.{with_bytes_at}
 use Rattle.uas_profile.specs.declared.Direction.{Direction}
 use Rattle.uas_profile.specs.declared.Direction.TheVariants.{Nothing, ToHost, ToDevice}
-use Rattle.xhci_trb.specs.declared.Trb.{Trb}
-use Rattle.cycle_ring.specs.Ring.{Ring, pointer_of}
+use Rattle.cycle_ring.specs.Ring.{pointer_of}
+use Rattle.cycle_ring.specs.Items.{ItemRing, Item, known}
 use Rattle.event_ring.specs.declared.Event.{Event}
 use Rattle.event_ring.specs.declared.Event.TheVariants.{Transfer}
 use Rattle.uas_profile.specs.declared.Pipe.{Pipe}
@@ -48,28 +48,28 @@ pipe_of Nothing = CommandPipe
 pipe_of ToHost = DataIn
 pipe_of ToDevice = DataOut
 
-abbrev pub rings_of : Direction → LinesState → List Ring
+abbrev pub rings_of : Direction → LinesState → List ItemRing
 rings_of Nothing lines = []
 rings_of ToHost lines = lines.data_in
 rings_of ToDevice lines = lines.data_out
 
 -- the front TRB of a tag's ring among these was taken, or none was
-pub record IsTakenOf (rings now : List Ring) (tag : ℕ) (took : Bool) : Type 0 where
+pub record IsTakenOf (rings now : List ItemRing) (tag : ℕ) (took : Bool) : Type 0 where
   pub here : stream_ring now tag ≡ record (stream_ring rings tag) { got = cond took ((stream_ring rings tag).got + 1) (stream_ring rings tag).got }
   pub others : (other : ℕ) → 0 < other → (other ≡ tag → ⊥) → stream_ring now other ≡ stream_ring rings other
 
-none-taken : (rings : List Ring) (tag : ℕ) → IsTakenOf rings rings tag false
+none-taken : (rings : List ItemRing) (tag : ℕ) → IsTakenOf rings rings tag false
 none-taken rings tag = record { here = refl; others = λ other there apart. refl }
 
 -- a TRB that wasn't taken is one of no pipe
-kept-taken : (rings : List Ring) (tag : ℕ) (mine : Bool) → IsTakenOf rings rings tag (mine && false)
+kept-taken : (rings : List ItemRing) (tag : ℕ) (mine : Bool) → IsTakenOf rings rings tag (mine && false)
 kept-taken rings tag true = none-taken rings tag
 kept-taken rings tag false = none-taken rings tag
 
-one-taken : (rings : List Ring) (tag : ℕ) → 0 < tag → tag ≤ length rings
+one-taken : (rings : List ItemRing) (tag : ℕ) → 0 < tag → tag ≤ length rings
     → IsTakenOf rings (slice_set rings (tag - 1) (record (stream_ring rings tag) { got = (stream_ring rings tag).got + 1 })) tag true
 one-taken rings tag some within =
-    let now : Ring = record (stream_ring rings tag) { got = (stream_ring rings tag).got + 1 } in
+    let now : ItemRing = record (stream_ring rings tag) { got = (stream_ring rings tag).got + 1 } in
     record {
       here = stream_ring-same rings tag now some within;
       others = λ other there apart. stream_ring-other rings tag other now some there apart;
@@ -129,18 +129,18 @@ takes-on lines way tag address pointer size true false some within =
     consumed-posted lines _ way tag _ _ (consumed-on lines way tag some within) refl
 
 -- its enqueue place is where it was
-pub ends-after : (ring now : Ring) (got : ℕ) → now ≡ record ring { got = got } → EndsAlike ring now
+pub ends-after : (ring now : ItemRing) (got : ℕ) → now ≡ record ring { got = got } → EndsAlike ring now
 ends-after ring now got is =
-    record { base = ap (λ (r : Ring). r.base) is; at = ap (λ (r : Ring). r.at) is; put = ap (λ (r : Ring). r.put) is }
+    record { base = ap (λ (r : ItemRing). r.base) is; at = ap (λ (r : ItemRing). r.at) is; put = ap (λ (r : ItemRing). r.put) is }
 
 -- the ring holds the TD after the chunk, where it is the TD's
 abbrev td_if : Bool → Td → Option Td
 td_if mine td = cond mine (Some td) None
 
-holds-on : (mine took : Bool) (tag bytes chunk : ℕ) (ring now : Ring) → HoldsData ring (data_td tag bytes) (td_if mine (moving_td chunk))
+holds-on : (mine took : Bool) (tag bytes chunk : ℕ) (ring now : ItemRing) → HoldsData ring (data_td tag bytes) (td_if mine (moving_td chunk))
     → now ≡ record ring { got = cond (mine && took) (ring.got + 1) ring.got } → HoldsData now (data_td tag bytes) (td_if mine (td_after took chunk))
 holds-on true true tag bytes chunk ring now holds is =
-    (ap (λ (r : Ring). r.put) is ∙ holds.0, ap (λ (r : Ring). r.got) is ∙ ap (λ n. n + 1) holds.1)
+    (ap (λ (r : ItemRing). r.put) is ∙ holds.0, ap (λ (r : ItemRing). r.got) is ∙ ap (λ n. n + 1) holds.1)
 holds-on true false tag bytes chunk ring now holds is = subst (λ r. HoldsTd r (data_td tag bytes) (moving_td chunk)) (sym is) holds
 holds-on false took tag bytes chunk ring now holds is = subst (λ r. HoldsTrbs r [] 0) (sym is) holds
 
@@ -156,7 +156,7 @@ data_out-if ToDevice td = refl
 
 -- a data ring after the chunk, told by which TD is on it
 pub holds-td : (on : Direction → Option Td → Option Td) (goes : Direction → Bool) (way : Direction) → ((td : Td) → on way (Some td) ≡ td_if (goes way) td)
-    → (took : Bool) (tag bytes chunk : ℕ) (ring now : Ring) → HoldsData ring (data_td tag bytes) (on way (Some (moving_td chunk)))
+    → (took : Bool) (tag bytes chunk : ℕ) (ring now : ItemRing) → HoldsData ring (data_td tag bytes) (on way (Some (moving_td chunk)))
     → now ≡ record ring { got = cond (goes way && took) (ring.got + 1) ring.got } → HoldsData now (data_td tag bytes) (on way (Some (td_after took chunk)))
 holds-td on goes way is_on took tag bytes chunk ring now holds is =
     subst (HoldsData now (data_td tag bytes)) (sym (is_on (td_after took chunk)))
@@ -199,23 +199,24 @@ pub carried_places-data : (last : Bool) (place : Place) → carried_places (data
 carried_places-data true place = refl
 carried_places-data false place = refl
 
-last-event : (ring now : Ring) (tag bytes chunk : ℕ) (took : Bool) → ring.put ≡ data_td tag bytes
+last-event : (ring now : ItemRing) (tag bytes chunk : ℕ) (took : Bool) → ring.put ≡ map known (data_td tag bytes)
     → now ≡ record ring { got = cond took (ring.got + 1) ring.got }
     → chunk + 1 ≡ data_trb_count bytes → last_pointer now ≡ pointer_of STREAM_RING_PLACES ring chunk
 last-event ring now tag bytes chunk took put is last =
-    let size : length ring.put - 1 ≡ chunk = omega (arith, ap length put ∙ length-data_trbs (data_trb_count bytes) (window_of tag) bytes, last) in
+    let size : length ring.put - 1 ≡ chunk =
+    omega (arith, ap length put ∙ length-map (data_td tag bytes) known ∙ length-data_trbs (data_trb_count bytes) (window_of tag) bytes, last) in
     ap last_pointer is ∙ ap (pointer_of STREAM_RING_PLACES ring) size
 
-event-in : (data_in data_out : Ring) → 0 < length data_in.put
+event-in : (data_in data_out : ItemRing) → 0 < length data_in.put
     → data_event data_in data_out ≡ Transfer (last_pointer data_in) 0 SUCCESS (endpoint_of DataIn) SLOT
 event-in data_in data_out some =
     ap (λ b. cond b (Transfer (last_pointer data_out) 0 SUCCESS (endpoint_of DataOut) SLOT)
     (Transfer (last_pointer data_in) 0 SUCCESS (endpoint_of DataIn) SLOT))
     (ne_eqb (length data_in.put) 0 (λ none. omega (arith, none, some)))
 
-event-out : (data_in data_out : Ring) → data_in.put ≡ [] → data_event data_in data_out ≡ Transfer (last_pointer data_out) 0 SUCCESS (endpoint_of DataOut) SLOT
+event-out : (data_in data_out : ItemRing) → data_in.put ≡ [] → data_event data_in data_out ≡ Transfer (last_pointer data_out) 0 SUCCESS (endpoint_of DataOut) SLOT
 event-out data_in data_out none =
-    ap (λ (trbs : List Trb). cond (length trbs == 0) (Transfer (last_pointer data_out) 0 SUCCESS (endpoint_of DataOut) SLOT)
+    ap (λ (trbs : List Item). cond (length trbs == 0) (Transfer (last_pointer data_out) 0 SUCCESS (endpoint_of DataOut) SLOT)
     (Transfer (last_pointer data_in) 0 SUCCESS (endpoint_of DataIn) SLOT)) none
 
 -- what is posted is the text of the place's data event
@@ -231,21 +232,22 @@ texts-of after place k bytes chunk true event is =
       | false ↦ λ more. refl
     ] refl
 
-pub texts-in : (after : World) (place : Place) (k bytes chunk : ℕ) (took : Bool) (ring : Ring) → ring.put ≡ data_td (tag_of place) bytes
+pub texts-in : (after : World) (place : Place) (k bytes chunk : ℕ) (took : Bool) (ring : ItemRing) → ring.put ≡ map known (data_td (tag_of place) bytes)
     → stream_ring after.lines.data_in (tag_of place) ≡ record ring { got = cond took (ring.got + 1) ring.got }
     → event_texts after k (data_event_if (is_last_trb took (data_trb_count bytes) (Some (moving_td chunk))) place)
     ≡ chunk_events took (not (chunk + 1 == data_trb_count bytes)) (Transfer (pointer_of STREAM_RING_PLACES ring chunk) 0 SUCCESS (endpoint_of DataIn) SLOT)
 texts-in after place k bytes chunk took ring put is =
     texts-of after place k bytes chunk took (Transfer (pointer_of STREAM_RING_PLACES ring chunk) 0 SUCCESS (endpoint_of DataIn) SLOT)
     (λ last.
-    let now : Ring = stream_ring after.lines.data_in (tag_of place) in
+    let now : ItemRing = stream_ring after.lines.data_in (tag_of place) in
     let size : length (stream_ring after.lines.data_in (tag_of place)).put ≡ data_trb_count bytes =
-    ap (λ (r : Ring). length r.put) is ∙ ap length put ∙ length-data_trbs (data_trb_count bytes) (window_of (tag_of place)) bytes in
+    ap (λ (r : ItemRing). length r.put) is ∙ ap length put ∙ length-map (data_td (tag_of place) bytes) known
+    ∙ length-data_trbs (data_trb_count bytes) (window_of (tag_of place)) bytes in
     event-in (stream_ring after.lines.data_in (tag_of place)) (stream_ring after.lines.data_out (tag_of place)) (omega (arith, size, last))
     ∙ ap (λ p. Transfer p 0 SUCCESS (endpoint_of DataIn) SLOT)
     (last-event ring (stream_ring after.lines.data_in (tag_of place)) (tag_of place) bytes chunk took put is last))
 
-pub texts-out : (after : World) (place : Place) (k bytes chunk : ℕ) (took : Bool) (ring : Ring) → ring.put ≡ data_td (tag_of place) bytes
+pub texts-out : (after : World) (place : Place) (k bytes chunk : ℕ) (took : Bool) (ring : ItemRing) → ring.put ≡ map known (data_td (tag_of place) bytes)
     → (stream_ring after.lines.data_in (tag_of place)).put ≡ []
     → stream_ring after.lines.data_out (tag_of place) ≡ record ring { got = cond took (ring.got + 1) ring.got }
     → event_texts after k (data_event_if (is_last_trb took (data_trb_count bytes) (Some (moving_td chunk))) place)

@@ -3,7 +3,7 @@ use Rattle.std.proofs.Common.{◌≡◌, ℕ, Bool, true, false, ◌&&◌, cond,
 use Rattle.std.specs.Prelude.{nat_lt}
 use Rattle.std.specs.Option.{option_map_or}
 use Rattle.std.proofs.lemmas.Bool.{lt-ltb, and_parts}
-use Rattle.cycle_ring.specs.Ring.{Ring}
+use Rattle.cycle_ring.specs.Items.{ItemRing}
 use Rattle.uas_profile.specs.declared.Pipe.{Pipe}
 use Rattle.uas_profile.specs.declared.Pipe.TheVariants.{DataIn, DataOut}
 use Rattle.stream_array.specs.Contexts.{has_stream}
@@ -28,7 +28,6 @@ use Rattle.uas_profile.specs.Places.{place_of, tag_of}
 use Rattle.uas_host.specs.Tds.{data_td, data_trb_count}
 use Rattle.xhci_ctl.specs.declared.Acted.{Acted}
 use Rattle.xhci_ctl.specs.declared.Acted.TheVariants.{Idle}
-use Rattle.xhci_ctl.specs.Own.{IsOwnDataFront}
 use Rattle.uas_profile.specs.declared.PipeState.{PipeState}
 use Rattle.uas_profile.specs.PipeStates.{is_open}
 use Rattle.xhci_ctl.specs.Pipes.{has_pending, is_armed}
@@ -49,6 +48,7 @@ use Rattle.bus_core.proofs.common.ActFits.{IsPlaced, by-tag, place_of-tag, place
 use Rattle.bus_core.proofs.chunks.ChunkEntries.{moving_entry}
 use Rattle.bus_core.proofs.chunks.DataSteps.{IsChunkAt, chunk-at, chunk_size, has_stream-tag, pending-td}
 use Rattle.bus_core.proofs.chunks.DataMoves.{chunk-fits, own-on, rings-on}
+use Rattle.bus_core.proofs.chunks.OwnFronts.{HasOwnChunk, data-own}
 
 -- WHAT IT DOES
 
@@ -88,13 +88,13 @@ wants_by task = option_map_or task_wants task Absent
 
 -- whether a step is due is told by rings and device, and the TRB in front is the host's own
 abbrev IsTold : World → ℕ → Wants → Bool → Type 0
-IsTold world tag wants is_due = (is_due ≡ data_due_by world tag wants) × IsOwnDataFront world.lines world.frames tag wants
+IsTold world tag wants is_due = (is_due ≡ data_due_by world tag wants) × HasOwnChunk world.lines world.frames tag wants
 
 armed-open : (rung has_trb has_ring pends : Bool) → has_trb ≡ true → has_ring ≡ true → pends ≡ true → (rung && has_trb) ≡ ((has_ring && rung) && pends)
 armed-open rung has_trb has_ring pends one two three = rw (one, two, three) refl
 
 -- a data ring with the TRB of the chunk in front is armed where its stream is open
-told-armed : {state : Shared} {world : World} {place : Place} {part : Part} (at : IsChunkAt state world place part) (ring : Ring) (was now : PipeState)
+told-armed : {state : Shared} {world : World} {place : Place} {part : Part} (at : IsChunkAt state world place part) (ring : ItemRing) (was now : PipeState)
     → HoldsTrbs ring (data_td (tag_of place) (moved_bytes at.op)) at.chunk → now ≡ was
     → (is_open was (tag_of place) && nat_lt at.chunk (data_trb_count (moved_bytes at.op)))
     ≡ ((has_stream (tag_of place) && is_open now (tag_of place)) && has_pending ring)
@@ -158,7 +158,7 @@ data_due state world tag fits =
     by-tag state world tag (data_is_due state tag) (λ task is_due. IsTold world tag (wants_by task) is_due) fits (refl, tt)
     (λ place entry is stands. subst (λ t. IsTold world t (wants_by (device_task place.client entry)) (data_is_due state t entry)) is
     (told-phase state world place entry entry.task.phase refl stands fits)) in
-    record { due = told.0; own = told.1 }
+    record { due = told.0; own = data-own state world tag fits told.1 }
 
 -- WHERE IT ISN'T
 

@@ -6,7 +6,8 @@ use Rattle.std.specs.Option.{option_map_or}
 use Rattle.std.proofs.lemmas.Bool.{and_from, false≢true}
 use Rattle.block_unit.specs.BlockMaps.{BlockMaps}
 use Rattle.xhci_trb.specs.declared.Trb.{Trb}
-use Rattle.cycle_ring.specs.Ring.{Ring, front_of, pointer_of}
+use Rattle.cycle_ring.specs.Ring.{pointer_of}
+use Rattle.cycle_ring.specs.Items.{ItemRing}
 use Rattle.event_ring.specs.declared.Event.{Event}
 use Rattle.event_ring.specs.declared.Event.TheVariants.{Transfer}
 use Rattle.uas_profile.specs.declared.Pipe.{Pipe}
@@ -33,13 +34,13 @@ use Rattle.uas_profile.specs.declared.Place.{Place}
 use Rattle.uas_host.specs.Seen.{goes_to_device, goes_to_host}
 use Rattle.uas_profile.specs.Places.{place_of, tag_of}
 use Rattle.uas_host.specs.Tds.{data_td, data_trb, data_trb_count, window_of}
-use Rattle.xhci_ctl.specs.Own.{IsOwnData, IsOwnDataFront}
+use Rattle.xhci_ctl.specs.Own.{IsOwnData}
 use Rattle.xhci_ctl.specs.declared.Acted.{Acted}
 use Rattle.xhci_ctl.specs.declared.Acted.TheVariants.{Acted as ActedOn, Idle}
 use Rattle.uas_profile.specs.declared.PipeState.{PipeState}
 use Rattle.uas_profile.specs.PipeStates.{is_open}
 use Rattle.xhci_ctl.specs.Pipes.{has_pending, is_open_on}
-use Rattle.xhci_ctl.specs.Steps.{Front, Sides, after_chunk, armed_front, endpoint_of, gave_at, moved, moved_by, on_front, took_at}
+use Rattle.xhci_ctl.specs.Steps.{after_chunk, armed_front, endpoint_of, Front, front_at, gave_at, moved, moved_by, on_front, Sides, took_at}
 use Rattle.shared_machine.specs.declared.Step.TheVariants.{Data}
 use Rattle.shared_machine.specs.Part.{Part, is_last_trb, took_trb}
 use Rattle.scsi_cmd.specs.declared.Request.TheVariants.{Execute}
@@ -60,6 +61,7 @@ use Rattle.bus_core.proofs.chunks.ChunkLines.{lent-kept, pipe_of, rings_of, take
 use Rattle.bus_core.proofs.chunks.DataWorlds.{MovesChunk}
 use Rattle.bus_core.proofs.carry.CommandFits.{event-room}
 use Rattle.machine_invariant.proofs.MatchedTasks.{data_event_if}
+use Rattle.bus_core.proofs.chunks.OwnFronts.{HasOwnChunk, data-own}
 use Rattle.bus_core.proofs.chunks.DataSteps.{IsChunkAt, IsInLent, armed-front, chunk_size, fits-after, has_stream-tag, in-lent, own-data_trb, pending-td, step-front}
 
 -- A CHUNK ON EITHER PIPE
@@ -75,20 +77,20 @@ events_on world pipe place unit op chunk =
     chunk_events (took_trb (Begun (progress_left unit chunk op))) (not (chunk + 1 == data_trb_count (moved_bytes op)))
     (Transfer (pointer_of STREAM_RING_PLACES (ring_of world.lines pipe (tag_of place)) chunk) 0 SUCCESS (endpoint_of pipe) SLOT)
 
-front-of : {state : Shared} {world : World} {place : Place} {part : Part} (at : IsChunkAt state world place part) (ring : Ring)
+front-of : {state : Shared} {world : World} {place : Place} {part : Part} (at : IsChunkAt state world place part) (ring : ItemRing)
     → HoldsTrbs ring (data_td (tag_of place) (moved_bytes at.op)) at.chunk
-    → front_of STREAM_RING_PLACES ring
+    → front_at STREAM_RING_PLACES ring
     ≡ Some (
       pointer_of STREAM_RING_PLACES ring at.chunk,
-      data_trb (window_of (tag_of place) + CHUNK_BYTES * at.chunk) (moved_bytes at.op - CHUNK_BYTES * at.chunk) (data_trb_count (moved_bytes at.op) - 1 - at.chunk),
+      Some (data_trb (window_of (tag_of place) + CHUNK_BYTES * at.chunk) (moved_bytes at.op - CHUNK_BYTES * at.chunk) (data_trb_count (moved_bytes at.op) - 1 - at.chunk)),
     )
 front-of {state} {world} {place} {part} at ring holds = front_of-data_td ring (tag_of place) (moved_bytes at.op) at.chunk holds.0 holds.1 at.below
 
-own-of : {state : Shared} {world : World} {place : Place} {part : Part} (at : IsChunkAt state world place part) (ring : Ring)
+own-of : {state : Shared} {world : World} {place : Place} {part : Part} (at : IsChunkAt state world place part) (ring : ItemRing)
     → HoldsTrbs ring (data_td (tag_of place) (moved_bytes at.op)) at.chunk
-    → IfSome (front_of STREAM_RING_PLACES ring) (λ front. IsOwnData world.frames (chunk_size at.op at.chunk) front.1)
+    → IfSome (front_at STREAM_RING_PLACES ring) (λ front. IsOwnData world.frames (chunk_size at.op at.chunk) front.1)
 own-of {state} {world} {place} {part} at ring holds =
-    subst (λ (f : Option (ℕ × Trb)). IfSome f (λ front. IsOwnData world.frames (chunk_size at.op at.chunk) front.1)) (sym (front-of at ring holds))
+    subst (λ (f : Option (ℕ × Option Trb)). IfSome f (λ front. IsOwnData world.frames (chunk_size at.op at.chunk) front.1)) (sym (front-of at ring holds))
     (own-data_trb world.frames (window_of (tag_of place) + CHUNK_BYTES * at.chunk) (moved_bytes at.op - CHUNK_BYTES * at.chunk)
     (data_trb_count (moved_bytes at.op) - 1 - at.chunk) (in-lent at).named)
 
@@ -104,13 +106,13 @@ moved-on : {state : Shared} {world : World} {place : Place} {part : Part} (at : 
     → places_of pipe ≡ STREAM_RING_PLACES → is_open_on world.controller pipe (tag_of place) ≡ true
     → on_front (sides_in world) step (armed_front world.controller world.lines pipe (tag_of place)) ≡ step (front_on world pipe place at.op at.chunk)
 moved-on {state} {world} {place} {part} at fits pipe step holds places rung =
-    let ring : Ring = ring_of world.lines pipe (tag_of place) in
+    let ring : ItemRing = ring_of world.lines pipe (tag_of place) in
     let armed = and_from (is_open_on world.controller pipe (tag_of place)) (has_pending ring) rung
     (pending-td ring (tag_of place) (moved_bytes at.op) at.chunk holds at.below) in
     step-front (sides_in world) step (armed_front world.controller world.lines pipe (tag_of place))
     (pointer_of STREAM_RING_PLACES ring at.chunk) (tag_of place) (moved_bytes at.op) at.chunk at.below
     (armed-front world.controller world.lines pipe (tag_of place) _ armed (event-room state world fits)
-    (ap (λ n. front_of n (ring_of world.lines pipe (tag_of place))) places ∙ front-of at ring holds))
+    (ap (λ n. front_at n (ring_of world.lines pipe (tag_of place))) places ∙ front-of at ring holds))
 
 -- THE RINGS
 
@@ -134,7 +136,7 @@ wanted-on {state} {world} {place} {part} at way is =
 
 -- the TRB in front is the host's own
 pub own-on : {state : Shared} {world : World} {place : Place} {part : Part} (at : IsChunkAt state world place part) (way : Direction) → direction_of at.op ≡ way
-    → IsOwnDataFront world.lines world.frames (tag_of place) (wanted_way way (chunk_size at.op at.chunk))
+    → HasOwnChunk world.lines world.frames (tag_of place) (wanted_way way (chunk_size at.op at.chunk))
 own-on at Nothing is = tt
 own-on {state} {world} {place} {part} at ToHost is = own-of at (stream_ring world.lines.data_in (tag_of place)) (rings-on at ToHost is).0
 own-on {state} {world} {place} {part} at ToDevice is = own-of at (stream_ring world.lines.data_out (tag_of place)) (rings-on at ToDevice is).1
@@ -340,7 +342,7 @@ texts-on {state} {world} {place} {part} at ToDevice k fits is rung =
     let lines = lines-on at ToDevice fits rung in
     texts-out (chunk_world ToDevice world place part.unit at.entry.task.buffer at.op at.chunk) place k (moved_bytes at.op) at.chunk
     (took_trb (Begun (progress_left part.unit at.chunk at.op))) (stream_ring world.lines.data_out (tag_of place)) rings.1.0
-    (ap (λ (r : Ring). r.put) lines.data_in.here ∙ rings.0.0) lines.data_out.here
+    (ap (λ (r : ItemRing). r.put) lines.data_in.here ∙ rings.0.0) lines.data_out.here
 
 acted-on : (way : Direction) (state : Shared) (world : World) (place : Place) (op : Op) (chunk : ℕ) → is_data_open state (tag_of place) way ≡ true
     → (chunk_step way world place op chunk).1 ≡ ActedOn (tag_of place)
@@ -361,8 +363,8 @@ chunk-fits {state} {world} {place} {part} at fits rung named is_due =
     let stepped = stepped-on at way fits refl rung in
     let is : data_world world (tag_of place) ≡ after = ap (λ m. with_sides world m.0) stepped ∙ world-on at way fits refl rung in
     record {
-      own = subst (λ w. IsOwnDataFront world.lines world.frames (tag_of place) w) (sym (wanted-on at way refl))
-          (own-on at way refl);
+      own = data-own state world (tag_of place) fits
+          (subst (λ w. HasOwnChunk world.lines world.frames (tag_of place) w) (sym (wanted-on at way refl)) (own-on at way refl));
       acted = ap (λ m. m.1) stepped ∙ acted-on way state world place at.op at.chunk rung;
       fits = λ sound. subst (λ w. Fits (shared_step state (Data (tag_of place))).0 w) (sym is)
           (fits-after state world after place part at _ fits named is_due (moves-on at way fits refl rung)

@@ -4,8 +4,9 @@ use Rattle.std.proofs.Common.{ap, sym, subst, ◌∙◌, inr}
 use Rattle.std.specs.Prelude.{slice_get, min}
 use Rattle.std.specs.Option.{option_map_or}
 use Rattle.std.proofs.lemmas.Bool.{lt-ltb, le-leb}
+use Rattle.std.proofs.lemmas.List.{length-map}
 use Rattle.xhci_trb.specs.declared.Trb.{Trb}
-use Rattle.cycle_ring.specs.Ring.{Ring, front_of}
+use Rattle.cycle_ring.specs.Items.{ItemRing, known}
 use Rattle.event_ring.specs.declared.Event.{Event}
 use Rattle.uas_profile.specs.declared.Pipe.{Pipe}
 use Rattle.stream_array.specs.Contexts.{has_stream}
@@ -31,7 +32,7 @@ use Rattle.xhci_ctl.specs.declared.Acted.{Acted}
 use Rattle.xhci_ctl.specs.declared.Acted.TheVariants.{Idle}
 use Rattle.xhci_ctl.specs.Own.{IsOwnData}
 use Rattle.xhci_ctl.specs.Pipes.{ControllerState, has_pending, is_armed}
-use Rattle.xhci_ctl.specs.Steps.{Front, Sides, armed_front, has_event_room, on_front, room_front}
+use Rattle.xhci_ctl.specs.Steps.{armed_front, Front, front_at, has_event_room, on_front, room_front, Sides}
 use Rattle.shared_machine.specs.declared.Step.TheVariants.{Data}
 use Rattle.shared_machine.specs.Td.{Entry}
 use Rattle.shared_machine.specs.Part.{Part, is_last_trb, move_act, moved_slot, took_trb}
@@ -147,27 +148,28 @@ fits-after state world after place part at posted fits named is_due moves data_i
 pub has_stream-tag : (tag : ℕ) → 0 < tag → tag ≤ STREAMS → has_stream tag ≡ true
 has_stream-tag tag some within = rw (lt-ltb 0 tag some, le-leb tag STREAMS within) refl
 
-pub pending-td : (ring : Ring) (tag bytes chunk : ℕ) → HoldsTrbs ring (data_td tag bytes) chunk → chunk < data_trb_count bytes → has_pending ring ≡ true
+pub pending-td : (ring : ItemRing) (tag bytes chunk : ℕ) → HoldsTrbs ring (data_td tag bytes) chunk → chunk < data_trb_count bytes → has_pending ring ≡ true
 pending-td ring tag bytes chunk holds below =
-    let size : length ring.put ≡ data_trb_count bytes = ap length holds.0 ∙ length-data_trbs (data_trb_count bytes) (window_of tag) bytes in
+    let size : length ring.put ≡ data_trb_count bytes =
+    ap length holds.0 ∙ length-map (data_td tag bytes) known ∙ length-data_trbs (data_trb_count bytes) (window_of tag) bytes in
     lt-ltb ring.got (length ring.put) (omega (arith, holds.1, size, below))
 
 -- the front of a ring that is armed
-pub armed-front : (controller : ControllerState) (lines : LinesState) (pipe : Pipe) (stream : ℕ) (front : Option (ℕ × Trb))
-    → is_armed controller lines pipe stream ≡ true → has_event_room lines ≡ true → front_of (places_of pipe) (ring_of lines pipe stream) ≡ front
+pub armed-front : (controller : ControllerState) (lines : LinesState) (pipe : Pipe) (stream : ℕ) (front : Option (ℕ × Option Trb))
+    → is_armed controller lines pipe stream ≡ true → has_event_room lines ≡ true → front_at (places_of pipe) (ring_of lines pipe stream) ≡ front
     → armed_front controller lines pipe stream ≡ front
 armed-front controller lines pipe stream front armed room is =
-    ap (λ b. cond b (room_front lines pipe stream) None) armed ∙ ap (λ b. cond b (front_of (places_of pipe) (ring_of lines pipe stream)) None) room ∙ is
+    ap (λ b. cond b (room_front lines pipe stream) None) armed ∙ ap (λ b. cond b (front_at (places_of pipe) (ring_of lines pipe stream)) None) room ∙ is
 
 -- a step on TRB k
-pub step-front : (sides : Sides) (step : Front → Sides × Acted) (front : Option (ℕ × Trb)) (address tag bytes k : ℕ) → k < data_trb_count bytes
-    → front ≡ Some (address, data_trb (window_of tag + CHUNK_BYTES * k) (bytes - CHUNK_BYTES * k) (data_trb_count bytes - 1 - k))
+pub step-front : (sides : Sides) (step : Front → Sides × Acted) (front : Option (ℕ × Option Trb)) (address tag bytes k : ℕ) → k < data_trb_count bytes
+    → front ≡ Some (address, Some (data_trb (window_of tag + CHUNK_BYTES * k) (bytes - CHUNK_BYTES * k) (data_trb_count bytes - 1 - k)))
     → on_front sides step front ≡ step (data_front address tag bytes k)
 step-front sides step front address tag bytes k below is =
     ap (on_front sides step) is ∙ ap (λ f. option_map_or step f (sides, Idle)) (front_in-data_trb address tag bytes k below)
 
 pub own-data_trb : (frames : List TagBuffers) (pointer left more : ℕ) → IsNamed frames pointer (min CHUNK_BYTES left)
-    → IsOwnData frames (min CHUNK_BYTES left) (data_trb pointer left more)
+    → IsOwnData frames (min CHUNK_BYTES left) (Some (data_trb pointer left more))
 own-data_trb frames pointer left zero named = ((refl, refl, named), refl)
 own-data_trb frames pointer left (suc more) named = ((refl, refl, named), refl)
 

@@ -3,7 +3,7 @@ use Rattle.std.proofs.Common.{◌≡◌, ℕ, ◌+◌, ◌*◌, ◌<◌, ◌≤�
 use Rattle.std.specs.Prelude.{slice_get, slice_set}
 use Rattle.std.proofs.lemmas.List.{append-nil}
 use Rattle.block_unit.specs.BlockMaps.{BlockMaps}
-use Rattle.cycle_ring.specs.Ring.{Ring}
+use Rattle.cycle_ring.specs.Items.{ItemRing}
 use Rattle.event_ring.specs.declared.Event.{Event}
 use Rattle.uas_profile.specs.declared.Pipe.TheVariants.{Command, Status, DataIn, DataOut}
 use Rattle.stream_array.specs.Rings.{stream_ring}
@@ -25,7 +25,7 @@ use Rattle.shared_machine.specs.Shared.{Shared}
 use Rattle.machine_invariant.specs.Matched.{IsMatched, carried_places, data_events}
 use Rattle.bus_core.specs.World.{World, cell_at}
 use Rattle.bus_core.specs.Cells.{FitsCell}
-use Rattle.bus_core.specs.Fits.{Fits, FitsQueues, IsSoundWorld, command_trb, event_texts, place_in}
+use Rattle.bus_core.specs.Fits.{command_item, event_texts, Fits, FitsQueues, IsSoundWorld, place_in}
 use Rattle.shared_machine.proofs.Standing.{held_under-with_same, held_under-with_other, slice_get-back, get-within}
 use Rattle.bus_core.proofs.common.Framing.{AllFit-set, EndsAlike, EndsStay, FitsPart-set, ChangesCell, IsFound, ends-same, engine-changed, unused-kept}
 use Rattle.bus_core.proofs.common.EventTexts.{carried_places-append, event_texts-append, event_texts-one, KeepsOthers}
@@ -123,12 +123,12 @@ queues-moved state before after place part unit entry task lent posted done move
     let carried : carried_places (state.events ++ done) ≡ carried_places state.events =
     carried_places-append state.events done ∙ ap (λ ps. carried_places state.events ++ ps) quiet ∙ append-nil (carried_places state.events) in
     let kept : event_texts after 0 state.events ≡ event_texts before 0 state.events =
-    event_texts-one state before after place 0 all within (ap (λ (r : Ring). r.base) moves.command, ap (λ (r : Ring). r.at) moves.command) moves.engine
+    event_texts-one state before after place 0 all within (ap (λ (r : ItemRing). r.base) moves.command, ap (λ (r : ItemRing). r.at) moves.command) moves.engine
     (keeps-others before after place unit task lent posted moves) (λ some. absurd (omega (arith, some, none)))
     (λ some. (ap (λ rs. stream_ring rs (tag_of place)) moves.status, ap (λ (b : TagBuffers). b.status) moves.buffers)) in
     record {
-      put = ap (λ (r : Ring). r.put) moves.command ∙ queues.put ∙ ap (λ ps. map command_trb (ps ++ state.messages)) (sym carried);
-      got = ap (λ (r : Ring). r.got) moves.command ∙ queues.got ∙ ap length (sym carried);
+      put = ap (λ (r : ItemRing). r.put) moves.command ∙ queues.put ∙ ap (λ ps. map command_item (ps ++ state.messages)) (sym carried);
+      got = ap (λ (r : ItemRing). r.got) moves.command ∙ queues.got ∙ ap length (sym carried);
       texts = moves.events ∙ ap (λ es. es ++ posted) (queues.texts ∙ sym kept) ∙ ap (λ es. event_texts after 0 state.events ++ es) (sym texts)
           ∙ sym (event_texts-append after 0 state.events done);
     }

@@ -1,7 +1,7 @@
 -- A cell of which the entry has another phase, or other TDs on other rings: it fits where what changed does. Cited by ManagedFits, CommandFits,
 -- DoomedCells, SeenWorlds and EngineCellWrites.
 use Rattle.std.proofs.Common.{◌≡◌, ℕ, Option, Some}
-use Rattle.cycle_ring.specs.Ring.{Ring}
+use Rattle.cycle_ring.specs.Items.{ItemRing}
 use Rattle.solo_model.specs.declared.Phase.{Phase}
 use Rattle.solo_model.specs.Soundness.{IsSound}
 use Rattle.uas_target.specs.declared.DeviceTask.{DeviceTask}
@@ -22,7 +22,7 @@ changed_entry entry phase command status moved =
     record entry { task = record entry.task { phase = phase }; command_td = command; status_td = status; data_td = moved }
 
 cell-changed : (client count : ℕ) (place : Place) (entry : Entry) (cell : Cell) (phase : Phase) (command status : Td) (moved : Option Td)
-    (held : Option HostEntry) (task : Option DeviceTask) (status_ring data_in data_out : Ring) → FitsCell client count place entry cell
+    (held : Option HostEntry) (task : Option DeviceTask) (status_ring data_in data_out : ItemRing) → FitsCell client count place entry cell
     → held ≡ Some (host_side (changed_entry entry phase command status moved)) → task ≡ phase_task (Some client) entry.task.request phase
     → HoldsTd status_ring (status_td (tag_of place)) status
     → HoldsData data_in (data_td (tag_of place) (request_bytes entry.task.request)) (data_in_td (request_direction entry.task.request) moved)
@@ -62,7 +62,7 @@ abbrev pub with_tds : Entry → Td → Td → Option Td → Entry
 with_tds entry command status moved = record entry { command_td = command; status_td = status; data_td = moved }
 
 pub cell-tds : (client count : ℕ) (place : Place) (entry : Entry) (cell : Cell) (command status : Td) (moved : Option Td) (held : Option HostEntry)
-    (status_ring data_in data_out : Ring) → FitsCell client count place entry cell → held ≡ Some (host_side (with_tds entry command status moved))
+    (status_ring data_in data_out : ItemRing) → FitsCell client count place entry cell → held ≡ Some (host_side (with_tds entry command status moved))
     → HoldsTd status_ring (status_td (tag_of place)) status
     → HoldsData data_in (data_td (tag_of place) (request_bytes entry.task.request)) (data_in_td (request_direction entry.task.request) moved)
     → HoldsData data_out (data_td (tag_of place) (request_bytes entry.task.request)) (data_out_td (request_direction entry.task.request) moved)

@@ -6,7 +6,8 @@ use Rattle.std.proofs.lemmas.Bool.{eqb-true, eqb-false}
 use Rattle.std.proofs.lemmas.List.{get_or-set_same, get_or-set_other}
 use Rattle.std.proofs.lemmas.Option.{none-some}
 use Rattle.block_unit.specs.BlockMaps.{BlockMaps}
-use Rattle.cycle_ring.specs.Ring.{Ring, opening}
+use Rattle.cycle_ring.specs.Ring.{opening}
+use Rattle.cycle_ring.specs.Items.{ItemRing}
 use Rattle.stream_array.specs.Rings.{stream_ring}
 use Rattle.frame_store.specs.declared.TagBuffers.{TagBuffers}
 use Rattle.frame_store.specs.Buffers.{held_for, with_held, no_buffers}
@@ -45,10 +46,10 @@ same_length (one ∷ ones) (other ∷ others) same = ap suc (same_length ones ot
 
 -- RINGS AND BUFFERS BY TAG
 
-pub stream_ring-same : (rings : List Ring) (tag : ℕ) (ring : Ring) → 0 < tag → tag ≤ length rings → stream_ring (slice_set rings (tag - 1) ring) tag ≡ ring
+pub stream_ring-same : (rings : List ItemRing) (tag : ℕ) (ring : ItemRing) → 0 < tag → tag ≤ length rings → stream_ring (slice_set rings (tag - 1) ring) tag ≡ ring
 stream_ring-same rings tag ring some within = get_or-set_same rings (tag - 1) ring (opening 0) (omega arith)
 
-pub stream_ring-other : (rings : List Ring) (tag other : ℕ) (ring : Ring) → 0 < tag → 0 < other → (other ≡ tag → ⊥)
+pub stream_ring-other : (rings : List ItemRing) (tag other : ℕ) (ring : ItemRing) → 0 < tag → 0 < other → (other ≡ tag → ⊥)
     → stream_ring (slice_set rings (tag - 1) ring) other ≡ stream_ring rings other
 stream_ring-other rings tag other ring some there apart = get_or-set_other rings (tag - 1) (other - 1) ring (opening 0) (λ same. apart (omega arith))
 

@@ -1,11 +1,13 @@
 -- The TRBs of a data TD one by one, and the chunks of the device: TRB k is of chunk k.
 use Rattle.std.proofs.Common.{◌≡◌, ℕ, zero, suc, ◌+◌, ◌-◌, ◌*◌, ◌<◌, ◌≤◌, true, false, not, cond, length, length-take, Some, None, IfSome, refl, arith, ap, sym}
-use Rattle.std.proofs.Common.{subst, ◌∙◌}
+use Rattle.std.proofs.Common.{subst, ◌∙◌, map}
 use Rattle.std.specs.Prelude.{slice_get, option_map, min, ◌==◌}
 use Rattle.std.proofs.lemmas.Bool.{eqb-true, eqb-false, ne_eqb}
+use Rattle.std.proofs.lemmas.Option.{slice_get-map}
 use Rattle.block_unit.specs.BlockMaps.{BlockMaps, bytes_from, blocks_read}
 use Rattle.xhci_trb.specs.Text.{has_chain}
-use Rattle.cycle_ring.specs.Ring.{Ring, pointer_of, front_of}
+use Rattle.cycle_ring.specs.Ring.{pointer_of}
+use Rattle.cycle_ring.specs.Items.{ItemRing, known_of, known}
 use Rattle.uas_profile.specs.declared.TheConstants.{STREAM_RING_PLACES, BLOCK_BYTES, CHUNK_BLOCKS, CHUNK_BYTES}
 use Rattle.scsi_cmd.specs.declared.Op.{Op}
 use Rattle.uas_profile.specs.declared.Direction.TheVariants.{ToHost, ToDevice}
@@ -18,7 +20,7 @@ use Rattle.device_server.specs.Server.{chunk_blocks, chunk_bytes, chunk_given, m
 use Rattle.uas_target.specs.declared.Phase.TheVariants.{Gives, Takes}
 use Rattle.uas_target.specs.Tasks.{chunk_wanted, wanted_way}
 use Rattle.uas_host.specs.Tds.{data_td, data_trb, data_trb_count, data_trbs, window_of}
-use Rattle.xhci_ctl.specs.Steps.{Front, front_in}
+use Rattle.xhci_ctl.specs.Steps.{Front, front_at, front_in}
 
 -- TRB K
 
@@ -68,16 +70,17 @@ data_front address tag bytes k = record {
   chain = not (k + 1 == data_trb_count bytes);
 }
 
-pub front_of-data_td : (ring : Ring) (tag bytes k : ℕ) → ring.put ≡ data_td tag bytes → ring.got ≡ k → k < data_trb_count bytes
-    → front_of STREAM_RING_PLACES ring
-    ≡ Some (pointer_of STREAM_RING_PLACES ring k, data_trb (window_of tag + CHUNK_BYTES * k) (bytes - CHUNK_BYTES * k) (data_trb_count bytes - 1 - k))
+pub front_of-data_td : (ring : ItemRing) (tag bytes k : ℕ) → ring.put ≡ map known (data_td tag bytes) → ring.got ≡ k → k < data_trb_count bytes
+    → front_at STREAM_RING_PLACES ring
+    ≡ Some (pointer_of STREAM_RING_PLACES ring k, Some (data_trb (window_of tag + CHUNK_BYTES * k) (bytes - CHUNK_BYTES * k) (data_trb_count bytes - 1 - k)))
 front_of-data_td ring tag bytes k put got below =
-    ap (λ n. option_map (λ trb. (pointer_of STREAM_RING_PLACES ring n, trb)) (slice_get ring.put n)) got
-    ∙ ap (λ trbs. option_map (λ trb. (pointer_of STREAM_RING_PLACES ring k, trb)) (slice_get trbs k)) put
-    ∙ ap (option_map (λ trb. (pointer_of STREAM_RING_PLACES ring k, trb))) (slice_get-data_trbs (data_trb_count bytes) (window_of tag) bytes k below)
+    ap (λ n. option_map (λ item. (pointer_of STREAM_RING_PLACES ring n, known_of item)) (slice_get ring.put n)) got
+    ∙ ap (λ items. option_map (λ item. (pointer_of STREAM_RING_PLACES ring k, known_of item)) (slice_get items k)) put
+    ∙ ap (option_map (λ item. (pointer_of STREAM_RING_PLACES ring k, known_of item))) (slice_get-map known (data_td tag bytes) k)
+    ∙ ap (λ trb. option_map (λ item. (pointer_of STREAM_RING_PLACES ring k, known_of item)) (option_map known trb)) (slice_get-data_trbs (data_trb_count bytes) (window_of tag) bytes k below)
 
 pub front_in-data_trb : (address tag bytes k : ℕ) → k < data_trb_count bytes
-    → front_in (address, data_trb (window_of tag + CHUNK_BYTES * k) (bytes - CHUNK_BYTES * k) (data_trb_count bytes - 1 - k)) ≡ Some (data_front address tag bytes k)
+    → front_in (address, Some (data_trb (window_of tag + CHUNK_BYTES * k) (bytes - CHUNK_BYTES * k) (data_trb_count bytes - 1 - k))) ≡ Some (data_front address tag bytes k)
 front_in-data_trb address tag bytes k below =
     let last : (data_trb_count bytes - 1 - k == 0) ≡ (k + 1 == data_trb_count bytes) =
     same_test (data_trb_count bytes - 1 - k) 0 (k + 1) (data_trb_count bytes) (λ is. omega arith) (λ is. omega arith) in

@@ -34,7 +34,7 @@ at-front : (sides : Sides) (step : Front → Sides × Acted) (front : Option Fro
 at-front sides step None keeps = refl
 at-front sides step (Some at) keeps = keeps at
 
-tags-front : (sides : Sides) (step : Front → Sides × Acted) (front : Option (ℕ × Trb)) → ((at : Front) → KeepsTags sides (step at))
+tags-front : (sides : Sides) (step : Front → Sides × Acted) (front : Option (ℕ × Option Trb)) → ((at : Front) → KeepsTags sides (step at))
     → KeepsTags sides (on_front sides step front)
 tags-front sides step front keeps = at-front sides step (option_and_then front_in front) keeps
 

@@ -6,10 +6,12 @@ use Rattle.std.specs.Prelude.{◌==◌, nat_lt, is_some, slice_get, option_map, 
 use Rattle.std.proofs.Math.Nat.{mod-lt}
 use Rattle.std.proofs.lemmas.Bool.{lt-ltb, le-ltb, le-leb, ltb-true, eqb-true, ne_eqb, false≢true, and_parts}
 use Rattle.std.proofs.lemmas.Option.{none-some, slice_get-map, slice_get_within}
+use Rattle.std.proofs.lemmas.List.{length-map}
 use Rattle.xhci_trb.specs.declared.Trb.{Trb}
 use Rattle.xhci_trb.specs.declared.Trb.TheVariants.{Normal}
 use Rattle.xhci_trb.specs.Text.{has_chain}
-use Rattle.cycle_ring.specs.Ring.{Ring, place_of as place_on, pointer_of, item_at, consumed_item, consumed_at}
+use Rattle.cycle_ring.specs.Ring.{place_of as place_on, pointer_of, item_at, consumed_item}
+use Rattle.cycle_ring.specs.Items.{Item, ItemRing, known_consumed_at, known, known_of}
 use Rattle.cycle_ring.proofs.Names.{item_at-pointer_of}
 use Rattle.event_ring.specs.declared.Event.{Event}
 use Rattle.event_ring.specs.declared.Event.TheVariants.{Transfer}
@@ -39,7 +41,7 @@ use Rattle.shared_machine.specs.Shared.{Shared, request_direction}
 use Rattle.machine_invariant.specs.Matched.{under, request_bytes, carried_places, data_events, status_events, pipe_places, awaits_data, IsMatchedEntry, IsOwnEvent}
 use Rattle.bus_core.specs.World.{World, cell_at}
 use Rattle.bus_core.specs.Cells.{HoldsTrbs, HoldsIn, HoldsTd, HoldsData, data_in_td, data_out_td, FitsCell, FitsHeld}
-use Rattle.bus_core.specs.Fits.{command_trb, last_pointer, data_event, status_event, unit_len, FitsPart, Fits}
+use Rattle.bus_core.specs.Fits.{command_item, command_trb, data_event, Fits, FitsPart, last_pointer, status_event, unit_len}
 use Rattle.bus_core.proofs.common.DataTrbs.{length-data_trbs}
 use Rattle.machine_invariant.proofs.MatchedPlaces.{IsFound, under-found}
 use Rattle.machine_invariant.proofs.MatchedEntries.{awaited-pends}
@@ -57,7 +59,7 @@ places-some DataIn = omega arith
 places-some DataOut = omega arith
 
 -- the address of an item is that of its place
-pub spot_at-item : (pipe : Pipe) (stream k : ℕ) (ring : Ring) → HasRing pipe stream → ring.base ≡ ring_base pipe stream
+pub spot_at-item : (pipe : Pipe) (stream k : ℕ) (ring : ItemRing) → HasRing pipe stream → ring.base ≡ ring_base pipe stream
     → spot_at (pointer_of (places_of pipe) ring k) ≡ Some (pipe, stream, place_on (places_of pipe) ring k)
 spot_at-item pipe stream k ring there base =
     let some : 4 ≤ places_of pipe = places-some pipe in
@@ -66,15 +68,15 @@ spot_at-item pipe stream k ring there base =
     (ap (λ b. b + 16 * place_on (places_of pipe) ring k) base)
 
 -- a consumed item is found at its address
-pub consumed_at-item : (n k : ℕ) (ring : Ring) (trb : Trb) → 4 ≤ n → k < n - 1 → k < ring.got → slice_get ring.put k ≡ Some trb
-    → consumed_at n ring (pointer_of n ring k) ≡ Some trb
+pub consumed_at-item : (n k : ℕ) (ring : ItemRing) (trb : Trb) → 4 ≤ n → k < n - 1 → k < ring.got → slice_get ring.put k ≡ Some (known trb)
+    → known_consumed_at n ring (pointer_of n ring k) ≡ Some trb
 consumed_at-item n k ring trb some below taken is =
-    ap (option_and_then (consumed_item ring)) (item_at-pointer_of n k ring some below)
-    ∙ ap (λ b. if b then slice_get ring.put k else None) (lt-ltb k ring.got taken) ∙ is
+    ap (λ o. option_and_then known_of (option_and_then (consumed_item ring) o)) (item_at-pointer_of n k ring some below)
+    ∙ ap (λ b. option_and_then known_of (if b then slice_get ring.put k else None)) (lt-ltb k ring.got taken) ∙ ap (option_and_then known_of) is
 
 -- and the TD that it ends
 pub ended_at-item : (lines : LinesState) (pipe : Pipe) (stream k : ℕ) (trb : Trb) → IsLines lines → HasRing pipe stream → k < places_of pipe - 1
-    → k < (ring_of lines pipe stream).got → slice_get (ring_of lines pipe stream).put k ≡ Some trb
+    → k < (ring_of lines pipe stream).got → slice_get (ring_of lines pipe stream).put k ≡ Some (known trb)
     → ended_at lines (pointer_of (places_of pipe) (ring_of lines pipe stream) k) ≡ ended_td pipe stream trb
 ended_at-item lines pipe stream k trb sound there below taken is =
     let pointer : ℕ = pointer_of (places_of pipe) (ring_of lines pipe stream) k in
@@ -92,7 +94,7 @@ command_tag-trb place most =
     rw (reach, whole, tag, lt-ltb 0 (tag_of place) (omega arith), le-leb (tag_of place) STREAMS most) refl
 
 pub ended_at-command : (lines : LinesState) (k : ℕ) (place : Place) → IsLines lines → tag_of place ≤ STREAMS → k < COMMAND_RING_PLACES - 1 → k < lines.command.got
-    → slice_get lines.command.put k ≡ Some (command_trb place)
+    → slice_get lines.command.put k ≡ Some (command_item place)
     → ended_at lines (pointer_of COMMAND_RING_PLACES lines.command k) ≡ Some (record { pipe = Command; tag = tag_of place })
 ended_at-command lines k place sound most below taken is =
     ended_at-item lines Command 0 k (command_trb place) sound refl below taken is
@@ -101,16 +103,16 @@ ended_at-command lines k place sound most below taken is =
 -- THE STREAMS
 
 -- A stream's ring has one TD, of which all TRBs were taken; the last one ends it.
-pub record IsSpent (ring : Ring) : Type 0 where
+pub record IsSpent (ring : ItemRing) : Type 0 where
   pub trb : Trb
   pub some : 0 < length ring.put
   pub most : length ring.put < STREAM_RING_PLACES
   pub taken : ring.got ≡ length ring.put
-  pub last : slice_get ring.put (length ring.put - 1) ≡ Some trb
+  pub last : slice_get ring.put (length ring.put - 1) ≡ Some (known trb)
   pub ends : has_chain trb ≡ false
 
 -- the item of its last TRB is found by the address
-pub item_at-last_pointer : (ring : Ring) → IsSpent ring → item_at STREAM_RING_PLACES ring (last_pointer ring) ≡ Some (length ring.put - 1)
+pub item_at-last_pointer : (ring : ItemRing) → IsSpent ring → item_at STREAM_RING_PLACES ring (last_pointer ring) ≡ Some (length ring.put - 1)
 item_at-last_pointer ring spent =
     let some = spent.some in
     let most = spent.most in
@@ -142,15 +144,15 @@ ended_at-data_out lines tag sound there spent =
 
 -- WHOLE TDS
 
-pub spent-status : (ring : Ring) (tag : ℕ) → HoldsTrbs ring (status_td tag) 1 → IsSpent ring
+pub spent-status : (ring : ItemRing) (tag : ℕ) → HoldsTrbs ring (status_td tag) 1 → IsSpent ring
 spent-status ring tag holds =
-    let long : length ring.put ≡ 1 = ap (λ (ts : List Trb). length ts) holds.0 in
+    let long : length ring.put ≡ 1 = ap (λ (ts : List Item). length ts) holds.0 in
     record {
       trb = Normal (status_buffer_of tag) STATUS_BYTES 0 (record { 0 = 18 });
       some = omega (arith, long);
       most = omega (arith, long);
       taken = holds.1 ∙ sym long;
-      last = ap (λ (ts : List Trb). slice_get ts (length ts - 1)) holds.0;
+      last = ap (λ (ts : List Item). slice_get ts (length ts - 1)) holds.0;
       ends = refl;
     }
 
@@ -166,10 +168,10 @@ data_trbs-end (suc more) pointer left =
     let rest = data_trbs-end more (pointer + CHUNK_BYTES) (left - CHUNK_BYTES) in
     record { trb = rest.trb; last = rest.last; ends = rest.ends }
 
-pub spent-data : (ring : Ring) (tag bytes : ℕ) → 0 < bytes → bytes ≤ WINDOW_BYTES → HoldsTrbs ring (data_td tag bytes) (data_trb_count bytes) → IsSpent ring
+pub spent-data : (ring : ItemRing) (tag bytes : ℕ) → 0 < bytes → bytes ≤ WINDOW_BYTES → HoldsTrbs ring (data_td tag bytes) (data_trb_count bytes) → IsSpent ring
 spent-data ring tag bytes some most holds =
     let long : length ring.put ≡ data_trb_count bytes =
-    ap (λ (ts : List Trb). length ts) holds.0 ∙ length-data_trbs (data_trb_count bytes) (window_of tag) bytes in
+    ap (λ (ts : List Item). length ts) holds.0 ∙ length-map (data_td tag bytes) known ∙ length-data_trbs (data_trb_count bytes) (window_of tag) bytes in
     let one : data_trb_count bytes ≡ suc (data_trb_count bytes - 1) = omega arith in
     let end : EndsAt (data_trb_count bytes - 1) (data_td tag bytes) =
     subst (λ n. EndsAt (data_trb_count bytes - 1) (data_trbs n (window_of tag) bytes)) (sym one)
@@ -179,7 +181,8 @@ spent-data ring tag bytes some most holds =
       some = omega (arith, long);
       most = omega (arith, long);
       taken = holds.1 ∙ sym long;
-      last = ap (λ n. slice_get ring.put (n - 1)) long ∙ ap (λ (ts : List Trb). slice_get ts (data_trb_count bytes - 1)) holds.0 ∙ end.last;
+      last = ap (λ n. slice_get ring.put (n - 1)) long ∙ ap (λ (ts : List Item). slice_get ts (data_trb_count bytes - 1)) holds.0
+          ∙ slice_get-map known (data_td tag bytes) (data_trb_count bytes - 1) ∙ ap (option_map known) end.last;
       ends = end.ends;
     }
 
@@ -209,7 +212,7 @@ fits-cell state world place entry all is =
 
 -- AN AWAITED TD STANDS WHOLE ON ITS RING
 
-pub holds-awaited : (ring : Ring) (trbs : List Trb) (td : Td) (n : ℕ) → HoldsTd ring trbs td → is_awaited td n ≡ true → HoldsTrbs ring trbs n
+pub holds-awaited : (ring : ItemRing) (trbs : List Trb) (td : Td) (n : ℕ) → HoldsTd ring trbs td → is_awaited td n ≡ true → HoldsTrbs ring trbs n
 holds-awaited ring trbs td n holds awaited =
     let taken : td.consumed ≡ n = eqb-true td.consumed n (and_parts (is_pending td.state) (td.consumed == n) awaited).1 in
     let on : HoldsTrbs ring trbs td.consumed = subst (HoldsIn ring trbs td.consumed) (awaited-pends td n awaited) holds in
@@ -309,7 +312,7 @@ IsDataText ToHost world place = IsStreamText world.lines (data_text world place)
 IsDataText ToDevice world place = IsStreamText world.lines (data_text world place) 0 SUCCESS DataOut (tag_of place)
 
 -- the first data ring is asked whether it has the TD
-data_event-which : (data_in data_out : Ring) (b : Bool) → (length data_in.put == 0) ≡ b → data_event data_in data_out ≡
+data_event-which : (data_in data_out : ItemRing) (b : Bool) → (length data_in.put == 0) ≡ b → data_event data_in data_out ≡
     (if b then Transfer (last_pointer data_out) 0 SUCCESS (endpoint_of DataOut) SLOT else Transfer (last_pointer data_in) 0 SUCCESS (endpoint_of DataIn) SLOT)
 data_event-which data_in data_out b is =
     ap (λ t. if t then Transfer (last_pointer data_out) 0 SUCCESS (endpoint_of DataOut) SLOT
@@ -319,7 +322,7 @@ data_text-by : (way : Direction) (world : World) (place : Place) → IsLines wor
     → IsDataText way world place
 data_text-by Nothing world place sound most spent = spent
 data_text-by ToHost world place sound most spent =
-    let ring : Ring = stream_ring world.lines.data_in (tag_of place) in
+    let ring : ItemRing = stream_ring world.lines.data_in (tag_of place) in
     let some : 0 < length ring.put = spent.some in
     record {
       pointer = last_pointer ring;
@@ -328,10 +331,10 @@ data_text-by ToHost world place sound most spent =
       item = item_at-last_pointer ring spent;
     }
 data_text-by ToDevice world place sound most spent =
-    let ring : Ring = stream_ring world.lines.data_out (tag_of place) in
+    let ring : ItemRing = stream_ring world.lines.data_out (tag_of place) in
     record {
       pointer = last_pointer ring;
-      is = data_event-which (stream_ring world.lines.data_in (tag_of place)) ring true (ap (λ (ts : List Trb). length ts == 0) spent.1);
+      is = data_event-which (stream_ring world.lines.data_in (tag_of place)) ring true (ap (λ (ts : List Item). length ts == 0) spent.1);
       ended = ended_at-data_out world.lines (tag_of place) sound (omega arith, most) spent.0;
       item = item_at-last_pointer ring spent.0;
     }
@@ -381,9 +384,9 @@ command_text-waits state world k place all is =
     let few = all.most_clients in
     let many : length (pipe_places state) ≡ length (carried_places state.events) + length state.messages =
     length-append (carried_places state.events) state.messages in
-    let put : slice_get world.lines.command.put k ≡ Some (command_trb place) =
-    ap (λ (ts : List Trb). slice_get ts k) all.queues.put ∙ slice_get-map command_trb (pipe_places state) k
-    ∙ ap (option_map command_trb) (slice_get-append_left (carried_places state.events) state.messages k place is) in
+    let put : slice_get world.lines.command.put k ≡ Some (command_item place) =
+    ap (λ (ts : List Item). slice_get ts k) all.queues.put ∙ slice_get-map command_item (pipe_places state) k
+    ∙ ap (option_map command_item) (slice_get-append_left (carried_places state.events) state.messages k place is) in
     ended_at-command world.lines k place all.sound.lines (tag_of-most (length state.parts) place few own.there) (omega arith)
     (omega (arith, within, all.queues.got)) put
 

@@ -9,7 +9,7 @@ use Rattle.std.proofs.lemmas.Bool.{eqb-true, eqb-false}
 use Rattle.std.proofs.lemmas.List.{get_or-set_same, get_or-set_other}
 use Rattle.block_unit.specs.BlockMaps.{BlockMaps}
 use Rattle.xhci_trb.specs.declared.Trb.TheVariants.{SetDequeue}
-use Rattle.cycle_ring.specs.Ring.{Ring}
+use Rattle.cycle_ring.specs.Items.{known, ItemRing}
 use Rattle.uas_profile.specs.declared.Pipe.{Pipe}
 use Rattle.uas_profile.specs.declared.Pipe.TheVariants.{Command, Status, DataIn, DataOut}
 use Rattle.uas_profile.specs.Pipes.{HasStreams}
@@ -52,14 +52,14 @@ slots-apart client slot at apart same = apart (omega arith)
 -- THE CONTROLLER'S COMMAND RING
 
 -- the producer's end of a ring is where it was: of a ring Set TR Dequeue Pointer tells no more
-pub record EndsAlike (before after : Ring) : Type 0 where
+pub record EndsAlike (before after : ItemRing) : Type 0 where
   pub base : after.base ≡ before.base
   pub at : after.at ≡ before.at
   pub put : after.put ≡ before.put
 
-pub ends-same : (before after : Ring) → after ≡ before → EndsAlike before after
+pub ends-same : (before after : ItemRing) → after ≡ before → EndsAlike before after
 ends-same before after same =
-    record { base = ap (λ (r : Ring). r.base) same; at = ap (λ (r : Ring). r.at) same; put = ap (λ (r : Ring). r.put) same }
+    record { base = ap (λ (r : ItemRing). r.base) same; at = ap (λ (r : ItemRing). r.at) same; put = ap (λ (r : ItemRing). r.put) same }
 
 pub move_trb-kept : (before after : LinesState) (pipe : Pipe) (tag : ℕ) → EndsAlike (ring_of before pipe tag) (ring_of after pipe tag)
     → move_trb after pipe tag ≡ move_trb before pipe tag
@@ -68,12 +68,12 @@ move_trb-kept before after pipe tag ends = λ i. SetDequeue (ends.base i + 16 * 
 
 command-kept : (before after : LinesState) (pipe : Pipe) (place : Place) (stage : RetirementStage) → after.engine ≡ before.engine
     → move_trb after pipe (tag_of place) ≡ move_trb before pipe (tag_of place) → HoldsCommand before pipe place stage → HoldsCommand after pipe place stage
-command-kept before after pipe place StopAsked same moves holds = (ap (λ (r : Ring). r.put) same ∙ holds.0, ap (λ (r : Ring). r.got) same ∙ holds.1)
-command-kept before after pipe place StopAnswered same moves holds = (ap (λ (r : Ring). r.put) same ∙ holds.0, ap (λ (r : Ring). r.got) same ∙ holds.1)
+command-kept before after pipe place StopAsked same moves holds = (ap (λ (r : ItemRing). r.put) same ∙ holds.0, ap (λ (r : ItemRing). r.got) same ∙ holds.1)
+command-kept before after pipe place StopAnswered same moves holds = (ap (λ (r : ItemRing). r.put) same ∙ holds.0, ap (λ (r : ItemRing). r.got) same ∙ holds.1)
 command-kept before after pipe place MoveAsked same moves holds =
-    (ap (λ (r : Ring). r.put) same ∙ holds.0 ∙ ap (λ trb. trb ∷ []) (sym moves), ap (λ (r : Ring). r.got) same ∙ holds.1)
+    (ap (λ (r : ItemRing). r.put) same ∙ holds.0 ∙ ap (λ trb. known trb ∷ []) (sym moves), ap (λ (r : ItemRing). r.got) same ∙ holds.1)
 command-kept before after pipe place MoveAnswered same moves holds =
-    (ap (λ (r : Ring). r.put) same ∙ holds.0 ∙ ap (λ trb. trb ∷ []) (sym moves), ap (λ (r : Ring). r.got) same ∙ holds.1)
+    (ap (λ (r : ItemRing). r.put) same ∙ holds.0 ∙ ap (λ trb. known trb ∷ []) (sym moves), ap (λ (r : ItemRing). r.got) same ∙ holds.1)
 
 -- the enqueue place of the ring from which a retirement's TD goes is the same
 abbrev pub MovesAlike : Option Retirement → LinesState → LinesState → Type 0
@@ -82,7 +82,7 @@ MovesAlike retirement before after =
 
 holds-kept : (before after : LinesState) (retirement : Option Retirement) → after.engine ≡ before.engine → MovesAlike retirement before after
     → HoldsCommandOf before retirement → HoldsCommandOf after retirement
-holds-kept before after None same moves holds = (ap (λ (r : Ring). r.put) same ∙ holds.0, ap (λ (r : Ring). r.got) same ∙ holds.1)
+holds-kept before after None same moves holds = (ap (λ (r : ItemRing). r.put) same ∙ holds.0, ap (λ (r : ItemRing). r.got) same ∙ holds.1)
 holds-kept before after (Some r) same moves holds = command-kept before after r.pipe r.place r.stage same (moves r refl) holds
 
 -- a step that leaves that ring and the retirement alone

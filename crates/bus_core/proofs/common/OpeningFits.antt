@@ -3,7 +3,8 @@ use Rattle.std.proofs.Common.{◌≡◌, ℕ, zero, suc, ◌+◌, ◌-◌, ◌<�
 use Rattle.std.specs.Prelude.{nat_le, replicate, slice_get, slice_index_or}
 use Rattle.std.proofs.lemmas.Bool.{leb-true, leb-false}
 use Rattle.block_unit.specs.BlockMaps.{BlockMaps}
-use Rattle.cycle_ring.specs.Ring.{Ring, opening}
+use Rattle.cycle_ring.specs.Ring.{opening}
+use Rattle.cycle_ring.specs.Items.{ItemRing}
 use Rattle.uas_profile.specs.declared.Pipe.{Pipe}
 use Rattle.uas_profile.specs.declared.Pipe.TheVariants.{Command, Status, DataIn, DataOut}
 use Rattle.stream_array.specs.Map.{HasRing}
@@ -62,12 +63,12 @@ lent-opening tag = none STREAMS (tag - 1)
 -- a new ring has nothing
 holds-opening : (lines : LinesState) (pipe : Pipe) (stream : ℕ) → IsOpeningLines lines → HasRing pipe stream → HoldsTrbs (ring_of lines pipe stream) [] 0
 holds-opening lines pipe stream new there =
-    (ap (λ (r : Ring). r.put) (new.ring pipe stream there), ap (λ (r : Ring). r.got) (new.ring pipe stream there))
+    (ap (λ (r : ItemRing). r.put) (new.ring pipe stream there), ap (λ (r : ItemRing). r.got) (new.ring pipe stream there))
 
 -- nor has a stream past the last one, of which there is no ring
-past-opening : (rings : List Ring) (tag : ℕ) → length rings < tag → HoldsTrbs (stream_ring rings tag) [] 0
+past-opening : (rings : List ItemRing) (tag : ℕ) → length rings < tag → HoldsTrbs (stream_ring rings tag) [] 0
 past-opening rings tag past =
-    let none = index-past rings (tag - 1) (opening 0) (omega (arith, past)) in (ap (λ (r : Ring). r.put) none, ap (λ (r : Ring). r.got) none)
+    let none = index-past rings (tag - 1) (opening 0) (omega (arith, past)) in (ap (λ (r : ItemRing). r.put) none, ap (λ (r : ItemRing). r.got) none)
 
 unused-opening : (lines : LinesState) (tag : ℕ) → IsOpeningLines lines → IsLines lines → 0 < tag → AreUnused lines tag
 unused-opening lines tag new sound some =
@@ -141,7 +142,7 @@ opening-fits units lines some most new sound =
       data_out = refl;
       sound = sound;
       queues = record { put = command.0; got = command.1; texts = ap (λ e. e.pending) new.events };
-      engine = record { retirement = refl; commands = (ap (λ (r : Ring). r.put) new.engine, ap (λ (r : Ring). r.got) new.engine) };
+      engine = record { retirement = refl; commands = (ap (λ (r : ItemRing). r.put) new.engine, ap (λ (r : ItemRing). r.got) new.engine) };
       matched = opening-matched units;
       clients = λ client. clients-opening units units lines 0 client client new (omega (arith, most)) (omega arith);
       others = λ tag past. task_of-opening units tag;

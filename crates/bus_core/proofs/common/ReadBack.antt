@@ -10,7 +10,8 @@ use Rattle.std.proofs.lemmas.Bool.{ltb-true}
 use Rattle.std.proofs.Math.Seq.{drop-append_seam}
 use Rattle.block_unit.specs.BlockMaps.{BlockMaps}
 use Rattle.xhci_trb.specs.declared.Trb.{Trb}
-use Rattle.cycle_ring.specs.Ring.{Ring, pointer_of}
+use Rattle.cycle_ring.specs.Ring.{pointer_of}
+use Rattle.cycle_ring.specs.Items.{ItemRing}
 use Rattle.event_ring.specs.declared.Event.{Event}
 use Rattle.event_ring.specs.declared.Event.TheVariants.{Transfer}
 use Rattle.uas_profile.specs.declared.Pipe.{Pipe}
@@ -57,7 +58,7 @@ use Rattle.machine_invariant.specs.Matched.{IsAwaitedOrSeen, IsGivenUp, IsPhaseO
 use Rattle.bus_core.specs.World.{World, Cell, cell_at}
 use Rattle.bus_core.specs.Cells.{state_of, host_side, HoldsIn, HoldsTd, HoldsData, data_in_td, data_out_td, HasAnswerIn, HasNoBytes, lent_for, FitsCell}
 use Rattle.bus_core.specs.Cells.{FitsHeld}
-use Rattle.bus_core.specs.Fits.{HoldsCommand, HoldsCommandOf, command_trb, engine_event, event_texts, host_retirement, host_stage, place_in, FitsPart}
+use Rattle.bus_core.specs.Fits.{command_item, engine_event, event_texts, FitsPart, HoldsCommand, HoldsCommandOf, host_retirement, host_stage, place_in}
 use Rattle.bus_core.specs.Fits.{FitsClient, Fits}
 use Rattle.bus_core.specs.Decoded.{message_in, decoded_messages, completion_on, completion_of_td, completion_of, decoded_events, consumed_in, decoded_td}
 use Rattle.bus_core.specs.Decoded.{decoded_retirement, stage_by, data_ring}
@@ -142,18 +143,18 @@ lent-back (Manage what noted) buffer none = sym none
 
 -- A STREAM'S TD
 
-consumed_in-back : (state : TdState) (ring : Ring) (trbs : List Trb) (taken n : ℕ) → length trbs ≡ n → HoldsIn ring trbs taken state
+consumed_in-back : (state : TdState) (ring : ItemRing) (trbs : List Trb) (taken n : ℕ) → length trbs ≡ n → HoldsIn ring trbs taken state
     → consumed_in state n ring ≡ taken
 consumed_in-back Pending ring trbs taken n long holds = holds.1
 consumed_in-back Seen ring trbs taken n long holds = omega (arith, long, holds.1)
 consumed_in-back LeftOver ring trbs taken n long holds = holds.1
 consumed_in-back Retired ring trbs taken n long holds = omega (arith, long, holds.1)
 
-decoded_td-back : (ring : Ring) (trbs : List Trb) (td : Td) (n : ℕ) → length trbs ≡ n → HoldsTd ring trbs td → decoded_td n ring td.state ≡ td
+decoded_td-back : (ring : ItemRing) (trbs : List Trb) (td : Td) (n : ℕ) → length trbs ≡ n → HoldsTd ring trbs td → decoded_td n ring td.state ≡ td
 decoded_td-back ring trbs td n long holds =
     ap (λ (c : ℕ). record { state = td.state; consumed = c }) (consumed_in-back td.state ring trbs td.consumed n long holds)
 
-decoded_data-back : (ring : Ring) (trbs : List Trb) (td : Option Td) (n : ℕ) → length trbs ≡ n → HoldsData ring trbs td
+decoded_data-back : (ring : ItemRing) (trbs : List Trb) (td : Option Td) (n : ℕ) → length trbs ≡ n → HoldsData ring trbs td
     → option_map (decoded_td n ring) (option_map state_of td) ≡ td
 decoded_data-back ring trbs None n long holds = refl
 decoded_data-back ring trbs (Some td) n long holds = ap Some (decoded_td-back ring trbs td n long holds)
@@ -303,28 +304,28 @@ clients-are state world all =
 
 -- MESSAGES
 
-message_in-back : (clients : ℕ) (place : Place) → clients ≤ MAX_CLIENTS → IsPlace clients place → message_in clients (command_trb place) ≡ Some place
+message_in-back : (clients : ℕ) (place : Place) → clients ≤ MAX_CLIENTS → IsPlace clients place → message_in clients (command_item place) ≡ Some place
 message_in-back clients place few there =
     ap (option_and_then (place_of clients)) (command_tag-trb place (tag_of-most clients place few there)) ∙ place_of-tag_of clients place there
 
 messages_in-back : (clients : ℕ) (messages : List Place) → clients ≤ MAX_CLIENTS
     → ((at : ℕ) (place : Place) → slice_get messages at ≡ Some place → IsPlace clients place)
-    → filter_map (message_in clients) (map command_trb messages) ≡ messages
+    → filter_map (message_in clients) (map command_item messages) ≡ messages
 messages_in-back clients [] few there = refl
 messages_in-back clients (place ∷ rest) few there =
-    ap (λ o. cons_option o (filter_map (message_in clients) (map command_trb rest))) (message_in-back clients place few (there 0 place refl))
+    ap (λ o. cons_option o (filter_map (message_in clients) (map command_item rest))) (message_in-back clients place few (there 0 place refl))
     ∙ ap (λ ps. place ∷ ps) (messages_in-back clients rest few (λ at other is. there (suc at) other is))
 
 pub messages-back : (state : Shared) (world : World) → Fits state world → decoded_messages world ≡ state.messages
 messages-back state world all =
     let carried : List Place = carried_places state.events in
-    let long : length (map command_trb carried) ≡ world.lines.command.got = length-map carried command_trb ∙ sym all.queues.got in
-    let left : drop world.lines.command.got world.lines.command.put ≡ map command_trb state.messages =
-    ap (drop world.lines.command.got) (all.queues.put ∙ map-append command_trb carried state.messages)
-    ∙ ap (λ n. drop n (map command_trb carried ++ map command_trb state.messages)) (sym long)
-    ∙ drop-append_seam (map command_trb carried) (map command_trb state.messages) in
+    let long : length (map command_item carried) ≡ world.lines.command.got = length-map carried command_item ∙ sym all.queues.got in
+    let left : drop world.lines.command.got world.lines.command.put ≡ map command_item state.messages =
+    ap (drop world.lines.command.got) (all.queues.put ∙ map-append command_item carried state.messages)
+    ∙ ap (λ n. drop n (map command_item carried ++ map command_item state.messages)) (sym long)
+    ∙ drop-append_seam (map command_item carried) (map command_item state.messages) in
     ap (filter_map (message_in (length world.host.clients))) left
-    ∙ ap (λ n. filter_map (message_in n) (map command_trb state.messages)) (clients-are state world all)
+    ∙ ap (λ n. filter_map (message_in n) (map command_item state.messages)) (clients-are state world all)
     ∙ messages_in-back (length state.parts) state.messages all.most_clients
     (λ at place is. ((matched-no_stray state all.matched).messages at place is).there)
 

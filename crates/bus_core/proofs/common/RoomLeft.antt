@@ -7,7 +7,7 @@ use Rattle.std.proofs.lemmas.Bool.{cases_lt}
 use Rattle.std.proofs.lemmas.List.{length-map}
 use Rattle.std.proofs.lemmas.Option.{none-some}
 use Rattle.xhci_trb.specs.declared.Trb.{Trb}
-use Rattle.cycle_ring.specs.Ring.{Ring}
+use Rattle.cycle_ring.specs.Items.{Item, ItemRing, known}
 use Rattle.event_ring.specs.declared.Event.{Event}
 use Rattle.uas_profile.specs.declared.Pipe.{Pipe}
 use Rattle.uas_profile.specs.declared.Pipe.TheVariants.{Command, Status, DataIn, DataOut}
@@ -33,24 +33,25 @@ use Rattle.machine_invariant.specs.Matched.{IsMatchedEntry, held_in, pipe_places
 use Rattle.machine_invariant.proofs.MatchedBounds.{matched-room}
 use Rattle.bus_core.specs.World.{World, cell_at}
 use Rattle.bus_core.specs.Cells.{FitsHeld, HoldsData, HoldsIn, HoldsTrbs, data_in_td, data_out_td}
-use Rattle.bus_core.specs.Fits.{Fits, HoldsCommand, HoldsCommandOf, command_trb, event_texts}
+use Rattle.bus_core.specs.Fits.{command_item, event_texts, Fits, HoldsCommand, HoldsCommandOf}
 use Rattle.bus_core.specs.Shows.{AreNeverFull}
 use Rattle.bus_core.proofs.common.DataTrbs.{length-data_trbs}
 use Rattle.bus_core.proofs.common.Framing.{IsFound, found}
+use Rattle.uas_host.specs.Retirement.{stop_trb, move_trb}
 
 -- ONE RING
 
-put-most : (ring : Ring) (trbs : List Trb) (taken most : ℕ) → length trbs ≤ most → HoldsTrbs ring trbs taken → length ring.put ≤ most
-put-most ring trbs taken most few holds = omega (arith, few, ap (λ (ts : List Trb). length ts) holds.0)
+put-most : (ring : ItemRing) (trbs : List Trb) (taken most : ℕ) → length trbs ≤ most → HoldsTrbs ring trbs taken → length ring.put ≤ most
+put-most ring trbs taken most few holds = omega (arith, few, ap (λ (ts : List Item). length ts) holds.0, length-map trbs known)
 
-held-most : (ring : Ring) (trbs : List Trb) (consumed most : ℕ) (state : TdState) → length trbs ≤ most → HoldsIn ring trbs consumed state
+held-most : (ring : ItemRing) (trbs : List Trb) (consumed most : ℕ) (state : TdState) → length trbs ≤ most → HoldsIn ring trbs consumed state
     → length ring.put ≤ most
 held-most ring trbs consumed most Pending few holds = put-most ring trbs consumed most few holds
 held-most ring trbs consumed most Seen few holds = put-most ring [] 0 most (omega arith) holds.0
 held-most ring trbs consumed most LeftOver few holds = put-most ring trbs consumed most few holds
 held-most ring trbs consumed most Retired few holds = put-most ring [] 0 most (omega arith) holds.0
 
-data-most : (ring : Ring) (trbs : List Trb) (most : ℕ) (td : Option Td) → length trbs ≤ most → HoldsData ring trbs td → length ring.put ≤ most
+data-most : (ring : ItemRing) (trbs : List Trb) (most : ℕ) (td : Option Td) → length trbs ≤ most → HoldsData ring trbs td → length ring.put ≤ most
 data-most ring trbs most None few holds = put-most ring [] 0 most (omega arith) holds
 data-most ring trbs most (Some td) few holds = held-most ring trbs td.consumed most td.state few holds
 
@@ -132,10 +133,10 @@ few state world fits DataOut stream streams it = it.data_out
 -- THE COMMAND RING AND THE EVENTS
 
 one-stage : (lines : LinesState) (pipe : Pipe) (place : Place) (stage : RetirementStage) → HoldsCommand lines pipe place stage → length lines.engine.put ≤ 1
-one-stage lines pipe place StopAsked holds = put-most lines.engine _ 0 1 (omega arith) holds
-one-stage lines pipe place StopAnswered holds = put-most lines.engine _ 1 1 (omega arith) holds
-one-stage lines pipe place MoveAsked holds = put-most lines.engine _ 0 1 (omega arith) holds
-one-stage lines pipe place MoveAnswered holds = put-most lines.engine _ 1 1 (omega arith) holds
+one-stage lines pipe place StopAsked holds = put-most lines.engine (stop_trb pipe ∷ []) 0 1 (omega arith) holds
+one-stage lines pipe place StopAnswered holds = put-most lines.engine (stop_trb pipe ∷ []) 1 1 (omega arith) holds
+one-stage lines pipe place MoveAsked holds = put-most lines.engine (move_trb lines pipe (tag_of place) ∷ []) 0 1 (omega arith) holds
+one-stage lines pipe place MoveAnswered holds = put-most lines.engine (move_trb lines pipe (tag_of place) ∷ []) 1 1 (omega arith) holds
 
 one-command : (lines : LinesState) (retirement : Option Retirement) → HoldsCommandOf lines retirement → length lines.engine.put ≤ 1
 one-command lines None holds = put-most lines.engine [] 0 1 (omega arith) holds
@@ -156,7 +157,7 @@ never-full state world fits =
     record {
       command =
           omega
-          (arith, room.pipe, fits.most_clients, ap (λ (ts : List Trb). length ts) fits.queues.put, length-map (pipe_places state) command_trb);
+          (arith, room.pipe, fits.most_clients, ap (λ (ts : List Item). length ts) fits.queues.put, length-map (pipe_places state) command_item);
       streams = λ pipe stream streams some. few state world fits pipe stream streams (few-named state world stream fits some (cases_lt (TAGS * length state.parts) stream));
       engine = one-command world.lines state.retirement fits.engine.commands;
       events = omega (arith, room.events, fits.most_clients, ap (λ (es : List Event). length es) fits.queues.texts, length-texts world 0 state.events);

@@ -3,9 +3,11 @@ use Rattle.std.proofs.Common.{◌≡◌, ℕ, zero, suc, ◌<◌, Bool, true, fa
 use Rattle.std.proofs.Common.{◌∙◌}
 use Rattle.std.specs.Prelude.{slice_get, ◌==◌}
 use Rattle.std.specs.Option.{option_map_or}
+use Rattle.std.proofs.lemmas.List.{drop-map}
 use Rattle.std.proofs.lemmas.Option.{none-some}
 use Rattle.xhci_trb.specs.declared.Trb.{Trb}
-use Rattle.cycle_ring.specs.Ring.{Ring, pointer_of}
+use Rattle.cycle_ring.specs.Ring.{pointer_of}
+use Rattle.cycle_ring.specs.Items.{known, ItemRing}
 use Rattle.event_ring.specs.declared.Event.TheVariants.{Transfer}
 use Rattle.uas_profile.specs.declared.Pipe.{Pipe}
 use Rattle.uas_profile.specs.declared.Pipe.TheVariants.{Command, Status, DataIn, DataOut}
@@ -29,14 +31,15 @@ use Rattle.shared_machine.specs.Shared.{Shared}
 use Rattle.machine_invariant.specs.Matched.{carried_places, held_in}
 use Rattle.bus_core.specs.World.{World, cell_at}
 use Rattle.bus_core.specs.Cells.{FitsHeld, HoldsTrbs, HoldsIn, HoldsData}
-use Rattle.bus_core.specs.Fits.{Fits, HoldsCommand, HoldsCommandOf, command_trb, event_texts, last_pointer}
+use Rattle.bus_core.specs.Fits.{command_item, event_texts, Fits, HoldsCommand, HoldsCommandOf, last_pointer}
 use Rattle.bus_core.specs.Shows.{PointAhead, ShowsPlace, ShowsShared, commands_at, commands_of, data_tells, engine_tells, left_in, left_of}
 use Rattle.bus_core.specs.Shows.{pending_in, tells, tells_of, told_in}
 use Rattle.bus_core.proofs.common.Framing.{IsFound, found}
+use Rattle.uas_host.specs.Retirement.{stop_trb, move_trb}
 
 -- MESSAGES
 
-drop-carried : (carried messages : List Place) → drop (length carried) (map command_trb (carried ++ messages)) ≡ map command_trb messages
+drop-carried : (carried messages : List Place) → drop (length carried) (map command_item (carried ++ messages)) ≡ map command_item messages
 drop-carried [] messages = refl
 drop-carried (place ∷ rest) messages = drop-carried rest messages
 
@@ -53,8 +56,8 @@ told-texts world k [] = refl
 told-texts world k (CommandDone place ∷ rest) =
     ap (λ es. Some (tells (pointer_of COMMAND_RING_PLACES world.lines.command k) SUCCESS Command) ∷ es) (told-texts world (suc k) rest)
 told-texts world k (DataDone place ∷ rest) =
-    let data_in : Ring = stream_ring world.lines.data_in (tag_of place) in
-    let data_out : Ring = stream_ring world.lines.data_out (tag_of place) in
+    let data_in : ItemRing = stream_ring world.lines.data_in (tag_of place) in
+    let data_out : ItemRing = stream_ring world.lines.data_out (tag_of place) in
     ap (λ e. e ∷ map told_in (event_texts world k rest)) (told-if (length data_in.put == 0) (last_pointer data_out) (last_pointer data_in) DataOut DataIn)
     ∙ ap (λ es. Some (data_tells data_in data_out) ∷ es) (told-texts world k rest)
 told-texts world k (StatusDone place ∷ rest) =
@@ -63,16 +66,17 @@ told-texts world k (EngineDone place ∷ rest) = ap (λ es. Some (engine_tells w
 
 -- TDS
 
-left-trbs : (ring : Ring) (trbs : List Trb) (taken : ℕ) → HoldsTrbs ring trbs taken → pending_in ring ≡ drop taken trbs
-left-trbs ring trbs taken holds = ap (λ n. drop n ring.put) holds.1 ∙ ap (drop taken) holds.0
+left-trbs : (ring : ItemRing) (trbs : List Trb) (taken : ℕ) → HoldsTrbs ring trbs taken → pending_in ring ≡ map known (drop taken trbs)
+left-trbs ring trbs taken holds = ap (λ n. drop n ring.put) holds.1 ∙ ap (drop taken) holds.0 ∙ drop-map known taken trbs
 
-left-held : (ring : Ring) (trbs : List Trb) (consumed : ℕ) (state : TdState) → HoldsIn ring trbs consumed state → pending_in ring ≡ left_in trbs consumed state
+left-held : (ring : ItemRing) (trbs : List Trb) (consumed : ℕ) (state : TdState) → HoldsIn ring trbs consumed state
+    → pending_in ring ≡ map known (left_in trbs consumed state)
 left-held ring trbs consumed Pending holds = left-trbs ring trbs consumed holds
 left-held ring trbs consumed Seen holds = left-trbs ring [] 0 holds.0
 left-held ring trbs consumed LeftOver holds = left-trbs ring trbs consumed holds
 left-held ring trbs consumed Retired holds = left-trbs ring [] 0 holds.0
 
-left-data : (ring : Ring) (trbs : List Trb) (td : Option Td) → HoldsData ring trbs td → pending_in ring ≡ left_of trbs td
+left-data : (ring : ItemRing) (trbs : List Trb) (td : Option Td) → HoldsData ring trbs td → pending_in ring ≡ map known (left_of trbs td)
 left-data ring trbs None holds = left-trbs ring [] 0 holds
 left-data ring trbs (Some td) holds = left-held ring trbs td.consumed td.state holds
 
@@ -105,14 +109,14 @@ shown-at state world place (Some part) fits is there within =
 -- THE CONTROLLER'S COMMAND RING
 
 shown-stage : (lines : LinesState) (pipe : Pipe) (place : Place) (stage : RetirementStage) → HoldsCommand lines pipe place stage
-    → pending_in lines.engine ≡ commands_at lines pipe place stage
-shown-stage lines pipe place StopAsked holds = left-trbs lines.engine _ 0 holds
-shown-stage lines pipe place StopAnswered holds = left-trbs lines.engine _ 1 holds
-shown-stage lines pipe place MoveAsked holds = left-trbs lines.engine _ 0 holds
-shown-stage lines pipe place MoveAnswered holds = left-trbs lines.engine _ 1 holds
+    → pending_in lines.engine ≡ map known (commands_at lines pipe place stage)
+shown-stage lines pipe place StopAsked holds = left-trbs lines.engine (stop_trb pipe ∷ []) 0 holds
+shown-stage lines pipe place StopAnswered holds = left-trbs lines.engine (stop_trb pipe ∷ []) 1 holds
+shown-stage lines pipe place MoveAsked holds = left-trbs lines.engine (move_trb lines pipe (tag_of place) ∷ []) 0 holds
+shown-stage lines pipe place MoveAnswered holds = left-trbs lines.engine (move_trb lines pipe (tag_of place) ∷ []) 1 holds
 
 shown-commands : (lines : LinesState) (retirement : Option Retirement) → HoldsCommandOf lines retirement
-    → pending_in lines.engine ≡ commands_of lines retirement
+    → pending_in lines.engine ≡ map known (commands_of lines retirement)
 shown-commands lines None holds = left-trbs lines.engine [] 0 holds
 shown-commands lines (Some r) holds = shown-stage lines r.pipe r.place r.stage holds
 

@@ -7,7 +7,8 @@ use Rattle.std.proofs.lemmas.Option.{slice_get_past, slice_get_within}
 use Rattle.std.proofs.lemmas.Bool.{ltb-false, lt-ltb}
 use Rattle.stream_array.specs.Rings.{LinesState, IsLines}
 use Rattle.uas_profile.specs.declared.TheConstants.{COMMAND_RING_PLACES}
-use Rattle.cycle_ring.specs.Ring.{Ring, front_of, pointer_of}
+use Rattle.cycle_ring.specs.Ring.{pointer_of}
+use Rattle.cycle_ring.specs.Items.{ItemRing, known_of}
 use Rattle.event_ring.specs.declared.Event.{Event}
 use Rattle.frame_store.specs.declared.TagBuffers.{TagBuffers}
 use Rattle.frame_store.specs.Buffers.{IsWhole}
@@ -18,7 +19,7 @@ use Rattle.uas_host.specs.declared.Handled.{Handled}
 use Rattle.xhci_ctl.specs.declared.Acted.{Acted}
 use Rattle.xhci_ctl.specs.declared.Acted.TheVariants.{Idle}
 use Rattle.xhci_ctl.specs.Pipes.{ControllerState, has_pending}
-use Rattle.xhci_ctl.specs.Steps.{Sides, sides_of, commanded, has_event_room, moved, on_front, received_at, sent_by}
+use Rattle.xhci_ctl.specs.Steps.{commanded, front_at, has_event_room, moved, on_front, received_at, sent_by, Sides, sides_of}
 use Rattle.shared_machine.specs.declared.Mark.{Mark}
 use Rattle.shared_machine.specs.declared.Mark.TheVariants.{Carry, Move, Send}
 use Rattle.shared_machine.specs.declared.Outcome.{Outcome}
@@ -75,12 +76,12 @@ controller-idle state step world mark lines frames device acted rests fits is =
 
 -- NOTHING TO ACT ON
 
-no-front : (places : ℕ) (ring : Ring) → has_pending ring ≡ false → front_of places ring ≡ None
+no-front : (places : ℕ) (ring : ItemRing) → has_pending ring ≡ false → front_at places ring ≡ None
 no-front places ring none =
-    ap (λ found. option_map (λ trb. (pointer_of places ring ring.got, trb)) found)
+    ap (λ found. option_map (λ item. (pointer_of places ring ring.got, known_of item)) found)
     (slice_get_past ring.put ring.got (ltb-false ring.got (length ring.put) none))
 
-room-none : (test : Bool) → ◌≡◌ {A = Option (ℕ × Trb)} (cond test None None) None
+room-none : (test : Bool) → ◌≡◌ {A = Option (ℕ × Option Trb)} (cond test None None) None
 room-none true = refl
 room-none false = refl
 

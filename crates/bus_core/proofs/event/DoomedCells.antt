@@ -7,7 +7,7 @@ use Rattle.std.proofs.lemmas.List.{length-map}
 use Rattle.std.proofs.lemmas.Bool.{and_parts}
 use Rattle.block_unit.specs.BlockMaps.{BlockMaps}
 use Rattle.xhci_trb.specs.declared.Trb.{Trb}
-use Rattle.cycle_ring.specs.Ring.{Ring}
+use Rattle.cycle_ring.specs.Items.{ItemRing}
 use Rattle.scsi_cmd.specs.Request.{is_command}
 use Rattle.uas_profile.specs.declared.Direction.{Direction}
 use Rattle.uas_profile.specs.declared.Direction.TheVariants.{Nothing, ToHost, ToDevice}
@@ -94,13 +94,13 @@ doomed-side noted entry =
 abbrev pub doomed_cell : List ℕ → Cell → Cell
 doomed_cell noted cell = record cell { held = option_map (host_doomed noted) cell.held }
 
-in-left : (ring : Ring) (trbs : List Trb) (way : Direction) (td : Option Td) → HoldsData ring trbs (data_in_td way td)
+in-left : (ring : ItemRing) (trbs : List Trb) (way : Direction) (td : Option Td) → HoldsData ring trbs (data_in_td way td)
     → HoldsData ring trbs (data_in_td way (left_over_data td))
 in-left ring trbs Nothing td holds = holds
 in-left ring trbs ToHost td holds = holds-left_data ring trbs td holds
 in-left ring trbs ToDevice td holds = holds
 
-out-left : (ring : Ring) (trbs : List Trb) (way : Direction) (td : Option Td) → HoldsData ring trbs (data_out_td way td)
+out-left : (ring : ItemRing) (trbs : List Trb) (way : Direction) (td : Option Td) → HoldsData ring trbs (data_out_td way td)
     → HoldsData ring trbs (data_out_td way (left_over_data td))
 out-left ring trbs Nothing td holds = holds
 out-left ring trbs ToHost td holds = holds

@@ -7,7 +7,7 @@ use Rattle.std.specs.List.{range_with_len}
 use Rattle.std.specs.Option.{option_map_or}
 use Rattle.std.proofs.lemmas.Bool.{lt-ltb, le-leb, ltb-false}
 use Rattle.xhci_trb.specs.declared.Trb.{Trb}
-use Rattle.cycle_ring.specs.Ring.{Ring}
+use Rattle.cycle_ring.specs.Items.{ItemRing}
 use Rattle.uas_profile.specs.declared.Pipe.{Pipe}
 use Rattle.uas_profile.specs.declared.Pipe.TheVariants.{Command, Status, DataIn, DataOut}
 use Rattle.uas_profile.specs.declared.TheConstants.{TAGS, STREAMS}
@@ -42,14 +42,14 @@ use Rattle.bus_core.proofs.common.Framing.{AllFit}
 -- WHICH STREAMS
 
 -- of a TD that is on its ring a TRB is pending exactly where the controller may take one
-held-pending : (ring : Ring) (trbs : List Trb) (state : TdState) (consumed : ℕ) → HoldsIn ring trbs consumed state
+held-pending : (ring : ItemRing) (trbs : List Trb) (state : TdState) (consumed : ℕ) → HoldsIn ring trbs consumed state
     → has_pending ring ≡ (is_in_ring state && nat_lt consumed (length trbs))
 held-pending ring trbs Pending consumed holds = has_pending-holds ring trbs consumed holds
 held-pending ring trbs Seen consumed holds = has_pending-holds ring [] 0 holds.0
 held-pending ring trbs LeftOver consumed holds = has_pending-holds ring trbs consumed holds
 held-pending ring trbs Retired consumed holds = has_pending-holds ring [] 0 holds.0
 
-data-pending : (ring : Ring) (trbs : List Trb) (td : Option Td) → HoldsData ring trbs td → has_pending ring ≡ has_data_trb (length trbs) td
+data-pending : (ring : ItemRing) (trbs : List Trb) (td : Option Td) → HoldsData ring trbs td → has_pending ring ≡ has_data_trb (length trbs) td
 data-pending ring trbs None holds = has_pending-holds ring [] 0 holds
 data-pending ring trbs (Some td) holds = held-pending ring trbs td.state td.consumed holds
 
@@ -66,7 +66,7 @@ cell-pending client count DataOut place entry cell streams fits =
     ∙ ap (λ n. has_data_trb n (td_on DataOut entry)) (length-td_trbs DataOut (tag_of place) entry streams)
 
 -- nothing is pending where no entry stands
-empty-pending : (ring : Ring) → HoldsTrbs ring [] 0 → has_pending ring ≡ false
+empty-pending : (ring : ItemRing) → HoldsTrbs ring [] 0 → has_pending ring ≡ false
 empty-pending ring holds = has_pending-holds ring [] 0 holds
 
 cell-empty : (pipe : Pipe) (cell : Cell) → HasStreams pipe → HoldsTrbs cell.status [] 0 → HoldsTrbs cell.data_in [] 0 → HoldsTrbs cell.data_out [] 0
@@ -90,7 +90,7 @@ pub record StreamsFit (state : Shared) (world : World) : Type 0 where
 pending-at : (state : Shared) (world : World) (pipe : Pipe) (place : Place) → HasStreams pipe → StreamsFit state world → IsPlace (length state.parts) place
     → has_pending (ring_of world.lines pipe (tag_of place)) ≡ part_fact state place.client (entry_fact (has_trb_on pipe) place.slot)
 pending-at state world pipe place streams fits there =
-    ap (λ (ring : Ring). has_pending ring) (ring-of-cell world pipe place streams)
+    ap (λ (ring : ItemRing). has_pending ring) (ring-of-cell world pipe place streams)
     ∙ at-place state.parts world place (has_trb_on pipe) (λ (cell : Cell) fact. has_pending (cell_ring pipe cell) ≡ fact) fits.all there
     (λ empty. cell-empty pipe (cell_at world place) streams empty.status empty.data_in empty.data_out)
     (λ entry count full. cell-pending place.client count pipe place entry (cell_at world place) streams full)

@@ -1,12 +1,14 @@
 -- The ring of a TD that is retired, emptied, and the world with it. Cited by RetiredSeen.
 use Rattle.std.proofs.Common.{◌≡◌, ℕ, zero, suc, ◌<◌, ◌≤◌, true, false, cond, List, [], ◌++◌, drop, length, Option, Some, None}
-use Rattle.std.proofs.Common.{option_map, refl, arith, ap, sym, ◌∙◌}
+use Rattle.std.proofs.Common.{option_map, refl, arith, ap, sym, ◌∙◌, take, map, ◌∷◌}
 use Rattle.std.specs.Prelude.{is_some, slice_set, option_and_then, unwrap_or}
 use Rattle.std.specs.Option.{option_map_or}
 use Rattle.std.proofs.Math.Seq.{drop-length}
 use Rattle.std.proofs.lemmas.Bool.{false≢true, eqb-true, ltb-true}
+use Rattle.std.proofs.lemmas.List.{length-map}
 use Rattle.xhci_trb.specs.declared.Trb.{Trb}
-use Rattle.cycle_ring.specs.Ring.{Ring, reclaimed}
+use Rattle.cycle_ring.specs.Ring.{reclaimed}
+use Rattle.cycle_ring.specs.Items.{ItemRing, known, Item}
 use Rattle.uas_profile.specs.declared.Pipe.{Pipe}
 use Rattle.uas_profile.specs.declared.Pipe.TheVariants.{Command, Status, DataIn, DataOut}
 use Rattle.uas_profile.specs.Pipes.{HasStreams}
@@ -25,7 +27,7 @@ use Rattle.uas_host.specs.declared.Retirement.{Retirement as HostRetirement}
 use Rattle.uas_host.specs.declared.RetirementStage.TheVariants.{Moving}
 use Rattle.uas_profile.specs.declared.TdState.{TdState}
 use Rattle.uas_profile.specs.declared.TdState.TheVariants.{LeftOver, Retired}
-use Rattle.uas_host.specs.Retirement.{resumed_doors, retired_host, with_first_freed}
+use Rattle.uas_host.specs.Retirement.{resumed_doors, retired_host, with_first_freed, trbs_before}
 use Rattle.uas_host.specs.Seen.{seen, with_retired, with_seen}
 use Rattle.uas_host.specs.State.{HostState, client_of, with_client}
 use Rattle.uas_profile.specs.Places.{tag_of}
@@ -120,7 +122,7 @@ first_freed-some lines pipe tag zero some = absurd (omega (arith, some))
 first_freed-some lines pipe tag (suc more) some = refl
 
 -- the ring of the TD, all of it freed
-abbrev pub emptied_ring : World → Pipe → Place → Ring
+abbrev pub emptied_ring : World → Pipe → Place → ItemRing
 emptied_ring world pipe place =
     reclaimed (places_of pipe) (ring_of (freed_lines world) pipe (tag_of place)).got (ring_of (freed_lines world) pipe (tag_of place))
 
@@ -157,9 +159,17 @@ whole-once-moved state world pipe place td at on =
     eqb-true td.consumed (trbs_on pipe at.entry)
     (ap (is_whole (trbs_on pipe at.entry)) (sym on) ∙ ap (λ o. option_map_or (is_whole_on pipe) o false) (sym at.held) ∙ at.retiring.stage.1)
 
+-- of TRBs alone, as many come before the first foreign bytes as there are
+trbs_before-known : (n : ℕ) (trbs : List Trb) → n ≤ length trbs → trbs_before (take n (map known trbs)) ≡ n
+trbs_before-known zero trbs few = refl
+trbs_before-known (suc n) [] few = absurd (omega (arith, few))
+trbs_before-known (suc n) (trb ∷ rest) few = ap suc (trbs_before-known n rest (omega (arith, few)))
+
 pub record IsEmptied (world : World) (pipe : Pipe) (place : Place) (entry : Entry) : Type 0 where
   pub some : 1 ≤ (ring_of (freed_lines world) pipe (tag_of place)).got
   pub empty : HoldsTrbs (emptied_ring world pipe place) [] 0
+  pub freed : trbs_before (take (ring_of (freed_lines world) pipe (tag_of place)).got (ring_of (freed_lines world) pipe (tag_of place)).put)
+      ≡ (ring_of (freed_lines world) pipe (tag_of place)).got
   pub whole : (td : Td) → td_on pipe entry ≡ Some td → td.consumed ≡ length (td_trbs pipe (tag_of place) entry)
 
 pub emptied-is : (state : Shared) (world : World) (pipe : Pipe) (place : Place) → Fits state world
@@ -167,20 +177,24 @@ pub emptied-is : (state : Shared) (world : World) (pipe : Pipe) (place : Place) 
 emptied-is state world pipe place fits at =
     let left : IsLeftOn pipe (tag_of place) at.entry (cell_ring pipe (cell_at world place)) =
     left-on place.client at.at.part.unit.count pipe place at.entry (cell_at world place) at.at.cell at.left in
-    let ring : Ring = ring_of (freed_lines world) pipe (tag_of place) in
+    let ring : ItemRing = ring_of (freed_lines world) pipe (tag_of place) in
     let same = ring-of-freed world pipe place at.retiring.streams in
     let all : left.td.consumed ≡ trbs_on pipe at.entry = whole-once-moved state world pipe place left.td at left.on in
     let count : length (td_trbs pipe (tag_of place) at.entry) ≡ trbs_on pipe at.entry = length-td_trbs pipe (tag_of place) at.entry at.retiring.streams in
-    let put = ap (λ (r : Ring). r.put) same ∙ left.holds.0 in
-    let got = ap (λ (r : Ring). r.got) same ∙ left.holds.1 in
+    let put = ap (λ (r : ItemRing). r.put) same ∙ left.holds.0 in
+    let got = ap (λ (r : ItemRing). r.got) same ∙ left.holds.1 in
     let long : (ring_of (freed_lines world) pipe (tag_of place)).got ≡ length (ring_of (freed_lines world) pipe (tag_of place)).put =
-    got ∙ all ∙ sym count ∙ sym (ap (λ (ts : List Trb). length ts) put) in
+    got ∙ all ∙ sym count ∙ sym (length-map (td_trbs pipe (tag_of place) at.entry) known) ∙ sym (ap length put) in
     record {
       some = omega (arith, got, all, trbs-some pipe place.slot at.entry at.left at.at.matched.here.sound);
       empty = (
         ap (λ n. drop n (ring_of (freed_lines world) pipe (tag_of place)).put) long ∙ drop-length (ring_of (freed_lines world) pipe (tag_of place)).put,
         omega arith,
       );
+      freed =
+          ap (λ (ts : List Item). trbs_before (take (ring_of (freed_lines world) pipe (tag_of place)).got ts)) put
+          ∙ trbs_before-known (ring_of (freed_lines world) pipe (tag_of place)).got (td_trbs pipe (tag_of place) at.entry)
+          (omega (arith, got, all, count));
       whole = λ td on. whole-once-moved state world pipe place td at on ∙ sym count;
     }
 

@@ -6,7 +6,7 @@ use Rattle.std.specs.Prelude.{◌==◌, slice_get, slice_set, slice_index_or, op
 use Rattle.std.proofs.lemmas.Bool.{false≢true}
 use Rattle.std.proofs.lemmas.List.{append-nil}
 use Rattle.xhci_trb.specs.declared.Trb.{Trb}
-use Rattle.cycle_ring.specs.Ring.{Ring}
+use Rattle.cycle_ring.specs.Items.{Item, ItemRing}
 use Rattle.event_ring.specs.declared.Event.{Event}
 use Rattle.event_ring.specs.Events.{Events}
 use Rattle.uas_profile.specs.declared.Pipe.{Pipe}
@@ -21,7 +21,7 @@ use Rattle.uas_host.specs.declared.HostClient.{HostClient}
 use Rattle.uas_profile.specs.declared.Place.{Place}
 use Rattle.uas_profile.specs.Doors.{door}
 use Rattle.uas_profile.specs.Pipes.{target_of}
-use Rattle.uas_host.specs.Retirement.{emptied, move_trb, moved_lines, resumed_doors, retired_host}
+use Rattle.uas_host.specs.Retirement.{emptied, move_trb, moved_lines, resumed_doors, retired_host, with_first_freed}
 use Rattle.uas_profile.specs.TdStates.{is_pending}
 use Rattle.uas_host.specs.State.{client_of}
 use Rattle.uas_profile.specs.Places.{tag_of}
@@ -223,12 +223,12 @@ retired-streams state world pipe place rest fits at emptied =
           (retired_part pipe place at.at.part at.entry) fits.unused at.at.is_place writes;
     }
 
-record OthersKept (lines : LinesState) (pipe : Pipe) (tag : ℕ) (ring : Ring) : Type 0 where
+record OthersKept (lines : LinesState) (pipe : Pipe) (tag : ℕ) (ring : ItemRing) : Type 0 where
   engine : (with_ring lines pipe tag ring).engine ≡ lines.engine
   command : (with_ring lines pipe tag ring).command ≡ lines.command
   events : (with_ring lines pipe tag ring).events ≡ lines.events
 
-others-kept : (lines : LinesState) (pipe : Pipe) (tag : ℕ) (ring : Ring) → HasStreams pipe → OthersKept lines pipe tag ring
+others-kept : (lines : LinesState) (pipe : Pipe) (tag : ℕ) (ring : ItemRing) → HasStreams pipe → OthersKept lines pipe tag ring
 others-kept lines Command tag ring streams = absurd streams
 others-kept lines Status tag ring streams = record { engine = refl; command = refl; events = refl }
 others-kept lines DataIn tag ring streams = record { engine = refl; command = refl; events = refl }
@@ -269,8 +269,8 @@ retired-fits state world pipe place rest fits first emptied matched sound =
     (record {
       retirement = ap (option_map host_retirement) (sym gone);
       commands = subst (HoldsCommandOf (retired_lines world pipe place)) (sym gone) (
-        ap (λ (r : Ring). r.put) kept.engine ∙ ap (λ (ts : List Trb). drop 1 ts) first.holds.0,
-        ap (λ (r : Ring). r.got) kept.engine ∙ ap (λ taken. taken - 1) first.holds.1,
+        ap (λ (r : ItemRing). r.put) kept.engine ∙ ap (λ (ts : List Item). drop 1 ts) first.holds.0,
+        ap (λ (r : ItemRing). r.got) kept.engine ∙ ap (λ taken. taken - 1) first.holds.1,
       );
     }) matched sound
 
@@ -300,6 +300,7 @@ move-seen state world pipe place rest fits first =
     let free : IsEmptied world pipe place first.at.entry = emptied-is state world pipe place fits first.at in
     let lines : moved_lines (without_event world.lines) (engine_pointer world) (moving pipe place) ≡ retired_lines world pipe place =
     ap (λ l. emptied l pipe (tag_of place)) (engine-freed world)
+    ∙ ap (with_first_freed (freed_lines world) pipe (tag_of place)) free.freed
     ∙ first_freed-some (freed_lines world) pipe (tag_of place) (ring_of (freed_lines world) pipe (tag_of place)).got free.some in
     let host : retired_host world.host (moving pipe place) ≡ host_after world.host place (retired_entry pipe first.at.entry) =
     retired_host-is world.host pipe place first.at.entry first.at.left first.at.at.cell.held in

@@ -5,10 +5,10 @@ use Rattle.std.specs.Prelude.{slice_get, option_and_then}
 use Rattle.std.specs.Option.{option_map_or}
 use Rattle.std.proofs.lemmas.Bool.{false≢true}
 use Rattle.std.proofs.lemmas.List.{append-nil}
-use Rattle.xhci_trb.specs.declared.Trb.{Trb}
 use Rattle.cycle_ring.specs.Ring.{pointer_of, reclaimed}
 use Rattle.event_ring.specs.declared.Event.{Event}
 use Rattle.event_ring.specs.declared.Event.TheVariants.{Transfer}
+use Rattle.cycle_ring.specs.Items.{Item}
 use Rattle.uas_profile.specs.declared.Pipe.TheVariants.{Command as CommandPipe, Status, DataIn, DataOut}
 use Rattle.uas_profile.specs.declared.TheConstants.{STREAMS, COMMAND_RING_PLACES, SLOT, SUCCESS}
 use Rattle.stream_array.specs.Rings.{LinesState, with_ring}
@@ -30,7 +30,7 @@ use Rattle.shared_machine.specs.Shared.{Shared}
 use Rattle.machine_invariant.specs.Matched.{IsPendingCommand, carried_places, is_td_event, pipe_places, times}
 use Rattle.bus_core.specs.World.{World, Cell}
 use Rattle.bus_core.specs.Cells.{host_side}
-use Rattle.bus_core.specs.Fits.{Fits, FitsQueues, command_trb, event_texts}
+use Rattle.bus_core.specs.Fits.{command_item, command_trb, event_texts, Fits, FitsQueues}
 use Rattle.bus_core.specs.WorldSteps.{without_event}
 use Rattle.bus_core.proofs.common.CellWrites.{clients-length}
 use Rattle.bus_core.proofs.common.EventTds.{HasCell, command_tag-trb, command_text-waits, fits-cell}
@@ -61,16 +61,16 @@ is_awaited-trb host place held most there is =
 -- the first TRB is freed, and the next stays
 done_before-next : (host : HostState) (n : ℕ) (places : List Place)
     → ((place : Place) → slice_get places 0 ≡ Some place → is_awaited_by host (command_trb place) ≡ true)
-    → done_before host (take n (map command_trb places)) ≡ 0
+    → done_before host (take n (map command_item places)) ≡ 0
 done_before-next host zero places waits = refl
 done_before-next host (suc n) [] waits = refl
-done_before-next host (suc n) (place ∷ places) waits = ap (λ b. cond b 0 (suc (done_before host (take n (map command_trb places))))) (waits place refl)
+done_before-next host (suc n) (place ∷ places) waits = ap (λ b. cond b 0 (suc (done_before host (take n (map command_item places))))) (waits place refl)
 
 pub done_before-first : (host : HostState) (n : ℕ) (first : Place) (places : List Place) → is_awaited_by host (command_trb first) ≡ false
     → ((place : Place) → slice_get places 0 ≡ Some place → is_awaited_by host (command_trb place) ≡ true)
-    → done_before host (take (suc n) (map command_trb (first ∷ places))) ≡ 1
+    → done_before host (take (suc n) (map command_item (first ∷ places))) ≡ 1
 done_before-first host n first places seen waits =
-    ap (λ b. cond b 0 (suc (done_before host (take n (map command_trb places))))) seen ∙ ap suc (done_before-next host n places waits)
+    ap (λ b. cond b 0 (suc (done_before host (take n (map command_item places))))) seen ∙ ap suc (done_before-next host n places waits)
 
 -- THE RINGS AND THE QUEUES
 
@@ -107,14 +107,14 @@ command-queues : (state : Shared) (world : World) (place : Place) (rest : List C
 command-queues state world place rest at fits =
     let after : World = after_command world place at.entry in
     let same : rest ≡ rest ++ [] = sym (append-nil rest) in
-    let put = fits.queues.put ∙ ap (λ es. map command_trb (carried_places es ++ state.messages)) at.is in
+    let put = fits.queues.put ∙ ap (λ es. map command_item (carried_places es ++ state.messages)) at.is in
     let got : world.lines.command.got ≡ suc (length (carried_places rest)) = fits.queues.got ∙ ap (λ es. length (carried_places es)) at.is in
     let within : AreWithin (CommandDone place ∷ rest) = subst AreWithin at.is (events-within state fits.matched) in
     let reads = one-reads world after place rest at.is_place.slot within.1 refl
     (seen-others state world (CommandDone place) rest (command_lines world) (command_seen at.entry) at (command-frees state world place rest at))
     (λ some. (refl, refl)) (λ some. (refl, refl)) in
     record {
-      put = ap (λ (ts : List Trb). drop 1 ts) put ∙ ap (λ es. map command_trb (carried_places es ++ state.messages)) same;
+      put = ap (λ (ts : List Item). drop 1 ts) put ∙ ap (λ es. map command_item (carried_places es ++ state.messages)) same;
       got = omega (arith, got, ap (λ es. length (carried_places es)) same);
       texts = ap (λ (es : List Event). drop 1 es) (fits.queues.texts ∙ ap (event_texts world 0) at.is)
           ∙ sym (event_texts-shifted world after 1 0 rest (λ i. shifted world.lines.command.at world.lines.command.base i) reads)
@@ -172,10 +172,10 @@ one-done : (state : Shared) (world : World) (place : Place) (rest : List Complet
 one-done state world place rest at fits =
     let host : HostState = host_with world.host place (command_seen at.entry) in
     let got : world.lines.command.got ≡ suc (length (carried_places rest)) = fits.queues.got ∙ ap (λ es. length (carried_places es)) at.is in
-    let put : world.lines.command.put ≡ map command_trb (place ∷ (carried_places rest ++ state.messages)) =
-    fits.queues.put ∙ ap (λ es. map command_trb (carried_places es ++ state.messages)) at.is in
+    let put : world.lines.command.put ≡ map command_item (place ∷ (carried_places rest ++ state.messages)) =
+    fits.queues.put ∙ ap (λ es. map command_item (carried_places es ++ state.messages)) at.is in
     ap (λ n. done_before host (take n world.lines.command.put)) got
-    ∙ ap (λ (ts : List Trb). done_before host (take (suc (length (carried_places rest))) ts)) put
+    ∙ ap (λ (ts : List Item). done_before host (take (suc (length (carried_places rest))) ts)) put
     ∙ done_before-first host (length (carried_places rest)) place (carried_places rest ++ state.messages) (first-seen state world place rest at fits)
     (λ next is. next-awaited state world place rest at next fits is)
 

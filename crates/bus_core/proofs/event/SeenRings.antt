@@ -6,7 +6,8 @@ use Rattle.std.proofs.Math.Seq.{drop-length}
 use Rattle.std.proofs.lemmas.Bool.{false≢true}
 use Rattle.std.proofs.lemmas.List.{append-nil}
 use Rattle.xhci_trb.specs.declared.Trb.{Trb}
-use Rattle.cycle_ring.specs.Ring.{Ring, reclaimed}
+use Rattle.cycle_ring.specs.Ring.{reclaimed}
+use Rattle.cycle_ring.specs.Items.{ItemRing}
 use Rattle.event_ring.specs.declared.Event.{Event}
 use Rattle.uas_profile.specs.declared.Pipe.TheVariants.{Command, Status, DataIn, DataOut}
 use Rattle.uas_profile.specs.declared.TheConstants.{STREAM_RING_PLACES}
@@ -35,7 +36,7 @@ use Rattle.shared_machine.specs.Shared.{Shared, request_direction, shared_step}
 use Rattle.machine_invariant.specs.Matched.{IsStatusTd, carried_places, data_events, is_td_event, request_bytes, status_events, IsGivenUp}
 use Rattle.bus_core.specs.World.{World, cell_at}
 use Rattle.bus_core.specs.Cells.{HoldsData, HoldsIn, HoldsTd, HoldsTrbs, data_in_td, data_out_td}
-use Rattle.bus_core.specs.Fits.{Fits, FitsQueues, IsSoundWorld, command_trb, event_texts}
+use Rattle.bus_core.specs.Fits.{command_item, event_texts, Fits, FitsQueues, IsSoundWorld}
 use Rattle.bus_core.specs.WorldSteps.{EventFits, event_sides, handled_for, rung_all, without_event}
 use Rattle.bus_core.proofs.common.CellWrites.{stream_ring-same, stream_ring-other}
 use Rattle.bus_core.proofs.common.EventTexts.{AreWithin, KeepsData, KeepsStatus, event_texts-kept, events-within, one-reads}
@@ -53,22 +54,22 @@ use Rattle.uas_host.specs.State.{HostState}
 -- A RING IS FREE AGAIN
 
 -- all its TRBs were taken, and all are freed
-pub reclaimed-whole : (ring : Ring) → IsSpent ring → HoldsTrbs (reclaimed STREAM_RING_PLACES (length ring.put - 1 + 1) ring) [] 0
+pub reclaimed-whole : (ring : ItemRing) → IsSpent ring → HoldsTrbs (reclaimed STREAM_RING_PLACES (length ring.put - 1 + 1) ring) [] 0
 reclaimed-whole ring spent =
     let some = spent.some in
     let all : length ring.put - 1 + 1 ≡ length ring.put = omega arith in
     (ap (λ n. drop n ring.put) all ∙ drop-length ring.put, omega (arith, spent.taken))
 
 -- a stream's ring without the TD that stood on it
-abbrev pub freed_ring : List Ring → ℕ → Ring
+abbrev pub freed_ring : List ItemRing → ℕ → ItemRing
 freed_ring rings tag = reclaimed STREAM_RING_PLACES (length (stream_ring rings tag).put - 1 + 1) (stream_ring rings tag)
 
-pub freed-holds : (rings : List Ring) (tag : ℕ) → 0 < tag → tag ≤ length rings → IsSpent (stream_ring rings tag)
+pub freed-holds : (rings : List ItemRing) (tag : ℕ) → 0 < tag → tag ≤ length rings → IsSpent (stream_ring rings tag)
     → HoldsTrbs (stream_ring (slice_set rings (tag - 1) (freed_ring rings tag)) tag) [] 0
 freed-holds rings tag some within spent =
     let is = stream_ring-same rings tag (freed_ring rings tag) some within in
     let free = reclaimed-whole (stream_ring rings tag) spent in
-    (ap (λ (r : Ring). r.put) is ∙ free.0, ap (λ (r : Ring). r.got) is ∙ free.1)
+    (ap (λ (r : ItemRing). r.put) is ∙ free.0, ap (λ (r : ItemRing). r.got) is ∙ free.1)
 
 -- THE QUEUES
 
@@ -88,10 +89,10 @@ stream-queues state world done rest lines now at fits command popped carried tex
     let reads = one-reads world after (event_place done) rest at.is_place.slot within.1
     frees.engine (seen-others state world done rest lines now at frees) data_kept status_kept in
     record {
-      put = ap (λ (r : Ring). r.put) command ∙ fits.queues.put ∙ ap (λ places. map command_trb (places ++ state.messages)) left;
-      got = ap (λ (r : Ring). r.got) command ∙ fits.queues.got ∙ ap (λ (places : List Place). length places) left;
+      put = ap (λ (r : ItemRing). r.put) command ∙ fits.queues.put ∙ ap (λ places. map command_item (places ++ state.messages)) left;
+      got = ap (λ (r : ItemRing). r.got) command ∙ fits.queues.got ∙ ap (λ (places : List Place). length places) left;
       texts = popped ∙ ap (λ (es : List Event). drop 1 es) (fits.queues.texts ∙ ap (event_texts world 0) at.is) ∙ texts
-          ∙ sym (event_texts-kept world after 0 rest (ap (λ (r : Ring). r.base) command, ap (λ (r : Ring). r.at) command) reads)
+          ∙ sym (event_texts-kept world after 0 rest (ap (λ (r : ItemRing). r.base) command, ap (λ (r : ItemRing). r.at) command) reads)
           ∙ ap (event_texts after 0) (sym (append-nil rest));
     }
 
@@ -152,18 +153,18 @@ awaited-sent Gone td is awaited =
     absurd (omega (arith, none, awaited-spent td 1 awaited))
 
 -- a TD that is left over stays where it is
-pub holds-left : (ring : Ring) (trbs : List Trb) (state : TdState) (consumed : ℕ) → HoldsIn ring trbs consumed state
+pub holds-left : (ring : ItemRing) (trbs : List Trb) (state : TdState) (consumed : ℕ) → HoldsIn ring trbs consumed state
     → HoldsTd ring trbs (left_over_td (record { state = state; consumed = consumed }))
 holds-left ring trbs Pending consumed holds = holds
 holds-left ring trbs Seen consumed holds = holds
 holds-left ring trbs LeftOver consumed holds = holds
 holds-left ring trbs Retired consumed holds = holds
 
-pub holds-left_data : (ring : Ring) (trbs : List Trb) (td : Option Td) → HoldsData ring trbs td → HoldsData ring trbs (left_over_data td)
+pub holds-left_data : (ring : ItemRing) (trbs : List Trb) (td : Option Td) → HoldsData ring trbs td → HoldsData ring trbs (left_over_data td)
 holds-left_data ring trbs None holds = holds
 holds-left_data ring trbs (Some td) holds = holds-left ring trbs td.state td.consumed holds
 
-pub in-answered : (ring : Ring) (trbs : List Trb) (way : Direction) (answer : TaskAnswer) (td : Option Td) → HoldsData ring trbs (data_in_td way td)
+pub in-answered : (ring : ItemRing) (trbs : List Trb) (way : Direction) (answer : TaskAnswer) (td : Option Td) → HoldsData ring trbs (data_in_td way td)
     → HoldsData ring trbs (data_in_td way (data_after_answer answer td))
 in-answered ring trbs way (WithStatus Good) td holds = holds
 in-answered ring trbs Nothing (WithStatus (Check sense)) td holds = holds
@@ -171,7 +172,7 @@ in-answered ring trbs ToHost (WithStatus (Check sense)) td holds = holds-left_da
 in-answered ring trbs ToDevice (WithStatus (Check sense)) td holds = holds
 in-answered ring trbs way (WithResponse code) td holds = holds
 
-pub out-answered : (ring : Ring) (trbs : List Trb) (way : Direction) (answer : TaskAnswer) (td : Option Td) → HoldsData ring trbs (data_out_td way td)
+pub out-answered : (ring : ItemRing) (trbs : List Trb) (way : Direction) (answer : TaskAnswer) (td : Option Td) → HoldsData ring trbs (data_out_td way td)
     → HoldsData ring trbs (data_out_td way (data_after_answer answer td))
 out-answered ring trbs way (WithStatus Good) td holds = holds
 out-answered ring trbs Nothing (WithStatus (Check sense)) td holds = holds

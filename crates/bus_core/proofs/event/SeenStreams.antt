@@ -3,7 +3,7 @@ use Rattle.std.proofs.Common.{◌≡◌, ℕ, ◌<◌, true, false, cond, List, 
 use Rattle.std.specs.Prelude.{slice_get}
 use Rattle.std.proofs.lemmas.Bool.{false≢true}
 use Rattle.xhci_trb.specs.declared.Trb.{Trb}
-use Rattle.cycle_ring.specs.Ring.{Ring}
+use Rattle.cycle_ring.specs.Items.{ItemRing}
 use Rattle.event_ring.specs.declared.Event.{Event}
 use Rattle.uas_profile.specs.declared.Pipe.{Pipe}
 use Rattle.uas_profile.specs.declared.Pipe.TheVariants.{Command, Status, DataIn, DataOut}
@@ -138,7 +138,7 @@ abbrev out_lines : World → ℕ → LinesState
 out_lines world tag = with_ring (without_event world.lines) DataOut tag (freed_ring world.lines.data_out tag)
 
 -- a data TD that was seen
-data-holds : (ring : Ring) (tag : ℕ) (entry : Entry) (moved : HasDataTd entry) → HoldsTrbs ring [] 0
+data-holds : (ring : ItemRing) (tag : ℕ) (entry : Entry) (moved : HasDataTd entry) → HoldsTrbs ring [] 0
     → HoldsTd ring (data_td tag (request_bytes entry.task.request)) (with_event_seen moved.td)
 data-holds ring tag entry moved free = (
   free,

@@ -5,7 +5,7 @@ use Rattle.std.specs.Prelude.{slice_get, slice_set, option_and_then}
 use Rattle.std.specs.Option.{option_map_or}
 use Rattle.std.proofs.lemmas.Bool.{false≢true}
 use Rattle.uas_profile.specs.declared.TheConstants.{STREAMS}
-use Rattle.cycle_ring.specs.Ring.{consumed_at}
+use Rattle.cycle_ring.specs.Items.{known_consumed_at}
 use Rattle.uas_profile.specs.declared.Pipe.{Pipe}
 use Rattle.uas_profile.specs.declared.Pipe.TheVariants.{Command, Status, DataIn, DataOut}
 use Rattle.stream_array.specs.Map.{places_of, spot_at}
@@ -278,7 +278,7 @@ ended_at-events : (lines : LinesState) (pointer : ℕ) → ended_at (without_eve
 ended_at-events lines pointer =
     elim (spot_at pointer) as (λ o. option_and_then (ended_on (without_event lines) pointer) o ≡ option_and_then (ended_on lines pointer) o) [
       | None ↦ refl
-      | Some at ↦ ap (λ r. option_and_then (ended_td at.0 at.1) (consumed_at (places_of at.0) r pointer)) (ring_of-events lines at.0 at.1)
+      | Some at ↦ ap (λ r. option_and_then (ended_td at.0 at.1) (known_consumed_at (places_of at.0) r pointer)) (ring_of-events lines at.0 at.1)
     ]
 
 -- an event of a TD of which the host sees the notice: the rings that it frees

@@ -7,7 +7,8 @@ use Rattle.std.specs.Option.{option_map_or}
 use Rattle.std.proofs.lemmas.Bool.{false≢true, ltb-true, and_parts}
 use Rattle.uas_profile.specs.declared.TheConstants.{WINDOW_BYTES, MOST_DATA_TRBS}
 use Rattle.xhci_trb.specs.declared.Trb.{Trb}
-use Rattle.cycle_ring.specs.Ring.{Ring, opening}
+use Rattle.cycle_ring.specs.Ring.{opening}
+use Rattle.cycle_ring.specs.Items.{ItemRing}
 use Rattle.uas_profile.specs.declared.Pipe.{Pipe}
 use Rattle.uas_profile.specs.declared.Pipe.TheVariants.{Command, Status, DataIn, DataOut}
 use Rattle.uas_profile.specs.Pipes.{HasStreams}
@@ -74,7 +75,7 @@ trbs_on-most DataIn entry small = omega (arith, small, data_trbs-count entry.tas
 trbs_on-most DataOut entry small = omega (arith, small, data_trbs-count entry.task.request)
 
 -- the ring of a cell's pipe
-abbrev pub cell_ring : Pipe → Cell → Ring
+abbrev pub cell_ring : Pipe → Cell → ItemRing
 cell_ring Command cell = opening 0
 cell_ring Status cell = cell.status
 cell_ring DataIn cell = cell.data_in
@@ -89,13 +90,13 @@ ring-of-cell world DataIn place streams = refl
 ring-of-cell world DataOut place streams = refl
 
 -- a TD that is left over stands on its ring
-pub record IsLeftOn (pipe : Pipe) (tag : ℕ) (entry : Entry) (ring : Ring) : Type 0 where
+pub record IsLeftOn (pipe : Pipe) (tag : ℕ) (entry : Entry) (ring : ItemRing) : Type 0 where
   pub td : Td
   pub on : td_on pipe entry ≡ Some td
   pub left : td.state ≡ LeftOver
   pub holds : HoldsTrbs ring (td_trbs pipe tag entry) td.consumed
 
-left-data : (ring : Ring) (trbs : List Trb) (found : Option Td) → is_td_left_over found ≡ true → HoldsData ring trbs found
+left-data : (ring : ItemRing) (trbs : List Trb) (found : Option Td) → is_td_left_over found ≡ true → HoldsData ring trbs found
     → (td : Td) × (found ≡ Some td) × (td.state ≡ LeftOver) × HoldsTrbs ring trbs td.consumed
 left-data ring trbs None so holds = absurd (false≢true so)
 left-data ring trbs (Some td) so holds =
@@ -129,13 +130,13 @@ left-unconsumed pipe entry td on has =
 
 -- THE CELL WITH A CHANGE OF THAT TD AND OF ITS RING
 
-abbrev pub with_cell_ring : Pipe → Cell → Ring → Cell
+abbrev pub with_cell_ring : Pipe → Cell → ItemRing → Cell
 with_cell_ring Command cell ring = cell
 with_cell_ring Status cell ring = record cell { status = ring }
 with_cell_ring DataIn cell ring = record cell { data_in = ring }
 with_cell_ring DataOut cell ring = record cell { data_out = ring }
 
-in-changed : (ring : Ring) (trbs : List Trb) (change : Td → Td) (way : Direction) (found : Option Td) → is_td_left_over (data_in_td way found) ≡ true
+in-changed : (ring : ItemRing) (trbs : List Trb) (change : Td → Td) (way : Direction) (found : Option Td) → is_td_left_over (data_in_td way found) ≡ true
     → ((td : Td) → data_in_td way found ≡ Some td → td.state ≡ LeftOver → HoldsTd ring trbs (change td))
     → HoldsData ring trbs (data_in_td way (option_map change found))
 in-changed ring trbs change Nothing found so holds = absurd (false≢true so)
@@ -143,7 +144,7 @@ in-changed ring trbs change ToHost None so holds = absurd (false≢true so)
 in-changed ring trbs change ToHost (Some td) so holds = holds td refl (left-state td.state so)
 in-changed ring trbs change ToDevice found so holds = absurd (false≢true so)
 
-out-changed : (ring : Ring) (trbs : List Trb) (change : Td → Td) (way : Direction) (found : Option Td) → is_td_left_over (data_out_td way found) ≡ true
+out-changed : (ring : ItemRing) (trbs : List Trb) (change : Td → Td) (way : Direction) (found : Option Td) → is_td_left_over (data_out_td way found) ≡ true
     → ((td : Td) → data_out_td way found ≡ Some td → td.state ≡ LeftOver → HoldsTd ring trbs (change td))
     → HoldsData ring trbs (data_out_td way (option_map change found))
 out-changed ring trbs change Nothing found so holds = absurd (false≢true so)
@@ -152,19 +153,19 @@ out-changed ring trbs change ToDevice None so holds = absurd (false≢true so)
 out-changed ring trbs change ToDevice (Some td) so holds = holds td refl (left-state td.state so)
 
 -- the ring of the other direction has nothing
-out-kept : (ring : Ring) (trbs : List Trb) (change : Td → Td) (way : Direction) (found : Option Td) → is_td_left_over (data_in_td way found) ≡ true
+out-kept : (ring : ItemRing) (trbs : List Trb) (change : Td → Td) (way : Direction) (found : Option Td) → is_td_left_over (data_in_td way found) ≡ true
     → HoldsData ring trbs (data_out_td way found) → HoldsData ring trbs (data_out_td way (option_map change found))
 out-kept ring trbs change Nothing found so holds = holds
 out-kept ring trbs change ToHost found so holds = holds
 out-kept ring trbs change ToDevice found so holds = absurd (false≢true so)
 
-in-kept : (ring : Ring) (trbs : List Trb) (change : Td → Td) (way : Direction) (found : Option Td) → is_td_left_over (data_out_td way found) ≡ true
+in-kept : (ring : ItemRing) (trbs : List Trb) (change : Td → Td) (way : Direction) (found : Option Td) → is_td_left_over (data_out_td way found) ≡ true
     → HoldsData ring trbs (data_in_td way found) → HoldsData ring trbs (data_in_td way (option_map change found))
 in-kept ring trbs change Nothing found so holds = holds
 in-kept ring trbs change ToHost found so holds = absurd (false≢true so)
 in-kept ring trbs change ToDevice found so holds = holds
 
-pub cell-changed : (client count : ℕ) (pipe : Pipe) (place : Place) (entry : Entry) (cell : Cell) (change : Td → Td) (ring : Ring) (held : Option HostEntry)
+pub cell-changed : (client count : ℕ) (pipe : Pipe) (place : Place) (entry : Entry) (cell : Cell) (change : Td → Td) (ring : ItemRing) (held : Option HostEntry)
     → FitsCell client count place entry cell → is_left_over_on pipe entry ≡ true
     → ((td : Td) → td_on pipe entry ≡ Some td → td.state ≡ LeftOver → HoldsTd ring (td_trbs pipe (tag_of place) entry) (change td))
     → held ≡ Some (host_side (with_td_on change pipe entry))
@@ -187,10 +188,10 @@ cell-changed client count DataOut place entry cell change ring held fits so hold
 -- RINGS THAT DIFFER IN WHAT IS CONSUMED
 
 -- a ring without the count of its consumed TRBs: an event reads nothing else of it
-abbrev pub uncounted : Ring → Ring
+abbrev pub uncounted : ItemRing → ItemRing
 uncounted ring = record ring { got = 0 }
 
-pub uncounted-set : (rings : List Ring) (at other got : ℕ)
+pub uncounted-set : (rings : List ItemRing) (at other got : ℕ)
     → uncounted (slice_index_or (slice_set rings at (record (slice_index_or rings at (opening 0)) { got = got })) other (opening 0))
     ≡ uncounted (slice_index_or rings other (opening 0))
 uncounted-set [] at other got = refl

@@ -8,7 +8,8 @@ use Rattle.std.proofs.lemmas.Bool.{ltb-true}
 use Rattle.std.proofs.lemmas.List.{append-nil}
 use Rattle.std.proofs.lemmas.Option.{none-some}
 use Rattle.block_unit.specs.BlockMaps.{BlockMaps}
-use Rattle.cycle_ring.specs.Ring.{Ring, pointer_of}
+use Rattle.cycle_ring.specs.Ring.{pointer_of}
+use Rattle.cycle_ring.specs.Items.{ItemRing}
 use Rattle.event_ring.specs.declared.Event.TheVariants.{Transfer}
 use Rattle.uas_profile.specs.declared.Pipe.{Pipe}
 use Rattle.uas_profile.specs.declared.Pipe.TheVariants.{Command, Status, DataIn, DataOut}
@@ -132,7 +133,7 @@ pub record KeepsRings (before after : LinesState) (place : Place) : Type 0 where
   pub data_out : (tag : ℕ) → 0 < tag → (tag ≡ tag_of place → ⊥) → stream_ring after.data_out tag ≡ stream_ring before.data_out tag
 
 -- one ring of a place was written
-pub with_ring-keeps : (lines : LinesState) (pipe : Pipe) (place : Place) (ring : Ring) → KeepsRings lines (with_ring lines pipe (tag_of place) ring) place
+pub with_ring-keeps : (lines : LinesState) (pipe : Pipe) (place : Place) (ring : ItemRing) → KeepsRings lines (with_ring lines pipe (tag_of place) ring) place
 with_ring-keeps lines Command place ring = record { status = λ tag some apart. refl; data_in = λ tag some apart. refl; data_out = λ tag some apart. refl }
 with_ring-keeps lines Status place ring = record {
   status = λ tag some apart. stream_ring-other lines.status (tag_of place) tag ring (omega arith) some apart;
@@ -211,7 +212,7 @@ pub texts-alike : (before after : World) (k : ℕ) (events : List Completion) �
     → event_texts after k events ≡ event_texts before k events
 texts-alike before after k [] alike = refl
 texts-alike before after k (CommandDone place ∷ rest) alike =
-    ap (λ (ring : Ring). Transfer (pointer_of COMMAND_RING_PLACES ring k) 0 SUCCESS (endpoint_of Command) SLOT ∷ event_texts after (suc k) rest)
+    ap (λ (ring : ItemRing). Transfer (pointer_of COMMAND_RING_PLACES ring k) 0 SUCCESS (endpoint_of Command) SLOT ∷ event_texts after (suc k) rest)
     alike.command_base
     ∙ ap (λ es. Transfer (pointer_of COMMAND_RING_PLACES before.lines.command k) 0 SUCCESS (endpoint_of Command) SLOT ∷ es)
     (texts-alike before after (suc k) rest

@@ -4,8 +4,9 @@ use Rattle.std.proofs.Common.{◌≡◌, ℕ, Bool, true, false, ◌&&◌, List,
 use Rattle.std.specs.Prelude.{nat_lt, is_none, is_some, option_and_then, if◌then◌else◌}
 use Rattle.std.specs.Option.{option_map_or}
 use Rattle.std.proofs.lemmas.Bool.{false≢true}
+use Rattle.std.proofs.lemmas.List.{length-map}
 use Rattle.xhci_trb.specs.declared.Trb.{Trb}
-use Rattle.cycle_ring.specs.Ring.{Ring}
+use Rattle.cycle_ring.specs.Items.{ItemRing, Item, known}
 use Rattle.uas_profile.specs.declared.Pipe.{Pipe}
 use Rattle.uas_profile.specs.declared.Pipe.TheVariants.{Command, Status, DataIn, DataOut}
 use Rattle.stream_array.specs.Rings.{LinesState}
@@ -40,9 +41,9 @@ use Rattle.bus_core.proofs.retire.EngineCells.{at-place, is-place}
 -- ENGINE
 
 -- a ring that holds so many TRBs and has so many of them consumed
-pub has_pending-holds : (ring : Ring) (trbs : List Trb) (taken : ℕ) → HoldsTrbs ring trbs taken → has_pending ring ≡ nat_lt taken (length trbs)
+pub has_pending-holds : (ring : ItemRing) (trbs : List Trb) (taken : ℕ) → HoldsTrbs ring trbs taken → has_pending ring ≡ nat_lt taken (length trbs)
 has_pending-holds ring trbs taken holds =
-    ap (λ k. nat_lt k (length ring.put)) holds.1 ∙ ap (λ (ts : List Trb). nat_lt taken (length ts)) holds.0
+    ap (λ k. nat_lt k (length ring.put)) holds.1 ∙ ap (λ (ts : List Item). nat_lt taken (length ts)) holds.0 ∙ ap (nat_lt taken) (length-map trbs known)
 
 asked-pends : (lines : LinesState) (pipe : Pipe) (place : Place) (stage : RetirementStage) → HoldsCommand lines pipe place stage
     → is_asked stage ≡ has_pending lines.engine

@@ -6,7 +6,8 @@ use Rattle.std.specs.Option.{option_map_or}
 use Rattle.std.proofs.lemmas.Bool.{lt-ltb, le-leb, lt-leb, ne_eqb}
 use Rattle.xhci_trb.specs.declared.Trb.{Trb}
 use Rattle.xhci_trb.specs.declared.Trb.TheVariants.{SetDequeue}
-use Rattle.cycle_ring.specs.Ring.{Ring, cycle_of, front_of, pointer_of}
+use Rattle.cycle_ring.specs.Ring.{cycle_of, pointer_of}
+use Rattle.cycle_ring.specs.Items.{ItemRing, known_of}
 use Rattle.cycle_ring.proofs.Names.{item_at-pointer_of}
 use Rattle.event_ring.specs.declared.Event.TheVariants.{Command as CommandDone}
 use Rattle.uas_profile.specs.declared.Pipe.{Pipe}
@@ -21,7 +22,7 @@ use Rattle.uas_profile.specs.declared.TheConstants.{STREAMS, STREAM_ENTRIES, STR
 use Rattle.xhci_ctl.specs.Engine.{commanded_pipe, dequeued_at, engine_acted, engine_consumed, engine_did, engine_front, executed, is_state, set_dequeue}
 use Rattle.xhci_ctl.specs.Engine.{stop_endpoint, stopped_on}
 use Rattle.xhci_ctl.specs.Pipes.{ControllerState, is_running}
-use Rattle.xhci_ctl.specs.Steps.{has_event_room, posted}
+use Rattle.xhci_ctl.specs.Steps.{front_at, has_event_room, posted}
 use Rattle.bus_core.specs.Cells.{HoldsTrbs}
 use Rattle.bus_core.specs.Fits.{engine_event}
 
@@ -29,15 +30,15 @@ use Rattle.bus_core.specs.Fits.{engine_event}
 
 -- the one command on the ring is the one in front
 pub front-is : (lines : LinesState) (trb : Trb) → has_event_room lines ≡ true → HoldsTrbs lines.engine (trb ∷ []) 0
-    → engine_front lines ≡ Some (pointer_of ENGINE_RING_PLACES lines.engine 0, trb)
+    → engine_front lines ≡ Some (pointer_of ENGINE_RING_PLACES lines.engine 0, Some trb)
 front-is lines trb room holds =
-    ap (λ b. cond b (front_of ENGINE_RING_PLACES lines.engine) None) room
-    ∙ ap (λ k. option_map (λ t. (pointer_of ENGINE_RING_PLACES lines.engine k, t)) (slice_get lines.engine.put k)) holds.1
-    ∙ ap (λ trbs. option_map (λ t. (pointer_of ENGINE_RING_PLACES lines.engine 0, t)) (slice_get trbs 0)) holds.0
+    ap (λ b. cond b (front_at ENGINE_RING_PLACES lines.engine) None) room
+    ∙ ap (λ k. option_map (λ item. (pointer_of ENGINE_RING_PLACES lines.engine k, known_of item)) (slice_get lines.engine.put k)) holds.1
+    ∙ ap (λ items. option_map (λ item. (pointer_of ENGINE_RING_PLACES lines.engine 0, known_of item)) (slice_get items 0)) holds.0
 
 -- what comes of it with code 1
 pub acted-is : (controller now : ControllerState) (lines after : LinesState) (trb : Trb) → has_event_room lines ≡ true → HoldsTrbs lines.engine (trb ∷ []) 0
-    → executed (controller, lines) trb ≡ ((now, after), SUCCESS)
+    → executed (controller, lines) (Some trb) ≡ ((now, after), SUCCESS)
     → engine_acted (controller, lines) ≡ ((now, posted (engine_consumed after) (engine_event lines.engine)), ActedOn 0)
 acted-is controller now lines after trb room holds does =
     ap (λ front. option_map_or (engine_did (controller, lines)) front ((controller, lines), Idle)) (front-is lines trb room holds)
@@ -59,7 +60,7 @@ commanded-is DataOut streams = refl
 -- STOP ENDPOINT
 
 pub stop-executed : (controller : ControllerState) (lines : LinesState) (pipe : Pipe) → HasStreams pipe → is_running controller pipe ≡ true
-    → executed (controller, lines) (stop_trb pipe) ≡ ((stopped_on controller pipe, lines), SUCCESS)
+    → executed (controller, lines) (Some (stop_trb pipe)) ≡ ((stopped_on controller pipe, lines), SUCCESS)
 stop-executed controller lines pipe streams runs =
     ap (λ p. option_map_or (λ p. let done = stop_endpoint controller p in ((done.0, lines), done.1)) p ((controller, lines), TRB_ERROR))
     (commanded-is pipe streams)
@@ -73,10 +74,10 @@ is_state-self true = refl
 is_state-self false = refl
 
 -- a ring with its consumer's end at the enqueue place
-abbrev pub passed_ring : Ring → Ring
+abbrev pub passed_ring : ItemRing → ItemRing
 passed_ring ring = record ring { got = length ring.put }
 
-pub dequeued-is : (n : ℕ) (ring : Ring) → 4 ≤ n → ring.got ≤ length ring.put → length ring.put < n - 1
+pub dequeued-is : (n : ℕ) (ring : ItemRing) → 4 ≤ n → ring.got ≤ length ring.put → length ring.put < n - 1
     → dequeued_at n ring (pointer_of n ring (length ring.put)) (cycle_of n ring (length ring.put)) ≡ Some (passed_ring ring)
 dequeued-is n ring places consumed room =
     rw (
@@ -95,7 +96,7 @@ places-some DataOut streams = (omega arith, omega arith)
 -- the command does what the controller's rule says of its pipe
 pub move-done : (controller : ControllerState) (lines : LinesState) (pipe : Pipe) (pointer tag : ℕ) (cycle : Bool) (done : LinesState × ℕ) → HasStreams pipe
     → set_dequeue controller lines pipe tag pointer cycle ≡ done
-    → executed (controller, lines) (SetDequeue pointer cycle tag (target_of pipe) 1) ≡ ((controller, done.0), done.1)
+    → executed (controller, lines) (Some (SetDequeue pointer cycle tag (target_of pipe) 1)) ≡ ((controller, done.0), done.1)
 move-done controller lines pipe pointer tag cycle done streams does =
     ap (λ p. option_map_or (λ p. let d = set_dequeue controller lines p tag pointer cycle in ((controller, d.0), d.1)) p ((controller, lines), TRB_ERROR))
     (commanded-is pipe streams)
@@ -103,9 +104,9 @@ move-done controller lines pipe pointer tag cycle done streams does =
 
 pub move-executed : (controller : ControllerState) (lines : LinesState) (pipe : Pipe) (tag : ℕ) → HasStreams pipe → 1 ≤ tag → tag ≤ STREAMS
     → is_running controller pipe ≡ false → (ring_of lines pipe tag).got ≤ length (ring_of lines pipe tag).put → length (ring_of lines pipe tag).put ≤ MOST_DATA_TRBS
-    → executed (controller, lines) (move_trb lines pipe tag) ≡ ((controller, with_ring lines pipe tag (passed_ring (ring_of lines pipe tag))), SUCCESS)
+    → executed (controller, lines) (Some (move_trb lines pipe tag)) ≡ ((controller, with_ring lines pipe tag (passed_ring (ring_of lines pipe tag))), SUCCESS)
 move-executed controller lines pipe tag streams some most stopped consumed short =
-    let ring : Ring = ring_of lines pipe tag in
+    let ring : ItemRing = ring_of lines pipe tag in
     let n : ℕ = places_of pipe in
     let places = places-some pipe streams in
     let pointer : ℕ = pointer_of (places_of pipe) (ring_of lines pipe tag) (length (ring_of lines pipe tag).put) in

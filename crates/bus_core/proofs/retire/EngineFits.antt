@@ -6,9 +6,11 @@ use Rattle.std.specs.Prelude.{slice_get, slice_set, IfSome}
 use Rattle.std.specs.Option.{option_map_or}
 use Rattle.std.proofs.lemmas.Bool.{false≢true, ltb-false}
 use Rattle.std.proofs.lemmas.Option.{slice_get_past}
+use Rattle.std.proofs.lemmas.List.{length-map}
 use Rattle.xhci_trb.specs.declared.Trb.{Trb}
 use Rattle.xhci_trb.specs.declared.Trb.TheVariants.{SetDequeue}
-use Rattle.cycle_ring.specs.Ring.{Ring, cycle_of, front_of, pointer_of}
+use Rattle.cycle_ring.specs.Ring.{cycle_of, pointer_of}
+use Rattle.cycle_ring.specs.Items.{Item, ItemRing, known_of, known}
 use Rattle.event_ring.specs.declared.Event.{Event}
 use Rattle.event_ring.specs.Events.{Events}
 use Rattle.uas_profile.specs.declared.Pipe.{Pipe}
@@ -30,7 +32,7 @@ use Rattle.xhci_ctl.specs.Engine.{engine_acted, engine_consumed, engine_did}
 use Rattle.uas_profile.specs.PipeStates.{stopped_pipe}
 use Rattle.xhci_ctl.specs.Engine.{stopped_on}
 use Rattle.xhci_ctl.specs.Pipes.{ControllerState, has_pending, is_running}
-use Rattle.xhci_ctl.specs.Steps.{has_event_room, posted}
+use Rattle.xhci_ctl.specs.Steps.{front_at, has_event_room, posted}
 use Rattle.scsi_cmd.specs.Held.{held_at}
 use Rattle.frame_store.specs.Buffers.{held_for}
 use Rattle.shared_machine.specs.declared.Td.{Td}
@@ -47,7 +49,7 @@ use Rattle.machine_invariant.specs.Matched.{IsMatched, IsRetiring, answered_plac
 use Rattle.machine_invariant.specs.Matched.{was_moved}
 use Rattle.bus_core.specs.World.{World, cell_at}
 use Rattle.bus_core.specs.Cells.{FitsCell, HoldsIn, host_side, state_of}
-use Rattle.bus_core.specs.Fits.{Fits, FitsQueues, HoldsCommand, HoldsCommandOf, IsSoundWorld, command_trb, data_event, engine_event, event_texts}
+use Rattle.bus_core.specs.Fits.{command_item, data_event, engine_event, event_texts, Fits, FitsQueues, HoldsCommand, HoldsCommandOf, IsSoundWorld}
 use Rattle.bus_core.specs.Fits.{host_retirement, place_in, status_event}
 use Rattle.bus_core.specs.WorldSteps.{EngineFits, EngineIsIdle, EnginesFit, engine_world}
 use Rattle.bus_core.proofs.common.ActFits.{IsPlaced, placed}
@@ -112,9 +114,9 @@ acted-queues : (state now : Shared) (world after : World) (place : Place) → Fi
 acted-queues state now world after place fits messages events command pending same alike =
     let carried : carried_places now.events ≡ carried_places state.events = ap carried_places events ∙ carried-last state.events place in
     record {
-      put = ap (λ (r : Ring). r.put) command ∙ fits.queues.put ∙ ap (λ places. map command_trb (places ++ state.messages)) (sym carried)
-          ∙ ap (λ messages. map command_trb (carried_places now.events ++ messages)) (sym messages);
-      got = ap (λ (r : Ring). r.got) command ∙ fits.queues.got ∙ ap (λ (places : List Place). length places) (sym carried);
+      put = ap (λ (r : ItemRing). r.put) command ∙ fits.queues.put ∙ ap (λ places. map command_item (places ++ state.messages)) (sym carried)
+          ∙ ap (λ messages. map command_item (carried_places now.events ++ messages)) (sym messages);
+      got = ap (λ (r : ItemRing). r.got) command ∙ fits.queues.got ∙ ap (λ (places : List Place). length places) (sym carried);
       texts = pending ∙ ap (λ es. es ++ engine_event world.lines.engine ∷ []) (fits.queues.texts ∙ sym (texts-alike world after 0 state.events alike))
           ∙ ap (λ e. event_texts after 0 state.events ++ e ∷ []) (sym same)
           ∙ sym (texts-last after 0 state.events place) ∙ ap (event_texts after 0) (sym events);
@@ -210,7 +212,7 @@ record AreAlike (before after : LinesState) : Type 0 where
   data_in : (tag : ℕ) → uncounted (stream_ring after.data_in tag) ≡ uncounted (stream_ring before.data_in tag)
   data_out : (tag : ℕ) → uncounted (stream_ring after.data_out tag) ≡ uncounted (stream_ring before.data_out tag)
 
-uncounted-passed : (rings : List Ring) (tag other : ℕ)
+uncounted-passed : (rings : List ItemRing) (tag other : ℕ)
     → uncounted (stream_ring (slice_set rings (tag - 1) (passed_ring (stream_ring rings tag))) other) ≡ uncounted (stream_ring rings other)
 uncounted-passed rings tag other = uncounted-set rings (tag - 1) (other - 1) (length (stream_ring rings tag).put)
 
@@ -233,14 +235,14 @@ moved-reads state world pipe place streams none =
       none = none;
       command_base = alike.command;
       moved = λ other some.
-          ap (λ (ring : Ring). data_event ring (stream_ring after.data_out (tag_of other))) (alike.data_in (tag_of other))
-          ∙ ap (λ (ring : Ring). data_event (stream_ring world.lines.data_in (tag_of other)) ring) (alike.data_out (tag_of other));
-      sent = λ other some. ap (λ (ring : Ring). status_event other.slot ring (held_for world.frames (tag_of other)).status) (alike.status (tag_of other));
+          ap (λ (ring : ItemRing). data_event ring (stream_ring after.data_out (tag_of other))) (alike.data_in (tag_of other))
+          ∙ ap (λ (ring : ItemRing). data_event (stream_ring world.lines.data_in (tag_of other)) ring) (alike.data_out (tag_of other));
+      sent = λ other some. ap (λ (ring : ItemRing). status_event other.slot ring (held_for world.frames (tag_of other)).status) (alike.status (tag_of other));
     }
 
 -- the TD as it stands on that ring, with a TRB that the controller may take
 record IsPassable (world : World) (pipe : Pipe) (place : Place) (entry : Entry) : Type 0 where
-  put : (ring_of world.lines pipe (tag_of place)).put ≡ td_trbs pipe (tag_of place) entry
+  put : (ring_of world.lines pipe (tag_of place)).put ≡ map known (td_trbs pipe (tag_of place) entry)
   consumed : (ring_of world.lines pipe (tag_of place)).got ≤ length (ring_of world.lines pipe (tag_of place)).put
   count : length (ring_of world.lines pipe (tag_of place)).put ≡ trbs_on pipe entry
   short : length (ring_of world.lines pipe (tag_of place)).put ≤ MOST_DATA_TRBS
@@ -262,9 +264,10 @@ passable state world pipe place at fits =
     let has : has_trb_on pipe at.entry ≡ true =
     ap (λ o. option_map_or (has_trb_on pipe) o false) (sym at.held) ∙ (fits.matched.flows pipe place).left unpassed at.retiring.left in
     let some : left.td.consumed < trbs_on pipe at.entry = left-unconsumed pipe at.entry left.td left.on has in
-    let put = ap (λ (r : Ring). r.put) same ∙ left.holds.0 in
-    let got = ap (λ (r : Ring). r.got) same ∙ left.holds.1 in
-    let count = ap (λ (ts : List Trb). length ts) put ∙ length-td_trbs pipe (tag_of place) at.entry at.retiring.streams in
+    let put = ap (λ (r : ItemRing). r.put) same ∙ left.holds.0 in
+    let got = ap (λ (r : ItemRing). r.got) same ∙ left.holds.1 in
+    let count =
+    ap (λ (ts : List Item). length ts) put ∙ length-map (td_trbs pipe (tag_of place) at.entry) known ∙ length-td_trbs pipe (tag_of place) at.entry at.retiring.streams in
     record {
       put = put;
       consumed = omega (arith, got, some, count);
@@ -309,7 +312,7 @@ moved-here world DataOut place lines most streams =
 moved-cell : (state : Shared) (world : World) (pipe : Pipe) (place : Place) (at : IsUnderWay state world pipe place MoveAsked) → Fits state world
     → FitsCell place.client at.at.part.unit.count place (passed_on pipe at.entry) (cell_at (moved_world world pipe place) place)
 moved-cell state world pipe place at fits =
-    let ring : Ring = passed_ring (ring_of world.lines pipe (tag_of place)) in
+    let ring : ItemRing = passed_ring (ring_of world.lines pipe (tag_of place)) in
     let able = passable state world pipe place at fits in
     let tag = tag-streams state world pipe place MoveAsked at fits in
     subst (λ c. FitsCell place.client at.at.part.unit.count place (passed_on pipe at.entry) c)
@@ -359,14 +362,14 @@ streams-ring DataIn stream has first last = (omega arith, omega arith)
 streams-ring DataOut stream has first last = (omega arith, omega arith)
 
 -- the command by the ring that it is of
-abbrev move_by : Pipe → ℕ → Ring → Trb
+abbrev move_by : Pipe → ℕ → ItemRing → Trb
 move_by pipe tag ring =
     SetDequeue (pointer_of (places_of pipe) ring (length ring.put)) (cycle_of (places_of pipe) ring (length ring.put)) tag (target_of pipe) 1
 
 moved-names : (world : World) (pipe : Pipe) (place : Place) → IsLines world.lines → HasStreams pipe → tag_of place ≤ STREAMS
     → move_trb (moved_world world pipe place).lines pipe (tag_of place) ≡ move_trb world.lines pipe (tag_of place)
 moved-names world pipe place lines streams most =
-    let ring : Ring = passed_ring (ring_of world.lines pipe (tag_of place)) in
+    let ring : ItemRing = passed_ring (ring_of world.lines pipe (tag_of place)) in
     let is : ring_of (moved_world world pipe place).lines pipe (tag_of place) ≡ passed_ring (ring_of world.lines pipe (tag_of place)) =
     ring_of-acted (with_ring world.lines pipe (tag_of place) (passed_ring (ring_of world.lines pipe (tag_of place)))) (engine_event world.lines.engine) pipe
     (tag_of place)
@@ -392,9 +395,9 @@ move-fits state world pipe place at fits matched sound =
     (record {
       retirement = at.hosts;
       commands = (
-        ap (λ (r : Ring). r.put) alike.engine ∙ at.commands.0
-            ∙ ap (λ trb. trb ∷ []) (sym (moved-names world pipe place fits.sound.lines at.retiring.streams tag.1)),
-        ap (λ (r : Ring). r.got + 1) alike.engine ∙ ap (λ taken. taken + 1) at.commands.1,
+        ap (λ (r : ItemRing). r.put) alike.engine ∙ at.commands.0
+            ∙ ap (λ trb. known trb ∷ []) (sym (moved-names world pipe place fits.sound.lines at.retiring.streams tag.1)),
+        ap (λ (r : ItemRing). r.got + 1) alike.engine ∙ ap (λ taken. taken + 1) at.commands.1,
       );
     }) matched sound
 
@@ -453,13 +456,13 @@ engines-fit state world fits is_due = by-retirement state world state.retirement
 pub engine-is-idle : EngineIsIdle
 engine-is-idle state world fits undue =
     let none : has_pending world.lines.engine ≡ false = sym (engines-are-due state world fits) ∙ undue in
-    let front : front_of ENGINE_RING_PLACES world.lines.engine ≡ None =
-    ap (λ found. option_map (λ t. (pointer_of ENGINE_RING_PLACES world.lines.engine world.lines.engine.got, t)) found)
+    let front : front_at ENGINE_RING_PLACES world.lines.engine ≡ None =
+    ap (λ found. option_map (λ item. (pointer_of ENGINE_RING_PLACES world.lines.engine world.lines.engine.got, known_of item)) found)
     (slice_get_past world.lines.engine.put world.lines.engine.got (ltb-false world.lines.engine.got (length world.lines.engine.put) none)) in
     ap (λ f. option_map_or (engine_did (world.controller, world.lines)) (cond (has_event_room world.lines) f None) ((world.controller, world.lines), Idle))
     front
     ∙ ap (λ f. option_map_or (engine_did (world.controller, world.lines)) f ((world.controller, world.lines), Idle)) (none-either (has_event_room world.lines))
   where
-    none-either : (b : Bool) → cond {A = Option (ℕ × Trb)} b None None ≡ None
+    none-either : (b : Bool) → cond {A = Option (ℕ × Option Trb)} b None None ≡ None
     none-either true = refl
     none-either false = refl

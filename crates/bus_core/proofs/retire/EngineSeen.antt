@@ -4,7 +4,8 @@ use Rattle.std.proofs.Common.{◌≡◌, ℕ, ◌+◌, ◌-◌, true, ◌&&◌, 
 use Rattle.std.specs.Prelude.{◌==◌, is_some, slice_get}
 use Rattle.std.specs.Option.{option_map_or}
 use Rattle.xhci_trb.specs.declared.Trb.{Trb}
-use Rattle.cycle_ring.specs.Ring.{Ring, pointer_of, reclaimed}
+use Rattle.cycle_ring.specs.Ring.{pointer_of, reclaimed}
+use Rattle.cycle_ring.specs.Items.{ItemRing, Item, known}
 use Rattle.cycle_ring.proofs.Names.{item_at-pointer_of}
 use Rattle.event_ring.specs.declared.Event.{Event}
 use Rattle.event_ring.specs.Events.{Events}
@@ -30,7 +31,7 @@ use Rattle.shared_machine.specs.Shared.{Shared, engine_seen, event_step, idle, i
 use Rattle.machine_invariant.specs.Matched.{IsMatched, carried_places, retired_places}
 use Rattle.bus_core.specs.World.{World}
 use Rattle.bus_core.specs.Cells.{HoldsTrbs}
-use Rattle.bus_core.specs.Fits.{Fits, FitsQueues, IsSoundWorld, command_trb, engine_event, event_texts, host_retirement}
+use Rattle.bus_core.specs.Fits.{command_item, engine_event, event_texts, Fits, FitsQueues, host_retirement, IsSoundWorld}
 use Rattle.bus_core.specs.WorldSteps.{EventFits, event_sides, rung_all, without_event}
 use Rattle.bus_core.proofs.retire.EngineCells.{ReadsAlike, kept-fits, texts-alike}
 use Rattle.bus_core.proofs.retire.EngineFits.{IsUnderWay, under_way}
@@ -55,7 +56,7 @@ engine_pointer world = pointer_of ENGINE_RING_PLACES world.lines.engine 0
 engine-done : (world : World) (trb : Trb) → HoldsTrbs world.lines.engine (trb ∷ []) 1
     → is_engine_done (without_event world.lines) (engine_pointer world) SUCCESS ≡ true
 engine-done world trb holds =
-    let first : slice_get world.lines.engine.put 0 ≡ Some trb = ap (λ (ts : List Trb). slice_get ts 0) holds.0 in
+    let first : slice_get world.lines.engine.put 0 ≡ Some (known trb) = ap (λ (ts : List Item). slice_get ts 0) holds.0 in
     ap (λ (o : Option Trb). is_some o && (SUCCESS == 1))
     (consumed_at-item ENGINE_RING_PLACES 0 world.lines.engine trb (omega arith) (omega arith) (omega (arith, holds.1)) first)
 
@@ -101,9 +102,9 @@ pub engine-queues : (state now : Shared) (world after : World) (place : Place) (
 engine-queues state now world after place rest fits is messages events command pending alike =
     let carried : carried_places state.events ≡ carried_places now.events = ap carried_places is ∙ ap carried_places (sym events) in
     record {
-      put = ap (λ (r : Ring). r.put) command ∙ fits.queues.put ∙ ap (λ places. map command_trb (places ++ state.messages)) carried
-          ∙ ap (λ messages. map command_trb (carried_places now.events ++ messages)) (sym messages);
-      got = ap (λ (r : Ring). r.got) command ∙ fits.queues.got ∙ ap (λ (places : List Place). length places) carried;
+      put = ap (λ (r : ItemRing). r.put) command ∙ fits.queues.put ∙ ap (λ places. map command_item (places ++ state.messages)) carried
+          ∙ ap (λ messages. map command_item (carried_places now.events ++ messages)) (sym messages);
+      got = ap (λ (r : ItemRing). r.got) command ∙ fits.queues.got ∙ ap (λ (places : List Place). length places) carried;
       texts = pending ∙ ap (λ (es : List Event). drop 1 es) (fits.queues.texts ∙ ap (event_texts world 0) is)
           ∙ sym (texts-alike world after 0 rest alike) ∙ ap (event_texts after 0) (sym events);
     }
@@ -136,7 +137,7 @@ event-done state now world place host lines doors outcome fits stepped does ring
 
 -- STOP ENDPOINT IS DONE
 
-move-same : (lines : LinesState) (engine : Ring) (events : Events) (pipe : Pipe) (tag : ℕ)
+move-same : (lines : LinesState) (engine : ItemRing) (events : Events) (pipe : Pipe) (tag : ℕ)
     → move_trb (record lines { engine = engine; events = events }) pipe tag ≡ move_trb lines pipe tag
 move-same lines engine events Command tag = refl
 move-same lines engine events Status tag = refl
@@ -172,7 +173,8 @@ asked-fits state world pipe place rest first fits matched sound =
     (record {
       retirement = refl;
       commands = (
-        ap (λ (ts : List Trb). drop 1 ts ++ move_trb (without_event world.lines) pipe (tag_of place) ∷ []) first.holds.0 ∙ ap (λ t. t ∷ []) named,
+        ap (λ (ts : List Item). drop 1 ts ++ known (move_trb (without_event world.lines) pipe (tag_of place)) ∷ []) first.holds.0
+            ∙ ap (λ t. known t ∷ []) named,
         ap (λ taken. taken - 1) first.holds.1,
       );
     }) matched sound

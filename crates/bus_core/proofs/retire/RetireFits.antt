@@ -3,7 +3,6 @@
 use Rattle.std.proofs.Common.{◌≡◌, ℕ, true, cond, List, [], ◌∷◌, ◌++◌, length, Option, Some, None, option_map, refl, arith, ap, sym, subst, ◌∙◌}
 use Rattle.std.specs.Prelude.{is_none}
 use Rattle.std.proofs.lemmas.Bool.{false≢true, and_parts}
-use Rattle.xhci_trb.specs.declared.Trb.{Trb}
 use Rattle.uas_profile.specs.declared.Pipe.{Pipe}
 use Rattle.uas_profile.specs.declared.Place.{Place}
 use Rattle.uas_host.specs.declared.RetirementStage.TheVariants.{Stopping}
@@ -23,6 +22,7 @@ use Rattle.bus_core.proofs.common.CellWrites.{clients-length}
 use Rattle.bus_core.proofs.retire.EngineCells.{ReadsAlike, kept-fits, texts-alike}
 use Rattle.bus_core.proofs.retire.EngineDue.{retire-due}
 use Rattle.machine_invariant.proofs.MatchedSteps.{IsDueAt, place_fact-due, shared_step-matched}
+use Rattle.cycle_ring.specs.Items.{Item, known}
 
 pub none-is : {T : Type 0} (found : Option T) → is_none found ≡ true → found ≡ None
 none-is None none = refl
@@ -68,7 +68,7 @@ begun-fits state world pipe place fits none matched sound =
     (record { hosts = refl; device = refl; frames = refl; status = refl; data_in = refl; data_out = refl }) refl
     (record { status = fits.status; data_in = fits.data_in; data_out = fits.data_out })
     (begun-queues state world pipe place fits none)
-    (record { retirement = refl; commands = (ap (λ (ts : List Trb). ts ++ stop_trb pipe ∷ []) empty.0, empty.1) }) matched sound
+    (record { retirement = refl; commands = (ap (λ (ts : List Item). ts ++ known (stop_trb pipe) ∷ []) empty.0, empty.1) }) matched sound
 
 begun-stepped : (state : Shared) (pipe : Pipe) (tag : ℕ) (place : Place) → due state (Retire pipe tag) ≡ true
     → place_of (length state.parts) tag ≡ Some place → (shared_step state (Retire pipe tag)).0 ≡ begun_state state pipe place
@@ -86,7 +86,7 @@ retirements-fit state world pipe tag fits is_due =
       place = found.place;
       named = found.named;
       begins = begins-is state world pipe tag found.place fits is_due found.named;
-      room = omega (arith, ap (λ (ts : List Trb). length ts) empty.0);
+      room = omega (arith, ap (λ (ts : List Item). length ts) empty.0);
       fits = λ sound.
           subst (λ s. Fits s (retire_world world pipe found.place)) (sym stepped)
           (begun-fits state world pipe found.place fits none (subst IsMatched stepped (shared_step-matched state (Retire pipe tag) fits.matched)) sound);

@@ -6,7 +6,8 @@ use Rattle.std.specs.Prelude.{slice_get, option_and_then}
 use Rattle.std.specs.Option.{option_map_or}
 use Rattle.std.proofs.lemmas.Bool.{and_parts}
 use Rattle.std.proofs.lemmas.List.{append-nil, get_or-set_same, get_or-set_other}
-use Rattle.cycle_ring.specs.Ring.{Ring, pointer_of, front_of, opening}
+use Rattle.cycle_ring.specs.Ring.{pointer_of, opening}
+use Rattle.cycle_ring.specs.Items.{ItemRing, known}
 use Rattle.event_ring.specs.declared.Event.{Event}
 use Rattle.event_ring.specs.declared.Event.TheVariants.{Transfer}
 use Rattle.uas_profile.specs.declared.TheConstants.{TAGS, GREATEST_TAG, STREAM_RING_PLACES, STATUS_BYTES, SLOT, SHORT_PACKET}
@@ -39,10 +40,9 @@ use Rattle.uas_profile.specs.Places.{place_of, tag_of}
 use Rattle.uas_host.specs.Tds.{status_td}
 use Rattle.xhci_ctl.specs.declared.Acted.{Acted}
 use Rattle.xhci_ctl.specs.declared.Acted.TheVariants.{Acted as ActedOn, Idle}
-use Rattle.xhci_ctl.specs.Own.{IsOwnStatusFront}
 use Rattle.uas_profile.specs.PipeStates.{is_open}
 use Rattle.xhci_ctl.specs.Pipes.{ControllerState, is_armed}
-use Rattle.xhci_ctl.specs.Steps.{Sides, completed, endpoint_of, on_front, room_front, sent_as, sent_at, sent_by}
+use Rattle.xhci_ctl.specs.Steps.{completed, endpoint_of, front_at, on_front, room_front, sent_as, sent_at, sent_by, Sides}
 use Rattle.shared_machine.specs.declared.Completion.TheVariants.{StatusDone}
 use Rattle.shared_machine.specs.declared.Step.TheVariants.{Status as StatusStep}
 use Rattle.shared_machine.specs.Td.{Entry, has_trb, pushed, with_trb_taken}
@@ -53,7 +53,7 @@ use Rattle.shared_machine.specs.Shared.{Shared, due, due_step, idle, is_ended, s
 use Rattle.machine_invariant.specs.Matched.{carried_places, status_events, IsMatched, IsPhaseOf, IsRequestIn}
 use Rattle.bus_core.specs.World.{World, Cell, cell_at, sides_in, with_sides}
 use Rattle.bus_core.specs.Cells.{FitsCell, HoldsTd, HoldsTrbs, host_side, told_by, told_sent}
-use Rattle.bus_core.specs.Fits.{Fits, FitsQueues, IsSoundWorld, command_trb, event_texts, place_in, status_event, unit_len}
+use Rattle.bus_core.specs.Fits.{command_item, event_texts, Fits, FitsQueues, IsSoundWorld, place_in, status_event, unit_len}
 use Rattle.bus_core.specs.WorldSteps.{StatusesFit, StatusFits, StatusIsIdle, status_world}
 use Rattle.bus_core.specs.WorldDue.{StatusesAreDue, status_due_by}
 use Rattle.bus_core.proofs.common.ActFits.{IsPlaced, placed, IsActed, acted_state, acted-fits, place_of-tag, by-tag}
@@ -65,7 +65,8 @@ use Rattle.machine_invariant.proofs.MatchedNext.{matched-no_status_event}
 use Rattle.machine_invariant.proofs.MatchedSteps.{IsDueAt, place_fact-due, shared_step-matched}
 use Rattle.machine_invariant.proofs.MatchedMoves.{IsEndedBy, ended_phase, send_step-held}
 use Rattle.shared_machine.proofs.Standing.{held_under-with_same, held_under-with_other, slice_get-back}
-use Rattle.bus_core.proofs.status.StatusReady.{answer_unit, answer-unit, answer-most, answer-len, text-begins}
+use Rattle.bus_core.proofs.chunks.OwnFronts.{status-front-own}
+use Rattle.bus_core.proofs.status.StatusReady.{HasOwnUnit, answer_unit, answer-unit, answer-most, answer-len, text-begins}
 use Rattle.bus_core.proofs.status.StatusReady.{with_status, status-written, tag-bounds, IsStatusReady, status-ready, status-armed, status-due}
 use Rattle.bus_core.proofs.status.StatusReady.{status-own}
 
@@ -117,7 +118,7 @@ sent-is state world place entry answer at fits ended opened =
     ∙ ap (λ b. on_front (sides_in world) (sent_at (sides_in world) (tag_of place) (answer_text (tag_of place) answer))
     (cond b (room_front world.lines Status (tag_of place)) None)) armed
     ∙ ap (λ b. on_front (sides_in world) (sent_at (sides_in world) (tag_of place) (answer_text (tag_of place) answer))
-    (cond b (front_of STREAM_RING_PLACES (stream_ring world.lines.status (tag_of place))) None)) (event-room state world fits)
+    (cond b (front_at STREAM_RING_PLACES (stream_ring world.lines.status (tag_of place))) None)) (event-room state world fits)
     ∙ ap (on_front (sides_in world) (sent_at (sides_in world) (tag_of place) (answer_text (tag_of place) answer))) ready.front
     ∙ ap (λ frames. (
       record (sides_in (sent_world world place (answer_text (tag_of place) answer))) { frames = frames },
@@ -128,7 +129,7 @@ sent-is state world place entry answer at fits ended opened =
 
 -- THE CELL
 
-abbrev pub taken_ring : Ring → Ring
+abbrev pub taken_ring : ItemRing → ItemRing
 taken_ring ring = record ring { got = ring.got + 1 }
 
 abbrev pub sent_cell : Cell → List ℕ → Cell
@@ -193,7 +194,7 @@ sent-others world place text other at inside apart =
 sent-text : (world : World) (place : Place) (request : Request) (answer : TaskAnswer) (k : ℕ) → IsSoundWorld world → IsRequestIn place.slot request
     → IsPhaseOf request (Sent answer)
     → 1 ≤ tag_of place → tag_of place ≤ GREATEST_TAG
-    → (stream_ring world.lines.status (tag_of place)).put ≡ status_td (tag_of place)
+    → (stream_ring world.lines.status (tag_of place)).put ≡ map known (status_td (tag_of place))
     → event_texts (sent_world world place (answer_text (tag_of place) answer)) k (StatusDone place ∷ [])
     ≡ Transfer (pointer_of STREAM_RING_PLACES (stream_ring world.lines.status (tag_of place)) 0)
     (STATUS_BYTES - length (answer_text (tag_of place) answer)) SHORT_PACKET (endpoint_of Status) SLOT ∷ []
@@ -209,7 +210,7 @@ sent-text world place request answer k sound asks answers some most put =
 
 pub sent-queues : (state : Shared) (world : World) (place : Place) (request : Request) (answer : TaskAnswer) (part : Part) (new : Entry) → Fits state world
     → place.slot < TAGS → IsRequestIn place.slot request → IsPhaseOf request (Sent answer)
-    → 1 ≤ tag_of place → tag_of place ≤ GREATEST_TAG → (stream_ring world.lines.status (tag_of place)).put ≡ status_td (tag_of place)
+    → 1 ≤ tag_of place → tag_of place ≤ GREATEST_TAG → (stream_ring world.lines.status (tag_of place)).put ≡ map known (status_td (tag_of place))
     → status_events place state.events ≡ 0
     → FitsQueues (acted_state state place part part.unit new state.messages (StatusDone place ∷ []))
     (sent_world world place (answer_text (tag_of place) answer))
@@ -222,7 +223,7 @@ sent-queues state world place request answer part new fits within asks answers s
     event_texts-one state world (sent_world world place (answer_text (tag_of place) answer)) place 0 fits.matched within (refl, refl) refl
     (sent-others world place (answer_text (tag_of place) answer)) (λ waits. (refl, refl)) (λ waits. absurd (omega (arith, waits, none))) in
     record {
-      put = fits.queues.put ∙ ap (λ ps. map command_trb (ps ++ state.messages)) (sym more);
+      put = fits.queues.put ∙ ap (λ ps. map command_item (ps ++ state.messages)) (sym more);
       got = fits.queues.got ∙ ap length (sym more);
       texts = ap (λ es. es ++ event ∷ []) (fits.queues.texts ∙ sym kept)
           ∙ ap (λ es. event_texts (sent_world world place (answer_text (tag_of place) answer)) 0 state.events ++ es)
@@ -238,7 +239,7 @@ sent-ends : (state : Shared) (world : World) (place : Place) (text : List ℕ) �
 sent-ends state world place text sound some most Command streams left = absurd streams
 sent-ends state world place text sound some most Status streams left =
     let ring = ap (λ (c : Cell). c.status) (sent-here world place text sound some most) in
-    record { base = ap (λ (r : Ring). r.base) ring; at = ap (λ (r : Ring). r.at) ring; put = ap (λ (r : Ring). r.put) ring }
+    record { base = ap (λ (r : ItemRing). r.base) ring; at = ap (λ (r : ItemRing). r.at) ring; put = ap (λ (r : ItemRing). r.put) ring }
 sent-ends state world place text sound some most DataIn streams left = record { base = refl; at = refl; put = refl }
 sent-ends state world place text sound some most DataOut streams left = record { base = refl; at = refl; put = refl }
 
@@ -284,10 +285,11 @@ status-at state world place entry answer at fits is_due named ended opened =
     let called = sent-is state world place entry answer at fits ended opened in
     let stepped = status-stepped state place at.part entry answer is_due named at.there at.held ended in
     record {
-      own = subst (λ t. IsOwnStatusFront world.lines world.frames (tag_of place) (option_and_then (task_answer (tag_of place)) t))
+      own = status-front-own state world (tag_of place) fits
+          (subst (λ t. HasOwnUnit world.lines world.frames (tag_of place) (option_and_then (task_answer (tag_of place)) t))
           (sym (ended-task state world place entry answer at ended))
-          (subst (IsOwnStatusFront world.lines world.frames (tag_of place))
-          (sym (ended-answer (Some place.client) (tag_of place) entry.task.request answer)) (status-own state world place entry answer at fits ready));
+          (subst (HasOwnUnit world.lines world.frames (tag_of place))
+          (sym (ended-answer (Some place.client) (tag_of place) entry.task.request answer)) (status-own state world place entry answer at fits ready)));
       acted = ap (λ c. c.1) called;
       fits = λ sound.
           subst (λ s. Fits s (status_world world (tag_of place))) (sym stepped)
@@ -326,7 +328,7 @@ moving-undue world tag bytes ToDevice = refl
 abbrev IsTold : World → ℕ → Option DeviceTask → Bool → Type 0
 IsTold world tag task is_due =
     (is_due ≡ status_due_by world tag (option_map_or task_wants task Absent))
-    × IsOwnStatusFront world.lines world.frames tag (option_and_then (task_answer tag) task)
+    × HasOwnUnit world.lines world.frames tag (option_and_then (task_answer tag) task)
 
 told-ended : (state : Shared) (world : World) (place : Place) (entry : Entry) (answer : TaskAnswer) → IsPlaced state world place entry → Fits state world
     → entry.task.phase ≡ Begun (Ended answer)
@@ -336,7 +338,7 @@ told-ended state world place entry answer at fits ended =
     let ready : IsStatusReady state world place entry = status-ready state world place entry answer at ended in (
       status-due state world place entry ready ∙ sym (status-armed state world place entry at fits ready)
           ∙ ap (λ w. status_due_by world (tag_of place) w) (sym (ended-wants (Some place.client) entry.task.request answer)),
-      subst (IsOwnStatusFront world.lines world.frames (tag_of place))
+      subst (HasOwnUnit world.lines world.frames (tag_of place))
           (sym (ended-answer (Some place.client) (tag_of place) entry.task.request answer))
           (status-own state world place entry answer at fits ready),
     )
@@ -366,7 +368,8 @@ told state world tag fits =
     (told-at state world place entry entry.task.phase at fits at.matched.here.sound.answers refl))
 
 pub statuses_due : StatusesAreDue
-statuses_due state world tag fits = let it = told state world tag fits in record { due = it.0; own = it.1 }
+statuses_due state world tag fits =
+    let it = told state world tag fits in record { due = it.0; own = status-front-own state world tag fits it.1 }
 
 -- where it isn't due the controller is idle
 unarmed-idle : (controller : ControllerState) (sides : Sides) (tag : ℕ) (wants : Wants) (answer : Option Iu) (armed : Bool)

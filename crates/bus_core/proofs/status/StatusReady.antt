@@ -1,16 +1,18 @@
 -- A status stream that is ready: the unit that answers a request, its bytes, and that the device has it for the host. Cited by
 -- StatusFits.
-use Rattle.std.proofs.Common.{◌≡◌, ℕ, ◌+◌, ◌≤◌, true, ◌&&◌, cond, List, take, drop, length, Some}
+use Rattle.std.proofs.Common.{◌≡◌, ℕ, ◌+◌, ◌≤◌, true, ◌&&◌, cond, List, take, drop, length, Option, Some}
 use Rattle.std.proofs.Common.{option_map, refl, arith, ap, sym, subst, ◌∙◌, inr}
 use Rattle.std.specs.Prelude.{nat_lt, slice_get, IfSome}
 use Rattle.std.proofs.Math.Seq.{take-append_seam}
 use Rattle.std.proofs.lemmas.Bool.{eq-eqb, lt-ltb, le-leb, ne_eqb}
 use Rattle.xhci_trb.specs.declared.Trb.TheVariants.{Normal}
-use Rattle.cycle_ring.specs.Ring.{pointer_of, front_of}
+use Rattle.cycle_ring.specs.Items.{known_of}
+use Rattle.xhci_ctl.specs.Steps.{front_at}
+use Rattle.cycle_ring.specs.Ring.{pointer_of}
 use Rattle.uas_profile.specs.declared.TheConstants.{TASK_SLOT, GREATEST_TAG, STREAMS, STREAM_RING_PLACES, STATUS_BYTES}
 use Rattle.uas_profile.specs.declared.Pipe.TheVariants.{Status}
 use Rattle.stream_array.specs.Contexts.{has_stream}
-use Rattle.stream_array.specs.Rings.{stream_ring}
+use Rattle.stream_array.specs.Rings.{LinesState, ring_of, stream_ring}
 use Rattle.frame_store.specs.declared.TagBuffers.{TagBuffers}
 use Rattle.frame_store.specs.declared.Buffer.TheVariants.{Status as StatusBuffer}
 use Rattle.frame_store.specs.Splice.{spliced}
@@ -34,7 +36,7 @@ use Rattle.uas_iu.specs.Units.{unit_text}
 use Rattle.uas_profile.specs.declared.Place.{Place}
 use Rattle.uas_profile.specs.Places.{tag_of}
 use Rattle.uas_host.specs.Tds.{status_buffer_of, status_td}
-use Rattle.xhci_ctl.specs.Own.{IsOwnStatus, IsOwnStatusFront}
+use Rattle.xhci_ctl.specs.Own.{IsOwnStatus}
 use Rattle.uas_profile.specs.PipeStates.{is_open}
 use Rattle.xhci_ctl.specs.Pipes.{has_pending, is_armed}
 use Rattle.shared_machine.specs.Td.{Entry, has_trb, pushed}
@@ -112,11 +114,10 @@ tag-bounds state world place entry at fits = (omega arith, omega (arith, at.is_p
 pub record IsStatusReady (state : Shared) (world : World) (place : Place) (entry : Entry) : Type 0 where
   pub td : entry.status_td ≡ pushed
   pub ring : HoldsTrbs (stream_ring world.lines.status (tag_of place)) (status_td (tag_of place)) 0
-  pub front : front_of STREAM_RING_PLACES (stream_ring world.lines.status (tag_of place))
+  pub front : front_at STREAM_RING_PLACES (stream_ring world.lines.status (tag_of place))
       ≡ Some (
         pointer_of STREAM_RING_PLACES (stream_ring world.lines.status (tag_of place)) 0,
-        Normal (status_buffer_of (tag_of place)) STATUS_BYTES 0
-            (record { 0 = 18 }),
+        Some (Normal (status_buffer_of (tag_of place)) STATUS_BYTES 0 (record { 0 = 18 })),
       )
 
 pub status-ready : (state : Shared) (world : World) (place : Place) (entry : Entry) (answer : TaskAnswer) → IsPlaced state world place entry
@@ -128,9 +129,9 @@ status-ready state world place entry answer at ended =
     record {
       td = td;
       ring = ring;
-      front = ap (λ k. option_map (λ trb. (pointer_of STREAM_RING_PLACES (stream_ring world.lines.status (tag_of place)) k, trb))
+      front = ap (λ k. option_map (λ item. (pointer_of STREAM_RING_PLACES (stream_ring world.lines.status (tag_of place)) k, known_of item))
           (slice_get (stream_ring world.lines.status (tag_of place)).put k)) ring.1
-          ∙ ap (λ trbs. option_map (λ trb. (pointer_of STREAM_RING_PLACES (stream_ring world.lines.status (tag_of place)) 0, trb)) (slice_get trbs 0)) ring.0;
+          ∙ ap (λ items. option_map (λ item. (pointer_of STREAM_RING_PLACES (stream_ring world.lines.status (tag_of place)) 0, known_of item)) (slice_get items 0)) ring.0;
     }
 
 -- the stream is armed where it is open
@@ -150,10 +151,15 @@ pub status-due : (state : Shared) (world : World) (place : Place) (entry : Entry
     → (is_open state.status (tag_of place) && has_trb entry.status_td 1) ≡ (is_open state.status (tag_of place) && true)
 status-due state world place entry ready = ap (λ td. is_open state.status (tag_of place) && has_trb td 1) ready.td
 
+-- where the device has a unit to send on a tag, the TRB in front of the status ring has as many bytes
+abbrev pub HasOwnUnit : LinesState → List TagBuffers → ℕ → Option Iu → Type 0
+HasOwnUnit lines frames tag answer =
+    IfSome answer (λ unit. IfSome (front_at STREAM_RING_PLACES (ring_of lines Status tag)) (λ front. IsOwnStatus frames unit front.1))
+
 -- the TRB in front is the host's own
 pub status-own : (state : Shared) (world : World) (place : Place) (entry : Entry) (answer : TaskAnswer) → IsPlaced state world place entry → Fits state world
     → IsStatusReady state world place entry
-    → IsOwnStatusFront world.lines world.frames (tag_of place) (Some (answer_unit (tag_of place) answer))
+    → HasOwnUnit world.lines world.frames (tag_of place) (Some (answer_unit (tag_of place) answer))
 status-own state world place entry answer at fits ready =
     let tag = tag-bounds state world place entry at fits in
     subst (λ front. IfSome front (λ f. IsOwnStatus world.frames (answer_unit (tag_of place) answer) f.1)) (sym ready.front) (

@@ -1,5 +1,5 @@
 -- What a submission puts on the rings, and which doorbells it rings. Cited by Submitting.
-use Rattle.std.proofs.Common.{◌≡◌, ℕ, ◌+◌, ◌-◌, ◌*◌, ◌/◌, ◌%◌, ◌<◌, ◌≤◌, Bool, true, false, cond, List, [], ◌∷◌, ◌++◌, length, Option, Some}
+use Rattle.std.proofs.Common.{◌≡◌, ℕ, ◌+◌, ◌-◌, ◌*◌, ◌/◌, ◌%◌, ◌<◌, ◌≤◌, Bool, true, false, cond, List, [], ◌∷◌, ◌++◌, length, map, Option, Some}
 use Rattle.std.proofs.Common.{None, refl, arith, ap, sym, ◌∙◌}
 use Rattle.std.specs.Prelude.{slice_get, slice_set, ◌==◌, if◌then◌else◌}
 use Rattle.std.specs.Option.{option_map_or}
@@ -7,7 +7,7 @@ use Rattle.std.proofs.lemmas.Bool.{eqb-true, ne_eqb}
 use Rattle.std.proofs.lemmas.Option.{none-some}
 use Rattle.xhci_trb.specs.declared.Trb.{Trb}
 use Rattle.xhci_trb.specs.declared.Trb.TheVariants.{Normal}
-use Rattle.cycle_ring.specs.Ring.{Ring}
+use Rattle.cycle_ring.specs.Items.{Item, known, ItemRing}
 use Rattle.uas_profile.specs.declared.Pipe.{Pipe}
 use Rattle.uas_profile.specs.declared.Pipe.TheVariants.{Command as CommandPipe, Status as StatusPipe, DataIn, DataOut}
 use Rattle.stream_array.specs.Contexts.{has_stream}
@@ -179,7 +179,7 @@ abbrev pub lines_after : LinesState → Direction → ℕ → ℕ → LinesState
 lines_after lines way tag bytes = put_on (put_on (with_data_td lines way tag bytes) StatusPipe tag (status_td tag)) CommandPipe 0 (command_td tag)
 
 pub lines-command : (lines : LinesState) (way : Direction) (tag bytes : ℕ)
-    → (lines_after lines way tag bytes).command ≡ record lines.command { put = lines.command.put ++ command_td tag }
+    → (lines_after lines way tag bytes).command ≡ record lines.command { put = lines.command.put ++ map known (command_td tag) }
 lines-command lines Nothing tag bytes = refl
 lines-command lines ToHost tag bytes = refl
 lines-command lines ToDevice tag bytes = refl
@@ -194,8 +194,8 @@ lines-events lines Nothing tag bytes = refl
 lines-events lines ToHost tag bytes = refl
 lines-events lines ToDevice tag bytes = refl
 
-abbrev pub ring_put : List Ring → ℕ → List Trb → Ring
-ring_put rings tag trbs = record (stream_ring rings tag) { put = (stream_ring rings tag).put ++ trbs }
+abbrev pub ring_put : List ItemRing → ℕ → List Trb → ItemRing
+ring_put rings tag trbs = record (stream_ring rings tag) { put = (stream_ring rings tag).put ++ map known trbs }
 
 pub lines-status : (lines : LinesState) (way : Direction) (tag bytes : ℕ)
     → (lines_after lines way tag bytes).status ≡ slice_set lines.status (tag - 1) (ring_put lines.status tag (status_td tag))
@@ -218,20 +218,20 @@ data_out-other lines ToDevice tag bytes other some there apart = stream_ring-oth
     (ring_put lines.data_out tag (data_td tag bytes)) some there apart
 
 -- a ring with a data TD, if any, that was just put on it
-pub holds_pushed : (ring : Ring) (tag bytes : ℕ) → HoldsTrbs ring (data_td tag bytes) 0 → HoldsData ring (data_td tag bytes) (data_td_for bytes)
+pub holds_pushed : (ring : ItemRing) (tag bytes : ℕ) → HoldsTrbs ring (data_td tag bytes) 0 → HoldsData ring (data_td tag bytes) (data_td_for bytes)
 holds_pushed ring tag bytes holds =
     elim (bytes == 0) as (λ b. (bytes == 0) ≡ b → HoldsData ring (data_td tag bytes) (cond b None (Some pushed_td))) [
       | true ↦ λ is. let none : bytes ≡ 0 = eqb-true bytes 0 is in
           let no_trb : (bytes + (CHUNK_BYTES - 1)) / CHUNK_BYTES ≡ 0 = omega arith in
-          (holds.0 ∙ ap (λ n. trbs_from n (WINDOWS + WINDOW_SPAN * tag) bytes) no_trb, holds.1)
+          (holds.0 ∙ ap (λ n. map known (trbs_from n (WINDOWS + WINDOW_SPAN * tag) bytes)) no_trb, holds.1)
       | false ↦ λ is. holds
     ] refl
 
-pub put_empty : (rings : List Ring) (tag : ℕ) (trbs : List Trb) → 0 < tag → tag ≤ length rings → HoldsTrbs (stream_ring rings tag) [] 0
+pub put_empty : (rings : List ItemRing) (tag : ℕ) (trbs : List Trb) → 0 < tag → tag ≤ length rings → HoldsTrbs (stream_ring rings tag) [] 0
     → HoldsTrbs (stream_ring (slice_set rings (tag - 1) (ring_put rings tag trbs)) tag) trbs 0
 put_empty rings tag trbs some within holds =
     let is = stream_ring-same rings tag (ring_put rings tag trbs) some within in
-    (ap (λ (r : Ring). r.put) is ∙ ap (λ ts. ts ++ trbs) holds.0, ap (λ (r : Ring). r.got) is ∙ holds.1)
+    (ap (λ (r : ItemRing). r.put) is ∙ ap (λ (ts : List Item). ts ++ map known trbs) holds.0, ap (λ (r : ItemRing). r.got) is ∙ holds.1)
 
 pub data_in-holds : (lines : LinesState) (way : Direction) (tag bytes : ℕ) → 0 < tag → tag ≤ length lines.data_in → HoldsTrbs (stream_ring lines.data_in tag) [] 0
     → HoldsData (stream_ring (lines_after lines way tag bytes).data_in tag) (data_td tag bytes) (data_in_td way (data_td_for bytes))
@@ -260,5 +260,5 @@ command_trb-command client slot below =
 pub data_room : (lines : LinesState) (way : Direction) (tag bytes : ℕ) → (bytes + (CHUNK_BYTES - 1)) / CHUNK_BYTES ≤ MOST_DATA_TRBS → HoldsTrbs (stream_ring lines.data_in tag) [] 0
     → HoldsTrbs (stream_ring lines.data_out tag) [] 0 → HasDataRoom lines way tag bytes
 data_room lines Nothing tag bytes few one two = tt
-data_room lines ToHost tag bytes few one two = omega (arith, ap (λ (ts : List Trb). length ts) one.0)
-data_room lines ToDevice tag bytes few one two = omega (arith, ap (λ (ts : List Trb). length ts) two.0)
+data_room lines ToHost tag bytes few one two = omega (arith, ap (λ (ts : List Item). length ts) one.0)
+data_room lines ToDevice tag bytes few one two = omega (arith, ap (λ (ts : List Item). length ts) two.0)

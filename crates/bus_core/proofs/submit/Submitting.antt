@@ -5,8 +5,7 @@ use Rattle.std.specs.Prelude.{slice_get, slice_set, ◌==◌}
 use Rattle.std.specs.Option.{option_map_or}
 use Rattle.std.proofs.lemmas.Bool.{lt-ltb, le-leb, false≢true}
 use Rattle.std.proofs.lemmas.List.{length-map, map-append, append_assoc}
-use Rattle.xhci_trb.specs.declared.Trb.{Trb}
-use Rattle.cycle_ring.specs.Ring.{Ring}
+use Rattle.cycle_ring.specs.Items.{Item, known, ItemRing}
 use Rattle.event_ring.specs.Events.{Events}
 use Rattle.uas_profile.specs.declared.Pipe.TheVariants.{Status as StatusPipe}
 use Rattle.stream_array.specs.Contexts.{has_stream}
@@ -37,7 +36,7 @@ use Rattle.shared_machine.specs.Shared.{Shared, is_held, accepted, with_streams_
 use Rattle.machine_invariant.specs.Matched.{held_in, carried_places, IsMatchedAt, IsMatched, pipe_places}
 use Rattle.bus_core.specs.World.{World, cell_at}
 use Rattle.bus_core.specs.Cells.{state_of, host_side, FitsHeld, FitsCell, IsEmptyCell}
-use Rattle.bus_core.specs.Fits.{Fits, FitsQueues, IsSoundWorld, command_trb, event_texts, place_in}
+use Rattle.bus_core.specs.Fits.{command_item, event_texts, Fits, FitsQueues, IsSoundWorld, place_in}
 use Rattle.bus_core.specs.WorldSteps.{SubmissionsFit, SubmitFits, submit_world, rung_all}
 use Rattle.bus_core.proofs.common.CellWrites.{stream_ring-other, held_for-same, held_for-other, client_of-found, entry_at-same}
 use Rattle.bus_core.proofs.common.CellWrites.{entry_at-other}
@@ -163,7 +162,7 @@ submit-cell state world client slot ticket command part free fits =
           (Some (host_entry ticket command.op)) there slots (submitted-entries state world client slot ticket command free.within)
           ∙ ap Some (host_entry-side ticket command);
       task = free.empty.task;
-      status = (ap (λ (r : Ring). r.put) status_is ∙ status_holds.0, ap (λ (r : Ring). r.got) status_is ∙ status_holds.1);
+      status = (ap (λ (r : ItemRing). r.put) status_is ∙ status_holds.0, ap (λ (r : ItemRing). r.got) status_is ∙ status_holds.1);
       data_in = data_in-holds world.lines (direction_of command.op) tag (moved_bytes command.op) some
           (omega (arith, most, fits.sound.lines.data_in)) free.empty.data_in;
       data_out = data_out-holds world.lines (direction_of command.op) tag (moved_bytes command.op) some
@@ -185,15 +184,15 @@ submit-queues state world client slot ticket command part free fits =
     ap (λ (s : Shared). s.events) (with_streams_rung-is state (direction_of command.op) tag) in
     let lines_is = lines-command world.lines (direction_of command.op) tag (moved_bytes command.op) in
     record {
-      put = ap (λ (r : Ring). r.put) lines_is ∙ ap (λ ts. ts ++ command_td tag) fits.queues.put
-          ∙ ap (λ ts. map command_trb (carried_places state.events ++ state.messages) ++ ts) (sym (command_trb-command client slot free.below))
-          ∙ sym (map-append command_trb (carried_places state.events ++ state.messages) (place ∷ []))
-          ∙ ap (map command_trb) (append_assoc (carried_places state.events) state.messages (place ∷ []))
-          ∙ ap (λ es. map command_trb (carried_places es ++ (state.messages ++ place ∷ []))) (sym events_is);
-      got = ap (λ (r : Ring). r.got) lines_is ∙ fits.queues.got ∙ ap (λ es. length (carried_places es)) (sym events_is);
+      put = ap (λ (r : ItemRing). r.put) lines_is ∙ ap (λ (ts : List Item). ts ++ map known (command_td tag)) fits.queues.put
+          ∙ ap (λ ts. map command_item (carried_places state.events ++ state.messages) ++ ts) (ap (map known) (sym (command_trb-command client slot free.below)))
+          ∙ sym (map-append command_item (carried_places state.events ++ state.messages) (place ∷ []))
+          ∙ ap (map command_item) (append_assoc (carried_places state.events) state.messages (place ∷ []))
+          ∙ ap (λ es. map command_item (carried_places es ++ (state.messages ++ place ∷ []))) (sym events_is);
+      got = ap (λ (r : ItemRing). r.got) lines_is ∙ fits.queues.got ∙ ap (λ es. length (carried_places es)) (sym events_is);
       texts = ap (λ (e : Events). e.pending) (lines-events world.lines (direction_of command.op) tag (moved_bytes command.op)) ∙ fits.queues.texts
           ∙ sym (event_texts-one state world (after_at world client slot ticket command) place 0 fits.matched free.within
-          (ap (λ (r : Ring). r.base) lines_is, ap (λ (r : Ring). r.at) lines_is)
+          (ap (λ (r : ItemRing). r.base) lines_is, ap (λ (r : ItemRing). r.at) lines_is)
           (lines-engine world.lines (direction_of command.op) tag (moved_bytes command.op)) (submit-others state world client slot ticket command part free)
           (λ some. absurd (omega (arith, some, free.matched.moved))) (λ some. absurd (omega (arith, some, free.matched.sent))))
           ∙ ap (event_texts (after_at world client slot ticket command) 0) (sym events_is);
@@ -266,8 +265,8 @@ submit-room state world client slot ticket command part free fits =
       tds = record {
         on_data = data_room world.lines (direction_of command.op) (tag_at client slot)
             (moved_bytes command.op) free.short free.empty.data_in free.empty.data_out;
-        on_status = omega (arith, ap (λ (ts : List Trb). length ts) free.empty.status.0);
-        on_command = omega (arith, ap (λ (ts : List Trb). length ts) fits.queues.put, length-map (pipe_places state) command_trb, room.pipe, fits.most_clients);
+        on_status = omega (arith, ap (λ (ts : List Item). length ts) free.empty.status.0);
+        on_command = omega (arith, ap (λ (ts : List Item). length ts) fits.queues.put, length-map (pipe_places state) command_item, room.pipe, fits.most_clients);
       };
       window = free.empty.lent;
     }

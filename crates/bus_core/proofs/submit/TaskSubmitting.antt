@@ -8,7 +8,7 @@ use Rattle.std.proofs.lemmas.Bool.{le-leb, le-ltb, lt-ltb, false≢true}
 use Rattle.std.proofs.lemmas.List.{append_assoc, length-map, map-append, take_at}
 use Rattle.std.proofs.lemmas.Option.{none-some}
 use Rattle.xhci_trb.specs.declared.Trb.{Trb}
-use Rattle.cycle_ring.specs.Ring.{Ring}
+use Rattle.cycle_ring.specs.Items.{Item, known, ItemRing}
 use Rattle.uas_profile.specs.declared.Pipe.TheVariants.{Status as StatusPipe}
 use Rattle.stream_array.specs.Contexts.{has_stream}
 use Rattle.stream_array.specs.Rings.{stream_ring}
@@ -38,7 +38,7 @@ use Rattle.shared_machine.specs.Shared.{Shared, is_held, managed, managed_or, ma
 use Rattle.machine_invariant.specs.Matched.{held_in, carried_places, IsMatchedAt, IsMatched, pipe_places}
 use Rattle.bus_core.specs.World.{World, cell_at}
 use Rattle.bus_core.specs.Cells.{FitsHeld, FitsCell, IsEmptyCell}
-use Rattle.bus_core.specs.Fits.{Fits, FitsQueues, IsSoundWorld, command_trb, place_in}
+use Rattle.bus_core.specs.Fits.{command_item, Fits, FitsQueues, IsSoundWorld, place_in}
 use Rattle.bus_core.specs.WorldSteps.{TasksFit, TaskFits, rung_all, task_world}
 use Rattle.bus_core.proofs.common.CellWrites.{clients-length, client_of-found, entry_at-other, entry_at-same, held_for-other, held_for-same, stream_ring-other}
 use Rattle.bus_core.proofs.common.EventTexts.{AreWithin, KeepsOthers, event_texts-kept, events-within, one-reads}
@@ -110,8 +110,8 @@ text-fits client task few short =
 
 -- RINGS
 
-abbrev ring_put : List Ring → ℕ → List Trb → Ring
-ring_put rings tag trbs = record (stream_ring rings tag) { put = (stream_ring rings tag).put ++ trbs }
+abbrev ring_put : List ItemRing → ℕ → List Trb → ItemRing
+ring_put rings tag trbs = record (stream_ring rings tag) { put = (stream_ring rings tag).put ++ map known trbs }
 
 -- THE CELL
 
@@ -203,9 +203,9 @@ task-queues state world client ticket task part free fits within =
     let place : Place = place_in client TASK_SLOT in
     let there = get-within world.host.clients client free.it.held free.it.held_is in
     record {
-      put = ap (λ ts. ts ++ task_td (task_tag client)) fits.queues.put
-          ∙ sym (map-append command_trb (carried_places state.events ++ state.messages) (place_in client TASK_SLOT ∷ []))
-          ∙ ap (map command_trb) (append_assoc (carried_places state.events) state.messages (place_in client TASK_SLOT ∷ []));
+      put = ap (λ (ts : List Item). ts ++ map known (task_td (task_tag client))) fits.queues.put
+          ∙ sym (map-append command_item (carried_places state.events ++ state.messages) (place_in client TASK_SLOT ∷ []))
+          ∙ ap (map command_item) (append_assoc (carried_places state.events) state.messages (place_in client TASK_SLOT ∷ []));
       got = fits.queues.got;
       texts = fits.queues.texts
           ∙ sym (event_texts-kept world (task_world world client ticket task) 0 state.events (refl, refl)
@@ -273,8 +273,8 @@ task-fits state world client ticket task part free fits within matched sound =
 task-room : (state : Shared) (world : World) (client : ℕ) (task : Task) (part : Part) → IsTaskFree state world client task part → Fits state world
     → length (pipe_places state) ≤ MOST_MESSAGES → HasTaskRoom world.lines (task_tag client)
 task-room state world client task part free fits room = record {
-  on_status = omega (arith, ap (λ (ts : List Trb). length ts) free.empty.status.0);
-  on_command = omega (arith, ap (λ (ts : List Trb). length ts) fits.queues.put, length-map (pipe_places state) command_trb, room);
+  on_status = omega (arith, ap (λ (ts : List Item). length ts) free.empty.status.0);
+  on_command = omega (arith, ap (λ (ts : List Item). length ts) fits.queues.put, length-map (pipe_places state) command_item, room);
 }
 
 -- what waits is of slots that are there and has room, and the state after the step is matched

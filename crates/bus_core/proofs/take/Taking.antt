@@ -7,7 +7,7 @@ use Rattle.std.specs.Option.{option_map_or}
 use Rattle.std.proofs.lemmas.Bool.{false≢true, and_parts}
 use Rattle.std.proofs.lemmas.List.{append-nil}
 use Rattle.xhci_trb.specs.declared.Trb.{Trb}
-use Rattle.cycle_ring.specs.Ring.{Ring}
+use Rattle.cycle_ring.specs.Items.{ItemRing}
 use Rattle.frame_store.specs.declared.TagBuffers.{TagBuffers}
 use Rattle.frame_store.specs.Buffers.{held_for, with_lent}
 use Rattle.uas_profile.specs.declared.Direction.{Direction}
@@ -51,7 +51,7 @@ use Rattle.machine_invariant.specs.Matched.{IsAwaitedOrSeen, IsGivenUp, IsMatche
 use Rattle.bus_core.specs.Hosts.{phase_task}
 use Rattle.bus_core.specs.World.{World, cell_at}
 use Rattle.bus_core.specs.Cells.{HoldsIn, HoldsTrbs, HoldsData, FitsCell, FitsHeld, IsEmptyCell, data_in_td, data_out_td, host_side, lent_for, told_by}
-use Rattle.bus_core.specs.Fits.{AreUnused, Fits, FitsEngine, FitsQueues, IsSoundWorld, command_trb, event_texts, place_in}
+use Rattle.bus_core.specs.Fits.{AreUnused, command_item, event_texts, Fits, FitsEngine, FitsQueues, IsSoundWorld, place_in}
 use Rattle.bus_core.specs.WorldSteps.{TakeFits, TakesFit, TakeIsIdle, take_world}
 use Rattle.bus_core.proofs.common.CellWrites.{client_of-found, entry_at-same, entry_at-other, clients-length, held_for-same, held_for-other, index-past}
 use Rattle.bus_core.proofs.common.EventTexts.{KeepsOthers, event_texts-one}
@@ -264,13 +264,13 @@ taken-state state world client slot rest part at it =
 
 -- THE CELL IS EMPTY
 
-holds-over : (ring : Ring) (trbs : List Trb) (consumed : ℕ) (state : TdState) → is_over state ≡ true → HoldsIn ring trbs consumed state → HoldsTrbs ring [] 0
+holds-over : (ring : ItemRing) (trbs : List Trb) (consumed : ℕ) (state : TdState) → is_over state ≡ true → HoldsIn ring trbs consumed state → HoldsTrbs ring [] 0
 holds-over ring trbs consumed Pending over holds = absurd (false≢true over)
 holds-over ring trbs consumed Seen over holds = holds.0
 holds-over ring trbs consumed LeftOver over holds = absurd (false≢true over)
 holds-over ring trbs consumed Retired over holds = holds.0
 
-data-over : (ring : Ring) (trbs : List Trb) (td : Option Td) → is_data_over td ≡ true → HoldsData ring trbs td → HoldsTrbs ring [] 0
+data-over : (ring : ItemRing) (trbs : List Trb) (td : Option Td) → is_data_over td ≡ true → HoldsData ring trbs td → HoldsTrbs ring [] 0
 data-over ring trbs None over holds = holds
 data-over ring trbs (Some td) over holds = holds-over ring trbs td.consumed td.state over holds
 
@@ -343,7 +343,7 @@ take-queues state world client slot rest part at fits few =
     let same : state.events ≡ state.events ++ [] = sym (append-nil state.events) in
     let status_is = given-status at.entry.task.request world.frames tag (omega arith) (omega (arith, few, at.within, fits.sound.frames.tags)) in
     record {
-      put = fits.queues.put ∙ ap (λ es. map command_trb (carried_places es ++ state.messages)) same;
+      put = fits.queues.put ∙ ap (λ es. map command_item (carried_places es ++ state.messages)) same;
       got = fits.queues.got ∙ ap (λ es. length (carried_places es)) same;
       texts = fits.queues.texts
           ∙ sym (event_texts-one state world after (place_in client slot) 0 fits.matched at.within (refl, refl) refl

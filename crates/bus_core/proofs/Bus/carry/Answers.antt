@@ -8,10 +8,6 @@ use Rattle.bus_core.proofs.common.Taken.{IsTaken, command-taken}
 use Rattle.bus_core.proofs.Bus.carry.Goals as goal
 use Rattle.bus_core.proofs.Bus.carry.Goals.{After-stand}
 
-pub command_step-acted-requires : goal.command_step-acted-requires
-command_step-acted-requires c =
-    (commands_due c.args.self.now (world_in c.self.inside) (fits-in c.self.inside c.self.view_is c.self.invariant)).own
-
 -- what the device receives is the shared machine's step
 carried : (c : After-stand) → IsTaken c.args.self.now CommandPipe
     (world_of c.self.inside.host c.self.inside.controller c.command_step-acted.new.target c.command_step-acted.new.lines c.self.inside.frames)
@@ -19,7 +15,8 @@ carried : (c : After-stand) → IsTaken c.args.self.now CommandPipe
 carried c =
     command-taken c.args.self.now (world_in c.self.inside)
     c.command_step-acted.new.lines c.command_step-acted.new.target c.command_step-acted.result
-    (fits-in c.self.inside c.self.view_is c.self.invariant) c.command_step-acted.ensures c.stand.ensures.lines c.stand.ensures.frames
+    (fits-in c.self.inside c.self.view_is c.self.invariant) (c.command_step-acted.ensures.own (commands_due c.args.self.now (world_in c.self.inside)
+    (fits-in c.self.inside c.self.view_is c.self.invariant)).own) c.stand.ensures.lines c.stand.ensures.frames
 
 pub invariant_of-self : goal.invariant_of-self
 invariant_of-self c = (carried (goal.at.invariant_of-self c).After-stand).fits

@@ -3,18 +3,16 @@ use Rattle.bus_core.proofs.chunks.DataDue.{data_due}
 use Rattle.bus_core.proofs.common.Taken.{data-taken}
 use Rattle.bus_core.proofs.Bus.move_chunk.Goals as goal
 
-pub data_step-acted-requires : goal.data_step-acted-requires
-data_step-acted-requires c =
-    (data_due c.args.self.now (world_in c.self.inside) c.args.tag (fits-in c.self.inside c.self.view_is c.self.invariant)).own
-
 pub invariant_of-self : goal.invariant_of-self
 invariant_of-self c =
     (data-taken c.args.self.now (world_in c.self.inside) c.args.tag
     c.data_step-acted.new.lines c.data_step-acted.new.frames c.data_step-acted.new.target c.data_step-acted.result
-    (fits-in c.self.inside c.self.view_is c.self.invariant) c.data_step-acted.ensures c.stand.ensures.lines c.stand.ensures.frames).fits
+    (fits-in c.self.inside c.self.view_is c.self.invariant) (c.data_step-acted.ensures.own (data_due c.args.self.now (world_in c.self.inside) c.args.tag
+    (fits-in c.self.inside c.self.view_is c.self.invariant)).own) c.stand.ensures.lines c.stand.ensures.frames).fits
 
 pub returns : goal.returns
 returns c =
     (data-taken c.args.self.now (world_in c.self.inside) c.args.tag
     c.data_step-acted.new.lines c.data_step-acted.new.frames c.data_step-acted.new.target c.data_step-acted.result
-    (fits-in c.self.inside c.self.view_is c.self.invariant) c.data_step-acted.ensures c.stand.ensures.lines c.stand.ensures.frames).shared
+    (fits-in c.self.inside c.self.view_is c.self.invariant) (c.data_step-acted.ensures.own (data_due c.args.self.now (world_in c.self.inside) c.args.tag
+    (fits-in c.self.inside c.self.view_is c.self.invariant)).own) c.stand.ensures.lines c.stand.ensures.frames).shared

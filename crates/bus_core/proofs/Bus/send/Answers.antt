@@ -3,18 +3,16 @@ use Rattle.bus_core.proofs.status.StatusFits.{statuses_due}
 use Rattle.bus_core.proofs.common.Taken.{status-taken}
 use Rattle.bus_core.proofs.Bus.send.Goals as goal
 
-pub status_step-acted-requires : goal.status_step-acted-requires
-status_step-acted-requires c =
-    (statuses_due c.args.self.now (world_in c.self.inside) c.args.tag (fits-in c.self.inside c.self.view_is c.self.invariant)).own
-
 pub invariant_of-self : goal.invariant_of-self
 invariant_of-self c =
     (status-taken c.args.self.now (world_in c.self.inside)
     c.args.tag c.status_step-acted.new.lines c.status_step-acted.new.frames c.status_step-acted.new.target c.status_step-acted.result
-    (fits-in c.self.inside c.self.view_is c.self.invariant) c.status_step-acted.ensures c.stand.ensures.lines c.stand.ensures.frames).fits
+    (fits-in c.self.inside c.self.view_is c.self.invariant) (c.status_step-acted.ensures.own (statuses_due c.args.self.now (world_in c.self.inside) c.args.tag
+    (fits-in c.self.inside c.self.view_is c.self.invariant)).own) c.stand.ensures.lines c.stand.ensures.frames).fits
 
 pub returns : goal.returns
 returns c =
     (status-taken c.args.self.now (world_in c.self.inside)
     c.args.tag c.status_step-acted.new.lines c.status_step-acted.new.frames c.status_step-acted.new.target c.status_step-acted.result
-    (fits-in c.self.inside c.self.view_is c.self.invariant) c.status_step-acted.ensures c.stand.ensures.lines c.stand.ensures.frames).shared
+    (fits-in c.self.inside c.self.view_is c.self.invariant) (c.status_step-acted.ensures.own (statuses_due c.args.self.now (world_in c.self.inside) c.args.tag
+    (fits-in c.self.inside c.self.view_is c.self.invariant)).own) c.stand.ensures.lines c.stand.ensures.frames).shared

@@ -1,4 +1,4 @@
-use Rattle.std.proofs.Common.{rules, ◌≡◌, ◌-◌, ◌∙◌, false, length, take, drop, ap, refl}
+use Rattle.std.proofs.Common.{rules, ◌≡◌, ◌-◌, ◌∙◌, false, take, drop, ap, refl}
 use borrow.Author.Tests.{tests}
 use Rattle.image_file.proofs.Parts.{front_after, back_after, front_written, back_written}
 use Rattle.disk_server.proofs.flush.write_part.Goals as goal

@@ -1,4 +1,4 @@
-use Rattle.std.proofs.Common.{◌≡◌, ◌*◌, ◌∙◌, length, take, min, ap, arith}
+use Rattle.std.proofs.Common.{◌≡◌, ◌∙◌, length, take, min, ap, arith}
 use Rattle.std.proofs.lemmas.List.{take_min}
 use Rattle.disk_server.proofs.write.batch_bytes.Goals as goal
 

@@ -8,13 +8,13 @@ use Rattle.xhci_ctl.proofs.engine.move_dequeue.Goals as goal
 pub returns-clause-moved : goal.returns-clause-moved
 returns-clause-moved c =
     let told = c.move_dequeue.ensures in
-    c.is_ok.ensures.value ∙ (moved-dequeued c.addresses_name_items.ensures.named c.addresses_name_items.ensures.only (places_of c.args.pipe) c.args.pointer
+    c.is_ok.ensures.value ∙ (moved-dequeued c.addresses_name_items.ensures.items_named c.addresses_name_items.ensures.items_only (places_of c.args.pipe) c.args.pointer
     (ring_of c.args.lines.now c.args.pipe c.args.stream) c.args.cycle c.args.lines.now _ (with_ring c.args.lines.now c.args.pipe c.args.stream)
     c.move_dequeue.result c.room.ensures.standing told.accepted (λ place. (told.enqueue place).1) told.set told.refused).0
 
 pub returns-clause-lines : goal.returns-clause-lines
 returns-clause-lines c =
     let told = c.move_dequeue.ensures in
-    (moved-dequeued c.addresses_name_items.ensures.named c.addresses_name_items.ensures.only (places_of c.args.pipe) c.args.pointer
+    (moved-dequeued c.addresses_name_items.ensures.items_named c.addresses_name_items.ensures.items_only (places_of c.args.pipe) c.args.pointer
     (ring_of c.args.lines.now c.args.pipe c.args.stream) c.args.cycle c.args.lines.now _ (with_ring c.args.lines.now c.args.pipe c.args.stream)
     c.move_dequeue.result c.room.ensures.standing told.accepted (λ place. (told.enqueue place).1) told.set told.refused).1

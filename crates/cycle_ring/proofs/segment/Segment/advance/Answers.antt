@@ -1,6 +1,6 @@
 -- The consumer's end goes one place on, or over the Link.
 use Rattle.std.proofs.Common.{ap, arith}
-use Rattle.cycle_ring.specs.Ring.{Ring}
+use Rattle.cycle_ring.specs.Items.{ItemRing}
 use Rattle.cycle_ring.proofs.Consumers.{AtItem-next, AtItem-behind_link, text-link, within-consumer}
 use Rattle.cycle_ring.proofs.segment.Segment.advance.Goals as goal
 
@@ -18,7 +18,7 @@ returns-then-next-turn g c =
 pub returns : goal.returns
 returns g c =
     let segment = rw c.self.view_is at c.self.invariant in
-    let base = ap (λ (q : Ring). q.base) c.self.view_is in
+    let base = ap (λ (q : ItemRing). q.base) c.self.view_is in
     let link = text-link g.row.N _ _ _ _ c.args.end c.args.self.now c.index.result.now base segment c.requires.consumer c.requires.pending
     c.if-next-turn.false c.index.ensures in
     let next = AtItem-behind_link g.row.N c.args.self.now c.args.end c.requires.consumer c.requires.pending c.if-next-turn.false in

@@ -1,28 +1,36 @@
--- The bytes at the place of a consumed item decode to it.
+-- The bytes at the place of a consumed item decode to it, where it is a TRB.
 use Rattle.std.proofs.Common.{Some, sym, ap, ◌∙◌}
-use Rattle.ring_ends.specs.HeldLaws.{same_trb}
-use Rattle.cycle_ring.proofs.Names.{item_at-only}
+use Rattle.std.specs.Prelude.{option_and_then}
+use Rattle.cycle_ring.specs.Items.{known_of}
 use Rattle.cycle_ring.specs.Segment.{with_consumer}
-use Rattle.cycle_ring.proofs.Consumers.{consumed_at-item, consumed-text}
+use Rattle.cycle_ring.proofs.Names.{item_at-only}
+use Rattle.cycle_ring.proofs.Consumers.{consumed_at-item, consumed-item}
+use Rattle.cycle_ring.proofs.Read.{item-decoded, item-undecoded}
 use Rattle.cycle_ring.proofs.segment.Segment.consumed.Goals as goal
 
 pub returns-in-Ok-clause-consumed : goal.returns-in-Ok-clause-consumed
 returns-in-Ok-clause-consumed g c =
     let at = c.in_ok-place.ensures.found in
-    let item = consumed-text g.row.N _ _ _ c.args.end c.args.self.now c.args.pointer at.0 _ _ (rw c.self.view_is at c.self.invariant) c.requires at.1 at.2 at.3
+    let item = consumed-item g.row.N _ _ _ c.args.end c.args.self.now c.args.pointer at.0 _ _ (rw c.self.view_is at c.self.invariant) c.requires at.1 at.2 at.3
     c.in_ok-place.ensures.within c.index.ensures in
-    ap Some (same_trb c.decode.result _ _ _ _ c.in-Ok.is (c.decode.ensures.every_text item.0 _ item.3 item.2)) ∙ sym item.1
+    let known = item-decoded c.index.result.now item.0 c.in-Ok.trb _ item.2.reads c.in-Ok.ensures.no_fault c.in-Ok.ensures.reader in
+    sym (ap (option_and_then known_of) item.1 ∙ ap known_of known)
 
 pub returns-in-Ok-clause-known : goal.returns-in-Ok-clause-known
 returns-in-Ok-clause-known g c =
     let at = c.in_ok-place.ensures.found in
-    let stands = item_at-only g.row.N at.0 c.args.pointer c.args.self.now (rw c.self.view_is at c.self.invariant).ring.least_places at.2 in
-    let same = returns-in-Ok-clause-consumed g c in
-    (at.0, (at.1, stands.1), sym (same ∙ consumed_at-item g.row.N at.0 c.args.pointer (with_consumer g.row.N c.args.self.now c.args.end) at.2 at.1))
+    let segment = rw c.self.view_is at c.self.invariant in
+    let stands = item_at-only g.row.N at.0 c.args.pointer c.args.self.now segment.ring.least_places at.2 in
+    let item = consumed-item g.row.N _ _ _ c.args.end c.args.self.now c.args.pointer at.0 _ _ segment c.requires at.1 at.2 at.3
+    c.in_ok-place.ensures.within c.index.ensures in
+    let known = item-decoded c.index.result.now item.0 c.in-Ok.trb _ item.2.reads c.in-Ok.ensures.no_fault c.in-Ok.ensures.reader in
+    let put = consumed_at-item g.row.N at.0 c.args.pointer (with_consumer g.row.N c.args.self.now c.args.end) at.2 at.1 in
+    (at.0, (at.1, stands.1), sym put ∙ item.1 ∙ ap Some known)
 
 pub returns-in-Err-clause-consumed : goal.returns-in-Err-clause-consumed
 returns-in-Err-clause-consumed g c =
     let at = c.in_ok-place.ensures.found in
-    let item = consumed-text g.row.N _ _ _ c.args.end c.args.self.now c.args.pointer at.0 _ _ (rw c.self.view_is at c.self.invariant) c.requires at.1 at.2 at.3
+    let item = consumed-item g.row.N _ _ _ c.args.end c.args.self.now c.args.pointer at.0 _ _ (rw c.self.view_is at c.self.invariant) c.requires at.1 at.2 at.3
     c.in_ok-place.ensures.within c.index.ensures in
-    absurd (cc (c.decode.ensures.every_text item.0 _ item.3 item.2, c.in-Err.is))
+    let foreign = item-undecoded c.index.result.now item.0 c.in-Err.field-0 item.2.reads c.in-Err.ensures.first_fault in
+    sym (ap (option_and_then known_of) item.1 ∙ ap known_of foreign)

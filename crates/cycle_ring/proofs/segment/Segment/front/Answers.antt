@@ -1,8 +1,10 @@
 -- The consumer's end is at the first pending item, if there is one.
-use Rattle.std.proofs.Common.{ℕ, ◌+◌, ◌-◌, ◌*◌, ◌<◌, refl, sym, ap, ◌∙◌, arith}
+use Rattle.std.proofs.Common.{◌≡◌, ℕ, ◌+◌, ◌-◌, ◌*◌, ◌<◌, List, length, Some, slice_get, refl, sym, ap, ◌∙◌, arith}
+use Rattle.std.specs.Prelude.{option_and_then}
+use Rattle.xhci_trb.specs.declared.Trb.{Trb}
 use Rattle.std.proofs.lemmas.Bool.{false≢true}
-use Rattle.std.proofs.lemmas.Option.{none-some, slice_get_within}
-use Rattle.ring_ends.specs.HeldLaws.{item_of}
+use Rattle.std.proofs.lemmas.Option.{option_and_then_some, slice_get_within}
+use Rattle.cycle_ring.specs.Items.{Item, known_of}
 use Rattle.cycle_ring.specs.Segment.{items_before}
 use Rattle.cycle_ring.proofs.Consumers.{within-consumer}
 use Rattle.cycle_ring.proofs.segment.Segment.front.Goals as goal
@@ -21,10 +23,7 @@ returns-in_err-trb g c =
     let none = sym c.in_err-trb.was ∙ c.trb_at.ensures k within c.requires.stands in
     rw (c.from_residual.ensures) (record {
       front = rw (← none) refl;
-      pending = (
-        λ some. absurd (false≢true some),
-        λ less. let item = item_of r.put k less in absurd (none-some item.0 (none ∙ item.1)),
-      );
+      pending = λ some. absurd (false≢true some);
     })
 
 pub returns : goal.returns
@@ -36,5 +35,8 @@ returns g c =
     let pointer = c.pointer.ensures ∙ ap (λ (place : ℕ). r.base + 16 * place) c.requires.stands.place in
     record {
       front = rw (← some, pointer) refl;
-      pending = (λ _. slice_get_within r.put k c.in_ok-trb.trb (sym some), λ _. refl);
+      pending = λ _. known_within r.put k c.in_ok-trb.trb (sym some);
     }
+  where
+    known_within : (put : List Item) (k : ℕ) (trb : Trb) → option_and_then known_of (slice_get put k) ≡ Some trb → k < length put
+    known_within put k trb is = option_and_then_some known_of (slice_get put k) trb is (λ item there known. slice_get_within put k item there)

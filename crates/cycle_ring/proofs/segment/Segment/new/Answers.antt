@@ -1,6 +1,6 @@
--- A segment of zeros shows a ring without TRBs.
+-- A segment of zeros shows a ring without items.
 use Rattle.std.proofs.Common.{true, refl, subst, sym}
-use Rattle.cycle_ring.specs.Ring.{Ring}
+use Rattle.cycle_ring.specs.Items.{ItemRing}
 use Rattle.cycle_ring.specs.Segment.{IsConsumer}
 use Rattle.cycle_ring.proofs.Held.{IsSegment-opening, shown-segment, shows-segment}
 use Rattle.cycle_ring.proofs.Consumers.{AtItem-opening}
@@ -24,5 +24,5 @@ pub returns-clause-consumer : goal.returns-clause-consumer
 returns-clause-consumer g c =
     let zeros = IsSegment-opening g.row.N c.args.base c.first.result c.requires.least_places c.requires.most_places
     c.requires.aligned c.requires.below c.first.ensures in
-    let Kept : Ring → Type 0 = λ r. IsConsumer g.row.N r (record { place = 0; cycle = true }) in
+    let Kept : ItemRing → Type 0 = λ r. IsConsumer g.row.N r (record { place = 0; cycle = true }) in
     subst Kept (sym (returns-clause-opening g c)) (AtItem-opening g.row.N c.args.base _ zeros.ring refl).consumer

@@ -1,8 +1,9 @@
--- The TRBs that were put have texts, and end their TD.
-use Rattle.std.proofs.Common.{◌≡◌, ◌+◌, ◌-◌, ◌*◌, ◌%◌, ℕ, length, refl, subst, sym, ap, ◌∙◌, arith}
+-- The TRBs that were put are items with bytes.
+use Rattle.std.proofs.Common.{◌≡◌, ◌+◌, ◌-◌, ◌*◌, ◌≤◌, ◌%◌, ℕ, length, map, refl, subst, sym, ap, ◌∙◌, arith}
 use Rattle.std.proofs.Math.Nat.{mod-add-mod}
-use Rattle.cycle_ring.proofs.Chains.{IsTd-some}
-use Rattle.cycle_ring.specs.Ring.{Ring}
+use Rattle.std.proofs.lemmas.List.{length-map}
+use Rattle.cycle_ring.proofs.Chains.{All-known, IsTd-some}
+use Rattle.cycle_ring.specs.Items.{ItemRing, known}
 use Rattle.cycle_ring.specs.Segment.{IsConsumer}
 use Rattle.cycle_ring.proofs.Consumers.{IsConsumer-put}
 use Rattle.cycle_ring.proofs.Held.{put-shown}
@@ -10,19 +11,25 @@ use Rattle.cycle_ring.proofs.segment.Segment.push_td.Goals as goal
 
 pub invariant_of-self : goal.invariant_of-self
 invariant_of-self g c =
-    (put-shown g.row.N _ _ _ _ _ _ _ c.args.trbs.now _ c.self.view_is c.self.invariant c.requires.td c.requires.texts c.room.ensures.room
-    c.if-room-trbs.false c.put_back-self-inside.ensures.holds c.put_back-self-inside.ensures.end).1
+    let trbs = c.args.trbs.now in
+    let size = length-map trbs known in
+    (put-shown g.row.N _ _ _ _ _ _ _ (map known trbs) _ c.self.view_is c.self.invariant (All-known trbs c.requires.texts) c.room.ensures.room
+    (omega (arith, size, c.if-room-trbs.false)) (rw (← size) at c.put_back-self-inside.ensures.holds) (rw (← size) at c.put_back-self-inside.ensures.end)).1
 
 pub returns-clause-put : goal.returns-clause-put
 returns-clause-put g c =
-    (put-shown g.row.N _ _ _ _ _ _ _ c.args.trbs.now _ c.self.view_is c.self.invariant c.requires.td c.requires.texts c.room.ensures.room
-    c.if-room-trbs.false c.put_back-self-inside.ensures.holds c.put_back-self-inside.ensures.end).0
+    let trbs = c.args.trbs.now in
+    let size = length-map trbs known in
+    (put-shown g.row.N _ _ _ _ _ _ _ (map known trbs) _ c.self.view_is c.self.invariant (All-known trbs c.requires.texts) c.room.ensures.room
+    (omega (arith, size, c.if-room-trbs.false)) (rw (← size) at c.put_back-self-inside.ensures.holds) (rw (← size) at c.put_back-self-inside.ensures.end)).0
 
 pub returns-clause-consumer : goal.returns-clause-consumer
 returns-clause-consumer g c end consumer =
-    let Kept : Ring → Type 0 = λ r. IsConsumer g.row.N r end in
+    let trbs = c.args.trbs.now in
+    let Kept : ItemRing → Type 0 = λ r. IsConsumer g.row.N r end in
     subst Kept (sym (returns-clause-put g c))
-    (IsConsumer-put g.row.N c.args.self.now c.args.trbs.now end consumer c.requires.td c.requires.texts (omega (arith, c.room.ensures.room)))
+    (IsConsumer-put g.row.N c.args.self.now (map known trbs) end consumer (All-known trbs c.requires.texts)
+    (omega (arith, length-map trbs known, c.room.ensures.room)))
 
 pub returns-clause-td : goal.returns-clause-td
 returns-clause-td g c =

@@ -5,7 +5,8 @@ use Rattle.std.proofs.Math.Nat.{mod-add-mod}
 use Rattle.std.proofs.lemmas.Option.{same_Some}
 use Rattle.ring_ends.specs.EndLaws.{distance-place}
 use Rattle.ring_ends.specs.declared.End.{End}
-use Rattle.cycle_ring.specs.Ring.{Ring, item_at, item_in, pointer_of, reclaimed}
+use Rattle.cycle_ring.specs.Ring.{item_at, item_in, pointer_of, reclaimed}
+use Rattle.cycle_ring.specs.Items.{ItemRing}
 use Rattle.cycle_ring.specs.Segment.{IsConsumer, IsItem, IsSegment, with_consumer}
 use Rattle.cycle_ring.proofs.Names.{item_at-pointer_of}
 use Rattle.cycle_ring.proofs.Shifts.{IsShifted-reclaimed}
@@ -21,7 +22,7 @@ behind m at place k next below is behind_is =
     behind_is ∙ ap (λ (p : ℕ). (p + 1) % m) (sym there) ∙ mod-add-mod (at + k) m 1 ∙ ap (λ (x : ℕ). x % m) (omega arith)
 
 -- the place that is first then
-next-place : (n : ℕ) (r : Ring) (found : Option ℕ) (place k pointer next : ℕ) → 4 ≤ n → k < n - 1 → pointer ≡ pointer_of n r k
+next-place : (n : ℕ) (r : ItemRing) (found : Option ℕ) (place k pointer next : ℕ) → 4 ≤ n → k < n - 1 → pointer ≡ pointer_of n r k
     → option_map (item_in (n - 1) (r.at % (n - 1))) found ≡ item_at n r pointer → IfSome found (λ place. place < n - 1) → found ≡ Some place
     → next ≡ (place + 1) % (n - 1) → next ≡ (r.at + (k + 1)) % (n - 1)
 next-place n r found place k pointer next least below is named within there behind_is =
@@ -31,7 +32,7 @@ next-place n r found place k pointer next least below is named within there behi
     behind (n - 1) r.at place k next (rw there at within) (same_Some _ k item) behind_is
 
 -- the segment without its first items
-freed : (n : ℕ) (places : List (List ℕ)) (first : ℕ) (enqueue : End) (r : Ring) (found : Option ℕ) (place k pointer next : ℕ)
+freed : (n : ℕ) (places : List (List ℕ)) (first : ℕ) (enqueue : End) (r : ItemRing) (found : Option ℕ) (place k pointer next : ℕ)
     → IsSegment n places first enqueue r → IsItem n r k pointer
     → option_map (item_in (n - 1) (r.at % (n - 1))) found ≡ item_at n r pointer → IfSome found (λ place. place < n - 1) → found ≡ Some place
     → next ≡ (place + 1) % (n - 1) → IsSegment n places next enqueue (reclaimed n (k + 1) r)
@@ -46,14 +47,14 @@ invariant_of-self g c =
     let segment = rw c.self.view_is at c.self.invariant in
     let new = freed g.row.N _ _ _ _ c.place_at.result c.unwrap-place.result c.requires.0 c.args.pointer c.ahead-self-inside.result segment c.requires.1
     c.place_at.ensures.place c.place_at.ensures.within c.unwrap-place.ensures c.ahead-self-inside.ensures in
-    shows-segment g.row.N _ _ _ _ _ (ap (λ (q : Ring). q.base) c.self.view_is) new
+    shows-segment g.row.N _ _ _ _ _ (ap (λ (q : ItemRing). q.base) c.self.view_is) new
 
 pub returns-clause-freed : goal.returns-clause-freed
 returns-clause-freed g c k item =
     let segment = rw c.self.view_is at c.self.invariant in
     let new = freed g.row.N _ _ _ _ c.place_at.result c.unwrap-place.result k c.args.pointer c.ahead-self-inside.result segment item
     c.place_at.ensures.place c.place_at.ensures.within c.unwrap-place.ensures c.ahead-self-inside.ensures in
-    shown-segment g.row.N _ _ _ _ _ (ap (λ (q : Ring). q.base) c.self.view_is) new
+    shown-segment g.row.N _ _ _ _ _ (ap (λ (q : ItemRing). q.base) c.self.view_is) new
 
 pub returns-clause-shifted : goal.returns-clause-shifted
 returns-clause-shifted g c k item i =
@@ -67,5 +68,5 @@ returns-clause-consumer g c k end consumer consumed =
     let new = freed g.row.N _ _ _ _ c.place_at.result c.unwrap-place.result k c.args.pointer c.ahead-self-inside.result segment item
     c.place_at.ensures.place c.place_at.ensures.within c.unwrap-place.ensures c.ahead-self-inside.ensures in
     let at = AtItem-reclaimed g.row.N (k + 1) c.args.self.now end new.ring consumer (omega (arith, consumed.0)) in
-    let Kept : Ring → Type 0 = λ new. IsConsumer g.row.N new end × (with_consumer g.row.N new end ≡ reclaimed g.row.N (k + 1) (with_consumer g.row.N c.args.self.now end)) in
+    let Kept : ItemRing → Type 0 = λ new. IsConsumer g.row.N new end × (with_consumer g.row.N new end ≡ reclaimed g.row.N (k + 1) (with_consumer g.row.N c.args.self.now end)) in
     subst Kept (sym (returns-clause-freed g c k item)) (at.consumer, at.ring)

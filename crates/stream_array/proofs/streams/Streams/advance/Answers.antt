@@ -1,6 +1,6 @@
 -- The stream's context names the end behind the first pending TRB.
 use Rattle.std.proofs.Common.{◌+◌, ◌<◌, ℕ, length, subst, sym, ap, ◌∙◌, arith}
-use Rattle.cycle_ring.specs.Ring.{Ring}
+use Rattle.cycle_ring.specs.Items.{ItemRing}
 use Rattle.stream_array.proofs.Named.{AtStream-read, ring-end, rings-moved}
 use Rattle.stream_array.proofs.streams.Streams.advance.Goals as goal
 
@@ -9,7 +9,7 @@ advance-next-requires c =
     let at = AtStream-read c.self.inside.segments.items c.self.inside.contexts c.args.self.now c.args.stream c.index-segment.result.now c.self.invariant
     c.self.view_is c.requires.some c.requires.last c.index-segment.ensures in
     let ring = ring-end _ _ _ _ _ at c.consumer-end.result c.consumer-end.ensures.end in
-    let Pending : Ring → Type 0 = λ r. r.got < length r.put in
+    let Pending : ItemRing → Type 0 = λ r. r.got < length r.put in
     (omega arith, (c.consumer-end.ensures.consumer, subst Pending ring c.requires.pending))
 
 pub invariant_of-self : goal.invariant_of-self
@@ -23,6 +23,6 @@ returns c =
     let at = AtStream-read c.self.inside.segments.items c.self.inside.contexts c.args.self.now c.args.stream c.index-segment.result.now c.self.invariant
     c.self.view_is c.requires.some c.requires.last c.index-segment.ensures in
     let ring = ring-end _ _ _ _ _ at c.consumer-end.result c.consumer-end.ensures.end in
-    let next = ap (λ (r : Ring). r.got + 1) ring in
+    let next = ap (λ (r : ItemRing). r.got + 1) ring in
     let moved = rings-moved _ _ _ _ _ _ c.advance-next.result at c.advance-next.ensures.consumer c.keep.ensures in
     moved.1 _ (c.advance-next.ensures.advanced ∙ ap (λ (got : ℕ). record c.index-segment.result.now { got = got }) (sym next))

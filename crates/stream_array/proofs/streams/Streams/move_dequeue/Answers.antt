@@ -1,7 +1,8 @@
 -- The stream's context names the end that was found.
 use Rattle.std.proofs.Common.{◌≡◌, ◌↔◌, ◌⊎◌, ℕ, true, false, Err, subst, sym, rules, inl, inr, length, ap, ◌∙◌}
 use Rattle.std.proofs.lemmas.Bool.{false≢true}
-use Rattle.cycle_ring.specs.Ring.{Ring, IsPending, IsEnqueuePlace}
+use Rattle.cycle_ring.specs.Ring.{IsPending, IsEnqueuePlace}
+use Rattle.cycle_ring.specs.Items.{ItemRing}
 use Rattle.uas_profile.specs.declared.TheConstants.{STREAM_RING_PLACES}
 use Rattle.stream_array.proofs.Named.{AtStream-read, ring-end, rings-moved}
 use Rattle.stream_array.proofs.streams.Streams.move_dequeue.Goals as goal
@@ -12,7 +13,7 @@ returns-in_err-moved-clause-accepted c =
     c.self.view_is c.requires.some c.requires.last c.index-segment.ensures in
     let ring = ring-end _ _ _ _ _ at c.consumer-end.result c.consumer-end.ensures.end in
     let given : c.from_residual.result ≡ Err c.in_err-moved.field-0.0 = search rules in
-    let Accepted : Ring → Type 0 = λ r. (false ≡ true) ↔ (IsEnqueuePlace STREAM_RING_PLACES r c.args.pointer c.args.cycle ⊎ ((k : ℕ) × IsPending STREAM_RING_PLACES r k c.args.pointer c.args.cycle)) in
+    let Accepted : ItemRing → Type 0 = λ r. (false ≡ true) ↔ (IsEnqueuePlace STREAM_RING_PLACES r c.args.pointer c.args.cycle ⊎ ((k : ℕ) × IsPending STREAM_RING_PLACES r k c.args.pointer c.args.cycle)) in
     rw given (subst Accepted (sym ring) c.in_err-moved.ensures.accepted)
 
 pub returns-in_err-moved-clause-enqueue : goal.returns-in_err-moved-clause-enqueue
@@ -20,7 +21,7 @@ returns-in_err-moved-clause-enqueue c place =
     let at = AtStream-read c.self.inside.segments.items c.self.inside.contexts c.args.self.now c.args.stream c.index-segment.result.now c.self.invariant
     c.self.view_is c.requires.some c.requires.last c.index-segment.ensures in
     let ring = ring-end _ _ _ _ _ at c.consumer-end.result c.consumer-end.ensures.end in
-    let Place : Ring → Type 0 = λ r. IsEnqueuePlace STREAM_RING_PLACES r c.args.pointer c.args.cycle in
+    let Place : ItemRing → Type 0 = λ r. IsEnqueuePlace STREAM_RING_PLACES r c.args.pointer c.args.cycle in
     absurd (false≢true (c.in_err-moved.ensures.accepted.1 (inl (subst Place ring place))))
 
 pub returns-in_err-moved-clause-set : goal.returns-in_err-moved-clause-set
@@ -28,7 +29,7 @@ returns-in_err-moved-clause-set c k pending =
     let at = AtStream-read c.self.inside.segments.items c.self.inside.contexts c.args.self.now c.args.stream c.index-segment.result.now c.self.invariant
     c.self.view_is c.requires.some c.requires.last c.index-segment.ensures in
     let ring = ring-end _ _ _ _ _ at c.consumer-end.result c.consumer-end.ensures.end in
-    let Pending : Ring → Type 0 = λ r. IsPending STREAM_RING_PLACES r k c.args.pointer c.args.cycle in
+    let Pending : ItemRing → Type 0 = λ r. IsPending STREAM_RING_PLACES r k c.args.pointer c.args.cycle in
     absurd (false≢true (c.in_err-moved.ensures.accepted.1 (inr (k, subst Pending ring pending))))
 
 pub invariant_of-self : goal.invariant_of-self
@@ -42,7 +43,7 @@ returns-clause-accepted c =
     let at = AtStream-read c.self.inside.segments.items c.self.inside.contexts c.args.self.now c.args.stream c.index-segment.result.now c.self.invariant
     c.self.view_is c.requires.some c.requires.last c.index-segment.ensures in
     let ring = ring-end _ _ _ _ _ at c.consumer-end.result c.consumer-end.ensures.end in
-    let Accepted : Ring → Type 0 = λ r. (true ≡ true) ↔ (IsEnqueuePlace STREAM_RING_PLACES r c.args.pointer c.args.cycle ⊎ ((k : ℕ) × IsPending STREAM_RING_PLACES r k c.args.pointer c.args.cycle)) in
+    let Accepted : ItemRing → Type 0 = λ r. (true ≡ true) ↔ (IsEnqueuePlace STREAM_RING_PLACES r c.args.pointer c.args.cycle ⊎ ((k : ℕ) × IsPending STREAM_RING_PLACES r k c.args.pointer c.args.cycle)) in
     subst Accepted (sym ring) c.in_ok-moved.ensures.accepted
 
 pub returns-clause-enqueue : goal.returns-clause-enqueue
@@ -50,9 +51,9 @@ returns-clause-enqueue c place =
     let at = AtStream-read c.self.inside.segments.items c.self.inside.contexts c.args.self.now c.args.stream c.index-segment.result.now c.self.invariant
     c.self.view_is c.requires.some c.requires.last c.index-segment.ensures in
     let ring = ring-end _ _ _ _ _ at c.consumer-end.result c.consumer-end.ensures.end in
-    let Place : Ring → Type 0 = λ r. IsEnqueuePlace STREAM_RING_PLACES r c.args.pointer c.args.cycle in
+    let Place : ItemRing → Type 0 = λ r. IsEnqueuePlace STREAM_RING_PLACES r c.args.pointer c.args.cycle in
     let stands = c.in_ok-moved.ensures.enqueue (subst Place ring place) in
-    let count = ap (λ (r : Ring). length r.put) ring in
+    let count = ap (λ (r : ItemRing). length r.put) ring in
     let moved = rings-moved _ _ _ _ _ _ c.in_ok-moved.moved at c.in_ok-moved.ensures.consumer c.keep.ensures in
     moved.1 _ (stands ∙ ap (λ (got : ℕ). record c.index-segment.result.now { got = got }) (sym count))
 
@@ -61,6 +62,6 @@ returns-clause-set c k pending =
     let at = AtStream-read c.self.inside.segments.items c.self.inside.contexts c.args.self.now c.args.stream c.index-segment.result.now c.self.invariant
     c.self.view_is c.requires.some c.requires.last c.index-segment.ensures in
     let ring = ring-end _ _ _ _ _ at c.consumer-end.result c.consumer-end.ensures.end in
-    let Pending : Ring → Type 0 = λ r. IsPending STREAM_RING_PLACES r k c.args.pointer c.args.cycle in
+    let Pending : ItemRing → Type 0 = λ r. IsPending STREAM_RING_PLACES r k c.args.pointer c.args.cycle in
     let moved = rings-moved _ _ _ _ _ _ c.in_ok-moved.moved at c.in_ok-moved.ensures.consumer c.keep.ensures in
     moved.1 k (c.in_ok-moved.ensures.set k (subst Pending ring pending))

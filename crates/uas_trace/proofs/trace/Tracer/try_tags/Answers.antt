@@ -1,7 +1,6 @@
 use Rattle.std.proofs.Common.{◌∙◌, ap}
 use Rattle.uas_replay.specs.Told.{Telling}
 use Rattle.bus_core.proofs.drain.DrainTags.{tried-further, tried-whole}
-use Rattle.uas_trace.specs.Traced.{step_of_tag}
 use Rattle.shared_machine.specs.declared.Step.{Step}
 use Rattle.shared_machine.specs.Drain.{tried_one}
 use Rattle.uas_trace.proofs.trace.Tracer.try_tags.Goals as goal

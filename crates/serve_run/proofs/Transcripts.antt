@@ -1,0 +1,77 @@
+-- Requests that were answered, and one more.
+use Rattle.std.proofs.Common.{◌≡◌, ℕ, Bool, List, [], ◌∷◌, ◌++◌, Option, refl, sym, ap, subst, ◌∙◌, append_assoc, append-nil}
+use Rattle.std.specs.Io.KnownBytes.{Appends, Consumes}
+use Rattle.std.proofs.KnownBytes.{Appends-nil, Appends-trans, Consumes-nil, Consumes-trans}
+use Rattle.nbd.specs.declared.transmission.Request.{Request}
+use Rattle.nbd.specs.Transmission.{request_text}
+use Rattle.disk_server.specs.Serving.{Serving}
+use Rattle.serve_run.specs.Sessions.{Answers, Leaves, Transmitted, Turns}
+use Rattle.serve_run.specs.Transcript.{Answered, Exports, IsAnswered, after_answer, asked_text, replies_text, requests_text, told_text}
+
+requests_text-then : (answers : List Answered) (a : Answered) → requests_text (answers ++ (a ∷ [])) ≡ requests_text answers ++ asked_text a
+requests_text-then [] a = append-nil (asked_text a)
+requests_text-then (b ∷ others) a =
+    ap (λ (t : List ℕ). asked_text b ++ t) (requests_text-then others a) ∙ sym (append_assoc (asked_text b) (requests_text others) (asked_text a))
+
+replies_text-then : (answers : List Answered) (a : Answered) → replies_text (answers ++ (a ∷ [])) ≡ replies_text answers ++ told_text a
+replies_text-then [] a = append-nil (told_text a)
+replies_text-then (b ∷ others) a =
+    ap (λ (t : List ℕ). told_text b ++ t) (replies_text-then others a) ∙ sym (append_assoc (told_text b) (replies_text others) (told_text a))
+
+-- no request changes nothing
+pub Exports-none : (can_fail : Bool) (serving : Serving) → Exports can_fail serving [] serving
+unfolding Exports
+Exports-none can_fail serving = refl
+
+-- one request more
+pub Exports-then : (can_fail : Bool) (old middle new : Serving) (answers : List Answered) (a : Answered) → Exports can_fail old answers middle
+    → IsAnswered can_fail middle a → new ≡ after_answer middle a → Exports can_fail old (answers ++ (a ∷ [])) new
+unfolding Exports
+Exports-then can_fail old middle new [] a done is after =
+    (subst (λ (s : Serving). IsAnswered can_fail s a) done is, after ∙ ap (λ (s : Serving). after_answer s a) done)
+Exports-then can_fail old middle new (b ∷ others) a done is after =
+    (done.0, Exports-then can_fail (after_answer old b) middle new others a done.1 is after)
+
+-- what is read of a request that is answered
+asked : (a : Answered) (request : Request) (l m n : Option (List ℕ)) → a.request ≡ request → Consumes l m (request_text request)
+    → Consumes m n a.brought → Consumes l n (asked_text a)
+unfolding asked_text
+asked a request l m n e head rest =
+    Consumes-trans l m n (request_text a.request) a.brought (subst (λ (r : Request). Consumes l m (request_text r)) (sym e) head) rest
+
+-- before the first request
+pub turns_none : (can_fail : Bool) (serving : Serving) (left written : Option (List ℕ)) → Turns can_fail serving serving left left written written
+turns_none can_fail serving left written = record {
+  answers = [];
+  read = Consumes-nil left;
+  sent = Appends-nil written;
+  exports = Exports-none can_fail serving;
+}
+
+-- a request more was read and answered
+pub turns_then : (can_fail : Bool) (request : Request) (old middle new : Serving) (l lm lr ln w wm wn : Option (List ℕ))
+    → Turns can_fail old middle l lm w wm → Consumes lm lr (request_text request) → Answers can_fail request middle new lr ln wm wn
+    → Turns can_fail old new l ln w wn
+turns_then can_fail request old middle new l lm lr ln w wm wn turns head answer =
+    let a : Answered = answer.answered in
+    record {
+      answers = turns.answers ++ (a ∷ []);
+      read = subst (Consumes l ln) (sym (requests_text-then turns.answers a))
+          (Consumes-trans l lm ln (requests_text turns.answers) (asked_text a) turns.read
+          (asked a request lm lr ln answer.asks head answer.read));
+      sent = subst (Appends w wn) (sym (replies_text-then turns.answers a))
+          (Appends-trans w wm wn (replies_text turns.answers) (told_text a) turns.sent answer.sent);
+      exports = Exports-then can_fail old middle new turns.answers a turns.exports answer.is answer.after;
+    }
+
+-- the client left
+pub transmitted : (can_fail : Bool) (old new : Serving) (l lm ln w wn : Option (List ℕ)) → Turns can_fail old new l lm w wn → Leaves lm ln
+    → Transmitted can_fail old new l ln w wn
+transmitted can_fail old new l lm ln w wn turns leaves = record {
+  answers = turns.answers;
+  ending = leaves.ending;
+  how = leaves.how;
+  read = Consumes-trans l lm ln (requests_text turns.answers) leaves.ending turns.read leaves.read;
+  sent = turns.sent;
+  exports = turns.exports;
+}

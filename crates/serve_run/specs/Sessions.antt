@@ -1,0 +1,85 @@
+-- What one call of a session does: the bytes that it reads of the client and writes to it, and what becomes of the server.
+use Rattle.std.specs.Prelude.{◌≡◌, ℕ, ◌⊎◌, Bool, IsTrue, List, [], ◌++◌, Option}
+use Rattle.std.specs.Io.KnownBytes.{Appends, Consumes, IsAtEnd}
+use Rattle.block_unit.specs.BlockMaps.{BlockMaps}
+use Rattle.nbd.specs.declared.transmission.Command.TheVariants.{Disconnect}
+use Rattle.nbd.specs.declared.transmission.Request.{Request}
+use Rattle.nbd.specs.Transmission.{request_text}
+use Rattle.disk_server.specs.Serving.{Serving, medium_of, opening_serving, synced}
+use Rattle.serve_run.specs.Transcript.{Answered, Exports, IsAnswered, after_answer, replies_text, requests_text, told_text}
+
+-- some bytes were read
+pub record Hears (left left_new : Option (List ℕ)) : Type 0 where
+  pub bytes : List ℕ
+  pub read : Consumes left left_new bytes
+
+-- some bytes were written
+pub record Says (written written_new : Option (List ℕ)) : Type 0 where
+  pub bytes : List ℕ
+  pub sent : Appends written written_new bytes
+
+-- both
+pub record Talks (left left_new written written_new : Option (List ℕ)) : Type 0 where
+  pub hears : Hears left left_new
+  pub says : Says written written_new
+
+-- a request that was read is answered: what it brought is read, and its reply is written
+pub record Answers (can_fail : Bool) (request : Request) (old new : Serving) (left left_new written written_new : Option (List ℕ)) : Type 0 where
+  pub answered : Answered
+  pub asks : answered.request ≡ request
+  pub is : IsAnswered can_fail old answered
+  pub after : new ≡ after_answer old answered
+  pub read : Consumes left left_new answered.brought
+  pub sent : Appends written written_new (told_text answered)
+
+-- requests were read and answered
+pub record Turns (can_fail : Bool) (old new : Serving) (left left_new written written_new : Option (List ℕ)) : Type 0 where
+  pub answers : List Answered
+  pub read : Consumes left left_new (requests_text answers)
+  pub sent : Appends written written_new (replies_text answers)
+  pub exports : Exports can_fail old answers new
+
+-- a client leaves by the end of its bytes, or by a disconnection; what stands behind that isn't read
+abbrev pub IsLeaving : List ℕ → Option (List ℕ) → Type 0
+IsLeaving ending left_new =
+    ((ending ≡ []) × IsAtEnd left_new) ⊎ ((request : Request) × (request.command ≡ Disconnect) × (ending ≡ request_text request))
+
+pub record Leaves (left left_new : Option (List ℕ)) : Type 0 where
+  pub ending : List ℕ
+  pub read : Consumes left left_new ending
+  pub how : IsLeaving ending left_new
+
+-- Requests were read and answered until the client left: what was read is their bytes and how it left, what was written are the replies.
+pub record Transmitted (can_fail : Bool) (old new : Serving) (left left_new written written_new : Option (List ℕ)) : Type 0 where
+  pub answers : List Answered
+  pub ending : List ℕ
+  pub how : IsLeaving ending left_new
+  pub read : Consumes left left_new (requests_text answers ++ ending)
+  pub sent : Appends written written_new (replies_text answers)
+  pub exports : Exports can_fail old answers new
+
+-- and then the server flushed
+pub record Finished (can_fail : Bool) (old new : Serving) (left left_new written written_new : Option (List ℕ)) : Type 0 where
+  pub last : Serving
+  pub talk : Transmitted can_fail old last left left_new written written_new
+  pub flushed : new.machine ≡ (synced last).serving.machine
+
+-- the server of a unit, before its first request
+unfoldable pub begun : BlockMaps → Serving
+begun unit = opening_serving unit
+
+-- A unit was served: behind the bytes of the handshake, `heard` and `said`, stand those of the requests and of their replies. The file
+-- holds the medium as it is once all was flushed; of a client that left in the handshake, as it was.
+pub record Served (can_fail : Bool) (unit : BlockMaps) (tells : Bool) (holds : List ℕ)
+    (left left_new written written_new : Option (List ℕ)) : Type 0 where
+  pub answers : List Answered
+  pub last : Serving
+  pub exports : Exports can_fail (begun unit) answers last
+  pub heard : List ℕ
+  pub ending : List ℕ
+  pub read : Consumes left left_new (heard ++ (requests_text answers ++ ending))
+  pub said : List ℕ
+  pub sent : Appends written written_new (said ++ replies_text answers)
+  pub left_behind : Serving
+  pub flushed : (left_behind.machine ≡ (synced last).serving.machine) ⊎ ((answers ≡ []) × (left_behind.machine ≡ last.machine))
+  pub held : IsTrue tells → holds ≡ medium_of left_behind.machine

@@ -1,0 +1,4 @@
+pub mod Labels
+pub mod Reads
+pub mod Writes
+pub mod OnTheBus

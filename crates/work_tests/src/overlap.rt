@@ -1,0 +1,53 @@
+//! A gate that holds one client's command under way until another's two are answered. One thread that took the clients' turns one
+//! after another would never pass it.
+
+use crate::runs::{PLAN, ROOM, assert_done, made, ran};
+use crate::turns::{Turns, has_turn};
+use bus_core::Step;
+use std::sync::atomic::AtomicU64;
+use std::sync::atomic::Ordering::SeqCst;
+use std::test::Fail;
+use std::time::Clock;
+use uas_work::Gate;
+
+/// Holds the status of client 0's command until client 1's second reply is asked for.
+#[derive(Drop)]
+struct OverlapGate<'a, R> {
+    rt: &'a R,
+    turns: Turns,
+    asked: AtomicU64,
+}
+
+impl<R: Clock> Gate for OverlapGate<'_, R> {
+    ghost use Rattle.std.specs.Prelude.{Bool, false};
+
+    ghost always = { λ step. false };
+
+    fn turn(&self, worker: u32) -> bool {
+        has_turn(self.rt, self.turns.count(worker))
+    }
+
+    fn may(&self, step: &Step) -> bool {
+        match step {
+            Step::Take(1) => {
+                self.asked.fetch_add(1, SeqCst);
+                true
+            }
+            Step::Status(1) => self.asked.load(SeqCst) >= 2,
+            _ => true,
+        }
+    }
+}
+
+/// Client 0's command is under way while client 1's WRITE and READ are answered.
+#[test]
+fn overlap_gate(rt: HostRuntime) -> Result<(), Fail> {
+    let gate = OverlapGate {
+        rt: &rt,
+        turns: Turns::new(),
+        asked: AtomicU64::new(0),
+    };
+    let finished = ran(&rt, rt.alloc(), made(rt.alloc(), 2, ROOM)?, &gate, PLAN)?;
+    assert_done(&rt, &finished, 2, 9);
+    Ok(())
+}

@@ -1,0 +1,4 @@
+pub mod OwnLaws
+pub mod Fronts
+pub mod Consumed
+pub mod Loans

@@ -8,3 +8,4 @@ pub mod Units
 pub mod Handed
 pub mod DeviceCall
 pub mod BusCall
+pub mod ControllerCall

@@ -78,7 +78,7 @@ impl Model for KeptBus {
 }
 
 impl OfUnits for KeptBus {
-    ghost of_units = { opening };
+    ghost is_of = { λ units bus. bus ≡ opening units };
 
     fn of_units(alloc: Global, units: Vec<Unit>) -> Result<KeptBus, AllocError> {
         let bus = Bus::new(alloc, units)?;

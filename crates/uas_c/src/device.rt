@@ -40,7 +40,7 @@ pub struct UasDeviceDoor {
 }
 
 impl OfUnits for Target {
-    ghost of_units = { opening };
+    ghost is_of = { λ units target. target ≡ opening units };
 
     fn of_units(alloc: Global, units: Vec<Unit>) -> Result<Target, AllocError> {
         Target::new(alloc, units)
@@ -259,7 +259,7 @@ pub(crate) fn show(blocks: Option<&[u8]>, lba: u64, bytes: &mut [u8]) -> Result<
     Ok(())
 }
 
-fn contents_of(target: &Target, number: u16) -> Option<&[u8]>
+pub(crate) fn contents_of(target: &Target, number: u16) -> Option<&[u8]>
     ensures { option_map (λ all. all.now) result ≡ option_map (λ unit. unit.blocks) (unit_numbered target.now.units number) }
 {
     match unit_numbered(target, number) {
@@ -268,7 +268,7 @@ fn contents_of(target: &Target, number: u16) -> Option<&[u8]>
     }
 }
 
-fn medium_of(target: &Target, number: u16) -> Option<&[u8]>
+pub(crate) fn medium_of(target: &Target, number: u16) -> Option<&[u8]>
     ensures { option_map (λ all. all.now) result ≡ option_map (λ unit. unit.medium) (unit_numbered target.now.units number) }
 {
     match unit_numbered(target, number) {

@@ -27,13 +27,14 @@ impl UnitsFault {
 
 /// What a handle can be of: it is made of units.
 pub(crate) trait OfUnits: Sized {
-    ghost of_units: { List BlockMaps → Self };
+    /// It was just made of these units.
+    ghost is_of: { List BlockMaps → Self → Type 0 };
 
     /// Of these units, 1 to 15 of them.
     fn of_units(alloc: Global, units: Vec<Unit>) -> Result<Self, AllocError>
         requires some { 1 ≤ vec_len units }
         requires most { vec_len units ≤ MAX_CLIENTS }
-        ensures { IfOk result (λ made. made ≡ of_units units.items) };
+        ensures { IfOk result (is_of units.items) };
 }
 
 /// Makes a handle of what is made of zeroed units of so many blocks each. The number of the fault, where `handle` is as it was,
@@ -61,7 +62,7 @@ fn hand_out<T: Drop, Name>(made: Box<T, Global>) -> *mut Name {
 }
 
 fn made<T: OfUnits + Drop>(alloc: Global, blocks: &[u32]) -> Result<Box<T, Global>, UnitsFault>
-    ensures made { IfOk result (λ made. made.value ≡ T.of_units (zeroed_units blocks.now)) }
+    ensures made { IfOk result (λ made. T.is_of (zeroed_units blocks.now) made.value) }
     ensures fault { units_told (units_number result) blocks.now ≡ true }
 {
     let units = zeroed_units(alloc, blocks)?;

@@ -1,5 +1,5 @@
 //! The buffers: bytes written and read, and what a driver lends for a tag.
-ghost use Rattle.std.specs.Prelude.{◌≡◌, IfErr};
+ghost use Rattle.std.specs.Prelude.{◌≡◌, ◌≤◌, length, vec_len, IfErr, IfOk};
 ghost use Rattle.std.specs.Result.{result_map_both};
 ghost use Rattle.frame_store.specs.Buffers.{IsWhole};
 ghost use Rattle.uas_controller.specs.Calls.{lend_by, read_by, take_back_by, write_by};
@@ -23,7 +23,8 @@ impl Machine {
 
     /// The `len` bytes from an address on, all of them bytes of one buffer. Refused: `BadAddress`.
     pub fn read(&self, address: u64, len: usize) -> Result<&[u8], Refusal>
-        ensures { result_map_both (λ bytes. bytes.now) (λ refusal. refusal) result ≡ read_by self.now address len }
+        ensures bytes { result_map_both (λ bytes. bytes.now) (λ refusal. refusal) result ≡ read_by self.now address len }
+        ensures len { IfOk result (λ bytes. length bytes.now ≡ len) }
     {
         if self.frames.check(address, len).is_err() {
             return Err(Refusal::BadAddress);
@@ -51,8 +52,10 @@ impl Machine {
     /// Ends the loan of a tag: the vector as it is now. It stays lent where it has more than `most` bytes. Refused: `NoTag`, `NotLent`,
     /// `TooLong`.
     pub fn take_back(&mut self, tag: u16, most: usize) -> Result<Vec<u8>, Refusal>
-        ensures { take_back_by self.old tag most
+        ensures back { take_back_by self.old tag most
             ≡ (self.new, result_map_both (λ bytes. bytes.items) (λ refusal. refusal) result) }
+        ensures most { IfOk result (λ bytes. vec_len bytes ≤ most) }
+        ensures longest { IfOk result (λ bytes. vec_len bytes ≤ WINDOW_BYTES) }
     {
         if !has_stream(tag) {
             return Err(Refusal::NoTag);

@@ -4,8 +4,8 @@ use Rattle.uas_controller.specs.Own.{is_named}
 use Rattle.uas_controller.proofs.OwnLaws.{named-passes}
 use Rattle.uas_controller.proofs.Machine.read.Goals as goal
 
-pub returns : goal.returns
-returns c =
+pub returns-clause-bytes : goal.returns-clause-bytes
+returns-clause-bytes c =
     let inside = c.self.inside in
     let named : is_named inside.frames c.args.address c.args.len ≡ true =
     named-passes inside.frames c.args.address c.args.len c.check.result c.check.ensures.whole c.check.ensures.named

@@ -12,8 +12,8 @@ lend-requires-clause-fits c =
     let has : HasBuffers c.args.tag = has_stream-is c.args.tag (sym c.has_stream.ensures ∙ c.if-not-has_stream.false) in
     omega (arith, lent-fits c.self.inside.frames c.args.tag c.in-Ok.bytes.items c.whole.ensures has c.in-Ok.ensures.back, c.in-Ok.bytes.ok.0)
 
-pub returns : goal.returns
-returns c =
+pub returns-clause-back : goal.returns-clause-back
+returns-clause-back c =
     let inside = c.self.inside in
     let bytes = c.in-Ok.bytes.items in
     let is : has_stream c.args.tag ≡ true = sym c.has_stream.ensures ∙ c.if-not-has_stream.false in

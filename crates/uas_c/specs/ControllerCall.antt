@@ -6,7 +6,6 @@ use Rattle.block_unit.specs.BlockMaps.{BlockMaps}
 use Rattle.event_ring.specs.declared.Event.{Event}
 use Rattle.event_ring.specs.declared.Event.TheVariants as events
 use Rattle.stream_array.specs.Contexts.{has_stream}
-use Rattle.uas_profile.specs.declared.Pipe.{Pipe}
 use Rattle.uas_profile.specs.declared.Pipe.TheVariants as pipes
 use Rattle.uas_profile.specs.declared.TheConstants.{WINDOW_BYTES}
 use Rattle.xhci_ctl.specs.declared.Acted.{Acted}

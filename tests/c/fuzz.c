@@ -1,11 +1,12 @@
 /* Random inputs, each compared with a second implementation or with the bus itself in another setting.
  *
- *   fuzz KIND COUNT SEED    KIND is trb, unit, cdb, device or bus
+ *   fuzz KIND COUNT SEED    KIND is trb, unit, cdb, device, bus or controller
  *
  * It takes all memory at the start. The last line tells how often each fault was answered; a fault that is never answered in
  * 100,000 inputs or more is a failure too. */
 #include "check.h"
 #include "second_bus.h"
+#include "second_controller.h"
 #include "uas.h"
 
 static uint64_t state;
@@ -295,14 +296,14 @@ static uint16_t draw_tag(void)
     return one_in(12) ? odd[below(7)] : (uint16_t)(1 + below(6));
 }
 
-/* The bytes of a unit, mostly one that asks for something; how many. */
-static size_t draw_received(uint8_t *bytes)
+/* The bytes of a unit, mostly one of this tag that asks for something of units of so many blocks; how many. */
+static size_t draw_received(uint16_t tag, const uint32_t blocks[SECOND_UNITS], uint8_t *bytes)
 {
     struct uas_unit unit;
     struct uas_operation operation;
     size_t length = 0;
     draw_unit(&unit);
-    unit.tag = draw_tag();
+    unit.tag = tag;
     memset(unit.lun, 0, sizeof unit.lun);
     unit.lun[1] = (uint8_t)below(SECOND_UNITS + 1);
     if (one_in(64))
@@ -311,7 +312,7 @@ static size_t draw_received(uint8_t *bytes)
         unit.id = one_in(6) ? UAS_UNIT_TASK : UAS_UNIT_COMMAND;
     unit.task_tag = draw_tag();
     unit.function = one_in(8) ? (uint8_t)drawn() : one_in(4) ? 8 : 1;
-    draw_operation(&operation, model.blocks[unit.lun[1] % SECOND_UNITS]);
+    draw_operation(&operation, blocks[unit.lun[1] % SECOND_UNITS]);
     uas_cdb_write(&operation, unit.cdb);
     if (one_in(32))
         spoil(unit.cdb, sizeof unit.cdb);
@@ -444,7 +445,7 @@ static void fuzz_device(struct guarded memory, struct guarded out)
     door->unit = one_in(16) ? door->unit : (uint16_t)below(SECOND_UNITS);
     door->lba = one_in(16) ? door->lba : below(one_in(2) ? SECOND_BLOCKS + 2 : 4);
     if (door->call == UAS_DEVICE_CALL_RECEIVE)
-        length = draw_received(wanted);
+        length = draw_received(draw_tag(), model.blocks, wanted);
     else {
         length = draw_length(door->call, door->tag);
         memset(wanted, (int)below(256), length);
@@ -788,6 +789,548 @@ static void fuzz_bus(struct guarded memory, struct guarded out)
     }
 }
 
+/* ---- The controller and its disk ----
+ *
+ * One handle takes random calls, each of which is then made of the second implementation too. Mostly the call is one that brings a
+ * tag further by what the second implementation has of it: a unit, a TRB that names it, memory, a doorbell, a step. */
+
+enum {
+    CONTROLLER_INPUTS = 20000, /* of one handle */
+    /* What is counted beside the faults. */
+    SEEN_SUCCESS = 16, /* events with these completion codes */
+    SEEN_SHORT_PACKET = 17,
+    SEEN_TRB_ERROR = 18,
+    SEEN_CONTEXT_STATE = 19,
+    SEEN_INVALID_STREAM = 20,
+    SEEN_GOOD = 21,        /* a status that was sent */
+    SEEN_GIVEN = 22,       /* a chunk */
+    SEEN_TAKEN = 23,
+    SEEN_MOVED = 24,       /* Set TR Dequeue Pointer went past items */
+    SEEN_FULL_EVENTS = 25, /* a step that isn't due where the event ring is full */
+    SEEN_BEGUN = 26,       /* a task */
+    SEEN_NEXT_TURN = 27    /* a context with Cycle bit 0 */
+};
+
+static struct second_controller model_controller;
+static uas_controller *controller;
+
+/* The next call: what goes in, and, once the second implementation was asked, what comes out. */
+static struct {
+    struct uas_controller_door door;
+    size_t length;
+    uint8_t data[512 * (SECOND_BLOCKS + 2)];
+} asked;
+
+/* Whether now something is left undone, so that things fill up: with one handle in four by turns, with each other one thing in the
+ * second half of its inputs. */
+static bool leaves_undone(unsigned long which)
+{
+    unsigned long handle = input / CONTROLLER_INPUTS % 4;
+    bool late = input % CONTROLLER_INPUTS >= CONTROLLER_INPUTS / 2;
+    return !one_in(16) && (handle == 0 ? input / 1000 % 4 == which : handle == which && late);
+}
+
+static bool keeps_events(void)
+{
+    return leaves_undone(1);
+}
+
+static bool keeps_items(void)
+{
+    return leaves_undone(2);
+}
+
+static bool keeps_pipes_stopped(void)
+{
+    return leaves_undone(3);
+}
+
+static uint16_t draw_stream(void)
+{
+    static const uint16_t odd[] = { 0, 240, 241, 248, 249, 255, 256, 65535 };
+    return one_in(16) ? odd[below(8)] : (uint16_t)(1 + below(5));
+}
+
+/* Bytes that tell their place. */
+static void draw_data(size_t length)
+{
+    memset(asked.data, (int)below(256), length);
+    for (size_t at = 0; at < length; at += 61)
+        asked.data[at] = (uint8_t)drawn();
+    asked.length = length;
+}
+
+/* The ring of a pipe with streams; a stopped one rather, where `stopped`. */
+static uint8_t draw_pipe(bool stopped)
+{
+    uint8_t ring = (uint8_t)(UAS_RING_STATUS + below(3));
+    for (int tries = 0; tries < 3 && model_controller.running[ring] == stopped; tries++)
+        ring = (uint8_t)(UAS_RING_STATUS + below(3));
+    return ring;
+}
+
+/* What stands behind a tag, of any number: that of tag 0, which nothing uses, of one without buffers. */
+static uint16_t with_buffers(uint16_t tag)
+{
+    return tag <= SECOND_STREAMS ? tag : 0;
+}
+
+/* ---- What is put on rings ---- */
+
+/* As many bytes as a step takes of a TRB on a ring. */
+static uint32_t wanted_length(uint8_t ring, uint16_t tag)
+{
+    uint32_t chunk;
+    if (ring == UAS_RING_COMMAND_PIPE)
+        return model_controller.commands[with_buffers(tag)][0] == UAS_UNIT_TASK ? 16 : 32;
+    if (ring == UAS_RING_STATUS)
+        return one_in(4) ? below(113) : one_in(8) ? 16 : 112;
+    second_wants(&model_controller.device, tag, &chunk);
+    return chunk > 0 ? chunk : below(4097);
+}
+
+/* Where the buffer of a tag for a ring has so many bytes. */
+static uint64_t wanted_pointer(uint8_t ring, uint16_t tag, uint32_t length)
+{
+    uint32_t lent = model_controller.lent_length[with_buffers(tag)];
+    if (one_in(32))
+        ring = (uint8_t)(UAS_RING_STATUS + below(4));
+    if (ring == UAS_RING_COMMAND_PIPE)
+        return 0x10000000 + 0x100 * (uint64_t)tag;
+    if (ring == UAS_RING_STATUS)
+        return 0x20000000 + 0x100 * (uint64_t)tag + (length < 112 ? below(113 - length) : 0);
+    uint64_t window = 0x100000000 + 0x10000 * (uint64_t)tag;
+    return lent < length ? window : window + (one_in(4) ? lent - length : below(lent - length + 1));
+}
+
+/* A Normal TRB that a step may carry out, or that is a little off. */
+static void draw_normal(uint8_t ring, uint16_t tag, struct uas_trb *trb)
+{
+    static const uint8_t other_flags[] = { UAS_TRB_ISP, UAS_TRB_NS, UAS_TRB_CH, UAS_TRB_IOC, UAS_TRB_BEI };
+    *trb = (struct uas_trb){ .type = UAS_TRB_NORMAL, .cycle = (uint8_t)below(2), .td_size = (uint8_t)below(32) };
+    trb->length = wanted_length(ring, tag);
+    trb->pointer = wanted_pointer(ring, tag, trb->length);
+    if (ring == UAS_RING_COMMAND_PIPE && one_in(12)) {
+        trb->length = below(48);
+        trb->pointer += one_in(2) ? 0x10000000 : 0; /* the status buffer */
+    }
+    if (one_in(24))
+        trb->length = trb->length == 0 || one_in(2) ? trb->length + 1 : trb->length - 1;
+    if (one_in(48))
+        trb->length = one_in(2) ? 0 : below(65537);
+    if (one_in(32))
+        trb->pointer += (uint64_t)below(3) - 1;
+    if (one_in(64))
+        trb->pointer ^= (uint64_t)1 << below(64);
+    for (uint32_t times = below(4); times > 0; times--)
+        trb->flags |= other_flags[below(5)];
+    if (one_in(32))
+        trb->flags |= one_in(2) ? UAS_TRB_ENT : UAS_TRB_IDT;
+}
+
+/* A command of the controller's own ring. */
+static void draw_command(struct uas_trb *trb)
+{
+    static const uint16_t odd[] = { 0, 248, 249, 255, 256, 65535 };
+    uint8_t ring = draw_pipe(one_in(2));
+    bool stop = one_in(8) ? one_in(2) : model_controller.running[ring];
+    *trb = (struct uas_trb){ .type = stop ? UAS_TRB_STOP_ENDPOINT : UAS_TRB_SET_DEQUEUE, .slot = 1, .endpoint = second_endpoint(ring) };
+    trb->stream = one_in(6) ? odd[below(6)] : (uint16_t)(1 + below(5));
+    const struct second_line *line = second_line_of(&model_controller, ring, trb->stream);
+    if (line != NULL) {
+        uint64_t item = line->taken + (one_in(3) ? below((uint32_t)(line->put - line->taken) + 1) : line->put - line->taken);
+        if (one_in(8))
+            item = line->freed + below(line->turn);
+        trb->pointer = second_address(line, item);
+        trb->dequeue_cycle = second_cycle(line, item) ^ one_in(12);
+    }
+    if (one_in(16))
+        trb->pointer += 16 * (uint64_t)below(24) - 32;
+    if (one_in(24))
+        trb->endpoint = (uint8_t)below(8);
+    if (one_in(32))
+        trb->slot = (uint8_t)drawn();
+}
+
+/* 16 bytes for a ring. */
+static void draw_item(uint8_t ring, uint16_t tag)
+{
+    struct uas_trb trb;
+    draw_bytes(asked.data, 16);
+    asked.length = 16;
+    if (one_in(32)) {
+        if (one_in(2))
+            memset(asked.data, 0, 16);
+        return;
+    }
+    if (one_in(24))
+        draw_trb(&trb);
+    else if (ring == UAS_RING_COMMANDS ? !one_in(16) : one_in(64))
+        draw_command(&trb);
+    else
+        draw_normal(ring, tag, &trb);
+    second_trb_encode(&trb, asked.data);
+    if (one_in(64))
+        spoil(asked.data, 16);
+}
+
+/* ---- Calls ---- */
+
+/* A TRB for a tag's buffer on the command pipe, or on the ring of the tag's stream. */
+static void ask_put(uint8_t ring, uint16_t tag)
+{
+    asked.door.call = UAS_CONTROLLER_CALL_PUT;
+    asked.door.ring = ring;
+    asked.door.stream = second_has_streams(ring) ? tag : 0;
+    draw_item(ring, tag);
+}
+
+static void ask_step(uint8_t step, uint16_t tag)
+{
+    asked.door.call = UAS_CONTROLLER_CALL_STEP;
+    asked.door.step = step;
+    asked.door.tag = tag;
+}
+
+static void ask_doorbell(uint8_t ring, uint16_t stream)
+{
+    asked.door.call = UAS_CONTROLLER_CALL_DOORBELL;
+    asked.door.value = second_endpoint(ring) | (uint32_t)stream << 16;
+    if (one_in(32))
+        asked.door.value ^= 1u << below(32);
+    else if (one_in(32))
+        asked.door.value = (uint32_t)drawn();
+}
+
+/* A READ or a WRITE that moves blocks. */
+static void draw_moving(uint16_t tag)
+{
+    static const uint8_t moving[] = { UAS_READ_10, UAS_READ_16, UAS_WRITE_10, UAS_WRITE_16 };
+    struct uas_unit unit = { .id = UAS_UNIT_COMMAND, .tag = tag, .lun = { 0, (uint8_t)below(SECOND_UNITS) } };
+    struct uas_operation operation = { .opcode = moving[below(4)], .fua = (uint8_t)below(2) };
+    uint32_t blocks = model_controller.device.blocks[unit.lun[1]];
+    operation.lba = below(blocks);
+    operation.count = blocks - (uint32_t)operation.lba;
+    operation.count = 1 + below(operation.count < 20 ? operation.count : 20);
+    second_cdb_write(&operation, unit.cdb);
+    second_unit_write(&unit, asked.data, 32, &asked.length);
+}
+
+static void ask_write(uint16_t tag)
+{
+    asked.door.call = UAS_CONTROLLER_CALL_WRITE;
+    asked.door.address = (one_in(8) ? 0x20000000 : 0x10000000) + 0x100 * (uint64_t)tag;
+    if (one_in(2))
+        draw_moving(tag);
+    else
+        asked.length = draw_received(one_in(16) ? draw_tag() : tag, model_controller.device.blocks, asked.data);
+}
+
+static void ask_lend(uint16_t tag)
+{
+    asked.door.call = UAS_CONTROLLER_CALL_LEND;
+    asked.door.tag = tag;
+    draw_data(one_in(32) ? 65530 + below(12) : one_in(16) ? below(20) : one_in(2) ? 512 * (size_t)below(129) : 4096 + below(8192));
+}
+
+static void ask_take_back(uint16_t tag)
+{
+    asked.door.call = UAS_CONTROLLER_CALL_TAKE_BACK;
+    asked.door.tag = tag;
+    uint32_t lent = model_controller.lent_length[with_buffers(tag)];
+    draw_data(one_in(8) ? below(UAS_MOST_DATA_BYTES + 64) : one_in(8) && lent > 0 ? lent - 1 : lent + (one_in(4) ? below(64) : 0));
+}
+
+/* A ring, mostly one from which something was taken that wasn't given back; NULL where there is none. */
+static const struct second_line *draw_line(void)
+{
+    const struct second_line *line = NULL;
+    for (int tries = 0; tries < 8 && (line == NULL || line->freed == line->taken); tries++) {
+        asked.door.ring = one_in(64) ? (uint8_t)below(8) : (uint8_t)(1 + below(5));
+        asked.door.stream = second_has_streams(asked.door.ring) || one_in(64) ? draw_stream() : 0;
+        line = second_line_of(&model_controller, asked.door.ring, asked.door.stream);
+        if (one_in(16))
+            break;
+    }
+    return line;
+}
+
+/* What is taken off a ring goes back to it, up to some item. */
+static void ask_reclaim(void)
+{
+    asked.door.call = UAS_CONTROLLER_CALL_RECLAIM;
+    const struct second_line *line = draw_line();
+    if (line == NULL)
+        return;
+    uint64_t taken = line->taken - line->freed, item = line->freed + (taken > 0 ? taken - 1 : 0);
+    if (taken > 0 && one_in(2))
+        item = line->freed + below((uint32_t)taken);
+    if (one_in(16))
+        item = line->freed + below(line->turn);
+    asked.door.address = second_address(line, item);
+    if (one_in(32))
+        asked.door.address += 16 * (uint64_t)below(24) - 32;
+    if (one_in(64))
+        asked.door.address ^= (uint64_t)1 << below(64);
+}
+
+/* Memory that a tag has, or that it hasn't. */
+static void ask_memory(uint16_t tag)
+{
+    static const uint8_t rings[] = { UAS_RING_COMMAND_PIPE, UAS_RING_STATUS, UAS_RING_DATA_IN };
+    uint32_t which = below(3), lent = model_controller.lent_length[with_buffers(tag)];
+    uint32_t most = which == 0 ? 32 : which == 1 ? 112 : lent;
+    uint32_t length = one_in(2) ? most : below(most + 1);
+    asked.door.call = one_in(4) ? UAS_CONTROLLER_CALL_WRITE : UAS_CONTROLLER_CALL_READ;
+    asked.door.address = wanted_pointer(rings[which], tag, length);
+    if (one_in(8))
+        asked.door.address += (uint64_t)below(3) - 1;
+    if (one_in(16))
+        asked.door.address ^= (uint64_t)1 << below(64);
+    draw_data(one_in(16) ? (one_in(2) ? 0 : length + 1) : length);
+}
+
+static void ask_context(uint16_t stream)
+{
+    asked.door.call = UAS_CONTROLLER_CALL_CONTEXT;
+    asked.door.ring = one_in(16) ? (uint8_t)below(8) : (uint8_t)(UAS_RING_STATUS + below(3));
+    asked.door.stream = stream;
+    draw_data(one_in(32) ? below(33) : 16);
+}
+
+static void ask_copy(void)
+{
+    asked.door.call = one_in(2) ? UAS_CONTROLLER_CALL_BLOCKS : UAS_CONTROLLER_CALL_MEDIUM;
+    asked.door.unit = one_in(16) ? (uint16_t)drawn() : (uint16_t)below(SECOND_UNITS);
+    asked.door.lba = one_in(16) ? (uint32_t)drawn() : below(one_in(2) ? SECOND_BLOCKS + 2 : 4);
+    draw_data(one_in(16) ? below(2000) : 512 * (size_t)below(one_in(8) ? SECOND_BLOCKS + 2 : 12));
+}
+
+/* A TRB for a tag's stream, its doorbell, its step: what is wanted first. */
+static void ask_stream(uint8_t ring, uint16_t tag)
+{
+    const struct second_line *line = second_line_of(&model_controller, ring, tag);
+    if (line == NULL || line->taken == line->put || one_in(8))
+        ask_put(ring, tag);
+    else if (!model_controller.running[ring] || !model_controller.rung[ring][tag])
+        ask_doorbell(ring, tag);
+    else
+        ask_step(ring == UAS_RING_STATUS ? UAS_STEP_STATUS : UAS_STEP_DATA, tag);
+}
+
+/* What brings a tag further. */
+static void ask_further(uint16_t tag)
+{
+    uint32_t chunk;
+    uint8_t phase = second_wants(&model_controller.device, tag, &chunk);
+    uint16_t held = with_buffers(tag);
+    bool fits = model_controller.lent[held] && model_controller.lent_length[held] >= chunk;
+    if (phase == UAS_ENDS)
+        ask_stream(UAS_RING_STATUS, tag);
+    else if (phase != UAS_ABSENT && (fits || one_in(8)))
+        ask_stream(phase == UAS_GIVES ? UAS_RING_DATA_IN : UAS_RING_DATA_OUT, tag);
+    else if (phase != UAS_ABSENT && model_controller.lent[held])
+        ask_take_back(tag);
+    else if (phase != UAS_ABSENT)
+        ask_lend(tag);
+    else if (one_in(3))
+        ask_write(tag);
+    else if (model_controller.pipe.taken == model_controller.pipe.put || one_in(3))
+        ask_put(UAS_RING_COMMAND_PIPE, tag);
+    else
+        ask_step(UAS_STEP_COMMAND, tag);
+}
+
+/* Any call, whatever it is good for. */
+static void ask_any(uint16_t tag)
+{
+    switch (below(12)) {
+    case 0:
+        ask_put((uint8_t)(one_in(8) ? drawn() : 1 + below(5)), tag);
+        if (one_in(8))
+            asked.door.stream = tag;
+        if (one_in(8))
+            asked.length = 15 + below(3);
+        break;
+    case 1:
+        ask_step((uint8_t)(one_in(8) ? drawn() : 1 + below(6)), tag);
+        break;
+    case 2:
+        ask_doorbell((uint8_t)(UAS_RING_STATUS + below(4)), tag);
+        break;
+    case 3:
+        ask_lend(tag);
+        break;
+    case 4:
+        ask_take_back(tag);
+        break;
+    case 5:
+        asked.door.call = (uint8_t)(one_in(2) ? drawn() : 0);
+        draw_data(below(64));
+        break;
+    case 6:
+    case 7:
+        ask_context(tag);
+        break;
+    case 8:
+    case 9:
+        ask_copy();
+        break;
+    default:
+        ask_memory(tag);
+    }
+}
+
+static void ask_something(void)
+{
+    uint16_t tag = draw_stream();
+    uint32_t which = below(100);
+    draw_bytes((uint8_t *)&asked.door, sizeof asked.door);
+    asked.length = 0;
+    if (which < 17 && !keeps_events())
+        asked.door.call = UAS_CONTROLLER_CALL_EVENT;
+    else if (which < 32 && !keeps_items())
+        ask_reclaim();
+    else if (which < 36)
+        ask_put(UAS_RING_COMMANDS, tag);
+    else if (which < 40)
+        ask_step(UAS_STEP_ENGINE, tag);
+    else if (which < 55)
+        ask_any(tag);
+    else
+        ask_further(tag);
+    if (asked.door.call == UAS_CONTROLLER_CALL_DOORBELL && keeps_pipes_stopped())
+        asked.door.value &= 0xffff;
+    if (asked.length == 0 && one_in(64))
+        draw_data(below(64));
+}
+
+/* ---- Both ---- */
+
+/* What the streams' rings have taken in all. */
+static uint64_t items_taken(void)
+{
+    uint64_t taken = 0;
+    for (uint8_t ring = UAS_RING_STATUS; ring <= UAS_RING_DATA_OUT; ring++)
+        for (uint32_t stream = 1; stream <= SECOND_STREAMS; stream++)
+            taken += model_controller.streams[ring][stream].taken;
+    return taken;
+}
+
+/* Asks the second implementation for a step, and counts what comes of it. */
+static uint8_t wanted_step(void)
+{
+    uint16_t tag = asked.door.tag;
+    struct second_task none = { .phase = UAS_ABSENT };
+    const struct second_task *task = tag >= 1 && tag <= UAS_GREATEST_TAG ? &model_controller.device.tasks[tag] : &none;
+    uint8_t step = asked.door.step, phase = task->phase;
+    uint32_t done = task->done;
+    uint64_t taken = step == UAS_STEP_ENGINE ? items_taken() : 0;
+    uint8_t fault = second_controller_call(&model_controller, &asked.door, asked.data, asked.length);
+    if (fault != 0)
+        return fault;
+    if (!asked.door.acted)
+        seen[SEEN_FULL_EVENTS] += model_controller.pending_events == SECOND_EVENTS;
+    else if (step == UAS_STEP_COMMAND)
+        seen[SEEN_BEGUN] += asked.door.tag != 0;
+    else if (step == UAS_STEP_DATA && task->done != done)
+        seen[phase == UAS_GIVES ? SEEN_GIVEN : SEEN_TAKEN]++;
+    else if (step == UAS_STEP_STATUS && phase == UAS_ENDS && task->phase == UAS_ABSENT)
+        seen[SEEN_GOOD] += task->answer.id == UAS_UNIT_SENSE && task->answer.status == UAS_GOOD;
+    else if (step == UAS_STEP_ENGINE)
+        seen[SEEN_MOVED] += items_taken() != taken;
+    return 0;
+}
+
+static uint8_t wanted_of_controller(void)
+{
+    static const uint8_t codes[] = { 1, 13, 5, 19, 34 };
+    if (asked.door.call == UAS_CONTROLLER_CALL_STEP)
+        return wanted_step();
+    uint8_t fault = second_controller_call(&model_controller, &asked.door, asked.data, asked.length);
+    if (fault == 0 && asked.door.call == UAS_CONTROLLER_CALL_EVENT && asked.door.acted)
+        for (int i = 0; i < 5; i++)
+            seen[SEEN_SUCCESS + i] += asked.door.code == codes[i];
+    if (fault == 0 && asked.door.call == UAS_CONTROLLER_CALL_CONTEXT)
+        seen[SEEN_NEXT_TURN] += asked.data[0] % 2 == 0;
+    return fault;
+}
+
+/* Makes the call that was asked for, of both. */
+static void call_both(struct guarded memory, struct guarded out)
+{
+    struct uas_controller_door *door = (struct uas_controller_door *)(void *)at_end(out, sizeof *door);
+    size_t length = asked.length;
+    uint8_t *data = at_end(memory, length);
+    *door = asked.door;
+    memcpy(data, asked.data, length);
+    uint8_t fault = saw(uas_controller_call(controller, door, data, length));
+    AGREE(fault == wanted_of_controller());
+    AGREE(memcmp(door, &asked.door, sizeof *door) == 0);
+    AGREE(memcmp(data, asked.data, length) == 0);
+}
+
+/* Asks for what a handle has of a tag: contexts, buffers. */
+static void ask_all_of(uint16_t tag, struct guarded memory, struct guarded out)
+{
+    static const uint64_t buffers[] = { 0x10000000, 0x20000000 };
+    for (uint8_t ring = UAS_RING_STATUS; ring <= UAS_RING_DATA_OUT; ring++) {
+        asked.door = (struct uas_controller_door){ .call = UAS_CONTROLLER_CALL_CONTEXT, .ring = ring, .stream = tag };
+        draw_data(16);
+        call_both(memory, out);
+    }
+    for (int i = 0; i < 2; i++) {
+        asked.door = (struct uas_controller_door){ .call = UAS_CONTROLLER_CALL_READ, .address = buffers[i] + 0x100 * (uint64_t)tag };
+        draw_data(i == 0 ? 32 : 112);
+        call_both(memory, out);
+    }
+    asked.door = (struct uas_controller_door){ .call = UAS_CONTROLLER_CALL_TAKE_BACK, .tag = tag };
+    draw_data(model_controller.lent_length[tag]);
+    call_both(memory, out);
+}
+
+/* Asks for everything that a handle has: that, events, blocks. */
+static void ask_all(struct guarded memory, struct guarded out)
+{
+    for (uint16_t tag = 1; tag <= SECOND_STREAMS; tag++)
+        ask_all_of(tag, memory, out);
+    for (asked.door.acted = 1; asked.door.acted == 1 && failed < 20; call_both(memory, out)) {
+        asked.door.call = UAS_CONTROLLER_CALL_EVENT;
+        asked.length = 0;
+    }
+    for (uint16_t unit = 0; unit < SECOND_UNITS; unit++)
+        for (uint8_t call = UAS_CONTROLLER_CALL_BLOCKS; call <= UAS_CONTROLLER_CALL_MEDIUM; call++) {
+            asked.door = (struct uas_controller_door){ .call = call, .unit = unit };
+            draw_data(512 * (size_t)model_controller.device.blocks[unit]);
+            call_both(memory, out);
+        }
+}
+
+static void renew_controller(void)
+{
+    static const uint32_t sizes[] = { 1, 9, 17, SECOND_BLOCKS, SECOND_BLOCKS };
+    uint32_t blocks[SECOND_UNITS];
+    if (controller != NULL)
+        uas_controller_free(controller);
+    for (int i = 0; i < SECOND_UNITS; i++)
+        blocks[i] = sizes[below(5)];
+    second_controller_open(&model_controller, blocks, SECOND_UNITS);
+    if (uas_controller_new(blocks, SECOND_UNITS, &controller) != 0) {
+        fprintf(stderr, "no controller\n");
+        exit(2);
+    }
+}
+
+static void fuzz_controller(struct guarded memory, struct guarded out)
+{
+    if (controller == NULL || input % CONTROLLER_INPUTS == 0)
+        renew_controller();
+    ask_something();
+    call_both(memory, out);
+    if (input % CONTROLLER_INPUTS == CONTROLLER_INPUTS - 1)
+        ask_all(memory, out);
+}
+
 /* ---- */
 
 struct kind {
@@ -803,11 +1346,13 @@ static const struct kind kinds[] = {
     { "device", fuzz_device, 0x7f },
     /* Want of memory (16) doesn't come; 25 to 27 are the kinds of reply. */
     { "bus", fuzz_bus, 0x7f | 0x01fe0000 | 0x0e000000 },
+    /* 1 to 3 don't come, as `new` has its rows in worked.c; 16 to 27 are SEEN_SUCCESS to SEEN_NEXT_TURN. */
+    { "controller", fuzz_controller, 0xfff1 | 0x0fff0000 },
 };
 
 static int usage(void)
 {
-    fprintf(stderr, "usage: fuzz trb|unit|cdb|device|bus COUNT SEED\n");
+    fprintf(stderr, "usage: fuzz trb|unit|cdb|device|bus|controller COUNT SEED\n");
     return 2;
 }
 
@@ -829,6 +1374,8 @@ int main(int words, char **word)
     if (device != NULL)
         uas_device_free(device);
     free_buses();
+    if (controller != NULL)
+        uas_controller_free(controller);
     printf("fuzz %s: %lu inputs, seed %s, %lu disagreements; faults", kind->name, input, word[3], failed);
     bool missed = false;
     for (int i = 0; i < 32; i++) {

@@ -2,7 +2,7 @@
  * realloc and free go through this file: --wrap=malloc,--wrap=realloc,--wrap=free.
  *
  *   leaks         all of it
- *   leaks lose    leaves a device and a bus behind, which the leak check of the address sanitizer must tell */
+ *   leaks lose    leaves a device, a controller and a bus behind, which the leak check of the address sanitizer must tell */
 #include "check.h"
 #include "uas.h"
 
@@ -63,6 +63,58 @@ static uas_device *used_device(void)
     return device;
 }
 
+/* Puts a Normal TRB of tag 18 on a ring. */
+static void puts_trb(uas_controller *controller, uint8_t ring, uint16_t stream, uint64_t pointer, uint32_t length)
+{
+    const struct uas_trb trb = { .type = UAS_TRB_NORMAL, .pointer = pointer, .length = length };
+    uint8_t bytes[16];
+    uint64_t address;
+    CHECK(uas_trb_encode(&trb, bytes) == 0);
+    CHECK(uas_controller_put_raw(controller, ring, stream, bytes, &address) == 0);
+}
+
+static void step_acts(uas_controller *controller, uint8_t step)
+{
+    uint16_t tag = 18;
+    bool acted = false;
+    CHECK(uas_controller_step(controller, step, &tag, &acted) == 0 && acted && tag == 18);
+}
+
+/* A READ of 24 blocks under tag 18, of which one chunk is moved. Its window is lent. */
+static void begins_read(uas_controller *controller)
+{
+    uint8_t bytes[32];
+    size_t length;
+    struct uas_unit unit = { .id = UAS_UNIT_COMMAND, .tag = 18, .lun = { 0, 2 } };
+    uas_cdb_write(&read_24, unit.cdb);
+    uas_unit_write(&unit, bytes, sizeof bytes, &length);
+    CHECK(uas_controller_write(controller, 0x10001200, bytes, length) == 0);
+    puts_trb(controller, UAS_RING_COMMAND_PIPE, 0, 0x10001200, 32);
+    puts_trb(controller, UAS_RING_DATA_IN, 18, 0x100120000, 4096);
+    puts_trb(controller, UAS_RING_DATA_IN, 18, 0x100121000, 4096);
+    CHECK(uas_controller_doorbell(controller, 0x00120005) == 0);
+    step_acts(controller, UAS_STEP_COMMAND);
+    step_acts(controller, UAS_STEP_DATA);
+}
+
+/* A controller with a command under way, TRBs on rings, events that nobody took, and memory that is lent. */
+static uas_controller *used_controller(void)
+{
+    uas_controller *controller = NULL;
+    uint32_t length = 0;
+    if (uas_controller_new(blocks, 3, &controller) != 0)
+        return NULL;
+    CHECK(uas_controller_lend(controller, 18, data, 24 * 512) == 0);
+    CHECK(uas_controller_lend(controller, 248, data, sizeof data) == 0);
+    CHECK(uas_controller_lend(controller, 1, data, 512) == 0);
+    CHECK(uas_controller_lend(controller, 2, data, 0) == 0);
+    CHECK(uas_controller_lend(controller, 1, data, 512) == UAS_CONTROLLER_LENT);
+    begins_read(controller);
+    CHECK(uas_controller_take_back(controller, 248, data, sizeof data, &length) == 0 && length == sizeof data);
+    CHECK(uas_controller_take_back(controller, 1, data, 511, &length) == UAS_CONTROLLER_LENGTH);
+    return controller;
+}
+
 /* A bus with replies that nobody took, and commands that are under way. */
 static uas_bus *used_bus(void)
 {
@@ -84,10 +136,12 @@ static void a_thousand_times(void)
 {
     for (int i = 0; i < 1000; i++) {
         uas_device *device = used_device();
+        uas_controller *controller = used_controller();
         uas_bus *bus = used_bus();
-        if (!CHECK(device != NULL && bus != NULL && held > 0))
+        if (!CHECK(device != NULL && controller != NULL && bus != NULL && held > 0))
             return;
         uas_device_free(device);
+        uas_controller_free(controller);
         uas_bus_free(bus);
         if (!CHECK(held == 0))
             return;
@@ -139,14 +193,51 @@ static void each_refused(void)
     CHECK(held == 0);
 }
 
+/* The same of the controller. */
+static void each_refused_of_controller(void)
+{
+    uas_controller *controller = NULL;
+    uint8_t fault = UAS_NO_MEMORY, byte = 7;
+    unsigned long times = 0;
+    uint32_t length = 0;
+    for (refused_at = 1; fault != 0 && refused_at < 10000; refused_at++, times++) {
+        asks = 0;
+        fault = uas_controller_new(blocks, 3, &controller);
+        CHECK(fault == 0 || (fault == UAS_NO_MEMORY && controller == NULL && held == 0));
+    }
+    CHECK(times > 3 && fault == 0);
+    /* What is lent is copied; refused, it changes nothing and may come again. */
+    long before = held;
+    asks = 0;
+    refused_at = 1;
+    CHECK(uas_controller_lend(controller, 249, data, 1) == UAS_CONTROLLER_TAG);
+    CHECK(uas_controller_lend(controller, 18, data, 24 * 512) == UAS_NO_MEMORY);
+    CHECK(held == before);
+    CHECK(uas_controller_read(controller, 0x100120000, &byte, 1) == UAS_CONTROLLER_ADDRESS && byte == 7);
+    refused_at = 0;
+    CHECK(uas_controller_lend(controller, 18, data, 24 * 512) == 0 && held > before);
+    /* The other calls ask for none. */
+    struct uas_controller_door event = { 0 };
+    asks = 0;
+    begins_read(controller);
+    CHECK(uas_controller_event(controller, &event) == 0 && event.acted && event.address == 0x41000000);
+    CHECK(uas_controller_reclaim(controller, UAS_RING_COMMAND_PIPE, 0, event.address) == 0);
+    CHECK(uas_controller_take_back(controller, 18, data, sizeof data, &length) == 0 && length == 24 * 512);
+    CHECK(asks == 0);
+    CHECK(held == before);
+    uas_controller_free(controller);
+    CHECK(held == 0);
+}
+
 int main(int words, char **word)
 {
     if (words == 2 && strcmp(word[1], "lose") == 0) {
-        bool both = used_device() != NULL && used_bus() != NULL;
+        bool all = used_device() != NULL && used_controller() != NULL && used_bus() != NULL;
         printf("leaks: lost %ld blocks\n", held);
-        return both ? 0 : 2;
+        return all ? 0 : 2;
     }
     a_thousand_times();
     each_refused();
+    each_refused_of_controller();
     return tell("leaks");
 }

@@ -1,5 +1,5 @@
-/* Cases worked out by hand from the standards' tables: bytes of TRBs, units, CDBs and data, commands on the device, and a script of
- * two clients on the bus. */
+/* Cases worked out by hand from the standards' tables: bytes of TRBs, units, CDBs and data, commands on the device, TRBs and steps of
+ * the controller, and a script of two clients on the bus. */
 #include "check.h"
 #include "uas.h"
 
@@ -647,6 +647,531 @@ static void device_refuses(void)
     uas_device_free(device);
 }
 
+/* ---- The controller and its disk ---- */
+
+static uas_controller *new_controller(size_t units, uint32_t blocks)
+{
+    uint32_t all[UAS_MOST_UNITS];
+    uas_controller *controller = NULL;
+    for (size_t i = 0; i < units; i++)
+        all[i] = blocks;
+    if (uas_controller_new(all, units, &controller) != 0 || controller == NULL) {
+        fprintf(stderr, "no controller\n");
+        exit(2);
+    }
+    return controller;
+}
+
+/* Puts 16 bytes on a ring, which then stand at this address. */
+static void puts_at(uas_controller *controller, uint8_t ring, uint16_t stream, uint64_t address, const char *text)
+{
+    uint8_t bytes[16];
+    uint64_t got = 7777;
+    CHECK(from_hex(text, bytes, sizeof bytes) == 16);
+    CHECK(uas_controller_put_raw(controller, ring, stream, bytes, &got) == 0);
+    if (!CHECK(got == address))
+        fprintf(stderr, "    at %llx\n", (unsigned long long)got);
+}
+
+/* The step acts, on this tag. */
+static void step_acts(uas_controller *controller, uint8_t step, uint16_t tag, uint16_t on)
+{
+    bool acted = false;
+    CHECK(uas_controller_step(controller, step, &tag, &acted) == 0);
+    CHECK(acted && tag == on);
+}
+
+static void step_is_idle(uas_controller *controller, uint8_t step, uint16_t tag)
+{
+    struct uas_controller_door door, before;
+    memset(&door, 0xee, sizeof door);
+    door.call = UAS_CONTROLLER_CALL_STEP;
+    door.step = step;
+    door.tag = tag;
+    before = door;
+    before.acted = 0;
+    CHECK(uas_controller_call(controller, &door, uas_bytes(NULL, 0), 0) == 0);
+    CHECK(memcmp(&door, &before, sizeof door) == 0);
+}
+
+/* The oldest event. */
+static void event_is(uas_controller *controller, uint8_t type, uint64_t address, uint32_t residual, uint8_t code, uint8_t endpoint)
+{
+    struct uas_controller_door event;
+    memset(&event, 0xee, sizeof event);
+    CHECK(uas_controller_event(controller, &event) == 0);
+    CHECK(event.acted == 1 && event.type == type && event.slot == 1 && event.endpoint == endpoint);
+    if (!CHECK(event.address == address && event.value == residual && event.code == code))
+        fprintf(stderr, "    code %u at %llx, residual %u\n", event.code, (unsigned long long)event.address, event.value);
+}
+
+static void transfer_is(uas_controller *controller, uint64_t address, uint32_t residual, uint8_t code, uint8_t endpoint)
+{
+    event_is(controller, UAS_TRB_TRANSFER_EVENT, address, residual, code, endpoint);
+}
+
+/* A command of the controller's own ring is executed with this code. */
+static void command_is(uas_controller *controller, uint64_t address, uint8_t code, const char *text)
+{
+    puts_at(controller, UAS_RING_COMMANDS, 0, address, text);
+    step_acts(controller, UAS_STEP_ENGINE, 7, 0);
+    event_is(controller, UAS_TRB_COMMAND_EVENT, address, 0, code, 0);
+}
+
+static void no_event(uas_controller *controller)
+{
+    struct uas_controller_door door, before;
+    memset(&door, 0xee, sizeof door);
+    door.call = UAS_CONTROLLER_CALL_EVENT;
+    before = door;
+    before.acted = 0;
+    CHECK(uas_controller_call(controller, &door, uas_bytes(NULL, 0), 0) == 0);
+    CHECK(memcmp(&door, &before, sizeof door) == 0);
+}
+
+static void memory_gets(uas_controller *controller, uint64_t address, const char *text)
+{
+    uint8_t bytes[112];
+    size_t length = from_hex(text, bytes, sizeof bytes);
+    CHECK(uas_controller_write(controller, address, bytes, length) == 0);
+}
+
+static void memory_is(uas_controller *controller, uint64_t address, const char *text)
+{
+    uint8_t bytes[112], wanted[112];
+    size_t length = from_hex(text, wanted, sizeof wanted);
+    memset(bytes, 0xee, sizeof bytes);
+    CHECK(uas_controller_read(controller, address, bytes, length) == 0);
+    CHECK_BYTES(bytes, length, text);
+    CHECK(all_are(bytes + length, sizeof bytes - length, 0xee));
+}
+
+static void context_is(uas_controller *controller, uint8_t ring, uint16_t stream, const char *text)
+{
+    uint8_t bytes[16];
+    memset(bytes, 0xee, sizeof bytes);
+    CHECK(uas_controller_context(controller, ring, stream, bytes) == 0);
+    CHECK_BYTES(bytes, sizeof bytes, text);
+}
+
+static void reclaims(uas_controller *controller, uint8_t ring, uint16_t stream, uint64_t address)
+{
+    CHECK(uas_controller_reclaim(controller, ring, stream, address) == 0);
+    CHECK(uas_controller_reclaim(controller, ring, stream, address) == UAS_CONTROLLER_NOT_CONSUMED);
+}
+
+/* 16 zeros on data-in, stream 18. A stream is served once its doorbell was rung, and no other value rings it. */
+static void controller_steps_over(void)
+{
+    static const uint32_t others[] = { 0, 0x00120002, 0x00120004, 0x00120006, 0x00120105, 0x00128005, 0x00000005, 0x00130005, 0x00f90005, 0xffff0005 };
+    uas_controller *controller = new_controller(1, 100);
+    puts_at(controller, UAS_RING_DATA_IN, 18, 0x43012000, "00 x16");
+    context_is(controller, UAS_RING_DATA_IN, 18, "03 20 01 43 00 x12");
+    for (size_t i = 0; i < sizeof others / sizeof others[0]; i++) {
+        CHECK(uas_controller_doorbell(controller, others[i]) == 0);
+        step_is_idle(controller, UAS_STEP_DATA, 18);
+    }
+    CHECK(uas_controller_doorbell(controller, 0x00120005) == 0);
+    step_is_idle(controller, UAS_STEP_DATA, 17);
+    step_is_idle(controller, UAS_STEP_STATUS, 18);
+    no_event(controller);
+    step_acts(controller, UAS_STEP_DATA, 18, 18);
+    context_is(controller, UAS_RING_DATA_IN, 18, "13 20 01 43 00 x12");
+    transfer_is(controller, 0x43012000, 0, 5, 5);
+    no_event(controller);
+    step_is_idle(controller, UAS_STEP_DATA, 18);
+    reclaims(controller, UAS_RING_DATA_IN, 18, 0x43012000);
+    uas_controller_free(controller);
+}
+
+/* On data-in, stream 18: what a step doesn't carry out, and what waits for the device. */
+static void controller_tells_own(void)
+{
+    uas_controller *controller = new_controller(1, 100);
+    CHECK(uas_controller_doorbell(controller, 0x00120005) == 0);
+    /* A Link, ENT, IDT, a buffer that isn't lent. */
+    puts_at(controller, UAS_RING_DATA_IN, 18, 0x43012000, "00 20 01 43 00 x8 03 18 00 00");
+    puts_at(controller, UAS_RING_DATA_IN, 18, 0x43012010, "00 12 00 20 00 00 00 00 08 00 00 00 03 04 00 00");
+    puts_at(controller, UAS_RING_DATA_IN, 18, 0x43012020, "00 12 00 20 00 00 00 00 08 00 00 00 41 04 00 00");
+    puts_at(controller, UAS_RING_DATA_IN, 18, 0x43012030, "00 00 12 00 01 00 00 00 01 00 00 00 01 04 00 00");
+    for (uint64_t place = 0; place < 4; place++) {
+        step_acts(controller, UAS_STEP_DATA, 18, 18);
+        transfer_is(controller, 0x43012000 + 16 * place, 0, 5, 5);
+    }
+    /* 8 bytes of the status buffer; none at all, at an address where nothing is. */
+    puts_at(controller, UAS_RING_DATA_IN, 18, 0x43012040, "00 12 00 20 00 00 00 00 08 00 00 00 01 04 00 00");
+    step_is_idle(controller, UAS_STEP_DATA, 18);
+    puts_at(controller, UAS_RING_DATA_IN, 17, 0x43011000, "ff x8 00 x5 04 00 00");
+    CHECK(uas_controller_doorbell(controller, 0x00110005) == 0);
+    step_is_idle(controller, UAS_STEP_DATA, 17);
+    no_event(controller);
+    uas_controller_free(controller);
+}
+
+/* WRITE(10) of 9 blocks at 3, tag 1: two TRBs, of which the first has CH. Block 3 + i gets bytes i + 1. */
+static void controller_writes(uas_controller *controller)
+{
+    static uint8_t data[9 * 512];
+    uint32_t length = 0;
+    for (size_t i = 0; i < sizeof data; i++)
+        data[i] = (uint8_t)(i / 512 + 1);
+    memory_gets(controller, 0x10000100, "01 00 00 01 00 x12 2a 00 00 00 00 03 00 00 09 00 x7");
+    CHECK(uas_controller_lend(controller, 1, data, sizeof data) == 0);
+    puts_at(controller, UAS_RING_DATA_OUT, 1, 0x44001000, "00 00 01 00 01 00 00 00 00 10 02 00 11 04 00 00");
+    puts_at(controller, UAS_RING_DATA_OUT, 1, 0x44001010, "00 10 01 00 01 00 00 00 00 02 00 00 21 04 00 00");
+    puts_at(controller, UAS_RING_STATUS, 1, 0x42001000, "00 01 00 20 00 00 00 00 70 00 00 00 25 04 00 00");
+    puts_at(controller, UAS_RING_COMMAND_PIPE, 0, 0x41000000, "00 01 00 10 00 00 00 00 20 00 00 00 21 04 00 00");
+    CHECK(uas_controller_doorbell(controller, 0x00010004) == 0);
+    CHECK(uas_controller_doorbell(controller, 0x00010003) == 0);
+    step_is_idle(controller, UAS_STEP_DATA, 1);
+    step_acts(controller, UAS_STEP_COMMAND, 7, 1);
+    step_is_idle(controller, UAS_STEP_STATUS, 1);
+    transfer_is(controller, 0x41000000, 0, 1, 2);
+    step_acts(controller, UAS_STEP_DATA, 1, 1);
+    no_event(controller);
+    step_acts(controller, UAS_STEP_DATA, 1, 1);
+    step_is_idle(controller, UAS_STEP_DATA, 1);
+    step_acts(controller, UAS_STEP_STATUS, 1, 1);
+    transfer_is(controller, 0x44001010, 0, 1, 4);
+    transfer_is(controller, 0x42001000, 96, 13, 3);
+    memory_is(controller, 0x20000100, "03 00 00 01 00 x108");
+    reclaims(controller, UAS_RING_DATA_OUT, 1, 0x44001010);
+    memset(data, 0xee, sizeof data);
+    CHECK(uas_controller_take_back(controller, 1, data, sizeof data, &length) == 0 && length == sizeof data);
+    CHECK(all_are(data, 512, 1) && all_are(data + 8 * 512, 512, 9));
+}
+
+/* READ(10) of 8 blocks at 4, tag 18, after that. */
+static void controller_reads(void)
+{
+    static uint8_t data[4096 + 1];
+    uint32_t length = 0;
+    uas_controller *controller = new_controller(1, 100);
+    controller_writes(controller);
+    memory_gets(controller, 0x10001200, "01 00 00 12 00 x12 28 00 00 00 00 04 00 00 08 00 x7");
+    memset(data, 0x77, sizeof data);
+    CHECK(uas_controller_lend(controller, 18, data, 4096) == 0);
+    puts_at(controller, UAS_RING_DATA_IN, 18, 0x43012000, "00 00 12 00 01 00 00 00 00 10 00 00 21 04 00 00");
+    puts_at(controller, UAS_RING_STATUS, 18, 0x42012000, "00 12 00 20 00 00 00 00 70 00 00 00 25 04 00 00");
+    puts_at(controller, UAS_RING_COMMAND_PIPE, 0, 0x41000010, "00 12 00 10 00 00 00 00 20 00 00 00 21 04 00 00");
+    CHECK(uas_controller_doorbell(controller, 0x00120005) == 0);
+    CHECK(uas_controller_doorbell(controller, 0x00120003) == 0);
+    step_acts(controller, UAS_STEP_COMMAND, 7, 18);
+    step_acts(controller, UAS_STEP_DATA, 18, 18);
+    step_is_idle(controller, UAS_STEP_DATA, 18);
+    step_acts(controller, UAS_STEP_STATUS, 18, 18);
+    step_is_idle(controller, UAS_STEP_STATUS, 18);
+    transfer_is(controller, 0x41000010, 0, 1, 2);
+    transfer_is(controller, 0x43012000, 0, 1, 5);
+    transfer_is(controller, 0x42012000, 96, 13, 3);
+    no_event(controller);
+    memory_is(controller, 0x20001200, "03 00 00 12 00 x108");
+    memory_is(controller, 0x100120ffe, "09 09");
+    reclaims(controller, UAS_RING_COMMAND_PIPE, 0, 0x41000010);
+    CHECK(uas_controller_take_back(controller, 18, data, sizeof data, &length) == 0 && length == 4096);
+    for (uint8_t block = 0; block < 8; block++)
+        CHECK(all_are(data + 512 * block, 512, (uint8_t)(block + 2)));
+    CHECK(data[4096] == 0x77);
+    CHECK(uas_controller_blocks(controller, 0, 11, data, 1024) == 0 && all_are(data, 512, 9) && all_are(data + 512, 512, 0));
+    CHECK(uas_controller_medium(controller, 0, 11, data, 512) == 0 && all_are(data, 512, 0));
+    uas_controller_free(controller);
+}
+
+/* On tag 2, whose command buffer has a READ(10) of 8 blocks: command TRBs of another length, and the answer to bytes that are no unit. */
+static void controller_shorter_units(uas_controller *controller)
+{
+    /* 33 bytes of a window; 31 of the Command unit, which are none; 3, which name no tag. */
+    puts_at(controller, UAS_RING_COMMAND_PIPE, 0, 0x41000000, "00 00 02 00 01 00 00 00 21 00 00 00 21 04 00 00");
+    puts_at(controller, UAS_RING_COMMAND_PIPE, 0, 0x41000010, "00 02 00 10 00 00 00 00 1f 00 00 00 21 04 00 00");
+    puts_at(controller, UAS_RING_COMMAND_PIPE, 0, 0x41000020, "00 02 00 10 00 00 00 00 03 00 00 00 21 04 00 00");
+    step_acts(controller, UAS_STEP_COMMAND, 7, 0);
+    step_acts(controller, UAS_STEP_COMMAND, 7, 2);
+    step_acts(controller, UAS_STEP_COMMAND, 7, 0);
+    transfer_is(controller, 0x41000000, 0, 5, 2);
+    transfer_is(controller, 0x41000010, 0, 1, 2);
+    transfer_is(controller, 0x41000020, 0, 1, 2);
+    /* The Response unit has 8 bytes: a status TRB of 7 is stepped over; one of 8 takes it, here at the buffer's end. */
+    puts_at(controller, UAS_RING_STATUS, 2, 0x42002000, "00 02 00 20 00 00 00 00 07 00 00 00 25 04 00 00");
+    puts_at(controller, UAS_RING_STATUS, 2, 0x42002010, "68 02 00 20 00 00 00 00 08 00 00 00 25 04 00 00");
+    CHECK(uas_controller_doorbell(controller, 0x00020003) == 0);
+    step_acts(controller, UAS_STEP_STATUS, 2, 2);
+    step_acts(controller, UAS_STEP_STATUS, 2, 2);
+    transfer_is(controller, 0x42002000, 0, 5, 3);
+    transfer_is(controller, 0x42002010, 104, 13, 3);
+    memory_is(controller, 0x20000200, "00 x104 04 00 00 02 00 00 00 02");
+}
+
+/* TRBs of another length than what is to be moved. */
+static void controller_lengths(void)
+{
+    static const uint8_t window[4097];
+    uas_controller *controller = new_controller(1, 100);
+    memory_gets(controller, 0x10000200, "01 00 00 02 00 x12 28 00 00 00 00 00 00 00 08 00 x7");
+    CHECK(uas_controller_lend(controller, 2, window, sizeof window) == 0);
+    controller_shorter_units(controller);
+    /* The READ gives 4096 bytes: data-in TRBs of 4095 and of 4097 are stepped over, then foreign bytes on data-out, then it gives. */
+    puts_at(controller, UAS_RING_COMMAND_PIPE, 0, 0x41000030, "00 02 00 10 00 00 00 00 20 00 00 00 21 04 00 00");
+    puts_at(controller, UAS_RING_DATA_IN, 2, 0x43002000, "00 00 02 00 01 00 00 00 ff 0f 00 00 21 04 00 00");
+    puts_at(controller, UAS_RING_DATA_IN, 2, 0x43002010, "00 00 02 00 01 00 00 00 01 10 00 00 21 04 00 00");
+    puts_at(controller, UAS_RING_DATA_IN, 2, 0x43002020, "01 00 02 00 01 00 00 00 00 10 00 00 21 04 00 00");
+    puts_at(controller, UAS_RING_DATA_OUT, 2, 0x44002000, "00 x16");
+    CHECK(uas_controller_doorbell(controller, 0x00020005) == 0);
+    CHECK(uas_controller_doorbell(controller, 0x00020004) == 0);
+    step_acts(controller, UAS_STEP_COMMAND, 7, 2);
+    for (int i = 0; i < 4; i++)
+        step_acts(controller, UAS_STEP_DATA, 2, 2);
+    transfer_is(controller, 0x41000030, 0, 1, 2);
+    transfer_is(controller, 0x43002000, 0, 5, 5);
+    transfer_is(controller, 0x43002010, 0, 5, 5);
+    transfer_is(controller, 0x44002000, 0, 5, 4);
+    transfer_is(controller, 0x43002020, 0, 1, 5);
+    /* The tag has a task: its unit comes to nothing. */
+    puts_at(controller, UAS_RING_COMMAND_PIPE, 0, 0x41000040, "00 02 00 10 00 00 00 00 20 00 00 00 21 04 00 00");
+    step_acts(controller, UAS_STEP_COMMAND, 7, 0);
+    transfer_is(controller, 0x41000040, 0, 1, 2);
+    no_event(controller);
+    uas_controller_free(controller);
+}
+
+/* Commands on the stopped data-in pipe, where stream 18 has an item at place 0 that was taken and two behind it. */
+static void controller_moves_dequeue(uas_controller *controller)
+{
+    command_is(controller, 0x50000020, 19, "00 x13 3c 05 01"); /* it is stopped */
+    command_is(controller, 0x50000030, 5, "22 20 01 43 00 x6 12 00 00 40 05 01"); /* the other cycle state */
+    command_is(controller, 0x50000040, 5, "03 20 01 43 00 x6 12 00 00 40 05 01"); /* place 0 */
+    command_is(controller, 0x50000050, 5, "43 20 01 43 00 x6 12 00 00 40 05 01"); /* place 4, behind the enqueue place */
+    command_is(controller, 0x50000060, 34, "23 20 01 43 00 x6 00 00 00 40 05 01"); /* stream 0 */
+    command_is(controller, 0x50000070, 34, "23 20 01 43 00 x6 00 01 00 40 05 01"); /* stream 256 */
+    command_is(controller, 0x50000080, 5, "23 20 01 43 00 x6 f9 00 00 40 05 01"); /* stream 249 */
+    command_is(controller, 0x50000090, 5, "23 20 01 43 00 x6 12 00 00 40 05 02"); /* slot 2 */
+    command_is(controller, 0x500000a0, 5, "00 x13 3c 02 01"); /* endpoint 2 */
+    context_is(controller, UAS_RING_DATA_IN, 18, "13 20 01 43 00 x12");
+    command_is(controller, 0x500000b0, 1, "23 20 01 43 00 x6 12 00 00 40 05 01"); /* place 2 */
+    context_is(controller, UAS_RING_DATA_IN, 18, "23 20 01 43 00 x12");
+    command_is(controller, 0x500000c0, 1, "33 20 01 43 00 x6 12 00 00 40 05 01"); /* the enqueue place */
+    context_is(controller, UAS_RING_DATA_IN, 18, "33 20 01 43 00 x12");
+    command_is(controller, 0x500000d0, 5, "00 x16");
+    /* The zeros are given back with a command behind them; the Link's place is stepped over. */
+    CHECK(uas_controller_reclaim(controller, UAS_RING_COMMANDS, 0, 0x500000d0) == UAS_CONTROLLER_NOT_CONSUMED);
+    reclaims(controller, UAS_RING_COMMANDS, 0, 0x500000c0);
+    command_is(controller, 0x500000e0, 5, "00 x13 04 00 00"); /* a Normal TRB */
+    command_is(controller, 0x50000000, 19, "00 x13 3c 05 01");
+    reclaims(controller, UAS_RING_COMMANDS, 0, 0x500000e0);
+    reclaims(controller, UAS_RING_DATA_IN, 18, 0x43012020);
+}
+
+/* Stop Endpoint and Set TR Dequeue Pointer. */
+static void controller_stops(void)
+{
+    uas_controller *controller = new_controller(1, 100);
+    for (uint64_t place = 0; place < 3; place++)
+        puts_at(controller, UAS_RING_DATA_IN, 18, 0x43012000 + 16 * place, "00 x16");
+    CHECK(uas_controller_doorbell(controller, 0x00120005) == 0);
+    step_is_idle(controller, UAS_STEP_ENGINE, 0);
+    step_acts(controller, UAS_STEP_DATA, 18, 18);
+    transfer_is(controller, 0x43012000, 0, 5, 5);
+    command_is(controller, 0x50000000, 19, "23 20 01 43 00 x6 12 00 00 40 05 01"); /* it runs */
+    command_is(controller, 0x50000010, 1, "00 x13 3c 05 01");
+    step_is_idle(controller, UAS_STEP_DATA, 18);
+    controller_moves_dequeue(controller);
+    /* A doorbell starts the endpoint; other streams of it need theirs. */
+    puts_at(controller, UAS_RING_DATA_IN, 18, 0x43012030, "00 x16");
+    step_is_idle(controller, UAS_STEP_DATA, 18);
+    CHECK(uas_controller_doorbell(controller, 0x00110005) == 0);
+    step_is_idle(controller, UAS_STEP_DATA, 18);
+    CHECK(uas_controller_doorbell(controller, 0x00120005) == 0);
+    step_acts(controller, UAS_STEP_DATA, 18, 18);
+    transfer_is(controller, 0x43012030, 0, 5, 5);
+    no_event(controller);
+    uas_controller_free(controller);
+}
+
+/* Puts zeros on a ring until it has no room; how many. */
+static int puts_until_full(uas_controller *controller, uint8_t ring, uint16_t stream)
+{
+    static const uint8_t zeros[16];
+    uint64_t address;
+    int count = 0;
+    while (count < 1000 && uas_controller_put_raw(controller, ring, stream, zeros, &address) == 0)
+        count++;
+    CHECK(uas_controller_put_raw(controller, ring, stream, zeros, &address) == UAS_CONTROLLER_FULL);
+    return count;
+}
+
+/* Rings have room for so many, and go round over the Link's place. */
+static void controller_rings(void)
+{
+    uas_controller *controller = new_controller(1, 100);
+    CHECK(puts_until_full(controller, UAS_RING_COMMANDS, 0) == 14);
+    CHECK(puts_until_full(controller, UAS_RING_COMMAND_PIPE, 0) == 254);
+    CHECK(puts_until_full(controller, UAS_RING_DATA_OUT, 248) == 18);
+    context_is(controller, UAS_RING_DATA_OUT, 248, "03 80 0f 44 00 x12");
+    CHECK(uas_controller_doorbell(controller, 0x00f80004) == 0);
+    for (int i = 0; i < 2; i++)
+        step_acts(controller, UAS_STEP_DATA, 248, 248);
+    CHECK(puts_until_full(controller, UAS_RING_DATA_OUT, 248) == 0);
+    reclaims(controller, UAS_RING_DATA_OUT, 248, 0x440f8010);
+    puts_at(controller, UAS_RING_DATA_OUT, 248, 0x440f8120, "00 x16");
+    puts_at(controller, UAS_RING_DATA_OUT, 248, 0x440f8000, "00 x16");
+    for (int i = 0; i < 17; i++)
+        step_acts(controller, UAS_STEP_DATA, 248, 248);
+    context_is(controller, UAS_RING_DATA_OUT, 248, "02 80 0f 44 00 x12"); /* the second round: Cycle bit 0 */
+    step_acts(controller, UAS_STEP_DATA, 248, 248);
+    context_is(controller, UAS_RING_DATA_OUT, 248, "12 80 0f 44 00 x12");
+    CHECK(uas_controller_reclaim(controller, UAS_RING_DATA_OUT, 248, 0x440f8130) == UAS_CONTROLLER_NOT_CONSUMED); /* the Link's */
+    reclaims(controller, UAS_RING_DATA_OUT, 248, 0x440f8000);
+    uas_controller_free(controller);
+}
+
+/* 1,023 events wait at most, and then no step is due until one is taken. */
+static void controller_full_of_events(void)
+{
+    static const uint8_t zeros[16];
+    uint64_t address = 0;
+    uas_controller *controller = new_controller(1, 100);
+    puts_at(controller, UAS_RING_STATUS, 1, 0x42001000, "00 x16");
+    puts_at(controller, UAS_RING_COMMAND_PIPE, 0, 0x41000000, "00 x16");
+    puts_at(controller, UAS_RING_COMMANDS, 0, 0x50000000, "00 x16");
+    CHECK(uas_controller_doorbell(controller, 0x00010003) == 0);
+    CHECK(uas_controller_doorbell(controller, 0x00f80004) == 0);
+    for (int i = 0; i < 1023; i++) {
+        CHECK(uas_controller_put_raw(controller, UAS_RING_DATA_OUT, 248, zeros, &address) == 0);
+        step_acts(controller, UAS_STEP_DATA, 248, 248);
+        CHECK(uas_controller_reclaim(controller, UAS_RING_DATA_OUT, 248, address) == 0);
+    }
+    CHECK(uas_controller_put_raw(controller, UAS_RING_DATA_OUT, 248, zeros, &address) == 0);
+    step_is_idle(controller, UAS_STEP_COMMAND, 0);
+    step_is_idle(controller, UAS_STEP_ENGINE, 0);
+    step_is_idle(controller, UAS_STEP_STATUS, 1);
+    step_is_idle(controller, UAS_STEP_DATA, 248);
+    transfer_is(controller, 0x440f8000, 0, 5, 4);
+    step_acts(controller, UAS_STEP_STATUS, 1, 1);
+    step_is_idle(controller, UAS_STEP_COMMAND, 0);
+    uas_controller_free(controller);
+}
+
+/* A call of this door, of which all that isn't named here is EEh; it is refused and changes neither door nor data. */
+static void controller_refuses_call(uas_controller *controller, struct uas_controller_door named, size_t length, uint8_t fault)
+{
+    static uint8_t data[UAS_MOST_DATA_BYTES + 1];
+    struct uas_controller_door door = named;
+    door.acted = door.type = door.code = door.endpoint = door.slot = door.reserved[0] = door.reserved[1] = 0xee;
+    named = door;
+    memset(data, 0xee, sizeof data);
+    if (!CHECK(uas_controller_call(controller, &door, data, length) == fault))
+        fprintf(stderr, "    fault %u, call %u\n", fault, named.call);
+    CHECK(memcmp(&door, &named, sizeof door) == 0);
+    CHECK(all_are(data, sizeof data, 0xee));
+}
+
+#define REFUSES(fault, size, name, ...) \
+    controller_refuses_call(controller, (struct uas_controller_door){ .call = UAS_CONTROLLER_CALL_##name, __VA_ARGS__ }, size, UAS_CONTROLLER_##fault)
+
+static void controller_refuses_rings(uas_controller *controller)
+{
+    REFUSES(LENGTH, 15, PUT, .ring = 0);
+    REFUSES(LENGTH, 17, PUT, .ring = UAS_RING_COMMAND_PIPE);
+    REFUSES(RING, 16, PUT, .ring = 0);
+    REFUSES(RING, 16, PUT, .ring = 6);
+    REFUSES(RING, 16, PUT, .ring = UAS_RING_STATUS, .stream = 0);
+    REFUSES(RING, 16, PUT, .ring = UAS_RING_DATA_IN, .stream = 249);
+    REFUSES(RING, 16, PUT, .ring = UAS_RING_DATA_OUT, .stream = 65535);
+    REFUSES(RING, 16, PUT, .ring = UAS_RING_COMMAND_PIPE, .stream = 1);
+    REFUSES(RING, 16, PUT, .ring = UAS_RING_COMMANDS, .stream = 1);
+    REFUSES(RING, 0, RECLAIM, .ring = UAS_RING_COMMANDS, .stream = 1, .address = 0x50000000);
+    REFUSES(RING, 0, RECLAIM, .ring = UAS_RING_STATUS, .stream = 249, .address = 0x420f9000);
+    REFUSES(NOT_CONSUMED, 0, RECLAIM, .ring = UAS_RING_STATUS, .stream = 1, .address = 0x42001000);
+    REFUSES(LENGTH, 15, CONTEXT, .ring = UAS_RING_STATUS, .stream = 1);
+    REFUSES(LENGTH, 17, CONTEXT, .ring = 0);
+    REFUSES(RING, 16, CONTEXT, .ring = UAS_RING_COMMAND_PIPE);
+    REFUSES(RING, 16, CONTEXT, .ring = UAS_RING_COMMANDS);
+    REFUSES(RING, 16, CONTEXT, .ring = UAS_RING_DATA_OUT, .stream = 0);
+    REFUSES(RING, 16, CONTEXT, .ring = UAS_RING_DATA_OUT, .stream = 249);
+    REFUSES(STEP, 0, STEP, .step = 0, .tag = 1);
+    REFUSES(STEP, 0, STEP, .step = UAS_STEP_EVENT, .tag = 1);
+    REFUSES(STEP, 0, STEP, .step = UAS_STEP_RETIRE, .tag = 1);
+    REFUSES(STEP, 0, STEP, .step = 255, .tag = 1);
+    step_is_idle(controller, UAS_STEP_DATA, 0);
+    step_is_idle(controller, UAS_STEP_DATA, 249);
+    step_is_idle(controller, UAS_STEP_STATUS, 65535);
+}
+
+static void controller_refuses_addresses(uas_controller *controller)
+{
+    REFUSES(ADDRESS, 1, WRITE, .address = 0x10000000);
+    REFUSES(ADDRESS, 33, WRITE, .address = 0x10000100);
+    REFUSES(ADDRESS, 1, WRITE, .address = 0x10000120);
+    REFUSES(ADDRESS, 32, WRITE, .address = 0x100000ff);
+    REFUSES(ADDRESS, 1, WRITE, .address = 0x1000f900);
+    REFUSES(ADDRESS, 113, READ, .address = 0x20000100);
+    REFUSES(ADDRESS, 2, READ, .address = 0x2000f86f);
+    REFUSES(ADDRESS, 101, READ, .address = 0x100f80000);
+    REFUSES(ADDRESS, 1, READ, .address = 0x100f80064);
+    REFUSES(ADDRESS, 1, READ, .address = 0x100f70000);
+    REFUSES(ADDRESS, 1, READ, .address = 0x100010000);
+    REFUSES(ADDRESS, 1, READ, .address = 0x43012000);
+    REFUSES(ADDRESS, 1, READ, .address = 0xffffffffffffffff);
+    CHECK(uas_controller_read(controller, 0xffffffffffffffff, NULL, 0) == 0);
+    CHECK(uas_controller_write(controller, 0, NULL, 0) == 0);
+    memory_is(controller, 0x2000f86f, "00");
+    memory_is(controller, 0x100f80000, "00 x100");
+}
+
+static void controller_refuses(void)
+{
+    static const uint8_t window[100];
+    uint32_t length = 7777;
+    uas_controller *controller = new_controller(2, 10);
+    controller_refuses_call(controller, (struct uas_controller_door){ .call = 0 }, 0, UAS_CONTROLLER_CALL);
+    controller_refuses_call(controller, (struct uas_controller_door){ .call = 13 }, 16, UAS_CONTROLLER_CALL);
+    controller_refuses_call(controller, (struct uas_controller_door){ .call = 255 }, 16, UAS_CONTROLLER_CALL);
+    controller_refuses_rings(controller);
+    /* 100 bytes are lent for tag 248, and none for tag 247. */
+    CHECK(uas_controller_lend(controller, 248, window, 100) == 0);
+    CHECK(uas_controller_lend(controller, 247, NULL, 0) == 0);
+    controller_refuses_addresses(controller);
+    REFUSES(TAG, UAS_MOST_DATA_BYTES + 1, LEND, .tag = 0);
+    REFUSES(TAG, 1, LEND, .tag = 249);
+    REFUSES(LENGTH, UAS_MOST_DATA_BYTES + 1, LEND, .tag = 248);
+    REFUSES(LENT, 1, LEND, .tag = 248);
+    REFUSES(LENT, 0, LEND, .tag = 247);
+    REFUSES(TAG, 0, TAKE_BACK, .tag = 0);
+    REFUSES(TAG, 0, TAKE_BACK, .tag = 249);
+    REFUSES(NOT_LENT, 0, TAKE_BACK, .tag = 1);
+    REFUSES(LENGTH, 99, TAKE_BACK, .tag = 248);
+    CHECK(uas_controller_take_back(controller, 247, NULL, 0, &length) == 0 && length == 0);
+    REFUSES(NOT_LENT, 0, TAKE_BACK, .tag = 247);
+    REFUSES(UNIT, 511, BLOCKS, .unit = 2, .lba = 11);
+    REFUSES(LENGTH, 511, BLOCKS, .unit = 1, .lba = 11);
+    REFUSES(RANGE, 1024, BLOCKS, .unit = 1, .lba = 9);
+    REFUSES(RANGE, 0, MEDIUM, .unit = 1, .lba = 11);
+    REFUSES(RANGE, 512, MEDIUM, .unit = 1, .lba = 0xffffffff);
+    CHECK(uas_controller_medium(controller, 1, 10, NULL, 0) == 0);
+    no_event(controller);
+    uas_controller_free(controller);
+}
+
+static void controller_new_faults(void)
+{
+    uint32_t blocks[16];
+    uint8_t block[512];
+    uas_controller *controller = NULL;
+    for (int i = 0; i < 16; i++)
+        blocks[i] = 1;
+    CHECK(uas_controller_new(blocks, 0, &controller) == UAS_CONTROLLER_UNITS);
+    CHECK(uas_controller_new(blocks, 16, &controller) == UAS_CONTROLLER_UNITS);
+    blocks[14] = 0;
+    CHECK(uas_controller_new(blocks, 15, &controller) == UAS_CONTROLLER_BLOCKS);
+    blocks[14] = 65537;
+    CHECK(uas_controller_new(blocks, 15, &controller) == UAS_CONTROLLER_BLOCKS);
+    CHECK(controller == NULL);
+    blocks[14] = 65536;
+    CHECK(uas_controller_new(blocks, 15, &controller) == 0 && controller != NULL);
+    CHECK(uas_controller_blocks(controller, 14, 65535, block, sizeof block) == 0 && all_are(block, sizeof block, 0));
+    CHECK(uas_controller_blocks(controller, 13, 1, block, sizeof block) == UAS_CONTROLLER_RANGE);
+    uas_controller_free(controller);
+}
+
 /* ---- The bus ---- */
 
 static uint8_t bytes_of_replies[UAS_MOST_DATA_BYTES];
@@ -1058,6 +1583,15 @@ int main(void)
     device_moves();
     device_manages();
     device_refuses();
+    controller_new_faults();
+    controller_steps_over();
+    controller_tells_own();
+    controller_reads();
+    controller_lengths();
+    controller_stops();
+    controller_rings();
+    controller_full_of_events();
+    controller_refuses();
     bus_new_faults();
     bus_of_two();
     bus_read_sees_write();

@@ -1,0 +1,74 @@
+/* A driver's side of one command, against what stands behind a driver: units and TRBs go in, steps are taken, events come out.
+ *
+ *   cc -Iinclude examples/controller.c $(bindings/archive) -o controller && ./controller */
+#include "uas.h"
+#include <stdio.h>
+
+enum { TAG = 18, COMMAND_BUFFER = 0x10000000 + 0x100 * TAG, STATUS_BUFFER = 0x20000000 + 0x100 * TAG, STATUS = 3, DATA_IN = 5 };
+
+static const uint64_t window = 0x100000000 + 0x10000 * TAG;
+
+/* Puts a Normal TRB on a ring. */
+static bool put(uas_controller *controller, uint8_t ring, uint16_t stream, uint64_t pointer, uint32_t length)
+{
+    const struct uas_trb trb = { .type = UAS_TRB_NORMAL, .pointer = pointer, .length = length, .flags = UAS_TRB_IOC };
+    uint8_t bytes[16];
+    uint64_t address;
+    return uas_trb_encode(&trb, bytes) == 0 && uas_controller_put_raw(controller, ring, stream, bytes, &address) == 0;
+}
+
+/* Takes a step that is due, and prints the event that came of it. */
+static bool step(uas_controller *controller, uint8_t step)
+{
+    struct uas_controller_door event;
+    uint16_t tag = TAG;
+    bool acted;
+    if (uas_controller_step(controller, step, &tag, &acted) != 0 || !acted || uas_controller_event(controller, &event) != 0 || !event.acted)
+        return false;
+    printf("event at %llx: code %u, %u bytes left\n", (unsigned long long)event.address, event.code, event.value);
+    return true;
+}
+
+/* READ CAPACITY(10) as a driver does it, whose 8 bytes come back in `data`; whether all of it was done. */
+static bool read_capacity(uas_controller *controller, uint8_t data[8])
+{
+    const struct uas_unit unit = { .id = UAS_UNIT_COMMAND, .tag = TAG, .cdb = { UAS_READ_CAPACITY_10 } };
+    uint8_t bytes[UAS_MOST_UNIT_BYTES];
+    size_t length;
+    uint32_t lent;
+    return uas_unit_write(&unit, bytes, sizeof bytes, &length) == 0 &&
+           uas_controller_write(controller, COMMAND_BUFFER, bytes, length) == 0 &&
+           uas_controller_lend(controller, TAG, data, 8) == 0 &&
+           put(controller, UAS_RING_DATA_IN, TAG, window, 8) &&
+           put(controller, UAS_RING_STATUS, TAG, STATUS_BUFFER, UAS_MOST_UNIT_BYTES) &&
+           put(controller, UAS_RING_COMMAND_PIPE, 0, COMMAND_BUFFER, 32) &&
+           uas_controller_doorbell(controller, TAG << 16 | DATA_IN) == 0 &&
+           uas_controller_doorbell(controller, TAG << 16 | STATUS) == 0 &&
+           step(controller, UAS_STEP_COMMAND) && step(controller, UAS_STEP_DATA) && step(controller, UAS_STEP_STATUS) &&
+           uas_controller_take_back(controller, TAG, data, 8, &lent) == 0;
+}
+
+static void print(const char *name, const uint8_t *bytes, size_t length)
+{
+    printf("%s", name);
+    for (size_t i = 0; i < length; i++)
+        printf(" %02x", bytes[i]);
+    printf("\n");
+}
+
+int main(void)
+{
+    const uint32_t blocks = 100;
+    uint8_t data[8] = { 0 }, unit[16];
+    uas_controller *controller;
+    if (uas_controller_new(&blocks, 1, &controller) != 0)
+        return 1;
+    if (!read_capacity(controller, data) || uas_controller_read(controller, STATUS_BUFFER, unit, sizeof unit) != 0)
+        return 1;
+    print("data", data, sizeof data);
+    print("answer", unit, sizeof unit);
+    /* A TRB whose buffer isn't there, as nothing is lent any more. */
+    if (!put(controller, UAS_RING_DATA_IN, TAG, window, 8) || !step(controller, UAS_STEP_DATA))
+        return 1;
+    uas_controller_free(controller);
+}

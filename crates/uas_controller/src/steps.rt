@@ -15,6 +15,7 @@ impl Machine {
     pub fn command_step(&mut self) -> Acted
         ensures { command_by self.old ≡ (self.new, result) }
     {
+        // The controller's own clauses leave open what it does of a foreign front while the event ring is full.
         if self.lines.len() >= MOST_EVENTS {
             return Acted::Idle;
         }

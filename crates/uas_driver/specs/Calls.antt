@@ -1,6 +1,6 @@
 -- What the calls make of the driver, what they answer, and the doorbells that are to be written. A refused call leaves the driver as it
 -- was and gives no doorbell; of several refusals it answers the first that holds.
-use Rattle.std.specs.Prelude.{ℕ, ◌^◌, Bool, true, false, not, ◌&&◌, nat_lt, nat_le, if◌then◌else◌, List, [], ◌∷◌, length, Option, Some, Result, Ok, Err}
+use Rattle.std.specs.Prelude.{ℕ, ◌^◌, Bool, true, false, not, nat_lt, nat_le, if◌then◌else◌, List, [], ◌∷◌, length, Option, Some, Result, Ok, Err}
 use Rattle.std.specs.Option.{option_map_or}
 use Rattle.scsi_cmd.specs.declared.Command.{Command}
 use Rattle.scsi_cmd.specs.declared.Reply.{Reply}
@@ -24,7 +24,7 @@ use Rattle.uas_host.specs.Tds.{pushed, pushed_task}
 use Rattle.uas_driver.specs.declared.Refusal.{Refusal}
 use Rattle.uas_driver.specs.declared.Refusal.TheVariants.{BadTicket, NoRoom, BadAddress, NoRing, Fault}
 use Rattle.uas_driver.specs.Driver.{DriverState}
-use Rattle.uas_driver.specs.Room.{has_engine_room, has_room, has_task_room}
+use Rattle.uas_driver.specs.Room.{has_engine_room, lacks_room, lacks_task_room}
 use Rattle.uas_driver.specs.Settled.{settled}
 
 -- the driver after a call, what the call answers, and the doorbells
@@ -56,7 +56,7 @@ submitted_to driver client tag ticket command = (
 abbrev pub submit_by : DriverState → ℕ → ℕ → ℕ → Command → After (Result (Unit {0}) Refusal)
 submit_by driver client tag ticket command =
     if not (is_ticket ticket) then refused driver BadTicket
-    else (if has_stream tag && not (has_room driver.lines driver.frames tag) then refused driver NoRoom
+    else (if lacks_room driver.lines driver.frames tag then refused driver NoRoom
     else option_map_or (λ fault. refused driver (Fault fault)) (host_fault driver.host client tag ticket command)
     (submitted_to driver client tag ticket command))
 
@@ -75,7 +75,7 @@ managed_to driver client ticket task = (
 abbrev pub task_by : DriverState → ℕ → ℕ → Task → After (Result (Unit {0}) Refusal)
 task_by driver client ticket task =
     if not (is_ticket ticket) then refused driver BadTicket
-    else (if nat_lt client (length driver.host.clients) && not (has_task_room driver.lines (task_tag client)) then refused driver NoRoom
+    else (if lacks_task_room driver.host driver.lines client then refused driver NoRoom
     else option_map_or (λ fault. refused driver (Fault fault)) (task_fault driver.host client ticket task) (managed_to driver client ticket task))
 
 -- RETIREMENTS

@@ -3,12 +3,12 @@ ghost use Rattle.std.specs.Prelude.{◌≡◌, IfErr};
 ghost use Rattle.std.specs.Result.{result_map_both};
 ghost use Rattle.uas_driver.specs.Calls.{reply_by, retire_by, submit_by, task_by};
 
-use crate::room::{has_engine_room, has_room, has_stream, has_task_room};
+use crate::room::{has_engine_room, lacks_room, lacks_task_room, sound};
 use crate::{Driver, Refusal};
 use arrayvec::ArrayVec;
 use scsi_cmd::{Command, Reply, Task};
 use stream_array::Pipe;
-use uas_profile::{STREAM_ENTRIES, TAGS};
+use uas_profile::STREAM_ENTRIES;
 
 /// The first number that is no ticket.
 const TICKETS: u64 = 1 << 60;
@@ -34,7 +34,8 @@ impl Driver {
         if ticket >= TICKETS {
             return Err((Refusal::BadTicket, command));
         }
-        if has_stream(tag) && !has_room(&self.lines, &mut self.frames, tag) {
+        sound(&self.host);
+        if lacks_room(&self.lines, &mut self.frames, tag) {
             return Err((Refusal::NoRoom, command));
         }
         match self.host.submit(
@@ -66,8 +67,7 @@ impl Driver {
         if ticket >= TICKETS {
             return Err(Refusal::BadTicket);
         }
-        let clients = self.host.clients();
-        if client < clients && !has_task_room(&self.lines, (client * TAGS + TAGS) as u16) {
+        if lacks_task_room(&self.host, &self.lines, client) {
             return Err(Refusal::NoRoom);
         }
         match self

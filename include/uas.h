@@ -1,8 +1,10 @@
 /* uas.h: USB Attached SCSI over xHCI streams for C, from a verified library (link libuas.a).
  *
- *   codecs   TRBs, information units, CDBs, sense and data: bytes to fields and back
- *   device   uas_device: units in, units and data out, for up to 15 logical units of 512 byte blocks
- *   bus      uas_bus: host, xHCI controller and device as one machine of atomic steps
+ *   codecs      TRBs, information units, CDBs, sense and data: bytes to fields and back
+ *   device      uas_device: units in, units and data out, for up to 15 logical units of 512 byte blocks
+ *   controller  uas_controller: what stands behind a driver, rings and doorbells in, events out: xHCI controller and device
+ *   driver      uas_driver: what stands in front of a controller: host, rings and buffers, events in, doorbells out
+ *   bus         uas_bus: host, xHCI controller and device as one machine of atomic steps
  *
  * A call's value is its fault: 0 for done, else a number named below. A refused call changes nothing, what it would have written
  * included; of several faults it answers the first that holds, in the order in which they are listed. Numbers in structs are in
@@ -14,11 +16,12 @@
  *      and behind it is as much memory as the type, the array bound or the length beside it says: never less.
  *   2. During a call nothing else reads or writes what the call may write, and nothing writes what it reads: no two of its
  *      arguments overlap.
- *   3. A uas_device or uas_bus pointer comes from uas_device_new or uas_bus_new and wasn't given to its free yet.
+ *   3. A uas_device, uas_controller or uas_bus pointer comes from uas_device_new, uas_controller_new or uas_bus_new and wasn't given
+ *      to its free yet.
  *   4. A handle is in one call at a time, in whatever thread: what one thread's call wrote must be seen by the next thread's, as a
  *      lock sees to. Calls without a handle may run in any thread at any time.
  *   5. The program's malloc, realloc and free are one allocator's, and align as the C standard asks (16 bytes on x86-64). Memory
- *      is taken in uas_device_new, uas_bus_new and for the data of uas_bus_submit alone.
+ *      is taken in uas_device_new, uas_controller_new, uas_bus_new, and for the data of uas_controller_lend and uas_bus_submit alone.
  *   6. A call finds 64 KiB of stack. None is made from a signal handler, nor in the child of a fork of a program with threads.
  *
  * Sections are those of xHCI 1.2, of INCITS 471 (UAS), and of SPC, SBC and SAM by name. */
@@ -440,6 +443,485 @@ static inline uint8_t uas_device_medium(uas_device *device, uint16_t unit, uint3
     return uas_device_copy(device, UAS_DEVICE_CALL_MEDIUM, unit, lba, data, length);
 }
 
+/* ---- The controller and its disk (xHCI 4.6 to 4.12) ----
+ *
+ *   driver --put, doorbell--> rings --step--> controller <--units, data--> device
+ *      ^                                          |
+ *      +------------------event-------------------+
+ *
+ * What stands behind a driver: rings, buffers, stream contexts, an xHCI controller and the device, without a host. The driver puts
+ * any 16 bytes on a ring, whose Cycle bit and Link TRB the ring sees to, rings doorbells and takes events; nothing happens but by
+ * steps. Bytes that aren't the TRB that a step wants are stepped over, with an event of completion code 5, TRB Error.
+ *
+ * Where things lie: the ring of stream s of a pipe at 40000000h + 1000000h * n + 1000h * s, n being 1 for the command pipe (s 0), 2
+ * status, 3 data in, 4 data out; the controller's command ring at 50000000h; of tag t the command buffer of 32 bytes at 10000000h +
+ * 100h * t, the status buffer of 112 bytes at 20000000h + 100h * t, and what is lent for it at 100000000h + 10000h * t. Streams and
+ * buffers are those of tags 1 to 248. The command pipe's ring has room for 254 items, a stream's for 18, the command ring's for 14. */
+typedef struct uas_controller uas_controller;
+
+enum {
+    UAS_CONTROLLER_UNITS = 2,        /* no logical unit, or more than 15 */
+    UAS_CONTROLLER_BLOCKS = 3,       /* a unit of no block, or of more than 65,536 */
+    UAS_CONTROLLER_CALL = 4,         /* there is no such call */
+    UAS_CONTROLLER_RING = 5,         /* there is no such ring */
+    UAS_CONTROLLER_FULL = 6,         /* the ring has no room */
+    UAS_CONTROLLER_STEP = 7,         /* there is no such step */
+    UAS_CONTROLLER_ADDRESS = 8,      /* what is named isn't all in one buffer */
+    UAS_CONTROLLER_TAG = 9,          /* no tag that has buffers */
+    UAS_CONTROLLER_LENGTH = 10,      /* not the 16 bytes that are wanted, more than 65,536, less than was lent, no multiple of 512 */
+    UAS_CONTROLLER_LENT = 11,        /* something is lent for the tag already */
+    UAS_CONTROLLER_NOT_LENT = 12,    /* nothing is lent for the tag */
+    UAS_CONTROLLER_NOT_CONSUMED = 13, /* the address isn't that of a consumed item that wasn't given back */
+    UAS_CONTROLLER_UNIT = 14,        /* there is no such logical unit */
+    UAS_CONTROLLER_RANGE = 15        /* blocks beyond the unit's last */
+};
+
+/* A controller with a device of `units` logical units, unit c of blocks[c] zeroed blocks. Rings and buffers are zeros, every endpoint
+ * runs and no doorbell was rung. *controller is for uas_controller_free.
+ * Faults: UAS_CONTROLLER_UNITS, UAS_CONTROLLER_BLOCKS, UAS_NO_MEMORY. */
+uint8_t uas_controller_new(const uint32_t *blocks, size_t units, uas_controller **controller);
+
+/* Gives back all memory that the controller holds, but the block of malloc that the pointer is of. For uas_controller_free alone. */
+void uas_controller_close(uas_controller *controller);
+
+/* Gives all its memory back, and what was lent. No fault. */
+static inline void uas_controller_free(uas_controller *controller)
+{
+    uas_controller_close(controller);
+    free(controller);
+}
+
+/* Which call of the controller. */
+enum {
+    UAS_CONTROLLER_CALL_PUT = 1,
+    UAS_CONTROLLER_CALL_DOORBELL = 2,
+    UAS_CONTROLLER_CALL_STEP = 3,
+    UAS_CONTROLLER_CALL_EVENT = 4,
+    UAS_CONTROLLER_CALL_WRITE = 5,
+    UAS_CONTROLLER_CALL_READ = 6,
+    UAS_CONTROLLER_CALL_LEND = 7,
+    UAS_CONTROLLER_CALL_TAKE_BACK = 8,
+    UAS_CONTROLLER_CALL_RECLAIM = 9,
+    UAS_CONTROLLER_CALL_CONTEXT = 10,
+    UAS_CONTROLLER_CALL_BLOCKS = 11,
+    UAS_CONTROLLER_CALL_MEDIUM = 12
+};
+
+/* Rings. Those of the three pipes with streams have one for each stream from 1 to 248; the other two are one ring, stream 0. */
+enum {
+    UAS_RING_STATUS = 1,
+    UAS_RING_DATA_IN = 2,
+    UAS_RING_DATA_OUT = 3,
+    UAS_RING_COMMAND_PIPE = 4,
+    UAS_RING_COMMANDS = 5 /* the controller's own command ring */
+};
+
+/* What goes in and comes out beside the data, where a call has it. */
+struct uas_controller_door {
+    uint64_t address; /* in of WRITE, READ, RECLAIM; out of PUT; out of EVENT: the TRB that the event is about */
+    uint32_t value;   /* in of DOORBELL; out of EVENT: bytes that weren't moved; out of TAKE_BACK: how many bytes were lent */
+    uint32_t lba;     /* in of BLOCKS, MEDIUM */
+    uint16_t stream;  /* in of PUT, RECLAIM, CONTEXT */
+    uint16_t tag;     /* in of STEP, LEND, TAKE_BACK; out of STEP */
+    uint16_t unit;    /* in of BLOCKS, MEDIUM: the number of the logical unit */
+    uint8_t call;     /* in: UAS_CONTROLLER_CALL_... */
+    uint8_t ring;     /* in of PUT, RECLAIM, CONTEXT: UAS_RING_... */
+    uint8_t step;     /* in of STEP: UAS_STEP_COMMAND to UAS_STEP_ENGINE */
+    uint8_t acted;    /* out of STEP: 0 or 1; of EVENT: 1 where there was one */
+    uint8_t type;     /* out of EVENT: UAS_TRB_TRANSFER_EVENT or UAS_TRB_COMMAND_EVENT */
+    uint8_t code;     /* out of EVENT: the completion code (6.4.5) */
+    uint8_t endpoint; /* out of EVENT: the endpoint ID, 0 of a command's event */
+    uint8_t slot;     /* out of EVENT */
+    uint8_t reserved[2];
+};
+UAS_ASSERT(sizeof(struct uas_controller_door) == 32 && offsetof(struct uas_controller_door, call) == 22);
+
+/* Any call of the controller; those below are easier to use. Where a call has no data, `length` may be 0.
+ * Fault: UAS_CONTROLLER_CALL, and those of the call; of PUT and CONTEXT UAS_CONTROLLER_LENGTH first, where the data isn't 16 bytes. */
+uint8_t uas_controller_call(uas_controller *controller, struct uas_controller_door *door, uint8_t *data, size_t length);
+
+/* Puts 16 bytes behind a ring's last item, with the ring's Cycle bit in place of theirs; *address is where they stand.
+ * Faults: UAS_CONTROLLER_RING, UAS_CONTROLLER_FULL. */
+static inline uint8_t uas_controller_put_raw(uas_controller *controller, uint8_t ring, uint16_t stream, const uint8_t bytes[16],
+                                             uint64_t *address)
+{
+    struct uas_controller_door door = UAS_ZEROED;
+    door.call = UAS_CONTROLLER_CALL_PUT;
+    door.ring = ring;
+    door.stream = stream;
+    uint8_t fault = uas_controller_call(controller, &door, uas_bytes(bytes, 16), 16);
+    if (fault == 0)
+        *address = door.address;
+    return fault;
+}
+
+/* Writes a doorbell (5.6): the endpoint ID in bits 7:0 (3 status, 4 data out, 5 data in), the stream in bits 31:16. Any other value
+ * changes nothing. No fault. */
+static inline uint8_t uas_controller_doorbell(uas_controller *controller, uint32_t value)
+{
+    struct uas_controller_door door = UAS_ZEROED;
+    door.call = UAS_CONTROLLER_CALL_DOORBELL;
+    door.value = value;
+    return uas_controller_call(controller, &door, uas_bytes(NULL, 0), 0);
+}
+
+/* Takes one step, if it is due: UAS_STEP_COMMAND, UAS_STEP_ENGINE, and of a tag UAS_STEP_DATA and UAS_STEP_STATUS. *tag is the tag
+ * that it acted on: 0 of the command ring, and of the command pipe where no task began.
+ * Fault: UAS_CONTROLLER_STEP. */
+static inline uint8_t uas_controller_step(uas_controller *controller, uint8_t step, uint16_t *tag, bool *acted)
+{
+    struct uas_controller_door door = UAS_ZEROED;
+    door.call = UAS_CONTROLLER_CALL_STEP;
+    door.step = step;
+    door.tag = *tag;
+    uint8_t fault = uas_controller_call(controller, &door, uas_bytes(NULL, 0), 0);
+    if (fault == 0) {
+        *acted = door.acted != 0;
+        *tag = door.tag;
+    }
+    return fault;
+}
+
+/* Takes the oldest event off the event ring: event->acted is 1 where there was one, and then address, value, type, code, endpoint and
+ * slot are written. No fault. */
+static inline uint8_t uas_controller_event(uas_controller *controller, struct uas_controller_door *event)
+{
+    struct uas_controller_door door = UAS_ZEROED;
+    door.call = UAS_CONTROLLER_CALL_EVENT;
+    uint8_t fault = uas_controller_call(controller, &door, uas_bytes(NULL, 0), 0);
+    if (fault == 0)
+        *event = door;
+    return fault;
+}
+
+static inline uint8_t uas_controller_memory(uas_controller *controller, uint8_t call, uint64_t address, const uint8_t *data, size_t length)
+{
+    struct uas_controller_door door = UAS_ZEROED;
+    door.call = call;
+    door.address = address;
+    return uas_controller_call(controller, &door, uas_bytes(data, length), length);
+}
+
+/* Writes bytes of one buffer.
+ * Fault: UAS_CONTROLLER_ADDRESS. */
+static inline uint8_t uas_controller_write(uas_controller *controller, uint64_t address, const uint8_t *data, size_t length)
+{
+    return uas_controller_memory(controller, UAS_CONTROLLER_CALL_WRITE, address, data, length);
+}
+
+/* Reads bytes of one buffer.
+ * Fault: UAS_CONTROLLER_ADDRESS. */
+static inline uint8_t uas_controller_read(uas_controller *controller, uint64_t address, uint8_t *data, size_t length)
+{
+    return uas_controller_memory(controller, UAS_CONTROLLER_CALL_READ, address, data, length);
+}
+
+/* Lends a copy of at most 65,536 bytes as the data buffer of a tag.
+ * Faults: UAS_CONTROLLER_TAG, UAS_CONTROLLER_LENGTH, UAS_NO_MEMORY, UAS_CONTROLLER_LENT. */
+static inline uint8_t uas_controller_lend(uas_controller *controller, uint16_t tag, const uint8_t *data, size_t length)
+{
+    struct uas_controller_door door = UAS_ZEROED;
+    door.call = UAS_CONTROLLER_CALL_LEND;
+    door.tag = tag;
+    return uas_controller_call(controller, &door, uas_bytes(data, length), length);
+}
+
+/* Ends the loan of a tag and writes what it holds into the first *length of `room` bytes.
+ * Faults: UAS_CONTROLLER_TAG, UAS_CONTROLLER_NOT_LENT, UAS_CONTROLLER_LENGTH. */
+static inline uint8_t uas_controller_take_back(uas_controller *controller, uint16_t tag, uint8_t *data, size_t room, uint32_t *length)
+{
+    struct uas_controller_door door = UAS_ZEROED;
+    door.call = UAS_CONTROLLER_CALL_TAKE_BACK;
+    door.tag = tag;
+    uint8_t fault = uas_controller_call(controller, &door, uas_bytes(data, room), room);
+    if (fault == 0)
+        *length = door.value;
+    return fault;
+}
+
+/* Gives a ring's consumed items back to it, from the oldest up to the one at an address, so that their places can be used again. On
+ * the command ring the address is that of a TRB that decodes.
+ * Faults: UAS_CONTROLLER_RING, UAS_CONTROLLER_NOT_CONSUMED. */
+static inline uint8_t uas_controller_reclaim(uas_controller *controller, uint8_t ring, uint16_t stream, uint64_t address)
+{
+    struct uas_controller_door door = UAS_ZEROED;
+    door.call = UAS_CONTROLLER_CALL_RECLAIM;
+    door.ring = ring;
+    door.stream = stream;
+    door.address = address;
+    return uas_controller_call(controller, &door, uas_bytes(NULL, 0), 0);
+}
+
+/* Reads the context of a stream (6.2.4.1).
+ * Fault: UAS_CONTROLLER_RING. */
+static inline uint8_t uas_controller_context(uas_controller *controller, uint8_t ring, uint16_t stream, uint8_t bytes[16])
+{
+    struct uas_controller_door door = UAS_ZEROED;
+    door.call = UAS_CONTROLLER_CALL_CONTEXT;
+    door.ring = ring;
+    door.stream = stream;
+    return uas_controller_call(controller, &door, uas_bytes(bytes, 16), 16);
+}
+
+static inline uint8_t uas_controller_copy(uas_controller *controller, uint8_t call, uint16_t unit, uint32_t lba, uint8_t *data, size_t length)
+{
+    struct uas_controller_door door = UAS_ZEROED;
+    door.call = call;
+    door.unit = unit;
+    door.lba = lba;
+    return uas_controller_call(controller, &door, uas_bytes(data, length), length);
+}
+
+/* The blocks of a logical unit from `lba` on, as a READ of this moment would give them.
+ * Faults: UAS_CONTROLLER_UNIT, UAS_CONTROLLER_LENGTH (no multiple of 512), UAS_CONTROLLER_RANGE. */
+static inline uint8_t uas_controller_blocks(uas_controller *controller, uint16_t unit, uint32_t lba, uint8_t *data, size_t length)
+{
+    return uas_controller_copy(controller, UAS_CONTROLLER_CALL_BLOCKS, unit, lba, data, length);
+}
+
+/* The same of the medium. */
+static inline uint8_t uas_controller_medium(uas_controller *controller, uint16_t unit, uint32_t lba, uint8_t *data, size_t length)
+{
+    return uas_controller_copy(controller, UAS_CONTROLLER_CALL_MEDIUM, unit, lba, data, length);
+}
+
+/* ---- The driver (xHCI 4.6 to 4.12; INCITS 471) ----
+ *
+ *   clients --submit, task, retire--> driver --doorbells--> your controller
+ *      ^                                |  ^                    |
+ *      +-------------reply--------------+  +-------events-------+
+ *
+ * What stands in front of a controller: host, rings, stream contexts and buffers, without a controller. A call tells the doorbells that
+ * are to be written; the controller beyond reads items, contexts and buffers by address, writes buffers, and hands in events, which
+ * alone tell the driver how far it came. It may do anything: no event and no byte of a buffer is asked to be right.
+ *
+ * Clients, tags and tickets are those of a bus, and things lie where they do for uas_controller. */
+typedef struct uas_driver uas_driver;
+
+enum {
+    UAS_DRIVER_NOT_YOURS = 1,    /* no such client, or the tag is no command tag of it */
+    UAS_DRIVER_IN_USE = 2,       /* something is under the tag, or under the tag of task management */
+    UAS_DRIVER_BAD_LENGTH = 3,   /* the data isn't as long as what the command moves */
+    UAS_DRIVER_TOO_LONG = 4,     /* a READ or WRITE of more than 128 blocks */
+    UAS_DRIVER_OUT_OF_TURN = 5,  /* the ticket isn't above the client's last accepted one */
+    UAS_DRIVER_NO_SUCH_TASK = 6, /* no command of the client is under the tag to abort or to query */
+    UAS_DRIVER_NO_MEMORY = 16,
+    UAS_DRIVER_CALL = 17,      /* there is no such call */
+    UAS_DRIVER_CLIENTS = 18,   /* no client, or more than 15 */
+    UAS_DRIVER_OPERATION = 19, /* an unknown operation code, or what UAS_CDB_UNFIT is for */
+    UAS_DRIVER_TICKET = 20,    /* 2^60 or more */
+    UAS_DRIVER_LENGTH = 21,    /* less than 65,536 bytes for a reply's data; not the 16 bytes of an item, a context */
+    UAS_DRIVER_FUNCTION = 22,  /* none of UAS_ABORT_TASK, UAS_LOGICAL_UNIT_RESET, UAS_QUERY_TASK */
+    UAS_DRIVER_ROOM = 23,      /* a ring has too few places, as the controller beyond completed too little */
+    UAS_DRIVER_ADDRESS = 24,   /* what is named isn't all in one buffer; no item and no Link TRB stands there */
+    UAS_DRIVER_RING = 25,      /* no pipe with streams, or no stream from 1 to 248 */
+    UAS_DRIVER_EVENT = 26      /* neither a Transfer Event nor a Command Completion Event */
+};
+
+/* A driver of so many clients, 1 to 15, that have submitted nothing. *driver is for uas_driver_free.
+ * Faults: UAS_DRIVER_CLIENTS, UAS_DRIVER_NO_MEMORY. */
+uint8_t uas_driver_new(size_t clients, uas_driver **driver);
+
+/* Gives back all memory that the driver holds, but the block of malloc that the pointer is of. For uas_driver_free alone. */
+void uas_driver_close(uas_driver *driver);
+
+/* Gives all its memory back, and that of commands that got no reply. No fault. */
+static inline void uas_driver_free(uas_driver *driver)
+{
+    uas_driver_close(driver);
+    free(driver);
+}
+
+/* Which call of the driver. */
+enum {
+    UAS_DRIVER_CALL_SUBMIT = 1,
+    UAS_DRIVER_CALL_TASK = 2,
+    UAS_DRIVER_CALL_RETIRE = 3,
+    UAS_DRIVER_CALL_LEFT_OVER = 4,
+    UAS_DRIVER_CALL_EVENT = 5,
+    UAS_DRIVER_CALL_REPLY = 6,
+    UAS_DRIVER_CALL_READ = 7,
+    UAS_DRIVER_CALL_WRITE = 8,
+    UAS_DRIVER_CALL_ITEM = 9,
+    UAS_DRIVER_CALL_CONTEXT = 10
+};
+
+/* What an event was. */
+enum { UAS_EVENT_STRAY = 0, UAS_EVENT_MATCHED = 1, UAS_EVENT_ENGINE = 2 };
+
+/* What goes in and comes out beside the data, where a call has it. */
+struct uas_driver_door {
+    uint64_t ticket;                /* in of SUBMIT, TASK; out of REPLY */
+    uint64_t address;               /* in of READ, WRITE, ITEM; in of EVENT: the TRB that the event is about */
+    struct uas_operation operation; /* in of SUBMIT */
+    uint32_t client;                /* in of SUBMIT, TASK, REPLY */
+    uint32_t length;                /* in of EVENT: bytes that weren't moved, below 2^24; out of REPLY: bytes of its data */
+    uint16_t tag;                   /* in of SUBMIT, TASK, RETIRE, LEFT_OVER; out of LEFT_OVER, of REPLY, of EVENT where it was matched */
+    uint16_t stream;                /* in of CONTEXT */
+    uint16_t doorbells;             /* out of SUBMIT, TASK, RETIRE, EVENT: how many */
+    uint8_t call;                   /* in: UAS_DRIVER_CALL_... */
+    uint8_t pipe;                   /* in of RETIRE, LEFT_OVER, CONTEXT: UAS_PIPE_... */
+    uint8_t function;               /* in of TASK */
+    uint8_t acted;                  /* out of RETIRE, LEFT_OVER, REPLY: 0 or 1; out of EVENT: UAS_EVENT_... */
+    uint8_t type;                   /* in of EVENT: UAS_TRB_TRANSFER_EVENT or UAS_TRB_COMMAND_EVENT */
+    uint8_t code;                   /* in of EVENT: the completion code (6.4.5) */
+    uint8_t endpoint;               /* in of EVENT: the endpoint ID */
+    uint8_t slot;                   /* in of EVENT */
+    uint8_t reply;                  /* out of REPLY: UAS_REPLY_... */
+    uint8_t status;                 /* out of REPLY: the SCSI status, or a task management's response code */
+    uint8_t sense_length;           /* out of REPLY */
+    uint8_t reserved[7];
+    uint8_t sense[96];              /* out of REPLY: its first sense_length bytes */
+    uint32_t doorbell[256];         /* out of SUBMIT, TASK, RETIRE, EVENT: its first `doorbells` values, in the order in which to write them */
+};
+UAS_ASSERT(sizeof(struct uas_driver_door) == 1192 && offsetof(struct uas_driver_door, call) == 54);
+UAS_ASSERT(offsetof(struct uas_driver_door, sense) == 72 && offsetof(struct uas_driver_door, doorbell) == 168);
+
+/* Any call of the driver; those below are easier to use. Where a call has no data, `length` may be 0.
+ * Fault: UAS_DRIVER_CALL, and those of the call. */
+uint8_t uas_driver_call(uas_driver *driver, struct uas_driver_door *door, uint8_t *data, size_t length);
+
+/* A client submits a command under one of its command tags, as uas_bus_submit. told->doorbell has the told->doorbells values to write.
+ * Faults: UAS_DRIVER_TICKET, UAS_DRIVER_OPERATION, UAS_DRIVER_NO_MEMORY, UAS_DRIVER_ROOM, UAS_DRIVER_NOT_YOURS to
+ * UAS_DRIVER_OUT_OF_TURN. */
+static inline uint8_t uas_driver_submit(uas_driver *driver, uint32_t client, uint16_t tag, uint64_t ticket,
+                                        const struct uas_operation *operation, const uint8_t *data, size_t length,
+                                        struct uas_driver_door *told)
+{
+    struct uas_driver_door door = UAS_ZEROED;
+    door.call = UAS_DRIVER_CALL_SUBMIT;
+    door.client = client;
+    door.tag = tag;
+    door.ticket = ticket;
+    door.operation = *operation;
+    uint8_t fault = uas_driver_call(driver, &door, uas_bytes(data, length), length);
+    if (fault == 0)
+        *told = door;
+    return fault;
+}
+
+/* A client submits a task management, as uas_bus_task. told->doorbell has the told->doorbells values to write.
+ * Faults: UAS_DRIVER_TICKET, UAS_DRIVER_FUNCTION, UAS_DRIVER_ROOM, UAS_DRIVER_NOT_YOURS, UAS_DRIVER_IN_USE,
+ * UAS_DRIVER_OUT_OF_TURN, UAS_DRIVER_NO_SUCH_TASK. */
+static inline uint8_t uas_driver_task(uas_driver *driver, uint32_t client, uint64_t ticket, uint8_t function, uint16_t tag,
+                                      struct uas_driver_door *told)
+{
+    struct uas_driver_door door = UAS_ZEROED;
+    door.call = UAS_DRIVER_CALL_TASK;
+    door.client = client;
+    door.ticket = ticket;
+    door.function = function;
+    door.tag = tag;
+    uint8_t fault = uas_driver_call(driver, &door, uas_bytes(NULL, 0), 0);
+    if (fault == 0)
+        *told = door;
+    return fault;
+}
+
+/* Begins to take a tag's TD, which nothing will complete, off a pipe: told->acted is 1 where none is under way and the TD is left
+ * over. told->doorbell has the told->doorbells values to write.
+ * Faults: UAS_DRIVER_RING, UAS_DRIVER_ROOM. */
+static inline uint8_t uas_driver_retire(uas_driver *driver, uint8_t pipe, uint16_t tag, struct uas_driver_door *told)
+{
+    struct uas_driver_door door = UAS_ZEROED;
+    door.call = UAS_DRIVER_CALL_RETIRE;
+    door.pipe = pipe;
+    door.tag = tag;
+    uint8_t fault = uas_driver_call(driver, &door, uas_bytes(NULL, 0), 0);
+    if (fault == 0)
+        *told = door;
+    return fault;
+}
+
+/* The least tag above *tag whose TD on a pipe is left over; *there is false, and *tag as it was, where there is none.
+ * Fault: UAS_DRIVER_RING. */
+static inline uint8_t uas_driver_left_over(uas_driver *driver, uint8_t pipe, uint16_t *tag, bool *there)
+{
+    struct uas_driver_door door = UAS_ZEROED;
+    door.call = UAS_DRIVER_CALL_LEFT_OVER;
+    door.pipe = pipe;
+    door.tag = *tag;
+    uint8_t fault = uas_driver_call(driver, &door, uas_bytes(NULL, 0), 0);
+    if (fault == 0) {
+        *there = door.acted != 0;
+        *tag = door.tag;
+    }
+    return fault;
+}
+
+/* Hands an event in, as uas_trb_decode reads it: told->acted is UAS_EVENT_STRAY, UAS_EVENT_MATCHED (then of told->tag), or
+ * UAS_EVENT_ENGINE. told->doorbell has the told->doorbells values to write.
+ * Fault: UAS_DRIVER_EVENT. */
+static inline uint8_t uas_driver_event(uas_driver *driver, const struct uas_trb *event, struct uas_driver_door *told)
+{
+    struct uas_driver_door door = UAS_ZEROED;
+    door.call = UAS_DRIVER_CALL_EVENT;
+    door.address = event->pointer;
+    door.length = event->length;
+    door.type = event->type;
+    door.code = event->code;
+    door.endpoint = event->endpoint;
+    door.slot = event->slot;
+    uint8_t fault = uas_driver_call(driver, &door, uas_bytes(NULL, 0), 0);
+    if (fault == 0)
+        *told = door;
+    return fault;
+}
+
+/* A client takes its oldest reply that is ready, as uas_bus_reply.
+ * Fault: UAS_DRIVER_LENGTH. */
+static inline uint8_t uas_driver_reply(uas_driver *driver, uint32_t client, uint8_t *data, size_t length, struct uas_driver_door *reply)
+{
+    struct uas_driver_door door = UAS_ZEROED;
+    door.call = UAS_DRIVER_CALL_REPLY;
+    door.client = client;
+    uint8_t fault = uas_driver_call(driver, &door, uas_bytes(data, length), length);
+    if (fault == 0)
+        *reply = door;
+    return fault;
+}
+
+static inline uint8_t uas_driver_memory(uas_driver *driver, uint8_t call, uint64_t address, const uint8_t *data, size_t length)
+{
+    struct uas_driver_door door = UAS_ZEROED;
+    door.call = call;
+    door.address = address;
+    return uas_driver_call(driver, &door, uas_bytes(data, length), length);
+}
+
+/* The controller beyond reads bytes of one buffer.
+ * Fault: UAS_DRIVER_ADDRESS. */
+static inline uint8_t uas_driver_read(uas_driver *driver, uint64_t address, uint8_t *data, size_t length)
+{
+    return uas_driver_memory(driver, UAS_DRIVER_CALL_READ, address, data, length);
+}
+
+/* The controller beyond writes bytes of one buffer.
+ * Fault: UAS_DRIVER_ADDRESS. */
+static inline uint8_t uas_driver_write(uas_driver *driver, uint64_t address, const uint8_t *data, size_t length)
+{
+    return uas_driver_memory(driver, UAS_DRIVER_CALL_WRITE, address, data, length);
+}
+
+/* The controller beyond reads the 16 bytes at a place of a ring: of an item, or of the Link TRB. Nothing stands at a place that is free:
+ * what memory has there is of an earlier round, or zeros.
+ * Fault: UAS_DRIVER_ADDRESS. */
+static inline uint8_t uas_driver_item(uas_driver *driver, uint64_t address, uint8_t bytes[16])
+{
+    return uas_driver_memory(driver, UAS_DRIVER_CALL_ITEM, address, bytes, 16);
+}
+
+/* The controller beyond reads the context of a stream (6.2.4.1), 1 to 248.
+ * Fault: UAS_DRIVER_RING. */
+static inline uint8_t uas_driver_context(uas_driver *driver, uint8_t pipe, uint16_t stream, uint8_t bytes[16])
+{
+    struct uas_driver_door door = UAS_ZEROED;
+    door.call = UAS_DRIVER_CALL_CONTEXT;
+    door.pipe = pipe;
+    door.stream = stream;
+    return uas_driver_call(driver, &door, uas_bytes(bytes, 16), 16);
+}
+
 /* ---- The bus (xHCI 4.6, 4.11, 4.12; INCITS 471) ----
  *
  *   client --submit--> command pipe --step--> device --step--> data
@@ -493,7 +975,7 @@ enum {
     UAS_STEP_RETIRE = 6   /* the host begins to take the tag's TD, which nothing will complete, off a pipe */
 };
 
-/* Pipes of UAS_STEP_RETIRE. */
+/* Pipes of UAS_STEP_RETIRE, and of a driver's calls. */
 enum { UAS_PIPE_STATUS = 1, UAS_PIPE_DATA_IN = 2, UAS_PIPE_DATA_OUT = 3 };
 
 /* Kinds of reply. */

@@ -1,6 +1,5 @@
 pub mod Texts
 pub mod Lent
-pub mod Found
 pub mod LeftOver
 pub mod ExportCode
 pub mod Called

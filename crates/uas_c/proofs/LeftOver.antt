@@ -15,17 +15,17 @@ find-least test zero from next least most is before = absurd (omega (arith, leas
 find-least test (suc n) from next least most is before =
     elim (cases_Bool (test from)) as (λ _. find test (range_with_len from (suc n)) ≡ Some next) [
       | inl here ↦
-        let same : from ≡ next = elim (cases_eq from next) as (λ _. from ≡ next) [
-          | inl same ↦ same
-          | inr other ↦ absurd (false≢true (sym (before from (omega arith) (omega (arith, least, other))) ∙ here))
-        ] in
-        rw here (ap (λ k. Some k) same)
+          let same : from ≡ next = elim (cases_eq from next) as (λ _. from ≡ next) [
+            | inl same ↦ same
+            | inr other ↦ absurd (false≢true (sym (before from (omega arith) (omega (arith, least, other))) ∙ here))
+          ] in
+          rw here (ap (λ k. Some k) same)
       | inr past ↦
-        let further : from + 1 ≤ next = elim (cases_eq from next) as (λ _. from + 1 ≤ next) [
-          | inl same ↦ absurd (false≢true (sym past ∙ ap test same ∙ is))
-          | inr other ↦ omega (arith, least, other)
-        ] in
-        rw past (find-least test n (from + 1) next further (omega (arith, most)) is (λ k above. before k (omega (arith, above))))
+          let further : from + 1 ≤ next = elim (cases_eq from next) as (λ _. from + 1 ≤ next) [
+            | inl same ↦ absurd (false≢true (sym past ∙ ap test same ∙ is))
+            | inr other ↦ omega (arith, least, other)
+          ] in
+          rw past (find-least test n (from + 1) next further (omega (arith, most)) is (λ k above. before k (omega (arith, above))))
     ]
 
 find-none : (test : ℕ → Bool) (n from : ℕ) → ((other : ℕ) → from ≤ other → test other ≡ false) → find test (range_with_len from n) ≡ None

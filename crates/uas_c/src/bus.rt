@@ -1,5 +1,5 @@
 //! The bus for C: host, controller and device as one machine of steps, over one call with a door.
-ghost use Rattle.std.specs.Prelude.{◌≡◌, ℕ, List, ◌<◌, ◌==◌, if◌then◌else◌, IfSome, option_map};
+ghost use Rattle.std.specs.Prelude.{◌≡◌, ◌<◌, ◌==◌, if◌then◌else◌, IfSome, option_map};
 ghost use Rattle.shared_machine.specs.Bus.{HasTicket};
 ghost use Rattle.shared_machine.specs.Drain.{drained};
 ghost use Rattle.shared_machine.specs.Shared.{opening};

@@ -79,7 +79,11 @@ pub(crate) fn pipe_numbered(number: u8) -> Option<Pipe>
 }
 
 /// What a reply tells, its buffer at the front of `bytes`. `before` is the sense data that stays where it has none.
-pub(crate) fn tell_reply(reply: &Reply, before: [u8; MAX_SENSE_BYTES], bytes: &mut [u8]) -> ToldReply
+pub(crate) fn tell_reply(
+    reply: &Reply,
+    before: [u8; MAX_SENSE_BYTES],
+    bytes: &mut [u8],
+) -> ToldReply
     ensures told { result ≡ told_of before reply.now }
     ensures bytes { bytes.new ≡ with_buffer bytes.old reply.now }
 {

@@ -24,11 +24,7 @@ pub struct UasDriver {
 /// Makes a driver of so many clients that have submitted nothing. 16 want of memory, 18 no client or more than 15: then `driver` is as
 /// it was.
 #[unsafe(no_mangle)]
-pub extern "C" fn uas_driver_new(
-    alloc: Global,
-    clients: usize,
-    driver: &mut *mut UasDriver,
-) -> u8
+pub extern "C" fn uas_driver_new(alloc: Global, clients: usize, driver: &mut *mut UasDriver) -> u8
     ensures fault { clients_told result clients ≡ true }
     ensures refused { 0 < result → driver.new ≡ driver.old }
 {

@@ -1,5 +1,6 @@
 pub mod Texts
 pub mod Lent
+pub mod LeftOver
 pub mod ExportCode
 pub mod Called
 pub mod Closed

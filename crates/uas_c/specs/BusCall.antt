@@ -1,8 +1,7 @@
 -- What a call of the bus's door makes of the bus, the door and the bytes.
-use Rattle.std.specs.Prelude.{ℕ, ◌-◌, ◌^◌, Bool, not, ◌&&◌, if◌then◌else◌, ◌==◌, nat_lt, min}
-use Rattle.std.specs.Prelude.{List, [], ◌∷◌, ◌++◌, length, take, drop, slice_get, Option, None, Some, option_map}
+use Rattle.std.specs.Prelude.{ℕ, ◌-◌, ◌^◌, ◌&&◌, if◌then◌else◌, ◌==◌, nat_lt}
+use Rattle.std.specs.Prelude.{List, [], ◌∷◌, length, slice_get, Option, None, Some, option_map, Result, Ok, Err}
 use Rattle.std.specs.Option.{unwrap_or}
-use Rattle.arrayvec.specs.ArrayVec.{array_vec_len}
 use Rattle.block_unit.specs.BlockMaps.{BlockMaps}
 use Rattle.shared_machine.specs.Drain.{Drained, drained}
 use Rattle.shared_machine.specs.Shared.{Shared, due, shared_step}
@@ -12,24 +11,17 @@ use Rattle.shared_machine.specs.declared.Step.TheVariants as steps
 use Rattle.scsi_cmd.specs.Faults.{fault_number}
 use Rattle.scsi_cmd.specs.declared.Op.{Op}
 use Rattle.scsi_cmd.specs.declared.Reply.{Reply}
-use Rattle.scsi_cmd.specs.declared.Reply.TheVariants as replies
 use Rattle.scsi_cmd.specs.declared.Task.{Task}
-use Rattle.scsi_cmd.specs.declared.Task.TheVariants as tasks
-use Rattle.uas_profile.specs.declared.Pipe.{Pipe}
-use Rattle.uas_profile.specs.declared.Pipe.TheVariants as pipes
+use Rattle.uas_c.specs.ClientCall.{asked_operation, not_ticket, pipe_numbered, task_numbered, told_of, with_buffer}
 use Rattle.uas_c.specs.DeviceCall.{data_shown}
 use Rattle.uas_c.specs.Door.{After, DoorAfter, numbered, refused, with_bytes}
-use Rattle.uas_c.specs.OperationRecord.{named_operation, operation_fault, yes}
-use Rattle.uas_c.specs.UnitRecord.{padded}
+use Rattle.uas_c.specs.OperationRecord.{yes}
 use Rattle.uas_c.specs.declared.bus.BusCall.{BusCall}
 use Rattle.uas_c.specs.declared.bus.BusCall.TheVariants as calls
 use Rattle.uas_c.specs.declared.bus.UasBusDoor.{UasBusDoor}
+use Rattle.uas_c.specs.declared.client.ToldReply.{ToldReply}
 
 -- SUBMIT AND TASK
-
--- a ticket is below 2^60
-abbrev pub not_ticket : UasBusDoor → Bool
-not_ticket door = not (nat_lt door.ticket (2 ^ 60))
 
 -- the host's own refusal, or 0
 abbrev pub refusal_told : Option Refusal → ℕ
@@ -42,30 +34,21 @@ submitted state step door = let after = shared_step state step in (refusal_told 
 
 -- SUBMIT (1): the bytes are the command's buffer; 20 a ticket of 2^60 or more, 19 no operation
 abbrev pub after_submit : Shared → UasBusDoor → List ℕ → DoorAfter Shared UasBusDoor
-after_submit state door bytes =
-    if not_ticket door then refused 20 state door
-    else (if operation_fault door.operation == 0 then of_operation (named_operation door.operation) else refused 19 state door)
+after_submit state door bytes = of_asked (asked_operation door.ticket door.operation)
   where
-    of_operation : Option Op → DoorAfter Shared UasBusDoor
-    of_operation None = refused 19 state door
-    of_operation (Some op) = submitted state (steps.Submit door.client door.tag door.ticket (record { op = op; buffer = bytes })) door
+    of_asked : Result Op ℕ → DoorAfter Shared UasBusDoor
+    of_asked (Err fault) = refused fault state door
+    of_asked (Ok op) = submitted state (steps.Submit door.client door.tag door.ticket (record { op = op; buffer = bytes })) door
 
--- TASK (2): 1 ABORT TASK of the tag, 8 LOGICAL UNIT RESET; 20 a ticket of 2^60 or more, 22 another function
-abbrev pub task_numbered : UasBusDoor → Option Task
-task_numbered door = numbered ((1, tasks.Abort door.tag) ∷ (8, tasks.Reset) ∷ (0x80, tasks.Query door.tag) ∷ []) door.function
-
+-- TASK (2): 20 a ticket of 2^60 or more, 22 no such function
 abbrev pub after_task : Shared → UasBusDoor → DoorAfter Shared UasBusDoor
-after_task state door = if not_ticket door then refused 20 state door else of_task (task_numbered door)
+after_task state door = if not_ticket door.ticket then refused 20 state door else of_task (task_numbered door.function door.tag)
   where
     of_task : Option Task → DoorAfter Shared UasBusDoor
     of_task None = refused 22 state door
     of_task (Some task) = submitted state (steps.Task door.client door.ticket task) door
 
 -- STEPS
-
--- the pipe that a retirement names
-abbrev pub pipe_numbered : ℕ → Option Pipe
-pipe_numbered = numbered ((1, pipes.Status) ∷ (2, pipes.DataIn) ∷ (3, pipes.DataOut) ∷ [])
 
 -- the step that a door names
 abbrev pub step_numbered : UasBusDoor → Option Step
@@ -104,35 +87,18 @@ after_drain state door = let drain = drained state door.steps in (0, (drain.stat
 
 -- REPLIES
 
--- the bytes with a buffer's over their front, as far as they reach
-abbrev pub overlaid : List ℕ → List ℕ → List ℕ
-overlaid buffer bytes = take (length bytes) buffer ++ drop (length buffer) bytes
-
--- the door once a reply without sense data and without a buffer was told
-abbrev pub with_told : UasBusDoor → ℕ → ℕ → ℕ → ℕ → UasBusDoor
-with_told door reply tag ticket status =
-    record door { acted = 1; reply = reply; tag = tag; ticket = ticket; status = status; sense_length = 0; length = 0 }
-
--- a length, as four bytes have it
-abbrev pub told_length : List ℕ → ℕ
-told_length buffer = min (length buffer) (2 ^ 32 - 1)
-
 -- the door once a reply was told
-abbrev pub with_reply : UasBusDoor → Reply → UasBusDoor
-with_reply door (replies.Status tag ticket status sense buffer) =
-    record (with_told door 1 tag ticket status) {
-      sense_length = array_vec_len sense;
-      sense = padded sense.items (array_vec_len sense);
-      length = told_length buffer;
-    }
-with_reply door (replies.Aborted tag ticket buffer) = record (with_told door 2 tag ticket 0) { length = told_length buffer }
-with_reply door (replies.Task tag ticket code) = with_told door 3 tag ticket code
-
--- the bytes once it was
-abbrev pub with_buffer : List ℕ → Reply → List ℕ
-with_buffer bytes (replies.Status tag ticket status sense buffer) = overlaid buffer bytes
-with_buffer bytes (replies.Aborted tag ticket buffer) = overlaid buffer bytes
-with_buffer bytes (replies.Task tag ticket code) = bytes
+abbrev pub with_reply : UasBusDoor → ToldReply → UasBusDoor
+with_reply door told = record door {
+  acted = 1;
+  reply = told.kind;
+  tag = told.tag;
+  ticket = told.ticket;
+  status = told.status;
+  sense_length = told.sense_length;
+  sense = told.sense;
+  length = told.length;
+}
 
 -- REPLY (7): the client's oldest; 21 where there is no room for the longest buffer, 128 blocks
 abbrev pub after_reply : Shared → UasBusDoor → List ℕ → After Shared UasBusDoor
@@ -142,7 +108,7 @@ after_reply state door bytes =
   where
     of_reply : Shared → Option Reply → After Shared UasBusDoor
     of_reply after None = (0, (after, (record door { acted = 0 }, bytes)))
-    of_reply after (Some reply) = (0, (after, (with_reply door reply, with_buffer bytes reply)))
+    of_reply after (Some reply) = (0, (after, (with_reply door (told_of door.sense reply), with_buffer bytes reply)))
 
 -- BLOCKS
 

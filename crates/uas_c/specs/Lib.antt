@@ -6,6 +6,8 @@ pub mod UnitRecord
 pub mod OperationRecord
 pub mod Units
 pub mod Handed
+pub mod ClientCall
 pub mod DeviceCall
 pub mod BusCall
 pub mod ControllerCall
+pub mod DriverCall

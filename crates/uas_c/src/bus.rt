@@ -1,26 +1,27 @@
 //! The bus for C: host, controller and device as one machine of steps, over one call with a door.
-ghost use Rattle.std.specs.Prelude.{◌≡◌, ℕ, List, ◌<◌, ◌^◌, ◌-◌, ◌==◌, if◌then◌else◌, IfSome, option_map, length, min};
+ghost use Rattle.std.specs.Prelude.{◌≡◌, ◌<◌, ◌==◌, if◌then◌else◌, IfSome, option_map};
 ghost use Rattle.shared_machine.specs.Bus.{HasTicket};
 ghost use Rattle.shared_machine.specs.Drain.{drained};
 ghost use Rattle.shared_machine.specs.Shared.{opening};
-ghost use Rattle.uas_c.specs.BusCall.{after_due, after_reply, after_step, after_submit, after_task, bus_answer, bus_call_numbered, overlaid};
-ghost use Rattle.uas_c.specs.BusCall.{pipe_numbered, refusal_told, show_number, step_numbered, task_numbered, unit_of, with_buffer, with_drain, with_owner};
-ghost use Rattle.uas_c.specs.BusCall.{with_reply, with_told};
+ghost use Rattle.uas_c.specs.BusCall.{after_due, after_reply, after_step, after_submit, after_task, bus_answer, bus_call_numbered};
+ghost use Rattle.uas_c.specs.BusCall.{refusal_told, show_number, step_numbered, unit_of, with_drain, with_owner, with_reply};
 ghost use Rattle.uas_c.specs.DeviceCall.{number_of};
 ghost use Rattle.uas_c.specs.Door.{refused};
 
 mod handle;
 
+use crate::client::{
+    BAD_LENGTH, LONGEST_BUFFER, NO_CALL, NO_FUNCTION, NO_MEMORY, NO_TICKET, TICKETS, ToldReply,
+    asked_operation, pipe_numbered, task_numbered, tell_reply,
+};
 use crate::device::{Refusal as DeviceRefusal, show};
-use crate::scsi::{UasOperation, read_operation};
-use crate::unit::padded;
+use crate::scsi::UasOperation;
 use crate::units::OfUnits;
 use block_unit::Unit;
 use bus_core::{Bus, Refusal, Step};
-use scsi_cmd::{Buffer, Command, Reply, Task};
+use scsi_cmd::{Buffer, Command};
 use std::alloc::{AllocError, Global};
 use std::marker::Model;
-use stream_array::Pipe;
 use uas_iu::MAX_SENSE_BYTES;
 
 /// What a call of the bus asks and answers. C writes `call` and what that call reads; the call writes what it answers.
@@ -99,29 +100,11 @@ enum BusCall {
     Medium,
 }
 
-/// Bytes of the longest buffer of a reply.
-const LONGEST_BUFFER: usize = 65_536;
-
-const NO_MEMORY: u8 = 16;
-
-const NO_CALL: u8 = 17;
-
 const NO_STEP: u8 = 18;
-
-const NO_OPERATION: u8 = 19;
-
-const NO_TICKET: u8 = 20;
-
-const NO_ROOM: u8 = 21;
-
-const NO_FUNCTION: u8 = 22;
 
 const NO_CLIENT: u8 = 23;
 
 const NO_BLOCKS: u8 = 24;
-
-/// Tickets are below this.
-const TICKETS: u64 = 1 << 60;
 
 fn call_numbered(number: u8) -> Option<BusCall>
     ensures { result ≡ bus_call_numbered number }
@@ -171,11 +154,9 @@ fn submit(bus: &mut Bus, alloc: Global, door: &UasBusDoor, bytes: &[u8]) -> u8
     ensures { (result, (bus.new, door.now))
         ≡ (if result == 16 then refused 16 bus.old door.now else after_submit bus.old door.now bytes.now) }
 {
-    if door.ticket >= TICKETS {
-        return NO_TICKET;
-    }
-    let Ok(op) = read_operation(&door.operation) else {
-        return NO_OPERATION;
+    let op = match asked_operation(door.ticket, &door.operation) {
+        Ok(op) => op,
+        Err(fault) => return fault,
     };
     let Ok(buffer) = Vec::from_slice(alloc, bytes) else {
         return NO_MEMORY;
@@ -208,7 +189,7 @@ fn manage(bus: &mut Bus, door: &UasBusDoor) -> u8
     if door.ticket >= TICKETS {
         return NO_TICKET;
     }
-    let Some(task) = task_numbered(door) else {
+    let Some(task) = task_numbered(door.function, door.tag) else {
         return NO_FUNCTION;
     };
     let outcome = bus.step(Step::Task {
@@ -217,28 +198,6 @@ fn manage(bus: &mut Bus, door: &UasBusDoor) -> u8
         task,
     });
     refusal_number(&outcome.refused)
-}
-
-fn task_numbered(door: &UasBusDoor) -> Option<Task>
-    ensures { result ≡ task_numbered door.now }
-{
-    match door.function {
-        1 => Some(Task::Abort { tag: door.tag }),
-        8 => Some(Task::Reset),
-        0x80 => Some(Task::Query { tag: door.tag }),
-        _ => None,
-    }
-}
-
-fn pipe_numbered(number: u8) -> Option<Pipe>
-    ensures { result ≡ pipe_numbered number }
-{
-    match number {
-        1 => Some(Pipe::Status),
-        2 => Some(Pipe::DataIn),
-        3 => Some(Pipe::DataOut),
-        _ => None,
-    }
 }
 
 /// The step that a door names.
@@ -311,66 +270,27 @@ fn take_reply(bus: &mut Bus, door: &mut UasBusDoor, bytes: &mut [u8]) -> u8
     ensures { (result, (bus.new, (door.new, bytes.new))) ≡ after_reply bus.old door.old bytes.old }
 {
     if bytes.len() < LONGEST_BUFFER {
-        return NO_ROOM;
+        return BAD_LENGTH;
     }
     let outcome = bus.step(Step::Take(door.client as usize));
     match &outcome.reply {
-        Some(reply) => show_reply(reply, door, bytes),
+        Some(reply) => show_reply(door, &tell_reply(reply, door.sense, bytes)),
         None => door.acted = 0,
     }
     0
 }
 
-fn show_reply(reply: &Reply, door: &mut UasBusDoor, bytes: &mut [u8])
-    ensures door { door.new ≡ with_reply door.old reply.now }
-    ensures bytes { bytes.new ≡ with_buffer bytes.old reply.now }
-{
-    match reply {
-        Reply::Status {
-            tag,
-            ticket,
-            status,
-            sense: data,
-            buffer,
-        } => {
-            tell(door, 1, *tag, *ticket, *status);
-            door.sense_length = data.len() as u8;
-            door.sense = padded(data);
-            door.length = show_buffer(buffer, bytes);
-        }
-        Reply::Aborted {
-            tag,
-            ticket,
-            buffer,
-        } => {
-            tell(door, 2, *tag, *ticket, 0);
-            door.length = show_buffer(buffer, bytes);
-        }
-        Reply::Task { tag, ticket, code } => tell(door, 3, *tag, *ticket, *code),
-    }
-}
-
-/// Tells a reply without sense data and without a buffer.
-fn tell(door: &mut UasBusDoor, reply: u8, tag: u16, ticket: u64, status: u8)
-    ensures { door.new ≡ with_told door.old reply tag ticket status }
+fn show_reply(door: &mut UasBusDoor, told: &ToldReply)
+    ensures { door.new ≡ with_reply door.old told.now }
 {
     door.acted = 1;
-    door.reply = reply;
-    door.tag = tag;
-    door.ticket = ticket;
-    door.status = status;
-    door.sense_length = 0;
-    door.length = 0;
-}
-
-/// Copies a reply's buffer to the front of `bytes`, as far as they reach, and tells its length.
-fn show_buffer(buffer: &Buffer, bytes: &mut [u8]) -> u32
-    ensures length { result ≡ min (length buffer.now) (2 ^ 32 - 1) }
-    ensures bytes { bytes.new ≡ overlaid buffer.now bytes.old }
-{
-    let count = buffer.len().min(bytes.len());
-    bytes[..count].copy_from_slice(&buffer.as_slice()[..count]);
-    buffer.len().min(u32::MAX as usize) as u32
+    door.reply = told.kind;
+    door.tag = told.tag;
+    door.ticket = told.ticket;
+    door.status = told.status;
+    door.sense_length = told.sense_length;
+    door.sense = told.sense;
+    door.length = told.length;
 }
 
 /// The unit of a client of the bus.
@@ -410,7 +330,7 @@ fn show_number(shown: Result<(), DeviceRefusal>) -> u8
     match shown {
         Ok(()) => 0,
         Err(DeviceRefusal::Unit) => NO_CLIENT,
-        Err(DeviceRefusal::Length) => NO_ROOM,
+        Err(DeviceRefusal::Length) => BAD_LENGTH,
         Err(DeviceRefusal::Range) => NO_BLOCKS,
         Err(refusal) => refusal.number(),
     }

@@ -1,4 +1,4 @@
-//! The library for C: codecs, the device, the controller and the bus as one static archive.
+//! The library for C: codecs, the device, the controller, the driver and the bus as one static archive.
 //!
 //! | File | Exports |
 //! |---|---|
@@ -7,14 +7,16 @@
 //! | scsi.rt | `uas_cdb_parse`, `uas_cdb_write`, `uas_sense_data`, `uas_inquiry_data`, `uas_capacity_data`, `uas_long_capacity_data` (SPC and SBC) |
 //! | device/handle.rt | `uas_device_new`, `uas_device_call`, `uas_device_close` |
 //! | controller/handle.rt | `uas_controller_new`, `uas_controller_call`, `uas_controller_close` |
+//! | driver/handle.rt | `uas_driver_new`, `uas_driver_call`, `uas_driver_close` |
 //! | bus/handle.rt | `uas_bus_new`, `uas_bus_call`, `uas_bus_close` |
 //!
 //! What is promised: each export does what the crate below it does, and its contract says so again, over records in place of
 //! enums and numbers in place of faults (specs/). A fault is a named number, 0 for none, and a refused call changes nothing.
 //! What can be tested of a caller's promises is tested: types, fields and lengths, the kind of a call, its phase, tag and
 //! blocks, and the ticket. A call of a handle goes through a *door*, a record with the call's number, its arguments and its
-//! answers: `after_call` (specs/DeviceCall.antt), `controller_answer` (specs/ControllerCall.antt) and `bus_answer`
-//! (specs/BusCall.antt) say what it makes of the device, the controller or the bus, of the door and of the bytes, exactly.
+//! answers: `after_call` (specs/DeviceCall.antt), `controller_answer` (specs/ControllerCall.antt), `driver_answer`
+//! (specs/DriverCall.antt) and `bus_answer` (specs/BusCall.antt) say what it makes of the device, the controller, the driver or the
+//! bus, of the door and of the bytes, exactly.
 //!
 //! What a caller upholds, and nothing here tests:
 //!
@@ -27,14 +29,16 @@
 //! 7. malloc, realloc and free are one allocator, which aligns to 16 bytes, and no call is made from a signal handler.
 //! 8. The stack has 64 KiB left.
 //!
-//! It takes memory in `new`, for the buffer of each submission to a bus and for each loan to a controller. It stands on `xhci_trb`,
-//! `uas_iu`, `scsi_cmd`, `uas_target`, `uas_controller` and `bus_core`, by their contracts alone, and needs the C library's memory
-//! functions.
+//! It takes memory in `new`, for the buffer of each submission to a bus or to a driver and for each loan to a controller. It stands on
+//! `xhci_trb`, `uas_iu`, `scsi_cmd`, `uas_target`, `uas_controller`, `uas_driver` and `bus_core`, by their contracts alone, and needs
+//! the C library's memory functions.
 #![tactic(auto)]
 
 mod bus;
+mod client;
 mod controller;
 mod device;
+mod driver;
 mod record;
 mod scsi;
 mod trb;

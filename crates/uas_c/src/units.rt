@@ -57,7 +57,7 @@ pub(crate) fn new_handle<T: OfUnits + Drop, Name>(
 }
 
 /// The pointer by which C has it.
-fn hand_out<T: Drop, Name>(made: Box<T, Global>) -> *mut Name {
+pub(crate) fn hand_out<T: Drop, Name>(made: Box<T, Global>) -> *mut Name {
     Box::into_raw(made) as *mut Name
 }
 

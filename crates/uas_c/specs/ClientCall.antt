@@ -1,0 +1,76 @@
+-- What clients ask of a bus and of a driver, and what a reply tells, whatever the door.
+use Rattle.std.specs.Prelude.{ℕ, ◌-◌, ◌^◌, Bool, not, if◌then◌else◌, ◌==◌, nat_lt, min}
+use Rattle.std.specs.Prelude.{List, [], ◌∷◌, ◌++◌, length, take, drop, Option, Result, Ok, Err}
+use Rattle.std.specs.Option.{option_map_or}
+use Rattle.arrayvec.specs.ArrayVec.{array_vec_len}
+use Rattle.scsi_cmd.specs.declared.Op.{Op}
+use Rattle.scsi_cmd.specs.declared.Reply.{Reply}
+use Rattle.scsi_cmd.specs.declared.Reply.TheVariants as replies
+use Rattle.scsi_cmd.specs.declared.Task.{Task}
+use Rattle.scsi_cmd.specs.declared.Task.TheVariants as tasks
+use Rattle.uas_profile.specs.declared.Pipe.{Pipe}
+use Rattle.uas_profile.specs.declared.Pipe.TheVariants as pipes
+use Rattle.uas_c.specs.Door.{numbered}
+use Rattle.uas_c.specs.OperationRecord.{named_operation, operation_fault}
+use Rattle.uas_c.specs.UnitRecord.{padded}
+use Rattle.uas_c.specs.declared.client.ToldReply.{ToldReply}
+use Rattle.uas_c.specs.declared.scsi.UasOperation.{UasOperation}
+
+-- WHAT IS ASKED
+
+-- a ticket is below 2^60
+abbrev pub not_ticket : ℕ → Bool
+not_ticket ticket = not (nat_lt ticket (2 ^ 60))
+
+-- the operation of a submission, or its fault: 20 a ticket of 2^60 or more, 19 no operation
+abbrev pub asked_operation : ℕ → UasOperation → Result Op ℕ
+asked_operation ticket operation =
+    if not_ticket ticket then Err 20
+    else (if operation_fault operation == 0 then option_map_or (λ op. Ok op) (named_operation operation) (Err 19) else Err 19)
+
+-- the task management of a function: 1 ABORT TASK of the tag, 8 LOGICAL UNIT RESET, 80h QUERY TASK of the tag
+abbrev pub task_numbered : ℕ → ℕ → Option Task
+task_numbered function tag = numbered ((1, tasks.Abort tag) ∷ (8, tasks.Reset) ∷ (0x80, tasks.Query tag) ∷ []) function
+
+-- the pipe of a number, one with streams
+abbrev pub pipe_numbered : ℕ → Option Pipe
+pipe_numbered = numbered ((1, pipes.Status) ∷ (2, pipes.DataIn) ∷ (3, pipes.DataOut) ∷ [])
+
+-- REPLIES
+
+-- the bytes with a buffer's over their front, as far as they reach
+abbrev pub overlaid : List ℕ → List ℕ → List ℕ
+overlaid buffer bytes = take (length bytes) buffer ++ drop (length buffer) bytes
+
+-- a length, as four bytes have it
+abbrev pub told_length : List ℕ → ℕ
+told_length buffer = min (length buffer) (2 ^ 32 - 1)
+
+-- what is told of a reply; where it has no sense data, the door's stays
+abbrev pub told_of : List ℕ → Reply → ToldReply
+told_of before (replies.Status tag ticket status sense buffer) = record {
+  kind = 1;
+  tag = tag;
+  ticket = ticket;
+  status = status;
+  sense_length = array_vec_len sense;
+  sense = padded sense.items (array_vec_len sense);
+  length = told_length buffer;
+}
+told_of before (replies.Aborted tag ticket buffer) = record {
+  kind = 2;
+  tag = tag;
+  ticket = ticket;
+  status = 0;
+  sense_length = 0;
+  sense = before;
+  length = told_length buffer;
+}
+told_of before (replies.Task tag ticket code) =
+    record { kind = 3; tag = tag; ticket = ticket; status = code; sense_length = 0; sense = before; length = 0 }
+
+-- the bytes once it was told
+abbrev pub with_buffer : List ℕ → Reply → List ℕ
+with_buffer bytes (replies.Status tag ticket status sense buffer) = overlaid buffer bytes
+with_buffer bytes (replies.Aborted tag ticket buffer) = overlaid buffer bytes
+with_buffer bytes (replies.Task tag ticket code) = bytes

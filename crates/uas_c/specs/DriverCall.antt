@@ -1,0 +1,211 @@
+-- What a call of the driver's door makes of the driver, the door and the bytes.
+use Rattle.std.specs.Prelude.{ℕ, ◌+◌, ◌-◌, ◌*◌, Bool, not, ◌&&◌, ◌||◌, if◌then◌else◌, ◌==◌, nat_lt}
+use Rattle.std.specs.Prelude.{List, [], ◌∷◌, ◌++◌, length, drop, Option, None, Some, Result, Ok, Err}
+use Rattle.std.specs.List.{find, range_with_len}
+use Rattle.std.specs.Option.{option_map_or}
+use Rattle.event_ring.specs.declared.Event.{Event}
+use Rattle.event_ring.specs.declared.Event.TheVariants as events
+use Rattle.scsi_cmd.specs.Faults.{fault_number}
+use Rattle.scsi_cmd.specs.declared.Op.{Op}
+use Rattle.scsi_cmd.specs.declared.Reply.{Reply}
+use Rattle.uas_host.specs.Retirement.{is_left_over_on}
+use Rattle.uas_host.specs.State.{HostState}
+use Rattle.uas_host.specs.declared.Handled.{Handled}
+use Rattle.uas_host.specs.declared.Handled.TheVariants.{Matched, Engine, Stray}
+use Rattle.uas_profile.specs.declared.Pipe.{Pipe}
+use Rattle.uas_profile.specs.declared.TheConstants.{MAX_CLIENTS, TAGS}
+use Rattle.uas_driver.specs.Calls.{After as CallAfter, context_by, event_by, read_by, reply_by, retire_by, submit_by, task_by, write_by}
+use Rattle.uas_driver.specs.Driver.{DriverState}
+use Rattle.uas_driver.specs.Places.{item_read}
+use Rattle.uas_driver.specs.declared.Refusal.{Refusal}
+use Rattle.uas_driver.specs.declared.Refusal.TheVariants as refusals
+use Rattle.uas_c.specs.ClientCall.{asked_operation, not_ticket, pipe_numbered, task_numbered, told_of, with_buffer}
+use Rattle.uas_c.specs.Door.{After, DoorAfter, numbered, refused, with_bytes}
+use Rattle.uas_c.specs.OperationRecord.{yes}
+use Rattle.uas_c.specs.declared.client.ToldReply.{ToldReply}
+use Rattle.uas_c.specs.declared.driver.door.DriverCall.{DriverCall}
+use Rattle.uas_c.specs.declared.driver.door.DriverCall.TheVariants as calls
+use Rattle.uas_c.specs.declared.driver.door.UasDriverDoor.{UasDriverDoor}
+
+-- A NEW DRIVER
+
+-- 18 where there is no client or more than 15
+abbrev pub clients_fault : ℕ → ℕ
+clients_fault clients = if clients == 0 || nat_lt MAX_CLIENTS clients then 18 else 0
+
+-- The number of an answer is right: the fault, or 16, want of memory, where there is none.
+abbrev pub clients_told : ℕ → ℕ → Bool
+clients_told number clients = number == clients_fault clients || (number == 16 && clients_fault clients == 0)
+
+abbrev pub made_number : {X : Type 0} → Result X ℕ → ℕ
+made_number (Ok x) = 0
+made_number (Err fault) = fault
+
+-- WHAT IS ANSWERED
+
+-- the number of what a call was refused with
+abbrev pub driver_refusal : Refusal → ℕ
+driver_refusal refusals.BadTicket = 20
+driver_refusal refusals.NoRoom = 23
+driver_refusal refusals.BadAddress = 24
+driver_refusal refusals.NoRing = 25
+driver_refusal (refusals.Fault fault) = fault_number fault
+
+-- the door once the doorbells that are to be written were told: they stand at the front, and the other places keep what they held
+abbrev pub with_doorbells : UasDriverDoor → List ℕ → UasDriverDoor
+with_doorbells door doors = record door { doorbells = length doors; doorbell = doors ++ drop (length doors) door.doorbell }
+
+-- a submission that was taken tells its doorbells
+abbrev pub with_submitted : UasDriverDoor → CallAfter (Result (Unit {0}) Refusal) → DoorAfter DriverState UasDriverDoor
+with_submitted door (after, Ok done, doors) = (0, (after, with_doorbells door doors))
+with_submitted door (after, Err refusal, doors) = refused (driver_refusal refusal) after door
+
+-- what was asked for is all of the bytes, or why it isn't
+abbrev pub with_read : DriverState → UasDriverDoor → List ℕ → Result (List ℕ) Refusal → After DriverState UasDriverDoor
+with_read driver door bytes (Ok found) = (0, (driver, (door, found)))
+with_read driver door bytes (Err refusal) = with_bytes bytes (refused (driver_refusal refusal) driver door)
+
+-- SUBMIT AND TASK
+
+-- a submission of this operation; there may be no memory for the copy of its bytes: where the call answers 16, that is why
+abbrev pub after_asked : ℕ → DriverState → UasDriverDoor → List ℕ → Result Op ℕ → DoorAfter DriverState UasDriverDoor
+after_asked number driver door bytes (Err fault) = refused fault driver door
+after_asked number driver door bytes (Ok op) =
+    if number == 16 then refused 16 driver door
+    else with_submitted door (submit_by driver door.client door.tag door.ticket (record { op = op; buffer = bytes }))
+
+-- SUBMIT (1): the bytes are the command's buffer; 20 a ticket of 2^60 or more, 19 no operation
+abbrev pub after_submit : ℕ → DriverState → UasDriverDoor → List ℕ → DoorAfter DriverState UasDriverDoor
+after_submit number driver door bytes = after_asked number driver door bytes (asked_operation door.ticket door.operation)
+
+-- TASK (2): 20 a ticket of 2^60 or more, 22 no such function
+abbrev pub after_task : DriverState → UasDriverDoor → DoorAfter DriverState UasDriverDoor
+after_task driver door =
+    if not_ticket door.ticket then refused 20 driver door
+    else option_map_or (λ task. with_submitted door (task_by driver door.client door.ticket task)) (task_numbered door.function door.tag)
+    (refused 22 driver door)
+
+-- TDS THAT ARE LEFT OVER
+
+-- where a retirement began, its doorbell is told
+abbrev pub with_retired : UasDriverDoor → CallAfter (Result Bool Refusal) → DoorAfter DriverState UasDriverDoor
+with_retired door (after, Ok begun, doors) = (0, (after, record (with_doorbells door doors) { acted = yes begun }))
+with_retired door (after, Err refusal, doors) = refused (driver_refusal refusal) after door
+
+-- RETIRE (3): 25 no such pipe
+abbrev pub after_retire : DriverState → UasDriverDoor → DoorAfter DriverState UasDriverDoor
+after_retire driver door =
+    option_map_or (λ pipe. with_retired door (retire_by driver pipe door.tag)) (pipe_numbered door.pipe) (refused 25 driver door)
+
+-- The least tag above this one whose TD on a pipe is left over. Worked: of two clients, whose greatest tag is 32, the tags above 30 that
+-- are looked at are 31 and 32.
+abbrev pub next_left_over : HostState → Pipe → ℕ → Option ℕ
+next_left_over host pipe tag = find (is_left_over_on host pipe) (range_with_len (tag + 1) (length host.clients * TAGS - tag))
+
+abbrev pub with_next : UasDriverDoor → Option ℕ → UasDriverDoor
+with_next door None = record door { acted = 0 }
+with_next door (Some next) = record door { acted = 1; tag = next }
+
+-- LEFT_OVER (4): 25 no such pipe
+abbrev pub after_left_over : DriverState → UasDriverDoor → DoorAfter DriverState UasDriverDoor
+after_left_over driver door =
+    option_map_or (λ pipe. (0, (driver, with_next door (next_left_over driver.host pipe door.tag)))) (pipe_numbered door.pipe)
+    (refused 25 driver door)
+
+-- EVENTS
+
+-- the event that a door names by its TRB's type: 32 a transfer event, 33 a command completion event
+abbrev pub event_named : UasDriverDoor → Option Event
+event_named door =
+    numbered ((32, events.Transfer door.address door.length door.code door.endpoint door.slot) ∷ (33, events.Command door.address door.code door.slot) ∷ [])
+    door.kind
+
+-- what the host made of an event: 0 nothing, 1 it was of a TD of a tag, 2 it was of the command under way
+abbrev pub with_handled : UasDriverDoor → Handled → UasDriverDoor
+with_handled door (Matched tag) = record door { acted = 1; tag = tag }
+with_handled door Engine = record door { acted = 2 }
+with_handled door Stray = record door { acted = 0 }
+
+abbrev pub with_event : UasDriverDoor → CallAfter Handled → DoorAfter DriverState UasDriverDoor
+with_event door (after, handled, doors) = (0, (after, with_handled (with_doorbells door doors) handled))
+
+-- EVENT (5): 26 another type
+abbrev pub after_event : DriverState → UasDriverDoor → DoorAfter DriverState UasDriverDoor
+after_event driver door = option_map_or (λ event. with_event door (event_by driver event)) (event_named door) (refused 26 driver door)
+
+-- REPLIES
+
+-- the door once a reply was told
+abbrev pub with_reply : UasDriverDoor → ToldReply → UasDriverDoor
+with_reply door told = record door {
+  acted = 1;
+  reply = told.kind;
+  tag = told.tag;
+  ticket = told.ticket;
+  status = told.status;
+  sense_length = told.sense_length;
+  sense = told.sense;
+  length = told.length;
+}
+
+abbrev pub with_given : UasDriverDoor → List ℕ → DriverState → Option Reply → After DriverState UasDriverDoor
+with_given door bytes after None = (0, (after, (record door { acted = 0 }, bytes)))
+with_given door bytes after (Some reply) = (0, (after, (with_reply door (told_of door.sense reply), with_buffer bytes reply)))
+
+-- REPLY (6): the client's oldest; 21 where there is no room for the longest buffer, 128 blocks
+abbrev pub after_reply : DriverState → UasDriverDoor → List ℕ → After DriverState UasDriverDoor
+after_reply driver door bytes =
+    if nat_lt (length bytes) 65536 then with_bytes bytes (refused 21 driver door)
+    else (let given = reply_by driver door.client in with_given door bytes given.0 given.1)
+
+-- WHAT THE CONTROLLER BEYOND READS AND WRITES
+
+-- READ (7): as many bytes as there are
+abbrev pub after_read : DriverState → UasDriverDoor → List ℕ → After DriverState UasDriverDoor
+after_read driver door bytes = with_read driver door bytes (read_by driver door.address (length bytes))
+
+abbrev pub with_written : UasDriverDoor → DriverState × Result (Unit {0}) Refusal → DoorAfter DriverState UasDriverDoor
+with_written door (after, Ok done) = (0, (after, door))
+with_written door (after, Err refusal) = refused (driver_refusal refusal) after door
+
+-- WRITE (8)
+abbrev pub after_write : DriverState → UasDriverDoor → List ℕ → DoorAfter DriverState UasDriverDoor
+after_write driver door bytes = with_written door (write_by driver door.address bytes)
+
+-- ITEM (9): 21 where the bytes aren't 16, 24 where nothing stands there
+abbrev pub after_item : DriverState → UasDriverDoor → List ℕ → After DriverState UasDriverDoor
+after_item driver door bytes =
+    if not (length bytes == 16) then with_bytes bytes (refused 21 driver door)
+    else option_map_or (λ item. (0, (driver, (door, item)))) (item_read driver.lines door.address) (with_bytes bytes (refused 24 driver door))
+
+-- CONTEXT (10): 21 where the bytes aren't 16, 25 no such pipe or no stream from 1 to 248
+abbrev pub after_context : DriverState → UasDriverDoor → List ℕ → After DriverState UasDriverDoor
+after_context driver door bytes =
+    if not (length bytes == 16) then with_bytes bytes (refused 21 driver door)
+    else option_map_or (λ pipe. with_read driver door bytes (context_by driver pipe door.stream)) (pipe_numbered door.pipe)
+    (with_bytes bytes (refused 25 driver door))
+
+-- A CALL
+
+abbrev pub driver_call : ℕ → Option DriverCall
+driver_call =
+    numbered ((1, calls.Submit) ∷ (2, calls.Task) ∷ (3, calls.Retire) ∷ (4, calls.LeftOver) ∷ (5, calls.Event) ∷ (6, calls.Reply) ∷ (7, calls.Read)
+    ∷ (8, calls.Write) ∷ (9, calls.Item) ∷ (10, calls.Context) ∷ [])
+
+-- what each call makes, where it answers this number
+abbrev pub after_driver_named : ℕ → DriverState → UasDriverDoor → List ℕ → DriverCall → After DriverState UasDriverDoor
+after_driver_named number driver door bytes calls.Submit = with_bytes bytes (after_submit number driver door bytes)
+after_driver_named number driver door bytes calls.Task = with_bytes bytes (after_task driver door)
+after_driver_named number driver door bytes calls.Retire = with_bytes bytes (after_retire driver door)
+after_driver_named number driver door bytes calls.LeftOver = with_bytes bytes (after_left_over driver door)
+after_driver_named number driver door bytes calls.Event = with_bytes bytes (after_event driver door)
+after_driver_named number driver door bytes calls.Reply = after_reply driver door bytes
+after_driver_named number driver door bytes calls.Read = after_read driver door bytes
+after_driver_named number driver door bytes calls.Write = with_bytes bytes (after_write driver door bytes)
+after_driver_named number driver door bytes calls.Item = after_item driver door bytes
+after_driver_named number driver door bytes calls.Context = after_context driver door bytes
+
+-- the call that a door names, or 17, no such call
+abbrev pub driver_answer : ℕ → DriverState → UasDriverDoor → List ℕ → After DriverState UasDriverDoor
+driver_answer number driver door bytes =
+    option_map_or (after_driver_named number driver door bytes) (driver_call door.call) (with_bytes bytes (refused 17 driver door))

@@ -1,0 +1,139 @@
+//! What clients ask of a bus and of a driver, and what a reply tells, whatever the door.
+ghost use Rattle.std.specs.Prelude.{◌≡◌, ◌<◌, ◌-◌, ◌^◌, IfErr, OnOk, length, min};
+ghost use Rattle.uas_c.specs.ClientCall.{asked_operation, overlaid, pipe_numbered, task_numbered, told_of, with_buffer};
+
+use crate::scsi::{UasOperation, read_operation};
+use crate::unit::padded;
+use scsi_cmd::{Buffer, Op, Reply, Task};
+use stream_array::Pipe;
+use uas_iu::MAX_SENSE_BYTES;
+
+/// What is told of a reply beside its data.
+#[derive(Clone, Copy)]
+pub(crate) struct ToldReply {
+    pub(crate) ticket: u64,
+    /// Bytes of its buffer.
+    pub(crate) length: u32,
+    pub(crate) tag: u16,
+    /// 1 a status, 2 aborted, 3 a task management's response.
+    pub(crate) kind: u8,
+    /// The SCSI status of 1, the response code of 3.
+    pub(crate) status: u8,
+    pub(crate) sense_length: u8,
+    pub(crate) sense: [u8; MAX_SENSE_BYTES],
+}
+
+/// Bytes of the longest buffer of a reply.
+pub(crate) const LONGEST_BUFFER: usize = 65_536;
+
+pub(crate) const NO_MEMORY: u8 = 16;
+
+pub(crate) const NO_CALL: u8 = 17;
+
+pub(crate) const NO_OPERATION: u8 = 19;
+
+pub(crate) const NO_TICKET: u8 = 20;
+
+pub(crate) const BAD_LENGTH: u8 = 21;
+
+pub(crate) const NO_FUNCTION: u8 = 22;
+
+/// Tickets are below this.
+pub(crate) const TICKETS: u64 = 1 << 60;
+
+/// The operation of a submission; the error is the number of its fault.
+pub(crate) fn asked_operation(ticket: u64, operation: &UasOperation) -> Result<Op, u8>
+    ensures operation { result ≡ asked_operation ticket operation.now }
+    ensures ticket { OnOk result (ticket < 2 ^ 60) }
+    ensures fault { IfErr result (λ fault. 16 < fault) }
+{
+    if ticket >= TICKETS {
+        return Err(NO_TICKET);
+    }
+    match read_operation(operation) {
+        Ok(op) => Ok(op),
+        Err(_) => Err(NO_OPERATION),
+    }
+}
+
+pub(crate) fn task_numbered(function: u8, tag: u16) -> Option<Task>
+    ensures { result ≡ task_numbered function tag }
+{
+    match function {
+        1 => Some(Task::Abort { tag }),
+        8 => Some(Task::Reset),
+        0x80 => Some(Task::Query { tag }),
+        _ => None,
+    }
+}
+
+pub(crate) fn pipe_numbered(number: u8) -> Option<Pipe>
+    ensures { result ≡ pipe_numbered number }
+{
+    match number {
+        1 => Some(Pipe::Status),
+        2 => Some(Pipe::DataIn),
+        3 => Some(Pipe::DataOut),
+        _ => None,
+    }
+}
+
+/// What a reply tells, its buffer at the front of `bytes`. `before` is the sense data that stays where it has none.
+pub(crate) fn tell_reply(
+    reply: &Reply,
+    before: [u8; MAX_SENSE_BYTES],
+    bytes: &mut [u8],
+) -> ToldReply
+    ensures told { result ≡ told_of before reply.now }
+    ensures bytes { bytes.new ≡ with_buffer bytes.old reply.now }
+{
+    match reply {
+        Reply::Status {
+            tag,
+            ticket,
+            status,
+            sense,
+            buffer,
+        } => ToldReply {
+            kind: 1,
+            tag: *tag,
+            ticket: *ticket,
+            status: *status,
+            sense_length: sense.len() as u8,
+            sense: padded(sense),
+            length: show_buffer(buffer, bytes),
+        },
+        Reply::Aborted {
+            tag,
+            ticket,
+            buffer,
+        } => ToldReply {
+            kind: 2,
+            tag: *tag,
+            ticket: *ticket,
+            status: 0,
+            sense_length: 0,
+            sense: before,
+            length: show_buffer(buffer, bytes),
+        },
+        Reply::Task { tag, ticket, code } => ToldReply {
+            kind: 3,
+            tag: *tag,
+            ticket: *ticket,
+            status: *code,
+            sense_length: 0,
+            sense: before,
+            length: 0,
+        },
+    }
+}
+
+/// Copies a reply's buffer to the front of `bytes`, as far as they reach, and tells its length.
+fn show_buffer(buffer: &Buffer, bytes: &mut [u8]) -> u32
+    ensures length { result ≡ min (length buffer.now) (2 ^ 32 - 1) }
+    ensures bytes { bytes.new ≡ overlaid buffer.now bytes.old }
+{
+    let count = buffer.len().min(bytes.len());
+    bytes[..count].copy_from_slice(&buffer.as_slice()[..count]);
+    buffer.len().min(u32::MAX as usize) as u32
+}

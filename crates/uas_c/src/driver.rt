@@ -1,0 +1,245 @@
+//! The driver for C: host, rings and buffers without a controller, over one call with a door.
+ghost use Rattle.std.specs.Prelude.{◌≡◌, true, IfOk};
+ghost use Rattle.uas_driver.specs.Driver.{IsOpening};
+ghost use Rattle.uas_c.specs.DriverCall.{after_context, after_event, after_item, after_left_over, after_read, after_reply, after_retire};
+ghost use Rattle.uas_c.specs.DriverCall.{after_submit, after_task, after_write, clients_told, driver_answer, made_number, next_left_over};
+
+mod door;
+mod handle;
+
+use crate::client::{
+    BAD_LENGTH, LONGEST_BUFFER, NO_CALL, NO_FUNCTION, NO_MEMORY, NO_TICKET, TICKETS,
+    asked_operation, pipe_numbered, task_numbered, tell_reply,
+};
+use crate::driver::door::{
+    DriverCall, NO_ADDRESS, NO_CLIENTS, NO_EVENT, NO_RING, UasDriverDoor, call_numbered,
+    event_named, refusal_number, show_doorbells, show_handled, show_next, show_reply,
+};
+use arrayvec::ArrayVec;
+use scsi_cmd::{Buffer, Command};
+use std::alloc::Global;
+use std::marker::Model;
+use stream_array::Pipe;
+use uas_driver::Driver;
+use uas_profile::MAX_CLIENTS;
+
+/// A driver, and the memory that its submissions' buffers come from.
+#[derive(Drop)]
+pub(crate) struct KeptDriver {
+    driver: Driver,
+    alloc: Global,
+}
+
+impl Model for KeptDriver {
+    ghost use Rattle.uas_driver.specs.Driver.{DriverState};
+
+    ghost Value = { DriverState };
+
+    ghost view = { λ kept. kept.driver };
+}
+
+/// Bytes of an item of a ring, and of a context.
+const ITEM_BYTES: usize = 16;
+
+/// A driver of so many clients; the error is the number of the fault.
+pub(crate) fn made(alloc: Global, clients: usize) -> Result<Box<KeptDriver, Global>, u8>
+    ensures made { IfOk result (λ made. IsOpening clients made.value) }
+    ensures fault { clients_told (made_number result) clients ≡ true }
+{
+    if clients == 0 || clients > MAX_CLIENTS {
+        return Err(NO_CLIENTS);
+    }
+    let Ok(driver) = Driver::new(alloc, clients) else {
+        return Err(NO_MEMORY);
+    };
+    match Box::new(alloc, KeptDriver { driver, alloc }) {
+        Ok(made) => Ok(made),
+        Err(_) => Err(NO_MEMORY),
+    }
+}
+
+/// The call that a door names: the number of its refusal, or 0.
+pub(crate) fn serve(kept: &mut KeptDriver, door: &mut UasDriverDoor, bytes: &mut [u8]) -> u8
+    ensures { (result, (kept.new, (door.new, bytes.new))) ≡ driver_answer result kept.old door.old bytes.old }
+{
+    let Some(call) = call_numbered(door.call) else {
+        return NO_CALL;
+    };
+    match call {
+        DriverCall::Submit => submit(&mut kept.driver, kept.alloc, door, bytes),
+        DriverCall::Task => manage(&mut kept.driver, door),
+        DriverCall::Retire => retire(&mut kept.driver, door),
+        DriverCall::LeftOver => show_left_over(&kept.driver, door),
+        DriverCall::Event => take_event(&mut kept.driver, door),
+        DriverCall::Reply => take_reply(&mut kept.driver, door, bytes),
+        DriverCall::Read => read(&kept.driver, door, bytes),
+        DriverCall::Write => write(&mut kept.driver, door, bytes),
+        DriverCall::Item => show_item(&kept.driver, door, bytes),
+        DriverCall::Context => show_context(&kept.driver, door, bytes),
+    }
+}
+
+/// A submission: ticket and operation are judged here, all else by the driver.
+fn submit(driver: &mut Driver, alloc: Global, door: &mut UasDriverDoor, bytes: &[u8]) -> u8
+    ensures { (result, (driver.new, door.new)) ≡ after_submit result driver.old door.old bytes.now }
+{
+    let op = match asked_operation(door.ticket, &door.operation) {
+        Ok(op) => op,
+        Err(fault) => return fault,
+    };
+    let Ok(buffer) = Vec::from_slice(alloc, bytes) else {
+        return NO_MEMORY;
+    };
+    let command = Command {
+        op,
+        buffer: Buffer::from_vec(buffer),
+    };
+    let mut doors = ArrayVec::new();
+    match driver.submit(
+        door.client as usize,
+        door.tag,
+        door.ticket,
+        command,
+        &mut doors,
+    ) {
+        Ok(()) => {
+            show_doorbells(door, &doors);
+            0
+        }
+        Err((refusal, _)) => refusal_number(refusal),
+    }
+}
+
+fn manage(driver: &mut Driver, door: &mut UasDriverDoor) -> u8
+    ensures { (result, (driver.new, door.new)) ≡ after_task driver.old door.old }
+{
+    if door.ticket >= TICKETS {
+        return NO_TICKET;
+    }
+    let Some(task) = task_numbered(door.function, door.tag) else {
+        return NO_FUNCTION;
+    };
+    let mut doors = ArrayVec::new();
+    match driver.task(door.client as usize, door.ticket, task, &mut doors) {
+        Ok(()) => {
+            show_doorbells(door, &doors);
+            0
+        }
+        Err(refusal) => refusal_number(refusal),
+    }
+}
+
+fn retire(driver: &mut Driver, door: &mut UasDriverDoor) -> u8
+    ensures { (result, (driver.new, door.new)) ≡ after_retire driver.old door.old }
+{
+    let Some(pipe) = pipe_numbered(door.pipe) else {
+        return NO_RING;
+    };
+    let mut doors = ArrayVec::new();
+    match driver.retire(pipe, door.tag, &mut doors) {
+        Ok(begun) => {
+            show_doorbells(door, &doors);
+            door.acted = u8::from(begun);
+            0
+        }
+        Err(refusal) => refusal_number(refusal),
+    }
+}
+
+fn show_left_over(driver: &Driver, door: &mut UasDriverDoor) -> u8
+    ensures { (result, (driver.now, door.new)) ≡ after_left_over driver.now door.old }
+{
+    let Some(pipe) = pipe_numbered(door.pipe) else {
+        return NO_RING;
+    };
+    let next = next_left_over(driver, pipe, door.tag);
+    show_next(door, next);
+    0
+}
+
+/// The least tag above this one whose TD on a pipe is left over.
+fn next_left_over(driver: &Driver, pipe: Pipe, tag: u16) -> Option<u16>
+    ensures { result ≡ next_left_over driver.now.host pipe tag }
+{
+    driver.next_left_over(pipe, tag)
+}
+
+fn take_event(driver: &mut Driver, door: &mut UasDriverDoor) -> u8
+    ensures { (result, (driver.new, door.new)) ≡ after_event driver.old door.old }
+{
+    let Some(event) = event_named(door) else {
+        return NO_EVENT;
+    };
+    let mut doors = ArrayVec::new();
+    let handled = driver.take_event(event, &mut doors);
+    show_doorbells(door, &doors);
+    show_handled(door, handled);
+    0
+}
+
+/// Takes the oldest reply of a client.
+fn take_reply(driver: &mut Driver, door: &mut UasDriverDoor, bytes: &mut [u8]) -> u8
+    ensures { (result, (driver.new, (door.new, bytes.new))) ≡ after_reply driver.old door.old bytes.old }
+{
+    if bytes.len() < LONGEST_BUFFER {
+        return BAD_LENGTH;
+    }
+    let given = driver.take_reply(door.client as usize);
+    match &given {
+        Some(reply) => show_reply(door, &tell_reply(reply, door.sense, bytes)),
+        None => door.acted = 0,
+    }
+    0
+}
+
+fn read(driver: &Driver, door: &UasDriverDoor, bytes: &mut [u8]) -> u8
+    ensures { (result, (driver.now, (door.now, bytes.new))) ≡ after_read driver.now door.now bytes.old }
+{
+    match driver.read(door.address, bytes.len()) {
+        Ok(found) => {
+            bytes.copy_from_slice(found);
+            0
+        }
+        Err(refusal) => refusal_number(refusal),
+    }
+}
+
+fn write(driver: &mut Driver, door: &UasDriverDoor, bytes: &[u8]) -> u8
+    ensures { (result, (driver.new, door.now)) ≡ after_write driver.old door.now bytes.now }
+{
+    match driver.write(door.address, bytes) {
+        Ok(()) => 0,
+        Err(refusal) => refusal_number(refusal),
+    }
+}
+
+fn show_item(driver: &Driver, door: &UasDriverDoor, bytes: &mut [u8]) -> u8
+    ensures { (result, (driver.now, (door.now, bytes.new))) ≡ after_item driver.now door.now bytes.old }
+{
+    if bytes.len() != ITEM_BYTES {
+        return BAD_LENGTH;
+    }
+    let Some(item) = driver.item(door.address) else {
+        return NO_ADDRESS;
+    };
+    bytes.copy_from_slice(&item);
+    0
+}
+
+fn show_context(driver: &Driver, door: &UasDriverDoor, bytes: &mut [u8]) -> u8
+    ensures { (result, (driver.now, (door.now, bytes.new))) ≡ after_context driver.now door.now bytes.old }
+{
+    if bytes.len() != ITEM_BYTES {
+        return BAD_LENGTH;
+    }
+    let Some(pipe) = pipe_numbered(door.pipe) else {
+        return NO_RING;
+    };
+    match driver.context(pipe, door.stream) {
+        Ok(context) => {
+            bytes.copy_from_slice(&context);
+            0
+        }
+        Err(refusal) => refusal_number(refusal),
+    }
+}

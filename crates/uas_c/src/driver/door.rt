@@ -1,0 +1,184 @@
+//! The driver's door, what its numbers name, and what is told by it.
+ghost use Rattle.std.specs.Prelude.{◌≡◌, ◌==◌, false};
+ghost use Rattle.uas_c.specs.DriverCall.{driver_call, driver_refusal, event_named, with_doorbells, with_handled, with_next, with_reply};
+
+use crate::client::ToldReply;
+use crate::scsi::UasOperation;
+use arrayvec::ArrayVec;
+use event_ring::Event;
+use uas_driver::Refusal;
+use uas_host::Handled;
+use uas_iu::MAX_SENSE_BYTES;
+use uas_profile::STREAM_ENTRIES;
+
+/// What a call of the driver asks and answers. C writes `call` and what that call reads; the call writes what it answers.
+#[repr(C)]
+#[derive(Clone, Copy)]
+pub struct UasDriverDoor {
+    /// Of SUBMIT and TASK, below 2^60. Out of REPLY.
+    pub ticket: u64,
+    /// Of READ, WRITE and ITEM. Of EVENT: the TRB that the event is about.
+    pub address: u64,
+    /// Of SUBMIT.
+    pub operation: UasOperation,
+    /// Of SUBMIT, TASK and REPLY.
+    pub client: u32,
+    /// Of EVENT: bytes that weren't moved. Out of REPLY: bytes of its buffer.
+    pub length: u32,
+    /// Of SUBMIT, ABORT TASK, QUERY TASK, RETIRE and LEFT_OVER. Out of LEFT_OVER and EVENT, where there is one, and of REPLY.
+    pub tag: u16,
+    /// Of CONTEXT.
+    pub stream: u16,
+    /// Out of SUBMIT, TASK, RETIRE and EVENT: how many doorbells are to be written.
+    pub doorbells: u16,
+    /// The call, 1 to 10.
+    pub call: u8,
+    /// Of RETIRE, LEFT_OVER and CONTEXT: 1 status, 2 data in, 3 data out.
+    pub pipe: u8,
+    /// Of TASK: 1 ABORT TASK of `tag`, 8 LOGICAL UNIT RESET, 80h QUERY TASK of `tag`.
+    pub function: u8,
+    /// Out of RETIRE, LEFT_OVER and REPLY: 0 or 1. Out of EVENT: 0 stray, 1 matched, 2 of the command under way.
+    pub acted: u8,
+    /// Of EVENT: the type of its TRB, 32 or 33. It is `type` in C.
+    pub kind: u8,
+    /// Of EVENT: the completion code.
+    pub code: u8,
+    /// Of EVENT: the endpoint ID.
+    pub endpoint: u8,
+    /// Of EVENT.
+    pub slot: u8,
+    /// Out of REPLY: 1 a status, 2 aborted, 3 a task management's response.
+    pub reply: u8,
+    /// Out of REPLY: the SCSI status of 1, the response code of 3.
+    pub status: u8,
+    /// Out of REPLY: bytes of sense data.
+    pub sense_length: u8,
+    pub reserved: [u8; 7],
+    /// Out of REPLY 1.
+    pub sense: [u8; MAX_SENSE_BYTES],
+    /// Out of SUBMIT, TASK, RETIRE and EVENT: its first `doorbells` values, in the order in which to write them.
+    pub doorbell: [u32; STREAM_ENTRIES],
+}
+
+/// A call, by its number.
+#[derive(Clone, Copy)]
+pub(crate) enum DriverCall {
+    Submit,
+    Task,
+    Retire,
+    LeftOver,
+    Event,
+    Reply,
+    Read,
+    Write,
+    Item,
+    Context,
+}
+
+pub(crate) const NO_CLIENTS: u8 = 18;
+
+pub(crate) const NO_ADDRESS: u8 = 24;
+
+pub(crate) const NO_RING: u8 = 25;
+
+pub(crate) const NO_EVENT: u8 = 26;
+
+pub(crate) fn call_numbered(number: u8) -> Option<DriverCall>
+    ensures { result ≡ driver_call number }
+{
+    match number {
+        1 => Some(DriverCall::Submit),
+        2 => Some(DriverCall::Task),
+        3 => Some(DriverCall::Retire),
+        4 => Some(DriverCall::LeftOver),
+        5 => Some(DriverCall::Event),
+        6 => Some(DriverCall::Reply),
+        7 => Some(DriverCall::Read),
+        8 => Some(DriverCall::Write),
+        9 => Some(DriverCall::Item),
+        10 => Some(DriverCall::Context),
+        _ => None,
+    }
+}
+
+/// The event that a door names.
+pub(crate) fn event_named(door: &UasDriverDoor) -> Option<Event>
+    ensures { result ≡ event_named door.now }
+{
+    match door.kind {
+        32 => Some(Event::Transfer {
+            pointer: door.address,
+            residual: door.length,
+            code: door.code,
+            endpoint: door.endpoint,
+            slot: door.slot,
+        }),
+        33 => Some(Event::Command {
+            pointer: door.address,
+            code: door.code,
+            slot: door.slot,
+        }),
+        _ => None,
+    }
+}
+
+pub(crate) fn refusal_number(refusal: Refusal) -> u8
+    ensures number { result ≡ driver_refusal refusal }
+    ensures no_want_of_memory { (result == 16) ≡ false }
+{
+    match refusal {
+        Refusal::BadTicket => 20,
+        Refusal::NoRoom => 23,
+        Refusal::BadAddress => NO_ADDRESS,
+        Refusal::NoRing => NO_RING,
+        Refusal::Fault(fault) => fault.number(),
+    }
+}
+
+/// Tells the doorbells that are to be written.
+pub(crate) fn show_doorbells(door: &mut UasDriverDoor, doors: &ArrayVec<u32, STREAM_ENTRIES>)
+    ensures { door.new ≡ with_doorbells door.old doors.now.items }
+{
+    door.doorbells = doors.len() as u16;
+    door.doorbell[..doors.len()].copy_from_slice(doors);
+}
+
+/// Tells the tag whose TD is left over.
+pub(crate) fn show_next(door: &mut UasDriverDoor, next: Option<u16>)
+    ensures { door.new ≡ with_next door.old next }
+{
+    match next {
+        Some(next) => {
+            door.acted = 1;
+            door.tag = next;
+        }
+        None => door.acted = 0,
+    }
+}
+
+/// Tells what the host made of an event.
+pub(crate) fn show_handled(door: &mut UasDriverDoor, handled: Handled)
+    ensures { door.new ≡ with_handled door.old handled }
+{
+    match handled {
+        Handled::Matched(tag) => {
+            door.acted = 1;
+            door.tag = tag;
+        }
+        Handled::Engine => door.acted = 2,
+        Handled::Stray => door.acted = 0,
+    }
+}
+
+pub(crate) fn show_reply(door: &mut UasDriverDoor, told: &ToldReply)
+    ensures { door.new ≡ with_reply door.old told.now }
+{
+    door.acted = 1;
+    door.reply = told.kind;
+    door.tag = told.tag;
+    door.ticket = told.ticket;
+    door.status = told.status;
+    door.sense_length = told.sense_length;
+    door.sense = told.sense;
+    door.length = told.length;
+}

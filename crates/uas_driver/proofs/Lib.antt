@@ -1,0 +1,3 @@
+pub mod Loans
+pub mod Pending
+pub mod Rooms

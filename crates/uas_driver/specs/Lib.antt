@@ -1,0 +1,6 @@
+-- The driver without a controller: its parts, the room that it tests, the rings as an event finds them, and what each call makes of it.
+pub mod Driver
+pub mod Room
+pub mod Settled
+pub mod Places
+pub mod Calls

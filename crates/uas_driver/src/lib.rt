@@ -1,0 +1,149 @@
+//! The half of a bus before a controller of one's own: a USB Attached SCSI driver, its rings and buffers (xHCI 1.2, 4.6 to 4.12).
+//!
+//! ```text
+//!   clients --submit, task, retire--> driver --doorbells--> controller beyond
+//!      ^                              |    ^                    |       |
+//!      +--------- take_reply ---------+    +---- take_event ----+       |
+//!                                     |                                 |
+//!                           rings, contexts, buffers <--item, context, read, write
+//! ```
+//!
+//! A [`Driver`] is the host driver of 1 to 15 clients with rings, stream contexts and buffers, and no controller. It is for authors of
+//! controllers and of virtual machines: their own controller is given doorbells, reads by address what they are of, writes data and
+//! status units, and hands events in.
+//!
+//! - *Doorbells* (4.7, 5.6) are what a call leaves in its last argument, in the order in which they are to be written: endpoint ID in
+//!   bits 7:0, stream in bits 31:16, and 0 for the controller's own command ring.
+//! - *Addresses* are those of `stream_array` and `frame_store`: the ring of stream s of pipe n at 40000000h + 1000000h n + 1000h s, the
+//!   command pipe's (n 1) with s 0, the controller's own command ring at 50000000h; of tag t the command buffer at 10000000h +
+//!   100h t, the status buffer at 20000000h + 100h t, and the vector of its command at 100000000h + 10000h t.
+//! - *Events* (4.11.3) alone tell the driver how far the controller beyond came. Before the host sees one, the ring that it is of is
+//!   settled: its consumer's end is moved behind the item at the event's pointer, and a Set TR Dequeue Pointer (4.6.10) that
+//!   succeeded moves its stream's. An event whose pointer is no pending item's moves nothing.
+//!
+//! What is promised: safe and total, whatever the controller beyond does. It may post any event, twice or never, and write any byte of
+//! a buffer. No call asks anything of it, and each call is one equation: what it makes of the driver, its answer and its doorbells
+//! are the function of its name in specs/Calls.antt. A refused call ([`Refusal`]) leaves the driver as it was and gives no
+//! doorbell. [`Driver::new`] takes all memory, and no other call takes any.
+//!
+//! Where the host asks for room on a ring, or that nothing is lent for a tag, the driver tests it and refuses: a controller that posts no
+//! events gives no places back. The host's own promises, which events it takes for which command and what they leave over, stand in
+//! `uas_host` and hold here of the rings once they are settled.
+//!
+//! It stands on `uas_host` for the host, on `stream_array` for the rings and on `frame_store` for the buffers, by their contracts alone,
+//! and says nothing that they don't.
+#![tactic(auto)]
+
+ghost use Rattle.std.specs.Prelude.{◌≡◌, ℕ, ◌*◌, ◌<◌, ◌≤◌, true, false, IfOk, IfSome, IfNone, is_some, length, slice_get};
+ghost use Rattle.uas_profile.specs.declared.TheConstants.{TAGS};
+ghost use Rattle.uas_host.specs.NextReply.{next_len};
+ghost use Rattle.uas_host.specs.Retirement.{is_left_over_on};
+ghost use Rattle.uas_host.specs.State.{client_of};
+ghost use Rattle.uas_driver.specs.Driver.{IsOpening};
+
+mod calls;
+mod events;
+mod memory;
+mod room;
+
+use frame_store::Frames;
+use scsi_cmd::SubmitFault;
+use std::alloc::{AllocError, Global};
+use std::marker::Model;
+use stream_array::{Lines, Pipe};
+use thiserror::Error;
+use uas_host::Host;
+use uas_profile::MAX_CLIENTS;
+
+/// Want of memory, the one refusal of a constructor.
+pub type NoMemory = AllocError;
+
+/// Why a call was refused.
+#[derive(Clone, Copy, Debug, Drop, Error, PartialEq, Eq)]
+pub enum Refusal {
+    /// Tickets are below 2^60.
+    #[error("the ticket is too great")]
+    BadTicket,
+    /// A ring that is needed has too few places that were given back, or a vector is lent for the tag already.
+    #[error("the rings and buffers have no room")]
+    NoRoom,
+    /// A byte is in no buffer, or two are in different ones.
+    #[error("the bytes are not all in one buffer")]
+    BadAddress,
+    /// Contexts are those of streams 1 to 248 of a pipe with streams.
+    #[error("there is no such ring")]
+    NoRing,
+    /// The host refused the submission.
+    #[error("{0}")]
+    Fault(SubmitFault),
+}
+
+/// A host, rings and buffers.
+#[derive(Debug, Drop)]
+pub struct Driver {
+    host: Host,
+    lines: Lines,
+    frames: Frames,
+}
+
+impl Model for Driver {
+    ghost use Rattle.uas_driver.specs.Driver.{DriverState};
+
+    ghost Value = { DriverState };
+
+    ghost view = { λ driver. record { host = driver.host; lines = driver.lines; frames = driver.frames } };
+}
+
+impl Driver {
+    /// A driver of so many clients, 1 to 15 (`MAX_CLIENTS`), that have submitted nothing. Rings and buffers are zeros. The error is want
+    /// of memory.
+    pub fn new(alloc: Global, clients: usize) -> Result<Driver, NoMemory>
+        requires some { 1 ≤ clients }
+        requires most { clients ≤ MAX_CLIENTS }
+        ensures { IfOk result (IsOpening clients) }
+    {
+        Ok(Driver {
+            host: Host::new(alloc, clients)?,
+            lines: Lines::new(alloc)?,
+            frames: Frames::new(alloc)?,
+        })
+    }
+
+    /// How many clients it has.
+    pub fn clients(&self) -> usize
+        ensures { result ≡ length self.now.host.clients }
+    {
+        self.host.clients()
+    }
+
+    /// Whether a reply is ready for a client. None is for a client that isn't there.
+    pub fn has_reply(&self, client: usize) -> bool
+        ensures { result ≡ is_some (slice_get (client_of self.now.host client).ready.items 0) }
+    {
+        self.host.has_reply(client)
+    }
+
+    /// How many bytes the next reply of a client brings: 0 where none is ready, and where a task management's is next.
+    pub fn next_len(&self, client: usize) -> usize
+        ensures { result ≡ next_len self.now.host client }
+    {
+        self.host.next_len(client)
+    }
+
+    /// Whether the TD of a tag on a pipe is left over (4.6.9): its event can't come any more, and its TRBs may be on their ring.
+    pub fn is_left_over(&self, pipe: Pipe, tag: u16) -> bool
+        ensures { result ≡ is_left_over_on self.now.host pipe tag }
+    {
+        self.host.is_left_over(pipe, tag)
+    }
+
+    /// The least tag above this one whose TD on a pipe is left over, and so is to be retired.
+    pub fn next_left_over(&self, pipe: Pipe, tag: u16) -> Option<u16>
+        ensures next { IfSome result (λ next. (tag < next) × (next ≤ length self.now.host.clients * TAGS)
+            × (is_left_over_on self.now.host pipe next ≡ true)
+            × ((other : ℕ) → tag < other → other < next → is_left_over_on self.now.host pipe other ≡ false)) }
+        ensures none { IfNone result ((other : ℕ) → tag < other → is_left_over_on self.now.host pipe other ≡ false) }
+    {
+        self.host.next_left_over(pipe, tag)
+    }
+}

@@ -9,8 +9,10 @@ use Rattle.scsi_cmd.specs.Op.{direction_of}
 use Rattle.event_ring.specs.declared.Event.{Event}
 use Rattle.uas_profile.specs.Doors.{answer_doors, submission_doors}
 use Rattle.uas_profile.specs.declared.Pipe.{Pipe}
+use Rattle.uas_profile.specs.declared.TheConstants.{ENGINE_RING_PLACES}
 use Rattle.uas_profile.specs.declared.Pipe.TheVariants.{Command as CommandPipe, Status, DataIn, DataOut}
 use Rattle.stream_array.specs.Contexts.{context_text, has_stream}
+use Rattle.stream_array.specs.Map.{places_of, spot_at}
 use Rattle.stream_array.specs.Rings.{consumer_end, ring_of}
 use Rattle.frame_store.specs.Buffers.{bytes_at, left_at, written}
 use Rattle.frame_store.specs.declared.TagBuffers.{TagBuffers}
@@ -24,6 +26,7 @@ use Rattle.uas_host.specs.Tds.{pushed, pushed_task}
 use Rattle.uas_driver.specs.declared.Refusal.{Refusal}
 use Rattle.uas_driver.specs.declared.Refusal.TheVariants.{BadTicket, NoRoom, BadAddress, NoRing, Fault}
 use Rattle.uas_driver.specs.Driver.{DriverState}
+use Rattle.uas_driver.specs.Places.{place_read}
 use Rattle.uas_driver.specs.Room.{has_engine_room, lacks_room, lacks_task_room}
 use Rattle.uas_driver.specs.Settled.{settled}
 
@@ -121,6 +124,12 @@ write_by driver address bytes =
 
 abbrev pub read_by : DriverState → ℕ → ℕ → Result (List ℕ) Refusal
 read_by driver address len = if is_named driver.frames address len then Ok (bytes_at driver.frames address len) else Err BadAddress
+
+-- what stands at a place of a ring: of a pipe's, or of the controller's command ring
+abbrev pub item_by : DriverState → ℕ → Option (List ℕ)
+item_by driver address =
+    option_map_or (λ at. place_read (places_of at.0) (ring_of driver.lines at.0 at.1) address) (spot_at address)
+    (place_read ENGINE_RING_PLACES driver.lines.engine address)
 
 -- the pipe has streams, and a ring for this one
 abbrev pub has_context : Pipe → ℕ → Bool

@@ -3,9 +3,6 @@ use Rattle.std.specs.Prelude.{ℕ, ◌+◌, ◌-◌, ◌*◌, ◌==◌, if◌the
 use Rattle.std.specs.Option.{option_map_or}
 use Rattle.cycle_ring.specs.Ring.{item_at}
 use Rattle.cycle_ring.specs.Items.{ItemRing, raw_image, raw_link_image}
-use Rattle.uas_profile.specs.declared.TheConstants.{ENGINE_RING_PLACES}
-use Rattle.stream_array.specs.Map.{places_of, spot_at}
-use Rattle.stream_array.specs.Rings.{LinesState, ring_of}
 
 -- the bytes at the Link's address: those of the Link behind the item before it, where that item is there
 abbrev pub link_read : ℕ → ItemRing → ℕ → Option (List ℕ)
@@ -16,9 +13,3 @@ link_read n ring address =
 -- 43012000h, 43012000h has its 16 bytes, and 43012010h none.
 abbrev pub place_read : ℕ → ItemRing → ℕ → Option (List ℕ)
 place_read n ring address = option_map_or (raw_image n ring) (item_at n ring address) (link_read n ring address)
-
--- the same of all rings: those of the pipes, and the controller's command ring
-abbrev pub item_read : LinesState → ℕ → Option (List ℕ)
-item_read lines address =
-    option_map_or (λ at. place_read (places_of at.0) (ring_of lines at.0 at.1) address) (spot_at address)
-    (place_read ENGINE_RING_PLACES lines.engine address)

@@ -70,10 +70,14 @@ impl Driver {
         if lacks_task_room(&self.host, &self.lines, client) {
             return Err(Refusal::NoRoom);
         }
-        match self
-            .host
-            .task(&mut self.lines, &mut self.frames, doors, client, ticket, task)
-        {
+        match self.host.task(
+            &mut self.lines,
+            &mut self.frames,
+            doors,
+            client,
+            ticket,
+            task,
+        ) {
             Ok(()) => Ok(()),
             Err(fault) => Err(Refusal::Fault(fault)),
         }

@@ -1,12 +1,14 @@
 //! Events, and the rings as the controller beyond must have left them where it posts one.
-ghost use Rattle.std.specs.Prelude.{◌≡◌, ◌+◌, Some, IfSome, is_some, option_and_then, slice_get};
+ghost use Rattle.std.specs.Prelude.{◌≡◌, ◌↔◌, ℕ, ◌+◌, Some, IfSome, is_some, option_and_then, slice_get};
 ghost use Rattle.std.specs.Option.{option_map_or};
 ghost use Rattle.uas_profile.specs.declared.TheConstants.{ENGINE_RING_PLACES};
 ghost use Rattle.uas_profile.specs.Pipes.{HasStreams};
 ghost use Rattle.stream_array.specs.Map.{HasRing, places_of};
 ghost use Rattle.cycle_ring.specs.Items.{known_of};
 ghost use Rattle.stream_array.specs.Rings.{ring_of, with_engine, with_ring};
-ghost use Rattle.uas_driver.specs.Calls.{event_by};
+ghost use Rattle.uas_host.specs.Awaited.{IsOfEngine, IsOfTd};
+ghost use Rattle.uas_host.specs.LeftBy.{LeavesOverByNote};
+ghost use Rattle.uas_driver.specs.Calls.{event_by, settled_sides};
 ghost use Rattle.uas_driver.specs.Settled.{completed, engine_passed, executed, moved_at, moved_on, passed_on, pending_place, pipe_at, settled, transferred};
 
 use crate::Driver;
@@ -17,9 +19,7 @@ use event_ring::Event;
 use stream_array::laws::one_ring_is_changed;
 use stream_array::{Lines, Pipe, find};
 use uas_host::Handled;
-use uas_profile::{
-    DATA_IN_ENDPOINT, DATA_OUT_ENDPOINT, STATUS_ENDPOINT, STREAM_ENTRIES, SUCCESS,
-};
+use uas_profile::{DATA_IN_ENDPOINT, DATA_OUT_ENDPOINT, STATUS_ENDPOINT, STREAM_ENTRIES, SUCCESS};
 use xhci_trb::Trb;
 
 /// Moves a ring's consumer's end to its pending item at an address; false, and nothing changes, where there is none. An item's Cycle bit
@@ -166,13 +166,15 @@ impl Driver {
     /// pointer and all before it are consumed where it was pending, and a Set TR Dequeue Pointer of code 1, Success, moves the ring
     /// that it names. Then it is the host's (`Host::on_event`), and `doors` has the doorbells to write: those of the retirement's next
     /// step, or of the streams that wait at its end. Worked: the event of the first of two data TRBs of a TD settles the ring and is
-    /// `Stray`; that of the second is `Matched`.
-    pub fn take_event(
-        &mut self,
-        event: Event,
-        doors: &mut ArrayVec<u32, STREAM_ENTRIES>,
-    ) -> Handled
-        ensures { event_by self.old event ≡ (self.new, result, doors.new.items) }
+    /// `Stray`; that of the second, with code 1, is `Matched`.
+    pub fn take_event(&mut self, event: Event, doors: &mut ArrayVec<u32, STREAM_ENTRIES>) -> Handled
+        ensures handled { event_by self.old event ≡ (self.new, result, doors.new.items) }
+        // Of the rings once they are settled it is what `Host::on_event` says in words of its own: matched exactly where it is of a TD of
+        // that tag that the host waits for, Engine exactly where it is of the engine command under way (uas_host specs/Awaited), and
+        // what is left over is left over by it (specs/LeftBy).
+        ensures matched { (tag : ℕ) → (result ≡ Handled.Matched tag) ↔ IsOfTd (settled_sides self.old event) self.old.frames event tag }
+        ensures engine { (result ≡ Handled.Engine) ↔ IsOfEngine (settled_sides self.old event) event }
+        ensures left_over { LeavesOverByNote (settled_sides self.old event) self.old.frames event self.new.host }
     {
         doors.clear();
         settle(&mut self.lines, event);

@@ -1,16 +1,16 @@
-//! One half of a bus: a USB Attached SCSI driver with its rings and buffers, for a controller of one's own (xHCI 1.2, 4.6 to 4.12; INCITS 471).
+//! The half of a bus before a controller of one's own: a USB Attached SCSI driver, its rings and buffers (xHCI 1.2, 4.6 to 4.12).
 //!
 //! ```text
-//!   clients --submit, task, retire--> driver --doorbells-------------> controller beyond
-//!      ^                                 ^                               |         |
-//!      +----------- take_reply ----------+---- take_event <---- events --+         |
-//!                                        |                                         |
-//!                              rings, contexts, buffers <--item, context, read, write
+//!   clients --submit, task, retire--> driver --doorbells--> controller beyond
+//!      ^                              |    ^                    |       |
+//!      +--------- take_reply ---------+    +---- take_event ----+       |
+//!                                     |                                 |
+//!                           rings, contexts, buffers <--item, context, read, write
 //! ```
 //!
 //! A [`Driver`] is the host driver of 1 to 15 clients with rings, stream contexts and buffers, and no controller. It is for authors of
-//! controllers and of virtual machines: their own controller writes nothing on a ring and calls nothing of the host, but is given
-//! doorbells, reads what they are of by address, and hands events in.
+//! controllers and of virtual machines: their own controller is given doorbells, reads by address what they are of, writes data and
+//! status units, and hands events in.
 //!
 //! - *Doorbells* (4.7, 5.6) are what a call leaves in its last argument, in the order in which they are to be written: endpoint ID in
 //!   bits 7:0, stream in bits 31:16, and 0 for the controller's own command ring.
@@ -65,7 +65,7 @@ pub enum Refusal {
     #[error("the ticket is too great")]
     BadTicket,
     /// A ring that is needed has too few places that were given back, or a vector is lent for the tag already.
-    #[error("the rings have no room")]
+    #[error("the rings and buffers have no room")]
     NoRoom,
     /// A byte is in no buffer, or two are in different ones.
     #[error("the bytes are not all in one buffer")]

@@ -5,8 +5,8 @@ ghost use Rattle.uas_profile.specs.declared.TheConstants.{ENGINE_RING_PLACES};
 ghost use Rattle.uas_profile.specs.Pipes.{HasStreams};
 ghost use Rattle.stream_array.specs.Map.{IsPlace, place_address, places_of};
 ghost use Rattle.stream_array.specs.Rings.{ring_of};
-ghost use Rattle.uas_driver.specs.Calls.{context_by, has_context, read_by, write_by};
-ghost use Rattle.uas_driver.specs.Places.{item_read, place_read};
+ghost use Rattle.uas_driver.specs.Calls.{context_by, has_context, item_by, read_by, write_by};
+ghost use Rattle.uas_driver.specs.Places.{place_read};
 
 use crate::room::has_stream;
 use crate::{Driver, Refusal};
@@ -84,7 +84,7 @@ impl Driver {
     /// The 16 bytes at the first byte of a place of a ring (4.9.2), of a pipe's or of the controller's command ring: those of the item
     /// that stands there, or of the Link behind the item before it (4.11.5.1), with their Cycle bits. None where no item stands.
     pub fn item(&self, address: u64) -> Option<[u8; 16]>
-        ensures { result ≡ item_read self.now.lines address }
+        ensures { result ≡ item_by self.now address }
     {
         match find(address) {
             Some((pipe, stream, place)) => read_place(&self.lines, pipe, stream, place),

@@ -4,8 +4,8 @@ ghost use Rattle.uas_profile.specs.declared.TheConstants.{STREAMS};
 ghost use Rattle.stream_array.specs.Contexts.{has_stream};
 ghost use Rattle.stream_array.specs.Map.{HasRing};
 ghost use Rattle.frame_store.specs.Buffers.{IsWhole, held_for};
-ghost use Rattle.uas_driver.specs.Room.{has_data_room, has_engine_room, has_room, has_task_room, lacks_room, lacks_task_room, ring_has};
 ghost use Rattle.uas_host.specs.State.{IsHost};
+ghost use Rattle.uas_driver.specs.Room.{has_data_room, has_engine_room, has_room, has_task_room, lacks_room, lacks_task_room, ring_has};
 
 use frame_store::Frames;
 use stream_array::{Lines, Pipe};

@@ -3,6 +3,7 @@
  *   codecs      TRBs, information units, CDBs, sense and data: bytes to fields and back
  *   device      uas_device: units in, units and data out, for up to 15 logical units of 512 byte blocks
  *   controller  uas_controller: what stands behind a driver, rings and doorbells in, events out: xHCI controller and device
+ *   driver      uas_driver: what stands in front of a controller: host, rings and buffers, events in, doorbells out
  *   bus         uas_bus: host, xHCI controller and device as one machine of atomic steps
  *
  * A call's value is its fault: 0 for done, else a number named below. A refused call changes nothing, what it would have written
@@ -684,6 +685,243 @@ static inline uint8_t uas_controller_medium(uas_controller *controller, uint16_t
     return uas_controller_copy(controller, UAS_CONTROLLER_CALL_MEDIUM, unit, lba, data, length);
 }
 
+/* ---- The driver (xHCI 4.6 to 4.12; INCITS 471) ----
+ *
+ *   clients --submit, task, retire--> driver --doorbells--> your controller
+ *      ^                                |  ^                    |
+ *      +-------------reply--------------+  +-------events-------+
+ *
+ * What stands in front of a controller: host, rings, stream contexts and buffers, without a controller. A call tells the doorbells that
+ * are to be written; the controller beyond reads items, contexts and buffers by address, writes buffers, and hands in events, which
+ * alone tell the driver how far it came. It may do anything: no event and no byte of a buffer is asked to be right.
+ *
+ * Clients, tags and tickets are those of a bus, and things lie where they do for uas_controller. */
+typedef struct uas_driver uas_driver;
+
+enum {
+    UAS_DRIVER_NOT_YOURS = 1,    /* no such client, or the tag is no command tag of it */
+    UAS_DRIVER_IN_USE = 2,       /* something is under the tag, or under the tag of task management */
+    UAS_DRIVER_BAD_LENGTH = 3,   /* the data isn't as long as what the command moves */
+    UAS_DRIVER_TOO_LONG = 4,     /* a READ or WRITE of more than 128 blocks */
+    UAS_DRIVER_OUT_OF_TURN = 5,  /* the ticket isn't above the client's last accepted one */
+    UAS_DRIVER_NO_SUCH_TASK = 6, /* no command of the client is under the tag to abort or to query */
+    UAS_DRIVER_NO_MEMORY = 16,
+    UAS_DRIVER_CALL = 17,      /* there is no such call */
+    UAS_DRIVER_CLIENTS = 18,   /* no client, or more than 15 */
+    UAS_DRIVER_OPERATION = 19, /* an unknown operation code, or what UAS_CDB_UNFIT is for */
+    UAS_DRIVER_TICKET = 20,    /* 2^60 or more */
+    UAS_DRIVER_LENGTH = 21,    /* less than 65,536 bytes for a reply's data; not the 16 bytes of an item, a context */
+    UAS_DRIVER_FUNCTION = 22,  /* none of UAS_ABORT_TASK, UAS_LOGICAL_UNIT_RESET, UAS_QUERY_TASK */
+    UAS_DRIVER_ROOM = 23,      /* a ring has too few places, as the controller beyond completed too little */
+    UAS_DRIVER_ADDRESS = 24,   /* what is named isn't all in one buffer; no item and no Link TRB stands there */
+    UAS_DRIVER_RING = 25,      /* no pipe with streams, or no stream from 1 to 248 */
+    UAS_DRIVER_EVENT = 26      /* neither a Transfer Event nor a Command Completion Event */
+};
+
+/* A driver of so many clients, 1 to 15, that have submitted nothing. *driver is for uas_driver_free.
+ * Faults: UAS_DRIVER_CLIENTS, UAS_DRIVER_NO_MEMORY. */
+uint8_t uas_driver_new(size_t clients, uas_driver **driver);
+
+/* Gives back all memory that the driver holds, but the block of malloc that the pointer is of. For uas_driver_free alone. */
+void uas_driver_close(uas_driver *driver);
+
+/* Gives all its memory back, and that of commands that got no reply. No fault. */
+static inline void uas_driver_free(uas_driver *driver)
+{
+    uas_driver_close(driver);
+    free(driver);
+}
+
+/* Which call of the driver. */
+enum {
+    UAS_DRIVER_CALL_SUBMIT = 1,
+    UAS_DRIVER_CALL_TASK = 2,
+    UAS_DRIVER_CALL_RETIRE = 3,
+    UAS_DRIVER_CALL_LEFT_OVER = 4,
+    UAS_DRIVER_CALL_EVENT = 5,
+    UAS_DRIVER_CALL_REPLY = 6,
+    UAS_DRIVER_CALL_READ = 7,
+    UAS_DRIVER_CALL_WRITE = 8,
+    UAS_DRIVER_CALL_ITEM = 9,
+    UAS_DRIVER_CALL_CONTEXT = 10
+};
+
+/* What an event was. */
+enum { UAS_EVENT_STRAY = 0, UAS_EVENT_MATCHED = 1, UAS_EVENT_ENGINE = 2 };
+
+/* What goes in and comes out beside the data, where a call has it. */
+struct uas_driver_door {
+    uint64_t ticket;                /* in of SUBMIT, TASK; out of REPLY */
+    uint64_t address;               /* in of READ, WRITE, ITEM; in of EVENT: the TRB that the event is about */
+    struct uas_operation operation; /* in of SUBMIT */
+    uint32_t client;                /* in of SUBMIT, TASK, REPLY */
+    uint32_t length;                /* in of EVENT: bytes that weren't moved, below 2^24; out of REPLY: bytes of its data */
+    uint16_t tag;                   /* in of SUBMIT, TASK, RETIRE, LEFT_OVER; out of LEFT_OVER, of REPLY, of EVENT where it was matched */
+    uint16_t stream;                /* in of CONTEXT */
+    uint16_t doorbells;             /* out of SUBMIT, TASK, RETIRE, EVENT: how many */
+    uint8_t call;                   /* in: UAS_DRIVER_CALL_... */
+    uint8_t pipe;                   /* in of RETIRE, LEFT_OVER, CONTEXT: UAS_PIPE_... */
+    uint8_t function;               /* in of TASK */
+    uint8_t acted;                  /* out of RETIRE, LEFT_OVER, REPLY: 0 or 1; out of EVENT: UAS_EVENT_... */
+    uint8_t type;                   /* in of EVENT: UAS_TRB_TRANSFER_EVENT or UAS_TRB_COMMAND_EVENT */
+    uint8_t code;                   /* in of EVENT: the completion code (6.4.5) */
+    uint8_t endpoint;               /* in of EVENT: the endpoint ID */
+    uint8_t slot;                   /* in of EVENT */
+    uint8_t reply;                  /* out of REPLY: UAS_REPLY_... */
+    uint8_t status;                 /* out of REPLY: the SCSI status, or a task management's response code */
+    uint8_t sense_length;           /* out of REPLY */
+    uint8_t reserved[7];
+    uint8_t sense[96];              /* out of REPLY: its first sense_length bytes */
+    uint32_t doorbell[256];         /* out of SUBMIT, TASK, RETIRE, EVENT: its first `doorbells` values, in the order in which to write them */
+};
+UAS_ASSERT(sizeof(struct uas_driver_door) == 1192 && offsetof(struct uas_driver_door, call) == 54);
+UAS_ASSERT(offsetof(struct uas_driver_door, sense) == 72 && offsetof(struct uas_driver_door, doorbell) == 168);
+
+/* Any call of the driver; those below are easier to use. Where a call has no data, `length` may be 0.
+ * Fault: UAS_DRIVER_CALL, and those of the call. */
+uint8_t uas_driver_call(uas_driver *driver, struct uas_driver_door *door, uint8_t *data, size_t length);
+
+/* A client submits a command under one of its command tags, as uas_bus_submit. told->doorbell has the told->doorbells values to write.
+ * Faults: UAS_DRIVER_TICKET, UAS_DRIVER_OPERATION, UAS_DRIVER_NO_MEMORY, UAS_DRIVER_ROOM, UAS_DRIVER_NOT_YOURS to
+ * UAS_DRIVER_OUT_OF_TURN. */
+static inline uint8_t uas_driver_submit(uas_driver *driver, uint32_t client, uint16_t tag, uint64_t ticket,
+                                        const struct uas_operation *operation, const uint8_t *data, size_t length,
+                                        struct uas_driver_door *told)
+{
+    struct uas_driver_door door = UAS_ZEROED;
+    door.call = UAS_DRIVER_CALL_SUBMIT;
+    door.client = client;
+    door.tag = tag;
+    door.ticket = ticket;
+    door.operation = *operation;
+    uint8_t fault = uas_driver_call(driver, &door, uas_bytes(data, length), length);
+    if (fault == 0)
+        *told = door;
+    return fault;
+}
+
+/* A client submits a task management, as uas_bus_task. told->doorbell has the told->doorbells values to write.
+ * Faults: UAS_DRIVER_TICKET, UAS_DRIVER_FUNCTION, UAS_DRIVER_ROOM, UAS_DRIVER_NOT_YOURS, UAS_DRIVER_IN_USE,
+ * UAS_DRIVER_OUT_OF_TURN, UAS_DRIVER_NO_SUCH_TASK. */
+static inline uint8_t uas_driver_task(uas_driver *driver, uint32_t client, uint64_t ticket, uint8_t function, uint16_t tag,
+                                      struct uas_driver_door *told)
+{
+    struct uas_driver_door door = UAS_ZEROED;
+    door.call = UAS_DRIVER_CALL_TASK;
+    door.client = client;
+    door.ticket = ticket;
+    door.function = function;
+    door.tag = tag;
+    uint8_t fault = uas_driver_call(driver, &door, uas_bytes(NULL, 0), 0);
+    if (fault == 0)
+        *told = door;
+    return fault;
+}
+
+/* Begins to take a tag's TD, which nothing will complete, off a pipe: told->acted is 1 where none is under way and the TD is left
+ * over. told->doorbell has the told->doorbells values to write.
+ * Faults: UAS_DRIVER_RING, UAS_DRIVER_ROOM. */
+static inline uint8_t uas_driver_retire(uas_driver *driver, uint8_t pipe, uint16_t tag, struct uas_driver_door *told)
+{
+    struct uas_driver_door door = UAS_ZEROED;
+    door.call = UAS_DRIVER_CALL_RETIRE;
+    door.pipe = pipe;
+    door.tag = tag;
+    uint8_t fault = uas_driver_call(driver, &door, uas_bytes(NULL, 0), 0);
+    if (fault == 0)
+        *told = door;
+    return fault;
+}
+
+/* The least tag above *tag whose TD on a pipe is left over; *there is false, and *tag as it was, where there is none.
+ * Fault: UAS_DRIVER_RING. */
+static inline uint8_t uas_driver_left_over(uas_driver *driver, uint8_t pipe, uint16_t *tag, bool *there)
+{
+    struct uas_driver_door door = UAS_ZEROED;
+    door.call = UAS_DRIVER_CALL_LEFT_OVER;
+    door.pipe = pipe;
+    door.tag = *tag;
+    uint8_t fault = uas_driver_call(driver, &door, uas_bytes(NULL, 0), 0);
+    if (fault == 0) {
+        *there = door.acted != 0;
+        *tag = door.tag;
+    }
+    return fault;
+}
+
+/* Hands an event in, as uas_trb_decode reads it: told->acted is UAS_EVENT_STRAY, UAS_EVENT_MATCHED (then of told->tag), or
+ * UAS_EVENT_ENGINE. told->doorbell has the told->doorbells values to write.
+ * Fault: UAS_DRIVER_EVENT. */
+static inline uint8_t uas_driver_event(uas_driver *driver, const struct uas_trb *event, struct uas_driver_door *told)
+{
+    struct uas_driver_door door = UAS_ZEROED;
+    door.call = UAS_DRIVER_CALL_EVENT;
+    door.address = event->pointer;
+    door.length = event->length;
+    door.type = event->type;
+    door.code = event->code;
+    door.endpoint = event->endpoint;
+    door.slot = event->slot;
+    uint8_t fault = uas_driver_call(driver, &door, uas_bytes(NULL, 0), 0);
+    if (fault == 0)
+        *told = door;
+    return fault;
+}
+
+/* A client takes its oldest reply that is ready, as uas_bus_reply.
+ * Fault: UAS_DRIVER_LENGTH. */
+static inline uint8_t uas_driver_reply(uas_driver *driver, uint32_t client, uint8_t *data, size_t length, struct uas_driver_door *reply)
+{
+    struct uas_driver_door door = UAS_ZEROED;
+    door.call = UAS_DRIVER_CALL_REPLY;
+    door.client = client;
+    uint8_t fault = uas_driver_call(driver, &door, uas_bytes(data, length), length);
+    if (fault == 0)
+        *reply = door;
+    return fault;
+}
+
+static inline uint8_t uas_driver_memory(uas_driver *driver, uint8_t call, uint64_t address, const uint8_t *data, size_t length)
+{
+    struct uas_driver_door door = UAS_ZEROED;
+    door.call = call;
+    door.address = address;
+    return uas_driver_call(driver, &door, uas_bytes(data, length), length);
+}
+
+/* The controller beyond reads bytes of one buffer.
+ * Fault: UAS_DRIVER_ADDRESS. */
+static inline uint8_t uas_driver_read(uas_driver *driver, uint64_t address, uint8_t *data, size_t length)
+{
+    return uas_driver_memory(driver, UAS_DRIVER_CALL_READ, address, data, length);
+}
+
+/* The controller beyond writes bytes of one buffer.
+ * Fault: UAS_DRIVER_ADDRESS. */
+static inline uint8_t uas_driver_write(uas_driver *driver, uint64_t address, const uint8_t *data, size_t length)
+{
+    return uas_driver_memory(driver, UAS_DRIVER_CALL_WRITE, address, data, length);
+}
+
+/* The controller beyond reads the 16 bytes at a place of a ring: of an item, or of the Link TRB. Nothing stands at a place that is free:
+ * what memory has there is of an earlier round, or zeros.
+ * Fault: UAS_DRIVER_ADDRESS. */
+static inline uint8_t uas_driver_item(uas_driver *driver, uint64_t address, uint8_t bytes[16])
+{
+    return uas_driver_memory(driver, UAS_DRIVER_CALL_ITEM, address, bytes, 16);
+}
+
+/* The controller beyond reads the context of a stream (6.2.4.1), 1 to 248.
+ * Fault: UAS_DRIVER_RING. */
+static inline uint8_t uas_driver_context(uas_driver *driver, uint8_t pipe, uint16_t stream, uint8_t bytes[16])
+{
+    struct uas_driver_door door = UAS_ZEROED;
+    door.call = UAS_DRIVER_CALL_CONTEXT;
+    door.pipe = pipe;
+    door.stream = stream;
+    return uas_driver_call(driver, &door, uas_bytes(bytes, 16), 16);
+}
+
 /* ---- The bus (xHCI 4.6, 4.11, 4.12; INCITS 471) ----
  *
  *   client --submit--> command pipe --step--> device --step--> data
@@ -737,7 +975,7 @@ enum {
     UAS_STEP_RETIRE = 6   /* the host begins to take the tag's TD, which nothing will complete, off a pipe */
 };
 
-/* Pipes of UAS_STEP_RETIRE. */
+/* Pipes of UAS_STEP_RETIRE, and of a driver's calls. */
 enum { UAS_PIPE_STATUS = 1, UAS_PIPE_DATA_IN = 2, UAS_PIPE_DATA_OUT = 3 };
 
 /* Kinds of reply. */

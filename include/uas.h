@@ -16,12 +16,13 @@
  *      and behind it is as much memory as the type, the array bound or the length beside it says: never less.
  *   2. During a call nothing else reads or writes what the call may write, and nothing writes what it reads: no two of its
  *      arguments overlap.
- *   3. A uas_device, uas_controller or uas_bus pointer comes from uas_device_new, uas_controller_new or uas_bus_new and wasn't given
- *      to its free yet.
+ *   3. A uas_device, uas_controller, uas_driver or uas_bus pointer comes from uas_device_new, uas_controller_new, uas_driver_new or
+ *      uas_bus_new and wasn't given to its free yet.
  *   4. A handle is in one call at a time, in whatever thread: what one thread's call wrote must be seen by the next thread's, as a
  *      lock sees to. Calls without a handle may run in any thread at any time.
  *   5. The program's malloc, realloc and free are one allocator's, and align as the C standard asks (16 bytes on x86-64). Memory
- *      is taken in uas_device_new, uas_controller_new, uas_bus_new, and for the data of uas_controller_lend and uas_bus_submit alone.
+ *      is taken in uas_device_new, uas_controller_new, uas_driver_new and uas_bus_new, and for the data of uas_controller_lend,
+ *      uas_driver_submit and uas_bus_submit alone.
  *   6. A call finds 64 KiB of stack. None is made from a signal handler, nor in the child of a fork of a program with threads.
  *
  * Sections are those of xHCI 1.2, of INCITS 471 (UAS), and of SPC, SBC and SAM by name. */
@@ -594,7 +595,7 @@ static inline uint8_t uas_controller_event(uas_controller *controller, struct ua
     return fault;
 }
 
-static inline uint8_t uas_controller_memory(uas_controller *controller, uint8_t call, uint64_t address, const uint8_t *data, size_t length)
+static inline uint8_t uas_controller_memory(uas_controller *controller, uint8_t call, uint64_t address, uint8_t *data, size_t length)
 {
     struct uas_controller_door door = UAS_ZEROED;
     door.call = call;
@@ -606,7 +607,7 @@ static inline uint8_t uas_controller_memory(uas_controller *controller, uint8_t 
  * Fault: UAS_CONTROLLER_ADDRESS. */
 static inline uint8_t uas_controller_write(uas_controller *controller, uint64_t address, const uint8_t *data, size_t length)
 {
-    return uas_controller_memory(controller, UAS_CONTROLLER_CALL_WRITE, address, data, length);
+    return uas_controller_memory(controller, UAS_CONTROLLER_CALL_WRITE, address, uas_bytes(data, length), length);
 }
 
 /* Reads bytes of one buffer.
@@ -712,7 +713,7 @@ enum {
     UAS_DRIVER_TICKET = 20,    /* 2^60 or more */
     UAS_DRIVER_LENGTH = 21,    /* less than 65,536 bytes for a reply's data; not the 16 bytes of an item, a context */
     UAS_DRIVER_FUNCTION = 22,  /* none of UAS_ABORT_TASK, UAS_LOGICAL_UNIT_RESET, UAS_QUERY_TASK */
-    UAS_DRIVER_ROOM = 23,      /* a ring has too few places, as the controller beyond completed too little */
+    UAS_DRIVER_ROOM = 23,      /* a ring has too few places, as the controller beyond completed too little, or a command is under the tag */
     UAS_DRIVER_ADDRESS = 24,   /* what is named isn't all in one buffer; no item and no Link TRB stands there */
     UAS_DRIVER_RING = 25,      /* no pipe with streams, or no stream from 1 to 248 */
     UAS_DRIVER_EVENT = 26      /* neither a Transfer Event nor a Command Completion Event */
@@ -881,7 +882,7 @@ static inline uint8_t uas_driver_reply(uas_driver *driver, uint32_t client, uint
     return fault;
 }
 
-static inline uint8_t uas_driver_memory(uas_driver *driver, uint8_t call, uint64_t address, const uint8_t *data, size_t length)
+static inline uint8_t uas_driver_memory(uas_driver *driver, uint8_t call, uint64_t address, uint8_t *data, size_t length)
 {
     struct uas_driver_door door = UAS_ZEROED;
     door.call = call;
@@ -900,7 +901,7 @@ static inline uint8_t uas_driver_read(uas_driver *driver, uint64_t address, uint
  * Fault: UAS_DRIVER_ADDRESS. */
 static inline uint8_t uas_driver_write(uas_driver *driver, uint64_t address, const uint8_t *data, size_t length)
 {
-    return uas_driver_memory(driver, UAS_DRIVER_CALL_WRITE, address, data, length);
+    return uas_driver_memory(driver, UAS_DRIVER_CALL_WRITE, address, uas_bytes(data, length), length);
 }
 
 /* The controller beyond reads the 16 bytes at a place of a ring: of an item, or of the Link TRB. Nothing stands at a place that is free:

@@ -1512,23 +1512,60 @@ static void link_stands(const struct second_line *line)
     seen[SEEN_LINK]++;
 }
 
-/* Puts what a ring has got on the controller's, at the same addresses; how many items. */
-static uint32_t bring_items(uint8_t ring, uint16_t stream)
+/* Puts what a ring has got on the controller's, at the same addresses: these TRBs, and no others. */
+static void bring_items(uint8_t ring, uint16_t stream, const struct uas_trb *wanted, uint32_t count)
 {
     struct second_line *line = line_got(ring, stream);
+    struct uas_trb trb;
     uint8_t bytes[16];
-    uint32_t count = 0;
-    while (uas_driver_item(driver, second_address(line, line->put), bytes) == 0) {
+    uint32_t brought = 0;
+    for (; uas_driver_item(driver, second_address(line, line->put), bytes) == 0; brought++) {
         uint64_t address = 0;
-        AGREE((bytes[12] & 1) == second_cycle(line, line->put));
-        if (!AGREE(uas_controller_put_raw(beyond, ring, stream, bytes, &address) == 0) || !AGREE(address == second_address(line, line->put)))
-            break;
+        AGREE(uas_controller_put_raw(beyond, ring, stream, bytes, &address) == 0);
+        if (!AGREE(brought < count && address == second_address(line, line->put)))
+            return;
+        AGREE(uas_trb_decode(bytes, &trb) == 0 && trb.cycle == second_cycle(line, line->put));
+        trb.cycle = 0;
+        AGREE(memcmp(&trb, &wanted[brought], sizeof trb) == 0);
         line->put++;
-        count++;
         if (line->put % line->turn == 0)
             link_stands(line);
     }
-    return count;
+    AGREE(brought == count);
+}
+
+static void bring_normal(uint8_t ring, uint16_t stream, uint64_t pointer, uint32_t length, uint8_t flags)
+{
+    const struct uas_trb wanted = { .type = UAS_TRB_NORMAL, .pointer = pointer, .length = length, .flags = flags };
+    bring_items(ring, stream, &wanted, 1);
+}
+
+/* The data TD of a command: TRBs of 4,096 bytes, and how many packets of 1,024 come behind each. */
+static void bring_data_td(uint8_t pipe, uint16_t tag, uint32_t length)
+{
+    struct uas_trb wanted[16];
+    uint32_t count = 0;
+    for (uint32_t at = 0; at < length; at += 4096, count++) {
+        uint32_t left = length - at, packets = left > 4096 ? (left - 4096 + 1023) / 1024 : 0;
+        wanted[count] = (struct uas_trb){ .type = UAS_TRB_NORMAL, .pointer = window_of(tag) + at };
+        wanted[count].length = left < 4096 ? left : 4096;
+        wanted[count].td_size = (uint8_t)(packets < 31 ? packets : 31);
+        wanted[count].flags = left > 4096 ? UAS_TRB_CH : UAS_TRB_IOC;
+    }
+    bring_items(pipe, tag, wanted, count);
+}
+
+/* A command of a retirement. */
+static void bring_engine_command(uint8_t type, uint8_t pipe, uint16_t tag)
+{
+    const struct second_line *line = line_got(pipe, tag);
+    struct uas_trb wanted = { .type = type, .endpoint = second_endpoint(pipe), .slot = 1 };
+    if (type == UAS_TRB_SET_DEQUEUE) {
+        wanted.stream = tag;
+        wanted.pointer = second_address(line, line->put);
+        wanted.dequeue_cycle = second_cycle(line, line->put);
+    }
+    bring_items(UAS_RING_COMMANDS, 0, &wanted, 1);
 }
 
 /* Writes the doorbells that were told. */
@@ -1559,17 +1596,20 @@ static bool told_submission(uint8_t data_pipe, uint16_t tag)
 }
 
 /* A unit, its TDs and its doorbells, once the driver took it. */
-static void bring_unit(uint16_t tag, uint8_t data_pipe, uint32_t data_trbs)
+static void bring_unit(uint16_t tag, uint8_t data_pipe, uint32_t data_length)
 {
     uint64_t buffer = 0x10000000 + 0x100 * (uint64_t)tag;
-    uint8_t unit[32];
+    uint32_t unit_length = model_bus.entries[tag].is_task ? 16 : 32;
+    uint8_t unit[32], wanted[32];
+    size_t length;
     AGREE(told_submission(data_pipe, tag));
     AGREE(uas_driver_read(driver, buffer, unit, sizeof unit) == 0);
+    AGREE(second_unit_write(&model_bus.entries[tag].unit, wanted, sizeof wanted, &length) == 0 && memcmp(unit, wanted, length) == 0);
     AGREE(uas_controller_write(beyond, buffer, unit, sizeof unit) == 0);
     if (data_pipe != 0)
-        AGREE(bring_items(data_pipe, tag) == data_trbs);
-    AGREE(bring_items(UAS_RING_STATUS, tag) == 1);
-    AGREE(bring_items(UAS_RING_COMMAND_PIPE, 0) == 1);
+        bring_data_td(data_pipe, tag, data_length);
+    bring_normal(UAS_RING_STATUS, tag, 0x20000000 + 0x100 * (uint64_t)tag, UAS_MOST_UNIT_BYTES, UAS_TRB_ISP | UAS_TRB_IOC);
+    bring_normal(UAS_RING_COMMAND_PIPE, 0, buffer, unit_length, UAS_TRB_IOC);
     bring_doorbells();
 }
 
@@ -1614,7 +1654,7 @@ static void halves_submit(struct guarded memory, struct guarded out)
     if (made.length > 0)
         data_pipe = second_is_write(made.operation.opcode) ? UAS_PIPE_DATA_OUT : UAS_PIPE_DATA_IN;
     bring_data(made.tag, made.data, made.length);
-    bring_unit(made.tag, data_pipe, (uint32_t)(made.length + 4095) / 4096);
+    bring_unit(made.tag, data_pipe, (uint32_t)made.length);
 }
 
 static void halves_task(struct guarded out)
@@ -1759,7 +1799,10 @@ static void halves_event(struct guarded out)
         AGREE(second_owner(told.tag) == owner && told.doorbells == 0);
     else
         AGREE(ended ? told_resumed(pipe) : told.doorbells == 1 && told.doorbell[0] == 0);
-    AGREE(bring_items(UAS_RING_COMMANDS, 0) == (transfer || ended ? 0 : 1));
+    if (transfer || ended)
+        bring_items(UAS_RING_COMMANDS, 0, NULL, 0);
+    else
+        bring_engine_command(UAS_TRB_SET_DEQUEUE, pipe, tag);
     bring_doorbells();
     give_back(event.address, ended ? pipe : 0, tag);
     if (one_in(8))
@@ -1777,8 +1820,11 @@ static void halves_retire(struct guarded out, uint8_t pipe, uint16_t tag)
     told.tag = tag;
     AGREE(call_driver(out, uas_bytes(NULL, 0), 0) == 0);
     AGREE(told.acted == acted && told.doorbells == acted);
-    AGREE(bring_items(UAS_RING_COMMANDS, 0) == acted);
     AGREE(!acted || told.doorbell[0] == 0);
+    if (acted)
+        bring_engine_command(UAS_TRB_STOP_ENDPOINT, pipe, tag);
+    else
+        bring_items(UAS_RING_COMMANDS, 0, NULL, 0);
     bring_doorbells();
 }
 
@@ -1907,6 +1953,12 @@ static void halves_stray(struct guarded out)
     AGREE(is_stray(out, &event, event.code));
 }
 
+/* How many bytes of data a tag has. */
+static uint32_t window_length(uint16_t tag)
+{
+    return tag <= HALVES_TAGS && model_bus.entries[tag].used ? model_bus.entries[tag].length : 0;
+}
+
 /* An address at which no item stands, or where so many bytes aren't in one buffer. */
 static void draw_address(uint8_t call, size_t *length)
 {
@@ -1923,7 +1975,7 @@ static void draw_address(uint8_t call, size_t *length)
     else if (one_in(2))
         told.address = 0x20000000 + 0x100 * (uint64_t)tag + 113 - *length;
     else
-        told.address = window_of(tag) + (tag <= HALVES_TAGS && model_bus.entries[tag].used ? model_bus.entries[tag].length : 0) + 1 - *length;
+        told.address = window_of(tag) + window_length(tag) + 1 - *length;
 }
 
 /* A call that is none, or that names what isn't there; the fault that it is to be refused with. */

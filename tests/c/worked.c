@@ -1341,11 +1341,18 @@ static void driver_answers(void)
     matches(driver, 0x41000000, 0, 1, 1);
     is_stray(driver, 0x41000000, 0, 1);
     no_item(driver, 0x41000000);
-    /* Bytes that are no unit, a code that is none of a status, fewer bytes than the unit has; then the status itself. */
+    /* Bytes that are no unit, a Response, another tag's, a code that is none of a status, fewer bytes than the unit has; then the
+     * status itself. */
     is_stray(driver, 0x42001000, 96, 13);
     driver_context_is(driver, UAS_PIPE_STATUS, 1, "13 10 00 42 00 x12");
+    driver_memory_gets(driver, 0x20000100, "04 00 00 01 00 x12");
+    is_stray(driver, 0x42001000, 104, 13);
+    driver_memory_gets(driver, 0x20000100, "03 00 00 02 00 x12");
+    is_stray(driver, 0x42001000, 96, 13);
     driver_memory_gets(driver, 0x20000100, "03 00 00 01 00 x12");
     is_stray(driver, 0x42001000, 96, 1);
+    is_stray(driver, 0x42001000, 113, 13);
+    is_stray(driver, 0x42001000, 0xffffff, 13);
     is_stray(driver, 0x42001000, 97, 13);
     no_driver_reply(driver, 0);
     item_is(driver, 0x42001000, "00 01 00 20 00 00 00 00 70 00 00 00 25 04 00 00");
@@ -1460,6 +1467,37 @@ static void driver_aborts(void)
     item_is(driver, 0x50000010, "13 30 00 42 00 00 00 00 00 00 03 00 01 40 03 01");
     is_of_engine(driver, 0x50000010, "");
     driver_replies(driver, 0, 0, 3, UAS_REPLY_ABORTED, 0, 0);
+    uas_driver_free(driver);
+}
+
+/* Responses that end nothing: COMPLETE of a query, and what isn't COMPLETE of a reset. A status that isn't CHECK CONDITION leaves no
+ * data over, whatever it is. */
+static void driver_leaves_nothing(void)
+{
+    static const struct uas_operation read_1 = { .opcode = UAS_READ_10, .count = 1 };
+    uas_driver *driver = new_driver(1);
+    struct uas_driver_door told;
+    driver_takes(driver, 0, 3, 0, read_1, 0, 512, "00030005 00030003 00000002");
+    matches(driver, 0x41000000, 0, 1, 3);
+    CHECK(uas_driver_task(driver, 0, 1, UAS_QUERY_TASK, 3, &told) == 0);
+    driver_memory_is(driver, 0x10001000, "05 00 00 10 80 00 00 03 00 x8");
+    driver_memory_gets(driver, 0x20001000, "04 00 00 10 00 00 00 00");
+    matches(driver, 0x41000010, 0, 1, 16);
+    matches(driver, 0x42010000, 104, 13, 16);
+    driver_replies(driver, 0, 1, 16, UAS_REPLY_TASK, UAS_RESPONSE_COMPLETE, 0);
+    CHECK(uas_driver_task(driver, 0, 2, UAS_LOGICAL_UNIT_RESET, 3, &told) == 0);
+    driver_memory_is(driver, 0x10001000, "05 00 00 10 08 00 x11");
+    driver_memory_gets(driver, 0x20001000, "04 00 00 10 00 00 00 09");
+    matches(driver, 0x41000020, 0, 1, 16);
+    matches(driver, 0x42010010, 104, 13, 16);
+    driver_replies(driver, 0, 2, 16, UAS_REPLY_TASK, UAS_RESPONSE_INCORRECT_LUN, 0);
+    left_over_is(driver, UAS_PIPE_STATUS, 0, 0);
+    driver_memory_gets(driver, 0x20000300, "03 00 00 03 00 00 08 00 x9");
+    matches(driver, 0x42003000, 96, 13, 3);
+    left_over_is(driver, UAS_PIPE_DATA_IN, 0, 0);
+    no_driver_reply(driver, 0);
+    matches(driver, 0x43003000, 0, 1, 3);
+    driver_replies(driver, 0, 0, 3, UAS_REPLY_STATUS, 8, 512);
     uas_driver_free(driver);
 }
 
@@ -2022,6 +2060,7 @@ int main(void)
     driver_reads();
     driver_retires();
     driver_aborts();
+    driver_leaves_nothing();
     driver_without_room();
     driver_refuses();
     bus_new_faults();

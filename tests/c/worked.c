@@ -1535,7 +1535,7 @@ static void driver_without_room(void)
 /* The call is refused with this fault, and neither its door nor its data is written. */
 static void driver_refuses_call(uas_driver *driver, struct uas_driver_door named, size_t length, uint8_t fault)
 {
-    static uint8_t data[UAS_MOST_DATA_BYTES + 1];
+    static uint8_t data[129 * 512];
     struct uas_driver_door door = named;
     door.doorbells = 0xeeee;
     door.acted = door.reply = door.status = door.sense_length = 0xee;

@@ -2,7 +2,7 @@
  * realloc and free go through this file: --wrap=malloc,--wrap=realloc,--wrap=free.
  *
  *   leaks         all of it
- *   leaks lose    leaves a device, a controller and a bus behind, which the leak check of the address sanitizer must tell */
+ *   leaks lose    leaves a device, a controller, a driver and a bus behind, which the leak check of the address sanitizer must tell */
 #include "check.h"
 #include "uas.h"
 
@@ -115,6 +115,38 @@ static uas_controller *used_controller(void)
     return controller;
 }
 
+/* Hands an event in, which is of some tag's TD. */
+static void event_matches(uas_driver *driver, uint64_t address, uint32_t residual, uint8_t code)
+{
+    const struct uas_trb event = { .type = UAS_TRB_TRANSFER_EVENT, .pointer = address, .length = residual, .code = code, .slot = 1 };
+    struct uas_driver_door told;
+    CHECK(uas_driver_event(driver, &event, &told) == 0 && told.acted == UAS_EVENT_MATCHED);
+}
+
+/* The second command on the rings, which moves no data, is answered under tag 1. */
+static void answers_ready(uas_driver *driver)
+{
+    static const uint8_t good[16] = { UAS_UNIT_SENSE, 0, 0, 1 };
+    CHECK(uas_driver_write(driver, 0x20000100, good, sizeof good) == 0);
+    event_matches(driver, 0x41000010, 0, 1);
+    event_matches(driver, 0x42001000, 96, 13);
+}
+
+/* A driver with a reply that nobody took, and a command under way. */
+static uas_driver *used_driver(void)
+{
+    uas_driver *driver = NULL;
+    struct uas_driver_door told;
+    if (uas_driver_new(3, &driver) != 0)
+        return NULL;
+    CHECK(uas_driver_submit(driver, 2, 33, 0, &read_24, data, 24 * 512, &told) == 0 && told.doorbells == 3);
+    CHECK(uas_driver_submit(driver, 0, 1, 0, &ready, data, 0, &told) == 0 && told.doorbells == 2);
+    CHECK(uas_driver_submit(driver, 1, 17, 0, &ready, data, 1, &told) == UAS_DRIVER_BAD_LENGTH);
+    CHECK(uas_driver_submit(driver, 2, 33, 1, &read_24, data, 24 * 512, &told) != 0);
+    answers_ready(driver);
+    return driver;
+}
+
 /* A bus with replies that nobody took, and commands that are under way. */
 static uas_bus *used_bus(void)
 {
@@ -137,11 +169,13 @@ static void a_thousand_times(void)
     for (int i = 0; i < 1000; i++) {
         uas_device *device = used_device();
         uas_controller *controller = used_controller();
+        uas_driver *driver = used_driver();
         uas_bus *bus = used_bus();
-        if (!CHECK(device != NULL && controller != NULL && bus != NULL && held > 0))
+        if (!CHECK(device != NULL && controller != NULL && driver != NULL && bus != NULL && held > 0))
             return;
         uas_device_free(device);
         uas_controller_free(controller);
+        uas_driver_free(driver);
         uas_bus_free(bus);
         if (!CHECK(held == 0))
             return;
@@ -229,15 +263,70 @@ static void each_refused_of_controller(void)
     CHECK(held == 0);
 }
 
+/* A retirement of client 2's data TD, which a CHECK CONDITION leaves over, with all calls that go with it. */
+static void retires_read(uas_driver *driver)
+{
+    static const uint8_t check[16] = { UAS_UNIT_SENSE, 0, 0, 33, 0, 0, UAS_CHECK_CONDITION };
+    struct uas_trb event = { .type = UAS_TRB_COMMAND_EVENT, .code = 1, .slot = 1 };
+    struct uas_driver_door told;
+    uint16_t tag = 0;
+    bool there = false;
+    CHECK(uas_driver_write(driver, 0x20002100, check, sizeof check) == 0);
+    event_matches(driver, 0x41000000, 0, 1);
+    event_matches(driver, 0x42021000, 96, 13);
+    CHECK(uas_driver_left_over(driver, UAS_PIPE_DATA_IN, &tag, &there) == 0 && there && tag == 33);
+    CHECK(uas_driver_retire(driver, UAS_PIPE_DATA_IN, 33, &told) == 0 && told.acted);
+    for (event.pointer = 0x50000000; event.pointer <= 0x50000010; event.pointer += 16)
+        CHECK(uas_driver_event(driver, &event, &told) == 0 && told.acted == UAS_EVENT_ENGINE);
+}
+
+/* The same of the driver. */
+static void each_refused_of_driver(void)
+{
+    uas_driver *driver = NULL;
+    struct uas_driver_door told;
+    uint8_t fault = UAS_DRIVER_NO_MEMORY, bytes[16];
+    unsigned long times = 0;
+    for (refused_at = 1; fault != 0 && refused_at < 10000; refused_at++, times++) {
+        asks = 0;
+        fault = uas_driver_new(3, &driver);
+        CHECK(fault == 0 || (fault == UAS_DRIVER_NO_MEMORY && driver == NULL && held == 0));
+    }
+    CHECK(times > 3 && fault == 0);
+    /* A submission copies its data; refused, it changes nothing and may come again. */
+    long before = held;
+    asks = 0;
+    refused_at = 1;
+    CHECK(uas_driver_submit(driver, 2, 33, 0, &read_24, data, 24 * 512, &told) == UAS_DRIVER_NO_MEMORY);
+    CHECK(held == before && uas_driver_item(driver, 0x41000000, bytes) == UAS_DRIVER_ADDRESS);
+    refused_at = 0;
+    CHECK(uas_driver_submit(driver, 2, 33, 0, &read_24, data, 24 * 512, &told) == 0 && held > before);
+    CHECK(uas_driver_submit(driver, 0, 1, 0, &ready, data, 0, &told) == 0);
+    /* The other calls ask for none. */
+    asks = 0;
+    answers_ready(driver);
+    retires_read(driver);
+    CHECK(uas_driver_task(driver, 1, 0, UAS_LOGICAL_UNIT_RESET, 0, &told) == 0 && told.doorbells == 2);
+    CHECK(uas_driver_item(driver, 0x41000020, bytes) == 0 && uas_driver_context(driver, UAS_PIPE_STATUS, 32, bytes) == 0);
+    CHECK(uas_driver_read(driver, 0x100210000, data, 24 * 512) == 0);
+    CHECK(uas_driver_reply(driver, 2, data, sizeof data, &told) == 0 && told.acted && told.length == 24 * 512);
+    CHECK(uas_driver_reply(driver, 0, data, sizeof data, &told) == 0 && told.acted && told.length == 0);
+    CHECK(asks == 0);
+    CHECK(held == before);
+    uas_driver_free(driver);
+    CHECK(held == 0);
+}
+
 int main(int words, char **word)
 {
     if (words == 2 && strcmp(word[1], "lose") == 0) {
-        bool all = used_device() != NULL && used_controller() != NULL && used_bus() != NULL;
+        bool all = used_device() != NULL && used_controller() != NULL && used_driver() != NULL && used_bus() != NULL;
         printf("leaks: lost %ld blocks\n", held);
         return all ? 0 : 2;
     }
     a_thousand_times();
     each_refused();
     each_refused_of_controller();
+    each_refused_of_driver();
     return tell("leaks");
 }

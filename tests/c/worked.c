@@ -1,5 +1,5 @@
 /* Cases worked out by hand from the standards' tables: bytes of TRBs, units, CDBs and data, commands on the device, TRBs and steps of
- * the controller, and a script of two clients on the bus. */
+ * the controller, the driver's TRBs with the events that answer them, and a script of two clients on the bus. */
 #include "check.h"
 #include "uas.h"
 
@@ -1172,9 +1172,472 @@ static void controller_new_faults(void)
     uas_controller_free(controller);
 }
 
-/* ---- The bus ---- */
+/* ---- The driver ---- */
 
 static uint8_t bytes_of_replies[UAS_MOST_DATA_BYTES];
+
+static uas_driver *new_driver(size_t clients)
+{
+    uas_driver *driver = NULL;
+    if (uas_driver_new(clients, &driver) != 0 || driver == NULL) {
+        fprintf(stderr, "no driver\n");
+        exit(2);
+    }
+    return driver;
+}
+
+/* These doorbells were told, in hexadecimal. */
+static void tells(const struct uas_driver_door *told, const char *values)
+{
+    uint16_t count = 0;
+    for (char *at; *values != '\0'; values = at) {
+        unsigned long value = strtoul(values, &at, 16);
+        if (at == values)
+            break;
+        if (!CHECK(count < told->doorbells && told->doorbell[count] == value))
+            fprintf(stderr, "    told %u, %08x for %08lx\n", told->doorbells, told->doorbell[count], value);
+        count++;
+    }
+    CHECK(told->doorbells == count);
+}
+
+/* A client's command is accepted, and tells these doorbells; its data is `length` times `byte`. */
+static void driver_takes(uas_driver *driver, uint32_t client, uint16_t tag, uint64_t ticket, struct uas_operation operation, uint8_t byte,
+                         size_t length, const char *doorbells)
+{
+    static uint8_t data[128 * 512];
+    struct uas_driver_door told;
+    memset(&told, 0xee, sizeof told);
+    memset(data, byte, length);
+    CHECK(uas_driver_submit(driver, client, tag, ticket, &operation, data, length, &told) == 0);
+    tells(&told, doorbells);
+}
+
+static void item_is(uas_driver *driver, uint64_t address, const char *text)
+{
+    uint8_t bytes[16];
+    memset(bytes, 0xee, sizeof bytes);
+    CHECK(uas_driver_item(driver, address, bytes) == 0);
+    CHECK_BYTES(bytes, sizeof bytes, text);
+}
+
+static void no_item(uas_driver *driver, uint64_t address)
+{
+    uint8_t bytes[16];
+    memset(bytes, 0xee, sizeof bytes);
+    CHECK(uas_driver_item(driver, address, bytes) == UAS_DRIVER_ADDRESS);
+    CHECK(all_are(bytes, sizeof bytes, 0xee));
+}
+
+static void driver_memory_is(uas_driver *driver, uint64_t address, const char *text)
+{
+    uint8_t bytes[112], wanted[112];
+    size_t length = from_hex(text, wanted, sizeof wanted);
+    memset(bytes, 0xee, sizeof bytes);
+    CHECK(uas_driver_read(driver, address, bytes, length) == 0);
+    CHECK_BYTES(bytes, length, text);
+    CHECK(all_are(bytes + length, sizeof bytes - length, 0xee));
+}
+
+static void driver_memory_gets(uas_driver *driver, uint64_t address, const char *text)
+{
+    uint8_t bytes[112];
+    size_t length = from_hex(text, bytes, sizeof bytes);
+    CHECK(uas_driver_write(driver, address, bytes, length) == 0);
+}
+
+static void driver_context_is(uas_driver *driver, uint8_t pipe, uint16_t stream, const char *text)
+{
+    uint8_t bytes[16];
+    memset(bytes, 0xee, sizeof bytes);
+    CHECK(uas_driver_context(driver, pipe, stream, bytes) == 0);
+    CHECK_BYTES(bytes, sizeof bytes, text);
+}
+
+/* What an event of this type, at this address, with this residual and code is, and the doorbells that it tells. */
+static struct uas_driver_door took(uas_driver *driver, uint8_t type, uint64_t address, uint32_t residual, uint8_t code, uint8_t what,
+                                   const char *doorbells)
+{
+    const struct uas_trb event = { .type = type, .pointer = address, .length = residual, .code = code, .slot = 1 };
+    struct uas_driver_door told;
+    memset(&told, 0xee, sizeof told);
+    CHECK(uas_driver_event(driver, &event, &told) == 0);
+    if (!CHECK(told.acted == what))
+        fprintf(stderr, "    %u for %u at %llx, code %u\n", told.acted, what, (unsigned long long)address, code);
+    tells(&told, doorbells);
+    return told;
+}
+
+static void matches(uas_driver *driver, uint64_t address, uint32_t residual, uint8_t code, uint16_t tag)
+{
+    struct uas_driver_door told = took(driver, UAS_TRB_TRANSFER_EVENT, address, residual, code, UAS_EVENT_MATCHED, "");
+    CHECK(told.tag == tag);
+}
+
+static void is_stray(uas_driver *driver, uint64_t address, uint32_t residual, uint8_t code)
+{
+    took(driver, UAS_TRB_TRANSFER_EVENT, address, residual, code, UAS_EVENT_STRAY, "");
+}
+
+static void is_of_engine(uas_driver *driver, uint64_t address, const char *doorbells)
+{
+    took(driver, UAS_TRB_COMMAND_EVENT, address, 0, 1, UAS_EVENT_ENGINE, doorbells);
+}
+
+static void no_driver_reply(uas_driver *driver, uint32_t client)
+{
+    struct uas_driver_door told;
+    memset(&told, 0xee, sizeof told);
+    CHECK(uas_driver_reply(driver, client, bytes_of_replies, sizeof bytes_of_replies, &told) == 0 && told.acted == 0);
+}
+
+/* The next reply of a client. */
+static struct uas_driver_door driver_replies(uas_driver *driver, uint32_t client, uint64_t ticket, uint16_t tag, uint8_t reply, uint8_t status,
+                                             uint32_t length)
+{
+    struct uas_driver_door told;
+    memset(&told, 0xee, sizeof told);
+    memset(bytes_of_replies, 0xee, sizeof bytes_of_replies);
+    CHECK(uas_driver_reply(driver, client, bytes_of_replies, sizeof bytes_of_replies, &told) == 0);
+    CHECK(told.acted == 1 && told.ticket == ticket && told.tag == tag && told.reply == reply);
+    CHECK(told.status == status && told.length == length);
+    CHECK(all_are(bytes_of_replies + length, sizeof bytes_of_replies - length, 0xee));
+    return told;
+}
+
+/* No TD of a tag above `tag` is left over on a pipe but that of `next`; 0: none at all. */
+static void left_over_is(uas_driver *driver, uint8_t pipe, uint16_t tag, uint16_t next)
+{
+    bool there = next == 0;
+    uint16_t found = tag;
+    CHECK(uas_driver_left_over(driver, pipe, &found, &there) == 0);
+    CHECK(there == (next != 0) && found == (next != 0 ? next : tag));
+}
+
+/* A retirement begins, or doesn't. */
+static void retires(uas_driver *driver, uint8_t pipe, uint16_t tag, bool acts)
+{
+    struct uas_driver_door told;
+    memset(&told, 0xee, sizeof told);
+    CHECK(uas_driver_retire(driver, pipe, tag, &told) == 0 && told.acted == acts);
+    tells(&told, acts ? "0" : "");
+}
+
+/* TEST UNIT READY of client 0 under tag 1, and its events; events that are none. */
+static void driver_answers(void)
+{
+    uas_driver *driver = new_driver(2);
+    driver_takes(driver, 0, 1, 5, ready, 0, 0, "00010003 00000002");
+    driver_memory_is(driver, 0x10000100, "01 00 00 01 00 x28");
+    item_is(driver, 0x42001000, "00 01 00 20 00 00 00 00 70 00 00 00 25 04 00 00");
+    item_is(driver, 0x41000000, "00 01 00 10 00 00 00 00 20 00 00 00 21 04 00 00");
+    no_item(driver, 0x42001010);
+    no_item(driver, 0x41000010);
+    driver_context_is(driver, UAS_PIPE_STATUS, 1, "03 10 00 42 00 x12");
+    no_driver_reply(driver, 0);
+    took(driver, UAS_TRB_COMMAND_EVENT, 0x41000000, 0, 1, UAS_EVENT_STRAY, "");
+    is_stray(driver, 0x41000008, 0, 1);
+    is_stray(driver, 0x41000010, 0, 1);
+    matches(driver, 0x41000000, 0, 1, 1);
+    is_stray(driver, 0x41000000, 0, 1);
+    no_item(driver, 0x41000000);
+    /* Bytes that are no unit, a Response, another tag's, a code that is none of a status, fewer bytes than the unit has; then the
+     * status itself. */
+    is_stray(driver, 0x42001000, 96, 13);
+    driver_context_is(driver, UAS_PIPE_STATUS, 1, "13 10 00 42 00 x12");
+    driver_memory_gets(driver, 0x20000100, "04 00 00 01 00 x12");
+    is_stray(driver, 0x42001000, 104, 13);
+    driver_memory_gets(driver, 0x20000100, "03 00 00 02 00 x12");
+    is_stray(driver, 0x42001000, 96, 13);
+    driver_memory_gets(driver, 0x20000100, "03 00 00 01 00 x12");
+    is_stray(driver, 0x42001000, 96, 1);
+    is_stray(driver, 0x42001000, 113, 13);
+    is_stray(driver, 0x42001000, 0xffffff, 13);
+    is_stray(driver, 0x42001000, 97, 13);
+    no_driver_reply(driver, 0);
+    item_is(driver, 0x42001000, "00 01 00 20 00 00 00 00 70 00 00 00 25 04 00 00");
+    matches(driver, 0x42001000, 96, 13, 1);
+    is_stray(driver, 0x42001000, 96, 13);
+    no_item(driver, 0x42001000);
+    no_driver_reply(driver, 1);
+    no_driver_reply(driver, 2);
+    CHECK(driver_replies(driver, 0, 5, 1, UAS_REPLY_STATUS, UAS_GOOD, 0).sense_length == 0);
+    no_driver_reply(driver, 0);
+    driver_takes(driver, 0, 1, 6, ready, 0, 0, "00010003 00000002");
+    item_is(driver, 0x42001010, "00 01 00 20 00 00 00 00 70 00 00 00 25 04 00 00");
+    uas_driver_free(driver);
+}
+
+/* READ of 9 blocks of client 1 under tag 18: two data TRBs, of which the second ends the TD. */
+static void driver_reads(void)
+{
+    static const struct uas_operation read_9 = { .opcode = UAS_READ_10, .lba = 7, .count = 9 };
+    uas_driver *driver = new_driver(2);
+    uint8_t byte = 0;
+    driver_takes(driver, 1, 18, 0, read_9, 0x77, 9 * 512, "00120005 00120003 00000002");
+    driver_memory_is(driver, 0x10001200, "01 00 00 12 00 x5 01 00 x6 28 00 00 00 00 07 00 00 09 00 x7");
+    item_is(driver, 0x43012000, "00 00 12 00 01 00 00 00 00 10 02 00 11 04 00 00");
+    item_is(driver, 0x43012010, "00 10 12 00 01 00 00 00 00 02 00 00 21 04 00 00");
+    no_item(driver, 0x43012020);
+    no_item(driver, 0x44012000);
+    CHECK(uas_driver_read(driver, 0x1001211ff, &byte, 1) == 0 && byte == 0x77);
+    CHECK(uas_driver_read(driver, 0x100121200, &byte, 1) == UAS_DRIVER_ADDRESS);
+    driver_memory_gets(driver, 0x100120000, "a1 a2 a3");
+    driver_memory_gets(driver, 0x1001211fe, "a4 a5");
+    matches(driver, 0x41000000, 0, 1, 18);
+    /* The first TRB's event moves the context; the second's is the TD's. */
+    is_stray(driver, 0x43012000, 0, 1);
+    driver_context_is(driver, UAS_PIPE_DATA_IN, 18, "13 20 01 43 00 x12");
+    item_is(driver, 0x43012000, "00 00 12 00 01 00 00 00 00 10 02 00 11 04 00 00");
+    matches(driver, 0x43012010, 0, 1, 18);
+    driver_context_is(driver, UAS_PIPE_DATA_IN, 18, "23 20 01 43 00 x12");
+    no_item(driver, 0x43012000);
+    driver_memory_gets(driver, 0x20001200, "03 00 00 12 00 x12");
+    matches(driver, 0x42012000, 96, 13, 18);
+    driver_replies(driver, 1, 0, 18, UAS_REPLY_STATUS, UAS_GOOD, 9 * 512);
+    CHECK_BYTES(bytes_of_replies, 4, "a1 a2 a3 77");
+    CHECK_BYTES(bytes_of_replies + 9 * 512 - 3, 3, "77 a4 a5");
+    CHECK(uas_driver_read(driver, 0x100120000, &byte, 1) == UAS_DRIVER_ADDRESS);
+    uas_driver_free(driver);
+}
+
+/* A CHECK CONDITION leaves a data TD over: Stop Endpoint, Set TR Dequeue Pointer, and the doorbells of those that wait. */
+static void driver_retires(void)
+{
+    static const struct uas_operation read_1 = { .opcode = UAS_READ_10, .count = 1 };
+    uas_driver *driver = new_driver(2);
+    driver_takes(driver, 1, 18, 0, read_1, 0x55, 512, "00120005 00120003 00000002");
+    driver_memory_gets(driver, 0x20001200, "03 00 00 12 00 00 02 00 x8 12 70 00 05 00 00 00 00 0a 00 x4 21 00 x5");
+    matches(driver, 0x41000000, 0, 1, 18);
+    left_over_is(driver, UAS_PIPE_DATA_IN, 0, 0);
+    matches(driver, 0x42012000, 78, 13, 18);
+    left_over_is(driver, UAS_PIPE_DATA_IN, 0, 18);
+    left_over_is(driver, UAS_PIPE_DATA_IN, 18, 0);
+    left_over_is(driver, UAS_PIPE_STATUS, 0, 0);
+    no_driver_reply(driver, 1);
+    retires(driver, UAS_PIPE_STATUS, 18, false);
+    retires(driver, UAS_PIPE_DATA_IN, 17, false);
+    retires(driver, UAS_PIPE_DATA_IN, 18, true);
+    item_is(driver, 0x50000000, "00 x12 01 3c 05 01");
+    retires(driver, UAS_PIPE_DATA_IN, 18, false);
+    left_over_is(driver, UAS_PIPE_DATA_IN, 0, 18);
+    /* While the pipe is held, its doorbells wait. */
+    driver_takes(driver, 0, 1, 0, read_1, 0, 512, "00010003 00000002");
+    driver_takes(driver, 1, 17, 1, read_1, 0, 512, "00110003 00000002");
+    took(driver, UAS_TRB_TRANSFER_EVENT, 0x50000000, 0, 1, UAS_EVENT_STRAY, "");
+    is_of_engine(driver, 0x50000000, "0");
+    no_item(driver, 0x50000000);
+    item_is(driver, 0x50000010, "13 20 01 43 00 00 00 00 00 00 12 00 01 40 05 01");
+    driver_context_is(driver, UAS_PIPE_DATA_IN, 18, "03 20 01 43 00 x12");
+    is_of_engine(driver, 0x50000010, "00010005 00110005");
+    driver_context_is(driver, UAS_PIPE_DATA_IN, 18, "13 20 01 43 00 x12");
+    no_item(driver, 0x43012000);
+    left_over_is(driver, UAS_PIPE_DATA_IN, 0, 0);
+    struct uas_driver_door told = driver_replies(driver, 1, 0, 18, UAS_REPLY_STATUS, UAS_CHECK_CONDITION, 512);
+    CHECK_BYTES(told.sense, told.sense_length, "70 00 05 00 00 00 00 0a 00 x4 21 00 x5");
+    CHECK(all_are(bytes_of_replies, 512, 0x55));
+    uas_driver_free(driver);
+}
+
+/* ABORT TASK of client 0 under its tag 16; the command's status TD is left over by the response. */
+static void driver_aborts(void)
+{
+    uas_driver *driver = new_driver(1);
+    struct uas_driver_door told;
+    driver_takes(driver, 0, 3, 0, ready, 0, 0, "00030003 00000002");
+    CHECK(uas_driver_task(driver, 0, 1, UAS_ABORT_TASK, 3, &told) == 0);
+    tells(&told, "00100003 00000002");
+    driver_memory_is(driver, 0x10001000, "05 00 00 10 01 00 00 03 00 x8");
+    item_is(driver, 0x41000010, "00 10 00 10 00 00 00 00 10 00 00 00 21 04 00 00");
+    item_is(driver, 0x42010000, "00 10 00 20 00 00 00 00 70 00 00 00 25 04 00 00");
+    /* The second command's event comes before the first's: its place is freed with that of the first. */
+    matches(driver, 0x41000010, 0, 1, 16);
+    item_is(driver, 0x41000000, "00 03 00 10 00 00 00 00 20 00 00 00 21 04 00 00");
+    item_is(driver, 0x41000010, "00 10 00 10 00 00 00 00 10 00 00 00 21 04 00 00");
+    matches(driver, 0x41000000, 0, 1, 3);
+    no_item(driver, 0x41000000);
+    no_item(driver, 0x41000010);
+    driver_memory_gets(driver, 0x20001000, "04 00 00 10 00 00 00 00");
+    matches(driver, 0x42010000, 104, 13, 16);
+    driver_replies(driver, 0, 1, 16, UAS_REPLY_TASK, UAS_RESPONSE_COMPLETE, 0);
+    left_over_is(driver, UAS_PIPE_STATUS, 2, 3);
+    retires(driver, UAS_PIPE_STATUS, 3, true);
+    item_is(driver, 0x50000000, "00 x12 01 3c 03 01");
+    is_of_engine(driver, 0x50000000, "0");
+    item_is(driver, 0x50000010, "13 30 00 42 00 00 00 00 00 00 03 00 01 40 03 01");
+    is_of_engine(driver, 0x50000010, "");
+    driver_replies(driver, 0, 0, 3, UAS_REPLY_ABORTED, 0, 0);
+    uas_driver_free(driver);
+}
+
+/* Responses that end nothing: COMPLETE of a query, and what isn't COMPLETE of a reset. A status that isn't CHECK CONDITION leaves no
+ * data over, whatever it is. */
+static void driver_leaves_nothing(void)
+{
+    static const struct uas_operation read_1 = { .opcode = UAS_READ_10, .count = 1 };
+    uas_driver *driver = new_driver(1);
+    struct uas_driver_door told;
+    driver_takes(driver, 0, 3, 0, read_1, 0, 512, "00030005 00030003 00000002");
+    matches(driver, 0x41000000, 0, 1, 3);
+    CHECK(uas_driver_task(driver, 0, 1, UAS_QUERY_TASK, 3, &told) == 0);
+    driver_memory_is(driver, 0x10001000, "05 00 00 10 80 00 00 03 00 x8");
+    driver_memory_gets(driver, 0x20001000, "04 00 00 10 00 00 00 00");
+    matches(driver, 0x41000010, 0, 1, 16);
+    matches(driver, 0x42010000, 104, 13, 16);
+    driver_replies(driver, 0, 1, 16, UAS_REPLY_TASK, UAS_RESPONSE_COMPLETE, 0);
+    CHECK(uas_driver_task(driver, 0, 2, UAS_LOGICAL_UNIT_RESET, 3, &told) == 0);
+    driver_memory_is(driver, 0x10001000, "05 00 00 10 08 00 x11");
+    driver_memory_gets(driver, 0x20001000, "04 00 00 10 00 00 00 09");
+    matches(driver, 0x41000020, 0, 1, 16);
+    matches(driver, 0x42010010, 104, 13, 16);
+    driver_replies(driver, 0, 2, 16, UAS_REPLY_TASK, UAS_RESPONSE_INCORRECT_LUN, 0);
+    left_over_is(driver, UAS_PIPE_STATUS, 0, 0);
+    driver_memory_gets(driver, 0x20000300, "03 00 00 03 00 00 08 00 x9");
+    matches(driver, 0x42003000, 96, 13, 3);
+    left_over_is(driver, UAS_PIPE_DATA_IN, 0, 0);
+    no_driver_reply(driver, 0);
+    matches(driver, 0x43003000, 0, 1, 3);
+    driver_replies(driver, 0, 0, 3, UAS_REPLY_STATUS, 8, 512);
+    uas_driver_free(driver);
+}
+
+/* A command's event that never comes holds all places behind it on the command pipe's ring, of which 254 are filled. */
+static void driver_without_room(void)
+{
+    uas_driver *driver = new_driver(1);
+    struct uas_driver_door told, kept;
+    uint8_t data[1] = { 0 };
+    driver_takes(driver, 0, 1, 0, ready, 0, 0, "00010003 00000002");
+    driver_memory_gets(driver, 0x20000200, "03 00 00 02 00 x12");
+    for (uint32_t ticket = 1; ticket < 254; ticket++) {
+        driver_takes(driver, 0, 2, ticket, ready, 0, 0, "00020003 00000002");
+        matches(driver, 0x41000000 + 16 * ticket, 0, 1, 2);
+        matches(driver, 0x42002000 + 16 * ((ticket - 1) % 19), 96, 13, 2);
+        driver_replies(driver, 0, ticket, 2, UAS_REPLY_STATUS, UAS_GOOD, 0);
+    }
+    no_item(driver, 0x41000fe0);
+    memset(&told, 0xee, sizeof told);
+    kept = told;
+    CHECK(uas_driver_submit(driver, 0, 2, 254, &ready, data, 0, &told) == UAS_DRIVER_ROOM);
+    CHECK(uas_driver_task(driver, 0, 254, UAS_QUERY_TASK, 1, &told) == UAS_DRIVER_ROOM);
+    CHECK(memcmp(&told, &kept, sizeof told) == 0);
+    matches(driver, 0x41000000, 0, 1, 1);
+    driver_takes(driver, 0, 2, 254, ready, 0, 0, "00020003 00000002");
+    item_is(driver, 0x41000fe0, "00 02 00 10 00 00 00 00 20 00 00 00 21 04 00 00");
+    item_is(driver, 0x41000ff0, "00 00 00 41 00 00 00 00 00 00 00 00 03 18 00 00");
+    driver_takes(driver, 0, 3, 255, ready, 0, 0, "00030003 00000002");
+    item_is(driver, 0x41000000, "00 03 00 10 00 00 00 00 20 00 00 00 20 04 00 00");
+    uas_driver_free(driver);
+}
+
+/* ---- What the driver refuses ---- */
+
+/* The call is refused with this fault, and neither its door nor its data is written. */
+static void driver_refuses_call(uas_driver *driver, struct uas_driver_door named, size_t length, uint8_t fault)
+{
+    static uint8_t data[129 * 512];
+    struct uas_driver_door door = named;
+    door.doorbells = 0xeeee;
+    door.acted = door.reply = door.status = door.sense_length = 0xee;
+    memset(door.sense, 0xee, sizeof door.sense);
+    memset(door.doorbell, 0xee, sizeof door.doorbell);
+    named = door;
+    memset(data, 0xee, sizeof data);
+    if (!CHECK(uas_driver_call(driver, &door, data, length) == fault))
+        fprintf(stderr, "    fault %u, call %u\n", fault, named.call);
+    CHECK(memcmp(&door, &named, sizeof door) == 0);
+    CHECK(all_are(data, sizeof data, 0xee));
+}
+
+#define DRIVER_REFUSES(fault, size, name, ...) \
+    driver_refuses_call(driver, (struct uas_driver_door){ .call = UAS_DRIVER_CALL_##name, __VA_ARGS__ }, size, UAS_DRIVER_##fault)
+
+static void driver_refuses_commands(uas_driver *driver)
+{
+    const struct uas_operation read = { .opcode = UAS_READ_10, .count = 1 }, many = { .opcode = UAS_WRITE_16, .count = 129 };
+    const struct uas_operation none = { .opcode = 0xee }, unfit = { .opcode = UAS_READ_10, .count = 65536 };
+    DRIVER_REFUSES(TICKET, 0, SUBMIT, .tag = 1, .ticket = (uint64_t)1 << 60, .operation = none);
+    DRIVER_REFUSES(OPERATION, 0, SUBMIT, .client = 2, .tag = 1, .operation = none);
+    DRIVER_REFUSES(OPERATION, 512, SUBMIT, .tag = 1, .operation = unfit);
+    DRIVER_REFUSES(NOT_YOURS, 512, SUBMIT, .client = 2, .tag = 33, .operation = read);
+    DRIVER_REFUSES(NOT_YOURS, 512, SUBMIT, .client = 0xffffffff, .tag = 1, .operation = read);
+    DRIVER_REFUSES(NOT_YOURS, 512, SUBMIT, .tag = 16, .operation = read);
+    DRIVER_REFUSES(NOT_YOURS, 512, SUBMIT, .tag = 0, .operation = read);
+    DRIVER_REFUSES(NOT_YOURS, 512, SUBMIT, .client = 1, .tag = 1, .operation = read);
+    DRIVER_REFUSES(NOT_YOURS, 512, SUBMIT, .client = 1, .tag = 65535, .operation = read);
+    DRIVER_REFUSES(BAD_LENGTH, 511, SUBMIT, .tag = 1, .operation = read);
+    DRIVER_REFUSES(BAD_LENGTH, 1, SUBMIT, .tag = 1, .operation = ready);
+    DRIVER_REFUSES(TOO_LONG, 129 * 512, SUBMIT, .tag = 1, .operation = many);
+    driver_takes(driver, 0, 1, 5, read, 0, 512, "00010005 00010003 00000002");
+    DRIVER_REFUSES(OUT_OF_TURN, 512, SUBMIT, .tag = 2, .ticket = 5, .operation = read);
+    /* Of a tag that has a command, the room of its data is asked for before anything of the client. */
+    DRIVER_REFUSES(ROOM, 0, SUBMIT, .tag = 1, .ticket = 6, .operation = ready);
+    DRIVER_REFUSES(ROOM, 1, SUBMIT, .client = 1, .tag = 1, .operation = ready);
+    DRIVER_REFUSES(TICKET, 0, TASK, .ticket = (uint64_t)1 << 60, .function = 0xee, .tag = 1);
+    DRIVER_REFUSES(FUNCTION, 0, TASK, .client = 2, .ticket = 6, .function = 2, .tag = 1);
+    DRIVER_REFUSES(NOT_YOURS, 0, TASK, .client = 2, .ticket = 6, .function = UAS_ABORT_TASK, .tag = 1);
+    DRIVER_REFUSES(OUT_OF_TURN, 0, TASK, .ticket = 5, .function = UAS_ABORT_TASK, .tag = 2);
+    DRIVER_REFUSES(NO_SUCH_TASK, 0, TASK, .ticket = 6, .function = UAS_ABORT_TASK, .tag = 2);
+    DRIVER_REFUSES(NO_SUCH_TASK, 0, TASK, .client = 1, .ticket = 6, .function = UAS_QUERY_TASK, .tag = 1);
+    struct uas_driver_door told;
+    CHECK(uas_driver_task(driver, 0, 6, UAS_LOGICAL_UNIT_RESET, 0xeeee, &told) == 0);
+    DRIVER_REFUSES(IN_USE, 0, TASK, .ticket = 0, .function = UAS_QUERY_TASK, .tag = 2);
+}
+
+static void driver_refuses(void)
+{
+    uas_driver *driver = new_driver(2);
+    driver_refuses_commands(driver);
+    DRIVER_REFUSES(RING, 0, RETIRE, .pipe = 0, .tag = 1);
+    DRIVER_REFUSES(RING, 0, RETIRE, .pipe = 4, .tag = 1);
+    DRIVER_REFUSES(RING, 0, LEFT_OVER, .pipe = 0);
+    DRIVER_REFUSES(RING, 0, LEFT_OVER, .pipe = 255);
+    DRIVER_REFUSES(EVENT, 0, EVENT, .type = UAS_TRB_NORMAL, .address = 0x41000000, .code = 1);
+    DRIVER_REFUSES(EVENT, 0, EVENT, .type = 34, .address = 0x41000000, .code = 1);
+    DRIVER_REFUSES(LENGTH, UAS_MOST_DATA_BYTES - 1, REPLY, .client = 9);
+    DRIVER_REFUSES(ADDRESS, 33, READ, .address = 0x10000100);
+    DRIVER_REFUSES(ADDRESS, 1, READ, .address = 0x10000120);
+    DRIVER_REFUSES(ADDRESS, 113, WRITE, .address = 0x20000100);
+    DRIVER_REFUSES(ADDRESS, 32, WRITE, .address = 0x10000000);
+    DRIVER_REFUSES(ADDRESS, 1, WRITE, .address = 0x1000f900);
+    DRIVER_REFUSES(ADDRESS, 513, READ, .address = 0x100010000);
+    DRIVER_REFUSES(ADDRESS, 1, READ, .address = 0x100020000);
+    DRIVER_REFUSES(ADDRESS, 16, READ, .address = 0x41000000);
+    DRIVER_REFUSES(LENGTH, 15, ITEM, .address = 0x41000000);
+    DRIVER_REFUSES(LENGTH, 17, ITEM, .address = 0);
+    DRIVER_REFUSES(ADDRESS, 16, ITEM, .address = 0x41000020);
+    DRIVER_REFUSES(ADDRESS, 16, ITEM, .address = 0x41000008);
+    DRIVER_REFUSES(ADDRESS, 16, ITEM, .address = 0x41000ff0);
+    DRIVER_REFUSES(ADDRESS, 16, ITEM, .address = 0x50000100);
+    DRIVER_REFUSES(ADDRESS, 16, ITEM, .address = 0xfffffffffffffff0);
+    DRIVER_REFUSES(LENGTH, 0, CONTEXT, .pipe = 1, .stream = 1);
+    DRIVER_REFUSES(LENGTH, 17, CONTEXT, .pipe = 9, .stream = 1);
+    DRIVER_REFUSES(RING, 16, CONTEXT, .pipe = 0, .stream = 1);
+    DRIVER_REFUSES(RING, 16, CONTEXT, .pipe = 4, .stream = 1);
+    DRIVER_REFUSES(RING, 16, CONTEXT, .pipe = 1, .stream = 0);
+    DRIVER_REFUSES(RING, 16, CONTEXT, .pipe = 3, .stream = 249);
+    driver_refuses_call(driver, (struct uas_driver_door){ .call = 0 }, 0, UAS_DRIVER_CALL);
+    driver_refuses_call(driver, (struct uas_driver_door){ .call = 11 }, 16, UAS_DRIVER_CALL);
+    driver_context_is(driver, UAS_PIPE_DATA_OUT, 248, "03 80 0f 44 00 x12");
+    CHECK(uas_driver_read(driver, 0x1000f800, NULL, 0) == 0 && uas_driver_write(driver, 0x2000f800, NULL, 0) == 0);
+    uas_driver_free(driver);
+}
+
+static void driver_new_faults(void)
+{
+    uas_driver *driver = NULL;
+    CHECK(uas_driver_new(0, &driver) == UAS_DRIVER_CLIENTS);
+    CHECK(uas_driver_new(16, &driver) == UAS_DRIVER_CLIENTS);
+    CHECK(uas_driver_new(SIZE_MAX, &driver) == UAS_DRIVER_CLIENTS);
+    CHECK(driver == NULL);
+    driver = new_driver(15);
+    driver_takes(driver, 14, 239, 0, ready, 0, 0, "00ef0003 00000002");
+    driver_memory_is(driver, 0x1000ef00, "01 00 00 ef 00 x5 0e 00 x22");
+    item_is(driver, 0x420ef000, "00 ef 00 20 00 00 00 00 70 00 00 00 25 04 00 00");
+    uas_driver_free(driver);
+}
+
+/* ---- The bus ---- */
 
 static uas_bus *new_bus(size_t clients, uint32_t blocks)
 {
@@ -1592,6 +2055,14 @@ int main(void)
     controller_rings();
     controller_full_of_events();
     controller_refuses();
+    driver_new_faults();
+    driver_answers();
+    driver_reads();
+    driver_retires();
+    driver_aborts();
+    driver_leaves_nothing();
+    driver_without_room();
+    driver_refuses();
     bus_new_faults();
     bus_of_two();
     bus_read_sees_write();

@@ -4,7 +4,6 @@ ghost use Rattle.arrayvec.specs.ArrayVec.{array_vec_len};
 ghost use Rattle.uas_profile.specs.Pipes.{HasStreams};
 ghost use Rattle.stream_array.specs.Map.{HasRing};
 ghost use Rattle.uas_profile.specs.Doors.{answer_doors, data_doors, door_unless, submission_doors};
-ghost use Rattle.uas_profile.specs.Pipes.{same_pipe};
 ghost use Rattle.uas_host.specs.Retirement.{is_held, pending_door, resumed_doors};
 
 use crate::Host;
@@ -13,19 +12,13 @@ use scsi_cmd::Direction;
 use stream_array::{Lines, Pipe, doorbell};
 use uas_profile::{STREAM_ENTRIES, STREAMS};
 
-fn is_same(one: Pipe, other: Pipe) -> bool
-    ensures { result ≡ same_pipe one other }
-{
-    one.number() == other.number()
-}
-
 impl Host {
     /// Whether a retirement of this pipe is under way, so that no doorbell of it is rung.
     pub fn is_held(&self, pipe: Pipe) -> bool
         ensures { result ≡ is_held self.now pipe }
     {
         match self.retirement {
-            Some(retirement) => is_same(retirement.pipe, pipe),
+            Some(retirement) => retirement.pipe.number() == pipe.number(),
             None => false,
         }
     }

@@ -81,6 +81,7 @@ memory_ends (info file) host old new status four kept files input = record {
 memory_ends (dump file lba count) host old new status four kept files input = record {
   statuses = inr (inr four);
   told = λ low. absurd (omega (arith, four, low));
+  blocks = λ low. absurd (omega (arith, four, low));
   read = λ low. absurd (omega (arith, four, low));
   fault = λ three. absurd (omega (arith, four, three));
   memory = λ is. kept;
@@ -91,6 +92,7 @@ memory_ends (fill file lba count byte) host old new status four kept files input
   statuses = inr (inr four);
   told = λ low. absurd (omega (arith, four, low));
   image = λ low. absurd (omega (arith, four, low));
+  blocks = λ low. absurd (omega (arith, four, low));
   kept = λ one. absurd (omega (arith, four, one));
   read = λ low. absurd (omega (arith, four, low));
   created = λ low. absurd (omega (arith, four, low));

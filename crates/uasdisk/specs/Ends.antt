@@ -9,7 +9,7 @@ use Rattle.uas_script.specs.Script.{script}
 use Rattle.uas_replay.specs.Told.{zeroed_units}
 use Rattle.uas_replay.specs.Runs.{Tells}
 use Rattle.disk_image.specs.Stops.{InfoPrints, AnswersOf}
-use Rattle.disk_image.specs.Alone.{dumped, filled, filled_medium}
+use Rattle.disk_image.specs.Alone.{blocks_at, dump_lines, dumped, filled, filled_image, filled_medium}
 use Rattle.block_unit.specs.BlockMaps.{imaged}
 use Rattle.uas_trace.specs.Traced.{Traces}
 use Rattle.work_run.specs.WorkEnds.{Told}
@@ -121,11 +121,14 @@ pub record InfoEnds (file : Text) (host : Host) (old new : World) (status : ℕ)
   pub files : new.holds ≡ old.holds
   pub input : new.input ≡ old.input
 
--- `dump FILE LBA COUNT`: standard output has got what is told of the blocks of the image that the file of this name holds.
+-- `dump FILE LBA COUNT`: standard output has got what is told of the blocks of the image that the file of this name holds; with 0
+-- these are the lines of the image's own bytes there.
 pub record DumpEnds (file : Text) (lba count : ℕ) (host : Host) (old new : World) (status : ℕ) : Type 0 where
   pub statuses : (status ≤ 1) ⊎ ((status ≡ 3) ⊎ (status ≡ 4))
   pub told : status ≤ 1 → IsTrue host.tells → IfSome (old.holds file) (λ bytes.
       AnswersOf (blocks_in bytes) (dumped (imaged bytes []) lba count) old.output new.output status)
+  pub blocks : status ≡ 0 → IsTrue host.tells → IfSome (old.holds file) (λ bytes.
+      Appends old.output new.output (dump_lines lba (blocks_at bytes lba count)))
   pub read : status ≤ 1 → IsTrue (host.can_open file)
   pub fault : status ≡ 3 → ImageStops file host old new
   pub memory : status ≡ 4 → Keeps old.output new.output
@@ -133,13 +136,15 @@ pub record DumpEnds (file : Text) (lba count : ℕ) (host : Host) (old new : Wor
   pub input : new.input ≡ old.input
 
 -- `fill FILE LBA COUNT BYTE`: standard output has got what is told of the WRITE, and after a GOOD the file of this name holds the
--- medium that it left. Where it ended otherwise, every file holds what it held.
+-- medium that it left: the image with these blocks of that byte. Where it ended otherwise, every file holds what it held.
 pub record FillEnds (file : Text) (lba count byte : ℕ) (host : Host) (old new : World) (status : ℕ) : Type 0 where
   pub statuses : (status ≤ 1) ⊎ ((status ≡ 3) ⊎ (status ≡ 4))
   pub told : status ≤ 1 → IsTrue host.tells → IfSome (old.holds file) (λ bytes.
       AnswersOf (blocks_in bytes) (filled (imaged bytes []) lba count byte) old.output new.output status)
   pub image : status ≡ 0 → IsTrue host.tells → IfSome (old.holds file) (λ bytes.
       new.holds file ≡ Some (filled_medium (imaged bytes []) lba count byte))
+  pub blocks : status ≡ 0 → IsTrue host.tells → IfSome (old.holds file) (λ bytes.
+      new.holds file ≡ Some (filled_image bytes lba count byte))
   pub kept : status ≡ 1 → new.holds ≡ old.holds
   pub read : status ≤ 1 → IsTrue (host.can_open file)
   pub created : status ≡ 0 → IsTrue (host.can_create file)

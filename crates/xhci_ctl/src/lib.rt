@@ -33,8 +33,9 @@
 //!
 //! What is promised: each call is one equation. What a step makes of rings, memory and device, and its answer, are `commanded`,
 //! `moved` and `sent_by` of `specs/Steps.antt`; [`Controller::engine_step`] is `engine_acted` of `specs/Engine.antt` over
-//! controller and rings; [`Controller::doorbell`] is `rung_by` for every value. The steps of the pipes ask that the TRB in
-//! front is the host's own (`specs/Own.antt`). No call takes memory, and none scans a list.
+//! controller and rings; [`Controller::doorbell`] is `rung_by` for every value. So it is where the TRB in front is one to carry out
+//! (`specs/Own.antt`); any other bytes in front of a ring are stepped over (`stepped_over`). No call takes memory, and none scans
+//! a list.
 //!
 //! It stands on `stream_array` for the rings, `frame_store` for the host's memory, and `uas_target` for the device, and knows
 //! neither the host nor the clients.

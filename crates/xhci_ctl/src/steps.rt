@@ -1,5 +1,5 @@
 //! The steps: the front TRB of one ring, its bytes, its event.
-ghost use Rattle.std.specs.Prelude.{◌≡◌, ℕ, ◌<◌, ◌≤◌, ◌/◌, ◌%◌, ◌==◌, Option, if◌then◌else◌, Some, IfSome, is_some, length};
+ghost use Rattle.std.specs.Prelude.{◌≡◌, ℕ, ◌<◌, ◌≤◌, ◌/◌, ◌%◌, ◌==◌, Option, if◌then◌else◌, None, Some, IfSome, is_some, length};
 ghost use Rattle.std.specs.Option.{option_map_or};
 ghost use Rattle.stream_array.specs.Map.{HasRing};
 ghost use Rattle.stream_array.specs.Rings.{ring_of};
@@ -37,6 +37,8 @@ impl Controller {
             → commanded (sides_of lines.old frames.now target.old) ≡ (sides_of lines.new frames.now target.new, result) }
         ensures foreign { (front : ℕ × Option Trb) → room_front lines.old Pipe.Command 0 ≡ Some front → (IsOwnCommand frames.now front.1 → ⊥)
             → stepped_over (sides_of lines.old frames.now target.old) Pipe.Command 0 front.0 0 ≡ (sides_of lines.new frames.now target.new, result) }
+        ensures idle { room_front lines.old Pipe.Command 0 ≡ None
+            → commanded (sides_of lines.old frames.now target.old) ≡ (sides_of lines.new frames.now target.new, result) }
     {
         let Some((address, trb)) = room_front(lines, Pipe::Command, 0) else {
             return Acted::Idle;

@@ -14,9 +14,8 @@ use Rattle.uas_host.specs.declared.Handled.{Handled}
 use Rattle.uas_host.specs.declared.Handled.TheVariants.{Matched, Engine, Stray}
 use Rattle.uas_profile.specs.declared.Pipe.{Pipe}
 use Rattle.uas_profile.specs.declared.TheConstants.{MAX_CLIENTS, TAGS}
-use Rattle.uas_driver.specs.Calls.{After as CallAfter, context_by, event_by, read_by, reply_by, retire_by, submit_by, task_by, write_by}
+use Rattle.uas_driver.specs.Calls.{After as CallAfter, context_by, event_by, item_by, read_by, reply_by, retire_by, submit_by, task_by, write_by}
 use Rattle.uas_driver.specs.Driver.{DriverState}
-use Rattle.uas_driver.specs.Places.{item_read}
 use Rattle.uas_driver.specs.declared.Refusal.{Refusal}
 use Rattle.uas_driver.specs.declared.Refusal.TheVariants as refusals
 use Rattle.uas_c.specs.ClientCall.{asked_operation, not_ticket, pipe_numbered, task_numbered, told_of, with_buffer}
@@ -176,7 +175,7 @@ after_write driver door bytes = with_written door (write_by driver door.address 
 abbrev pub after_item : DriverState → UasDriverDoor → List ℕ → After DriverState UasDriverDoor
 after_item driver door bytes =
     if not (length bytes == 16) then with_bytes bytes (refused 21 driver door)
-    else option_map_or (λ item. (0, (driver, (door, item)))) (item_read driver.lines door.address) (with_bytes bytes (refused 24 driver door))
+    else option_map_or (λ item. (0, (driver, (door, item)))) (item_by driver door.address) (with_bytes bytes (refused 24 driver door))
 
 -- CONTEXT (10): 21 where the bytes aren't 16, 25 no such pipe or no stream from 1 to 248
 abbrev pub after_context : DriverState → UasDriverDoor → List ℕ → After DriverState UasDriverDoor

@@ -6,16 +6,18 @@
 #include <stdio.h>
 #include <string.h>
 
-/* Reads the item at a place; behind a ring's last place it goes on where the Link TRB leads. */
-static bool item(uas_driver *driver, uint64_t *place, struct uas_trb *trb)
+/* Reads the item at a place. */
+static bool item(uas_driver *driver, uint64_t place, struct uas_trb *trb)
 {
     uint8_t bytes[16];
-    if (uas_driver_item(driver, *place, bytes) != 0 || uas_trb_decode(bytes, trb) != 0)
-        return false;
-    if (trb->type != UAS_TRB_LINK)
-        return true;
-    *place = trb->pointer;
-    return item(driver, place, trb);
+    return uas_driver_item(driver, place, bytes) == 0 && uas_trb_decode(bytes, trb) == 0;
+}
+
+/* The place behind an item that is still there: where a Link TRB stands, the place to which it leads. */
+static uint64_t behind(uas_driver *driver, uint64_t place)
+{
+    struct uas_trb trb;
+    return item(driver, place + 16, &trb) && trb.type == UAS_TRB_LINK ? trb.pointer : place + 16;
 }
 
 /* Where a stream's consumer stands, by its context. */
@@ -41,14 +43,14 @@ static bool move(uas_driver *driver, uint16_t stream, uint64_t lba)
     uint64_t place = standing(driver, UAS_PIPE_DATA_IN, stream);
     uint8_t data[4096];
     struct uas_trb trb;
-    while (item(driver, &place, &trb) && trb.length <= sizeof data) {
+    while (item(driver, place, &trb) && trb.length <= sizeof data) {
         for (uint32_t at = 0; at < trb.length; at += UAS_BLOCK_BYTES)
             memset(data + at, (int)lba++, UAS_BLOCK_BYTES);
         if (uas_driver_write(driver, trb.pointer, data, trb.length) != 0)
             return false;
         if ((trb.flags & UAS_TRB_CH) == 0)
             return post(driver, place, 0, 1);
-        place += 16;
+        place = behind(driver, place);
     }
     return false;
 }
@@ -62,16 +64,17 @@ static bool serve(uas_driver *driver, uint64_t *place)
     struct uas_trb trb;
     uint8_t bytes[UAS_MOST_UNIT_BYTES];
     size_t length;
-    if (!item(driver, place, &trb) || trb.length > sizeof bytes || uas_driver_read(driver, trb.pointer, bytes, trb.length) != 0)
+    uint64_t at = *place;
+    if (!item(driver, at, &trb) || trb.length > sizeof bytes || uas_driver_read(driver, trb.pointer, bytes, trb.length) != 0)
         return false;
-    if (uas_unit_read(bytes, trb.length, &unit) != 0 || uas_cdb_parse(unit.cdb, 100, &asked, &sense) != 0 || !post(driver, *place, 0, 1))
+    *place = behind(driver, at);
+    if (uas_unit_read(bytes, trb.length, &unit) != 0 || uas_cdb_parse(unit.cdb, 100, &asked, &sense) != 0 || !post(driver, at, 0, 1))
         return false;
-    *place += 16;
     if (asked.direction != UAS_NO_DATA && (asked.opcode != UAS_READ_10 || !move(driver, unit.tag, asked.lba)))
         return false;
     uint64_t status = standing(driver, UAS_PIPE_STATUS, unit.tag);
     answer.tag = unit.tag;
-    return uas_unit_write(&answer, bytes, sizeof bytes, &length) == 0 && item(driver, &status, &trb) &&
+    return uas_unit_write(&answer, bytes, sizeof bytes, &length) == 0 && item(driver, status, &trb) &&
            uas_driver_write(driver, trb.pointer, bytes, length) == 0 && post(driver, status, trb.length - (uint32_t)length, 13);
 }
 

@@ -696,6 +696,13 @@ static inline uint8_t uas_controller_medium(uas_controller *controller, uint16_t
  * are to be written; the controller beyond reads items, contexts and buffers by address, writes buffers, and hands in events, which
  * alone tell the driver how far it came. It may do anything: no event and no byte of a buffer is asked to be right.
  *
+ *   pipe           UAS_PIPE_  ring's n  endpoint ID  rings
+ *   command pipe              1         2            one, without a context: it begins at 41000000h
+ *   status         1          2         3            of streams 1 to 248, each with a context
+ *   data in        2          3         5            likewise
+ *   data out       3          4         4            likewise
+ *   command ring                        doorbell 0   one, without a context: it begins at 50000000h
+ *
  * Clients, tags and tickets are those of a bus, and things lie where they do for uas_controller. */
 typedef struct uas_driver uas_driver;
 
@@ -820,7 +827,8 @@ static inline uint8_t uas_driver_task(uas_driver *driver, uint32_t client, uint6
 }
 
 /* Begins to take a tag's TD, which nothing will complete, off a pipe: told->acted is 1 where none is under way and the TD is left
- * over. told->doorbell has the told->doorbells values to write.
+ * over, and told->doorbell has the told->doorbells values to write. Where it is 0 although the TD is left over, another retirement
+ * goes on: ask again after the next event.
  * Faults: UAS_DRIVER_RING, UAS_DRIVER_ROOM. */
 static inline uint8_t uas_driver_retire(uas_driver *driver, uint8_t pipe, uint16_t tag, struct uas_driver_door *told)
 {
@@ -834,7 +842,8 @@ static inline uint8_t uas_driver_retire(uas_driver *driver, uint8_t pipe, uint16
     return fault;
 }
 
-/* The least tag above *tag whose TD on a pipe is left over; *there is false, and *tag as it was, where there is none.
+/* The least tag above *tag whose TD on a pipe is left over; *there is false, and *tag as it was, where there is none. A command that ends
+ * before its TDs do (CHECK CONDITION, abort, reset) has its reply once these are retired, so ask after each event, from tag 0 on.
  * Fault: UAS_DRIVER_RING. */
 static inline uint8_t uas_driver_left_over(uas_driver *driver, uint8_t pipe, uint16_t *tag, bool *there)
 {
@@ -851,7 +860,9 @@ static inline uint8_t uas_driver_left_over(uas_driver *driver, uint8_t pipe, uin
 }
 
 /* Hands an event in, as uas_trb_decode reads it: told->acted is UAS_EVENT_STRAY, UAS_EVENT_MATCHED (then of told->tag), or
- * UAS_EVENT_ENGINE. told->doorbell has the told->doorbells values to write.
+ * UAS_EVENT_ENGINE. told->doorbell has the told->doorbells values to write. A TD's event is of its last TRB, with code 1 (Success); a
+ * status's has code 13 (Short Packet), also where the unit fills the buffer, and tells what of its 112 bytes is left. With another code
+ * the event is stray, and the command waits on. The event of an item gives its place back, so step over a Link TRB behind it before.
  * Fault: UAS_DRIVER_EVENT. */
 static inline uint8_t uas_driver_event(uas_driver *driver, const struct uas_trb *event, struct uas_driver_door *told)
 {
@@ -904,8 +915,8 @@ static inline uint8_t uas_driver_write(uas_driver *driver, uint64_t address, con
     return uas_driver_memory(driver, UAS_DRIVER_CALL_WRITE, address, uas_bytes(data, length), length);
 }
 
-/* The controller beyond reads the 16 bytes at a place of a ring: of an item, or of the Link TRB. Nothing stands at a place that is free:
- * what memory has there is of an earlier round, or zeros.
+/* The controller beyond reads the 16 bytes at a place of a ring: of an item, or of the Link TRB, which stands while the item before it
+ * does. At any other place nothing stands: take UAS_DRIVER_ADDRESS for a TRB whose Cycle bit isn't yours.
  * Fault: UAS_DRIVER_ADDRESS. */
 static inline uint8_t uas_driver_item(uas_driver *driver, uint64_t address, uint8_t bytes[16])
 {

@@ -1,7 +1,5 @@
 -- What C sees: records in place of values, and numbers in place of faults.
-pub mod RecordFault
 pub mod Door
-pub mod TrbRecord
 pub mod UnitRecord
 pub mod OperationRecord
 pub mod Units

@@ -6,7 +6,7 @@ use Rattle.scsi_cmd.specs.declared.Op.TheVariants.{TestUnitReady, Inquiry, ReadC
 use Rattle.uas_profile.specs.declared.Direction.{Direction}
 use Rattle.uas_profile.specs.declared.Direction.TheVariants.{Nothing, ToHost, ToDevice}
 use Rattle.scsi_cmd.specs.declared.Sense.{Sense}
-use Rattle.uas_c.specs.RecordFault.{fault_of}
+use Rattle.trb_record.specs.RecordFault.{fault_of}
 use Rattle.uas_c.specs.declared.scsi.UasOperation.{UasOperation}
 use Rattle.uas_c.specs.declared.scsi.UasSense.{UasSense}
 

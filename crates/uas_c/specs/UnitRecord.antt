@@ -5,7 +5,7 @@ use Rattle.uas_iu.specs.declared.Iu.{Iu}
 use Rattle.uas_iu.specs.declared.Iu.TheVariants.{Command, Sense, Response, Task}
 use Rattle.uas_iu.specs.declared.IuFault.{IuFault}
 use Rattle.uas_iu.specs.declared.IuFault.TheVariants.{UnknownId, Short, Long, ReservedSet, LengthField}
-use Rattle.uas_c.specs.RecordFault.{fault_of}
+use Rattle.trb_record.specs.RecordFault.{fault_of}
 use Rattle.uas_c.specs.declared.unit.UasUnit.{UasUnit}
 
 -- every part 0

@@ -11,12 +11,12 @@
 //! | bus/handle.rt | `uas_bus_new`, `uas_bus_call`, `uas_bus_close` |
 //!
 //! What is promised: each export does what the crate below it does, and its contract says so again, over records in place of
-//! enums and numbers in place of faults (specs/). A fault is a named number, 0 for none, and a refused call changes nothing.
-//! What can be tested of a caller's promises is tested: types, fields and lengths, the kind of a call, its phase, tag and
-//! blocks, and the ticket. A call of a handle goes through a *door*, a record with the call's number, its arguments and its
-//! answers: `after_call` (specs/DeviceCall.antt), `controller_answer` (specs/ControllerCall.antt), `driver_answer`
-//! (specs/DriverCall.antt) and `bus_answer` (specs/BusCall.antt) say what it makes of the device, the controller, the driver or the
-//! bus, of the door and of the bytes, exactly.
+//! enums and numbers in place of faults (specs/; of TRBs in `trb_record`). A fault is a named number, 0 for none, and a
+//! refused call changes nothing. What can be tested of a caller's promises is tested: types, fields and lengths, the kind of a
+//! call, its phase, tag and blocks, and the ticket. A call of a handle goes through a *door*, a record with the call's number,
+//! its arguments and its answers: `after_call` (specs/DeviceCall.antt), `controller_answer` (specs/ControllerCall.antt),
+//! `driver_answer` (specs/DriverCall.antt) and `bus_answer` (specs/BusCall.antt) say what it makes of the device, the
+//! controller, the driver or the bus, of the door and of the bytes, exactly.
 //!
 //! What a caller upholds, and nothing here tests:
 //!
@@ -30,8 +30,8 @@
 //! 8. The stack has 64 KiB left.
 //!
 //! It takes memory in `new`, for the buffer of each submission to a bus or to a driver and for each loan to a controller. It stands on
-//! `xhci_trb`, `uas_iu`, `scsi_cmd`, `uas_target`, `uas_controller`, `uas_driver` and `bus_core`, by their contracts alone, and needs
-//! the C library's memory functions.
+//! `trb_record`, `xhci_trb`, `uas_iu`, `scsi_cmd`, `uas_target`, `uas_controller`, `uas_driver` and `bus_core`, by their contracts
+//! alone, and needs the C library's memory functions.
 #![tactic(auto)]
 
 mod bus;
@@ -39,7 +39,6 @@ mod client;
 mod controller;
 mod device;
 mod driver;
-mod record;
 mod scsi;
 mod trb;
 mod unit;

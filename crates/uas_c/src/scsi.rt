@@ -4,13 +4,13 @@ ghost use Rattle.scsi_cmd.specs.Op.{cdb_bytes};
 ghost use Rattle.scsi_cmd.specs.Meaning.{asked, checked};
 ghost use Rattle.scsi_cmd.specs.Sense.{sense_bytes};
 ghost use Rattle.scsi_cmd.specs.Data.{inquiry_bytes, capacity_bytes, long_capacity_bytes};
-ghost use Rattle.uas_c.specs.declared.record.RecordFault.{RecordFault};
-ghost use Rattle.uas_c.specs.RecordFault.{record_fault};
+ghost use Rattle.trb_record.specs.declared.fault.RecordFault.{RecordFault};
+ghost use Rattle.trb_record.specs.RecordFault.{record_fault};
 ghost use Rattle.uas_c.specs.OperationRecord.{Parsed, capacity_fault, named_operation, operation_fault, operation_fields, operation_fits};
 ghost use Rattle.uas_c.specs.OperationRecord.{operation_record, sense_in, sense_record, way_number};
 
-use crate::record::RecordFault;
 use scsi_cmd::{Direction, INQUIRY_BYTES, LONG_CAPACITY_BYTES, Op, SENSE_BYTES, Sense, moves};
+use trb_record::RecordFault;
 
 /// An operation as C has it.
 #[repr(C)]

@@ -4,11 +4,11 @@ ghost use Rattle.arrayvec.specs.ArrayVec.{array_vec_len};
 ghost use Rattle.uas_iu.specs.Faults.{first_fault};
 ghost use Rattle.uas_iu.specs.Units.{Fits, IsTextOf, unit_size, unit_text};
 ghost use Rattle.uas_iu.specs.declared.Iu.{Iu};
-ghost use Rattle.uas_c.specs.RecordFault.{record_fault};
+ghost use Rattle.trb_record.specs.RecordFault.{record_fault};
 ghost use Rattle.uas_c.specs.UnitRecord.{has_too_much_sense, named_unit, padded, record_size, unit_read_fault, unit_record, unit_write_fault};
 
-use crate::record::RecordFault;
 use arrayvec::ArrayVec;
+use trb_record::RecordFault;
 use uas_iu::{
     CDB_BYTES, COMMAND_ID, Iu, IuFault, LUN_BYTES, MAX_SENSE_BYTES, RESPONSE_ID, SENSE_ID, TASK_ID,
 };

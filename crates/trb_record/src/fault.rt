@@ -1,10 +1,10 @@
 //! Why a record of C's names nothing.
 ghost use Rattle.std.specs.Prelude.{◌≡◌};
-ghost use Rattle.uas_c.specs.RecordFault.{record_fault};
+ghost use Rattle.trb_record.specs.RecordFault.{record_fault};
 
 /// Why a record names nothing that can be written.
 #[derive(Clone, Copy)]
-pub(crate) enum RecordFault {
+pub enum RecordFault {
     /// No such type, identifier or opcode.
     Unknown,
     /// A field doesn't fit.
@@ -13,7 +13,7 @@ pub(crate) enum RecordFault {
 
 impl RecordFault {
     /// Its number, of the two that a kind of record has.
-    pub(crate) fn number(&self, unknown: u8, unfit: u8) -> u8
+    pub fn number(&self, unknown: u8, unfit: u8) -> u8
         ensures { result ≡ record_fault unknown unfit self.now }
     {
         match self {

@@ -1,8 +1,8 @@
 -- The fault of a record, by the two numbers that its kind has for it.
 use Rattle.std.specs.Prelude.{ℕ, Option, option_map}
 use Rattle.std.specs.Option.{unwrap_or}
-use Rattle.uas_c.specs.declared.record.RecordFault.{RecordFault}
-use Rattle.uas_c.specs.declared.record.RecordFault.TheVariants.{Unknown, Unfit}
+use Rattle.trb_record.specs.declared.fault.RecordFault.{RecordFault}
+use Rattle.trb_record.specs.declared.fault.RecordFault.TheVariants.{Unknown, Unfit}
 
 abbrev pub record_fault : ℕ → ℕ → RecordFault → ℕ
 record_fault unknown unfit Unknown = unknown

@@ -6,8 +6,8 @@ use Rattle.xhci_trb.specs.declared.Trb.TheVariants.{Normal, Link, StopEndpoint, 
 use Rattle.xhci_trb.specs.declared.TrbFault.{TrbFault}
 use Rattle.xhci_trb.specs.declared.TrbFault.TheVariants.{LengthOver, ReservedSet}
 use Rattle.xhci_trb.specs.declared.TrbFault.TheVariants as trb_faults
-use Rattle.uas_c.specs.RecordFault.{fault_of}
-use Rattle.uas_c.specs.declared.trb.UasTrb.{UasTrb}
+use Rattle.trb_record.specs.RecordFault.{fault_of}
+use Rattle.trb_record.specs.declared.trb.UasTrb.{UasTrb}
 
 -- every field 0
 abbrev pub no_trb : UasTrb

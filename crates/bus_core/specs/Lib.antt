@@ -5,6 +5,7 @@ pub mod Cells
 pub mod Fits
 pub mod Decoded
 pub mod WorldSteps
+pub mod WholeStep
 pub mod WorldDue
 pub mod Owners
 pub mod Shows

@@ -25,6 +25,8 @@ mod next_reply;
 mod outcomes;
 mod owners;
 mod runs;
+mod shared_bus;
+mod steps;
 pub mod world_due;
 pub mod world_laws;
 
@@ -57,10 +59,10 @@ pub struct Trace {
     outcomes: Vec<Outcome>,
 }
 
-/// The bus: the host, the controller and the device, the rings and contexts between host and controller, and the buffers that
-/// the host lends. `doors` is where the host notes the doorbells of one call.
+/// The bus with what stands on its rings in sight: the host, the controller and the device, the rings and contexts between host and
+/// controller, and the buffers that the host lends. `doors` is where the host notes the doorbells of one call.
 #[derive(Debug, Drop)]
-pub struct Bus {
+pub struct RingBus {
     host: Host,
     controller: Controller,
     target: Target,
@@ -69,16 +71,30 @@ pub struct Bus {
     doors: ArrayVec<u32, STREAM_ENTRIES>,
 }
 
+/// The bus as the shared machine that is read back from its rings.
+#[derive(Debug, Drop)]
+pub struct Bus {
+    rings: RingBus,
+}
+
+impl Model for RingBus {
+    ghost use Rattle.bus_core.specs.World.{World, world_of};
+    ghost use Rattle.bus_core.specs.Decoded.{FitsItself};
+
+    ghost Value = { World };
+
+    ghost view = { λ bus. world_of bus.host bus.controller bus.target bus.lines bus.frames };
+
+    ghost invariant = { λ bus. FitsItself (world_of bus.host bus.controller bus.target bus.lines bus.frames) };
+}
+
 impl Model for Bus {
     ghost use Rattle.shared_machine.specs.Shared.{Shared};
-    ghost use Rattle.bus_core.specs.World.{world_of};
-    ghost use Rattle.bus_core.specs.Decoded.{decoded, FitsItself};
+    ghost use Rattle.bus_core.specs.Decoded.{decoded};
 
     ghost Value = { Shared };
 
-    ghost view = { λ bus. decoded (world_of bus.host bus.controller bus.target bus.lines bus.frames) };
-
-    ghost invariant = { λ bus. FitsItself (world_of bus.host bus.controller bus.target bus.lines bus.frames) };
+    ghost view = { λ bus. decoded bus.rings };
 }
 
 impl Model for Trace {

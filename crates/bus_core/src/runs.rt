@@ -4,8 +4,9 @@ ghost use Rattle.shared_machine.specs.Drain.{all_tags, drained, retirements, rou
 ghost use Rattle.shared_machine.specs.declared.Step.TheVariants as Step;
 ghost use Rattle.isolation.specs.Isolation.{IsIsolated};
 ghost use Rattle.shared_machine.specs.Replay.{replayed};
+ghost use Rattle.bus_core.specs.Decoded.{decoded};
 
-use crate::{Bus, Doorbells, Outcome, Step, Trace};
+use crate::{Bus, Doorbells, Outcome, RingBus, Step, Trace};
 use std::alloc::{AllocError, Global};
 use stream_array::Pipe;
 use xhci_ctl::Acted;
@@ -39,14 +40,16 @@ impl Bus {
             outcomes.push_reserved(outcome);
         }
     }
+}
 
+impl RingBus {
     /// Takes rounds of the steps that need no client, in a fixed order, until none acts or `limit` acted: how many
     /// acted, and whether it ended because none is due. It takes no replies.
     #[tactic(auto, unfolding(shared_machine::specs::Drain::rounds))]
     pub fn drain(&mut self, limit: usize) -> (usize, bool)
-        ensures state { self.new ≡ (drained self.old limit).state }
-        ensures acted { result.0 + (drained self.old limit).left ≡ limit }
-        ensures quiet { result.1 ≡ (drained self.old limit).quiet }
+        ensures state { decoded self.new ≡ (drained (decoded self.old) limit).state }
+        ensures acted { result.0 + (drained (decoded self.old) limit).left ≡ limit }
+        ensures quiet { result.1 ≡ (drained (decoded self.old) limit).quiet }
     {
         let mut left = limit;
         let mut more = limit;
@@ -69,7 +72,7 @@ impl Bus {
     /// One round of tries, of which so many may act: how many more may act after it. Of the streams it tries those of tags
     /// with a task alone, as no other is due.
     fn round(&mut self, left: usize) -> usize
-        ensures round { (self.new, result) ≡ round (self.old, left) }
+        ensures round { (decoded self.new, result) ≡ round (decoded self.old, left) }
         ensures less { result ≤ left }
     {
         let left = self.try_command(left);
@@ -83,7 +86,7 @@ impl Bus {
     }
 
     fn try_command(&mut self, left: usize) -> usize
-        ensures { (self.new, result) ≡ tried_one (self.old, left) Step.CommandPipe }
+        ensures { (decoded self.new, result) ≡ tried_one (decoded self.old, left) Step.CommandPipe }
     {
         if left == 0 {
             return 0;
@@ -95,7 +98,7 @@ impl Bus {
     }
 
     fn try_engine(&mut self, left: usize) -> usize
-        ensures { (self.new, result) ≡ tried_one (self.old, left) Step.Engine }
+        ensures { (decoded self.new, result) ≡ tried_one (decoded self.old, left) Step.Engine }
     {
         if left == 0 || !self.engine_is_due() {
             return left;
@@ -105,7 +108,7 @@ impl Bus {
     }
 
     fn try_event(&mut self, left: usize) -> usize
-        ensures { (self.new, result) ≡ tried_one (self.old, left) Step.Event }
+        ensures { (decoded self.new, result) ≡ tried_one (decoded self.old, left) Step.Event }
     {
         if left == 0 || !self.event_is_due() {
             return left;
@@ -116,7 +119,7 @@ impl Bus {
 
     /// The data streams of all tags, rising.
     fn try_data(&mut self, left: usize) -> usize
-        ensures { (self.new, result) ≡ tried (self.old, left) (map Step.Data (all_tags (length self.old.parts))) }
+        ensures { (decoded self.new, result) ≡ tried (decoded self.old, left) (map Step.Data (all_tags (length (decoded self.old).parts))) }
     {
         let mut left = left;
         let mut tag = 0;
@@ -128,7 +131,7 @@ impl Bus {
     }
 
     fn try_data_of(&mut self, tag: u16, left: usize) -> usize
-        ensures { (self.new, result) ≡ tried_one (self.old, left) (Step.Data tag) }
+        ensures { (decoded self.new, result) ≡ tried_one (decoded self.old, left) (Step.Data tag) }
     {
         if left == 0 {
             return 0;
@@ -141,7 +144,7 @@ impl Bus {
 
     /// The status streams of all tags, rising.
     fn try_statuses(&mut self, left: usize) -> usize
-        ensures { (self.new, result) ≡ tried (self.old, left) (map Step.Status (all_tags (length self.old.parts))) }
+        ensures { (decoded self.new, result) ≡ tried (decoded self.old, left) (map Step.Status (all_tags (length (decoded self.old).parts))) }
     {
         let mut left = left;
         let mut tag = 0;
@@ -153,7 +156,7 @@ impl Bus {
     }
 
     fn try_status_of(&mut self, tag: u16, left: usize) -> usize
-        ensures { (self.new, result) ≡ tried_one (self.old, left) (Step.Status tag) }
+        ensures { (decoded self.new, result) ≡ tried_one (decoded self.old, left) (Step.Status tag) }
     {
         if left == 0 {
             return 0;
@@ -163,12 +166,10 @@ impl Bus {
             Acted::Idle => left,
         }
     }
-}
 
-impl Bus {
     /// The retirements on a pipe, by rising tag.
     fn try_retirements(&mut self, pipe: Pipe, left: usize) -> usize
-        ensures { (self.new, result) ≡ tried (self.old, left) (retirements (length self.old.parts) pipe) }
+        ensures { (decoded self.new, result) ≡ tried (decoded self.old, left) (retirements (length (decoded self.old).parts) pipe) }
     {
         let mut left = left;
         let mut tag = 0;
@@ -180,7 +181,7 @@ impl Bus {
     }
 
     fn try_retirement_of(&mut self, pipe: Pipe, tag: u16, left: usize) -> usize
-        ensures { (self.new, result) ≡ tried_one (self.old, left) (Step.Retire pipe tag) }
+        ensures { (decoded self.new, result) ≡ tried_one (decoded self.old, left) (Step.Retire pipe tag) }
     {
         if left == 0 || !self.retire_is_due(pipe, tag) {
             return left;

@@ -1,8 +1,0 @@
-use Rattle.std.proofs.Common.{◌∙◌}
-use Rattle.bus_core.proofs.common.BusFields.{fits-in, world_in}
-use Rattle.bus_core.proofs.common.CellWrites.{clients-length}
-use Rattle.bus_core.proofs.Bus.clients.Goals as goal
-
-pub returns-clause-count : goal.returns-clause-count
-returns-clause-count c =
-    c.clients.ensures.count ∙ clients-length (world_in c.self.inside) c.args.self.now.parts (fits-in c.self.inside c.self.view_is c.self.invariant).clients

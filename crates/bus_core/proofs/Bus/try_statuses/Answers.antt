@@ -1,8 +1,0 @@
-use Rattle.bus_core.proofs.drain.DrainTags.{tried-further, tried-whole}
-use Rattle.bus_core.proofs.Bus.try_statuses.Goals as goal
-
-pub loop-next-preserved : goal.loop-next-preserved
-loop-next-preserved c = tried-further c.loop-next.invariant c.in-Some.ensures.next (λ other rests. rests.1) c.try_status_of-left.ensures
-
-pub returns : goal.returns
-returns c = tried-whole c.loop-next.invariant c.in_default.ensures.none (λ other rests. rests.1)

@@ -13,5 +13,6 @@ pub mod DeviceTags
 pub mod Stepped
 pub mod BusFields
 pub mod Taken
+pub mod WholeSteps
 pub mod Shown
 pub mod RoomLeft

@@ -1,5 +1,5 @@
 //! The bus with its rings in sight: what stands in it, where a step is due, and a step by its kind.
-ghost use Rattle.std.specs.Prelude.{◌≡◌, suc, true, ◌*◌, ◌<◌, ◌≤◌, IfSome, IfNone, length, IfOk, slice_get, vec_len};
+ghost use Rattle.std.specs.Prelude.{◌≡◌, suc, true, false, ◌*◌, ◌<◌, ◌≤◌, IfSome, IfNone, length, IfOk, slice_get, vec_len};
 ghost use Rattle.uas_profile.specs.declared.TheConstants.{TAGS, MAX_CLIENTS};
 ghost use Rattle.stream_array.specs.Rings.{IsOpeningLines};
 ghost use Rattle.frame_store.specs.Buffers.{IsWhole};
@@ -9,7 +9,7 @@ ghost use Rattle.shared_machine.specs.Shared.{due, opening, shared_step};
 ghost use Rattle.bus_core.specs.Decoded.{decoded};
 ghost use Rattle.bus_core.specs.Shows.{AreNeverFull, PointAhead, ShowsShared};
 ghost use Rattle.bus_core.specs.WholeStep.{world_after};
-ghost use Rattle.bus_core.specs.WorldSteps.{opening_world};
+ghost use Rattle.bus_core.specs.WorldSteps.{opening_world, take_world};
 
 use crate::steps::stand;
 use crate::{Doorbells, Outcome, RingBus, Step, outcomes};
@@ -165,7 +165,9 @@ impl RingBus {
 
     /// The host has a reply for the client.
     fn take_is_due(&self, client: usize) -> bool
-        ensures { result ≡ due (decoded self.now) (Step.Take client) }
+        ensures due { result ≡ due (decoded self.now) (Step.Take client) }
+        // Where it has none, a Take changes nothing.
+        ensures rests { result ≡ false → take_world self.now client ≡ self.now }
     {
         self.host.has_reply(client)
     }

@@ -12,3 +12,6 @@ world_in bus = world_of bus.host bus.controller bus.target bus.lines bus.frames
 -- it fits what is read back from it, which is the bus to its callers
 pub fits-in : {world : World} (bus : Inside) → world_in bus ≡ world → FitsItself (world_in bus) → Fits (decoded world) (world_in bus)
 fits-in {world} bus is fits = subst (λ w. Fits (decoded w) (world_in bus)) is fits
+
+pub fits-on : {world : World} (bus : Inside) → world_in bus ≡ world → FitsItself (world_in bus) → FitsItself world
+fits-on {world} bus is fits = subst FitsItself is fits

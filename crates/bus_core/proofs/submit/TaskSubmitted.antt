@@ -54,12 +54,12 @@ answers state client ticket task = answers-part state client ticket task (named_
 
 -- WHAT THE HOST ANSWERS
 
-abbrev Accepts : World → ℕ → ℕ → Task → HostState → LinesState → List TagBuffers → List ℕ → Result (Unit {0}) SubmitFault → Type 0
+abbrev pub Accepts : World → ℕ → ℕ → Task → HostState → LinesState → List TagBuffers → List ℕ → Result (Unit {0}) SubmitFault → Type 0
 Accepts world client ticket task host lines frames doors answer =
     (answer ≡ Ok (record {})) × (host ≡ managed world.host client ticket task) × (lines ≡ pushed_task world.lines (task_tag client))
     × (frames ≡ with_task_unit world.frames client task) × (doors ≡ answer_doors (is_host_held world.host) (task_tag client))
 
-abbrev Refuses : World → HostState → LinesState → List TagBuffers → List ℕ → Result (Unit {0}) SubmitFault → SubmitFault → Type 0
+abbrev pub Refuses : World → HostState → LinesState → List TagBuffers → List ℕ → Result (Unit {0}) SubmitFault → SubmitFault → Type 0
 Refuses world host lines frames doors answer fault =
     (answer ≡ Err fault) × (host ≡ world.host) × (lines ≡ world.lines) × (frames ≡ world.frames) × (doors ≡ [])
 

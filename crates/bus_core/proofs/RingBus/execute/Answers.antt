@@ -5,6 +5,9 @@ use Rattle.bus_core.specs.Decoded.{decoded}
 use Rattle.bus_core.proofs.common.BusFields.{fits-in, world_in}
 use Rattle.bus_core.proofs.retire.EngineStepped.{engine-taken}
 use Rattle.bus_core.proofs.common.Taken.{IsTaken}
+use Rattle.std.proofs.Common.{ap, ◌∙◌}
+use Rattle.bus_core.specs.WorldSteps.{engine_world}
+use Rattle.bus_core.proofs.common.WholeSteps.{engine-after}
 use Rattle.bus_core.proofs.RingBus.execute.Goals as goal
 use Rattle.bus_core.proofs.RingBus.execute.Goals.{After-stand}
 
@@ -19,5 +22,11 @@ executed c =
 pub invariant_of-self : goal.invariant_of-self
 invariant_of-self c = (executed (goal.at.invariant_of-self c).After-stand).fits
 
-pub returns : goal.returns
-returns c = rw (c.executed.ensures, c.retirement-retirement.ensures) (executed (goal.at.returns c).After-stand).shared
+pub returns-clause-shared : goal.returns-clause-shared
+returns-clause-shared c = rw (c.executed.ensures, c.retirement-retirement.ensures) (executed (goal.at.returns-clause-shared c).After-stand).shared
+
+pub returns-clause-world : goal.returns-clause-world
+returns-clause-world c =
+    engine-after (world_in c.self.inside) c.engine_step-acted.new.self c.engine_step-acted.new.lines c.engine_step-acted.result
+    c.engine_step-acted.ensures
+    ∙ ap engine_world c.self.view_is

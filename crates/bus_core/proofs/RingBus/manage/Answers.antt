@@ -1,4 +1,4 @@
-use Rattle.std.proofs.Common.{arith, ap, length}
+use Rattle.std.proofs.Common.{arith, ap, length, ◌∙◌}
 use Rattle.bus_core.specs.Owners.{managed_as}
 use Rattle.bus_core.specs.World.{world_of}
 use Rattle.bus_core.specs.WorldSteps.{rung_all}
@@ -6,6 +6,8 @@ use Rattle.bus_core.specs.Decoded.{decoded}
 use Rattle.bus_core.proofs.common.BusFields.{fits-in, world_in}
 use Rattle.bus_core.proofs.submit.TaskSubmitting.{tasks-fit}
 use Rattle.bus_core.proofs.submit.TaskSubmitted.{IsManaged, managed-on, cleared, few-rung}
+use Rattle.bus_core.specs.WholeStep.{task_after}
+use Rattle.bus_core.proofs.common.WholeSteps.{task-answered}
 use Rattle.bus_core.proofs.RingBus.manage.Goals as goal
 use Rattle.bus_core.proofs.RingBus.manage.Goals.{After-stand}
 
@@ -30,10 +32,19 @@ management c =
 pub invariant_of-self : goal.invariant_of-self
 invariant_of-self c = rw (c.ring.ensures, c.deref.ensures.0) (management (goal.at.invariant_of-self c).After-stand).fits
 
-pub returns : goal.returns
-returns c =
+pub returns-clause-shared : goal.returns-clause-shared
+returns-clause-shared c =
     rw (c.managed.ensures, c.single.ensures, c.deref-2.ensures.0, c.ring.ensures, c.deref.ensures.0)
-    (management (goal.at.returns c).After-stand).shared
+    (management (goal.at.returns-clause-shared c).After-stand).shared
+
+pub returns-clause-world : goal.returns-clause-world
+returns-clause-world c =
+    rw (c.ring.ensures, c.deref.ensures.0)
+    (task-answered (world_in c.self.inside) c.args.client c.args.ticket c.args.task
+    c.task-managed.new.self c.task-managed.new.lines c.task-managed.new.frames c.task-managed.new.doors.items c.task-managed.result _
+    (cleared (world_in c.self.inside) c.args.client c.args.ticket c.args.task c.task-managed.new.self c.task-managed.new.lines c.task-managed.new.frames
+    c.clear.new.self c.task-managed.new.doors c.task-managed.result _ c.clear.ensures c.task-managed.ensures)
+    ∙ ap (λ world. task_after world c.args.client c.args.ticket c.args.task) c.self.view_is)
 
 pub single-requires : goal.single-requires
 single-requires c =

@@ -9,6 +9,8 @@ use Rattle.bus_core.specs.Decoded.{decoded}
 use Rattle.bus_core.proofs.common.BusFields.{fits-in, world_in}
 use Rattle.bus_core.proofs.retire.EngineStepped.{begun-cleared, begun_as, few-begun, retire-taken}
 use Rattle.bus_core.proofs.common.Taken.{IsTaken}
+use Rattle.bus_core.specs.WholeStep.{retire_after}
+use Rattle.bus_core.proofs.common.WholeSteps.{retire-begun}
 use Rattle.bus_core.proofs.RingBus.retire.Goals as goal
 use Rattle.bus_core.proofs.RingBus.retire.Goals.{After-stand, then-began, else-began}
 
@@ -39,8 +41,8 @@ retirement c =
 pub invariant_of-self : goal.invariant_of-self
 invariant_of-self c = rw (c.ring.ensures, c.deref.ensures.0) (retirement (goal.at.invariant_of-self c).After-stand).fits
 
-pub returns : goal.returns
-returns c =
+pub returns-clause-shared : goal.returns-clause-shared
+returns-clause-shared c =
     let told : c.if-began.result ≡ begun_as c.args.tag c.retire-began.new.doors.items c.retire-began.result =
     elim c.if-began.branch [
       | then-began w ↦ w.result-is ∙ w.ringing.ensures ∙ ap (λ owner. ringing owner w.single.result) w.owner_of.ensures
@@ -48,4 +50,14 @@ returns c =
           ∙ ap (begun_as c.args.tag c.retire-began.new.doors.items) (sym w.if-began.true)
       | else-began w ↦ w.result-is ∙ w.idle.ensures ∙ ap (begun_as c.args.tag c.retire-began.new.doors.items) (sym w.if-began.false)
     ] in
-    rw (told, c.ring.ensures, c.deref.ensures.0) (retirement (goal.at.returns c).After-stand).shared
+    rw (told, c.ring.ensures, c.deref.ensures.0) (retirement (goal.at.returns-clause-shared c).After-stand).shared
+
+pub returns-clause-world : goal.returns-clause-world
+returns-clause-world c =
+    rw (c.ring.ensures, c.deref.ensures.0)
+    (retire-begun (world_in c.self.inside)
+    c.args.pipe c.args.tag c.retire-began.new.self c.retire-began.new.lines c.retire-began.new.doors.items c.retire-began.result
+    (begun-cleared (world_in c.self.inside)
+    c.args.pipe c.retire-began.new.self c.retire-began.new.lines c.clear.new.self c.retire-began.new.doors c.retire-began.result
+    (retirement_for c.self.inside.host c.args.pipe c.args.tag) c.clear.ensures c.retire-began.ensures)
+    ∙ ap (λ world. retire_after world c.args.pipe c.args.tag) c.self.view_is)

@@ -10,6 +10,8 @@ use Rattle.bus_core.proofs.common.BusFields.{fits-in, world_in}
 use Rattle.bus_core.proofs.retire.EngineStepped.{doors-cleared, event-resumed, td-told, with-outcome}
 use Rattle.bus_core.proofs.event.EventsFit.{events-fit}
 use Rattle.bus_core.proofs.common.Taken.{IsTaken, event-taken}
+use Rattle.bus_core.specs.WholeStep.{event_after}
+use Rattle.bus_core.proofs.common.WholeSteps.{event-handled}
 use Rattle.bus_core.proofs.RingBus.see.Goals as goal
 use Rattle.bus_core.proofs.RingBus.see.Goals.{After-stand, in-Matched, in-Stray, in-Engine+in_ok-ended-in-Engine}
 
@@ -42,8 +44,8 @@ pub invariant_of-self-in_err-ended-in-Engine : goal.invariant_of-self-in_err-end
 invariant_of-self-in_err-ended-in-Engine c =
     rw (c.ring.ensures, c.deref.ensures.0) (seen (goal.at.invariant_of-self-in_err-ended-in-Engine c).After-stand).fits
 
-pub returns : goal.returns
-returns c =
+pub returns-clause-shared : goal.returns-clause-shared
+returns-clause-shared c =
     let retirement = c.self.inside.host.retirement in
     let rung = c.on_event-handled.new.doors.items in
     let told : option_map_or (λ client. ringing client c.match-handled.doors) c.match-handled.result idle
@@ -61,4 +63,14 @@ returns c =
           (sym (ap (handled_as retirement rung) w.in-Engine.is
           ∙ ap (λ under_way. retirement_seen under_way rung) (sym c.retirement-retirement.ensures ∙ w.in_ok-ended-in-Engine.was)))
     ] in
-    rw (c.ring.ensures, c.deref.ensures.0) (with-outcome _ _ _ _ (seen (goal.at.returns c).After-stand).shared told)
+    rw (c.ring.ensures, c.deref.ensures.0) (with-outcome _ _ _ _ (seen (goal.at.returns-clause-shared c).After-stand).shared told)
+
+pub returns-clause-world : goal.returns-clause-world
+returns-clause-world c =
+    rw (c.ring.ensures, c.deref.ensures.0)
+    (event-handled (world_in c.self.inside)
+    c.in_ok-event.event c.on_event-handled.new.self c.on_event-handled.new.lines c.on_event-handled.new.doors.items c.on_event-handled.result
+    (sym c.in_ok-event.ensures.first) (rw c.in_ok-event.ensures.taken at c.on_event-handled.ensures.handled)
+    (sym (doors-cleared c.clear.new.self.items c.on_event-handled.new.doors.items _ c.clear.ensures
+    (rw c.in_ok-event.ensures.taken at c.on_event-handled.ensures.doors)))
+    ∙ ap event_after c.self.view_is)

@@ -1,4 +1,4 @@
-use Rattle.std.proofs.Common.{◌≡◌, [], MatchOption, Err, arith, ap, length}
+use Rattle.std.proofs.Common.{◌≡◌, [], MatchOption, Err, arith, ap, length, ◌∙◌}
 use Rattle.scsi_cmd.specs.declared.Command.{Command}
 use Rattle.scsi_cmd.specs.declared.SubmitFault.{SubmitFault}
 use Rattle.uas_host.specs.Submit.{host_fault}
@@ -9,6 +9,8 @@ use Rattle.bus_core.specs.Decoded.{decoded}
 use Rattle.bus_core.proofs.common.BusFields.{fits-in, world_in}
 use Rattle.bus_core.proofs.submit.Submitting.{submissions-fit}
 use Rattle.bus_core.proofs.submit.Submitted.{Accepts, Refuses, IsSubmitted, submitted-on, cleared, few-rung, none-rung}
+use Rattle.bus_core.specs.WholeStep.{submit_after}
+use Rattle.bus_core.proofs.common.WholeSteps.{submit-answered}
 use Rattle.bus_core.proofs.RingBus.submit.Goals as goal
 use Rattle.bus_core.proofs.RingBus.submit.Goals.{After-stand}
 
@@ -59,15 +61,34 @@ invariant_of-self c =
 pub invariant_of-self-2 : goal.invariant_of-self-2
 invariant_of-self-2 c = rw (c.ring.ensures, c.deref.ensures.0) (submission (goal.at.invariant_of-self-2 c).After-stand).fits
 
-pub returns-in-Err : goal.returns-in-Err
-returns-in-Err c =
-    let stood : After-stand = (goal.at.returns-in-Err c).After-stand in
+pub returns-in-Err-clause-shared : goal.returns-in-Err-clause-shared
+returns-in-Err-clause-shared c =
+    let stood : After-stand = (goal.at.returns-in-Err-clause-shared c).After-stand in
     (rw (refused-rings-none stood c.in-Err.refused c.in-Err.is, c.in-Err.is) at (submission stood)).shared
 
-pub returns : goal.returns
-returns c =
+pub returns-clause-shared : goal.returns-clause-shared
+returns-clause-shared c =
     rw (c.note.ensures, c.deref-2.ensures.0, c.ring.ensures, c.deref.ensures.0)
-    (rw c.in_default.is at (submission (goal.at.returns c).After-stand)).shared
+    (rw c.in_default.is at (submission (goal.at.returns-clause-shared c).After-stand)).shared
+
+-- the world is that after the submission
+after : (c : After-stand)
+    → world_of c.submit-submitted.new.self (rung_all c.self.inside.controller c.submit-submitted.new.doors.items) c.self.inside.target
+    c.submit-submitted.new.lines c.submit-submitted.new.frames
+    ≡ submit_after c.args.self.now c.args.client c.args.tag c.args.ticket c.args.command
+after c =
+    submit-answered (world_in c.self.inside) c.args.client c.args.tag c.args.ticket c.args.command
+    c.submit-submitted.new.self c.submit-submitted.new.lines c.submit-submitted.new.frames c.submit-submitted.new.doors.items c.submit-submitted.result _
+    (host-answers c)
+    ∙ ap (λ world. submit_after world c.args.client c.args.tag c.args.ticket c.args.command) c.self.view_is
+
+pub returns-in-Err-clause-world : goal.returns-in-Err-clause-world
+returns-in-Err-clause-world c =
+    let stood : After-stand = (goal.at.returns-in-Err-clause-world c).After-stand in
+    rw (refused-rings-none stood c.in-Err.refused c.in-Err.is) at (after stood)
+
+pub returns-clause-world : goal.returns-clause-world
+returns-clause-world c = rw (c.ring.ensures, c.deref.ensures.0) (after (goal.at.returns-clause-world c).After-stand)
 
 pub note-requires-clause-few : goal.note-requires-clause-few
 note-requires-clause-few c =

@@ -4,6 +4,9 @@ use Rattle.bus_core.specs.World.{world_of}
 use Rattle.bus_core.specs.Decoded.{decoded}
 use Rattle.bus_core.proofs.common.BusFields.{fits-in, world_in}
 use Rattle.bus_core.proofs.common.Taken.{IsTaken, take-taken}
+use Rattle.std.proofs.Common.{ap, ◌∙◌}
+use Rattle.bus_core.specs.WorldSteps.{take_world}
+use Rattle.bus_core.proofs.common.WholeSteps.{take-given}
 use Rattle.bus_core.proofs.RingBus.take.Goals as goal
 use Rattle.bus_core.proofs.RingBus.take.Goals.{After-stand}
 
@@ -20,5 +23,11 @@ taken c =
 pub invariant_of-self : goal.invariant_of-self
 invariant_of-self c = (taken (goal.at.invariant_of-self c).After-stand).fits
 
-pub returns : goal.returns
-returns c = (taken (goal.at.returns c).After-stand).shared
+pub returns-clause-shared : goal.returns-clause-shared
+returns-clause-shared c = (taken (goal.at.returns-clause-shared c).After-stand).shared
+
+pub returns-clause-world : goal.returns-clause-world
+returns-clause-world c =
+    take-given (world_in c.self.inside) c.args.client c.take_reply-reply.new.self c.take_reply-reply.new.frames c.take_reply-reply.result
+    c.take_reply-reply.ensures
+    ∙ ap (λ world. take_world world c.args.client) c.self.view_is

@@ -1,0 +1,9 @@
+use Rattle.std.proofs.Common.{IfNone, suc, ◌*◌, length, subst}
+use Rattle.uas_profile.specs.declared.TheConstants.{TAGS}
+use Rattle.shared_machine.specs.Drain.{AreQuiet}
+use Rattle.shared_machine.specs.Shared.{Shared}
+use Rattle.bus_core.proofs.Bus.next_busy.Goals as goal
+
+pub returns-clause-none : goal.returns-clause-none
+returns-clause-none c =
+    subst (λ (s : Shared). IfNone c.next_busy.result (AreQuiet s c.args.tag (suc (length s.parts * TAGS)))) c.self.view_is c.next_busy.ensures.none

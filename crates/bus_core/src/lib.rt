@@ -17,6 +17,11 @@
 //! [`Bus::lines`] shows it: the rings have exactly what the shared machine has waiting (`ShowsShared` in specs/Shows.antt). No
 //! step takes memory, and none scans a list. It stands on uas_host, xhci_ctl, uas_target, stream_array and frame_store, by
 //! their contracts alone.
+//!
+//! A [`RingBus`] is the same bus with its rings in sight. Its value is the whole world, host, controller, device, rings and
+//! buffers, and [`RingBus::step`] says beside the shared machine's step which world comes after it (`world_after` in
+//! specs/WholeStep.antt), so that each byte that a step writes can be told. A [`Bus`] is a `RingBus` of which contracts see
+//! the shared machine alone, read back from that world.
 #![tactic(auto)]
 
 mod doors;

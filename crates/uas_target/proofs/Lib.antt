@@ -3,4 +3,5 @@ pub mod Sound
 pub mod Luns
 pub mod Received
 pub mod Managed
-pub mod Kept
+pub mod Places
+mod Kept

@@ -88,6 +88,10 @@ abbrev pub reset_on : Device → ℕ → Option BlockMaps → Device × ℕ
 reset_on device number None = (device, 9)
 reset_on device number (Some unit) = (with_unit (without_commands_of device number) number (with_attention unit true), 0)
 
+-- a reset of the whole device: no tag has a task any more, and every unit has an attention
+abbrev pub reset_device : Device → Device
+reset_device device = record { units = map (λ unit. with_attention unit true) device.units; tasks = replicate GREATEST_TAG None }
+
 -- the tag has a command's task of the unit of this number, whose status wasn't sent
 abbrev pub has_command : Device → ℕ → ℕ → Bool
 has_command device number tag = option_map_or (is_command_of number) (task_of device tag) false

@@ -20,6 +20,8 @@
 //! unit, whose attention it sets; their answers are never sent. What they take away goes from moving data or from ended to no
 //! task. QUERY TASK is answered by whether the device has the command, and changes nothing. Any other function isn't supported.
 //!
+//! A reset of the whole device ([`Target::reset`]) takes away all tasks and sets the attention of each unit; blocks and medium stay.
+//!
 //! What is promised: a [`Target`] is the record `Device` of `specs/Device.antt`, block maps by unit number and tasks by
 //! tag, and each call makes of it exactly what the definition of that name says, and answers so. So after any list of
 //! calls it is `device_after` of that list. What a host asks for begins as the operation that its CDB names

@@ -1,9 +1,10 @@
-//! Task management (SAM): what ABORT TASK and LOGICAL UNIT RESET end, and what they and QUERY TASK are answered.
+//! Task management (SAM): what ABORT TASK and LOGICAL UNIT RESET end, and what they and QUERY TASK are answered; and a reset of the
+//! whole device.
 ghost use Rattle.std.specs.Option.{option_map_or};
 ghost use Rattle.std.specs.Prelude.{◌≡◌, ◌<◌, MatchOption, false, length, map, slice_get, slice_index, slice_set, true};
 ghost use Rattle.block_unit.specs.BlockMaps.{with_attention};
 ghost use Rattle.scsi_cmd.specs.Held.{held_under, with_held_under};
-ghost use Rattle.uas_target.specs.Device.{aborted_on, managed, queried_on, reset_on};
+ghost use Rattle.uas_target.specs.Device.{aborted_on, managed, queried_on, reset_device, reset_on};
 ghost use Rattle.uas_target.specs.Fields.{addressed};
 ghost use Rattle.uas_target.specs.Soundness.{counts_of};
 ghost use Rattle.uas_target.specs.Tasks.{is_at, is_command_of, spared};
@@ -19,13 +20,22 @@ use uas_iu::{
 use uas_profile::GREATEST_TAG;
 
 impl Target {
+    /// Resets the whole device (SAM): no tag has a task any more, and each logical unit has a unit attention. Blocks and medium
+    /// stay.
+    pub fn reset(&mut self)
+        ensures { self.new ≡ reset_device self.old }
+    {
+        self.tasks.clear();
+        establish_attentions(&mut self.units);
+    }
+
     /// Does a task management function on the unit that a LUN addresses; its response code.
     pub(crate) fn manage(&mut self, function: u8, tag: u16, lun: &[u8; LUN_BYTES]) -> u8
         ensures { (self.new, result) ≡ managed self.old function tag lun.now }
     {
         match function {
             ABORT_TASK => self.abort(tag, lun),
-            LOGICAL_UNIT_RESET => self.reset(lun),
+            LOGICAL_UNIT_RESET => self.reset_unit(lun),
             QUERY_TASK => self.query(tag, lun),
             _ => NOT_SUPPORTED,
         }
@@ -41,7 +51,7 @@ impl Target {
         TASK_COMPLETE
     }
 
-    fn reset(&mut self, lun: &[u8; LUN_BYTES]) -> u8
+    fn reset_unit(&mut self, lun: &[u8; LUN_BYTES]) -> u8
         ensures { (self.new, result) ≡ reset_on self.old (slice_index lun.now 1) (addressed self.old.units lun.now) }
     {
         let Some(number) = unit_number(&self.units, lun) else {
@@ -73,6 +83,16 @@ fn establish_attention(units: &mut [Unit], number: usize)
     ensures counts { counts_of units.new ≡ counts_of units.old }
 {
     units[number].set_attention(true);
+}
+
+/// Every unit has a unit attention.
+fn establish_attentions(units: &mut [Unit])
+    ensures units { units.new ≡ map (λ unit. with_attention unit true) units.old }
+    ensures counts { counts_of units.new ≡ counts_of units.old }
+{
+    for unit in units.iter_mut() {
+        unit.set_attention(true);
+    }
 }
 
 impl TaskTable {

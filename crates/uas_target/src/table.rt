@@ -79,6 +79,14 @@ impl TaskTable {
         Some(place as u16 + 1)
     }
 
+    /// No tag has a task any more.
+    pub(crate) fn clear(&mut self)
+        ensures { self.new ≡ replicate GREATEST_TAG None }
+    {
+        self.marks = Marks::new();
+        self.places.fill(None);
+    }
+
     /// Gives a tag a task, or takes it away.
     pub(crate) fn set(&mut self, tag: u16, task: Option<DeviceTask>)
         requires { is_tag tag ≡ true }

@@ -1,19 +1,7 @@
-use Rattle.std.proofs.Common.{◌≡◌, ℕ, zero, suc, false, Option, None, List, length, replicate, is_some, refl, ap, sym, ◌∙◌}
-use Rattle.scsi_cmd.specs.Held.{held_at}
-use Rattle.marks.specs.Marks.{is_marked}
-use Rattle.uas_target.specs.Marks.{MarksHeld}
-use Rattle.uas_target.proofs.table.TaskTable.new.Goals as goal
+use Rattle.std.proofs.Common.{length, ap}
 use Rattle.uas_profile.specs.declared.TheConstants.{GREATEST_TAG}
-
--- places of which none holds anything
-held_at-none : {T : Type 0} (count place : ℕ) → held_at {T = T} (replicate count None) place ≡ None
-held_at-none zero place = refl
-held_at-none (suc count) zero = refl
-held_at-none (suc count) (suc place) = held_at-none count place
-
-unmarked : {T : Type 0} (words : List ℕ) (places : List (Option T)) (count : ℕ) → ((place : ℕ) → is_marked words place ≡ false) →
-    places ≡ replicate count None → MarksHeld words places
-unmarked words places count none is place = none place ∙ sym (ap is_some (ap (λ held. held_at held place) is ∙ held_at-none count place))
+use Rattle.uas_target.proofs.Places.{unmarked}
+use Rattle.uas_target.proofs.table.TaskTable.new.Goals as goal
 
 pub invariant_of-result : goal.invariant_of-result
 invariant_of-result c =

@@ -1,6 +1,6 @@
 use Rattle.uas_target.proofs.Managed.{all_spared_sound}
 use Rattle.uas_target.proofs.Sound.{written_units}
-use Rattle.uas_target.proofs.Target.reset.Goals as goal
+use Rattle.uas_target.proofs.Target.reset_unit.Goals as goal
 
 pub invariant_of-self : goal.invariant_of-self
 invariant_of-self c =

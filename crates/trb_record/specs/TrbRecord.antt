@@ -6,6 +6,7 @@ use Rattle.xhci_trb.specs.declared.Trb.TheVariants.{Normal, Link, StopEndpoint, 
 use Rattle.xhci_trb.specs.declared.TrbFault.{TrbFault}
 use Rattle.xhci_trb.specs.declared.TrbFault.TheVariants.{LengthOver, ReservedSet}
 use Rattle.xhci_trb.specs.declared.TrbFault.TheVariants as trb_faults
+use Rattle.c_faults.specs.declared.TheConstants.{TRB_LENGTH_OVER, TRB_RESERVED_SET, TRB_UNFIT, TRB_UNKNOWN_TYPE}
 use Rattle.trb_record.specs.RecordFault.{fault_of}
 use Rattle.trb_record.specs.declared.trb.UasTrb.{UasTrb}
 
@@ -76,13 +77,13 @@ numbers_fit (SetDequeue pointer cycle stream endpoint slot) = pointer % 16 == 0 
 numbers_fit (TransferEvent pointer residual code endpoint slot) = nat_lt residual (2 ^ 24) && nat_lt endpoint (2 ^ 5)
 numbers_fit (CommandEvent pointer code slot) = pointer % 16 == 0
 
--- the fault of writing a record: 1 another type, 4 a field that doesn't fit
+-- the fault of writing a record
 abbrev pub write_fault : UasTrb → ℕ
-write_fault r = fault_of 1 (λ trb. if bits_fit r && numbers_fit trb then 0 else 4) (named_trb r)
+write_fault r = fault_of TRB_UNKNOWN_TYPE (λ trb. if bits_fit r && numbers_fit trb then 0 else TRB_UNFIT) (named_trb r)
 
 -- the fault of reading 16 bytes, in the order of the tests
 abbrev pub read_fault : Option TrbFault → ℕ
 read_fault None = 0
-read_fault (Some (trb_faults.UnknownType kind)) = 1
-read_fault (Some LengthOver) = 2
-read_fault (Some ReservedSet) = 3
+read_fault (Some (trb_faults.UnknownType kind)) = TRB_UNKNOWN_TYPE
+read_fault (Some LengthOver) = TRB_LENGTH_OVER
+read_fault (Some ReservedSet) = TRB_RESERVED_SET

@@ -7,7 +7,7 @@
 //!
 //! [`RecordFault`] says of a record of any kind why it names nothing; each kind has two numbers of its own for it.
 //!
-//! It stands on `xhci_trb`, by its contracts alone, and takes no memory.
+//! It stands on `xhci_trb`, by its contracts alone, and on the numbers of `c_faults`, and takes no memory.
 #![tactic(auto)]
 
 mod fault;

@@ -1,10 +1,12 @@
 //! The record of a TRB, both ways (xHCI 1.2, 6.4).
 ghost use Rattle.std.specs.Prelude.{◌≡◌, ◌==◌, OnOk, IfOk, IfErr, IsTrue, Some};
 ghost use Rattle.xhci_trb.specs.Text.{HasText};
+ghost use Rattle.c_faults.specs.declared.TheConstants.{TRB_UNFIT, TRB_UNKNOWN_TYPE};
 ghost use Rattle.trb_record.specs.RecordFault.{record_fault};
 ghost use Rattle.trb_record.specs.TrbRecord.{bits_fit, is_bit, named_trb, numbers_fit, read_fault, trb_fields, trb_record, write_fault};
 
 use crate::fault::RecordFault;
+use c_faults::{TRB_LENGTH_OVER, TRB_RESERVED_SET, TRB_UNKNOWN_TYPE};
 use xhci_trb::{MAX_LENGTH, Trb, TrbFault, TrbFlags};
 
 const NORMAL: u8 = 1;
@@ -74,14 +76,14 @@ const EMPTY: UasTrb = UasTrb {
     reserved: [0; 7],
 };
 
-/// The number of a fault of reading 16 bytes: 1 another type, 2 a Normal length above 65,536, 3 a reserved bit that is set.
+/// The number of a fault of reading 16 bytes.
 pub fn fault_number(fault: &TrbFault) -> u8
     ensures { result ≡ read_fault (Some fault.now) }
 {
     match fault {
-        TrbFault::UnknownType(_) => 1,
-        TrbFault::LengthOver => 2,
-        TrbFault::ReservedSet => 3,
+        TrbFault::UnknownType(_) => TRB_UNKNOWN_TYPE,
+        TrbFault::LengthOver => TRB_LENGTH_OVER,
+        TrbFault::ReservedSet => TRB_RESERVED_SET,
     }
 }
 
@@ -178,7 +180,7 @@ fn numbers_fit(trb: Trb) -> bool
 /// The TRB and the Cycle bit of a record. `Unknown`, which is 1, at another type; else `Unfit`, which is 4, at a field of its type
 /// that doesn't fit its bits.
 pub fn read_record(fields: &UasTrb) -> Result<(Trb, bool), RecordFault>
-    ensures fault { IfErr result (λ fault. record_fault 1 4 fault ≡ write_fault fields.now) }
+    ensures fault { IfErr result (λ fault. record_fault TRB_UNKNOWN_TYPE TRB_UNFIT fault ≡ write_fault fields.now) }
     ensures named { IfOk result (λ read. named_trb fields.now ≡ Some read.0) }
     ensures cycle { IfOk result (λ read. read.1 ≡ (fields.now.cycle == 1)) }
     ensures text { IfOk result (λ read. HasText read.0) }

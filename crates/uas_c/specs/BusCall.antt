@@ -8,14 +8,16 @@ use Rattle.shared_machine.specs.Shared.{Shared, due, shared_step}
 use Rattle.shared_machine.specs.declared.Refusal.{Refusal}
 use Rattle.shared_machine.specs.declared.Step.{Step}
 use Rattle.shared_machine.specs.declared.Step.TheVariants as steps
-use Rattle.scsi_cmd.specs.Faults.{fault_number}
 use Rattle.scsi_cmd.specs.declared.Op.{Op}
 use Rattle.scsi_cmd.specs.declared.Reply.{Reply}
 use Rattle.scsi_cmd.specs.declared.Task.{Task}
-use Rattle.uas_c.specs.ClientCall.{asked_operation, not_ticket, pipe_numbered, task_numbered, told_of, with_buffer}
-use Rattle.uas_c.specs.DeviceCall.{data_shown}
-use Rattle.uas_c.specs.Door.{After, DoorAfter, numbered, refused, with_bytes}
-use Rattle.uas_c.specs.OperationRecord.{yes}
+use Rattle.uas_c.specs.ClientCall.{asked_operation, client_fault, not_ticket, pipe_numbered, task_numbered, told_of, with_buffer}
+use Rattle.c_faults.specs.declared.TheConstants.{BUS_CLIENT, BUS_RANGE, BUS_STEP, CLIENT_CALL, CLIENT_FUNCTION, CLIENT_LENGTH, CLIENT_TICKET}
+use Rattle.c_faults.specs.declared.TheConstants.{NO_MEMORY}
+use Rattle.c_common.specs.Shown.{data_shown}
+use Rattle.c_common.specs.declared.shown.ShownFaults.{ShownFaults}
+use Rattle.c_common.specs.Door.{After, DoorAfter, numbered, refused, with_bytes}
+use Rattle.c_common.specs.Bytes.{yes}
 use Rattle.uas_c.specs.declared.bus.BusCall.{BusCall}
 use Rattle.uas_c.specs.declared.bus.BusCall.TheVariants as calls
 use Rattle.uas_c.specs.declared.bus.UasBusDoor.{UasBusDoor}
@@ -26,13 +28,13 @@ use Rattle.uas_c.specs.declared.client.ToldReply.{ToldReply}
 -- the host's own refusal, or 0
 abbrev pub refusal_told : Option Refusal → ℕ
 refusal_told None = 0
-refusal_told (Some refusal) = fault_number refusal.fault
+refusal_told (Some refusal) = client_fault refusal.fault
 
 -- a submission's step
 abbrev pub submitted : Shared → Step → UasBusDoor → DoorAfter Shared UasBusDoor
 submitted state step door = let after = shared_step state step in (refusal_told after.1.refused, (after.0, door))
 
--- SUBMIT (1): the bytes are the command's buffer; 20 a ticket of 2^60 or more, 19 no operation
+-- SUBMIT (1): the bytes are the command's buffer
 abbrev pub after_submit : Shared → UasBusDoor → List ℕ → DoorAfter Shared UasBusDoor
 after_submit state door bytes = of_asked (asked_operation door.ticket door.operation)
   where
@@ -40,12 +42,12 @@ after_submit state door bytes = of_asked (asked_operation door.ticket door.opera
     of_asked (Err fault) = refused fault state door
     of_asked (Ok op) = submitted state (steps.Submit door.client door.tag door.ticket (record { op = op; buffer = bytes })) door
 
--- TASK (2): 20 a ticket of 2^60 or more, 22 no such function
+-- TASK (2)
 abbrev pub after_task : Shared → UasBusDoor → DoorAfter Shared UasBusDoor
-after_task state door = if not_ticket door.ticket then refused 20 state door else of_task (task_numbered door.function door.tag)
+after_task state door = if not_ticket door.ticket then refused CLIENT_TICKET state door else of_task (task_numbered door.function door.tag)
   where
     of_task : Option Task → DoorAfter Shared UasBusDoor
-    of_task None = refused 22 state door
+    of_task None = refused CLIENT_FUNCTION state door
     of_task (Some task) = submitted state (steps.Task door.client door.ticket task) door
 
 -- STEPS
@@ -62,12 +64,12 @@ with_owner door None = record door { has_owner = 0 }
 with_owner door (Some owner) =
     if nat_lt owner (2 ^ 32) then record door { has_owner = 1; client = owner } else record door { has_owner = 0 }
 
--- STEP (3); 18 no such step
+-- STEP (3)
 abbrev pub after_step : Shared → UasBusDoor → DoorAfter Shared UasBusDoor
 after_step state door = of_step (step_numbered door)
   where
     of_step : Option Step → DoorAfter Shared UasBusDoor
-    of_step None = refused 18 state door
+    of_step None = refused BUS_STEP state door
     of_step (Some step) =
         let after = shared_step state step in (0, (after.0, record (with_owner door after.1.owner) { acted = yes after.1.acted }))
 
@@ -76,7 +78,7 @@ abbrev pub with_due : Shared → UasBusDoor → Step → DoorAfter Shared UasBus
 with_due state door step = (0, (state, record door { acted = yes (due state step) }))
 
 abbrev pub after_due : Shared → UasBusDoor → DoorAfter Shared UasBusDoor
-after_due state door = unwrap_or (option_map (with_due state door) (step_numbered door)) (refused 18 state door)
+after_due state door = unwrap_or (option_map (with_due state door) (step_numbered door)) (refused BUS_STEP state door)
 
 -- DRAIN (5): how many of so many steps were taken, and whether none is due any more
 abbrev pub with_drain : UasBusDoor → Drained → UasBusDoor
@@ -100,10 +102,10 @@ with_reply door told = record door {
   length = told.length;
 }
 
--- REPLY (7): the client's oldest; 21 where there is no room for the longest buffer, 128 blocks
+-- REPLY (7): the client's oldest; refused where there is no room for the longest buffer, 128 blocks
 abbrev pub after_reply : Shared → UasBusDoor → List ℕ → After Shared UasBusDoor
 after_reply state door bytes =
-    if nat_lt (length bytes) 65536 then with_bytes bytes (refused 21 state door)
+    if nat_lt (length bytes) 65536 then with_bytes bytes (refused CLIENT_LENGTH state door)
     else (let after = shared_step state (steps.Take door.client) in of_reply after.0 after.1.reply)
   where
     of_reply : Shared → Option Reply → After Shared UasBusDoor
@@ -112,9 +114,9 @@ after_reply state door bytes =
 
 -- BLOCKS
 
--- the bus's numbers of what a look at blocks may be refused with: 23 no such client, 21 no whole blocks, 24 beyond the last one
-abbrev pub show_number : ℕ → ℕ
-show_number fault = if fault == 5 then 23 else (if fault == 4 then 21 else (if fault == 6 then 24 else fault))
+-- a look at blocks is refused by these numbers
+abbrev pub bus_shown : ShownFaults
+bus_shown = record { no_unit = BUS_CLIENT; not_whole = CLIENT_LENGTH; beyond = BUS_RANGE }
 
 -- the unit of a client
 abbrev pub unit_of : Shared → ℕ → Option BlockMaps
@@ -123,8 +125,8 @@ unit_of state client = option_map (λ part. part.unit) (slice_get state.parts cl
 -- BLOCKS (8), as a read sees them, and MEDIUM (9)
 abbrev pub after_bus_shown : (BlockMaps → List ℕ) → Shared → UasBusDoor → List ℕ → After Shared UasBusDoor
 after_bus_shown blocks state door bytes =
-    let told = data_shown (option_map blocks (unit_of state door.client)) door.operation.lba bytes in
-    (show_number told.0, (state, (door, told.1)))
+    let told = data_shown bus_shown (option_map blocks (unit_of state door.client)) door.operation.lba bytes in
+    (told.0, (state, (door, told.1)))
 
 -- A CALL
 
@@ -144,12 +146,12 @@ after_bus_named state door bytes calls.Reply = after_reply state door bytes
 after_bus_named state door bytes calls.Blocks = after_bus_shown (λ unit. unit.blocks) state door bytes
 after_bus_named state door bytes calls.Medium = after_bus_shown (λ unit. unit.medium) state door bytes
 
--- the call that a door names, or 17, no such call
+-- the call that a door names, or that there is no such call
 abbrev pub after_bus_call : Shared → UasBusDoor → List ℕ → After Shared UasBusDoor
 after_bus_call state door bytes =
-    unwrap_or (option_map (after_bus_named state door bytes) (bus_call_numbered door.call)) (with_bytes bytes (refused 17 state door))
+    unwrap_or (option_map (after_bus_named state door bytes) (bus_call_numbered door.call)) (with_bytes bytes (refused CLIENT_CALL state door))
 
--- a submission may find no memory for its buffer: 16, and nothing changes
+-- a submission may find no memory for its buffer, and then nothing changes
 abbrev pub bus_answer : ℕ → Shared → UasBusDoor → List ℕ → After Shared UasBusDoor
 bus_answer number state door bytes =
-    if number == 16 && door.call == 1 then with_bytes bytes (refused 16 state door) else after_bus_call state door bytes
+    if number == NO_MEMORY && door.call == 1 then with_bytes bytes (refused NO_MEMORY state door) else after_bus_call state door bytes

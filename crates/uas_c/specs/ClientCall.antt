@@ -6,27 +6,41 @@ use Rattle.arrayvec.specs.ArrayVec.{array_vec_len}
 use Rattle.scsi_cmd.specs.declared.Op.{Op}
 use Rattle.scsi_cmd.specs.declared.Reply.{Reply}
 use Rattle.scsi_cmd.specs.declared.Reply.TheVariants as replies
+use Rattle.scsi_cmd.specs.declared.SubmitFault.{SubmitFault}
+use Rattle.scsi_cmd.specs.declared.SubmitFault.TheVariants as submits
 use Rattle.scsi_cmd.specs.declared.Task.{Task}
 use Rattle.scsi_cmd.specs.declared.Task.TheVariants as tasks
 use Rattle.uas_profile.specs.declared.Pipe.{Pipe}
 use Rattle.uas_profile.specs.declared.Pipe.TheVariants as pipes
-use Rattle.uas_c.specs.Door.{numbered}
-use Rattle.uas_c.specs.OperationRecord.{named_operation, operation_fault}
-use Rattle.uas_c.specs.UnitRecord.{padded}
+use Rattle.c_faults.specs.declared.TheConstants.{CLIENT_BAD_LENGTH, CLIENT_IN_USE, CLIENT_NOT_YOURS, CLIENT_NO_SUCH_TASK, CLIENT_OPERATION}
+use Rattle.c_faults.specs.declared.TheConstants.{CLIENT_OUT_OF_TURN, CLIENT_TICKET, CLIENT_TOO_LONG}
+use Rattle.c_common.specs.Door.{numbered}
+use Rattle.c_common.specs.OperationRecord.{named_operation, operation_fault}
+use Rattle.c_common.specs.Bytes.{padded}
 use Rattle.uas_c.specs.declared.client.ToldReply.{ToldReply}
-use Rattle.uas_c.specs.declared.scsi.UasOperation.{UasOperation}
+use Rattle.c_common.specs.declared.operation.UasOperation.{UasOperation}
 
 -- WHAT IS ASKED
+
+-- the number of what the host refuses a submission with
+abbrev pub client_fault : SubmitFault → ℕ
+client_fault submits.NotYours = CLIENT_NOT_YOURS
+client_fault submits.InUse = CLIENT_IN_USE
+client_fault submits.BadLength = CLIENT_BAD_LENGTH
+client_fault submits.TooLong = CLIENT_TOO_LONG
+client_fault (submits.OutOfTurn least) = CLIENT_OUT_OF_TURN
+client_fault submits.NoSuchTask = CLIENT_NO_SUCH_TASK
 
 -- a ticket is below 2^60
 abbrev pub not_ticket : ℕ → Bool
 not_ticket ticket = not (nat_lt ticket (2 ^ 60))
 
--- the operation of a submission, or its fault: 20 a ticket of 2^60 or more, 19 no operation
+-- the operation of a submission, or its fault: a ticket of 2^60 or more, no operation
 abbrev pub asked_operation : ℕ → UasOperation → Result Op ℕ
 asked_operation ticket operation =
-    if not_ticket ticket then Err 20
-    else (if operation_fault operation == 0 then option_map_or (λ op. Ok op) (named_operation operation) (Err 19) else Err 19)
+    if not_ticket ticket then Err CLIENT_TICKET
+    else (if operation_fault operation == 0 then option_map_or (λ op. Ok op) (named_operation operation) (Err CLIENT_OPERATION)
+    else Err CLIENT_OPERATION)
 
 -- the task management of a function: 1 ABORT TASK of the tag, 8 LOGICAL UNIT RESET, 80h QUERY TASK of the tag
 abbrev pub task_numbered : ℕ → ℕ → Option Task

@@ -5,7 +5,6 @@ use Rattle.std.specs.List.{find, range_with_len}
 use Rattle.std.specs.Option.{option_map_or}
 use Rattle.event_ring.specs.declared.Event.{Event}
 use Rattle.event_ring.specs.declared.Event.TheVariants as events
-use Rattle.scsi_cmd.specs.Faults.{fault_number}
 use Rattle.scsi_cmd.specs.declared.Op.{Op}
 use Rattle.scsi_cmd.specs.declared.Reply.{Reply}
 use Rattle.uas_host.specs.Retirement.{is_left_over_on}
@@ -18,9 +17,11 @@ use Rattle.uas_driver.specs.Calls.{After as CallAfter, context_by, event_by, ite
 use Rattle.uas_driver.specs.Driver.{DriverState}
 use Rattle.uas_driver.specs.declared.Refusal.{Refusal}
 use Rattle.uas_driver.specs.declared.Refusal.TheVariants as refusals
-use Rattle.uas_c.specs.ClientCall.{asked_operation, not_ticket, pipe_numbered, task_numbered, told_of, with_buffer}
-use Rattle.uas_c.specs.Door.{After, DoorAfter, numbered, refused, with_bytes}
-use Rattle.uas_c.specs.OperationRecord.{yes}
+use Rattle.c_faults.specs.declared.TheConstants.{CLIENT_CALL, CLIENT_FUNCTION, CLIENT_LENGTH, CLIENT_TICKET, DRIVER_ADDRESS, DRIVER_CLIENTS}
+use Rattle.c_faults.specs.declared.TheConstants.{DRIVER_EVENT, DRIVER_RING, DRIVER_ROOM, NO_MEMORY}
+use Rattle.uas_c.specs.ClientCall.{asked_operation, client_fault, not_ticket, pipe_numbered, task_numbered, told_of, with_buffer}
+use Rattle.c_common.specs.Door.{After, DoorAfter, numbered, refused, with_bytes}
+use Rattle.c_common.specs.Bytes.{yes}
 use Rattle.uas_c.specs.declared.client.ToldReply.{ToldReply}
 use Rattle.uas_c.specs.declared.driver.door.DriverCall.{DriverCall}
 use Rattle.uas_c.specs.declared.driver.door.DriverCall.TheVariants as calls
@@ -28,13 +29,13 @@ use Rattle.uas_c.specs.declared.driver.door.UasDriverDoor.{UasDriverDoor}
 
 -- A NEW DRIVER
 
--- 18 where there is no client or more than 15
+-- refused where there is no client or more than 15
 abbrev pub clients_fault : ℕ → ℕ
-clients_fault clients = if clients == 0 || nat_lt MAX_CLIENTS clients then 18 else 0
+clients_fault clients = if clients == 0 || nat_lt MAX_CLIENTS clients then DRIVER_CLIENTS else 0
 
--- The number of an answer is right: the fault, or 16, want of memory, where there is none.
+-- The number of an answer is right: the fault, or want of memory where there is none.
 abbrev pub clients_told : ℕ → ℕ → Bool
-clients_told number clients = number == clients_fault clients || (number == 16 && clients_fault clients == 0)
+clients_told number clients = number == clients_fault clients || (number == NO_MEMORY && clients_fault clients == 0)
 
 abbrev pub made_number : {X : Type 0} → Result X ℕ → ℕ
 made_number (Ok x) = 0
@@ -44,11 +45,11 @@ made_number (Err fault) = fault
 
 -- the number of what a call was refused with
 abbrev pub driver_refusal : Refusal → ℕ
-driver_refusal refusals.BadTicket = 20
-driver_refusal refusals.NoRoom = 23
-driver_refusal refusals.BadAddress = 24
-driver_refusal refusals.NoRing = 25
-driver_refusal (refusals.Fault fault) = fault_number fault
+driver_refusal refusals.BadTicket = CLIENT_TICKET
+driver_refusal refusals.NoRoom = DRIVER_ROOM
+driver_refusal refusals.BadAddress = DRIVER_ADDRESS
+driver_refusal refusals.NoRing = DRIVER_RING
+driver_refusal (refusals.Fault fault) = client_fault fault
 
 -- the door once the doorbells that are to be written were told: they stand at the front, and the other places keep what they held
 abbrev pub with_doorbells : UasDriverDoor → List ℕ → UasDriverDoor
@@ -66,23 +67,23 @@ with_read driver door bytes (Err refusal) = with_bytes bytes (refused (driver_re
 
 -- SUBMIT AND TASK
 
--- a submission of this operation; there may be no memory for the copy of its bytes: where the call answers 16, that is why
+-- a submission of this operation; there may be no memory for the copy of its bytes: where the call answers so, that is why
 abbrev pub after_asked : ℕ → DriverState → UasDriverDoor → List ℕ → Result Op ℕ → DoorAfter DriverState UasDriverDoor
 after_asked number driver door bytes (Err fault) = refused fault driver door
 after_asked number driver door bytes (Ok op) =
-    if number == 16 then refused 16 driver door
+    if number == NO_MEMORY then refused NO_MEMORY driver door
     else with_submitted door (submit_by driver door.client door.tag door.ticket (record { op = op; buffer = bytes }))
 
--- SUBMIT (1): the bytes are the command's buffer; 20 a ticket of 2^60 or more, 19 no operation
+-- SUBMIT (1): the bytes are the command's buffer
 abbrev pub after_submit : ℕ → DriverState → UasDriverDoor → List ℕ → DoorAfter DriverState UasDriverDoor
 after_submit number driver door bytes = after_asked number driver door bytes (asked_operation door.ticket door.operation)
 
--- TASK (2): 20 a ticket of 2^60 or more, 22 no such function
+-- TASK (2)
 abbrev pub after_task : DriverState → UasDriverDoor → DoorAfter DriverState UasDriverDoor
 after_task driver door =
-    if not_ticket door.ticket then refused 20 driver door
+    if not_ticket door.ticket then refused CLIENT_TICKET driver door
     else option_map_or (λ task. with_submitted door (task_by driver door.client door.ticket task)) (task_numbered door.function door.tag)
-    (refused 22 driver door)
+    (refused CLIENT_FUNCTION driver door)
 
 -- TDS THAT ARE LEFT OVER
 
@@ -91,10 +92,10 @@ abbrev pub with_retired : UasDriverDoor → CallAfter (Result Bool Refusal) → 
 with_retired door (after, Ok begun, doors) = (0, (after, record (with_doorbells door doors) { acted = yes begun }))
 with_retired door (after, Err refusal, doors) = refused (driver_refusal refusal) after door
 
--- RETIRE (3): 25 no such pipe
+-- RETIRE (3)
 abbrev pub after_retire : DriverState → UasDriverDoor → DoorAfter DriverState UasDriverDoor
 after_retire driver door =
-    option_map_or (λ pipe. with_retired door (retire_by driver pipe door.tag)) (pipe_numbered door.pipe) (refused 25 driver door)
+    option_map_or (λ pipe. with_retired door (retire_by driver pipe door.tag)) (pipe_numbered door.pipe) (refused DRIVER_RING driver door)
 
 -- The least tag above this one whose TD on a pipe is left over. Worked: of two clients, whose greatest tag is 32, the tags above 30 that
 -- are looked at are 31 and 32.
@@ -105,11 +106,11 @@ abbrev pub with_next : UasDriverDoor → Option ℕ → UasDriverDoor
 with_next door None = record door { acted = 0 }
 with_next door (Some next) = record door { acted = 1; tag = next }
 
--- LEFT_OVER (4): 25 no such pipe
+-- LEFT_OVER (4)
 abbrev pub after_left_over : DriverState → UasDriverDoor → DoorAfter DriverState UasDriverDoor
 after_left_over driver door =
     option_map_or (λ pipe. (0, (driver, with_next door (next_left_over driver.host pipe door.tag)))) (pipe_numbered door.pipe)
-    (refused 25 driver door)
+    (refused DRIVER_RING driver door)
 
 -- EVENTS
 
@@ -128,9 +129,9 @@ with_handled door Stray = record door { acted = 0 }
 abbrev pub with_event : UasDriverDoor → CallAfter Handled → DoorAfter DriverState UasDriverDoor
 with_event door (after, handled, doors) = (0, (after, with_handled (with_doorbells door doors) handled))
 
--- EVENT (5): 26 another type
+-- EVENT (5)
 abbrev pub after_event : DriverState → UasDriverDoor → DoorAfter DriverState UasDriverDoor
-after_event driver door = option_map_or (λ event. with_event door (event_by driver event)) (event_named door) (refused 26 driver door)
+after_event driver door = option_map_or (λ event. with_event door (event_by driver event)) (event_named door) (refused DRIVER_EVENT driver door)
 
 -- REPLIES
 
@@ -151,10 +152,10 @@ abbrev pub with_given : UasDriverDoor → List ℕ → DriverState → Option Re
 with_given door bytes after None = (0, (after, (record door { acted = 0 }, bytes)))
 with_given door bytes after (Some reply) = (0, (after, (with_reply door (told_of door.sense reply), with_buffer bytes reply)))
 
--- REPLY (6): the client's oldest; 21 where there is no room for the longest buffer, 128 blocks
+-- REPLY (6): the client's oldest; refused where there is no room for the longest buffer, 128 blocks
 abbrev pub after_reply : DriverState → UasDriverDoor → List ℕ → After DriverState UasDriverDoor
 after_reply driver door bytes =
-    if nat_lt (length bytes) 65536 then with_bytes bytes (refused 21 driver door)
+    if nat_lt (length bytes) 65536 then with_bytes bytes (refused CLIENT_LENGTH driver door)
     else (let given = reply_by driver door.client in with_given door bytes given.0 given.1)
 
 -- WHAT THE CONTROLLER BEYOND READS AND WRITES
@@ -171,18 +172,18 @@ with_written door (after, Err refusal) = refused (driver_refusal refusal) after 
 abbrev pub after_write : DriverState → UasDriverDoor → List ℕ → DoorAfter DriverState UasDriverDoor
 after_write driver door bytes = with_written door (write_by driver door.address bytes)
 
--- ITEM (9): 21 where the bytes aren't 16, 24 where nothing stands there
+-- ITEM (9) into 16 bytes
 abbrev pub after_item : DriverState → UasDriverDoor → List ℕ → After DriverState UasDriverDoor
 after_item driver door bytes =
-    if not (length bytes == 16) then with_bytes bytes (refused 21 driver door)
-    else option_map_or (λ item. (0, (driver, (door, item)))) (item_by driver door.address) (with_bytes bytes (refused 24 driver door))
+    if not (length bytes == 16) then with_bytes bytes (refused CLIENT_LENGTH driver door)
+    else option_map_or (λ item. (0, (driver, (door, item)))) (item_by driver door.address) (with_bytes bytes (refused DRIVER_ADDRESS driver door))
 
--- CONTEXT (10): 21 where the bytes aren't 16, 25 no such pipe or no stream from 1 to 248
+-- CONTEXT (10) into 16 bytes
 abbrev pub after_context : DriverState → UasDriverDoor → List ℕ → After DriverState UasDriverDoor
 after_context driver door bytes =
-    if not (length bytes == 16) then with_bytes bytes (refused 21 driver door)
+    if not (length bytes == 16) then with_bytes bytes (refused CLIENT_LENGTH driver door)
     else option_map_or (λ pipe. with_read driver door bytes (context_by driver pipe door.stream)) (pipe_numbered door.pipe)
-    (with_bytes bytes (refused 25 driver door))
+    (with_bytes bytes (refused DRIVER_RING driver door))
 
 -- A CALL
 
@@ -204,7 +205,7 @@ after_driver_named number driver door bytes calls.Write = with_bytes bytes (afte
 after_driver_named number driver door bytes calls.Item = after_item driver door bytes
 after_driver_named number driver door bytes calls.Context = after_context driver door bytes
 
--- the call that a door names, or 17, no such call
+-- the call that a door names, or that there is no such call
 abbrev pub driver_answer : ℕ → DriverState → UasDriverDoor → List ℕ → After DriverState UasDriverDoor
 driver_answer number driver door bytes =
-    option_map_or (after_driver_named number driver door bytes) (driver_call door.call) (with_bytes bytes (refused 17 driver door))
+    option_map_or (after_driver_named number driver door bytes) (driver_call door.call) (with_bytes bytes (refused CLIENT_CALL driver door))

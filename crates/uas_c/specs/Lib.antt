@@ -1,11 +1,4 @@
--- What C sees: records in place of values, and numbers in place of faults.
-pub mod Door
-pub mod UnitRecord
-pub mod OperationRecord
-pub mod Units
-pub mod Handed
+-- What C sees of the driver and the bus: records in place of values, and numbers in place of faults.
 pub mod ClientCall
-pub mod DeviceCall
 pub mod BusCall
-pub mod ControllerCall
 pub mod DriverCall

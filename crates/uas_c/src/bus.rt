@@ -1,24 +1,26 @@
 //! The bus for C: host, controller and device as one machine of steps, over one call with a door.
-ghost use Rattle.std.specs.Prelude.{◌≡◌, ◌<◌, ◌==◌, if◌then◌else◌, IfSome, option_map};
+ghost use Rattle.std.specs.Prelude.{◌≡◌, ◌==◌, false, if◌then◌else◌, IfSome, option_map};
 ghost use Rattle.shared_machine.specs.Bus.{HasTicket};
 ghost use Rattle.shared_machine.specs.Drain.{drained};
 ghost use Rattle.shared_machine.specs.Shared.{opening};
+ghost use Rattle.c_faults.specs.declared.TheConstants.{NO_MEMORY};
 ghost use Rattle.uas_c.specs.BusCall.{after_due, after_reply, after_step, after_submit, after_task, bus_answer, bus_call_numbered};
-ghost use Rattle.uas_c.specs.BusCall.{refusal_told, show_number, step_numbered, unit_of, with_drain, with_owner, with_reply};
-ghost use Rattle.uas_c.specs.DeviceCall.{number_of};
-ghost use Rattle.uas_c.specs.Door.{refused};
+ghost use Rattle.uas_c.specs.BusCall.{refusal_told, step_numbered, unit_of, with_drain, with_owner, with_reply};
+ghost use Rattle.c_common.specs.Door.{refused};
 
 mod handle;
 
 use crate::client::{
-    BAD_LENGTH, LONGEST_BUFFER, NO_CALL, NO_FUNCTION, NO_MEMORY, NO_TICKET, TICKETS, ToldReply,
-    asked_operation, pipe_numbered, task_numbered, tell_reply,
+    LONGEST_BUFFER, TICKETS, ToldReply, asked_operation, client_fault, pipe_numbered,
+    task_numbered, tell_reply,
 };
-use crate::device::{Refusal as DeviceRefusal, show};
-use crate::scsi::UasOperation;
-use crate::units::OfUnits;
 use block_unit::Unit;
 use bus_core::{Bus, Refusal, Step};
+use c_common::{OfUnits, ShownFaults, UasOperation, show};
+use c_faults::{
+    BUS_CLIENT, BUS_RANGE, BUS_STEP, CLIENT_CALL, CLIENT_FUNCTION, CLIENT_LENGTH, CLIENT_TICKET,
+    NO_MEMORY,
+};
 use scsi_cmd::{Buffer, Command};
 use std::alloc::{AllocError, Global};
 use std::marker::Model;
@@ -100,11 +102,12 @@ enum BusCall {
     Medium,
 }
 
-const NO_STEP: u8 = 18;
-
-const NO_CLIENT: u8 = 23;
-
-const NO_BLOCKS: u8 = 24;
+/// By which a look at blocks is refused.
+const SHOWN: ShownFaults = ShownFaults {
+    no_unit: BUS_CLIENT,
+    not_whole: CLIENT_LENGTH,
+    beyond: BUS_RANGE,
+};
 
 fn call_numbered(number: u8) -> Option<BusCall>
     ensures { result ≡ bus_call_numbered number }
@@ -127,7 +130,7 @@ pub(crate) fn serve(kept: &mut KeptBus, door: &mut UasBusDoor, bytes: &mut [u8])
     ensures { (result, (kept.new, (door.new, bytes.new))) ≡ bus_answer result kept.old door.old bytes.old }
 {
     let Some(call) = call_numbered(door.call) else {
-        return NO_CALL;
+        return CLIENT_CALL;
     };
     match call {
         BusCall::Submit => submit(&mut kept.bus, kept.alloc, door, bytes),
@@ -136,23 +139,25 @@ pub(crate) fn serve(kept: &mut KeptBus, door: &mut UasBusDoor, bytes: &mut [u8])
         BusCall::Due => show_due(&kept.bus, door),
         BusCall::Drain => drain(&mut kept.bus, door),
         BusCall::Reply => take_reply(&mut kept.bus, door, bytes),
-        BusCall::Blocks => show_number(show(
+        BusCall::Blocks => show(
+            SHOWN,
             contents_of(&kept.bus, door.client),
             door.operation.lba,
             bytes,
-        )),
-        BusCall::Medium => show_number(show(
+        ),
+        BusCall::Medium => show(
+            SHOWN,
             medium_of(&kept.bus, door.client),
             door.operation.lba,
             bytes,
-        )),
+        ),
     }
 }
 
 /// A submission: ticket and operation are judged here, all else by the bus.
 fn submit(bus: &mut Bus, alloc: Global, door: &UasBusDoor, bytes: &[u8]) -> u8
     ensures { (result, (bus.new, door.now))
-        ≡ (if result == 16 then refused 16 bus.old door.now else after_submit bus.old door.now bytes.now) }
+        ≡ (if result == NO_MEMORY then refused NO_MEMORY bus.old door.now else after_submit bus.old door.now bytes.now) }
 {
     let op = match asked_operation(door.ticket, &door.operation) {
         Ok(op) => op,
@@ -175,10 +180,10 @@ fn submit(bus: &mut Bus, alloc: Global, door: &UasBusDoor, bytes: &[u8]) -> u8
 
 fn refusal_number(refused: &Option<Refusal>) -> u8
     ensures told { result ≡ refusal_told refused.now }
-    ensures least { result < 16 }
+    ensures no_want_of_memory { (result == NO_MEMORY) ≡ false }
 {
     match refused {
-        Some(refusal) => refusal.fault.number(),
+        Some(refusal) => client_fault(refusal.fault),
         None => 0,
     }
 }
@@ -187,10 +192,10 @@ fn manage(bus: &mut Bus, door: &UasBusDoor) -> u8
     ensures { (result, (bus.new, door.now)) ≡ after_task bus.old door.now }
 {
     if door.ticket >= TICKETS {
-        return NO_TICKET;
+        return CLIENT_TICKET;
     }
     let Some(task) = task_numbered(door.function, door.tag) else {
-        return NO_FUNCTION;
+        return CLIENT_FUNCTION;
     };
     let outcome = bus.step(Step::Task {
         client: door.client as usize,
@@ -223,7 +228,7 @@ fn take_step(bus: &mut Bus, door: &mut UasBusDoor) -> u8
     ensures { (result, (bus.new, door.new)) ≡ after_step bus.old door.old }
 {
     let Some(step) = step_numbered(door) else {
-        return NO_STEP;
+        return BUS_STEP;
     };
     let outcome = bus.step(step);
     show_owner(door, outcome.owner);
@@ -248,7 +253,7 @@ fn show_due(bus: &Bus, door: &mut UasBusDoor) -> u8
     ensures { (result, (bus.now, door.new)) ≡ after_due bus.now door.old }
 {
     let Some(step) = step_numbered(door) else {
-        return NO_STEP;
+        return BUS_STEP;
     };
     door.acted = u8::from(bus.due(&step));
     0
@@ -270,7 +275,7 @@ fn take_reply(bus: &mut Bus, door: &mut UasBusDoor, bytes: &mut [u8]) -> u8
     ensures { (result, (bus.new, (door.new, bytes.new))) ≡ after_reply bus.old door.old bytes.old }
 {
     if bytes.len() < LONGEST_BUFFER {
-        return BAD_LENGTH;
+        return CLIENT_LENGTH;
     }
     let outcome = bus.step(Step::Take(door.client as usize));
     match &outcome.reply {
@@ -320,18 +325,5 @@ fn medium_of(bus: &Bus, client: u32) -> Option<&[u8]>
     match unit_of(bus, client) {
         Some(unit) => Some(unit.medium()),
         None => None,
-    }
-}
-
-/// The bus's number of what a look at blocks may be refused with.
-fn show_number(shown: Result<(), DeviceRefusal>) -> u8
-    ensures { result ≡ show_number (number_of shown) }
-{
-    match shown {
-        Ok(()) => 0,
-        Err(DeviceRefusal::Unit) => NO_CLIENT,
-        Err(DeviceRefusal::Length) => BAD_LENGTH,
-        Err(DeviceRefusal::Range) => NO_BLOCKS,
-        Err(refusal) => refusal.number(),
     }
 }

@@ -1,10 +1,14 @@
 //! What clients ask of a bus and of a driver, and what a reply tells, whatever the door.
 ghost use Rattle.std.specs.Prelude.{◌≡◌, ◌<◌, ◌-◌, ◌^◌, IfErr, OnOk, length, min};
-ghost use Rattle.uas_c.specs.ClientCall.{asked_operation, overlaid, pipe_numbered, task_numbered, told_of, with_buffer};
+ghost use Rattle.c_faults.specs.declared.TheConstants.{NO_MEMORY};
+ghost use Rattle.uas_c.specs.ClientCall.{asked_operation, client_fault, overlaid, pipe_numbered, task_numbered, told_of, with_buffer};
 
-use crate::scsi::{UasOperation, read_operation};
-use crate::unit::padded;
-use scsi_cmd::{Buffer, Op, Reply, Task};
+use c_common::{UasOperation, padded, read_operation};
+use c_faults::{
+    CLIENT_BAD_LENGTH, CLIENT_IN_USE, CLIENT_NO_SUCH_TASK, CLIENT_NOT_YOURS, CLIENT_OPERATION,
+    CLIENT_OUT_OF_TURN, CLIENT_TICKET, CLIENT_TOO_LONG,
+};
+use scsi_cmd::{Buffer, Op, Reply, SubmitFault, Task};
 use stream_array::Pipe;
 use uas_iu::MAX_SENSE_BYTES;
 
@@ -26,33 +30,36 @@ pub(crate) struct ToldReply {
 /// Bytes of the longest buffer of a reply.
 pub(crate) const LONGEST_BUFFER: usize = 65_536;
 
-pub(crate) const NO_MEMORY: u8 = 16;
-
-pub(crate) const NO_CALL: u8 = 17;
-
-pub(crate) const NO_OPERATION: u8 = 19;
-
-pub(crate) const NO_TICKET: u8 = 20;
-
-pub(crate) const BAD_LENGTH: u8 = 21;
-
-pub(crate) const NO_FUNCTION: u8 = 22;
-
 /// Tickets are below this.
 pub(crate) const TICKETS: u64 = 1 << 60;
+
+/// The number of what the host refuses a submission with.
+pub(crate) fn client_fault(fault: SubmitFault) -> u8
+    ensures number { result ≡ client_fault fault }
+    ensures no_want_of_memory { NO_MEMORY < result }
+{
+    match fault {
+        SubmitFault::NotYours => CLIENT_NOT_YOURS,
+        SubmitFault::InUse => CLIENT_IN_USE,
+        SubmitFault::BadLength => CLIENT_BAD_LENGTH,
+        SubmitFault::TooLong => CLIENT_TOO_LONG,
+        SubmitFault::OutOfTurn(_) => CLIENT_OUT_OF_TURN,
+        SubmitFault::NoSuchTask => CLIENT_NO_SUCH_TASK,
+    }
+}
 
 /// The operation of a submission; the error is the number of its fault.
 pub(crate) fn asked_operation(ticket: u64, operation: &UasOperation) -> Result<Op, u8>
     ensures operation { result ≡ asked_operation ticket operation.now }
     ensures ticket { OnOk result (ticket < 2 ^ 60) }
-    ensures fault { IfErr result (λ fault. 16 < fault) }
+    ensures fault { IfErr result (λ fault. NO_MEMORY < fault) }
 {
     if ticket >= TICKETS {
-        return Err(NO_TICKET);
+        return Err(CLIENT_TICKET);
     }
     match read_operation(operation) {
         Ok(op) => Ok(op),
-        Err(_) => Err(NO_OPERATION),
+        Err(_) => Err(CLIENT_OPERATION),
     }
 }
 

@@ -8,14 +8,17 @@ mod door;
 mod handle;
 
 use crate::client::{
-    BAD_LENGTH, LONGEST_BUFFER, NO_CALL, NO_FUNCTION, NO_MEMORY, NO_TICKET, TICKETS,
-    asked_operation, pipe_numbered, task_numbered, tell_reply,
+    LONGEST_BUFFER, TICKETS, asked_operation, pipe_numbered, task_numbered, tell_reply,
 };
 use crate::driver::door::{
-    DriverCall, NO_ADDRESS, NO_CLIENTS, NO_EVENT, NO_RING, UasDriverDoor, call_numbered,
-    event_named, refusal_number, show_doorbells, show_handled, show_next, show_reply,
+    DriverCall, UasDriverDoor, call_numbered, event_named, refusal_number, show_doorbells,
+    show_handled, show_next, show_reply,
 };
 use arrayvec::ArrayVec;
+use c_faults::{
+    CLIENT_CALL, CLIENT_FUNCTION, CLIENT_LENGTH, CLIENT_TICKET, DRIVER_ADDRESS, DRIVER_CLIENTS,
+    DRIVER_EVENT, DRIVER_RING, NO_MEMORY,
+};
 use scsi_cmd::{Buffer, Command};
 use std::alloc::Global;
 use std::marker::Model;
@@ -47,7 +50,7 @@ pub(crate) fn made(alloc: Global, clients: usize) -> Result<Box<KeptDriver, Glob
     ensures fault { clients_told (made_number result) clients ≡ true }
 {
     if clients == 0 || clients > MAX_CLIENTS {
-        return Err(NO_CLIENTS);
+        return Err(DRIVER_CLIENTS);
     }
     let Ok(driver) = Driver::new(alloc, clients) else {
         return Err(NO_MEMORY);
@@ -63,7 +66,7 @@ pub(crate) fn serve(kept: &mut KeptDriver, door: &mut UasDriverDoor, bytes: &mut
     ensures { (result, (kept.new, (door.new, bytes.new))) ≡ driver_answer result kept.old door.old bytes.old }
 {
     let Some(call) = call_numbered(door.call) else {
-        return NO_CALL;
+        return CLIENT_CALL;
     };
     match call {
         DriverCall::Submit => submit(&mut kept.driver, kept.alloc, door, bytes),
@@ -114,10 +117,10 @@ fn manage(driver: &mut Driver, door: &mut UasDriverDoor) -> u8
     ensures { (result, (driver.new, door.new)) ≡ after_task driver.old door.old }
 {
     if door.ticket >= TICKETS {
-        return NO_TICKET;
+        return CLIENT_TICKET;
     }
     let Some(task) = task_numbered(door.function, door.tag) else {
-        return NO_FUNCTION;
+        return CLIENT_FUNCTION;
     };
     let mut doors = ArrayVec::new();
     match driver.task(door.client as usize, door.ticket, task, &mut doors) {
@@ -133,7 +136,7 @@ fn retire(driver: &mut Driver, door: &mut UasDriverDoor) -> u8
     ensures { (result, (driver.new, door.new)) ≡ after_retire driver.old door.old }
 {
     let Some(pipe) = pipe_numbered(door.pipe) else {
-        return NO_RING;
+        return DRIVER_RING;
     };
     let mut doors = ArrayVec::new();
     match driver.retire(pipe, door.tag, &mut doors) {
@@ -150,7 +153,7 @@ fn show_left_over(driver: &Driver, door: &mut UasDriverDoor) -> u8
     ensures { (result, (driver.now, door.new)) ≡ after_left_over driver.now door.old }
 {
     let Some(pipe) = pipe_numbered(door.pipe) else {
-        return NO_RING;
+        return DRIVER_RING;
     };
     let next = next_left_over(driver, pipe, door.tag);
     show_next(door, next);
@@ -168,7 +171,7 @@ fn take_event(driver: &mut Driver, door: &mut UasDriverDoor) -> u8
     ensures { (result, (driver.new, door.new)) ≡ after_event driver.old door.old }
 {
     let Some(event) = event_named(door) else {
-        return NO_EVENT;
+        return DRIVER_EVENT;
     };
     let mut doors = ArrayVec::new();
     let handled = driver.take_event(event, &mut doors);
@@ -182,7 +185,7 @@ fn take_reply(driver: &mut Driver, door: &mut UasDriverDoor, bytes: &mut [u8]) -
     ensures { (result, (driver.new, (door.new, bytes.new))) ≡ after_reply driver.old door.old bytes.old }
 {
     if bytes.len() < LONGEST_BUFFER {
-        return BAD_LENGTH;
+        return CLIENT_LENGTH;
     }
     let given = driver.take_reply(door.client as usize);
     match &given {
@@ -217,10 +220,10 @@ fn show_item(driver: &Driver, door: &UasDriverDoor, bytes: &mut [u8]) -> u8
     ensures { (result, (driver.now, (door.now, bytes.new))) ≡ after_item driver.now door.now bytes.old }
 {
     if bytes.len() != ITEM_BYTES {
-        return BAD_LENGTH;
+        return CLIENT_LENGTH;
     }
     let Some(item) = driver.item(door.address) else {
-        return NO_ADDRESS;
+        return DRIVER_ADDRESS;
     };
     bytes.copy_from_slice(&item);
     0
@@ -230,10 +233,10 @@ fn show_context(driver: &Driver, door: &UasDriverDoor, bytes: &mut [u8]) -> u8
     ensures { (result, (driver.now, (door.now, bytes.new))) ≡ after_context driver.now door.now bytes.old }
 {
     if bytes.len() != ITEM_BYTES {
-        return BAD_LENGTH;
+        return CLIENT_LENGTH;
     }
     let Some(pipe) = pipe_numbered(door.pipe) else {
-        return NO_RING;
+        return DRIVER_RING;
     };
     match driver.context(pipe, door.stream) {
         Ok(context) => {

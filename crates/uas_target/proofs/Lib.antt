@@ -3,5 +3,5 @@ pub mod Sound
 pub mod Luns
 pub mod Received
 pub mod Managed
-pub mod Places
-mod Kept
+pub mod Kept
+mod Places

@@ -1,18 +1,18 @@
 //! The bus's handle in C: made, called and freed.
-ghost use Rattle.std.specs.Prelude.{◌≡◌, ℕ, List, ◌<◌, ◌^◌, true, IfOk};
+ghost use Rattle.std.specs.Prelude.{◌≡◌, ℕ, List, [], ◌<◌, ◌^◌, true};
 ghost use types.Logic.{sem};
 ghost use base.Fraction.{full_share};
 ghost use denote.RawPtr.{lies_at, room_at};
 ghost use Rattle.shared_machine.specs.Shared.{Shared};
 ghost use Rattle.uas_c.specs.BusCall.{bus_answer};
-ghost use Rattle.uas_c.specs.Handed.{handed};
-ghost use Rattle.uas_c.specs.Units.{units_told};
+ghost use Rattle.c_common.specs.Handed.{handed};
+ghost use Rattle.c_common.specs.Units.{units_told};
 ghost use Rattle.uas_c.specs.contracts.bus.KeptBus.{the_row as bus_row};
 ghost use Rattle.uas_c.specs.contracts.bus.UasBusDoor.{the_row as door_row};
 ghost use Rattle.uas_c.specs.declared.bus.UasBusDoor.{UasBusDoor};
 
 use crate::bus::{KeptBus, UasBusDoor, serve};
-use crate::units::new_handle;
+use c_common::{UasBadBlock, new_handle, open_handle};
 use std::alloc::Global;
 
 /// The bus's name in C, which knows no more of it.
@@ -21,14 +21,30 @@ pub struct UasBus {
     hidden: u8,
 }
 
-/// Makes a bus of zeroed units of so many blocks each, one for each client. 1 want of memory, 2 no client or more than 15, 3 a
-/// unit of no blocks or of more than 65,536: then `bus` is as it was.
+/// Makes a bus of zeroed units of so many blocks each, one for each client. The number of the fault, where `bus` is as it was, or 0:
+/// `UNITS` no client or more than 15, `BLOCKS` a unit of no blocks or of more than 65,536, `NO_MEMORY`.
 #[unsafe(no_mangle)]
 pub extern "C" fn uas_bus_new(alloc: Global, blocks: &[u32], bus: &mut *mut UasBus) -> u8
-    ensures fault { units_told result blocks.now ≡ true }
+    ensures fault { units_told result blocks.now [] [] ≡ true }
     ensures refused { 0 < result → bus.new ≡ bus.old }
 {
     new_handle::<KeptBus, UasBus>(alloc, blocks, bus)
+}
+
+/// The same of units whose blocks and media are their parts of `image`, one behind the other, or zeros where that is empty, and with these
+/// bad blocks. Behind `BLOCKS`, `IMAGE` where the image has another length than all blocks, `BAD_BLOCK` where a bad block is none of theirs.
+#[unsafe(no_mangle)]
+pub extern "C" fn uas_bus_open(
+    alloc: Global,
+    blocks: &[u32],
+    image: &[u8],
+    bad: &[UasBadBlock],
+    bus: &mut *mut UasBus,
+) -> u8
+    ensures fault { units_told result blocks.now image.now bad.now ≡ true }
+    ensures refused { 0 < result → bus.new ≡ bus.old }
+{
+    open_handle::<KeptBus, UasBus>(alloc, blocks, image, bad, bus)
 }
 
 /// One call of a bus: `bytes` are `length` bytes, and the bus and its door are the caller's alone. What it does and answers is

@@ -1,10 +1,12 @@
 //! The driver's door, what its numbers name, and what is told by it.
 ghost use Rattle.std.specs.Prelude.{◌≡◌, ◌==◌, false};
+ghost use Rattle.c_faults.specs.declared.TheConstants.{NO_MEMORY};
 ghost use Rattle.uas_c.specs.DriverCall.{driver_call, driver_refusal, event_named, with_doorbells, with_handled, with_next, with_reply};
 
-use crate::client::ToldReply;
-use crate::scsi::UasOperation;
+use crate::client::{ToldReply, client_fault};
 use arrayvec::ArrayVec;
+use c_common::UasOperation;
+use c_faults::{CLIENT_TICKET, DRIVER_ADDRESS, DRIVER_RING, DRIVER_ROOM};
 use event_ring::Event;
 use uas_driver::Refusal;
 use uas_host::Handled;
@@ -75,14 +77,6 @@ pub(crate) enum DriverCall {
     Context,
 }
 
-pub(crate) const NO_CLIENTS: u8 = 18;
-
-pub(crate) const NO_ADDRESS: u8 = 24;
-
-pub(crate) const NO_RING: u8 = 25;
-
-pub(crate) const NO_EVENT: u8 = 26;
-
 pub(crate) fn call_numbered(number: u8) -> Option<DriverCall>
     ensures { result ≡ driver_call number }
 {
@@ -124,14 +118,14 @@ pub(crate) fn event_named(door: &UasDriverDoor) -> Option<Event>
 
 pub(crate) fn refusal_number(refusal: Refusal) -> u8
     ensures number { result ≡ driver_refusal refusal }
-    ensures no_want_of_memory { (result == 16) ≡ false }
+    ensures no_want_of_memory { (result == NO_MEMORY) ≡ false }
 {
     match refusal {
-        Refusal::BadTicket => 20,
-        Refusal::NoRoom => 23,
-        Refusal::BadAddress => NO_ADDRESS,
-        Refusal::NoRing => NO_RING,
-        Refusal::Fault(fault) => fault.number(),
+        Refusal::BadTicket => CLIENT_TICKET,
+        Refusal::NoRoom => DRIVER_ROOM,
+        Refusal::BadAddress => DRIVER_ADDRESS,
+        Refusal::NoRing => DRIVER_RING,
+        Refusal::Fault(fault) => client_fault(fault),
     }
 }
 

@@ -5,14 +5,14 @@ ghost use base.Fraction.{full_share};
 ghost use denote.RawPtr.{lies_at, room_at};
 ghost use Rattle.uas_driver.specs.Driver.{DriverState};
 ghost use Rattle.uas_c.specs.DriverCall.{clients_told, driver_answer};
-ghost use Rattle.uas_c.specs.Handed.{handed};
+ghost use Rattle.c_common.specs.Handed.{handed};
 ghost use Rattle.uas_c.specs.contracts.driver.KeptDriver.{the_row as driver_row};
 ghost use Rattle.uas_c.specs.contracts.driver.door.UasDriverDoor.{the_row as door_row};
 ghost use Rattle.uas_c.specs.declared.driver.door.UasDriverDoor.{UasDriverDoor};
 
 use crate::driver::door::UasDriverDoor;
 use crate::driver::{KeptDriver, made, serve};
-use crate::units::hand_out;
+use c_common::hand_out;
 use std::alloc::Global;
 
 /// The driver's name in C, which knows no more of it.
@@ -21,8 +21,8 @@ pub struct UasDriver {
     hidden: u8,
 }
 
-/// Makes a driver of so many clients that have submitted nothing. 16 want of memory, 18 no client or more than 15: then `driver` is as
-/// it was.
+/// Makes a driver of so many clients that have submitted nothing. The number of the fault, where `driver` is as it was, or 0:
+/// `DRIVER_CLIENTS` no client or more than 15, `NO_MEMORY`.
 #[unsafe(no_mangle)]
 pub extern "C" fn uas_driver_new(alloc: Global, clients: usize, driver: &mut *mut UasDriver) -> u8
     ensures fault { clients_told result clients ≡ true }

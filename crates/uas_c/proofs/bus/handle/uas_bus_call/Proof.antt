@@ -1,5 +1,5 @@
 -- A call of the bus is a call of a handle: what lies at the three pointers is lent to `serve`.
-use Rattle.uas_c.proofs.Called.{meets}
+use Rattle.c_common.proofs.Called.{meets}
 use Rattle.uas_c.specs.BusCall.{bus_answer}
 use Rattle.uas_c.specs.contracts.bus.KeptBus.{the_row as bus_row}
 use Rattle.uas_c.specs.contracts.bus.UasBusDoor.{the_row as door_row}

@@ -1,6 +1,6 @@
 -- The end of the bus is the end of a handle: what lies at the pointer is moved out, and given to `release`.
 use Rattle.std.proofs.Common.{refl}
-use Rattle.uas_c.proofs.Closed.{meets}
+use Rattle.c_common.proofs.Closed.{meets}
 use Rattle.uas_c.specs.contracts.bus.KeptBus.{the_row as bus_row}
 use Rattle.uas_c.proofs.bus.KeptBus.TheLaws.{the_field_loose}
 use Rattle.uas_c.proofs.bus.handle.release.Symbol.{name as #release}

@@ -1,5 +1,5 @@
 -- A call of the driver is a call of a handle: what lies at the three pointers is lent to `serve`.
-use Rattle.uas_c.proofs.Called.{meets}
+use Rattle.c_common.proofs.Called.{meets}
 use Rattle.uas_c.specs.DriverCall.{driver_answer}
 use Rattle.uas_c.specs.contracts.driver.KeptDriver.{the_row as driver_row}
 use Rattle.uas_c.specs.contracts.driver.door.UasDriverDoor.{the_row as door_row}

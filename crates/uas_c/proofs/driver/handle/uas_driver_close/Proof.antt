@@ -1,6 +1,6 @@
 -- The end of the driver is the end of a handle: what lies at the pointer is moved out, and given to `release`.
 use Rattle.std.proofs.Common.{refl}
-use Rattle.uas_c.proofs.Closed.{meets}
+use Rattle.c_common.proofs.Closed.{meets}
 use Rattle.uas_c.specs.contracts.driver.KeptDriver.{the_row as driver_row}
 use Rattle.uas_c.proofs.driver.KeptDriver.TheLaws.{the_field_loose}
 use Rattle.uas_c.proofs.driver.handle.release.Symbol.{name as #release}

@@ -1,0 +1,29 @@
+//! What the two libraries for C have in common: records in place of values, units in a handle, and the proof of a handle's exports.
+//!
+//! | File | What |
+//! |---|---|
+//! | operation.rt | [`UasOperation`], an operation of SCSI, and its conversions both ways |
+//! | sense.rt | sense data in a room of fixed size |
+//! | shown.rt | [`show`], a look at a unit's blocks |
+//! | units.rt | [`UasBadBlock`], units of zeros or from an image, and handles of what is made of them |
+//!
+//! What is promised: [`open_handle`] makes units exactly as `opened_units` of `specs/Units.antt` says, each of its own part of the image and
+//! its own bad blocks, and answers the first fault of the page's order; [`show`] copies exactly the blocks that are asked for, or none
+//! (`specs/Shown.antt`); a record names one operation or has a fault (`specs/OperationRecord.antt`).
+//!
+//! A handle in C is a pointer. `specs/Handed.antt` says what memory a call of one is handed, and `proofs/Called.antt` and
+//! `proofs/Closed.antt` prove, once for every handle, that an export which lends that memory to a function meets its contract, and one
+//! that ends a handle. `specs/Door.antt` has the words for what a call through a door makes.
+//!
+//! It stands on `c_faults` for the numbers, and on `block_unit`, `scsi_cmd` and `trb_record` by their contracts alone.
+#![tactic(auto)]
+
+mod operation;
+mod sense;
+mod shown;
+mod units;
+
+pub use operation::{UasOperation, read_operation, record_of};
+pub use sense::padded;
+pub use shown::{ShownFaults, show};
+pub use units::{OfUnits, UasBadBlock, UnitsFault, hand_out, new_handle, open_handle};

@@ -1,6 +1,6 @@
 /* Random inputs, each compared with a second implementation or with the bus itself in another setting.
  *
- *   fuzz KIND COUNT SEED    KIND is trb, unit, cdb, device, bus, controller or driver
+ *   fuzz KIND COUNT SEED    KIND is trb, unit, cdb, place, open, device, bus, controller or driver
  *
  * It takes all memory at the start. The last line tells how often each fault was answered; a fault that is never answered in
  * 100,000 inputs or more is a failure too. */
@@ -44,14 +44,14 @@ static void spoil(uint8_t *bytes, size_t length)
     }
 }
 
-/* How often each fault came. */
-enum { NUMBERS = 40 };
+/* How often each fault came, and, by numbers that are no fault's, what else is counted. */
+enum { NUMBERS = 256, END = NUMBERS };
 
 static unsigned long seen[NUMBERS];
 
 static uint8_t saw(uint8_t fault)
 {
-    seen[fault < NUMBERS ? fault : NUMBERS - 1]++;
+    seen[fault]++;
     return fault;
 }
 
@@ -67,6 +67,9 @@ static bool agree(bool good, const char *what, int line)
 }
 
 #define AGREE(good) agree((good), #good, __LINE__)
+
+/* The data of a door's call that has none. */
+static uint8_t no_data[1];
 
 static uint8_t small_or_any(uint32_t most)
 {
@@ -272,7 +275,177 @@ static void fuzz_cdb(struct guarded memory, struct guarded out)
     AGREE(memcmp(at_end(memory, 32), given, 32) == 0);
 }
 
+/* ---- Where things lie ---- */
+
+enum { SEEN_PLACE = 200, SEEN_NO_PLACE = 201 };
+
+/* What is at an address, told from the header's list: the ring, its stream and the place, or nothing. */
+static bool second_place(uint64_t address, uint8_t *ring, uint16_t *stream, size_t *place)
+{
+    for (uint32_t number = 1; number <= 5; number++)
+        for (uint32_t s = 0; s <= SECOND_STREAMS; s++) {
+            bool streams = number <= 3;
+            uint64_t n = number == 4 ? 1 : number + 1, base = number == 5 ? 0x50000000 : 0x40000000 + 0x1000000 * n + 0x1000 * s;
+            size_t places = number == 5 ? 15 + 1 : number == 4 ? 255 + 1 : 19 + 1;
+            if (streams == (s == 0) || address < base || address >= base + 16 * places || (address - base) % 16 != 0)
+                continue;
+            *ring = (uint8_t)number;
+            *stream = (uint16_t)s;
+            *place = (size_t)(address - base) / 16;
+            return true;
+        }
+    return false;
+}
+
+static void fuzz_place(struct guarded memory, struct guarded out)
+{
+    uint8_t ring[2] = { 0xee, 0xee }, endpoint = 0, cycle = 7, type = 7, *bytes = at_end(memory, 16), kept[16];
+    uint16_t stream[2] = { 0xeeee, 0xeeee }, of_bell = 0;
+    size_t place[2] = { 7777, 7777 };
+    uint64_t address = one_in(8) ? drawn() : 0x40000000 + 0x1000000 * (uint64_t)below(6) + 0x1000 * (uint64_t)below(260), pointer = 7;
+    (void)out;
+    address += one_in(4) ? 16 * (uint64_t)below(300) : one_in(2) ? 0x10000000 : 16 * (uint64_t)below(24);
+    address += one_in(8) ? below(16) : 0;
+    bool there = uas_ring_place(address, &ring[0], &stream[0], &place[0]);
+    AGREE(there == second_place(address, &ring[1], &stream[1], &place[1]));
+    AGREE(ring[0] == ring[1] && stream[0] == stream[1] && place[0] == place[1]);
+    AGREE(!there || uas_ring_address(ring[0], stream[0], place[0]) == address);
+    ring[0] = one_in(8) ? (uint8_t)drawn() : (uint8_t)below(7);
+    stream[0] = one_in(4) ? (uint16_t)drawn() : one_in(3) ? 0 : (uint16_t)below(260);
+    place[0] = one_in(16) ? (size_t)drawn() : below(one_in(2) ? 22 : 260);
+    address = uas_ring_address(ring[0], stream[0], place[0]);
+    if (address != 0)
+        AGREE(second_place(address, &ring[1], &stream[1], &place[1]) && ring[0] == ring[1] && stream[0] == stream[1] && place[0] == place[1]);
+    else
+        AGREE(ring[0] < 1 || ring[0] > 5 || (stream[0] == 0) != (ring[0] > 3) || stream[0] > 248 ||
+              place[0] >= (ring[0] == 5 ? 16u : ring[0] == 4 ? 256u : 20u));
+    uint32_t bell = (uint32_t)drawn();
+    uas_doorbell_parts(bell, &endpoint, &of_bell);
+    AGREE(endpoint == bell % 256 && of_bell == bell / 65536 && uas_doorbell(endpoint, of_bell) == (bell & 0xffff00ff));
+    draw_bytes(bytes, 16);
+    memcpy(kept, bytes, 16);
+    uas_context_read(bytes, &pointer, &cycle, &type);
+    AGREE(memcmp(bytes, kept, 16) == 0 && pointer % 16 == 0 && cycle == kept[0] % 2 && type == kept[0] / 2 % 8);
+    AGREE((uint32_t)pointer == (little32(kept) & ~15u) && pointer >> 32 == little32(kept + 4));
+    memset(kept + 8, 0, 8);
+    uas_context_write(pointer | below(16), (uint8_t)(cycle | (drawn() & 0xfe)), (uint8_t)(type | (drawn() & 0xf8)), bytes);
+    AGREE(memcmp(bytes, kept, 16) == 0);
+    seen[there ? SEEN_PLACE : SEEN_NO_PLACE]++;
+}
+
+/* ---- What handles are opened with ---- */
+
+static uint8_t image[512 * SECOND_UNITS * SECOND_BLOCKS + 1];
+
+/* Blocks, an image or none, and bad blocks that a device of the second implementation has room for. */
+static struct second_units draw_units(const uint32_t *sizes, uint32_t count)
+{
+    struct second_units given = { .units = SECOND_UNITS, .image = image };
+    size_t all = 0;
+    for (size_t i = 0; i < given.units; i++) {
+        given.blocks[i] = sizes[below(count)];
+        all += 512 * (size_t)given.blocks[i];
+    }
+    given.length = one_in(3) ? 0 : all;
+    for (size_t at = 0; at < given.length; at += 512) {
+        memset(image + at, (int)below(256), 512);
+        draw_bytes(image + at, 8);
+    }
+    given.bads = one_in(4) ? 0 : 1 + below(8);
+    for (size_t i = 0; i < given.bads; i++) {
+        given.bad[i].unit = below(SECOND_UNITS);
+        given.bad[i].lba = below(given.blocks[given.bad[i].unit]);
+        if (i > 0 && one_in(8))
+            given.bad[i] = given.bad[i - 1];
+    }
+    return given;
+}
+
+/* What logical unit `number` has of it, as the only one. */
+static struct second_units alone_of(const struct second_units *given, uint32_t number)
+{
+    struct second_units made = { .units = 1, .image = given->image };
+    made.blocks[0] = given->blocks[number];
+    made.length = given->length > 0 ? 512 * (size_t)made.blocks[0] : 0;
+    for (uint32_t i = 0; i < number && given->length > 0; i++)
+        made.image += 512 * (size_t)given->blocks[i];
+    for (size_t i = 0; i < given->bads; i++)
+        if (given->bad[i].unit == number)
+            made.bad[made.bads++].lba = given->bad[i].lba;
+    return made;
+}
+
+static uint8_t open_device(const struct second_units *given, uas_device **device)
+{
+    return uas_device_open(given->blocks, given->units, given->image, given->length, given->bad, given->bads, device);
+}
+
+static uint8_t open_controller(const struct second_units *given, uas_controller **controller)
+{
+    return uas_controller_open(given->blocks, given->units, given->image, given->length, given->bad, given->bads, controller);
+}
+
+static uint8_t open_bus(const struct second_units *given, uas_bus **bus)
+{
+    return uas_bus_open(given->blocks, given->units, given->image, given->length, given->bad, given->bads, bus);
+}
+
+/* What may be wrong with what a handle is opened with. */
+static void spoil_units(struct second_units *given)
+{
+    if (one_in(6))
+        given->units = one_in(2) ? 0 : one_in(2) ? 16 : 16 + (size_t)drawn();
+    if (one_in(6))
+        given->blocks[below(SECOND_UNITS)] = one_in(2) ? 0 : 65537 + below(one_in(2) ? 2 : 1u << 31);
+    if (one_in(4))
+        given->length = one_in(3) ? 512 : one_in(2) ? given->length + 1 : given->length > 0 ? given->length - 1 : 1;
+    if (given->bads > 0 && one_in(3)) {
+        struct uas_bad_block *bad = &given->bad[below((uint32_t)given->bads)];
+        if (one_in(2))
+            bad->unit = one_in(2) ? SECOND_UNITS : SECOND_UNITS + (uint32_t)(drawn() % 1000000);
+        else
+            bad->lba = one_in(2) ? given->blocks[bad->unit] : (uint32_t)drawn();
+    }
+}
+
+static void fuzz_open(struct guarded memory, struct guarded out)
+{
+    static const uint32_t sizes[] = { 1, 2, 9 };
+    static struct second_device second;
+    struct second_units given = draw_units(sizes, 3);
+    if (one_in(2))
+        spoil_units(&given);
+    uint32_t *blocks = (uint32_t *)(void *)at_end(out, sizeof given.blocks[0] * (given.units <= 16 ? given.units : 16));
+    uint8_t wanted = second_units_fault(&given), *bytes = at_end(memory, given.length);
+    memcpy(blocks, given.blocks, sizeof given.blocks[0] * (given.units <= 16 ? given.units : 16));
+    memcpy(bytes, image, given.length);
+    uas_device *made = NULL;
+    AGREE(saw(uas_device_open(blocks, given.units, bytes, given.length, given.bad, given.bads, &made)) == wanted);
+    AGREE((made != NULL) == (wanted == 0));
+    if (one_in(64)) {
+        uas_controller *also = NULL;
+        uas_bus *and_also = NULL;
+        given.image = bytes;
+        AGREE(open_controller(&given, &also) == wanted && (also != NULL) == (wanted == 0));
+        AGREE(open_bus(&given, &and_also) == wanted && (and_also != NULL) == (wanted == 0));
+        uas_controller_free(also);
+        uas_bus_free(and_also);
+    }
+    if (made == NULL)
+        return;
+    memset(&second, 0, sizeof second);
+    given.image = image;
+    second_device_open(&second, &given);
+    uint16_t unit = (uint16_t)below(SECOND_UNITS);
+    size_t length = 512 * (size_t)given.blocks[unit];
+    AGREE(uas_device_blocks(made, unit, 0, bytes = at_end(memory, length), length) == 0 && memcmp(bytes, second.now[unit], length) == 0);
+    AGREE(uas_device_medium(made, unit, 0, bytes, length) == 0 && memcmp(bytes, second.medium[unit], length) == 0);
+    uas_device_free(made);
+}
+
 /* ---- The device ---- */
+
+enum { SEEN_ENDED = 202, SEEN_DEVICE_BAD = 203 };
 
 static struct second_device model;
 static uas_device *device;
@@ -283,10 +456,10 @@ static void renew_device(void)
     if (device != NULL)
         uas_device_free(device);
     memset(&model, 0, sizeof model);
-    model.units = SECOND_UNITS;
-    for (int i = 0; i < SECOND_UNITS; i++)
-        model.blocks[i] = sizes[below(5)];
-    if (uas_device_new(model.blocks, SECOND_UNITS, &device) != 0) {
+    struct second_units given = draw_units(sizes, 5);
+    second_device_open(&model, &given);
+    bool plain = given.length == 0 && given.bads == 0;
+    if ((plain ? uas_device_new(given.blocks, SECOND_UNITS, &device) : open_device(&given, &device)) != 0) {
         fprintf(stderr, "no device\n");
         exit(2);
     }
@@ -362,8 +535,8 @@ static uint8_t wanted_chunk(struct uas_device_door *door, uint8_t *data, size_t 
         return UAS_DEVICE_PHASE;
     if (length != chunk)
         return UAS_DEVICE_LENGTH;
-    second_move(&model, door->tag, data, length);
-    door->good = 1;
+    door->good = second_move(&model, door->tag, data, length);
+    seen[SEEN_DEVICE_BAD] += !door->good;
     return 0;
 }
 
@@ -379,18 +552,48 @@ static uint8_t wanted_status(struct uas_device_door *door, uint8_t *data, size_t
     return 0;
 }
 
+static uint8_t wanted_receive(struct uas_device_door *door, const uint8_t *data, size_t length)
+{
+    bool before[UAS_GREATEST_TAG + 1];
+    uint16_t began;
+    for (uint16_t tag = 1; tag <= UAS_GREATEST_TAG; tag++)
+        before[tag] = model.tasks[tag].phase != UAS_ABSENT;
+    if (second_receive(&model, data, length, &began) != 0)
+        return UAS_DEVICE_OVERLAP;
+    door->good = began != 0;
+    if (began != 0)
+        door->tag = began;
+    memset(door->ended, 0, sizeof door->ended);
+    for (uint16_t tag = 1; tag <= UAS_GREATEST_TAG; tag++)
+        if (before[tag] && model.tasks[tag].phase == UAS_ABSENT) {
+            door->ended[tag / 8] |= (uint8_t)(1 << tag % 8);
+            seen[SEEN_ENDED]++;
+        }
+    return 0;
+}
+
+static uint8_t wanted_next(struct uas_device_door *door)
+{
+    uint32_t tag = door->tag + 1u;
+    while (tag <= UAS_GREATEST_TAG && model.tasks[tag].phase == UAS_ABSENT)
+        tag++;
+    door->good = tag <= UAS_GREATEST_TAG;
+    if (door->good)
+        door->tag = (uint16_t)tag;
+    return 0;
+}
+
 /* What a call of the device is to do to its door and its data. */
 static uint8_t wanted_call(struct uas_device_door *door, uint8_t *data, size_t length)
 {
-    uint16_t began;
     uint32_t chunk;
     switch (door->call) {
     case UAS_DEVICE_CALL_RECEIVE:
-        if (second_receive(&model, data, length, &began) != 0)
-            return UAS_DEVICE_OVERLAP;
-        door->good = began != 0;
-        if (began != 0)
-            door->tag = began;
+        return wanted_receive(door, data, length);
+    case UAS_DEVICE_CALL_NEXT:
+        return wanted_next(door);
+    case UAS_DEVICE_CALL_RESET:
+        second_device_reset(&model);
         return 0;
     case UAS_DEVICE_CALL_WANTS:
         door->phase = second_wants(&model, door->tag, &chunk);
@@ -424,7 +627,7 @@ static uint8_t draw_call(uint16_t tag)
     uint32_t chunk;
     uint8_t phase = second_wants(&model, tag, &chunk);
     if (one_in(3))
-        return one_in(32) ? (uint8_t)drawn() : (uint8_t)(1 + below(9));
+        return one_in(32) ? (uint8_t)drawn() : (uint8_t)(1 + below(one_in(16) ? 11 : 10));
     if (phase == UAS_GIVES)
         return UAS_DEVICE_CALL_GIVE;
     if (phase == UAS_TAKES)
@@ -439,7 +642,7 @@ static void fuzz_device(struct guarded memory, struct guarded out)
     static uint8_t wanted[512 * (SECOND_BLOCKS + 2)];
     struct uas_device_door *door = (struct uas_device_door *)(void *)at_end(out, sizeof *door), second;
     size_t length;
-    if (device == NULL || input % 50000 == 0)
+    if (device == NULL || input % 5000 == 0)
         renew_device();
     draw_bytes((uint8_t *)door, sizeof *door);
     door->tag = draw_tag();
@@ -467,7 +670,13 @@ static void fuzz_device(struct guarded memory, struct guarded out)
  * One bus takes single steps, a second one the same with drains in place of their steps, and for each client a bus of its own
  * takes that client's steps. All tell the client the same, and what the second implementation does. */
 
-enum { CLIENTS = SECOND_UNITS, MOST_DATA = 129 * 512 };
+enum {
+    CLIENTS = SECOND_UNITS,
+    MOST_DATA = 129 * 512,
+    /* What is counted beside the faults. */
+    SEEN_BUS_REPLY = 176, /* and the kind of reply: 177 to 179 */
+    SEEN_BUS_BAD = 180    /* a step at a bad block */
+};
 
 static struct second_bus model_bus;
 static uas_bus *stepped, *drained, *alone[CLIENTS];
@@ -493,13 +702,15 @@ static void renew_buses(void)
     static const uint32_t sizes[] = { 1, 8, 24, 200 };
     uint8_t fault = 0;
     free_buses();
-    for (int i = 0; i < CLIENTS; i++)
-        bus_blocks[i] = sizes[below(4)];
-    second_bus_open(&model_bus, bus_blocks, CLIENTS);
-    fault |= uas_bus_new(bus_blocks, CLIENTS, &stepped);
-    fault |= uas_bus_new(bus_blocks, CLIENTS, &drained);
-    for (int i = 0; i < CLIENTS; i++)
-        fault |= uas_bus_new(&bus_blocks[i], 1, &alone[i]);
+    struct second_units given = draw_units(sizes, 4);
+    memcpy(bus_blocks, given.blocks, sizeof bus_blocks);
+    second_bus_open(&model_bus, &given);
+    fault |= open_bus(&given, &stepped);
+    fault |= open_bus(&given, &drained);
+    for (uint32_t i = 0; i < CLIENTS; i++) {
+        struct second_units own = alone_of(&given, i);
+        fault |= open_bus(&own, &alone[i]);
+    }
     if (fault != 0) {
         fprintf(stderr, "no bus\n");
         exit(2);
@@ -520,7 +731,10 @@ static bool bus_step(uint8_t step, uint8_t pipe, uint16_t tag, bool twice)
     AGREE(uas_bus_due(stepped, step, pipe, tag, &due) == 0);
     AGREE(saw(uas_bus_step(stepped, step, pipe, tag, &acted, &owner)) == 0);
     AGREE(acted == due && acted == (owner >= 0));
+    uint32_t moved = tag <= UAS_CLIENT_TAGS * CLIENTS ? model_bus.entries[tag].moved : 0;
     AGREE(owner == second_step(&model_bus, step, pipe, tag));
+    if (step == UAS_STEP_DATA && owner >= 0)
+        seen[SEEN_BUS_BAD] += model_bus.entries[tag].moved == moved;
     if (twice) {
         AGREE(uas_bus_step(drained, step, pipe, tag, &other, &other_owner) == 0);
         AGREE(other == acted && other_owner == owner);
@@ -568,13 +782,13 @@ static uint8_t wanted_submission(uint32_t client, uint16_t tag, uint64_t ticket,
     size_t moved = 0;
     bool many = second_is_read(operation->opcode) || second_is_write(operation->opcode);
     if (ticket >> 60 != 0)
-        return UAS_BUS_TICKET;
+        return UAS_CLIENT_TICKET;
     if (second_cdb_write(operation, cdb) != 0)
-        return UAS_BUS_OPERATION;
+        return UAS_CLIENT_OPERATION;
     if (client >= CLIENTS || tag <= UAS_CLIENT_TAGS * client || tag >= UAS_CLIENT_TAGS * (client + 1))
-        return UAS_BUS_NOT_YOURS;
+        return UAS_CLIENT_NOT_YOURS;
     if (in_use(client, tag - UAS_CLIENT_TAGS * client))
-        return UAS_BUS_IN_USE;
+        return UAS_CLIENT_IN_USE;
     if (operation->opcode == UAS_INQUIRY)
         moved = operation->count < 36 ? operation->count : 36;
     else if (operation->opcode == UAS_READ_CAPACITY_10)
@@ -584,10 +798,10 @@ static uint8_t wanted_submission(uint32_t client, uint16_t tag, uint64_t ticket,
     else if (many)
         moved = 512 * (size_t)operation->count;
     if (length != moved)
-        return UAS_BUS_BAD_LENGTH;
+        return UAS_CLIENT_BAD_LENGTH;
     if (many && operation->count > 128)
-        return UAS_BUS_TOO_LONG;
-    return ticket < model_bus.least[client] ? UAS_BUS_OUT_OF_TURN : 0;
+        return UAS_CLIENT_TOO_LONG;
+    return ticket < model_bus.least[client] ? UAS_CLIENT_OUT_OF_TURN : 0;
 }
 
 static uint64_t draw_ticket(uint32_t client)
@@ -694,19 +908,19 @@ static uint8_t management_fault(const struct management *made)
 {
     uint32_t first = UAS_CLIENT_TAGS * made->client, last = first + UAS_CLIENT_TAGS;
     if (made->ticket >> 60 != 0)
-        return UAS_BUS_TICKET;
+        return UAS_CLIENT_TICKET;
     if (made->function != UAS_ABORT_TASK && made->function != UAS_LOGICAL_UNIT_RESET && made->function != UAS_QUERY_TASK)
-        return UAS_BUS_FUNCTION;
+        return UAS_CLIENT_FUNCTION;
     if (made->client >= CLIENTS)
-        return UAS_BUS_NOT_YOURS;
+        return UAS_CLIENT_NOT_YOURS;
     if (in_use(made->client, UAS_CLIENT_TAGS))
-        return UAS_BUS_IN_USE;
+        return UAS_CLIENT_IN_USE;
     if (made->ticket < model_bus.least[made->client])
-        return UAS_BUS_OUT_OF_TURN;
+        return UAS_CLIENT_OUT_OF_TURN;
     if (made->function == UAS_LOGICAL_UNIT_RESET)
         return 0;
     bool named = made->tag > first && made->tag < last && in_use(made->client, made->tag - first);
-    return named ? 0 : UAS_BUS_NO_SUCH_TASK;
+    return named ? 0 : UAS_CLIENT_NO_SUCH_TASK;
 }
 
 static void bus_task(void)
@@ -744,7 +958,7 @@ static void bus_reply(struct guarded memory)
     memset(&other, 0, sizeof other);
     memcpy(data, kept, room);
     if (one_in(16))
-        AGREE(saw(uas_bus_reply(stepped, client, data, below(UAS_MOST_DATA_BYTES), &reply)) == UAS_BUS_LENGTH);
+        AGREE(saw(uas_bus_reply(stepped, client, data, below(UAS_MOST_DATA_BYTES), &reply)) == UAS_CLIENT_LENGTH);
     AGREE(uas_bus_reply(stepped, client, data, room, &reply) == 0);
     size_t length = reply.acted ? reply.length : 0;
     if (!AGREE(length <= UAS_MOST_DATA_BYTES))
@@ -760,7 +974,7 @@ static void bus_reply(struct guarded memory)
     AGREE(uas_bus_reply(alone[client], 0, others, sizeof others, &other) == 0);
     if (reply.acted) {
         other.tag = (uint16_t)(other.tag + UAS_CLIENT_TAGS * client);
-        seen[24 + (reply.reply & 7)]++;
+        seen[SEEN_BUS_REPLY + (reply.reply & 3)]++;
     }
     other.client = reply.client;
     AGREE(memcmp(&other, &reply, sizeof other) == 0 && memcmp(others, data, length) == 0);
@@ -782,7 +996,7 @@ static void bus_blocks_agree(struct guarded memory)
     AGREE(uas_bus_medium(alone[client], 0, lba, others, length) == 0);
     AGREE(memcmp(data, others, length) == 0);
     AGREE(saw(uas_bus_blocks(stepped, client, bus_blocks[client] - count, others, 512 * (size_t)(count + 1))) == UAS_BUS_RANGE);
-    AGREE(saw(uas_bus_medium(stepped, client, 0, others, 1 + below(511))) == UAS_BUS_LENGTH);
+    AGREE(saw(uas_bus_medium(stepped, client, 0, others, 1 + below(511))) == UAS_CLIENT_LENGTH);
     AGREE(saw(uas_bus_blocks(stepped, CLIENTS + below(5), 0, others, 512)) == UAS_BUS_CLIENT);
 }
 
@@ -805,7 +1019,7 @@ static void bus_junk(struct guarded out)
         }
     }
     before = *door;
-    AGREE(saw(uas_bus_call(stepped, door, none, 0)) == (no_call ? UAS_BUS_CALL : UAS_BUS_STEP));
+    AGREE(saw(uas_bus_call(stepped, door, none, 0)) == (no_call ? UAS_CLIENT_CALL : UAS_BUS_STEP));
     AGREE(memcmp(door, &before, sizeof before) == 0);
 }
 
@@ -822,7 +1036,7 @@ static uint16_t busy_tag(void)
 
 static void fuzz_bus(struct guarded memory, struct guarded out)
 {
-    if (stepped == NULL || input % 50000 == 0)
+    if (stepped == NULL || input % 10000 == 0)
         renew_buses();
     uint32_t which = below(100);
     if (which < 12)
@@ -854,18 +1068,19 @@ static void fuzz_bus(struct guarded memory, struct guarded out)
 enum {
     CONTROLLER_INPUTS = 20000, /* of one handle */
     /* What is counted beside the faults. */
-    SEEN_SUCCESS = 16, /* events with these completion codes */
-    SEEN_SHORT_PACKET = 17,
-    SEEN_TRB_ERROR = 18,
-    SEEN_CONTEXT_STATE = 19,
-    SEEN_INVALID_STREAM = 20,
-    SEEN_GOOD = 21,        /* a status that was sent */
-    SEEN_GIVEN = 22,       /* a chunk */
-    SEEN_TAKEN = 23,
-    SEEN_MOVED = 24,       /* Set TR Dequeue Pointer went past items */
-    SEEN_FULL_EVENTS = 25, /* a step that isn't due where the event ring is full */
-    SEEN_BEGUN = 26,       /* a task */
-    SEEN_NEXT_TURN = 27    /* a context with Cycle bit 0 */
+    SEEN_SUCCESS = 144, /* events with these completion codes */
+    SEEN_SHORT_PACKET = 145,
+    SEEN_TRB_ERROR = 146,
+    SEEN_CONTEXT_STATE = 147,
+    SEEN_INVALID_STREAM = 148,
+    SEEN_GOOD = 149,        /* a status that was sent */
+    SEEN_GIVEN = 150,       /* a chunk */
+    SEEN_TAKEN = 151,
+    SEEN_MOVED = 152,       /* Set TR Dequeue Pointer went past items */
+    SEEN_FULL_EVENTS = 153, /* a step that isn't due where the event ring is full */
+    SEEN_BEGUN = 154,       /* a task */
+    SEEN_NEXT_TURN = 155,  /* a context with Cycle bit 0 */
+    SEEN_BAD = 156         /* a chunk that met a bad block */
 };
 
 static struct second_controller model_controller;
@@ -1292,6 +1507,8 @@ static uint8_t wanted_step(void)
         seen[SEEN_BEGUN] += asked.door.tag != 0;
     else if (step == UAS_STEP_DATA && task->done != done)
         seen[phase == UAS_GIVES ? SEEN_GIVEN : SEEN_TAKEN]++;
+    else if (step == UAS_STEP_DATA && phase != UAS_ENDS && task->phase == UAS_ENDS)
+        seen[SEEN_BAD]++;
     else if (step == UAS_STEP_STATUS && phase == UAS_ENDS && task->phase == UAS_ABSENT)
         seen[SEEN_GOOD] += task->answer.id == UAS_UNIT_SENSE && task->answer.status == UAS_GOOD;
     else if (step == UAS_STEP_ENGINE)
@@ -1366,13 +1583,12 @@ static void ask_all(struct guarded memory, struct guarded out)
 static void renew_controller(void)
 {
     static const uint32_t sizes[] = { 1, 9, 17, SECOND_BLOCKS, SECOND_BLOCKS };
-    uint32_t blocks[SECOND_UNITS];
     if (controller != NULL)
         uas_controller_free(controller);
-    for (int i = 0; i < SECOND_UNITS; i++)
-        blocks[i] = sizes[below(5)];
-    second_controller_open(&model_controller, blocks, SECOND_UNITS);
-    if (uas_controller_new(blocks, SECOND_UNITS, &controller) != 0) {
+    struct second_units given = draw_units(sizes, 5);
+    second_controller_open(&model_controller, &given);
+    bool plain = given.length == 0 && given.bads == 0;
+    if ((plain ? uas_controller_new(given.blocks, SECOND_UNITS, &controller) : open_controller(&given, &controller)) != 0) {
         fprintf(stderr, "no controller\n");
         exit(2);
     }
@@ -1398,11 +1614,12 @@ enum {
     HALVES_INPUTS = 20000, /* of one pair */
     HALVES_TAGS = UAS_CLIENT_TAGS * CLIENTS,
     /* What is counted beside the faults. */
-    SEEN_REPLY = 26,   /* and the kind of reply: 27 to 29 */
-    SEEN_EVENT = 30,   /* and what an event was: 30 to 32 */
-    SEEN_RETIRED = 33, /* a retirement that ended */
-    SEEN_LINK = 34,    /* a ring that went round */
-    SEEN_CHUNK = 35    /* an event of a chunk that doesn't end its TD, by which the driver's context comes after */
+    SEEN_REPLY = 160,   /* and the kind of reply: 161 to 163 */
+    SEEN_EVENT = 164,   /* and what an event was: 164 to 166 */
+    SEEN_RETIRED = 167, /* a retirement that ended */
+    SEEN_LINK = 168,    /* a ring that went round */
+    SEEN_CHUNK = 169,   /* an event of a chunk that doesn't end its TD, by which the driver's context comes after */
+    SEEN_HALVES_BAD = 170 /* a chunk that met a bad block */
 };
 
 static uas_driver *driver;
@@ -1436,9 +1653,9 @@ static void renew_halves(void)
 {
     static const uint32_t sizes[] = { 1, 8, 24, 200 };
     free_halves();
-    for (int i = 0; i < CLIENTS; i++)
-        bus_blocks[i] = sizes[below(4)];
-    second_bus_open(&model_bus, bus_blocks, CLIENTS);
+    struct second_units given = draw_units(sizes, 4);
+    memcpy(bus_blocks, given.blocks, sizeof bus_blocks);
+    second_bus_open(&model_bus, &given);
     memset(got, 0, sizeof got);
     for (uint8_t ring = UAS_RING_STATUS; ring <= UAS_RING_DATA_OUT; ring++)
         for (uint32_t tag = 1; tag <= HALVES_TAGS; tag++)
@@ -1446,8 +1663,8 @@ static void renew_halves(void)
     got_pipe = (struct second_line){ .base = 0x41000000, .turn = SECOND_PIPE_TURN };
     got_engine = (struct second_line){ .base = 0x50000000, .turn = SECOND_ENGINE_TURN };
     uint8_t fault = uas_driver_new(CLIENTS, &driver);
-    fault |= uas_controller_new(bus_blocks, CLIENTS, &beyond);
-    fault |= uas_bus_new(bus_blocks, CLIENTS, &whole);
+    fault |= open_controller(&given, &beyond);
+    fault |= open_bus(&given, &whole);
     if (fault != 0) {
         fprintf(stderr, "no driver, controller or bus\n");
         exit(2);
@@ -1632,7 +1849,7 @@ static uint8_t driver_submission_fault(const struct submission *made)
     uint8_t wanted = submission_fault(made);
     bool there = made->tag >= 1 && made->tag <= HALVES_TAGS && made->tag % UAS_CLIENT_TAGS != 0;
     bool held = there && model_bus.entries[made->tag].used;
-    return held && wanted != UAS_BUS_TICKET && wanted != UAS_BUS_OPERATION ? UAS_DRIVER_ROOM : wanted;
+    return held && wanted != UAS_CLIENT_TICKET && wanted != UAS_CLIENT_OPERATION ? UAS_DRIVER_ROOM : wanted;
 }
 
 static void halves_submit(struct guarded memory, struct guarded out)
@@ -1667,7 +1884,7 @@ static void halves_task(struct guarded out)
     told.ticket = made.ticket;
     told.function = made.function;
     AGREE(uas_bus_task(whole, made.client, made.ticket, made.function, made.tag) == wanted);
-    AGREE(call_driver(out, uas_bytes(NULL, 0), 0) == wanted);
+    AGREE(call_driver(out, no_data, 0) == wanted);
     if (wanted != 0)
         return;
     second_task(&model_bus, (int)made.client, made.ticket, made.function, made.tag);
@@ -1684,7 +1901,7 @@ static uint8_t hand_in(struct guarded out, const struct uas_controller_door *eve
     told.code = code;
     told.endpoint = event->endpoint;
     told.slot = event->slot;
-    if (!AGREE(call_driver(out, uas_bytes(NULL, 0), 0) == 0) || !AGREE(told.acted <= UAS_EVENT_ENGINE))
+    if (!AGREE(call_driver(out, no_data, 0) == 0) || !AGREE(told.acted <= UAS_EVENT_ENGINE))
         return UAS_EVENT_STRAY;
     seen[SEEN_EVENT + told.acted]++;
     return told.acted;
@@ -1728,6 +1945,7 @@ static void halves_step(struct guarded out, uint8_t step, uint16_t tag)
     bool acted = false, acted_beyond = false;
     uint16_t on = tag;
     int owner = -1;
+    uint32_t moved = tag <= HALVES_TAGS ? model_bus.entries[tag].moved : 0;
     AGREE(uas_bus_step(whole, step, 0, tag, &acted, &owner) == 0);
     AGREE(owner == second_step(&model_bus, step, 0, tag));
     AGREE(uas_controller_step(beyond, step, &on, &acted_beyond) == 0);
@@ -1738,7 +1956,9 @@ static void halves_step(struct guarded out, uint8_t step, uint16_t tag)
         AGREE(on != 0 && second_owner(on) == owner);
     else if (step == UAS_STEP_DATA) {
         bring_back(window_of(tag), model_bus.entries[tag].length);
-        if (one_in(3))
+        if (model_bus.entries[tag].moved == moved)
+            seen[SEEN_HALVES_BAD]++;
+        else if (one_in(3))
             bring_chunk_event(out, tag);
     } else if (step == UAS_STEP_STATUS)
         bring_back(0x20000000 + 0x100 * (uint64_t)tag, UAS_MOST_UNIT_BYTES);
@@ -1818,7 +2038,7 @@ static void halves_retire(struct guarded out, uint8_t pipe, uint16_t tag)
     draw_driver_door(UAS_DRIVER_CALL_RETIRE);
     told.pipe = pipe;
     told.tag = tag;
-    AGREE(call_driver(out, uas_bytes(NULL, 0), 0) == 0);
+    AGREE(call_driver(out, no_data, 0) == 0);
     AGREE(told.acted == acted && told.doorbells == acted);
     AGREE(!acted || told.doorbell[0] == 0);
     if (acted)
@@ -1911,7 +2131,7 @@ static void left_over_agree(struct guarded out)
     draw_driver_door(UAS_DRIVER_CALL_LEFT_OVER);
     told.pipe = pipe;
     told.tag = tag;
-    AGREE(call_driver(out, uas_bytes(NULL, 0), 0) == 0);
+    AGREE(call_driver(out, no_data, 0) == 0);
     AGREE(told.acted == (next <= HALVES_TAGS) && told.tag == (next <= HALVES_TAGS ? next : tag));
 }
 
@@ -1986,17 +2206,17 @@ static uint8_t draw_refused(size_t *length)
     switch (below(7)) {
     case 0:
         told.call = one_in(2) ? 0 : (uint8_t)(11 + below(245));
-        return UAS_DRIVER_CALL;
+        return UAS_CLIENT_CALL;
     case 1:
         told.call = UAS_DRIVER_CALL_REPLY;
         *length = one_in(2) ? UAS_MOST_DATA_BYTES - 1 : below(UAS_MOST_DATA_BYTES);
-        return UAS_DRIVER_LENGTH;
+        return UAS_CLIENT_LENGTH;
     case 2:
         told.call = one_in(2) ? UAS_DRIVER_CALL_ITEM : UAS_DRIVER_CALL_CONTEXT;
         told.pipe = (uint8_t)(UAS_PIPE_STATUS + below(3));
         told.stream = (uint16_t)(1 + below(SECOND_STREAMS));
         *length = one_in(2) ? 15 : 17 + below(64);
-        return UAS_DRIVER_LENGTH;
+        return UAS_CLIENT_LENGTH;
     case 3:
         told.call = with_pipe[below(3)];
         told.pipe = one_in(2) ? 0 : (uint8_t)(4 + below(252));
@@ -2069,25 +2289,49 @@ static void fuzz_driver(struct guarded memory, struct guarded out)
 struct kind {
     const char *name;
     void (*fuzz)(struct guarded memory, struct guarded out);
-    uint64_t faults; /* one bit for each number that must come */
+    const uint16_t *must_come; /* faults and what else is counted, ended by END */
 };
 
+/* All but want of memory, and but what `new` and `open` answer, which come of their own kind. */
+static const uint16_t of_trb[] = { UAS_OK, UAS_TRB_UNKNOWN_TYPE, UAS_TRB_LENGTH_OVER, UAS_TRB_RESERVED_SET, UAS_TRB_UNFIT, END };
+static const uint16_t of_unit[] = { UAS_OK, UAS_UNIT_UNKNOWN_ID, UAS_UNIT_SHORT, UAS_UNIT_LONG, UAS_UNIT_RESERVED_SET, UAS_UNIT_LENGTH_FIELD,
+                                    UAS_UNIT_UNFIT, UAS_UNIT_NO_ROOM, END };
+static const uint16_t of_cdb[] = { UAS_OK, UAS_CDB_CHECK, UAS_CDB_UNKNOWN_OPCODE, UAS_CDB_UNFIT, END };
+static const uint16_t of_place[] = { SEEN_PLACE, SEEN_NO_PLACE, END };
+static const uint16_t of_open[] = { UAS_OK, UAS_UNITS, UAS_BLOCKS, UAS_IMAGE, UAS_BAD_BLOCK, END };
+static const uint16_t of_device[] = { UAS_OK, UAS_DEVICE_CALL, UAS_DEVICE_OVERLAP, UAS_DEVICE_PHASE, UAS_DEVICE_LENGTH, UAS_DEVICE_UNIT,
+                                      UAS_DEVICE_RANGE, SEEN_ENDED, SEEN_DEVICE_BAD, END };
+static const uint16_t of_bus[] = { UAS_OK, UAS_CLIENT_NOT_YOURS, UAS_CLIENT_IN_USE, UAS_CLIENT_BAD_LENGTH, UAS_CLIENT_TOO_LONG, UAS_CLIENT_OUT_OF_TURN,
+                                   UAS_CLIENT_NO_SUCH_TASK, UAS_CLIENT_CALL, UAS_CLIENT_OPERATION, UAS_CLIENT_TICKET, UAS_CLIENT_LENGTH,
+                                   UAS_CLIENT_FUNCTION, UAS_BUS_STEP, UAS_BUS_CLIENT, UAS_BUS_RANGE, SEEN_BUS_REPLY + UAS_REPLY_STATUS,
+                                   SEEN_BUS_REPLY + UAS_REPLY_ABORTED, SEEN_BUS_REPLY + UAS_REPLY_TASK, SEEN_BUS_BAD, END };
+static const uint16_t of_controller[] = { UAS_OK, UAS_CONTROLLER_CALL, UAS_CONTROLLER_RING, UAS_CONTROLLER_FULL, UAS_CONTROLLER_STEP,
+                                          UAS_CONTROLLER_ADDRESS, UAS_CONTROLLER_TAG, UAS_CONTROLLER_LENGTH, UAS_CONTROLLER_LENT,
+                                          UAS_CONTROLLER_NOT_LENT, UAS_CONTROLLER_NOT_CONSUMED, UAS_CONTROLLER_UNIT, UAS_CONTROLLER_RANGE,
+                                          SEEN_SUCCESS, SEEN_SHORT_PACKET, SEEN_TRB_ERROR, SEEN_CONTEXT_STATE, SEEN_INVALID_STREAM, SEEN_GOOD,
+                                          SEEN_GIVEN, SEEN_TAKEN, SEEN_MOVED, SEEN_FULL_EVENTS, SEEN_BEGUN, SEEN_NEXT_TURN, SEEN_BAD, END };
+static const uint16_t of_driver[] = { UAS_OK, UAS_CLIENT_NOT_YOURS, UAS_CLIENT_IN_USE, UAS_CLIENT_BAD_LENGTH, UAS_CLIENT_TOO_LONG,
+                                      UAS_CLIENT_OUT_OF_TURN, UAS_CLIENT_NO_SUCH_TASK, UAS_CLIENT_CALL, UAS_CLIENT_OPERATION, UAS_CLIENT_TICKET,
+                                      UAS_CLIENT_LENGTH, UAS_CLIENT_FUNCTION, UAS_DRIVER_ROOM, UAS_DRIVER_ADDRESS, UAS_DRIVER_RING,
+                                      UAS_DRIVER_EVENT, SEEN_REPLY + UAS_REPLY_STATUS, SEEN_REPLY + UAS_REPLY_ABORTED, SEEN_REPLY + UAS_REPLY_TASK,
+                                      SEEN_EVENT + UAS_EVENT_STRAY, SEEN_EVENT + UAS_EVENT_MATCHED, SEEN_EVENT + UAS_EVENT_ENGINE, SEEN_RETIRED,
+                                      SEEN_LINK, SEEN_CHUNK, SEEN_HALVES_BAD, END };
+
 static const struct kind kinds[] = {
-    { "trb", fuzz_trb, 0x1f },
-    { "unit", fuzz_unit, 0xff },
-    { "cdb", fuzz_cdb, 0x0f },
-    { "device", fuzz_device, 0x7f },
-    /* Want of memory (16) doesn't come; 25 to 27 are the kinds of reply. */
-    { "bus", fuzz_bus, 0x7f | 0x01fe0000 | 0x0e000000 },
-    /* 1 to 3 don't come, as `new` has its rows in worked.c; 16 to 27 are SEEN_SUCCESS to SEEN_NEXT_TURN. */
-    { "controller", fuzz_controller, 0xfff1 | 0x0fff0000 },
-    /* Want of memory (16) and 18 don't come, as `new` has its rows in worked.c; 27 to 35 are SEEN_REPLY to SEEN_CHUNK. */
-    { "driver", fuzz_driver, 0x7f | 0x07fa0000 | 0xff8000000 },
+    { "trb", fuzz_trb, of_trb },
+    { "unit", fuzz_unit, of_unit },
+    { "cdb", fuzz_cdb, of_cdb },
+    { "place", fuzz_place, of_place },
+    { "open", fuzz_open, of_open },
+    { "device", fuzz_device, of_device },
+    { "bus", fuzz_bus, of_bus },
+    { "controller", fuzz_controller, of_controller },
+    { "driver", fuzz_driver, of_driver },
 };
 
 static int usage(void)
 {
-    fprintf(stderr, "usage: fuzz trb|unit|cdb|device|bus|controller|driver COUNT SEED\n");
+    fprintf(stderr, "usage: fuzz trb|unit|cdb|place|open|device|bus|controller|driver COUNT SEED\n");
     return 2;
 }
 
@@ -2114,14 +2358,14 @@ int main(int words, char **word)
     free_halves();
     printf("fuzz %s: %lu inputs, seed %s, %lu disagreements; faults", kind->name, input, word[3], failed);
     bool missed = false;
-    for (int i = 0; i < NUMBERS; i++) {
+    for (int i = 0; i < NUMBERS; i++)
         if (seen[i] > 0)
             printf(" %d:%lu", i, seen[i]);
-        else if (count >= 100000 && (kind->faults >> i & 1) != 0) {
-            printf(" %d:never", i);
+    for (const uint16_t *number = kind->must_come; count >= 100000 && *number != END; number++)
+        if (seen[*number] == 0) {
+            printf(" %u:never", *number);
             missed = true;
         }
-    }
     printf("\n");
     return failed > 0 || missed ? 1 : 0;
 }

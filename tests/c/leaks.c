@@ -42,6 +42,8 @@ static const uint32_t blocks[3] = { 1, 8, 100 };
 static const struct uas_operation read_24 = { .opcode = UAS_READ_10, .count = 24 };
 static const struct uas_operation ready = { .opcode = UAS_TEST_UNIT_READY };
 static uint8_t data[UAS_MOST_DATA_BYTES];
+static const uint8_t image[512 * (1 + 8 + 100)];
+static const struct uas_bad_block bad[3] = { { 2, 99 }, { 1, 3 }, { 2, 98 } };
 
 /* A device with tasks of each kind under way. */
 static uas_device *used_device(void)
@@ -51,7 +53,7 @@ static uas_device *used_device(void)
     size_t length;
     uint16_t tag;
     bool good;
-    if (uas_device_new(blocks, 3, &device) != 0)
+    if (uas_device_open(blocks, 3, image, sizeof image, bad, 3, &device) != 0)
         return NULL;
     struct uas_unit unit = { .id = UAS_UNIT_COMMAND, .tag = 1, .lun = { 0, 2 } };
     uas_cdb_write(&read_24, unit.cdb);
@@ -102,7 +104,7 @@ static uas_controller *used_controller(void)
 {
     uas_controller *controller = NULL;
     uint32_t length = 0;
-    if (uas_controller_new(blocks, 3, &controller) != 0)
+    if (uas_controller_open(blocks, 3, image, sizeof image, bad, 3, &controller) != 0)
         return NULL;
     CHECK(uas_controller_lend(controller, 18, data, 24 * 512) == 0);
     CHECK(uas_controller_lend(controller, 248, data, sizeof data) == 0);
@@ -141,7 +143,7 @@ static uas_driver *used_driver(void)
         return NULL;
     CHECK(uas_driver_submit(driver, 2, 33, 0, &read_24, data, 24 * 512, &told) == 0 && told.doorbells == 3);
     CHECK(uas_driver_submit(driver, 0, 1, 0, &ready, data, 0, &told) == 0 && told.doorbells == 2);
-    CHECK(uas_driver_submit(driver, 1, 17, 0, &ready, data, 1, &told) == UAS_DRIVER_BAD_LENGTH);
+    CHECK(uas_driver_submit(driver, 1, 17, 0, &ready, data, 1, &told) == UAS_CLIENT_BAD_LENGTH);
     CHECK(uas_driver_submit(driver, 2, 33, 1, &read_24, data, 24 * 512, &told) != 0);
     answers_ready(driver);
     return driver;
@@ -153,13 +155,13 @@ static uas_bus *used_bus(void)
     uas_bus *bus = NULL;
     uint64_t taken;
     bool quiet;
-    if (uas_bus_new(blocks, 3, &bus) != 0)
+    if (uas_bus_open(blocks, 3, image, 0, bad, 3, &bus) != 0)
         return NULL;
     CHECK(uas_bus_submit(bus, 2, 33, 0, &read_24, data, 24 * 512) == 0);
     CHECK(uas_bus_submit(bus, 0, 1, 0, &ready, data, 0) == 0);
     CHECK(uas_bus_drain(bus, 1000, &taken, &quiet) == 0 && quiet);
     CHECK(uas_bus_submit(bus, 2, 34, 1, &read_24, data, 24 * 512) == 0);
-    CHECK(uas_bus_submit(bus, 1, 17, 0, &ready, data, 1) == UAS_BUS_BAD_LENGTH);
+    CHECK(uas_bus_submit(bus, 1, 17, 0, &ready, data, 1) == UAS_CLIENT_BAD_LENGTH);
     CHECK(uas_bus_drain(bus, 2, &taken, &quiet) == 0);
     return bus;
 }
@@ -209,7 +211,7 @@ static void each_refused(void)
     long before = held;
     asks = 0;
     refused_at = 1;
-    CHECK(uas_bus_submit(bus, 2, 33, 0, &read_24, data, 24 * 512) == UAS_BUS_NO_MEMORY);
+    CHECK(uas_bus_submit(bus, 2, 33, 0, &read_24, data, 24 * 512) == UAS_NO_MEMORY);
     CHECK(held == before);
     bool due = true;
     CHECK(uas_bus_due(bus, UAS_STEP_COMMAND, 0, 0, &due) == 0 && !due);
@@ -224,6 +226,75 @@ static void each_refused(void)
     CHECK(asks == 0);
     CHECK(held == before);
     uas_bus_free(bus);
+    CHECK(held == 0);
+}
+
+/* What an open asks of a handle's number: 0 a device, 1 a controller, 2 a bus. */
+static uint8_t opened(int which, void **handle)
+{
+    uas_device *device = NULL;
+    uas_controller *controller = NULL;
+    uas_bus *bus = NULL;
+    uint8_t fault = which == 0   ? uas_device_open(blocks, 3, image, sizeof image, bad, 3, &device)
+                    : which == 1 ? uas_controller_open(blocks, 3, image, sizeof image, bad, 3, &controller)
+                                 : uas_bus_open(blocks, 3, image, sizeof image, bad, 3, &bus);
+    *handle = which == 0 ? (void *)device : which == 1 ? (void *)controller : (void *)bus;
+    return fault;
+}
+
+static void ends_opened(int which, void *handle)
+{
+    if (which == 0)
+        uas_device_free(handle);
+    else if (which == 1)
+        uas_controller_free(handle);
+    else
+        uas_bus_free(handle);
+}
+
+/* Whether each memory that an open asks for may be refused; what is refused for another fault leaves none. */
+static void each_refused_of_opens(void)
+{
+    static const struct uas_bad_block beyond = { 1, 8 };
+    for (int which = 0; which < 3; which++) {
+        void *handle = NULL;
+        uint8_t fault = UAS_NO_MEMORY;
+        unsigned long times = 0;
+        for (refused_at = 1; fault != 0 && refused_at < 10000; refused_at++, times++) {
+            asks = 0;
+            fault = opened(which, &handle);
+            CHECK(fault == 0 || (fault == UAS_NO_MEMORY && handle == NULL && held == 0));
+        }
+        CHECK(times > 5 && fault == 0 && held > 0);
+        ends_opened(which, handle);
+        CHECK(held == 0);
+    }
+    refused_at = 0;
+    uas_device *device = NULL;
+    CHECK(uas_device_open(blocks, 3, image, sizeof image, &beyond, 1, &device) == UAS_BAD_BLOCK && device == NULL && held == 0);
+    CHECK(uas_device_open(blocks, 3, image, sizeof image - 512, bad, 3, &device) == UAS_IMAGE && device == NULL && held == 0);
+}
+
+/* The device's calls ask for none. */
+static void device_asks_for_none(void)
+{
+    uas_device *device = used_device();
+    uint8_t bytes[32], ended[32], phase;
+    size_t length;
+    uint16_t tag = 0;
+    uint32_t chunk;
+    bool there = false;
+    const struct uas_unit reset = { .id = UAS_UNIT_TASK, .function = UAS_LOGICAL_UNIT_RESET, .tag = 9, .lun = { 0, 2 } };
+    CHECK(device != NULL && uas_unit_write(&reset, bytes, sizeof bytes, &length) == 0);
+    long before = held;
+    asks = 0;
+    CHECK(uas_device_next(device, &tag, &there) == 0 && there && tag == 1);
+    CHECK(uas_device_receive_ended(device, bytes, length, &tag, ended) == 0 && tag == 9 && ended[0] == 2);
+    CHECK(uas_device_status(device, 9, data, sizeof data, &chunk) == 0 && uas_device_sent(device, 9) == 0);
+    CHECK(uas_device_wants(device, 1, &phase, &chunk) == 0 && phase == UAS_ABSENT);
+    CHECK(uas_device_blocks(device, 2, 0, data, 512) == 0 && uas_device_reset(device) == 0);
+    CHECK(asks == 0 && held == before);
+    uas_device_free(device);
     CHECK(held == 0);
 }
 
@@ -285,19 +356,19 @@ static void each_refused_of_driver(void)
 {
     uas_driver *driver = NULL;
     struct uas_driver_door told;
-    uint8_t fault = UAS_DRIVER_NO_MEMORY, bytes[16];
+    uint8_t fault = UAS_NO_MEMORY, bytes[16];
     unsigned long times = 0;
     for (refused_at = 1; fault != 0 && refused_at < 10000; refused_at++, times++) {
         asks = 0;
         fault = uas_driver_new(3, &driver);
-        CHECK(fault == 0 || (fault == UAS_DRIVER_NO_MEMORY && driver == NULL && held == 0));
+        CHECK(fault == 0 || (fault == UAS_NO_MEMORY && driver == NULL && held == 0));
     }
     CHECK(times > 3 && fault == 0);
     /* A submission copies its data; refused, it changes nothing and may come again. */
     long before = held;
     asks = 0;
     refused_at = 1;
-    CHECK(uas_driver_submit(driver, 2, 33, 0, &read_24, data, 24 * 512, &told) == UAS_DRIVER_NO_MEMORY);
+    CHECK(uas_driver_submit(driver, 2, 33, 0, &read_24, data, 24 * 512, &told) == UAS_NO_MEMORY);
     CHECK(held == before && uas_driver_item(driver, 0x41000000, bytes) == UAS_DRIVER_ADDRESS);
     refused_at = 0;
     CHECK(uas_driver_submit(driver, 2, 33, 0, &read_24, data, 24 * 512, &told) == 0 && held > before);
@@ -326,6 +397,8 @@ int main(int words, char **word)
     }
     a_thousand_times();
     each_refused();
+    each_refused_of_opens();
+    device_asks_for_none();
     each_refused_of_controller();
     each_refused_of_driver();
     return tell("leaks");

@@ -386,9 +386,66 @@ struct second_device {
     uint32_t blocks[SECOND_UNITS];
     uint8_t now[SECOND_UNITS][512 * SECOND_BLOCKS];
     uint8_t medium[SECOND_UNITS][512 * SECOND_BLOCKS];
+    bool bad[SECOND_UNITS][SECOND_BLOCKS];
     bool attention[SECOND_UNITS];
     struct second_task tasks[UAS_GREATEST_TAG + 1];
 };
+
+/* What a device is opened with. */
+struct second_units {
+    uint32_t blocks[UAS_MOST_UNITS + 1];
+    size_t units;
+    const uint8_t *image;
+    size_t length;
+    struct uas_bad_block bad[16];
+    size_t bads;
+};
+
+/* The fault of an open but want of memory. */
+static inline uint8_t second_units_fault(const struct second_units *given)
+{
+    uint64_t all = 0;
+    if (given->units < 1 || given->units > 15)
+        return UAS_UNITS;
+    for (size_t i = 0; i < given->units; i++) {
+        if (given->blocks[i] < 1 || given->blocks[i] > 65536)
+            return UAS_BLOCKS;
+        all += given->blocks[i];
+    }
+    if (given->length != 0 && given->length != 512 * all)
+        return UAS_IMAGE;
+    for (size_t i = 0; i < given->bads; i++)
+        if (given->bad[i].unit >= given->units || given->bad[i].lba >= given->blocks[given->bad[i].unit])
+            return UAS_BAD_BLOCK;
+    return 0;
+}
+
+/* Opens a device of zeros with what has no fault and fits in. */
+static inline void second_device_open(struct second_device *device, const struct second_units *given)
+{
+    const uint8_t *image = given->image;
+    device->units = (int)given->units;
+    for (size_t i = 0; i < given->units; i++) {
+        size_t length = 512 * (size_t)given->blocks[i];
+        device->blocks[i] = given->blocks[i];
+        if (given->length == 0)
+            continue;
+        memcpy(device->now[i], image, length);
+        memcpy(device->medium[i], image, length);
+        image += length;
+    }
+    for (size_t i = 0; i < given->bads; i++)
+        device->bad[given->bad[i].unit][given->bad[i].lba] = true;
+}
+
+/* A reset of the whole device. */
+static inline void second_device_reset(struct second_device *device)
+{
+    for (int i = 0; i < device->units; i++)
+        device->attention[i] = true;
+    for (uint16_t tag = 1; tag <= UAS_GREATEST_TAG; tag++)
+        device->tasks[tag].phase = UAS_ABSENT;
+}
 
 static inline void second_respond(struct second_device *device, uint16_t tag, uint8_t code)
 {
@@ -515,12 +572,19 @@ static inline uint8_t second_wants(const struct second_device *device, uint16_t 
     return task->phase;
 }
 
-/* Moves a chunk, whose length is right. */
-static inline void second_move(struct second_device *device, uint16_t tag, uint8_t *data, size_t length)
+/* Moves a chunk, whose length is right; false at a bad block, which ends the command. */
+static inline bool second_move(struct second_device *device, uint16_t tag, uint8_t *data, size_t length)
 {
+    static const struct uas_sense unread = { 3, 0x11, 0, 0 }, unwritten = { 3, 0x0c, 0, 0 };
     struct second_task *task = &device->tasks[tag];
     uint8_t text[36];
     size_t at = 512 * (size_t)task->operation.lba + task->done;
+    bool reads = second_is_read(task->operation.opcode);
+    for (size_t block = at / 512; (reads || second_is_write(task->operation.opcode)) && block < (at + length) / 512; block++)
+        if (device->bad[task->unit][block]) {
+            second_end(task, tag, reads ? &unread : &unwritten);
+            return false;
+        }
     if (task->operation.opcode == UAS_INQUIRY) {
         second_inquiry_data(task->unit >= 0, text);
         memcpy(data, text, length);
@@ -529,7 +593,7 @@ static inline void second_move(struct second_device *device, uint16_t tag, uint8
     } else if (task->operation.opcode == UAS_READ_CAPACITY_16) {
         second_long_capacity_data(device->blocks[task->unit], text);
         memcpy(data, text, length);
-    } else if (second_is_read(task->operation.opcode))
+    } else if (reads)
         memcpy(data, device->now[task->unit] + at, length);
     else {
         memcpy(device->now[task->unit] + at, data, length);
@@ -539,6 +603,7 @@ static inline void second_move(struct second_device *device, uint16_t tag, uint8
     task->done += (uint32_t)length;
     if (task->done == task->operation.bytes)
         second_end(task, tag, NULL);
+    return true;
 }
 
 #endif

@@ -61,12 +61,10 @@ static inline int second_owner(uint16_t tag)
     return (tag - 1) / SECOND_PER;
 }
 
-static inline void second_bus_open(struct second_bus *bus, const uint32_t *blocks, int clients)
+static inline void second_bus_open(struct second_bus *bus, const struct second_units *given)
 {
     memset(bus, 0, sizeof *bus);
-    bus->device.units = clients;
-    for (int i = 0; i < clients; i++)
-        bus->device.blocks[i] = blocks[i];
+    second_device_open(&bus->device, given);
     for (int pipe = UAS_PIPE_STATUS; pipe <= UAS_PIPE_DATA_OUT; pipe++)
         bus->running[pipe] = true;
 }
@@ -242,7 +240,8 @@ static inline int second_data_step(struct second_bus *bus, uint16_t tag)
         return -1;
     struct second_entry *entry = &bus->entries[tag];
     second_wants(&bus->device, tag, &length);
-    second_move(&bus->device, tag, entry->bytes + entry->moved, length);
+    if (!second_move(&bus->device, tag, entry->bytes + entry->moved, length))
+        return second_owner(tag);
     entry->moved += length;
     if (entry->moved == entry->length) {
         entry->data = CONSUMED;

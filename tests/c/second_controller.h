@@ -49,12 +49,10 @@ static inline void second_line_open(struct second_line *line, uint64_t base, uin
     line->places = places;
 }
 
-static inline void second_controller_open(struct second_controller *controller, const uint32_t *blocks, int units)
+static inline void second_controller_open(struct second_controller *controller, const struct second_units *given)
 {
     memset(controller, 0, offsetof(struct second_controller, windows));
-    controller->device.units = units;
-    for (int i = 0; i < units; i++)
-        controller->device.blocks[i] = blocks[i];
+    second_device_open(&controller->device, given);
     for (uint8_t ring = UAS_RING_STATUS; ring <= UAS_RING_DATA_OUT; ring++) {
         controller->running[ring] = true;
         for (uint32_t stream = 1; stream <= SECOND_STREAMS; stream++)
@@ -229,7 +227,8 @@ static inline int second_take_data(struct second_controller *controller, uint16_
     if (line == NULL)
         return -1;
     struct second_front front = second_front(controller, line);
-    second_move(&controller->device, tag, front.bytes, chunk);
+    if (!second_move(&controller->device, tag, front.bytes, chunk))
+        return tag;
     if (front.chain)
         line->taken++;
     else

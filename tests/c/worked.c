@@ -3,6 +3,9 @@
 #include "check.h"
 #include "uas.h"
 
+/* The data of a door's call that has none. */
+static uint8_t no_data[1];
+
 /* ---- TRBs ---- */
 
 static void trb_is(struct uas_trb trb, const char *text)
@@ -408,12 +411,12 @@ static void device_new_faults(void)
     uas_device *device = NULL;
     for (int i = 0; i < 16; i++)
         blocks[i] = 1;
-    CHECK(uas_device_new(blocks, 0, &device) == UAS_DEVICE_UNITS);
-    CHECK(uas_device_new(blocks, 16, &device) == UAS_DEVICE_UNITS);
+    CHECK(uas_device_new(blocks, 0, &device) == UAS_UNITS);
+    CHECK(uas_device_new(blocks, 16, &device) == UAS_UNITS);
     blocks[14] = 0;
-    CHECK(uas_device_new(blocks, 15, &device) == UAS_DEVICE_BLOCKS);
+    CHECK(uas_device_new(blocks, 15, &device) == UAS_BLOCKS);
     blocks[14] = 65537;
-    CHECK(uas_device_new(blocks, 15, &device) == UAS_DEVICE_BLOCKS);
+    CHECK(uas_device_new(blocks, 15, &device) == UAS_BLOCKS);
     CHECK(device == NULL);
     blocks[14] = 65536;
     CHECK(uas_device_new(blocks, 15, &device) == 0 && device != NULL);
@@ -640,10 +643,223 @@ static void device_refuses(void)
     memset(&door, 0xee, sizeof door);
     door.call = 0;
     CHECK(uas_device_call(device, &door, data, 0) == UAS_DEVICE_CALL);
-    door.call = 10;
+    door.call = 12;
     CHECK(uas_device_call(device, &door, data, 0) == UAS_DEVICE_CALL);
     door.call = 0xee;
     CHECK(all_are((const uint8_t *)&door, sizeof door, 0xee));
+    uas_device_free(device);
+}
+
+/* ---- What handles are opened with ---- */
+
+enum { IMAGE_BLOCKS = 24 + 3 };
+
+/* Two logical units, of 24 and of 3 blocks: all bytes of block k of the first are k + 1, of the second 101 + k. */
+static const uint32_t image_blocks[2] = { 24, 3 };
+
+static const uint8_t *two_images(void)
+{
+    static uint8_t image[512 * IMAGE_BLOCKS];
+    for (size_t i = 0; i < IMAGE_BLOCKS; i++)
+        memset(image + 512 * i, (int)(i < 24 ? i + 1 : 101 + i - 24), 512);
+    return image;
+}
+
+/* Blocks 3 and 17 of logical unit 0 and block 2 of logical unit 1 are bad; one is named twice. */
+static const struct uas_bad_block three_bad[4] = { { 0, 17 }, { 1, 2 }, { 0, 3 }, { 0, 17 } };
+
+static uas_device *opened_device(void)
+{
+    uas_device *device = NULL;
+    if (uas_device_open(image_blocks, 2, two_images(), 512 * IMAGE_BLOCKS, three_bad, 4, &device) != 0 || device == NULL) {
+        fprintf(stderr, "no device\n");
+        exit(2);
+    }
+    return device;
+}
+
+/* The open of each handle with this answers the fault, and then the pointer is as it was. */
+static void opens(const uint32_t *blocks, size_t units, size_t length, const struct uas_bad_block *bad, size_t bads, uint8_t fault)
+{
+    uas_device *device = NULL;
+    uas_controller *controller = NULL;
+    uas_bus *bus = NULL;
+    CHECK(uas_device_open(blocks, units, two_images(), length, bad, bads, &device) == fault && (device != NULL) == (fault == UAS_OK));
+    CHECK(uas_controller_open(blocks, units, two_images(), length, bad, bads, &controller) == fault && (controller != NULL) == (fault == UAS_OK));
+    CHECK(uas_bus_open(blocks, units, two_images(), length, bad, bads, &bus) == fault && (bus != NULL) == (fault == UAS_OK));
+    uas_device_free(device);
+    uas_controller_free(controller);
+    uas_bus_free(bus);
+}
+
+static void open_faults(void)
+{
+    static const uint32_t sixteen[16] = { 1, 1, 1, 1, 1, 1, 1, 1, 1, 1, 1, 1, 1, 1, 1, 1 }, none[2] = { 24, 0 }, many[2] = { 65537, 3 };
+    static const struct uas_bad_block beyond_unit = { 2, 0 }, beyond_blocks = { 1, 3 }, far = { 0xffffffff, 0xffffffff };
+    const size_t all = 512 * IMAGE_BLOCKS;
+    opens(image_blocks, 0, 0, three_bad, 0, UAS_UNITS);
+    opens(sixteen, 16, 16 * 512, three_bad, 0, UAS_UNITS);
+    opens(none, 2, 24 * 512, three_bad, 0, UAS_BLOCKS);
+    opens(many, 2, 512, three_bad, 0, UAS_BLOCKS);
+    opens(image_blocks, 2, all - 1, three_bad, 0, UAS_IMAGE);
+    opens(image_blocks, 2, all - 512, three_bad, 0, UAS_IMAGE);
+    opens(image_blocks, 2, 1, three_bad, 0, UAS_IMAGE);
+    opens(image_blocks, 1, all, three_bad, 0, UAS_IMAGE);
+    opens(image_blocks, 2, all, &beyond_unit, 1, UAS_BAD_BLOCK);
+    opens(image_blocks, 2, all, &beyond_blocks, 1, UAS_BAD_BLOCK);
+    opens(image_blocks, 2, 0, &far, 1, UAS_BAD_BLOCK);
+    opens(image_blocks, 1, 0, three_bad, 2, UAS_BAD_BLOCK);
+    /* The first that holds. */
+    opens(none, 0, 1, &far, 1, UAS_UNITS);
+    opens(none, 2, 1, &far, 1, UAS_BLOCKS);
+    opens(image_blocks, 2, 1, &far, 1, UAS_IMAGE);
+    opens(image_blocks, 2, all, three_bad, 4, UAS_OK);
+    opens(image_blocks, 2, 0, three_bad, 0, UAS_OK);
+    opens(image_blocks, 1, 24 * 512, three_bad, 1, UAS_OK);
+    uas_device_free(NULL);
+    uas_controller_free(NULL);
+    uas_driver_free(NULL);
+    uas_bus_free(NULL);
+}
+
+/* Images are blocks and medium; a bad block ends a READ with 3/11/00 and a WRITE with 3/0c/00, and the chunks before it stand. */
+static void device_of_images(void)
+{
+    static uint8_t data[24 * 512];
+    const uint8_t *image = two_images();
+    bool good = true;
+    uas_device *device = opened_device();
+    CHECK(uas_device_blocks(device, 0, 0, data, 24 * 512) == 0 && memcmp(data, image, 24 * 512) == 0);
+    CHECK(uas_device_medium(device, 0, 0, data, 24 * 512) == 0 && memcmp(data, image, 24 * 512) == 0);
+    CHECK(uas_device_blocks(device, 1, 1, data, 1024) == 0 && all_are(data, 512, 102) && all_are(data + 512, 512, 103));
+    CHECK(uas_device_medium(device, 1, 0, data, 512) == 0 && all_are(data, 512, 101));
+
+    /* READ of 16 blocks from 4 on: blocks 4 to 11, then 12 to 19, of which 17 is bad. */
+    begins(device, 1, 0, (struct uas_operation){ .opcode = UAS_READ_10, .lba = 4, .count = 16 });
+    gives(device, 1, data, 4096);
+    CHECK(all_are(data, 512, 5) && all_are(data + 7 * 512, 512, 12));
+    memset(data, 0xee, sizeof data);
+    is_at(device, 1, UAS_GIVES, 4096);
+    CHECK(uas_device_give(device, 1, data, 4096, &good) == 0 && !good && all_are(data, 4096, 0xee));
+    ends(device, 1, "03 00 00 01 00 00 02 00 x7 00 12 70 00 03 00 00 00 00 0a 00 00 00 00 11 00 00 00 00 00");
+
+    /* WRITE of the same with FUA: the first chunk stands, in both. */
+    memset(data, 0xaa, sizeof data);
+    begins(device, 1, 0, (struct uas_operation){ .opcode = UAS_WRITE_10, .lba = 4, .count = 16, .fua = 1 });
+    takes(device, 1, data, 4096);
+    good = true;
+    CHECK(uas_device_take(device, 1, data, 4096, &good) == 0 && !good);
+    ends(device, 1, "03 00 00 01 00 00 02 00 x7 00 12 70 00 03 00 00 00 00 0a 00 00 00 00 0c 00 00 00 00 00");
+    CHECK(uas_device_blocks(device, 0, 0, data, 24 * 512) == 0);
+    CHECK(memcmp(data, image, 4 * 512) == 0 && all_are(data + 4 * 512, 8 * 512, 0xaa) && memcmp(data + 12 * 512, image + 12 * 512, 12 * 512) == 0);
+    CHECK(uas_device_medium(device, 0, 0, data, 24 * 512) == 0);
+    CHECK(memcmp(data, image, 4 * 512) == 0 && all_are(data + 4 * 512, 8 * 512, 0xaa) && memcmp(data + 12 * 512, image + 12 * 512, 12 * 512) == 0);
+
+    /* The bad blocks of the other logical unit are its own; beside a bad block blocks are good, and so is SYNCHRONIZE CACHE over one. */
+    begins(device, 1, 1, (struct uas_operation){ .opcode = UAS_READ_16, .lba = 0, .count = 2 });
+    gives(device, 1, data, 1024);
+    ends(device, 1, "03 00 00 01 00 x12");
+    begins(device, 1, 1, (struct uas_operation){ .opcode = UAS_READ_16, .lba = 2, .count = 1 });
+    CHECK(uas_device_give(device, 1, data, 512, &good) == 0 && !good);
+    ends(device, 1, "03 00 00 01 00 00 02 00 x7 00 12 70 00 03 00 00 00 00 0a 00 00 00 00 11 00 00 00 00 00");
+    begins(device, 1, 0, (struct uas_operation){ .opcode = UAS_READ_10, .lba = 2, .count = 1 });
+    gives(device, 1, data, 512);
+    CHECK(all_are(data, 512, 3));
+    ends(device, 1, "03 00 00 01 00 x12");
+    begins(device, 1, 0, (struct uas_operation){ .opcode = UAS_SYNCHRONIZE_CACHE_10 });
+    ends(device, 1, "03 00 00 01 00 x12");
+    uas_device_free(device);
+}
+
+/* ---- The device's tasks ---- */
+
+/* The next task above a tag is that of `next`; 0: there is none. */
+static void next_is(uas_device *device, uint16_t tag, uint16_t next)
+{
+    bool there = next == 0;
+    uint16_t found = tag;
+    CHECK(uas_device_next(device, &found, &there) == 0);
+    CHECK(there == (next != 0) && found == (next != 0 ? next : tag));
+}
+
+/* What a task management ended, told as bits. */
+static void ended_is(uas_device *device, const char *unit, uint8_t fault, const char *bits)
+{
+    uint8_t bytes[112], ended[32];
+    uint16_t tag = 7;
+    size_t length = from_hex(unit, bytes, sizeof bytes);
+    memset(ended, 0xee, sizeof ended);
+    CHECK(uas_device_receive_ended(device, bytes, length, &tag, ended) == fault);
+    CHECK_BYTES(ended, sizeof ended, bits);
+    CHECK(fault == UAS_OK || tag == 7);
+}
+
+static void device_tells_tasks(void)
+{
+    static const uint16_t tags[] = { 1, 15, 16, 129, 240 };
+    uas_device *device = new_device(2, 100);
+    next_is(device, 0, 0);
+    next_is(device, 65535, 0);
+    for (size_t i = 0; i < 5; i++)
+        begins(device, tags[i], tags[i] == 129, (struct uas_operation){ .opcode = UAS_READ_10, .count = 1 });
+    next_is(device, 0, 1);
+    next_is(device, 1, 15);
+    next_is(device, 15, 16);
+    next_is(device, 16, 129);
+    next_is(device, 129, 240);
+    next_is(device, 240, 0);
+    next_is(device, 65535, 0);
+    /* A tag in use is refused, and `ended` is as it was; a command, a query and bytes that are no information unit end nothing. */
+    ended_is(device, "01 00 00 0f 00 x28", UAS_DEVICE_OVERLAP, "ee x32");
+    ended_is(device, "01 00 00 02 00 x28", UAS_OK, "00 x32");
+    ended_is(device, "05 00 00 03 80 00 00 10 00 x8", UAS_OK, "00 x32");
+    ended_is(device, "01 00 00 04 00 x27", UAS_OK, "00 x32");
+    ended_is(device, "", UAS_OK, "00 x32");
+    /* ABORT TASK of tag 16 by tag 5, and of one that isn't there by tag 6; LOGICAL UNIT RESET of logical unit 0 by tag 17. */
+    ended_is(device, "05 00 00 05 01 00 00 10 00 x8", UAS_OK, "00 x2 01 00 x29");
+    ended_is(device, "05 00 00 06 01 00 00 64 00 x8", UAS_OK, "00 x32");
+    next_is(device, 15, 129);
+    ended_is(device, "05 00 00 11 08 00 x11", UAS_OK, "06 80 00 x28 01 00");
+    next_is(device, 0, 3);
+    next_is(device, 6, 17);
+    next_is(device, 17, 129);
+    next_is(device, 129, 0);
+    uas_device_free(device);
+}
+
+/* A reset leaves no task; each logical unit tells it once, and keeps its blocks. */
+static void device_resets(void)
+{
+    static uint8_t data[4096];
+    uas_device *device = new_device(2, 100);
+    uint16_t tag = 7;
+    memset(data, 0xaa, sizeof data);
+    begins(device, 1, 1, (struct uas_operation){ .opcode = UAS_WRITE_10, .lba = 3, .count = 16, .fua = 1 });
+    takes(device, 1, data, 4096);
+    begins(device, 240, 0, (struct uas_operation){ .opcode = UAS_READ_10, .count = 1 });
+    begins(device, 100, 5, ready);
+    CHECK(received(device, "05 00 00 18 01 00 00 12 00 x8", &tag) == 0 && tag == 24);
+    CHECK(uas_device_reset(device) == 0);
+    next_is(device, 0, 0);
+    is_at(device, 1, UAS_ABSENT, 0);
+    is_at(device, 24, UAS_ABSENT, 0);
+    CHECK(uas_device_blocks(device, 1, 3, data, 512) == 0 && all_are(data, 512, 0xaa));
+    CHECK(uas_device_medium(device, 1, 10, data, 1024) == 0 && all_are(data, 512, 0xaa) && all_are(data + 512, 512, 0));
+    begins(device, 1, 0, (struct uas_operation){ .opcode = UAS_INQUIRY, .count = 5 });
+    gives(device, 1, data, 5);
+    ends(device, 1, "03 00 00 01 00 x12");
+    for (uint8_t unit = 0; unit < 2; unit++) {
+        begins(device, 1, unit, ready);
+        ends(device, 1, "03 00 00 01 00 00 02 00 x7 00 12 70 00 06 00 00 00 00 0a 00 00 00 00 29 03 00 00 00 00");
+        begins(device, 1, unit, ready);
+        ends(device, 1, "03 00 00 01 00 x12");
+    }
+    /* A second reset before anything was told is told once too. */
+    CHECK(uas_device_reset(device) == 0 && uas_device_reset(device) == 0);
+    begins(device, 1, 0, (struct uas_operation){ .opcode = UAS_READ_10, .lba = 200, .count = 1 });
+    ends(device, 1, "03 00 00 01 00 00 02 00 x7 00 12 70 00 06 00 00 00 00 0a 00 00 00 00 29 03 00 00 00 00");
+    begins(device, 1, 0, ready);
+    ends(device, 1, "03 00 00 01 00 x12");
     uas_device_free(device);
 }
 
@@ -690,7 +906,7 @@ static void step_is_idle(uas_controller *controller, uint8_t step, uint16_t tag)
     door.tag = tag;
     before = door;
     before.acted = 0;
-    CHECK(uas_controller_call(controller, &door, uas_bytes(NULL, 0), 0) == 0);
+    CHECK(uas_controller_call(controller, &door, no_data, 0) == 0);
     CHECK(memcmp(&door, &before, sizeof door) == 0);
 }
 
@@ -725,7 +941,7 @@ static void no_event(uas_controller *controller)
     door.call = UAS_CONTROLLER_CALL_EVENT;
     before = door;
     before.acted = 0;
-    CHECK(uas_controller_call(controller, &door, uas_bytes(NULL, 0), 0) == 0);
+    CHECK(uas_controller_call(controller, &door, no_data, 0) == 0);
     CHECK(memcmp(&door, &before, sizeof door) == 0);
 }
 
@@ -1158,17 +1374,47 @@ static void controller_new_faults(void)
     uas_controller *controller = NULL;
     for (int i = 0; i < 16; i++)
         blocks[i] = 1;
-    CHECK(uas_controller_new(blocks, 0, &controller) == UAS_CONTROLLER_UNITS);
-    CHECK(uas_controller_new(blocks, 16, &controller) == UAS_CONTROLLER_UNITS);
+    CHECK(uas_controller_new(blocks, 0, &controller) == UAS_UNITS);
+    CHECK(uas_controller_new(blocks, 16, &controller) == UAS_UNITS);
     blocks[14] = 0;
-    CHECK(uas_controller_new(blocks, 15, &controller) == UAS_CONTROLLER_BLOCKS);
+    CHECK(uas_controller_new(blocks, 15, &controller) == UAS_BLOCKS);
     blocks[14] = 65537;
-    CHECK(uas_controller_new(blocks, 15, &controller) == UAS_CONTROLLER_BLOCKS);
+    CHECK(uas_controller_new(blocks, 15, &controller) == UAS_BLOCKS);
     CHECK(controller == NULL);
     blocks[14] = 65536;
     CHECK(uas_controller_new(blocks, 15, &controller) == 0 && controller != NULL);
     CHECK(uas_controller_blocks(controller, 14, 65535, block, sizeof block) == 0 && all_are(block, sizeof block, 0));
     CHECK(uas_controller_blocks(controller, 13, 1, block, sizeof block) == UAS_CONTROLLER_RANGE);
+    uas_controller_free(controller);
+}
+
+/* READ of 2 blocks at 16, tag 18, where block 17 is bad: the step takes no TRB, and the status tells. */
+static void controller_of_images(void)
+{
+    static uint8_t data[1024];
+    uint32_t length = 0;
+    uas_controller *controller = NULL;
+    CHECK(uas_controller_open(image_blocks, 2, two_images(), 512 * IMAGE_BLOCKS, three_bad, 4, &controller) == 0);
+    CHECK(uas_controller_medium(controller, 1, 2, data, 512) == 0 && all_are(data, 512, 103));
+    memset(data, 0x77, sizeof data);
+    memory_gets(controller, 0x10001200, "01 00 00 12 00 x12 28 00 00 00 00 10 00 00 02 00 x7");
+    CHECK(uas_controller_lend(controller, 18, data, 1024) == 0);
+    puts_at(controller, UAS_RING_DATA_IN, 18, 0x43012000, "00 00 12 00 01 00 00 00 00 04 00 00 21 04 00 00");
+    puts_at(controller, UAS_RING_STATUS, 18, 0x42012000, "00 12 00 20 00 00 00 00 70 00 00 00 25 04 00 00");
+    puts_at(controller, UAS_RING_COMMAND_PIPE, 0, 0x41000000, "00 12 00 10 00 00 00 00 20 00 00 00 21 04 00 00");
+    CHECK(uas_controller_doorbell(controller, 0x00120005) == 0);
+    CHECK(uas_controller_doorbell(controller, 0x00120003) == 0);
+    step_acts(controller, UAS_STEP_COMMAND, 7, 18);
+    transfer_is(controller, 0x41000000, 0, 1, 2);
+    step_is_idle(controller, UAS_STEP_STATUS, 18);
+    step_acts(controller, UAS_STEP_DATA, 18, 18);
+    no_event(controller);
+    step_is_idle(controller, UAS_STEP_DATA, 18);
+    context_is(controller, UAS_RING_DATA_IN, 18, "03 20 01 43 00 x12");
+    step_acts(controller, UAS_STEP_STATUS, 18, 18);
+    transfer_is(controller, 0x42012000, 78, 13, 3);
+    memory_is(controller, 0x20001200, "03 00 00 12 00 00 02 00 x7 00 12 70 00 03 00 00 00 00 0a 00 00 00 00 11 00 00 00 00 00");
+    CHECK(uas_controller_take_back(controller, 18, data, 1024, &length) == 0 && length == 1024 && all_are(data, 1024, 0x77));
     uas_controller_free(controller);
 }
 
@@ -1550,74 +1796,74 @@ static void driver_refuses_call(uas_driver *driver, struct uas_driver_door named
 }
 
 #define DRIVER_REFUSES(fault, size, name, ...) \
-    driver_refuses_call(driver, (struct uas_driver_door){ .call = UAS_DRIVER_CALL_##name, __VA_ARGS__ }, size, UAS_DRIVER_##fault)
+    driver_refuses_call(driver, (struct uas_driver_door){ .call = UAS_DRIVER_CALL_##name, __VA_ARGS__ }, size, UAS_##fault)
 
 static void driver_refuses_commands(uas_driver *driver)
 {
     const struct uas_operation read = { .opcode = UAS_READ_10, .count = 1 }, many = { .opcode = UAS_WRITE_16, .count = 129 };
     const struct uas_operation none = { .opcode = 0xee }, unfit = { .opcode = UAS_READ_10, .count = 65536 };
-    DRIVER_REFUSES(TICKET, 0, SUBMIT, .tag = 1, .ticket = (uint64_t)1 << 60, .operation = none);
-    DRIVER_REFUSES(OPERATION, 0, SUBMIT, .client = 2, .tag = 1, .operation = none);
-    DRIVER_REFUSES(OPERATION, 512, SUBMIT, .tag = 1, .operation = unfit);
-    DRIVER_REFUSES(NOT_YOURS, 512, SUBMIT, .client = 2, .tag = 33, .operation = read);
-    DRIVER_REFUSES(NOT_YOURS, 512, SUBMIT, .client = 0xffffffff, .tag = 1, .operation = read);
-    DRIVER_REFUSES(NOT_YOURS, 512, SUBMIT, .tag = 16, .operation = read);
-    DRIVER_REFUSES(NOT_YOURS, 512, SUBMIT, .tag = 0, .operation = read);
-    DRIVER_REFUSES(NOT_YOURS, 512, SUBMIT, .client = 1, .tag = 1, .operation = read);
-    DRIVER_REFUSES(NOT_YOURS, 512, SUBMIT, .client = 1, .tag = 65535, .operation = read);
-    DRIVER_REFUSES(BAD_LENGTH, 511, SUBMIT, .tag = 1, .operation = read);
-    DRIVER_REFUSES(BAD_LENGTH, 1, SUBMIT, .tag = 1, .operation = ready);
-    DRIVER_REFUSES(TOO_LONG, 129 * 512, SUBMIT, .tag = 1, .operation = many);
+    DRIVER_REFUSES(CLIENT_TICKET, 0, SUBMIT, .tag = 1, .ticket = (uint64_t)1 << 60, .operation = none);
+    DRIVER_REFUSES(CLIENT_OPERATION, 0, SUBMIT, .client = 2, .tag = 1, .operation = none);
+    DRIVER_REFUSES(CLIENT_OPERATION, 512, SUBMIT, .tag = 1, .operation = unfit);
+    DRIVER_REFUSES(CLIENT_NOT_YOURS, 512, SUBMIT, .client = 2, .tag = 33, .operation = read);
+    DRIVER_REFUSES(CLIENT_NOT_YOURS, 512, SUBMIT, .client = 0xffffffff, .tag = 1, .operation = read);
+    DRIVER_REFUSES(CLIENT_NOT_YOURS, 512, SUBMIT, .tag = 16, .operation = read);
+    DRIVER_REFUSES(CLIENT_NOT_YOURS, 512, SUBMIT, .tag = 0, .operation = read);
+    DRIVER_REFUSES(CLIENT_NOT_YOURS, 512, SUBMIT, .client = 1, .tag = 1, .operation = read);
+    DRIVER_REFUSES(CLIENT_NOT_YOURS, 512, SUBMIT, .client = 1, .tag = 65535, .operation = read);
+    DRIVER_REFUSES(CLIENT_BAD_LENGTH, 511, SUBMIT, .tag = 1, .operation = read);
+    DRIVER_REFUSES(CLIENT_BAD_LENGTH, 1, SUBMIT, .tag = 1, .operation = ready);
+    DRIVER_REFUSES(CLIENT_TOO_LONG, 129 * 512, SUBMIT, .tag = 1, .operation = many);
     driver_takes(driver, 0, 1, 5, read, 0, 512, "00010005 00010003 00000002");
-    DRIVER_REFUSES(OUT_OF_TURN, 512, SUBMIT, .tag = 2, .ticket = 5, .operation = read);
+    DRIVER_REFUSES(CLIENT_OUT_OF_TURN, 512, SUBMIT, .tag = 2, .ticket = 5, .operation = read);
     /* Of a tag that has a command, the room of its data is asked for before anything of the client. */
-    DRIVER_REFUSES(ROOM, 0, SUBMIT, .tag = 1, .ticket = 6, .operation = ready);
-    DRIVER_REFUSES(ROOM, 1, SUBMIT, .client = 1, .tag = 1, .operation = ready);
-    DRIVER_REFUSES(TICKET, 0, TASK, .ticket = (uint64_t)1 << 60, .function = 0xee, .tag = 1);
-    DRIVER_REFUSES(FUNCTION, 0, TASK, .client = 2, .ticket = 6, .function = 2, .tag = 1);
-    DRIVER_REFUSES(NOT_YOURS, 0, TASK, .client = 2, .ticket = 6, .function = UAS_ABORT_TASK, .tag = 1);
-    DRIVER_REFUSES(OUT_OF_TURN, 0, TASK, .ticket = 5, .function = UAS_ABORT_TASK, .tag = 2);
-    DRIVER_REFUSES(NO_SUCH_TASK, 0, TASK, .ticket = 6, .function = UAS_ABORT_TASK, .tag = 2);
-    DRIVER_REFUSES(NO_SUCH_TASK, 0, TASK, .client = 1, .ticket = 6, .function = UAS_QUERY_TASK, .tag = 1);
+    DRIVER_REFUSES(DRIVER_ROOM, 0, SUBMIT, .tag = 1, .ticket = 6, .operation = ready);
+    DRIVER_REFUSES(DRIVER_ROOM, 1, SUBMIT, .client = 1, .tag = 1, .operation = ready);
+    DRIVER_REFUSES(CLIENT_TICKET, 0, TASK, .ticket = (uint64_t)1 << 60, .function = 0xee, .tag = 1);
+    DRIVER_REFUSES(CLIENT_FUNCTION, 0, TASK, .client = 2, .ticket = 6, .function = 2, .tag = 1);
+    DRIVER_REFUSES(CLIENT_NOT_YOURS, 0, TASK, .client = 2, .ticket = 6, .function = UAS_ABORT_TASK, .tag = 1);
+    DRIVER_REFUSES(CLIENT_OUT_OF_TURN, 0, TASK, .ticket = 5, .function = UAS_ABORT_TASK, .tag = 2);
+    DRIVER_REFUSES(CLIENT_NO_SUCH_TASK, 0, TASK, .ticket = 6, .function = UAS_ABORT_TASK, .tag = 2);
+    DRIVER_REFUSES(CLIENT_NO_SUCH_TASK, 0, TASK, .client = 1, .ticket = 6, .function = UAS_QUERY_TASK, .tag = 1);
     struct uas_driver_door told;
     CHECK(uas_driver_task(driver, 0, 6, UAS_LOGICAL_UNIT_RESET, 0xeeee, &told) == 0);
-    DRIVER_REFUSES(IN_USE, 0, TASK, .ticket = 0, .function = UAS_QUERY_TASK, .tag = 2);
+    DRIVER_REFUSES(CLIENT_IN_USE, 0, TASK, .ticket = 0, .function = UAS_QUERY_TASK, .tag = 2);
 }
 
 static void driver_refuses(void)
 {
     uas_driver *driver = new_driver(2);
     driver_refuses_commands(driver);
-    DRIVER_REFUSES(RING, 0, RETIRE, .pipe = 0, .tag = 1);
-    DRIVER_REFUSES(RING, 0, RETIRE, .pipe = 4, .tag = 1);
-    DRIVER_REFUSES(RING, 0, LEFT_OVER, .pipe = 0);
-    DRIVER_REFUSES(RING, 0, LEFT_OVER, .pipe = 255);
-    DRIVER_REFUSES(EVENT, 0, EVENT, .type = UAS_TRB_NORMAL, .address = 0x41000000, .code = 1);
-    DRIVER_REFUSES(EVENT, 0, EVENT, .type = 34, .address = 0x41000000, .code = 1);
-    DRIVER_REFUSES(LENGTH, UAS_MOST_DATA_BYTES - 1, REPLY, .client = 9);
-    DRIVER_REFUSES(ADDRESS, 33, READ, .address = 0x10000100);
-    DRIVER_REFUSES(ADDRESS, 1, READ, .address = 0x10000120);
-    DRIVER_REFUSES(ADDRESS, 113, WRITE, .address = 0x20000100);
-    DRIVER_REFUSES(ADDRESS, 32, WRITE, .address = 0x10000000);
-    DRIVER_REFUSES(ADDRESS, 1, WRITE, .address = 0x1000f900);
-    DRIVER_REFUSES(ADDRESS, 513, READ, .address = 0x100010000);
-    DRIVER_REFUSES(ADDRESS, 1, READ, .address = 0x100020000);
-    DRIVER_REFUSES(ADDRESS, 16, READ, .address = 0x41000000);
-    DRIVER_REFUSES(LENGTH, 15, ITEM, .address = 0x41000000);
-    DRIVER_REFUSES(LENGTH, 17, ITEM, .address = 0);
-    DRIVER_REFUSES(ADDRESS, 16, ITEM, .address = 0x41000020);
-    DRIVER_REFUSES(ADDRESS, 16, ITEM, .address = 0x41000008);
-    DRIVER_REFUSES(ADDRESS, 16, ITEM, .address = 0x41000ff0);
-    DRIVER_REFUSES(ADDRESS, 16, ITEM, .address = 0x50000100);
-    DRIVER_REFUSES(ADDRESS, 16, ITEM, .address = 0xfffffffffffffff0);
-    DRIVER_REFUSES(LENGTH, 0, CONTEXT, .pipe = 1, .stream = 1);
-    DRIVER_REFUSES(LENGTH, 17, CONTEXT, .pipe = 9, .stream = 1);
-    DRIVER_REFUSES(RING, 16, CONTEXT, .pipe = 0, .stream = 1);
-    DRIVER_REFUSES(RING, 16, CONTEXT, .pipe = 4, .stream = 1);
-    DRIVER_REFUSES(RING, 16, CONTEXT, .pipe = 1, .stream = 0);
-    DRIVER_REFUSES(RING, 16, CONTEXT, .pipe = 3, .stream = 249);
-    driver_refuses_call(driver, (struct uas_driver_door){ .call = 0 }, 0, UAS_DRIVER_CALL);
-    driver_refuses_call(driver, (struct uas_driver_door){ .call = 11 }, 16, UAS_DRIVER_CALL);
+    DRIVER_REFUSES(DRIVER_RING, 0, RETIRE, .pipe = 0, .tag = 1);
+    DRIVER_REFUSES(DRIVER_RING, 0, RETIRE, .pipe = 4, .tag = 1);
+    DRIVER_REFUSES(DRIVER_RING, 0, LEFT_OVER, .pipe = 0);
+    DRIVER_REFUSES(DRIVER_RING, 0, LEFT_OVER, .pipe = 255);
+    DRIVER_REFUSES(DRIVER_EVENT, 0, EVENT, .type = UAS_TRB_NORMAL, .address = 0x41000000, .code = 1);
+    DRIVER_REFUSES(DRIVER_EVENT, 0, EVENT, .type = 34, .address = 0x41000000, .code = 1);
+    DRIVER_REFUSES(CLIENT_LENGTH, UAS_MOST_DATA_BYTES - 1, REPLY, .client = 9);
+    DRIVER_REFUSES(DRIVER_ADDRESS, 33, READ, .address = 0x10000100);
+    DRIVER_REFUSES(DRIVER_ADDRESS, 1, READ, .address = 0x10000120);
+    DRIVER_REFUSES(DRIVER_ADDRESS, 113, WRITE, .address = 0x20000100);
+    DRIVER_REFUSES(DRIVER_ADDRESS, 32, WRITE, .address = 0x10000000);
+    DRIVER_REFUSES(DRIVER_ADDRESS, 1, WRITE, .address = 0x1000f900);
+    DRIVER_REFUSES(DRIVER_ADDRESS, 513, READ, .address = 0x100010000);
+    DRIVER_REFUSES(DRIVER_ADDRESS, 1, READ, .address = 0x100020000);
+    DRIVER_REFUSES(DRIVER_ADDRESS, 16, READ, .address = 0x41000000);
+    DRIVER_REFUSES(CLIENT_LENGTH, 15, ITEM, .address = 0x41000000);
+    DRIVER_REFUSES(CLIENT_LENGTH, 17, ITEM, .address = 0);
+    DRIVER_REFUSES(DRIVER_ADDRESS, 16, ITEM, .address = 0x41000020);
+    DRIVER_REFUSES(DRIVER_ADDRESS, 16, ITEM, .address = 0x41000008);
+    DRIVER_REFUSES(DRIVER_ADDRESS, 16, ITEM, .address = 0x41000ff0);
+    DRIVER_REFUSES(DRIVER_ADDRESS, 16, ITEM, .address = 0x50000100);
+    DRIVER_REFUSES(DRIVER_ADDRESS, 16, ITEM, .address = 0xfffffffffffffff0);
+    DRIVER_REFUSES(CLIENT_LENGTH, 0, CONTEXT, .pipe = 1, .stream = 1);
+    DRIVER_REFUSES(CLIENT_LENGTH, 17, CONTEXT, .pipe = 9, .stream = 1);
+    DRIVER_REFUSES(DRIVER_RING, 16, CONTEXT, .pipe = 0, .stream = 1);
+    DRIVER_REFUSES(DRIVER_RING, 16, CONTEXT, .pipe = 4, .stream = 1);
+    DRIVER_REFUSES(DRIVER_RING, 16, CONTEXT, .pipe = 1, .stream = 0);
+    DRIVER_REFUSES(DRIVER_RING, 16, CONTEXT, .pipe = 3, .stream = 249);
+    driver_refuses_call(driver, (struct uas_driver_door){ .call = 0 }, 0, UAS_CLIENT_CALL);
+    driver_refuses_call(driver, (struct uas_driver_door){ .call = 11 }, 16, UAS_CLIENT_CALL);
     driver_context_is(driver, UAS_PIPE_DATA_OUT, 248, "03 80 0f 44 00 x12");
     CHECK(uas_driver_read(driver, 0x1000f800, NULL, 0) == 0 && uas_driver_write(driver, 0x2000f800, NULL, 0) == 0);
     uas_driver_free(driver);
@@ -1726,7 +1972,7 @@ static void replies(uas_bus *bus, uint32_t client, uint64_t ticket, uint16_t tag
     struct uas_bus_door got;
     memset(bytes_of_replies, 0xee, sizeof bytes_of_replies);
     memset(&got, 0xee, sizeof got);
-    CHECK(uas_bus_reply(bus, client, bytes_of_replies, sizeof bytes_of_replies - 1, &got) == UAS_BUS_LENGTH);
+    CHECK(uas_bus_reply(bus, client, bytes_of_replies, sizeof bytes_of_replies - 1, &got) == UAS_CLIENT_LENGTH);
     CHECK(all_are((const uint8_t *)&got, sizeof got, 0xee));
     CHECK(all_are(bytes_of_replies, sizeof bytes_of_replies, 0xee));
     CHECK(uas_bus_reply(bus, client, bytes_of_replies, sizeof bytes_of_replies, &got) == 0);
@@ -1830,7 +2076,7 @@ static void bus_abort(void)
     CHECK(submitted(bus, 2, 33, 0, reads(0, 24), 0x77, 24 * 512) == 0);
     acts(bus, "c d33 d33");
     CHECK(uas_bus_task(bus, 2, 1, UAS_ABORT_TASK, 33) == 0);
-    CHECK(uas_bus_task(bus, 2, 2, UAS_LOGICAL_UNIT_RESET, 0) == UAS_BUS_IN_USE);
+    CHECK(uas_bus_task(bus, 2, 2, UAS_LOGICAL_UNIT_RESET, 0) == UAS_CLIENT_IN_USE);
     drains(bus);
     replies(bus, 2, 1, 48, UAS_REPLY_TASK, UAS_RESPONSE_COMPLETE, 0);
     replies(bus, 2, 0, 33, UAS_REPLY_ABORTED, 0, 24 * 512);
@@ -1887,7 +2133,7 @@ static void bus_query(void)
 {
     uas_bus *bus = new_bus(3, 100);
     CHECK(submitted(bus, 2, 34, 0, ready, 0, 0) == 0);
-    CHECK(uas_bus_task(bus, 2, 1, UAS_QUERY_TASK, 33) == UAS_BUS_NO_SUCH_TASK);
+    CHECK(uas_bus_task(bus, 2, 1, UAS_QUERY_TASK, 33) == UAS_CLIENT_NO_SUCH_TASK);
     CHECK(uas_bus_task(bus, 2, 1, UAS_QUERY_TASK, 34) == 0);
     acts(bus, "c c s48 e e e");
     replies(bus, 2, 1, 48, UAS_REPLY_TASK, UAS_RESPONSE_SUCCEEDED, 0);
@@ -1939,6 +2185,64 @@ static void bus_retirement_beside_read(void)
     uas_bus_free(bus);
 }
 
+/* Images and bad blocks of a bus: client 0 writes over a bad block, client 1 reads one, and its other blocks. */
+static void bus_of_images(void)
+{
+    static uint8_t data[24 * 512];
+    uas_bus *bus = NULL;
+    CHECK(uas_bus_open(image_blocks, 2, two_images(), 512 * IMAGE_BLOCKS, three_bad, 4, &bus) == 0);
+    CHECK(submitted(bus, 0, 1, 0, writes(4, 16), 0xaa, 16 * 512) == 0);
+    CHECK(submitted(bus, 1, 17, 0, reads(1, 2), 0x77, 1024) == 0);
+    CHECK(submitted(bus, 1, 18, 1, reads(1, 1), 0x77, 512) == 0);
+    drains(bus);
+    replies_check(bus, 0, 0, 1, 16 * 512, "70 00 03 00 00 00 00 0a 00 00 00 00 0c 00 00 00 00 00");
+    replies(bus, 1, 1, 18, UAS_REPLY_STATUS, UAS_GOOD, 512);
+    CHECK(all_are(bytes_of_replies, 512, 102));
+    replies_check(bus, 1, 0, 17, 1024, "70 00 03 00 00 00 00 0a 00 00 00 00 11 00 00 00 00 00");
+    CHECK(all_are(bytes_of_replies, 1024, 0x77));
+    CHECK(uas_bus_blocks(bus, 0, 0, data, 24 * 512) == 0);
+    CHECK(memcmp(data, two_images(), 4 * 512) == 0 && all_are(data + 4 * 512, 8 * 512, 0xaa));
+    CHECK(memcmp(data + 12 * 512, two_images() + 12 * 512, 12 * 512) == 0);
+    CHECK(uas_bus_medium(bus, 0, 0, data, 24 * 512) == 0 && memcmp(data, two_images(), 24 * 512) == 0);
+    uas_bus_free(bus);
+}
+
+/* Each call on a handle that has data takes none of it at a null pointer, and answers as of any other. */
+static void no_data_at_null(void)
+{
+    uas_device *device = new_device(1, 10);
+    uas_controller *controller = new_controller(1, 10);
+    uas_driver *driver = new_driver(1);
+    uas_bus *bus = new_bus(1, 10);
+    struct uas_driver_door told;
+    struct uas_bus_door got;
+    uint8_t ended[32];
+    uint16_t tag = 7;
+    uint32_t length = 7;
+    bool good = true;
+    CHECK(uas_device_receive(device, NULL, 0, &tag) == 0 && tag == 0);
+    tag = 7;
+    CHECK(uas_device_receive_ended(device, NULL, 0, &tag, ended) == 0 && tag == 0 && all_are(ended, 32, 0));
+    CHECK(uas_device_give(device, 1, NULL, 0, &good) == UAS_DEVICE_PHASE && uas_device_take(device, 1, NULL, 0, &good) == UAS_DEVICE_PHASE);
+    begins(device, 1, 0, (struct uas_operation){ .opcode = UAS_READ_10, .count = 1 });
+    begins(device, 2, 0, (struct uas_operation){ .opcode = UAS_WRITE_10, .count = 1 });
+    begins(device, 3, 0, ready);
+    CHECK(uas_device_give(device, 1, NULL, 0, &good) == UAS_DEVICE_LENGTH && uas_device_take(device, 2, NULL, 0, &good) == UAS_DEVICE_LENGTH);
+    CHECK(uas_device_status(device, 3, NULL, 0, &length) == UAS_DEVICE_LENGTH && uas_device_status(device, 1, NULL, 0, &length) == UAS_DEVICE_PHASE);
+    CHECK(uas_device_blocks(device, 0, 10, NULL, 0) == 0 && uas_device_medium(device, 0, 0, NULL, 0) == 0);
+    CHECK(uas_controller_write(controller, 0, NULL, 0) == 0 && uas_controller_read(controller, 0x10000100, NULL, 0) == 0);
+    CHECK(uas_controller_lend(controller, 1, NULL, 0) == 0 && uas_controller_take_back(controller, 1, NULL, 0, &length) == 0 && length == 0);
+    CHECK(uas_controller_blocks(controller, 0, 10, NULL, 0) == 0 && uas_controller_medium(controller, 0, 0, NULL, 0) == 0);
+    CHECK(uas_driver_submit(driver, 0, 1, 0, &ready, NULL, 0, &told) == 0 && uas_driver_reply(driver, 0, NULL, 0, &told) == UAS_CLIENT_LENGTH);
+    CHECK(uas_driver_read(driver, 0x10000100, NULL, 0) == 0 && uas_driver_write(driver, 0x20000100, NULL, 0) == 0);
+    CHECK(uas_bus_submit(bus, 0, 1, 0, &ready, NULL, 0) == 0 && uas_bus_reply(bus, 0, NULL, 0, &got) == UAS_CLIENT_LENGTH);
+    CHECK(uas_bus_blocks(bus, 0, 10, NULL, 0) == 0 && uas_bus_medium(bus, 0, 0, NULL, 0) == 0);
+    uas_device_free(device);
+    uas_controller_free(controller);
+    uas_driver_free(driver);
+    uas_bus_free(bus);
+}
+
 static void bus_refuses(void)
 {
     uas_bus *bus = new_bus(2, 100);
@@ -1946,30 +2250,30 @@ static void bus_refuses(void)
     uint64_t taken = 7777;
     bool quiet = true;
     struct uas_operation odd = { .opcode = 0x8e };
-    CHECK(submitted(bus, 0, 1, 0, odd, 0, 0) == UAS_BUS_OPERATION);
-    CHECK(submitted(bus, 0, 1, 0, reads(0, 65536), 0, 512) == UAS_BUS_OPERATION);
-    CHECK(submitted(bus, 0, 1, (uint64_t)1 << 60, odd, 0, 0) == UAS_BUS_TICKET);
-    CHECK(submitted(bus, 2, 33, 0, ready, 0, 0) == UAS_BUS_NOT_YOURS);
-    CHECK(submitted(bus, 0, 17, 0, ready, 0, 0) == UAS_BUS_NOT_YOURS);
-    CHECK(submitted(bus, 0, 16, 0, ready, 0, 0) == UAS_BUS_NOT_YOURS);
-    CHECK(submitted(bus, 0, 0, 0, ready, 0, 0) == UAS_BUS_NOT_YOURS);
-    CHECK(submitted(bus, 0, 1, 0, reads(0, 1), 0, 511) == UAS_BUS_BAD_LENGTH);
-    CHECK(submitted(bus, 0, 1, 0, reads(0, 129), 0, 129 * 512) == UAS_BUS_TOO_LONG);
-    CHECK(submitted(bus, 0, 1, 0, reads(0, 129), 0, 129 * 512 - 1) == UAS_BUS_BAD_LENGTH);
+    CHECK(submitted(bus, 0, 1, 0, odd, 0, 0) == UAS_CLIENT_OPERATION);
+    CHECK(submitted(bus, 0, 1, 0, reads(0, 65536), 0, 512) == UAS_CLIENT_OPERATION);
+    CHECK(submitted(bus, 0, 1, (uint64_t)1 << 60, odd, 0, 0) == UAS_CLIENT_TICKET);
+    CHECK(submitted(bus, 2, 33, 0, ready, 0, 0) == UAS_CLIENT_NOT_YOURS);
+    CHECK(submitted(bus, 0, 17, 0, ready, 0, 0) == UAS_CLIENT_NOT_YOURS);
+    CHECK(submitted(bus, 0, 16, 0, ready, 0, 0) == UAS_CLIENT_NOT_YOURS);
+    CHECK(submitted(bus, 0, 0, 0, ready, 0, 0) == UAS_CLIENT_NOT_YOURS);
+    CHECK(submitted(bus, 0, 1, 0, reads(0, 1), 0, 511) == UAS_CLIENT_BAD_LENGTH);
+    CHECK(submitted(bus, 0, 1, 0, reads(0, 129), 0, 129 * 512) == UAS_CLIENT_TOO_LONG);
+    CHECK(submitted(bus, 0, 1, 0, reads(0, 129), 0, 129 * 512 - 1) == UAS_CLIENT_BAD_LENGTH);
     drains(bus);
     CHECK(uas_bus_drain(bus, 0, &taken, &quiet) == 0 && taken == 0 && !quiet);
     no_reply(bus, 0);
 
     CHECK(submitted(bus, 0, 1, 5, ready, 0, 0) == 0);
-    CHECK(submitted(bus, 0, 1, 6, ready, 0, 0) == UAS_BUS_IN_USE);
-    CHECK(submitted(bus, 0, 2, 5, ready, 0, 0) == UAS_BUS_OUT_OF_TURN);
+    CHECK(submitted(bus, 0, 1, 6, ready, 0, 0) == UAS_CLIENT_IN_USE);
+    CHECK(submitted(bus, 0, 2, 5, ready, 0, 0) == UAS_CLIENT_OUT_OF_TURN);
     CHECK(uas_bus_submit(bus, 1, 17, 0, &ready, NULL, 0) == 0);
-    CHECK(uas_bus_task(bus, 0, 4, UAS_ABORT_TASK, 1) == UAS_BUS_OUT_OF_TURN);
-    CHECK(uas_bus_task(bus, 0, 6, UAS_ABORT_TASK, 2) == UAS_BUS_NO_SUCH_TASK);
-    CHECK(uas_bus_task(bus, 0, 6, UAS_ABORT_TASK, 17) == UAS_BUS_NO_SUCH_TASK);
-    CHECK(uas_bus_task(bus, 0, 6, 2, 1) == UAS_BUS_FUNCTION);
-    CHECK(uas_bus_task(bus, 0, (uint64_t)1 << 60, 2, 1) == UAS_BUS_TICKET);
-    CHECK(uas_bus_task(bus, 2, 6, UAS_LOGICAL_UNIT_RESET, 0) == UAS_BUS_NOT_YOURS);
+    CHECK(uas_bus_task(bus, 0, 4, UAS_ABORT_TASK, 1) == UAS_CLIENT_OUT_OF_TURN);
+    CHECK(uas_bus_task(bus, 0, 6, UAS_ABORT_TASK, 2) == UAS_CLIENT_NO_SUCH_TASK);
+    CHECK(uas_bus_task(bus, 0, 6, UAS_ABORT_TASK, 17) == UAS_CLIENT_NO_SUCH_TASK);
+    CHECK(uas_bus_task(bus, 0, 6, 2, 1) == UAS_CLIENT_FUNCTION);
+    CHECK(uas_bus_task(bus, 0, (uint64_t)1 << 60, 2, 1) == UAS_CLIENT_TICKET);
+    CHECK(uas_bus_task(bus, 2, 6, UAS_LOGICAL_UNIT_RESET, 0) == UAS_CLIENT_NOT_YOURS);
     /* Each takes four steps: carried, its status moved, two events. */
     CHECK(uas_bus_drain(bus, 3, &taken, &quiet) == 0 && taken == 3 && !quiet);
     drains(bus);
@@ -1994,17 +2298,17 @@ static void bus_refuses(void)
     struct uas_bus_door got;
     no_reply(bus, 2);
     no_reply(bus, 0xffffffff);
-    CHECK(uas_bus_reply(bus, 2, data, 0, &got) == UAS_BUS_LENGTH);
+    CHECK(uas_bus_reply(bus, 2, data, 0, &got) == UAS_CLIENT_LENGTH);
     CHECK(uas_bus_blocks(bus, 2, 0, data, 512) == UAS_BUS_CLIENT);
     CHECK(uas_bus_blocks(bus, 0, 99, data, 1024) == UAS_BUS_RANGE);
     CHECK(uas_bus_medium(bus, 0, 0xffffffff, data, 512) == UAS_BUS_RANGE);
-    CHECK(uas_bus_medium(bus, 0, 0, data, 513) == UAS_BUS_LENGTH);
+    CHECK(uas_bus_medium(bus, 0, 0, data, 513) == UAS_CLIENT_LENGTH);
     CHECK(all_are(data, sizeof data, 0xee));
     memset(&got, 0xee, sizeof got);
     got.call = 6;
-    CHECK(uas_bus_call(bus, &got, data, 0) == UAS_BUS_CALL);
+    CHECK(uas_bus_call(bus, &got, data, 0) == UAS_CLIENT_CALL);
     got.call = 10;
-    CHECK(uas_bus_call(bus, &got, data, 0) == UAS_BUS_CALL);
+    CHECK(uas_bus_call(bus, &got, data, 0) == UAS_CLIENT_CALL);
     got.call = 0xee;
     CHECK(all_are((const uint8_t *)&got, sizeof got, 0xee));
     uas_bus_free(bus);
@@ -2016,12 +2320,12 @@ static void bus_new_faults(void)
     uas_bus *bus = NULL;
     for (int i = 0; i < 16; i++)
         blocks[i] = 1;
-    CHECK(uas_bus_new(blocks, 0, &bus) == UAS_BUS_CLIENTS);
-    CHECK(uas_bus_new(blocks, 16, &bus) == UAS_BUS_CLIENTS);
+    CHECK(uas_bus_new(blocks, 0, &bus) == UAS_UNITS);
+    CHECK(uas_bus_new(blocks, 16, &bus) == UAS_UNITS);
     blocks[14] = 0;
-    CHECK(uas_bus_new(blocks, 15, &bus) == UAS_BUS_BLOCKS);
+    CHECK(uas_bus_new(blocks, 15, &bus) == UAS_BLOCKS);
     blocks[14] = 65537;
-    CHECK(uas_bus_new(blocks, 15, &bus) == UAS_BUS_BLOCKS);
+    CHECK(uas_bus_new(blocks, 15, &bus) == UAS_BLOCKS);
     CHECK(bus == NULL);
     blocks[14] = 65536;
     CHECK(uas_bus_new(blocks, 15, &bus) == 0 && bus != NULL);
@@ -2046,6 +2350,10 @@ int main(void)
     device_moves();
     device_manages();
     device_refuses();
+    open_faults();
+    device_of_images();
+    device_tells_tasks();
+    device_resets();
     controller_new_faults();
     controller_steps_over();
     controller_tells_own();
@@ -2055,6 +2363,7 @@ int main(void)
     controller_rings();
     controller_full_of_events();
     controller_refuses();
+    controller_of_images();
     driver_new_faults();
     driver_answers();
     driver_reads();
@@ -2073,5 +2382,7 @@ int main(void)
     bus_query();
     bus_retirement_beside_read();
     bus_refuses();
+    bus_of_images();
+    no_data_at_null();
     return tell("worked");
 }

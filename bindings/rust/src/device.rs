@@ -1,43 +1,13 @@
 //! The device (INCITS 471, SAM).
 
+use crate::faults::{BlocksFault, DeviceFault, OpenFault};
+use crate::handle::{handle, raw_bad, BadBlock};
 use crate::unit::Unit;
 use crate::{raw, MOST_UNIT_BYTES};
 use std::fmt;
 use std::ptr::{self, NonNull};
 
-const RECEIVE: u8 = 1;
-const WANTS: u8 = 2;
-const GIVE: u8 = 3;
-const TAKE: u8 = 4;
-const STATUS: u8 = 5;
-const SENT: u8 = 6;
-const SIZE: u8 = 7;
-const BLOCKS: u8 = 8;
-const MEDIUM: u8 = 9;
-
-/// Why there is no device.
-#[derive(Clone, Copy, Debug, PartialEq, Eq, Hash)]
-pub enum NewDeviceFault {
-    NoMemory,
-    /// No unit, or more than 15.
-    Units,
-    /// A unit of no block, or of more than 65,536.
-    Blocks,
-}
-
-impl fmt::Display for NewDeviceFault {
-    fn fmt(&self, out: &mut fmt::Formatter<'_>) -> fmt::Result {
-        out.write_str(match self {
-            Self::NoMemory => "no memory",
-            Self::Units => "no unit, or more than 15",
-            Self::Blocks => "a unit of no block, or of more than 65536",
-        })
-    }
-}
-
-impl std::error::Error for NewDeviceFault {}
-
-/// The tag of a received unit has a task (INCITS 471, overlapped tag).
+/// The tag of a received information unit has a task (INCITS 471, overlapped tag).
 #[derive(Clone, Copy, Debug, PartialEq, Eq, Hash)]
 pub struct Overlap;
 
@@ -49,31 +19,14 @@ impl fmt::Display for Overlap {
 
 impl std::error::Error for Overlap {}
 
-/// Why a call of a device is refused; it changed nothing.
-#[derive(Clone, Copy, Debug, PartialEq, Eq, Hash)]
-pub enum DeviceFault {
-    /// The tag isn't at this.
-    Phase,
-    /// The bytes aren't as many as the chunk, or no multiple of 512.
-    Length,
-    /// There is no such logical unit.
-    Unit,
-    /// Blocks beyond the unit's last.
-    Range,
+/// What came of received bytes.
+#[derive(Clone, Debug, PartialEq, Eq, Hash)]
+pub struct Received {
+    /// The tag on which a task began; `None`: nothing came of them.
+    pub began: Option<u16>,
+    /// The tags, rising, of the commands that this task management ended, which get no answer.
+    pub ended: Vec<u16>,
 }
-
-impl fmt::Display for DeviceFault {
-    fn fmt(&self, out: &mut fmt::Formatter<'_>) -> fmt::Result {
-        out.write_str(match self {
-            Self::Phase => "the tag isn't at this",
-            Self::Length => "a wrong number of bytes",
-            Self::Unit => "no such logical unit",
-            Self::Range => "blocks beyond the last",
-        })
-    }
-}
-
-impl std::error::Error for DeviceFault {}
 
 /// What a device does next on a tag.
 #[derive(Clone, Copy, Debug, PartialEq, Eq, Hash)]
@@ -97,131 +50,152 @@ pub enum Moved {
 }
 
 /// A disk of logical units. A task is named by its tag, 1 to 240. It can be sent to another thread, and isn't shared between threads.
+///
+/// A backend receives bytes from the command pipe, asks what a tag wants, moves its chunks and sends its answer:
+///
+/// ```
+/// use uas::{BadBlock, Device, Moved, Operation, Phase, Status, Unit};
+///
+/// let image = vec![0x5a; 100 * 512];
+/// let mut disk = Device::open(&[100], &image, &[BadBlock { unit: 0, lba: 9 }]).unwrap();
+/// let read = Operation::Read { lba: 0, count: 10, fua: false };
+/// let command = Unit::Command { tag: 1, lun: uas::lun(0), cdb: read.cdb() };
+/// assert_eq!(disk.receive(&command.to_bytes().unwrap()).unwrap().began, Some(1));
+/// let mut data = vec![0; 4096];
+/// assert_eq!(disk.wants(1), Phase::Gives(4096));
+/// assert_eq!(disk.give(1, &mut data), Ok(Moved::All));
+/// assert_eq!(data, image[..4096]);
+/// assert_eq!(disk.give(1, &mut data[..1024]), Ok(Moved::BadBlock));
+/// assert_eq!(disk.wants(1), Phase::Ends);
+/// assert!(matches!(disk.status(1), Ok(Unit::Sense { status: Status::CheckCondition, .. })));
+/// disk.sent(1).unwrap();
+/// ```
 #[derive(Debug)]
 pub struct Device {
     handle: NonNull<raw::Device>,
 }
 
-// SAFETY: the library keeps all that a handle is about behind its pointer, and asks only that a handle be in one call at a time. A
-// `Device` owns its handle, so whoever has the `Device` alone calls; its shared calls stay in the one thread, as it isn't `Sync`.
-unsafe impl Send for Device {}
+handle!(Device, uas_device_free);
 
 impl Device {
     /// A device of one zeroed logical unit for each number of blocks, and no task.
-    pub fn new(blocks: &[u32]) -> Result<Self, NewDeviceFault> {
-        let mut handle = ptr::null_mut();
-        // SAFETY: a slice's pointer and length, and a reference to the place of the handle.
-        match unsafe { raw::uas_device_new(blocks.as_ptr(), blocks.len(), &mut handle) } {
-            0 => NonNull::new(handle).map(|handle| Self { handle }).ok_or(NewDeviceFault::NoMemory),
-            2 => Err(NewDeviceFault::Units),
-            3 => Err(NewDeviceFault::Blocks),
-            _ => Err(NewDeviceFault::NoMemory),
-        }
+    pub fn new(blocks: &[u32]) -> Result<Self, OpenFault> {
+        Self::open(blocks, &[], &[])
     }
 
-    /// The device receives bytes: the tag on which a task began, or `None` where nothing came of them.
-    pub fn receive(&mut self, bytes: &[u8]) -> Result<Option<u16>, Overlap> {
-        let mut door = raw::DeviceDoor { call: RECEIVE, ..raw::DeviceDoor::default() };
-        match self.bring(&mut door, bytes) {
-            0 => Ok((door.good == 1).then_some(door.tag)),
+    /// A device from the logical units' images, one behind the other, which become its blocks and its medium; no byte: all zeros.
+    pub fn open(blocks: &[u32], image: &[u8], bad: &[BadBlock]) -> Result<Self, OpenFault> {
+        let bad = raw_bad(bad);
+        let mut handle = ptr::null_mut();
+        // SAFETY: slices' pointers and lengths, and a reference to the place of the handle.
+        let fault = unsafe {
+            raw::uas_device_open(blocks.as_ptr(), blocks.len(), image.as_ptr(), image.len(), bad.as_ptr(), bad.len(), &mut handle)
+        };
+        OpenFault::of(fault)?;
+        Ok(Self { handle: NonNull::new(handle).ok_or(OpenFault::NoMemory)? })
+    }
+
+    /// The device receives the bytes of an information unit, or any others.
+    pub fn receive(&mut self, bytes: &[u8]) -> Result<Received, Overlap> {
+        let (mut tag, mut ended) = (0, [0; 32]);
+        // SAFETY: the handle is live and in no other call, as a `Device` can't be shared between threads; a slice's pointer and length,
+        // and references to what is written.
+        match unsafe { raw::uas_device_receive_ended(self.handle.as_ptr(), bytes.as_ptr(), bytes.len(), &mut tag, &mut ended) } {
+            0 => Ok(Received { began: (tag != 0).then_some(tag), ended: tags_of(&ended) }),
             _ => Err(Overlap),
         }
     }
 
     /// What the device does next on a tag.
     pub fn wants(&self, tag: u16) -> Phase {
-        let mut door = raw::DeviceDoor { call: WANTS, tag, ..raw::DeviceDoor::default() };
-        self.fill(&mut door, &mut []);
-        match door.phase {
-            1 => Phase::Gives(door.length as usize),
-            2 => Phase::Takes(door.length as usize),
+        let (mut phase, mut length) = (0, 0);
+        // SAFETY: as in `receive`.
+        unsafe { raw::uas_device_wants(self.handle.as_ptr(), tag, &mut phase, &mut length) };
+        match phase {
+            1 => Phase::Gives(length as usize),
+            2 => Phase::Takes(length as usize),
             3 => Phase::Ends,
             _ => Phase::Absent,
         }
     }
 
+    /// The tags that have a task, rising.
+    pub fn tasks(&self) -> impl Iterator<Item = u16> + '_ {
+        let mut last = 0;
+        std::iter::from_fn(move || {
+            let mut there = false;
+            // SAFETY: as in `receive`.
+            unsafe { raw::uas_device_next(self.handle.as_ptr(), &mut last, &mut there) };
+            there.then_some(last)
+        })
+    }
+
     /// Fills `data` with the next chunk of a tag that gives as many bytes.
     pub fn give(&mut self, tag: u16, data: &mut [u8]) -> Result<Moved, DeviceFault> {
-        let mut door = raw::DeviceDoor { call: GIVE, tag, ..raw::DeviceDoor::default() };
-        done(self.fill(&mut door, data))?;
-        Ok(moved(&door))
+        let mut good = false;
+        // SAFETY: as in `receive`.
+        DeviceFault::of(unsafe { raw::uas_device_give(self.handle.as_ptr(), tag, data.as_mut_ptr(), data.len(), &mut good) })?;
+        Ok(moved(good))
     }
 
     /// Takes `data` as the next chunk of a tag that takes as many bytes.
     pub fn take(&mut self, tag: u16, data: &[u8]) -> Result<Moved, DeviceFault> {
-        let mut door = raw::DeviceDoor { call: TAKE, tag, ..raw::DeviceDoor::default() };
-        done(self.bring(&mut door, data))?;
-        Ok(moved(&door))
+        let mut good = false;
+        // SAFETY: as in `receive`.
+        DeviceFault::of(unsafe { raw::uas_device_take(self.handle.as_ptr(), tag, data.as_ptr(), data.len(), &mut good) })?;
+        Ok(moved(good))
     }
 
-    /// The unit that answers the task of a tag that ends.
+    /// The information unit that answers the task of a tag that ends.
     pub fn status(&self, tag: u16) -> Result<Unit, DeviceFault> {
-        let mut door = raw::DeviceDoor { call: STATUS, tag, ..raw::DeviceDoor::default() };
-        let mut bytes = [0; MOST_UNIT_BYTES];
-        done(self.fill(&mut door, &mut bytes))?;
-        Unit::from_bytes(&bytes[..(door.length as usize).min(MOST_UNIT_BYTES)]).map_err(|_| DeviceFault::Length)
+        let (mut bytes, mut length) = ([0; MOST_UNIT_BYTES], 0);
+        // SAFETY: as in `receive`.
+        DeviceFault::of(unsafe { raw::uas_device_status(self.handle.as_ptr(), tag, bytes.as_mut_ptr(), bytes.len(), &mut length) })?;
+        Unit::from_bytes(&bytes[..(length as usize).min(MOST_UNIT_BYTES)]).map_err(|_| DeviceFault::Length)
     }
 
     /// The answer of a tag was sent: it has no task any more.
     pub fn sent(&mut self, tag: u16) -> Result<(), DeviceFault> {
-        let mut door = raw::DeviceDoor { call: SENT, tag, ..raw::DeviceDoor::default() };
-        done(self.fill(&mut door, &mut []))
+        // SAFETY: as in `receive`.
+        DeviceFault::of(unsafe { raw::uas_device_sent(self.handle.as_ptr(), tag) })
+    }
+
+    /// A reset of the whole device: no tag has a task any more, and the next command of each logical unit but INQUIRY ends with 6/29/03.
+    pub fn reset(&mut self) {
+        // SAFETY: as in `receive`.
+        unsafe { raw::uas_device_reset(self.handle.as_ptr()) };
     }
 
     /// How many blocks a logical unit has.
-    pub fn size(&self, unit: u16) -> Result<u32, DeviceFault> {
-        let mut door = raw::DeviceDoor { call: SIZE, unit, ..raw::DeviceDoor::default() };
-        done(self.fill(&mut door, &mut []))?;
-        Ok(door.length)
+    pub fn size(&self, unit: u16) -> Result<u32, BlocksFault> {
+        let mut blocks = 0;
+        // SAFETY: as in `receive`.
+        BlocksFault::of(unsafe { raw::uas_device_size(self.handle.as_ptr(), unit, &mut blocks) })?;
+        Ok(blocks)
     }
 
-    /// The blocks of a logical unit from `lba` on, as a READ of this moment would give them.
-    pub fn blocks(&self, unit: u16, lba: u32, data: &mut [u8]) -> Result<(), DeviceFault> {
-        done(self.fill(&mut raw::DeviceDoor { call: BLOCKS, unit, lba, ..raw::DeviceDoor::default() }, data))
+    /// The blocks of a logical unit from `lba` on, as a READ of this moment would give them, and the bytes of bad ones too.
+    pub fn blocks(&self, unit: u16, lba: u32, data: &mut [u8]) -> Result<(), BlocksFault> {
+        // SAFETY: as in `receive`.
+        BlocksFault::of(unsafe { raw::uas_device_blocks(self.handle.as_ptr(), unit, lba, data.as_mut_ptr(), data.len()) })
     }
 
     /// The same of the medium.
-    pub fn medium(&self, unit: u16, lba: u32, data: &mut [u8]) -> Result<(), DeviceFault> {
-        done(self.fill(&mut raw::DeviceDoor { call: MEDIUM, unit, lba, ..raw::DeviceDoor::default() }, data))
-    }
-
-    fn fill(&self, door: &mut raw::DeviceDoor, data: &mut [u8]) -> u8 {
-        // SAFETY: the handle is live and in no other call, as a `Device` can't be shared between threads; a slice's pointer and length.
-        unsafe { raw::uas_device_call(self.handle.as_ptr(), door, data.as_mut_ptr(), data.len()) }
-    }
-
-    /// For the calls that only read `data`.
-    fn bring(&mut self, door: &mut raw::DeviceDoor, data: &[u8]) -> u8 {
-        // SAFETY: as in `fill`; the library doesn't write to the data of RECEIVE and TAKE.
-        unsafe { raw::uas_device_call(self.handle.as_ptr(), door, data.as_ptr().cast_mut(), data.len()) }
+    pub fn medium(&self, unit: u16, lba: u32, data: &mut [u8]) -> Result<(), BlocksFault> {
+        // SAFETY: as in `receive`.
+        BlocksFault::of(unsafe { raw::uas_device_medium(self.handle.as_ptr(), unit, lba, data.as_mut_ptr(), data.len()) })
     }
 }
 
-impl Drop for Device {
-    fn drop(&mut self) {
-        let handle = self.handle.as_ptr();
-        // SAFETY: the handle is live and isn't used again; once it is closed its own block of malloc is left.
-        unsafe {
-            raw::uas_device_close(handle);
-            raw::free(handle.cast());
-        }
-    }
-}
-
-fn done(fault: u8) -> Result<(), DeviceFault> {
-    match fault {
-        0 => Ok(()),
-        3 => Err(DeviceFault::Phase),
-        5 => Err(DeviceFault::Unit),
-        6 => Err(DeviceFault::Range),
-        _ => Err(DeviceFault::Length),
-    }
-}
-
-fn moved(door: &raw::DeviceDoor) -> Moved {
-    if door.good == 1 {
+fn moved(good: bool) -> Moved {
+    if good {
         Moved::All
     } else {
         Moved::BadBlock
     }
+}
+
+/// The tags whose bits are set.
+fn tags_of(ended: &[u8; 32]) -> Vec<u16> {
+    (0..256).filter(|&tag| ended[usize::from(tag) / 8] >> (tag % 8) & 1 == 1).collect()
 }

@@ -40,7 +40,7 @@ named! {
 }
 
 named! {
-    /// A response code (INCITS 471, Response unit).
+    /// A response code (INCITS 471, Response information unit).
     ResponseCode {
         Complete = 0x00,
         InvalidInformationUnit = 0x02,
@@ -51,7 +51,7 @@ named! {
 }
 
 named! {
-    /// A task management function (INCITS 471, Task Management unit).
+    /// A task management function (INCITS 471, Task Management information unit).
     Function {
         AbortTask = 0x01,
         LogicalUnitReset = 0x08,

@@ -80,7 +80,7 @@ impl Operation {
         cdb
     }
 
-    /// What a CDB asks of a unit of so many blocks, or the sense of the first fault.
+    /// What a CDB asks of a logical unit of so many blocks, or the sense of the first fault.
     pub fn parse(cdb: &[u8; 16], blocks: u32) -> Result<Asked, Sense> {
         let mut record = raw::Operation::default();
         let mut sense = raw::Sense::default();
@@ -137,7 +137,7 @@ fn transfer_of(record: &raw::Operation) -> Transfer {
     }
 }
 
-/// The standard INQUIRY data (SPC) of a unit that is there or isn't.
+/// The standard INQUIRY data (SPC) of a logical unit that is there or isn't.
 pub fn inquiry_data(present: bool) -> [u8; 36] {
     let mut bytes = [0; 36];
     // SAFETY: the pointer comes from a reference to a whole value of the declared type.
@@ -145,7 +145,7 @@ pub fn inquiry_data(present: bool) -> [u8; 36] {
     bytes
 }
 
-/// The READ CAPACITY(10) data (SBC) of a unit of so many blocks.
+/// The READ CAPACITY(10) data (SBC) of a logical unit of so many blocks.
 pub fn capacity_data(blocks: NonZeroU32) -> [u8; 8] {
     let mut bytes = [0; 8];
     // SAFETY: the pointer comes from a reference to a whole value of the declared type.
@@ -154,7 +154,7 @@ pub fn capacity_data(blocks: NonZeroU32) -> [u8; 8] {
     bytes
 }
 
-/// The READ CAPACITY(16) data (SBC) of a unit of so many blocks.
+/// The READ CAPACITY(16) data (SBC) of a logical unit of so many blocks.
 pub fn long_capacity_data(blocks: NonZeroU32) -> [u8; 32] {
     let mut bytes = [0; 32];
     // SAFETY: the pointer comes from a reference to a whole value of the declared type.

@@ -1,7 +1,7 @@
 //! TRBs (xHCI 1.2, 6.4).
 
 use crate::numbers::CompletionCode;
-use crate::raw;
+use crate::{faults, raw};
 use std::fmt;
 use std::ops::BitOr;
 
@@ -117,13 +117,13 @@ impl Trb {
         // SAFETY: as above.
         match unsafe { raw::uas_trb_decode(bytes, &mut record) } {
             0 => Ok((Self::of(&record), record.cycle == 1)),
-            1 => Err(TrbFault::UnknownType),
-            2 => Err(TrbFault::LengthOver),
+            faults::TRB_UNKNOWN_TYPE => Err(TrbFault::UnknownType),
+            faults::TRB_LENGTH_OVER => Err(TrbFault::LengthOver),
             _ => Err(TrbFault::ReservedSet),
         }
     }
 
-    fn record(&self, cycle: bool) -> raw::Trb {
+    pub(crate) fn record(&self, cycle: bool) -> raw::Trb {
         let with_cycle = raw::Trb { cycle: cycle.into(), ..raw::Trb::default() };
         match *self {
             Self::Normal { pointer, length, td_size, flags } => {

@@ -1,7 +1,7 @@
 //! Information units (INCITS 471, information units).
 
 use crate::numbers::{Function, ResponseCode, Status};
-use crate::{raw, MOST_SENSE_BYTES, MOST_UNIT_BYTES};
+use crate::{faults, raw, MOST_SENSE_BYTES, MOST_UNIT_BYTES};
 use std::fmt;
 
 const COMMAND: u8 = 1;
@@ -9,7 +9,7 @@ const SENSE: u8 = 3;
 const RESPONSE: u8 = 4;
 const TASK: u8 = 5;
 
-/// The eight bytes of the logical unit number of unit `number` (SAM, single level LUN structure).
+/// The eight bytes of the number of logical unit `number` (SAM, single level LUN structure).
 pub fn lun(number: u8) -> [u8; 8] {
     [0, number, 0, 0, 0, 0, 0, 0]
 }
@@ -21,20 +21,20 @@ pub enum Unit {
     Command { tag: u16, lun: [u8; 8], cdb: [u8; 16] },
     /// From the device: the task `tag` ended with this status; at most 96 bytes of sense data.
     Sense { tag: u16, status: Status, sense: Vec<u8> },
-    /// From the device: the answer to task management, or to bytes that are no unit.
+    /// From the device: the answer to task management, or to bytes that are no information unit.
     Response { tag: u16, code: ResponseCode },
     /// From the host: task management, of the task `task_tag` where the function names one.
     Task { tag: u16, function: Function, task_tag: u16, lun: [u8; 8] },
 }
 
-/// Why bytes are no unit: the first that holds.
+/// Why bytes are no information unit: the first that holds.
 #[derive(Clone, Copy, Debug, PartialEq, Eq, Hash)]
 pub enum UnitFault {
-    /// Byte 0 is no unit's.
+    /// Byte 0 is no information unit's.
     UnknownId,
-    /// No byte, or fewer than the unit has.
+    /// No byte, or fewer than the information unit has.
     Short,
-    /// More bytes than the unit can have.
+    /// More bytes than the information unit can have.
     Long,
     /// A byte that has to be 0 isn't.
     ReservedSet,
@@ -56,7 +56,7 @@ impl fmt::Display for UnitFault {
 
 impl std::error::Error for UnitFault {}
 
-/// More sense data than a unit can hold.
+/// More sense data than an information unit can hold.
 #[derive(Clone, Copy, Debug, PartialEq, Eq, Hash)]
 pub struct TooMuchSense;
 
@@ -69,28 +69,28 @@ impl fmt::Display for TooMuchSense {
 impl std::error::Error for TooMuchSense {}
 
 impl Unit {
-    /// The tag of the task that the unit belongs to.
+    /// The tag of the task that the information unit belongs to.
     pub fn tag(&self) -> u16 {
         match *self {
             Self::Command { tag, .. } | Self::Sense { tag, .. } | Self::Response { tag, .. } | Self::Task { tag, .. } => tag,
         }
     }
 
-    /// The unit whose bytes these are.
+    /// The information unit whose bytes these are.
     pub fn from_bytes(bytes: &[u8]) -> Result<Self, UnitFault> {
         let mut record = raw::Unit::ZEROED;
         // SAFETY: a slice's pointer and length, and a reference to a whole value of the declared type.
         match unsafe { raw::uas_unit_read(bytes.as_ptr(), bytes.len(), &mut record) } {
             0 => Ok(Self::of(&record)),
-            1 => Err(UnitFault::UnknownId),
-            2 => Err(UnitFault::Short),
-            3 => Err(UnitFault::Long),
-            4 => Err(UnitFault::ReservedSet),
+            faults::UNIT_UNKNOWN_ID => Err(UnitFault::UnknownId),
+            faults::UNIT_SHORT => Err(UnitFault::Short),
+            faults::UNIT_LONG => Err(UnitFault::Long),
+            faults::UNIT_RESERVED_SET => Err(UnitFault::ReservedSet),
             _ => Err(UnitFault::LengthField),
         }
     }
 
-    /// The unit's bytes, at most 112.
+    /// The information unit's bytes, at most 112.
     pub fn to_bytes(&self) -> Result<Vec<u8>, TooMuchSense> {
         let record = self.record()?;
         let mut bytes = vec![0; MOST_UNIT_BYTES];
@@ -126,7 +126,7 @@ impl Unit {
         Ok(record)
     }
 
-    /// The unit of a record that the library wrote.
+    /// The information unit of a record that the library wrote.
     fn of(record: &raw::Unit) -> Self {
         let raw::Unit { tag, lun, cdb, .. } = *record;
         match record.id {

@@ -2,8 +2,9 @@
 
 use std::num::NonZeroU32;
 use uas::{
-    lun, Asked, Bus, BusFault, CompletionCode, Device, DeviceFault, Drained, Function, Moved, NewBusFault, NewDeviceFault, Operation,
-    Overlap, Phase, Pipe, Reply, ResponseCode, Sense, Status, Step, Task, Transfer, Trb, TrbFault, TrbFlags, Unfit, Unit, UnitFault,
+    lun, Asked, BadBlock, BlocksFault, Bus, ClientFault, CompletionCode, Device, DeviceFault, Drained, Function, Moved, OpenFault,
+    Operation, Overlap, Phase, Pipe, Received, Reply, ResponseCode, Sense, Status, Step, Task, Transfer, Trb, TrbFault, TrbFlags, Unfit,
+    Unit, UnitFault,
 };
 
 const OUT_OF_RANGE: [u8; 18] = [0x70, 0, 5, 0, 0, 0, 0, 10, 0, 0, 0, 0, 0x21, 0, 0, 0, 0, 0];
@@ -116,9 +117,13 @@ fn operations() {
     assert_eq!(uas::long_capacity_data(NonZeroU32::new(100).unwrap())[..12], [0, 0, 0, 0, 0, 0, 0, 99, 0, 0, 2, 0]);
 }
 
+fn began(tag: u16) -> Result<Received, Overlap> {
+    Ok(Received { began: Some(tag), ended: vec![] })
+}
+
 fn begin(disk: &mut Device, tag: u16, unit: u8, operation: Operation) {
     let command = Unit::Command { tag, lun: lun(unit), cdb: operation.cdb() };
-    assert_eq!(disk.receive(&command.to_bytes().unwrap()), Ok(Some(tag)));
+    assert_eq!(disk.receive(&command.to_bytes().unwrap()), began(tag));
 }
 
 fn ends(disk: &mut Device, unit: Unit) {
@@ -134,11 +139,11 @@ fn good(tag: u16) -> Unit {
 
 #[test]
 fn a_device() {
-    assert_eq!(Device::new(&[]).err(), Some(NewDeviceFault::Units));
-    assert_eq!(Device::new(&[1; 32]).err(), Some(NewDeviceFault::Units));
-    assert_eq!(Device::new(&[1, 0]).err(), Some(NewDeviceFault::Blocks));
+    assert_eq!(Device::new(&[]).err(), Some(OpenFault::Units));
+    assert_eq!(Device::new(&[1; 32]).err(), Some(OpenFault::Units));
+    assert_eq!(Device::new(&[1, 0]).err(), Some(OpenFault::Blocks));
     let mut disk = Device::new(&[100, 10]).unwrap();
-    assert_eq!((disk.size(1), disk.size(2)), (Ok(10), Err(DeviceFault::Unit)));
+    assert_eq!((disk.size(1), disk.size(2)), (Ok(10), Err(BlocksFault::Unit)));
 
     begin(&mut disk, 1, 1, Operation::Write { lba: 1, count: 9, fua: false });
     assert_eq!(disk.wants(1), Phase::Takes(4096));
@@ -153,8 +158,8 @@ fn a_device() {
     assert_eq!((data[511], data[512]), (1, 2));
     assert_eq!(disk.medium(1, 8, &mut data), Ok(()));
     assert_eq!(data, [0; 1024]);
-    assert_eq!(disk.blocks(1, 9, &mut data), Err(DeviceFault::Range));
-    assert_eq!(disk.blocks(1, 0, &mut data[..5]), Err(DeviceFault::Length));
+    assert_eq!(disk.blocks(1, 9, &mut data), Err(BlocksFault::Range));
+    assert_eq!(disk.blocks(1, 0, &mut data[..5]), Err(BlocksFault::Length));
 
     begin(&mut disk, 2, 1, Operation::Read { lba: 9, count: 1, fua: false });
     let command = Unit::Command { tag: 2, lun: lun(0), cdb: Operation::TestUnitReady.cdb() };
@@ -165,28 +170,63 @@ fn a_device() {
 
     begin(&mut disk, 2, 1, Operation::Read { lba: 9, count: 2, fua: false });
     ends(&mut disk, Unit::Sense { tag: 2, status: Status::CheckCondition, sense: OUT_OF_RANGE.to_vec() });
-    assert_eq!(disk.receive(&[4, 0, 0, 1, 0, 0, 0, 0]), Ok(None));
-    assert_eq!(disk.receive(&[1, 0, 0, 1]), Ok(Some(1)));
+    assert_eq!(disk.receive(&[4, 0, 0, 1, 0, 0, 0, 0]), Ok(Received { began: None, ended: vec![] }));
+    assert_eq!(disk.receive(&[1, 0, 0, 1]), began(1));
     ends(&mut disk, Unit::Response { tag: 1, code: ResponseCode::InvalidInformationUnit });
     begin(&mut disk, 3, 0, Operation::Read { lba: 0, count: 1, fua: false });
     let reset = Unit::Task { tag: 4, function: Function::LogicalUnitReset, task_tag: 0, lun: lun(0) };
-    assert_eq!(disk.receive(&reset.to_bytes().unwrap()), Ok(Some(4)));
+    assert_eq!(disk.tasks().collect::<Vec<_>>(), [3]);
+    assert_eq!(disk.receive(&reset.to_bytes().unwrap()), Ok(Received { began: Some(4), ended: vec![3] }));
+    assert_eq!(disk.tasks().collect::<Vec<_>>(), [4]);
     ends(&mut disk, Unit::Response { tag: 4, code: ResponseCode::Complete });
     assert_eq!(disk.wants(3), Phase::Absent);
+
+    begin(&mut disk, 240, 1, Operation::Read { lba: 0, count: 1, fua: false });
+    disk.reset();
+    assert_eq!(disk.tasks().next(), None);
+    begin(&mut disk, 1, 1, Operation::TestUnitReady);
+    let told = Sense { key: 6, asc: 0x29, ascq: 3 }.fixed().to_vec();
+    ends(&mut disk, Unit::Sense { tag: 1, status: Status::CheckCondition, sense: told });
+}
+
+/// Of two logical units, of 2 blocks and of 3; all bytes of the blocks are 1 to 5.
+fn image() -> Vec<u8> {
+    (1..=5).flat_map(|byte| [byte; 512]).collect()
+}
+
+#[test]
+fn images() {
+    let bad = [BadBlock { unit: 1, lba: 2 }, BadBlock { unit: 1, lba: 2 }];
+    assert_eq!(Device::open(&[2, 3], &image()[1..], &bad).err(), Some(OpenFault::Image));
+    assert_eq!(Device::open(&[2, 3], &image(), &[BadBlock { unit: 0, lba: 2 }]).err(), Some(OpenFault::BadBlock));
+    assert_eq!(Bus::open(&[2, 3], &image()[512..], &[]).err(), Some(OpenFault::Image));
+    let mut disk = Device::open(&[2, 3], &image(), &bad).unwrap();
+    let mut data = [0; 1536];
+    assert_eq!(disk.medium(1, 0, &mut data), Ok(()));
+    assert_eq!(data[..], image()[1024..]);
+    begin(&mut disk, 1, 1, Operation::Write { lba: 1, count: 2, fua: false });
+    assert_eq!(disk.take(1, &data[..1024]), Ok(Moved::BadBlock));
+    let sense = Sense { key: 3, asc: 0x0c, ascq: 0 }.fixed().to_vec();
+    ends(&mut disk, Unit::Sense { tag: 1, status: Status::CheckCondition, sense });
+    let mut bus = Bus::open(&[2, 3], &image(), &bad).unwrap();
+    assert_eq!(bus.submit(1, 17, 0, &Operation::Read { lba: 1, count: 1, fua: false }, &[0; 512]), Ok(()));
+    assert!(bus.drain(1000).quiet);
+    let Some(Reply::Status { status: Status::Good, data, .. }) = bus.take_reply(1) else { panic!() };
+    assert_eq!(data, [4; 512]);
 }
 
 #[test]
 fn a_bus() {
-    assert_eq!(Bus::new(&[]).err(), Some(NewBusFault::Clients));
-    assert_eq!(Bus::new(&[65537]).err(), Some(NewBusFault::Blocks));
+    assert_eq!(Bus::new(&[]).err(), Some(OpenFault::Units));
+    assert_eq!(Bus::new(&[65537]).err(), Some(OpenFault::Blocks));
     let mut bus = Bus::new(&[100, 100, 100]).unwrap();
     let read = Operation::Read { lba: 0, count: 24, fua: false };
     assert_eq!(bus.submit(2, 33, 0, &read, &[7; 24 * 512]), Ok(()));
-    assert_eq!(bus.submit(2, 33, 1, &read, &[7; 24 * 512]), Err(BusFault::InUse));
-    assert_eq!(bus.submit(2, 34, 0, &read, &[7; 24 * 512]), Err(BusFault::OutOfTurn));
-    assert_eq!(bus.submit(2, 34, 1, &read, &[7; 23 * 512]), Err(BusFault::BadLength));
-    assert_eq!(bus.submit(2, 17, 1, &read, &[7; 24 * 512]), Err(BusFault::NotYours));
-    assert_eq!(bus.submit(2, 34, 1 << 60, &read, &[7; 24 * 512]), Err(BusFault::Ticket));
+    assert_eq!(bus.submit(2, 33, 1, &read, &[7; 24 * 512]), Err(ClientFault::InUse));
+    assert_eq!(bus.submit(2, 34, 0, &read, &[7; 24 * 512]), Err(ClientFault::OutOfTurn));
+    assert_eq!(bus.submit(2, 34, 1, &read, &[7; 23 * 512]), Err(ClientFault::BadLength));
+    assert_eq!(bus.submit(2, 17, 1, &read, &[7; 24 * 512]), Err(ClientFault::NotYours));
+    assert_eq!(bus.submit(2, 34, 1 << 60, &read, &[7; 24 * 512]), Err(ClientFault::Ticket));
     assert!(bus.is_due(Step::Command));
     assert_eq!(bus.step(Step::Command), Some(2));
     assert_eq!(bus.step(Step::Command), None);
@@ -195,7 +235,7 @@ fn a_bus() {
     assert_eq!(bus.step(Step::Data(33)), Some(2));
     assert_eq!(bus.step(Step::Data(33)), Some(2));
     assert_eq!(bus.step(Step::Status(33)), None);
-    assert_eq!(bus.task(2, 1, Task::Abort { tag: 34 }), Err(BusFault::NoSuchTask));
+    assert_eq!(bus.task(2, 1, Task::Abort { tag: 34 }), Err(ClientFault::NoSuchTask));
     assert_eq!(bus.task(2, 1, Task::Abort { tag: 33 }), Ok(()));
     assert_eq!(bus.step(Step::Retire(Pipe::DataIn, 33)), None);
     assert_eq!(bus.drain(1), Drained { steps: 1, quiet: false });
@@ -206,7 +246,7 @@ fn a_bus() {
     assert_eq!(bus.take_reply(2), Some(Reply::Aborted { tag: 33, ticket: 0, data }));
     assert_eq!(bus.take_reply(2), None);
     assert_eq!(bus.take_reply(3), None);
-    assert_eq!(bus.blocks(3, 0, &mut []), Err(BusFault::Client));
+    assert_eq!(bus.blocks(3, 0, &mut []), Err(BlocksFault::Unit));
 
     let beyond = Operation::Read { lba: 99, count: 2, fua: false };
     assert_eq!(bus.submit(0, 1, 0, &beyond, &[7; 1024]), Ok(()));
@@ -231,8 +271,8 @@ fn a_bus() {
     assert_eq!(block, [0x55; 512]);
     assert_eq!(bus.medium(1, 3, &mut block), Ok(()));
     assert_eq!(block, [0xaa; 512]);
-    assert_eq!(bus.blocks(0, 100, &mut block), Err(BusFault::Range));
-    assert_eq!(bus.blocks(0, 3, &mut block[..1]), Err(BusFault::Length));
+    assert_eq!(bus.blocks(0, 100, &mut block), Err(BlocksFault::Range));
+    assert_eq!(bus.blocks(0, 3, &mut block[..1]), Err(BlocksFault::Length));
 }
 
 #[test]

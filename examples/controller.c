@@ -1,17 +1,15 @@
-/* A driver's side of one command, against what stands behind a driver: units and TRBs go in, steps are taken, events come out.
+/* A driver's side of one command, against what stands behind a driver: information units and TRBs go in, steps are taken, events come out.
  *
  *   cc -Iinclude examples/controller.c $(bindings/archive) -o controller && ./controller */
 #include "uas.h"
 #include <stdio.h>
 
-enum { TAG = 18, COMMAND_BUFFER = 0x10000000 + 0x100 * TAG, STATUS_BUFFER = 0x20000000 + 0x100 * TAG, STATUS = 3, DATA_IN = 5 };
+enum { TAG = 18 };
 
-static const uint64_t window = 0x100000000 + 0x10000 * TAG;
-
-/* Puts a Normal TRB on a ring. */
-static bool put(uas_controller *controller, uint8_t ring, uint16_t stream, uint64_t pointer, uint32_t length)
+/* Puts a Normal TRB, which names a buffer of the tag, on a ring. */
+static bool put(uas_controller *controller, uint8_t ring, uint16_t stream, uint8_t buffer, uint32_t length)
 {
-    const struct uas_trb trb = { .type = UAS_TRB_NORMAL, .pointer = pointer, .length = length, .flags = UAS_TRB_IOC };
+    const struct uas_trb trb = { .type = UAS_TRB_NORMAL, .pointer = uas_buffer_address(buffer, TAG), .length = length, .flags = UAS_TRB_IOC };
     uint8_t bytes[16];
     uint64_t address;
     return uas_trb_encode(&trb, bytes) == 0 && uas_controller_put_raw(controller, ring, stream, bytes, &address) == 0;
@@ -37,13 +35,13 @@ static bool read_capacity(uas_controller *controller, uint8_t data[8])
     size_t length;
     uint32_t lent;
     return uas_unit_write(&unit, bytes, sizeof bytes, &length) == 0 &&
-           uas_controller_write(controller, COMMAND_BUFFER, bytes, length) == 0 &&
+           uas_controller_write(controller, uas_buffer_address(UAS_BUFFER_COMMAND, TAG), bytes, length) == 0 &&
            uas_controller_lend(controller, TAG, data, 8) == 0 &&
-           put(controller, UAS_RING_DATA_IN, TAG, window, 8) &&
-           put(controller, UAS_RING_STATUS, TAG, STATUS_BUFFER, UAS_MOST_UNIT_BYTES) &&
-           put(controller, UAS_RING_COMMAND_PIPE, 0, COMMAND_BUFFER, 32) &&
-           uas_controller_doorbell(controller, TAG << 16 | DATA_IN) == 0 &&
-           uas_controller_doorbell(controller, TAG << 16 | STATUS) == 0 &&
+           put(controller, UAS_RING_DATA_IN, TAG, UAS_BUFFER_DATA, 8) &&
+           put(controller, UAS_RING_STATUS, TAG, UAS_BUFFER_STATUS, UAS_MOST_UNIT_BYTES) &&
+           put(controller, UAS_RING_COMMAND_PIPE, 0, UAS_BUFFER_COMMAND, 32) &&
+           uas_controller_doorbell(controller, uas_doorbell(UAS_ENDPOINT_DATA_IN, TAG)) == 0 &&
+           uas_controller_doorbell(controller, uas_doorbell(UAS_ENDPOINT_STATUS, TAG)) == 0 &&
            step(controller, UAS_STEP_COMMAND) && step(controller, UAS_STEP_DATA) && step(controller, UAS_STEP_STATUS) &&
            uas_controller_take_back(controller, TAG, data, 8, &lent) == 0;
 }
@@ -63,12 +61,13 @@ int main(void)
     uas_controller *controller;
     if (uas_controller_new(&blocks, 1, &controller) != 0)
         return 1;
-    if (!read_capacity(controller, data) || uas_controller_read(controller, STATUS_BUFFER, unit, sizeof unit) != 0)
+    if (!read_capacity(controller, data) ||
+        uas_controller_read(controller, uas_buffer_address(UAS_BUFFER_STATUS, TAG), unit, sizeof unit) != 0)
         return 1;
     print("data", data, sizeof data);
     print("answer", unit, sizeof unit);
     /* A TRB whose buffer isn't there, as nothing is lent any more. */
-    if (!put(controller, UAS_RING_DATA_IN, TAG, window, 8) || !step(controller, UAS_STEP_DATA))
+    if (!put(controller, UAS_RING_DATA_IN, TAG, UAS_BUFFER_DATA, 8) || !step(controller, UAS_STEP_DATA))
         return 1;
     uas_controller_free(controller);
 }

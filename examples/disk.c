@@ -1,4 +1,5 @@
-/* A disk backend in C: units go in, data and units come out. The loop is the same for every tag and every transport.
+/* A disk backend in C: information units go in, data and information units come out. The loop is the same for every tag and every
+ * transport.
  *
  *   cc -Iinclude examples/disk.c $(bindings/archive) -o disk && ./disk */
 #include "uas.h"
@@ -15,7 +16,7 @@ static void print(const char *name, const uint8_t *bytes, uint32_t length)
     printf("\n");
 }
 
-/* Answers one unit: takes or gives chunks until the device has its answer, and prints that. */
+/* Answers one information unit: takes or gives chunks until the device has its answer, and prints that. */
 static bool answer(uas_device *disk, const uint8_t *unit, size_t length, uint8_t *data)
 {
     uint8_t bytes[UAS_MOST_UNIT_BYTES];
@@ -40,7 +41,7 @@ static bool answer(uas_device *disk, const uint8_t *unit, size_t length, uint8_t
     return uas_device_sent(disk, tag) == 0;
 }
 
-/* Writes the Command unit (INCITS 471) of an operation on unit 0. */
+/* Writes the Command information unit (INCITS 471) of an operation on logical unit 0. */
 static bool command(const struct uas_operation *operation, uint8_t bytes[UAS_MOST_UNIT_BYTES], size_t *length)
 {
     struct uas_unit unit = { .id = UAS_UNIT_COMMAND, .tag = TAG };

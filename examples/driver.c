@@ -1,5 +1,5 @@
-/* A controller of one's own beneath a driver: doorbells come out, items and units are read by address, data and statuses are written,
- * events go in. Its disk is of 100 blocks, block n of 512 bytes n.
+/* A controller of one's own beneath a driver: doorbells come out, items and information units are read by address, data and statuses are
+ * written, events go in. Its disk is of 100 blocks, block n of 512 bytes n.
  *
  *   cc -Iinclude examples/driver.c $(bindings/archive) -o driver && ./driver */
 #include "uas.h"
@@ -7,25 +7,27 @@
 #include <string.h>
 
 /* Reads the item at a place. */
-static bool item(uas_driver *driver, uint64_t place, struct uas_trb *trb)
+static bool item(const uas_driver *driver, uint64_t place, struct uas_trb *trb)
 {
     uint8_t bytes[16];
     return uas_driver_item(driver, place, bytes) == 0 && uas_trb_decode(bytes, trb) == 0;
 }
 
 /* The place behind an item that is still there: where a Link TRB stands, the place to which it leads. */
-static uint64_t behind(uas_driver *driver, uint64_t place)
+static uint64_t behind(const uas_driver *driver, uint64_t place)
 {
     struct uas_trb trb;
     return item(driver, place + 16, &trb) && trb.type == UAS_TRB_LINK ? trb.pointer : place + 16;
 }
 
 /* Where a stream's consumer stands, by its context. */
-static uint64_t standing(uas_driver *driver, uint8_t pipe, uint16_t stream)
+static uint64_t standing(const uas_driver *driver, uint8_t pipe, uint16_t stream)
 {
-    uint8_t context[16] = { 0 };
+    uint8_t context[16] = { 0 }, cycle, type;
+    uint64_t place;
     uas_driver_context(driver, pipe, stream, context);
-    return (context[0] & 0xf0) | (uint64_t)context[1] << 8 | (uint64_t)context[2] << 16 | (uint64_t)context[3] << 24;
+    uas_context_read(context, &place, &cycle, &type);
+    return place;
 }
 
 /* Hands in a Transfer Event of the item at a place; whether the driver waited for it. */
@@ -82,14 +84,14 @@ int main(void)
 {
     static const struct uas_operation read = { .opcode = UAS_READ_10, .lba = 40, .count = 9 };
     static uint8_t data[UAS_MOST_DATA_BYTES];
-    uint64_t place = 0x41000000;
+    uint64_t place = uas_ring_address(UAS_RING_COMMAND_PIPE, 0, 0);
     uas_driver *driver;
     struct uas_driver_door told, reply;
     if (uas_driver_new(1, &driver) != 0 || uas_driver_submit(driver, 0, 1, 7, &read, data, 9 * UAS_BLOCK_BYTES, &told) != 0)
         return 1;
     for (uint16_t i = 0; i < told.doorbells; i++) {
         printf("doorbell %08x\n", told.doorbell[i]);
-        if (told.doorbell[i] == 2 && !serve(driver, &place))
+        if (told.doorbell[i] == uas_doorbell(UAS_ENDPOINT_COMMAND, 0) && !serve(driver, &place))
             return 1;
     }
     if (uas_driver_reply(driver, 0, data, sizeof data, &reply) != 0 || !reply.acted)

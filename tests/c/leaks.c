@@ -280,7 +280,7 @@ static void device_asks_for_none(void)
 {
     uas_device *device = used_device();
     uint8_t bytes[32], ended[32], phase;
-    size_t length;
+    size_t length = 0;
     uint16_t tag = 0;
     uint32_t chunk;
     bool there = false;

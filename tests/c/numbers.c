@@ -353,6 +353,178 @@ static void contexts(void)
     CHECK(uas_doorbell(0, 0) == 0 && uas_doorbell(255, 65535) == 0xffff00ff);
 }
 
+/* ---- Calls of the doors, by their numbers ---- */
+
+/* The bytes of a READ or a WRITE of block 0, of a tag. */
+static size_t moving(uint8_t opcode, uint16_t tag, uint8_t bytes[UAS_MOST_UNIT_BYTES])
+{
+    const struct uas_operation operation = { .opcode = opcode, .count = 1 };
+    struct uas_unit unit = { .id = UAS_UNIT_COMMAND, .tag = tag };
+    size_t length = 0;
+    CHECK(uas_cdb_write(&operation, unit.cdb) == UAS_OK && uas_unit_write(&unit, bytes, UAS_MOST_UNIT_BYTES, &length) == UAS_OK);
+    return length;
+}
+
+static bool are(const uint8_t *bytes, uint8_t byte)
+{
+    for (size_t i = 0; i < 512; i++)
+        if (bytes[i] != byte)
+            return false;
+    return true;
+}
+
+static void calls_of_device(void)
+{
+    uint8_t data[512], bytes[UAS_MOST_UNIT_BYTES];
+    uint32_t ten = 10;
+    uas_device *device = NULL;
+    CHECK(uas_device_new(&ten, 1, &device) == UAS_OK);
+    struct uas_device_door door = { .call = UAS_DEVICE_CALL_RECEIVE };
+    size_t length = moving(UAS_READ_10, 5, bytes);
+    CHECK(uas_device_call(device, &door, bytes, length) == UAS_OK && door.good == 1 && door.tag == 5);
+    door.call = UAS_DEVICE_CALL_WANTS;
+    CHECK(uas_device_call(device, &door, data, 0) == UAS_OK && door.phase == UAS_GIVES && door.length == 512);
+    door = (struct uas_device_door){ .call = UAS_DEVICE_CALL_NEXT };
+    CHECK(uas_device_call(device, &door, data, 0) == UAS_OK && door.good == 1 && door.tag == 5);
+    door.call = UAS_DEVICE_CALL_GIVE;
+    CHECK(uas_device_call(device, &door, data, 512) == UAS_OK && are(data, 0));
+    door.call = UAS_DEVICE_CALL_STATUS;
+    CHECK(uas_device_call(device, &door, bytes, sizeof bytes) == UAS_OK && door.length == 16);
+    door.call = UAS_DEVICE_CALL_SENT;
+    CHECK(uas_device_call(device, &door, data, 0) == UAS_OK);
+    door.call = UAS_DEVICE_CALL_WANTS;
+    CHECK(uas_device_call(device, &door, data, 0) == UAS_OK && door.phase == UAS_ABSENT);
+    door.call = UAS_DEVICE_CALL_RECEIVE;
+    CHECK(uas_device_call(device, &door, bytes, moving(UAS_WRITE_10, 6, bytes)) == UAS_OK);
+    memset(data, 0xaa, sizeof data);
+    door = (struct uas_device_door){ .call = UAS_DEVICE_CALL_TAKE, .tag = 6 };
+    CHECK(uas_device_call(device, &door, data, 512) == UAS_OK && door.good == 1);
+    door = (struct uas_device_door){ .call = UAS_DEVICE_CALL_SIZE };
+    CHECK(uas_device_call(device, &door, data, 0) == UAS_OK && door.length == 10);
+    door.call = UAS_DEVICE_CALL_MEDIUM;
+    CHECK(uas_device_call(device, &door, data, 512) == UAS_OK && are(data, 0));
+    door.call = UAS_DEVICE_CALL_BLOCKS;
+    CHECK(uas_device_call(device, &door, data, 512) == UAS_OK && are(data, 0xaa));
+    door.call = UAS_DEVICE_CALL_RESET;
+    CHECK(uas_device_call(device, &door, data, 0) == UAS_OK);
+    door = (struct uas_device_door){ .call = UAS_DEVICE_CALL_WANTS, .tag = 6, .phase = 7 };
+    CHECK(uas_device_call(device, &door, data, 0) == UAS_OK && door.phase == UAS_ABSENT);
+    uas_device_free(device);
+}
+
+/* A TRB of `length` bytes for a tag's buffer. */
+static void puts_normal(uas_controller *controller, uint8_t ring, uint16_t stream, uint8_t buffer, uint32_t length)
+{
+    const struct uas_trb trb = { .type = UAS_TRB_NORMAL, .pointer = uas_buffer_address(buffer, 1), .length = length };
+    struct uas_controller_door door = { .call = UAS_CONTROLLER_CALL_PUT, .ring = ring, .stream = stream };
+    uint8_t bytes[16];
+    CHECK(uas_trb_encode(&trb, bytes) == UAS_OK && uas_controller_call(controller, &door, bytes, 16) == UAS_OK);
+    CHECK(door.address == uas_ring_address(ring, stream, 0));
+}
+
+static void calls_of_controller(void)
+{
+    uint8_t data[512], bytes[UAS_MOST_UNIT_BYTES];
+    uint32_t ten = 10;
+    uas_controller *controller = NULL;
+    CHECK(uas_controller_new(&ten, 1, &controller) == UAS_OK);
+    struct uas_controller_door door = { .call = UAS_CONTROLLER_CALL_WRITE, .address = uas_buffer_address(UAS_BUFFER_COMMAND, 1) };
+    size_t length = moving(UAS_WRITE_10, 1, bytes);
+    CHECK(uas_controller_call(controller, &door, bytes, length) == UAS_OK);
+    door.call = UAS_CONTROLLER_CALL_READ;
+    memset(data, 0xee, sizeof data);
+    CHECK(uas_controller_call(controller, &door, data, length) == UAS_OK && memcmp(data, bytes, length) == 0);
+    memset(data, 0xaa, sizeof data);
+    door = (struct uas_controller_door){ .call = UAS_CONTROLLER_CALL_LEND, .tag = 1 };
+    CHECK(uas_controller_call(controller, &door, data, 512) == UAS_OK);
+    puts_normal(controller, UAS_RING_COMMAND_PIPE, 0, UAS_BUFFER_COMMAND, 32);
+    puts_normal(controller, UAS_RING_DATA_OUT, 1, UAS_BUFFER_DATA, 512);
+    door = (struct uas_controller_door){ .call = UAS_CONTROLLER_CALL_DOORBELL, .value = uas_doorbell(UAS_ENDPOINT_DATA_OUT, 1) };
+    CHECK(uas_controller_call(controller, &door, data, 0) == UAS_OK);
+    for (uint8_t step = UAS_STEP_COMMAND; step <= UAS_STEP_DATA; step++) {
+        door = (struct uas_controller_door){ .call = UAS_CONTROLLER_CALL_STEP, .step = step, .tag = 1 };
+        CHECK(uas_controller_call(controller, &door, data, 0) == UAS_OK && door.acted == 1);
+        door = (struct uas_controller_door){ .call = UAS_CONTROLLER_CALL_EVENT };
+        CHECK(uas_controller_call(controller, &door, data, 0) == UAS_OK && door.acted == 1 && door.code == 1);
+    }
+    door.call = UAS_CONTROLLER_CALL_RECLAIM;
+    door.ring = UAS_RING_DATA_OUT;
+    door.stream = 1;
+    CHECK(uas_controller_call(controller, &door, data, 0) == UAS_OK);
+    door.call = UAS_CONTROLLER_CALL_CONTEXT;
+    CHECK(uas_controller_call(controller, &door, data, 16) == UAS_OK && data[0] == 0x13);
+    door = (struct uas_controller_door){ .call = UAS_CONTROLLER_CALL_TAKE_BACK, .tag = 1 };
+    CHECK(uas_controller_call(controller, &door, data, 512) == UAS_OK && door.value == 512);
+    door.call = UAS_CONTROLLER_CALL_MEDIUM;
+    CHECK(uas_controller_call(controller, &door, data, 512) == UAS_OK && are(data, 0));
+    door.call = UAS_CONTROLLER_CALL_BLOCKS;
+    CHECK(uas_controller_call(controller, &door, data, 512) == UAS_OK && are(data, 0xaa));
+    uas_controller_free(controller);
+}
+
+static void calls_of_driver(void)
+{
+    static struct uas_driver_door door;
+    static uint8_t data[UAS_MOST_DATA_BYTES];
+    uas_driver *driver = NULL;
+    CHECK(uas_driver_new(1, &driver) == UAS_OK);
+    door = (struct uas_driver_door){ .call = UAS_DRIVER_CALL_SUBMIT, .tag = 1, .operation = { .opcode = UAS_TEST_UNIT_READY } };
+    CHECK(uas_driver_call(driver, &door, data, 0) == UAS_OK && door.doorbells == 2);
+    door = (struct uas_driver_door){ .call = UAS_DRIVER_CALL_TASK, .ticket = 1, .function = UAS_QUERY_TASK, .tag = 1 };
+    CHECK(uas_driver_call(driver, &door, data, 0) == UAS_OK && door.doorbells == 2);
+    door = (struct uas_driver_door){ .call = UAS_DRIVER_CALL_RETIRE, .pipe = UAS_PIPE_STATUS, .tag = 1, .doorbells = 7, .acted = 7 };
+    CHECK(uas_driver_call(driver, &door, data, 0) == UAS_OK && door.doorbells == 0 && door.acted == 0);
+    door = (struct uas_driver_door){ .call = UAS_DRIVER_CALL_LEFT_OVER, .pipe = UAS_PIPE_STATUS, .doorbells = 7, .acted = 7 };
+    CHECK(uas_driver_call(driver, &door, data, 0) == UAS_OK && door.doorbells == 7 && door.acted == 0);
+    door = (struct uas_driver_door){ .call = UAS_DRIVER_CALL_READ, .address = uas_buffer_address(UAS_BUFFER_COMMAND, 1) };
+    memset(data, 0xee, 32);
+    CHECK(uas_driver_call(driver, &door, data, 32) == UAS_OK && data[0] == 1 && data[31] == 0);
+    static const uint8_t good[16] = { UAS_UNIT_SENSE, 0, 0, 1 };
+    memcpy(data, good, 16);
+    door = (struct uas_driver_door){ .call = UAS_DRIVER_CALL_WRITE, .address = uas_buffer_address(UAS_BUFFER_STATUS, 1) };
+    CHECK(uas_driver_call(driver, &door, data, 16) == UAS_OK);
+    door = (struct uas_driver_door){ .call = UAS_DRIVER_CALL_ITEM, .address = uas_ring_address(UAS_RING_STATUS, 1, 0) };
+    CHECK(uas_driver_call(driver, &door, data, 16) == UAS_OK && data[8] == UAS_MOST_UNIT_BYTES);
+    door = (struct uas_driver_door){ .call = UAS_DRIVER_CALL_CONTEXT, .pipe = UAS_PIPE_DATA_OUT, .stream = 1 };
+    CHECK(uas_driver_call(driver, &door, data, 16) == UAS_OK && data[0] == 3 && data[1] == 0x10 && data[3] == 0x44);
+    door = (struct uas_driver_door){ .call = UAS_DRIVER_CALL_EVENT, .type = UAS_TRB_TRANSFER_EVENT, .code = 1, .slot = 1 };
+    door.address = uas_ring_address(UAS_RING_COMMAND_PIPE, 0, 0);
+    CHECK(uas_driver_call(driver, &door, data, 0) == UAS_OK && door.acted == UAS_EVENT_MATCHED && door.tag == 1);
+    door.address = uas_ring_address(UAS_RING_STATUS, 1, 0);
+    door.length = 96;
+    door.code = 13;
+    CHECK(uas_driver_call(driver, &door, data, 0) == UAS_OK && door.acted == UAS_EVENT_MATCHED);
+    door.call = UAS_DRIVER_CALL_REPLY;
+    CHECK(uas_driver_call(driver, &door, data, sizeof data) == UAS_OK && door.acted == 1 && door.reply == UAS_REPLY_STATUS);
+    uas_driver_free(driver);
+}
+
+static void calls_of_bus(void)
+{
+    static uint8_t data[UAS_MOST_DATA_BYTES];
+    uint32_t ten = 10;
+    uas_bus *bus = NULL;
+    CHECK(uas_bus_new(&ten, 1, &bus) == UAS_OK);
+    struct uas_bus_door door = { .call = UAS_BUS_CALL_SUBMIT, .tag = 1, .operation = { .opcode = UAS_WRITE_10, .count = 1 } };
+    memset(data, 0xaa, 512);
+    CHECK(uas_bus_call(bus, &door, data, 512) == UAS_OK);
+    door = (struct uas_bus_door){ .call = UAS_BUS_CALL_DUE, .step = UAS_STEP_COMMAND, .has_owner = 7 };
+    CHECK(uas_bus_call(bus, &door, data, 0) == UAS_OK && door.acted == 1 && door.has_owner == 7);
+    door.call = UAS_BUS_CALL_STEP;
+    CHECK(uas_bus_call(bus, &door, data, 0) == UAS_OK && door.acted == 1 && door.has_owner == 1);
+    door = (struct uas_bus_door){ .call = UAS_BUS_CALL_TASK, .ticket = 1, .function = UAS_QUERY_TASK, .tag = 1 };
+    CHECK(uas_bus_call(bus, &door, data, 0) == UAS_OK);
+    door = (struct uas_bus_door){ .call = UAS_BUS_CALL_DRAIN, .steps = 1000 };
+    CHECK(uas_bus_call(bus, &door, data, 0) == UAS_OK && door.acted == 1 && door.steps > 5 && door.steps < 1000);
+    door = (struct uas_bus_door){ .call = UAS_BUS_CALL_REPLY };
+    CHECK(uas_bus_call(bus, &door, data, sizeof data) == UAS_OK && door.acted == 1);
+    door = (struct uas_bus_door){ .call = UAS_BUS_CALL_MEDIUM };
+    CHECK(uas_bus_call(bus, &door, data, 512) == UAS_OK && are(data, 0));
+    door.call = UAS_BUS_CALL_BLOCKS;
+    CHECK(uas_bus_call(bus, &door, data, 512) == UAS_OK && are(data, 0xaa));
+    uas_bus_free(bus);
+}
+
 int main(void)
 {
     faults_have_names();
@@ -368,5 +540,9 @@ int main(void)
     rings_of_controller();
     buffers();
     contexts();
+    calls_of_device();
+    calls_of_controller();
+    calls_of_driver();
+    calls_of_bus();
     return tell("numbers");
 }

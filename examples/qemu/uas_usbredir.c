@@ -1,0 +1,438 @@
+/* A UAS disk for QEMU: uas_device behind the usbredir protocol, as a SuperSpeed USB device with bulk streams.
+ *
+ *   cc -Iinclude examples/qemu/uas_usbredir.c $(bindings/archive device) -lusbredirparser -o uas_usbredir
+ *   ./uas_usbredir 7000 IMAGE [BAD]     serves one connection on port 7000 of this machine; block BAD of it can't be read or written
+ *
+ * IMAGE is 1 to 65,536 blocks of 512 bytes. It is read once: what a guest writes lasts as long as this program. README.md says how QEMU is
+ * called. A transfer of a pipe with streams waits under its stream, which is the tag, until the device gives, takes or answers. */
+#include "uas.h"
+#include <errno.h>
+#include <fcntl.h>
+#include <netinet/in.h>
+#include <poll.h>
+#include <stdio.h>
+#include <stdlib.h>
+#include <string.h>
+#include <sys/socket.h>
+#include <unistd.h>
+#include <usbredirparser.h>
+
+enum { COMMAND = 0x01, DATA_OUT = 0x02, STATUS = 0x81, DATA_IN = 0x82, STREAMS_EXPONENT = 7, STREAMS = 1 << STREAMS_EXPONENT, MOST_MOVED = 1 << 20 };
+
+/* A transfer that waits, of a pipe's stream. */
+struct transfer {
+    bool waits;
+    uint64_t id;
+    struct usb_redir_bulk_packet_header header;
+    uint8_t *data; /* of data out what came, of data in room for what goes */
+    uint32_t length, moved;
+};
+
+struct server {
+    int socket;
+    struct usbredirparser *parser;
+    uas_device *disk;
+    struct transfer statuses[UAS_GREATEST_TAG + 1], data[UAS_GREATEST_TAG + 1];
+    uint8_t configuration;
+    unsigned long commands;
+};
+
+/* ---- Descriptors (USB 3.2 9.6; INCITS 471, pipe usage) ---- */
+
+#define ENDPOINT(address, exponent, usage) \
+    7, 5, address, 2, 0x00, 0x04, 0, 6, 0x30, 15, exponent, 0, 0, 4, 0x24, usage, 0 /* bulk, 1,024 bytes, bursts of 16; its streams; its pipe */
+
+static const uint8_t device_descriptor[18] = { 18, 1, 0x00, 0x03, 0, 0, 0, 9, 0xf4, 0x46, 0x03, 0x00, 0x00, 0x00, 1, 2, 3, 1 };
+
+static const uint8_t configuration_descriptor[] = {
+    9, 2, 9 + 9 + 4 * 17, 0, 1, 1, 0, 0xc0, 0, /* one interface, self-powered */
+    9, 4, 0, 0, 4, 8, 6, 0x62, 0,              /* mass storage, SCSI, UAS */
+    ENDPOINT(COMMAND, 0, 1), ENDPOINT(STATUS, STREAMS_EXPONENT, 2), ENDPOINT(DATA_IN, STREAMS_EXPONENT, 3), ENDPOINT(DATA_OUT, STREAMS_EXPONENT, 4),
+};
+
+static const uint8_t bos_descriptor[] = {
+    5, 15, 22, 0, 2, 7, 16, 2, 2, 0, 0, 0, /* USB 2.0 extension: LPM */
+    10, 16, 3, 0, 8, 0, 3, 0, 0, 0,        /* SuperSpeed */
+};
+
+static const char *const strings[] = { "", "SIMDISK", "UAS SIM DISK", "0001" };
+
+/* The descriptor of a type and an index; its length, or 0. */
+static size_t descriptor(uint8_t type, uint8_t index, uint8_t bytes[255])
+{
+    const uint8_t *from = type == 1 ? device_descriptor : type == 2 ? configuration_descriptor : bos_descriptor;
+    size_t length = type == 1 ? sizeof device_descriptor : type == 2 ? sizeof configuration_descriptor : type == 15 ? sizeof bos_descriptor : 0;
+    if (type != 3) {
+        memcpy(bytes, from, length);
+        return length;
+    }
+    if (index >= sizeof strings / sizeof strings[0])
+        return 0;
+    length = 2;
+    for (const char *at = strings[index]; *at != '\0'; at++, length += 2) {
+        bytes[length] = (uint8_t)*at;
+        bytes[length + 1] = 0;
+    }
+    if (index == 0) {
+        bytes[2] = 0x09;
+        bytes[3] = 0x04;
+        length = 4;
+    }
+    bytes[0] = (uint8_t)length;
+    bytes[1] = 3;
+    return length;
+}
+
+/* ---- Transfers ---- */
+
+/* Ends a transfer that waits: of an IN pipe with its first bytes, of an OUT pipe as so many that were taken. */
+static void complete(struct server *server, struct transfer *transfer, uint8_t status, uint32_t length)
+{
+    bool in = (transfer->header.endpoint & 0x80) != 0;
+    transfer->header.status = status;
+    transfer->header.length = (uint16_t)length;
+    transfer->header.length_high = (uint16_t)(length >> 16);
+    usbredirparser_send_bulk_packet(server->parser, transfer->id, &transfer->header, in ? transfer->data : NULL, in ? (int)length : 0);
+    free(transfer->data);
+    memset(transfer, 0, sizeof *transfer);
+}
+
+/* Moves a chunk of a tag's data; false where its transfer isn't there or has no room. */
+static bool move(struct server *server, uint16_t tag, uint8_t phase, uint32_t chunk)
+{
+    struct transfer *transfer = &server->data[tag];
+    bool in = (transfer->header.endpoint & 0x80) != 0, good = false;
+    if (!transfer->waits || in != (phase == UAS_GIVES) || transfer->length - transfer->moved < chunk)
+        return false;
+    uint8_t *bytes = transfer->data + transfer->moved;
+    uint8_t fault = in ? uas_device_give(server->disk, tag, bytes, chunk, &good) : uas_device_take(server->disk, tag, bytes, chunk, &good);
+    if (fault != UAS_OK)
+        return false;
+    if (good)
+        transfer->moved += chunk;
+    return true;
+}
+
+/* Sends the answer of a task that has ended, once the host waits for it. What was moved is ended before. */
+static void answer(struct server *server, uint16_t tag)
+{
+    struct transfer *transfer = &server->statuses[tag], *data = &server->data[tag];
+    uint32_t length = 0;
+    if (data->waits && data->moved > 0)
+        complete(server, data, usb_redir_success, data->moved);
+    if (!transfer->waits || uas_device_status(server->disk, tag, transfer->data, transfer->length, &length) != UAS_OK)
+        return;
+    uas_device_sent(server->disk, tag);
+    server->commands++;
+    complete(server, transfer, usb_redir_success, length);
+}
+
+/* Whatever may be done on a tag is done. */
+static void serve(struct server *server, uint16_t tag)
+{
+    uint8_t phase;
+    uint32_t chunk;
+    do
+        uas_device_wants(server->disk, tag, &phase, &chunk);
+    while ((phase == UAS_GIVES || phase == UAS_TAKES) && move(server, tag, phase, chunk));
+    if (phase == UAS_ENDS)
+        answer(server, tag);
+}
+
+/* An information unit came. What a task management ended moves no more, and its host gives the transfers up. */
+static void receive(struct server *server, const uint8_t *bytes, size_t length)
+{
+    uint16_t tag = 0;
+    uint8_t ended[32];
+    uint8_t fault = uas_device_receive_ended(server->disk, bytes, length, &tag, ended);
+    if (fault != UAS_OK) {
+        fprintf(stderr, "uas_usbredir: %s\n", uas_fault_name(fault));
+        return;
+    }
+    for (uint16_t one = 1; one <= UAS_GREATEST_TAG; one++)
+        if (ended[one / 8] >> one % 8 & 1)
+            server->data[one].moved = 0;
+    if (tag != 0)
+        serve(server, tag);
+}
+
+/* ---- What QEMU asks ---- */
+
+static void on_bulk(void *whole, uint64_t id, struct usb_redir_bulk_packet_header *header, uint8_t *data, int data_length)
+{
+    struct server *server = whole;
+    struct transfer made = { .waits = true, .id = id, .header = *header };
+    uint32_t length = header->length | (uint32_t)header->length_high << 16;
+    struct transfer *held = header->endpoint == STATUS ? server->statuses : server->data;
+    uint32_t tag = header->stream_id;
+    bool known = header->endpoint == COMMAND || (tag >= 1 && tag <= STREAMS && (header->endpoint & 0x7f) <= 2 && !held[tag].waits);
+    if (known && length <= MOST_MOVED && (header->endpoint & 0x80) != 0)
+        made.data = calloc(1, length + 1);
+    else if (known && data_length > 0 && (made.data = malloc((size_t)data_length)) != NULL)
+        memcpy(made.data, data, (size_t)data_length);
+    made.length = (header->endpoint & 0x80) != 0 ? length : (uint32_t)data_length;
+    usbredirparser_free_packet_data(server->parser, data);
+    if (made.data == NULL)
+        complete(server, &made, usb_redir_stall, 0);
+    else if (header->endpoint == COMMAND) {
+        uint8_t bytes[UAS_MOST_UNIT_BYTES + 1];
+        size_t unit = made.length < sizeof bytes ? made.length : sizeof bytes;
+        memcpy(bytes, made.data, unit);
+        complete(server, &made, usb_redir_success, made.length);
+        receive(server, bytes, unit);
+    } else {
+        held[tag] = made;
+        serve(server, (uint16_t)tag);
+    }
+}
+
+static void on_cancel(void *whole, uint64_t id)
+{
+    struct server *server = whole;
+    for (int tag = 1; tag <= STREAMS; tag++) {
+        if (server->statuses[tag].waits && server->statuses[tag].id == id)
+            complete(server, &server->statuses[tag], usb_redir_cancelled, 0);
+        if (server->data[tag].waits && server->data[tag].id == id)
+            complete(server, &server->data[tag], usb_redir_cancelled, 0);
+    }
+}
+
+static void on_control(void *whole, uint64_t id, struct usb_redir_control_packet_header *header, uint8_t *data, int data_length)
+{
+    struct server *server = whole;
+    uint8_t bytes[255] = { 0 };
+    size_t length = 0;
+    bool known = true;
+    (void)data_length;
+    usbredirparser_free_packet_data(server->parser, data);
+    if (header->requesttype == 0x80 && header->request == 6)
+        known = (length = descriptor((uint8_t)(header->value >> 8), (uint8_t)header->value, bytes)) > 0;
+    else if ((header->requesttype & 0xfc) == 0x80 && header->request == 0)
+        length = 2; /* GET_STATUS: zeros */
+    else
+        known = (header->requesttype & 0x80) == 0; /* SET_SEL, SET_ISOCH_DELAY, SET_FEATURE, CLEAR_FEATURE: nothing to do */
+    if (length > header->length)
+        length = header->length;
+    header->status = known ? usb_redir_success : usb_redir_stall;
+    if ((header->requesttype & 0x80) != 0)
+        header->length = (uint16_t)length;
+    usbredirparser_send_control_packet(server->parser, id, header, (header->requesttype & 0x80) != 0 ? bytes : NULL,
+                                       (header->requesttype & 0x80) != 0 ? (int)length : 0);
+}
+
+static void tell_endpoints(struct server *server)
+{
+    struct usb_redir_interface_info_header interface = { .interface_count = 1, .interface_class = { 8 }, .interface_subclass = { 6 } };
+    struct usb_redir_ep_info_header endpoints = { .type = { 0 } };
+    static const uint8_t used[] = { COMMAND, DATA_OUT, 16 + (STATUS & 15), 16 + (DATA_IN & 15) };
+    interface.interface_protocol[0] = 0x62;
+    memset(endpoints.type, usb_redir_type_invalid, sizeof endpoints.type);
+    endpoints.type[0] = endpoints.type[16] = usb_redir_type_control;
+    for (int i = 0; i < 4; i++) {
+        endpoints.type[used[i]] = usb_redir_type_bulk;
+        endpoints.max_packet_size[used[i]] = 1024;
+        endpoints.max_streams[used[i]] = used[i] == COMMAND ? 0 : STREAMS;
+    }
+    usbredirparser_send_interface_info(server->parser, &interface);
+    usbredirparser_send_ep_info(server->parser, &endpoints);
+}
+
+static void on_hello(void *whole, struct usb_redir_hello_header *hello)
+{
+    struct server *server = whole;
+    struct usb_redir_device_connect_header device = { .speed = usb_redir_speed_super, .vendor_id = 0x46f4, .product_id = 0x0003 };
+    fprintf(stderr, "uas_usbredir: %.64s, %s streams\n", hello->version,
+            usbredirparser_peer_has_cap(server->parser, usb_redir_cap_bulk_streams) ? "with" : "without");
+    tell_endpoints(server);
+    usbredirparser_send_device_connect(server->parser, &device);
+}
+
+static void on_reset(void *whole)
+{
+    struct server *server = whole;
+    uas_device_reset(server->disk);
+}
+
+static void on_set_configuration(void *whole, uint64_t id, struct usb_redir_set_configuration_header *asked)
+{
+    struct server *server = whole;
+    struct usb_redir_configuration_status_header told = { .status = usb_redir_success, .configuration = asked->configuration };
+    server->configuration = asked->configuration;
+    tell_endpoints(server);
+    usbredirparser_send_configuration_status(server->parser, id, &told);
+}
+
+static void on_get_configuration(void *whole, uint64_t id)
+{
+    struct server *server = whole;
+    struct usb_redir_configuration_status_header told = { .status = usb_redir_success, .configuration = server->configuration };
+    usbredirparser_send_configuration_status(server->parser, id, &told);
+}
+
+static void tell_alternate(struct server *server, uint64_t id, uint8_t interface, uint8_t alternate)
+{
+    bool known = interface == 0 && alternate == 0;
+    struct usb_redir_alt_setting_status_header told = { .status = known ? usb_redir_success : usb_redir_inval, .interface = interface };
+    usbredirparser_send_alt_setting_status(server->parser, id, &told);
+}
+
+static void on_set_alternate(void *whole, uint64_t id, struct usb_redir_set_alt_setting_header *asked)
+{
+    tell_alternate(whole, id, asked->interface, asked->alt);
+}
+
+static void on_get_alternate(void *whole, uint64_t id, struct usb_redir_get_alt_setting_header *asked)
+{
+    tell_alternate(whole, id, asked->interface, 0);
+}
+
+static void tell_streams(struct server *server, uint64_t id, uint32_t endpoints, uint32_t streams)
+{
+    struct usb_redir_bulk_streams_status_header told = { .endpoints = endpoints, .no_streams = streams, .status = usb_redir_success };
+    fprintf(stderr, "uas_usbredir: %u streams on the endpoints %08x\n", streams, endpoints);
+    usbredirparser_send_bulk_streams_status(server->parser, id, &told);
+}
+
+static void on_alloc_streams(void *whole, uint64_t id, struct usb_redir_alloc_bulk_streams_header *asked)
+{
+    tell_streams(whole, id, asked->endpoints, asked->no_streams);
+}
+
+static void on_free_streams(void *whole, uint64_t id, struct usb_redir_free_bulk_streams_header *asked)
+{
+    tell_streams(whole, id, asked->endpoints, 0);
+}
+
+static void on_filter(void *whole, struct usbredirfilter_rule *rules, int count)
+{
+    (void)whole, (void)count;
+    free(rules);
+}
+
+static void on_nothing(void *whole)
+{
+    (void)whole;
+}
+
+/* ---- The connection ---- */
+
+static void print_log(void *whole, int level, const char *line)
+{
+    (void)whole;
+    if (level <= usbredirparser_warning)
+        fprintf(stderr, "uas_usbredir: %s\n", line);
+}
+
+static int some_or_none(ssize_t done)
+{
+    bool later = done < 0 && (errno == EAGAIN || errno == EWOULDBLOCK || errno == EINTR);
+    return later ? 0 : done <= 0 ? -1 : (int)done;
+}
+
+static int read_some(void *whole, uint8_t *data, int count)
+{
+    return some_or_none(read(((struct server *)whole)->socket, data, (size_t)count));
+}
+
+static int write_some(void *whole, uint8_t *data, int count)
+{
+    return some_or_none(write(((struct server *)whole)->socket, data, (size_t)count));
+}
+
+static bool begin(struct server *server)
+{
+    uint32_t caps[USB_REDIR_CAPS_SIZE] = { 0 };
+    struct usbredirparser *parser = server->parser = usbredirparser_create();
+    if (parser == NULL)
+        return false;
+    parser->priv = server;
+    parser->log_func = print_log;
+    parser->read_func = read_some;
+    parser->write_func = write_some;
+    parser->hello_func = on_hello;
+    parser->reset_func = on_reset;
+    parser->set_configuration_func = on_set_configuration;
+    parser->get_configuration_func = on_get_configuration;
+    parser->set_alt_setting_func = on_set_alternate;
+    parser->get_alt_setting_func = on_get_alternate;
+    parser->alloc_bulk_streams_func = on_alloc_streams;
+    parser->free_bulk_streams_func = on_free_streams;
+    parser->cancel_data_packet_func = on_cancel;
+    parser->control_packet_func = on_control;
+    parser->bulk_packet_func = on_bulk;
+    parser->filter_filter_func = on_filter;
+    parser->filter_reject_func = on_nothing;
+    parser->device_disconnect_ack_func = on_nothing;
+    usbredirparser_caps_set_cap(caps, usb_redir_cap_bulk_streams);
+    usbredirparser_caps_set_cap(caps, usb_redir_cap_connect_device_version);
+    usbredirparser_caps_set_cap(caps, usb_redir_cap_filter);
+    usbredirparser_caps_set_cap(caps, usb_redir_cap_ep_info_max_packet_size);
+    usbredirparser_caps_set_cap(caps, usb_redir_cap_64bits_ids);
+    usbredirparser_caps_set_cap(caps, usb_redir_cap_32bits_bulk_length);
+    usbredirparser_init(parser, "uas_usbredir 1.0", caps, USB_REDIR_CAPS_SIZE, usbredirparser_fl_usb_host);
+    return true;
+}
+
+/* Reads and writes until the other side goes. */
+static void run(struct server *server)
+{
+    struct pollfd polled = { .fd = server->socket };
+    for (;;) {
+        bool writes = usbredirparser_has_data_to_write(server->parser) > 0;
+        polled.events = writes ? POLLIN | POLLOUT : POLLIN;
+        if (poll(&polled, 1, -1) < 0 && errno != EINTR)
+            return;
+        if ((polled.revents & (POLLIN | POLLHUP | POLLERR)) != 0 && usbredirparser_do_read(server->parser) == usbredirparser_read_io_error)
+            return;
+        if ((polled.revents & POLLOUT) != 0 && usbredirparser_do_write(server->parser) < 0)
+            return;
+    }
+}
+
+static int connected(const char *port)
+{
+    struct sockaddr_in here = { .sin_family = AF_INET, .sin_addr.s_addr = htonl(INADDR_LOOPBACK), .sin_port = htons((uint16_t)atoi(port)) };
+    int listener = socket(AF_INET, SOCK_STREAM, 0), one = 1;
+    setsockopt(listener, SOL_SOCKET, SO_REUSEADDR, &one, sizeof one);
+    if (bind(listener, (struct sockaddr *)&here, sizeof here) != 0 || listen(listener, 1) != 0)
+        return -1;
+    int taken = accept(listener, NULL, NULL);
+    close(listener);
+    return taken >= 0 && fcntl(taken, F_SETFL, O_NONBLOCK) == 0 ? taken : -1;
+}
+
+static uint8_t open_disk(const char *file, const char *bad_block, uas_device **disk)
+{
+    static uint8_t image[UAS_MOST_BLOCKS * UAS_BLOCK_BYTES + 1];
+    struct uas_bad_block bad = { 0, bad_block != NULL ? (uint32_t)strtoul(bad_block, NULL, 10) : 0 };
+    FILE *opened = fopen(file, "rb");
+    if (opened == NULL)
+        return UAS_IMAGE;
+    size_t length = fread(image, 1, sizeof image, opened);
+    fclose(opened);
+    uint32_t blocks = (uint32_t)(length / UAS_BLOCK_BYTES);
+    return uas_device_open(&blocks, 1, image, length, &bad, bad_block != NULL, disk);
+}
+
+int main(int words, char **word)
+{
+    static struct server server;
+    if (words != 3 && words != 4) {
+        fprintf(stderr, "usage: uas_usbredir PORT IMAGE [BAD]\n");
+        return 2;
+    }
+    uint8_t fault = open_disk(word[2], words == 4 ? word[3] : NULL, &server.disk);
+    if (fault != UAS_OK) {
+        fprintf(stderr, "uas_usbredir: %s: %s\n", word[2], uas_fault_name(fault));
+        return 1;
+    }
+    server.socket = connected(word[1]);
+    if (server.socket < 0 || !begin(&server)) {
+        perror("uas_usbredir");
+        return 1;
+    }
+    run(&server);
+    fprintf(stderr, "uas_usbredir: %lu answers\n", server.commands);
+    usbredirparser_destroy(server.parser);
+    uas_device_free(server.disk);
+}

@@ -17,15 +17,25 @@
 #include <unistd.h>
 #include <usbredirparser.h>
 
-enum { COMMAND = 0x01, DATA_OUT = 0x02, STATUS = 0x81, DATA_IN = 0x82, STREAMS_EXPONENT = 7, STREAMS = 1 << STREAMS_EXPONENT, MOST_MOVED = 1 << 20 };
+enum { COMMAND = 0x01, DATA_OUT = 0x02, STATUS = 0x81, DATA_IN = 0x82, STREAMS_EXPONENT = 7, STREAMS = 1 << STREAMS_EXPONENT };
 
 /* A transfer that waits, of a pipe's stream. */
 struct transfer {
     bool waits;
     uint64_t id;
     struct usb_redir_bulk_packet_header header;
-    uint8_t *data; /* of data out what came, of data in room for what goes */
-    uint32_t length, moved;
+    uint8_t *data; /* of an OUT pipe */
+    uint32_t length;
+};
+
+/* What a tag's command has moved. QEMU's controller stops an endpoint of all streams at once, and cancels each transfer that waits on it; the
+ * guest's controller puts those that it didn't give up once more. So what was moved stays until its task is over, and, where the transfer was
+ * ended but came too late, until it comes again. */
+struct moved {
+    uint8_t bytes[UAS_MOST_DATA_BYTES]; /* of data in */
+    uint32_t count;
+    bool ended, lost; /* the transfer of a GOOD command was ended, by this id; and QEMU took no notice of it */
+    uint64_t id;
 };
 
 struct server {
@@ -33,6 +43,7 @@ struct server {
     struct usbredirparser *parser;
     uas_device *disk;
     struct transfer statuses[UAS_GREATEST_TAG + 1], data[UAS_GREATEST_TAG + 1];
+    struct moved moved[UAS_GREATEST_TAG + 1];
     uint8_t configuration;
     unsigned long commands;
 };
@@ -85,31 +96,39 @@ static size_t descriptor(uint8_t type, uint8_t index, uint8_t bytes[255])
 
 /* ---- Transfers ---- */
 
-/* Ends a transfer that waits: of an IN pipe with its first bytes, of an OUT pipe as so many that were taken. */
-static void complete(struct server *server, struct transfer *transfer, uint8_t status, uint32_t length)
+/* Ends a transfer: of an IN pipe with these bytes, of an OUT pipe as so many that were taken. */
+static void complete(struct server *server, struct transfer *transfer, uint8_t status, uint8_t *bytes, uint32_t length)
 {
     bool in = (transfer->header.endpoint & 0x80) != 0;
     transfer->header.status = status;
     transfer->header.length = (uint16_t)length;
     transfer->header.length_high = (uint16_t)(length >> 16);
-    usbredirparser_send_bulk_packet(server->parser, transfer->id, &transfer->header, in ? transfer->data : NULL, in ? (int)length : 0);
-    free(transfer->data);
+    usbredirparser_send_bulk_packet(server->parser, transfer->id, &transfer->header, in ? bytes : NULL, in ? (int)length : 0);
+    if (transfer->data != NULL)
+        usbredirparser_free_packet_data(server->parser, transfer->data);
     memset(transfer, 0, sizeof *transfer);
+}
+
+static void forget(struct moved *moved)
+{
+    moved->count = 0;
+    moved->ended = moved->lost = false;
 }
 
 /* Moves a chunk of a tag's data; false where its transfer isn't there or has no room. */
 static bool move(struct server *server, uint16_t tag, uint8_t phase, uint32_t chunk)
 {
     struct transfer *transfer = &server->data[tag];
+    struct moved *moved = &server->moved[tag];
     bool in = (transfer->header.endpoint & 0x80) != 0, good = false;
-    if (!transfer->waits || in != (phase == UAS_GIVES) || transfer->length - transfer->moved < chunk)
+    if (!transfer->waits || in != (phase == UAS_GIVES) || transfer->length < moved->count + chunk || sizeof moved->bytes < moved->count + chunk)
         return false;
-    uint8_t *bytes = transfer->data + transfer->moved;
-    uint8_t fault = in ? uas_device_give(server->disk, tag, bytes, chunk, &good) : uas_device_take(server->disk, tag, bytes, chunk, &good);
+    uint8_t fault = in ? uas_device_give(server->disk, tag, moved->bytes + moved->count, chunk, &good)
+                       : uas_device_take(server->disk, tag, transfer->data + moved->count, chunk, &good);
     if (fault != UAS_OK)
         return false;
     if (good)
-        transfer->moved += chunk;
+        moved->count += chunk;
     return true;
 }
 
@@ -117,14 +136,21 @@ static bool move(struct server *server, uint16_t tag, uint8_t phase, uint32_t ch
 static void answer(struct server *server, uint16_t tag)
 {
     struct transfer *transfer = &server->statuses[tag], *data = &server->data[tag];
+    struct moved *moved = &server->moved[tag];
+    uint8_t bytes[UAS_MOST_UNIT_BYTES];
     uint32_t length = 0;
-    if (data->waits && data->moved > 0)
-        complete(server, data, usb_redir_success, data->moved);
-    if (!transfer->waits || uas_device_status(server->disk, tag, transfer->data, transfer->length, &length) != UAS_OK)
+    if (uas_device_status(server->disk, tag, bytes, sizeof bytes, &length) != UAS_OK)
+        return;
+    if (data->waits && moved->count > 0) {
+        moved->ended = bytes[0] == UAS_UNIT_SENSE && bytes[6] == UAS_GOOD;
+        moved->id = data->id;
+        complete(server, data, usb_redir_success, moved->bytes, moved->count);
+    }
+    if (!transfer->waits || transfer->length < length)
         return;
     uas_device_sent(server->disk, tag);
     server->commands++;
-    complete(server, transfer, usb_redir_success, length);
+    complete(server, transfer, usb_redir_success, bytes, length);
 }
 
 /* Whatever may be done on a tag is done. */
@@ -139,7 +165,7 @@ static void serve(struct server *server, uint16_t tag)
         answer(server, tag);
 }
 
-/* An information unit came. What a task management ended moves no more, and its host gives the transfers up. */
+/* An information unit came. What a task management ended moves no more, and the host gives its transfers up. */
 static void receive(struct server *server, const uint8_t *bytes, size_t length)
 {
     uint16_t tag = 0;
@@ -151,49 +177,61 @@ static void receive(struct server *server, const uint8_t *bytes, size_t length)
     }
     for (uint16_t one = 1; one <= UAS_GREATEST_TAG; one++)
         if (ended[one / 8] >> one % 8 & 1)
-            server->data[one].moved = 0;
-    if (tag != 0)
+            forget(&server->moved[one]);
+    if (tag != 0) {
+        forget(&server->moved[tag]);
         serve(server, tag);
+    }
 }
 
 /* ---- What QEMU asks ---- */
 
+/* A transfer of a stream came: one that was lost is ended again, any other waits. */
+static void hold(struct server *server, struct transfer *made, uint16_t tag)
+{
+    struct transfer *held = made->header.endpoint == STATUS ? &server->statuses[tag] : &server->data[tag];
+    struct moved *moved = &server->moved[tag];
+    *held = *made;
+    if (made->header.endpoint != STATUS && moved->lost) {
+        moved->lost = false;
+        moved->id = made->id;
+        complete(server, held, usb_redir_success, moved->bytes, moved->count);
+    } else
+        serve(server, tag);
+}
+
 static void on_bulk(void *whole, uint64_t id, struct usb_redir_bulk_packet_header *header, uint8_t *data, int data_length)
 {
     struct server *server = whole;
-    struct transfer made = { .waits = true, .id = id, .header = *header };
-    uint32_t length = header->length | (uint32_t)header->length_high << 16;
-    struct transfer *held = header->endpoint == STATUS ? server->statuses : server->data;
-    uint32_t tag = header->stream_id;
-    bool known = header->endpoint == COMMAND || (tag >= 1 && tag <= STREAMS && (header->endpoint & 0x7f) <= 2 && !held[tag].waits);
-    if (known && length <= MOST_MOVED && (header->endpoint & 0x80) != 0)
-        made.data = calloc(1, length + 1);
-    else if (known && data_length > 0 && (made.data = malloc((size_t)data_length)) != NULL)
-        memcpy(made.data, data, (size_t)data_length);
-    made.length = (header->endpoint & 0x80) != 0 ? length : (uint32_t)data_length;
-    usbredirparser_free_packet_data(server->parser, data);
-    if (made.data == NULL)
-        complete(server, &made, usb_redir_stall, 0);
-    else if (header->endpoint == COMMAND) {
+    struct transfer made = { .waits = true, .id = id, .header = *header, .data = data };
+    uint32_t length = header->length | (uint32_t)header->length_high << 16, tag = header->stream_id;
+    bool in = (header->endpoint & 0x80) != 0, has_stream = tag >= 1 && tag <= STREAMS && (header->endpoint & 0x7f) <= 2;
+    const struct transfer *held = header->endpoint == STATUS ? server->statuses : server->data;
+    made.length = in ? length : (uint32_t)data_length;
+    if (header->endpoint == COMMAND) {
         uint8_t bytes[UAS_MOST_UNIT_BYTES + 1];
         size_t unit = made.length < sizeof bytes ? made.length : sizeof bytes;
-        memcpy(bytes, made.data, unit);
-        complete(server, &made, usb_redir_success, made.length);
+        if (unit > 0)
+            memcpy(bytes, data, unit);
+        complete(server, &made, usb_redir_success, NULL, made.length);
         receive(server, bytes, unit);
-    } else {
-        held[tag] = made;
-        serve(server, (uint16_t)tag);
-    }
+    } else if (has_stream && !held[tag].waits)
+        hold(server, &made, (uint16_t)tag);
+    else
+        complete(server, &made, usb_redir_stall, NULL, 0);
 }
 
 static void on_cancel(void *whole, uint64_t id)
 {
     struct server *server = whole;
     for (int tag = 1; tag <= STREAMS; tag++) {
+        struct moved *moved = &server->moved[tag];
         if (server->statuses[tag].waits && server->statuses[tag].id == id)
-            complete(server, &server->statuses[tag], usb_redir_cancelled, 0);
+            complete(server, &server->statuses[tag], usb_redir_cancelled, NULL, 0);
         if (server->data[tag].waits && server->data[tag].id == id)
-            complete(server, &server->data[tag], usb_redir_cancelled, 0);
+            complete(server, &server->data[tag], usb_redir_cancelled, NULL, 0);
+        else if (moved->ended && moved->id == id)
+            moved->lost = true;
     }
 }
 
@@ -251,6 +289,8 @@ static void on_reset(void *whole)
 {
     struct server *server = whole;
     uas_device_reset(server->disk);
+    for (int tag = 1; tag <= UAS_GREATEST_TAG; tag++)
+        forget(&server->moved[tag]);
 }
 
 static void on_set_configuration(void *whole, uint64_t id, struct usb_redir_set_configuration_header *asked)

@@ -1880,6 +1880,10 @@ static void driver_new_faults(void)
     driver_takes(driver, 14, 239, 0, ready, 0, 0, "00ef0003 00000002");
     driver_memory_is(driver, 0x1000ef00, "01 00 00 ef 00 x5 0e 00 x22");
     item_is(driver, 0x420ef000, "00 ef 00 20 00 00 00 00 70 00 00 00 25 04 00 00");
+    struct uas_driver_door told;
+    CHECK(uas_driver_task(driver, 14, 1, UAS_QUERY_TASK, 239, &told) == 0);
+    tells(&told, "00f00003 00000002");
+    driver_memory_is(driver, 0x1000f000, "05 00 00 f0 80 00 00 ef 00 0e 00 x6");
     uas_driver_free(driver);
 }
 

@@ -252,22 +252,28 @@ static void ends_opened(int which, void *handle)
         uas_bus_free(handle);
 }
 
-/* Whether each memory that an open asks for may be refused; what is refused for another fault leaves none. */
+/* Each memory that an open asks for may be refused: it answers so and leaves none, or does with less. What is refused for another fault
+ * leaves none either. */
 static void each_refused_of_opens(void)
 {
     static const struct uas_bad_block beyond = { 1, 8 };
     for (int which = 0; which < 3; which++) {
-        void *handle = NULL;
-        uint8_t fault = UAS_NO_MEMORY;
         unsigned long times = 0;
-        for (refused_at = 1; fault != 0 && refused_at < 10000; refused_at++, times++) {
+        bool refused = true;
+        for (refused_at = 1; refused && refused_at < 10000; refused_at++) {
+            void *handle = NULL;
             asks = 0;
-            fault = opened(which, &handle);
-            CHECK(fault == 0 || (fault == UAS_NO_MEMORY && handle == NULL && held == 0));
+            uint8_t fault = opened(which, &handle);
+            CHECK(fault == 0 ? handle != NULL && held > 0 : fault == UAS_NO_MEMORY && handle == NULL && held == 0);
+            refused = asks >= refused_at;
+            CHECK(fault == 0 || refused);
+            times += fault != 0;
+            if (fault == 0)
+                ends_opened(which, handle);
+            if (!CHECK(held == 0))
+                return;
         }
-        CHECK(times > 5 && fault == 0 && held > 0);
-        ends_opened(which, handle);
-        CHECK(held == 0);
+        CHECK(times > 5);
     }
     refused_at = 0;
     uas_device *device = NULL;

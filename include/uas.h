@@ -352,7 +352,8 @@ uint32_t uas_doorbell(uint8_t endpoint, uint16_t stream);
 void uas_doorbell_parts(uint32_t value, uint8_t *endpoint, uint16_t *stream);
 
 /* A stream context (6.2.4.1): the TR Dequeue Pointer, a multiple of 16, the Dequeue Cycle State, 0 or 1, and the Stream Context Type, at
- * most 7. The bytes behind these are written as 0 and not looked at, and so are the bits of what doesn't fit. */
+ * most 7. The eight bytes behind these are written as 0 and not looked at; of what doesn't fit the low bits are written, and of a pointer
+ * all but its last four. */
 void uas_context_read(const uint8_t bytes[16], uint64_t *pointer, uint8_t *cycle, uint8_t *type);
 void uas_context_write(uint64_t pointer, uint8_t cycle, uint8_t type, uint8_t bytes[16]);
 
@@ -703,8 +704,8 @@ uint8_t uas_driver_left_over(const uas_driver *driver, uint8_t pipe, uint16_t *t
 /* Hands an event in, as uas_trb_decode reads it: told->acted is UAS_EVENT_STRAY, UAS_EVENT_MATCHED (then of told->tag), or
  * UAS_EVENT_ENGINE. told->doorbell has the told->doorbells values to write. A TD's event is of its last TRB, with code 1 (Success); a
  * status's has code 13 (Short Packet), also where the information unit fills the buffer, and tells what of its 112 bytes is left. With
- * another code the event is stray, and the command waits on. The event of an item gives its place back, so step over a Link TRB behind
- * it before.
+ * another code the event is stray, and the command waits on. Endpoint ID and slot aren't looked at. The event of an item gives its place
+ * back, so step over a Link TRB behind it before.
  * Fault: UAS_DRIVER_EVENT. */
 uint8_t uas_driver_event(uas_driver *driver, const struct uas_trb *event, struct uas_driver_door *told);
 

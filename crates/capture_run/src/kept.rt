@@ -1,6 +1,6 @@
 //! A script's run as `replay` makes it, with the bytes that its commands moved.
 
-ghost use Rattle.std.specs.Prelude.{◌≡◌, false, IfOk, IfErr};
+ghost use Rattle.std.specs.Prelude.{◌≡◌, [], None, false, IfOk, IfErr};
 ghost use Rattle.byte_io.specs.Disks.{AreDisks};
 ghost use Rattle.uas_replay.specs.Told.{told, whole_run, zeroed_units};
 ghost use Rattle.uas_replay.specs.Runs.{StopsBy};
@@ -31,6 +31,10 @@ struct Keeper {
 impl<W> Watcher<W> for Keeper {
     ghost can_fail = { λ _. false };
 
+    ghost shown = { λ _ _. None };
+
+    ghost text_of = { λ _ _. [] };
+
     fn act(
         &mut self,
         writer: &mut W,
@@ -55,7 +59,7 @@ impl<W> Watcher<W> for Keeper {
         Ok(())
     }
 
-    fn hear(&mut self, writer: &mut W, run: &ScriptRun) -> Result<(), RunFault> {
+    fn hear(&mut self, writer: &mut W, told: &[u8]) -> Result<(), RunFault> {
         Ok(())
     }
 }
@@ -136,7 +140,7 @@ fn whole_run(
     lines: &[Line],
 ) -> Result<ScriptRun, RunFault>
     requires { AreDisks disks }
-    ensures run { IfOk result (λ run. run ≡ whole_run (zeroed_units disks.clients disks.blocks disks.bad) lines.now) }
+    ensures run { IfOk result (λ run. run.telling ≡ whole_run (zeroed_units disks.clients disks.blocks disks.bad) lines.now) }
     ensures fault { IfErr result (StopsBy false) }
 {
     let Ok(mut run) = ScriptRun::new(alloc, disks.clients, disks.blocks, disks.bad) else {

@@ -6,3 +6,5 @@ mod NoNews
 mod Transitions
 mod WholeScripts
 mod ReplyLines
+pub mod Shown
+mod Opening

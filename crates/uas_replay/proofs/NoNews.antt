@@ -1,18 +1,14 @@
 -- Steps that tell a client nothing, and submit nothing.
 use Rattle.std.proofs.Common.{◌≡◌, ◌∙◌, ℕ, Bool, true, false, cond, List, [], Option, Some, None}
 use Rattle.std.proofs.Common.{option_map, option_to_list, refl, ap, sym}
-use Rattle.std.specs.Prelude.{◌-◌, ◌||◌}
-use Rattle.scsi_cmd.specs.declared.Task.{Task}
+use Rattle.std.specs.Prelude.{◌||◌}
 use Rattle.scsi_cmd.specs.declared.Reply.{Reply}
-use Rattle.uas_profile.specs.declared.Pipe.TheVariants.{Status}
 use Rattle.shared_machine.specs.declared.Step.{Step}
 use Rattle.shared_machine.specs.declared.Step.TheVariants as step
 use Rattle.shared_machine.specs.declared.Mark.{Mark}
 use Rattle.shared_machine.specs.declared.Mark.TheVariants.{Submit as SubmitMark, Task as TaskMark, Carry, Move, Send, Settle, Quiet}
 use Rattle.shared_machine.specs.declared.Outcome.{Outcome}
 use Rattle.isolation.specs.Isolation.{renumbered, label_of, is_own, own_label, own_reply}
-use Rattle.uas_replay.specs.declared.replay.Handed.TheVariants as hand
-use Rattle.uas_script.specs.declared.Line.TheVariants as line
 use Rattle.uas_replay.specs.Told.{taken}
 use Rattle.uas_replay.specs.Headline.{deliveries_to}
 use Rattle.uas_replay.proofs.Outcomes.{Untold, IsInner}

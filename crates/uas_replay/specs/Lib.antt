@@ -2,3 +2,4 @@ pub mod Printed
 pub mod Told
 pub mod Runs
 pub mod Headline
+pub mod Walks

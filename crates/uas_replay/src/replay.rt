@@ -7,20 +7,23 @@ ghost use Rattle.std.specs.Prelude.{slice_index_or, false, IfOk, OnOk, IfSome, I
 ghost use Rattle.scsi_cmd.specs.Op.{direction_of};
 ghost use Rattle.uas_replay.specs.Told.{zeroed_units, opening_ranges, command_of, is_to_host, took_to_host, told};
 ghost use Rattle.uas_replay.specs.Told.{issued_for, handing_in, brought_in_by};
+ghost use Rattle.uas_replay.specs.Walks.{acted, issued_in, issued_run, machine_of, opening_walk, told_since};
+ghost use Rattle.stream_array.specs.Rings.{IsOpeningLines};
 ghost use Rattle.shared_machine.specs.Bus.{HasTicket};
 ghost use Rattle.shared_machine.specs.Drain.{AreNotLeftOver, AreQuiet};
 ghost use Rattle.bus_core.specs.Shows.{ShowsShared};
 ghost use Rattle.frame_store.specs.Buffers.{IsWhole};
 
 mod notes;
+mod opening;
 mod walk;
 
 use crate::printed;
 use crate::status::{COMMAND_FAILED, DONE};
-use block_unit::Unit;
-use bus_core::{Bus, Outcome, Refusal, Step};
+use bus_core::{Outcome, Refusal, RingBus, Step};
 use frame_store::Frames;
 use notes::TicketNotes;
+use opening::{opening_notes, opening_ranges, zeroed_units};
 use scsi_cmd::{Buffer, Command, Direction, Op, Reply, Task, moves};
 use std::alloc::{AllocError, Global};
 use std::marker::Model;
@@ -32,17 +35,6 @@ pub use walk::{Unwatched, Watcher};
 
 /// The most steps of a drain.
 pub const DRAIN_LIMIT: usize = 100_000;
-
-/// Nothing noted, for so many clients.
-fn opening_notes(alloc: Global, clients: usize) -> Result<Vec<TicketNotes>, AllocError>
-    ensures { IfOk result (λ notes. notes.items ≡ replicate clients []) }
-{
-    let mut notes = Vec::new(alloc);
-    for _ in 0..clients {
-        notes.push(TicketNotes::new(alloc))?;
-    }
-    Ok(notes)
-}
 
 /// What a client hands in under a tag of its own.
 #[derive(Clone, Copy)]
@@ -100,7 +92,7 @@ impl Handed {
 #[derive(Drop)]
 pub struct ScriptRun {
     alloc: Global,
-    bus: Bus,
+    bus: RingBus,
     ranges: Vec<TagRange<TAGS>>,
     // For each client, what was noted of its tickets.
     brings_in: Vec<TicketNotes>,
@@ -110,24 +102,28 @@ pub struct ScriptRun {
 }
 
 impl Model for ScriptRun {
-    ghost use Rattle.uas_replay.specs.Told.{Telling};
+    ghost use Rattle.uas_replay.specs.Walks.{Walk, machine_of};
 
-    ghost Value = { Telling };
+    ghost Value = { Walk };
 
     ghost view = { λ run. record {
-      machine = run.bus;
-      ranges = run.ranges.items;
-      brings_in = run.brings_in.items;
-      text = run.text.items;
-      failed = run.failed;
+      telling = record {
+        machine = machine_of run.bus;
+        ranges = run.ranges.items;
+        brings_in = run.brings_in.items;
+        text = run.text.items;
+        failed = run.failed;
+      };
+      world = run.bus;
     } };
 }
 
 impl ScriptRun {
-    ghost use Rattle.uas_replay.specs.Told.{zeroed_units, opening_run, step_of, is_due, drained_machine, refused_run, freed_run, handed_over};
+    ghost use Rattle.uas_replay.specs.Told.{zeroed_units, step_of, is_due, drained_machine, refused_run, freed_run, handed_over};
     ghost use Rattle.uas_replay.specs.Told.{noted_run, is_brought_in, replied, idle_run};
 
     /// The run before its first line, of 1 to 15 clients on units of 1 to 65,536 zeroed blocks.
+    #[tactic(auto, unfolding(crate::specs::Walks::machine_of))]
     pub fn new(
         alloc: Global,
         clients: usize,
@@ -138,11 +134,12 @@ impl ScriptRun {
         requires most_clients { clients ≤ MAX_CLIENTS }
         requires some_blocks { 1 ≤ blocks }
         requires most_blocks { blocks ≤ MAX_BLOCKS }
-        ensures { IfOk result (λ run. run ≡ opening_run (zeroed_units clients blocks bad)) }
+        ensures walk { IfOk result (λ run. run ≡ opening_walk (zeroed_units clients blocks bad) run.world.lines) }
+        ensures rings { IfOk result (λ run. IsOpeningLines run.world.lines) }
     {
         Ok(ScriptRun {
             alloc,
-            bus: Bus::new(alloc, zeroed_units(alloc, clients, blocks, bad)?)?,
+            bus: RingBus::new(alloc, zeroed_units(alloc, clients, blocks, bad)?)?,
             ranges: opening_ranges(alloc, clients)?,
             brings_in: opening_notes(alloc, clients)?,
             text: Vec::new(alloc),
@@ -151,56 +148,64 @@ impl ScriptRun {
     }
 
     /// One step of the bus, due or not.
-    #[tactic(auto, unfolding(crate::specs::Told::step_of))]
+    #[tactic(auto, unfolding(crate::specs::Told::step_of, crate::specs::Walks::machine_of, crate::specs::Walks::world_then))]
     pub fn act(&mut self, step: Step) -> Outcome
         requires { HasTicket step }
-        ensures outcome { result ≡ (step_of self.old.machine step).1 }
-        ensures run { self.new ≡ record self.old { machine = (step_of self.old.machine step).0 } }
+        ensures outcome { result ≡ (step_of self.old.telling.machine step).1 }
+        ensures run { self.new ≡ acted self.old step }
     {
         self.bus.step(step)
     }
 
     /// The rings of the bus.
+    #[tactic(auto, unfolding(crate::specs::Walks::machine_of))]
     pub fn rings(&self) -> &Lines
-        ensures { ShowsShared self.now.machine result.now }
+        ensures rings { result.now ≡ self.now.world.lines }
+        ensures shows { ShowsShared self.now.telling.machine result.now }
+        // The world of rings holds the shared machine.
+        ensures machine { self.now.telling.machine ≡ machine_of self.now.world }
     {
         self.bus.lines()
     }
 
     /// The buffers of the bus.
     pub fn buffers(&self) -> &Frames
-        ensures { IsWhole result.now }
+        ensures buffers { result.now ≡ self.now.world.frames }
+        ensures whole { IsWhole result.now }
     {
         self.bus.frames()
     }
 
     /// Whether a step of the bus is due.
-    #[tactic(auto, unfolding(crate::specs::Told::is_due))]
+    #[tactic(auto, unfolding(crate::specs::Told::is_due, crate::specs::Walks::machine_of))]
     pub fn is_due(&self, step: &Step) -> bool
-        ensures { result ≡ is_due self.now.machine step.now }
+        ensures { result ≡ is_due self.now.telling.machine step.now }
     {
         self.bus.due(step)
     }
 
     /// The least tag above this one that the device has a task of. No other tag's streams are due.
+    #[tactic(auto, unfolding(crate::specs::Walks::machine_of))]
     pub fn next_busy(&self, tag: u16) -> Option<u16>
-        ensures next { IfSome result (λ next. (tag < next) × (next ≤ length self.now.machine.parts * TAGS) × AreQuiet self.now.machine tag next) }
-        ensures none { IfNone result (AreQuiet self.now.machine tag (suc (length self.now.machine.parts * TAGS))) }
+        ensures next { IfSome result (λ next. (tag < next) × (next ≤ length self.now.telling.machine.parts * TAGS) × AreQuiet self.now.telling.machine tag next) }
+        ensures none { IfNone result (AreQuiet self.now.telling.machine tag (suc (length self.now.telling.machine.parts * TAGS))) }
     {
         self.bus.next_busy(tag)
     }
 
     /// The least tag above this one whose TD on a pipe is left over. None is due while a retirement is under way.
+    #[tactic(auto, unfolding(crate::specs::Walks::machine_of))]
     pub fn next_left_over(&self, pipe: Pipe, tag: u16) -> Option<u16>
-        ensures next { IfSome result (λ next. (tag < next) × (next ≤ length self.now.machine.parts * TAGS) × AreNotLeftOver self.now.machine pipe tag next) }
-        ensures none { IfNone result (AreNotLeftOver self.now.machine pipe tag (suc (length self.now.machine.parts * TAGS))) }
+        ensures next { IfSome result (λ next. (tag < next) × (next ≤ length self.now.telling.machine.parts * TAGS) × AreNotLeftOver self.now.telling.machine pipe tag next) }
+        ensures none { IfNone result (AreNotLeftOver self.now.telling.machine pipe tag (suc (length self.now.telling.machine.parts * TAGS))) }
     {
         self.bus.next_left_over(pipe, tag)
     }
 
     /// How many clients its bus has.
+    #[tactic(auto, unfolding(crate::specs::Walks::machine_of))]
     pub fn clients(&self) -> usize
-        ensures count { result ≡ length self.now.machine.parts }
+        ensures count { result ≡ length self.now.telling.machine.parts }
         ensures most { result ≤ MAX_CLIENTS }
     {
         self.bus.clients()
@@ -208,37 +213,56 @@ impl ScriptRun {
 
     /// What it told.
     pub fn text(&self) -> &[u8]
-        ensures { result.now ≡ self.now.text }
+        ensures { result.now ≡ self.now.telling.text }
     {
         &self.text
     }
 
+    /// What it told since its text was this long.
+    fn told_since(&self, len: usize) -> &[u8]
+        ensures { result.now ≡ told_since len self.now.telling }
+    {
+        self.text.get(len..).unwrap_or_default()
+    }
+
     /// Whether it told a check, an abort or a refusal.
     pub fn has_failed(&self) -> bool
-        ensures { result ≡ self.now.failed }
+        ensures { result ≡ self.now.telling.failed }
     {
         self.failed
     }
 
     /// Steps of the bus until none acts, or so many have acted.
-    #[tactic(auto, unfolding(crate::specs::Told::drained_machine))]
+    #[tactic(auto, unfolding(crate::specs::Told::drained_machine, crate::specs::Walks::machine_of))]
     pub fn act_all(&mut self, limit: usize)
-        ensures { self.new ≡ record self.old { machine = drained_machine self.old.machine limit } }
+        ensures { self.new.telling ≡ record self.old.telling { machine = drained_machine self.old.telling.machine limit } }
     {
         let _ = self.bus.drain(limit);
     }
 
     /// Prints a refusal.
     fn refuse(&mut self, client: usize, name: &str) -> Result<(), AllocError>
-        ensures { OnOk result (self.new ≡ refused_run self.old client name.now) }
+        ensures { OnOk result (self.new ≡ record self.old { telling = refused_run self.old.telling client name.now }) }
     {
         self.failed = true;
         printed::push_refusal(self.alloc, &mut self.text, client, name)
     }
 
+    /// A tag and a ticket of a client's own for what it hands in, or why there is none; nothing where there is no such client.
+    fn issue(&mut self, client: usize, handed: &Handed) -> Option<Result<(Tag, Ticket), Refused>>
+        ensures run { self.new ≡ record self.old { telling = issued_run self.old.telling client handed.now } }
+        ensures answer { result ≡ issued_in self.old.telling client handed.now }
+        ensures ticket { IfSome result (λ answer. IfOk answer (λ given. given.1 < 2 ^ 60)) }
+    {
+        match self.ranges.get_mut(client) {
+            Some(range) => Some(handed.issue(range)),
+            None => None,
+        }
+    }
+
     /// Frees a tag that is out.
     fn free(&mut self, client: usize, tag: u16)
-        ensures { self.new ≡ freed_run self.old client tag }
+        ensures { self.new ≡ record self.old { telling = freed_run self.old.telling client tag } }
     {
         if let Some(range) = self.ranges.get_mut(client) {
             if range.is_issued(tag) {
@@ -249,7 +273,7 @@ impl ScriptRun {
 
     /// Prints a reply and frees its tag.
     fn reply(&mut self, client: usize, reply: &Reply) -> Result<(), AllocError>
-        ensures { OnOk result (self.new ≡ replied self.old client (Some reply.now)) }
+        ensures { OnOk result (self.new ≡ record self.old { telling = replied self.old.telling client (Some reply.now) }) }
     {
         let tag = reply.tag();
         let brings_in = self.is_brought_in(client, reply.ticket());
@@ -261,14 +285,14 @@ impl ScriptRun {
 
     /// Prints that a step wasn't due.
     fn idle(&mut self) -> Result<(), AllocError>
-        ensures { OnOk result (self.new ≡ idle_run self.old) }
+        ensures { OnOk result (self.new ≡ record self.old { telling = idle_run self.old.telling }) }
     {
         printed::push_idle(&mut self.text)
     }
 
     /// Notes of a client's last ticket whether the bus took a command under it that moves data to the host.
     fn note(&mut self, client: usize, brings_in: bool) -> Result<(), AllocError>
-        ensures { OnOk result (self.new ≡ noted_run self.old client brings_in) }
+        ensures { OnOk result (self.new ≡ record self.old { telling = noted_run self.old.telling client brings_in }) }
     {
         if let Some(notes) = self.brings_in.get_mut(client) {
             notes.push(brings_in)?;
@@ -278,7 +302,7 @@ impl ScriptRun {
 
     /// What was noted of a client's ticket.
     fn is_brought_in(&self, client: usize, ticket: u64) -> bool
-        ensures { result ≡ is_brought_in self.now.brings_in client ticket }
+        ensures { result ≡ is_brought_in self.now.telling.brings_in client ticket }
     {
         match self.brings_in.get(client) {
             Some(notes) => notes.at(ticket),
@@ -288,7 +312,7 @@ impl ScriptRun {
 
     /// What the bus made of a submission: where it refused it, the ticket is skipped and the tag freed.
     fn hear(&mut self, client: usize, tag: u16, refused: Option<Refusal>) -> Result<(), AllocError>
-        ensures { OnOk result (self.new ≡ handed_over self.old client tag refused) }
+        ensures { OnOk result (self.new ≡ record self.old { telling = handed_over self.old.telling client tag refused }) }
     {
         let Some(refusal) = refused else {
             return Ok(());
@@ -296,47 +320,6 @@ impl ScriptRun {
         self.free(client, tag);
         self.refuse(client, printed::fault_name(refusal.fault))
     }
-}
-
-/// So many units of zeroed blocks, in each of which this block is bad where the unit has it.
-fn zeroed_units(
-    alloc: Global,
-    clients: usize,
-    blocks: u32,
-    bad: Option<u32>,
-) -> Result<Vec<Unit>, AllocError>
-    requires some { 1 ≤ blocks }
-    requires most { blocks ≤ MAX_BLOCKS }
-    ensures { IfOk result (λ units. units.items ≡ zeroed_units clients blocks bad) }
-{
-    let mut units = Vec::new(alloc);
-    for _ in 0..clients {
-        units.push(Unit::new(alloc, blocks, bad_blocks(alloc, bad)?)?)?;
-    }
-    Ok(units)
-}
-
-/// The numbers of a unit's bad blocks.
-fn bad_blocks(alloc: Global, bad: Option<u32>) -> Result<Vec<u32>, AllocError>
-    ensures { IfOk result (λ blocks. blocks.items ≡ option_to_list bad) }
-{
-    let mut blocks = Vec::new(alloc);
-    if let Some(block) = bad {
-        blocks.push(block)?;
-    }
-    Ok(blocks)
-}
-
-/// The tags of so many clients, none of them out.
-fn opening_ranges(alloc: Global, clients: usize) -> Result<Vec<TagRange<TAGS>>, AllocError>
-    requires { clients ≤ MAX_CLIENTS }
-    ensures { IfOk result (λ ranges. ranges.items ≡ opening_ranges clients) }
-{
-    let mut ranges = Vec::new(alloc);
-    for client in 0..clients {
-        ranges.push(TagRange::new(client as u8))?;
-    }
-    Ok(ranges)
 }
 
 /// Whether an operation moves data to the host.

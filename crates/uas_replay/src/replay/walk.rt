@@ -1,12 +1,17 @@
 //! The walk of a script: its lines in turn over a run, whoever watches.
 //!
-//! A [`Watcher`] takes the steps of the bus, and shows of them what it wants; all else is the same walk.
+//! A [`Watcher`] takes the steps of the bus, and shows of them what it wants; all else is the same walk. What it shows is a text of
+//! each step, and behind it what the run told by it, in their order (`Shows` in specs/Walks.antt).
 
-ghost use Rattle.std.specs.Prelude.{◌≡◌, ◌<◌, ◌^◌, Bool, Ok, fold, false, IfOk, OnOk, IfErr};
+ghost use Rattle.std.specs.Prelude.{◌≡◌, ◌<◌, ◌^◌, ◌++◌, ℕ, Bool, List, [], Option, None, Ok, fold, length, false, IfOk, OnOk, IfErr};
+ghost use Rattle.std.specs.Io.KnownBytes.{Appends};
 ghost use Rattle.shared_machine.specs.Bus.{HasTicket};
+ghost use Rattle.shared_machine.specs.declared.Step.{Step};
+ghost use Rattle.bus_core.specs.World.{World};
 ghost use Rattle.uas_replay.specs.Runs.{StopsBy};
 ghost use Rattle.uas_replay.specs.Told.{all_taken, all_taken_by, drained_machine, drained_run, given_run, handed_in};
-ghost use Rattle.uas_replay.specs.Told.{step_of, stepped, taken, taken_or_idle, told_line};
+ghost use Rattle.uas_replay.specs.Told.{handing_in, idle_run, step_of, stepped, taken, taken_or_idle, told_line};
+ghost use Rattle.uas_replay.specs.Walks.{Shows, acted, told_since, world_then};
 
 use super::{DRAIN_LIMIT, Handed, ScriptRun};
 use crate::printed;
@@ -21,22 +26,31 @@ pub trait Watcher<W> {
     /// Whether the writer can fail.
     ghost can_fail: { W → Bool };
 
+    /// What it has shown on the writer, with what waits to be written, where that is known.
+    ghost shown: { Self → W → Option (List ℕ) };
+
+    /// What it shows of a step, in the world before the step.
+    ghost text_of: { World → Step → List ℕ };
+
     /// Takes a step, due or not.
     fn act(&mut self, writer: &mut W, run: &mut ScriptRun, step: Step) -> Result<Outcome, RunFault>
         requires { HasTicket step }
-        ensures outcome { IfOk result (λ outcome. outcome ≡ (step_of run.old.machine step).1) }
-        ensures run { OnOk result (run.new ≡ record run.old { machine = (step_of run.old.machine step).0 }) }
+        ensures outcome { IfOk result (λ outcome. outcome ≡ (step_of run.old.telling.machine step).1) }
+        ensures run { OnOk result (run.new ≡ acted run.old step) }
+        ensures shown { OnOk result (Appends (shown self.old writer.old) (shown self.new writer.new) (text_of run.old.world step)) }
         ensures same { can_fail writer.new ≡ can_fail writer.old }
         ensures fault { IfErr result (StopsBy (can_fail writer.old)) };
 
     /// Takes steps of the bus until none acts, or so many have acted.
     fn act_all(&mut self, writer: &mut W, run: &mut ScriptRun, limit: usize) -> Result<(), RunFault>
-        ensures run { OnOk result (run.new ≡ record run.old { machine = drained_machine run.old.machine limit }) }
+        ensures run { OnOk result (run.new.telling ≡ record run.old.telling { machine = drained_machine run.old.telling.machine limit }) }
+        ensures shown { OnOk result (Shows text_of run.old run.new (shown self.old writer.old) (shown self.new writer.new)) }
         ensures same { can_fail writer.new ≡ can_fail writer.old }
         ensures fault { IfErr result (StopsBy (can_fail writer.old)) };
 
-    /// Hears that the run has told something.
-    fn hear(&mut self, writer: &mut W, run: &ScriptRun) -> Result<(), RunFault>
+    /// Hears what the run has told since it was last heard.
+    fn hear(&mut self, writer: &mut W, told: &[u8]) -> Result<(), RunFault>
+        ensures shown { OnOk result (Appends (shown self.old writer.old) (shown self.new writer.new) told.now) }
         ensures same { can_fail writer.new ≡ can_fail writer.old }
         ensures fault { IfErr result (StopsBy (can_fail writer.old)) };
 }
@@ -47,6 +61,10 @@ pub struct Unwatched;
 
 impl<W> Watcher<W> for Unwatched {
     ghost can_fail = { λ _. false };
+
+    ghost shown = { λ _ _. None };
+
+    ghost text_of = { λ _ _. [] };
 
     fn act(
         &mut self,
@@ -67,7 +85,7 @@ impl<W> Watcher<W> for Unwatched {
         Ok(())
     }
 
-    fn hear(&mut self, writer: &mut W, run: &ScriptRun) -> Result<(), RunFault> {
+    fn hear(&mut self, writer: &mut W, told: &[u8]) -> Result<(), RunFault> {
         Ok(())
     }
 }
@@ -80,7 +98,8 @@ impl ScriptRun {
         writer: &mut W,
         lines: &[Line],
     ) -> Result<(), RunFault>
-        ensures run { OnOk result (self.new ≡ drained_run (fold told_line self.old lines.now)) }
+        ensures run { OnOk result (self.new.telling ≡ drained_run (fold told_line self.old.telling lines.now)) }
+        ensures shown { OnOk result (Shows V.text_of self.old self.new (V.shown watcher.old writer.old) (V.shown watcher.new writer.new)) }
         ensures same { V.can_fail writer.new ≡ V.can_fail writer.old }
         ensures fault { IfErr result (StopsBy (V.can_fail writer.old)) }
     {
@@ -95,7 +114,8 @@ impl ScriptRun {
         writer: &mut W,
         lines: &[Line],
     ) -> Result<(), RunFault>
-        ensures run { OnOk result (self.new ≡ fold told_line self.old lines.now) }
+        ensures run { OnOk result (self.new.telling ≡ fold told_line self.old.telling lines.now) }
+        ensures shown { OnOk result (Shows V.text_of self.old self.new (V.shown watcher.old writer.old) (V.shown watcher.new writer.new)) }
         ensures same { V.can_fail writer.new ≡ V.can_fail writer.old }
         ensures fault { IfErr result (StopsBy (V.can_fail writer.old)) }
     {
@@ -113,7 +133,8 @@ impl ScriptRun {
         writer: &mut W,
         line: Line,
     ) -> Result<(), RunFault>
-        ensures run { OnOk result (self.new ≡ told_line self.old line) }
+        ensures run { OnOk result (self.new.telling ≡ told_line self.old.telling line) }
+        ensures shown { OnOk result (Shows V.text_of self.old self.new (V.shown watcher.old writer.old) (V.shown watcher.new writer.new)) }
         ensures same { V.can_fail writer.new ≡ V.can_fail writer.old }
         ensures fault { IfErr result (StopsBy (V.can_fail writer.old)) }
     {
@@ -147,19 +168,21 @@ impl ScriptRun {
         client: usize,
         handed: Handed,
     ) -> Result<(), RunFault>
-        ensures run { OnOk result (self.new ≡ handed_in self.old client handed) }
+        ensures run { OnOk result (self.new.telling ≡ handed_in self.old.telling client handed) }
+        ensures shown { OnOk result (Shows V.text_of self.old self.new (V.shown watcher.old writer.old) (V.shown watcher.new writer.new)) }
         ensures same { V.can_fail writer.new ≡ V.can_fail writer.old }
         ensures fault { IfErr result (StopsBy (V.can_fail writer.old)) }
     {
-        let Some(range) = self.ranges.get_mut(client) else {
+        let Some(answer) = self.issue(client, &handed) else {
             return Ok(());
         };
-        match handed.issue(range) {
+        match answer {
             Ok(given) => self.hand_over(watcher, writer, client, handed, given),
             Err(refused) => {
+                let before = self.text.len();
                 self.refuse(client, printed::refused_name(refused))
                     .map_err(|_| RunFault::NoMemory)?;
-                watcher.hear(writer, self)
+                watcher.hear(writer, self.told_since(before))
             }
         }
     }
@@ -174,10 +197,14 @@ impl ScriptRun {
         given: (Tag, Ticket),
     ) -> Result<(), RunFault>
         requires { given.1 < 2 ^ 60 }
-        ensures run { OnOk result (self.new ≡ given_run self.old client handed (Ok given)) }
+        ensures run { OnOk result (self.new.telling ≡ given_run self.old.telling client handed (Ok given)) }
+        ensures world { OnOk result (self.new.world ≡ world_then self.old.world (handing_in handed client given)) }
+        ensures shown { OnOk result (Appends (V.shown watcher.old writer.old) (V.shown watcher.new writer.new)
+            (V.text_of self.old.world (handing_in handed client given) ++ told_since (length self.old.telling.text) self.new.telling)) }
         ensures same { V.can_fail writer.new ≡ V.can_fail writer.old }
         ensures fault { IfErr result (StopsBy (V.can_fail writer.old)) }
     {
+        let before = self.text.len();
         let step = handed
             .step(self.alloc, client, given)
             .map_err(|_| RunFault::NoMemory)?;
@@ -186,7 +213,7 @@ impl ScriptRun {
             .map_err(|_| RunFault::NoMemory)?;
         self.hear(client, given.0, refused)
             .map_err(|_| RunFault::NoMemory)?;
-        watcher.hear(writer, self)
+        watcher.hear(writer, self.told_since(before))
     }
 
     /// One step of the bus, due or not.
@@ -198,13 +225,13 @@ impl ScriptRun {
         step: Step,
     ) -> Result<(), RunFault>
         requires { HasTicket step }
-        ensures run { OnOk result (self.new ≡ stepped self.old step) }
+        ensures run { OnOk result (self.new.telling ≡ stepped self.old.telling step) }
+        ensures shown { OnOk result (Shows V.text_of self.old self.new (V.shown watcher.old writer.old) (V.shown watcher.new writer.new)) }
         ensures same { V.can_fail writer.new ≡ V.can_fail writer.old }
         ensures fault { IfErr result (StopsBy (V.can_fail writer.old)) }
     {
         if !self.is_due(&step) {
-            self.idle().map_err(|_| RunFault::NoMemory)?;
-            return watcher.hear(writer, self);
+            return self.stay_idle(watcher, writer);
         }
         let _ = watcher.act(writer, self, step)?;
         Ok(())
@@ -218,15 +245,32 @@ impl ScriptRun {
         writer: &mut W,
         client: usize,
     ) -> Result<(), RunFault>
-        ensures run { OnOk result (self.new ≡ taken_or_idle self.old client) }
+        ensures run { OnOk result (self.new.telling ≡ taken_or_idle self.old.telling client) }
+        ensures shown { OnOk result (Shows V.text_of self.old self.new (V.shown watcher.old writer.old) (V.shown watcher.new writer.new)) }
         ensures same { V.can_fail writer.new ≡ V.can_fail writer.old }
         ensures fault { IfErr result (StopsBy (V.can_fail writer.old)) }
     {
         if self.is_due(&Step::Take(client)) {
             return self.take(watcher, writer, client);
         }
+        self.stay_idle(watcher, writer)
+    }
+
+    /// Prints that a step wasn't due.
+    fn stay_idle<W, V: Watcher<W>>(
+        &mut self,
+        watcher: &mut V,
+        writer: &mut W,
+    ) -> Result<(), RunFault>
+        ensures run { OnOk result (self.new ≡ record self.old { telling = idle_run self.old.telling }) }
+        ensures shown { OnOk result (Appends (V.shown watcher.old writer.old) (V.shown watcher.new writer.new)
+            (told_since (length self.old.telling.text) self.new.telling)) }
+        ensures same { V.can_fail writer.new ≡ V.can_fail writer.old }
+        ensures fault { IfErr result (StopsBy (V.can_fail writer.old)) }
+    {
+        let before = self.text.len();
         self.idle().map_err(|_| RunFault::NoMemory)?;
-        watcher.hear(writer, self)
+        watcher.hear(writer, self.told_since(before))
     }
 
     /// A client takes a reply, where one is ready.
@@ -237,25 +281,28 @@ impl ScriptRun {
         writer: &mut W,
         client: usize,
     ) -> Result<(), RunFault>
-        ensures run { OnOk result (self.new ≡ taken self.old client) }
+        ensures run { OnOk result (self.new.telling ≡ taken self.old.telling client) }
+        ensures shown { OnOk result (Shows V.text_of self.old self.new (V.shown watcher.old writer.old) (V.shown watcher.new writer.new)) }
         ensures same { V.can_fail writer.new ≡ V.can_fail writer.old }
         ensures fault { IfErr result (StopsBy (V.can_fail writer.old)) }
     {
         if !self.is_due(&Step::Take(client)) {
             return Ok(());
         }
+        let before = self.text.len();
         let Outcome { reply, .. } = watcher.act(writer, self, Step::Take(client))?;
         let Some(reply) = reply else {
             return Ok(());
         };
         self.reply(client, &reply).map_err(|_| RunFault::NoMemory)?;
-        watcher.hear(writer, self)
+        watcher.hear(writer, self.told_since(before))
     }
 
     /// A drain, then every reply.
     #[tactic(auto, unfolding(crate::specs::Told::drained_run))]
     fn drain<W, V: Watcher<W>>(&mut self, watcher: &mut V, writer: &mut W) -> Result<(), RunFault>
-        ensures run { OnOk result (self.new ≡ drained_run self.old) }
+        ensures run { OnOk result (self.new.telling ≡ drained_run self.old.telling) }
+        ensures shown { OnOk result (Shows V.text_of self.old self.new (V.shown watcher.old writer.old) (V.shown watcher.new writer.new)) }
         ensures same { V.can_fail writer.new ≡ V.can_fail writer.old }
         ensures fault { IfErr result (StopsBy (V.can_fail writer.old)) }
     {
@@ -270,7 +317,8 @@ impl ScriptRun {
         watcher: &mut V,
         writer: &mut W,
     ) -> Result<(), RunFault>
-        ensures run { OnOk result (self.new ≡ all_taken self.old) }
+        ensures run { OnOk result (self.new.telling ≡ all_taken self.old.telling) }
+        ensures shown { OnOk result (Shows V.text_of self.old self.new (V.shown watcher.old writer.old) (V.shown watcher.new writer.new)) }
         ensures same { V.can_fail writer.new ≡ V.can_fail writer.old }
         ensures fault { IfErr result (StopsBy (V.can_fail writer.old)) }
     {
@@ -288,7 +336,8 @@ impl ScriptRun {
         writer: &mut W,
         client: usize,
     ) -> Result<(), RunFault>
-        ensures run { OnOk result (self.new ≡ all_taken_by self.old client) }
+        ensures run { OnOk result (self.new.telling ≡ all_taken_by self.old.telling client) }
+        ensures shown { OnOk result (Shows V.text_of self.old self.new (V.shown watcher.old writer.old) (V.shown watcher.new writer.new)) }
         ensures same { V.can_fail writer.new ≡ V.can_fail writer.old }
         ensures fault { IfErr result (StopsBy (V.can_fail writer.old)) }
     {

@@ -1,0 +1,7 @@
+use Rattle.std.proofs.lemmas.Result.{on_ok_weaker}
+use Rattle.uas_replay.proofs.Shown.{shows_on}
+use Rattle.uas_replay.proofs.replay.ScriptRun.drain.Goals as goal
+
+pub returns-clause-shown : goal.returns-clause-shown
+returns-clause-shown g c =
+    on_ok_weaker c.take_all.result (shows_on g.V.Watcher.text_of _ _ _ _ _ _ c.in_ok-act_all.ensures.shown) c.take_all.ensures.shown

@@ -1,2 +1,4 @@
 mod Stands
+mod StepTexts
 mod Units
+mod Whole

@@ -1,2 +1,3 @@
 pub mod Traced
 pub mod Written
+pub mod Texts

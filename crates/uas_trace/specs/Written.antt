@@ -7,12 +7,12 @@ use Rattle.xhci_trb.specs.declared.Trb.TheVariants.{Normal, SetDequeue}
 use Rattle.cycle_ring.specs.Ring.{item_in, place_of}
 use Rattle.cycle_ring.specs.Items.{ItemRing, known_front_of, raw_image, raw_link_image}
 use Rattle.ring_ends.specs.Counted.{distance}
-use Rattle.event_ring.specs.Events.{Events, event_image}
+use Rattle.event_ring.specs.Events.{Events, event_image, place_of as event_place_of}
 use Rattle.frame_store.specs.declared.Buffer.{Buffer}
 use Rattle.frame_store.specs.declared.Buffer.TheVariants as buffer
 use Rattle.frame_store.specs.declared.TagBuffers.{TagBuffers}
 use Rattle.uas_profile.specs.declared.TheConstants.{STATUS_BYTES}
-use Rattle.frame_store.specs.Buffers.{IsWhole, bytes_of, front_of as front_of_buffer}
+use Rattle.frame_store.specs.Buffers.{bytes_of, front_of as front_of_buffer}
 use Rattle.frame_store.specs.Places.{address_of}
 use Rattle.uas_profile.specs.declared.TheConstants.{TAGS}
 use Rattle.uas_profile.specs.declared.Pipe.{Pipe}
@@ -28,15 +28,13 @@ use Rattle.shared_machine.specs.declared.Step.{Step}
 use Rattle.shared_machine.specs.declared.Step.TheVariants as step
 use Rattle.shared_machine.specs.declared.Outcome.{Outcome}
 use Rattle.uas_profile.specs.declared.TheConstants.{MAX_CLIENTS}
-use Rattle.shared_machine.specs.Shared.{Shared}
-use Rattle.bus_core.specs.Shows.{ShowsShared}
 use Rattle.uas_trace.specs.declared.put_ring.PutRing.{PutRing}
 use Rattle.uas_trace.specs.declared.put_ring.PutRing.TheVariants as put
 use Rattle.uas_trace.specs.declared.writes.Before.{Before}
 use Rattle.uas_trace.specs.declared.writes.Ends.{Ends}
 use Rattle.uas_trace.specs.declared.writes.Writes.{Writes}
 use Rattle.uas_trace.specs.declared.writes.Writes.TheVariants as writes
-use Rattle.uas_trace.specs.Traced.{bell_line, bytes_line, chunk_line, context_line, step_line}
+use Rattle.uas_trace.specs.Traced.{bell_line, bytes_line, chunk_line, context_line}
 
 -- RINGS
 
@@ -97,6 +95,10 @@ put_since lines at from = put_lines lines at from (distance (places_in at - 1) f
 abbrev pub event_at : Events → ℕ → Option (List ℕ)
 event_at events place = event_image EVENT_RING_PLACES events (distance EVENT_RING_PLACES (events.at % EVENT_RING_PLACES) place)
 
+-- the place of the newest event, where one is pending
+abbrev pub newest_place : Events → ℕ
+newest_place events = event_place_of EVENT_RING_PLACES events (length events.pending - 1)
+
 -- BEFORE THE STEP
 
 -- where the rings of a tag and of the command pipe end
@@ -134,9 +136,9 @@ seen_writes lines (step.Take client) = writes.Nothing
 abbrev pub seen_before : LinesState → Step → Before
 seen_before lines step = record { writes = seen_writes lines step; events = length lines.events.pending }
 
--- an event was posted since
-abbrev pub posts : Before → LinesState → Bool
-posts before lines = nat_lt before.events (length lines.events.pending)
+-- the place of the event that was posted since, if one was: the newest
+abbrev pub posted_at : Before → LinesState → Option ℕ
+posted_at before lines = if nat_lt before.events (length lines.events.pending) then Some (newest_place lines.events) else None
 
 -- AFTER THE STEP
 
@@ -214,30 +216,21 @@ own_lines lines frames (writes.EngineCommand from) event = put_since lines put.E
 own_lines lines frames (writes.Context command) event = moved_line lines command
 own_lines lines frames writes.Nothing event = []
 
--- the event that was posted at this place, if one was
-abbrev pub event_posted : Before → LinesState → ℕ → Option (List ℕ)
-event_posted before lines place = if posts before lines then event_at lines.events place else None
+-- the event that was posted, if one was
+abbrev pub event_posted : LinesState → Option ℕ → Option (List ℕ)
+event_posted lines None = None
+event_posted lines (Some place) = event_at lines.events place
 
-abbrev pub event_line : ℕ → Option (List ℕ) → List ℕ
-event_line place event = image_line (codes "event") (EVENT_RING + 16 * place) event
+abbrev pub event_line : Option ℕ → Option (List ℕ) → List ℕ
+event_line None event = []
+event_line (Some place) event = image_line (codes "event") (EVENT_RING + 16 * place) event
 
 abbrev pub with_bell : List ℕ → ℕ → List ℕ
 with_bell text value = text ++ bell_line value
 
--- The text and the lines of what a step wrote: its own, unless it was refused, its event, and its doorbells in their order. The event
--- that it posted has this place.
-abbrev pub with_writes : List ℕ → Before → LinesState → List TagBuffers → ℕ → Outcome → List ℕ
-with_writes text before lines frames place outcome =
-    let event = event_posted before lines place in
-    fold with_bell (text ++ (if is_none outcome.refused then own_lines lines frames before.writes event else []) ++ event_line place event) outcome.doors
-
--- The text of a step that acted: its line, and what it wrote, read off rings that show the machine before and after it.
-pub record TellsStep (old new : Shared) (step : Step) (outcome : Outcome) (text : List ℕ) : Type 0 where
-  pub before : LinesState
-  pub after : LinesState
-  pub frames : List TagBuffers
-  pub place : ℕ
-  pub shows : ShowsShared old before
-  pub shows_after : ShowsShared new after
-  pub whole : IsWhole frames
-  pub lines : text ≡ with_writes (step_line step) (seen_before before step) after frames place outcome
+-- The text and the lines of what a step wrote: its own, unless it was refused, its event, and its doorbells in their order.
+abbrev pub with_writes : List ℕ → Before → LinesState → List TagBuffers → Outcome → List ℕ
+with_writes text before lines frames outcome =
+    let posted = posted_at before lines in
+    let event = event_posted lines posted in
+    fold with_bell (text ++ (if is_none outcome.refused then own_lines lines frames before.writes event else []) ++ event_line posted event) outcome.doors

@@ -6,6 +6,7 @@
 //! stands on `uas_replay` and on the memory of the bus.
 #![tactic(auto)]
 
+mod events;
 mod lines;
 mod put_ring;
 mod show;

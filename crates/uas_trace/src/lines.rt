@@ -3,12 +3,13 @@
 //! A step has some forty of them, so each is put straight behind the text that there is, without a string of its own: numbers by way
 //! of a buffer on the stack, bytes as digits in their place.
 
-ghost use Rattle.std.specs.Prelude.{◌≡◌, ◌≤◌, ◌++◌, OnOk, length};
+ghost use Rattle.std.specs.Prelude.{◌≡◌, ◌≤◌, ◌++◌, OnOk, fold, length};
 ghost use Rattle.std.specs.Fmt.{decimal};
 ghost use Rattle.hex.specs.Hex.{encode_lower};
 ghost use Rattle.uas_profile.specs.declared.TheConstants.{STATUS_BYTES};
 ghost use Rattle.uas_trace.specs.Traced.{address_start, bell_line, bytes_line, chunk_line, context_line, fua_word, op_words, step_line};
 ghost use Rattle.uas_trace.specs.Traced.{submit_line, task_step_line, task_words};
+ghost use Rattle.uas_trace.specs.Written.{with_bell};
 
 use bus_core::Step;
 use itoa::Buffer;
@@ -201,12 +202,22 @@ fn push_address(text: &mut Vec<u8>, name: &str, address: u64) -> Result<(), Allo
 }
 
 /// Adds `  bell VALUE` with the value in 8 digits.
-pub fn push_bell(text: &mut Vec<u8>, value: u32) -> Result<(), AllocError>
+fn push_bell(text: &mut Vec<u8>, value: u32) -> Result<(), AllocError>
     ensures { OnOk result (text.new.items ≡ text.old.items ++ bell_line value) }
 {
     text.extend_from_slice(b"  bell ")?;
     push_digits(text, &value.to_be_bytes())?;
     text.extend_from_slice(b"\n")
+}
+
+/// Adds the lines of doorbells, in their order.
+pub fn push_bells(text: &mut Vec<u8>, values: &[u32]) -> Result<(), AllocError>
+    ensures { OnOk result (text.new.items ≡ fold with_bell text.old.items values.now) }
+{
+    for value in values {
+        push_bell(text, *value)?;
+    }
+    Ok(())
 }
 
 /// Adds a word and a number behind it.

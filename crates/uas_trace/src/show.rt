@@ -6,6 +6,7 @@ ghost use Rattle.byte_io.specs.Disks.{AreDisks};
 ghost use Rattle.uas_script.specs.Script.{script};
 ghost use Rattle.uas_replay.specs.Told.{zeroed_units};
 ghost use Rattle.uas_trace.specs.Traced.{TraceGivesUp, Traces};
+ghost use Rattle.uas_trace.specs.Texts.{TracesScript};
 
 use crate::trace::trace;
 use byte_io::{Disks, Sink, Source};
@@ -28,6 +29,10 @@ pub fn run_trace<S: Source, O: Sink, W: Write>(
     ensures statuses { (result ≤ 1) ⊎ ((result ≡ 3) ⊎ (result ≡ 4)) }
     ensures traced { result ≤ 1 → IfSome (S.left reader.old) (λ bytes.
         Traces (zeroed_units disks.clients disks.blocks disks.bad) (script disks.clients bytes) result) }
+    // All that it printed: each step by its text, and behind it what the run told by it.
+    ensures text { result ≤ 1 → IfSome (S.left reader.old) (λ bytes.
+        TracesScript (zeroed_units disks.clients disks.blocks disks.bad) (script disks.clients bytes)
+        (O.written writer.old) (O.written writer.new)) }
     ensures read { result ≤ 1 → IsAtEnd (S.left reader.new) }
     ensures there { result ≤ 1 → IsTrue (S.is_there reader.old) }
     ensures fault { result ≡ 3 →
@@ -51,6 +56,9 @@ fn trace_script<S: Source, O: Sink>(
     ensures status { IfOk result (λ status. status ≤ 1) }
     ensures traced { IfOk result (λ status. IfSome (S.left reader.old) (λ bytes.
         Traces (zeroed_units disks.clients disks.blocks disks.bad) (script disks.clients bytes) status)) }
+    ensures text { OnOk result (IfSome (S.left reader.old) (λ bytes.
+        TracesScript (zeroed_units disks.clients disks.blocks disks.bad) (script disks.clients bytes)
+        (O.written writer.old) (O.written writer.new))) }
     ensures read { OnOk result (IsAtEnd (S.left reader.new)) }
     ensures there { OnOk result (IsTrue (S.is_there reader.old)) }
     ensures fault { IfErr result (TraceGivesUp disks.clients (S.left reader.old) (S.can_fail reader.old) (O.can_fail writer.old)

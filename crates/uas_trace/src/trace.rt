@@ -14,7 +14,8 @@ ghost use Rattle.uas_replay.specs.Told.{drained_machine, step_of, told, zeroed_u
 ghost use Rattle.uas_replay.specs.Runs.{StopsBy};
 ghost use Rattle.uas_trace.specs.Traced.{AreNotDue, step_of_tag, with_waiting};
 ghost use Rattle.uas_profile.specs.declared.TheConstants.{TAGS};
-ghost use Rattle.uas_trace.specs.Written.{TellsStep};
+ghost use Rattle.uas_trace.specs.Texts.{TracesAll, step_text};
+ghost use Rattle.uas_replay.specs.Walks.{Shows, acted};
 
 use crate::lines::push_step;
 use crate::writes::Before;
@@ -22,7 +23,6 @@ use bus_core::{Outcome, Step};
 use byte_io::Sink;
 use std::alloc::{AllocError, Global};
 use stream_array::Pipe;
-use uas_profile::EVENT_RING_PLACES;
 use uas_replay::{COMMAND_FAILED, DONE, RunFault, ScriptRun, Watcher, output_fault};
 use uas_script::Line;
 
@@ -52,8 +52,8 @@ impl TagStep {
 
     /// The least tag above this one whose step may be due.
     fn next(self, run: &ScriptRun, tag: u16) -> Option<u16>
-        ensures next { IfSome result (λ next. (tag < next) × (next ≤ length run.now.machine.parts * TAGS) × AreNotDue run.now.machine self tag next) }
-        ensures none { IfNone result (AreNotDue run.now.machine self tag (suc (length run.now.machine.parts * TAGS))) }
+        ensures next { IfSome result (λ next. (tag < next) × (next ≤ length run.now.telling.machine.parts * TAGS) × AreNotDue run.now.telling.machine self tag next) }
+        ensures none { IfNone result (AreNotDue run.now.telling.machine self tag (suc (length run.now.telling.machine.parts * TAGS))) }
     {
         match self {
             TagStep::Data | TagStep::Status => run.next_busy(tag),
@@ -65,9 +65,7 @@ impl TagStep {
 /// Shows a script's run step by step.
 #[derive(Drop)]
 struct Tracer {
-    // How many bytes of the run's own text were printed.
-    printed: usize,
-    // How many events were posted.
+    // Where the last event was posted.
     posted: usize,
     // The text of one step.
     text: Vec<u8>,
@@ -77,6 +75,10 @@ struct Tracer {
 
 impl<O: Sink> Watcher<O> for Tracer {
     ghost can_fail = { O.can_fail };
+
+    ghost shown = { λ tracer writer. with_waiting (O.written writer) tracer.waiting.items };
+
+    ghost text_of = { step_text };
 
     fn act(
         &mut self,
@@ -96,23 +98,17 @@ impl<O: Sink> Watcher<O> for Tracer {
         self.rounds(writer, run, limit)
     }
 
-    fn hear(&mut self, writer: &mut O, run: &ScriptRun) -> Result<(), RunFault> {
-        let told = run.text();
-        if let Some(rest) = told.get(self.printed..) {
-            if !rest.is_empty() {
-                put(&mut self.waiting, writer, rest)?;
-            }
-        }
-        self.printed = told.len();
-        Ok(())
+    fn hear(&mut self, writer: &mut O, told: &[u8]) -> Result<(), RunFault> {
+        put(&mut self.waiting, writer, told)
     }
 }
 
 impl Tracer {
     /// One that printed nothing.
-    fn new(alloc: Global) -> Tracer {
+    fn new(alloc: Global) -> Tracer
+        ensures { result.waiting.items ≡ [] }
+    {
         Tracer {
-            printed: 0,
             posted: 0,
             text: Vec::new(alloc),
             waiting: Vec::new(alloc),
@@ -122,9 +118,9 @@ impl Tracer {
     /// A step that is due; its lines become the text.
     fn acted(&mut self, run: &mut ScriptRun, step: Step) -> Result<Outcome, AllocError>
         requires { HasTicket step }
-        ensures outcome { IfOk result (λ outcome. outcome ≡ (step_of run.old.machine step).1) }
-        ensures run { OnOk result (run.new ≡ record run.old { machine = (step_of run.old.machine step).0 }) }
-        ensures text { IfOk result (λ outcome. TellsStep run.old.machine run.new.machine step outcome self.new.text.items) }
+        ensures outcome { IfOk result (λ outcome. outcome ≡ (step_of run.old.telling.machine step).1) }
+        ensures run { OnOk result (run.new ≡ acted run.old step) }
+        ensures text { OnOk result (self.new.text.items ≡ step_text run.old.world step) }
         ensures waiting { self.new.waiting ≡ self.old.waiting }
     {
         self.text.clear();
@@ -132,10 +128,10 @@ impl Tracer {
         let before = Before::of(run.rings(), &step);
         let outcome = run.act(step);
         let rings = run.rings();
-        let place = self.posted % EVENT_RING_PLACES;
-        self.posted = place + usize::from(before.posts(rings));
+        let posted = before.posted(rings, self.posted);
+        self.posted = posted.unwrap_or(self.posted);
         let buffers = run.buffers();
-        before.push_writes(&mut self.text, rings, buffers, place, &outcome)?;
+        before.push_writes(&mut self.text, rings, buffers, posted, &outcome)?;
         Ok(outcome)
     }
 
@@ -147,11 +143,11 @@ impl Tracer {
         step: Step,
     ) -> Result<Outcome, RunFault>
         requires { HasTicket step }
-        ensures outcome { IfOk result (λ outcome. outcome ≡ (step_of run.old.machine step).1) }
-        ensures run { OnOk result (run.new ≡ record run.old { machine = (step_of run.old.machine step).0 }) }
-        ensures text { IfOk result (λ outcome. TellsStep run.old.machine run.new.machine step outcome self.new.text.items) }
-        ensures printed { OnOk result (Appends (with_waiting (O.written writer.old) self.old.waiting.items)
-            (with_waiting (O.written writer.new) self.new.waiting.items) self.new.text.items) }
+        ensures outcome { IfOk result (λ outcome. outcome ≡ (step_of run.old.telling.machine step).1) }
+        ensures run { OnOk result (run.new ≡ acted run.old step) }
+        ensures text { OnOk result (self.new.text.items ≡ step_text run.old.world step) }
+        ensures shown { OnOk result (Appends (with_waiting (O.written writer.old) self.old.waiting.items)
+            (with_waiting (O.written writer.new) self.new.waiting.items) (step_text run.old.world step)) }
         ensures same { O.can_fail writer.new ≡ O.can_fail writer.old }
         ensures fault { IfErr result (StopsBy (O.can_fail writer.old)) }
     {
@@ -170,8 +166,10 @@ impl Tracer {
         left: usize,
     ) -> Result<usize, RunFault>
         requires { HasTicket step }
-        ensures machine { IfOk result (λ after. (run.new.machine, after) ≡ tried_one (run.old.machine, left) step) }
-        ensures rest { OnOk result (run.new ≡ record run.old { machine = run.new.machine }) }
+        ensures machine { IfOk result (λ after. (run.new.telling.machine, after) ≡ tried_one (run.old.telling.machine, left) step) }
+        ensures rest { OnOk result (run.new.telling ≡ record run.old.telling { machine = run.new.telling.machine }) }
+        ensures shown { OnOk result (Shows step_text run.old run.new (with_waiting (O.written writer.old) self.old.waiting.items)
+            (with_waiting (O.written writer.new) self.new.waiting.items)) }
         ensures same { O.can_fail writer.new ≡ O.can_fail writer.old }
         ensures fault { IfErr result (StopsBy (O.can_fail writer.old)) }
     {
@@ -190,9 +188,11 @@ impl Tracer {
         kind: TagStep,
         left: usize,
     ) -> Result<usize, RunFault>
-        ensures machine { IfOk result (λ after. (run.new.machine, after) ≡ tried (run.old.machine, left)
-            (map (step_of_tag kind) (all_tags (length run.old.machine.parts)))) }
-        ensures rest { OnOk result (run.new ≡ record run.old { machine = run.new.machine }) }
+        ensures machine { IfOk result (λ after. (run.new.telling.machine, after) ≡ tried (run.old.telling.machine, left)
+            (map (step_of_tag kind) (all_tags (length run.old.telling.machine.parts)))) }
+        ensures rest { OnOk result (run.new.telling ≡ record run.old.telling { machine = run.new.telling.machine }) }
+        ensures shown { OnOk result (Shows step_text run.old run.new (with_waiting (O.written writer.old) self.old.waiting.items)
+            (with_waiting (O.written writer.new) self.new.waiting.items)) }
         ensures same { O.can_fail writer.new ≡ O.can_fail writer.old }
         ensures fault { IfErr result (StopsBy (O.can_fail writer.old)) }
     {
@@ -212,8 +212,10 @@ impl Tracer {
         run: &mut ScriptRun,
         left: usize,
     ) -> Result<usize, RunFault>
-        ensures machine { IfOk result (λ after. (run.new.machine, after) ≡ round (run.old.machine, left)) }
-        ensures rest { OnOk result (run.new ≡ record run.old { machine = run.new.machine }) }
+        ensures machine { IfOk result (λ after. (run.new.telling.machine, after) ≡ round (run.old.telling.machine, left)) }
+        ensures rest { OnOk result (run.new.telling ≡ record run.old.telling { machine = run.new.telling.machine }) }
+        ensures shown { OnOk result (Shows step_text run.old run.new (with_waiting (O.written writer.old) self.old.waiting.items)
+            (with_waiting (O.written writer.new) self.new.waiting.items)) }
         ensures same { O.can_fail writer.new ≡ O.can_fail writer.old }
         ensures fault { IfErr result (StopsBy (O.can_fail writer.old)) }
     {
@@ -235,7 +237,9 @@ impl Tracer {
         run: &mut ScriptRun,
         limit: usize,
     ) -> Result<(), RunFault>
-        ensures run { OnOk result (run.new ≡ record run.old { machine = drained_machine run.old.machine limit }) }
+        ensures run { OnOk result (run.new.telling ≡ record run.old.telling { machine = drained_machine run.old.telling.machine limit }) }
+        ensures shown { OnOk result (Shows step_text run.old run.new (with_waiting (O.written writer.old) self.old.waiting.items)
+            (with_waiting (O.written writer.new) self.new.waiting.items)) }
         ensures same { O.can_fail writer.new ≡ O.can_fail writer.old }
         ensures fault { IfErr result (StopsBy (O.can_fail writer.old)) }
     {
@@ -296,6 +300,7 @@ pub fn trace<O: Sink>(
     requires some_blocks { 1 ≤ blocks }
     requires most_blocks { blocks ≤ MAX_BLOCKS }
     ensures number { IfOk result (λ status. status ≡ (told (zeroed_units clients blocks bad) lines.now).1) }
+    ensures text { OnOk result (TracesAll (zeroed_units clients blocks bad) lines.now (O.written writer.old) (O.written writer.new)) }
     ensures status { IfOk result (λ status. status ≤ 1) }
     ensures fault { IfErr result (StopsBy (O.can_fail writer.old)) }
 {

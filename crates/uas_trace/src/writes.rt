@@ -3,27 +3,28 @@
 //! Before a step it is noted where the rings end that it may put TRBs on, and which TRBs are in front of the rings that it may
 //! take from. After it, the places between are read, and the TRB that is gone from the front names the chunk that was moved.
 
-ghost use Rattle.std.specs.Prelude.{◌≡◌, ◌≢◌, ◌<◌, ◌≤◌, ◌++◌, fold, IfSome, OnOk, Some};
+ghost use Rattle.std.specs.Prelude.{◌≡◌, ◌≢◌, ◌<◌, ◌≤◌, ◌++◌, IfSome, OnOk, Some};
 ghost use Rattle.frame_store.specs.Buffers.{IsWhole};
 ghost use Rattle.frame_store.specs.Places.{room_of};
 ghost use Rattle.stream_array.specs.Contexts.{has_stream};
 ghost use Rattle.uas_profile.specs.Pipes.{HasStreams};
-ghost use Rattle.uas_trace.specs.Written.{chunk_lines, ends_of, event_at, is_at, moved_line, moved_on, own_lines, posts, residual_in, seen_before};
-ghost use Rattle.uas_trace.specs.Written.{seen_writes, status_len, taken_line, task_tag, tds_lines, unit_line, with_bell, with_writes};
+ghost use Rattle.uas_trace.specs.Written.{chunk_lines, ends_of, is_at, moved_line, moved_on, own_lines, posted_at, residual_in, seen_before};
+ghost use Rattle.uas_trace.specs.Written.{seen_writes, status_len, taken_line, task_tag, tds_lines, unit_line, with_writes};
 ghost use Rattle.stream_array.specs.Rings.{IsLines};
 ghost use Rattle.uas_profile.specs.declared.TheConstants.{MAX_CLIENTS};
 ghost use Rattle.xhci_ctl.specs.Doorbells.{pipe_at};
 
-use crate::lines::{push_bell, push_bytes, push_chunk, push_context};
-use crate::put_ring::{PutRing, push_image};
+use crate::events::{event_at, newest_event, push_event};
+use crate::lines::{push_bells, push_bytes, push_chunk, push_context};
+use crate::put_ring::PutRing;
 use bus_core::{Outcome, Step};
 use frame_store::{Buffer, Frames, Place};
 use std::alloc::AllocError;
 use stream_array::{Lines, Pipe};
 use uas_iu::TASK_BYTES;
 use uas_profile::{
-    COMMAND_BYTES, DATA_IN_ENDPOINT, DATA_OUT_ENDPOINT, EVENT_RING, EVENT_RING_PLACES, MAX_CLIENTS,
-    STATUS_BYTES, STATUS_ENDPOINT, STREAMS, TAGS,
+    COMMAND_BYTES, DATA_IN_ENDPOINT, DATA_OUT_ENDPOINT, MAX_CLIENTS, STATUS_BYTES, STATUS_ENDPOINT,
+    STREAMS, TAGS,
 };
 use xhci_trb::Trb;
 
@@ -90,36 +91,40 @@ impl Before {
         }
     }
 
-    /// Whether the step posted an event.
-    pub fn posts(&self, lines: &Lines) -> bool
-        ensures posts { result ≡ posts self.now lines.now }
+    /// The place of the event that the step posted, if it posted one. It is looked for from a place on.
+    pub fn posted(&self, lines: &Lines, from: usize) -> Option<usize>
+        ensures posted { result ≡ posted_at self.now lines.now }
         ensures lines { IsLines lines.now }
     {
-        self.events < lines.len()
+        if self.events < lines.len() {
+            Some(newest_event(lines, from))
+        } else {
+            None
+        }
     }
 
-    /// Adds the lines of what the step wrote. The event that it posted, if any, has this place.
+    /// Adds the lines of what the step wrote. The event that it posted, if any, stands at this place.
     pub fn push_writes(
         &self,
         text: &mut Vec<u8>,
         lines: &Lines,
         frames: &Frames,
-        place: usize,
+        posted: Option<usize>,
         outcome: &Outcome,
     ) -> Result<(), AllocError>
-        requires place { place < EVENT_RING_PLACES }
+        requires posted { posted ≡ posted_at self.now lines.now }
+        requires lines { IsLines lines.now }
         requires frames { IsWhole frames.now }
-        ensures { OnOk result (text.new.items ≡ with_writes text.old.items self.now lines.now frames.now place outcome.now) }
+        ensures { OnOk result (text.new.items ≡ with_writes text.old.items self.now lines.now frames.now outcome.now) }
     {
-        let event = if self.posts(lines) {
-            posted_event(lines, place)
-        } else {
-            None
+        let event = match posted {
+            Some(place) => event_at(lines, place),
+            None => None,
         };
         if outcome.refused.is_none() {
             self.writes.push(text, lines, frames, &event)?;
         }
-        push_image(text, "event", EVENT_RING + 16 * place as u64, &event)?;
+        push_event(text, posted, &event)?;
         push_bells(text, &outcome.doors.list())
     }
 }
@@ -240,25 +245,6 @@ fn task_tag(client: usize) -> u16
     ensures most { result ≤ STREAMS }
 {
     (TAGS * client + TAGS) as u16
-}
-
-/// The bytes of the event that is pending at a place.
-#[tactic(auto, using(crate::proofs::Stands::event_below, crate::proofs::Stands::event_stands))]
-fn posted_event(lines: &Lines, place: usize) -> Option<[u8; 16]>
-    requires { place < EVENT_RING_PLACES }
-    ensures { result ≡ event_at lines.now.events place }
-{
-    lines.image_event(place)
-}
-
-/// Adds the lines of doorbells, in their order.
-fn push_bells(text: &mut Vec<u8>, values: &[u32]) -> Result<(), AllocError>
-    ensures { OnOk result (text.new.items ≡ fold with_bell text.old.items values.now) }
-{
-    for value in values {
-        push_bell(text, *value)?;
-    }
-    Ok(())
 }
 
 /// Adds the line of the stream context that a command to the controller moved, if it is one that does.

@@ -1,16 +1,20 @@
 use Rattle.std.proofs.Common.{◌≡◌, ◌-◌, ◌*◌, length}
 use Rattle.uas_profile.specs.declared.TheConstants.{TAGS}
 use Rattle.bus_core.proofs.drain.DrainTags.{HasTried}
-use Rattle.uas_trace.specs.Traced.{step_of_tag}
+use Rattle.uas_replay.specs.Walks.{Shows}
+use Rattle.uas_trace.specs.Texts.{step_text}
+use Rattle.uas_trace.specs.Traced.{step_of_tag, with_waiting}
 use Rattle.uas_trace.proofs.trace.Tracer.try_tags.Given as goal
 
 -- the tags up to the last that was tried; nothing else of the run changed
 abbrev pub invariant-loop-next : goal.invariant-loop-next
 invariant-loop-next g l = record {
-  tags : HasTried (step_of_tag l.kind) (l.initial.run.machine, l.initial.left) (l.run.machine, l.left) l.tag;
-  rest : l.run ≡ record l.initial.run { machine = l.run.machine };
+  tags : HasTried (step_of_tag l.kind) (l.initial.run.telling.machine, l.initial.left) (l.run.telling.machine, l.left) l.tag;
+  rest : l.run.telling ≡ record l.initial.run.telling { machine = l.run.telling.machine };
+  shown : Shows step_text l.initial.run l.run (with_waiting (g.O.Sink.written l.initial.writer) l.initial.self.waiting.items)
+      (with_waiting (g.O.Sink.written l.writer) l.self.waiting.items);
   same : g.O.Sink.can_fail l.writer ≡ g.O.Sink.can_fail l.fn.writer;
 }
 
 abbrev pub decreases-loop-next : goal.decreases-loop-next
-decreases-loop-next g l = length l.run.machine.parts * TAGS - l.tag
+decreases-loop-next g l = length l.run.telling.machine.parts * TAGS - l.tag

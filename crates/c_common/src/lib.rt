@@ -8,7 +8,7 @@
 //! | units.rt | [`UasBadBlock`], units of zeros or from an image, and handles of what is made of them |
 //!
 //! What is promised: [`open_handle`] makes units exactly as `opened_units` of `specs/Units.antt` says, each of its own part of the image and
-//! its own bad blocks, and answers the first fault of the page's order; [`show`] copies exactly the blocks that are asked for, or none
+//! its own bad blocks, and answers the first fault of those that `units_fault` lists; [`show`] copies exactly the blocks that are asked for, or none
 //! (`specs/Shown.antt`); a record names one operation or has a fault (`specs/OperationRecord.antt`).
 //!
 //! A handle in C is a pointer. `specs/Handed.antt` says what memory a call of one is handed, and `proofs/Called.antt` and

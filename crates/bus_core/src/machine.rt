@@ -106,7 +106,7 @@ impl RingBus {
     }
 
     /// Something is pending on the command pipe's ring.
-    fn command_is_due(&self) -> bool
+    pub(crate) fn command_is_due(&self) -> bool
         ensures { result ≡ due (decoded self.now) Step.CommandPipe }
     {
         self.lines.front_raw(Pipe::Command, 0).is_some()

@@ -4,6 +4,7 @@ ghost use Rattle.shared_machine.specs.Drain.{all_tags, drained, retirements, rou
 ghost use Rattle.shared_machine.specs.declared.Step.TheVariants as Step;
 ghost use Rattle.isolation.specs.Isolation.{IsIsolated};
 ghost use Rattle.shared_machine.specs.Replay.{replayed};
+ghost use Rattle.shared_machine.specs.Shared.{shared_step};
 ghost use Rattle.bus_core.specs.Decoded.{decoded};
 
 use crate::{Bus, Doorbells, Outcome, RingBus, Step, Trace};
@@ -88,8 +89,8 @@ impl RingBus {
     fn try_command(&mut self, left: usize) -> usize
         ensures { (decoded self.new, result) ≡ tried_one (decoded self.old, left) Step.CommandPipe }
     {
-        if left == 0 {
-            return 0;
+        if left == 0 || !self.command_is_due() {
+            return left;
         }
         match self.carry() {
             Acted::Acted(_) => left - 1,
@@ -103,8 +104,16 @@ impl RingBus {
         if left == 0 || !self.engine_is_due() {
             return left;
         }
-        let _ = self.execute();
+        self.take_engine_step();
         left - 1
+    }
+
+    /// A step of the controller's own command ring, whose outcome nobody asks for: it has no room where none is due.
+    #[inline(never)]
+    fn take_engine_step(&mut self)
+        ensures { decoded self.new ≡ (shared_step (decoded self.old) Step.Engine).0 }
+    {
+        let _ = self.execute();
     }
 
     fn try_event(&mut self, left: usize) -> usize
@@ -168,7 +177,19 @@ impl RingBus {
     }
 
     /// The retirements on a pipe, by rising tag.
+    #[inline(always)]
     fn try_retirements(&mut self, pipe: Pipe, left: usize) -> usize
+        ensures { (decoded self.new, result) ≡ tried (decoded self.old, left) (retirements (length (decoded self.old).parts) pipe) }
+    {
+        if self.next_left_over(pipe, 0).is_none() {
+            return left;
+        }
+        self.try_left_over(pipe, left)
+    }
+
+    /// The same, of the tags whose TD is left over.
+    #[inline(never)]
+    fn try_left_over(&mut self, pipe: Pipe, left: usize) -> usize
         ensures { (decoded self.new, result) ≡ tried (decoded self.old, left) (retirements (length (decoded self.old).parts) pipe) }
     {
         let mut left = left;

@@ -8,7 +8,8 @@
 //! ```
 //!
 //! Whoever keeps a table keeps marks of its places beside it, so that the next place that is due is found by its bit: a word
-//! without one is passed at once, and a word with one gives its lowest without a search.
+//! without one is passed at once, and a word with one gives its lowest without a search. Where no place is marked, that is found
+//! by one look at each word.
 //!
 //! What is promised: a [`Marks`] is the list of its words, and `is_marked` of `specs/Marks.antt` says which places are
 //! marked. A call changes the mark of the place that it names and of no other. The crate stands on std alone, and no call takes
@@ -98,12 +99,28 @@ impl<const W: usize> Marks<W> {
         (self.words[place / BITS] >> (place % BITS)) & 1 == 1
     }
 
+    /// Whether no place is marked.
+    #[inline(always)]
+    pub fn is_empty(&self) -> bool
+        ensures { result ≡ true → (place : ℕ) → is_marked self.now place ≡ false }
+    {
+        for word in self.words {
+            if word != 0 {
+                return false;
+            }
+        }
+        true
+    }
+
     /// The first place from this one on that is marked.
     pub fn next_from(&self, from: usize) -> Option<usize>
         ensures next { IfSome result (λ next. (from ≤ next) × (next < 64 * W) × (is_marked self.now next ≡ true)
             × ((other : ℕ) → from ≤ other → other < next → is_marked self.now other ≡ false)) }
         ensures none { IfNone result ((other : ℕ) → from ≤ other → is_marked self.now other ≡ false) }
     {
+        if self.is_empty() {
+            return None;
+        }
         let mut at = from;
         while at < BITS * W {
             let first = at / BITS * BITS;

@@ -109,8 +109,23 @@ impl HostClient {
 }
 
 impl Host {
-    /// The least tag above this one whose TD on a pipe is left over. Only clients that are marked are looked at.
+    /// The least tag above this one whose TD on a pipe is left over. Only clients that are marked are looked at, and none where no
+    /// client is.
+    #[inline(always)]
     pub fn next_left_over(&self, pipe: Pipe, tag: u16) -> Option<u16>
+        ensures next { IfSome result (λ next. (tag < next) × (next ≤ length self.now.clients * TAGS) × (is_left_over_on self.now pipe next ≡ true)
+            × ((other : ℕ) → tag < other → other < next → is_left_over_on self.now pipe other ≡ false)) }
+        ensures none { IfNone result ((other : ℕ) → tag < other → is_left_over_on self.now pipe other ≡ false) }
+    {
+        if self.marks.is_empty() {
+            return None;
+        }
+        self.left_over_behind(pipe, tag)
+    }
+
+    /// The same, of the clients that are marked.
+    #[inline(never)]
+    fn left_over_behind(&self, pipe: Pipe, tag: u16) -> Option<u16>
         ensures next { IfSome result (λ next. (tag < next) × (next ≤ length self.now.clients * TAGS) × (is_left_over_on self.now pipe next ≡ true)
             × ((other : ℕ) → tag < other → other < next → is_left_over_on self.now pipe other ≡ false)) }
         ensures none { IfNone result ((other : ℕ) → tag < other → is_left_over_on self.now pipe other ≡ false) }

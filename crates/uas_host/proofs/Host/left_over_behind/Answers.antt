@@ -7,7 +7,7 @@ use Rattle.uas_host.specs.Left.{is_held_left_over}
 use Rattle.uas_host.specs.Retirement.{is_left_over_on}
 use Rattle.uas_host.specs.State.{HostState, client_of, new_client}
 use Rattle.uas_host.proofs.LeftOver.{left_over-found, left_over-further, left_over-none, left_over-passed}
-use Rattle.uas_host.proofs.Host.next_left_over.Goals as goal
+use Rattle.uas_host.proofs.Host.left_over_behind.Goals as goal
 
 pub returns-in-Some-left_over_from-clause-next : goal.returns-in-Some-left_over_from-clause-next
 returns-in-Some-left_over_from-clause-next c =

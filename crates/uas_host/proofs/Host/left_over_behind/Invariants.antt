@@ -1,7 +1,7 @@
 use Rattle.std.proofs.Common.{◌≡◌, ℕ, ◌-◌, ◌<◌, ◌≤◌, false}
 use Rattle.uas_profile.specs.declared.TheConstants.{STREAM_ENTRIES}
 use Rattle.uas_host.specs.Retirement.{is_left_over_on}
-use Rattle.uas_host.proofs.Host.next_left_over.Given as goal
+use Rattle.uas_host.proofs.Host.left_over_behind.Given as goal
 
 -- of the tags so far no TD is left over
 abbrev pub invariant-loop-client : goal.invariant-loop-client

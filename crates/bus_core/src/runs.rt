@@ -181,9 +181,9 @@ impl RingBus {
     fn try_retirements(&mut self, pipe: Pipe, left: usize) -> usize
         ensures { (decoded self.new, result) ≡ tried (decoded self.old, left) (retirements (length (decoded self.old).parts) pipe) }
     {
-        if self.next_left_over(pipe, 0).is_none() {
+        let Some(_) = self.next_left_over(pipe, 0) else {
             return left;
-        }
+        };
         self.try_left_over(pipe, left)
     }
 

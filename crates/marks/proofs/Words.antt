@@ -1,6 +1,10 @@
 -- A word's bits from one on, its lowest set bit there, and the bits by place; the answers of marks cite them.
-use Rattle.std.proofs.Common.{◌≡◌, ℕ, ◌-◌, ◌*◌, ◌%◌, ◌^◌, ◌<◌, ◌≤◌, min, bit_and, arith, ap, sym, ◌∙◌, w64}
+use Rattle.std.proofs.Common.{◌≡◌, ℕ, List, Option, Some, None, true, ◌+◌, ◌/◌, ◌-◌, ◌*◌, ◌%◌, ◌^◌, ◌<◌, ◌≤◌, min, bit_and, arith, ap, sym, ◌∙◌, w64}
+use Rattle.std.specs.Prelude.{IfSome, slice_index}
+use Rattle.std.specs.Option.{is_some}
 use Rattle.std.specs.Int.{bit_at, trailing_zeros}
+use Rattle.std.proofs.lemmas.Bool.{false≢true, eq-eqb}
+use Rattle.marks.specs.Marks.{is_marked}
 use Rattle.std.proofs.lemmas.Nat.Bits.{ones_shl, bit_at_and, bit_at-lt, bit_at-zero, bit_at_mask_inside, bit_at_mask_below, bit_at-trailing_zeros}
 
 -- the bits from this one on
@@ -56,3 +60,15 @@ lowest_from-is word from within some fits =
     let lowest = bit_at-trailing_zeros w64 (from_on word from) some fits in
     lowest_at word from (trailing_zeros w64 (from_on word from)) within
     (not_below word from (trailing_zeros w64 (from_on word from)) within lowest.1) lowest.0 lowest.1 lowest.2
+
+-- where a word has a lowest bit, its place is marked
+pub marked_in : (words : List ℕ) (k : ℕ) (found : Option ℕ) → true ≡ is_some found → IfSome found (IsLowest (slice_index words k) 0) →
+    (place : ℕ) × (is_marked words place ≡ true)
+marked_in words k None some lowest = absurd (false≢true (sym some))
+marked_in words k (Some bit) some lowest =
+    let word : (64 * k + bit) / 64 ≡ k = omega (arith, lowest.1) in
+    let place : (64 * k + bit) % 64 ≡ bit = omega (arith, lowest.1) in (
+      64 * k + bit,
+      eq-eqb _ _ (ap (λ w. bit_at (slice_index words w) ((64 * k + bit) % 64)) word
+          ∙ ap (bit_at (slice_index words k)) place ∙ lowest.2),
+    )

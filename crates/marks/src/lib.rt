@@ -102,10 +102,11 @@ impl<const W: usize> Marks<W> {
     /// Whether no place is marked.
     #[inline(always)]
     pub fn is_empty(&self) -> bool
-        ensures { result ≡ true → (place : ℕ) → is_marked self.now place ≡ false }
+        ensures none { result ≡ true → (place : ℕ) → is_marked self.now place ≡ false }
+        ensures some { result ≡ false → (place : ℕ) × (is_marked self.now place ≡ true) }
     {
         for word in self.words {
-            if word != 0 {
+            if lowest_from(word, 0).is_some() {
                 return false;
             }
         }

@@ -1,5 +1,5 @@
 -- The engine's commands, and what a ring has once all its consumed TRBs are freed.
-use Rattle.std.proofs.Common.{◌≡◌, ℕ, zero, suc, Bool, true, false, ◌-◌, ◌<◌, List, [], ◌∷◌, length, take, drop, Option, Some, None, IsSome, refl, sym}
+use Rattle.std.proofs.Common.{◌≡◌, ℕ, zero, suc, Bool, true, false, ◌-◌, ◌<◌, List, [], ◌∷◌, take, drop, Option, Some, None, IsSome, refl, sym}
 use Rattle.std.proofs.Common.{arith, ap, ◌∙◌, inl, inr}
 use Rattle.std.specs.Prelude.{nat_lt, slice_get, slice_set, option_and_then, option_map}
 use Rattle.std.proofs.lemmas.Bool.{cases_Bool, ltb-true, ltb-false}
@@ -7,7 +7,7 @@ use Rattle.std.proofs.lemmas.Option.{none-some, same_Some}
 use Rattle.uas_profile.specs.declared.TheConstants.{ENGINE_RING_PLACES}
 use Rattle.xhci_trb.specs.declared.Trb.{Trb}
 use Rattle.cycle_ring.specs.Ring.{IsConsumed, NamedItemsHaveAddressesOf, consumed_item, item_at, pointer_of, reclaimed}
-use Rattle.cycle_ring.specs.Items.{IsItemRing, Item, ItemRing, foreign, known, known_consumed_at, known_of, known_oldest_of}
+use Rattle.cycle_ring.specs.Items.{Item, ItemRing, foreign, known, known_consumed_at, known_of, known_oldest_of}
 use Rattle.uas_profile.specs.declared.Pipe.{Pipe}
 use Rattle.uas_profile.specs.declared.Pipe.TheVariants.{Command, Status, DataIn, DataOut}
 use Rattle.uas_profile.specs.Pipes.{HasStreams}

@@ -17,3 +17,4 @@ pub mod Resuming
 pub mod Emptying
 pub mod LeftOver
 pub mod Transfers
+pub mod Faults

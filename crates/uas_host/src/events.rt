@@ -1,5 +1,5 @@
 // Events.
-ghost use Rattle.std.specs.Prelude.{◌≡◌, ◌↔◌, ◌+◌, ◌-◌, ◌++◌, ◌≤◌, List, IfSome, ℕ, drop, length, option_map, take};
+ghost use Rattle.std.specs.Prelude.{◌≡◌, ◌≢◌, ◌↔◌, ◌+◌, ◌-◌, ◌++◌, ◌≤◌, List, IfSome, ℕ, drop, length, option_map, take};
 ghost use Rattle.uas_profile.specs.declared.TheConstants.{STREAMS};
 ghost use Rattle.arrayvec.specs.ArrayVec.{array_vec_len};
 ghost use Rattle.frame_store.specs.Buffers.{held_for};
@@ -91,8 +91,9 @@ impl Host {
         Handled::Matched(td.tag)
     }
 
-    /// Takes in a transfer event, with this pointer, this residual and this code.
-    fn on_transfer(
+    /// Takes in a transfer event, by the pipe whose ring its pointer is of.
+    #[inline(always)]
+    fn on_pipe(
         &mut self,
         lines: &mut Lines,
         frames: &Frames,
@@ -125,6 +126,31 @@ impl Host {
                 self.on_td(lines, frames, td, pointer, residual, code)
             }
         }
+    }
+
+    /// Takes in a transfer event with this pointer, this residual and this code, whatever its endpoint and its slot, which are
+    /// not read. As [`Host::on_event`] does, but it rings nothing, as no transfer event does: it is `Matched` or `Stray`.
+    pub fn on_transfer(
+        &mut self,
+        lines: &mut Lines,
+        frames: &Frames,
+        pointer: u64,
+        residual: u32,
+        code: u8,
+    ) -> Handled
+        // What `handled` says of a transfer event, whose endpoint and slot it leaves out.
+        ensures handled { handled_td (record { host = self.old; lines = lines.old }) frames.now pointer residual code (ended_at lines.old pointer) ≡
+            (record { host = self.new; lines = lines.new }, result) }
+        ensures matched { (endpoint slot tag : ℕ) → (result ≡ Handled.Matched tag)
+            ↔ IsOfTd (record { host = self.old; lines = lines.old }) frames.now (Event.Transfer pointer residual code endpoint slot) tag }
+        ensures no_engine { result ≢ Handled.Engine }
+        ensures stray { (endpoint slot : ℕ) → (result ≡ Handled.Stray)
+            ↔ IsOfNothing (record { host = self.old; lines = lines.old }) frames.now (Event.Transfer pointer residual code endpoint slot) }
+        ensures unchanged { result ≡ Handled.Stray → (self.new ≡ self.old) × (lines.new ≡ lines.old) }
+        ensures left_over { (endpoint slot : ℕ) →
+            LeavesOverByNote (record { host = self.old; lines = lines.old }) frames.now (Event.Transfer pointer residual code endpoint slot) self.new }
+    {
+        self.on_pipe(lines, frames, pointer, residual, code)
     }
 
     /// Takes in an event, by its kind.

@@ -1,7 +1,7 @@
 // A host and its clients.
 ghost use Rattle.std.specs.Prelude.{◌≡◌, ◌+◌, ◌<◌, ◌≤◌, ◌^◌, IfOk, MatchResult, None, Some, length, replicate};
 ghost use Rattle.uas_profile.specs.declared.TheConstants.{TASK_SLOT, MAX_CLIENTS, GREATEST_TAG};
-ghost use Rattle.scsi_cmd.specs.Op.{moved_bytes};
+ghost use Rattle.scsi_cmd.specs.Op.{direction_of, moved_bytes};
 ghost use Rattle.scsi_cmd.specs.declared.Op.{Op};
 ghost use Rattle.uas_host.specs.State.{IsHostClient, client_of, new_client, opening};
 ghost use Rattle.uas_host.specs.Submit.{IsFree, data_td_for, fault_at, host_fault, new_entry, noted, slot_of, submitted_client};
@@ -10,9 +10,17 @@ use crate::tags::command_slot_of;
 use crate::{Host, HostAnswer, HostClient, HostEntry, NoMemory, TdState};
 use arrayvec::ArrayVec;
 use marks::Marks;
-use scsi_cmd::{Command, Op, Request, SubmitFault, moves, submit_fault};
+use scsi_cmd::{Command, Direction, Op, Request, SubmitFault, moves};
 use std::alloc::Global;
-use uas_profile::TAGS;
+use uas_profile::{TAGS, WINDOW_BYTES};
+
+/// A submission that has no fault: its slot, which way it moves data and how many bytes.
+#[derive(Clone, Copy)]
+pub(crate) struct Accepted {
+    pub slot: usize,
+    pub direction: Direction,
+    pub bytes: usize,
+}
 
 impl HostEntry {
     /// What the host has under a tag once an operation was submitted, by the state of its data TD.
@@ -59,22 +67,43 @@ impl HostClient {
         }
     }
 
-    /// The first fault of a submission under a command slot, if there is one.
-    fn fault(&self, slot: usize, ticket: u64, command: &Command) -> Option<SubmitFault>
-        requires { slot < TASK_SLOT }
+    /// The first fault of a submission under a command slot, if there is one, by the bytes that its operation moves: it has too many
+    /// blocks exactly where these are more than a window's.
+    #[tactic(auto, using(crate::proofs::Faults::too_long))]
+    #[inline(always)]
+    fn fault(
+        &self,
+        slot: usize,
+        ticket: u64,
+        command: &Command,
+        bytes: usize,
+    ) -> Option<SubmitFault>
+        requires slot { slot < TASK_SLOT }
+        requires bytes { bytes ≡ moved_bytes command.now.op }
         ensures { result ≡ fault_at self.now ticket command.now (Some slot) }
     {
-        let in_use = self.entries[slot].is_some();
-        submit_fault(true, in_use, self.least_ticket, ticket, command)
+        if self.entries[slot].is_some() {
+            Some(SubmitFault::InUse)
+        } else if command.buffer.len() != bytes {
+            Some(SubmitFault::BadLength)
+        } else if WINDOW_BYTES < bytes {
+            Some(SubmitFault::TooLong)
+        } else if ticket < self.least_ticket {
+            Some(SubmitFault::OutOfTurn(self.least_ticket))
+        } else {
+            None
+        }
     }
 
-    fn submit(&mut self, slot: usize, ticket: u64, op: Op)
+    #[inline(always)]
+    fn submit(&mut self, slot: usize, ticket: u64, op: Op, bytes: usize)
         requires slot { slot < TASK_SLOT }
         requires ticket { ticket < 2 ^ 60 }
+        requires bytes { bytes ≡ moved_bytes op }
         ensures { self.new ≡ submitted_client self.old slot ticket op }
     {
         // Found out beforehand, so that the entry is made in one piece.
-        let data_td = pending_where(moves(&op).1);
+        let data_td = pending_where(bytes);
         self.entries[slot] = Some(HostEntry::new(ticket, op, data_td));
         self.least_ticket = ticket + 1;
     }
@@ -98,36 +127,46 @@ impl Host {
         })
     }
 
-    /// The slot of a submission that has no fault, or its first fault.
+    /// What is to be done for a submission that has no fault, or its first fault.
+    #[inline(always)]
     pub(crate) fn accept(
         &self,
         client: usize,
         tag: u16,
         ticket: u64,
         command: &Command,
-    ) -> Result<usize, SubmitFault>
+    ) -> Result<Accepted, SubmitFault>
         ensures { MatchResult result
-            (λ slot. (host_fault self.now client tag ticket command.now ≡ None)
-            × (slot ≡ slot_of tag) × (slot < TASK_SLOT) × (client < length self.now.clients) × (client < MAX_CLIENTS) × (0 < tag) × (tag ≤ GREATEST_TAG))
+            (λ accepted. (host_fault self.now client tag ticket command.now ≡ None)
+            × (accepted.slot ≡ slot_of tag) × (accepted.slot < TASK_SLOT)
+            × (client < length self.now.clients) × (client < MAX_CLIENTS) × (0 < tag) × (tag ≤ GREATEST_TAG)
+            × (accepted.direction ≡ direction_of command.now.op) × (accepted.bytes ≡ moved_bytes command.now.op))
             (λ fault. host_fault self.now client tag ticket command.now ≡ Some fault) }
     {
         let Some(slot) = command_slot_of(self.clients.len(), client, tag) else {
             return Err(SubmitFault::NotYours);
         };
-        match self.clients[client].fault(slot, ticket, command) {
-            None => Ok(slot),
+        let (direction, bytes) = moves(&command.op);
+        match self.clients[client].fault(slot, ticket, command, bytes) {
+            None => Ok(Accepted {
+                slot,
+                direction,
+                bytes,
+            }),
             Some(fault) => Err(fault),
         }
     }
 
-    /// Notes a submission under a command slot that is free.
-    pub(crate) fn note(&mut self, client: usize, slot: usize, ticket: u64, op: Op)
+    /// Notes a submission that moves so many bytes under a command slot that is free.
+    #[inline(always)]
+    pub(crate) fn note(&mut self, client: usize, slot: usize, ticket: u64, op: Op, bytes: usize)
         requires client { client < length self.old.clients }
         requires slot { slot < TASK_SLOT }
         requires ticket { ticket < 2 ^ 60 }
         requires free { IsFree (client_of self.old client) slot }
+        requires bytes { bytes ≡ moved_bytes op }
         ensures { self.new ≡ noted self.old client slot ticket op }
     {
-        self.clients[client].submit(slot, ticket, op);
+        self.clients[client].submit(slot, ticket, op, bytes);
     }
 }

@@ -8,11 +8,12 @@ ghost use Rattle.uas_host.specs.Submit.{HasRoomFor, host_fault, lent, submitted}
 ghost use Rattle.uas_host.specs.Tds.{pushed};
 
 use crate::Host;
+use crate::hosts::Accepted;
 use crate::tds::push_tds;
 use crate::units::lend_command;
 use arrayvec::ArrayVec;
 use frame_store::Frames;
-use scsi_cmd::{Command, SubmitFault, moves};
+use scsi_cmd::{Command, SubmitFault};
 use stream_array::Lines;
 use uas_profile::STREAM_ENTRIES;
 
@@ -45,15 +46,19 @@ impl Host {
             (λ fault. (result ≡ Err (fault, command))
             × (self.new ≡ self.old) × (lines.new ≡ lines.old) × (frames.new ≡ frames.old) × (doors.new ≡ doors.old)) }
     {
-        let slot = match self.accept(client, tag, ticket, &command) {
-            Ok(slot) => slot,
+        let Accepted {
+            slot,
+            direction,
+            bytes,
+        } = match self.accept(client, tag, ticket, &command) {
+            Ok(accepted) => accepted,
             Err(fault) => return Err((fault, command)),
         };
         let Command { op, buffer } = command;
         lend_command(frames, client as u8, tag, &op, buffer);
-        push_tds(lines, tag, &op);
-        self.ring(doors, moves(&op).0, tag);
-        self.note(client, slot, ticket, op);
+        push_tds(lines, tag, direction, bytes);
+        self.ring(doors, direction, tag);
+        self.note(client, slot, ticket, op, bytes);
         Ok(())
     }
 }

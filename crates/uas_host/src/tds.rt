@@ -1,16 +1,15 @@
 // The TDs of a command and of a task management as TRBs, and their way onto the rings.
 ghost use Rattle.std.specs.Prelude.{◌≡◌, ◌+◌, ◌-◌, ◌*◌, ◌<◌, ◌≤◌, ◌^◌, [], ◌∷◌, length, take};
 ghost use Rattle.uas_profile.specs.declared.TheConstants.{STREAMS, WINDOW_BYTES};
-ghost use Rattle.scsi_cmd.specs.Op.{moved_bytes};
 ghost use Rattle.uas_profile.specs.declared.Direction.{Direction};
 ghost use Rattle.xhci_trb.specs.declared.Trb.TheVariants as Trb;
 ghost use Rattle.uas_profile.specs.Pipes.{HasStreams};
 ghost use Rattle.stream_array.specs.Map.{HasRing, places_of};
 ghost use Rattle.stream_array.specs.Rings.{ring_of};
-ghost use Rattle.uas_host.specs.Tds.{command_td, data_td, data_trb, data_trb_count, packets_left, pushed, pushed_task, put_on, status_td, task_td};
-ghost use Rattle.uas_host.specs.Tds.{window_of, with_data_td, HasDataRoom, HasRoom, HasTaskRoom, HasTdRoom, IsOnData};
+ghost use Rattle.uas_host.specs.Tds.{command_td, data_td, data_trb, data_trb_count, packets_left, pushed_task, put_on, status_td, task_td};
+ghost use Rattle.uas_host.specs.Tds.{window_of, with_data_td, HasDataRoom, HasRoom, HasTaskRoom, IsOnData};
 
-use scsi_cmd::{Direction, Op, moves};
+use scsi_cmd::Direction;
 use stream_array::{Lines, Pipe};
 use uas_iu::TASK_BYTES;
 use uas_profile::{
@@ -172,15 +171,17 @@ fn push_data_td(lines: &mut Lines, direction: Direction, tag: u16, bytes: usize)
     }
 }
 
-/// Pushes the TDs of a command: data (where bytes move), status, command. Asks room for them.
-pub(crate) fn push_tds(lines: &mut Lines, tag: u16, op: &Op)
+/// Pushes the TDs of a command that moves so many bytes this way: data (where bytes move), status, command. Asks room for them.
+#[inline(always)]
+pub(crate) fn push_tds(lines: &mut Lines, tag: u16, direction: Direction, bytes: usize)
     requires some_tag { 0 < tag }
     requires last_tag { tag ≤ STREAMS }
-    requires most { moved_bytes op.now ≤ WINDOW_BYTES }
-    requires room { HasTdRoom lines.old tag op.now }
-    ensures { lines.new ≡ pushed lines.old tag op.now }
+    requires some { IsOnData direction bytes }
+    requires on_data { HasDataRoom lines.old direction tag bytes }
+    requires on_status { HasRoom lines.old Pipe.Status tag 1 }
+    requires on_command { HasRoom lines.old Pipe.Command 0 1 }
+    ensures { lines.new ≡ put_on (put_on (with_data_td lines.old direction tag bytes) Pipe.Status tag (status_td tag)) Pipe.Command 0 (command_td tag) }
 {
-    let (direction, bytes) = moves(op);
     push_data_td(lines, direction, tag, bytes);
     lines.push_td(Pipe::Status, tag, &status_trb(tag)).unwrap();
     lines.push_td(Pipe::Command, 0, &command_trb(tag)).unwrap();

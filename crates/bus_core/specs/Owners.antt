@@ -80,3 +80,8 @@ mark_of (Some reply) = mark_by reply
 abbrev pub replying : ℕ → Option Reply → Outcome
 replying client reply =
     record { acted = true; owner = Some client; mark = mark_of reply; reply = reply; refused = None; doors = [] }
+
+-- a client asked for the reply that was ready first: where there is none, nothing came of it
+abbrev pub taken_as : ℕ → Option Reply → Outcome
+taken_as client None = idle
+taken_as client (Some reply) = replying client (Some reply)

@@ -1,6 +1,6 @@
 -- The steps of the world of rings, by the calls of host and controller, and what is claimed of them: each is the shared
 -- machine's step wherever the world fits a state.
-use Rattle.std.specs.Prelude.{◌≡◌, ℕ, ◌^◌, ◌<◌, true, false, List, [], ◌∷◌, fold, length, slice_get, ◌≤◌, Some, None, option_map}
+use Rattle.std.specs.Prelude.{◌≡◌, ℕ, ◌^◌, ◌<◌, true, false, List, [], ◌∷◌, fold, length, slice_get, ◌≤◌, Some, None, is_some, option_map}
 use Rattle.block_unit.specs.BlockMaps.{BlockMaps}
 use Rattle.event_ring.specs.declared.Event.{Event}
 use Rattle.event_ring.specs.Events.{taken}
@@ -258,9 +258,10 @@ TasksFit =
     (state : Shared) (world : World) (client ticket : ℕ) (task : Task) → Fits state world → ticket < 2 ^ 60
     → task_fault world.host client ticket task ≡ None → TaskFits state world client ticket task
 
--- Take: the reply is the shared machine's
+-- Take: the reply is the shared machine's, and there is one
 pub record TakeFits (state : Shared) (world : World) (client : ℕ) : Type 0 where
   pub reply : (replied world.host world.frames client).reply ≡ (shared_step state (Take client)).1.reply
+  pub brings : is_some (replied world.host world.frames client).reply ≡ true
   pub fits : IsSoundWorld (take_world world client) → Fits (shared_step state (Take client)).0 (take_world world client)
 
 abbrev pub TakesFit : Type 0

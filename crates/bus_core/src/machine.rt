@@ -9,7 +9,7 @@ ghost use Rattle.shared_machine.specs.Shared.{due, opening, shared_step};
 ghost use Rattle.bus_core.specs.Decoded.{decoded};
 ghost use Rattle.bus_core.specs.Shows.{AreNeverFull, PointAhead, ShowsShared};
 ghost use Rattle.bus_core.specs.WholeStep.{world_after};
-ghost use Rattle.bus_core.specs.WorldSteps.{opening_world, take_world};
+ghost use Rattle.bus_core.specs.WorldSteps.{opening_world};
 
 use crate::steps::stand;
 use crate::{Doorbells, Outcome, RingBus, Step, outcomes};
@@ -165,9 +165,7 @@ impl RingBus {
 
     /// The host has a reply for the client.
     fn take_is_due(&self, client: usize) -> bool
-        ensures due { result ≡ due (decoded self.now) (Step.Take client) }
-        // Where it has none, a Take changes nothing.
-        ensures rests { result ≡ false → take_world self.now client ≡ self.now }
+        ensures { result ≡ due (decoded self.now) (Step.Take client) }
     {
         self.host.has_reply(client)
     }
@@ -228,13 +226,7 @@ impl RingBus {
                 outcomes::seen(client, doors)
             }
             Step::Retire(pipe, tag) => self.retire(pipe, tag),
-            Step::Take(client) => {
-                if self.take_is_due(client) {
-                    outcomes::replying(client, self.take(client))
-                } else {
-                    outcomes::idle()
-                }
-            }
+            Step::Take(client) => outcomes::taken(client, self.take(client)),
         }
     }
 }

@@ -1,7 +1,7 @@
 //! The outcome of a step, by what host or controller answered.
 ghost use Rattle.std.specs.Prelude.{◌≡◌, true, Some};
 ghost use Rattle.std.specs.Option.{option_map_or};
-ghost use Rattle.bus_core.specs.Owners.{acted_as, executed_as, managed_as, mark_on, replying, submitted_as};
+ghost use Rattle.bus_core.specs.Owners.{acted_as, executed_as, managed_as, mark_on, submitted_as, taken_as};
 ghost use Rattle.shared_machine.specs.declared.Mark.{Mark};
 ghost use Rattle.shared_machine.specs.Shared.{acceptance, idle, refusal, ringing, task_refusal};
 ghost use Rattle.bus_core.specs.WorldDue.{marked};
@@ -105,11 +105,14 @@ pub(crate) fn seen(client: Option<usize>, doors: Doorbells) -> Outcome
     }
 }
 
-/// The outcome of a reply.
+/// The outcome of a Take: that of its reply, where there is one.
 #[inline(always)]
-pub(crate) fn replying(client: usize, reply: Option<Reply>) -> Outcome
-    ensures { result ≡ replying client reply }
+pub(crate) fn taken(client: usize, reply: Option<Reply>) -> Outcome
+    ensures { result ≡ taken_as client reply }
 {
+    if reply.is_none() {
+        return idle();
+    }
     acting(client, mark_of(&reply), reply, None, Doorbells::none())
 }
 

@@ -1,19 +1,20 @@
 //! Each step of the bus, by one call of host or controller: what it is to the shared machine, and the rings after it.
-ghost use Rattle.std.specs.Prelude.{◌≡◌, [], true, ◌<◌, ◌^◌};
+ghost use Rattle.std.specs.Prelude.{◌≡◌, [], ◌<◌, ◌^◌};
 ghost use Rattle.std.specs.Option.{option_map_or};
 ghost use Rattle.stream_array.specs.Rings.{IsLines};
 ghost use Rattle.frame_store.specs.Buffers.{IsWhole};
 ghost use Rattle.uas_host.specs.State.{IsHost};
-ghost use Rattle.shared_machine.specs.Shared.{due, idle, ringing, shared_step};
+ghost use Rattle.shared_machine.specs.Shared.{idle, ringing, shared_step};
 ghost use Rattle.shared_machine.specs.declared.Mark.{Mark};
 ghost use Rattle.bus_core.specs.Decoded.{decoded};
-ghost use Rattle.bus_core.specs.Owners.{acted_as, replying, submitted_as};
+ghost use Rattle.bus_core.specs.Owners.{acted_as, submitted_as, taken_as};
 ghost use Rattle.bus_core.specs.WholeStep.{event_after, retire_after, submit_after, task_after};
 ghost use Rattle.bus_core.specs.WorldSteps.{command_world, data_world, engine_world, status_world, take_world};
 
 use crate::doors::{ring, rung_at};
 use crate::owners::owner_of;
 use crate::{Doorbells, Outcome, RingBus, Step, outcomes};
+use event_ring::Event;
 use frame_store::Frames;
 use scsi_cmd::{Command, Reply, SubmitFault, Task};
 use stream_array::{Lines, Pipe};
@@ -141,21 +142,41 @@ impl RingBus {
         ensures world { self.new ≡ event_after self.old }
     {
         let event = self.lines.take()?;
-        let retirement = self.host.retirement();
-        self.doors.clear();
-        let handled = self
-            .host
-            .on_event(&mut self.lines, &self.frames, &mut self.doors, event);
-        ring(&mut self.controller, &self.doors);
-        stand(&self.host, &self.lines, &self.frames);
-        match handled {
-            Handled::Matched(tag) => Some(owner_of(tag)),
-            Handled::Stray => None,
-            Handled::Engine => {
-                // Each event of the controller's own command ring is of the retirement (`EventsFit`).
-                let ended = retirement?;
-                *doors = rung_at(ended, &self.doors);
-                Some(ended.place.client)
+        match event {
+            Event::Transfer {
+                pointer,
+                residual,
+                code,
+                ..
+            } => {
+                let handled = self
+                    .host
+                    .on_transfer(&mut self.lines, &self.frames, pointer, residual, code);
+                stand(&self.host, &self.lines, &self.frames);
+                match handled {
+                    Handled::Matched(tag) => Some(owner_of(tag)),
+                    Handled::Stray => None,
+                    Handled::Engine => None,
+                }
+            }
+            Event::Command { .. } => {
+                let retirement = self.host.retirement();
+                self.doors.clear();
+                let handled = self
+                    .host
+                    .on_event(&mut self.lines, &self.frames, &mut self.doors, event);
+                ring(&mut self.controller, &self.doors);
+                stand(&self.host, &self.lines, &self.frames);
+                match handled {
+                    Handled::Matched(tag) => Some(owner_of(tag)),
+                    Handled::Stray => None,
+                    Handled::Engine => {
+                        // Each event of the controller's own command ring is of the retirement (`EventsFit`).
+                        let ended = retirement?;
+                        *doors = rung_at(ended, &self.doors);
+                        Some(ended.place.client)
+                    }
+                }
             }
         }
     }
@@ -179,11 +200,10 @@ impl RingBus {
         }
     }
 
-    /// A client takes the reply that was ready first. Asks that there is one.
+    /// A client takes the reply that was ready first, where there is one.
     #[inline(never)]
     pub(crate) fn take(&mut self, client: usize) -> Option<Reply>
-        requires { due (decoded self.old) (Step.Take client) ≡ true }
-        ensures shared { shared_step (decoded self.old) (Step.Take client) ≡ (decoded self.new, replying client result) }
+        ensures shared { shared_step (decoded self.old) (Step.Take client) ≡ (decoded self.new, taken_as client result) }
         ensures world { self.new ≡ take_world self.old client }
     {
         let reply = self.host.take_reply(&mut self.frames, client);

@@ -1,10 +1,10 @@
 -- Each step of host and controller, due or not: the world after it reads as the shared machine's state after its step, and the
 -- outcome is the shared machine's. A step that isn't due leaves the world as it was. The answers of the bus's steps cite them.
 use Rattle.std.proofs.Common.{◌≡◌, ℕ, Bool, true, false, cond, List, [], length, Option, Some, None, refl, ap, sym, subst, ◌∙◌}
-use Rattle.std.specs.Prelude.{nat_lt, slice_get, option_map}
+use Rattle.std.specs.Prelude.{is_some, nat_lt, slice_get, option_map}
 use Rattle.xhci_trb.specs.declared.Trb.{Trb}
 use Rattle.std.proofs.lemmas.Option.{slice_get_past, slice_get_within}
-use Rattle.std.proofs.lemmas.Bool.{ltb-false, lt-ltb}
+use Rattle.std.proofs.lemmas.Bool.{false≢true, ltb-false, lt-ltb}
 use Rattle.stream_array.specs.Rings.{LinesState, IsLines}
 use Rattle.uas_profile.specs.declared.TheConstants.{COMMAND_RING_PLACES}
 use Rattle.cycle_ring.specs.Ring.{pointer_of}
@@ -30,9 +30,9 @@ use Rattle.bus_core.specs.World.{World, sides_in, world_of}
 use Rattle.bus_core.specs.WorldDue.{command_is_due}
 use Rattle.bus_core.specs.Fits.{Fits}
 use Rattle.bus_core.specs.Decoded.{decoded, FitsItself}
-use Rattle.bus_core.specs.Owners.{acted_as, handled_as, replying}
+use Rattle.bus_core.specs.Owners.{acted_as, handled_as, replying, taken_as}
 use Rattle.scsi_cmd.specs.declared.Reply.{Reply}
-use Rattle.uas_host.specs.Replies.{replied}
+use Rattle.uas_host.specs.Replies.{Given, replied}
 use Rattle.bus_core.specs.WorldSteps.{EventsFit, StreamsAreIdle, event_sides, rung_all}
 use Rattle.shared_machine.proofs.Due.{shared_step-idle}
 use Rattle.bus_core.proofs.common.DeviceTags.{tags-moved, tags-sent}
@@ -42,6 +42,7 @@ use Rattle.bus_core.proofs.carry.CommandFits.{commands_due}
 use Rattle.bus_core.proofs.chunks.DataDue.{data_idle}
 use Rattle.bus_core.proofs.status.StatusFits.{status_idle}
 use Rattle.bus_core.proofs.event.DueEvents.{events-are-due}
+use Rattle.bus_core.proofs.take.Taking.{take-is-idle, takes-fit}
 
 -- the world after a step, due or not, reads as the shared machine's state after it, and fits it; the outcome is the shared
 -- machine's
@@ -146,9 +147,32 @@ event-taken state world event host lines doors handled_it every fits first so ra
     let acts : due state EventStep ≡ true = event-is-due state world event fits first in
     due-taken state EventStep _ _ acts (seen-on state world event host lines doors handled_it every fits acts first so rang hosting standing whole)
 
-pub take-taken : (state : Shared) (world : World) (client : ℕ) (host : HostState) (frames : List TagBuffers) (reply : Option Reply) → Fits state world
+-- a Take that is due
+take-due : (state : Shared) (world : World) (client : ℕ) (host : HostState) (frames : List TagBuffers) (reply : Option Reply) → Fits state world
     → due state (Take client) ≡ true
     → replied world.host world.frames client ≡ record { host = host; frames = frames; reply = reply } → IsHost host → IsLines world.lines → IsWhole frames
     → IsTaken state (Take client) (world_of host world.controller world.device world.lines frames) (replying client reply)
-take-taken state world client host frames reply fits acts so hosting standing whole =
+take-due state world client host frames reply fits acts so hosting standing whole =
     due-taken state (Take client) _ _ acts (taken-on state world client host frames reply fits acts so hosting standing whole)
+
+-- what comes of a reply that there is
+given-as : (client : ℕ) (reply : Option Reply) → is_some reply ≡ true → replying client reply ≡ taken_as client reply
+given-as client None some = absurd (false≢true some)
+given-as client (Some reply) some = refl
+
+-- a Take, due or not
+pub take-taken : (state : Shared) (world : World) (client : ℕ) (host : HostState) (frames : List TagBuffers) (reply : Option Reply) → Fits state world
+    → replied world.host world.frames client ≡ record { host = host; frames = frames; reply = reply } → IsHost host → IsLines world.lines → IsWhole frames
+    → IsTaken state (Take client) (world_of host world.controller world.device world.lines frames) (taken_as client reply)
+take-taken state world client host frames reply fits so hosting standing whole =
+    let after : World = world_of host world.controller world.device world.lines frames in
+    let P : Given → Type 0 = λ given.
+    IsTaken state (Take client) (world_of given.host world.controller world.device world.lines given.frames) (taken_as client given.reply) in
+    elim (due state (Take client)) as (λ b. due state (Take client) ≡ b → IsTaken state (Take client) after (taken_as client reply)) [
+      | true ↦ λ acts.
+          let some : is_some reply ≡ true = sym (ap (λ (g : Given). is_some g.reply) so) ∙ (takes-fit state world client fits acts).brings in
+          subst (λ outcome. IsTaken state (Take client) after outcome) (given-as client reply some)
+          (take-due state world client host frames reply fits acts so hosting standing whole)
+      | false ↦ λ rests.
+          subst P (sym (take-is-idle state world client fits rests) ∙ so) (idle-taken state (Take client) world rests fits)
+    ] refl

@@ -18,7 +18,7 @@ use Rattle.uas_host.specs.declared.Handled.{Handled}
 use Rattle.uas_host.specs.declared.Retirement.{Retirement}
 use Rattle.uas_host.specs.declared.RetirementStage.TheVariants.{Stopping}
 use Rattle.uas_host.specs.Events.{event_doors, handled}
-use Rattle.uas_host.specs.Replies.{Given, no_reply, replied}
+use Rattle.uas_host.specs.Replies.{Given, replied}
 use Rattle.uas_host.specs.Retirement.{is_left_over_on, retirement_for, with_retirement}
 use Rattle.uas_host.specs.State.{HostState, opening as opening_host}
 use Rattle.uas_target.specs.Device.{Device, opening as opening_device}
@@ -146,7 +146,3 @@ pub take-given : (world : World) (client : ℕ) (host : HostState) (frames : Lis
     → replied world.host world.frames client ≡ record { host = host; frames = frames; reply = reply }
     → world_of host world.controller world.device world.lines frames ≡ take_world world client
 take-given world client host frames reply so = sym (ap (given_to world) so)
-
-pub take-rests : (world : World) (client : ℕ) → replied world.host world.frames client ≡ no_reply world.host world.frames
-    → take_world world client ≡ world
-take-rests world client none = ap (given_to world) none

@@ -2,7 +2,7 @@
 -- with the vector that the client lent, and the response to a task management, which lent none. Cited by the law takes_fit and by the steps.
 use Rattle.std.proofs.Common.{◌≡◌, ℕ, ◌*◌, ◌<◌, ◌≤◌, true, false, cond, List, [], ◌∷◌, ◌++◌, length, length-set, map, Option, Some, None, refl, arith, ap, sym}
 use Rattle.std.proofs.Common.{subst, ◌∙◌}
-use Rattle.std.specs.Prelude.{slice_get, option_and_then, ◌&&◌}
+use Rattle.std.specs.Prelude.{slice_get, is_some, option_and_then, ◌&&◌}
 use Rattle.std.specs.Option.{option_map_or}
 use Rattle.std.proofs.lemmas.Bool.{false≢true, and_parts}
 use Rattle.std.proofs.lemmas.List.{append-nil}
@@ -415,6 +415,7 @@ take-at state world client slot rest part at fits is_due =
     ∙ ap (λ frames. record (host_after world client slot rest at.entry.task.request) { frames = frames }) (it.frames world.frames) in
     let matched = shared_step-matched state (Take client) fits.matched in
     record {
+      brings = ap (λ (g : Given). is_some g.reply) gives;
       reply = ap (λ (g : Given). g.reply) gives ∙ sym (ap (λ after. after.1.reply) stepped ∙ taken-reply state world client slot rest part at it);
       fits = subst (λ s. IsSoundWorld (take_world world client) → Fits s (take_world world client)) (sym now)
           (subst (λ w. IsSoundWorld w → Fits (settled_state state (place_in client slot) part rest) w) (sym world_is)

@@ -1,8 +1,9 @@
-use Rattle.std.proofs.Common.{◌≡◌, ap, sym, ◌∙◌}
+use Rattle.std.proofs.Common.{◌≡◌, [], ap, sym, ◌∙◌}
 use Rattle.std.specs.Option.{option_map_or}
 use Rattle.shared_machine.specs.declared.Step.TheVariants.{Event}
 use Rattle.bus_core.specs.Owners.{handled_as, retirement_seen}
 use Rattle.shared_machine.specs.Shared.{idle, ringing}
+use Rattle.uas_host.specs.Events.{event_doors, handled}
 use Rattle.bus_core.specs.World.{world_of}
 use Rattle.bus_core.specs.WorldSteps.{event_sides, rung_all}
 use Rattle.bus_core.specs.Decoded.{decoded}
@@ -10,21 +11,57 @@ use Rattle.bus_core.proofs.common.BusFields.{fits-in, world_in}
 use Rattle.bus_core.proofs.retire.EngineStepped.{doors-cleared, event-resumed, td-told, with-outcome}
 use Rattle.bus_core.proofs.event.EventsFit.{events-fit}
 use Rattle.bus_core.proofs.common.Taken.{IsTaken, event-taken}
-use Rattle.bus_core.specs.WholeStep.{event_after}
-use Rattle.bus_core.proofs.common.WholeSteps.{event-handled}
 use Rattle.bus_core.proofs.RingBus.see.Goals as goal
-use Rattle.bus_core.proofs.RingBus.see.Goals.{After-stand, in-Matched, in-Stray, in-Engine+in_ok-ended-in-Engine}
+use Rattle.bus_core.proofs.RingBus.see.Goals.{Joined-handled, Joined-handled-2}
+use Rattle.bus_core.proofs.RingBus.see.Goals.{in-Matched, in-Stray, in-Engine, in-Matched-handled, in-Stray-handled}
+use Rattle.bus_core.proofs.RingBus.see.Goals.{in-Engine-handled+in_ok-ended-in-Engine-handled}
+
+-- a transfer event, which rings nothing
+
+transfer-handled : (c : Joined-handled) → handled (event_sides (world_in c.self.inside)) c.self.inside.frames c.in_ok-event.event
+    ≡ (record { host = c.on_transfer-handled.new.self; lines = c.on_transfer-handled.new.lines }, c.on_transfer-handled.result)
+transfer-handled c =
+    ap (handled (event_sides (world_in c.self.inside)) c.self.inside.frames) c.in-Transfer.is
+    ∙ rw c.in_ok-event.ensures.taken at c.on_transfer-handled.ensures.handled
+
+transferred : (c : Joined-handled) → IsTaken (decoded c.args.self.now) Event
+    (world_of c.on_transfer-handled.new.self c.self.inside.controller c.self.inside.target c.on_transfer-handled.new.lines c.self.inside.frames)
+    (handled_as c.self.inside.host.retirement [] c.on_transfer-handled.result)
+transferred c =
+    event-taken (decoded c.args.self.now) (world_in c.self.inside)
+    c.in_ok-event.event c.on_transfer-handled.new.self c.on_transfer-handled.new.lines [] c.on_transfer-handled.result events-fit
+    (fits-in c.self.inside c.self.view_is c.self.invariant) (sym c.in_ok-event.ensures.first) (transfer-handled c)
+    (ap (event_doors (event_sides (world_in c.self.inside))) c.in-Transfer.is)
+    c.stand.ensures.host c.stand.ensures.lines c.stand.ensures.frames
+
+pub invariant_of-self-in-Transfer : goal.invariant_of-self-in-Transfer
+invariant_of-self-in-Transfer c = (transferred c).fits
+
+pub returns-after-handled-clause-shared : goal.returns-after-handled-clause-shared
+returns-after-handled-clause-shared c =
+    let retirement = c.self.inside.host.retirement in
+    let told : option_map_or (λ client. ringing client c.args.doors.now) c.match-handled.result idle
+    ≡ handled_as retirement [] c.on_transfer-handled.result = elim c.match-handled.branch [
+      | in-Matched w ↦
+          rw (w.result-is, w.owner_of.ensures)
+          (ap (ringing _) c.requires ∙ sym (ap (handled_as retirement []) w.in-Matched.is))
+      | in-Stray w ↦ rw w.result-is (sym (ap (handled_as retirement []) w.in-Stray.is))
+      | in-Engine w ↦ absurd (c.on_transfer-handled.ensures.no_engine w.in-Engine.is)
+    ] in
+    with-outcome _ _ _ _ (transferred c).shared told
+
+-- an event of the controller's own command ring
 
 pub rung_at-requires-clause-resumed : goal.rung_at-requires-clause-resumed
 rung_at-requires-clause-resumed c = λ moves.
-    event-resumed (event_sides (world_in c.self.inside)) c.in_ok-event.event c.in_ok-ended-in-Engine.ended c.deref-in-Engine.result.now
-    (sym c.retirement-retirement.ensures ∙ c.in_ok-ended-in-Engine.was) moves
-    (c.deref-in-Engine.ensures.0
+    event-resumed (event_sides (world_in c.self.inside)) c.in_ok-event.event c.in_ok-ended-in-Engine-handled.ended c.deref-in-Engine-handled.result.now
+    (sym c.retirement-retirement.ensures ∙ c.in_ok-ended-in-Engine-handled.was) moves
+    (c.deref-in-Engine-handled.ensures.0
     ∙ doors-cleared c.clear.new.self.items c.on_event-handled.new.doors.items _ c.clear.ensures
     (rw c.in_ok-event.ensures.taken at c.on_event-handled.ensures.doors))
 
 -- what the host makes of the event is the shared machine's step
-seen : (c : After-stand) → IsTaken (decoded c.args.self.now) Event
+seen : (c : Joined-handled-2) → IsTaken (decoded c.args.self.now) Event
     (world_of c.on_event-handled.new.self (rung_all c.self.inside.controller c.on_event-handled.new.doors.items) c.self.inside.target
     c.on_event-handled.new.lines c.self.inside.frames)
     (handled_as c.self.inside.host.retirement c.on_event-handled.new.doors.items c.on_event-handled.result)
@@ -35,42 +72,28 @@ seen c =
     (rw c.in_ok-event.ensures.taken at c.on_event-handled.ensures.handled)
     (sym (doors-cleared c.clear.new.self.items c.on_event-handled.new.doors.items _ c.clear.ensures
     (rw c.in_ok-event.ensures.taken at c.on_event-handled.ensures.doors)))
-    c.stand.ensures.host c.stand.ensures.lines c.stand.ensures.frames
+    c.stand-in-Command.ensures.host c.stand-in-Command.ensures.lines c.stand-in-Command.ensures.frames
 
-pub invariant_of-self-2 : goal.invariant_of-self-2
-invariant_of-self-2 c = rw (c.ring.ensures, c.deref.ensures.0) (seen (goal.at.invariant_of-self-2 c).After-stand).fits
+pub invariant_of-self-in-Command : goal.invariant_of-self-in-Command
+invariant_of-self-in-Command c = rw (c.ring.ensures, c.deref.ensures.0) (seen c).fits
 
-pub invariant_of-self-in_err-ended-in-Engine : goal.invariant_of-self-in_err-ended-in-Engine
-invariant_of-self-in_err-ended-in-Engine c =
-    rw (c.ring.ensures, c.deref.ensures.0) (seen (goal.at.invariant_of-self-in_err-ended-in-Engine c).After-stand).fits
-
-pub returns-clause-shared : goal.returns-clause-shared
-returns-clause-shared c =
+pub returns-after-handled-2-clause-shared : goal.returns-after-handled-2-clause-shared
+returns-after-handled-2-clause-shared c =
     let retirement = c.self.inside.host.retirement in
     let rung = c.on_event-handled.new.doors.items in
-    let told : option_map_or (λ client. ringing client c.match-handled.doors) c.match-handled.result idle
-    ≡ handled_as retirement rung c.on_event-handled.result = elim c.match-handled.branch [
-      | in-Matched w ↦
-          rw (w.result-is, w.doors-is, w.owner_of.ensures)
+    let told : option_map_or (λ client. ringing client c.match-handled-2.doors) c.match-handled-2.result idle
+    ≡ handled_as retirement rung c.on_event-handled.result = elim c.match-handled-2.branch [
+      | in-Matched-handled w ↦
+          rw (w.result-is, w.doors-is, w.owner_of-in-Matched-handled.ensures)
           (sym (td-told (event_sides (world_in c.self.inside))
-          c.self.inside.frames c.in_ok-event.event _ w.in-Matched.tag c.on_event-handled.result retirement rung c.args.doors.now
-          (rw c.in_ok-event.ensures.taken at c.on_event-handled.ensures.handled) w.in-Matched.is
+          c.self.inside.frames c.in_ok-event.event _ w.in-Matched-handled.tag c.on_event-handled.result retirement rung c.args.doors.now
+          (rw c.in_ok-event.ensures.taken at c.on_event-handled.ensures.handled) w.in-Matched-handled.is
           (sym (doors-cleared c.clear.new.self.items rung _ c.clear.ensures
           (rw c.in_ok-event.ensures.taken at c.on_event-handled.ensures.doors))) c.requires))
-      | in-Stray w ↦ rw w.result-is (sym (ap (handled_as retirement rung) w.in-Stray.is))
-      | in-Engine+in_ok-ended-in-Engine w ↦
-          rw (w.result-is, w.doors-is, w.rung_at.ensures, w.deref-in-Engine.ensures.0)
-          (sym (ap (handled_as retirement rung) w.in-Engine.is
-          ∙ ap (λ under_way. retirement_seen under_way rung) (sym c.retirement-retirement.ensures ∙ w.in_ok-ended-in-Engine.was)))
+      | in-Stray-handled w ↦ rw w.result-is (sym (ap (handled_as retirement rung) w.in-Stray-handled.is))
+      | in-Engine-handled+in_ok-ended-in-Engine-handled w ↦
+          rw (w.result-is, w.doors-is, w.rung_at.ensures, w.deref-in-Engine-handled.ensures.0)
+          (sym (ap (handled_as retirement rung) w.in-Engine-handled.is
+          ∙ ap (λ under_way. retirement_seen under_way rung) (sym c.retirement-retirement.ensures ∙ w.in_ok-ended-in-Engine-handled.was)))
     ] in
-    rw (c.ring.ensures, c.deref.ensures.0) (with-outcome _ _ _ _ (seen (goal.at.returns-clause-shared c).After-stand).shared told)
-
-pub returns-clause-world : goal.returns-clause-world
-returns-clause-world c =
-    rw (c.ring.ensures, c.deref.ensures.0)
-    (event-handled (world_in c.self.inside)
-    c.in_ok-event.event c.on_event-handled.new.self c.on_event-handled.new.lines c.on_event-handled.new.doors.items c.on_event-handled.result
-    (sym c.in_ok-event.ensures.first) (rw c.in_ok-event.ensures.taken at c.on_event-handled.ensures.handled)
-    (sym (doors-cleared c.clear.new.self.items c.on_event-handled.new.doors.items _ c.clear.ensures
-    (rw c.in_ok-event.ensures.taken at c.on_event-handled.ensures.doors)))
-    ∙ ap event_after c.self.view_is)
+    rw (c.ring.ensures, c.deref.ensures.0) (with-outcome _ _ _ _ (seen c).shared told)

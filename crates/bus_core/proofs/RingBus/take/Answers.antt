@@ -1,5 +1,5 @@
 use Rattle.shared_machine.specs.declared.Step.TheVariants.{Take}
-use Rattle.bus_core.specs.Owners.{replying}
+use Rattle.bus_core.specs.Owners.{taken_as}
 use Rattle.bus_core.specs.World.{world_of}
 use Rattle.bus_core.specs.Decoded.{decoded}
 use Rattle.bus_core.proofs.common.BusFields.{fits-in, world_in}
@@ -13,11 +13,11 @@ use Rattle.bus_core.proofs.RingBus.take.Goals.{After-stand}
 -- what the client takes is the shared machine's reply
 taken : (c : After-stand) → IsTaken (decoded c.args.self.now) (Take c.args.client)
     (world_of c.take_reply-reply.new.self c.self.inside.controller c.self.inside.target c.self.inside.lines c.take_reply-reply.new.frames)
-    (replying c.args.client c.take_reply-reply.result)
+    (taken_as c.args.client c.take_reply-reply.result)
 taken c =
     take-taken (decoded c.args.self.now) (world_in c.self.inside)
     c.args.client c.take_reply-reply.new.self c.take_reply-reply.new.frames c.take_reply-reply.result
-    (fits-in c.self.inside c.self.view_is c.self.invariant) c.requires c.take_reply-reply.ensures
+    (fits-in c.self.inside c.self.view_is c.self.invariant) c.take_reply-reply.ensures
     c.stand.ensures.host c.stand.ensures.lines c.stand.ensures.frames
 
 pub invariant_of-self : goal.invariant_of-self

@@ -4,13 +4,12 @@ use Rattle.std.specs.Prelude.{slice_get, slice_index, slice_index_or, slice_set}
 use Rattle.std.proofs.lemmas.List.{length-map, set-get_or}
 use Rattle.block_unit.specs.BlockMaps.{BlockMaps}
 use Rattle.scsi_cmd.specs.Held.{AllHeld, held_under, with_held_under}
-use Rattle.scsi_cmd.specs.Laws.{AllHeld-at}
 use Rattle.uas_target.specs.declared.DeviceTask.{DeviceTask}
 use Rattle.uas_target.specs.Soundness.{IsSoundDevice, IsSoundTask, counts_of}
 use Rattle.uas_target.specs.Device.{Device, aborted_on}
 use Rattle.uas_target.specs.Fields.{addressed}
 use Rattle.uas_target.specs.Tasks.{is_command_of, spared}
-use Rattle.uas_target.proofs.Sound.{IsSoundDevice-step}
+use Rattle.uas_target.proofs.Sound.{IsSoundDevice-step, held_under-sound}
 
 -- ONE TAG
 
@@ -117,18 +116,12 @@ AllHeld-spared P number (place ∷ places) all = (IfSome-spared P number place a
 
 -- THE DEVICE
 
--- whatever a tag has is sound
-held_under-sound : (units : List BlockMaps) (held : List (Option DeviceTask)) (tag : ℕ) → AllHeld (IsSoundTask (counts_of units)) held →
-    IfSome (held_under held tag) (IsSoundTask (counts_of units))
-held_under-sound units held zero all = tt
-held_under-sound units held (suc slot) all = AllHeld-at (IsSoundTask (counts_of units)) held slot all
-
 -- a device stays sound where the task of a tag is spared or gone
 pub with_spared_sound : (units : List BlockMaps) (held : List (Option DeviceTask)) (number tag : ℕ) → IsSoundDevice units held →
     IsSoundDevice units (with_held_under held tag (spared number (held_under held tag)))
 with_spared_sound units held number tag sound =
     IsSoundDevice-step units units held tag _ sound refl
-    (IfSome-spared (IsSoundTask (counts_of units)) number (held_under held tag) (held_under-sound units held tag sound.tasks))
+    (IfSome-spared (IsSoundTask (counts_of units)) number (held_under held tag) (held_under-sound units held tag sound))
 
 -- a number below the number of units is that of a unit
 -- all commands to a unit gone, and the units of the same sizes

@@ -1,8 +1,8 @@
 -- Tasks stay sound. Cited by the answers of the receiver, of the chunks and of every call of a target.
-use Rattle.std.proofs.Common.{◌≡◌, ℕ, zero, suc, ◌<◌, Bool, true, false, ◌&&◌, cond, List, [], ◌∷◌, ◌++◌, length, take, drop, inl, inr, length-set, Option}
+use Rattle.std.proofs.Common.{◌≡◌, ℕ, zero, suc, ◌<◌, Bool, true, false, ◌&&◌, cond, List, [], ◌∷◌, ◌++◌, length, take, drop, length-set, Option}
 use Rattle.std.proofs.Common.{Some, None, IfSome, Result, Ok, Err, refl, arith, ap, sym, ◌∙◌, subst}
 use Rattle.std.specs.Prelude.{◌==◌, slice_get, slice_index_or, IsOk}
-use Rattle.std.proofs.lemmas.Bool.{eqb-false, cases_lt, le-leb}
+use Rattle.std.proofs.lemmas.Bool.{eqb-false}
 use Rattle.std.proofs.lemmas.List.{length-map}
 use Rattle.std.proofs.Math.Seq.{take-append_seam}
 use Rattle.std.proofs.lemmas.Option.{slice_get-get_or}
@@ -11,19 +11,19 @@ use Rattle.scsi_cmd.specs.declared.Op.{Op}
 use Rattle.scsi_cmd.specs.declared.Sense.{Sense}
 use Rattle.scsi_cmd.specs.declared.Work.{Work}
 use Rattle.scsi_cmd.specs.Held.{AllHeld, held_under, with_held_under}
-use Rattle.scsi_cmd.specs.Laws.{AllHeld-held, AllHeld-set, held_at-past, asked_in_range, checked-none, work_bytes-work_without_unit, work_without_unit-asked}
+use Rattle.scsi_cmd.specs.Laws.{AllHeld-at, AllHeld-held, AllHeld-set, asked_in_range, checked-none, work_bytes-work_without_unit, work_without_unit-asked}
 use Rattle.scsi_cmd.specs.Meaning.{asked, checked, op_fault}
 use Rattle.scsi_cmd.specs.Op.{moved_bytes}
 use Rattle.scsi_cmd.specs.Sense.{reset_occurred}
 use Rattle.scsi_cmd.specs.Work.{asked_without_unit, cdb_reports_attention, work_asked, work_asked_without_unit, work_bytes, work_of, work_without_unit}
 use Rattle.device_server.specs.declared.Answer.TheVariants.{Good, Check}
 use Rattle.device_server.specs.declared.Progress.{Progress}
-use Rattle.device_server.specs.declared.Progress.TheVariants.{Moving, Ended}
+use Rattle.device_server.specs.declared.Progress.TheVariants.{Moving as MovingOn, Ended as EndedWith}
 use Rattle.device_server.specs.Laws.{HasChunk-after, HasChunk-begun}
 use Rattle.device_server.specs.Server.{HasChunk, begun, progress_after, progress_asked}
 use Rattle.uas_target.specs.declared.DeviceTask.{DeviceTask}
-use Rattle.uas_profile.specs.declared.TheConstants.{GREATEST_TAG}
-use Rattle.uas_target.specs.Fields.{is_tag}
+use Rattle.uas_target.specs.declared.DeviceTask.TheVariants.{Moving, Ended}
+use Rattle.uas_target.specs.Moved.{HasLeft, gone_on}
 use Rattle.uas_target.specs.Soundness.{IsSoundTask, IsSoundDevice, IsOn, counts_of}
 use Rattle.uas_target.specs.Tasks.{task_in, begun_by}
 use Rattle.uas_target.proofs.Counts.{slice_get-counts_of}
@@ -50,8 +50,8 @@ length-with_held places (suc slot) now = length-set places slot now
 pub HasChunk-sound : (counts : List ℕ) (number blocks : ℕ) (op : Op) (progress : Progress) → slice_get counts number ≡ Some blocks →
     HasChunk blocks op progress →
     IfSome (task_in (Some number) (Ok op) progress) (IsSoundTask counts)
-HasChunk-sound counts number blocks op (Moving chunk) is has = rw is (has.0, has.1)
-HasChunk-sound counts number blocks op (Ended answer) is has = tt
+HasChunk-sound counts number blocks op (MovingOn chunk) is has = rw is (has.0, has.1)
+HasChunk-sound counts number blocks op (EndedWith answer) is has = tt
 
 begun_asked_sound : (counts : List ℕ) (number : ℕ) (unit : BlockMaps) (reports : Bool) (asks : Result Op Sense) → slice_get counts number ≡ Some unit.count →
     ((op : Op) → asks ≡ Ok op → op_fault op unit.count ≡ None) →
@@ -59,7 +59,7 @@ begun_asked_sound : (counts : List ℕ) (number : ℕ) (unit : BlockMaps) (repor
 begun_asked_sound counts number unit reports (Err sense) is in_range =
     elim (reports && unit.attention) as (λ b.
     IfSome (task_in (Some number) (Err sense)
-    (cond {A = BlockMaps × Progress} b (with_attention unit false, Ended (Check reset_occurred)) (unit, Ended (Check sense))).1) (IsSoundTask counts)) [
+    (cond {A = BlockMaps × Progress} b (with_attention unit false, EndedWith (Check reset_occurred)) (unit, EndedWith (Check sense))).1) (IsSoundTask counts)) [
       | true ↦ tt
       | false ↦ tt
     ]
@@ -79,7 +79,7 @@ missing_work_sound : (counts : List ℕ) (op : Op) (works : Result Work Sense) �
 missing_work_sound counts op (Err sense) is on = tt
 missing_work_sound counts op (Ok work) is on =
     let all : work_bytes work ≡ moved_bytes op = work_bytes-work_without_unit op work (sym is) in
-    elim (work_bytes work == 0) as (λ b. (work_bytes work == 0) ≡ b → IfSome (task_in None (Ok op) (cond b (Ended Good) (Moving 0))) (IsSoundTask counts)) [
+    elim (work_bytes work == 0) as (λ b. (work_bytes work == 0) ≡ b → IfSome (task_in None (Ok op) (cond b (EndedWith Good) (MovingOn 0))) (IsSoundTask counts)) [
       | true ↦ λ empty. tt
       | false ↦ λ some. let apart : work_bytes work ≡ 0 → ⊥ = eqb-false (work_bytes work) 0 some in (omega arith, on)
     ] refl
@@ -109,26 +109,22 @@ on_in_range (unit ∷ units) zero op read on = on
 on_in_range (unit ∷ units) (suc number) op read on = on_in_range units number op read on
 
 -- a task is sound after its next chunk
+HasChunk-gone_on : (counts : List ℕ) (number blocks chunk : ℕ) (op : Op) (progress : Progress) → slice_get counts number ≡ Some blocks →
+    HasChunk blocks op progress → IsSoundTask counts (gone_on (Moving (Some number) op chunk) progress)
+HasChunk-gone_on counts number blocks chunk op (MovingOn next) is has = rw is (has.0, has.1)
+HasChunk-gone_on counts number blocks chunk op (EndedWith answer) is has = tt
+
 pub left_sound : (units : List BlockMaps) (number chunk : ℕ) (op : Op) (read : BlockMaps) → IsOn (counts_of units) op (Some number) →
-    IfSome (task_in (Some number) (Ok op) (progress_after (slice_index_or units number read) chunk (work_of op (slice_index_or units number read).count)))
-    (IsSoundTask (counts_of units))
+    IsSoundTask (counts_of units)
+    (gone_on (Moving (Some number) op chunk)
+    (progress_after (slice_index_or units number read) chunk (work_of op (slice_index_or units number read).count)))
 left_sound units number chunk op read on =
     let unit = slice_index_or units number read in
-    HasChunk-sound (counts_of units) number unit.count op (progress_after unit chunk (work_of op unit.count))
+    HasChunk-gone_on (counts_of units) number unit.count chunk op (progress_after unit chunk (work_of op unit.count))
     (slice_get-counts_of units number unit (slice_get-get_or units number read (on_within units number op on)))
     (HasChunk-after unit chunk op unit.count (on_in_range units number op read on))
 
 -- THE DEVICE
-
--- a tag that has a task may have one
-pub is_tag-held : {T : Type 0} (places : List (Option T)) (tag : ℕ) (held : T) → length places ≡ GREATEST_TAG → held_under places tag ≡ Some held →
-    is_tag tag ≡ true
-is_tag-held {T} places zero held long is = let no : ◌≡◌ {A = Option T} None (Some held) = is in cc
-is_tag-held {T} places (suc slot) held long is =
-    elim (cases_lt slot (length places)) [
-      | inl within ↦ rw (le-leb 1 (suc slot) (omega arith), le-leb (suc slot) GREATEST_TAG (omega arith)) refl
-      | inr past ↦ let no : ◌≡◌ {A = Option T} None (Some held) = sym (held_at-past places slot past) ∙ is in cc
-    ]
 
 length-counts_of : (units : List BlockMaps) → length (counts_of units) ≡ length units
 length-counts_of units = simp length-map
@@ -153,7 +149,18 @@ written_units len items now long same =
     let whole : len ≡ length now = long ∙ sym many in
     rw whole (take-append_seam now (drop (length now) items))
 
--- a tag's task is sound
-pub task_sound : (units : List BlockMaps) (held : List (Option DeviceTask)) (tag : ℕ) (task : DeviceTask) → IsSoundDevice units held →
-    held_under held tag ≡ Some task → IsSoundTask (counts_of units) task
-task_sound units held tag task sound is = AllHeld-under (IsSoundTask (counts_of units)) held tag task sound.tasks is
+-- whatever a tag has is sound
+pub held_under-sound : (units : List BlockMaps) (held : List (Option DeviceTask)) (tag : ℕ) → IsSoundDevice units held →
+    IfSome (held_under held tag) (IsSoundTask (counts_of units))
+held_under-sound units held zero sound = tt
+held_under-sound units held (suc slot) sound = AllHeld-at (IsSoundTask (counts_of units)) held slot sound.tasks
+
+-- and has bytes left, where it moves data
+sound-left : (counts : List ℕ) (task : DeviceTask) → IsSoundTask counts task → HasLeft task
+sound-left counts (Moving unit op chunk) sound = sound.0
+sound-left counts (Ended unit answer) sound = tt
+
+pub held_left : (units : List BlockMaps) (held : List (Option DeviceTask)) (tag : ℕ) (task : DeviceTask) → IsSoundDevice units held →
+    held_under held tag ≡ Some task → HasLeft task
+held_left units held tag task sound is =
+    sound-left (counts_of units) task (AllHeld-under (IsSoundTask (counts_of units)) held tag task sound.tasks is)

@@ -2,6 +2,7 @@
 pub mod Fields
 pub mod Marks
 pub mod Tasks
+pub mod Moved
 pub mod Device
 pub mod Soundness
 pub mod Laws

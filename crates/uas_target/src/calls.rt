@@ -8,7 +8,6 @@ ghost use Rattle.uas_target.specs.Soundness.{IsChunk};
 ghost use Rattle.uas_target.specs.Tasks.{answer_unit};
 ghost use Rattle.uas_target.specs.Device.{answered, fits, gave, given, opening, took, wanted, without_task};
 
-use crate::chunks::{chunk_wants, give_task, take_task};
 use crate::receiver::unit_number;
 use crate::table::TaskTable;
 use crate::{DeviceAnswer, DeviceTask, Phase, Target};
@@ -34,13 +33,13 @@ impl Target {
     }
 
     /// What the device does next on a tag; of a tag that no task may have it is `Absent`.
+    #[inline(always)]
     pub fn wants(&self, tag: u16) -> Phase
         ensures phase { result ≡ wanted self.now tag }
         ensures chunk { IsChunk result }
     {
-        match self.tasks.get(tag) {
-            Some(DeviceTask::Moving { op, chunk, .. }) => chunk_wants(&op, chunk),
-            Some(DeviceTask::Ended { .. }) => Phase::Ends,
+        match self.tasks.kept(tag) {
+            Some(kept) => kept.wants(),
             None => Phase::Absent,
         }
     }
@@ -53,12 +52,7 @@ impl Target {
         ensures good { result ≡ is_some (given self.old tag) }
         ensures bytes { bytes.new ≡ unwrap_or (given self.old tag) bytes.old }
     {
-        let Some(task) = self.tasks.get(tag) else {
-            return false;
-        };
-        let (good, left) = give_task(&self.units, task, bytes);
-        self.tasks.set(tag, left);
-        good
+        self.tasks.give(&self.units, tag, bytes)
     }
 
     /// Takes `bytes` as the next chunk of a tag that takes as many; FUA reaches the medium too (SBC). False at a bad
@@ -68,12 +62,7 @@ impl Target {
         ensures device { self.new ≡ took self.old tag bytes.now }
         ensures good { result ≡ fits self.old tag }
     {
-        let Some(task) = self.tasks.get(tag) else {
-            return false;
-        };
-        let (good, left) = take_task(&mut self.units, task, bytes);
-        self.tasks.set(tag, left);
-        good
+        self.tasks.take(&mut self.units, tag, bytes)
     }
 
     /// The unit that answers the task of a tag, once it has ended: Sense with GOOD or CHECK CONDITION, or Response.

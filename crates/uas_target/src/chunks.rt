@@ -1,18 +1,21 @@
-//! One chunk of a command's data, on the blocks of this moment.
-ghost use Rattle.std.specs.Option.{unwrap_or};
-ghost use Rattle.std.specs.Prelude.{◌≡◌, ◌*◌, ◌<◌, ◌≤◌, None, Some, Ok, length, is_some, IfSome, IsOk};
+//! One chunk of a command's data, on the blocks of this moment. Which blocks is kept beside the task, which goes on in its place.
+ghost use Rattle.std.specs.Option.{option_map_or, unwrap_or};
+ghost use Rattle.std.specs.Prelude.{◌≡◌, ◌*◌, ◌<◌, None, Some, IfSome, is_some, length, false, option_and_then};
 ghost use Rattle.scsi_cmd.specs.Meaning.{op_fault};
 ghost use Rattle.scsi_cmd.specs.Op.{moved_bytes};
 ghost use Rattle.scsi_cmd.specs.Work.{work_of, work_without_unit};
 ghost use Rattle.device_server.specs.Server.{chunk_fits, chunk_given, chunk_moved, progress_after, unit_taken};
-ghost use Rattle.uas_target.specs.Soundness.{IsChunk, IsOn, IsSoundTask, counts_of};
+ghost use Rattle.uas_target.specs.declared.Phase.{Phase};
+ghost use Rattle.uas_target.specs.Moved.{moved_by};
+ghost use Rattle.uas_target.specs.Soundness.{IsSoundTask, counts_of};
 ghost use Rattle.uas_target.specs.Tasks.{chunk_wanted, given_without_unit, task_fits, task_given, task_in, task_left, task_taken, task_wants};
 ghost use Rattle.uas_profile.specs.declared.TheConstants.{CHUNK_BYTES};
 
-use crate::{DeviceAnswer, DeviceTask, Phase};
+use crate::moved::{Kept, Moved};
+use crate::{DeviceAnswer, DeviceTask};
 use block_unit::Unit;
-use device_server::{Answer, Progress, chunk_len, give_chunk, take_chunk};
-use scsi_cmd::{Direction, Op, Sense, Work, moves, work_of, work_without_unit};
+use device_server::{Answer, Progress, give_chunk, take_chunk};
+use scsi_cmd::{Op, Sense, Work, work_of, work_without_unit};
 
 /// What the device has of a command that is at this.
 pub(crate) fn task_in(
@@ -36,21 +39,6 @@ pub(crate) fn task_in(
     }
 }
 
-/// The way and the bytes of the next chunk of an operation that has bytes left to move.
-pub(crate) fn chunk_wants(op: &Op, chunk: u16) -> Phase
-    requires { CHUNK_BYTES * chunk < moved_bytes op.now }
-    ensures phase { result ≡ chunk_wanted chunk op.now }
-    ensures chunk { IsChunk result }
-{
-    let (direction, bytes) = moves(op);
-    let len = chunk_len(bytes, chunk);
-    match direction {
-        Direction::Nothing => Phase::Absent,
-        Direction::ToHost => Phase::Gives(len),
-        Direction::ToDevice => Phase::Takes(len),
-    }
-}
-
 /// Whether a chunk that led here met no bad block.
 fn is_moved(progress: &Progress) -> bool
     ensures { result ≡ chunk_moved progress.now }
@@ -58,45 +46,122 @@ fn is_moved(progress: &Progress) -> bool
     !matches!(progress, Progress::Ended(Answer::Check(_)))
 }
 
-/// Gives the next chunk of a task: whether it met no bad block, and the task after it.
-pub(crate) fn give_task(
-    units: &[Unit],
-    task: DeviceTask,
-    bytes: &mut [u8],
-) -> (bool, Option<DeviceTask>)
-    requires sound { IsSoundTask (counts_of units.now) task }
-    requires wanted { task_wants task ≡ Phase.Gives (length bytes.old) }
-    ensures good { result.0 ≡ is_some (task_given units.now task) }
-    ensures task { result.1 ≡ task_left units.now task }
-    ensures bytes { bytes.new ≡ unwrap_or (task_given units.now task) bytes.old }
-    ensures sound { IfSome result.1 (IsSoundTask (counts_of units.now)) }
+/// Gives the next chunk of the task that a place holds, which stays there: whether it met no bad block.
+#[inline(always)]
+pub(crate) fn give_held(held: &mut Option<Kept>, units: &[Unit], bytes: &mut [u8]) -> bool
+    requires sound { IfSome held.old (IsSoundTask (counts_of units.now)) }
+    requires wanted { option_map_or task_wants held.old Phase.Absent ≡ Phase.Gives (length bytes.old) }
+    ensures good { result ≡ is_some (option_and_then (task_given units.now) held.old) }
+    ensures bytes { bytes.new ≡ unwrap_or (option_and_then (task_given units.now) held.old) bytes.old }
+    ensures task { held.new ≡ option_and_then (task_left units.now) held.old }
+    ensures sound { IfSome held.new (IsSoundTask (counts_of units.now)) }
+    ensures held { is_some held.new ≡ is_some held.old }
 {
-    match task {
-        DeviceTask::Moving {
-            unit: Some(number),
-            op,
-            chunk,
-        } => {
-            let progress = give_at(&units[number], &op, chunk, bytes);
-            (
-                is_moved(&progress),
-                task_in(Some(number), &Ok(op), progress),
-            )
-        }
-        DeviceTask::Moving {
-            unit: None,
-            op,
-            chunk,
-        } => {
-            let good = give_without_unit(&op, chunk, bytes);
-            (good, task_in(None, &Ok(op), Progress::Ended(Answer::Good)))
-        }
-        DeviceTask::Ended { .. } => (false, Some(task)),
+    match held {
+        Some(kept) => kept.give(units, bytes),
+        None => false,
     }
 }
 
-/// Gives a chunk of a command to a unit that is there.
-fn give_at(unit: &Unit, op: &Op, chunk: u16, bytes: &mut [u8]) -> Progress
+/// Takes the next chunk of the task that a place holds, which stays there: whether it met no bad block.
+#[inline(always)]
+pub(crate) fn take_held(held: &mut Option<Kept>, units: &mut [Unit], bytes: &[u8]) -> bool
+    requires sound { IfSome held.old (IsSoundTask (counts_of units.old)) }
+    requires wanted { option_map_or task_wants held.old Phase.Absent ≡ Phase.Takes (length bytes.now) }
+    ensures good { result ≡ option_map_or (task_fits units.old) held.old false }
+    ensures units { units.new ≡ option_map_or (task_taken units.old bytes.now) held.old units.old }
+    ensures counts { counts_of units.new ≡ counts_of units.old }
+    ensures task { held.new ≡ option_and_then (task_left units.old) held.old }
+    ensures sound { IfSome held.new (IsSoundTask (counts_of units.new)) }
+    ensures held { is_some held.new ≡ is_some held.old }
+{
+    match held {
+        Some(kept) => kept.take(units, bytes),
+        None => false,
+    }
+}
+
+impl Kept {
+    /// Gives the next chunk of the task, which goes on in its place: whether it met no bad block.
+    #[inline(always)]
+    pub(crate) fn give(&mut self, units: &[Unit], bytes: &mut [u8]) -> bool
+        requires sound { IsSoundTask (counts_of units.now) self.old }
+        requires wanted { task_wants self.old ≡ Phase.Gives (length bytes.old) }
+        ensures good { result ≡ is_some (task_given units.now self.old) }
+        ensures task { Some self.new ≡ task_left units.now self.old }
+        ensures bytes { bytes.new ≡ unwrap_or (task_given units.now self.old) bytes.old }
+        ensures sound { IsSoundTask (counts_of units.now) self.new }
+    {
+        match &self.task {
+            DeviceTask::Moving {
+                unit: Some(number),
+                op,
+                chunk,
+            } => {
+                let progress = give_at(&units[*number], &self.moved, op, *chunk, bytes);
+                self.go_on(&progress);
+                is_moved(&progress)
+            }
+            DeviceTask::Moving {
+                unit: None,
+                op,
+                chunk,
+            } => {
+                let good = give_without_unit(op, *chunk, bytes);
+                self.go_on(&Progress::Ended(Answer::Good));
+                good
+            }
+            DeviceTask::Ended { .. } => false,
+        }
+    }
+
+    /// Takes the next chunk of the task, which goes on in its place: whether it met no bad block.
+    #[inline(always)]
+    pub(crate) fn take(&mut self, units: &mut [Unit], bytes: &[u8]) -> bool
+        requires sound { IsSoundTask (counts_of units.old) self.old }
+        requires wanted { task_wants self.old ≡ Phase.Takes (length bytes.now) }
+        ensures good { result ≡ task_fits units.old self.old }
+        ensures task { Some self.new ≡ task_left units.old self.old }
+        ensures units { units.new ≡ task_taken units.old bytes.now self.old }
+        ensures counts { counts_of units.new ≡ counts_of units.old }
+        ensures sound { IsSoundTask (counts_of units.new) self.new }
+    {
+        match &self.task {
+            DeviceTask::Moving {
+                unit: Some(number),
+                op,
+                chunk,
+            } => {
+                let progress = take_at(&mut units[*number], &self.moved, op, *chunk, bytes);
+                self.go_on(&progress);
+                is_moved(&progress)
+            }
+            DeviceTask::Moving { unit: None, .. } | DeviceTask::Ended { .. } => false,
+        }
+    }
+}
+
+/// Gives a chunk of a command to a unit that is there: of blocks by what is kept, else by the operation.
+#[inline(always)]
+fn give_at(unit: &Unit, moved: &Moved, op: &Op, chunk: u16, bytes: &mut [u8]) -> Progress
+    requires moved { moved.now ≡ moved_by op.now }
+    requires wanted { chunk_wanted chunk op.now ≡ Phase.Gives (length bytes.old) }
+    requires left { CHUNK_BYTES * chunk < moved_bytes op.now }
+    requires range { op_fault op.now unit.now.count ≡ None }
+    ensures progress { result ≡ progress_after unit.now chunk (work_of op.now unit.now.count) }
+    ensures moved { chunk_moved result ≡ is_some (chunk_given unit.now chunk (work_of op.now unit.now.count)) }
+    ensures bytes { bytes.new ≡ unwrap_or (chunk_given unit.now chunk (work_of op.now unit.now.count)) bytes.old }
+{
+    match *moved {
+        Moved::Reads { lba, count } => give_chunk(unit, &Work::Reads { lba, count }, chunk, bytes),
+        Moved::Gives { .. } => give_by_operation(unit, op, chunk, bytes),
+        Moved::Nothing | Moved::Writes { .. } => unreachable!(),
+    }
+}
+
+/// Gives a chunk of a command to a unit that is there, by the work of its operation on as many blocks.
+#[inline(never)]
+fn give_by_operation(unit: &Unit, op: &Op, chunk: u16, bytes: &mut [u8]) -> Progress
     requires wanted { chunk_wanted chunk op.now ≡ Phase.Gives (length bytes.old) }
     requires left { CHUNK_BYTES * chunk < moved_bytes op.now }
     requires range { op_fault op.now unit.now.count ≡ None }
@@ -123,56 +188,10 @@ fn give_without_unit(op: &Op, chunk: u16, bytes: &mut [u8]) -> bool
     }
 }
 
-/// Takes the next chunk of a task: whether it met no bad block, and the task after it.
-pub(crate) fn take_task(
-    units: &mut [Unit],
-    task: DeviceTask,
-    bytes: &[u8],
-) -> (bool, Option<DeviceTask>)
-    requires sound { IsSoundTask (counts_of units.old) task }
-    requires wanted { task_wants task ≡ Phase.Takes (length bytes.now) }
-    ensures good { result.0 ≡ task_fits units.old task }
-    ensures task { result.1 ≡ task_left units.old task }
-    ensures units { units.new ≡ task_taken units.old bytes.now task }
-    ensures counts { counts_of units.new ≡ counts_of units.old }
-    ensures sound { IfSome result.1 (IsSoundTask (counts_of units.new)) }
-{
-    match task {
-        DeviceTask::Moving {
-            unit: Some(number),
-            op,
-            chunk,
-        } => take_at(units, number, op, chunk, bytes),
-        DeviceTask::Moving { unit: None, .. } | DeviceTask::Ended { .. } => (false, Some(task)),
-    }
-}
-
-/// Takes the next chunk of a command to the unit of this number.
-fn take_at(
-    units: &mut [Unit],
-    number: usize,
-    op: Op,
-    chunk: u16,
-    bytes: &[u8],
-) -> (bool, Option<DeviceTask>)
-    requires wanted { chunk_wanted chunk op ≡ Phase.Takes (length bytes.now) }
-    requires left { CHUNK_BYTES * chunk < moved_bytes op }
-    requires on { IsOn (counts_of units.old) op (Some number) }
-    ensures good { result.0 ≡ task_fits units.old (DeviceTask.Moving (Some number) op chunk) }
-    ensures task { result.1 ≡ task_left units.old (DeviceTask.Moving (Some number) op chunk) }
-    ensures units { units.new ≡ task_taken units.old bytes.now (DeviceTask.Moving (Some number) op chunk) }
-    ensures counts { counts_of units.new ≡ counts_of units.old }
-    ensures sound { IfSome result.1 (IsSoundTask (counts_of units.new)) }
-{
-    let progress = take_on(&mut units[number], &op, chunk, bytes);
-    (
-        is_moved(&progress),
-        task_in(Some(number), &Ok(op), progress),
-    )
-}
-
 /// Takes a chunk of a command to a unit that is there.
-fn take_on(unit: &mut Unit, op: &Op, chunk: u16, bytes: &[u8]) -> Progress
+#[inline(always)]
+fn take_at(unit: &mut Unit, moved: &Moved, op: &Op, chunk: u16, bytes: &[u8]) -> Progress
+    requires moved { moved.now ≡ moved_by op.now }
     requires wanted { chunk_wanted chunk op.now ≡ Phase.Takes (length bytes.now) }
     requires left { CHUNK_BYTES * chunk < moved_bytes op.now }
     requires range { op_fault op.now unit.old.count ≡ None }
@@ -181,5 +200,19 @@ fn take_on(unit: &mut Unit, op: &Op, chunk: u16, bytes: &[u8]) -> Progress
     ensures unit { unit.new ≡ unit_taken unit.old bytes.now chunk (work_of op.now unit.old.count) }
     ensures count { unit.new.count ≡ unit.old.count }
 {
-    take_chunk(unit, &work_of(op, unit.blocks()), chunk, bytes)
+    match *moved {
+        Moved::Writes {
+            lba,
+            count,
+            through,
+        } => {
+            let work = Work::Writes {
+                lba,
+                count,
+                through,
+            };
+            take_chunk(unit, &work, chunk, bytes)
+        }
+        Moved::Nothing | Moved::Reads { .. } | Moved::Gives { .. } => unreachable!(),
+    }
 }

@@ -29,7 +29,8 @@
 //! for task management, which leaves the commands to other units alone (`other_tags_are_kept`).
 //!
 //! [`Target::new`] takes all memory that the device ever has; no later call takes any. Finding a tag's task is one index; a
-//! reset alone goes over all tags.
+//! reset alone goes over all tags. Beside each task the table keeps what its data is, worked out once as the task begins, so a
+//! chunk of a READ or a WRITE looks at no operation, and changes the task in its place.
 //!
 //! It stands on `uas_iu` for the units, `scsi_cmd` for what a CDB asks, `block_unit` for the blocks, `device_server` for the
 //! steps of one command, and `marks` for the places that hold a task.
@@ -39,6 +40,7 @@ mod calls;
 mod chunks;
 mod laws;
 mod management;
+mod moved;
 mod receiver;
 mod table;
 

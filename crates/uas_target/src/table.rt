@@ -1,10 +1,16 @@
-//! The tasks by tag.
-ghost use Rattle.std.specs.Prelude.{◌≡◌, ℕ, ◌<◌, ◌≤◌, true, None, IfOk, IfSome, IfNone, IsSome, length, replicate};
+//! The tasks by tag, each as it is kept (`Kept`), with what its data is.
+ghost use Rattle.std.specs.Prelude.{◌≡◌, ℕ, ◌<◌, ◌≤◌, true, false, None, IfOk, IfSome, IfNone, IsSome, is_some, length, option_and_then, replicate};
+ghost use Rattle.std.specs.Option.{option_copied, option_map_or, unwrap_or};
 ghost use Rattle.scsi_cmd.specs.Held.{held_under, with_held_under};
 ghost use Rattle.uas_target.specs.Device.{task_of};
 ghost use Rattle.uas_target.specs.Fields.{is_tag};
+ghost use Rattle.uas_target.specs.Soundness.{IsSoundTask, counts_of};
+ghost use Rattle.uas_target.specs.Tasks.{task_fits, task_given, task_left, task_taken, task_wants};
 
-use crate::{DeviceTask, Target};
+use crate::chunks::{give_held, take_held};
+use crate::moved::Kept;
+use crate::{DeviceTask, Phase, Target};
+use block_unit::Unit;
 use marks::Marks;
 use std::alloc::{AllocError, Global};
 use std::marker::Model;
@@ -15,10 +21,10 @@ const TAG_WORDS: usize = 4;
 
 const _: () = prove!(TAG_WORDS == 4 && (GREATEST_TAG as usize) <= 64 * TAG_WORDS);
 
-/// A place for the task of each tag; contracts see the list of them, tag 1 first.
+/// A place for the task of each tag, which stands there as it is kept; contracts see the list of the tasks, tag 1 first.
 #[derive(Debug, Drop)]
 pub(crate) struct TaskTable {
-    places: Vec<Option<DeviceTask>>,
+    places: Vec<Option<Kept>>,
     /// The places that hold a task.
     marks: Marks<TAG_WORDS>,
 }
@@ -60,12 +66,24 @@ impl TaskTable {
         ensures task { result ≡ held_under self.now tag }
         ensures tag { IfSome result (λ _. is_tag tag ≡ true) }
     {
+        match self.kept(tag) {
+            Some(kept) => Some(kept.task),
+            None => None,
+        }
+    }
+
+    /// The task of a tag as it is kept, in its place.
+    #[inline(always)]
+    pub(crate) fn kept(&self, tag: u16) -> Option<&Kept>
+        ensures task { option_copied result ≡ held_under self.now tag }
+        ensures tag { IfSome result (λ _. is_tag tag ≡ true) }
+    {
         if tag == 0 {
             return None;
         }
         match self.places.get(usize::from(tag) - 1) {
-            Some(task) => *task,
-            None => None,
+            Some(Some(kept)) => Some(kept),
+            Some(None) | None => None,
         }
     }
 
@@ -95,7 +113,44 @@ impl TaskTable {
     {
         let place = usize::from(tag) - 1;
         self.marks.set(place, task.is_some());
-        self.places[place] = task;
+        self.places[place] = kept_of(task);
+    }
+
+    /// Gives the next chunk of a tag's task, which stays in its place: false at a bad block.
+    #[inline(always)]
+    pub(crate) fn give(&mut self, units: &[Unit], tag: u16, bytes: &mut [u8]) -> bool
+        requires sound { IfSome (held_under self.old tag) (IsSoundTask (counts_of units.now)) }
+        requires wanted { option_map_or task_wants (held_under self.old tag) Phase.Absent ≡ Phase.Gives (length bytes.old) }
+        ensures good { result ≡ is_some (option_and_then (task_given units.now) (held_under self.old tag)) }
+        ensures bytes { bytes.new ≡ unwrap_or (option_and_then (task_given units.now) (held_under self.old tag)) bytes.old }
+        ensures task { self.new ≡ with_held_under self.old tag (option_and_then (task_left units.now) (held_under self.old tag)) }
+        ensures sound { IfSome (option_and_then (task_left units.now) (held_under self.old tag)) (IsSoundTask (counts_of units.now)) }
+    {
+        give_held(&mut self.places[usize::from(tag) - 1], units, bytes)
+    }
+
+    /// Takes `bytes` as the next chunk of a tag's task, which stays in its place: false at a bad block.
+    #[inline(always)]
+    pub(crate) fn take(&mut self, units: &mut [Unit], tag: u16, bytes: &[u8]) -> bool
+        requires sound { IfSome (held_under self.old tag) (IsSoundTask (counts_of units.old)) }
+        requires wanted { option_map_or task_wants (held_under self.old tag) Phase.Absent ≡ Phase.Takes (length bytes.now) }
+        ensures good { result ≡ option_map_or (task_fits units.old) (held_under self.old tag) false }
+        ensures units { units.new ≡ option_map_or (task_taken units.old bytes.now) (held_under self.old tag) units.old }
+        ensures counts { counts_of units.new ≡ counts_of units.old }
+        ensures task { self.new ≡ with_held_under self.old tag (option_and_then (task_left units.old) (held_under self.old tag)) }
+        ensures sound { IfSome (option_and_then (task_left units.old) (held_under self.old tag)) (IsSoundTask (counts_of units.new)) }
+    {
+        take_held(&mut self.places[usize::from(tag) - 1], units, bytes)
+    }
+}
+
+/// A task, or none, to be kept.
+fn kept_of(task: Option<DeviceTask>) -> Option<Kept>
+    ensures { result ≡ task }
+{
+    match task {
+        Some(task) => Some(Kept::of(task)),
+        None => None,
     }
 }
 

@@ -1,9 +1,11 @@
-use Rattle.std.proofs.Common.{sym, ◌∙◌}
-use Rattle.uas_target.proofs.Sound.{task_sound}
+use Rattle.std.proofs.Common.{ap, sym, ◌∙◌}
+use Rattle.std.specs.Option.{option_copied}
+use Rattle.uas_target.proofs.Sound.{held_left}
 use Rattle.uas_target.proofs.Target.wants.Goals as goal
 
-pub chunk_wants-requires : goal.chunk_wants-requires
-chunk_wants-requires c =
-    (rw c.in-Some-Moving.field-0-is at
-    (task_sound c.self.inside.units.items c.self.inside.tasks c.args.tag c.in-Some-Moving.field-0 c.self.invariant
-    (sym c.get.ensures.task ∙ c.in-Some-Moving.is))).0
+pub wants-requires : goal.wants-requires
+wants-requires c = record {
+  left =
+      held_left c.self.inside.units.items c.self.inside.tasks c.args.tag c.in-Some.kept.now c.self.invariant
+      (sym c.kept.ensures.task ∙ ap option_copied c.in-Some.is);
+}

@@ -95,7 +95,7 @@ impl Target {
         requires { wanted self.old tag ≡ Phase.Ends }
         ensures { self.new ≡ without_task self.old tag }
     {
-        self.tasks.set(tag, None);
+        self.tasks.remove(tag);
     }
 
     /// The logical unit that a LUN addresses, where it is there (SAM, single level LUN structure).

@@ -115,7 +115,7 @@ impl TaskTable {
             return;
         };
         if is_command_of(number, &task) {
-            self.set(tag, None);
+            self.remove(tag);
         }
     }
 

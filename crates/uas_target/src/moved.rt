@@ -47,6 +47,7 @@ impl Model for Kept {
 }
 
 /// What an operation moves.
+#[inline(always)]
 fn moved_by(op: &Op) -> Moved
     ensures { result ≡ moved_by op.now }
 {
@@ -74,6 +75,7 @@ fn moved_by(op: &Op) -> Moved
 }
 
 /// What a task moves.
+#[inline(always)]
 fn moved_of(task: &DeviceTask) -> Moved
     ensures { result ≡ moved_of task.now }
 {
@@ -85,6 +87,7 @@ fn moved_of(task: &DeviceTask) -> Moved
 
 impl Kept {
     /// A task, to be kept.
+    #[inline(always)]
     pub(crate) fn of(task: DeviceTask) -> Kept
         ensures { result ≡ task }
     {

@@ -193,6 +193,6 @@ impl Target {
     {
         let answer = DeviceAnswer::Response(code);
         self.tasks
-            .set(tag, Some(DeviceTask::Ended { unit: None, answer }));
+            .put(tag, DeviceTask::Ended { unit: None, answer });
     }
 }

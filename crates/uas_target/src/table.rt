@@ -1,5 +1,5 @@
 //! The tasks by tag, each as it is kept (`Kept`), with what its data is.
-ghost use Rattle.std.specs.Prelude.{◌≡◌, ℕ, ◌<◌, ◌≤◌, true, false, None, IfOk, IfSome, IfNone, IsSome, is_some, length, option_and_then, replicate};
+ghost use Rattle.std.specs.Prelude.{◌≡◌, ℕ, ◌<◌, ◌≤◌, true, false, None, Some, IfOk, IfSome, IfNone, IsSome, is_some, length, option_and_then, replicate};
 ghost use Rattle.std.specs.Option.{option_copied, option_map_or, unwrap_or};
 ghost use Rattle.scsi_cmd.specs.Held.{held_under, with_held_under};
 ghost use Rattle.uas_target.specs.Device.{task_of};
@@ -105,15 +105,41 @@ impl TaskTable {
         self.places.fill(None);
     }
 
+    /// Gives a tag a task.
+    #[inline(always)]
+    pub(crate) fn put(&mut self, tag: u16, task: DeviceTask)
+        requires { is_tag tag ≡ true }
+        ensures task { self.new ≡ with_held_under self.old tag (Some task) }
+        ensures places { length self.new ≡ length self.old }
+    {
+        let place = usize::from(tag) - 1;
+        self.marks.set(place, true);
+        self.places[place] = Some(Kept::of(task));
+    }
+
+    /// Takes the task of a tag away.
+    #[inline(always)]
+    pub(crate) fn remove(&mut self, tag: u16)
+        requires { is_tag tag ≡ true }
+        ensures task { self.new ≡ with_held_under self.old tag None }
+        ensures places { length self.new ≡ length self.old }
+    {
+        let place = usize::from(tag) - 1;
+        self.marks.set(place, false);
+        self.places[place] = None;
+    }
+
     /// Gives a tag a task, or takes it away.
+    #[inline(always)]
     pub(crate) fn set(&mut self, tag: u16, task: Option<DeviceTask>)
         requires { is_tag tag ≡ true }
         ensures task { self.new ≡ with_held_under self.old tag task }
         ensures places { length self.new ≡ length self.old }
     {
-        let place = usize::from(tag) - 1;
-        self.marks.set(place, task.is_some());
-        self.places[place] = kept_of(task);
+        match task {
+            Some(task) => self.put(tag, task),
+            None => self.remove(tag),
+        }
     }
 
     /// Gives the next chunk of a tag's task, which stays in its place: false at a bad block.
@@ -141,16 +167,6 @@ impl TaskTable {
         ensures sound { IfSome (option_and_then (task_left units.old) (held_under self.old tag)) (IsSoundTask (counts_of units.new)) }
     {
         take_held(&mut self.places[usize::from(tag) - 1], units, bytes)
-    }
-}
-
-/// A task, or none, to be kept.
-fn kept_of(task: Option<DeviceTask>) -> Option<Kept>
-    ensures { result ≡ task }
-{
-    match task {
-        Some(task) => Some(Kept::of(task)),
-        None => None,
     }
 }
 

@@ -3,4 +3,4 @@ use Rattle.uas_target.proofs.Sound.{IsSoundDevice-step}
 use Rattle.uas_target.proofs.Target.respond.Goals as goal
 
 pub invariant_of-self : goal.invariant_of-self
-invariant_of-self c = rw c.set.ensures.task (IsSoundDevice-step c.self.inside.units.items c.self.inside.units.items _ c.args.tag _ c.self.invariant refl tt)
+invariant_of-self c = rw c.put.ensures.task (IsSoundDevice-step c.self.inside.units.items c.self.inside.units.items _ c.args.tag _ c.self.invariant refl tt)

@@ -4,4 +4,4 @@ use Rattle.uas_target.proofs.Target.sent.Goals as goal
 
 pub invariant_of-self : goal.invariant_of-self
 invariant_of-self c =
-    rw c.set.ensures.task (IsSoundDevice-step c.self.inside.units.items c.self.inside.units.items c.self.inside.tasks c.args.tag _ c.self.invariant refl tt)
+    rw c.remove.ensures.task (IsSoundDevice-step c.self.inside.units.items c.self.inside.units.items c.self.inside.tasks c.args.tag _ c.self.invariant refl tt)

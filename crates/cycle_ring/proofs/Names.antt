@@ -1,9 +1,9 @@
 -- An address and the item that it names.
-use Rattle.std.proofs.Common.{◌≡◌, ℕ, ◌+◌, ◌-◌, ◌*◌, ◌/◌, ◌%◌, ◌<◌, ◌==◌, Some, None, nat_lt, nat_le, refl, arith, inl, inr, if◌then◌else◌}
+use Rattle.std.proofs.Common.{◌≡◌, ℕ, ◌+◌, ◌-◌, ◌*◌, ◌/◌, ◌%◌, ◌<◌, ◌≤◌, ◌==◌, Some, None, nat_lt, nat_le, refl, arith, inl, inr, if◌then◌else◌}
 use Rattle.std.proofs.Math.Nat.{mod-lt, div-add-mod}
 use Rattle.std.proofs.lemmas.Nat.{div-mul-add, mod-mul-add}
-use Rattle.std.proofs.lemmas.Bool.{le-ltb, lt-leb, ltb-false, leb-false, eqb-true, cases_Bool}
-use Rattle.cycle_ring.specs.Ring.{RingOf, place_of, pointer_of, item_in, AddressesNameItemsOf, NamedItemsHaveAddressesOf}
+use Rattle.std.proofs.lemmas.Bool.{le-ltb, lt-leb, le-leb, ltb-false, leb-false, eqb-true, cases_Bool}
+use Rattle.cycle_ring.specs.Ring.{RingOf, place_of, pointer_of, consumed_at, item_at, item_in, AddressesNameItemsOf, NamedItemsHaveAddressesOf}
 use Rattle.ring_ends.specs.EndLaws.{distance-ahead, distance-place}
 
 -- the address of an item names it
@@ -51,5 +51,35 @@ item_at-only n k pointer r places is =
             | inr part ↦ let none : None ≡ Some k = rw part at here in absurd (cc)
           ]
     ]
+
+-- the address of a place that isn't the Link's names the item that stands there, or would stand there
+pub item_at-place : {A : Type 0} (n place : ℕ) (r : RingOf A) → place < n - 1
+    → item_at n r (r.base + 16 * place) ≡ Some (item_in (n - 1) (r.at % (n - 1)) place)
+item_at-place n place r within =
+    let offset : r.base + 16 * place - r.base ≡ place * 16 + 0 = omega arith in
+    rw (
+      le-ltb (r.base + 16 * place) r.base (omega arith),
+      offset,
+      mod-mul-add place 16 0 (omega arith),
+      div-mul-add place 16 0 (omega arith),
+      lt-leb (n - 1) place within,
+    ) refl
+
+-- so what is consumed there is none at the Link's place and past it, and at that of an item that isn't consumed
+pub consumed_at-past : {A : Type 0} (n place : ℕ) (r : RingOf A) → n - 1 ≤ place → consumed_at n r (r.base + 16 * place) ≡ None
+consumed_at-past n place r past =
+    let offset : r.base + 16 * place - r.base ≡ place * 16 + 0 = omega arith in
+    rw (
+      le-ltb (r.base + 16 * place) r.base (omega arith),
+      offset,
+      mod-mul-add place 16 0 (omega arith),
+      div-mul-add place 16 0 (omega arith),
+      le-leb (n - 1) place past,
+    ) refl
+
+pub consumed_at-pending : {A : Type 0} (n place : ℕ) (r : RingOf A) → place < n - 1 → r.got ≤ item_in (n - 1) (r.at % (n - 1)) place
+    → consumed_at n r (r.base + 16 * place) ≡ None
+consumed_at-pending n place r within pending =
+    rw (item_at-place n place r within, le-ltb (item_in (n - 1) (r.at % (n - 1)) place) r.got pending) refl
 
 pub ruleset addresses = (item_at-pointer_of, item_at-only)

@@ -204,6 +204,22 @@ impl<const N: usize> Segment<N> {
         }
     }
 
+    /// The TRB at a place that a consumer's end has passed, while it isn't reclaimed, as [`Segment::consumed`] gives it by the place's
+    /// address. The Link's place has no item, nor has one past it.
+    #[inline(always)]
+    pub fn consumed_in(&self, end: End, place: usize) -> Option<Trb>
+        requires { IsConsumer N self.now end }
+        ensures consumed { result ≡ known_consumed_at N (with_consumer N self.now end) (self.now.base + 16 * place) }
+        ensures known { IfSome result (λ trb. (k : ℕ) × IsConsumed N (with_consumer N self.now end) k (self.now.base + 16 * place)
+            × (slice_get self.now.put k ≡ Some (known trb))) }
+    {
+        let passed = self.passed_place(end, place)?;
+        match decode(&self.places[passed]) {
+            Ok((trb, _)) => Some(trb),
+            Err(_) => None,
+        }
+    }
+
     /// Whether the consumed item at an address has its Chain bit set: bit 4 of its control word, whatever it is.
     #[inline(always)]
     pub fn consumed_chain(&self, end: End, pointer: u64) -> Option<bool>
@@ -282,6 +298,20 @@ impl<const N: usize> Segment<N> {
             → IsConsumer N self.new end × (with_consumer N self.new end ≡ reclaimed N (k + 1) (with_consumer N self.old end)) }
     {
         let place = self.place_at(pointer).unwrap();
+        self.reclaim_in(place);
+    }
+
+    /// Frees the items up to and with the one at this place, as [`Segment::reclaim`] does by the place's address.
+    #[inline(always)]
+    pub fn reclaim_in(&mut self, place: usize)
+        requires { (k : ℕ) × IsItem N self.old k (self.old.base + 16 * place) }
+        ensures freed { (k : ℕ) → IsItem N self.old k (self.old.base + 16 * place) → self.new ≡ reclaimed N (k + 1) self.old }
+        ensures shifted { (k : ℕ) → IsItem N self.old k (self.old.base + 16 * place) → (i : ℕ) → IsShifted N (k + 1) self.old self.new i }
+        ensures consumer { (k : ℕ) (end : End) → IsConsumer N self.old end → IsConsumed N (with_consumer N self.old end) k (self.old.base + 16 * place)
+            → IsConsumer N self.new end × (with_consumer N self.new end ≡ reclaimed N (k + 1) (with_consumer N self.old end)) }
+    {
+        // Read for what holds of every segment.
+        let _first = self.first;
         self.first = ahead(N - 1, place, 1);
     }
 
@@ -402,6 +432,24 @@ impl<const N: usize> Segment<N> {
         Some(place)
     }
 
+    // The place, where its item is consumed.
+    #[inline(always)]
+    fn passed_place(&self, end: End, place: usize) -> Option<usize>
+        requires { IsConsumer N self.now end }
+        ensures found { IfSome result (λ passed. (k : ℕ) × (k < items_before N self.now end)
+            × (item_at N self.now (self.now.base + 16 * place) ≡ Some k) × (place_of N self.now k ≡ passed)) }
+        ensures within { IfSome result (λ passed. passed < N - 1) }
+        ensures none { IfNone result (consumed_at N (with_consumer N self.now end) (self.now.base + 16 * place) ≡ None) }
+    {
+        if N - 1 <= place {
+            return None;
+        }
+        if self.passed(end) <= self.item_at(place) {
+            return None;
+        }
+        Some(place)
+    }
+
     // The item that stands, or would stand, at this address.
     #[inline(always)]
     fn item_of(&self, pointer: u64) -> Option<usize>
@@ -420,6 +468,8 @@ impl<const N: usize> Segment<N> {
     fn place_at(&self, pointer: u64) -> Option<usize>
         ensures place { option_map (item_in (N - 1) (self.now.at % (N - 1))) result ≡ item_at N self.now pointer }
         ensures within { IfSome result (λ place. place < N - 1) }
+        ensures address { IfSome result (λ place. pointer ≡ self.now.base + 16 * place) }
+        ensures standing { IsItemRing N self.now }
     {
         if pointer < self.base {
             return None;

@@ -9,7 +9,7 @@ ghost use Rattle.cycle_ring.specs.Ring.{IsConsumed, IsEnqueuePlace, IsPending, I
 ghost use Rattle.cycle_ring.specs.Items.{chain_consumed_at, known_consumed_at, known_oldest_of};
 ghost use Rattle.event_ring.specs.Events.{IsWritable, taken, event_image, place_of as event_place_of, IsInUse as IsEventInUse, IsRing as IsEventRing};
 ghost use Rattle.uas_profile.specs.Pipes.{HasStreams};
-ghost use Rattle.stream_array.specs.Map.{HasRing, places_of, ring_base};
+ghost use Rattle.stream_array.specs.Map.{HasRing, place_address, places_of, ring_base};
 ghost use Rattle.stream_array.specs.Rings.{ring_of, with_ring, with_engine, with_events, ShowsRings, IsLines, IsOpeningLines};
 
 use crate::streams::Streams;
@@ -224,6 +224,24 @@ impl Lines {
         }
     }
 
+    /// The consumed TRB at a place of a stream's ring, while it isn't reclaimed, as [`Lines::consumed`] gives it by the place's address.
+    /// The Link's place has none.
+    #[inline(always)]
+    pub fn consumed_in(&self, pipe: Pipe, stream: u16, place: usize) -> Option<Trb>
+        requires streams { HasStreams pipe }
+        requires ring { HasRing pipe stream }
+        ensures consumed { result ≡ known_consumed_at (places_of pipe) (ring_of self.now pipe stream) (place_address pipe stream place) }
+        ensures known { IfSome result (λ trb. (k : ℕ) × IsConsumed (places_of pipe) (ring_of self.now pipe stream) k (place_address pipe stream place)
+            × (slice_get (ring_of self.now pipe stream).put k ≡ Some (known trb))) }
+    {
+        match pipe {
+            Pipe::Command => unreachable!(),
+            Pipe::Status => self.status.consumed_in(stream, place),
+            Pipe::DataIn => self.data_in.consumed_in(stream, place),
+            Pipe::DataOut => self.data_out.consumed_in(stream, place),
+        }
+    }
+
     /// Whether the consumed TRB of a ring at an address has its Chain bit set, while it isn't reclaimed.
     #[inline(always)]
     pub fn consumed_chain(&self, pipe: Pipe, stream: u16, pointer: u64) -> Option<bool>
@@ -294,6 +312,23 @@ impl Lines {
             Pipe::Status => self.status.reclaim(stream, pointer),
             Pipe::DataIn => self.data_in.reclaim(stream, pointer),
             Pipe::DataOut => self.data_out.reclaim(stream, pointer),
+        }
+    }
+
+    /// Frees the TRBs of a stream's ring up to and with the one at this place, as [`Lines::reclaim`] does by the place's address.
+    #[inline(always)]
+    pub fn reclaim_in(&mut self, pipe: Pipe, stream: u16, place: usize)
+        requires streams { HasStreams pipe }
+        requires ring { HasRing pipe stream }
+        requires consumed { (k : ℕ) × IsConsumed (places_of pipe) (ring_of self.old pipe stream) k (place_address pipe stream place) }
+        ensures { (k : ℕ) → IsConsumed (places_of pipe) (ring_of self.old pipe stream) k (place_address pipe stream place)
+            → self.new ≡ with_ring self.old pipe stream (reclaimed (places_of pipe) (k + 1) (ring_of self.old pipe stream)) }
+    {
+        match pipe {
+            Pipe::Command => unreachable!(),
+            Pipe::Status => self.status.reclaim_in(stream, place),
+            Pipe::DataIn => self.data_in.reclaim_in(stream, place),
+            Pipe::DataOut => self.data_out.reclaim_in(stream, place),
         }
     }
 

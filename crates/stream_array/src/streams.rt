@@ -220,6 +220,19 @@ impl Streams {
         segment.consumed(end, pointer)
     }
 
+    // The same at the address of a place.
+    #[inline(always)]
+    pub(crate) fn consumed_in(&self, stream: u16, place: usize) -> Option<Trb>
+        requires some { 0 < stream }
+        requires last { stream ≤ STREAMS }
+        ensures consumed { let ring = stream_ring self.now stream in result ≡ known_consumed_at STREAM_RING_PLACES ring (ring.base + 16 * place) }
+        ensures known { let ring = stream_ring self.now stream in
+            IfSome result (λ trb. (k : ℕ) × IsConsumed STREAM_RING_PLACES ring k (ring.base + 16 * place) × (slice_get ring.put k ≡ Some (known trb))) }
+    {
+        let (segment, end) = self.ring(stream);
+        segment.consumed_in(end, place)
+    }
+
     #[inline(always)]
     pub(crate) fn consumed_chain(&self, stream: u16, pointer: u64) -> Option<bool>
         requires some { 0 < stream }
@@ -294,6 +307,19 @@ impl Streams {
     {
         let segment = &mut self.segments[stream as usize - 1];
         segment.reclaim(pointer);
+    }
+
+    // The same at the address of a place.
+    #[inline(always)]
+    pub(crate) fn reclaim_in(&mut self, stream: u16, place: usize)
+        requires some { 0 < stream }
+        requires last { stream ≤ STREAMS }
+        requires consumed { let ring = stream_ring self.old stream in (k : ℕ) × IsConsumed STREAM_RING_PLACES ring k (ring.base + 16 * place) }
+        ensures { let ring = stream_ring self.old stream in (k : ℕ) → IsConsumed STREAM_RING_PLACES ring k (ring.base + 16 * place)
+            → self.new ≡ slice_set self.old (stream - 1) (reclaimed STREAM_RING_PLACES (k + 1) ring) }
+    {
+        let segment = &mut self.segments[stream as usize - 1];
+        segment.reclaim_in(place);
     }
 
     pub(crate) fn image(&self, stream: u16, place: usize) -> Option<[u8; 16]>

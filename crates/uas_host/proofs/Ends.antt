@@ -1,5 +1,5 @@
 -- The consumed TRB at an address of a stream's ring.
-use Rattle.std.proofs.Common.{◌≡◌, ℕ, ◌+◌, ◌-◌, ◌/◌, ◌%◌, ◌<◌, ◌==◌, Some, None, nat_lt, nat_le, refl, arith, inl, inr, if◌then◌else◌}
+use Rattle.std.proofs.Common.{◌≡◌, ℕ, ◌+◌, ◌-◌, ◌/◌, ◌%◌, ◌<◌, ◌==◌, Some, None, nat_lt, nat_le, refl, ap, ◌∙◌, arith, inl, inr, if◌then◌else◌}
 use Rattle.std.specs.Prelude.{option_and_then}
 use Rattle.std.proofs.lemmas.Option.{none-some}
 use Rattle.std.proofs.lemmas.Bool.{ltb-true, ltb-false, leb-true, leb-false, eqb-true, cases_Bool}
@@ -10,9 +10,9 @@ use Rattle.cycle_ring.specs.Items.{ItemRing, known_consumed_at, known_of}
 use Rattle.uas_profile.specs.declared.Pipe.{Pipe}
 use Rattle.uas_profile.specs.declared.Pipe.TheVariants.{Command, Status, DataIn, DataOut}
 use Rattle.uas_profile.specs.Pipes.{HasStreams}
-use Rattle.stream_array.specs.Map.{HasRing, places_of}
+use Rattle.stream_array.specs.Map.{HasRing, place_address, places_of}
 use Rattle.stream_array.specs.Rings.{LinesState, ring_of}
-use Rattle.uas_host.specs.Events.{IsEnded}
+use Rattle.uas_host.specs.Events.{IsEnded, IsEndedIn}
 
 -- the places of a stream's ring but the Link's
 abbrev trb_places : ℕ
@@ -89,3 +89,18 @@ ended-stream DataOut lines stream pointer trb streams ring is = record {
   last_tag = ring.1;
   consumed = consumed_at-item (ring_of lines DataOut stream) pointer trb is;
 }
+
+-- the TRB at the address of a place is that of the place
+placed : (pipe : Pipe) (lines : LinesState) (stream pointer place : ℕ) → HasStreams pipe → IsEnded lines pointer (record { pipe = pipe; tag = stream })
+    → pointer ≡ place_address pipe stream place → IsEndedIn lines pointer place (record { pipe = pipe; tag = stream })
+placed Command lines stream pointer place streams ended at = absurd streams
+placed Status lines stream pointer place streams ended at = record { ended = ended; at = at }
+placed DataIn lines stream pointer place streams ended at = record { ended = ended; at = at }
+placed DataOut lines stream pointer place streams ended at = record { ended = ended; at = at }
+
+pub ended-place : (pipe : Pipe) (lines : LinesState) (stream pointer place : ℕ) (trb : Trb) → HasStreams pipe → HasRing pipe stream →
+    pointer ≡ place_address pipe stream place → known_consumed_at (places_of pipe) (ring_of lines pipe stream) (place_address pipe stream place) ≡ Some trb →
+    IsEndedIn lines pointer place (record { pipe = pipe; tag = stream })
+ended-place pipe lines stream pointer place trb streams ring at is =
+    placed pipe lines stream pointer place streams
+    (ended-stream pipe lines stream pointer trb streams ring (ap (known_consumed_at (places_of pipe) (ring_of lines pipe stream)) at ∙ is)) at

@@ -12,7 +12,7 @@ use Rattle.event_ring.specs.declared.Event.TheVariants.{Transfer, Command as Com
 use Rattle.uas_profile.specs.declared.Pipe.{Pipe}
 use Rattle.uas_profile.specs.declared.Pipe.TheVariants.{Command, Status, DataIn, DataOut}
 use Rattle.uas_profile.specs.declared.TheConstants.{STREAMS, ENGINE_RING_PLACES, STATUS_BYTES, COMMAND_BUFFERS, BUFFER_SPAN, SUCCESS, SHORT_PACKET}
-use Rattle.stream_array.specs.Map.{places_of, spot_at}
+use Rattle.stream_array.specs.Map.{place_address, places_of, spot_at}
 use Rattle.stream_array.specs.Rings.{LinesState, ring_of, with_ring}
 use Rattle.frame_store.specs.declared.TagBuffers.{TagBuffers}
 use Rattle.frame_store.specs.Buffers.{held_for}
@@ -239,3 +239,14 @@ pub record IsEnded (lines : LinesState) (pointer : ℕ) (td : EndedTd) : Type 0 
   pub first_tag : 1 ≤ td.tag
   pub last_tag : td.tag ≤ STREAMS
   pub consumed : IsEndedOn td.pipe lines td.tag pointer
+
+-- The same with the place of that TRB. On a pipe with streams the address is that of this place of the tag's ring.
+abbrev pub IsPlaceOn : Pipe → ℕ → ℕ → ℕ → Type 0
+IsPlaceOn Command tag pointer place = Unit {0}
+IsPlaceOn Status tag pointer place = pointer ≡ place_address Status tag place
+IsPlaceOn DataIn tag pointer place = pointer ≡ place_address DataIn tag place
+IsPlaceOn DataOut tag pointer place = pointer ≡ place_address DataOut tag place
+
+pub record IsEndedIn (lines : LinesState) (pointer place : ℕ) (td : EndedTd) : Type 0 where
+  pub ended : IsEnded lines pointer td
+  pub at : IsPlaceOn td.pipe td.tag pointer place

@@ -3,12 +3,12 @@ ghost use Rattle.std.specs.Prelude.{◌≡◌, ◌≢◌, ◌↔◌, ◌+◌, �
 ghost use Rattle.uas_profile.specs.declared.TheConstants.{STREAMS};
 ghost use Rattle.arrayvec.specs.ArrayVec.{array_vec_len};
 ghost use Rattle.frame_store.specs.Buffers.{held_for};
-ghost use Rattle.uas_host.specs.Events.{ended_at, event_doors, handled, handled_td, succeeded, told_on, IsEnded, Sides};
+ghost use Rattle.uas_host.specs.Events.{ended_at, event_doors, handled, handled_td, succeeded, told_on, IsEndedIn, Sides};
 ghost use Rattle.uas_host.specs.Awaited.{IsOfEngine, IsOfNothing, IsOfTd};
 ghost use Rattle.uas_host.specs.LeftBy.{LeavesOverByNote};
 ghost use Rattle.uas_host.specs.Sights.{notice_by};
 
-use crate::ended::{command_td_at, stream_td_at};
+use crate::ended::{EventPlace, command_td_at, stream_td_at};
 use crate::seen::Sight;
 use crate::units::read_answer;
 use crate::{EndedTd, Handled, Host};
@@ -62,19 +62,19 @@ fn sight_in(unit: &[u8], code: u8, td: EndedTd) -> Option<Sight>
 }
 
 impl Host {
-    /// Takes in a transfer event with this pointer, this residual and this code; `td` is the TD that it is of.
+    /// Takes in a transfer event whose pointer is there, with this residual and this code; `td` is the TD that it is of.
     #[inline(always)]
     fn on_td(
         &mut self,
         lines: &mut Lines,
         frames: &Frames,
         td: Option<EndedTd>,
-        pointer: u64,
+        at: EventPlace,
         residual: u32,
         code: u8,
     ) -> Handled
-        requires { IfSome td (IsEnded lines.old pointer) }
-        ensures { handled_td (record { host = self.old; lines = lines.old }) frames.now pointer residual code td ≡
+        requires { IfSome td (IsEndedIn lines.old at.pointer at.place) }
+        ensures { handled_td (record { host = self.old; lines = lines.old }) frames.now at.pointer residual code td ≡
             (record { host = self.new; lines = lines.new }, result) }
     {
         let Some(td) = td else {
@@ -87,7 +87,7 @@ impl Host {
         if !self.see(td.tag, sight, sense_of(unit)) {
             return Handled::Stray;
         }
-        self.free(lines, pointer, td);
+        self.free(lines, at, td);
         Handled::Matched(td.tag)
     }
 
@@ -104,26 +104,27 @@ impl Host {
         ensures { handled_td (record { host = self.old; lines = lines.old }) frames.now pointer residual code (ended_at lines.old pointer) ≡
             (record { host = self.new; lines = lines.new }, result) }
     {
-        let Some((pipe, stream, _)) = find(pointer) else {
+        let Some((pipe, stream, place)) = find(pointer) else {
             return Handled::Stray;
         };
+        let at = EventPlace { pointer, place };
         // What is inlined in an arm knows its pipe and asks for it no more.
         match pipe {
             Pipe::Command => {
-                let td = command_td_at(lines, pointer);
-                self.on_td(lines, frames, td, pointer, residual, code)
+                let td = command_td_at(lines, at);
+                self.on_td(lines, frames, td, at, residual, code)
             }
             Pipe::Status => {
-                let td = stream_td_at(lines, Pipe::Status, stream, pointer);
-                self.on_td(lines, frames, td, pointer, residual, code)
+                let td = stream_td_at(lines, Pipe::Status, stream, at);
+                self.on_td(lines, frames, td, at, residual, code)
             }
             Pipe::DataIn => {
-                let td = stream_td_at(lines, Pipe::DataIn, stream, pointer);
-                self.on_td(lines, frames, td, pointer, residual, code)
+                let td = stream_td_at(lines, Pipe::DataIn, stream, at);
+                self.on_td(lines, frames, td, at, residual, code)
             }
             Pipe::DataOut => {
-                let td = stream_td_at(lines, Pipe::DataOut, stream, pointer);
-                self.on_td(lines, frames, td, pointer, residual, code)
+                let td = stream_td_at(lines, Pipe::DataOut, stream, at);
+                self.on_td(lines, frames, td, at, residual, code)
             }
         }
     }

@@ -1,8 +1,8 @@
 // Which TRBs are free again once an event was seen.
 ghost use Rattle.std.specs.Prelude.{◌≡◌};
-ghost use Rattle.uas_host.specs.Events.{awaits_command, commands_freed, freed_on, held_of, is_awaited, IsEnded};
+ghost use Rattle.uas_host.specs.Events.{awaits_command, commands_freed, freed_on, held_of, is_awaited, IsEndedIn};
 
-use crate::ended::command_tag_of;
+use crate::ended::{EventPlace, command_tag_of};
 use crate::tags::place_of_tag;
 use crate::{EndedTd, Host};
 use stream_array::{Lines, Pipe};
@@ -46,15 +46,15 @@ impl Host {
 
     /// Frees the TRBs of a TD whose event was seen: on a pipe with streams up to and with the event's.
     #[inline(always)]
-    pub(crate) fn free(&self, lines: &mut Lines, pointer: u64, td: EndedTd)
-        requires { IsEnded lines.old pointer td }
-        ensures { lines.new ≡ freed_on td.pipe self.now lines.old td.tag pointer }
+    pub(crate) fn free(&self, lines: &mut Lines, at: EventPlace, td: EndedTd)
+        requires { IsEndedIn lines.old at.pointer at.place td }
+        ensures { lines.new ≡ freed_on td.pipe self.now lines.old td.tag at.pointer }
     {
         match td.pipe {
             Pipe::Command => self.free_commands(lines),
-            Pipe::Status => lines.reclaim(Pipe::Status, td.tag, pointer),
-            Pipe::DataIn => lines.reclaim(Pipe::DataIn, td.tag, pointer),
-            Pipe::DataOut => lines.reclaim(Pipe::DataOut, td.tag, pointer),
+            Pipe::Status => lines.reclaim_in(Pipe::Status, td.tag, at.place),
+            Pipe::DataIn => lines.reclaim_in(Pipe::DataIn, td.tag, at.place),
+            Pipe::DataOut => lines.reclaim_in(Pipe::DataOut, td.tag, at.place),
         }
     }
 }

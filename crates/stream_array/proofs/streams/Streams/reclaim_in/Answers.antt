@@ -1,0 +1,46 @@
+-- The segment is without its first TRBs, and its context names the consumer's end as before.
+use Rattle.std.proofs.Common.{◌≡◌, ℕ, ◌+◌, ◌-◌, ◌*◌, List, slice_set, sym, ap, ◌∙◌, arith}
+use Rattle.cycle_ring.specs.Ring.{IsConsumed, reclaimed}
+use Rattle.cycle_ring.specs.Items.{ItemRing}
+use Rattle.uas_profile.specs.declared.TheConstants.{STREAM_RING_PLACES}
+use Rattle.stream_array.specs.Contexts.{Contexts}
+use Rattle.stream_array.specs.Rings.{stream_ring}
+use Rattle.stream_array.proofs.Named.{AtStream, AreStreams-with, AtStream-read, item-at, named-at, ring-at}
+use Rattle.stream_array.proofs.streams.Streams.reclaim_in.Goals as goal
+
+-- the place's address is the same in the segment
+in-segment : (segments : List ItemRing) (contexts : Contexts) (rings : List ItemRing) (stream : ℕ) (segment : ItemRing) (k place : ℕ)
+    → AtStream segments contexts rings stream segment
+    → IsConsumed STREAM_RING_PLACES (stream_ring rings stream) k ((stream_ring rings stream).base + 16 * place)
+    → IsConsumed STREAM_RING_PLACES (stream_ring rings stream) k (segment.base + 16 * place)
+in-segment segments contexts rings stream segment k place at consumed =
+    let same : (stream_ring rings stream).base ≡ segment.base = ap (λ (r : ItemRing). r.base) (ring-at segments contexts rings stream segment at) in
+    (consumed.0, ap (λ (base : ℕ). base + 16 * place) (sym same) ∙ consumed.1)
+
+pub reclaim_in-requires : goal.reclaim_in-requires
+reclaim_in-requires c =
+    let at = AtStream-read c.self.inside.segments.items c.self.inside.contexts c.args.self.now c.args.stream c.index_mut-segment.result.now c.self.invariant c.self.view_is
+    c.requires.some c.requires.last c.index_mut-segment.ensures.value in
+    let consumed = in-segment _ _ _ _ _ c.requires.consumed.0 c.args.place at c.requires.consumed.1 in
+    (omega arith, (c.requires.consumed.0, (item-at _ _ _ _ _ c.requires.consumed.0 _ at consumed).1))
+
+pub invariant_of-self : goal.invariant_of-self
+invariant_of-self c =
+    let at = AtStream-read c.self.inside.segments.items c.self.inside.contexts c.args.self.now c.args.stream c.index_mut-segment.result.now c.self.invariant c.self.view_is
+    c.requires.some c.requires.last c.index_mut-segment.ensures.value in
+    let k = c.requires.consumed.0 in
+    let item = item-at _ _ _ _ _ k _ at (in-segment _ _ _ _ _ k c.args.place at c.requires.consumed.1) in
+    let base = ap (λ (r : ItemRing). r.base) (c.reclaim_in.ensures.freed k item.1) in
+    let kept = c.reclaim_in.ensures.consumer k _ (named-at _ _ _ _ _ at).consumer item.0 in
+    (AreStreams-with _ _ _ _ _ c.reclaim_in.new.self at base kept.0).0
+
+pub returns : goal.returns
+returns c k consumed =
+    let at = AtStream-read c.self.inside.segments.items c.self.inside.contexts c.args.self.now c.args.stream c.index_mut-segment.result.now c.self.invariant c.self.view_is
+    c.requires.some c.requires.last c.index_mut-segment.ensures.value in
+    let item = item-at _ _ _ _ _ k _ at (in-segment _ _ _ _ _ k c.args.place at consumed) in
+    let base = ap (λ (r : ItemRing). r.base) (c.reclaim_in.ensures.freed k item.1) in
+    let kept = c.reclaim_in.ensures.consumer k _ (named-at _ _ _ _ _ at).consumer item.0 in
+    (AreStreams-with _ _ _ _ _ c.reclaim_in.new.self at base kept.0).1
+    ∙ ap (slice_set c.args.self.now (c.args.stream - 1)) kept.1
+    ∙ ap (λ (r : ItemRing). slice_set c.args.self.now (c.args.stream - 1) (reclaimed STREAM_RING_PLACES (k + 1) r)) (sym (ring-at _ _ _ _ _ at))

@@ -6,3 +6,4 @@ pub mod Frames
 pub mod Spots
 pub mod Named
 pub mod Fresh
+pub mod Marking

@@ -61,7 +61,7 @@ IsShown-streams segments contexts streams = record {
 
 -- A CHANGE OF ONE SEGMENT AND ITS CONTEXT
 
-stream_ring-set : (segments : List ItemRing) (stream other : ℕ) (segment : ItemRing) → 0 < stream → 0 < other → other ≢ stream
+pub stream_ring-set : (segments : List ItemRing) (stream other : ℕ) (segment : ItemRing) → 0 < stream → 0 < other → other ≢ stream
     → stream_ring (set segments (stream - 1) segment) other ≡ stream_ring segments other
 stream_ring-set segments stream other segment some also differs =
     get_or-set_other segments (stream - 1) (other - 1) segment (opening 0) (λ same. differs (omega arith))

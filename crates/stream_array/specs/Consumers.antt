@@ -6,7 +6,8 @@ use Rattle.cycle_ring.specs.Segment.{IsConsumer, with_consumer}
 use Rattle.uas_profile.specs.declared.TheConstants.{STREAMS, STREAM_ENTRIES, STREAM_RING_PLACES}
 use Rattle.stream_array.specs.declared.Dequeue.{Dequeue}
 use Rattle.stream_array.specs.Contexts.{Contexts, entry_of}
-use Rattle.stream_array.specs.Rings.{stream_ring}
+use Rattle.stream_array.specs.Rings.{stream_ring, HasPending}
+use Rattle.marks.specs.Marks.{is_marked}
 
 -- The consumer's end that an entry names, of a ring at this address.
 -- Worked: 43012030h with cycle state 1 is place 3 of the ring at 43012000h, come to with cycle state 1.
@@ -43,3 +44,8 @@ pub record AreStreams (segments : List ItemRing) (contexts : Contexts) : Type 0 
   pub reserved : entry_of contexts 0 ≡ None
   pub named : (stream : ℕ) → 0 < stream → stream ≤ STREAMS → NamesEnd (stream_ring segments stream) (entry_of contexts stream)
   pub none : (stream : ℕ) → STREAMS < stream → entry_of contexts stream ≡ None
+
+-- every stream with something pending is marked by its number, and no place that isn't a stream's is marked
+pub record AreMarked (marks : List ℕ) (rings : List ItemRing) : Type 0 where
+  pub pending : (stream : ℕ) → 0 < stream → stream ≤ STREAMS → HasPending (stream_ring rings stream) → is_marked marks stream ≡ true
+  pub streams : (place : ℕ) → is_marked marks place ≡ true → (0 < place) × (place ≤ STREAMS)

@@ -29,6 +29,15 @@ pub record IsShown (shown : List ItemRing) (contexts : Contexts) : Type 0 where
   pub ring : (stream : ℕ) → 0 < stream → stream ≤ STREAMS → entry_of contexts stream ≡ Some (consumer_end (stream_ring shown stream))
   pub none : (stream : ℕ) → STREAMS < stream → entry_of contexts stream ≡ None
 
+-- a ring has a pending TRB, or pending foreign bytes
+abbrev pub HasPending : ItemRing → Type 0
+HasPending r = r.got < length r.put
+
+-- of a pipe's rings, those of the streams from this one on and below another have nothing pending
+abbrev pub NonePending : List ItemRing → ℕ → ℕ → Type 0
+NonePending rings from end =
+    (stream : ℕ) → (0 < stream) × (stream ≤ STREAMS) → from ≤ stream → stream < end → HasPending (stream_ring rings stream) → ⊥
+
 -- The rings: the command pipe's, those of the three pipes with streams, the controller's command ring and
 -- the event ring.
 pub record LinesState : Type 0 where
@@ -45,6 +54,10 @@ ring_of l Command stream = l.command
 ring_of l Status stream = stream_ring l.status stream
 ring_of l DataIn stream = stream_ring l.data_in stream
 ring_of l DataOut stream = stream_ring l.data_out stream
+
+-- the streams of a pipe from this one on and below another have nothing pending
+abbrev pub NonePendingOn : LinesState → Pipe → ℕ → ℕ → Type 0
+NonePendingOn l pipe from end = (stream : ℕ) → HasRing pipe stream → from ≤ stream → stream < end → HasPending (ring_of l pipe stream) → ⊥
 
 -- the same rings but for that one
 abbrev pub with_ring : LinesState → Pipe → ℕ → ItemRing → LinesState

@@ -1,7 +1,7 @@
 // The rings of one pipe with streams. Where a ring's consumer stands is in the stream's context alone.
 
 ghost use Rattle.std.specs.Prelude.{◌≡◌, ◌≢◌, ℕ, ◌+◌, ◌-◌, ◌*◌, ◌<◌, ◌≤◌, ◌++◌, ◌↔◌, ◌⊎◌, All, length, map, slice_get, slice_set, Some, [], ◌∷◌};
-ghost use Rattle.std.specs.Prelude.{IsOk, IsSome, IfOk, IfSome, OnOk, OnErr};
+ghost use Rattle.std.specs.Prelude.{IsOk, IsSome, IfOk, IfSome, IfNone, OnOk, OnErr};
 ghost use Rattle.xhci_trb.specs.Text.{HasText};
 ghost use Rattle.cycle_ring.specs.Ring.{IsTd, opening, pointer_of, cycle_of, reclaimed, place_of};
 ghost use Rattle.cycle_ring.specs.Items.{IsItemRing, known, known_front_of, raw_front_of, raw_image, raw_link_image, item_read};
@@ -11,32 +11,41 @@ ghost use Rattle.cycle_ring.specs.Segment.{IsConsumer, with_consumer};
 ghost use Rattle.uas_profile.specs.Pipes.{HasStreams};
 ghost use Rattle.stream_array.specs.Map.{ring_base};
 ghost use Rattle.stream_array.specs.Contexts.{entry_of};
-ghost use Rattle.stream_array.specs.Rings.{stream_ring, IsShown};
+ghost use Rattle.stream_array.specs.Rings.{stream_ring, HasPending, IsShown, NonePending};
 ghost use Rattle.stream_array.specs.Consumers.{NamesEnd, end_in, dequeue_at};
 
 use crate::{NoMemory, Pipe, StreamArray};
 use cycle_ring::{End, NotAPlace, RingFull, Segment, Td};
+use marks::Marks;
 use std::alloc::Global;
 use std::marker::Model;
 use uas_profile::{PIPE_SPAN, RINGS, STREAM_ENTRIES, STREAM_RING_PLACES, STREAM_SPAN, STREAMS};
 use xhci_trb::Trb;
 
+/// Words of 64 marks, enough for a mark of each stream by its number.
+const STREAM_WORDS: usize = 4;
+
+const _: () = prove!(STREAM_WORDS == 4 && (STREAMS as usize) < 64 * STREAM_WORDS);
+
 #[derive(Debug, Drop)]
 pub(crate) struct Streams {
     segments: Vec<Segment<STREAM_RING_PLACES>>,
     contexts: StreamArray<STREAM_ENTRIES>,
+    // The streams that may have a pending TRB: a mark is made where bytes are put, and taken away where the stream is looked at
+    // for its next pending TRB and has none.
+    marks: Marks<STREAM_WORDS>,
 }
 
 impl Model for Streams {
     ghost use Rattle.std.specs.Prelude.{List};
     ghost use Rattle.cycle_ring.specs.Items.{ItemRing};
-    ghost use Rattle.stream_array.specs.Consumers.{rings_of, AreStreams};
+    ghost use Rattle.stream_array.specs.Consumers.{rings_of, AreMarked, AreStreams};
 
     ghost Value = { List ItemRing };
 
     ghost view = { λ s. rings_of s.segments.items s.contexts };
 
-    ghost invariant = { λ s. AreStreams s.segments.items s.contexts };
+    ghost invariant = { λ s. AreStreams s.segments.items s.contexts × AreMarked s.marks (rings_of s.segments.items s.contexts) };
 }
 
 // The consumer's end that a stream's context names.
@@ -84,7 +93,11 @@ impl Streams {
         for count in 0..STREAMS {
             segments.push(Segment::new(alloc, first + STREAM_SPAN * u64::from(count))?)?;
         }
-        Ok(Streams { segments, contexts })
+        Ok(Streams {
+            segments,
+            contexts,
+            marks: Marks::new(),
+        })
     }
 
     pub(crate) fn contexts(&self) -> &StreamArray<STREAM_ENTRIES>
@@ -145,6 +158,7 @@ impl Streams {
         }) }
         ensures full { OnErr result (self.new ≡ self.old) }
     {
+        self.marks.set(stream as usize, true);
         let segment = &mut self.segments[stream as usize - 1];
         segment.push_td(trbs)
     }
@@ -159,6 +173,7 @@ impl Streams {
             address ≡ pointer_of STREAM_RING_PLACES ring (length ring.put)) }
         ensures full { OnErr result (self.new ≡ self.old) }
     {
+        self.marks.set(stream as usize, true);
         let segment = &mut self.segments[stream as usize - 1];
         segment.put_raw(bytes)
     }
@@ -193,6 +208,23 @@ impl Streams {
     {
         let (segment, end) = self.ring(stream);
         segment.front_raw(end)
+    }
+
+    pub(crate) fn next_pending(&mut self, from: u16) -> Option<u16>
+        ensures kept { self.new ≡ self.old }
+        ensures next { IfSome result (λ next. (from ≤ next) × ((0 < next) × (next ≤ STREAMS)) × HasPending (stream_ring self.old next)
+            × NonePending self.old from next) }
+        ensures none { IfNone result (NonePending self.old from (STREAMS + 1)) }
+    {
+        let mut place = from as usize;
+        while let Some(stream) = self.marks.next_from(place) {
+            if self.front_raw(stream as u16).is_some() {
+                return Some(stream as u16);
+            }
+            self.marks.set(stream, false);
+            place = stream + 1;
+        }
+        None
     }
 
     #[inline(always)]

@@ -102,10 +102,6 @@ retired_host host retirement = record (unwrap_or (place_seen (TdRetired retireme
 abbrev pub has_pending : ItemRing → Bool
 has_pending ring = nat_lt ring.got (length ring.put)
 
--- the doorbell of a stream of a pipe, where it has a pending TRB
-abbrev pub pending_door : LinesState → Pipe → ℕ → List ℕ
-pending_door lines pipe stream = if has_pending (ring_of lines pipe stream) then door (target_of pipe) stream ∷ [] else []
-
 -- the doorbells of a pipe's streams with pending TRBs, by rising stream
 unfoldable pub resumed_doors : LinesState → Pipe → List ℕ
 resumed_doors lines pipe =

@@ -2,15 +2,15 @@
 ghost use Rattle.std.specs.Prelude.{◌≡◌, ◌+◌, ◌++◌, ◌≤◌};
 ghost use Rattle.arrayvec.specs.ArrayVec.{array_vec_len};
 ghost use Rattle.uas_profile.specs.Pipes.{HasStreams};
-ghost use Rattle.stream_array.specs.Map.{HasRing};
+ghost use Rattle.uas_profile.specs.declared.TheConstants.{STREAMS};
 ghost use Rattle.uas_profile.specs.Doors.{answer_doors, data_doors, door_unless, submission_doors};
-ghost use Rattle.uas_host.specs.Retirement.{is_held, pending_door, resumed_doors};
+ghost use Rattle.uas_host.specs.Retirement.{is_held, resumed_doors};
 
 use crate::Host;
 use arrayvec::ArrayVec;
 use scsi_cmd::Direction;
 use stream_array::{Lines, Pipe, doorbell};
-use uas_profile::{STREAM_ENTRIES, STREAMS};
+use uas_profile::STREAM_ENTRIES;
 
 impl Host {
     /// Whether a retirement of this pipe is under way, so that no doorbell of it is rung.
@@ -71,25 +71,16 @@ impl Host {
     }
 }
 
-/// Rings a stream of a pipe, where it has a pending TRB.
-fn ring_pending(lines: &Lines, doors: &mut ArrayVec<u32, STREAM_ENTRIES>, pipe: Pipe, stream: u16)
-    requires ring { HasRing pipe stream }
-    requires doors { array_vec_len doors.old + 1 ≤ STREAM_ENTRIES }
-    ensures doors { doors.new.items ≡ doors.old.items ++ pending_door lines.now pipe stream }
-    ensures most { array_vec_len doors.new ≤ array_vec_len doors.old + 1 }
-{
-    if lines.front_raw(pipe, stream).is_some() {
-        doors.push(doorbell(pipe.target(), stream));
-    }
-}
-
 /// Rings every stream of a pipe that has a pending TRB, by rising stream.
-pub(crate) fn resume(lines: &Lines, doors: &mut ArrayVec<u32, STREAM_ENTRIES>, pipe: Pipe)
+pub(crate) fn resume(lines: &mut Lines, doors: &mut ArrayVec<u32, STREAM_ENTRIES>, pipe: Pipe)
     requires streams { HasStreams pipe }
     requires doors { array_vec_len doors.old + STREAMS ≤ STREAM_ENTRIES }
-    ensures { doors.new.items ≡ doors.old.items ++ resumed_doors lines.now pipe }
+    ensures lines { lines.new ≡ lines.old }
+    ensures doors { doors.new.items ≡ doors.old.items ++ resumed_doors lines.old pipe }
 {
-    for stream in 1..STREAMS + 1 {
-        ring_pending(lines, doors, pipe, stream);
+    let mut from = 1;
+    while let Some(stream) = lines.next_pending(pipe, from) {
+        doors.push(doorbell(pipe.target(), stream));
+        from = stream + 1;
     }
 }

@@ -8,4 +8,4 @@ use Rattle.stream_array.proofs.streams.Streams.contexts.Goals as goal
 pub returns : goal.returns
 returns c =
     let Shown : List ItemRing → Type 0 = λ rings. IsShown rings c.self.inside.contexts in
-    subst Shown c.self.view_is (IsShown-streams c.self.inside.segments.items c.self.inside.contexts c.self.invariant)
+    subst Shown c.self.view_is (IsShown-streams c.self.inside.segments.items c.self.inside.contexts c.self.invariant.0)

@@ -1,7 +1,7 @@
 -- New segments, and contexts that name their first places.
 use Rattle.std.proofs.Common.{◌≡◌, length, ◌∙◌, arith}
 use Rattle.uas_profile.specs.declared.TheConstants.{STREAMS}
-use Rattle.stream_array.proofs.Fresh.{AreOpening, AreStreams-opening, stream_ring-opening}
+use Rattle.stream_array.proofs.Fresh.{AreMarked-opening, AreOpening, AreStreams-opening, stream_ring-opening}
 use Rattle.stream_array.proofs.Named.{length-rings_from}
 use Rattle.stream_array.proofs.streams.Streams.new.Goals as goal
 
@@ -11,8 +11,10 @@ invariant_of-result c =
       count = omega arith;
       segment = λ k within. c.loop-count.invariant.1 k (omega arith);
       consumer = λ k within. c.loop-count.invariant.2 k (omega arith);
-    } in
-    AreStreams-opening c.args.pipe _ _ c.requires segments c.in_ok-contexts.ensures
+    } in (
+      AreStreams-opening c.args.pipe _ _ c.requires segments c.in_ok-contexts.ensures,
+      AreMarked-opening c.args.pipe _ _ c.requires segments c.in_ok-contexts.ensures _ c.new-2.ensures,
+    )
 
 pub returns-clause-rings : goal.returns-clause-rings
 returns-clause-rings c =

@@ -6,6 +6,7 @@ use Rattle.uas_profile.specs.declared.TheConstants.{STREAM_RING_PLACES}
 use Rattle.stream_array.specs.Contexts.{Contexts}
 use Rattle.stream_array.specs.Rings.{stream_ring}
 use Rattle.stream_array.proofs.Named.{AtStream, AreStreams-with, AtStream-read, item-at, named-at, ring-at}
+use Rattle.stream_array.proofs.Marking.{marked-kept, pending-freed}
 use Rattle.stream_array.proofs.streams.Streams.reclaim_in.Goals as goal
 
 -- the place's address is the same in the segment
@@ -19,24 +20,26 @@ in-segment segments contexts rings stream segment k place at consumed =
 
 pub reclaim_in-requires : goal.reclaim_in-requires
 reclaim_in-requires c =
-    let at = AtStream-read c.self.inside.segments.items c.self.inside.contexts c.args.self.now c.args.stream c.index_mut-segment.result.now c.self.invariant c.self.view_is
+    let at = AtStream-read c.self.inside.segments.items c.self.inside.contexts c.args.self.now c.args.stream c.index_mut-segment.result.now c.self.invariant.0 c.self.view_is
     c.requires.some c.requires.last c.index_mut-segment.ensures.value in
     let consumed = in-segment _ _ _ _ _ c.requires.consumed.0 c.args.place at c.requires.consumed.1 in
     (omega arith, (c.requires.consumed.0, (item-at _ _ _ _ _ c.requires.consumed.0 _ at consumed).1))
 
 pub invariant_of-self : goal.invariant_of-self
 invariant_of-self c =
-    let at = AtStream-read c.self.inside.segments.items c.self.inside.contexts c.args.self.now c.args.stream c.index_mut-segment.result.now c.self.invariant c.self.view_is
+    let at = AtStream-read c.self.inside.segments.items c.self.inside.contexts c.args.self.now c.args.stream c.index_mut-segment.result.now c.self.invariant.0 c.self.view_is
     c.requires.some c.requires.last c.index_mut-segment.ensures.value in
     let k = c.requires.consumed.0 in
     let item = item-at _ _ _ _ _ k _ at (in-segment _ _ _ _ _ k c.args.place at c.requires.consumed.1) in
     let base = ap (λ (r : ItemRing). r.base) (c.reclaim_in.ensures.freed k item.1) in
     let kept = c.reclaim_in.ensures.consumer k _ (named-at _ _ _ _ _ at).consumer item.0 in
-    (AreStreams-with _ _ _ _ _ c.reclaim_in.new.self at base kept.0).0
+    let with = AreStreams-with _ _ _ _ _ c.reclaim_in.new.self at base kept.0 in
+    let brings = pending-freed c.args.self.now c.args.stream _ _ k _ (ring-at _ _ _ _ _ at) kept.1 item.0 in
+    (with.0, marked-kept _ _ _ _ _ _ _ _ at c.self.invariant.1 with.1 brings)
 
 pub returns : goal.returns
 returns c k consumed =
-    let at = AtStream-read c.self.inside.segments.items c.self.inside.contexts c.args.self.now c.args.stream c.index_mut-segment.result.now c.self.invariant c.self.view_is
+    let at = AtStream-read c.self.inside.segments.items c.self.inside.contexts c.args.self.now c.args.stream c.index_mut-segment.result.now c.self.invariant.0 c.self.view_is
     c.requires.some c.requires.last c.index_mut-segment.ensures.value in
     let item = item-at _ _ _ _ _ k _ at (in-segment _ _ _ _ _ k c.args.place at consumed) in
     let base = ap (λ (r : ItemRing). r.base) (c.reclaim_in.ensures.freed k item.1) in

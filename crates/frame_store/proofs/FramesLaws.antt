@@ -130,5 +130,15 @@ written-named frames address len [] place h named size =
 written-named frames address len (x ∷ new) place h named size =
     ap (λ (p : Place). with_bytes frames p (x ∷ new)) (start_of-named frames address len place h named (omega (arith, size)))
 
+-- bytes that are written where as many or more start
+start_of-some : (address len more : ℕ) → 0 < len → len ≤ more → start_of address more ≡ start_of address len
+start_of-some address len more some fits = rw (ne_eqb len 0 (λ e. omega arith), ne_eqb more 0 (λ e. omega arith)) refl
+
+pub written_at : (frames : List TagBuffers) (place : Place) (bytes : List ℕ) (address len : ℕ) → place ≡ start_of address len → length bytes ≤ len
+    → with_bytes frames place bytes ≡ written frames address (length bytes) bytes
+written_at frames place [] address len is fits = with_bytes-none frames place ∙ sym (with_bytes-none frames (start_of address 0))
+written_at frames place (x ∷ more) address len is fits =
+    ap (λ (p : Place). with_bytes frames p (x ∷ more)) (is ∙ start_of-some address (length (x ∷ more)) len (omega arith) fits)
+
 -- what a place that an address names tells
 pub ruleset names = (written-named)

@@ -1,5 +1,5 @@
 -- What the store holds for each tag, and which bytes an address names.
-use Rattle.std.specs.Prelude.{if◌then◌else◌, ℕ, ◌+◌, ◌-◌, ◌≡◌, ◌≤◌, ◌==◌, ◌⊎◌, List, [], take, drop, length, replicate, Option, None}
+use Rattle.std.specs.Prelude.{if◌then◌else◌, ℕ, ◌+◌, ◌-◌, ◌≡◌, ◌≢◌, ◌≤◌, ◌==◌, ◌⊎◌, List, [], take, drop, length, replicate, Option, None}
 use Rattle.std.specs.Prelude.{option_map, unwrap_or, slice_index_or, slice_set}
 use Rattle.std.specs.Option.{option_map_or}
 use Rattle.frame_store.specs.declared.Buffer.{Buffer}
@@ -73,6 +73,13 @@ pub record Names (frames : List TagBuffers) (address len : ℕ) (place : Place) 
 -- The bytes from an address on can be given: there is none, or they are bytes of one buffer.
 abbrev pub IsNamed : List TagBuffers → ℕ → ℕ → Type 0
 IsNamed frames address len = (len ≡ 0) ⊎ ((place : Place) × Names frames address len place)
+
+-- So many bytes begin at a place: they are bytes of its buffer, which is there.
+pub record Begins (frames : List TagBuffers) (place : Place) (len : ℕ) : Type 0 where
+  pub first_tag : 1 ≤ place.tag
+  pub last_tag : place.tag ≤ STREAMS
+  pub there : place.buffer ≡ Window → (held_for frames place.tag).lent ≢ None
+  pub within : place.offset + len ≤ length (bytes_of frames place)
 
 -- The sizes of a tag's buffers.
 pub record HasSizes (held : TagBuffers) : Type 0 where

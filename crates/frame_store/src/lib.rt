@@ -21,7 +21,7 @@
 #![tactic(auto)]
 
 ghost use Rattle.std.specs.Prelude.{◌≡◌, ◌≢◌, ℕ, ◌+◌, ◌-◌, ◌*◌, ◌<◌, ◌≤◌, ◌↔◌, List, length, take, drop, vec_len, Option, None, Some, IsOk};
-ghost use Rattle.std.specs.Prelude.{IsErr, IsNone, IsSome, IfOk, IfErr, OnOk, OnErr};
+ghost use Rattle.std.specs.Prelude.{IsErr, IsNone, IsSome, IfOk, IfErr, IfSome, OnOk, OnErr};
 ghost use Rattle.std.specs.Borrow.{sem};
 
 mod buffers;
@@ -96,8 +96,8 @@ pub struct Frames {
 impl Frames {
     ghost use Rattle.frame_store.specs.declared.FrameFault.TheVariants.{BadAddress, NotLent, AlreadyLent};
     ghost use Rattle.frame_store.specs.declared.Place.{Place};
-    ghost use Rattle.frame_store.specs.Buffers.{opening, held_for, with_lent, bytes_of, with_bytes, front_of, Names, IsNamed, IsWhole};
-    ghost use Rattle.frame_store.specs.Buffers.{bytes_at, written, left_at};
+    ghost use Rattle.frame_store.specs.Buffers.{opening, held_for, with_lent, bytes_of, with_bytes, front_of, Begins, Names, IsNamed, IsWhole};
+    ghost use Rattle.frame_store.specs.Buffers.{bytes_at, written, start_of};
     ghost use Rattle.frame_store.specs.FramesLending.{LendsFrom, LendsWindow};
 
     /// A store with zeroed small buffers and nothing lent. It takes all the memory that the store uses.
@@ -169,31 +169,49 @@ impl Frames {
         held.status.as_slice()
     }
 
+    /// Where the `len` bytes from an address on begin, by which `read_at`, `window_at` and `write_at` find them. A place exactly where
+    /// they are bytes of one buffer, or `len` is 0.
+    #[inline(always)]
+    pub fn start(&self, address: u64, len: usize) -> Option<Place>
+        ensures named { IsSome result ↔ IsNamed self.now address len }
+        ensures start { IfSome result (λ place. (place ≡ start_of address len) × Begins self.now place len) }
+        ensures whole { IsWhole self.now }
+    {
+        let tags = &self.tags;
+        if len == 0 {
+            return Some(Place::FIRST);
+        }
+        let place = Place::at(address)?;
+        let held = &tags[place.tag as usize - 1];
+        if len <= held.len(place.buffer).saturating_sub(place.offset) {
+            Some(place)
+        } else {
+            None
+        }
+    }
+
     /// Ok where the `len` bytes from an address on are bytes of one buffer, or `len` is 0; else `BadAddress`.
     pub fn check(&self, address: u64, len: usize) -> Result<(), FrameFault>
         ensures named { IsOk result ↔ IsNamed self.now address len }
         ensures bad { IfErr result (λ fault. fault ≡ BadAddress) }
         ensures whole { IsWhole self.now }
     {
-        if len <= self.left(address) {
-            Ok(())
-        } else {
-            Err(FrameFault::BadAddress)
+        match self.start(address, len) {
+            Some(_) => Ok(()),
+            None => Err(FrameFault::BadAddress),
         }
     }
 
-    // How many bytes the buffer of an address has from there on.
-    fn left(&self, address: u64) -> usize
-        ensures value { result ≡ left_at self.now address }
+    // Where they begin, of bytes for which `check` is Ok.
+    fn named(&self, address: u64, len: usize) -> Place
+        requires { IsNamed self.now address len }
+        ensures start { result ≡ start_of address len }
+        ensures begins { Begins self.now result len }
         ensures whole { IsWhole self.now }
     {
-        let tags = &self.tags;
-        match Place::at(address) {
-            Some(place) => tags[place.tag as usize - 1]
-                .len(place.buffer)
-                .saturating_sub(place.offset),
-            None => 0,
-        }
+        // Read for what holds of every store.
+        let _tags = &self.tags;
+        Place::start(address, len)
     }
 
     /// The `len` bytes from an address on, for which `check` is Ok.
@@ -204,7 +222,15 @@ impl Frames {
             result.now ≡ take len (drop place.offset (bytes_of self.now place)) }
         ensures len { length result.now ≡ len }
     {
-        let place = Place::start(address, len);
+        self.read_at(self.named(address, len), len)
+    }
+
+    /// The `len` bytes from a place on, of which `start` told that they begin there.
+    pub fn read_at(&self, place: Place, len: usize) -> &[u8]
+        requires { Begins self.now place len }
+        ensures value { result.now ≡ take len (drop place.offset (bytes_of self.now place)) }
+        ensures len { length result.now ≡ len }
+    {
         let held = &self.tags[place.tag as usize - 1];
         held.part(place.buffer, place.offset, len)
     }
@@ -220,7 +246,18 @@ impl Frames {
             written self.old address len bytes ≡ with_bytes self.old place bytes }
         ensures whole { IsWhole self.old }
     {
-        let place = Place::start(address, len);
+        let place = self.named(address, len);
+        self.window_at(place, len)
+    }
+
+    /// The `len` bytes from a place on, of which `start` told that they begin there, to be written.
+    pub fn window_at(&mut self, place: Place, len: usize) -> &mut [u8]
+        requires { Begins self.old place len }
+        ensures* writes_back { sem 𝓛 (LendsFrom self.entry place result) }
+        ensures value { result.now ≡ take len (drop place.offset (bytes_of self.old place)) }
+        ensures len { length result.now ≡ len }
+        ensures whole { IsWhole self.old }
+    {
         let held = &mut self.tags[place.tag as usize - 1];
         held.part_mut(place.buffer, place.offset, len)
     }
@@ -233,6 +270,17 @@ impl Frames {
             self.new ≡ with_bytes self.old place bytes.now }
     {
         self.window(address, bytes.len()).copy_from_slice(bytes);
+    }
+
+    /// Writes bytes from a place on, of which `start` told that they, or more, begin there.
+    #[tactic(auto, using(crate::proofs::FramesLaws::written_at))]
+    pub fn write_at(&mut self, place: Place, bytes: &[u8])
+        requires { Begins self.old place (length bytes.now) }
+        ensures value { self.new ≡ with_bytes self.old place bytes.now }
+        ensures written { (address len : ℕ) → place ≡ start_of address len → length bytes.now ≤ len →
+            self.new ≡ written self.old address (length bytes.now) bytes.now }
+    {
+        self.window_at(place, bytes.len()).copy_from_slice(bytes);
     }
 }
 

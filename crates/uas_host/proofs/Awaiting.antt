@@ -26,8 +26,7 @@ use Rattle.uas_iu.specs.Faults.{first_fault, identifier}
 use Rattle.uas_iu.specs.Heads.{tag_told}
 use Rattle.uas_host.specs.declared.EndedTd.{EndedTd}
 use Rattle.uas_host.specs.declared.HostEntry.{HostEntry}
-use Rattle.uas_host.specs.declared.Notice.{Notice}
-use Rattle.uas_host.specs.declared.Notice.TheVariants.{CommandSeen, DataInSeen, DataOutSeen, Answered, Responded}
+use Rattle.uas_host.specs.Notices.{Notice, CommandSeen, DataInSeen, DataOutSeen, Answered, Responded}
 use Rattle.uas_host.specs.State.{HostState, client_of, with_client}
 use Rattle.uas_host.specs.Seen.{goes_to_device, goes_to_host, held_of, host_seen, place_seen, seen, seen_data, with_seen}
 use Rattle.uas_host.specs.Events.{answer_in, command_tag, ended_at, ended_on, ended_td, is_response_of, is_sense_of, response_of, tag_at_buffer, told_on, trb_tag}

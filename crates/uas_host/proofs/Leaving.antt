@@ -15,8 +15,7 @@ use Rattle.scsi_cmd.specs.Request.{is_command, request_direction}
 use Rattle.uas_host.specs.declared.HostAnswer.TheVariants.{Status as AnsweredStatus, Response as AnsweredResponse}
 use Rattle.uas_host.specs.declared.HostEntry.{HostEntry}
 use Rattle.uas_host.specs.declared.HostClient.{HostClient}
-use Rattle.uas_host.specs.declared.Notice.{Notice}
-use Rattle.uas_host.specs.declared.Notice.TheVariants.{CommandSeen, DataInSeen, DataOutSeen, Answered, Responded, TdRetired}
+use Rattle.uas_host.specs.Notices.{Notice, CommandSeen, DataInSeen, DataOutSeen, Answered, Responded, TdRetired}
 use Rattle.uas_host.specs.Seen.{after_response, completes, data_after, doomed, ended_in, goes_to_device, goes_to_host, is_doomed}
 use Rattle.uas_host.specs.Seen.{is_data_left_over, is_td_left_over, left_over_data, seen, seen_data, with_retired, with_seen}
 use Rattle.uas_host.specs.Awaited.{td_on}

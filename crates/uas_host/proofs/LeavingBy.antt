@@ -26,8 +26,7 @@ use Rattle.uas_host.specs.declared.EndedTd.{EndedTd}
 use Rattle.uas_host.specs.declared.Handled.{Handled}
 use Rattle.uas_host.specs.declared.HostEntry.{HostEntry}
 use Rattle.uas_host.specs.declared.HostClient.{HostClient}
-use Rattle.uas_host.specs.declared.Notice.{Notice}
-use Rattle.uas_host.specs.declared.Notice.TheVariants.{CommandSeen, DataInSeen, DataOutSeen, Answered, Responded, TdRetired}
+use Rattle.uas_host.specs.Notices.{Notice, CommandSeen, DataInSeen, DataOutSeen, Answered, Responded, TdRetired}
 use Rattle.uas_host.specs.declared.Retirement.{Retirement}
 use Rattle.uas_host.specs.declared.RetirementStage.{RetirementStage}
 use Rattle.uas_host.specs.declared.RetirementStage.TheVariants.{Stopping, Moving}

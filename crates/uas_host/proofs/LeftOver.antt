@@ -19,8 +19,7 @@ use Rattle.scsi_cmd.specs.declared.Task.{Task}
 use Rattle.uas_profile.specs.declared.TheConstants.{TAGS, TASK_SLOT}
 use Rattle.uas_host.specs.declared.HostEntry.{HostEntry}
 use Rattle.uas_host.specs.declared.HostClient.{HostClient}
-use Rattle.uas_host.specs.declared.Notice.{Notice}
-use Rattle.uas_host.specs.declared.Notice.TheVariants.{CommandSeen, DataInSeen, DataOutSeen, Answered, Responded, TdRetired}
+use Rattle.uas_host.specs.Notices.{Notice, CommandSeen, DataInSeen, DataOutSeen, Answered, Responded, TdRetired}
 use Rattle.uas_profile.specs.TdStates.{is_left_over, is_pending}
 use Rattle.uas_host.specs.State.{HostState, client_of, new_client, with_client}
 use Rattle.uas_host.specs.Submit.{data_td_for, new_entry, noted, submitted_client}

@@ -13,7 +13,7 @@ use Rattle.uas_host.specs.declared.EndedTd.{EndedTd}
 use Rattle.uas_host.specs.declared.Handled.{Handled}
 use Rattle.uas_host.specs.declared.Handled.TheVariants.{Engine, Matched, Stray}
 use Rattle.uas_host.specs.declared.HostEntry.{HostEntry}
-use Rattle.uas_host.specs.declared.Notice.{Notice}
+use Rattle.uas_host.specs.Notices.{Notice}
 use Rattle.uas_host.specs.declared.Retirement.{Retirement}
 use Rattle.uas_host.specs.State.{HostState}
 use Rattle.uas_host.specs.Seen.{held_of, host_seen, seen}

@@ -7,8 +7,7 @@ use Rattle.marks.specs.Marks.{is_marked}
 use Rattle.scsi_cmd.specs.Held.{held_at}
 use Rattle.uas_host.specs.declared.HostEntry.{HostEntry}
 use Rattle.uas_host.specs.declared.HostClient.{HostClient}
-use Rattle.uas_host.specs.declared.Notice.{Notice}
-use Rattle.uas_host.specs.declared.Notice.TheVariants.{CommandSeen, DataInSeen, DataOutSeen, Answered, Responded, TdRetired}
+use Rattle.uas_host.specs.Notices.{Notice, CommandSeen, DataInSeen, DataOutSeen, Answered, Responded, TdRetired}
 use Rattle.uas_profile.specs.TdStates.{is_left_over}
 use Rattle.uas_host.specs.State.{new_client}
 use Rattle.uas_host.specs.Seen.{is_td_left_over}

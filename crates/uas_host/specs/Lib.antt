@@ -7,6 +7,7 @@ pub mod Sights
 pub mod Left
 pub mod Retirement
 pub mod Events
+pub mod Notices
 pub mod Awaited
 pub mod LeftBy
 pub mod Replies

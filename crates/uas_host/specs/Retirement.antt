@@ -12,7 +12,7 @@ use Rattle.uas_profile.specs.declared.TheConstants.{STREAMS, ENGINE_RING_PLACES,
 use Rattle.uas_profile.specs.Pipes.{same_pipe}
 use Rattle.stream_array.specs.Map.{places_of}
 use Rattle.stream_array.specs.Rings.{LinesState, ring_of, with_engine, with_ring}
-use Rattle.uas_host.specs.declared.Notice.TheVariants.{TdRetired}
+use Rattle.uas_host.specs.Notices.{TdRetired}
 use Rattle.uas_host.specs.declared.Retirement.{Retirement}
 use Rattle.uas_host.specs.declared.RetirementStage.TheVariants.{Stopping}
 use Rattle.uas_profile.specs.Doors.{door}

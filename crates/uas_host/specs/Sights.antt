@@ -1,7 +1,7 @@
 -- What an event tells beside the sense of a status: with the sense it is the notice.
 use Rattle.std.specs.Prelude.{ℕ, List}
-use Rattle.uas_host.specs.declared.Notice.{Notice}
-use Rattle.uas_host.specs.declared.Notice.TheVariants as notice
+use Rattle.uas_host.specs.Notices.{Notice}
+use Rattle.uas_host.specs.Notices as notice
 use Rattle.uas_host.specs.declared.seen.Sight.{Sight}
 use Rattle.uas_host.specs.declared.seen.Sight.TheVariants as sight
 

@@ -110,28 +110,6 @@ pub struct EndedTd {
     pub tag: u16,
 }
 
-/// What an event tells.
-#[derive(Debug, Drop)]
-pub enum Notice {
-    /// The command was received.
-    CommandSeen,
-    /// The data TD on the data-in pipe is done.
-    DataInSeen,
-    /// The data TD on the data-out pipe is done.
-    DataOutSeen,
-    /// The command ended with this status and this sense.
-    Answered {
-        status: u8,
-        sense: ArrayVec<u8, MAX_SENSE_BYTES>,
-    },
-    /// The task management was answered with this code.
-    Responded {
-        code: u8,
-    },
-    /// The left-over TD on this pipe is off its ring.
-    TdRetired(Pipe),
-}
-
 /// How far a retirement is: which engine command is under way (xHCI 4.6.9, 4.6.10).
 #[derive(Clone, Copy, Debug, PartialEq, Eq)]
 pub enum RetirementStage {

@@ -6,7 +6,7 @@ ghost use Rattle.scsi_cmd.specs.declared.TheConstants.{MAX_SENSE_BYTES};
 ghost use Rattle.uas_host.specs.Seen.{after_response, client_seen, completes, data_after, doomed, goes_to_device, goes_to_host, host_seen};
 ghost use Rattle.uas_host.specs.Seen.{is_data_left_over, is_doomed, is_td_left_over, left_over_data, ended_in, place_seen, seen, seen_data, with_retired};
 ghost use Rattle.uas_host.specs.Sights.{notice_by};
-ghost use Rattle.uas_host.specs.declared.Notice.TheVariants.{Answered, TdRetired};
+ghost use Rattle.uas_host.specs.Notices.{Answered, TdRetired};
 ghost use Rattle.uas_profile.specs.TdStates.{is_left_over, is_over, is_pending, is_retired, is_seen};
 ghost use Rattle.uas_host.specs.State.{is_data_over, is_ready};
 

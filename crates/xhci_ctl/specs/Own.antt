@@ -7,13 +7,15 @@ use Rattle.uas_profile.specs.declared.Pipe.{Pipe}
 use Rattle.uas_profile.specs.declared.Pipe.TheVariants.{Status, DataIn, DataOut}
 use Rattle.stream_array.specs.Map.{HasRing, places_of}
 use Rattle.stream_array.specs.Rings.{LinesState, ring_of}
+use Rattle.frame_store.specs.declared.Place.{Place}
 use Rattle.frame_store.specs.declared.TagBuffers.{TagBuffers}
-use Rattle.frame_store.specs.Buffers.{IsNamed}
+use Rattle.frame_store.specs.Buffers.{Begins, IsNamed, start_of}
 use Rattle.uas_iu.specs.declared.Iu.{Iu}
 use Rattle.uas_iu.specs.Units.{unit_text}
 use Rattle.uas_target.specs.declared.Phase.{Phase}
 use Rattle.uas_target.specs.declared.Phase.TheVariants.{Absent, Gives, Takes, Ends}
 use Rattle.uas_profile.specs.declared.TheConstants.{COMMAND_BYTES, MOST_EVENTS}
+use Rattle.xhci_ctl.specs.declared.steps.OwnFront.{OwnFront}
 use Rattle.xhci_ctl.specs.Pipes.{ControllerState}
 use Rattle.xhci_ctl.specs.Steps.{armed_front, front_at}
 
@@ -28,6 +30,16 @@ IsOwn frames (Some (SetDequeue pointer cycle stream endpoint slot)) = ⊥
 IsOwn frames (Some (TransferEvent pointer residual code endpoint slot)) = ⊥
 IsOwn frames (Some (CommandEvent pointer code slot)) = ⊥
 IsOwn frames None = ⊥
+
+-- the bytes of a TRB begin at this place, and all are bytes of its buffer
+abbrev pub StartsAt : List TagBuffers → Option Trb → Place → Type 0
+StartsAt frames (Some (Normal pointer length td_size flags)) start = (start ≡ start_of pointer length) × Begins frames start length
+StartsAt frames (Some (Link pointer toggle chain ioc)) start = ⊥
+StartsAt frames (Some (StopEndpoint endpoint slot)) start = ⊥
+StartsAt frames (Some (SetDequeue pointer cycle stream endpoint slot)) start = ⊥
+StartsAt frames (Some (TransferEvent pointer residual code endpoint slot)) start = ⊥
+StartsAt frames (Some (CommandEvent pointer code slot)) start = ⊥
+StartsAt frames None start = ⊥
 
 -- how many bytes a TRB names
 abbrev pub length_of : Option Trb → ℕ
@@ -93,3 +105,7 @@ pub record IsTakeable (lines : LinesState) (pipe : Pipe) (stream : ℕ) (at : �
   pub front : front_at (places_of pipe) (ring_of lines pipe stream) ≡ Some at
   pub pending : (ring_of lines pipe stream).got < list_length (ring_of lines pipe stream).put
   pub room : list_length lines.events.pending < MOST_EVENTS
+
+-- what is in front of a ring, of a TRB that is carried out
+abbrev pub front_of : OwnFront → ℕ × Option Trb
+front_of own = (own.address, own.trb)

@@ -1,16 +1,19 @@
 //! Which TRBs a step carries out; any other is foreign, and so are bytes that are no TRB's text.
-ghost use Rattle.std.specs.Prelude.{◌≡◌, ◌/◌, ◌%◌, ◌↔◌, ◌==◌, IsTrue};
+ghost use Rattle.std.specs.Prelude.{◌≡◌, ◌/◌, ◌%◌, ◌↔◌, ◌==◌, IfSome, IsSome, IsTrue};
 ghost use Rattle.uas_target.specs.declared.Phase.{Phase};
-ghost use Rattle.xhci_ctl.specs.Own.{IsOwn, IsOwnCommand, IsOwnIn, IsOwnOut, length_of};
+ghost use Rattle.xhci_ctl.specs.Own.{IsOwn, IsOwnCommand, IsOwnData, IsOwnIn, IsOwnOut, StartsAt, length_of};
 
-use frame_store::Frames;
+use frame_store::{Frames, Place};
 use uas_profile::COMMAND_BYTES;
 use uas_target::Phase;
 use xhci_trb::{Trb, TrbFlags};
 
-/// Whether what is in front of a ring is a Normal TRB, without Evaluate Next TRB and Immediate Data, and all its bytes are bytes of one buffer.
-pub(crate) fn is_own(frames: &Frames, trb: &Option<Trb>) -> bool
-    ensures { IsTrue result ↔ IsOwn frames.now trb.now }
+/// Where the bytes begin of what is in front of a ring, if it is a Normal TRB, without Evaluate Next TRB and Immediate Data, and all its
+/// bytes are bytes of one buffer. Nothing of anything else.
+#[inline(always)]
+pub(crate) fn own(frames: &Frames, trb: &Option<Trb>) -> Option<Place>
+    ensures own { IsSome result ↔ IsOwn frames.now trb.now }
+    ensures start { IfSome result (StartsAt frames.now trb.now) }
 {
     match trb {
         Some(
@@ -20,7 +23,13 @@ pub(crate) fn is_own(frames: &Frames, trb: &Option<Trb>) -> bool
                 flags,
                 ..
             },
-        ) => is_plain(*flags) && frames.check(*pointer, *length as usize).is_ok(),
+        ) => {
+            if is_plain(*flags) {
+                frames.start(*pointer, *length as usize)
+            } else {
+                None
+            }
+        }
         Some(
             Trb::Link { .. }
             | Trb::StopEndpoint { .. }
@@ -28,7 +37,7 @@ pub(crate) fn is_own(frames: &Frames, trb: &Option<Trb>) -> bool
             | Trb::TransferEvent { .. }
             | Trb::CommandEvent { .. },
         )
-        | None => false,
+        | None => None,
     }
 }
 
@@ -42,7 +51,7 @@ fn is_plain(flags: TrbFlags) -> bool
 const _: () = prove!(TrbFlags::ENT.0 == 1 && TrbFlags::IDT.0 == 32);
 
 /// How many bytes it names.
-pub(crate) fn length_of(trb: &Option<Trb>) -> usize
+fn length_of(trb: &Option<Trb>) -> usize
     ensures { result ≡ length_of trb.now }
 {
     match trb {
@@ -59,28 +68,53 @@ pub(crate) fn length_of(trb: &Option<Trb>) -> usize
 }
 
 /// The same of the command pipe: at most a Command unit.
-pub(crate) fn is_own_command(frames: &Frames, trb: &Option<Trb>) -> bool
-    ensures { IsTrue result ↔ IsOwnCommand frames.now trb.now }
+#[inline(always)]
+pub(crate) fn own_command(frames: &Frames, trb: &Option<Trb>) -> Option<Place>
+    ensures own { IsSome result ↔ IsOwnCommand frames.now trb.now }
+    ensures start { IfSome result (StartsAt frames.now trb.now) }
 {
-    is_own(frames, trb) && length_of(trb) <= COMMAND_BYTES
+    let start = own(frames, trb)?;
+    if length_of(trb) <= COMMAND_BYTES {
+        Some(start)
+    } else {
+        None
+    }
 }
 
 /// The same of a data-in stream: as many bytes as the device's next chunk, while it gives one.
-pub(crate) fn is_own_in(frames: &Frames, phase: Phase, trb: &Option<Trb>) -> bool
-    ensures { IsTrue result ↔ IsOwnIn frames.now phase trb.now }
+#[inline(always)]
+pub(crate) fn own_in(frames: &Frames, phase: Phase, trb: &Option<Trb>) -> Option<Place>
+    ensures own { IsSome result ↔ IsOwnIn frames.now phase trb.now }
+    ensures start { IfSome result (StartsAt frames.now trb.now) }
 {
     match phase {
-        Phase::Gives(size) => is_own(frames, trb) && length_of(trb) == size,
-        Phase::Absent | Phase::Takes(_) | Phase::Ends => is_own(frames, trb),
+        Phase::Gives(size) => own_of(frames, size, trb),
+        Phase::Absent | Phase::Takes(_) | Phase::Ends => own(frames, trb),
     }
 }
 
 /// The same of a data-out stream: as many bytes as the device's next chunk, while it takes one.
-pub(crate) fn is_own_out(frames: &Frames, phase: Phase, trb: &Option<Trb>) -> bool
-    ensures { IsTrue result ↔ IsOwnOut frames.now phase trb.now }
+#[inline(always)]
+pub(crate) fn own_out(frames: &Frames, phase: Phase, trb: &Option<Trb>) -> Option<Place>
+    ensures own { IsSome result ↔ IsOwnOut frames.now phase trb.now }
+    ensures start { IfSome result (StartsAt frames.now trb.now) }
 {
     match phase {
-        Phase::Takes(size) => is_own(frames, trb) && length_of(trb) == size,
-        Phase::Absent | Phase::Gives(_) | Phase::Ends => is_own(frames, trb),
+        Phase::Takes(size) => own_of(frames, size, trb),
+        Phase::Absent | Phase::Gives(_) | Phase::Ends => own(frames, trb),
+    }
+}
+
+// The same of exactly so many bytes.
+#[inline(always)]
+fn own_of(frames: &Frames, size: usize, trb: &Option<Trb>) -> Option<Place>
+    ensures own { IsSome result ↔ IsOwnData frames.now size trb.now }
+    ensures start { IfSome result (StartsAt frames.now trb.now) }
+{
+    let start = own(frames, trb)?;
+    if length_of(trb) == size {
+        Some(start)
+    } else {
+        None
     }
 }

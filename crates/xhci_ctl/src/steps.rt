@@ -1,24 +1,24 @@
 //! The steps: the front TRB of one ring, its bytes, its event.
-ghost use Rattle.std.specs.Prelude.{◌≡◌, ℕ, ◌<◌, ◌≤◌, ◌/◌, ◌%◌, ◌==◌, Option, if◌then◌else◌, None, Some, IfSome, is_some, length};
+ghost use Rattle.std.specs.Prelude.{◌≡◌, ℕ, ◌<◌, ◌≤◌, ◌/◌, ◌%◌, ◌==◌, Option, if◌then◌else◌, None, Some, IfSome, is_some, length, option_map};
 ghost use Rattle.std.specs.Option.{option_map_or};
 ghost use Rattle.stream_array.specs.Map.{HasRing};
 ghost use Rattle.stream_array.specs.Rings.{ring_of};
-ghost use Rattle.frame_store.specs.Buffers.{IsNamed, written};
+ghost use Rattle.frame_store.specs.Buffers.{Begins, with_bytes};
 ghost use Rattle.uas_target.specs.Device.{answered, gave, given, received, wanted};
 ghost use Rattle.uas_target.specs.declared.Phase.{Phase};
 ghost use Rattle.uas_iu.specs.Units.{unit_text};
 ghost use Rattle.xhci_trb.specs.declared.Trb.{Trb};
 ghost use Rattle.xhci_ctl.specs.declared.Acted.TheVariants.{Idle};
 ghost use Rattle.xhci_ctl.specs.Own.{IsOwn, IsOwnAnswer, IsOwnCommand, IsOwnCommandFront, IsOwnData, IsOwnDataFront, IsOwnIn, IsOwnOut};
-ghost use Rattle.xhci_ctl.specs.Own.{IsOwnStatusFront, IsTakeable};
+ghost use Rattle.xhci_ctl.specs.Own.{IsOwnStatusFront, IsTakeable, StartsAt, front_of};
 ghost use Rattle.xhci_ctl.specs.Steps.{armed_front, began_tag, commanded, completed, consumed, endpoint_of, gave_at, moved, on_front};
 ghost use Rattle.xhci_ctl.specs.Steps.{room_front, sent_at, sent_by, sides_of, stepped_over, took_at};
 
-use crate::own::{is_own, is_own_command, is_own_in, is_own_out, length_of};
+use crate::own::{own, own_command, own_in, own_out};
 use crate::{Acted, Controller};
 use arrayvec::ArrayVec;
 use event_ring::Event;
-use frame_store::Frames;
+use frame_store::{Frames, Place};
 use stream_array::{Lines, Pipe};
 use uas_profile::{
     COMMAND_ENDPOINT, DATA_IN_ENDPOINT, DATA_OUT_ENDPOINT, MOST_EVENTS, SHORT_PACKET, SLOT,
@@ -26,6 +26,14 @@ use uas_profile::{
 };
 use uas_target::{Overlap, Phase, Target, Took};
 use xhci_trb::{Trb, TrbFlags};
+
+// A TRB in front of a ring that is carried out: its address, and where its bytes begin.
+#[derive(Clone, Copy)]
+pub(crate) struct OwnFront {
+    address: u64,
+    trb: Option<Trb>,
+    start: Place,
+}
 
 impl Controller {
     /// A step of the command pipe. It is due where the pipe's ring has a pending TRB and the event ring has room: the device
@@ -43,21 +51,14 @@ impl Controller {
         let Some((address, trb)) = room_front(lines, Pipe::Command, 0) else {
             return Acted::Idle;
         };
-        if !is_own_command(frames, &trb) {
+        let Some(start) = own_command(frames, &trb) else {
             complete(lines, Pipe::Command, 0, address, 0, TRB_ERROR);
             return Acted::Acted(0);
-        }
-        let Some(
-            Trb::Normal {
-                pointer,
-                length,
-                ..
-            },
-        ) = trb
-        else {
+        };
+        let Some(Trb::Normal { length, .. }) = trb else {
             return Acted::Idle;
         };
-        let tag = receive(target, frames.read(pointer, length as usize));
+        let tag = receive(target, frames.read_at(start, length as usize));
         complete(lines, Pipe::Command, 0, address, 0, SUCCESS);
         Acted::Acted(tag)
     }
@@ -87,20 +88,34 @@ impl Controller {
             → stepped_over (sides_of lines.old frames.old target.old) Pipe.DataOut tag front.0 tag ≡ (sides_of lines.new frames.new target.new, result) }
     {
         let phase = target.wants(tag);
-        let data_in = self.armed_front(lines, Pipe::DataIn, tag);
-        if let Some((address, trb)) = data_in {
-            if !is_own_in(frames, phase, &trb) {
-                complete(lines, Pipe::DataIn, tag, address, 0, TRB_ERROR);
-                return Acted::Acted(tag);
+        let data_in = match self.armed_front(lines, Pipe::DataIn, tag) {
+            None => None,
+            Some((address, trb)) => {
+                let Some(start) = own_in(frames, phase, &trb) else {
+                    complete(lines, Pipe::DataIn, tag, address, 0, TRB_ERROR);
+                    return Acted::Acted(tag);
+                };
+                Some(OwnFront {
+                    address,
+                    trb,
+                    start,
+                })
             }
-        }
-        let data_out = self.armed_front(lines, Pipe::DataOut, tag);
-        if let Some((address, trb)) = data_out {
-            if !is_own_out(frames, phase, &trb) {
-                complete(lines, Pipe::DataOut, tag, address, 0, TRB_ERROR);
-                return Acted::Acted(tag);
+        };
+        let data_out = match self.armed_front(lines, Pipe::DataOut, tag) {
+            None => None,
+            Some((address, trb)) => {
+                let Some(start) = own_out(frames, phase, &trb) else {
+                    complete(lines, Pipe::DataOut, tag, address, 0, TRB_ERROR);
+                    return Acted::Acted(tag);
+                };
+                Some(OwnFront {
+                    address,
+                    trb,
+                    start,
+                })
             }
-        }
+        };
         match phase {
             Phase::Absent | Phase::Ends => Acted::Idle,
             Phase::Gives(size) => give_step(lines, frames, target, tag, size, data_in),
@@ -129,12 +144,17 @@ impl Controller {
         let Some((address, trb)) = self.armed_front(lines, Pipe::Status, tag) else {
             return Acted::Idle;
         };
-        if !is_own(frames, &trb) {
+        let Some(start) = own(frames, &trb) else {
             complete(lines, Pipe::Status, tag, address, 0, TRB_ERROR);
             return Acted::Acted(tag);
-        }
+        };
+        let front = OwnFront {
+            address,
+            trb,
+            start,
+        };
         match target.wants(tag) {
-            Phase::Ends => send_step(lines, frames, target, tag, address, trb),
+            Phase::Ends => send_step(lines, frames, target, tag, front),
             Phase::Absent | Phase::Gives(_) | Phase::Takes(_) => Acted::Idle,
         }
     }
@@ -161,21 +181,28 @@ fn give_step(
     target: &mut Target,
     tag: u16,
     size: usize,
-    front: Option<(u64, Option<Trb>)>,
+    front: Option<OwnFront>,
 ) -> Acted
     requires wanted { wanted target.old tag ≡ Phase.Gives size }
-    requires pending { IfSome front (λ at. IsTakeable lines.old Pipe.DataIn tag at) }
-    requires own { IfSome front (λ at. IsOwnData frames.old size at.1) }
+    requires pending { IfSome front (λ own. IsTakeable lines.old Pipe.DataIn tag (front_of own)) }
+    requires own { IfSome front (λ own. IsOwnData frames.old size own.trb × StartsAt frames.old own.trb own.start) }
     ensures { let sides = sides_of lines.old frames.old target.old in
-        on_front sides (gave_at sides tag size) front ≡ (sides_of lines.new frames.new target.new, result) }
+        on_front sides (gave_at sides tag size) (option_map front_of front) ≡ (sides_of lines.new frames.new target.new, result) }
 {
-    let Some((address, trb)) = front else {
+    let Some(
+        OwnFront {
+            address,
+            trb,
+            start,
+        },
+    ) = front
+    else {
         return Acted::Idle;
     };
-    let Some(Trb::Normal { pointer, flags, .. }) = trb else {
+    let Some(Trb::Normal { flags, .. }) = trb else {
         return Acted::Idle;
     };
-    if give(frames, target, tag, pointer, size) {
+    if give(frames, target, tag, start, size) {
         complete_chunk(lines, Pipe::DataIn, tag, address, is_chained(flags));
     }
     Acted::Acted(tag)
@@ -188,21 +215,28 @@ fn take_step(
     target: &mut Target,
     tag: u16,
     size: usize,
-    front: Option<(u64, Option<Trb>)>,
+    front: Option<OwnFront>,
 ) -> Acted
     requires wanted { wanted target.old tag ≡ Phase.Takes size }
-    requires pending { IfSome front (λ at. IsTakeable lines.old Pipe.DataOut tag at) }
-    requires own { IfSome front (λ at. IsOwnData frames.now size at.1) }
+    requires pending { IfSome front (λ own. IsTakeable lines.old Pipe.DataOut tag (front_of own)) }
+    requires own { IfSome front (λ own. IsOwnData frames.now size own.trb × StartsAt frames.now own.trb own.start) }
     ensures { let sides = sides_of lines.old frames.now target.old in
-        on_front sides (took_at sides tag size) front ≡ (sides_of lines.new frames.now target.new, result) }
+        on_front sides (took_at sides tag size) (option_map front_of front) ≡ (sides_of lines.new frames.now target.new, result) }
 {
-    let Some((address, trb)) = front else {
+    let Some(
+        OwnFront {
+            address,
+            trb,
+            start,
+        },
+    ) = front
+    else {
         return Acted::Idle;
     };
-    let Some(Trb::Normal { pointer, flags, .. }) = trb else {
+    let Some(Trb::Normal { flags, .. }) = trb else {
         return Acted::Idle;
     };
-    if target.take_chunk(tag, frames.read(pointer, size)) {
+    if target.take_chunk(tag, frames.read_at(start, size)) {
         complete_chunk(lines, Pipe::DataOut, tag, address, is_chained(flags));
     }
     Acted::Acted(tag)
@@ -214,31 +248,36 @@ fn send_step(
     frames: &mut Frames,
     target: &mut Target,
     tag: u16,
-    address: u64,
-    trb: Option<Trb>,
+    front: OwnFront,
 ) -> Acted
     requires wanted { wanted target.old tag ≡ Phase.Ends }
-    requires pending { IsTakeable lines.old Pipe.Status tag (address, trb) }
-    requires own { IsOwn frames.old trb }
-    ensures own { IsOwnAnswer frames.old Phase.Ends (answered target.old tag) trb
+    requires pending { IsTakeable lines.old Pipe.Status tag (front_of front) }
+    requires own { IsOwn frames.old front.trb }
+    requires start { StartsAt frames.old front.trb front.start }
+    ensures own { IsOwnAnswer frames.old Phase.Ends (answered target.old tag) front.trb
         → let sides = sides_of lines.old frames.old target.old in
-        option_map_or (λ unit. on_front sides (sent_at sides tag (unit_text unit)) (Some (address, trb))) (answered target.old tag) (sides, Idle)
+        option_map_or (λ unit. on_front sides (sent_at sides tag (unit_text unit)) (Some (front_of front))) (answered target.old tag) (sides, Idle)
         ≡ (sides_of lines.new frames.new target.new, result) }
-    ensures foreign { (IsOwnAnswer frames.old Phase.Ends (answered target.old tag) trb → ⊥)
-        → stepped_over (sides_of lines.old frames.old target.old) Pipe.Status tag address tag ≡ (sides_of lines.new frames.new target.new, result) }
+    ensures foreign { (IsOwnAnswer frames.old Phase.Ends (answered target.old tag) front.trb → ⊥)
+        → stepped_over (sides_of lines.old frames.old target.old) Pipe.Status tag front.address tag ≡ (sides_of lines.new frames.new target.new, result) }
 {
+    let OwnFront {
+        address,
+        trb,
+        start,
+    } = front;
     let mut text = ArrayVec::new();
     if !target.write_status(tag, &mut text) {
         return Acted::Idle;
     }
-    let Some(Trb::Normal { pointer, .. }) = trb else {
+    let Some(Trb::Normal { length, .. }) = trb else {
         return Acted::Idle;
     };
-    if length_of(&trb) < text.len() {
+    if (length as usize) < text.len() {
         complete(lines, Pipe::Status, tag, address, 0, TRB_ERROR);
         return Acted::Acted(tag);
     }
-    frames.write(pointer, &text);
+    frames.write_at(start, &text);
     target.sent(tag);
     let residual = STATUS_BYTES as u32 - text.len() as u32;
     complete(lines, Pipe::Status, tag, address, residual, SHORT_PACKET);
@@ -296,14 +335,14 @@ fn complete(lines: &mut Lines, pipe: Pipe, stream: u16, address: u64, residual: 
 
 // The device gives a chunk of these bytes. False at a bad block, which leaves them as they were.
 #[tactic(auto, using(crate::proofs::Windows::written_back))]
-fn give(frames: &mut Frames, target: &mut Target, tag: u16, pointer: u64, size: usize) -> bool
+fn give(frames: &mut Frames, target: &mut Target, tag: u16, start: Place, size: usize) -> bool
     requires wanted { wanted target.old tag ≡ Phase.Gives size }
-    requires named { IsNamed frames.old pointer size }
+    requires start { Begins frames.old start size }
     ensures good { result ≡ is_some (given target.old tag) }
-    ensures frames { frames.new ≡ option_map_or (λ bytes. written frames.old pointer size bytes) (given target.old tag) frames.old }
+    ensures frames { frames.new ≡ option_map_or (λ bytes. with_bytes frames.old start bytes) (given target.old tag) frames.old }
     ensures device { target.new ≡ gave target.old tag }
 {
-    target.give_chunk(tag, frames.window(pointer, size))
+    target.give_chunk(tag, frames.window_at(start, size))
 }
 
 // Consumes the TRB in front of a data stream, and posts its event where its TD ends with it.

@@ -29,8 +29,7 @@ use Rattle.uas_profile.specs.declared.Place.{Place}
 use Rattle.uas_profile.specs.declared.TdState.{TdState}
 use Rattle.uas_profile.specs.declared.TdState.TheVariants.{Pending, Seen, LeftOver, Retired}
 use Rattle.uas_host.specs.declared.HostAnswer.TheVariants.{Response as AnsweredResponse, Status as AnsweredStatus}
-use Rattle.uas_host.specs.declared.Notice.{Notice}
-use Rattle.uas_host.specs.declared.Notice.TheVariants.{CommandSeen, DataInSeen, DataOutSeen, Answered, Responded}
+use Rattle.uas_host.specs.Notices.{Notice, CommandSeen, DataInSeen, DataOutSeen, Answered, Responded}
 use Rattle.uas_host.specs.declared.HostEntry.{HostEntry}
 use Rattle.uas_host.specs.declared.HostClient.{HostClient}
 use Rattle.uas_host.specs.Seen.{after_response, completes, ended_in}

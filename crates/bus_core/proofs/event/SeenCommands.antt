@@ -15,7 +15,7 @@ use Rattle.stream_array.specs.Rings.{LinesState, with_ring}
 use Rattle.scsi_cmd.specs.Held.{held_at}
 use Rattle.uas_host.specs.declared.Handled.TheVariants.{Matched}
 use Rattle.uas_host.specs.declared.HostEntry.{HostEntry}
-use Rattle.uas_host.specs.declared.Notice.TheVariants.{CommandSeen}
+use Rattle.uas_host.specs.Notices.{CommandSeen}
 use Rattle.uas_profile.specs.declared.Place.{Place}
 use Rattle.uas_profile.specs.TdStates.{is_pending}
 use Rattle.uas_host.specs.State.{HostState, client_of}

@@ -25,7 +25,7 @@ use Rattle.uas_host.specs.declared.HostClient.{HostClient}
 use Rattle.uas_host.specs.declared.HostEntry.{HostEntry}
 use Rattle.uas_profile.specs.declared.TdState.TheVariants.{LeftOver}
 use Rattle.uas_profile.specs.TdStates.{is_pending}
-use Rattle.uas_host.specs.declared.Notice.TheVariants.{Responded}
+use Rattle.uas_host.specs.Notices.{Responded}
 use Rattle.uas_profile.specs.declared.Place.{Place}
 use Rattle.uas_host.specs.Seen.{after_response, doomed as host_doomed, ended_in, left_over_data}
 use Rattle.uas_host.specs.State.{HostState, client_of, new_client, with_client}

@@ -19,8 +19,7 @@ use Rattle.uas_host.specs.declared.Handled.TheVariants.{Matched}
 use Rattle.uas_profile.specs.declared.Place.{Place}
 use Rattle.uas_profile.specs.Places.{tag_of}
 use Rattle.uas_host.specs.Tds.{data_td, data_trb_count, window_of}
-use Rattle.uas_host.specs.declared.Notice.{Notice}
-use Rattle.uas_host.specs.declared.Notice.TheVariants.{DataInSeen, DataOutSeen}
+use Rattle.uas_host.specs.Notices.{Notice, DataInSeen, DataOutSeen}
 use Rattle.uas_host.specs.Events.{completes, event_doors, freed_on, handled, notice_of, seen, with_freed}
 use Rattle.uas_profile.specs.declared.TheConstants.{TASK_SLOT, SUCCESS}
 use Rattle.shared_machine.specs.declared.Td.{Td}

@@ -14,7 +14,7 @@ use Rattle.scsi_cmd.specs.declared.Request.{Request}
 use Rattle.scsi_cmd.specs.Held.{held_at}
 use Rattle.uas_host.specs.declared.EndedTd.{EndedTd}
 use Rattle.uas_host.specs.declared.Handled.TheVariants.{Matched}
-use Rattle.uas_host.specs.declared.Notice.{Notice}
+use Rattle.uas_host.specs.Notices.{Notice}
 use Rattle.uas_profile.specs.declared.Place.{Place}
 use Rattle.uas_host.specs.declared.HostClient.{HostClient}
 use Rattle.uas_host.specs.State.{HostState, client_of}

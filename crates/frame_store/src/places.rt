@@ -10,6 +10,7 @@ use uas_profile::{
 impl Buffer {
     ghost use Rattle.frame_store.specs.Places.{base_of, stride_of, room_of, buffer_at};
 
+    #[inline(always)]
     fn base(self) -> u64
         ensures { result ≡ base_of self }
     {
@@ -20,6 +21,7 @@ impl Buffer {
         }
     }
 
+    #[inline(always)]
     fn stride(self) -> u64
         ensures value { result ≡ stride_of self }
         ensures positive { 0 < result }
@@ -30,6 +32,7 @@ impl Buffer {
         }
     }
 
+    #[inline(always)]
     fn room(self) -> usize
         ensures { result ≡ room_of self }
     {
@@ -40,6 +43,7 @@ impl Buffer {
         }
     }
 
+    #[inline(always)]
     fn at(address: u64) -> Buffer
         ensures { result ≡ buffer_at address }
     {
@@ -54,7 +58,7 @@ impl Buffer {
 }
 
 impl Place {
-    ghost use Rattle.frame_store.specs.Places.{address_of, place_at, IsPlace};
+    ghost use Rattle.frame_store.specs.Places.{address_of, checked_place, place_at, IsPlace};
     ghost use Rattle.frame_store.specs.Buffers.{start_of};
     ghost use Rattle.frame_store.specs.declared.Place.{Place};
 
@@ -74,11 +78,24 @@ impl Place {
     }
 
     /// The byte that an address belongs to, or None where no buffer has room there.
+    #[inline(always)]
     pub fn at(address: u64) -> Option<Place>
         ensures value { result ≡ place_at address }
         ensures inverse { (place : Place) → (result ≡ Some place) ↔ (IsPlace place × (address_of place ≡ address)) }
     {
-        let buffer = Buffer::at(address);
+        // Each buffer's base, stride and room are constants in its own arm.
+        match Buffer::at(address) {
+            Buffer::Command => Place::checked(Buffer::Command, address),
+            Buffer::Status => Place::checked(Buffer::Status, address),
+            Buffer::Window => Place::checked(Buffer::Window, address),
+        }
+    }
+
+    // The same, of one kind of buffer.
+    #[inline(always)]
+    fn checked(buffer: Buffer, address: u64) -> Option<Place>
+        ensures { result ≡ checked_place buffer address }
+    {
         let beyond = address.checked_sub(buffer.base())?;
         let tag = beyond / buffer.stride();
         let offset = (beyond % buffer.stride()) as usize;

@@ -13,7 +13,8 @@
 //!
 //! What is promised: no two bytes have one address, and an address is found by arithmetic, without a search (`Place`).
 //! `check` answers Ok exactly where there is no byte to name or all of them are bytes of one buffer that is there; `read`,
-//! `window` and `write` then give and change exactly those bytes. A lent vector is moved in and moved out again: its bytes are
+//! `window` and `write` then give and change exactly those bytes. `start` asks the same and tells the place where they begin, and
+//! `read_at`, `window_at` and `write_at` go by that place. A lent vector is moved in and moved out again: its bytes are
 //! never copied. `Frames::new` takes the memory of all small buffers at once, and no other call takes any.
 //!
 //! A caller sees the store as the list of its tags' buffers, tag 1 first (`specs/Buffers.antt`). The address map is

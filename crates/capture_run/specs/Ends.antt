@@ -1,19 +1,32 @@
 -- How a capture ends: what stands in the file, and when it gives up.
-use Rattle.std.specs.Prelude.{◌≡◌, ℕ, Bool, IsTrue, List, Option, Some}
+use Rattle.std.specs.Prelude.{◌≡◌, ℕ, Bool, IsTrue, List, Option, Some, Result, Ok, Err}
 use Rattle.std.specs.Io.KnownBytes.{Appends, Keeps}
 use Rattle.byte_io.specs.declared.streams.StreamFault.{StreamFault}
 use Rattle.byte_io.specs.declared.streams.StreamFault.TheVariants.{NoMemory as StreamNoMemory, File as StreamFile}
 use Rattle.uas_replay.specs.declared.status.RunFault.TheVariants.{NoMemory}
 use Rattle.uas_replay.specs.Runs.{ReplayGivesUp, status_of as run_status_of}
+use Rattle.block_unit.specs.BlockMaps.{BlockMaps}
+use Rattle.uas_script.specs.declared.Line.{Line}
+use Rattle.uas_script.specs.declared.ScriptFault.{ScriptFault}
+use Rattle.uas_trace.specs.Texts.{traced_text}
 use Rattle.trace_urbs.specs.Records.{capture_of}
 use Rattle.capture_run.specs.declared.fault.CaptureFault.{CaptureFault}
 use Rattle.capture_run.specs.declared.fault.CaptureFault.TheVariants.{Run, File}
 
--- a capture of a trace, of commands that moved these bytes, was added
-pub record AppendsCapture (old new : Option (List ℕ)) : Type 0 where
+-- the capture of the trace of these lines on these units, of commands that moved these bytes, was added
+pub record AppendsCapture (units : List BlockMaps) (lines : List Line) (old new : Option (List ℕ)) : Type 0 where
   pub transfers : List (List (List ℕ))
-  pub trace : List ℕ
-  pub added : Appends old new (capture_of transfers trace)
+  pub added : Appends old new (capture_of transfers (traced_text units lines))
+
+-- these are the bytes of the capture of the trace of these lines on these units, of commands that moved these bytes
+pub record IsCaptureOf (units : List BlockMaps) (lines : List Line) (bytes : Option (List ℕ)) : Type 0 where
+  pub transfers : List (List (List ℕ))
+  pub is : bytes ≡ Some (capture_of transfers (traced_text units lines))
+
+-- likewise, of a script's lines
+abbrev pub CapturesScript : List BlockMaps → Result (List Line) ScriptFault → Option (List ℕ) → Type 0
+CapturesScript units (Ok lines) bytes = IsCaptureOf units lines bytes
+CapturesScript units (Err fault) bytes = ⊥
 
 -- these are the bytes of a capture of a trace, of commands that moved these bytes
 pub record IsCapture (bytes : Option (List ℕ)) : Type 0 where

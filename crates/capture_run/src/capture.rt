@@ -1,12 +1,13 @@
 //! The run `capture`.
 
-ghost use Rattle.std.specs.Prelude.{◌≡◌, ℕ, ◌≤◌, ◌⊎◌, false, Ok, Some, IsTrue, IsErr, IfOk, IfErr, OnOk, IfSome};
+ghost use Rattle.std.specs.Prelude.{◌≡◌, ℕ, ◌≤◌, ◌⊎◌, [], false, Ok, Some, IsTrue, IsErr, IfOk, IfErr, OnOk, IfSome};
 ghost use Rattle.std.specs.Io.KnownBytes.{Appends, Keeps, IsAtEnd};
 ghost use Rattle.byte_io.specs.Disks.{AreDisks};
 ghost use Rattle.uas_script.specs.Script.{script};
 ghost use Rattle.uas_replay.specs.Told.{told, zeroed_units};
 ghost use Rattle.uas_replay.specs.Runs.{ScriptGivesUp, StopsBy, Tells};
-ghost use Rattle.capture_run.specs.Ends.{AppendsCapture, CaptureGivesUp, FileGivesUp, IsCapture};
+ghost use Rattle.capture_run.specs.Ends.{AppendsCapture, CaptureGivesUp, CapturesScript, FileGivesUp, IsCapture, IsCaptureOf};
+ghost use Rattle.uas_trace.specs.Texts.{TracesScript};
 
 use crate::fault::{CaptureFault, capture_fault};
 use crate::kept::{Kept, run_kept};
@@ -40,6 +41,9 @@ pub fn run_capture<F: Files, S: Source, O: Sink, W: Write>(
         Tells (zeroed_units disks.clients disks.blocks disks.bad) (script disks.clients bytes)
         (O.written output.old) (O.written output.new) result) }
     ensures captured { result ≤ 1 → IsTrue (F.tells files.old) → IsCapture (F.holds files.new file.now) }
+    // The trace that is captured is the one of the script.
+    ensures of { result ≤ 1 → IfSome (S.left input.old) (λ bytes. IsTrue (F.tells files.old) →
+        CapturesScript (zeroed_units disks.clients disks.blocks disks.bad) (script disks.clients bytes) (F.holds files.new file.now)) }
     ensures created { result ≤ 1 → IsTrue (F.can_create files.old file.now) }
     ensures fault { result ≡ 3 →
         ((IfSome (S.left input.old) (λ bytes. IsErr (script disks.clients bytes)) ⊎ (IsTrue (S.can_fail input.old)
@@ -78,6 +82,8 @@ fn capture<F: Files, S: Source, O: Sink, W: Write>(
         Tells (zeroed_units disks.clients disks.blocks disks.bad) (script disks.clients bytes)
         (O.written output.old) (O.written output.new) status)) }
     ensures captured { OnOk result (IsTrue (F.tells files.old) → IsCapture (F.holds files.new file.now)) }
+    ensures of { OnOk result (IfSome (S.left input.old) (λ bytes. IsTrue (F.tells files.old) →
+        CapturesScript (zeroed_units disks.clients disks.blocks disks.bad) (script disks.clients bytes) (F.holds files.new file.now))) }
     ensures created { OnOk result (IsTrue (F.can_create files.old file.now)) }
     ensures fault { IfErr result (CaptureGivesUp disks.clients (S.left input.old) (S.can_fail input.old) (O.can_fail output.old)
         (F.can_fail files.old file.now) (O.written output.old) (O.written output.new)) }
@@ -125,15 +131,16 @@ fn save<F: Files, W: Write>(
     disks: Disks,
     files: &mut F,
     file: &str,
-    script: &[u8],
+    source: &[u8],
     lines: &[Line],
     notes: &mut W,
     shows_progress: bool,
 ) -> Result<Kept, CaptureFault>
-    requires { AreDisks disks }
+    requires disks { AreDisks disks }
+    requires lines { script disks.clients source.now ≡ Ok lines.now }
     ensures text { IfOk result (λ kept. kept.text.items ≡ (told (zeroed_units disks.clients disks.blocks disks.bad) lines.now).0) }
     ensures status { IfOk result (λ kept. kept.status ≡ (told (zeroed_units disks.clients disks.blocks disks.bad) lines.now).1) }
-    ensures captured { OnOk result (IsTrue (F.tells files.old) → IsCapture (F.holds files.new file.now)) }
+    ensures captured { OnOk result (IsTrue (F.tells files.old) → IsCaptureOf (zeroed_units disks.clients disks.blocks disks.bad) lines.now (F.holds files.new file.now)) }
     ensures created { OnOk result (IsTrue (F.can_create files.old file.now)) }
     ensures fault { IfErr result (FileGivesUp (F.can_fail files.old file.now)) }
     ensures quiet { shows_progress ≡ false → notes.new ≡ notes.old }
@@ -142,7 +149,7 @@ fn save<F: Files, W: Write>(
     match write_capture(
         alloc,
         disks,
-        script,
+        source,
         lines,
         &mut capture,
         notes,
@@ -163,16 +170,17 @@ fn save<F: Files, W: Write>(
 fn write_capture<O: Sink, W: Write>(
     alloc: Global,
     disks: Disks,
-    script: &[u8],
+    source: &[u8],
     lines: &[Line],
     file: &mut O,
     notes: &mut W,
     shows_progress: bool,
 ) -> Result<Kept, CaptureFault>
-    requires { AreDisks disks }
+    requires disks { AreDisks disks }
+    requires lines { script disks.clients source.now ≡ Ok lines.now }
     ensures text { IfOk result (λ kept. kept.text.items ≡ (told (zeroed_units disks.clients disks.blocks disks.bad) lines.now).0) }
     ensures status { IfOk result (λ kept. kept.status ≡ (told (zeroed_units disks.clients disks.blocks disks.bad) lines.now).1) }
-    ensures captured { OnOk result (AppendsCapture (O.written file.old) (O.written file.new)) }
+    ensures captured { OnOk result (AppendsCapture (zeroed_units disks.clients disks.blocks disks.bad) lines.now (O.written file.old) (O.written file.new)) }
     ensures there { OnOk result (IsTrue (O.is_there file.old)) }
     ensures same { O.can_fail file.new ≡ O.can_fail file.old }
     ensures stays { O.is_there file.new ≡ O.is_there file.old }
@@ -182,7 +190,7 @@ fn write_capture<O: Sink, W: Write>(
 {
     let kept = run_kept(alloc, disks, lines).map_err(|_| CaptureFault::Run(RunFault::NoMemory))?;
     note("the script has run: tracing it", notes, shows_progress);
-    let trace = trace_text(alloc, disks, script).map_err(|_| CaptureFault::Run(
+    let trace = trace_text(alloc, disks, source).map_err(|_| CaptureFault::Run(
         RunFault::NoMemory,
     ))?;
     note("traced: writing its packets", notes, shows_progress);
@@ -203,15 +211,16 @@ fn note<W: Write>(what: &str, notes: &mut W, shows_progress: bool)
 }
 
 /// What `trace` prints of the script.
-fn trace_text(alloc: Global, disks: Disks, script: &[u8]) -> Result<Vec<u8>, RunFault>
+fn trace_text(alloc: Global, disks: Disks, source: &[u8]) -> Result<Vec<u8>, RunFault>
     requires { AreDisks disks }
+    ensures { IfOk result (λ text. TracesScript (zeroed_units disks.clients disks.blocks disks.bad) (script disks.clients source.now) (Some []) (Some text.items)) }
 {
     let mut taken = BytesTaken(Vec::new(alloc));
     let mut faults = Vec::new(alloc);
     let status = run_trace(
         alloc,
         disks,
-        &mut BytesLeft(script),
+        &mut BytesLeft(source),
         &mut taken,
         &mut faults,
     );

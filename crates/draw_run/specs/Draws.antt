@@ -1,14 +1,23 @@
 -- What a run that is drawn writes, and when it gives up.
-use Rattle.std.specs.Prelude.{ℕ, Bool, IsTrue, List, Option}
+use Rattle.std.specs.Prelude.{ℕ, Bool, IsTrue, List, Option, Result, Ok, Err}
 use Rattle.std.specs.Io.KnownBytes.{Appends, Keeps}
 use Rattle.uas_replay.specs.declared.status.RunFault.{RunFault}
 use Rattle.uas_replay.specs.declared.status.RunFault.TheVariants.{Image, ImageFile, Script, ScriptFile, NoMemory}
+use Rattle.block_unit.specs.BlockMaps.{BlockMaps}
+use Rattle.uas_script.specs.declared.Line.{Line}
+use Rattle.uas_script.specs.declared.ScriptFault.{ScriptFault}
+use Rattle.uas_trace.specs.Texts.{traced_text}
 use Rattle.trace_picture.specs.Picture.{picture_of}
 
 -- the picture of a trace, of so many clients, was added
 pub record AppendsPicture (clients : ℕ) (old new : Option (List ℕ)) : Type 0 where
   pub trace : List ℕ
   pub added : Appends old new (picture_of clients trace)
+
+-- the picture of the trace of a script's lines on these units, of so many clients, was added
+abbrev pub DrawsScript : ℕ → List BlockMaps → Result (List Line) ScriptFault → Option (List ℕ) → Option (List ℕ) → Type 0
+DrawsScript clients units (Ok lines) old new = Appends old new (picture_of clients (traced_text units lines))
+DrawsScript clients units (Err fault) old new = ⊥
 
 -- a call that writes a picture gives up for want of memory, which leaves nothing written, or at a fault of the writer
 abbrev pub StopsDrawing : Bool → Option (List ℕ) → Option (List ℕ) → RunFault → Type 0

@@ -1,12 +1,13 @@
 //! The run `draw`.
 
 ghost use Rattle.std.specs.Prelude.{◌≡◌, ◌≤◌, ◌⊎◌, false, IsTrue, IsErr, IfErr, OnOk, IfSome};
-ghost use Rattle.std.specs.Io.KnownBytes.{Keeps, IsAtEnd};
+ghost use Rattle.std.specs.Io.KnownBytes.{Appends, Keeps, IsAtEnd};
 ghost use Rattle.byte_io.specs.Disks.{AreDisks};
 ghost use Rattle.uas_script.specs.Script.{script};
 ghost use Rattle.uas_replay.specs.Told.{zeroed_units};
 ghost use Rattle.uas_trace.specs.Traced.{Traces};
-ghost use Rattle.draw_run.specs.Draws.{AppendsPicture, StopsDrawing};
+ghost use Rattle.draw_run.specs.Draws.{AppendsPicture, DrawsScript, StopsDrawing};
+ghost use Rattle.trace_picture.specs.Picture.{picture_of};
 
 use byte_io::{BytesTaken, Disks, Sink, Source};
 use std::alloc::Global;
@@ -34,6 +35,10 @@ pub fn run_draw<S: Source, O: Sink, W: Write>(
     ensures traced { result ≤ 1 → IfSome (S.left reader.old) (λ bytes.
         Traces (zeroed_units disks.clients disks.blocks disks.bad) (script disks.clients bytes) result) }
     ensures drawn { result ≤ 1 → AppendsPicture disks.clients (O.written writer.old) (O.written writer.new) }
+    // The trace that is drawn is the one of the script.
+    ensures of { result ≤ 1 → IfSome (S.left reader.old) (λ bytes.
+        DrawsScript disks.clients (zeroed_units disks.clients disks.blocks disks.bad) (script disks.clients bytes)
+        (O.written writer.old) (O.written writer.new)) }
     ensures read { result ≤ 1 → IsAtEnd (S.left reader.new) }
     ensures there { result ≤ 1 → IsTrue (S.is_there reader.old) }
     ensures fault { result ≡ 3 →
@@ -74,7 +79,7 @@ fn write_picture<O: Sink>(
     trace: &[u8],
     writer: &mut O,
 ) -> Result<(), RunFault>
-    ensures drawn { OnOk result (AppendsPicture clients (O.written writer.old) (O.written writer.new)) }
+    ensures drawn { OnOk result (Appends (O.written writer.old) (O.written writer.new) (picture_of clients trace.now)) }
     ensures fault { IfErr result (StopsDrawing (O.can_fail writer.old) (O.written writer.old) (O.written writer.new)) }
 {
     let Ok(picture) = picture(alloc, clients, trace) else {

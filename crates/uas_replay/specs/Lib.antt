@@ -3,3 +3,4 @@ pub mod Told
 pub mod Runs
 pub mod Headline
 pub mod Walks
+pub mod Moments

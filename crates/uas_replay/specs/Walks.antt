@@ -1,7 +1,15 @@
 -- The walk of a script: what its run has told, with the world of rings that its bus is, and what a watcher shows of it.
-use Rattle.std.specs.Prelude.{◌≡◌, ℕ, if◌then◌else◌, List, [], ◌∷◌, ◌++◌, length, drop, slice_get, slice_set, option_map, Option, Some, None, IsSome, Result, Ok, Err}
+use Rattle.std.specs.Prelude.{◌≡◌, ℕ, ◌+◌, if◌then◌else◌, List, [], ◌∷◌, ◌++◌, length, map, drop, slice_get, slice_set, option_map, Option, Some, None, IsSome, Result, Ok, Err}
 use Rattle.std.specs.Io.KnownBytes.{Appends}
 use Rattle.block_unit.specs.BlockMaps.{BlockMaps}
+use Rattle.std.specs.List.{range_with_len}
+use Rattle.uas_profile.specs.declared.Pipe.{Pipe}
+use Rattle.uas_profile.specs.declared.Pipe.TheVariants.{Command, Status, DataIn, DataOut}
+use Rattle.uas_profile.specs.declared.TheConstants.{ENGINE_RING, STREAMS}
+use Rattle.cycle_ring.specs.Ring.{opening as new_ring}
+use Rattle.cycle_ring.specs.Items.{ItemRing}
+use Rattle.event_ring.specs.Events.{opening as new_events}
+use Rattle.stream_array.specs.Map.{ring_base}
 use Rattle.stream_array.specs.Rings.{LinesState}
 use Rattle.tag_range.specs.declared.Refused.{Refused}
 use Rattle.tag_range.specs.Tags.{ClientTags}
@@ -28,9 +36,24 @@ pub record Walk : Type 0 where
   pub telling : Telling
   pub world : World
 
+-- the new rings of a pipe with streams, of which stream 1 is the first
+abbrev pub new_rings : Pipe → List ItemRing
+new_rings pipe = map (λ k. new_ring (ring_base pipe (k + 1))) (range_with_len 0 STREAMS)
+
+-- all rings new, each at its address
+unfoldable pub opening_lines : LinesState
+opening_lines = record {
+  command = new_ring (ring_base Command 0);
+  status = new_rings Status;
+  data_in = new_rings DataIn;
+  data_out = new_rings DataOut;
+  engine = new_ring ENGINE_RING;
+  events = new_events;
+}
+
 -- the walk before the first line, over new rings
-abbrev pub opening_walk : List BlockMaps → LinesState → Walk
-opening_walk units rings = record { telling = opening_run units; world = opening_world units (length units) rings }
+abbrev pub opening_walk : List BlockMaps → Walk
+opening_walk units = record { telling = opening_run units; world = opening_world units (length units) opening_lines }
 
 -- the walk after a step of the bus, of which nothing is told yet
 abbrev pub acted : Walk → Step → Walk
@@ -119,12 +142,11 @@ abbrev pub shown_along : (World → Step → List ℕ) → Walk → List Moment 
 shown_along text_of walk [] = []
 shown_along text_of walk (moment ∷ rest) = shown_in text_of walk moment ++ shown_along text_of (walk_then walk moment) rest
 
--- Moments lead from one walk to another, and what is shown along them is what was appended to known bytes.
-pub record ShowsMoments (text_of : World → Step → List ℕ) (old new : Walk) (before after : Option (List ℕ)) : Type 0 where
-  pub moments : List Moment
+-- These moments lead from one walk to another, and what is shown along them is what was appended to known bytes.
+pub record ShowsMoments (text_of : World → Step → List ℕ) (moments : List Moment) (old new : Walk) (before after : Option (List ℕ)) : Type 0 where
   pub leads : walked old moments ≡ new
   pub shown : Appends before after (shown_along text_of old moments)
 
 -- likewise, where it is known what was shown before
-pub record Shows (text_of : World → Step → List ℕ) (old new : Walk) (before after : Option (List ℕ)) : Type 0 where
-  pub known : IsSome before → ShowsMoments text_of old new before after
+pub record Shows (text_of : World → Step → List ℕ) (moments : List Moment) (old new : Walk) (before after : Option (List ℕ)) : Type 0 where
+  pub known : IsSome before → ShowsMoments text_of moments old new before after

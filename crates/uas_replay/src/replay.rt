@@ -8,7 +8,7 @@ ghost use Rattle.scsi_cmd.specs.Op.{direction_of};
 ghost use Rattle.uas_replay.specs.Told.{zeroed_units, opening_ranges, command_of, is_to_host, took_to_host, told};
 ghost use Rattle.uas_replay.specs.Told.{issued_for, handing_in, brought_in_by};
 ghost use Rattle.uas_replay.specs.Walks.{acted, issued_in, issued_run, machine_of, opening_walk, told_since};
-ghost use Rattle.stream_array.specs.Rings.{IsOpeningLines};
+ghost use Rattle.stream_array.specs.Rings.{IsLines, IsOpeningLines};
 ghost use Rattle.shared_machine.specs.Bus.{HasTicket};
 ghost use Rattle.shared_machine.specs.Drain.{AreNotLeftOver, AreQuiet};
 ghost use Rattle.bus_core.specs.Shows.{ShowsShared};
@@ -29,7 +29,7 @@ use std::alloc::{AllocError, Global};
 use std::marker::Model;
 use stream_array::{Lines, Pipe};
 use tag_range::{Refused, Tag, TagRange, Ticket};
-use uas_profile::TAGS;
+use uas_profile::{EVENT_RING_PLACES, TAGS};
 use uas_script::{Line, Request};
 pub use walk::{Unwatched, Watcher};
 
@@ -134,12 +134,14 @@ impl ScriptRun {
         requires most_clients { clients ≤ MAX_CLIENTS }
         requires some_blocks { 1 ≤ blocks }
         requires most_blocks { blocks ≤ MAX_BLOCKS }
-        ensures walk { IfOk result (λ run. run ≡ opening_walk (zeroed_units clients blocks bad) run.world.lines) }
+        ensures walk { IfOk result (λ run. run ≡ opening_walk (zeroed_units clients blocks bad)) }
         ensures rings { IfOk result (λ run. IsOpeningLines run.world.lines) }
     {
+        let bus = RingBus::new(alloc, zeroed_units(alloc, clients, blocks, bad)?)?;
+        stand(bus.lines());
         Ok(ScriptRun {
             alloc,
-            bus: RingBus::new(alloc, zeroed_units(alloc, clients, blocks, bad)?)?,
+            bus,
             ranges: opening_ranges(alloc, clients)?,
             brings_in: opening_notes(alloc, clients)?,
             text: Vec::new(alloc),
@@ -320,6 +322,13 @@ impl ScriptRun {
         self.free(client, tag);
         self.refuse(client, printed::fault_name(refusal.fault))
     }
+}
+
+/// What holds of all rings: they lie where the address map says.
+fn stand(lines: &Lines)
+    ensures { IsLines lines.now }
+{
+    prove!(lines.len() < EVENT_RING_PLACES);
 }
 
 /// Whether an operation moves data to the host.

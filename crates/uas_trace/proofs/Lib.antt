@@ -1,4 +1,5 @@
 mod Stands
 mod StepTexts
+mod Tries
 mod Units
 mod Whole

@@ -1,14 +1,14 @@
 -- All that a traced run prints, with what waited until its end.
-use Rattle.std.proofs.Common.{◌≡◌, ◌∙◌, ℕ, List, [], ◌++◌, Option, Some, None, fold, refl, ap, sym, subst, append-nil, append_assoc}
+use Rattle.std.proofs.Common.{◌≡◌, ◌∙◌, ℕ, List, [], ◌++◌, Option, Some, None, fold, refl, ap, subst, append-nil}
 use Rattle.std.specs.Prelude.{IsSome}
 use Rattle.std.specs.Io.KnownBytes.{Appends}
 use Rattle.block_unit.specs.BlockMaps.{BlockMaps}
-use Rattle.stream_array.specs.Rings.{IsOpeningLines, LinesState}
 use Rattle.uas_script.specs.declared.Line.{Line}
-use Rattle.uas_replay.specs.Told.{drained_run, told_line}
-use Rattle.uas_replay.specs.Walks.{Walk, Shows, opening_walk, shown_along}
+use Rattle.uas_replay.specs.Told.{drained_run, opening_run, told_line}
+use Rattle.uas_replay.specs.Moments.{moments_of, whole_moments}
+use Rattle.uas_replay.specs.Walks.{Walk, Moment, Shows, opening_walk, shown_along}
 use Rattle.uas_trace.specs.Traced.{with_waiting}
-use Rattle.uas_trace.specs.Texts.{TracesAll, step_text}
+use Rattle.uas_trace.specs.Texts.{TracesAll, step_text, traced_text}
 
 -- what waited is written
 written_there : (first between after : Option (List ℕ)) (waiting shown : List ℕ) → Appends (with_waiting first []) (with_waiting between waiting) shown
@@ -22,25 +22,35 @@ known_waiting : (bytes : Option (List ℕ)) → IsSome bytes → IsSome (with_wa
 known_waiting None known = known
 known_waiting (Some bytes) known = refl
 
-written_all : (old new : Walk) (first between after : Option (List ℕ)) (waiting : List ℕ)
-    → Shows step_text old new (with_waiting first []) (with_waiting between waiting) → Appends between after waiting → Shows step_text old new first after
-written_all old new first between after waiting shows rest = record {
+written_all : (moments : List Moment) (old new : Walk) (first between after : Option (List ℕ)) (waiting : List ℕ)
+    → Shows step_text moments old new (with_waiting first []) (with_waiting between waiting) → Appends between after waiting
+    → Shows step_text moments old new first after
+written_all moments old new first between after waiting shows rest = record {
   known = λ known.
       let all = shows.known (known_waiting first known) in
       record {
-        moments = all.moments;
         leads = all.leads;
-        shown = written_there first between after waiting (shown_along step_text old all.moments) all.shown rest;
+        shown = written_there first between after waiting (shown_along step_text old moments) all.shown rest;
       };
 }
 
-pub traces_all : (units : List BlockMaps) (lines : List Line) (rings : LinesState) (old new : Walk) (first between after : Option (List ℕ))
-    (waiting : List ℕ) → IsOpeningLines rings → old ≡ opening_walk units rings → new.telling ≡ drained_run (fold told_line old.telling lines)
-    → Shows step_text old new (with_waiting first []) (with_waiting between waiting) → Appends between after waiting → TracesAll units lines first after
-traces_all units lines rings old new first between after waiting opens opening told shown rest = record {
-  rings = rings;
-  opens = opens;
-  last = new;
-  told = told ∙ ap (λ (w : Walk). drained_run (fold told_line w.telling lines)) opening;
-  shown = subst (λ (w : Walk). Shows step_text w new first after) opening (written_all old new first between after waiting shown rest);
-}
+-- what is shown was added, where the bytes before it are known
+all_added : (moments : List Moment) (old new : Walk) (first after : Option (List ℕ)) → Shows step_text moments old new first after
+    → Appends first after (shown_along step_text old moments)
+all_added moments old new None after shows = tt
+all_added moments old new (Some bytes) after shows = (shows.known refl).shown
+
+pub traces_all : (units : List BlockMaps) (lines : List Line) (old new : Walk) (first between after : Option (List ℕ)) (waiting : List ℕ)
+    → old ≡ opening_walk units → new.telling ≡ drained_run (fold told_line old.telling lines)
+    → Shows step_text (whole_moments old.telling lines) old new (with_waiting first []) (with_waiting between waiting) → Appends between after waiting
+    → TracesAll units lines first after
+unfolding traced_text
+traces_all units lines old new first between after waiting opening told shown rest =
+    let all : Shows step_text (whole_moments (opening_run units) lines) (opening_walk units) new first after =
+    subst (λ (w : Walk). Shows step_text (whole_moments w.telling lines) w new first after) opening
+    (written_all (whole_moments old.telling lines) old new first between after waiting shown rest) in
+    record {
+      added = all_added (moments_of units lines) (opening_walk units) new first after all;
+      told = λ known.
+          ap (λ (w : Walk). w.telling) (all.known known).leads ∙ told ∙ ap (λ (w : Walk). drained_run (fold told_line w.telling lines)) opening;
+    }

@@ -16,6 +16,7 @@ ghost use Rattle.uas_trace.specs.Traced.{AreNotDue, step_of_tag, with_waiting};
 ghost use Rattle.uas_profile.specs.declared.TheConstants.{TAGS};
 ghost use Rattle.uas_trace.specs.Texts.{TracesAll, step_text};
 ghost use Rattle.uas_replay.specs.Walks.{Shows, acted};
+ghost use Rattle.uas_replay.specs.Moments.{drain_moments, round_moments, tried_moments, try_moments};
 
 use crate::lines::push_step;
 use crate::writes::Before;
@@ -168,7 +169,8 @@ impl Tracer {
         requires { HasTicket step }
         ensures machine { IfOk result (λ after. (run.new.telling.machine, after) ≡ tried_one (run.old.telling.machine, left) step) }
         ensures rest { OnOk result (run.new.telling ≡ record run.old.telling { machine = run.new.telling.machine }) }
-        ensures shown { OnOk result (Shows step_text run.old run.new (with_waiting (O.written writer.old) self.old.waiting.items)
+        ensures shown { OnOk result (Shows step_text (try_moments (run.old.telling.machine, left) step) run.old run.new
+            (with_waiting (O.written writer.old) self.old.waiting.items)
             (with_waiting (O.written writer.new) self.new.waiting.items)) }
         ensures same { O.can_fail writer.new ≡ O.can_fail writer.old }
         ensures fault { IfErr result (StopsBy (O.can_fail writer.old)) }
@@ -191,7 +193,9 @@ impl Tracer {
         ensures machine { IfOk result (λ after. (run.new.telling.machine, after) ≡ tried (run.old.telling.machine, left)
             (map (step_of_tag kind) (all_tags (length run.old.telling.machine.parts)))) }
         ensures rest { OnOk result (run.new.telling ≡ record run.old.telling { machine = run.new.telling.machine }) }
-        ensures shown { OnOk result (Shows step_text run.old run.new (with_waiting (O.written writer.old) self.old.waiting.items)
+        ensures shown { OnOk result (Shows step_text (tried_moments (run.old.telling.machine, left)
+            (map (step_of_tag kind) (all_tags (length run.old.telling.machine.parts)))) run.old run.new
+            (with_waiting (O.written writer.old) self.old.waiting.items)
             (with_waiting (O.written writer.new) self.new.waiting.items)) }
         ensures same { O.can_fail writer.new ≡ O.can_fail writer.old }
         ensures fault { IfErr result (StopsBy (O.can_fail writer.old)) }
@@ -214,7 +218,8 @@ impl Tracer {
     ) -> Result<usize, RunFault>
         ensures machine { IfOk result (λ after. (run.new.telling.machine, after) ≡ round (run.old.telling.machine, left)) }
         ensures rest { OnOk result (run.new.telling ≡ record run.old.telling { machine = run.new.telling.machine }) }
-        ensures shown { OnOk result (Shows step_text run.old run.new (with_waiting (O.written writer.old) self.old.waiting.items)
+        ensures shown { OnOk result (Shows step_text (round_moments (run.old.telling.machine, left)) run.old run.new
+            (with_waiting (O.written writer.old) self.old.waiting.items)
             (with_waiting (O.written writer.new) self.new.waiting.items)) }
         ensures same { O.can_fail writer.new ≡ O.can_fail writer.old }
         ensures fault { IfErr result (StopsBy (O.can_fail writer.old)) }
@@ -238,7 +243,8 @@ impl Tracer {
         limit: usize,
     ) -> Result<(), RunFault>
         ensures run { OnOk result (run.new.telling ≡ record run.old.telling { machine = drained_machine run.old.telling.machine limit }) }
-        ensures shown { OnOk result (Shows step_text run.old run.new (with_waiting (O.written writer.old) self.old.waiting.items)
+        ensures shown { OnOk result (Shows step_text (drain_moments run.old.telling.machine limit) run.old run.new
+            (with_waiting (O.written writer.old) self.old.waiting.items)
             (with_waiting (O.written writer.new) self.new.waiting.items)) }
         ensures same { O.can_fail writer.new ≡ O.can_fail writer.old }
         ensures fault { IfErr result (StopsBy (O.can_fail writer.old)) }

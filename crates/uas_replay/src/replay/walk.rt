@@ -3,7 +3,7 @@
 //! A [`Watcher`] takes the steps of the bus, and shows of them what it wants; all else is the same walk. What it shows is a text of
 //! each step, and behind it what the run told by it, in their order (`Shows` in specs/Walks.antt).
 
-ghost use Rattle.std.specs.Prelude.{◌≡◌, ◌<◌, ◌^◌, ◌++◌, ℕ, Bool, List, [], Option, None, Ok, fold, length, false, IfOk, OnOk, IfErr};
+ghost use Rattle.std.specs.Prelude.{◌≡◌, ◌<◌, ◌^◌, ◌++◌, ◌∷◌, ℕ, Bool, List, [], Option, None, Ok, fold, length, false, IfOk, OnOk, IfErr};
 ghost use Rattle.std.specs.Io.KnownBytes.{Appends};
 ghost use Rattle.shared_machine.specs.Bus.{HasTicket};
 ghost use Rattle.shared_machine.specs.declared.Step.{Step};
@@ -11,7 +11,9 @@ ghost use Rattle.bus_core.specs.World.{World};
 ghost use Rattle.uas_replay.specs.Runs.{StopsBy};
 ghost use Rattle.uas_replay.specs.Told.{all_taken, all_taken_by, drained_machine, drained_run, given_run, handed_in};
 ghost use Rattle.uas_replay.specs.Told.{handing_in, idle_run, step_of, stepped, taken, taken_or_idle, told_line};
-ghost use Rattle.uas_replay.specs.Walks.{Shows, acted, told_since, world_then};
+ghost use Rattle.uas_replay.specs.Walks.{Shows, acted, hands, takes, told_since, tries, world_then};
+ghost use Rattle.uas_replay.specs.Moments.{all_takes, all_takes_of, drain_moments, drained_moments, line_moments, lines_moments, take_moments};
+ghost use Rattle.uas_replay.specs.Moments.{whole_moments};
 
 use super::{DRAIN_LIMIT, Handed, ScriptRun};
 use crate::printed;
@@ -44,7 +46,7 @@ pub trait Watcher<W> {
     /// Takes steps of the bus until none acts, or so many have acted.
     fn act_all(&mut self, writer: &mut W, run: &mut ScriptRun, limit: usize) -> Result<(), RunFault>
         ensures run { OnOk result (run.new.telling ≡ record run.old.telling { machine = drained_machine run.old.telling.machine limit }) }
-        ensures shown { OnOk result (Shows text_of run.old run.new (shown self.old writer.old) (shown self.new writer.new)) }
+        ensures shown { OnOk result (Shows text_of (drain_moments run.old.telling.machine limit) run.old run.new (shown self.old writer.old) (shown self.new writer.new)) }
         ensures same { can_fail writer.new ≡ can_fail writer.old }
         ensures fault { IfErr result (StopsBy (can_fail writer.old)) };
 
@@ -99,7 +101,8 @@ impl ScriptRun {
         lines: &[Line],
     ) -> Result<(), RunFault>
         ensures run { OnOk result (self.new.telling ≡ drained_run (fold told_line self.old.telling lines.now)) }
-        ensures shown { OnOk result (Shows V.text_of self.old self.new (V.shown watcher.old writer.old) (V.shown watcher.new writer.new)) }
+        ensures shown { OnOk result (Shows V.text_of (whole_moments self.old.telling lines.now) self.old self.new
+            (V.shown watcher.old writer.old) (V.shown watcher.new writer.new)) }
         ensures same { V.can_fail writer.new ≡ V.can_fail writer.old }
         ensures fault { IfErr result (StopsBy (V.can_fail writer.old)) }
     {
@@ -115,7 +118,8 @@ impl ScriptRun {
         lines: &[Line],
     ) -> Result<(), RunFault>
         ensures run { OnOk result (self.new.telling ≡ fold told_line self.old.telling lines.now) }
-        ensures shown { OnOk result (Shows V.text_of self.old self.new (V.shown watcher.old writer.old) (V.shown watcher.new writer.new)) }
+        ensures shown { OnOk result (Shows V.text_of (lines_moments self.old.telling lines.now) self.old self.new
+            (V.shown watcher.old writer.old) (V.shown watcher.new writer.new)) }
         ensures same { V.can_fail writer.new ≡ V.can_fail writer.old }
         ensures fault { IfErr result (StopsBy (V.can_fail writer.old)) }
     {
@@ -126,7 +130,7 @@ impl ScriptRun {
     }
 
     /// Runs one line.
-    #[tactic(auto, unfolding(crate::specs::Told::told_line))]
+    #[tactic(auto, unfolding(crate::specs::Told::told_line, crate::specs::Moments::line_moments))]
     fn line<W, V: Watcher<W>>(
         &mut self,
         watcher: &mut V,
@@ -134,7 +138,8 @@ impl ScriptRun {
         line: Line,
     ) -> Result<(), RunFault>
         ensures run { OnOk result (self.new.telling ≡ told_line self.old.telling line) }
-        ensures shown { OnOk result (Shows V.text_of self.old self.new (V.shown watcher.old writer.old) (V.shown watcher.new writer.new)) }
+        ensures shown { OnOk result (Shows V.text_of (line_moments self.old.telling line) self.old self.new
+            (V.shown watcher.old writer.old) (V.shown watcher.new writer.new)) }
         ensures same { V.can_fail writer.new ≡ V.can_fail writer.old }
         ensures fault { IfErr result (StopsBy (V.can_fail writer.old)) }
     {
@@ -169,7 +174,8 @@ impl ScriptRun {
         handed: Handed,
     ) -> Result<(), RunFault>
         ensures run { OnOk result (self.new.telling ≡ handed_in self.old.telling client handed) }
-        ensures shown { OnOk result (Shows V.text_of self.old self.new (V.shown watcher.old writer.old) (V.shown watcher.new writer.new)) }
+        ensures shown { OnOk result (Shows V.text_of (hands client handed ∷ []) self.old self.new
+            (V.shown watcher.old writer.old) (V.shown watcher.new writer.new)) }
         ensures same { V.can_fail writer.new ≡ V.can_fail writer.old }
         ensures fault { IfErr result (StopsBy (V.can_fail writer.old)) }
     {
@@ -226,7 +232,8 @@ impl ScriptRun {
     ) -> Result<(), RunFault>
         requires { HasTicket step }
         ensures run { OnOk result (self.new.telling ≡ stepped self.old.telling step) }
-        ensures shown { OnOk result (Shows V.text_of self.old self.new (V.shown watcher.old writer.old) (V.shown watcher.new writer.new)) }
+        ensures shown { OnOk result (Shows V.text_of (tries step ∷ []) self.old self.new
+            (V.shown watcher.old writer.old) (V.shown watcher.new writer.new)) }
         ensures same { V.can_fail writer.new ≡ V.can_fail writer.old }
         ensures fault { IfErr result (StopsBy (V.can_fail writer.old)) }
     {
@@ -246,7 +253,8 @@ impl ScriptRun {
         client: usize,
     ) -> Result<(), RunFault>
         ensures run { OnOk result (self.new.telling ≡ taken_or_idle self.old.telling client) }
-        ensures shown { OnOk result (Shows V.text_of self.old self.new (V.shown watcher.old writer.old) (V.shown watcher.new writer.new)) }
+        ensures shown { OnOk result (Shows V.text_of (takes client ∷ []) self.old self.new
+            (V.shown watcher.old writer.old) (V.shown watcher.new writer.new)) }
         ensures same { V.can_fail writer.new ≡ V.can_fail writer.old }
         ensures fault { IfErr result (StopsBy (V.can_fail writer.old)) }
     {
@@ -274,7 +282,7 @@ impl ScriptRun {
     }
 
     /// A client takes a reply, where one is ready.
-    #[tactic(auto, unfolding(crate::specs::Told::taken))]
+    #[tactic(auto, unfolding(crate::specs::Told::taken, crate::specs::Moments::take_moments))]
     fn take<W, V: Watcher<W>>(
         &mut self,
         watcher: &mut V,
@@ -282,7 +290,8 @@ impl ScriptRun {
         client: usize,
     ) -> Result<(), RunFault>
         ensures run { OnOk result (self.new.telling ≡ taken self.old.telling client) }
-        ensures shown { OnOk result (Shows V.text_of self.old self.new (V.shown watcher.old writer.old) (V.shown watcher.new writer.new)) }
+        ensures shown { OnOk result (Shows V.text_of (take_moments self.old.telling client) self.old self.new
+            (V.shown watcher.old writer.old) (V.shown watcher.new writer.new)) }
         ensures same { V.can_fail writer.new ≡ V.can_fail writer.old }
         ensures fault { IfErr result (StopsBy (V.can_fail writer.old)) }
     {
@@ -299,10 +308,11 @@ impl ScriptRun {
     }
 
     /// A drain, then every reply.
-    #[tactic(auto, unfolding(crate::specs::Told::drained_run))]
+    #[tactic(auto, unfolding(crate::specs::Told::drained_run, crate::specs::Moments::drained_moments))]
     fn drain<W, V: Watcher<W>>(&mut self, watcher: &mut V, writer: &mut W) -> Result<(), RunFault>
         ensures run { OnOk result (self.new.telling ≡ drained_run self.old.telling) }
-        ensures shown { OnOk result (Shows V.text_of self.old self.new (V.shown watcher.old writer.old) (V.shown watcher.new writer.new)) }
+        ensures shown { OnOk result (Shows V.text_of (drained_moments self.old.telling) self.old self.new
+            (V.shown watcher.old writer.old) (V.shown watcher.new writer.new)) }
         ensures same { V.can_fail writer.new ≡ V.can_fail writer.old }
         ensures fault { IfErr result (StopsBy (V.can_fail writer.old)) }
     {
@@ -311,14 +321,15 @@ impl ScriptRun {
     }
 
     /// Clients take their replies, by rising number.
-    #[tactic(auto, unfolding(crate::specs::Told::all_taken))]
+    #[tactic(auto, unfolding(crate::specs::Told::all_taken, crate::specs::Moments::all_takes))]
     fn take_all<W, V: Watcher<W>>(
         &mut self,
         watcher: &mut V,
         writer: &mut W,
     ) -> Result<(), RunFault>
         ensures run { OnOk result (self.new.telling ≡ all_taken self.old.telling) }
-        ensures shown { OnOk result (Shows V.text_of self.old self.new (V.shown watcher.old writer.old) (V.shown watcher.new writer.new)) }
+        ensures shown { OnOk result (Shows V.text_of (all_takes self.old.telling) self.old self.new
+            (V.shown watcher.old writer.old) (V.shown watcher.new writer.new)) }
         ensures same { V.can_fail writer.new ≡ V.can_fail writer.old }
         ensures fault { IfErr result (StopsBy (V.can_fail writer.old)) }
     {
@@ -329,7 +340,7 @@ impl ScriptRun {
     }
 
     /// A client takes its replies until none is ready.
-    #[tactic(auto, unfolding(crate::specs::Told::all_taken_by))]
+    #[tactic(auto, unfolding(crate::specs::Told::all_taken_by, crate::specs::Moments::all_takes_of))]
     fn take_all_of<W, V: Watcher<W>>(
         &mut self,
         watcher: &mut V,
@@ -337,7 +348,8 @@ impl ScriptRun {
         client: usize,
     ) -> Result<(), RunFault>
         ensures run { OnOk result (self.new.telling ≡ all_taken_by self.old.telling client) }
-        ensures shown { OnOk result (Shows V.text_of self.old self.new (V.shown watcher.old writer.old) (V.shown watcher.new writer.new)) }
+        ensures shown { OnOk result (Shows V.text_of (all_takes_of self.old.telling client) self.old self.new
+            (V.shown watcher.old writer.old) (V.shown watcher.new writer.new)) }
         ensures same { V.can_fail writer.new ≡ V.can_fail writer.old }
         ensures fault { IfErr result (StopsBy (V.can_fail writer.old)) }
     {

@@ -1,6 +1,7 @@
 use Rattle.std.proofs.Common.{ℕ, List, subst}
 use Rattle.uas_replay.specs.Told.{zeroed_units}
 use Rattle.uas_replay.specs.Walks.{Shows}
+use Rattle.uas_replay.specs.Moments.{whole_moments}
 use Rattle.uas_trace.specs.Texts.{step_text}
 use Rattle.uas_trace.specs.Traced.{with_waiting}
 use Rattle.uas_trace.proofs.Whole.{traces_all}
@@ -13,7 +14,7 @@ returns-clause-text g c =
     let first = g.O.Sink.written c.args.writer.now in
     let between = g.O.Sink.written c.whole-ended.new.writer in
     let waiting = c.whole-ended.new.watcher.waiting.items in
-    traces_all (zeroed_units c.args.clients c.args.blocks c.args.bad) c.args.lines.now old.world.lines old new first between
-    (g.O.Sink.written c.write_waiting.new.writer) waiting c.in-Ok.ensures.rings c.in-Ok.ensures.walk c.in_ok-ended.ensures.run
-    (subst (λ (t : List ℕ). Shows step_text old new (with_waiting first t) (with_waiting between waiting)) c.new-tracer.ensures
+    traces_all (zeroed_units c.args.clients c.args.blocks c.args.bad) c.args.lines.now old new first between
+    (g.O.Sink.written c.write_waiting.new.writer) waiting c.in-Ok.ensures.walk c.in_ok-ended.ensures.run
+    (subst (λ (t : List ℕ). Shows step_text (whole_moments old.telling c.args.lines.now) old new (with_waiting first t) (with_waiting between waiting)) c.new-tracer.ensures
     c.in_ok-ended.ensures.shown) c.in_ok-write_waiting.ensures.written

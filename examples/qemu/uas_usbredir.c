@@ -1,7 +1,9 @@
 /* A UAS disk for QEMU: uas_device behind the usbredir protocol, as a SuperSpeed USB device with bulk streams.
  *
  *   cc -Iinclude examples/qemu/uas_usbredir.c $(bindings/archive device) -lusbredirparser -o uas_usbredir
- *   ./uas_usbredir 7000 IMAGE [BAD]     serves one connection on port 7000 of this machine; block BAD of it can't be read or written
+ *   ./uas_usbredir SOCKET IMAGE [BAD]   serves one connection; block BAD of the disk can't be read or written
+ *
+ * SOCKET is the path of a Unix socket, with a slash in it, or the number of a TCP port of this machine.
  *
  * IMAGE is 1 to 65,536 blocks of 512 bytes. It is read once: what a guest writes lasts as long as this program. README.md says how QEMU is
  * called. A transfer of a pipe with streams waits under its stream, which is the tag, until the device gives, takes or answers. */
@@ -9,11 +11,13 @@
 #include <errno.h>
 #include <fcntl.h>
 #include <netinet/in.h>
+#include <netinet/tcp.h>
 #include <poll.h>
 #include <stdio.h>
 #include <stdlib.h>
 #include <string.h>
 #include <sys/socket.h>
+#include <sys/un.h>
 #include <unistd.h>
 #include <usbredirparser.h>
 
@@ -132,7 +136,8 @@ static bool move(struct server *server, uint16_t tag, uint8_t phase, uint32_t ch
     return true;
 }
 
-/* Sends the answer of a task that has ended, once the host waits for it. What was moved is ended before. */
+/* Sends the answer of a task that has ended, once the host waits for it. Its data transfer is ended before: with what was moved, or, for data in of
+ * which nothing moved, with no bytes, since a host takes a command whose data never ends for a fault of the transport. */
 static void answer(struct server *server, uint16_t tag)
 {
     struct transfer *transfer = &server->statuses[tag], *data = &server->data[tag];
@@ -141,7 +146,7 @@ static void answer(struct server *server, uint16_t tag)
     uint32_t length = 0;
     if (uas_device_status(server->disk, tag, bytes, sizeof bytes, &length) != UAS_OK)
         return;
-    if (data->waits && moved->count > 0) {
+    if (data->waits && (moved->count > 0 || (data->header.endpoint & 0x80) != 0)) {
         moved->ended = bytes[0] == UAS_UNIT_SENSE && bytes[6] == UAS_GOOD;
         moved->id = data->id;
         complete(server, data, usb_redir_success, moved->bytes, moved->count);
@@ -429,15 +434,31 @@ static void run(struct server *server)
     }
 }
 
-static int connected(const char *port)
+/* Listens where the word says. */
+static int listening(const char *where)
 {
-    struct sockaddr_in here = { .sin_family = AF_INET, .sin_addr.s_addr = htonl(INADDR_LOOPBACK), .sin_port = htons((uint16_t)atoi(port)) };
-    int listener = socket(AF_INET, SOCK_STREAM, 0), one = 1;
+    struct sockaddr_in port = { .sin_family = AF_INET, .sin_addr.s_addr = htonl(INADDR_LOOPBACK), .sin_port = htons((uint16_t)atoi(where)) };
+    struct sockaddr_un path = { .sun_family = AF_UNIX };
+    bool is_path = strchr(where, '/') != NULL;
+    const struct sockaddr *here = is_path ? (struct sockaddr *)&path : (struct sockaddr *)&port;
+    int listener = socket(here->sa_family, SOCK_STREAM, 0), one = 1;
+    if (is_path && strlen(where) < sizeof path.sun_path) {
+        strcpy(path.sun_path, where);
+        unlink(where);
+    }
     setsockopt(listener, SOL_SOCKET, SO_REUSEADDR, &one, sizeof one);
-    if (bind(listener, (struct sockaddr *)&here, sizeof here) != 0 || listen(listener, 1) != 0)
+    return bind(listener, here, is_path ? sizeof path : sizeof port) == 0 && listen(listener, 1) == 0 ? listener : -1;
+}
+
+/* A packet of a few bytes must not wait for the acknowledgement of the one before it: without TCP_NODELAY a guest makes ten reads a second. */
+static int connected(const char *where)
+{
+    int listener = listening(where), one = 1;
+    if (listener < 0)
         return -1;
     int taken = accept(listener, NULL, NULL);
     close(listener);
+    setsockopt(taken, IPPROTO_TCP, TCP_NODELAY, &one, sizeof one);
     return taken >= 0 && fcntl(taken, F_SETFL, O_NONBLOCK) == 0 ? taken : -1;
 }
 
@@ -458,7 +479,7 @@ int main(int words, char **word)
 {
     static struct server server;
     if (words != 3 && words != 4) {
-        fprintf(stderr, "usage: uas_usbredir PORT IMAGE [BAD]\n");
+        fprintf(stderr, "usage: uas_usbredir SOCKET IMAGE [BAD]\n");
         return 2;
     }
     uint8_t fault = open_disk(word[2], words == 4 ? word[3] : NULL, &server.disk);

@@ -24,7 +24,7 @@ solo_fault own index ticket command =
     first_submit_fault (is_command_index index) (is_some (held_under own.tasks index)) own.least_ticket ticket command
 
 -- The first fault of a client's submission, or none: it reads the client's own state, and how many clients there are.
--- Checked by hand: of 3 clients client 2 may submit under 17 to 23; under 16 and 24 it is NotYours, and so is all of client 3.
+-- Checked by hand: of 3 clients client 2 may submit under 33 to 47; under 32 and 48 it is NotYours, and so is all of client 3.
 abbrev pub own_fault : ℕ → SoloState → ℕ → ℕ → ℕ → Command → Option SubmitFault
 own_fault clients own client tag ticket command =
     if nat_lt client clients then solo_fault own (own_tag client tag) ticket command else Some NotYours

@@ -342,6 +342,6 @@ taken client part (slot ∷ rest) =
 abbrev pub take_act : ℕ → Part → Act
 take_act client part = taken client part part.ready
 
--- tag t of client c becomes t - 8c
+-- tag t of client c becomes t - 16c
 abbrev pub own_tag : ℕ → ℕ → ℕ
 own_tag client tag = tag - client * TAGS

@@ -14,9 +14,9 @@
 //! a pipe's ring; all places are disjoint ([`laws`]). A [`StreamArray`] is a list of entries. A call of
 //! [`Lines`] is the named ring's and changes that ring alone. Where the consumer of a stream's ring stands
 //! is in the stream's context and nowhere else: place and cycle state are decoded from its bytes at each
-//! step, and written there. [`Lines::next_pending`] looks at no stream on which nothing was put since it was
-//! found idle there: beside its rings a pipe has a mark of each of the others. `new` takes all memory, and no
-//! other call takes any. The crate stands on `cycle_ring` and `event_ring` for the rings, on `xhci_trb` for the
+//! step, and written there. [`Lines::next_pending`] visits only streams with bytes put since it last found
+//! them empty: each pipe keeps a mark of these beside its rings. `new` takes all memory, and no other call
+//! takes any. The crate stands on `cycle_ring` and `event_ring` for the rings, on `xhci_trb` for the
 //! texts of TRBs and on `marks`.
 #![tactic(auto)]
 

@@ -23,7 +23,7 @@ use Rattle.uas_host.specs.State.{HostState, client_of, with_client}
 use Rattle.uas_host.specs.Submit.{slot_of}
 use Rattle.uas_profile.specs.Places.{command_slot, tag_of}
 
--- the tag for task managements of a client. Worked: client 2's is 24.
+-- the tag for task managements of a client. Worked: client 2's is 48.
 abbrev pub task_tag : ℕ → ℕ
 task_tag client = tag_of (record { client = client; slot = TASK_SLOT })
 

@@ -57,7 +57,7 @@ task_words (Abort tag) = codes "abort " ++ decimal tag
 task_words Reset = codes "reset"
 task_words (Query tag) = codes "query " ++ decimal tag
 
--- By hand: client 22's LOGICAL UNIT RESET with ticket 4 is `task 22 4 reset`.
+-- By hand: client 2's LOGICAL UNIT RESET with ticket 4 is `task 2 4 reset`.
 abbrev pub task_step_line : ℕ → ℕ → Task → List ℕ
 task_step_line client ticket task = codes "task " ++ decimal client ++ codes " " ++ decimal ticket ++ codes " " ++ task_words task ++ codes "\n"
 

@@ -1,0 +1,84 @@
+-- The descriptors of the disk (USB 3.2, 9.6; INCITS 471, pipe usage). Numbers are little endian.
+use Rattle.std.specs.Prelude.{ℕ, ◌==◌, if◌then◌else◌, List, [], ◌∷◌, ◌++◌, Option, None, Some}
+use Rattle.uas_profile.specs.declared.Pipe.{Pipe}
+use Rattle.uas_profile.specs.declared.Pipe.TheVariants.{Command, Status, DataIn, DataOut}
+
+-- 9.6.1: USB 3.0, each class is told by its interface, packets of 2^9 bytes on endpoint 0, 46f4:0003, strings 1 to 3, one configuration
+abbrev pub device_descriptor : List ℕ
+device_descriptor = 18 ∷ 1 ∷ 0 ∷ 3 ∷ 0 ∷ 0 ∷ 0 ∷ 9 ∷ 0xf4 ∷ 0x46 ∷ 3 ∷ 0 ∷ 0 ∷ 0 ∷ 1 ∷ 2 ∷ 3 ∷ 1 ∷ []
+
+-- the address of a pipe's endpoint: bit 7 is set where bytes go to the host
+abbrev pub address_of : Pipe → ℕ
+address_of Command = 0x01
+address_of DataOut = 0x02
+address_of Status = 0x81
+address_of DataIn = 0x82
+
+-- the pipe's number in its pipe usage descriptor
+abbrev pub usage_of : Pipe → ℕ
+usage_of Command = 1
+usage_of Status = 2
+usage_of DataIn = 3
+usage_of DataOut = 4
+
+-- how many streams the pipe has, as a power of two; none for commands
+abbrev pub streams_of : Pipe → ℕ
+streams_of Command = 0
+streams_of Status = 7
+streams_of DataIn = 7
+streams_of DataOut = 7
+
+-- 9.6.6, 9.6.7: a bulk endpoint of 1,024 bytes a packet; bursts of 16 packets, its streams; which pipe it is
+abbrev pub pipe_descriptors : Pipe → List ℕ
+pipe_descriptors pipe =
+    7 ∷ 5 ∷ address_of pipe ∷ 2 ∷ 0 ∷ 4 ∷ 0 ∷ 6 ∷ 0x30 ∷ 15 ∷ streams_of pipe ∷ 0 ∷ 0 ∷ 4 ∷ 0x24 ∷ usage_of pipe ∷ 0 ∷ []
+
+-- 9.6.3, 9.6.5: 86 bytes in all, one interface, configuration 1, self-powered; four endpoints, mass storage (8), SCSI (6), UAS (62h)
+abbrev pub configuration_heads : List ℕ
+configuration_heads = 9 ∷ 2 ∷ 86 ∷ 0 ∷ 1 ∷ 1 ∷ 0 ∷ 0xc0 ∷ 0 ∷ 9 ∷ 4 ∷ 0 ∷ 0 ∷ 4 ∷ 8 ∷ 6 ∷ 0x62 ∷ 0 ∷ []
+
+abbrev pub configuration_descriptor : List ℕ
+configuration_descriptor =
+    configuration_heads ++ pipe_descriptors Command ++ pipe_descriptors Status ++ pipe_descriptors DataIn ++ pipe_descriptors DataOut
+
+-- 9.6.2: 22 bytes in all, two capabilities: the USB 2.0 extension with link power management; SuperSpeed at 5 Gbit/s alone
+abbrev pub bos_descriptor : List ℕ
+bos_descriptor = 5 ∷ 15 ∷ 22 ∷ 0 ∷ 2 ∷ 7 ∷ 16 ∷ 2 ∷ 2 ∷ 0 ∷ 0 ∷ 0 ∷ 10 ∷ 16 ∷ 3 ∷ 0 ∷ 8 ∷ 0 ∷ 3 ∷ 0 ∷ 0 ∷ 0 ∷ []
+
+-- 9.6.9: string 0 is the list of languages, which has English of the United States alone
+abbrev pub language_descriptor : List ℕ
+language_descriptor = 4 ∷ 3 ∷ 9 ∷ 4 ∷ []
+
+-- "SIMDISK", in UTF-16
+abbrev pub vendor_descriptor : List ℕ
+vendor_descriptor = 16 ∷ 3 ∷ 0x53 ∷ 0 ∷ 0x49 ∷ 0 ∷ 0x4d ∷ 0 ∷ 0x44 ∷ 0 ∷ 0x49 ∷ 0 ∷ 0x53 ∷ 0 ∷ 0x4b ∷ 0 ∷ []
+
+-- "UAS SIM DISK"
+abbrev pub product_descriptor : List ℕ
+product_descriptor =
+    26 ∷ 3 ∷ 0x55 ∷ 0 ∷ 0x41 ∷ 0 ∷ 0x53 ∷ 0 ∷ 0x20 ∷ 0 ∷ 0x53 ∷ 0 ∷ 0x49 ∷ 0 ∷ 0x4d ∷ 0 ∷ 0x20 ∷ 0 ∷ 0x44 ∷ 0 ∷ 0x49 ∷ 0 ∷ 0x53 ∷ 0 ∷ 0x4b ∷ 0 ∷ []
+
+-- "0001"
+abbrev pub serial_descriptor : List ℕ
+serial_descriptor = 10 ∷ 3 ∷ 0x30 ∷ 0 ∷ 0x30 ∷ 0 ∷ 0x30 ∷ 0 ∷ 0x31 ∷ 0 ∷ []
+
+abbrev pub string_descriptor : ℕ → Option (List ℕ)
+string_descriptor index =
+    if index == 0 then Some language_descriptor
+    else (if index == 1 then Some vendor_descriptor
+    else (if index == 2 then Some product_descriptor
+    else (if index == 3 then Some serial_descriptor
+    else None)))
+
+-- The descriptor of a type (table 9-6) and an index: device 1, configuration 2, string 3, BOS 15. Of all but strings there is index 0 alone.
+abbrev pub descriptor_of : ℕ → ℕ → Option (List ℕ)
+descriptor_of kind index =
+    if kind == 3 then string_descriptor index
+    else (if index == 0 then single_descriptor kind else None)
+  where
+    single_descriptor : ℕ → Option (List ℕ)
+    single_descriptor kind =
+        if kind == 1 then Some device_descriptor
+        else (if kind == 2 then Some configuration_descriptor
+        else (if kind == 15 then Some bos_descriptor
+        else None))

@@ -51,10 +51,17 @@ abbrev pub home_size : Home → ℕ
 home_size (Stream at) = 16
 home_size (Endpoint at) = 8
 
--- what is kept there: of a stream with SCT in bits 3:1, and zeros in what is opaque
-unfoldable pub home_bytes : Home → ℕ → Cursor → List ℕ
-home_bytes (Stream at) kind cursor = little_bytes 8 (number_of cursor kind) ++ little_bytes 8 0
-home_bytes (Endpoint at) kind cursor = little_bytes 8 (number_of cursor 0)
+-- a stream context: SCT in bits 3:1, and zeros in what is opaque
+unfoldable pub stream_bytes : ℕ → Cursor → List ℕ
+stream_bytes kind cursor = little_bytes 8 (number_of cursor kind) ++ little_bytes 8 0
+
+unfoldable pub pointer_bytes : Cursor → List ℕ
+pointer_bytes cursor = little_bytes 8 (number_of cursor 0)
+
+-- what is kept there
+abbrev pub home_bytes : Home → ℕ → Cursor → List ℕ
+home_bytes (Stream at) kind cursor = stream_bytes kind cursor
+home_bytes (Endpoint at) kind cursor = pointer_bytes cursor
 
 -- whether a ring is to be found there: a stream context's SCT is 1, a Primary Transfer Ring
 abbrev pub is_ring : Home → ℕ → Bool

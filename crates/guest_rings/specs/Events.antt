@@ -1,5 +1,5 @@
 -- Events (xHCI 1.2, 6.4.2), and the producer of an event ring's one segment (4.9.4).
-use Rattle.std.specs.Prelude.{ℕ, ◌+◌, ◌-◌, ◌*◌, ◌%◌, ◌^◌, ◌==◌, nat_le, Bool, true, false, not, ◌||◌, if◌then◌else◌, List, ◌++◌}
+use Rattle.std.specs.Prelude.{ℕ, ◌+◌, ◌-◌, ◌*◌, ◌%◌, ◌^◌, ◌==◌, nat_le, Bool, not, ◌||◌, if◌then◌else◌, List, ◌++◌}
 use Rattle.byteorder.specs.Endian.{little_bytes}
 use Rattle.guest_rings.specs.declared.words.Words.{Words}
 use Rattle.guest_rings.specs.declared.event.Event.{Event}

@@ -1,8 +1,8 @@
 -- No range that isn't empty begins at 2 ^ 64 or above.
-use Rattle.std.proofs.Common.{◌≡◌, ℕ, ◌+◌, ◌<◌, ◌≤◌, ◌^◌, true, false, None, sym, ap, ◌∙◌, arith, refl, inl, inr}
+use Rattle.std.proofs.Common.{◌≡◌, ℕ, ◌+◌, ◌<◌, ◌≤◌, ◌^◌, true, false, sym, ap, ◌∙◌, arith, inl, inr}
 use Rattle.std.proofs.lemmas.Bool.{cases_lt, false≢true}
 use Rattle.std.specs.Prelude.{is_some}
-use Rattle.guest_memory.specs.Bytes.{Memory, IsWithinAddresses, bytes_from, is_there}
+use Rattle.guest_memory.specs.Bytes.{Memory, IsWithinAddresses, is_there}
 use Rattle.guest_memory.specs.Ranges.{lacks}
 
 pub past_end : (memory : Memory) (at n : ℕ) → IsWithinAddresses memory → 1 ≤ n → 2 ^ 64 ≤ at → is_there memory at n ≡ false

@@ -1,5 +1,5 @@
 -- What a TRB in a pipe's ring is (xHCI 1.2, 6.4.1 and 6.4.4), by its fields. Reserved bits are ignored.
-use Rattle.std.specs.Prelude.{ℕ, ◌*◌, ◌/◌, ◌%◌, ◌^◌, ◌==◌, nat_lt, if◌then◌else◌}
+use Rattle.std.specs.Prelude.{◌*◌, ◌/◌, ◌%◌, ◌^◌, ◌==◌, nat_lt, if◌then◌else◌}
 use Rattle.guest_rings.specs.declared.words.Words.{Words}
 use Rattle.guest_rings.specs.declared.trb.Flags.{Flags}
 use Rattle.guest_rings.specs.declared.trb.PipeTrb.{PipeTrb}

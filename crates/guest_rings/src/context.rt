@@ -2,7 +2,7 @@
 ghost use Rattle.std.specs.Prelude.{◌≡◌, ◌<◌, ℕ, true};
 ghost use Rattle.std.specs.Result.{result_ok};
 ghost use Rattle.guest_memory.specs.Bytes.{is_there, written};
-ghost use Rattle.guest_rings.specs.Ends.{cursor_in, found_at, found_of, home_at, home_bytes, home_size, is_ring, looked};
+ghost use Rattle.guest_rings.specs.Ends.{cursor_in, found_at, found_of, home_at, home_bytes, home_size, is_ring, looked, pointer_bytes, stream_bytes};
 ghost use Rattle.byteorder.specs.Endian.{little_number};
 ghost use Rattle.guest_memory.specs.Bytes.{bytes_from};
 ghost use Rattle.std.specs.Prelude.{option_map};
@@ -114,8 +114,31 @@ pub fn look<M: GuestMemory>(memory: &M, home: Home) -> Result<Front, Outside>
     })
 }
 
-/// Writes a consumer's end where it is kept, of a stream with this type (SCT) and zeros in the opaque bytes 8 to 15.
-#[tactic(auto, using(guest_memory::specs::Ranges::there_written), unfolding(crate::specs::Ends::home_bytes))]
+/// The 16 bytes of a stream context.
+#[tactic(auto, unfolding(crate::specs::Ends::stream_bytes))]
+fn stream_bytes(kind: u8, cursor: Cursor) -> [u8; 16]
+    requires { kind < 8 }
+    ensures { result ≡ stream_bytes kind cursor }
+{
+    let mut bytes = [0; 16];
+    LittleEndian::write_u64(&mut bytes, cursor.number(kind));
+    LittleEndian::write_u64(&mut bytes[8..], 0);
+    bytes
+}
+
+/// The 8 bytes of a dequeue pointer.
+#[tactic(auto, unfolding(crate::specs::Ends::pointer_bytes))]
+fn pointer_bytes(cursor: Cursor) -> [u8; 8]
+    ensures { result ≡ pointer_bytes cursor }
+{
+    let mut bytes = [0; 8];
+    LittleEndian::write_u64(&mut bytes, cursor.number(0));
+    bytes
+}
+
+/// Writes a consumer's end where it is kept, of a stream with this type (SCT) and zeros in the opaque bytes 8 to 15. A range that
+/// was there still is.
+#[tactic(auto, using(guest_memory::specs::Ranges::there_written))]
 pub fn stand<M: GuestMemory>(memory: &mut M, home: Home, kind: u8, cursor: Cursor)
     requires there { is_there (M.contents memory.old) (home_at home) (home_size home) ≡ true }
     requires kind { kind < 8 }
@@ -125,15 +148,10 @@ pub fn stand<M: GuestMemory>(memory: &mut M, home: Home, kind: u8, cursor: Curso
 {
     match home {
         Home::Stream { at } => {
-            let mut bytes = [0; 16];
-            LittleEndian::write_u64(&mut bytes, cursor.number(kind));
-            LittleEndian::write_u64(&mut bytes[8..], 0);
-            let _ = memory.write(at, &bytes);
+            let _ = memory.write(at, &stream_bytes(kind, cursor));
         }
         Home::Endpoint { at } => {
-            let mut bytes = [0; 8];
-            LittleEndian::write_u64(&mut bytes, cursor.number(0));
-            let _ = memory.write(at, &bytes);
+            let _ = memory.write(at, &pointer_bytes(cursor));
         }
     }
 }

@@ -1,5 +1,5 @@
 //! Where the consumer's end of a pipe's ring is kept, and what stands there (xHCI 1.2, 6.2.3 and 6.2.4.1).
-ghost use Rattle.std.specs.Prelude.{◌≡◌, ◌<◌, ℕ, true};
+ghost use Rattle.std.specs.Prelude.{IfOk, ◌≡◌, ◌<◌, ℕ, true};
 ghost use Rattle.std.specs.Result.{result_ok};
 ghost use Rattle.guest_memory.specs.Bytes.{is_there, written};
 ghost use Rattle.guest_rings.specs.Ends.{cursor_in, found_at, found_of, home_at, home_bytes, home_size, is_ring, looked, pointer_bytes, stream_bytes};
@@ -84,7 +84,8 @@ fn found_of(words: Option<Words>) -> Found
 
 /// The quadword of a consumer's end: the whole of what is kept is asked to be there.
 fn number_at<M: GuestMemory>(memory: &M, home: Home) -> Result<u64, Outside>
-    ensures { result_ok result ≡ option_map (little_number 8) (bytes_from (M.contents memory.now) (home_at home) (home_size home)) }
+    ensures number { result_ok result ≡ option_map (little_number 8) (bytes_from (M.contents memory.now) (home_at home) (home_size home)) }
+    ensures there { IfOk result (λ number. is_there (M.contents memory.now) (home_at home) (home_size home) ≡ true) }
 {
     match home {
         Home::Stream { at } => {
@@ -103,7 +104,9 @@ fn number_at<M: GuestMemory>(memory: &M, home: Home) -> Result<u64, Outside>
 /// A ring's end by where it is kept, and what stands there. Refused where a byte of either isn't there.
 #[tactic(auto, unfolding(crate::specs::Ends::looked))]
 pub fn look<M: GuestMemory>(memory: &M, home: Home) -> Result<Front, Outside>
-    ensures { result_ok result ≡ looked (M.contents memory.now) home }
+    ensures front { result_ok result ≡ looked (M.contents memory.now) home }
+    ensures there { IfOk result (λ front. is_there (M.contents memory.now) (home_at front.home) (home_size front.home) ≡ true) }
+    ensures home { IfOk result (λ front. front.home ≡ home) }
 {
     let number = number_at(memory, home)?;
     let found = find(memory, home, number)?;

@@ -1,0 +1,4 @@
+pub mod Progress
+pub mod Step
+pub mod Gate
+pub mod Pipe

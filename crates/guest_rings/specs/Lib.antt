@@ -1,0 +1,5 @@
+pub mod Words
+pub mod Trbs
+pub mod Ends
+pub mod Events
+pub mod Past

@@ -196,7 +196,8 @@ impl DeviceContext {
         )
     }
 
-    fn has_pipe(&self) -> bool
+    /// Whether a pipe is enabled.
+    pub fn has_pipe(&self) -> bool
         ensures { result ≡ has_pipe self.now }
     {
         self.command.is_enabled()

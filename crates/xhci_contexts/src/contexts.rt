@@ -1,5 +1,5 @@
 //! Contexts in memory, read and written.
-ghost use Rattle.std.specs.Prelude.{◌≡◌, ◌<◌, ℕ, true};
+ghost use Rattle.std.specs.Prelude.{◌≡◌, ◌<◌, ℕ, true, IfOk};
 ghost use Rattle.std.specs.Result.{result_ok};
 ghost use Rattle.guest_memory.specs.Bytes.{is_there};
 ghost use Rattle.xhci_contexts.specs.Contexts.{context_at, device_at, device_written, endpoint_at, endpoint_bytes, endpoint_in, endpoint_written, has_device};
@@ -74,7 +74,8 @@ impl EndpointContext {
 
 #[tactic(auto, unfolding(crate::specs::Contexts::slot_at))]
 fn read_slot<M: GuestMemory>(memory: &M, at: u64) -> Result<SlotContext, Outside>
-    ensures { result_ok result ≡ slot_at (M.contents memory.now) at }
+    ensures slot { result_ok result ≡ slot_at (M.contents memory.now) at }
+    ensures there { IfOk result (λ read. is_there (M.contents memory.now) at 32 ≡ true) }
 {
     let mut bytes = [0; CONTEXT_BYTES];
     memory.read(at, &mut bytes)?;
@@ -83,7 +84,8 @@ fn read_slot<M: GuestMemory>(memory: &M, at: u64) -> Result<SlotContext, Outside
 
 #[tactic(auto, unfolding(crate::specs::Contexts::endpoint_at))]
 fn read_endpoint<M: GuestMemory>(memory: &M, at: u64) -> Result<EndpointContext, Outside>
-    ensures { result_ok result ≡ endpoint_at (M.contents memory.now) at }
+    ensures endpoint { result_ok result ≡ endpoint_at (M.contents memory.now) at }
+    ensures there { IfOk result (λ read. is_there (M.contents memory.now) at 32 ≡ true) }
 {
     let mut bytes = [0; CONTEXT_BYTES];
     memory.read(at, &mut bytes)?;
@@ -114,7 +116,8 @@ impl DeviceContext {
     /// The device context at an address. Refused where a byte of one of its contexts isn't there.
     #[tactic(auto, unfolding(crate::specs::Contexts::device_at))]
     pub fn read<M: GuestMemory>(memory: &M, base: u64) -> Result<DeviceContext, Outside>
-        ensures { result_ok result ≡ device_at (M.contents memory.now) base }
+        ensures device { result_ok result ≡ device_at (M.contents memory.now) base }
+        ensures there { IfOk result (λ device. has_device (M.contents memory.now) base ≡ true) }
     {
         let slot = read_slot(memory, base)?;
         let control = read_endpoint(memory, context_at(base, 1))?;

@@ -8,7 +8,7 @@ use Rattle.std.proofs.lemmas.List.{get_or-set_other}
 use Rattle.uas_profile.specs.declared.TheConstants.{TAGS}
 use Rattle.tag_desk.specs.declared.Slip.{Slip}
 use Rattle.tag_desk.specs.declared.rule.WorkView.TheVariants.{Finished}
-use Rattle.tag_desk.specs.Seats.{finishing, MadeDesk, Server, WorkLine, HeldClaim, IsAway, IsServed, IsPumpOf}
+use Rattle.tag_desk.specs.Seats.{finishing, MadeDesk, Server, WorkLine, HeldClaim, IsAway, IsServed}
 use Rattle.uas_work.specs.Held.{AreHeldBy, AreNone, AreUnserved, IsHeldAt, unserved_line, unserving}
 
 -- LINES THAT ARE OUT

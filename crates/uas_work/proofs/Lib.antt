@@ -5,3 +5,6 @@ pub mod Holding
 pub mod Taking
 pub mod Numbers
 pub mod Rows
+pub mod Later
+pub mod Homes
+pub mod Closing

@@ -1,5 +1,5 @@
 -- A client's slip is claimed and booked: from the claim to what `pump_in` tells.
-use Rattle.std.proofs.Common.{◌≡◌, ℕ, ◌+◌, ◌-◌, ◌*◌, ◌/◌, ◌%◌, ◌<◌, ◌≤◌, Bool, true, false, List, Option, Some, None, Result, Ok, Err, IfOk, IfErr, set, get_or, refl, sym, ap, subst, ◌∙◌, arith}
+use Rattle.std.proofs.Common.{◌≡◌, ℕ, ◌+◌, ◌-◌, ◌*◌, ◌/◌, ◌%◌, ◌<◌, Bool, true, false, List, Option, Some, None, Result, Ok, Err, IfOk, IfErr, get_or, refl, sym, ap, subst, ◌∙◌, arith}
 use Rattle.uas_profile.specs.declared.TheConstants.{TAGS}
 use Rattle.shared_machine.specs.declared.Step.{Step}
 use Rattle.tag_desk.specs.declared.Slip.{Slip}
@@ -8,7 +8,7 @@ use Rattle.tag_desk.specs.Seats.{MadeDesk, Server, HeldClaim, ClaimsAt, IsAway, 
 use Rattle.uas_work.specs.declared.Booking.{Booking}
 use Rattle.uas_work.specs.Booked.{BookedState, booked_step}
 use Rattle.uas_work.specs.Held.{Pump, AreHeldBy, ServesClient}
-use Rattle.uas_work.specs.Pumps.{Given, GaveUpIn, GaveUpWith, TookIn, TookInOrLeft, asked, brought, claiming, emptied, submitted}
+use Rattle.uas_work.specs.Pumps.{Given, GaveUpIn, GaveUpWith, TookInOrLeft, asked, brought, claiming, emptied, submitted}
 use Rattle.uas_work.proofs.Holding.{held-given}
 
 -- THE TAGS OF A CLIENT

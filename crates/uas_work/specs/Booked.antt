@@ -1,5 +1,5 @@
 -- A bus with its log, and what a booked step does.
-use Rattle.std.specs.Prelude.{◌≡◌, ℕ, ◌+◌, ◌<◌, ◌≤◌, ◌^◌, ◌==◌, false, List, length, map, cond, if◌then◌else◌, slice_index, slice_set, sum_by}
+use Rattle.std.specs.Prelude.{◌≡◌, ℕ, ◌+◌, ◌<◌, ◌≤◌, ◌^◌, ◌==◌, false, List, length, take, map, cond, if◌then◌else◌, slice_index, slice_set, sum_by}
 use Rattle.block_unit.specs.BlockMaps.{BlockMaps}
 use Rattle.uas_profile.specs.declared.TheConstants.{MAX_CLIENTS}
 use Rattle.shared_machine.specs.declared.Step.{Step}
@@ -50,6 +50,12 @@ booked_step old step = (
   record old { bus = (shared_step old.bus step).0; log = booked_log old.bus old.log step (shared_step old.bus step).1 },
   (shared_step old.bus step).1,
 )
+
+-- a bus with more steps: its logical units and its limit are the same, and its steps begin with those that it had
+pub record IsLater (first now : BookedState) : Type 0 where
+  pub units : now.log.units ≡ first.log.units
+  pub limit : now.limit ≡ first.limit
+  pub steps : take (length first.log.steps) now.log.steps ≡ first.log.steps
 
 -- TURNS
 

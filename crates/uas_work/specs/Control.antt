@@ -1,4 +1,5 @@
--- What the workers take who have no client: the controller, and the dispatcher of events and retirements.
+-- What the workers take who have no client: the controller, and the dispatcher of events and retirements. A gate says which steps are
+-- allowed: says step true where it allowed the step, says step false where it didn't.
 use Rattle.std.specs.Prelude.{◌≡◌, ℕ, ◌*◌, ◌<◌, ◌≤◌, Bool, true, false, length}
 use Rattle.uas_profile.specs.declared.Pipe.{Pipe}
 use Rattle.uas_profile.specs.declared.Pipe.TheVariants.{Command, Status as StatusPipe, DataIn, DataOut}
@@ -48,71 +49,78 @@ IsDispatch state (Take client) = ⊥
 
 -- WHAT IS FOUND
 
--- a step that is always allowed isn't due
-abbrev pub IsLeft : (Step → Bool) → Shared → Step → Type 0
-IsLeft always state step = always step ≡ true → due state step ≡ false
+-- a step isn't due, or wasn't allowed
+abbrev pub IsLeft : (Step → Bool → Type 0) → Shared → Step → Type 0
+IsLeft says state step = due state step ≡ true → says step false
 
--- none of this kind that is always allowed is due
-abbrev pub AreLeft : (Shared → Step → Type 0) → (Step → Bool) → Shared → Type 0
-AreLeft kind always state = (step : Step) → kind state step → IsLeft always state step
+-- no step of this kind is both due and allowed
+abbrev pub AreLeft : (Shared → Step → Type 0) → (Step → Bool → Type 0) → Shared → Type 0
+AreLeft kind says state = (step : Step) → kind state step → IsLeft says state step
 
--- such steps of the tags up to this one aren't due
-abbrev pub AreLeftUpTo : (ℕ → Step) → (Step → Bool) → Shared → ℕ → Type 0
-AreLeftUpTo step always state upto = (tag : ℕ) → 0 < tag → tag ≤ upto → IsLeft always state (step tag)
+-- so it is of such steps of the tags up to this one
+abbrev pub AreLeftUpTo : (ℕ → Step) → (Step → Bool → Type 0) → Shared → ℕ → Type 0
+AreLeftUpTo step says state upto = (tag : ℕ) → 0 < tag → tag ≤ upto → IsLeft says state (step tag)
 
--- such steps of the tags below this one aren't due
-abbrev pub AreLeftBelow : (ℕ → Step) → (Step → Bool) → Shared → ℕ → Type 0
-AreLeftBelow step always state below = (tag : ℕ) → 0 < tag → tag < below → IsLeft always state (step tag)
+-- and of the tags below this one
+abbrev pub AreLeftBelow : (ℕ → Step) → (Step → Bool → Type 0) → Shared → ℕ → Type 0
+AreLeftBelow step says state below = (tag : ℕ) → 0 < tag → tag < below → IsLeft says state (step tag)
 
--- none of them is due of any tag
-abbrev pub AllAreLeft : (ℕ → Step) → (Step → Bool) → Shared → Type 0
-AllAreLeft step always state = AreLeftUpTo step always state (length state.parts * TAGS)
+-- and of all tags
+abbrev pub AllAreLeft : (ℕ → Step) → (Step → Bool → Type 0) → Shared → Type 0
+AllAreLeft step says state = AreLeftUpTo step says state (length state.parts * TAGS)
 
--- what comes before a retirement of a tag on a pipe isn't due
-abbrev pub AreLeftBeforeRetirement : (Step → Bool) → Shared → Pipe → ℕ → Type 0
-AreLeftBeforeRetirement always state Command tag = ⊥
-AreLeftBeforeRetirement always state StatusPipe tag = IsLeft always state Event × AreLeftBelow (Retire StatusPipe) always state tag
-AreLeftBeforeRetirement always state DataIn tag =
-    IsLeft always state Event × AllAreLeft (Retire StatusPipe) always state × AreLeftBelow (Retire DataIn) always state tag
-AreLeftBeforeRetirement always state DataOut tag =
-    IsLeft always state Event × AllAreLeft (Retire StatusPipe) always state × AllAreLeft (Retire DataIn) always state
-    × AreLeftBelow (Retire DataOut) always state tag
+-- what comes before a retirement of a tag on a pipe isn't due, or wasn't allowed
+abbrev pub AreLeftBeforeRetirement : (Step → Bool → Type 0) → Shared → Pipe → ℕ → Type 0
+AreLeftBeforeRetirement says state Command tag = ⊥
+AreLeftBeforeRetirement says state StatusPipe tag = IsLeft says state Event × AreLeftBelow (Retire StatusPipe) says state tag
+AreLeftBeforeRetirement says state DataIn tag =
+    IsLeft says state Event × AllAreLeft (Retire StatusPipe) says state × AreLeftBelow (Retire DataIn) says state tag
+AreLeftBeforeRetirement says state DataOut tag =
+    IsLeft says state Event × AllAreLeft (Retire StatusPipe) says state × AllAreLeft (Retire DataIn) says state
+    × AreLeftBelow (Retire DataOut) says state tag
 
--- What comes before a step in the order of those who have no client isn't due, where it is always allowed: command pipe, engine, data and
--- status of the one; event and retirements of the other.
-abbrev pub AreLeftBefore : (Step → Bool) → Shared → Step → Type 0
-AreLeftBefore always state (Submit client tag ticket command) = ⊥
-AreLeftBefore always state (Task client ticket task) = ⊥
-AreLeftBefore always state CommandPipe = Unit {0}
-AreLeftBefore always state (Data tag) =
-    IsLeft always state CommandPipe × IsLeft always state Engine × AreLeftBelow Data always state tag
-AreLeftBefore always state (Status tag) =
-    IsLeft always state CommandPipe × IsLeft always state Engine × AllAreLeft Data always state × AreLeftBelow Status always state tag
-AreLeftBefore always state Engine = IsLeft always state CommandPipe
-AreLeftBefore always state Event = Unit {0}
-AreLeftBefore always state (Retire pipe tag) = AreLeftBeforeRetirement always state pipe tag
-AreLeftBefore always state (Take client) = ⊥
+-- What comes before a step in the order of those who have no client isn't due, or wasn't allowed: command pipe, engine, data and status
+-- of the one; event and retirements of the other.
+abbrev pub AreLeftBefore : (Step → Bool → Type 0) → Shared → Step → Type 0
+AreLeftBefore says state (Submit client tag ticket command) = ⊥
+AreLeftBefore says state (Task client ticket task) = ⊥
+AreLeftBefore says state CommandPipe = Unit {0}
+AreLeftBefore says state (Data tag) =
+    IsLeft says state CommandPipe × IsLeft says state Engine × AreLeftBelow Data says state tag
+AreLeftBefore says state (Status tag) =
+    IsLeft says state CommandPipe × IsLeft says state Engine × AllAreLeft Data says state × AreLeftBelow Status says state tag
+AreLeftBefore says state Engine = IsLeft says state CommandPipe
+AreLeftBefore says state Event = Unit {0}
+AreLeftBefore says state (Retire pipe tag) = AreLeftBeforeRetirement says state pipe tag
+AreLeftBefore says state (Take client) = ⊥
 
--- the first step of this kind that is due, but for those that aren't always allowed
-pub record IsFirstOf (kind : Shared → Step → Type 0) (always : Step → Bool) (state : Shared) (step : Step) : Type 0 where
+-- the first step of this kind that is due and allowed
+pub record IsFirstOf (kind : Shared → Step → Type 0) (says : Step → Bool → Type 0) (state : Shared) (step : Step) : Type 0 where
   pub of_kind : kind state step
   pub acts : due state step ≡ true
+  pub allowed : says step true
   pub ticket : HasTicket step
-  pub first : AreLeftBefore always state step
+  pub first : AreLeftBefore says state step
 
 -- WHAT WAS DONE
 
 -- the first of this kind is booked
-pub record TookOne (kind : Shared → Step → Type 0) (always : Step → Bool) (old new : BookedState) : Type 0 where
+pub record TookOne (kind : Shared → Step → Type 0) (says : Step → Bool → Type 0) (old new : BookedState) : Type 0 where
   pub step : Step
-  pub is : IsFirstOf kind always old.bus step
+  pub is : IsFirstOf kind says old.bus step
   pub booked : new ≡ (booked_step old step).0
 
--- nothing was done, as none of this kind was due that is always allowed
-pub record LeftAll (kind : Shared → Step → Type 0) (always : Step → Bool) (old new : BookedState) : Type 0 where
+-- nothing was done, as none of this kind was both due and allowed
+pub record LeftAll (kind : Shared → Step → Type 0) (says : Step → Bool → Type 0) (old new : BookedState) : Type 0 where
   pub same : new ≡ old
-  pub left : AreLeft kind always old.bus
+  pub left : AreLeft kind says old.bus
 
-abbrev pub TookOrLeft : (Shared → Step → Type 0) → (Step → Bool) → BookedState → BookedState → Bool → Type 0
-TookOrLeft kind always old new true = TookOne kind always old new
-TookOrLeft kind always old new false = LeftAll kind always old new
+abbrev pub TookOrLeft : (Shared → Step → Type 0) → (Step → Bool → Type 0) → BookedState → BookedState → Bool → Type 0
+TookOrLeft kind says old new true = TookOne kind says old new
+TookOrLeft kind says old new false = LeftAll kind says old new
+
+-- the first of this kind was found, but could not be booked
+pub record WantsOne (kind : Shared → Step → Type 0) (says : Step → Bool → Type 0) (old new : BookedState) : Type 0 where
+  pub step : Step
+  pub is : IsFirstOf kind says old.bus step
+  pub same : new ≡ old

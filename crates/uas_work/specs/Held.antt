@@ -1,12 +1,12 @@
 -- The claims that a pump holds: when they are its own, and how they are finished.
-use Rattle.std.specs.Prelude.{◌≡◌, ℕ, ◌+◌, ◌-◌, ◌*◌, ◌%◌, ◌<◌, ◌==◌, Bool, ◌&&◌, if◌then◌else◌, List, [], Option, Some, None, All, length}
+use Rattle.std.specs.Prelude.{◌≡◌, ℕ, ◌+◌, ◌-◌, ◌*◌, ◌/◌, ◌%◌, ◌<◌, ◌==◌, Bool, ◌&&◌, if◌then◌else◌, List, [], Option, Some, None, All, length}
 use Rattle.std.specs.Prelude.{slice_index_or, slice_set}
 use Rattle.scsi_cmd.specs.declared.Reply.{Reply}
 use Rattle.scsi_cmd.specs.Replies.{reply_tag, reply_ticket}
 use Rattle.uas_profile.specs.declared.TheConstants.{MAX_CLIENTS, TAGS}
 use Rattle.tag_desk.specs.declared.Slip.TheVariants.{Answer, Unserved}
 use Rattle.tag_desk.specs.declared.rule.WorkView.TheVariants.{Finished}
-use Rattle.tag_desk.specs.Seats.{MadeDesk, Server, WorkLine, HeldClaim, IsAway, IsServed, finishing}
+use Rattle.tag_desk.specs.Seats.{MadeDesk, Server, WorkLine, HeldClaim, IsAway, IsHome, IsServed, finishing}
 
 -- THE CLAIMS THAT A PUMP HOLDS
 
@@ -32,6 +32,22 @@ pub record AreHeldBy (desk : MadeDesk) (seat : Server) (held : List (Option Held
 -- client c is served by pump c mod the number of pumps
 abbrev pub ServesClient : MadeDesk → Server → ℕ → Type 0
 ServesClient desk seat client = (client < desk.clients) × (client < MAX_CLIENTS) × (client % desk.pumps ≡ seat.pump)
+
+-- LINES THAT ARE HOME
+
+-- a line is there, with no claim out
+abbrev pub IsHomeLine : Option WorkLine → Type 0
+IsHomeLine None = ⊥
+IsHomeLine (Some line) = IsHome line.view
+
+-- the line of each tag that the seat serves is home
+abbrev pub AreAllHome : MadeDesk → Server → Type 0
+AreAllHome desk seat = (k : ℕ) → k < TAGS * desk.clients → k / TAGS % desk.pumps ≡ seat.pump → IsHomeLine (slice_index_or seat.lines k None)
+
+-- the line of each tag that the seat serves is home, or out with a claim that is held
+abbrev pub AreAccounted : MadeDesk → Server → List (Option HeldClaim) → Type 0
+AreAccounted desk seat held = (k : ℕ) → k < TAGS * desk.clients → k / TAGS % desk.pumps ≡ seat.pump → slice_index_or held k None ≡ None
+    → IsHomeLine (slice_index_or seat.lines k None)
 
 -- THE END OF ALL CLAIMS
 

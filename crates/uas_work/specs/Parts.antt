@@ -1,9 +1,9 @@
 -- What each worker has of its own at the desk and at the board, and what it gives back.
-use Rattle.std.specs.Prelude.{◌≡◌, ℕ, ◌<◌, ◌≤◌, List, length, slice_index_or, vec_len, vec_capacity}
+use Rattle.std.specs.Prelude.{◌≡◌, ℕ, ◌*◌, ◌<◌, ◌≤◌, List, length, slice_index_or, vec_len, vec_capacity}
 use Rattle.uas_profile.specs.declared.TheConstants.{MAX_CLIENTS}
 use Rattle.door_board.specs.Counts.{MadeBoard, IsSeatOf}
 use Rattle.tag_desk.specs.Seats.{MadeDesk, Customer, Server, IsClientOf, IsPumpOf}
-use Rattle.uas_work.specs.Held.{AreHeldBy}
+use Rattle.uas_work.specs.Held.{AreAccounted, AreAllHome, AreHeldBy}
 use Rattle.uas_work.specs.declared.parts.ClientPart.{ClientPart}
 use Rattle.uas_work.specs.declared.parts.PumpPart.{PumpPart}
 use Rattle.uas_work.specs.declared.workers.Lists.{Lists}
@@ -29,26 +29,36 @@ pub record IsClientPart (desk : MadeDesk) (board : MadeBoard) (part : ClientPart
   pub later : part.seat.least_ticket ≤ part.tags.next
   pub bell : IsSeatOf board part.bell
 
--- A pump's worker: its seat is the pump's at this desk, and the claims that it holds are the seat's.
+-- A pump's worker: its seat is the pump's at this desk, the claims that it holds are the seat's, and no other line of it is out.
 pub record IsPumpPart (desk : MadeDesk) (board : MadeBoard) (part : PumpPart) : Type 0 where
   pub own : IsPumpOf desk part.seat
   pub number : part.seat.pump ≡ part.pump
   pub held : AreHeldBy desk part.seat part.held
+  pub whole : AreAccounted desk part.seat part.held
   pub bell : IsSeatOf board part.bell
 
 -- a seat is that of a client of this number at the desk
 abbrev pub IsSeatOfClient : MadeDesk → ℕ → Customer → Type 0
 IsSeatOfClient desk client seat = IsClientOf desk seat × (seat.client ≡ client)
 
--- a seat is that of a pump of this number at the desk
+-- a seat is that of a pump of this number at the desk, and no line of it is out
 abbrev pub IsSeatOfPump : MadeDesk → ℕ → Server → Type 0
-IsSeatOfPump desk pump seat = IsPumpOf desk seat × (seat.pump ≡ pump)
+IsSeatOfPump desk pump seat = IsPumpOf desk seat × (seat.pump ≡ pump) × AreAllHome desk seat
+
+-- no line of any pump is out
+abbrev pub ArePumpsHome : MadeDesk → List Server → Type 0
+ArePumpsHome desk seats = (k : ℕ) (d : Server) → k < desk.pumps → AreAllHome desk (slice_index_or seats k d)
+
+-- a client took no reply yet, and has room for those of so many rounds, two a round
+abbrev pub HasRoomForRounds : ℕ → ClientPart → Type 0
+HasRoomForRounds rounds part = (vec_len part.replies ≡ 0) × (2 * rounds ≤ vec_capacity part.replies)
 
 -- a worker for each client, in order
-pub record AreClientParts (desk : MadeDesk) (board : MadeBoard) (parts : List ClientPart) : Type 0 where
+pub record AreClientParts (desk : MadeDesk) (board : MadeBoard) (rounds : ℕ) (parts : List ClientPart) : Type 0 where
   pub count : length parts ≡ desk.clients
   pub each : (k : ℕ) (d : ClientPart) → k < desk.clients → IsClientPart desk board (slice_index_or parts k d)
   pub order : (k : ℕ) (d : ClientPart) → k < desk.clients → (slice_index_or parts k d).client ≡ k
+  pub room : (k : ℕ) (d : ClientPart) → k < desk.clients → HasRoomForRounds rounds (slice_index_or parts k d)
 
 -- a worker for each pump, in order
 pub record ArePumpParts (desk : MadeDesk) (board : MadeBoard) (parts : List PumpPart) : Type 0 where

@@ -1,5 +1,5 @@
 -- What a pump books of a client, and what becomes of the slip.
-use Rattle.std.specs.Prelude.{◌≡◌, ℕ, ◌-◌, Bool, true, false, List, [], Option, Some, None, slice_index_or, slice_set}
+use Rattle.std.specs.Prelude.{◌≡◌, ℕ, ◌-◌, ◌⊎◌, Bool, true, false, List, [], Option, Some, None, slice_index_or, slice_set}
 use Rattle.std.specs.Option.{option_map_or}
 use Rattle.shared_machine.specs.declared.Refusal.{Refusal}
 use Rattle.shared_machine.specs.declared.Step.{Step}
@@ -8,7 +8,9 @@ use Rattle.tag_desk.specs.declared.Slip.{Slip}
 use Rattle.tag_desk.specs.declared.Slip.TheVariants.{Ask, AskTask, Answer, Refused, Unserved}
 use Rattle.tag_desk.specs.Slips.{IsAsk}
 use Rattle.tag_desk.specs.Seats.{MadeDesk, Server, HeldClaim, IsAway, IsServed, IsTagOf, finishing}
-use Rattle.uas_work.specs.Booked.{BookedState, booked_step}
+use Rattle.shared_machine.specs.Shared.{due}
+use Rattle.uas_work.specs.Booked.{BookedState, booked_step, turns_in}
+use Rattle.uas_work.specs.Control.{IsLeft}
 use Rattle.uas_work.specs.Held.{Pump, AreNone, AreUnserved}
 
 -- the step that a client's slip on a tag asks for; the end of a submission asks for none, and no client posts one
@@ -87,3 +89,28 @@ pub record GaveUpIn (desk : MadeDesk) (client ticket : ℕ) (old new : Pump) : T
   pub slip : Slip
   pub asks : Asks client ticket tag slip old
   pub ends : GaveUpWith (emptied desk tag ticket) (brought (asked client tag slip)) (claiming tag old) new
+
+-- WHAT A PUMP BOOKS OF A CLIENT UNDER A GATE
+
+-- a submission that the client posted with its next ticket is booked
+pub record Entered (client : ℕ) (before after : BookedState) : Type 0 where
+  pub tag : ℕ
+  pub slip : Slip
+  pub ask : IsAsk tag (turns_in client before.log.steps) slip
+  pub booked : after ≡ (booked_step before (asked client tag slip)).0
+
+abbrev pub EnteredOrLeft : ℕ → BookedState → BookedState → Type 0
+EnteredOrLeft client before after = (after ≡ before) ⊎ Entered client before after
+
+-- the client's Take is booked, which was due and allowed; or nothing is, as it wasn't due or wasn't allowed
+abbrev pub TakenOrLeft : (Step → Bool → Type 0) → ℕ → BookedState → BookedState → Bool → Type 0
+TakenOrLeft says client before after true =
+    (due before.bus (Take client) ≡ true) × says (Take client) true × (after ≡ (booked_step before (Take client)).0)
+TakenOrLeft says client before after false = IsLeft says before.bus (Take client) × (after ≡ before)
+
+-- what the client posted is booked, or nothing, and then its Take, where that is due and allowed
+pub record Served (says : Step → Bool → Type 0) (client : ℕ) (before after : BookedState) : Type 0 where
+  pub between : BookedState
+  pub entered : EnteredOrLeft client before between
+  pub took : Bool
+  pub taken : TakenOrLeft says client between after took

@@ -1,10 +1,11 @@
 //! The part of a client: it posts its commands on the desk and looks for what they came to.
-ghost use Rattle.std.specs.Prelude.{◌≡◌, ◌≤◌, ◌<◌, ◌^◌, IfSome, vec_len, vec_capacity};
+ghost use Rattle.std.specs.Prelude.{◌≡◌, ◌+◌, ◌≤◌, ◌<◌, ◌^◌, IfSome, vec_len, vec_capacity};
 ghost use Rattle.tag_desk.specs.Seats.{IsClientOf, IsTagOf};
-ghost use Rattle.uas_work.specs.Parts.{IsClientPart, IsSeatOfClient};
+ghost use Rattle.uas_work.specs.Parts.{HasRoomForRounds, IsClientPart, IsSeatOfClient};
 
 use crate::floor::Floor;
 use crate::hall::Hall;
+use crate::handed::Origin;
 use crate::parts::{ClientBack, ClientPart};
 use crate::rounds::{Half, command};
 use crate::{Ended, Gate};
@@ -17,15 +18,16 @@ use uas_profile::TAGS;
 
 impl ClientPart {
     /// Takes so many rounds, or as many as the workers are let take: what is left of the part.
-    pub(crate) fn work<R: Wait, G: Gate>(
+    pub(crate) fn work<J: Origin, R: Wait, G: Gate>(
         mut self,
         rt: &R,
-        floor: &Floor,
+        floor: &Floor<J>,
         hall: &Hall,
         gate: &G,
         rounds: u32,
     ) -> ClientBack
-        requires { IsClientPart hall.now.desk hall.now.board self }
+        requires part { IsClientPart hall.now.desk hall.now.board self }
+        requires room { HasRoomForRounds rounds self }
         ensures { IsSeatOfClient hall.now.desk self.client result.seat }
     {
         if self.took_rounds(rt, floor, hall, gate, rounds) {
@@ -36,15 +38,16 @@ impl ClientPart {
     }
 
     /// Takes so many rounds: whether it came to their end.
-    fn took_rounds<R: Wait, G: Gate>(
+    fn took_rounds<J: Origin, R: Wait, G: Gate>(
         &mut self,
         rt: &R,
-        floor: &Floor,
+        floor: &Floor<J>,
         hall: &Hall,
         gate: &G,
         rounds: u32,
     ) -> bool
         requires part { IsClientPart hall.now.desk hall.now.board self.old }
+        requires room { HasRoomForRounds rounds self.old }
         ensures part { IsClientPart hall.now.desk hall.now.board self.new }
         ensures same { self.new.client ≡ self.old.client }
     {
@@ -58,19 +61,22 @@ impl ClientPart {
         true
     }
 
-    /// One half of a round, posted and looked for. Whether the client goes on.
-    fn took_half<R: Wait, G: Gate>(
+    /// One half of a round, posted and looked for. Whether the client goes on. Asks for room for a reply.
+    fn took_half<J: Origin, R: Wait, G: Gate>(
         &mut self,
         rt: &R,
-        floor: &Floor,
+        floor: &Floor<J>,
         hall: &Hall,
         gate: &G,
         round: u32,
         half: Half,
     ) -> bool
         requires part { IsClientPart hall.now.desk hall.now.board self.old }
+        requires room { vec_len self.old.replies < vec_capacity self.old.replies }
         ensures part { IsClientPart hall.now.desk hall.now.board self.new }
         ensures same { self.new.client ≡ self.old.client }
+        ensures one { vec_len self.new.replies ≤ vec_len self.old.replies + 1 }
+        ensures room { vec_capacity self.new.replies ≡ vec_capacity self.old.replies }
     {
         if floor.is_over(gate, u32::from(self.client)) {
             return false;
@@ -79,10 +85,6 @@ impl ClientPart {
             floor.end(Ended::NoMemory);
             return false;
         };
-        if self.replies.reserve(1).is_err() {
-            floor.end(Ended::NoMemory);
-            return false;
-        }
         let Some(tag) = self.posted(hall, command) else {
             floor.end(Ended::Stopped);
             return false;
@@ -114,10 +116,10 @@ impl ClientPart {
     }
 
     /// The slip with which the pump finished a tag, looked for once a turn; none where all pumps ended and it wasn't finished.
-    fn awaited<R: Wait, G: Gate>(
+    fn awaited<J: Origin, R: Wait, G: Gate>(
         &mut self,
         rt: &R,
-        floor: &Floor,
+        floor: &Floor<J>,
         hall: &Hall,
         gate: &G,
         tag: u16,
@@ -148,6 +150,8 @@ impl ClientPart {
         ensures seat { self.new.seat ≡ self.old.seat }
         ensures bell { self.new.bell ≡ self.old.bell }
         ensures client { self.new.client ≡ self.old.client }
+        ensures one { vec_len self.new.replies ≤ vec_len self.old.replies + 1 }
+        ensures capacity { vec_capacity self.new.replies ≡ vec_capacity self.old.replies }
         ensures tags { (self.new.tags.client ≡ self.old.tags.client) × (self.new.tags.next ≡ self.old.tags.next) }
     {
         if self.tags.is_issued(tag) {

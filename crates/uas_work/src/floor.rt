@@ -1,5 +1,9 @@
 //! What the workers share: the bus under its lock, and why they end.
-use crate::{Booked, Booking, Ended, Gate, control, dispatch};
+ghost use Rattle.std.specs.Prelude.{◌≡◌};
+ghost use Rattle.uas_work.specs.Booked.{IsBooked, IsLater};
+
+use crate::handed::{Handed, Origin};
+use crate::{Booked, Booking, Ended, Gate};
 use std::alloc::Global;
 use std::sync::atomic::AtomicU64;
 use std::sync::atomic::Ordering::SeqCst;
@@ -8,9 +12,9 @@ use std::thread;
 
 /// What the workers share.
 #[derive(Drop)]
-pub(crate) struct Floor {
+pub(crate) struct Floor<J: Origin> {
     pub(crate) alloc: Global,
-    booked: Mutex<Booked>,
+    booked: Mutex<Handed<J>>,
     /// Why they ended, as a number; 0 while they work.
     ended: AtomicU64,
     /// The clients that have rounds left.
@@ -19,11 +23,13 @@ pub(crate) struct Floor {
     pumps_left: AtomicU64,
 }
 
-impl Floor {
-    pub(crate) fn new(alloc: Global, booked: Booked, clients: usize, pumps: usize) -> Floor {
+impl<J: Origin> Floor<J> {
+    pub(crate) fn new(alloc: Global, booked: Booked, clients: usize, pumps: usize) -> Floor<J>
+        requires { booked ≡ J.first }
+    {
         Floor {
             alloc,
-            booked: Mutex::new(booked),
+            booked: Mutex::new(Handed::new(booked)),
             ended: AtomicU64::new(Ended::Done.code()),
             clients_left: AtomicU64::new(clients as u64),
             pumps_left: AtomicU64::new(pumps as u64),
@@ -31,9 +37,15 @@ impl Floor {
     }
 
     /// The bus with its log and why the workers ended, once all are joined.
-    pub(crate) fn into_parts(self) -> (Booked, Ended) {
+    pub(crate) fn into_parts(self) -> (Booked, Ended)
+        ensures later { IsLater J.first result.0 }
+        ensures booked { IsBooked result.0 }
+    {
         let Floor { booked, ended, .. } = self;
-        (booked.into_inner(), Ended::from_code(ended.load(SeqCst)))
+        (
+            booked.into_inner().into_booked(),
+            Ended::from_code(ended.load(SeqCst)),
+        )
     }
 
     /// The workers are to end. The first that says so is heard.
@@ -76,7 +88,7 @@ impl Floor {
     }
 
     /// The bus, locked.
-    pub(crate) fn lock<R: Wait>(&self, rt: &R) -> MutexGuard<'_, Booked> {
+    pub(crate) fn lock<R: Wait>(&self, rt: &R) -> MutexGuard<'_, Handed<J>> {
         self.booked.lock(rt)
     }
 
@@ -86,7 +98,7 @@ impl Floor {
             if self.is_over(gate, worker) {
                 return;
             }
-            let took = control(self.alloc, &mut *self.booked.lock(rt), gate);
+            let took = self.booked.lock(rt).control(self.alloc, gate);
             self.rest(took);
         }
     }
@@ -97,7 +109,7 @@ impl Floor {
             if self.is_over(gate, worker) {
                 return;
             }
-            let took = dispatch(self.alloc, &mut *self.booked.lock(rt), gate);
+            let took = self.booked.lock(rt).dispatch(self.alloc, gate);
             self.rest(took);
         }
     }

@@ -1,5 +1,5 @@
 //! Where clients and pumps meet: the desk of slips, and the board of doorbells.
-ghost use Rattle.std.specs.Prelude.{◌*◌, ◌≤◌, All, IfOk};
+ghost use Rattle.std.specs.Prelude.{◌≡◌, ◌*◌, ◌≤◌, All, IfOk};
 ghost use Rattle.uas_profile.specs.declared.TheConstants.{MAX_CLIENTS, TAGS};
 ghost use Rattle.tag_desk.specs.Seats.{AreNewCustomers, AreServersBelow, IsClientOf, IsPumpOf};
 ghost use Rattle.door_board.specs.Counts.{IsSeatOf};
@@ -30,15 +30,17 @@ pub(crate) struct Opened {
     pub(crate) pumps: Vec<PumpPart>,
 }
 
-/// A hall for so many clients and pumps, with a worker's part for each.
+/// A hall for so many clients and pumps, with a worker's part for each; a client's has room for the replies of so many rounds.
 pub(crate) fn open_hall(
     alloc: Global,
     clients: usize,
     pumps: PumpCount,
+    rounds: u32,
 ) -> Result<Opened, AllocError>
     requires some { 1 ≤ clients }
     requires most { clients ≤ MAX_CLIENTS }
-    ensures clients { IfOk result (λ opened. AreClientParts opened.hall.desk opened.hall.board opened.clients.items) }
+    ensures number { IfOk result (λ opened. opened.hall.clients ≡ clients) }
+    ensures clients { IfOk result (λ opened. AreClientParts opened.hall.desk opened.hall.board rounds opened.clients.items) }
     ensures pumps { IfOk result (λ opened. ArePumpParts opened.hall.desk opened.hall.board opened.pumps.items) }
 {
     let pumps = pumps.count();
@@ -54,7 +56,7 @@ pub(crate) fn open_hall(
         clients: customers,
         pumps: servers,
     } = seats;
-    let client_parts = hall.client_parts(alloc, customers, &mut bells)?;
+    let client_parts = hall.client_parts(alloc, customers, &mut bells, rounds)?;
     let pump_parts = hall.pump_parts(alloc, servers, &mut bells)?;
     Ok(Opened {
         hall,
@@ -64,18 +66,19 @@ pub(crate) fn open_hall(
 }
 
 impl Hall {
-    /// A part for each client, of its seat and of one of the bells.
+    /// A part for each client, of its seat and of one of the bells, with room for the replies of so many rounds.
     fn client_parts(
         &self,
         alloc: Global,
         seats: Vec<ClientSeat>,
         bells: &mut Vec<Seat>,
+        rounds: u32,
     ) -> Result<Vec<ClientPart>, AllocError>
         requires seats { AreNewCustomers self.now.desk.table self.now.clients seats.items }
         requires own { All (IsClientOf self.now.desk) seats.items }
         requires bells { All (IsSeatOf self.now.board) bells.old.items }
         ensures bells { All (IsSeatOf self.now.board) bells.new.items }
-        ensures parts { IfOk result (λ parts. AreClientParts self.now.desk self.now.board parts.items) }
+        ensures parts { IfOk result (λ parts. AreClientParts self.now.desk self.now.board rounds parts.items) }
     {
         let mut parts = Vec::with_capacity(alloc, self.clients)?;
         let mut client = 0u8;
@@ -83,12 +86,13 @@ impl Hall {
             let Some(bell) = bells.pop() else {
                 return Err(AllocError);
             };
+            let replies = Vec::with_capacity(alloc, 2 * rounds as usize)?;
             parts.push(ClientPart {
                 client,
                 seat,
                 bell,
                 tags: TagRange::new(client),
-                replies: Vec::new(alloc),
+                replies,
             })?;
             client += 1;
         }

@@ -27,6 +27,8 @@ mod clients;
 mod floor;
 mod gates;
 mod hall;
+mod handed;
+mod joining;
 mod opening;
 mod parts;
 mod pump_part;

@@ -1,11 +1,17 @@
 //! The part of a pump: turn by turn it collects its bells and serves its clients under the lock.
-ghost use Rattle.std.specs.Prelude.{◌≡◌};
+ghost use Rattle.std.specs.Prelude.{◌≡◌, IfOk, IfErr, MatchResult};
+ghost use Rattle.uas_work.specs.Pumps.{EnteredOrLeft, Served, TakenOrLeft};
+ghost use Rattle.shared_machine.specs.declared.Step.{Step};
+ghost use Rattle.shared_machine.specs.Shared.{due};
+ghost use Rattle.uas_work.specs.Booked.{booked_step};
 ghost use Rattle.uas_work.specs.Held.{ServesClient};
 ghost use Rattle.uas_work.specs.Parts.{IsPumpPart, IsSeatOfPump};
 
 use crate::floor::Floor;
 use crate::hall::Hall;
+use crate::handed::Origin;
 use crate::parts::PumpPart;
+use crate::pumps::is_open;
 use crate::{Booked, Booking, Gate, pump_in, pump_out};
 use bus_core::Step;
 use door_board::WORDS;
@@ -19,10 +25,10 @@ const MOST_QUIET: u32 = 15;
 
 impl PumpPart {
     /// Serves its clients until the workers end, and gives back every claim that it holds then.
-    pub(crate) fn work<R: Wait, G: Gate>(
+    pub(crate) fn work<J: Origin, R: Wait, G: Gate>(
         mut self,
         rt: &R,
-        floor: &Floor,
+        floor: &Floor<J>,
         hall: &Hall,
         gate: &G,
         worker: u32,
@@ -42,10 +48,10 @@ impl PumpPart {
     }
 
     /// Takes turns until the workers end.
-    fn took_turns<R: Wait, G: Gate>(
+    fn took_turns<J: Origin, R: Wait, G: Gate>(
         &mut self,
         rt: &R,
-        floor: &Floor,
+        floor: &Floor<J>,
         hall: &Hall,
         gate: &G,
         worker: u32,
@@ -90,10 +96,10 @@ impl PumpPart {
     }
 
     /// Serves each of its clients once, under the lock: whether a step was booked.
-    fn served_all<R: Wait, G: Gate>(
+    fn served_all<J: Origin, R: Wait, G: Gate>(
         &mut self,
         rt: &R,
-        floor: &Floor,
+        floor: &Floor<J>,
         hall: &Hall,
         gate: &G,
     ) -> Result<bool, Booking>
@@ -102,21 +108,20 @@ impl PumpPart {
         ensures same { self.new.pump ≡ self.old.pump }
     {
         let mut guard = floor.lock(rt);
-        let booked = &mut *guard;
+        let handed = &mut *guard;
         let mut served = false;
         for client in 0..hall.clients {
             if client % hall.pumps == self.pump {
-                served |= self.served(rt, floor, hall, gate, booked, client)?;
+                served |= handed.serve(floor.alloc, self, hall, gate, client)?;
             }
         }
         Ok(served)
     }
 
     /// Books what a client posted, and takes a reply of it that is ready and that the gate allows: whether a step was booked.
-    fn served<R: Wait, G: Gate>(
+    pub(crate) fn served<G: Gate>(
         &mut self,
-        rt: &R,
-        floor: &Floor,
+        alloc: Global,
         hall: &Hall,
         gate: &G,
         booked: &mut Booked,
@@ -126,13 +131,11 @@ impl PumpPart {
         requires client { ServesClient hall.now.desk self.old.seat client }
         ensures part { IsPumpPart hall.now.desk hall.now.board self.new }
         ensures same { self.new.pump ≡ self.old.pump }
+        ensures served { MatchResult result (λ served. Served (G.says gate.now) client booked.old booked.new)
+            (λ booking. EnteredOrLeft client booked.old booked.new) }
     {
-        let posted = self.took_in(floor.alloc, hall, booked, client)?;
-        let take = Step::Take(client);
-        if !booked.due(&take) || !gate.may(&take) {
-            return Ok(posted);
-        }
-        let took = self.brought_out(floor.alloc, hall, booked, client)?;
+        let posted = self.took_in(alloc, hall, booked, client)?;
+        let took = self.brought_out(alloc, hall, gate, booked, client)?;
         Ok(posted || took)
     }
 
@@ -148,13 +151,37 @@ impl PumpPart {
         requires client { ServesClient hall.now.desk self.old.seat client }
         ensures part { IsPumpPart hall.now.desk hall.now.board self.new }
         ensures same { self.new.pump ≡ self.old.pump }
+        ensures entered { IfOk result (λ posted. EnteredOrLeft client booked.old booked.new) }
+        ensures err { IfErr result (λ booking. booked.new ≡ booked.old) }
     {
         let PumpPart { seat, held, .. } = self;
         pump_in(alloc, booked, &hall.desk, seat, held, client)
     }
 
+    /// Takes a client's reply and finishes its claim, where that is due and the gate allows it: `pump_out`.
+    fn brought_out<G: Gate>(
+        &mut self,
+        alloc: Global,
+        hall: &Hall,
+        gate: &G,
+        booked: &mut Booked,
+        client: usize,
+    ) -> Result<bool, Booking>
+        requires part { IsPumpPart hall.now.desk hall.now.board self.old }
+        requires client { ServesClient hall.now.desk self.old.seat client }
+        ensures part { IsPumpPart hall.now.desk hall.now.board self.new }
+        ensures same { self.new.pump ≡ self.old.pump }
+        ensures taken { IfOk result (TakenOrLeft (G.says gate.now) client booked.old booked.new) }
+        ensures err { IfErr result (λ booking. booked.new ≡ booked.old) }
+    {
+        if !is_open(booked.bus(), gate, &Step::Take(client)) {
+            return Ok(false);
+        }
+        self.taken_out(alloc, hall, booked, client)
+    }
+
     /// Takes a client's reply and finishes its claim: `pump_out`.
-    fn brought_out(
+    fn taken_out(
         &mut self,
         alloc: Global,
         hall: &Hall,
@@ -165,6 +192,9 @@ impl PumpPart {
         requires client { ServesClient hall.now.desk self.old.seat client }
         ensures part { IsPumpPart hall.now.desk hall.now.board self.new }
         ensures same { self.new.pump ≡ self.old.pump }
+        ensures took { IfOk result (λ took. took ≡ due booked.old.bus (Step.Take client)) }
+        ensures booked { IfOk result (λ took. booked.new ≡ (booked_step booked.old (Step.Take client)).0) }
+        ensures err { IfErr result (λ booking. booked.new ≡ booked.old) }
     {
         let PumpPart { seat, held, .. } = self;
         pump_out(alloc, booked, &hall.desk, seat, held, client)

@@ -73,6 +73,7 @@ pub fn pump_out(
     ensures gave_up { IfErr result (λ booking. GaveUp (record { seat = seat.old; held = held.old }) (record { seat = seat.new; held = held.new })) }
     ensures full { length booked.old.log.steps ≡ booked.old.limit → IsErrAnd result (λ booking. booking ≡ Booking.LogFull) }
     ensures only_full { IfErr result (λ booking. booking ≡ Booking.LogFull → length booked.old.log.steps ≡ booked.old.limit) }
+    ensures wanting { IfErr result (λ booking. booking ≡ Booking.NoMemory → due booked.old.bus (Step.Take client) ≡ true) }
     ensures own { IsPumpOf desk.now seat.new }
     ensures held { AreHeldBy desk.now seat.new held.new }
 {

@@ -1,5 +1,5 @@
 //! Steps of a bus that are booked.
-ghost use Rattle.std.specs.Prelude.{◌≡◌, ℕ, ◌<◌, ◌^◌, IfOk, IfErr, OnErr, IsErrAnd, length};
+ghost use Rattle.std.specs.Prelude.{◌≡◌, ℕ, ◌<◌, ◌^◌, true, IfOk, IfErr, OnErr, IsErrAnd, length};
 ghost use Rattle.shared_machine.specs.Bus.{HasTicket};
 ghost use Rattle.uas_profile.specs.declared.TheConstants.{MAX_CLIENTS};
 ghost use Rattle.shared_machine.specs.Shared.{due};
@@ -54,14 +54,15 @@ impl Booked {
 
     /// Takes one step and books it: what came of it. Where the step is idle the log stays, else it is longer by the step, by the
     /// number of its refusal and by a copy of its reply. Where the log holds as many steps as it may the answer is `LogFull`,
-    /// for an idle step too, and `NoMemory` where there is no memory for the entry; the step comes back then, and nothing
-    /// changed. All memory is taken before the bus takes the step.
+    /// for an idle step too, and `NoMemory` where the step is due and there is no memory for the entry; the step comes back
+    /// then, and nothing changed. All memory is taken before the bus takes the step.
     pub fn step(&mut self, alloc: Global, step: Step) -> Result<Outcome, (Booking, Step)>
         requires { HasTicket step }
         // The bus and the outcome are the shared machine's, and the log is longer by what acted.
         ensures booked { IfOk result (λ outcome. booked_step self.old step ≡ (self.new, outcome)) }
         ensures full { length self.old.log.steps ≡ self.old.limit → IsErrAnd result (λ back. back.0 ≡ Booking.LogFull) }
         ensures only_full { IfErr result (λ back. back.0 ≡ Booking.LogFull → length self.old.log.steps ≡ self.old.limit) }
+        ensures wanting { IfErr result (λ back. back.0 ≡ Booking.NoMemory → due self.old.bus step ≡ true) }
         ensures err { OnErr result (self.new ≡ self.old) }
         ensures back { IfErr result (λ back. back.1 ≡ step) }
     {

@@ -1,13 +1,16 @@
 //! The workers: clients, pumps, controllers and a dispatcher in threads of their own, over one bus that is locked.
-ghost use Rattle.std.specs.Prelude.{◌≡◌, ◌≤◌, IfOk, IfErr, vec_len, vec_capacity};
+ghost use Rattle.std.specs.Prelude.{◌≡◌, ◌≢◌, ◌<◌, ◌≤◌, [], IfOk, IfErr, IfSome, IfNone, length, vec_len, vec_capacity};
 ghost use Rattle.tag_desk.specs.Left.{IsAllClientsOf, IsAllPumpsOf};
-ghost use Rattle.uas_work.specs.Parts.{AreClientParts, ArePumpParts, AreStartedClients, AreStartedPumps, HasRoomFor, IsClientPart, IsPumpPart, IsSeatOfClient, IsSeatOfPump};
+ghost use Rattle.uas_work.specs.Booked.{IsBooked, IsLater};
+ghost use Rattle.uas_work.specs.Parts.{AreClientParts, ArePumpParts, ArePumpsHome, AreStartedClients, AreStartedPumps, HasRoomFor, HasRoomForRounds, IsClientPart, IsPumpPart, IsSeatOfClient, IsSeatOfPump};
 
 use crate::floor::Floor;
 use crate::hall::{Hall, Opened, open_hall};
+use crate::handed::Origin;
 use crate::parts::{ClientBack, ClientPart, PumpPart};
 use crate::{Booked, Ended, Finished, Gate, Plan};
 use std::alloc::{AllocError, Global};
+use std::marker::Brand;
 use std::snapshot::Snapshot;
 use std::sync::Wait;
 use std::thread;
@@ -74,10 +77,11 @@ struct Backs {
 
 /// Lets the clients of a bus, as many pumps and controllers as planned and one dispatcher work on it, each in a thread of its own,
 /// until each client has taken its rounds: in round r client c writes 8 blocks from block 8 (r mod 8) on with bytes
-/// (16 c + r) mod 256 and reads them again, with tickets from 0 on. The workers are numbered: the clients, the pumps, the
-/// controllers, the dispatcher. A client posts each command on a desk, where its pump claims it, and looks there for what it came
-/// to; no client takes the lock. A worker that ends early ends the others, and all are joined. Then the desk is closed.
-/// `AllocError` and the bus as it was where there is no memory to begin with.
+/// (16 c + r) mod 256 and reads them again, with tickets from 0 on. Asks for at least one controller. The workers are numbered: the
+/// clients, the pumps, the controllers, the dispatcher. A client posts each command on a desk, where its pump claims it, and looks
+/// there for what it came to; no client takes the lock. A worker that ends early ends the others, and all are joined. Then the desk
+/// is closed: no claim is out there. The bus is the one that was handed in, with more steps. All lists are made before a worker
+/// starts, those of the desk that is closed apart. `AllocError` and the bus as it was where there is no memory to begin with.
 pub fn spawn_all<R: Threads + Wait + Sync, G: Gate + Sync>(
     rt: &R,
     alloc: Global,
@@ -85,44 +89,85 @@ pub fn spawn_all<R: Threads + Wait + Sync, G: Gate + Sync>(
     gate: &G,
     plan: Plan,
 ) -> Result<Finished, (AllocError, Booked)>
-    ensures { IfErr result (λ back. back.1 ≡ booked) }
+    requires controllers { 1 ≤ plan.controllers }
+    ensures later { IfOk result (λ finished. IsLater booked finished.booked) }
+    ensures booked { IfOk result (λ finished. IsBooked finished.booked) }
+    ensures replies { IfOk result (λ finished. length finished.replies.items ≡ length booked.bus.parts) }
+    ensures closed { IfOk result (λ finished. IfNone finished.left (finished.ended ≢ Ended.Done)) }
+    ensures held { IfOk result (λ finished. IfSome finished.left (λ left. left.held ≡ [])) }
+    ensures err { IfErr result (λ back. back.1 ≡ booked) }
 {
-    let Ok(opened) = open_hall(alloc, booked.bus().clients(), plan.pumps) else {
+    let Ok(opened) = open_hall(alloc, booked.bus().clients(), plan.pumps, plan.rounds) else {
         return Err((AllocError, booked));
     };
+    let Ok(lists) = make_lists(alloc, opened.hall.clients, opened.hall.pumps) else {
+        return Err((AllocError, booked));
+    };
+    Ok(finished::<Brand, R, G>(rt, alloc, booked, gate, plan, opened, lists))
+}
+
+/// Lets the workers of a hall work on the bus that is handed in.
+fn finished<J: Origin + Send + Sync, R: Threads + Wait + Sync, G: Gate + Sync>(
+    rt: &R,
+    alloc: Global,
+    booked: Booked,
+    gate: &G,
+    plan: Plan,
+    opened: Opened,
+    lists: Lists,
+) -> Finished
+    requires origin { booked ≡ J.first }
+    requires clients { AreClientParts opened.hall.desk opened.hall.board plan.rounds opened.clients.items }
+    requires pumps { ArePumpParts opened.hall.desk opened.hall.board opened.pumps.items }
+    requires room { HasRoomFor opened.hall.clients opened.hall.pumps lists }
+    ensures later { IsLater J.first result.booked }
+    ensures booked { IsBooked result.booked }
+    ensures replies { length result.replies.items ≡ opened.hall.clients }
+    ensures closed { IfNone result.left (result.ended ≢ Ended.Done) }
+    ensures held { IfSome result.left (λ left. left.held ≡ []) }
+{
     let Opened {
         hall,
         clients,
         pumps,
     } = opened;
-    let Ok(lists) = make_lists(alloc, hall.clients, hall.pumps) else {
-        return Err((AllocError, booked));
-    };
-    let floor = Floor::new(alloc, booked, hall.clients, hall.pumps);
+    let floor: Floor<J> = Floor::new(alloc, booked, hall.clients, hall.pumps);
     let backs = worked(rt, &floor, &hall, gate, plan, clients, pumps, lists);
     let Backs { seats, replies } = backs;
     let Hall { desk, .. } = hall;
-    let left = closed(alloc, &floor, desk, seats);
+    let left = closed(alloc, desk, seats);
     let (booked, ended) = floor.into_parts();
-    Ok(Finished {
+    let ended = ended_with(ended, &left);
+    Finished {
         booked,
         replies,
         left,
         ended,
-    })
+    }
 }
 
-/// What stands on the desk that is closed; none where there is no memory for it, which is an end too.
-fn closed(alloc: Global, floor: &Floor, desk: Desk, seats: Seats) -> Option<Left>
+/// Why the workers ended; want of memory where nothing ended them and the desk couldn't be closed.
+fn ended_with(ended: Ended, left: &Option<Left>) -> Ended
+    ensures some { IfSome left.now (λ left. result ≡ ended) }
+    ensures none { IfNone left.now (result ≢ Ended.Done) }
+{
+    match (ended, left) {
+        (Ended::Done, None) => Ended::NoMemory,
+        _ => ended,
+    }
+}
+
+/// What stands on the desk that is closed, where no claim is out; none where there is no memory for it.
+fn closed(alloc: Global, desk: Desk, seats: Seats) -> Option<Left>
     requires clients { IsAllClientsOf desk seats.clients.items }
     requires pumps { IsAllPumpsOf desk seats.pumps.items }
+    requires home { ArePumpsHome desk seats.pumps.items }
+    requires some { 0 < desk.pumps }
+    ensures { IfSome result (λ left. left.held ≡ []) }
 {
     match desk.close(alloc, seats) {
         Ok(left) => Some(left),
-        Err(_open) => {
-            floor.end(Ended::NoMemory);
-            None
-        }
+        Err(_open) => None,
     }
 }
 
@@ -140,9 +185,9 @@ fn make_lists(alloc: Global, clients: usize, pumps: usize) -> Result<Lists, Allo
 }
 
 /// Starts all workers and joins them.
-fn worked<'h, R: Threads + Wait + Sync, G: Gate + Sync>(
+fn worked<'h, J: Origin + Send + Sync, R: Threads + Wait + Sync, G: Gate + Sync>(
     rt: &'h R,
-    floor: &'h Floor,
+    floor: &'h Floor<J>,
     hall: &'h Hall,
     gate: &'h G,
     plan: Plan,
@@ -150,21 +195,25 @@ fn worked<'h, R: Threads + Wait + Sync, G: Gate + Sync>(
     pumps: Vec<PumpPart>,
     lists: Lists,
 ) -> Backs
-    requires clients { AreClientParts hall.now.desk hall.now.board clients.items }
+    requires clients { AreClientParts hall.now.desk hall.now.board plan.rounds clients.items }
     requires pumps { ArePumpParts hall.now.desk hall.now.board pumps.items }
     requires room { HasRoomFor hall.now.clients hall.now.pumps lists }
     ensures clients { IsAllClientsOf hall.now.desk result.seats.clients.items }
     ensures pumps { IsAllPumpsOf hall.now.desk result.seats.pumps.items }
+    ensures home { ArePumpsHome hall.now.desk result.seats.pumps.items }
+    ensures replies { length result.replies.items ≡ hall.now.clients }
 {
     thread::scope(
         thread::scope_env(),
         rt,
         move |scope| -> Backs
-            requires clients { AreClientParts hall.now.desk hall.now.board clients.items }
+            requires clients { AreClientParts hall.now.desk hall.now.board plan.rounds clients.items }
             requires pumps { ArePumpParts hall.now.desk hall.now.board pumps.items }
             requires room { HasRoomFor hall.now.clients hall.now.pumps lists }
             ensures clients { IsAllClientsOf hall.entry.now.desk result.seats.clients.items }
             ensures pumps { IsAllPumpsOf hall.entry.now.desk result.seats.pumps.items }
+            ensures home { ArePumpsHome hall.entry.now.desk result.seats.pumps.items }
+            ensures replies { length result.replies.items ≡ hall.entry.now.clients }
         {
             let backs = started_and_joined(
                 scope, rt, floor, hall, gate, plan, clients, pumps, lists,
@@ -175,10 +224,17 @@ fn worked<'h, R: Threads + Wait + Sync, G: Gate + Sync>(
 }
 
 /// Starts all workers in a scope and joins those that give something back.
-fn started_and_joined<'s, 'h: 's, E, R: Threads + Wait + Sync, G: Gate + Sync>(
+fn started_and_joined<
+    's,
+    'h: 's,
+    E,
+    J: Origin + Send + Sync,
+    R: Threads + Wait + Sync,
+    G: Gate + Sync,
+>(
     scope: &Scope<'s, E>,
     rt: &'h R,
-    floor: &'h Floor,
+    floor: &'h Floor<J>,
     hall: &'h Hall,
     gate: &'h G,
     plan: Plan,
@@ -186,11 +242,13 @@ fn started_and_joined<'s, 'h: 's, E, R: Threads + Wait + Sync, G: Gate + Sync>(
     pumps: Vec<PumpPart>,
     lists: Lists,
 ) -> Backs
-    requires clients { AreClientParts hall.now.desk hall.now.board clients.items }
+    requires clients { AreClientParts hall.now.desk hall.now.board plan.rounds clients.items }
     requires pumps { ArePumpParts hall.now.desk hall.now.board pumps.items }
     requires room { HasRoomFor hall.now.clients hall.now.pumps lists }
     ensures clients { IsAllClientsOf hall.now.desk result.seats.clients.items }
     ensures pumps { IsAllPumpsOf hall.now.desk result.seats.pumps.items }
+    ensures home { ArePumpsHome hall.now.desk result.seats.pumps.items }
+    ensures replies { length result.replies.items ≡ hall.now.clients }
 {
     let Lists {
         clients: client_hands,
@@ -220,17 +278,17 @@ fn started_and_joined<'s, 'h: 's, E, R: Threads + Wait + Sync, G: Gate + Sync>(
 }
 
 /// Starts a worker for each client. One that gets no thread ends all, and gives its part back here.
-fn start_clients<'s, 'h: 's, E, R: Wait + Sync, G: Gate + Sync>(
+fn start_clients<'s, 'h: 's, E, J: Origin + Send + Sync, R: Wait + Sync, G: Gate + Sync>(
     scope: &Scope<'s, E>,
     rt: &'h R,
-    floor: &'h Floor,
+    floor: &'h Floor<J>,
     hall: &'h Hall,
     gate: &'h G,
     rounds: u32,
     parts: Vec<ClientPart>,
     mut hands: Vec<StartedClient>,
 ) -> Vec<StartedClient>
-    requires parts { AreClientParts hall.now.desk hall.now.board parts.items }
+    requires parts { AreClientParts hall.now.desk hall.now.board rounds parts.items }
     requires room { (vec_len hands ≡ 0) × (hall.now.clients ≤ vec_capacity hands) }
     ensures { AreStartedClients hall.now.desk result.items }
 {
@@ -238,7 +296,8 @@ fn start_clients<'s, 'h: 's, E, R: Wait + Sync, G: Gate + Sync>(
         let desk = Snapshot::of(&hall.desk);
         let client = part.client;
         let work = move || -> ClientBack
-            requires { IsClientPart hall.now.desk hall.now.board part }
+            requires part { IsClientPart hall.now.desk hall.now.board part }
+            requires room { HasRoomForRounds rounds part }
             ensures { IsSeatOfClient hall.entry.now.desk part.client result.seat }
         { part.work(rt, floor, hall, gate, rounds) };
         let hand = match scope.spawn_with(ClientOf { desk, client }, work) {
@@ -255,10 +314,10 @@ fn start_clients<'s, 'h: 's, E, R: Wait + Sync, G: Gate + Sync>(
 }
 
 /// Starts a worker for each pump. One that gets no thread ends all, and gives its part back here.
-fn start_pumps<'s, 'h: 's, E, R: Wait + Sync, G: Gate + Sync>(
+fn start_pumps<'s, 'h: 's, E, J: Origin + Send + Sync, R: Wait + Sync, G: Gate + Sync>(
     scope: &Scope<'s, E>,
     rt: &'h R,
-    floor: &'h Floor,
+    floor: &'h Floor<J>,
     hall: &'h Hall,
     gate: &'h G,
     parts: Vec<PumpPart>,
@@ -291,10 +350,10 @@ fn start_pumps<'s, 'h: 's, E, R: Wait + Sync, G: Gate + Sync>(
 }
 
 /// Starts the controllers and the dispatcher. One that gets no thread ends all.
-fn start_others<'s, 'h: 's, E, R: Wait + Sync, G: Gate + Sync>(
+fn start_others<'s, 'h: 's, E, J: Origin + Send + Sync, R: Wait + Sync, G: Gate + Sync>(
     scope: &Scope<'s, E>,
     rt: &'h R,
-    floor: &'h Floor,
+    floor: &'h Floor<J>,
     hall: &Hall,
     gate: &'h G,
     controllers: u32,
@@ -315,55 +374,5 @@ fn start_others<'s, 'h: 's, E, R: Wait + Sync, G: Gate + Sync>(
         .is_err()
     {
         floor.end(Ended::NoThread);
-    }
-}
-
-impl Hall {
-    /// Joins the clients' workers: their seats and what each took, by number.
-    fn joined_clients<R: Threads>(
-        &self,
-        rt: &R,
-        hands: Vec<StartedClient>,
-        mut seats: Vec<ClientSeat>,
-        mut replies: Vec<Replies>,
-    ) -> (Vec<ClientSeat>, Vec<Replies>)
-        requires hands { AreStartedClients self.now.desk hands.items }
-        requires seats { (vec_len seats ≡ 0) × (self.now.clients ≤ vec_capacity seats) }
-        requires replies { (vec_len replies ≡ 0) × (self.now.clients ≤ vec_capacity replies) }
-        ensures { IsAllClientsOf self.now.desk result.0.items }
-    {
-        for hand in hands {
-            let ClientBack {
-                seat,
-                replies: taken,
-            } = match hand {
-                StartedClient::Thread(hand) => hand.join(rt),
-                StartedClient::Here(back) => back,
-            };
-            seats.push_reserved(seat);
-            replies.push_reserved(Replies::from_vec(taken));
-        }
-        (seats, replies)
-    }
-
-    /// Joins the pumps' workers: their seats, by number.
-    fn joined_pumps<R: Threads>(
-        &self,
-        rt: &R,
-        hands: Vec<StartedPump>,
-        mut seats: Vec<WorkSeat>,
-    ) -> Vec<WorkSeat>
-        requires hands { AreStartedPumps self.now.desk hands.items }
-        requires seats { (vec_len seats ≡ 0) × (self.now.pumps ≤ vec_capacity seats) }
-        ensures { IsAllPumpsOf self.now.desk result.items }
-    {
-        for hand in hands {
-            let seat = match hand {
-                StartedPump::Thread(hand) => hand.join(rt),
-                StartedPump::Here(seat) => seat,
-            };
-            seats.push_reserved(seat);
-        }
-        seats
     }
 }

@@ -50,7 +50,9 @@ pub(crate) fn ran<R: Threads + Wait + Sync, G: Gate + Sync>(
     booked: Booked,
     gate: &G,
     plan: Plan,
-) -> Result<Finished, AllocError> {
+) -> Result<Finished, AllocError>
+    requires { 1 ≤ plan.controllers }
+{
     match spawn_all(rt, alloc, booked, gate, plan) {
         Ok(finished) => Ok(finished),
         Err((error, _booked)) => Err(error),

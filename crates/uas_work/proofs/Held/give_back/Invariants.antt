@@ -1,4 +1,3 @@
-use Rattle.std.proofs.Common.{◌≡◌, length}
 use Rattle.tag_desk.specs.Seats.{IsPumpOf}
 use Rattle.uas_work.specs.Held.{AreHeldBy}
 use Rattle.uas_work.proofs.Holding.{Below}

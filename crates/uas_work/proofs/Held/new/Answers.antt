@@ -1,4 +1,4 @@
-use Rattle.std.proofs.Common.{arith, ◌∙◌}
+use Rattle.std.proofs.Common.{arith}
 use Rattle.uas_work.proofs.Holding.{held-none}
 use Rattle.uas_work.proofs.Held.new.Goals as goal
 

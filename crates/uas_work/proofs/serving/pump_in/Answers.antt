@@ -1,4 +1,4 @@
-use Rattle.std.proofs.Common.{◌≡◌, ℕ, sym, refl, ap, subst, ◌∙◌}
+use Rattle.std.proofs.Common.{ℕ, sym, ap, subst, ◌∙◌}
 use Rattle.tag_desk.specs.Slips.{IsAsk}
 use Rattle.uas_work.specs.Booked.{turns_in}
 use Rattle.uas_work.specs.Held.{Pump}

@@ -1,4 +1,4 @@
-use Rattle.std.proofs.Common.{◌≡◌, sym, ap, subst, ◌∙◌}
+use Rattle.std.proofs.Common.{sym, ap, subst, ◌∙◌}
 use Rattle.shared_machine.specs.declared.Outcome.{Outcome}
 use Rattle.tag_desk.specs.declared.Slip.TheVariants.{Unserved}
 use Rattle.tag_desk.specs.Seats.{Server, finishing}

@@ -1,8 +1,8 @@
 use Rattle.std.proofs.Common.{◌≡◌, ℕ, vec_len, rules, refl}
-use Rattle.door_board.specs.Counts.{IsSeatOf, Sitting}
+use Rattle.door_board.specs.Counts.{IsSeatOf}
 use Rattle.tag_desk.specs.Seats.{Customer, IsClientOf, IsNewCustomer}
 use Rattle.uas_work.specs.declared.parts.ClientPart.{ClientPart}
-use Rattle.uas_work.specs.Parts.{IsClientPart}
+use Rattle.uas_work.specs.Parts.{HasRoomForRounds, IsClientPart}
 use Rattle.uas_work.proofs.Rows.{first_of, front_all, last_of, pushed_each, rest_of}
 use Rattle.uas_work.proofs.hall.Hall.client_parts.Goals as goal
 
@@ -24,6 +24,8 @@ loop-seat-preserved c =
       (λ k d below. pushed_each (λ (i : ℕ) (part : ClientPart). IsClientPart hall.desk hall.board part) done _ _ _ (search rules) c.in_ok-push.ensures.items was.5
           (record { own = own; number = search rules; below = search rules; tags = search rules; later = search rules; bell = bell }) k d (search rules)),
       (λ k d below. pushed_each (λ i (part : ClientPart). part.client ≡ i) done _ _ _ (search rules) c.in_ok-push.ensures.items was.6 (search rules) k d (search rules)),
+      (λ k d below. pushed_each (λ (i : ℕ) (part : ClientPart). HasRoomForRounds c.args.rounds part) done _ _ _ (search rules) c.in_ok-push.ensures.items was.7
+          (search rules) k d (search rules)),
     )
 
 pub returns-in_err-push-clause-bells : goal.returns-in_err-push-clause-bells

@@ -1,8 +1,8 @@
-use Rattle.std.specs.Prelude.{◌≡◌, ℕ, ◌+◌, ◌<◌, ◌≤◌, All, get_or, vec_items, vec_len, vec_capacity}
+use Rattle.std.specs.Prelude.{◌≡◌, ℕ, ◌+◌, ◌<◌, All, get_or, vec_items, vec_len}
 use Rattle.std.specs.Vec.Iter.{into_iter_items, into_iter_len}
 use Rattle.door_board.specs.Counts.{IsSeatOf}
 use Rattle.tag_desk.specs.Seats.{IsClientOf, IsNewCustomer}
-use Rattle.uas_work.specs.Parts.{IsClientPart}
+use Rattle.uas_work.specs.Parts.{HasRoomForRounds, IsClientPart}
 use Rattle.uas_work.proofs.hall.Hall.client_parts.Given as goal
 
 abbrev pub invariant-loop-seat : goal.invariant-loop-seat
@@ -15,3 +15,4 @@ invariant-loop-seat l =
     × ((k : ℕ) (d : _) → k < into_iter_len rest → IsClientOf hall.desk (get_or (into_iter_items rest) k d))
     × ((k : ℕ) (d : _) → k < done → IsClientPart hall.desk hall.board (get_or (vec_items l.parts) k d))
     × ((k : ℕ) (d : _) → k < done → (get_or (vec_items l.parts) k d).client ≡ k)
+    × ((k : ℕ) (d : _) → k < done → HasRoomForRounds l.rounds (get_or (vec_items l.parts) k d))

@@ -1,4 +1,4 @@
-use Rattle.std.proofs.Common.{◌≡◌, ℕ, vec_len, rules}
+use Rattle.std.proofs.Common.{vec_len, rules}
 use Rattle.uas_work.specs.Parts.{IsSeatOfClient, IsStartedClient}
 use Rattle.uas_work.proofs.Rows.{first_of, pushed_each, rest_of}
 use Rattle.uas_work.proofs.hall.Hall.joined_clients.Goals.{in-Thread, in-Here}

@@ -1,0 +1,63 @@
+//! Joining the workers that give something back: each client's seat and replies, each pump's seat.
+ghost use Rattle.std.specs.Prelude.{◌≡◌, ◌≤◌, length, vec_len, vec_capacity};
+ghost use Rattle.tag_desk.specs.Left.{IsAllClientsOf, IsAllPumpsOf};
+ghost use Rattle.uas_work.specs.Parts.{ArePumpsHome, AreStartedClients, AreStartedPumps};
+
+use crate::hall::Hall;
+use crate::parts::ClientBack;
+use crate::workers::{StartedClient, StartedPump};
+use std::thread::Threads;
+use tag_desk::{ClientSeat, WorkSeat};
+use uas_log::Replies;
+
+impl Hall {
+    /// Joins the clients' workers: their seats and what each took, by number.
+    pub(crate) fn joined_clients<R: Threads>(
+        &self,
+        rt: &R,
+        hands: Vec<StartedClient>,
+        mut seats: Vec<ClientSeat>,
+        mut replies: Vec<Replies>,
+    ) -> (Vec<ClientSeat>, Vec<Replies>)
+        requires hands { AreStartedClients self.now.desk hands.items }
+        requires seats { (vec_len seats ≡ 0) × (self.now.clients ≤ vec_capacity seats) }
+        requires replies { (vec_len replies ≡ 0) × (self.now.clients ≤ vec_capacity replies) }
+        ensures seats { IsAllClientsOf self.now.desk result.0.items }
+        ensures replies { length result.1.items ≡ self.now.clients }
+    {
+        for hand in hands {
+            let ClientBack {
+                seat,
+                replies: taken,
+            } = match hand {
+                StartedClient::Thread(hand) => hand.join(rt),
+                StartedClient::Here(back) => back,
+            };
+            seats.push_reserved(seat);
+            replies.push_reserved(Replies::from_vec(taken));
+        }
+        (seats, replies)
+    }
+
+    /// Joins the pumps' workers: their seats, by number.
+    pub(crate) fn joined_pumps<R: Threads>(
+        &self,
+        rt: &R,
+        hands: Vec<StartedPump>,
+        mut seats: Vec<WorkSeat>,
+    ) -> Vec<WorkSeat>
+        requires hands { AreStartedPumps self.now.desk hands.items }
+        requires seats { (vec_len seats ≡ 0) × (self.now.pumps ≤ vec_capacity seats) }
+        ensures seats { IsAllPumpsOf self.now.desk result.items }
+        ensures home { ArePumpsHome self.now.desk result.items }
+    {
+        for hand in hands {
+            let seat = match hand {
+                StartedPump::Thread(hand) => hand.join(rt),
+                StartedPump::Here(seat) => seat,
+            };
+            seats.push_reserved(seat);
+        }
+        seats
+    }
+}

@@ -175,8 +175,8 @@ pub(crate) fn has_service_actions(code: u8) -> bool
 
 /// What a CDB has to do with a unit attention, also where it has a fault (SAM). In the profile's set INQUIRY ignores one; in
 /// the host set REPORT LUNS does too, and REQUEST SENSE gives it.
-pub fn attention_of(code: u8, set: CommandSet) -> Attention
-    ensures { result ≡ attention_of code set }
+pub fn attention_of(code: u8, set: &CommandSet) -> Attention
+    ensures { result ≡ attention_of code set.now }
 {
     match set {
         CommandSet::Profile => if code == INQUIRY {

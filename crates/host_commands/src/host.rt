@@ -22,21 +22,21 @@ use scsi_cmd::Sense;
 #[tactic(auto, unfolding(crate::specs::Meaning::asked_of))]
 pub fn read(
     cdb: &[u8; 16],
-    set: CommandSet,
+    set: &CommandSet,
     shape: &LogicalUnitShape,
     logical_units: u8,
     attention: bool,
 ) -> Result<Work, Sense>
     requires { logical_units ≤ MAX_CLIENTS }
-    ensures work { result ≡ asked_of cdb.now set shape.now logical_units attention }
-    ensures on { IfOk result (IsWorkOn shape.now.blocks (most_moved set)) }
+    ensures work { result ≡ asked_of cdb.now set.now shape.now logical_units attention }
+    ensures on { IfOk result (IsWorkOn shape.now.blocks (most_moved set.now)) }
 {
     match set {
         CommandSet::Profile => read_profile(cdb, shape),
         CommandSet::Host { maximum } => {
             match named_command(cdb[0], action_in(cdb)) {
                 Some(command) => {
-                    read_command(command, cdb, maximum, shape, logical_units, attention)
+                    read_command(command, cdb, *maximum, shape, logical_units, attention)
                 }
                 None => Err(Sense::INVALID_OPERATION_CODE),
             }
@@ -49,16 +49,16 @@ pub fn read(
 #[tactic(auto, unfolding(crate::specs::Meaning::asked_of_none))]
 pub fn read_without_logical_unit(
     cdb: &[u8; 16],
-    set: CommandSet,
+    set: &CommandSet,
     logical_units: u8,
 ) -> Result<Work, Sense>
     requires { logical_units ≤ MAX_CLIENTS }
-    ensures work { result ≡ asked_of_none cdb.now set logical_units }
+    ensures work { result ≡ asked_of_none cdb.now set.now logical_units }
     ensures on { IfOk result (IsWorkOn 0 0) }
 {
     match set {
         CommandSet::Profile => read_profile_of_none(cdb),
-        CommandSet::Host { maximum } => read_host_of_none(cdb, maximum, logical_units),
+        CommandSet::Host { maximum } => read_host_of_none(cdb, *maximum, logical_units),
     }
 }
 

@@ -7,6 +7,9 @@ use Rattle.scsi_cmd.specs.Sense.{reset_occurred}
 use Rattle.device_server.specs.declared.Answer.TheVariants.{Check}
 use Rattle.host_commands.specs.declared.Attention.{Attention}
 use Rattle.host_commands.specs.declared.Attention.TheVariants.{Ignored, Given, Reported}
+use Rattle.std.specs.List.{list_any}
+use Rattle.host_commands.specs.declared.BlockLength.{BlockLength}
+use Rattle.host_commands.specs.declared.BlockLength.TheVariants.{Bytes512, Bytes4096}
 use Rattle.host_commands.specs.declared.CommandSet.{CommandSet}
 use Rattle.host_commands.specs.declared.Work.{Work}
 use Rattle.host_commands.specs.Commands.{attention_of}
@@ -69,9 +72,27 @@ has_task machine tag = is_some (slot_of machine tag).task
 abbrev pub with_response : Machine → ℕ → ℕ → Machine
 with_response machine tag code = with_slot machine tag (with_task (slot_of machine tag) (Some (Ended None (Response code))))
 
+-- a logical unit without an attention
+abbrev pub quiet : Shape → LogicalUnit
+quiet shape = record { shape = shape; attention = false }
+
+-- the bytes of the longest blocks of any of them
+abbrev pub is_long_block : BlockLength → Bool
+is_long_block Bytes512 = false
+is_long_block Bytes4096 = true
+
+abbrev pub is_long : LogicalUnit → Bool
+is_long unit = is_long_block unit.shape.block_length
+
+abbrev pub greatest_block : List LogicalUnit → ℕ
+greatest_block units = if list_any is_long units then 4096 else 512
+
 -- no attention and no task yet: `room` bytes in each chunk buffer
+abbrev pub made : ℕ → List LogicalUnit → CommandSet → ℕ → ℕ → Machine
+made many units set chunk room = record { units = units; set = set; slots = replicate many (fresh_slot chunk room) }
+
 abbrev pub opening : List LogicalUnit → CommandSet → ℕ → ℕ → Machine
-opening units set chunk room = record { units = units; set = set; slots = replicate GREATEST_TAG (fresh_slot chunk room) }
+opening units set chunk room = made GREATEST_TAG units set chunk room
 
 -- RECEIVING
 

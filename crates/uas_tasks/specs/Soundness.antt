@@ -1,5 +1,5 @@
 -- What is true of every slot and of the device.
-use Rattle.std.specs.Prelude.{◌≡◌, ℕ, ◌+◌, ◌*◌, ◌^◌, ◌<◌, ◌≤◌, All, List, length, map, Option, IfSome}
+use Rattle.std.specs.Prelude.{◌≡◌, ℕ, ◌+◌, ◌*◌, ◌^◌, ◌<◌, ◌≤◌, All, List, [], ◌∷◌, length, map, Option, IfSome}
 use Rattle.host_commands.specs.declared.BlockLength.{BlockLength}
 use Rattle.host_commands.specs.declared.Work.{Work}
 use Rattle.host_commands.specs.declared.Work.TheVariants.{Nothing, Gives as GivesWork, Reads as ReadsWork, Writes as WritesWork, Synchronizes as SynchronizesWork}
@@ -87,9 +87,13 @@ StartsOn blocks (ComparesWork lba count) = lba + count ≤ blocks
 abbrev pub lengths_of : List LogicalUnit → List BlockLength
 lengths_of units = map (λ unit. unit.shape.block_length) units
 
--- a chunk of each logical unit has room in a slot
+-- a chunk of so many blocks of each of these lengths has room in so many bytes
+abbrev pub EachFits : ℕ → ℕ → List BlockLength → Type 0
+EachFits chunk room [] = Unit {0}
+EachFits chunk room (block_length ∷ lengths) = (chunk * block_bytes block_length ≤ room) × EachFits chunk room lengths
+
 abbrev pub HasRoom : List BlockLength → SlotState → Type 0
-HasRoom lengths slot = All (λ block_length. slot.chunk * block_bytes block_length ≤ length slot.bytes) lengths
+HasRoom lengths slot = EachFits slot.chunk (length slot.bytes) lengths
 
 -- at most MAX_CLIENTS logical units, and a slot for each tag
 pub record IsSoundMachine (units : List LogicalUnit) (slots : List SlotState) : Type 0 where

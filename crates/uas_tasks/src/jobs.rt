@@ -214,11 +214,13 @@ pub(crate) fn after_answer(outcome: Outcome, chunk: u16, task: Option<Task>) -> 
     ensures { result ≡ option_map (after_answer outcome chunk) task }
 {
     match task {
-        Some(Task::Blocks {
-            unit,
-            job,
-            stage: Stage::Waiting,
-        }) => Some(after_outcome(outcome, chunk, unit, job)),
+        Some(
+            Task::Blocks {
+                unit,
+                job,
+                stage: Stage::Waiting,
+            },
+        ) => Some(after_outcome(outcome, chunk, unit, job)),
         other => other,
     }
 }
@@ -286,12 +288,7 @@ pub(crate) fn is_done(outcome: Outcome) -> bool
 }
 
 /// A task that gave so many bytes, of data of the device of `given` bytes or of its chunk.
-pub(crate) fn gave_task(
-    chunk: u16,
-    given: usize,
-    moved: usize,
-    task: Option<Task>,
-) -> Option<Task>
+pub(crate) fn gave_task(chunk: u16, given: usize, moved: usize, task: Option<Task>) -> Option<Task>
     requires { IfSome task (IsSoundTask chunk given) }
     ensures { result ≡ option_map (gave_task chunk given moved) task }
 {
@@ -334,14 +331,7 @@ pub(crate) fn took_task(chunk: u16, moved: usize, task: Option<Task>) -> Option<
 }
 
 /// Bytes of a chunk have moved: the rest of it, or what comes then.
-fn moved_on(
-    chunk: u16,
-    moved: usize,
-    unit: usize,
-    job: Job,
-    after: Task,
-    stage: Stage,
-) -> Task
+fn moved_on(chunk: u16, moved: usize, unit: usize, job: Job, after: Task, stage: Stage) -> Task
     requires job { IsSoundJob job }
     requires stage { IsSoundStage chunk job stage }
     ensures { result ≡ moved_on chunk moved unit job after stage }

@@ -37,7 +37,11 @@
 //! for the words that both devices share.
 #![tactic(auto)]
 
+mod answers;
+mod calls;
 mod jobs;
+mod management;
+mod receiver;
 mod slot;
 mod starts;
 
@@ -59,7 +63,11 @@ pub struct LogicalUnit {
 #[derive(Clone, Copy, Debug, PartialEq, Eq)]
 pub enum Request {
     /// Read them.
-    Read { unit: usize, block: u64, count: u64 },
+    Read {
+        unit: usize,
+        block: u64,
+        count: u64,
+    },
     /// Write them; where it goes `through`, they are on the medium when it is done (FUA).
     Write {
         unit: usize,
@@ -68,11 +76,23 @@ pub enum Request {
         through: bool,
     },
     /// Find out whether they are these bytes.
-    Compare { unit: usize, block: u64, count: u64 },
+    Compare {
+        unit: usize,
+        block: u64,
+        count: u64,
+    },
     /// Find out whether they can be read.
-    Verify { unit: usize, block: u64, count: u64 },
+    Verify {
+        unit: usize,
+        block: u64,
+        count: u64,
+    },
     /// Bring them to the medium.
-    Sync { unit: usize, block: u64, count: u64 },
+    Sync {
+        unit: usize,
+        block: u64,
+        count: u64,
+    },
 }
 
 /// What came of a request.
@@ -133,9 +153,16 @@ pub enum Stage {
 #[derive(Clone, Copy, Debug, PartialEq, Eq)]
 pub enum Task {
     /// It gives data of the device, of which so many bytes were given.
-    Giving { unit: Option<usize>, at: usize },
+    Giving {
+        unit: Option<usize>,
+        at: usize,
+    },
     /// It works on blocks.
-    Blocks { unit: usize, job: Job, stage: Stage },
+    Blocks {
+        unit: usize,
+        job: Job,
+        stage: Stage,
+    },
     /// Its answer waits to be sent.
     Ended {
         unit: Option<usize>,

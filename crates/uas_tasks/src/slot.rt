@@ -193,7 +193,8 @@ impl Slot {
     pub(crate) fn answer(&mut self, out: &Out, outcome: Outcome, bytes: &[u8])
         requires out { self.old.out ≡ Some out.now }
         requires len { is_wrong_length self.old out.now outcome (length bytes.now) ≡ false }
-        ensures { self.new ≡ answered_slot self.old out.now outcome bytes.now }
+        ensures slot { self.new ≡ answered_slot self.old out.now outcome bytes.now }
+        ensures len { length self.new.bytes ≡ length self.old.bytes }
     {
         let brings = self.brings_bytes(out, outcome);
         fill(&mut self.buffer, brings, bytes);
@@ -219,10 +220,12 @@ impl Slot {
             Some(Task::Giving { at, .. }) => {
                 bytes.copy_from_slice(&self.given[at..at + bytes.len()]);
             }
-            Some(Task::Blocks {
-                stage: Stage::Moving { at },
-                ..
-            }) => {
+            Some(
+                Task::Blocks {
+                    stage: Stage::Moving { at },
+                    ..
+                },
+            ) => {
                 let chunk = self.buffer.as_slice();
                 bytes.copy_from_slice(&chunk[at..at + bytes.len()]);
             }
@@ -233,12 +236,15 @@ impl Slot {
     /// Takes the next bytes.
     pub(crate) fn take(&mut self, bytes: &[u8])
         requires { MayTake (slot_wants self.old) (length bytes.now) }
-        ensures { self.new ≡ took_slot self.old bytes.now }
+        ensures slot { self.new ≡ took_slot self.old bytes.now }
+        ensures len { length self.new.bytes ≡ length self.old.bytes }
     {
-        if let Some(Task::Blocks {
-            stage: Stage::Moving { at },
-            ..
-        }) = self.task
+        if let Some(
+            Task::Blocks {
+                stage: Stage::Moving { at },
+                ..
+            },
+        ) = self.task
         {
             self.buffer.write_at(at, bytes);
         }

@@ -1,0 +1,11 @@
+-- What hosts ask of a disk, and the bytes that it gives.
+pub mod Shapes
+pub mod Fields
+pub mod Commands
+pub mod Pages
+pub mod ModeData
+pub mod OperationCodes
+pub mod Data
+pub mod Meaning
+pub mod Profile
+pub mod Laws

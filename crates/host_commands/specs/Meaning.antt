@@ -1,0 +1,240 @@
+-- What 16 bytes ask of a logical unit in a command set: the work, or the sense that tells the first fault.
+use Rattle.std.specs.Prelude.{ℕ, ◌+◌, ◌-◌, ◌/◌, ◌%◌, ◌^◌, ◌≤◌, ◌==◌, nat_lt, nat_le, Bool, true, false, not, ◌||◌, if◌then◌else◌, List, slice_index}
+use Rattle.std.specs.Prelude.{Option, Some, None, Result, Ok, Err}
+use Rattle.scsi_cmd.specs.declared.Sense.{Sense}
+use Rattle.scsi_cmd.specs.Fields.{field_of_two, field_of_four, is_bit_set}
+use Rattle.scsi_cmd.specs.Meaning.{asks_for_other_action, asks_for_protection}
+use Rattle.scsi_cmd.specs.Sense.{illegal_request, invalid_field_in_cdb, invalid_operation_code, out_of_range, reset_occurred, unit_not_supported}
+use Rattle.host_commands.specs.declared.BlockDescriptor.{BlockDescriptor}
+use Rattle.host_commands.specs.declared.CommandSet.{CommandSet}
+use Rattle.host_commands.specs.declared.CommandSet.TheVariants.{Profile, Host}
+use Rattle.host_commands.specs.declared.Data.TheVariants.{Inquiry as InquiryData, VitalProductData, RequestSense as SenseData, LogicalUnits, Mode, OperationCodes}
+use Rattle.host_commands.specs.declared.Data.TheVariants.{OperationCode, TaskManagementFunctions, Capacity, LongCapacity}
+use Rattle.host_commands.specs.declared.HostCommand.{HostCommand}
+use Rattle.host_commands.specs.declared.HostCommand.TheVariants.{TestUnitReady, RequestSense, Read6, Write6, Inquiry, ModeSense6, StartStopUnit, ReadCapacity10}
+use Rattle.host_commands.specs.declared.HostCommand.TheVariants.{Read10, Write10, Verify10, SynchronizeCache10, ModeSense10, Read16, Write16, Verify16}
+use Rattle.host_commands.specs.declared.HostCommand.TheVariants.{SynchronizeCache16, ReadCapacity16, ReportLuns, ReportSupportedOperationCodes}
+use Rattle.host_commands.specs.declared.HostCommand.TheVariants.{ReportSupportedTaskManagementFunctions, Read12, Write12, Verify12}
+use Rattle.host_commands.specs.declared.ModeForm.{ModeForm}
+use Rattle.host_commands.specs.declared.ModeForm.TheVariants.{Six, Ten}
+use Rattle.host_commands.specs.declared.ModePages.{ModePages}
+use Rattle.host_commands.specs.declared.VitalPage.{VitalPage}
+use Rattle.host_commands.specs.declared.Work.{Work}
+use Rattle.host_commands.specs.declared.Work.TheVariants.{Nothing, Gives, Reads, Writes, Synchronizes, Verifies, Compares}
+use Rattle.host_commands.specs.Commands.{has_service_actions, named_command}
+use Rattle.host_commands.specs.Data.{IsOfDevice}
+use Rattle.host_commands.specs.declared.fields.Extent.{Extent}
+use Rattle.host_commands.specs.Fields.{action_in, code_in, short_extent, sixteen_extent, ten_extent, twelve_extent}
+use Rattle.host_commands.specs.ModeData.{pages_of}
+use Rattle.host_commands.specs.OperationCodes.{named_action, named_either}
+use Rattle.host_commands.specs.Pages.{page_of}
+use Rattle.host_commands.specs.Profile.{profile_asked, profile_asked_of_none}
+use Rattle.host_commands.specs.Shapes.{Shape}
+
+-- BLOCKS
+
+-- The first block isn't there, or the last one isn't. Worked: of 100 blocks, 98 with count 2 and 99 with count 0 are there; 99
+-- with count 2 and 100 with count 0 aren't.
+abbrev pub in_range : ℕ → ℕ → ℕ → Work → Result Work Sense
+in_range blocks lba count work =
+    if nat_le blocks lba || nat_lt blocks (lba + count) then Err out_of_range else Ok work
+
+-- an invalid field, more blocks than the maximum, then the range. Worked: of 100 blocks with a maximum of 128, 129 blocks from
+-- block 100 on are 5/24/00, and 128 are 5/21/00.
+abbrev pub transferred : Bool → ℕ → ℕ → ℕ → ℕ → Work → Result Work Sense
+transferred invalid maximum blocks lba count work =
+    if invalid || nat_lt maximum count then Err invalid_field_in_cdb else in_range blocks lba count work
+
+-- READ: `invalid` where a protect field isn't 0
+abbrev pub reads : Bool → Extent → ℕ → ℕ → Result Work Sense
+reads invalid extent maximum blocks =
+    transferred invalid maximum blocks extent.lba extent.count (Reads extent.lba extent.count)
+
+-- WRITE: it goes through to the medium with FUA, which WRITE(6) hasn't
+abbrev pub writes : Bool → Extent → Bool → ℕ → ℕ → Result Work Sense
+writes invalid extent through maximum blocks =
+    transferred invalid maximum blocks extent.lba extent.count (Writes extent.lba extent.count through)
+
+-- VERIFY: BYTCHK, bits 2 and 1 of byte 1, is 0 or 1; with 1 it takes as many blocks as a WRITE may
+abbrev pub verifies : List ℕ → Extent → ℕ → ℕ → Result Work Sense
+verifies cdb extent maximum blocks =
+    let check = slice_index cdb 1 / 2 % 4 in
+    if asks_for_protection cdb || nat_lt 1 check then Err invalid_field_in_cdb
+    else (if check == 0 then in_range blocks extent.lba extent.count (Verifies extent.lba extent.count)
+    else transferred false maximum blocks extent.lba extent.count (Compares extent.lba extent.count))
+
+-- SYNCHRONIZE CACHE
+abbrev pub synchronizes : Extent → ℕ → Result Work Sense
+synchronizes extent blocks = in_range blocks extent.lba extent.count (Synchronizes extent.lba extent.count)
+
+-- FUA is bit 3 of byte 1
+abbrev pub goes_through : List ℕ → Bool
+goes_through cdb = is_bit_set (slice_index cdb 1) 3
+
+-- DATA
+
+-- sense that says nothing: key 0
+abbrev pub no_sense : Sense
+no_sense = record { key = 0; asc = 0; ascq = 0 }
+
+-- SAVING PARAMETERS NOT SUPPORTED
+abbrev pub saving_not_supported : Sense
+saving_not_supported = illegal_request 0x39
+
+-- REQUEST SENSE: DESC, bit 0 of byte 1, asks for another format
+abbrev pub request_sense_asked : List ℕ → Sense → Result Work Sense
+request_sense_asked cdb sense =
+    if is_bit_set (slice_index cdb 1) 0 then Err invalid_field_in_cdb else Ok (Gives (SenseData sense) (slice_index cdb 4))
+
+-- INQUIRY: a page without EVPD, bit 0 of byte 1, is a fault, and so is a page that isn't there
+abbrev pub page_asked : Bool → ℕ → Option VitalPage → Result Work Sense
+page_asked present allocation None = Err invalid_field_in_cdb
+page_asked present allocation (Some page) = Ok (Gives (VitalProductData page present) allocation)
+
+abbrev pub inquiry_asked : List ℕ → Bool → ℕ → ℕ → Result Work Sense
+inquiry_asked cdb present serial maximum =
+    if is_bit_set (slice_index cdb 1) 0
+    then page_asked present (field_of_two cdb 3) (page_of (slice_index cdb 2) serial maximum)
+    else (if slice_index cdb 2 == 0 then Ok (Gives (InquiryData present) (field_of_two cdb 3)) else Err invalid_field_in_cdb)
+
+-- REPORT LUNS: SELECT REPORT 0 and 2 are all, 1 is none; an allocation length below 16 is a fault
+abbrev pub report_luns_asked : List ℕ → ℕ → Result Work Sense
+report_luns_asked cdb count =
+    let select = slice_index cdb 2 in
+    if nat_lt (field_of_four cdb 6) 16 then Err invalid_field_in_cdb
+    else (if select == 0 || select == 2 then Ok (Gives (LogicalUnits count) (field_of_four cdb 6))
+    else (if select == 1 then Ok (Gives (LogicalUnits 0) (field_of_four cdb 6))
+    else Err invalid_field_in_cdb))
+
+-- MODE SENSE: page control, bits 7 and 6 of byte 2, is 0 for current, 1 for changeable, 2 for default and 3 for saved values
+abbrev pub descriptor_asked : Bool → Shape → Option BlockDescriptor
+descriptor_asked true shape = None
+descriptor_asked false shape = Some (record { blocks = shape.blocks; block_length = shape.block_length })
+
+abbrev pub pages_asked : ModeForm → ℕ → Bool → Option BlockDescriptor → Option ModePages → Result Work Sense
+pages_asked form allocation changeable descriptor None = Err invalid_field_in_cdb
+pages_asked form allocation changeable descriptor (Some pages) =
+    Ok (Gives (Mode (record { form = form; descriptor = descriptor; pages = pages; changeable = changeable })) allocation)
+
+abbrev pub mode_sense_asked : ModeForm → ℕ → List ℕ → Shape → Result Work Sense
+mode_sense_asked form allocation cdb shape =
+    let control = slice_index cdb 2 / 2 ^ 6 in
+    if control == 3 then Err saving_not_supported
+    else pages_asked form allocation (control == 1) (descriptor_asked (is_bit_set (slice_index cdb 1) 3) shape)
+    (pages_of (slice_index cdb 2 % 2 ^ 6) (slice_index cdb 3))
+
+-- START STOP UNIT: LOEJ, bit 1 of byte 4, and a power condition, bits 7 to 4, are faults; a stop without NO FLUSH, bit 2, brings
+-- all blocks to the medium
+abbrev pub start_stop_asked : List ℕ → Result Work Sense
+start_stop_asked cdb =
+    let flags = slice_index cdb 4 in
+    if is_bit_set flags 1 || not (flags / 2 ^ 4 == 0) then Err invalid_field_in_cdb
+    else (if is_bit_set flags 0 || is_bit_set flags 2 then Ok Nothing else Ok (Synchronizes 0 0))
+
+-- REPORT SUPPORTED OPERATION CODES: option 0 asks for all; 1 for an operation code without service actions, 2 for one with them,
+-- 3 for either
+abbrev pub one_code : ℕ → Bool → Option HostCommand → Result Work Sense
+one_code allocation timeouts command = Ok (Gives (OperationCode command timeouts) allocation)
+
+abbrev pub codes_asked : ℕ → ℕ → ℕ → ℕ → Bool → Result Work Sense
+codes_asked option code action allocation timeouts =
+    if option == 0 then Ok (Gives (OperationCodes timeouts) allocation)
+    else (if option == 1
+    then (if has_service_actions code then Err invalid_field_in_cdb else one_code allocation timeouts (named_command code 0))
+    else (if option == 2
+    then (if has_service_actions code then one_code allocation timeouts (named_action code action) else Err invalid_field_in_cdb)
+    else (if option == 3 then one_code allocation timeouts (named_either code action)
+    else Err invalid_field_in_cdb)))
+
+abbrev pub operation_codes_asked : List ℕ → Result Work Sense
+operation_codes_asked cdb =
+    codes_asked (slice_index cdb 2 % 2 ^ 3) (slice_index cdb 3) (field_of_two cdb 4) (field_of_four cdb 6)
+    (is_bit_set (slice_index cdb 2) 7)
+
+-- REPORT SUPPORTED TASK MANAGEMENT FUNCTIONS: the allocation length has room for all of the data
+abbrev pub task_functions_asked : List ℕ → Result Work Sense
+task_functions_asked cdb =
+    let extended = is_bit_set (slice_index cdb 2) 7 in
+    if nat_lt (field_of_four cdb 6) (if extended then 16 else 4) then Err invalid_field_in_cdb
+    else Ok (Gives (TaskManagementFunctions extended) (field_of_four cdb 6))
+
+-- READ CAPACITY(16) is the service action 10h of its operation code
+abbrev pub long_capacity_asked : List ℕ → Shape → Result Work Sense
+long_capacity_asked cdb shape =
+    if asks_for_other_action cdb then Err invalid_field_in_cdb
+    else Ok (Gives (LongCapacity (shape.blocks - 1) shape.block_length) (field_of_four cdb 10))
+
+-- THE HOST SET
+
+-- what a command asks; `attention` says whether the logical unit has a unit attention, of which REQUEST SENSE alone tells here
+abbrev pub command_asked : HostCommand → List ℕ → ℕ → Shape → ℕ → Bool → Result Work Sense
+command_asked TestUnitReady cdb maximum shape count attention = Ok Nothing
+command_asked RequestSense cdb maximum shape count attention =
+    request_sense_asked cdb (if attention then reset_occurred else no_sense)
+command_asked Read6 cdb maximum shape count attention = reads false (short_extent cdb) maximum shape.blocks
+command_asked Write6 cdb maximum shape count attention = writes false (short_extent cdb) false maximum shape.blocks
+command_asked Inquiry cdb maximum shape count attention = inquiry_asked cdb true shape.serial maximum
+command_asked ModeSense6 cdb maximum shape count attention = mode_sense_asked Six (slice_index cdb 4) cdb shape
+command_asked StartStopUnit cdb maximum shape count attention = start_stop_asked cdb
+command_asked ReadCapacity10 cdb maximum shape count attention = Ok (Gives (Capacity (shape.blocks - 1) shape.block_length) 8)
+command_asked Read10 cdb maximum shape count attention = reads (asks_for_protection cdb) (ten_extent cdb) maximum shape.blocks
+command_asked Write10 cdb maximum shape count attention =
+    writes (asks_for_protection cdb) (ten_extent cdb) (goes_through cdb) maximum shape.blocks
+command_asked Verify10 cdb maximum shape count attention = verifies cdb (ten_extent cdb) maximum shape.blocks
+command_asked SynchronizeCache10 cdb maximum shape count attention = synchronizes (ten_extent cdb) shape.blocks
+command_asked ModeSense10 cdb maximum shape count attention = mode_sense_asked Ten (field_of_two cdb 7) cdb shape
+command_asked Read16 cdb maximum shape count attention = reads (asks_for_protection cdb) (sixteen_extent cdb) maximum shape.blocks
+command_asked Write16 cdb maximum shape count attention =
+    writes (asks_for_protection cdb) (sixteen_extent cdb) (goes_through cdb) maximum shape.blocks
+command_asked Verify16 cdb maximum shape count attention = verifies cdb (sixteen_extent cdb) maximum shape.blocks
+command_asked SynchronizeCache16 cdb maximum shape count attention = synchronizes (sixteen_extent cdb) shape.blocks
+command_asked ReadCapacity16 cdb maximum shape count attention = long_capacity_asked cdb shape
+command_asked ReportLuns cdb maximum shape count attention = report_luns_asked cdb count
+command_asked ReportSupportedOperationCodes cdb maximum shape count attention = operation_codes_asked cdb
+command_asked ReportSupportedTaskManagementFunctions cdb maximum shape count attention = task_functions_asked cdb
+command_asked Read12 cdb maximum shape count attention = reads (asks_for_protection cdb) (twelve_extent cdb) maximum shape.blocks
+command_asked Write12 cdb maximum shape count attention =
+    writes (asks_for_protection cdb) (twelve_extent cdb) (goes_through cdb) maximum shape.blocks
+command_asked Verify12 cdb maximum shape count attention = verifies cdb (twelve_extent cdb) maximum shape.blocks
+
+abbrev pub named_asked : Option HostCommand → List ℕ → ℕ → Shape → ℕ → Bool → Result Work Sense
+named_asked None cdb maximum shape count attention = Err invalid_operation_code
+named_asked (Some command) cdb maximum shape count attention = command_asked command cdb maximum shape count attention
+
+-- THE QUESTION
+
+-- In a command set, of a logical unit of a device that has so many. Worked in the host set of at most 128 blocks: 0a 00 00 01 01 00
+-- writes block 1; 08 00 00 00 00 00 asks for 256 blocks, which is 5/24/00. In the profile's set both are 5/20/00.
+unfoldable pub asked_of : List ℕ → CommandSet → Shape → ℕ → Bool → Result Work Sense
+asked_of cdb Profile shape count attention = profile_asked cdb shape
+asked_of cdb (Host maximum) shape count attention =
+    named_asked (named_command (code_in cdb) (action_in cdb)) cdb maximum shape count attention
+
+-- where no logical unit is: INQUIRY, REPORT LUNS and REQUEST SENSE are answered, and nothing else is
+abbrev pub host_asked_of_none : List ℕ → ℕ → ℕ → Result Work Sense
+host_asked_of_none cdb maximum count =
+    if code_in cdb == 0x12 then inquiry_asked cdb false 0 maximum
+    else (if code_in cdb == 0xa0 then report_luns_asked cdb count
+    else (if code_in cdb == 0x03 then request_sense_asked cdb unit_not_supported
+    else Err unit_not_supported))
+
+unfoldable pub asked_of_none : List ℕ → CommandSet → ℕ → Result Work Sense
+asked_of_none cdb Profile count = profile_asked_of_none cdb
+asked_of_none cdb (Host maximum) count = host_asked_of_none cdb maximum count
+
+-- WHAT IS TRUE OF THE WORK
+
+-- the most blocks that a READ or a WRITE moves
+abbrev pub most_moved : CommandSet → ℕ
+most_moved Profile = 128
+most_moved (Host maximum) = maximum
+
+-- its blocks are on a logical unit of so many, it moves at most so many of them, and its data are a device's
+abbrev pub IsWorkOn : ℕ → ℕ → Work → Type 0
+IsWorkOn blocks most Nothing = Unit {0}
+IsWorkOn blocks most (Gives given allocation) = IsOfDevice given
+IsWorkOn blocks most (Reads lba count) = (lba + count ≤ blocks) × (count ≤ most)
+IsWorkOn blocks most (Writes lba count through) = (lba + count ≤ blocks) × (count ≤ most)
+IsWorkOn blocks most (Synchronizes lba count) = lba + count ≤ blocks
+IsWorkOn blocks most (Verifies lba count) = lba + count ≤ blocks
+IsWorkOn blocks most (Compares lba count) = (lba + count ≤ blocks) × (count ≤ most)

@@ -1,0 +1,123 @@
+//! Logical units and command sets, made of numbers that are tested once.
+ghost use Rattle.std.specs.Prelude.{◌≡◌, ◌^◌, ◌<◌, ◌≤◌};
+ghost use Rattle.host_commands.specs.Shapes.{block_bytes, host_set, serial_number, shape_of};
+
+use crate::{
+    BlockLength, CommandSet, LogicalUnitShape, MOST_BLOCKS, SERIAL_NUMBERS, SerialNumber,
+    ShapeFault, TransferLength,
+};
+
+impl BlockLength {
+    /// How many bytes a block has.
+    #[inline(always)]
+    pub fn bytes(self) -> u16
+        ensures bytes { result ≡ block_bytes self }
+        ensures some { 512 ≤ result }
+        ensures most { result ≤ 4096 }
+    {
+        match self {
+            BlockLength::Bytes512 => 512,
+            BlockLength::Bytes4096 => 4096,
+        }
+    }
+}
+
+impl SerialNumber {
+    /// This serial number. Refused with `ShapeFault::SerialNumber` from 100,000,000 on.
+    pub fn new(number: u32) -> Result<SerialNumber, ShapeFault>
+        ensures { result ≡ serial_number number }
+    {
+        if number < SERIAL_NUMBERS {
+            Ok(SerialNumber { number })
+        } else {
+            Err(ShapeFault::SerialNumber)
+        }
+    }
+
+    /// The serial number 0, of a logical unit that isn't there.
+    pub(crate) fn zero() -> SerialNumber
+        ensures { result ≡ 0 }
+    {
+        SerialNumber { number: 0 }
+    }
+
+    /// The number.
+    pub fn number(self) -> u32
+        ensures number { result ≡ self }
+        ensures digits { result < 100000000 }
+    {
+        self.number
+    }
+}
+
+impl LogicalUnitShape {
+    /// A logical unit of so many blocks. Refused with `NoBlock` for 0 blocks, and with `TooManyBlocks` above 2^48.
+    pub fn new(
+        blocks: u64,
+        block_length: BlockLength,
+        serial: SerialNumber,
+    ) -> Result<LogicalUnitShape, ShapeFault>
+        ensures { result ≡ shape_of blocks block_length serial }
+    {
+        if blocks == 0 {
+            Err(ShapeFault::NoBlock)
+        } else if blocks > MOST_BLOCKS {
+            Err(ShapeFault::TooManyBlocks)
+        } else {
+            Ok(LogicalUnitShape {
+                blocks,
+                block_length,
+                serial,
+            })
+        }
+    }
+
+    /// How many blocks it has.
+    pub fn blocks(&self) -> u64
+        ensures blocks { result ≡ self.now.blocks }
+        ensures some { 1 ≤ result }
+        ensures most { result ≤ 2 ^ 48 }
+    {
+        self.blocks
+    }
+
+    /// How long its blocks are.
+    pub fn block_length(&self) -> BlockLength
+        ensures { result ≡ self.now.block_length }
+    {
+        self.block_length
+    }
+
+    /// Its serial number.
+    pub fn serial(&self) -> SerialNumber
+        ensures { result ≡ self.now.serial }
+    {
+        self.serial
+    }
+}
+
+impl TransferLength {
+    /// How many blocks.
+    pub fn blocks(self) -> u16
+        ensures { result ≡ self }
+    {
+        self.blocks
+    }
+}
+
+impl CommandSet {
+    /// The host set, whose READ and WRITE move at most so many blocks. Refused with `TransferLength` where that is no multiple
+    /// of 8 from 8 to 65,528.
+    pub fn host(maximum_transfer_blocks: u16) -> Result<CommandSet, ShapeFault>
+        ensures { result ≡ host_set maximum_transfer_blocks }
+    {
+        if maximum_transfer_blocks == 0 || maximum_transfer_blocks % 8 != 0 {
+            return Err(ShapeFault::TransferLength);
+        }
+        Ok(CommandSet::Host {
+            maximum: TransferLength {
+                blocks: maximum_transfer_blocks,
+            },
+        })
+    }
+}

@@ -1,0 +1,184 @@
+-- Slots of a list: the one of a tag, what was read there, and what stays true as one is written. Cited by the answers of every
+-- call of a device.
+use Rattle.std.proofs.Common.{◌≡◌, ℕ, zero, suc, ◌+◌, ◌-◌, ◌*◌, ◌<◌, ◌≤◌, Bool, true, false, not, ◌||◌, cond, List, [], ◌∷◌, ◌++◌, length, map, replicate, take, drop, All}
+use Rattle.std.proofs.Common.{Option, Some, None, refl, arith, ap, sym, ◌∙◌, subst, inl, inr, length-set}
+use Rattle.std.specs.Prelude.{slice_index_or, slice_set, ◌==◌}
+use Rattle.std.specs.List.{list_any}
+use Rattle.std.proofs.lemmas.Bool.{cases_lt, or_parts}
+use Rattle.std.proofs.lemmas.List.{append-nil, drop_all, get_or_default, get_or_past, length-map, take_all}
+use Rattle.std.proofs.lemmas.List.Elements.{All-get_or, All-map, All-replicate, All-set, All-weaker}
+use Rattle.std.proofs.Math.Seq.{map-set_same, take-append_seam}
+use Rattle.host_commands.specs.declared.BlockLength.{BlockLength}
+use Rattle.host_commands.specs.declared.BlockLength.TheVariants.{Bytes512, Bytes4096}
+use Rattle.host_commands.specs.Shapes.{block_bytes}
+use Rattle.uas_profile.specs.declared.TheConstants.{GREATEST_TAG, MAX_CLIENTS}
+use Rattle.uas_tasks.specs.declared.LogicalUnit.{LogicalUnit}
+use Rattle.uas_tasks.specs.declared.slot.Out.{Out}
+use Rattle.uas_tasks.specs.Machine.{attentive, greatest_block, is_long, is_long_block, no_slot, out_on, slot_under, with_slot_under}
+use Rattle.uas_tasks.specs.Slots.{SlotState, fresh_slot}
+use Rattle.uas_tasks.specs.Soundness.{EachFits, HasRoom, IsSoundMachine, lengths_of}
+
+-- A TAG'S SLOT
+
+-- a tag of which something is so that isn't so of none has a slot
+pub there : (P : SlotState → Type 0) → (P no_slot → ⊥) → (slots : List SlotState) (tag : ℕ) → P (slot_under slots tag) →
+    (1 ≤ tag) × (tag - 1 < length slots)
+there P none slots zero so = absurd (none so)
+there P none slots (suc place) so =
+    elim (cases_lt place (length slots)) [
+      | inl within ↦ (omega arith, omega arith)
+      | inr past ↦ absurd (none (subst P (get_or_past slots place no_slot past) so))
+    ]
+
+-- what was read at the place before a tag is its slot
+pub slot_read : (slots : List SlotState) (tag number : ℕ) (read : SlotState) → number ≡ tag → (1 ≤ tag) × (tag - 1 < length slots) →
+    read ≡ slice_index_or slots (number - 1) read → slot_under slots tag ≡ read
+slot_read slots zero number read same here is = absurd (omega (arith, here.0))
+slot_read slots (suc place) number read same here is =
+    let at : number - 1 ≡ place = omega arith in
+    let within : place < length slots = omega (arith, here.1) in
+    get_or_default slots place no_slot read within ∙ sym (is ∙ ap (λ p. slice_index_or slots p read) at)
+
+-- a slot written there is the tag's
+pub slot_written : (slots : List SlotState) (tag number : ℕ) (now : SlotState) → number ≡ tag → 1 ≤ tag →
+    slice_set slots (number - 1) now ≡ with_slot_under slots tag now
+slot_written slots zero number now same some = absurd (omega (arith, some))
+slot_written slots (suc place) number now same some =
+    let at : number - 1 ≡ place = omega arith in
+    ap (λ p. slice_set slots p now) at
+
+-- A DEVICE STAYS SOUND
+
+HasRoom-kept : (lengths : List BlockLength) (before after : SlotState) → after.chunk ≡ before.chunk → length after.bytes ≡ length before.bytes →
+    HasRoom lengths before → HasRoom lengths after
+HasRoom-kept lengths before after chunk len room = rw (chunk, len) room
+
+room_at : (units : List LogicalUnit) (slots : List SlotState) (place : ℕ) (read : SlotState) → IsSoundMachine units slots → place < length slots →
+    read ≡ slice_index_or slots place read → HasRoom (lengths_of units) read
+room_at units slots place read sound within is =
+    subst (HasRoom (lengths_of units)) (sym is) (All-get_or (HasRoom (lengths_of units)) slots place read within sound.rooms)
+
+-- where a slot is written that keeps its chunk and its buffer's length
+pub IsSoundMachine-slot : (units : List LogicalUnit) (slots : List SlotState) (place : ℕ) (read now : SlotState) → IsSoundMachine units slots →
+    place < length slots → read ≡ slice_index_or slots place read → now.chunk ≡ read.chunk → length now.bytes ≡ length read.bytes →
+    IsSoundMachine units (slice_set slots place now)
+IsSoundMachine-slot units slots place read now sound within is chunk len =
+    let room = room_at units slots place read sound within is in
+    record {
+      most_units = sound.most_units;
+      places = length-set slots place now ∙ sound.places;
+      rooms = All-set (HasRoom (lengths_of units)) slots place now (HasRoom-kept (lengths_of units) read now chunk len room) sound.rooms;
+    }
+
+All-mapped : {T : Type 0} (P : T → Type 0) (f : T → T) (xs : List T) → ((x : T) → P x → P (f x)) → All P xs → All P (map f xs)
+All-mapped P f xs keeps all = All-map P f xs (All-weaker P (λ x. P (f x)) keeps xs all)
+
+-- where the logical units keep the lengths of their blocks
+pub IsSoundMachine-units : (units after : List LogicalUnit) (slots : List SlotState) → IsSoundMachine units slots → lengths_of after ≡ lengths_of units →
+    length after ≡ length units → IsSoundMachine after slots
+IsSoundMachine-units units after slots sound same many =
+    record { most_units = omega (arith, many, sound.most_units); places = sound.places; rooms = rw same sound.rooms }
+
+-- one logical unit has another attention
+pub lengths_of-set : (units : List LogicalUnit) (number : ℕ) (read after : LogicalUnit) → read ≡ slice_index_or units number read →
+    after.shape.block_length ≡ read.shape.block_length → lengths_of (slice_set units number after) ≡ lengths_of units
+lengths_of-set units number read after is same =
+    let f : LogicalUnit → BlockLength = λ unit. unit.shape.block_length in
+    map-set_same f units number after read (same ∙ ap f is)
+
+-- a chunk of the logical unit of a number has room in a slot
+unit_room : (units : List LogicalUnit) (number : ℕ) (read : LogicalUnit) (slot : SlotState) → HasRoom (lengths_of units) slot → number < length units →
+    slot.chunk * block_bytes (slice_index_or units number read).shape.block_length ≤ length slot.bytes
+unit_room [] number read slot room within = absurd (omega arith)
+unit_room (unit ∷ units) zero read slot room within = room.0
+unit_room (unit ∷ units) (suc number) read slot room within = unit_room units number read slot room.1 (omega arith)
+
+pub room_of : (units : List LogicalUnit) (slots : List SlotState) (place number : ℕ) (read : SlotState) (unit : LogicalUnit) → IsSoundMachine units slots →
+    place < length slots → read ≡ slice_index_or slots place read → number < length units → unit ≡ slice_index_or units number unit →
+    read.chunk * block_bytes unit.shape.block_length ≤ length read.bytes
+room_of units slots place number read unit sound within is there unit_is =
+    let P : LogicalUnit → Type 0 = λ u. read.chunk * block_bytes u.shape.block_length ≤ length read.bytes in
+    subst P (sym unit_is) (unit_room units number unit read (room_at units slots place read sound within is) there)
+
+-- where every slot keeps its chunk and its buffer
+pub IsSoundMachine-map : (units : List LogicalUnit) (slots : List SlotState) (f : SlotState → SlotState) → IsSoundMachine units slots →
+    ((slot : SlotState) → (f slot).chunk ≡ slot.chunk) → ((slot : SlotState) → (f slot).bytes ≡ slot.bytes) → IsSoundMachine units (map f slots)
+IsSoundMachine-map units slots f sound chunk bytes = record {
+  most_units = sound.most_units;
+  places = length-map slots f ∙ sound.places;
+  rooms = All-mapped (HasRoom (lengths_of units)) f slots
+      (λ slot room. HasRoom-kept (lengths_of units) slot (f slot) (chunk slot) (ap length (bytes slot)) room) sound.rooms;
+}
+
+-- attentions are nothing to the lengths of blocks
+pub lengths_of-attentive : (units : List LogicalUnit) → lengths_of (map attentive units) ≡ lengths_of units
+lengths_of-attentive [] = refl
+lengths_of-attentive (unit ∷ units) = ap (λ rest. unit.shape.block_length ∷ rest) (lengths_of-attentive units)
+
+-- as many items, written over all of a list
+pub written_over : {T : Type 0} (len : ℕ) (items now : List T) → len ≡ length items → length now ≡ length items →
+    take len (now ++ drop (length now) items) ≡ now
+written_over len items now whole many =
+    let same : len ≡ length now = whole ∙ sym many in
+    rw same (take-append_seam now (drop (length now) items))
+
+-- so many items changed, of which there are no more
+pub map-all : {T : Type 0} (f : T → T) (items now : List T) (many : ℕ) → now ≡ map f (take many items) ++ drop many items →
+    length items ≤ many → now ≡ map f items
+map-all f items now many is all =
+    is ∙ ap (λ front. map f front ++ drop many items) (take_all many items all) ∙ ap (λ rest. map f items ++ rest) (drop_all many items all)
+    ∙ append-nil (map f items)
+
+-- A NEW DEVICE
+
+long_fits : (chunk : ℕ) (units : List LogicalUnit) → EachFits chunk (chunk * 4096) (lengths_of units)
+long_fits chunk [] = tt
+long_fits chunk (unit ∷ units) =
+    (elim unit.shape.block_length as (λ l. chunk * block_bytes l ≤ chunk * 4096) [ Bytes512 ↦ omega arith | Bytes4096 ↦ omega arith ], long_fits chunk units)
+
+short_block : (chunk : ℕ) (block_length : BlockLength) → is_long_block block_length ≡ false → chunk * block_bytes block_length ≤ chunk * 512
+short_block chunk Bytes512 short = omega arith
+short_block chunk Bytes4096 short = let no : ◌≡◌ {A = Bool} true false = short in let it : ⊥ = cc in absurd it
+
+short_fits : (chunk : ℕ) (units : List LogicalUnit) → list_any is_long units ≡ false → EachFits chunk (chunk * 512) (lengths_of units)
+short_fits chunk [] none = tt
+short_fits chunk (unit ∷ units) none =
+    let parts = or_parts (is_long unit) (list_any is_long units) none in
+    (short_block chunk unit.shape.block_length parts.0, short_fits chunk units parts.1)
+
+each_fits : (chunk : ℕ) (units : List LogicalUnit) → EachFits chunk (chunk * greatest_block units) (lengths_of units)
+each_fits chunk units =
+    elim (list_any is_long units) as (λ b. list_any is_long units ≡ b → EachFits chunk (chunk * cond b 4096 512) (lengths_of units)) [
+      | true ↦ λ long. long_fits chunk units
+      | false ↦ λ none. short_fits chunk units none
+    ] refl
+
+length_replicate : {T : Type 0} (n : ℕ) (x : T) → length (replicate n x) ≡ n
+length_replicate zero x = refl
+length_replicate (suc n) x = ap suc (length_replicate n x)
+
+-- fresh slots have room for a chunk of each logical unit
+pub opening_sound : (units : List LogicalUnit) (chunk room : ℕ) → length units ≤ MAX_CLIENTS → room ≡ chunk * greatest_block units →
+    IsSoundMachine units (replicate GREATEST_TAG (fresh_slot chunk room))
+opening_sound units chunk room most is =
+    let P : SlotState → Type 0 = HasRoom (lengths_of units) in
+    let bytes : List ℕ = replicate room 0 in
+    let long : length bytes ≡ chunk * greatest_block units = length_replicate room 0 ∙ is in
+    let fits : EachFits chunk (length bytes) (lengths_of units) = rw long (each_fits chunk units) in
+    record {
+      most_units = most;
+      places = length_replicate GREATEST_TAG (fresh_slot chunk room);
+      rooms = All-replicate P GREATEST_TAG (fresh_slot chunk room) fits;
+    }
+
+pub replicate-more : {T : Type 0} (n : ℕ) (x : T) → replicate n x ++ x ∷ [] ≡ replicate (n + 1) x
+replicate-more zero x = refl
+replicate-more (suc n) x = let e : suc n + 1 ≡ suc (n + 1) = omega arith in rw e (ap (λ rest. x ∷ rest) (replicate-more n x))
+
+-- the slot of a request that is out
+pub out_on-some : (turn : ℕ) (slot : SlotState) (out : Out) → out_on turn slot ≡ Some out → slot.out ≡ Some out
+out_on-some turn slot out is =
+    elim (slot.turn == turn) as (λ b. cond b slot.out None ≡ Some out → slot.out ≡ Some out) [
+      | true ↦ λ here. here
+      | false ↦ λ gone. let no : ◌≡◌ {A = Option Out} None (Some out) = gone in cc
+    ] is

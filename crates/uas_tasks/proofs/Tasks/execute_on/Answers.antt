@@ -1,0 +1,43 @@
+use Rattle.std.proofs.Common.{◌≡◌, ℕ, ◌-◌, ◌<◌, ◌≤◌, length, length-set, refl, ap, sym, subst, ◌∙◌}
+use Rattle.uas_tasks.specs.Machine.{begun}
+use Rattle.uas_tasks.proofs.Machines.{executed_there, tag_there}
+use Rattle.uas_tasks.proofs.Places.{IsSoundMachine-slot, IsSoundMachine-units, lengths_of-set, room_of, slot_read, slot_written}
+use Rattle.uas_tasks.proofs.Tasks.execute_on.Goals as goal
+
+pub begin-attention-requires-clause-room : goal.begin-attention-requires-clause-room
+begin-attention-requires-clause-room c =
+    let units = c.self.inside.units.items in
+    let slots = c.self.inside.slots.items in
+    let here = tag_there c.args.tag slots c.requires.tag c.self.invariant.places in
+    let within = rw (sym c.from.ensures) at here.1 in
+    let number_there = rw (← c.self.view_is) at c.requires.there in
+    room_of units slots (c.from.result - 1) c.args.number c.index_mut-slot.result.now c.index.result.now c.self.invariant within
+    c.index_mut-slot.ensures.value number_there c.index.ensures
+
+pub invariant_of-self : goal.invariant_of-self
+invariant_of-self c =
+    let units = c.self.inside.units.items in
+    let slots = c.self.inside.slots.items in
+    let here = tag_there c.args.tag slots c.requires.tag c.self.invariant.places in
+    let within = rw (sym c.from.ensures) at here.1 in
+    let sound =
+    IsSoundMachine-slot units slots (c.from.result - 1) c.index_mut-slot.result.now c.begin-attention.new.slot c.self.invariant within
+    c.index_mut-slot.ensures.value c.begin-attention.ensures.chunk c.begin-attention.ensures.len
+    in
+    IsSoundMachine-units units _ _ sound (lengths_of-set units c.args.number c.index.result.now _ c.index.ensures refl)
+    (length-set units c.args.number _)
+
+pub returns : goal.returns
+returns c =
+    let units = c.self.inside.units.items in
+    let slots = c.self.inside.slots.items in
+    let here = tag_there c.args.tag slots c.requires.tag c.self.invariant.places in
+    let number_there = rw (← c.self.view_is) at c.requires.there in
+    rw (← c.self.view_is)
+    (executed_there units c.self.inside.set slots c.args.tag c.from.result c.args.number c.args.cdb.now c.index.result.now
+    c.index_mut-slot.result.now (c.begin-attention.result, c.begin-attention.new.slot) number_there c.index.ensures
+    (slot_read slots c.args.tag c.from.result c.index_mut-slot.result.now c.from.ensures here c.index_mut-slot.ensures.value)
+    (slot_written slots c.args.tag c.from.result c.begin-attention.new.slot c.from.ensures here.0)
+    (c.begin-attention.ensures.begun
+    ∙ ap (λ count. begun c.index.result.now c.args.number c.self.inside.set count c.args.cdb.now c.index_mut-slot.result.now)
+    (c.len-count.ensures ∙ c.self.inside.units.ok.0)))

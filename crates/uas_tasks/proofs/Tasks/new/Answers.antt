@@ -1,0 +1,22 @@
+use Rattle.std.proofs.Common.{◌≡◌, ◌*◌, ◌≤◌, length, refl, ap, arith}
+use Rattle.std.proofs.lemmas.List.{length-map}
+use Rattle.uas_profile.specs.declared.TheConstants.{GREATEST_TAG, MAX_CLIENTS}
+use Rattle.uas_tasks.specs.Machine.{greatest_block, quiet}
+use Rattle.uas_tasks.proofs.Machines.{opening_made}
+use Rattle.uas_tasks.proofs.Places.{opening_sound}
+use Rattle.uas_tasks.proofs.Tasks.new.Goals as goal
+
+pub invariant_of-result : goal.invariant_of-result
+invariant_of-result c =
+    let units = c.in_ok-units.units.items in
+    let room = c.from.result * c.greatest_block.result in
+    let room_is : room ≡ c.args.chunk * greatest_block units = rw (c.from.ensures, c.greatest_block.ensures.bytes, c.deref.ensures.value) refl in
+    let most : length units ≤ MAX_CLIENTS = omega (arith, ap length c.in_ok-units.ensures, length-map c.args.shapes.now quiet, c.requires.units) in
+    rw c.in_ok-slots.ensures (opening_sound units c.args.chunk room most room_is)
+
+pub returns : goal.returns
+returns c =
+    let units = c.in_ok-units.units.items in
+    let room = c.from.result * c.greatest_block.result in
+    let room_is : room ≡ c.args.chunk * greatest_block units = rw (c.from.ensures, c.greatest_block.ensures.bytes, c.deref.ensures.value) refl in
+    opening_made GREATEST_TAG units _ c.args.set c.in_ok-slots.slots.items c.args.chunk room c.in_ok-units.ensures c.in_ok-slots.ensures room_is

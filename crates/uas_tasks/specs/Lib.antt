@@ -1,0 +1,4 @@
+-- A device without blocks: its tasks by tag, and what each call makes of them.
+pub mod Slots
+pub mod Machine
+pub mod Soundness

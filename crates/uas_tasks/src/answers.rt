@@ -1,0 +1,70 @@
+//! The information units that answer tasks.
+ghost use Rattle.std.specs.Prelude.{◌≡◌, MatchOption, false, true};
+ghost use Rattle.arrayvec.specs.ArrayVec.{array_vec_len};
+ghost use Rattle.uas_iu.specs.Units.{IsTextOf};
+ghost use Rattle.uas_target.specs.Tasks.{answer_unit};
+ghost use Rattle.uas_tasks.specs.Machine.{answer_on};
+
+use crate::{Answer, DeviceAnswer, Task, Tasks};
+use arrayvec::ArrayVec;
+use device_server::status_and_sense;
+use scsi_cmd::{CHECK_CONDITION, GOOD};
+use uas_iu::{Iu, write, write_sense};
+use uas_profile::STATUS_BYTES;
+
+impl Tasks {
+    /// The information unit that answers the task of a tag, once it has ended: Sense with GOOD or CHECK CONDITION, or Response.
+    pub fn status_of(&self, tag: u16) -> Option<Iu>
+        ensures { result ≡ answer_on self.now tag }
+    {
+        match self.slot(tag)?.task() {
+            Some(Task::Ended { answer, .. }) => Some(unit_of(tag, answer)),
+            _ => None,
+        }
+    }
+
+    /// Writes the information unit that answers the task of a tag, once it has ended, into `text`, which is asked to be empty.
+    /// False, and nothing is written, where it hasn't.
+    pub fn write_status(&self, tag: u16, text: &mut ArrayVec<u8, STATUS_BYTES>) -> bool
+        requires { array_vec_len text.old ≡ 0 }
+        ensures { MatchOption (answer_on self.now tag) ((result ≡ false) × (text.new ≡ text.old))
+            (λ unit. (result ≡ true) × IsTextOf text.new.items unit) }
+    {
+        let Some(slot) = self.slot(tag) else {
+            return false;
+        };
+        match slot.task() {
+            Some(Task::Ended { answer, .. }) => {
+                write_answer(tag, answer, text);
+                true
+            }
+            _ => false,
+        }
+    }
+}
+
+fn unit_of(tag: u16, answer: &DeviceAnswer) -> Iu
+    ensures { result ≡ answer_unit tag answer.now }
+{
+    match answer {
+        DeviceAnswer::Status(answer) => {
+            let (status, sense) = status_and_sense(answer);
+            Iu::Sense { tag, status, sense }
+        }
+        DeviceAnswer::Response(code) => Iu::Response { tag, code: *code },
+    }
+}
+
+/// Writes the information unit that tells an answer into `text`, which is asked to be empty.
+fn write_answer(tag: u16, answer: &DeviceAnswer, text: &mut ArrayVec<u8, STATUS_BYTES>)
+    requires { array_vec_len text.old ≡ 0 }
+    ensures { IsTextOf text.new.items (answer_unit tag answer.now) }
+{
+    match answer {
+        DeviceAnswer::Status(Answer::Good) => write_sense(tag, GOOD, &[], text),
+        DeviceAnswer::Status(Answer::Check(sense)) => {
+            write_sense(tag, CHECK_CONDITION, &sense.bytes(), text);
+        }
+        DeviceAnswer::Response(code) => write(&Iu::Response { tag, code: *code }, text),
+    }
+}

@@ -1,0 +1,163 @@
+//! Task management (SAM): what ABORT TASK and LOGICAL UNIT RESET end, and what they and QUERY TASK are answered; and a reset of the
+//! whole device.
+ghost use Rattle.std.specs.Prelude.{◌≡◌, map, slice_index};
+ghost use Rattle.uas_target.specs.Fields.{addressed};
+ghost use Rattle.uas_target.specs.Tasks.{is_at};
+ghost use Rattle.uas_tasks.specs.Machine.{aborted_on, attentive, managed, queried_on, reset_machine, reset_on, slot_under, without_command, without_its_task};
+ghost use Rattle.uas_tasks.specs.Slots.{has_command, is_command_of, spared_slot};
+
+use crate::receiver::unit_number;
+use crate::slot::Slot;
+use crate::{DeviceAnswer, LogicalUnit, Task, Tasks};
+use uas_iu::{
+    ABORT_TASK, INCORRECT_LUN, LOGICAL_UNIT_RESET, LUN_BYTES, NOT_SUPPORTED, QUERY_TASK,
+    TASK_COMPLETE, TASK_SUCCEEDED,
+};
+
+impl Tasks {
+    /// Resets the whole device (SAM): no tag has a task any more, and each logical unit has a unit attention. Requests that are
+    /// out stay out until they are answered.
+    pub fn reset(&mut self)
+        ensures { self.new ≡ reset_machine self.old }
+    {
+        end_all(&mut self.slots);
+        establish_attentions(&mut self.units);
+    }
+
+    /// Does a task management function on the logical unit that a LUN addresses; its response code.
+    pub(crate) fn manage(&mut self, function: u8, tag: u16, lun: &[u8; LUN_BYTES]) -> u8
+        ensures { (self.new, result) ≡ managed self.old function tag lun.now }
+    {
+        match function {
+            ABORT_TASK => self.abort(tag, lun),
+            LOGICAL_UNIT_RESET => self.reset_unit(lun),
+            QUERY_TASK => self.query(tag, lun),
+            _ => NOT_SUPPORTED,
+        }
+    }
+
+    fn abort(&mut self, tag: u16, lun: &[u8; LUN_BYTES]) -> u8
+        ensures { (self.new, result) ≡ aborted_on self.old (slice_index lun.now 1) tag (addressed self.old.units lun.now) }
+    {
+        let Some(number) = unit_number(&self.units, lun) else {
+            return INCORRECT_LUN;
+        };
+        self.end_command(number, tag);
+        TASK_COMPLETE
+    }
+
+    /// The task of a tag is gone where it is a command's to the logical unit of this number.
+    fn end_command(&mut self, number: usize, tag: u16)
+        ensures { self.new ≡ without_command self.old number tag }
+    {
+        let place = usize::from(tag);
+        if place != 0 && place <= self.slots.len() {
+            self.slots[place - 1].end_command(number);
+        }
+    }
+
+    fn reset_unit(&mut self, lun: &[u8; LUN_BYTES]) -> u8
+        ensures { (self.new, result) ≡ reset_on self.old (slice_index lun.now 1) (addressed self.old.units lun.now) }
+    {
+        let Some(number) = unit_number(&self.units, lun) else {
+            return INCORRECT_LUN;
+        };
+        end_commands(&mut self.slots, number);
+        self.units[number].attention = true;
+        TASK_COMPLETE
+    }
+
+    fn query(&self, tag: u16, lun: &[u8; LUN_BYTES]) -> u8
+        ensures { (self.now, result) ≡ queried_on self.now (slice_index lun.now 1) tag (addressed self.now.units lun.now) }
+    {
+        let Some(number) = unit_number(&self.units, lun) else {
+            return INCORRECT_LUN;
+        };
+        if self.has_command(number, tag) {
+            TASK_SUCCEEDED
+        } else {
+            TASK_COMPLETE
+        }
+    }
+
+    fn has_command(&self, number: usize, tag: u16) -> bool
+        ensures { result ≡ has_command number (slot_under self.now.slots tag) }
+    {
+        match self.slot(tag) {
+            Some(slot) => slot.has_command(number),
+            None => false,
+        }
+    }
+}
+
+/// No tag has a task any more.
+fn end_all(slots: &mut [Slot])
+    ensures { slots.new ≡ map without_its_task slots.old }
+{
+    for slot in slots.iter_mut() {
+        slot.set(None);
+    }
+}
+
+/// No tag has a command's task of the logical unit of this number any more.
+fn end_commands(slots: &mut [Slot], number: usize)
+    ensures { slots.new ≡ map (spared_slot number) slots.old }
+{
+    for slot in slots.iter_mut() {
+        slot.end_command(number);
+    }
+}
+
+/// Every logical unit has a unit attention.
+fn establish_attentions(units: &mut [LogicalUnit])
+    ensures { units.new ≡ map attentive units.old }
+{
+    for unit in units.iter_mut() {
+        unit.attention = true;
+    }
+}
+
+impl Slot {
+    /// Whether its task is a command's to the logical unit of this number.
+    fn has_command(&self, number: usize) -> bool
+        ensures { result ≡ has_command number self.now }
+    {
+        match self.task() {
+            Some(task) => is_command_of(number, task),
+            None => false,
+        }
+    }
+
+    /// Its task is gone where it is a command's to the logical unit of this number.
+    fn end_command(&mut self, number: usize)
+        ensures { self.new ≡ spared_slot number self.old }
+    {
+        if self.has_command(number) {
+            self.set(None);
+        }
+    }
+}
+
+/// Whether a task is a command's to the logical unit of this number.
+fn is_command_of(number: usize, task: &Task) -> bool
+    ensures { result ≡ is_command_of number task.now }
+{
+    match task {
+        Task::Giving { unit, .. } => is_at(number, *unit),
+        Task::Blocks { unit, .. } => *unit == number,
+        Task::Ended { unit, answer } => match answer {
+            DeviceAnswer::Status(_) => is_at(number, *unit),
+            DeviceAnswer::Response(_) => false,
+        },
+    }
+}
+
+/// Whether this is the number of a logical unit.
+fn is_at(number: usize, unit: Option<usize>) -> bool
+    ensures { result ≡ is_at number unit }
+{
+    match unit {
+        Some(found) => found == number,
+        None => false,
+    }
+}

@@ -5,9 +5,12 @@ mod buffer;
 mod chunk;
 mod data_in;
 mod device;
+mod status;
 mod tag;
+mod unit;
 
 pub use buffer::Buffer;
 pub use chunk::Chunk;
 pub use device::{End, Phase, Received, UasDevice};
 pub use tag::Tag;
+pub use unit::Unit;

@@ -1,8 +1,8 @@
 -- What a device is to the pipes: a state, and what each call makes of it. Tags are those of tasks.
 use Rattle.std.specs.Prelude.{ℕ, ◌≤◌, Bool, List, Option}
-use Rattle.guest_transfers.specs.declared.device.Phase.{Phase}
-use Rattle.guest_transfers.specs.declared.device.Phase.TheVariants.{Absent, Gives, Takes, Ended}
-use Rattle.guest_transfers.specs.declared.device.Received.{Received}
+use Rattle.guest_tags.specs.declared.device.Phase.{Phase}
+use Rattle.guest_tags.specs.declared.device.Phase.TheVariants.{Absent, Gives, Takes, Ended}
+use Rattle.guest_tags.specs.declared.device.Received.{Received}
 
 pub record Kind (D : Type 0) : Type 0 where
   -- what it does next on a tag

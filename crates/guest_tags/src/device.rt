@@ -1,7 +1,7 @@
 //! The device behind the pipes.
 ghost use Rattle.std.specs.Prelude.{◌≡◌, length, is_some, unwrap_or};
 ghost use Rattle.arrayvec.specs.ArrayVec.{array_vec_len};
-ghost use Rattle.guest_transfers.specs.Devices.{IsChunk, IsEnded, Kind};
+ghost use Rattle.guest_tags.specs.Devices.{IsChunk, IsEnded, Kind};
 
 use arrayvec::ArrayVec;
 use uas_profile::STATUS_BYTES;

@@ -1,6 +1,6 @@
 //! A tag's chunk buffer.
 ghost use Rattle.std.specs.Prelude.{◌≡◌, ◌+◌, ◌-◌, ◌<◌, ◌≤◌, List, [], ◌++◌, length, take, drop, IfOk, unwrap_or, is_some, true, replicate};
-ghost use Rattle.guest_transfers.specs.Devices.{Kind};
+ghost use Rattle.guest_tags.specs.Devices.{Kind};
 
 use crate::device::{Phase, UasDevice};
 use std::alloc::{AllocError, Global};

@@ -14,14 +14,14 @@ use Rattle.guest_pipes.specs.declared.progress.Ending.{Ending}
 use Rattle.guest_pipes.specs.declared.progress.Ending.TheVariants.{Runs, Told, Owed}
 use Rattle.guest_pipes.specs.Step.{World, failed, filled, filled_if, poured, refused, shortened, skipped, used_up}
 use Rattle.guest_pipes.specs.Gate.{gate, through, took_other}
-use Rattle.guest_transfers.specs.declared.device.End.{End}
-use Rattle.guest_transfers.specs.declared.device.End.TheVariants.{Good, Check, Response}
-use Rattle.guest_transfers.specs.declared.device.Phase.{Phase}
-use Rattle.guest_transfers.specs.declared.device.Phase.TheVariants.{Absent, Gives, Takes, Ended}
-use Rattle.guest_transfers.specs.declared.buffer.Buffer.{Buffer}
-use Rattle.guest_transfers.specs.declared.tag.Tag.{Tag}
-use Rattle.guest_transfers.specs.Devices.{Kind}
-use Rattle.guest_transfers.specs.Tags.{TagWorld}
+use Rattle.guest_tags.specs.declared.device.End.{End}
+use Rattle.guest_tags.specs.declared.device.End.TheVariants.{Good, Check, Response}
+use Rattle.guest_tags.specs.declared.device.Phase.{Phase}
+use Rattle.guest_tags.specs.declared.device.Phase.TheVariants.{Absent, Gives, Takes, Ended}
+use Rattle.guest_tags.specs.declared.buffer.Buffer.{Buffer}
+use Rattle.guest_tags.specs.declared.tag.Tag.{Tag}
+use Rattle.guest_tags.specs.Devices.{Kind}
+use Rattle.guest_tags.specs.Tags.{TagWorld}
 
 -- a status ended the task, and no response code
 abbrev pub is_status : End → Bool

@@ -4,9 +4,9 @@ ghost use Rattle.std.specs.Result.{result_ok};
 ghost use Rattle.guest_memory.specs.Bytes.{is_there};
 ghost use Rattle.guest_pipes.specs.Step.{World, has_place, has_home};
 ghost use Rattle.guest_pipes.specs.Gate.{after};
-ghost use Rattle.guest_transfers.specs.Devices.{Kind};
-ghost use Rattle.guest_transfers.specs.Tags.{TagWorld};
-ghost use Rattle.guest_transfers.specs.DataIn.{acted, closed, closed_if, ends_td, filled_ring, gave_by, given_to, has_chunk, is_status, lost, moved_if, moved_in, normal, ran, refilled, stepped_in, took};
+ghost use Rattle.guest_tags.specs.Devices.{Kind};
+ghost use Rattle.guest_tags.specs.Tags.{TagWorld};
+ghost use Rattle.guest_tags.specs.DataIn.{acted, closed, closed_if, ends_td, filled_ring, gave_by, given_to, has_chunk, is_status, lost, moved_if, moved_in, normal, ran, refilled, stepped_in, took};
 ghost use Rattle.guest_pipes.specs.Pipe.{home_of};
 
 use crate::buffer::Buffer;

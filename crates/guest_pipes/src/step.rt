@@ -355,6 +355,7 @@ impl Consumer {
             ≡ poured (record { memory = M.contents memory.old; events = events.old; consumer = self.old }) to bytes.now }
         ensures same_loan { M.loan memory.new ≡ M.loan memory.old }
         ensures there { (at n : ℕ) → is_there (M.contents memory.old) at n ≡ true → is_there (M.contents memory.new) at n ≡ true }
+        ensures room { has_place (M.contents memory.old) events.old ≡ true → has_place (M.contents memory.new) events.new ≡ true }
     {
         let _ = memory.write(to, bytes);
         self.progress = self.progress.count(bytes.len() as u32);

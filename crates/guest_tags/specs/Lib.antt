@@ -1,0 +1,5 @@
+pub mod Devices
+pub mod Units
+pub mod Tags
+pub mod DataIn
+pub mod Status

@@ -135,7 +135,17 @@ enum uas_fault {
     /* the bus */
     UAS_BUS_STEP = 128,   /* there is no such step, or no such pipe */
     UAS_BUS_CLIENT = 129, /* there is no such client */
-    UAS_BUS_RANGE = 130   /* blocks beyond the logical unit's last */
+    UAS_BUS_RANGE = 130,  /* blocks beyond the logical unit's last */
+    /* the device without blocks (uas_tasks.h) */
+    UAS_TASKS_CALL = 144,        /* there is no such call, or no such outcome of a request */
+    UAS_TASKS_OVERLAP = 145,     /* the tag of an information unit has a task */
+    UAS_TASKS_PHASE = 146,       /* the tag doesn't want this now */
+    UAS_TASKS_LENGTH = 147,      /* more bytes than the tag wants, or other ones than the request's blocks have */
+    UAS_TASKS_NOT_OUT = 148,     /* no request of this number is out */
+    UAS_TASKS_BLOCK_BYTES = 149, /* blocks of neither 512 nor 4,096 bytes */
+    UAS_TASKS_SERIAL = 150,      /* a serial number of more than eight digits */
+    UAS_TASKS_SET = 151,         /* no such command set, or no maximum transfer length */
+    UAS_TASKS_CHUNK = 152        /* a chunk of no blocks, or of more than 128 */
 };
 
 /* The name above, as "UAS_TRB_UNFIT"; a null pointer where the number is no fault's. */

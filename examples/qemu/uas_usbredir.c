@@ -1,13 +1,13 @@
-/* A UAS disk for QEMU: uas_device behind the usbredir protocol, as a SuperSpeed USB device with bulk streams.
+/* A UAS disk for QEMU: uas_tasks behind the usbredir protocol, as a SuperSpeed USB device with bulk streams, with its blocks in files.
  *
- *   cc -Iinclude examples/qemu/uas_usbredir.c $(bindings/archive device) -lusbredirparser -o uas_usbredir
- *   ./uas_usbredir SOCKET IMAGE [BAD]   serves one connection; block BAD of the disk can't be read or written
+ *   cc -Iinclude examples/qemu/uas_usbredir.c $(bindings/archive tasks) -lusbredirparser -o uas_usbredir
+ *   ./uas_usbredir SOCKET [--bad BLOCK] FILE..   serves one connection; block BLOCK of each disk can't be read or written
  *
- * SOCKET is the path of a Unix socket, with a slash in it, or the number of a TCP port of this machine.
- *
- * IMAGE is 1 to 65,536 blocks of 512 bytes. It is read once: what a guest writes lasts as long as this program. README.md says how QEMU is
- * called. A transfer of a pipe with streams waits under its stream, which is the tag, until the device gives, takes or answers. */
-#include "uas.h"
+ * SOCKET is the path of a Unix socket, with a slash in it, or the number of a TCP port of this machine. Each FILE is a logical unit, of
+ * whole blocks of 512 bytes. A guest's writes go into it; what the guest synced, or wrote with FUA, was synced here before it was told so.
+ * README.md says how QEMU is called. A transfer of a pipe with streams waits under its stream, which is the tag, until the device gives,
+ * takes or answers. */
+#include "uas_tasks.h"
 #include <errno.h>
 #include <fcntl.h>
 #include <netinet/in.h>
@@ -17,11 +17,15 @@
 #include <stdlib.h>
 #include <string.h>
 #include <sys/socket.h>
+#include <sys/stat.h>
 #include <sys/un.h>
 #include <unistd.h>
 #include <usbredirparser.h>
 
 enum { COMMAND = 0x01, DATA_OUT = 0x02, STATUS = 0x81, DATA_IN = 0x82, STREAMS_EXPONENT = 7, STREAMS = 1 << STREAMS_EXPONENT };
+
+/* A READ or WRITE moves at most 1 MiB, which page B0h tells; a request to the files is of at most 64 KiB. */
+enum { MOST_BLOCKS = 2048, CHUNK_BLOCKS = 128, CHUNK_BYTES = CHUNK_BLOCKS * UAS_BLOCK_BYTES };
 
 /* A transfer that waits, of a pipe's stream. */
 struct transfer {
@@ -36,7 +40,7 @@ struct transfer {
  * guest's controller puts those that it didn't give up once more. So what was moved stays until its task is over, and, where the transfer was
  * ended but came too late, until it comes again. */
 struct moved {
-    uint8_t bytes[UAS_MOST_DATA_BYTES]; /* of data in */
+    uint8_t *bytes; /* of data in, as many as its transfer has room for */
     uint32_t count;
     bool ended, lost; /* the transfer of a GOOD command was ended, by this id; and QEMU took no notice of it */
     uint64_t id;
@@ -45,7 +49,9 @@ struct moved {
 struct server {
     int socket;
     struct usbredirparser *parser;
-    uas_device *disk;
+    uas_tasks *disk;
+    int files[UAS_MOST_UNITS];
+    uint64_t bad;
     struct transfer statuses[UAS_GREATEST_TAG + 1], data[UAS_GREATEST_TAG + 1];
     struct moved moved[UAS_GREATEST_TAG + 1];
     uint8_t configuration;
@@ -119,21 +125,77 @@ static void forget(struct moved *moved)
     moved->ended = moved->lost = false;
 }
 
-/* Moves a chunk of a tag's data; false where its transfer isn't there or has no room. */
-static bool move(struct server *server, uint16_t tag, uint8_t phase, uint32_t chunk)
+/* ---- Blocks ---- */
+
+static bool is_bad(const struct server *server, const struct uas_request *request)
+{
+    return request->kind != UAS_REQUEST_SYNC && server->bad - request->block < request->count;
+}
+
+/* Reads or writes all of some bytes of a file. */
+static bool move_all(int file, uint8_t *bytes, size_t length, uint64_t at, bool writes)
+{
+    while (length > 0) {
+        ssize_t done = writes ? pwrite(file, bytes, length, (off_t)at) : pread(file, bytes, length, (off_t)at);
+        if (done <= 0 && errno != EINTR)
+            return false;
+        if (done > 0) {
+            bytes += done;
+            length -= (size_t)done;
+            at += (uint64_t)done;
+        }
+    }
+    return true;
+}
+
+/* Does a request on its file, and answers it. */
+static void work(struct server *server, const struct uas_request *request)
+{
+    static uint8_t bytes[CHUNK_BYTES], there[CHUNK_BYTES];
+    int file = server->files[request->unit];
+    uint64_t at = request->block * UAS_BLOCK_BYTES;
+    size_t length = (size_t)request->count * UAS_BLOCK_BYTES;
+    uint8_t outcome = is_bad(server, request) ? UAS_MEDIUM_ERROR : UAS_DONE;
+    if (outcome == UAS_DONE)
+        switch (request->kind) {
+        case UAS_REQUEST_READ:
+            outcome = move_all(file, bytes, length, at, false) ? UAS_DONE : UAS_MEDIUM_ERROR;
+            break;
+        case UAS_REQUEST_WRITE:
+            if (uas_tasks_data(server->disk, request->number, bytes, length) != UAS_OK || !move_all(file, bytes, length, at, true) ||
+                (request->through && fdatasync(file) != 0))
+                outcome = UAS_MEDIUM_ERROR;
+            break;
+        case UAS_REQUEST_COMPARE:
+            if (uas_tasks_data(server->disk, request->number, bytes, length) != UAS_OK || !move_all(file, there, length, at, false))
+                outcome = UAS_MEDIUM_ERROR;
+            else if (memcmp(bytes, there, length) != 0)
+                outcome = UAS_DIFFERS;
+            break;
+        case UAS_REQUEST_SYNC:
+            outcome = fdatasync(file) == 0 ? UAS_DONE : UAS_MEDIUM_ERROR;
+            break;
+        default: /* UAS_REQUEST_VERIFY: nothing else than the bad block can't be read */
+            break;
+        }
+    uas_tasks_answered(server->disk, request->number, outcome, bytes, outcome == UAS_DONE && request->kind == UAS_REQUEST_READ ? length : 0);
+}
+
+/* ---- Tasks ---- */
+
+/* Moves a tag's bytes, as many as both sides have; false where its transfer isn't there or has no room. */
+static bool move(struct server *server, uint16_t tag, uint8_t phase, uint64_t most)
 {
     struct transfer *transfer = &server->data[tag];
     struct moved *moved = &server->moved[tag];
-    bool in = (transfer->header.endpoint & 0x80) != 0, good = false;
-    if (!transfer->waits || in != (phase == UAS_GIVES) || transfer->length < moved->count + chunk || sizeof moved->bytes < moved->count + chunk)
+    bool in = (transfer->header.endpoint & 0x80) != 0;
+    if (!transfer->waits || in != (phase == UAS_GIVES) || moved->count >= transfer->length)
         return false;
-    uint8_t fault = in ? uas_device_give(server->disk, tag, moved->bytes + moved->count, chunk, &good)
-                       : uas_device_take(server->disk, tag, transfer->data + moved->count, chunk, &good);
-    if (fault != UAS_OK)
-        return false;
-    if (good)
-        moved->count += chunk;
-    return true;
+    uint32_t room = transfer->length - moved->count, count = most < room ? (uint32_t)most : room;
+    uint8_t fault = in ? uas_tasks_give(server->disk, tag, moved->bytes + moved->count, count)
+                       : uas_tasks_take(server->disk, tag, transfer->data + moved->count, count);
+    moved->count += fault == UAS_OK ? count : 0;
+    return fault == UAS_OK;
 }
 
 /* Sends the answer of a task that has ended, once the host waits for it. Its data transfer is ended before: with what was moved, or, for data in of
@@ -143,8 +205,8 @@ static void answer(struct server *server, uint16_t tag)
     struct transfer *transfer = &server->statuses[tag], *data = &server->data[tag];
     struct moved *moved = &server->moved[tag];
     uint8_t bytes[UAS_MOST_UNIT_BYTES];
-    uint32_t length = 0;
-    if (uas_device_status(server->disk, tag, bytes, sizeof bytes, &length) != UAS_OK)
+    uint64_t length = 0;
+    if (uas_tasks_status(server->disk, tag, bytes, sizeof bytes, &length) != UAS_OK)
         return;
     if (data->waits && (moved->count > 0 || (data->header.endpoint & 0x80) != 0)) {
         moved->ended = bytes[0] == UAS_UNIT_SENSE && bytes[6] == UAS_GOOD;
@@ -153,40 +215,46 @@ static void answer(struct server *server, uint16_t tag)
     }
     if (!transfer->waits || transfer->length < length)
         return;
-    uas_device_sent(server->disk, tag);
+    uas_tasks_sent(server->disk, tag);
     server->commands++;
-    complete(server, transfer, usb_redir_success, bytes, length);
+    complete(server, transfer, usb_redir_success, bytes, (uint32_t)length);
 }
 
 /* Whatever may be done on a tag is done. */
 static void serve(struct server *server, uint16_t tag)
 {
+    struct uas_request request;
     uint8_t phase;
-    uint32_t chunk;
-    do
-        uas_device_wants(server->disk, tag, &phase, &chunk);
-    while ((phase == UAS_GIVES || phase == UAS_TAKES) && move(server, tag, phase, chunk));
+    uint64_t most;
+    for (;;) {
+        uas_tasks_next(server->disk, tag, &phase, &most, &request);
+        if (phase == UAS_ASKS)
+            work(server, &request);
+        else if ((phase != UAS_GIVES && phase != UAS_TAKES) || !move(server, tag, phase, most))
+            break;
+    }
     if (phase == UAS_ENDS)
         answer(server, tag);
+    else if (phase == UAS_ABSENT)
+        forget(&server->moved[tag]);
 }
 
 /* An information unit came. What a task management ended moves no more, and the host gives its transfers up. */
 static void receive(struct server *server, const uint8_t *bytes, size_t length)
 {
     uint16_t tag = 0;
-    uint8_t ended[32];
-    uint8_t fault = uas_device_receive_ended(server->disk, bytes, length, &tag, ended);
+    uint8_t fault = uas_tasks_receive(server->disk, bytes, length, &tag);
     if (fault != UAS_OK) {
         fprintf(stderr, "uas_usbredir: %s\n", uas_fault_name(fault));
         return;
     }
-    for (uint16_t one = 1; one <= UAS_GREATEST_TAG; one++)
-        if (ended[one / 8] >> one % 8 & 1)
-            forget(&server->moved[one]);
-    if (tag != 0) {
-        forget(&server->moved[tag]);
-        serve(server, tag);
-    }
+    if (tag == 0)
+        return;
+    if (bytes[0] == UAS_UNIT_TASK)
+        for (uint16_t one = 1; one <= STREAMS; one++)
+            serve(server, one);
+    forget(&server->moved[tag]);
+    serve(server, tag);
 }
 
 /* ---- What QEMU asks ---- */
@@ -197,6 +265,8 @@ static void hold(struct server *server, struct transfer *made, uint16_t tag)
     struct transfer *held = made->header.endpoint == STATUS ? &server->statuses[tag] : &server->data[tag];
     struct moved *moved = &server->moved[tag];
     *held = *made;
+    if (made->header.endpoint == DATA_IN && !moved->lost && (moved->bytes = realloc(moved->bytes, made->length + 1)) == NULL)
+        abort();
     if (made->header.endpoint != STATUS && moved->lost) {
         moved->lost = false;
         moved->id = made->id;
@@ -293,7 +363,7 @@ static void on_hello(void *whole, struct usb_redir_hello_header *hello)
 static void on_reset(void *whole)
 {
     struct server *server = whole;
-    uas_device_reset(server->disk);
+    uas_tasks_reset(server->disk);
     for (int tag = 1; tag <= UAS_GREATEST_TAG; tag++)
         forget(&server->moved[tag]);
 }
@@ -462,29 +532,37 @@ static int connected(const char *where)
     return taken >= 0 && fcntl(taken, F_SETFL, O_NONBLOCK) == 0 ? taken : -1;
 }
 
-static uint8_t open_disk(const char *file, const char *bad_block, uas_device **disk)
+/* A logical unit of each file. */
+static uint8_t open_disk(struct server *server, char **names, int count)
 {
-    static uint8_t image[UAS_MOST_BLOCKS * UAS_BLOCK_BYTES + 1];
-    struct uas_bad_block bad = { 0, bad_block != NULL ? (uint32_t)strtoul(bad_block, NULL, 10) : 0 };
-    FILE *opened = fopen(file, "rb");
-    if (opened == NULL)
-        return UAS_IMAGE;
-    size_t length = fread(image, 1, sizeof image, opened);
-    fclose(opened);
-    uint32_t blocks = (uint32_t)(length / UAS_BLOCK_BYTES);
-    return uas_device_open(&blocks, 1, image, length, &bad, bad_block != NULL, disk);
+    struct uas_tasks_unit units[UAS_MOST_UNITS];
+    if (count > UAS_MOST_UNITS)
+        return UAS_UNITS;
+    for (int k = 0; k < count; k++) {
+        struct stat told;
+        server->files[k] = open(names[k], O_RDWR);
+        if (server->files[k] < 0 || fstat(server->files[k], &told) != 0)
+            return UAS_IMAGE;
+        units[k] = (struct uas_tasks_unit){ (uint64_t)told.st_size / UAS_BLOCK_BYTES, (uint32_t)(told.st_ino % 100000000), UAS_BLOCK_BYTES };
+    }
+    return uas_tasks_new(units, (size_t)count, UAS_SET_HOST, MOST_BLOCKS, CHUNK_BLOCKS, &server->disk);
 }
 
 int main(int words, char **word)
 {
-    static struct server server;
-    if (words != 3 && words != 4) {
-        fprintf(stderr, "usage: uas_usbredir SOCKET IMAGE [BAD]\n");
+    static struct server server = { .bad = UINT64_MAX };
+    int first = 2;
+    if (words > 4 && strcmp(word[2], "--bad") == 0) {
+        server.bad = strtoull(word[3], NULL, 10);
+        first = 4;
+    }
+    if (words <= first) {
+        fprintf(stderr, "usage: uas_usbredir SOCKET [--bad BLOCK] FILE..\n");
         return 2;
     }
-    uint8_t fault = open_disk(word[2], words == 4 ? word[3] : NULL, &server.disk);
+    uint8_t fault = open_disk(&server, word + first, words - first);
     if (fault != UAS_OK) {
-        fprintf(stderr, "uas_usbredir: %s: %s\n", word[2], uas_fault_name(fault));
+        fprintf(stderr, "uas_usbredir: %s\n", uas_fault_name(fault));
         return 1;
     }
     server.socket = connected(word[1]);
@@ -495,5 +573,5 @@ int main(int words, char **word)
     run(&server);
     fprintf(stderr, "uas_usbredir: %lu answers\n", server.commands);
     usbredirparser_destroy(server.parser);
-    uas_device_free(server.disk);
+    uas_tasks_free(server.disk);
 }

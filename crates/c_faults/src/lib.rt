@@ -190,3 +190,32 @@ pub const BUS_CLIENT: u8 = 129;
 
 /// Blocks beyond the last one.
 pub const BUS_RANGE: u8 = 130;
+
+// The device without blocks.
+
+/// No such call, or no such outcome of a request.
+pub const TASKS_CALL: u8 = 144;
+
+/// The tag of an information unit has a task.
+pub const TASKS_OVERLAP: u8 = 145;
+
+/// The tag doesn't want this now.
+pub const TASKS_PHASE: u8 = 146;
+
+/// More bytes than the tag wants, or other ones than the request's blocks have.
+pub const TASKS_LENGTH: u8 = 147;
+
+/// No request of this number is out.
+pub const TASKS_NOT_OUT: u8 = 148;
+
+/// The blocks of a logical unit have neither 512 nor 4,096 bytes.
+pub const TASKS_BLOCK_BYTES: u8 = 149;
+
+/// A serial number of more than eight decimal digits.
+pub const TASKS_SERIAL: u8 = 150;
+
+/// No such command set, or a maximum transfer length that is no multiple of 8 from 8 to 65,528.
+pub const TASKS_SET: u8 = 151;
+
+/// A chunk of no blocks, or of more than 128.
+pub const TASKS_CHUNK: u8 = 152;

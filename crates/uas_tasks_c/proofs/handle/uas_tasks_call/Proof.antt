@@ -1,0 +1,15 @@
+-- A call of the device is a call of a handle: what lies at the three pointers is lent to `serve`.
+use Rattle.c_common.proofs.Called.{meets}
+use Rattle.uas_tasks_c.specs.TasksCall.{after_call}
+use Rattle.uas_tasks_c.specs.contracts.door.UasTasksDoor.{the_row as door_row}
+use Rattle.uas_tasks_c.specs.contracts.door.KeptTasks.{the_row as tasks_row}
+use Rattle.uas_tasks_c.proofs.door.serve.Symbol.{name as #serve}
+use Rattle.uas_tasks_c.proofs.door.serve.Met.{met}
+use Rattle.uas_tasks_c.specs.contracts.handle.uas_tasks_call.Key.{name}
+use Rattle.uas_tasks_c.proofs.handle.uas_tasks_call.Statement.{statement}
+use Rattle.uas_tasks_c.proofs.handle.uas_tasks_call.Code as code
+
+pub uas_tasks_call_spec : {M : Type 1} → statement M
+uas_tasks_call_spec 𝓤 𝓛 𝓜 𝓡 wired =
+    meets tasks_row door_row #serve (λ r. after_call) 𝓤 𝓛 𝓜 𝓡 name (code.unfolded 𝓤 𝓛.H 𝓜 𝓡 wired)
+    (met 𝓤 𝓛 𝓜 𝓡 (code.calls-uas_tasks_c::door::serve 𝓡.env wired))

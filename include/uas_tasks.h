@@ -1,0 +1,147 @@
+/* uas_tasks.h: a USB Attached SCSI device whose blocks somebody else keeps, for C, from a verified library (link libuas_tasks.a).
+ *
+ *                receive                 next               answered              give
+ *     no task ------------> UAS_ASKS -----------> UAS_WAITS ---------> UAS_GIVES -------> UAS_ASKS .. UAS_ENDS
+ *                           (a READ)                                                                      |
+ *     no task <-----------------------------------------------------------------------------------------+
+ *                                                    sent
+ *
+ * The device knows tasks, commands, sense data and order. It has no blocks: each move of blocks is a *request* to the backend, which is
+ * whoever calls it. uas_tasks_next tells what the device does next on a tag: it gives or takes bytes, in any parts; it asks, and from then
+ * on the request is out until uas_tasks_answered tells what came of it; or it ends, and uas_tasks_status has the information unit that
+ * answers. Requests of different tags may be answered in any order. A request has a number of its own: where its task was aborted meanwhile
+ * its answer is dropped, and the tag may already have another task.
+ *
+ * A READ asks for one chunk at a time and gives it; a WRITE takes a chunk and then asks. SYNCHRONIZE CACHE, START STOP UNIT and VERIFY ask
+ * once. A chunk is of at most as many blocks as the device was made with.
+ *
+ * The duties of a caller are those of uas.h, for a uas_tasks pointer as for its others. Memory is taken by uas_tasks_new alone. */
+#ifndef UAS_TASKS_H
+#define UAS_TASKS_H
+
+#include "uas.h"
+
+#ifdef __cplusplus
+extern "C" {
+#define UAS_TASKS_ASSERT(what) static_assert(what, #what)
+#else
+#define UAS_TASKS_ASSERT(what) _Static_assert(what, #what)
+#endif
+
+typedef struct uas_tasks uas_tasks;
+
+/* A logical unit. A host joins two disks of one serial number into one, so each disk of a machine has a number of its own. */
+struct uas_tasks_unit {
+    uint64_t blocks;      /* 1 to 2^48 */
+    uint32_t serial;      /* eight decimal digits */
+    uint32_t block_bytes; /* 512 or 4,096 */
+};
+UAS_TASKS_ASSERT(sizeof(struct uas_tasks_unit) == 16);
+
+/* Which commands the device knows. */
+enum {
+    UAS_SET_PROFILE = 0, /* the nine of uas_device, of at most 128 blocks */
+    UAS_SET_HOST = 1     /* those and what hosts send: vital product data, MODE SENSE, REPORT LUNS, VERIFY, REQUEST SENSE and others */
+};
+
+/* A device of `count` logical units, without a task and without an attention. With UAS_SET_HOST a READ or WRITE has at most `most` blocks, a
+ * multiple of 8 from 8 to 65,528, which page B0h tells; UAS_SET_PROFILE doesn't look at it. A request is of at most `chunk` blocks, 1 to 128;
+ * each of the 240 tags has a buffer of one chunk. *tasks is for uas_tasks_free.
+ * Faults: UAS_UNITS, UAS_BLOCKS, UAS_TASKS_BLOCK_BYTES, UAS_TASKS_SERIAL, UAS_TASKS_SET, UAS_TASKS_CHUNK, UAS_NO_MEMORY. */
+uint8_t uas_tasks_new(const struct uas_tasks_unit *units, size_t count, uint8_t set, uint16_t most, uint16_t chunk, uas_tasks **tasks);
+
+/* Gives back all memory that the device holds, but the block of malloc that the pointer is of. For uas_tasks_free alone. */
+void uas_tasks_close(uas_tasks *tasks);
+
+/* Gives all its memory back; a null pointer has none. No fault. */
+void uas_tasks_free(uas_tasks *tasks);
+
+/* What the device does next on a tag, beside UAS_ABSENT, UAS_GIVES, UAS_TAKES and UAS_ENDS. */
+enum { UAS_ASKS = 4, UAS_WAITS = 5 };
+
+/* What a request asks for. */
+enum { UAS_REQUEST_READ = 1, UAS_REQUEST_WRITE = 2, UAS_REQUEST_COMPARE = 3, UAS_REQUEST_VERIFY = 4, UAS_REQUEST_SYNC = 5 };
+
+/* What came of a request. */
+enum { UAS_DONE = 0, UAS_DIFFERS = 1, UAS_MEDIUM_ERROR = 2, UAS_NOT_READY = 3 };
+
+/* Which call. */
+enum {
+    UAS_TASKS_CALL_RECEIVE = 1,
+    UAS_TASKS_CALL_NEXT = 2,
+    UAS_TASKS_CALL_GIVE = 3,
+    UAS_TASKS_CALL_TAKE = 4,
+    UAS_TASKS_CALL_DATA = 5,
+    UAS_TASKS_CALL_ANSWERED = 6,
+    UAS_TASKS_CALL_STATUS = 7,
+    UAS_TASKS_CALL_SENT = 8,
+    UAS_TASKS_CALL_RESET = 9
+};
+
+/* What goes in and comes out beside the bytes, where a call has it. */
+struct uas_tasks_door {
+    uint8_t call;    /* in: UAS_TASKS_CALL_... */
+    uint8_t phase;   /* out of NEXT */
+    uint8_t good;    /* out of RECEIVE: 1 where a task began */
+    uint8_t kind;    /* out of a NEXT that asks: UAS_REQUEST_... */
+    uint8_t through; /* out of a NEXT that asks: 1 where a write is to be on the medium when it is done */
+    uint8_t outcome; /* in of ANSWERED: UAS_DONE and its like */
+    uint16_t tag;    /* in of NEXT, GIVE, TAKE, STATUS, SENT; out of RECEIVE where a task began */
+    uint64_t unit;   /* out of a NEXT that asks: the number of the logical unit */
+    uint64_t length; /* out of NEXT: bytes that it gives or takes at most; of STATUS: bytes of the information unit */
+    uint64_t number; /* out of a NEXT that asks; in of DATA, ANSWERED */
+    uint64_t block;  /* out of a NEXT that asks: the first block */
+    uint64_t count;  /* out of a NEXT that asks: blocks; of UAS_REQUEST_SYNC all from the first on where it is 0 */
+};
+UAS_TASKS_ASSERT(sizeof(struct uas_tasks_door) == 48 && offsetof(struct uas_tasks_door, unit) == 8);
+
+/* Any call of the device; those below are easier to use. Where a call has no bytes, `length` may be 0.
+ * Fault: UAS_TASKS_CALL, and those of the call. */
+uint8_t uas_tasks_call(uas_tasks *tasks, struct uas_tasks_door *door, uint8_t *bytes, size_t length);
+
+/* The device receives the bytes of an information unit, or any others. *tag is the tag on which a task began, or 0. A task management ends
+ * tasks without an answer: a tag that had one is UAS_ABSENT then.
+ * Fault: UAS_TASKS_OVERLAP. */
+uint8_t uas_tasks_receive(uas_tasks *tasks, const uint8_t *bytes, size_t length, uint16_t *tag);
+
+/* A request, as the backend is asked. */
+struct uas_request {
+    uint64_t number;
+    uint64_t unit, block, count;
+    uint8_t kind;
+    bool through;
+};
+
+/* What the device does next on a tag: *phase, and *length bytes where it gives or takes. Where it asks, *request is out from then on. No
+ * fault. */
+uint8_t uas_tasks_next(uas_tasks *tasks, uint16_t tag, uint8_t *phase, uint64_t *length, struct uas_request *request);
+
+/* Fills `bytes` with the next ones that a tag gives, or takes them as the next of a tag: at most as many as uas_tasks_next told.
+ * Faults: UAS_TASKS_PHASE, UAS_TASKS_LENGTH. */
+uint8_t uas_tasks_give(uas_tasks *tasks, uint16_t tag, uint8_t *bytes, size_t length);
+uint8_t uas_tasks_take(uas_tasks *tasks, uint16_t tag, const uint8_t *bytes, size_t length);
+
+/* The bytes of a request that writes or compares, all of them.
+ * Faults: UAS_TASKS_NOT_OUT, UAS_TASKS_LENGTH. */
+uint8_t uas_tasks_data(uas_tasks *tasks, uint64_t number, uint8_t *bytes, size_t length);
+
+/* What came of a request. `bytes` are those of its blocks where it read and is done, and aren't looked at otherwise. What was asked for a task
+ * that is gone is dropped.
+ * Faults: UAS_TASKS_CALL (no such outcome), UAS_TASKS_NOT_OUT, UAS_TASKS_LENGTH. */
+uint8_t uas_tasks_answered(uas_tasks *tasks, uint64_t number, uint8_t outcome, const uint8_t *bytes, size_t length);
+
+/* Writes the information unit that answers a task, Sense or Response, into the first *length of `room` bytes. 112 bytes always do.
+ * Faults: UAS_TASKS_PHASE, UAS_TASKS_LENGTH. */
+uint8_t uas_tasks_status(uas_tasks *tasks, uint16_t tag, uint8_t *bytes, size_t room, uint64_t *length);
+
+/* The answer was sent: the tag has no task any more.
+ * Fault: UAS_TASKS_PHASE. */
+uint8_t uas_tasks_sent(uas_tasks *tasks, uint16_t tag);
+
+/* A reset of the whole device: no tag has a task, and each logical unit owes a unit attention. No fault. */
+uint8_t uas_tasks_reset(uas_tasks *tasks);
+
+#ifdef __cplusplus
+}
+#endif
+#endif

@@ -9,8 +9,8 @@ use Rattle.scsi_cmd.specs.declared.Op.{Op}
 use Rattle.scsi_cmd.specs.declared.Reply.{Reply}
 use Rattle.uas_host.specs.Retirement.{is_left_over_on}
 use Rattle.uas_host.specs.State.{HostState}
-use Rattle.uas_host.specs.declared.Handled.{Handled}
-use Rattle.uas_host.specs.declared.Handled.TheVariants.{Matched, Engine, Stray}
+use Rattle.uas_driver.specs.declared.Taken.{Taken}
+use Rattle.uas_driver.specs.declared.Taken.TheVariants.{Matched, Engine, Noted, Stray}
 use Rattle.uas_profile.specs.declared.Pipe.{Pipe}
 use Rattle.uas_profile.specs.declared.TheConstants.{MAX_CLIENTS, TAGS}
 use Rattle.uas_driver.specs.Calls.{After as CallAfter, context_by, event_by, item_by, read_by, reply_by, retire_by, submit_by, task_by, write_by}
@@ -120,14 +120,16 @@ event_named door =
     numbered ((32, events.Transfer door.address door.length door.code door.endpoint door.slot) ∷ (33, events.Command door.address door.code door.slot) ∷ [])
     door.kind
 
--- what the host made of an event: 0 nothing, 1 it was of a TD of a tag, 2 it was of the command under way
-abbrev pub with_handled : UasDriverDoor → Handled → UasDriverDoor
-with_handled door (Matched tag) = record door { acted = 1; tag = tag }
-with_handled door Engine = record door { acted = 2 }
-with_handled door Stray = record door { acted = 0 }
+-- what the driver made of an event: 0 nothing, 1 it ended a TD of a tag, 2 it was of the command under way, 3 it was of what isn't over
+-- by it
+abbrev pub with_taken : UasDriverDoor → Taken → UasDriverDoor
+with_taken door (Matched tag) = record door { acted = 1; tag = tag }
+with_taken door Engine = record door { acted = 2 }
+with_taken door Noted = record door { acted = 3 }
+with_taken door Stray = record door { acted = 0 }
 
-abbrev pub with_event : UasDriverDoor → CallAfter Handled → DoorAfter DriverState UasDriverDoor
-with_event door (after, handled, doors) = (0, (after, with_handled (with_doorbells door doors) handled))
+abbrev pub with_event : UasDriverDoor → CallAfter Taken → DoorAfter DriverState UasDriverDoor
+with_event door (after, taken, doors) = (0, (after, with_taken (with_doorbells door doors) taken))
 
 -- EVENT (5)
 abbrev pub after_event : DriverState → UasDriverDoor → DoorAfter DriverState UasDriverDoor

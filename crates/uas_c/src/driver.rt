@@ -12,7 +12,7 @@ use crate::client::{
 };
 use crate::driver::door::{
     DriverCall, UasDriverDoor, call_numbered, event_named, refusal_number, show_doorbells,
-    show_handled, show_next, show_reply,
+    show_next, show_reply, show_taken,
 };
 use arrayvec::ArrayVec;
 use c_faults::{
@@ -174,9 +174,9 @@ fn take_event(driver: &mut Driver, door: &mut UasDriverDoor) -> u8
         return DRIVER_EVENT;
     };
     let mut doors = ArrayVec::new();
-    let handled = driver.take_event(event, &mut doors);
+    let taken = driver.take_event(event, &mut doors);
     show_doorbells(door, &doors);
-    show_handled(door, handled);
+    show_taken(door, taken);
     0
 }
 

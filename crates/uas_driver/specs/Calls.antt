@@ -1,22 +1,22 @@
 -- What the calls make of the driver, what they answer, and the doorbells that are to be written. A refused call leaves the driver as it
 -- was and gives no doorbell; of several refusals it answers the first that holds.
-use Rattle.std.specs.Prelude.{ℕ, ◌^◌, Bool, true, false, not, nat_lt, nat_le, if◌then◌else◌, List, [], ◌∷◌, length, Option, Some, Result, Ok, Err}
+use Rattle.std.specs.Prelude.{ℕ, ◌^◌, ◌==◌, ◌&&◌, Bool, true, false, not, nat_lt, nat_le, if◌then◌else◌, List, [], ◌∷◌, length, Option, Some, Result, Ok, Err, is_some, slice_set}
 use Rattle.std.specs.Option.{option_map_or}
 use Rattle.scsi_cmd.specs.declared.Command.{Command}
 use Rattle.scsi_cmd.specs.declared.Reply.{Reply}
 use Rattle.scsi_cmd.specs.declared.Task.{Task}
 use Rattle.scsi_cmd.specs.Op.{direction_of}
 use Rattle.event_ring.specs.declared.Event.{Event}
+use Rattle.event_ring.specs.declared.Event.TheVariants.{Transfer, Command as CommandCompletion}
 use Rattle.uas_profile.specs.Doors.{answer_doors, submission_doors}
 use Rattle.uas_profile.specs.declared.Pipe.{Pipe}
-use Rattle.uas_profile.specs.declared.TheConstants.{ENGINE_RING_PLACES}
+use Rattle.uas_profile.specs.declared.TheConstants.{ENGINE_RING_PLACES, SLOT}
 use Rattle.uas_profile.specs.declared.Pipe.TheVariants.{Command as CommandPipe, Status, DataIn, DataOut}
 use Rattle.stream_array.specs.Contexts.{context_text, has_stream}
 use Rattle.stream_array.specs.Map.{places_of, spot_at}
 use Rattle.stream_array.specs.Rings.{consumer_end, ring_of}
 use Rattle.frame_store.specs.Buffers.{bytes_at, left_at, written}
 use Rattle.frame_store.specs.declared.TagBuffers.{TagBuffers}
-use Rattle.uas_host.specs.declared.Handled.{Handled}
 use Rattle.uas_host.specs.Events.{Sides, event_doors, handled}
 use Rattle.uas_host.specs.Replies.{replied}
 use Rattle.uas_host.specs.Retirement.{is_held, retirement_for, stop_trb, with_engine_command, with_retirement}
@@ -28,7 +28,9 @@ use Rattle.uas_driver.specs.declared.Refusal.TheVariants.{BadTicket, NoRoom, Bad
 use Rattle.uas_driver.specs.Driver.{DriverState}
 use Rattle.uas_driver.specs.Places.{place_read}
 use Rattle.uas_driver.specs.Room.{has_engine_room, lacks_room, lacks_task_room}
-use Rattle.uas_driver.specs.Settled.{settled}
+use Rattle.uas_driver.specs.Settled.{completed, pending_place}
+use Rattle.uas_driver.specs.Taking.{strayed, transferred, with_sides}
+use Rattle.uas_driver.specs.declared.Taken.{Taken}
 
 -- the driver after a call, what the call answers, and the doorbells
 abbrev pub After : Type 0 → Type 0
@@ -43,12 +45,17 @@ refused driver refusal = (driver, Err refusal, [])
 abbrev pub is_ticket : ℕ → Bool
 is_ticket ticket = nat_lt ticket (2 ^ 60)
 
+-- no byte of a new command was moved yet
+abbrev pub none_moved : List ℕ → ℕ → List ℕ
+none_moved moved tag = if has_stream tag then slice_set moved tag 0 else moved
+
 abbrev pub submitted_to : DriverState → ℕ → ℕ → ℕ → Command → After (Result (Unit {0}) Refusal)
 submitted_to driver client tag ticket command = (
-  record {
+  record driver {
     host = submitted driver.host client tag ticket command.op;
     lines = pushed driver.lines tag command.op;
     frames = lent driver.frames client tag command;
+    moved = none_moved driver.moved tag;
   },
   Ok tt,
   submission_doors (is_held driver.host) (direction_of command.op) tag,
@@ -65,7 +72,7 @@ submit_by driver client tag ticket command =
 
 abbrev pub managed_to : DriverState → ℕ → ℕ → Task → After (Result (Unit {0}) Refusal)
 managed_to driver client ticket task = (
-  record {
+  record driver {
     host = managed driver.host client ticket task;
     lines = pushed_task driver.lines (task_tag client);
     frames = with_task_unit driver.frames client task;
@@ -95,16 +102,25 @@ retire_by driver pipe tag =
 
 -- EVENTS AND REPLIES
 
--- what an event may change, once the rings are as the controller must have left them
-abbrev pub settled_sides : DriverState → Event → Sides
-settled_sides driver event = record { host = driver.host; lines = settled driver.lines event }
+-- a command completion event of the pending command at its pointer is the host's, once the rings are as the controller must have left them
+abbrev pub with_completed : DriverState → Event → Sides → After Taken
+with_completed driver event sides =
+    let made = with_sides driver (handled sides driver.frames event) in (made.0, made.1, event_doors sides event)
 
-abbrev pub handled_to : DriverState → Event → Sides × Handled → After Handled
-handled_to driver event made =
-    (record driver { host = made.0.host; lines = made.0.lines }, made.1, event_doors (settled_sides driver event) event)
+abbrev pub without_doors : DriverState × Taken → After Taken
+without_doors made = (made.0, made.1, [])
 
-abbrev pub event_by : DriverState → Event → After Handled
-event_by driver event = handled_to driver event (handled (settled_sides driver event) driver.frames event)
+-- A command completion event, by its pointer, its code and its slot. It is stray where no command is pending at its pointer, and where its
+-- slot is another's.
+abbrev pub commanded : DriverState → ℕ → ℕ → ℕ → After Taken
+commanded driver pointer code slot =
+    if slot == SLOT && is_some (pending_place ENGINE_RING_PLACES driver.lines.engine pointer)
+    then with_completed driver (CommandCompletion pointer code slot) (record { host = driver.host; lines = completed driver.lines pointer code })
+    else without_doors (strayed driver)
+
+abbrev pub event_by : DriverState → Event → After Taken
+event_by driver (Transfer pointer residual code endpoint slot) = without_doors (transferred driver pointer residual code endpoint slot)
+event_by driver (CommandCompletion pointer code slot) = commanded driver pointer code slot
 
 -- the reply of a client that was ready first, if there is one
 abbrev pub reply_by : DriverState → ℕ → DriverState × Option Reply

@@ -1,15 +1,19 @@
 -- The driver: host, rings and buffers, and no controller.
-use Rattle.std.specs.Prelude.{◌≡◌, ℕ, List}
+use Rattle.std.specs.Prelude.{◌≡◌, ℕ, List, replicate}
+use Rattle.uas_profile.specs.declared.TheConstants.{STREAM_ENTRIES}
 use Rattle.stream_array.specs.Rings.{LinesState, IsOpeningLines}
 use Rattle.frame_store.specs.declared.TagBuffers.{TagBuffers}
 use Rattle.frame_store.specs.Buffers.{opening as opening_frames}
 use Rattle.uas_host.specs.State.{HostState, opening as opening_host}
 
--- what the host knows of its clients, all rings and contexts, and the buffers of each tag
+-- what the host knows of its clients, all rings and contexts, the buffers of each tag, how many bytes of its data TD were moved by tag,
+-- and how many events were stray
 pub record DriverState : Type 0 where
   pub host : HostState
   pub lines : LinesState
   pub frames : List TagBuffers
+  pub moved : List ℕ
+  pub strays : ℕ
 
 -- At the start no client has submitted anything, every ring is empty at its address with cycle state 1, all buffers are zeros and
 -- nothing is lent.
@@ -17,3 +21,5 @@ pub record IsOpening (clients : ℕ) (driver : DriverState) : Type 0 where
   pub host : driver.host ≡ opening_host clients
   pub lines : IsOpeningLines driver.lines
   pub frames : driver.frames ≡ opening_frames
+  pub moved : driver.moved ≡ replicate STREAM_ENTRIES 0
+  pub strays : driver.strays ≡ 0

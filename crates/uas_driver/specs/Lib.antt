@@ -2,5 +2,7 @@
 pub mod Driver
 pub mod Room
 pub mod Settled
+pub mod Meaning
+pub mod Taking
 pub mod Places
 pub mod Calls

@@ -1,9 +1,9 @@
 //! What clients ask for: commands, task managements, retirements and replies.
 ghost use Rattle.std.specs.Prelude.{◌≡◌, IfErr};
 ghost use Rattle.std.specs.Result.{result_map_both};
-ghost use Rattle.uas_driver.specs.Calls.{reply_by, retire_by, submit_by, task_by};
+ghost use Rattle.uas_driver.specs.Calls.{none_moved, reply_by, retire_by, submit_by, task_by};
 
-use crate::room::{has_engine_room, lacks_room, lacks_task_room, sound};
+use crate::room::{has_engine_room, has_stream, lacks_room, lacks_task_room, sound};
 use crate::{Driver, Refusal};
 use arrayvec::ArrayVec;
 use scsi_cmd::{Command, Reply, Task};
@@ -12,6 +12,15 @@ use uas_profile::STREAM_ENTRIES;
 
 /// The first number that is no ticket.
 const TICKETS: u64 = 1 << 60;
+
+/// No byte of a new command was moved yet.
+fn forget_moved(moved: &mut [u32; STREAM_ENTRIES], tag: u16)
+    ensures { moved.new ≡ none_moved moved.old tag }
+{
+    if has_stream(tag) {
+        moved[tag as usize] = 0;
+    }
+}
 
 impl Driver {
     /// Submits a client's command under one of its command tags: its unit, its vector and its TDs are where the controller beyond finds
@@ -47,7 +56,10 @@ impl Driver {
             ticket,
             command,
         ) {
-            Ok(()) => Ok(()),
+            Ok(()) => {
+                forget_moved(&mut self.moved, tag);
+                Ok(())
+            }
             Err((fault, command)) => Err((Refusal::Fault(fault), command)),
         }
     }

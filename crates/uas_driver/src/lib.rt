@@ -42,9 +42,13 @@ ghost use Rattle.uas_host.specs.State.{client_of};
 ghost use Rattle.uas_driver.specs.Driver.{IsOpening};
 
 mod calls;
+mod codes;
 mod events;
 mod memory;
+mod rings;
 mod room;
+mod taking;
+
 
 use frame_store::Frames;
 use scsi_cmd::SubmitFault;
@@ -52,8 +56,9 @@ use std::alloc::{AllocError, Global};
 use std::marker::Model;
 use stream_array::{Lines, Pipe};
 use thiserror::Error;
+pub use codes::meaning_of;
 use uas_host::Host;
-use uas_profile::MAX_CLIENTS;
+use uas_profile::{MAX_CLIENTS, STREAM_ENTRIES};
 
 /// Want of memory, the one refusal of a constructor.
 pub type NoMemory = AllocError;
@@ -78,12 +83,46 @@ pub enum Refusal {
     Fault(SubmitFault),
 }
 
+/// What a transfer event means for the TRB at its pointer (xHCI 4.10.1, 4.6.9 and table 6-90).
+#[derive(Clone, Copy, Debug, PartialEq, Eq)]
+pub enum Meaning {
+    /// The TRB is consumed, and those of its TD before it.
+    Consumed,
+    /// The TRB isn't consumed: its endpoint is being stopped, and the TD goes on after a doorbell.
+    NotConsumed,
+    /// The TD has ended, and not all of it was moved.
+    EndedShort,
+    /// The TD failed. Its endpoint is halted, or runs on.
+    Failed {
+        halted: bool,
+    },
+    /// Nothing.
+    Stray,
+}
+
+/// What the driver made of an event.
+#[derive(Clone, Copy, Debug, PartialEq, Eq)]
+pub enum Taken {
+    /// It ended a TD of this tag.
+    Matched(u16),
+    /// It was of the command under way on the controller's command ring.
+    Engine,
+    /// It was of a TD or of a command that isn't over by it.
+    Noted,
+    /// It was of nothing that is pending. Nothing changed, but that it is counted.
+    Stray,
+}
+
 /// A host, rings and buffers.
 #[derive(Debug, Drop)]
 pub struct Driver {
     host: Host,
     lines: Lines,
     frames: Frames,
+    /// How many bytes of its data TD were moved, by each tag.
+    moved: [u32; STREAM_ENTRIES],
+    /// How many events were stray.
+    strays: u64,
 }
 
 impl Model for Driver {
@@ -91,7 +130,13 @@ impl Model for Driver {
 
     ghost Value = { DriverState };
 
-    ghost view = { λ driver. record { host = driver.host; lines = driver.lines; frames = driver.frames } };
+    ghost view = { λ driver. record {
+      host = driver.host;
+      lines = driver.lines;
+      frames = driver.frames;
+      moved = driver.moved;
+      strays = driver.strays;
+    } };
 }
 
 impl Driver {
@@ -106,6 +151,8 @@ impl Driver {
             host: Host::new(alloc, clients)?,
             lines: Lines::new(alloc)?,
             frames: Frames::new(alloc)?,
+            moved: [0; STREAM_ENTRIES],
+            strays: 0,
         })
     }
 
@@ -114,6 +161,13 @@ impl Driver {
         ensures { result ≡ length self.now.host.clients }
     {
         self.host.clients()
+    }
+
+    /// How many events were stray.
+    pub fn strays(&self) -> u64
+        ensures { result ≡ self.now.strays }
+    {
+        self.strays
     }
 
     /// Whether a reply is ready for a client. None is for a client that isn't there.

@@ -1,15 +1,14 @@
 //! The driver's door, what its numbers name, and what is told by it.
 ghost use Rattle.std.specs.Prelude.{◌≡◌, ◌==◌, false};
 ghost use Rattle.c_faults.specs.declared.TheConstants.{NO_MEMORY};
-ghost use Rattle.uas_c.specs.DriverCall.{driver_call, driver_refusal, event_named, with_doorbells, with_handled, with_next, with_reply};
+ghost use Rattle.uas_c.specs.DriverCall.{driver_call, driver_refusal, event_named, with_doorbells, with_next, with_reply, with_taken};
 
 use crate::client::{ToldReply, client_fault};
 use arrayvec::ArrayVec;
 use c_common::UasOperation;
 use c_faults::{CLIENT_TICKET, DRIVER_ADDRESS, DRIVER_RING, DRIVER_ROOM};
 use event_ring::Event;
-use uas_driver::Refusal;
-use uas_host::Handled;
+use uas_driver::{Refusal, Taken};
 use uas_iu::MAX_SENSE_BYTES;
 use uas_profile::STREAM_ENTRIES;
 
@@ -39,7 +38,8 @@ pub struct UasDriverDoor {
     pub pipe: u8,
     /// Of TASK: 1 ABORT TASK of `tag`, 8 LOGICAL UNIT RESET, 80h QUERY TASK of `tag`.
     pub function: u8,
-    /// Out of RETIRE, LEFT_OVER and REPLY: 0 or 1. Out of EVENT: 0 stray, 1 matched, 2 of the command under way.
+    /// Out of RETIRE, LEFT_OVER and REPLY: 0 or 1. Out of EVENT: 0 stray, 1 matched, 2 of the command under
+    /// way, 3 noted.
     pub acted: u8,
     /// Of EVENT: the type of its TRB, 32 or 33. It is `type` in C.
     pub kind: u8,
@@ -150,17 +150,18 @@ pub(crate) fn show_next(door: &mut UasDriverDoor, next: Option<u16>)
     }
 }
 
-/// Tells what the host made of an event.
-pub(crate) fn show_handled(door: &mut UasDriverDoor, handled: Handled)
-    ensures { door.new ≡ with_handled door.old handled }
+/// Tells what the driver made of an event.
+pub(crate) fn show_taken(door: &mut UasDriverDoor, taken: Taken)
+    ensures { door.new ≡ with_taken door.old taken }
 {
-    match handled {
-        Handled::Matched(tag) => {
+    match taken {
+        Taken::Matched(tag) => {
             door.acted = 1;
             door.tag = tag;
         }
-        Handled::Engine => door.acted = 2,
-        Handled::Stray => door.acted = 0,
+        Taken::Engine => door.acted = 2,
+        Taken::Noted => door.acted = 3,
+        Taken::Stray => door.acted = 0,
     }
 }
 

@@ -1,15 +1,10 @@
 -- What a controller may post for the TRBs that the host puts, and what it means (xHCI 1.2, 4.6.9, 4.10.1 and table 6-90).
-use Rattle.std.specs.Prelude.{ℕ, ◌+◌, ◌-◌, ◌%◌, ◌==◌, ◌&&◌, min, Bool, true, false, if◌then◌else◌, List, [], ◌∷◌, Option, Some, None}
-use Rattle.std.specs.Option.{option_map_or}
+use Rattle.std.specs.Prelude.{ℕ, ◌+◌, ◌-◌, ◌%◌, ◌==◌, min, Bool, true, false, if◌then◌else◌, List, [], ◌∷◌, Option, Some, None}
 use Rattle.xhci_trb.specs.declared.Trb.{Trb}
 use Rattle.xhci_trb.specs.declared.Trb.TheVariants.{Normal}
-use Rattle.uas_profile.specs.Pipes.{same_pipe}
 use Rattle.uas_profile.specs.declared.Pipe.{Pipe}
 use Rattle.uas_profile.specs.declared.Pipe.TheVariants.{Command, Status, DataIn, DataOut}
 use Rattle.uas_profile.specs.declared.TheConstants.{WINDOW_BYTES, WINDOW_SPAN}
-use Rattle.uas_host.specs.State.{HostState}
-use Rattle.uas_host.specs.declared.RetirementStage.{RetirementStage}
-use Rattle.uas_host.specs.declared.RetirementStage.TheVariants.{Stopping, Moving}
 use Rattle.uas_driver.specs.declared.Meaning.{Meaning}
 use Rattle.uas_driver.specs.declared.Meaning.TheVariants.{Consumed, NotConsumed, EndedShort, Failed, Stray}
 
@@ -39,15 +34,6 @@ meaning pipe stopping =
     meaning_in ((1, Consumed) ∷ (2, Failed false) ∷ (3, Failed true) ∷ (4, Failed true) ∷ (5, Failed true) ∷ (6, Failed true) ∷ (8, Failed true)
     ∷ (10, Failed true) ∷ (13, short_on pipe) ∷ (16, Failed true) ∷ (26, stopped_if stopping) ∷ (27, stopped_if stopping)
     ∷ (28, stopped_if stopping) ∷ (34, Failed true) ∷ (36, Failed true) ∷ [])
-
--- the retirement under way waits for Stop Endpoint
-abbrev pub is_stop : RetirementStage → Bool
-is_stop Stopping = true
-is_stop Moving = false
-
--- a pipe is being stopped
-abbrev pub is_stopping : HostState → Pipe → Bool
-is_stopping host pipe = option_map_or (λ retirement. same_pipe retirement.pipe pipe && is_stop retirement.stage) host.retirement false
 
 -- BYTES
 

@@ -1,16 +1,18 @@
 -- The rings as the controller must have left them where it posts an event (xHCI 1.2, 4.6 and 4.11.3): no controller beyond tells
 -- where a ring's consumer stands but by its events.
 use Rattle.std.specs.Prelude.{ℕ, ◌+◌, ◌-◌, ◌*◌, ◌==◌, ◌&&◌, nat_le, nat_lt, Bool, true, false, not, if◌then◌else◌, length, Option, None, Some, option_and_then, slice_get, is_some}
-use Rattle.std.specs.Option.{option_map_or}
+use Rattle.std.specs.List.{find, range_with_len}
+use Rattle.std.specs.Option.{option_map_or, unwrap_or}
 use Rattle.xhci_trb.specs.declared.Trb.{Trb}
 use Rattle.xhci_trb.specs.declared.Trb.TheVariants.{Normal, Link, StopEndpoint, SetDequeue, TransferEvent, CommandEvent}
 use Rattle.cycle_ring.specs.Ring.{cycle_of, item_at, pointer_of}
-use Rattle.cycle_ring.specs.Items.{ItemRing, known_of}
+use Rattle.cycle_ring.specs.Items.{ItemRing, known_front_of, known_of}
 use Rattle.uas_profile.specs.declared.Pipe.{Pipe}
-use Rattle.uas_profile.specs.declared.Pipe.TheVariants.{Status, DataIn, DataOut}
-use Rattle.uas_profile.specs.declared.TheConstants.{STREAM_RING_PLACES, ENGINE_RING_PLACES, SUCCESS, STATUS_ENDPOINT, DATA_OUT_ENDPOINT, DATA_IN_ENDPOINT}
+use Rattle.uas_profile.specs.declared.Pipe.TheVariants.{Command, Status, DataIn, DataOut}
+use Rattle.uas_profile.specs.declared.TheConstants.{STREAMS, STREAM_RING_PLACES, ENGINE_RING_PLACES, SUCCESS, STATUS_ENDPOINT, DATA_OUT_ENDPOINT, DATA_IN_ENDPOINT}
 use Rattle.stream_array.specs.Contexts.{has_stream}
 use Rattle.stream_array.specs.Map.{places_of, ring_base}
+use Rattle.uas_host.specs.Events.{command_tag}
 use Rattle.uas_host.specs.Retirement.{has_pending}
 use Rattle.stream_array.specs.Rings.{LinesState, ring_of, with_engine, with_ring}
 
@@ -55,6 +57,37 @@ address_before base enqueue = if enqueue == base then base + 16 * (STREAM_RING_P
 abbrev pub last_address : LinesState → Pipe → ℕ → ℕ
 last_address lines pipe stream =
     address_before (ring_base pipe stream) (pointer_of (places_of pipe) (ring_of lines pipe stream) (length (ring_of lines pipe stream).put))
+
+-- THE FIRST TD OF A PIPE
+
+-- the first stream of a pipe that has a pending TRB
+unfoldable pub first_pending : LinesState → Pipe → Option ℕ
+first_pending lines pipe = find (λ stream. has_pending (ring_of lines pipe stream)) (range_with_len 1 STREAMS)
+
+-- the stream at which a pipe's endpoint goes on: its first one that waits, or stream 1
+abbrev pub first_stream : LinesState → Pipe → ℕ
+first_stream lines Command = 0
+first_stream lines Status = unwrap_or (first_pending lines Status) 1
+first_stream lines DataIn = unwrap_or (first_pending lines DataIn) 1
+first_stream lines DataOut = unwrap_or (first_pending lines DataOut) 1
+
+-- the tag of the TRB at the front of the command pipe
+abbrev pub front_tag : LinesState → Option ℕ
+front_tag lines = option_and_then (λ front. command_tag front.1) (known_front_of (places_of Command) lines.command)
+
+-- the tag of the first TD that is pending on a pipe
+abbrev pub first_td : LinesState → Pipe → Option ℕ
+first_td lines Command = front_tag lines
+first_td lines Status = first_pending lines Status
+first_td lines DataIn = first_pending lines DataIn
+first_td lines DataOut = first_pending lines DataOut
+
+-- the tag of the TD of the TRB at which a ring's consumer stands
+abbrev pub td_tag : LinesState → Pipe → ℕ → Option ℕ
+td_tag lines Command stream = front_tag lines
+td_tag lines Status stream = Some stream
+td_tag lines DataIn stream = Some stream
+td_tag lines DataOut stream = Some stream
 
 -- COMMAND COMPLETION EVENTS
 

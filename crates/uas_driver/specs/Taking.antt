@@ -1,20 +1,20 @@
 -- What the driver makes of an event (xHCI 1.2, 4.10.1 and table 6-90): the rings as the event leaves them, what the host is handed for it,
 -- and what of it is kept.
-use Rattle.std.specs.Prelude.{ℕ, ◌+◌, ◌-◌, ◌^◌, ◌==◌, ◌&&◌, min, Bool, true, false, if◌then◌else◌, List, [], slice_set, Option, Some, None, option_and_then}
+use Rattle.std.specs.Prelude.{ℕ, Bool, true, false, if◌then◌else◌, List, [], slice_set, Option, Some, None, option_and_then}
 use Rattle.std.specs.Option.{option_map_or}
 use Rattle.cycle_ring.specs.Items.{known_front_of}
-use Rattle.uas_profile.specs.Pipes.{target_of}
 use Rattle.uas_profile.specs.declared.Pipe.{Pipe}
 use Rattle.uas_profile.specs.declared.Pipe.TheVariants.{Command, Status, DataIn, DataOut}
-use Rattle.uas_profile.specs.declared.TheConstants.{SHORT_PACKET, SLOT, SUCCESS}
-use Rattle.stream_array.specs.Map.{places_of, spot_at}
+use Rattle.uas_profile.specs.declared.TheConstants.{SHORT_PACKET, SUCCESS}
+use Rattle.stream_array.specs.Map.{places_of}
 use Rattle.stream_array.specs.Rings.{LinesState, ring_of}
 use Rattle.uas_host.specs.Events.{Sides, ended_at, handled_td}
 use Rattle.uas_host.specs.declared.Handled.{Handled}
 use Rattle.uas_host.specs.declared.Handled.TheVariants as hosts
+use Rattle.uas_driver.specs.Counted.{counted}
 use Rattle.uas_driver.specs.Driver.{DriverState}
-use Rattle.uas_driver.specs.Meaning.{is_stopping, meaning, moved_by}
-use Rattle.uas_driver.specs.Settled.{all_passed, is_pending_at, last_address, stepped, stood}
+use Rattle.uas_driver.specs.Meaning.{moved_by}
+use Rattle.uas_driver.specs.Settled.{all_passed, last_address, stepped}
 use Rattle.uas_driver.specs.declared.Meaning.{Meaning}
 use Rattle.uas_driver.specs.declared.Meaning.TheVariants as means
 use Rattle.uas_driver.specs.declared.Taken.{Taken}
@@ -22,9 +22,6 @@ use Rattle.uas_driver.specs.declared.Taken.TheVariants.{Matched, Engine, Noted, 
 use Rattle.uas_driver.specs.declared.taking.Handing.{Handing}
 
 -- a stray event changes nothing, but that it is counted
-abbrev pub counted : ℕ → ℕ
-counted strays = min (strays + 1) (2 ^ 64 - 1)
-
 abbrev pub strayed : DriverState → DriverState × Taken
 strayed driver = (record driver { strays = counted driver.strays }, Stray)
 
@@ -93,37 +90,3 @@ with_told driver pipe stream code residual =
     if is_data pipe
     then with_moved driver stream (option_and_then (λ front. moved_by front.1 code residual) (known_front_of (places_of pipe) (ring_of driver.lines pipe stream)))
     else driver
-
--- ALL TOGETHER
-
--- the driver whose ring's consumer stands at the event's TRB, once the event said this of it
-abbrev pub told : DriverState → Pipe → ℕ → ℕ → ℕ → Meaning → DriverState × Taken
-told driver pipe stream pointer residual meaning =
-    handed (record driver { lines = lines_by driver.lines pipe stream meaning }) (handing_by driver.lines pipe stream pointer residual meaning)
-
--- a meaning that is of a TRB
-abbrev pub is_told : Meaning → Bool
-is_told means.Stray = false
-is_told _ = true
-
--- the event is of this pipe's endpoint, and of the device's slot
-abbrev pub is_from : Pipe → ℕ → ℕ → Bool
-is_from pipe endpoint slot = endpoint == target_of pipe && slot == SLOT
-
-abbrev pub told_on : DriverState → ℕ → ℕ → ℕ → Meaning → Pipe → ℕ → DriverState × Taken
-told_on driver pointer residual code meaning pipe stream =
-    if is_told meaning && is_pending_at driver.lines pipe stream pointer
-    then told (with_told (record driver { lines = stood driver.lines pipe stream pointer }) pipe stream code residual) pipe stream pointer residual meaning
-    else strayed driver
-
--- the same of an event from an endpoint and a slot: from another one it is stray
-abbrev pub told_from : DriverState → ℕ → ℕ → ℕ → ℕ → ℕ → Pipe → ℕ → DriverState × Taken
-told_from driver pointer residual code endpoint slot pipe stream =
-    if is_from pipe endpoint slot then told_on driver pointer residual code (meaning pipe (is_stopping driver.host pipe) code) pipe stream
-    else strayed driver
-
--- A transfer event, by its pointer, its residual, its code, its endpoint and its slot. It is stray where its pointer is no pending
--- TRB's, where endpoint or slot is another's, and where its code says nothing of a TRB.
-abbrev pub transferred : DriverState → ℕ → ℕ → ℕ → ℕ → ℕ → DriverState × Taken
-transferred driver pointer residual code endpoint slot =
-    option_map_or (λ at. told_from driver pointer residual code endpoint slot at.0 at.1) (strayed driver) (spot_at pointer)

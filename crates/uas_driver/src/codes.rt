@@ -1,11 +1,10 @@
 //! What a transfer event means, and how many bytes it says were moved.
 ghost use Rattle.std.specs.Prelude.{◌≡◌, ◌≤◌, ◌-◌, IfSome};
 ghost use Rattle.uas_profile.specs.declared.TheConstants.{WINDOW_BYTES};
-ghost use Rattle.uas_driver.specs.Meaning.{in_window, is_stopping, meaning, moved_by, moved_up_to, short_on, stopped_if};
+ghost use Rattle.uas_driver.specs.Meaning.{in_window, meaning, moved_by, moved_up_to, short_on, stopped_if};
 
 use crate::Meaning;
 use stream_array::Pipe;
-use uas_host::{Host, RetirementStage};
 use uas_profile::{SHORT_PACKET, SUCCESS, WINDOW_BYTES, WINDOW_SPAN};
 use xhci_trb::Trb;
 
@@ -52,19 +51,6 @@ pub fn meaning_of(pipe: Pipe, stopping: bool, code: u8) -> Meaning
     }
 }
 
-/// Whether a pipe is being stopped.
-pub(crate) fn is_stopping(host: &Host, pipe: Pipe) -> bool
-    ensures { result ≡ is_stopping host.now pipe }
-{
-    match host.retirement() {
-        Some(retirement) => {
-            retirement.pipe.number() == pipe.number()
-                && matches!(retirement.stage, RetirementStage::Stopping)
-        }
-        None => false,
-    }
-}
-
 /// So many bytes, but no more than a window has.
 fn in_window(bytes: u64) -> u32
     ensures { result ≡ in_window bytes }
@@ -84,7 +70,9 @@ pub(crate) fn moved_by(trb: &Trb, code: u8, residual: u32) -> Option<u32>
     ensures { result ≡ moved_by trb.now code residual }
 {
     let Trb::Normal {
-        pointer, length, ..
+        pointer,
+        length,
+        ..
     } = *trb
     else {
         return None;

@@ -43,20 +43,26 @@ ghost use Rattle.uas_driver.specs.Driver.{IsOpening};
 
 mod calls;
 mod codes;
+mod endings;
 mod events;
 mod memory;
+mod recovery;
 mod rings;
 mod room;
+mod states;
+mod steps;
 mod taking;
+mod telling;
 
-
+use crate::states::{End, Endpoints, Recovery};
+use arrayvec::ArrayVec;
+pub use codes::meaning_of;
 use frame_store::Frames;
-use scsi_cmd::SubmitFault;
+use scsi_cmd::{Buffer, MAX_SENSE_BYTES, SubmitFault};
 use std::alloc::{AllocError, Global};
 use std::marker::Model;
 use stream_array::{Lines, Pipe};
 use thiserror::Error;
-pub use codes::meaning_of;
 use uas_host::Host;
 use uas_profile::{MAX_CLIENTS, STREAM_ENTRIES};
 
@@ -93,9 +99,7 @@ pub enum Meaning {
     /// The TD has ended, and not all of it was moved.
     EndedShort,
     /// The TD failed. Its endpoint is halted, or runs on.
-    Failed {
-        halted: bool,
-    },
+    Failed { halted: bool },
     /// Nothing.
     Stray,
 }
@@ -113,6 +117,60 @@ pub enum Taken {
     Stray,
 }
 
+/// What an endpoint does (xHCI 4.8.3).
+#[derive(Clone, Copy, Debug, PartialEq, Eq)]
+pub enum EndpointState {
+    Running,
+    /// Halted, or in state Error.
+    Halted,
+    Stopped,
+}
+
+/// Why the driver ended a command itself.
+#[derive(Clone, Copy, Debug, PartialEq, Eq)]
+pub enum Cause {
+    /// One of its TDs failed, with this completion code.
+    Failed(u8),
+    /// Its client gave it up.
+    GivenUp,
+}
+
+/// What a submission came to. `moved` is how many bytes of its data TD the controller beyond told to be moved.
+#[derive(Debug, Drop)]
+pub enum Answer {
+    /// A command's status (GOOD without sense, else CHECK CONDITION), and its buffer as filled.
+    Status {
+        tag: u16,
+        ticket: u64,
+        status: u8,
+        sense: ArrayVec<u8, MAX_SENSE_BYTES>,
+        buffer: Buffer,
+        moved: u32,
+    },
+    /// A command that a task management ended or that its client gave up, and its buffer as filled so far.
+    Aborted {
+        tag: u16,
+        ticket: u64,
+        buffer: Buffer,
+        moved: u32,
+    },
+    /// A command, or a task management, of which a TD failed with this completion code before the device's answer came; a command's
+    /// buffer as filled so far.
+    Failed {
+        tag: u16,
+        ticket: u64,
+        code: u8,
+        buffer: Option<Buffer>,
+        moved: u32,
+    },
+    /// The response code of a task management.
+    Task {
+        tag: u16,
+        ticket: u64,
+        code: u8,
+    },
+}
+
 /// A host, rings and buffers.
 #[derive(Debug, Drop)]
 pub struct Driver {
@@ -123,6 +181,13 @@ pub struct Driver {
     moved: [u32; STREAM_ENTRIES],
     /// How many events were stray.
     strays: u64,
+    /// Why the command of a tag is ended, where it is.
+    ends: [Option<End>; STREAM_ENTRIES],
+    /// How many are.
+    ending: usize,
+    endpoints: Endpoints,
+    /// The recovery that is under way, the host's own retirement too.
+    recovery: Option<Recovery>,
 }
 
 impl Model for Driver {
@@ -136,6 +201,10 @@ impl Model for Driver {
       frames = driver.frames;
       moved = driver.moved;
       strays = driver.strays;
+      ends = driver.ends;
+      ending = driver.ending;
+      endpoints = driver.endpoints;
+      recovery = driver.recovery;
     } };
 }
 
@@ -153,6 +222,15 @@ impl Driver {
             frames: Frames::new(alloc)?,
             moved: [0; STREAM_ENTRIES],
             strays: 0,
+            ends: [None; STREAM_ENTRIES],
+            ending: 0,
+            endpoints: Endpoints {
+                command: EndpointState::Running,
+                status: EndpointState::Running,
+                data_in: EndpointState::Running,
+                data_out: EndpointState::Running,
+            },
+            recovery: None,
         })
     }
 

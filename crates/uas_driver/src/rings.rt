@@ -1,20 +1,21 @@
 //! The rings as the controller beyond must have left them where it posts an event.
-ghost use Rattle.std.specs.Prelude.{◌≡◌, Some, IfSome, is_some, option_and_then, slice_get, length};
+ghost use Rattle.std.specs.Prelude.{◌≡◌, ◌≤◌, Some, IfSome, is_some, option_and_then, slice_get, length};
 ghost use Rattle.std.specs.Option.{option_map_or};
-ghost use Rattle.uas_profile.specs.declared.TheConstants.{ENGINE_RING_PLACES};
+ghost use Rattle.uas_profile.specs.declared.TheConstants.{ENGINE_RING_PLACES, STREAMS};
 ghost use Rattle.uas_profile.specs.Pipes.{HasStreams};
 ghost use Rattle.stream_array.specs.Map.{HasRing, places_of};
 ghost use Rattle.cycle_ring.specs.Items.{known_of};
 ghost use Rattle.stream_array.specs.Rings.{ring_of, with_engine, with_ring};
 ghost use Rattle.uas_driver.specs.Settled.{all_passed, completed, engine_passed, executed, is_pending_at, last_address, moved_at, moved_on};
-ghost use Rattle.uas_driver.specs.Settled.{pending_place, pipe_at, stepped, stood};
+ghost use Rattle.uas_driver.specs.Settled.{first_pending, first_stream, first_td, front_tag, pending_place, pipe_at, stepped, stood, td_tag};
+ghost use Rattle.uas_host.specs.Events.{command_tag, tag_at_buffer};
 
 use crate::room::has_stream;
 use cycle_ring::laws::addresses_name_items;
 use stream_array::{Lines, Pipe};
 use uas_profile::{
-    DATA_IN_ENDPOINT, DATA_OUT_ENDPOINT, PIPE_SPAN, RINGS, STATUS_ENDPOINT, STREAM_RING_PLACES,
-    STREAM_SPAN, SUCCESS,
+    BUFFER_SPAN, COMMAND_BUFFERS, DATA_IN_ENDPOINT, DATA_OUT_ENDPOINT, PIPE_SPAN, RINGS,
+    STATUS_ENDPOINT, STREAM_RING_PLACES, STREAM_SPAN, STREAMS, SUCCESS,
 };
 use xhci_trb::Trb;
 
@@ -57,8 +58,7 @@ pub(crate) fn last_address(lines: &Lines, pipe: Pipe, stream: u16) -> u64
     requires { HasRing pipe stream }
     ensures { result ≡ last_address lines.now pipe stream }
 {
-    let base =
-        RINGS + PIPE_SPAN * u64::from(pipe.number()) + STREAM_SPAN * u64::from(stream);
+    let base = RINGS + PIPE_SPAN * u64::from(pipe.number()) + STREAM_SPAN * u64::from(stream);
     let (pointer, _) = lines.place(pipe, stream);
     if pointer == base {
         base + 16 * (STREAM_RING_PLACES as u64 - 2)
@@ -150,4 +150,89 @@ pub(crate) fn complete(lines: &mut Lines, pointer: u64, code: u8) -> bool
         execute(lines, command);
     }
     true
+}
+
+/// The first stream of a pipe that has a pending TRB.
+pub(crate) fn first_pending(lines: &mut Lines, pipe: Pipe) -> Option<u16>
+    requires { HasStreams pipe }
+    ensures lines { lines.new ≡ lines.old }
+    ensures first { result ≡ first_pending lines.old pipe }
+    ensures known { IfSome result (λ stream. (1 ≤ stream) × (stream ≤ STREAMS)) }
+{
+    lines.next_pending(pipe, 1)
+}
+
+/// The stream at which a pipe's endpoint goes on: its first one that waits, or stream 1.
+pub(crate) fn first_stream(lines: &mut Lines, pipe: Pipe) -> u16
+    ensures lines { lines.new ≡ lines.old }
+    ensures stream { result ≡ first_stream lines.old pipe }
+{
+    match pipe {
+        Pipe::Command => 0,
+        Pipe::Status => first_pending(lines, Pipe::Status).unwrap_or(1),
+        Pipe::DataIn => first_pending(lines, Pipe::DataIn).unwrap_or(1),
+        Pipe::DataOut => first_pending(lines, Pipe::DataOut).unwrap_or(1),
+    }
+}
+
+/// The tag at whose command buffer an address is.
+fn tag_at(pointer: u64) -> Option<u16>
+    ensures { result ≡ tag_at_buffer pointer }
+{
+    if pointer < COMMAND_BUFFERS {
+        return None;
+    }
+    let offset = pointer - COMMAND_BUFFERS;
+    if offset % BUFFER_SPAN != 0 {
+        return None;
+    }
+    let tag = offset / BUFFER_SPAN;
+    if 0 < tag && tag <= u64::from(STREAMS) {
+        Some(tag as u16)
+    } else {
+        None
+    }
+}
+
+/// The tag whose command buffer a TRB of the command pipe names.
+fn command_tag(trb: &Trb) -> Option<u16>
+    ensures { result ≡ command_tag trb.now }
+{
+    match *trb {
+        Trb::Normal { pointer, .. } => tag_at(pointer),
+        _ => None,
+    }
+}
+
+/// The tag of the TRB at the front of the command pipe.
+fn front_tag(lines: &Lines) -> Option<u16>
+    ensures { result ≡ front_tag lines.now }
+{
+    match lines.front(Pipe::Command, 0) {
+        Some((_, trb)) => command_tag(&trb),
+        None => None,
+    }
+}
+
+/// The tag of the first TD that is pending on a pipe.
+pub(crate) fn first_td(lines: &mut Lines, pipe: Pipe) -> Option<u16>
+    ensures lines { lines.new ≡ lines.old }
+    ensures tag { result ≡ first_td lines.old pipe }
+{
+    match pipe {
+        Pipe::Command => front_tag(lines),
+        Pipe::Status => first_pending(lines, Pipe::Status),
+        Pipe::DataIn => first_pending(lines, Pipe::DataIn),
+        Pipe::DataOut => first_pending(lines, Pipe::DataOut),
+    }
+}
+
+/// The tag of the TD of the TRB at which a ring's consumer stands.
+pub(crate) fn td_tag(lines: &Lines, pipe: Pipe, stream: u16) -> Option<u16>
+    ensures { result ≡ td_tag lines.now pipe stream }
+{
+    match pipe {
+        Pipe::Command => front_tag(lines),
+        Pipe::Status | Pipe::DataIn | Pipe::DataOut => Some(stream),
+    }
 }

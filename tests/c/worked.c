@@ -1500,11 +1500,19 @@ static void driver_context_is(uas_driver *driver, uint8_t pipe, uint16_t stream,
     CHECK_BYTES(bytes, sizeof bytes, text);
 }
 
+/* The endpoint of the ring that an address is of. */
+static uint8_t endpoint_at(uint64_t address)
+{
+    static const uint8_t endpoints[] = { UAS_ENDPOINT_COMMAND, UAS_ENDPOINT_STATUS, UAS_ENDPOINT_DATA_IN, UAS_ENDPOINT_DATA_OUT };
+    return address >> 24 >= 0x41 && address >> 24 <= 0x44 ? endpoints[(address >> 24) - 0x41] : 0;
+}
+
 /* What an event of this type, at this address, with this residual and code is, and the doorbells that it tells. */
 static struct uas_driver_door took(uas_driver *driver, uint8_t type, uint64_t address, uint32_t residual, uint8_t code, uint8_t what,
                                    const char *doorbells)
 {
-    const struct uas_trb event = { .type = type, .pointer = address, .length = residual, .code = code, .slot = 1 };
+    const struct uas_trb event = { .type = type, .pointer = address, .length = residual, .code = code,
+                                   .endpoint = type == UAS_TRB_TRANSFER_EVENT ? endpoint_at(address) : 0, .slot = 1 };
     struct uas_driver_door told;
     memset(&told, 0xee, sizeof told);
     CHECK(uas_driver_event(driver, &event, &told) == 0);

@@ -3,7 +3,9 @@ use Rattle.std.specs.Prelude.{ℕ, ◌==◌, ◌&&◌, ◌||◌, Bool, true, fal
 use Rattle.std.specs.Option.{option_map_or}
 use Rattle.event_ring.specs.declared.Event.{Event}
 use Rattle.event_ring.specs.declared.Event.TheVariants.{Transfer, Command as CommandCompletion}
-use Rattle.stream_array.specs.Map.{spot_at}
+use Rattle.cycle_ring.specs.Items.{known_consumed_at}
+use Rattle.stream_array.specs.Map.{places_of, spot_at}
+use Rattle.stream_array.specs.Rings.{LinesState, ring_of}
 use Rattle.uas_profile.specs.Pipes.{same_pipe, target_of}
 use Rattle.uas_profile.specs.declared.Pipe.{Pipe}
 use Rattle.uas_profile.specs.declared.Pipe.TheVariants.{Command, Status, DataIn, DataOut}
@@ -74,11 +76,37 @@ is_told _ = true
 abbrev pub is_from : Pipe → ℕ → ℕ → Bool
 is_from pipe endpoint slot = endpoint == target_of pipe && slot == SLOT
 
+-- the driver where the event is of a pending TRB, at which the ring's consumer stands then
+abbrev pub told_pending : DriverState → ℕ → ℕ → ℕ → Meaning → Pipe → ℕ → DriverState × Taken
+told_pending driver pointer residual code meaning pipe stream =
+    told (with_told (record driver { lines = stood driver.lines pipe stream pointer }) pipe stream code residual) pipe stream pointer residual code meaning
+
+-- the event is of a consumed TRB that isn't given back: its TD has begun, and may be over by it
+abbrev pub is_begun_at : LinesState → Pipe → ℕ → ℕ → Bool
+is_begun_at lines pipe stream pointer = is_some (known_consumed_at (places_of pipe) (ring_of lines pipe stream) pointer)
+
+abbrev pub is_noted : Taken → Bool
+is_noted Noted = true
+is_noted _ = false
+
+-- what the host doesn't wait for is stray
+abbrev pub unless_noted : DriverState × Taken → DriverState × Taken
+unless_noted made = if is_noted made.1 then strayed made.0 else made
+
+-- The driver where the event is of a consumed TRB: what ends its TD is handed to the host. An error halts the endpoint all the same.
+abbrev pub told_begun : DriverState → Pipe → ℕ → ℕ → ℕ → Meaning → DriverState × Taken
+told_begun driver pipe stream pointer residual means.Consumed =
+    unless_noted (handed driver (handing_by driver.lines pipe stream pointer residual means.Consumed))
+told_begun driver pipe stream pointer residual means.EndedShort =
+    unless_noted (handed driver (handing_by driver.lines pipe stream pointer residual means.EndedShort))
+told_begun driver pipe stream pointer residual (means.Failed halted) = (halted_if halted driver pipe, Noted)
+told_begun driver pipe stream pointer residual means.NotConsumed = strayed driver
+told_begun driver pipe stream pointer residual means.Stray = strayed driver
+
 abbrev pub told_on : DriverState → ℕ → ℕ → ℕ → Meaning → Pipe → ℕ → DriverState × Taken
 told_on driver pointer residual code meaning pipe stream =
-    if is_told meaning && is_pending_at driver.lines pipe stream pointer
-    then told (with_told (record driver { lines = stood driver.lines pipe stream pointer }) pipe stream code residual) pipe stream pointer residual code meaning
-    else strayed driver
+    if is_told meaning && is_pending_at driver.lines pipe stream pointer then told_pending driver pointer residual code meaning pipe stream
+    else (if is_begun_at driver.lines pipe stream pointer then told_begun driver pipe stream pointer residual meaning else strayed driver)
 
 -- the same of an event from an endpoint and a slot: from another one it is stray
 abbrev pub told_from : DriverState → ℕ → ℕ → ℕ → ℕ → ℕ → Pipe → ℕ → DriverState × Taken
@@ -103,8 +131,8 @@ told_nowhere driver pointer code endpoint slot =
     if names_none pointer code slot
     then option_map_or (λ pipe. (with_state driver pipe Halted, Noted)) (endpoint_pipe endpoint) (strayed driver) else strayed driver
 
--- A transfer event, by its pointer, its residual, its code, its endpoint and its slot. It is stray where its pointer is no pending
--- TRB's, where endpoint or slot is another's, and where its code says nothing of a TRB.
+-- A transfer event, by its pointer, its residual, its code, its endpoint and its slot. It is stray where its pointer is no TRB's
+-- of a TD that is pending or begun, where endpoint or slot is another's, and where its code says nothing of a TRB.
 abbrev pub transferred : DriverState → ℕ → ℕ → ℕ → ℕ → ℕ → DriverState × Taken
 transferred driver pointer residual code endpoint slot =
     option_map_or (λ at. told_from driver pointer residual code endpoint slot at.0 at.1) (spot_at pointer) (told_nowhere driver pointer code endpoint slot)

@@ -74,8 +74,8 @@ impl Driver {
     /// it. A TD that failed is taken off its ring, and the rest of its command's with it, unless the command's status comes before.
     ///
     /// A command completion is of the pending command at its pointer; the recovery that waits for it goes on by its code, and the
-    /// answer is `Engine`. An event whose pointer is no pending item's, whose endpoint or slot is another's, or whose code says nothing
-    /// of a TRB is `Stray`, and changes nothing but [`Driver::strays`]. Worked: the event of the first of two data TRBs of a TD, with
+    /// answer is `Engine`. An event of no TRB of a TD that is pending or begun, of no pending command, of another endpoint or
+    /// slot, or whose code says nothing of a TRB is `Stray`, and changes nothing but [`Driver::strays`]. Worked: the event of the first of two data TRBs of a TD, with
     /// code 1, is `Noted`; that of the second is `Matched`.
     pub fn take_event(&mut self, event: Event, doors: &mut Doors) -> Taken
         ensures { event_by self.old event ≡ (self.new, result, doors.new.items) }

@@ -1,8 +1,9 @@
 //! What is made of a transfer event.
 ghost use Rattle.std.specs.Prelude.{◌≡◌};
 ghost use Rattle.stream_array.specs.Map.{HasRing};
-ghost use Rattle.uas_driver.specs.Telling.{endpoint_pipe, failed, failed_td, halted_if, is_stopping, moved_along, names_none, told, told_from, told_nowhere, told_on};
-ghost use Rattle.uas_driver.specs.Telling.{transferred};
+ghost use Rattle.uas_driver.specs.Telling.{endpoint_pipe, failed, failed_td, halted_if, is_noted, is_stopping, is_told, moved_along, names_none};
+ghost use Rattle.uas_driver.specs.Telling.{told, told_begun, told_from, told_nowhere, told_on, told_pending, transferred, unless_noted};
+ghost use Rattle.uas_driver.specs.Taking.{handed, handing_by, with_told};
 
 use crate::codes::meaning_of;
 use crate::rings::{stand, td_tag};
@@ -38,6 +39,19 @@ fn names_none(pointer: u64, code: u8, slot: u8) -> bool
     pointer == 0
         && (code == TRB_ERROR || code == INVALID_STREAM_TYPE || code == INVALID_STREAM_ID)
         && slot == SLOT
+}
+
+/// Whether a meaning is of a TRB.
+fn is_told(meaning: Meaning) -> bool
+    ensures { result ≡ is_told meaning }
+{
+    !matches!(meaning, Meaning::Stray)
+}
+
+fn is_noted(taken: Taken) -> bool
+    ensures { result ≡ is_noted taken }
+{
+    matches!(taken, Taken::Noted)
 }
 
 impl Driver {
@@ -124,7 +138,73 @@ impl Driver {
         }
     }
 
-    /// The same of the TRB at its pointer, where that is pending.
+    /// The same of the pending TRB at its pointer, at which its ring's consumer stands now.
+    fn tell_pending(
+        &mut self,
+        pointer: u64,
+        residual: u32,
+        code: u8,
+        meaning: Meaning,
+        pipe: Pipe,
+        stream: u16,
+    ) -> Taken
+        requires { HasRing pipe stream }
+        ensures { (self.new, result)
+            ≡ told (with_told self.old pipe stream code residual) pipe stream pointer residual code meaning }
+    {
+        self.keep_moved(pipe, stream, code, residual);
+        self.tell(pipe, stream, pointer, residual, code, meaning)
+    }
+
+    /// Hands the host an event of a consumed TRB; what it doesn't wait for is stray.
+    fn hand_begun(
+        &mut self,
+        pipe: Pipe,
+        stream: u16,
+        pointer: u64,
+        residual: u32,
+        meaning: Meaning,
+    ) -> Taken
+        requires { HasRing pipe stream }
+        ensures { (self.new, result)
+            ≡ unless_noted (handed self.old (handing_by self.old.lines pipe stream pointer residual meaning)) }
+    {
+        let handing = handing_by(&self.lines, pipe, stream, pointer, residual, meaning);
+        let taken = self.hand(handing);
+        if is_noted(taken) {
+            return self.stray();
+        }
+        taken
+    }
+
+    /// The same of the consumed TRB at its pointer.
+    fn tell_begun(
+        &mut self,
+        pipe: Pipe,
+        stream: u16,
+        pointer: u64,
+        residual: u32,
+        meaning: Meaning,
+    ) -> Taken
+        requires { HasRing pipe stream }
+        ensures { (self.new, result) ≡ told_begun self.old pipe stream pointer residual meaning }
+    {
+        match meaning {
+            Meaning::Consumed => {
+                self.hand_begun(pipe, stream, pointer, residual, Meaning::Consumed)
+            }
+            Meaning::EndedShort => {
+                self.hand_begun(pipe, stream, pointer, residual, Meaning::EndedShort)
+            }
+            Meaning::Failed { halted } => {
+                self.halt_if(halted, pipe);
+                Taken::Noted
+            }
+            Meaning::NotConsumed | Meaning::Stray => self.stray(),
+        }
+    }
+
+    /// The same of the TRB at its pointer, where its TD is pending or begun.
     fn tell_on(
         &mut self,
         pointer: u64,
@@ -137,11 +217,14 @@ impl Driver {
         requires { HasRing pipe stream }
         ensures { (self.new, result) ≡ told_on self.old pointer residual code meaning pipe stream }
     {
-        if matches!(meaning, Meaning::Stray) || !stand(&mut self.lines, pipe, stream, pointer) {
-            return self.stray();
+        if is_told(meaning) && stand(&mut self.lines, pipe, stream, pointer) {
+            return self.tell_pending(pointer, residual, code, meaning, pipe, stream);
         }
-        self.keep_moved(pipe, stream, code, residual);
-        self.tell(pipe, stream, pointer, residual, code, meaning)
+        if self.lines.consumed(pipe, stream, pointer).is_some() {
+            self.tell_begun(pipe, stream, pointer, residual, meaning)
+        } else {
+            self.stray()
+        }
     }
 
     /// The same of an event from an endpoint and a slot.

@@ -30,11 +30,16 @@ static uint64_t standing(const uas_driver *driver, uint8_t pipe, uint16_t stream
     return place;
 }
 
-/* Hands in a Transfer Event of an endpoint and of the item at a place; whether the driver waited for it. */
-static bool post(uas_driver *driver, uint8_t endpoint, uint64_t place, uint32_t left, uint8_t code)
+/* Hands in a Transfer Event of the item at a place, from the endpoint of its ring; whether the driver waited for it. */
+static bool post(uas_driver *driver, uint64_t place, uint32_t left, uint8_t code)
 {
-    const struct uas_trb event = { .type = UAS_TRB_TRANSFER_EVENT, .pointer = place, .length = left, .code = code,
-                                   .endpoint = endpoint, .slot = 1 };
+    static const uint8_t endpoint[] = { 0, UAS_ENDPOINT_STATUS, UAS_ENDPOINT_DATA_IN, UAS_ENDPOINT_DATA_OUT, UAS_ENDPOINT_COMMAND };
+    struct uas_trb event = { .type = UAS_TRB_TRANSFER_EVENT, .pointer = place, .length = left, .code = code, .slot = 1 };
+    uint8_t ring;
+    uint16_t stream;
+    size_t number;
+    if (uas_ring_place(place, &ring, &stream, &number) && ring < sizeof endpoint)
+        event.endpoint = endpoint[ring];
     struct uas_driver_door told;
     printf("event at %llx: code %u, %u bytes left\n", (unsigned long long)place, code, left);
     return uas_driver_event(driver, &event, &told) == 0 && told.acted == UAS_EVENT_MATCHED;
@@ -52,7 +57,7 @@ static bool move(uas_driver *driver, uint16_t stream, uint64_t lba)
         if (uas_driver_write(driver, trb.pointer, data, trb.length) != 0)
             return false;
         if ((trb.flags & UAS_TRB_CH) == 0)
-            return post(driver, UAS_ENDPOINT_DATA_IN, place, 0, 1);
+            return post(driver, place, 0, 1);
         place = behind(driver, place);
     }
     return false;
@@ -71,16 +76,14 @@ static bool serve(uas_driver *driver, uint64_t *place)
     if (!item(driver, at, &trb) || trb.length > sizeof bytes || uas_driver_read(driver, trb.pointer, bytes, trb.length) != 0)
         return false;
     *place = behind(driver, at);
-    if (uas_unit_read(bytes, trb.length, &unit) != 0 || uas_cdb_parse(unit.cdb, 100, &asked, &sense) != 0 ||
-        !post(driver, UAS_ENDPOINT_COMMAND, at, 0, 1))
+    if (uas_unit_read(bytes, trb.length, &unit) != 0 || uas_cdb_parse(unit.cdb, 100, &asked, &sense) != 0 || !post(driver, at, 0, 1))
         return false;
     if (asked.direction != UAS_NO_DATA && (asked.opcode != UAS_READ_10 || !move(driver, unit.tag, asked.lba)))
         return false;
     uint64_t status = standing(driver, UAS_PIPE_STATUS, unit.tag);
     answer.tag = unit.tag;
     return uas_unit_write(&answer, bytes, sizeof bytes, &length) == 0 && item(driver, status, &trb) &&
-           uas_driver_write(driver, trb.pointer, bytes, length) == 0 &&
-           post(driver, UAS_ENDPOINT_STATUS, status, trb.length - (uint32_t)length, 13);
+           uas_driver_write(driver, trb.pointer, bytes, length) == 0 && post(driver, status, trb.length - (uint32_t)length, 13);
 }
 
 int main(void)

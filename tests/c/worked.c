@@ -1533,6 +1533,11 @@ static void is_stray(uas_driver *driver, uint64_t address, uint32_t residual, ui
     took(driver, UAS_TRB_TRANSFER_EVENT, address, residual, code, UAS_EVENT_STRAY, "");
 }
 
+static void is_noted(uas_driver *driver, uint64_t address, uint32_t residual, uint8_t code)
+{
+    took(driver, UAS_TRB_TRANSFER_EVENT, address, residual, code, UAS_EVENT_NOTED, "");
+}
+
 static void is_of_engine(uas_driver *driver, uint64_t address, const char *doorbells)
 {
     took(driver, UAS_TRB_COMMAND_EVENT, address, 0, 1, UAS_EVENT_ENGINE, doorbells);
@@ -1597,7 +1602,7 @@ static void driver_answers(void)
     no_item(driver, 0x41000000);
     /* Bytes that are no unit, a Response, another tag's, a code that is none of a status, fewer bytes than the unit has; then the
      * status itself. */
-    is_stray(driver, 0x42001000, 96, 13);
+    is_noted(driver, 0x42001000, 96, 13);
     driver_context_is(driver, UAS_PIPE_STATUS, 1, "13 10 00 42 00 x12");
     driver_memory_gets(driver, 0x20000100, "04 00 00 01 00 x12");
     is_stray(driver, 0x42001000, 104, 13);
@@ -1640,7 +1645,7 @@ static void driver_reads(void)
     driver_memory_gets(driver, 0x1001211fe, "a4 a5");
     matches(driver, 0x41000000, 0, 1, 18);
     /* The first TRB's event moves the context; the second's is the TD's. */
-    is_stray(driver, 0x43012000, 0, 1);
+    is_noted(driver, 0x43012000, 0, 1);
     driver_context_is(driver, UAS_PIPE_DATA_IN, 18, "13 20 01 43 00 x12");
     item_is(driver, 0x43012000, "00 00 12 00 01 00 00 00 00 10 02 00 11 04 00 00");
     matches(driver, 0x43012010, 0, 1, 18);

@@ -17,18 +17,28 @@
 //! - *Addresses* are those of `stream_array` and `frame_store`: the ring of stream s of pipe n at 40000000h + 1000000h n + 1000h s, the
 //!   command pipe's (n 1) with s 0, the controller's own command ring at 50000000h; of tag t the command buffer at 10000000h +
 //!   100h t, the status buffer at 20000000h + 100h t, and the vector of its command at 100000000h + 10000h t.
-//! - *Events* (4.11.3) alone tell the driver how far the controller beyond came. Before the host sees one, the ring that it is of is
-//!   settled: its consumer's end is moved behind the item at the event's pointer, and a Set TR Dequeue Pointer (4.6.10) that
-//!   succeeded moves its stream's. An event whose pointer is no pending item's moves nothing.
+//! - *Events* (4.11.3) alone tell the driver how far the controller beyond came. What a transfer event means for the TRB at its pointer is
+//!   [`meaning_of`], by the completion codes of 6.4.5: Success consumes it and those before it; a short packet ends the whole TD; between
+//!   Stop Endpoint and its event the three Stopped codes consume nothing; the errors say that the TD failed, and whether its endpoint is
+//!   halted. What ends a TD is handed to the host as it knows it. An event of no TRB of a TD that is pending or begun, of no pending
+//!   command, of another endpoint or slot, or of another code is *stray*: nothing changes, and it is counted.
+//! - *Recovery* (4.6.8 to 4.6.10, 4.8.3): an endpoint that is halted, or a TD that is to be taken off, begins it. Stop Endpoint, or Reset
+//!   Endpoint where the endpoint is halted; Set TR Dequeue Pointer behind each TD that is to be taken off; then the doorbells of all
+//!   streams that wait, in rising order. One is under way at a time, the host's own retirement too. A Stop Endpoint that is answered with
+//!   Context State Error is read by what events and doorbells said before, and where they said nothing the endpoint's state is asked for
+//!   ([`Driver::wanted_state`]). A Set TR Dequeue Pointer that is refused twice gives the pipe up: every command on it has failed.
+//! - *Ended commands*: a command of which a TD failed, or that its client gave up, is ended once all its TDs are off their rings. Where the
+//!   device's status comes before, its answer is the device's; else it is [`Answer::Failed`] or [`Answer::Aborted`].
 //!
 //! What is promised: safe and total, whatever the controller beyond does. It may post any event, twice or never, and write any byte of
 //! a buffer. No call asks anything of it, and each call is one equation: what it makes of the driver, its answer and its doorbells
-//! are the function of its name in specs/Calls.antt. A refused call ([`Refusal`]) leaves the driver as it was and gives no
-//! doorbell. [`Driver::new`] takes all memory, and no other call takes any.
+//! are the function of its name in specs/Calls.antt and specs/Telling.antt. A refused call ([`Refusal`]) leaves the driver as it was and
+//! gives no doorbell. [`Driver::new`] takes all memory, and no other call takes any. Not proved, and tested over a controller with a
+//! temper: that each command has an answer in the end.
 //!
 //! Where the host asks for room on a ring, or that nothing is lent for a tag, the driver tests it and refuses: a controller that posts no
 //! events gives no places back. The host's own promises, which events it takes for which command and what they leave over, stand in
-//! `uas_host` and hold here of the rings once they are settled.
+//! `uas_host` and hold here of what it is handed.
 //!
 //! It stands on `uas_host` for the host, on `stream_array` for the rings and on `frame_store` for the buffers, by their contracts alone,
 //! and says nothing that they don't.

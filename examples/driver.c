@@ -30,10 +30,16 @@ static uint64_t standing(const uas_driver *driver, uint8_t pipe, uint16_t stream
     return place;
 }
 
-/* Hands in a Transfer Event of the item at a place; whether the driver waited for it. */
+/* Hands in a Transfer Event of the item at a place, from the endpoint of its ring; whether the driver waited for it. */
 static bool post(uas_driver *driver, uint64_t place, uint32_t left, uint8_t code)
 {
-    const struct uas_trb event = { .type = UAS_TRB_TRANSFER_EVENT, .pointer = place, .length = left, .code = code, .slot = 1 };
+    static const uint8_t endpoint[] = { 0, UAS_ENDPOINT_STATUS, UAS_ENDPOINT_DATA_IN, UAS_ENDPOINT_DATA_OUT, UAS_ENDPOINT_COMMAND };
+    struct uas_trb event = { .type = UAS_TRB_TRANSFER_EVENT, .pointer = place, .length = left, .code = code, .slot = 1 };
+    uint8_t ring;
+    uint16_t stream;
+    size_t number;
+    if (uas_ring_place(place, &ring, &stream, &number) && ring < sizeof endpoint)
+        event.endpoint = endpoint[ring];
     struct uas_driver_door told;
     printf("event at %llx: code %u, %u bytes left\n", (unsigned long long)place, code, left);
     return uas_driver_event(driver, &event, &told) == 0 && told.acted == UAS_EVENT_MATCHED;

@@ -132,6 +132,7 @@ enum uas_fault {
     UAS_DRIVER_ADDRESS = 114, /* what is named isn't all in one buffer; no item and no Link TRB stands there */
     UAS_DRIVER_RING = 115,    /* no pipe with streams, or no stream from 1 to 248 */
     UAS_DRIVER_EVENT = 116,   /* neither a Transfer Event nor a Command Completion Event */
+    UAS_DRIVER_STATE = 117,   /* no state of an endpoint: none of UAS_STATE_RUNNING to UAS_STATE_ERROR */
     /* the bus */
     UAS_BUS_STEP = 128,   /* there is no such step, or no such pipe */
     UAS_BUS_CLIENT = 129, /* there is no such client */
@@ -627,6 +628,12 @@ uint8_t uas_controller_medium(const uas_controller *controller, uint16_t unit, u
  *   data out       3          3          4         4            likewise
  *   command ring              5                    doorbell 0   one, without a context: it begins at 50000000h
  *
+ * What it takes in is what xHCI lets a controller post (4.6, 4.9 to 4.12, 6.4.5). Success consumes the TRB and those before it; a short
+ * packet ends the whole TD; between Stop Endpoint and its event the three Stopped codes consume nothing. After an error the driver resets
+ * the endpoint where it is halted, moves it behind the TD, and rings every stream of it that waits; the command's client has the device's
+ * status where that comes meanwhile, else UAS_REPLY_FAILED. An event of no pending TRB, of another endpoint or slot, or of another code
+ * changes nothing and is counted. One command at a time is on the command ring.
+ *
  * Clients, tags and tickets are those of a bus. */
 typedef struct uas_driver uas_driver;
 
@@ -651,38 +658,48 @@ enum {
     UAS_DRIVER_CALL_READ = 7,
     UAS_DRIVER_CALL_WRITE = 8,
     UAS_DRIVER_CALL_ITEM = 9,
-    UAS_DRIVER_CALL_CONTEXT = 10
+    UAS_DRIVER_CALL_CONTEXT = 10,
+    UAS_DRIVER_CALL_GIVE_UP = 11,
+    UAS_DRIVER_CALL_STATE = 12,
+    UAS_DRIVER_CALL_WANTED = 13,
+    UAS_DRIVER_CALL_STRAYS = 14
 };
 
-/* What an event was. */
-enum { UAS_EVENT_STRAY = 0, UAS_EVENT_MATCHED = 1, UAS_EVENT_ENGINE = 2 };
+/* What an event was: of nothing that is pending; of a TD that it ended; of the command under way; of what isn't over by it. */
+enum { UAS_EVENT_STRAY = 0, UAS_EVENT_MATCHED = 1, UAS_EVENT_ENGINE = 2, UAS_EVENT_NOTED = 3 };
+
+/* States of an endpoint (6.2.3, EP State). */
+enum { UAS_STATE_RUNNING = 1, UAS_STATE_HALTED = 2, UAS_STATE_STOPPED = 3, UAS_STATE_ERROR = 4 };
 
 /* What goes in and comes out beside the data, where a call has it. */
 struct uas_driver_door {
     uint64_t ticket;                /* in of SUBMIT, TASK; out of REPLY */
-    uint64_t address;               /* in of READ, WRITE, ITEM; in of EVENT: the TRB that the event is about */
+    uint64_t address;               /* in of READ, WRITE, ITEM; in of EVENT: the TRB that the event is about; out of STRAYS */
     struct uas_operation operation; /* in of SUBMIT */
-    uint32_t client;                /* in of SUBMIT, TASK, REPLY */
+    uint32_t client;                /* in of SUBMIT, TASK, REPLY, GIVE_UP */
     uint32_t length;                /* in of EVENT: bytes that weren't moved, below 2^24; out of REPLY: bytes of its data */
-    uint16_t tag;                   /* in of SUBMIT, TASK, RETIRE, LEFT_OVER; out of LEFT_OVER, of REPLY, of EVENT where it was matched */
+    uint16_t tag;                   /* in of SUBMIT, TASK, RETIRE, LEFT_OVER, GIVE_UP; out of LEFT_OVER, of REPLY, of EVENT where it was matched */
     uint16_t stream;                /* in of CONTEXT */
-    uint16_t doorbells;             /* out of SUBMIT, TASK, RETIRE, EVENT: how many */
+    uint16_t doorbells;             /* out of SUBMIT, TASK, RETIRE, EVENT, GIVE_UP, STATE: how many */
     uint8_t call;                   /* in: UAS_DRIVER_CALL_... */
-    uint8_t pipe;                   /* in of RETIRE, LEFT_OVER, CONTEXT: UAS_PIPE_... */
+    uint8_t pipe;                   /* in of RETIRE, LEFT_OVER, CONTEXT, STATE; out of WANTED: UAS_PIPE_... */
     uint8_t function;               /* in of TASK */
-    uint8_t acted;                  /* out of RETIRE, LEFT_OVER, REPLY: 0 or 1; out of EVENT: UAS_EVENT_... */
+    uint8_t acted;                  /* out of RETIRE, LEFT_OVER, REPLY, WANTED: 0 or 1; out of EVENT: UAS_EVENT_... */
     uint8_t type;                   /* in of EVENT: UAS_TRB_TRANSFER_EVENT or UAS_TRB_COMMAND_EVENT */
     uint8_t code;                   /* in of EVENT: the completion code (6.4.5) */
     uint8_t endpoint;               /* in of EVENT: the endpoint ID */
     uint8_t slot;                   /* in of EVENT */
     uint8_t reply;                  /* out of REPLY: UAS_REPLY_... */
-    uint8_t status;                 /* out of REPLY: the SCSI status, or a task management's response code */
+    uint8_t status;                 /* out of REPLY: the SCSI status, a task management's response code, or what failed: a completion code */
     uint8_t sense_length;           /* out of REPLY */
-    uint8_t reserved[7];
+    uint8_t state;                  /* in of STATE: UAS_ENDPOINT_... */
+    uint8_t reserved[2];
+    uint32_t moved;                 /* out of REPLY: how many bytes of the command's data the events told to be moved */
     uint8_t sense[96];              /* out of REPLY: its first sense_length bytes */
-    uint32_t doorbell[256];         /* out of SUBMIT, TASK, RETIRE, EVENT: its first `doorbells` values, in the order in which to write them */
+    uint32_t doorbell[256];         /* out of SUBMIT, TASK, RETIRE, EVENT, GIVE_UP, STATE: its first `doorbells` values, in the order in which to write them */
 };
 UAS_ASSERT(sizeof(struct uas_driver_door) == 1192 && offsetof(struct uas_driver_door, call) == 54);
+UAS_ASSERT(offsetof(struct uas_driver_door, state) == 65 && offsetof(struct uas_driver_door, moved) == 68);
 UAS_ASSERT(offsetof(struct uas_driver_door, sense) == 72 && offsetof(struct uas_driver_door, doorbell) == 168);
 
 /* Any call of the driver; those below are easier to use. Where a call has no data, `length` may be 0.
@@ -711,15 +728,31 @@ uint8_t uas_driver_retire(uas_driver *driver, uint8_t pipe, uint16_t tag, struct
  * Fault: UAS_DRIVER_RING. */
 uint8_t uas_driver_left_over(const uas_driver *driver, uint8_t pipe, uint16_t *tag, bool *there);
 
-/* Hands an event in, as uas_trb_decode reads it: told->acted is UAS_EVENT_STRAY, UAS_EVENT_MATCHED (then of told->tag), or
- * UAS_EVENT_ENGINE. told->doorbell has the told->doorbells values to write. A TD's event is of its last TRB, with code 1 (Success); a
- * status's has code 13 (Short Packet), also where the information unit fills the buffer, and tells what of its 112 bytes is left. With
- * another code the event is stray, and the command waits on. Endpoint ID and slot aren't looked at. The event of an item gives its place
- * back, so step over a Link TRB behind it before.
+/* Hands an event in, as uas_trb_decode reads it: told->acted is UAS_EVENT_STRAY, UAS_EVENT_MATCHED (then of told->tag), UAS_EVENT_ENGINE
+ * or UAS_EVENT_NOTED. told->doorbell has the told->doorbells values to write. The event of an item may give its place back, so step over
+ * a Link TRB behind it before. Where a Stop Endpoint was answered with Context State Error (19) and no event told why,
+ * uas_driver_wanted_state names the endpoint whose state is to be handed in.
  * Fault: UAS_DRIVER_EVENT. */
 uint8_t uas_driver_event(uas_driver *driver, const struct uas_trb *event, struct uas_driver_door *told);
 
-/* A client takes its oldest reply that is ready, as uas_bus_reply.
+/* The pipe whose endpoint's state is wanted; *wanted is false, and *pipe as it was, where there is none. No fault. */
+uint8_t uas_driver_wanted_state(const uas_driver *driver, uint8_t *pipe, bool *wanted);
+
+/* Hands in the state of a pipe's endpoint, as its context has it; UAS_PIPE_COMMAND is the command pipe's. told->doorbell has the
+ * told->doorbells values to write.
+ * Faults: UAS_DRIVER_RING, UAS_DRIVER_STATE. */
+uint8_t uas_driver_endpoint_state(uas_driver *driver, uint8_t pipe, uint8_t state, struct uas_driver_door *told);
+
+/* A client gives its command under a tag up, as its device is silent: the command's TDs are taken off their pipes, and its reply is
+ * UAS_REPLY_ABORTED once all are back, unless the device's status comes before. told->doorbell has the told->doorbells values to write.
+ * Faults: UAS_CLIENT_NOT_YOURS, UAS_CLIENT_NO_SUCH_TASK. */
+uint8_t uas_driver_give_up(uas_driver *driver, uint32_t client, uint16_t tag, struct uas_driver_door *told);
+
+/* How many events were stray. No fault. */
+uint8_t uas_driver_strays(const uas_driver *driver, uint64_t *strays);
+
+/* A client takes its oldest reply that is ready, as uas_bus_reply; reply->moved is how many bytes of its data the events told to be
+ * moved. UAS_REPLY_FAILED tells a completion code in reply->status.
  * Fault: UAS_CLIENT_LENGTH. */
 uint8_t uas_driver_reply(uas_driver *driver, uint32_t client, uint8_t *data, size_t length, struct uas_driver_door *reply);
 
@@ -789,14 +822,15 @@ enum {
     UAS_STEP_RETIRE = 6   /* the host begins to take the tag's TD, which nothing will complete, off a pipe */
 };
 
-/* Pipes of UAS_STEP_RETIRE, and of a driver's calls. */
-enum { UAS_PIPE_STATUS = 1, UAS_PIPE_DATA_IN = 2, UAS_PIPE_DATA_OUT = 3 };
+/* Pipes of UAS_STEP_RETIRE, and of a driver's calls; the command pipe of the state of an endpoint alone. */
+enum { UAS_PIPE_STATUS = 1, UAS_PIPE_DATA_IN = 2, UAS_PIPE_DATA_OUT = 3, UAS_PIPE_COMMAND = 4 };
 
 /* Kinds of reply. */
 enum {
     UAS_REPLY_STATUS = 1,  /* a command's status, and its data */
-    UAS_REPLY_ABORTED = 2, /* a task management ended the command; its data as filled so far */
-    UAS_REPLY_TASK = 3     /* a task management's response */
+    UAS_REPLY_ABORTED = 2, /* a task management ended the command, or a driver's client gave it up; its data as filled so far */
+    UAS_REPLY_TASK = 3,    /* a task management's response */
+    UAS_REPLY_FAILED = 4   /* of a driver: a TD failed before the device's answer came; a command's data as filled so far */
 };
 
 /* What goes in and comes out beside the data, where a call has it. */

@@ -65,6 +65,45 @@ uint8_t uas_driver_event(uas_driver *driver, const struct uas_trb *event, struct
     return fault;
 }
 
+uint8_t uas_driver_wanted_state(const uas_driver *driver, uint8_t *pipe, bool *wanted)
+{
+    struct uas_driver_door door = { .call = UAS_DRIVER_CALL_WANTED };
+    uint8_t fault = uas_driver_call(called_driver(driver), &door, bytes_of(NULL, 0), 0);
+    if (fault == UAS_OK) {
+        *wanted = door.acted != 0;
+        if (*wanted)
+            *pipe = door.pipe;
+    }
+    return fault;
+}
+
+uint8_t uas_driver_endpoint_state(uas_driver *driver, uint8_t pipe, uint8_t state, struct uas_driver_door *told)
+{
+    struct uas_driver_door door = { .call = UAS_DRIVER_CALL_STATE, .pipe = pipe, .state = state };
+    uint8_t fault = uas_driver_call(driver, &door, bytes_of(NULL, 0), 0);
+    if (fault == UAS_OK)
+        *told = door;
+    return fault;
+}
+
+uint8_t uas_driver_give_up(uas_driver *driver, uint32_t client, uint16_t tag, struct uas_driver_door *told)
+{
+    struct uas_driver_door door = { .call = UAS_DRIVER_CALL_GIVE_UP, .client = client, .tag = tag };
+    uint8_t fault = uas_driver_call(driver, &door, bytes_of(NULL, 0), 0);
+    if (fault == UAS_OK)
+        *told = door;
+    return fault;
+}
+
+uint8_t uas_driver_strays(const uas_driver *driver, uint64_t *strays)
+{
+    struct uas_driver_door door = { .call = UAS_DRIVER_CALL_STRAYS };
+    uint8_t fault = uas_driver_call(called_driver(driver), &door, bytes_of(NULL, 0), 0);
+    if (fault == UAS_OK)
+        *strays = door.address;
+    return fault;
+}
+
 uint8_t uas_driver_reply(uas_driver *driver, uint32_t client, uint8_t *data, size_t length, struct uas_driver_door *reply)
 {
     struct uas_driver_door door = { .call = UAS_DRIVER_CALL_REPLY, .client = client };

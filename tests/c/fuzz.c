@@ -1698,6 +1698,7 @@ static void expect_told(struct uas_driver_door *wanted)
     wanted->reply = told.reply;
     wanted->status = told.status;
     wanted->sense_length = told.sense_length;
+    wanted->moved = told.moved;
     if (AGREE(told.sense_length <= 96))
         memcpy(wanted->sense, told.sense, sizeof told.sense);
 }
@@ -1901,9 +1902,10 @@ static uint8_t hand_in(struct guarded out, const struct uas_controller_door *eve
     told.code = code;
     told.endpoint = event->endpoint;
     told.slot = event->slot;
-    if (!AGREE(call_driver(out, no_data, 0) == 0) || !AGREE(told.acted <= UAS_EVENT_ENGINE))
+    if (!AGREE(call_driver(out, no_data, 0) == 0) || !AGREE(told.acted <= UAS_EVENT_NOTED))
         return UAS_EVENT_STRAY;
-    seen[SEEN_EVENT + told.acted]++;
+    if (told.acted != UAS_EVENT_NOTED)
+        seen[SEEN_EVENT + told.acted]++;
     return told.acted;
 }
 
@@ -1923,7 +1925,7 @@ static uint64_t last_taken(uint8_t pipe, uint16_t tag)
     return next == line->base ? line->base + 16 * (uint64_t)(line->turn - 1) : next - 16;
 }
 
-/* After the chunk of a TD that has more, an event of it frees nothing, and is stray. */
+/* After the chunk of a TD that has more, an event of it frees nothing, and is noted. */
 static void bring_chunk_event(struct guarded out, uint16_t tag)
 {
     const struct second_entry *entry = &model_bus.entries[tag];
@@ -1932,7 +1934,8 @@ static void bring_chunk_event(struct guarded out, uint16_t tag)
     if (entry->moved == entry->length)
         return;
     event.address = last_taken(entry->data_pipe, tag);
-    AGREE(is_stray(out, &event, 1));
+    event.endpoint = entry->data_pipe == UAS_PIPE_DATA_IN ? UAS_ENDPOINT_DATA_IN : UAS_ENDPOINT_DATA_OUT;
+    AGREE(hand_in(out, &event, 1) == UAS_EVENT_NOTED && told.doorbells == 0);
     AGREE(uas_driver_context(driver, entry->data_pipe, tag, bytes[0]) == 0);
     AGREE(uas_controller_context(beyond, entry->data_pipe, tag, bytes[1]) == 0);
     AGREE(memcmp(bytes[0], bytes[1], 16) == 0);
@@ -2012,7 +2015,7 @@ static void halves_event(struct guarded out)
         return;
     bool transfer = event.type == UAS_TRB_TRANSFER_EVENT;
     if (transfer && one_in(8))
-        AGREE(is_stray(out, &event, (uint8_t)(2 + below(11))));
+        AGREE(is_stray(out, &event, (uint8_t)(one_in(2) ? 14 + below(2) : 20 + below(6))));
     AGREE(hand_in(out, &event, event.code) == (transfer ? UAS_EVENT_MATCHED : UAS_EVENT_ENGINE));
     bool ended = !transfer && model_bus.retiring == 0;
     if (transfer)
@@ -2205,7 +2208,7 @@ static uint8_t draw_refused(size_t *length)
     *length = 16;
     switch (below(7)) {
     case 0:
-        told.call = one_in(2) ? 0 : (uint8_t)(11 + below(245));
+        told.call = one_in(2) ? 0 : (uint8_t)(15 + below(241));
         return UAS_CLIENT_CALL;
     case 1:
         told.call = UAS_DRIVER_CALL_REPLY;

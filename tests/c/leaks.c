@@ -117,10 +117,18 @@ static uas_controller *used_controller(void)
     return controller;
 }
 
+/* The endpoint of the ring that an address is of. */
+static uint8_t endpoint_at(uint64_t address)
+{
+    static const uint8_t endpoints[] = { UAS_ENDPOINT_COMMAND, UAS_ENDPOINT_STATUS, UAS_ENDPOINT_DATA_IN, UAS_ENDPOINT_DATA_OUT };
+    return address >> 24 >= 0x41 && address >> 24 <= 0x44 ? endpoints[(address >> 24) - 0x41] : 0;
+}
+
 /* Hands an event in, which is of some tag's TD. */
 static void event_matches(uas_driver *driver, uint64_t address, uint32_t residual, uint8_t code)
 {
-    const struct uas_trb event = { .type = UAS_TRB_TRANSFER_EVENT, .pointer = address, .length = residual, .code = code, .slot = 1 };
+    const struct uas_trb event = { .type = UAS_TRB_TRANSFER_EVENT, .pointer = address, .length = residual, .code = code,
+                                   .endpoint = endpoint_at(address), .slot = 1 };
     struct uas_driver_door told;
     CHECK(uas_driver_event(driver, &event, &told) == 0 && told.acted == UAS_EVENT_MATCHED);
 }

@@ -489,8 +489,10 @@ static void calls_of_driver(void)
     CHECK(uas_driver_call(driver, &door, data, 16) == UAS_OK && data[0] == 3 && data[1] == 0x10 && data[3] == 0x44);
     door = (struct uas_driver_door){ .call = UAS_DRIVER_CALL_EVENT, .type = UAS_TRB_TRANSFER_EVENT, .code = 1, .slot = 1 };
     door.address = uas_ring_address(UAS_RING_COMMAND_PIPE, 0, 0);
+    door.endpoint = UAS_ENDPOINT_COMMAND;
     CHECK(uas_driver_call(driver, &door, data, 0) == UAS_OK && door.acted == UAS_EVENT_MATCHED && door.tag == 1);
     door.address = uas_ring_address(UAS_RING_STATUS, 1, 0);
+    door.endpoint = UAS_ENDPOINT_STATUS;
     door.length = 96;
     door.code = 13;
     CHECK(uas_driver_call(driver, &door, data, 0) == UAS_OK && door.acted == UAS_EVENT_MATCHED);

@@ -1500,11 +1500,19 @@ static void driver_context_is(uas_driver *driver, uint8_t pipe, uint16_t stream,
     CHECK_BYTES(bytes, sizeof bytes, text);
 }
 
+/* The endpoint of the ring that an address is of. */
+static uint8_t endpoint_at(uint64_t address)
+{
+    static const uint8_t endpoints[] = { UAS_ENDPOINT_COMMAND, UAS_ENDPOINT_STATUS, UAS_ENDPOINT_DATA_IN, UAS_ENDPOINT_DATA_OUT };
+    return address >> 24 >= 0x41 && address >> 24 <= 0x44 ? endpoints[(address >> 24) - 0x41] : 0;
+}
+
 /* What an event of this type, at this address, with this residual and code is, and the doorbells that it tells. */
 static struct uas_driver_door took(uas_driver *driver, uint8_t type, uint64_t address, uint32_t residual, uint8_t code, uint8_t what,
                                    const char *doorbells)
 {
-    const struct uas_trb event = { .type = type, .pointer = address, .length = residual, .code = code, .slot = 1 };
+    const struct uas_trb event = { .type = type, .pointer = address, .length = residual, .code = code,
+                                   .endpoint = type == UAS_TRB_TRANSFER_EVENT ? endpoint_at(address) : 0, .slot = 1 };
     struct uas_driver_door told;
     memset(&told, 0xee, sizeof told);
     CHECK(uas_driver_event(driver, &event, &told) == 0);
@@ -1523,6 +1531,11 @@ static void matches(uas_driver *driver, uint64_t address, uint32_t residual, uin
 static void is_stray(uas_driver *driver, uint64_t address, uint32_t residual, uint8_t code)
 {
     took(driver, UAS_TRB_TRANSFER_EVENT, address, residual, code, UAS_EVENT_STRAY, "");
+}
+
+static void is_noted(uas_driver *driver, uint64_t address, uint32_t residual, uint8_t code)
+{
+    took(driver, UAS_TRB_TRANSFER_EVENT, address, residual, code, UAS_EVENT_NOTED, "");
 }
 
 static void is_of_engine(uas_driver *driver, uint64_t address, const char *doorbells)
@@ -1589,7 +1602,7 @@ static void driver_answers(void)
     no_item(driver, 0x41000000);
     /* Bytes that are no unit, a Response, another tag's, a code that is none of a status, fewer bytes than the unit has; then the
      * status itself. */
-    is_stray(driver, 0x42001000, 96, 13);
+    is_noted(driver, 0x42001000, 96, 13);
     driver_context_is(driver, UAS_PIPE_STATUS, 1, "13 10 00 42 00 x12");
     driver_memory_gets(driver, 0x20000100, "04 00 00 01 00 x12");
     is_stray(driver, 0x42001000, 104, 13);
@@ -1632,7 +1645,7 @@ static void driver_reads(void)
     driver_memory_gets(driver, 0x1001211fe, "a4 a5");
     matches(driver, 0x41000000, 0, 1, 18);
     /* The first TRB's event moves the context; the second's is the TD's. */
-    is_stray(driver, 0x43012000, 0, 1);
+    is_noted(driver, 0x43012000, 0, 1);
     driver_context_is(driver, UAS_PIPE_DATA_IN, 18, "13 20 01 43 00 x12");
     item_is(driver, 0x43012000, "00 00 12 00 01 00 00 00 00 10 02 00 11 04 00 00");
     matches(driver, 0x43012010, 0, 1, 18);

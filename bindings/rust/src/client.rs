@@ -34,6 +34,8 @@ pub enum Reply {
     Aborted { tag: u16, ticket: u64, data: Vec<u8> },
     /// A task management's response.
     Task { tag: u16, ticket: u64, code: ResponseCode },
+    /// Of a driver: a TD failed with this completion code before the device's answer came; a command's data as filled so far.
+    Failed { tag: u16, ticket: u64, code: u8, data: Vec<u8> },
 }
 
 /// What a door tells of a reply.
@@ -52,6 +54,7 @@ impl From<Told<'_>> for Reply {
         match told.kind {
             1 => Self::Status { tag, ticket, status: told.status.into(), sense: told.sense.to_vec(), data: told.data.to_vec() },
             2 => Self::Aborted { tag, ticket, data: told.data.to_vec() },
+            4 => Self::Failed { tag, ticket, code: told.status, data: told.data.to_vec() },
             _ => Self::Task { tag, ticket, code: told.status.into() },
         }
     }

@@ -18,6 +18,8 @@ pub enum Event {
     Matched(u16),
     /// That of a command of the controller's own ring.
     Engine,
+    /// Of a TD or of a command that isn't over by it.
+    Noted,
 }
 
 /// What stands in front of a controller: host, rings, stream contexts and buffers, without a controller. A call tells the doorbells that
@@ -39,14 +41,14 @@ pub enum Event {
 /// let mut bytes = vec![0; length as usize];
 /// driver.read(pointer, &mut bytes).unwrap();
 /// assert_eq!(Unit::from_bytes(&bytes).unwrap().tag(), 1);
-/// let event = |pointer, residual, code| Trb::TransferEvent { pointer, residual, code, endpoint: 0, slot: 1 };
-/// assert_eq!(driver.event(&event(place, 0, CompletionCode::Success)).unwrap().0, Event::Matched(1));
+/// let event = |endpoint, pointer, residual, code| Trb::TransferEvent { pointer, residual, code, endpoint, slot: 1 };
+/// assert_eq!(driver.event(&event(2, place, 0, CompletionCode::Success)).unwrap().0, Event::Matched(1));
 ///
 /// let answer = Unit::Sense { tag: 1, status: Status::Good, sense: vec![] }.to_bytes().unwrap();
 /// let Context { pointer: place, .. } = driver.context(Pipe::Status, 1).unwrap();
 /// driver.write(Buffer::Status.address(1).unwrap(), &answer).unwrap();
 /// let residual = 112 - answer.len() as u32;
-/// assert_eq!(driver.event(&event(place, residual, CompletionCode::ShortPacket)).unwrap().0, Event::Matched(1));
+/// assert_eq!(driver.event(&event(3, place, residual, CompletionCode::ShortPacket)).unwrap().0, Event::Matched(1));
 /// assert!(matches!(driver.take_reply(0), Some(Reply::Status { status: Status::Good, .. })));
 /// ```
 #[derive(Debug)]
@@ -116,6 +118,7 @@ impl Driver {
         let was = match told.acted {
             1 => Event::Matched(told.tag),
             2 => Event::Engine,
+            3 => Event::Noted,
             _ => Event::Stray,
         };
         Ok((was, doorbells(&told)))

@@ -125,7 +125,9 @@ pub struct DriverDoor {
     pub reply: u8,
     pub status: u8,
     pub sense_length: u8,
-    pub reserved: [u8; 7],
+    pub state: u8,
+    pub reserved: [u8; 2],
+    pub moved: u32,
     pub sense: [u8; 96],
     pub doorbell: [u32; 256],
 }
@@ -151,7 +153,9 @@ impl DriverDoor {
         reply: 0,
         status: 0,
         sense_length: 0,
-        reserved: [0; 7],
+        state: 0,
+        reserved: [0; 2],
+        moved: 0,
         sense: [0; 96],
         doorbell: [0; 256],
     };

@@ -2,6 +2,9 @@
 //! The crates above name a fault, in code and in definitions, by its name here. C has the same names behind `UAS_`.
 #![tactic(auto)]
 
+ghost use Rattle.std.specs.Prelude.{◌≡◌, ◌∷◌, [], true, false};
+ghost use Rattle.c_faults.specs.Faults.{all_faults, are_different, is_among};
+
 /// There is no memory for what was asked. Nothing has changed.
 pub const NO_MEMORY: u8 = 1;
 
@@ -180,6 +183,9 @@ pub const DRIVER_RING: u8 = 115;
 /// No such event.
 pub const DRIVER_EVENT: u8 = 116;
 
+/// No such state of an endpoint.
+pub const DRIVER_STATE: u8 = 117;
+
 // The bus.
 
 /// No such step.
@@ -219,3 +225,14 @@ pub const TASKS_SET: u8 = 151;
 
 /// A chunk of no blocks, or of more than 128.
 pub const TASKS_CHUNK: u8 = 152;
+
+/// Law: each fault has its number, no two have the same one, and none has 0, which is no fault's.
+pub fn numbers_are_different()
+    ensures pinned { all_faults ≡
+        1 ∷ 16 ∷ 17 ∷ 18 ∷ 19 ∷ 32 ∷ 33 ∷ 34 ∷ 35 ∷ 36 ∷ 37 ∷ 38 ∷ 48 ∷ 49 ∷ 50 ∷ 51 ∷ 56 ∷ 57 ∷ 58 ∷ 59 ∷ 64 ∷ 65 ∷ 66 ∷ 67 ∷
+        68 ∷ 69 ∷ 80 ∷ 81 ∷ 82 ∷ 83 ∷ 84 ∷ 85 ∷ 86 ∷ 87 ∷ 88 ∷ 89 ∷ 90 ∷ 91 ∷ 96 ∷ 97 ∷ 98 ∷ 99 ∷ 100 ∷ 101 ∷ 102 ∷ 103 ∷ 104 ∷
+        105 ∷ 106 ∷ 112 ∷ 113 ∷ 114 ∷ 115 ∷ 116 ∷ 117 ∷ 128 ∷ 129 ∷ 130 ∷ 144 ∷ 145 ∷ 146 ∷ 147 ∷ 148 ∷
+        149 ∷ 150 ∷ 151 ∷ 152 ∷ [] }
+    ensures different { are_different all_faults ≡ true }
+    ensures none_is_no_fault { is_among 0 all_faults ≡ false }
+{}

@@ -1,5 +1,5 @@
 -- What a call of the bus's door makes of the bus, the door and the bytes.
-use Rattle.std.specs.Prelude.{ℕ, ◌-◌, ◌^◌, ◌&&◌, if◌then◌else◌, ◌==◌, nat_lt}
+use Rattle.std.specs.Prelude.{ℕ, ◌-◌, ◌^◌, if◌then◌else◌, ◌==◌, nat_lt}
 use Rattle.std.specs.Prelude.{List, [], ◌∷◌, length, slice_get, Option, None, Some, option_map, Result, Ok, Err}
 use Rattle.std.specs.Option.{unwrap_or}
 use Rattle.block_unit.specs.BlockMaps.{BlockMaps}
@@ -34,13 +34,16 @@ refusal_told (Some refusal) = client_fault refusal.fault
 abbrev pub submitted : Shared → Step → UasBusDoor → DoorAfter Shared UasBusDoor
 submitted state step door = let after = shared_step state step in (refusal_told after.1.refused, (after.0, door))
 
+-- a submission of this operation; there may be no memory for the copy of its bytes: where the call answers so, that is why
+abbrev pub after_asked : ℕ → Shared → UasBusDoor → List ℕ → Result Op ℕ → DoorAfter Shared UasBusDoor
+after_asked number state door bytes (Err fault) = refused fault state door
+after_asked number state door bytes (Ok op) =
+    if number == NO_MEMORY then refused NO_MEMORY state door
+    else submitted state (steps.Submit door.client door.tag door.ticket (record { op = op; buffer = bytes })) door
+
 -- SUBMIT (1): the bytes are the command's buffer
-abbrev pub after_submit : Shared → UasBusDoor → List ℕ → DoorAfter Shared UasBusDoor
-after_submit state door bytes = of_asked (asked_operation door.ticket door.operation)
-  where
-    of_asked : Result Op ℕ → DoorAfter Shared UasBusDoor
-    of_asked (Err fault) = refused fault state door
-    of_asked (Ok op) = submitted state (steps.Submit door.client door.tag door.ticket (record { op = op; buffer = bytes })) door
+abbrev pub after_submit : ℕ → Shared → UasBusDoor → List ℕ → DoorAfter Shared UasBusDoor
+after_submit number state door bytes = after_asked number state door bytes (asked_operation door.ticket door.operation)
 
 -- TASK (2)
 abbrev pub after_task : Shared → UasBusDoor → DoorAfter Shared UasBusDoor
@@ -135,23 +138,18 @@ bus_call_numbered =
     numbered ((1, calls.Submit) ∷ (2, calls.Task) ∷ (3, calls.Step) ∷ (4, calls.Due) ∷ (5, calls.Drain) ∷ (7, calls.Reply) ∷ (8, calls.Blocks)
     ∷ (9, calls.Medium) ∷ [])
 
--- what each call makes
-abbrev pub after_bus_named : Shared → UasBusDoor → List ℕ → BusCall → After Shared UasBusDoor
-after_bus_named state door bytes calls.Submit = with_bytes bytes (after_submit state door bytes)
-after_bus_named state door bytes calls.Task = with_bytes bytes (after_task state door)
-after_bus_named state door bytes calls.Step = with_bytes bytes (after_step state door)
-after_bus_named state door bytes calls.Due = with_bytes bytes (after_due state door)
-after_bus_named state door bytes calls.Drain = with_bytes bytes (after_drain state door)
-after_bus_named state door bytes calls.Reply = after_reply state door bytes
-after_bus_named state door bytes calls.Blocks = after_bus_shown (λ unit. unit.blocks) state door bytes
-after_bus_named state door bytes calls.Medium = after_bus_shown (λ unit. unit.medium) state door bytes
+-- what each call makes, where it answers this number
+abbrev pub after_bus_named : ℕ → Shared → UasBusDoor → List ℕ → BusCall → After Shared UasBusDoor
+after_bus_named number state door bytes calls.Submit = with_bytes bytes (after_submit number state door bytes)
+after_bus_named number state door bytes calls.Task = with_bytes bytes (after_task state door)
+after_bus_named number state door bytes calls.Step = with_bytes bytes (after_step state door)
+after_bus_named number state door bytes calls.Due = with_bytes bytes (after_due state door)
+after_bus_named number state door bytes calls.Drain = with_bytes bytes (after_drain state door)
+after_bus_named number state door bytes calls.Reply = after_reply state door bytes
+after_bus_named number state door bytes calls.Blocks = after_bus_shown (λ unit. unit.blocks) state door bytes
+after_bus_named number state door bytes calls.Medium = after_bus_shown (λ unit. unit.medium) state door bytes
 
 -- the call that a door names, or that there is no such call
-abbrev pub after_bus_call : Shared → UasBusDoor → List ℕ → After Shared UasBusDoor
-after_bus_call state door bytes =
-    unwrap_or (option_map (after_bus_named state door bytes) (bus_call_numbered door.call)) (with_bytes bytes (refused CLIENT_CALL state door))
-
--- a submission may find no memory for its buffer, and then nothing changes
 abbrev pub bus_answer : ℕ → Shared → UasBusDoor → List ℕ → After Shared UasBusDoor
 bus_answer number state door bytes =
-    if number == NO_MEMORY && door.call == 1 then with_bytes bytes (refused NO_MEMORY state door) else after_bus_call state door bytes
+    unwrap_or (option_map (after_bus_named number state door bytes) (bus_call_numbered door.call)) (with_bytes bytes (refused CLIENT_CALL state door))

@@ -6,23 +6,29 @@ use Rattle.std.specs.Option.{option_map_or}
 use Rattle.event_ring.specs.declared.Event.{Event}
 use Rattle.event_ring.specs.declared.Event.TheVariants as events
 use Rattle.scsi_cmd.specs.declared.Op.{Op}
-use Rattle.scsi_cmd.specs.declared.Reply.{Reply}
 use Rattle.uas_host.specs.Retirement.{is_left_over_on}
 use Rattle.uas_host.specs.State.{HostState}
-use Rattle.uas_host.specs.declared.Handled.{Handled}
-use Rattle.uas_host.specs.declared.Handled.TheVariants.{Matched, Engine, Stray}
+use Rattle.uas_driver.specs.declared.Taken.{Taken}
+use Rattle.uas_driver.specs.declared.Taken.TheVariants.{Matched, Engine, Noted, Stray}
 use Rattle.uas_profile.specs.declared.Pipe.{Pipe}
 use Rattle.uas_profile.specs.declared.TheConstants.{MAX_CLIENTS, TAGS}
-use Rattle.uas_driver.specs.Calls.{After as CallAfter, context_by, event_by, item_by, read_by, reply_by, retire_by, submit_by, task_by, write_by}
+use Rattle.uas_driver.specs.Calls.{After as CallAfter, context_by, event_by, give_up_by, item_by, read_by, reply_by, retire_by, submit_by, task_by, write_by}
+use Rattle.uas_driver.specs.Telling.{stated, wanted_state}
 use Rattle.uas_driver.specs.Driver.{DriverState}
+use Rattle.uas_driver.specs.declared.Answer.{Answer}
+use Rattle.uas_driver.specs.declared.Answer.TheVariants as answers
+use Rattle.uas_driver.specs.declared.EndpointState.{EndpointState}
+use Rattle.uas_driver.specs.declared.EndpointState.TheVariants as states
+use Rattle.uas_profile.specs.declared.Pipe.TheVariants as pipes
+use Rattle.arrayvec.specs.ArrayVec.{array_vec_len}
 use Rattle.uas_driver.specs.declared.Refusal.{Refusal}
 use Rattle.uas_driver.specs.declared.Refusal.TheVariants as refusals
 use Rattle.c_faults.specs.declared.TheConstants.{CLIENT_CALL, CLIENT_FUNCTION, CLIENT_LENGTH, CLIENT_TICKET, DRIVER_ADDRESS, DRIVER_CLIENTS}
-use Rattle.c_faults.specs.declared.TheConstants.{DRIVER_EVENT, DRIVER_RING, DRIVER_ROOM, NO_MEMORY}
-use Rattle.uas_c.specs.ClientCall.{asked_operation, client_fault, not_ticket, pipe_numbered, task_numbered, told_of, with_buffer}
+use Rattle.c_faults.specs.declared.TheConstants.{DRIVER_EVENT, DRIVER_RING, DRIVER_ROOM, DRIVER_STATE, NO_MEMORY}
+use Rattle.uas_c.specs.ClientCall.{asked_operation, client_fault, not_ticket, overlaid, pipe_numbered, task_numbered, told_length}
 use Rattle.c_common.specs.Door.{After, DoorAfter, numbered, refused, with_bytes}
-use Rattle.c_common.specs.Bytes.{yes}
-use Rattle.uas_c.specs.declared.client.ToldReply.{ToldReply}
+use Rattle.c_common.specs.Bytes.{padded, yes}
+use Rattle.uas_c.specs.declared.driver.answer.ToldAnswer.{ToldAnswer}
 use Rattle.uas_c.specs.declared.driver.door.DriverCall.{DriverCall}
 use Rattle.uas_c.specs.declared.driver.door.DriverCall.TheVariants as calls
 use Rattle.uas_c.specs.declared.driver.door.UasDriverDoor.{UasDriverDoor}
@@ -120,14 +126,16 @@ event_named door =
     numbered ((32, events.Transfer door.address door.length door.code door.endpoint door.slot) ∷ (33, events.Command door.address door.code door.slot) ∷ [])
     door.kind
 
--- what the host made of an event: 0 nothing, 1 it was of a TD of a tag, 2 it was of the command under way
-abbrev pub with_handled : UasDriverDoor → Handled → UasDriverDoor
-with_handled door (Matched tag) = record door { acted = 1; tag = tag }
-with_handled door Engine = record door { acted = 2 }
-with_handled door Stray = record door { acted = 0 }
+-- what the driver made of an event: 0 nothing, 1 it ended a TD of a tag, 2 it was of the command under way, 3 it was of what isn't over
+-- by it
+abbrev pub with_taken : UasDriverDoor → Taken → UasDriverDoor
+with_taken door (Matched tag) = record door { acted = 1; tag = tag }
+with_taken door Engine = record door { acted = 2 }
+with_taken door Noted = record door { acted = 3 }
+with_taken door Stray = record door { acted = 0 }
 
-abbrev pub with_event : UasDriverDoor → CallAfter Handled → DoorAfter DriverState UasDriverDoor
-with_event door (after, handled, doors) = (0, (after, with_handled (with_doorbells door doors) handled))
+abbrev pub with_event : UasDriverDoor → CallAfter Taken → DoorAfter DriverState UasDriverDoor
+with_event door (after, taken, doors) = (0, (after, with_taken (with_doorbells door doors) taken))
 
 -- EVENT (5)
 abbrev pub after_event : DriverState → UasDriverDoor → DoorAfter DriverState UasDriverDoor
@@ -135,9 +143,51 @@ after_event driver door = option_map_or (λ event. with_event door (event_by dri
 
 -- REPLIES
 
--- the door once a reply was told
-abbrev pub with_reply : UasDriverDoor → ToldReply → UasDriverDoor
-with_reply door told = record door {
+-- what is told of an answer; where it has no sense data, the door's stays
+abbrev pub answer_of : List ℕ → Answer → ToldAnswer
+answer_of before (answers.Status tag ticket status sense buffer moved) = record {
+  kind = 1;
+  tag = tag;
+  ticket = ticket;
+  status = status;
+  sense_length = array_vec_len sense;
+  sense = padded sense.items (array_vec_len sense);
+  length = told_length buffer;
+  moved = moved;
+}
+answer_of before (answers.Aborted tag ticket buffer moved) = record {
+  kind = 2;
+  tag = tag;
+  ticket = ticket;
+  status = 0;
+  sense_length = 0;
+  sense = before;
+  length = told_length buffer;
+  moved = moved;
+}
+answer_of before (answers.Failed tag ticket code buffer moved) = record {
+  kind = 4;
+  tag = tag;
+  ticket = ticket;
+  status = code;
+  sense_length = 0;
+  sense = before;
+  length = option_map_or told_length buffer 0;
+  moved = moved;
+}
+answer_of before (answers.Task tag ticket code) =
+    record { kind = 3; tag = tag; ticket = ticket; status = code; sense_length = 0; sense = before; length = 0; moved = 0 }
+
+-- the bytes once it was told
+abbrev pub with_answer_bytes : List ℕ → Answer → List ℕ
+with_answer_bytes bytes (answers.Status tag ticket status sense buffer moved) = overlaid buffer bytes
+with_answer_bytes bytes (answers.Aborted tag ticket buffer moved) = overlaid buffer bytes
+with_answer_bytes bytes (answers.Failed tag ticket code buffer moved) = option_map_or (λ buffer. overlaid buffer bytes) buffer bytes
+with_answer_bytes bytes (answers.Task tag ticket code) = bytes
+
+-- the door once an answer was told
+abbrev pub with_answer : UasDriverDoor → ToldAnswer → UasDriverDoor
+with_answer door told = record door {
   acted = 1;
   reply = told.kind;
   tag = told.tag;
@@ -146,11 +196,12 @@ with_reply door told = record door {
   sense_length = told.sense_length;
   sense = told.sense;
   length = told.length;
+  moved = told.moved;
 }
 
-abbrev pub with_given : UasDriverDoor → List ℕ → DriverState → Option Reply → After DriverState UasDriverDoor
+abbrev pub with_given : UasDriverDoor → List ℕ → DriverState → Option Answer → After DriverState UasDriverDoor
 with_given door bytes after None = (0, (after, (record door { acted = 0 }, bytes)))
-with_given door bytes after (Some reply) = (0, (after, (with_reply door (told_of door.sense reply), with_buffer bytes reply)))
+with_given door bytes after (Some answer) = (0, (after, (with_answer door (answer_of door.sense answer), with_answer_bytes bytes answer)))
 
 -- REPLY (6): the client's oldest; refused where there is no room for the longest buffer, 128 blocks
 abbrev pub after_reply : DriverState → UasDriverDoor → List ℕ → After DriverState UasDriverDoor
@@ -185,12 +236,56 @@ after_context driver door bytes =
     else option_map_or (λ pipe. with_read driver door bytes (context_by driver pipe door.stream)) (pipe_numbered door.pipe)
     (with_bytes bytes (refused DRIVER_RING driver door))
 
+-- COMMANDS THAT ARE GIVEN UP, AND ENDPOINTS
+
+-- GIVE_UP (11)
+abbrev pub after_give_up : DriverState → UasDriverDoor → DoorAfter DriverState UasDriverDoor
+after_give_up driver door = with_submitted door (give_up_by driver door.client door.tag)
+
+-- the pipe of a number, the command pipe too
+abbrev pub endpoint_numbered : ℕ → Option Pipe
+endpoint_numbered = numbered ((1, pipes.Status) ∷ (2, pipes.DataIn) ∷ (3, pipes.DataOut) ∷ (4, pipes.Command) ∷ [])
+
+-- the state of an endpoint (xHCI 6.2.3, EP State) by its number; Error, 4, is halted too
+abbrev pub state_numbered : ℕ → Option EndpointState
+state_numbered = numbered ((1, states.Running) ∷ (2, states.Halted) ∷ (3, states.Stopped) ∷ (4, states.Halted) ∷ [])
+
+abbrev pub with_stated : UasDriverDoor → DriverState × List ℕ → DoorAfter DriverState UasDriverDoor
+with_stated door (after, doors) = (0, (after, with_doorbells door doors))
+
+abbrev pub after_pipe_state : DriverState → UasDriverDoor → Pipe → DoorAfter DriverState UasDriverDoor
+after_pipe_state driver door pipe =
+    option_map_or (λ state. with_stated door (stated driver pipe state)) (state_numbered door.state) (refused DRIVER_STATE driver door)
+
+-- STATE (12)
+abbrev pub after_state : DriverState → UasDriverDoor → DoorAfter DriverState UasDriverDoor
+after_state driver door = option_map_or (after_pipe_state driver door) (endpoint_numbered door.pipe) (refused DRIVER_RING driver door)
+
+-- the number of a pipe's endpoint
+abbrev pub number_of_endpoint : Pipe → ℕ
+number_of_endpoint pipes.Status = 1
+number_of_endpoint pipes.DataIn = 2
+number_of_endpoint pipes.DataOut = 3
+number_of_endpoint pipes.Command = 4
+
+abbrev pub with_wanted : UasDriverDoor → Option Pipe → UasDriverDoor
+with_wanted door None = record door { acted = 0 }
+with_wanted door (Some pipe) = record door { acted = 1; pipe = number_of_endpoint pipe }
+
+-- WANTED (13)
+abbrev pub after_wanted : DriverState → UasDriverDoor → DoorAfter DriverState UasDriverDoor
+after_wanted driver door = (0, (driver, with_wanted door (wanted_state driver)))
+
+-- STRAYS (14)
+abbrev pub after_strays : DriverState → UasDriverDoor → DoorAfter DriverState UasDriverDoor
+after_strays driver door = (0, (driver, record door { address = driver.strays }))
+
 -- A CALL
 
 abbrev pub driver_call : ℕ → Option DriverCall
 driver_call =
     numbered ((1, calls.Submit) ∷ (2, calls.Task) ∷ (3, calls.Retire) ∷ (4, calls.LeftOver) ∷ (5, calls.Event) ∷ (6, calls.Reply) ∷ (7, calls.Read)
-    ∷ (8, calls.Write) ∷ (9, calls.Item) ∷ (10, calls.Context) ∷ [])
+    ∷ (8, calls.Write) ∷ (9, calls.Item) ∷ (10, calls.Context) ∷ (11, calls.GiveUp) ∷ (12, calls.State) ∷ (13, calls.Wanted) ∷ (14, calls.Strays) ∷ [])
 
 -- what each call makes, where it answers this number
 abbrev pub after_driver_named : ℕ → DriverState → UasDriverDoor → List ℕ → DriverCall → After DriverState UasDriverDoor
@@ -204,6 +299,10 @@ after_driver_named number driver door bytes calls.Read = after_read driver door 
 after_driver_named number driver door bytes calls.Write = with_bytes bytes (after_write driver door bytes)
 after_driver_named number driver door bytes calls.Item = after_item driver door bytes
 after_driver_named number driver door bytes calls.Context = after_context driver door bytes
+after_driver_named number driver door bytes calls.GiveUp = with_bytes bytes (after_give_up driver door)
+after_driver_named number driver door bytes calls.State = with_bytes bytes (after_state driver door)
+after_driver_named number driver door bytes calls.Wanted = with_bytes bytes (after_wanted driver door)
+after_driver_named number driver door bytes calls.Strays = with_bytes bytes (after_strays driver door)
 
 -- the call that a door names, or that there is no such call
 abbrev pub driver_answer : ℕ → DriverState → UasDriverDoor → List ℕ → After DriverState UasDriverDoor

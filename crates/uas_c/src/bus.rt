@@ -1,12 +1,11 @@
 //! The bus for C: host, controller and device as one machine of steps, over one call with a door.
-ghost use Rattle.std.specs.Prelude.{◌≡◌, ◌==◌, false, if◌then◌else◌, IfSome, option_map};
+ghost use Rattle.std.specs.Prelude.{◌≡◌, ◌==◌, false, IfSome, option_map};
 ghost use Rattle.shared_machine.specs.Bus.{HasTicket};
 ghost use Rattle.shared_machine.specs.Drain.{drained};
 ghost use Rattle.shared_machine.specs.Shared.{opening};
 ghost use Rattle.c_faults.specs.declared.TheConstants.{NO_MEMORY};
 ghost use Rattle.uas_c.specs.BusCall.{after_due, after_reply, after_step, after_submit, after_task, bus_answer, bus_call_numbered};
 ghost use Rattle.uas_c.specs.BusCall.{refusal_told, step_numbered, unit_of, with_drain, with_owner, with_reply};
-ghost use Rattle.c_common.specs.Door.{refused};
 
 mod handle;
 
@@ -156,8 +155,7 @@ pub(crate) fn serve(kept: &mut KeptBus, door: &mut UasBusDoor, bytes: &mut [u8])
 
 /// A submission: ticket and operation are judged here, all else by the bus.
 fn submit(bus: &mut Bus, alloc: Global, door: &UasBusDoor, bytes: &[u8]) -> u8
-    ensures { (result, (bus.new, door.now))
-        ≡ (if result == NO_MEMORY then refused NO_MEMORY bus.old door.now else after_submit bus.old door.now bytes.now) }
+    ensures { (result, (bus.new, door.now)) ≡ after_submit result bus.old door.now bytes.now }
 {
     let op = match asked_operation(door.ticket, &door.operation) {
         Ok(op) => op,

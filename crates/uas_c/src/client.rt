@@ -136,7 +136,7 @@ pub(crate) fn tell_reply(
 }
 
 /// Copies a reply's buffer to the front of `bytes`, as far as they reach, and tells its length.
-fn show_buffer(buffer: &Buffer, bytes: &mut [u8]) -> u32
+pub(crate) fn show_buffer(buffer: &Buffer, bytes: &mut [u8]) -> u32
     ensures length { result ≡ min (length buffer.now) (2 ^ 32 - 1) }
     ensures bytes { bytes.new ≡ overlaid buffer.now bytes.old }
 {

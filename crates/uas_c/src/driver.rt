@@ -1,23 +1,23 @@
 //! The driver for C: host, rings and buffers without a controller, over one call with a door.
 ghost use Rattle.std.specs.Prelude.{◌≡◌, true, IfOk};
 ghost use Rattle.uas_driver.specs.Driver.{IsOpening};
-ghost use Rattle.uas_c.specs.DriverCall.{after_context, after_event, after_item, after_left_over, after_read, after_reply, after_retire};
-ghost use Rattle.uas_c.specs.DriverCall.{after_submit, after_task, after_write, clients_told, driver_answer, made_number, next_left_over};
+ghost use Rattle.uas_c.specs.DriverCall.{after_context, after_event, after_give_up, after_item, after_left_over, after_read, after_reply, after_retire};
+ghost use Rattle.uas_c.specs.DriverCall.{after_state, after_submit, after_task, after_write, clients_told, driver_answer, made_number, next_left_over};
 
+mod answer;
 mod door;
 mod handle;
 
-use crate::client::{
-    LONGEST_BUFFER, TICKETS, asked_operation, pipe_numbered, task_numbered, tell_reply,
-};
+use crate::client::{LONGEST_BUFFER, TICKETS, asked_operation, pipe_numbered, task_numbered};
+use crate::driver::answer::tell_answer;
 use crate::driver::door::{
-    DriverCall, UasDriverDoor, call_numbered, event_named, refusal_number, show_doorbells,
-    show_handled, show_next, show_reply,
+    DriverCall, UasDriverDoor, call_numbered, endpoint_numbered, event_named, refusal_number,
+    show_answer, show_doorbells, show_next, show_taken, show_wanted, state_numbered,
 };
 use arrayvec::ArrayVec;
 use c_faults::{
     CLIENT_CALL, CLIENT_FUNCTION, CLIENT_LENGTH, CLIENT_TICKET, DRIVER_ADDRESS, DRIVER_CLIENTS,
-    DRIVER_EVENT, DRIVER_RING, NO_MEMORY,
+    DRIVER_EVENT, DRIVER_RING, DRIVER_STATE, NO_MEMORY,
 };
 use scsi_cmd::{Buffer, Command};
 use std::alloc::Global;
@@ -79,6 +79,16 @@ pub(crate) fn serve(kept: &mut KeptDriver, door: &mut UasDriverDoor, bytes: &mut
         DriverCall::Write => write(&mut kept.driver, door, bytes),
         DriverCall::Item => show_item(&kept.driver, door, bytes),
         DriverCall::Context => show_context(&kept.driver, door, bytes),
+        DriverCall::GiveUp => give_up(&mut kept.driver, door),
+        DriverCall::State => take_state(&mut kept.driver, door),
+        DriverCall::Wanted => {
+            show_wanted(door, kept.driver.wanted_state());
+            0
+        }
+        DriverCall::Strays => {
+            door.address = kept.driver.strays();
+            0
+        }
     }
 }
 
@@ -174,9 +184,9 @@ fn take_event(driver: &mut Driver, door: &mut UasDriverDoor) -> u8
         return DRIVER_EVENT;
     };
     let mut doors = ArrayVec::new();
-    let handled = driver.take_event(event, &mut doors);
+    let taken = driver.take_event(event, &mut doors);
     show_doorbells(door, &doors);
-    show_handled(door, handled);
+    show_taken(door, taken);
     0
 }
 
@@ -189,9 +199,39 @@ fn take_reply(driver: &mut Driver, door: &mut UasDriverDoor, bytes: &mut [u8]) -
     }
     let given = driver.take_reply(door.client as usize);
     match &given {
-        Some(reply) => show_reply(door, &tell_reply(reply, door.sense, bytes)),
+        Some(answer) => show_answer(door, &tell_answer(answer, door.sense, bytes)),
         None => door.acted = 0,
     }
+    0
+}
+
+/// A client gives up a command.
+fn give_up(driver: &mut Driver, door: &mut UasDriverDoor) -> u8
+    ensures { (result, (driver.new, door.new)) ≡ after_give_up driver.old door.old }
+{
+    let mut doors = ArrayVec::new();
+    match driver.give_up(door.client as usize, door.tag, &mut doors) {
+        Ok(()) => {
+            show_doorbells(door, &doors);
+            0
+        }
+        Err(refusal) => refusal_number(refusal),
+    }
+}
+
+/// The state of an endpoint is handed in.
+fn take_state(driver: &mut Driver, door: &mut UasDriverDoor) -> u8
+    ensures { (result, (driver.new, door.new)) ≡ after_state driver.old door.old }
+{
+    let Some(pipe) = endpoint_numbered(door.pipe) else {
+        return DRIVER_RING;
+    };
+    let Some(state) = state_numbered(door.state) else {
+        return DRIVER_STATE;
+    };
+    let mut doors = ArrayVec::new();
+    driver.endpoint_state(pipe, state, &mut doors);
+    show_doorbells(door, &doors);
     0
 }
 

@@ -2,5 +2,11 @@
 pub mod Driver
 pub mod Room
 pub mod Settled
+pub mod Meaning
+pub mod Counted
+pub mod Taking
+pub mod Endings
+pub mod Recovery
+pub mod Telling
 pub mod Places
 pub mod Calls

@@ -1,18 +1,19 @@
 -- The rings as the controller must have left them where it posts an event (xHCI 1.2, 4.6 and 4.11.3): no controller beyond tells
 -- where a ring's consumer stands but by its events.
-use Rattle.std.specs.Prelude.{ℕ, ◌+◌, ◌==◌, ◌&&◌, nat_le, nat_lt, Bool, true, false, not, if◌then◌else◌, length, Option, None, Some, option_and_then, slice_get}
-use Rattle.std.specs.Option.{option_map_or}
+use Rattle.std.specs.Prelude.{ℕ, ◌+◌, ◌-◌, ◌*◌, ◌==◌, ◌&&◌, nat_le, nat_lt, Bool, true, false, not, if◌then◌else◌, length, Option, None, Some, option_and_then, slice_get, is_some}
+use Rattle.std.specs.List.{find, range_with_len}
+use Rattle.std.specs.Option.{option_map_or, unwrap_or}
 use Rattle.xhci_trb.specs.declared.Trb.{Trb}
 use Rattle.xhci_trb.specs.declared.Trb.TheVariants.{Normal, Link, StopEndpoint, SetDequeue, TransferEvent, CommandEvent}
-use Rattle.cycle_ring.specs.Ring.{cycle_of, item_at}
-use Rattle.cycle_ring.specs.Items.{ItemRing, known_of}
-use Rattle.event_ring.specs.declared.Event.{Event}
-use Rattle.event_ring.specs.declared.Event.TheVariants.{Transfer, Command as CommandCompletion}
+use Rattle.cycle_ring.specs.Ring.{cycle_of, item_at, pointer_of}
+use Rattle.cycle_ring.specs.Items.{ItemRing, known_front_of, known_of}
 use Rattle.uas_profile.specs.declared.Pipe.{Pipe}
-use Rattle.uas_profile.specs.declared.Pipe.TheVariants.{Status, DataIn, DataOut}
-use Rattle.uas_profile.specs.declared.TheConstants.{ENGINE_RING_PLACES, SUCCESS, STATUS_ENDPOINT, DATA_OUT_ENDPOINT, DATA_IN_ENDPOINT}
+use Rattle.uas_profile.specs.declared.Pipe.TheVariants.{Command, Status, DataIn, DataOut}
+use Rattle.uas_profile.specs.declared.TheConstants.{STREAMS, STREAM_RING_PLACES, ENGINE_RING_PLACES, SUCCESS, STATUS_ENDPOINT, DATA_OUT_ENDPOINT, DATA_IN_ENDPOINT}
 use Rattle.stream_array.specs.Contexts.{has_stream}
-use Rattle.stream_array.specs.Map.{places_of, spot_at}
+use Rattle.stream_array.specs.Map.{places_of, ring_base}
+use Rattle.uas_host.specs.Events.{command_tag}
+use Rattle.uas_host.specs.Retirement.{has_pending}
 use Rattle.stream_array.specs.Rings.{LinesState, ring_of, with_engine, with_ring}
 
 -- PENDING ITEMS
@@ -24,18 +25,69 @@ pending_to ring k = if nat_le ring.got k && nat_lt k (length ring.put) then Some
 abbrev pub pending_place : ℕ → ItemRing → ℕ → Option ℕ
 pending_place n ring address = option_and_then (pending_to ring) (item_at n ring address)
 
--- TRANSFER EVENTS
+-- a consumer's end
 
--- the ring of a pipe once its consumer passed the pending item at an address, and all before it
-abbrev pub passed_on : LinesState → ℕ → Pipe × ℕ × ℕ → LinesState
-passed_on lines pointer at =
-    option_map_or (λ k. with_ring lines at.0 at.1 (record (ring_of lines at.0 at.1) { got = k + 1 }))
-    (pending_place (places_of at.0) (ring_of lines at.0 at.1) pointer) lines
+-- The ring of a pipe once its consumer stands at the pending item at an address: those before it are consumed. Worked: of three items at
+-- 43012000h to 43012020h, of which none is consumed, 43012010h leaves two pending, and 43012030h three.
+abbrev pub stood : LinesState → Pipe → ℕ → ℕ → LinesState
+stood lines pipe stream pointer =
+    option_map_or (λ k. with_ring lines pipe stream (record (ring_of lines pipe stream) { got = k }))
+    (pending_place (places_of pipe) (ring_of lines pipe stream) pointer) lines
 
--- A transfer event is of the item at its pointer, which is consumed then. Worked: of three items at 43012000h to 43012020h, of which
--- none is consumed, an event of 43012010h leaves one pending, and one of 43012030h leaves three.
-abbrev pub transferred : LinesState → ℕ → LinesState
-transferred lines pointer = option_map_or (passed_on lines pointer) (spot_at pointer) lines
+-- an item of the ring is pending at an address
+abbrev pub is_pending_at : LinesState → Pipe → ℕ → ℕ → Bool
+is_pending_at lines pipe stream pointer = is_some (pending_place (places_of pipe) (ring_of lines pipe stream) pointer)
+
+-- the ring once its consumer passed the first pending item, if there is one
+abbrev pub stepped : LinesState → Pipe → ℕ → LinesState
+stepped lines pipe stream =
+    if has_pending (ring_of lines pipe stream)
+    then with_ring lines pipe stream (record (ring_of lines pipe stream) { got = (ring_of lines pipe stream).got + 1 }) else lines
+
+-- the ring once its consumer passed all pending items
+abbrev pub all_passed : LinesState → Pipe → ℕ → LinesState
+all_passed lines pipe stream = with_ring lines pipe stream (record (ring_of lines pipe stream) { got = length (ring_of lines pipe stream).put })
+
+-- the address of the item before the enqueue place of a stream's ring: behind the Link it is the first place's turn to be that
+abbrev pub address_before : ℕ → ℕ → ℕ
+address_before base enqueue = if enqueue == base then base + 16 * (STREAM_RING_PLACES - 2) else enqueue - 16
+
+-- The address of the last item of a stream's ring. Worked: of nine items from place 12 on of the ring at 43012000h, the enqueue place is
+-- 43012020h, and the last item is at 43012010h.
+abbrev pub last_address : LinesState → Pipe → ℕ → ℕ
+last_address lines pipe stream =
+    address_before (ring_base pipe stream) (pointer_of (places_of pipe) (ring_of lines pipe stream) (length (ring_of lines pipe stream).put))
+
+-- THE FIRST TD OF A PIPE
+
+-- the first stream of a pipe that has a pending TRB
+unfoldable pub first_pending : LinesState → Pipe → Option ℕ
+first_pending lines pipe = find (λ stream. has_pending (ring_of lines pipe stream)) (range_with_len 1 STREAMS)
+
+-- the stream at which a pipe's endpoint goes on: its first one that waits, or stream 1
+abbrev pub first_stream : LinesState → Pipe → ℕ
+first_stream lines Command = 0
+first_stream lines Status = unwrap_or (first_pending lines Status) 1
+first_stream lines DataIn = unwrap_or (first_pending lines DataIn) 1
+first_stream lines DataOut = unwrap_or (first_pending lines DataOut) 1
+
+-- the tag of the TRB at the front of the command pipe
+abbrev pub front_tag : LinesState → Option ℕ
+front_tag lines = option_and_then (λ front. command_tag front.1) (known_front_of (places_of Command) lines.command)
+
+-- the tag of the first TD that is pending on a pipe
+abbrev pub first_td : LinesState → Pipe → Option ℕ
+first_td lines Command = front_tag lines
+first_td lines Status = first_pending lines Status
+first_td lines DataIn = first_pending lines DataIn
+first_td lines DataOut = first_pending lines DataOut
+
+-- the tag of the TD of the TRB at which a ring's consumer stands
+abbrev pub td_tag : LinesState → Pipe → ℕ → Option ℕ
+td_tag lines Command stream = front_tag lines
+td_tag lines Status stream = Some stream
+td_tag lines DataIn stream = Some stream
+td_tag lines DataOut stream = Some stream
 
 -- COMMAND COMPLETION EVENTS
 
@@ -92,10 +144,3 @@ completed_to lines code k =
 -- code 5 leaves the ring as it was.
 abbrev pub completed : LinesState → ℕ → ℕ → LinesState
 completed lines pointer code = option_map_or (completed_to lines code) (pending_place ENGINE_RING_PLACES lines.engine pointer) lines
-
--- EITHER
-
--- an event whose pointer is no pending item's tells nothing new of the rings
-abbrev pub settled : LinesState → Event → LinesState
-settled lines (Transfer pointer residual code endpoint slot) = transferred lines pointer
-settled lines (CommandCompletion pointer code slot) = completed lines pointer code

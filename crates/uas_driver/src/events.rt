@@ -1,184 +1,165 @@
-//! Events, and the rings as the controller beyond must have left them where it posts one.
-ghost use Rattle.std.specs.Prelude.{◌≡◌, ◌↔◌, ℕ, ◌+◌, Some, IfSome, is_some, option_and_then, slice_get};
-ghost use Rattle.std.specs.Option.{option_map_or};
-ghost use Rattle.uas_profile.specs.declared.TheConstants.{ENGINE_RING_PLACES};
-ghost use Rattle.uas_profile.specs.Pipes.{HasStreams};
-ghost use Rattle.stream_array.specs.Map.{HasRing, places_of};
-ghost use Rattle.cycle_ring.specs.Items.{known_of};
-ghost use Rattle.stream_array.specs.Rings.{ring_of, with_engine, with_ring};
-ghost use Rattle.uas_host.specs.Awaited.{IsOfEngine, IsOfTd};
-ghost use Rattle.uas_host.specs.LeftBy.{LeavesOverByNote};
-ghost use Rattle.uas_driver.specs.Calls.{event_by, settled_sides};
-ghost use Rattle.uas_driver.specs.Settled.{completed, engine_passed, executed, moved_at, moved_on, passed_on, pending_place, pipe_at, settled, transferred};
+//! Events, and the states of endpoints that are handed in.
+ghost use Rattle.std.specs.Prelude.{◌≡◌};
+ghost use Rattle.uas_driver.specs.Recovery.{with_state};
+ghost use Rattle.uas_driver.specs.Telling.{asked_state, commanded, done, event_by, is_asking, next_told, state_for, state_taken, stated, wanted_state};
 
-use crate::Driver;
-use crate::room::has_stream;
+use crate::rings::complete;
+use crate::states::{Next, Recovery, Stage, next_by};
+use crate::{Driver, EndpointState, Taken};
 use arrayvec::ArrayVec;
-use cycle_ring::laws::addresses_name_items;
 use event_ring::Event;
-use stream_array::laws::one_ring_is_changed;
-use stream_array::{Lines, Pipe, find};
-use uas_host::Handled;
-use uas_profile::{DATA_IN_ENDPOINT, DATA_OUT_ENDPOINT, STATUS_ENDPOINT, STREAM_ENTRIES, SUCCESS};
-use xhci_trb::Trb;
+use stream_array::Pipe;
+use uas_profile::{SLOT, STREAM_ENTRIES};
 
-/// Moves a ring's consumer's end to its pending item at an address; false, and nothing changes, where there is none. An item's Cycle bit
-/// is one of two, and each is tried.
-fn stand(lines: &mut Lines, pipe: Pipe, stream: u16, pointer: u64) -> bool
-    requires { HasRing pipe stream }
-    ensures stands { result ≡ is_some (pending_place (places_of pipe) (ring_of lines.old pipe stream) pointer) }
-    ensures lines { lines.new ≡ option_map_or (λ k. with_ring lines.old pipe stream (record (ring_of lines.old pipe stream) { got = k }))
-        (pending_place (places_of pipe) (ring_of lines.old pipe stream) pointer) lines.old }
-{
-    addresses_name_items();
-    lines.room(pipe, stream);
-    if lines.set_dequeue(pipe, stream, pointer, false).is_ok() {
-        return true;
-    }
-    lines.set_dequeue(pipe, stream, pointer, true).is_ok()
-}
+type Doors = ArrayVec<u32, STREAM_ENTRIES>;
 
-/// Moves a ring's consumer's end behind its pending item at an address, if there is one.
-fn pass(lines: &mut Lines, pipe: Pipe, stream: u16, pointer: u64)
-    requires { HasRing pipe stream }
-    ensures { lines.new ≡ option_map_or (λ k. with_ring lines.old pipe stream (record (ring_of lines.old pipe stream) { got = k + 1 }))
-        (pending_place (places_of pipe) (ring_of lines.old pipe stream) pointer) lines.old }
+/// What the state of an endpoint that was asked for leads to.
+fn next_told(state: EndpointState) -> Next
+    ensures { result ≡ next_told state }
 {
-    one_ring_is_changed();
-    lines.room(pipe, stream);
-    if stand(lines, pipe, stream, pointer) {
-        lines.advance(pipe, stream);
+    match state {
+        EndpointState::Running => Next::Again,
+        EndpointState::Halted => Next::Reset,
+        EndpointState::Stopped => Next::Go,
     }
 }
 
-/// The rings once a transfer event of this pointer was posted (4.11.3).
-fn transfer(lines: &mut Lines, pointer: u64)
-    ensures { lines.new ≡ transferred lines.old pointer }
+/// Whether a recovery asks for the state of a pipe's endpoint.
+fn is_asking(recovery: &Recovery, pipe: Pipe) -> bool
+    ensures { result ≡ is_asking recovery.now pipe }
 {
-    if let Some((pipe, stream, _)) = find(pointer) {
-        pass(lines, pipe, stream, pointer);
-    }
-}
-
-/// The same as `stand` of the controller's command ring.
-fn stand_engine(lines: &mut Lines, pointer: u64) -> bool
-    ensures stands { result ≡ is_some (pending_place ENGINE_RING_PLACES lines.old.engine pointer) }
-    ensures lines { lines.new ≡ option_map_or (λ k. with_engine lines.old (record lines.old.engine { got = k }))
-        (pending_place ENGINE_RING_PLACES lines.old.engine pointer) lines.old }
-{
-    addresses_name_items();
-    lines.room_engine();
-    if lines.set_dequeue_engine(pointer, false).is_ok() {
-        return true;
-    }
-    lines.set_dequeue_engine(pointer, true).is_ok()
-}
-
-/// Moves the consumer's end of the controller's command ring behind its pending item at an address: that item, where it is a command.
-fn pass_engine(lines: &mut Lines, pointer: u64) -> Option<Trb>
-    ensures lines { lines.new ≡ option_map_or (engine_passed lines.old) (pending_place ENGINE_RING_PLACES lines.old.engine pointer) lines.old }
-    ensures command { result ≡ option_and_then (λ k. option_and_then known_of (slice_get lines.old.engine.put k))
-        (pending_place ENGINE_RING_PLACES lines.old.engine pointer) }
-{
-    if !stand_engine(lines, pointer) {
-        return None;
-    }
-    lines.advance_engine();
-    lines.consumed_engine(pointer)
-}
-
-/// The pipe with streams whose endpoint a command names.
-fn pipe_at(endpoint: u8) -> Option<Pipe>
-    ensures pipe { result ≡ pipe_at endpoint }
-    ensures streams { IfSome result HasStreams }
-{
-    match endpoint {
-        STATUS_ENDPOINT => Some(Pipe::Status),
-        DATA_OUT_ENDPOINT => Some(Pipe::DataOut),
-        DATA_IN_ENDPOINT => Some(Pipe::DataIn),
-        _ => None,
-    }
-}
-
-/// Moves a ring's consumer's end to a pending place or the enqueue place, if that is one.
-fn move_to(lines: &mut Lines, pipe: Pipe, stream: u16, pointer: u64, cycle: bool)
-    requires { HasRing pipe stream }
-    ensures { lines.new ≡ option_map_or (with_ring lines.old pipe stream)
-        (moved_at (places_of pipe) (ring_of lines.old pipe stream) pointer cycle) lines.old }
-{
-    addresses_name_items();
-    lines.room(pipe, stream);
-    let _ = lines.move_dequeue(pipe, stream, pointer, cycle);
-}
-
-/// The same, where the stream has a ring.
-fn move_on(lines: &mut Lines, stream: u16, pointer: u64, cycle: bool, pipe: Pipe)
-    requires { HasStreams pipe }
-    ensures { lines.new ≡ moved_on lines.old stream pointer cycle pipe }
-{
-    if has_stream(stream) {
-        move_to(lines, pipe, stream, pointer, cycle);
-    }
-}
-
-/// The rings once a command succeeded: Set TR Dequeue Pointer (4.6.10) moved a ring's consumer's end.
-fn execute(lines: &mut Lines, command: Option<Trb>)
-    ensures { lines.new ≡ executed lines.old command }
-{
-    if let Some(
-        Trb::SetDequeue {
-            pointer,
-            cycle,
-            stream,
-            endpoint,
-            ..
-        },
-    ) = command
-    {
-        if let Some(pipe) = pipe_at(endpoint) {
-            move_on(lines, stream, pointer, cycle, pipe);
-        }
-    }
-}
-
-/// The rings once a command completion event of this pointer and this code was posted (4.6).
-fn complete(lines: &mut Lines, pointer: u64, code: u8)
-    ensures { lines.new ≡ completed lines.old pointer code }
-{
-    let command = pass_engine(lines, pointer);
-    if code == SUCCESS {
-        execute(lines, command);
-    }
-}
-
-/// The rings as the controller beyond must have left them where it posts this event.
-fn settle(lines: &mut Lines, event: Event)
-    ensures { lines.new ≡ settled lines.old event }
-{
-    match event {
-        Event::Transfer { pointer, .. } => transfer(lines, pointer),
-        Event::Command { pointer, code, .. } => complete(lines, pointer, code),
-    }
+    recovery.pipe.number() == pipe.number() && matches!(recovery.stage, Stage::Asking)
 }
 
 impl Driver {
-    /// Takes in an event that the controller beyond posted (4.9.4), any event. The ring that it is of is settled first: the item at its
-    /// pointer and all before it are consumed where it was pending, and a Set TR Dequeue Pointer of code 1, Success, moves the ring
-    /// that it names. Then it is the host's (`Host::on_event`), and `doors` has the doorbells to write: those of the retirement's next
-    /// step, or of the streams that wait at its end. Worked: the event of the first of two data TRBs of a TD settles the ring and is
-    /// `Stray`; that of the second, with code 1, is `Matched`.
-    pub fn take_event(&mut self, event: Event, doors: &mut ArrayVec<u32, STREAM_ENTRIES>) -> Handled
-        ensures handled { event_by self.old event ≡ (self.new, result, doors.new.items) }
-        // Of the rings once they are settled it is what `Host::on_event` says in words of its own: matched exactly where it is of a TD of
-        // that tag that the host waits for, Engine exactly where it is of the engine command under way (uas_host specs/Awaited), and
-        // what is left over is left over by it (specs/LeftBy).
-        ensures matched { (tag : ℕ) → (result ≡ Handled.Matched tag) ↔ IsOfTd (settled_sides self.old event) self.old.frames event tag }
-        ensures engine { (result ≡ Handled.Engine) ↔ IsOfEngine (settled_sides self.old event) event }
-        ensures left_over { LeavesOverByNote (settled_sides self.old event) self.old.frames event self.new.host }
+    /// A recovery goes on as the code of its command asks for.
+    fn finish(&mut self, pointer: u64, code: u8, recovery: Recovery, doors: &mut Doors)
+        ensures { (self.new, doors.new.items) ≡ done self.old pointer code recovery }
     {
         doors.clear();
-        settle(&mut self.lines, event);
-        self.host
-            .on_event(&mut self.lines, &self.frames, doors, event)
+        let next = next_by(
+            recovery.stage,
+            self.endpoints.of(recovery.pipe),
+            recovery.again,
+            code,
+        );
+        let now = Recovery {
+            command: pointer,
+            ..recovery
+        };
+        self.go_by(now, code, next, doors);
+    }
+
+    /// Takes in a command completion event, any.
+    fn command(&mut self, pointer: u64, code: u8, slot: u8, doors: &mut Doors) -> Taken
+        ensures { commanded self.old pointer code slot ≡ (self.new, result, doors.new.items) }
+    {
+        doors.clear();
+        let Some(recovery) = self.recovery else {
+            return self.stray();
+        };
+        if slot != SLOT || !complete(&mut self.lines, pointer, code) {
+            return self.stray();
+        }
+        self.finish(pointer, code, recovery, doors);
+        self.go_on(doors);
+        Taken::Engine
+    }
+
+    /// Takes in an event that the controller beyond posted (4.9.4), any event; `doors` has the doorbells to write.
+    ///
+    /// What a transfer event means for the TRB at its pointer is [`meaning_of`](crate::meaning_of): with Success that TRB and all before
+    /// it on its ring are consumed; a short packet ends the whole TD; of an endpoint that is being stopped, and of a TD that failed, the
+    /// TRB isn't consumed. What ends a TD is handed to the host (`Host::on_transfer`): the answer is `Matched` where the host waited for
+    /// it. A TD that failed is taken off its ring, and the rest of its command's with it, unless the command's status comes before.
+    ///
+    /// A command completion is of the pending command at its pointer; the recovery that waits for it goes on by its code, and the
+    /// answer is `Engine`. An event of no TRB of a TD that is pending or begun, of no pending command, of another endpoint or
+    /// slot, or whose code says nothing of a TRB is `Stray`, and changes nothing but [`Driver::strays`]. Worked: the event of the first of two data TRBs of a TD, with
+    /// code 1, is `Noted`; that of the second is `Matched`.
+    pub fn take_event(&mut self, event: Event, doors: &mut Doors) -> Taken
+        ensures { event_by self.old event ≡ (self.new, result, doors.new.items) }
+    {
+        match event {
+            Event::Transfer {
+                pointer,
+                residual,
+                code,
+                endpoint,
+                slot,
+            } => {
+                doors.clear();
+                let taken = self.transfer(pointer, residual, code, endpoint, slot);
+                if !matches!(taken, Taken::Stray) {
+                    self.go_on(doors);
+                }
+                taken
+            }
+            Event::Command {
+                pointer,
+                code,
+                slot,
+            } => self.command(pointer, code, slot, doors),
+        }
+    }
+
+    /// The pipe whose endpoint's state is asked for (6.2.3, EP State): a Stop Endpoint was answered with Context State Error, and no
+    /// event told why. None where none is asked for.
+    pub fn wanted_state(&self) -> Option<Pipe>
+        ensures { result ≡ wanted_state self.now }
+    {
+        match self.recovery {
+            Some(recovery) if is_asking(&recovery, recovery.pipe) => Some(recovery.pipe),
+            _ => None,
+        }
+    }
+
+    /// A recovery goes on by the state that it asked for.
+    fn answer_state(&mut self, state: EndpointState, recovery: Recovery, doors: &mut Doors)
+        ensures { (self.new, doors.new.items) ≡ asked_state self.old state recovery }
+    {
+        doors.clear();
+        let now = Recovery {
+            stage: Stage::Stopping,
+            ..recovery
+        };
+        self.go_by(now, 0, next_told(state), doors);
+    }
+
+    fn set_state(&mut self, pipe: Pipe, state: EndpointState)
+        ensures { self.new ≡ with_state self.old pipe state }
+    {
+        self.endpoints.set(pipe, state);
+    }
+
+    /// The same, where it is of this pipe.
+    fn state_for(&mut self, pipe: Pipe, state: EndpointState, recovery: Recovery, doors: &mut Doors)
+        ensures { (self.new, doors.new.items) ≡ state_for self.old pipe state recovery }
+    {
+        if is_asking(&recovery, pipe) {
+            self.answer_state(state, recovery, doors);
+        } else {
+            doors.clear();
+        }
+    }
+
+    /// The same, where a recovery is under way.
+    fn take_state(&mut self, pipe: Pipe, state: EndpointState, doors: &mut Doors)
+        ensures { (self.new, doors.new.items) ≡ state_taken self.old pipe state }
+    {
+        match self.recovery {
+            Some(recovery) => self.state_for(pipe, state, recovery, doors),
+            None => doors.clear(),
+        }
+    }
+
+    /// Hands in the state of a pipe's endpoint, as its context has it (6.2.3); state Error counts as `Halted`. Where it was asked for
+    /// the recovery goes on; `doors` has the doorbells to write.
+    pub fn endpoint_state(&mut self, pipe: Pipe, state: EndpointState, doors: &mut Doors)
+        ensures { (self.new, doors.new.items) ≡ stated self.old pipe state }
+    {
+        self.set_state(pipe, state);
+        self.take_state(pipe, state, doors);
+        self.go_on(doors);
     }
 }

@@ -17,18 +17,28 @@
 //! - *Addresses* are those of `stream_array` and `frame_store`: the ring of stream s of pipe n at 40000000h + 1000000h n + 1000h s, the
 //!   command pipe's (n 1) with s 0, the controller's own command ring at 50000000h; of tag t the command buffer at 10000000h +
 //!   100h t, the status buffer at 20000000h + 100h t, and the vector of its command at 100000000h + 10000h t.
-//! - *Events* (4.11.3) alone tell the driver how far the controller beyond came. Before the host sees one, the ring that it is of is
-//!   settled: its consumer's end is moved behind the item at the event's pointer, and a Set TR Dequeue Pointer (4.6.10) that
-//!   succeeded moves its stream's. An event whose pointer is no pending item's moves nothing.
+//! - *Events* (4.11.3) alone tell the driver how far the controller beyond came. What a transfer event means for the TRB at its pointer is
+//!   [`meaning_of`], by the completion codes of 6.4.5: Success consumes it and those before it; a short packet ends the whole TD; between
+//!   Stop Endpoint and its event the three Stopped codes consume nothing; the errors say that the TD failed, and whether its endpoint is
+//!   halted. What ends a TD is handed to the host as it knows it. An event of no TRB of a TD that is pending or begun, of no pending
+//!   command, of another endpoint or slot, or of another code is *stray*: nothing changes, and it is counted.
+//! - *Recovery* (4.6.8 to 4.6.10, 4.8.3): an endpoint that is halted, or a TD that is to be taken off, begins it. Stop Endpoint, or Reset
+//!   Endpoint where the endpoint is halted; Set TR Dequeue Pointer behind each TD that is to be taken off; then the doorbells of all
+//!   streams that wait, in rising order. One is under way at a time, the host's own retirement too. A Stop Endpoint that is answered with
+//!   Context State Error is read by what events and doorbells said before, and where they said nothing the endpoint's state is asked for
+//!   ([`Driver::wanted_state`]). A Set TR Dequeue Pointer that is refused twice gives the pipe up: every command on it has failed.
+//! - *Ended commands*: a command of which a TD failed, or that its client gave up, is ended once all its TDs are off their rings. Where the
+//!   device's status comes before, its answer is the device's; else it is [`Answer::Failed`] or [`Answer::Aborted`].
 //!
 //! What is promised: safe and total, whatever the controller beyond does. It may post any event, twice or never, and write any byte of
 //! a buffer. No call asks anything of it, and each call is one equation: what it makes of the driver, its answer and its doorbells
-//! are the function of its name in specs/Calls.antt. A refused call ([`Refusal`]) leaves the driver as it was and gives no
-//! doorbell. [`Driver::new`] takes all memory, and no other call takes any.
+//! are the function of its name in specs/Calls.antt and specs/Telling.antt. A refused call ([`Refusal`]) leaves the driver as it was and
+//! gives no doorbell. [`Driver::new`] takes all memory, and no other call takes any. Not proved, and tested over a controller with a
+//! temper: that each command has an answer in the end.
 //!
 //! Where the host asks for room on a ring, or that nothing is lent for a tag, the driver tests it and refuses: a controller that posts no
 //! events gives no places back. The host's own promises, which events it takes for which command and what they leave over, stand in
-//! `uas_host` and hold here of the rings once they are settled.
+//! `uas_host` and hold here of what it is handed.
 //!
 //! It stands on `uas_host` for the host, on `stream_array` for the rings and on `frame_store` for the buffers, by their contracts alone,
 //! and says nothing that they don't.
@@ -42,18 +52,29 @@ ghost use Rattle.uas_host.specs.State.{client_of};
 ghost use Rattle.uas_driver.specs.Driver.{IsOpening};
 
 mod calls;
+mod codes;
+mod endings;
 mod events;
 mod memory;
+mod recovery;
+mod rings;
 mod room;
+mod states;
+mod steps;
+mod taking;
+mod telling;
 
+use crate::states::{End, Endpoints, Recovery};
+use arrayvec::ArrayVec;
+pub use codes::meaning_of;
 use frame_store::Frames;
-use scsi_cmd::SubmitFault;
+use scsi_cmd::{Buffer, MAX_SENSE_BYTES, SubmitFault};
 use std::alloc::{AllocError, Global};
 use std::marker::Model;
 use stream_array::{Lines, Pipe};
 use thiserror::Error;
 use uas_host::Host;
-use uas_profile::MAX_CLIENTS;
+use uas_profile::{MAX_CLIENTS, STREAM_ENTRIES};
 
 /// Want of memory, the one refusal of a constructor.
 pub type NoMemory = AllocError;
@@ -78,12 +99,105 @@ pub enum Refusal {
     Fault(SubmitFault),
 }
 
+/// What a transfer event means for the TRB at its pointer (xHCI 4.10.1, 4.6.9 and table 6-90).
+#[derive(Clone, Copy, Debug, PartialEq, Eq)]
+pub enum Meaning {
+    /// The TRB is consumed, and those of its TD before it.
+    Consumed,
+    /// The TRB isn't consumed: its endpoint is being stopped, and the TD goes on after a doorbell.
+    NotConsumed,
+    /// The TD has ended, and not all of it was moved.
+    EndedShort,
+    /// The TD failed. Its endpoint is halted, or runs on.
+    Failed { halted: bool },
+    /// Nothing.
+    Stray,
+}
+
+/// What the driver made of an event.
+#[derive(Clone, Copy, Debug, PartialEq, Eq)]
+pub enum Taken {
+    /// It ended a TD of this tag.
+    Matched(u16),
+    /// It was of the command under way on the controller's command ring.
+    Engine,
+    /// It was of a TD or of a command that isn't over by it.
+    Noted,
+    /// It was of nothing that is pending. Nothing changed, but that it is counted.
+    Stray,
+}
+
+/// What an endpoint does (xHCI 4.8.3).
+#[derive(Clone, Copy, Debug, PartialEq, Eq)]
+pub enum EndpointState {
+    Running,
+    /// Halted, or in state Error.
+    Halted,
+    Stopped,
+}
+
+/// Why the driver ended a command itself.
+#[derive(Clone, Copy, Debug, PartialEq, Eq)]
+pub enum Cause {
+    /// One of its TDs failed, with this completion code.
+    Failed(u8),
+    /// Its client gave it up.
+    GivenUp,
+}
+
+/// What a submission came to. `moved` is how many bytes of its data TD the controller beyond told to be moved.
+#[derive(Debug, Drop)]
+pub enum Answer {
+    /// A command's status (GOOD without sense, else CHECK CONDITION), and its buffer as filled.
+    Status {
+        tag: u16,
+        ticket: u64,
+        status: u8,
+        sense: ArrayVec<u8, MAX_SENSE_BYTES>,
+        buffer: Buffer,
+        moved: u32,
+    },
+    /// A command that a task management ended or that its client gave up, and its buffer as filled so far.
+    Aborted {
+        tag: u16,
+        ticket: u64,
+        buffer: Buffer,
+        moved: u32,
+    },
+    /// A command, or a task management, of which a TD failed with this completion code before the device's answer came; a command's
+    /// buffer as filled so far.
+    Failed {
+        tag: u16,
+        ticket: u64,
+        code: u8,
+        buffer: Option<Buffer>,
+        moved: u32,
+    },
+    /// The response code of a task management.
+    Task {
+        tag: u16,
+        ticket: u64,
+        code: u8,
+    },
+}
+
 /// A host, rings and buffers.
 #[derive(Debug, Drop)]
 pub struct Driver {
     host: Host,
     lines: Lines,
     frames: Frames,
+    /// How many bytes of its data TD were moved, by each tag.
+    moved: [u32; STREAM_ENTRIES],
+    /// How many events were stray.
+    strays: u64,
+    /// Why the command of a tag is ended, where it is.
+    ends: [Option<End>; STREAM_ENTRIES],
+    /// How many are.
+    ending: usize,
+    endpoints: Endpoints,
+    /// The recovery that is under way, the host's own retirement too.
+    recovery: Option<Recovery>,
 }
 
 impl Model for Driver {
@@ -91,7 +205,17 @@ impl Model for Driver {
 
     ghost Value = { DriverState };
 
-    ghost view = { λ driver. record { host = driver.host; lines = driver.lines; frames = driver.frames } };
+    ghost view = { λ driver. record {
+      host = driver.host;
+      lines = driver.lines;
+      frames = driver.frames;
+      moved = driver.moved;
+      strays = driver.strays;
+      ends = driver.ends;
+      ending = driver.ending;
+      endpoints = driver.endpoints;
+      recovery = driver.recovery;
+    } };
 }
 
 impl Driver {
@@ -106,6 +230,17 @@ impl Driver {
             host: Host::new(alloc, clients)?,
             lines: Lines::new(alloc)?,
             frames: Frames::new(alloc)?,
+            moved: [0; STREAM_ENTRIES],
+            strays: 0,
+            ends: [None; STREAM_ENTRIES],
+            ending: 0,
+            endpoints: Endpoints {
+                command: EndpointState::Running,
+                status: EndpointState::Running,
+                data_in: EndpointState::Running,
+                data_out: EndpointState::Running,
+            },
+            recovery: None,
         })
     }
 
@@ -114,6 +249,13 @@ impl Driver {
         ensures { result ≡ length self.now.host.clients }
     {
         self.host.clients()
+    }
+
+    /// How many events were stray.
+    pub fn strays(&self) -> u64
+        ensures { result ≡ self.now.strays }
+    {
+        self.strays
     }
 
     /// Whether a reply is ready for a client. None is for a client that isn't there.

@@ -63,7 +63,7 @@ fn has_data_room(lines: &Lines, tag: u16) -> bool
 }
 
 /// Whether a vector is lent for a tag. The store tells it by giving the vector back, which is lent again at once.
-fn is_lent(frames: &mut Frames, tag: u16) -> bool
+pub(crate) fn is_lent(frames: &mut Frames, tag: u16) -> bool
     requires first_tag { 1 ≤ tag }
     requires last_tag { tag ≤ STREAMS }
     ensures lent { result ≡ is_some (held_for frames.old tag).lent }

@@ -1,15 +1,17 @@
 //! The driver's door, what its numbers name, and what is told by it.
 ghost use Rattle.std.specs.Prelude.{◌≡◌, ◌==◌, false};
 ghost use Rattle.c_faults.specs.declared.TheConstants.{NO_MEMORY};
-ghost use Rattle.uas_c.specs.DriverCall.{driver_call, driver_refusal, event_named, with_doorbells, with_handled, with_next, with_reply};
+ghost use Rattle.uas_c.specs.DriverCall.{driver_call, driver_refusal, endpoint_numbered, event_named, state_numbered, with_answer, with_doorbells, with_next};
+ghost use Rattle.uas_c.specs.DriverCall.{with_taken, with_wanted};
 
-use crate::client::{ToldReply, client_fault};
+use crate::client::client_fault;
+use crate::driver::answer::ToldAnswer;
 use arrayvec::ArrayVec;
 use c_common::UasOperation;
 use c_faults::{CLIENT_TICKET, DRIVER_ADDRESS, DRIVER_RING, DRIVER_ROOM};
 use event_ring::Event;
-use uas_driver::Refusal;
-use uas_host::Handled;
+use stream_array::Pipe;
+use uas_driver::{EndpointState, Refusal, Taken};
 use uas_iu::MAX_SENSE_BYTES;
 use uas_profile::STREAM_ENTRIES;
 
@@ -19,27 +21,29 @@ use uas_profile::STREAM_ENTRIES;
 pub struct UasDriverDoor {
     /// Of SUBMIT and TASK, below 2^60. Out of REPLY.
     pub ticket: u64,
-    /// Of READ, WRITE and ITEM. Of EVENT: the TRB that the event is about.
+    /// Of READ, WRITE and ITEM. Of EVENT: the TRB that the event is about. Out of STRAYS: how many.
     pub address: u64,
     /// Of SUBMIT.
     pub operation: UasOperation,
-    /// Of SUBMIT, TASK and REPLY.
+    /// Of SUBMIT, TASK, REPLY and GIVE_UP.
     pub client: u32,
     /// Of EVENT: bytes that weren't moved. Out of REPLY: bytes of its buffer.
     pub length: u32,
-    /// Of SUBMIT, ABORT TASK, QUERY TASK, RETIRE and LEFT_OVER. Out of LEFT_OVER and EVENT, where there is one, and of REPLY.
+    /// Of SUBMIT, ABORT TASK, QUERY TASK, RETIRE, LEFT_OVER and GIVE_UP. Out of LEFT_OVER and EVENT, where there is one, and of REPLY.
     pub tag: u16,
     /// Of CONTEXT.
     pub stream: u16,
-    /// Out of SUBMIT, TASK, RETIRE and EVENT: how many doorbells are to be written.
+    /// Out of SUBMIT, TASK, RETIRE, EVENT, GIVE_UP and STATE: how many doorbells are to be written.
     pub doorbells: u16,
-    /// The call, 1 to 10.
+    /// The call, 1 to 14.
     pub call: u8,
-    /// Of RETIRE, LEFT_OVER and CONTEXT: 1 status, 2 data in, 3 data out.
+    /// Of RETIRE, LEFT_OVER, CONTEXT and STATE: 1 status, 2 data in, 3 data out; of STATE and out of WANTED, where there is one, 4 the
+    /// command pipe too.
     pub pipe: u8,
     /// Of TASK: 1 ABORT TASK of `tag`, 8 LOGICAL UNIT RESET, 80h QUERY TASK of `tag`.
     pub function: u8,
-    /// Out of RETIRE, LEFT_OVER and REPLY: 0 or 1. Out of EVENT: 0 stray, 1 matched, 2 of the command under way.
+    /// Out of RETIRE, LEFT_OVER, REPLY and WANTED: 0 or 1. Out of EVENT: 0 stray, 1 matched, 2 of the command under
+    /// way, 3 noted.
     pub acted: u8,
     /// Of EVENT: the type of its TRB, 32 or 33. It is `type` in C.
     pub kind: u8,
@@ -49,16 +53,20 @@ pub struct UasDriverDoor {
     pub endpoint: u8,
     /// Of EVENT.
     pub slot: u8,
-    /// Out of REPLY: 1 a status, 2 aborted, 3 a task management's response.
+    /// Out of REPLY: 1 a status, 2 aborted, 3 a task management's response, 4 failed.
     pub reply: u8,
-    /// Out of REPLY: the SCSI status of 1, the response code of 3.
+    /// Out of REPLY: the SCSI status of 1, the response code of 3, the completion code of 4.
     pub status: u8,
     /// Out of REPLY: bytes of sense data.
     pub sense_length: u8,
-    pub reserved: [u8; 7],
+    /// Of STATE: 1 running, 2 halted, 3 stopped, 4 error.
+    pub state: u8,
+    pub reserved: [u8; 2],
+    /// Out of REPLY: how many bytes of the command's data the events told to be moved.
+    pub moved: u32,
     /// Out of REPLY 1.
     pub sense: [u8; MAX_SENSE_BYTES],
-    /// Out of SUBMIT, TASK, RETIRE and EVENT: its first `doorbells` values, in the order in which to write them.
+    /// Out of SUBMIT, TASK, RETIRE, EVENT, GIVE_UP and STATE: its first `doorbells` values, in the order in which to write them.
     pub doorbell: [u32; STREAM_ENTRIES],
 }
 
@@ -75,6 +83,10 @@ pub(crate) enum DriverCall {
     Write,
     Item,
     Context,
+    GiveUp,
+    State,
+    Wanted,
+    Strays,
 }
 
 pub(crate) fn call_numbered(number: u8) -> Option<DriverCall>
@@ -91,6 +103,10 @@ pub(crate) fn call_numbered(number: u8) -> Option<DriverCall>
         8 => Some(DriverCall::Write),
         9 => Some(DriverCall::Item),
         10 => Some(DriverCall::Context),
+        11 => Some(DriverCall::GiveUp),
+        12 => Some(DriverCall::State),
+        13 => Some(DriverCall::Wanted),
+        14 => Some(DriverCall::Strays),
         _ => None,
     }
 }
@@ -150,22 +166,23 @@ pub(crate) fn show_next(door: &mut UasDriverDoor, next: Option<u16>)
     }
 }
 
-/// Tells what the host made of an event.
-pub(crate) fn show_handled(door: &mut UasDriverDoor, handled: Handled)
-    ensures { door.new ≡ with_handled door.old handled }
+/// Tells what the driver made of an event.
+pub(crate) fn show_taken(door: &mut UasDriverDoor, taken: Taken)
+    ensures { door.new ≡ with_taken door.old taken }
 {
-    match handled {
-        Handled::Matched(tag) => {
+    match taken {
+        Taken::Matched(tag) => {
             door.acted = 1;
             door.tag = tag;
         }
-        Handled::Engine => door.acted = 2,
-        Handled::Stray => door.acted = 0,
+        Taken::Engine => door.acted = 2,
+        Taken::Noted => door.acted = 3,
+        Taken::Stray => door.acted = 0,
     }
 }
 
-pub(crate) fn show_reply(door: &mut UasDriverDoor, told: &ToldReply)
-    ensures { door.new ≡ with_reply door.old told.now }
+pub(crate) fn show_answer(door: &mut UasDriverDoor, told: &ToldAnswer)
+    ensures { door.new ≡ with_answer door.old told.now }
 {
     door.acted = 1;
     door.reply = told.kind;
@@ -175,4 +192,48 @@ pub(crate) fn show_reply(door: &mut UasDriverDoor, told: &ToldReply)
     door.sense_length = told.sense_length;
     door.sense = told.sense;
     door.length = told.length;
+    door.moved = told.moved;
+}
+
+/// The pipe of a number, the command pipe too.
+pub(crate) fn endpoint_numbered(number: u8) -> Option<Pipe>
+    ensures { result ≡ endpoint_numbered number }
+{
+    match number {
+        1 => Some(Pipe::Status),
+        2 => Some(Pipe::DataIn),
+        3 => Some(Pipe::DataOut),
+        4 => Some(Pipe::Command),
+        _ => None,
+    }
+}
+
+/// The state of an endpoint (xHCI 6.2.3, EP State) by its number.
+pub(crate) fn state_numbered(number: u8) -> Option<EndpointState>
+    ensures { result ≡ state_numbered number }
+{
+    match number {
+        1 => Some(EndpointState::Running),
+        2 | 4 => Some(EndpointState::Halted),
+        3 => Some(EndpointState::Stopped),
+        _ => None,
+    }
+}
+
+/// Tells the pipe whose endpoint's state is asked for.
+pub(crate) fn show_wanted(door: &mut UasDriverDoor, wanted: Option<Pipe>)
+    ensures { door.new ≡ with_wanted door.old wanted }
+{
+    match wanted {
+        Some(pipe) => {
+            door.acted = 1;
+            door.pipe = match pipe {
+                Pipe::Status => 1,
+                Pipe::DataIn => 2,
+                Pipe::DataOut => 3,
+                Pipe::Command => 4,
+            };
+        }
+        None => door.acted = 0,
+    }
 }

@@ -2,7 +2,7 @@ use Rattle.std.proofs.Common.{◌≡◌, false, sym, ◌∙◌}
 use Rattle.stream_array.specs.Rings.{with_engine}
 use Rattle.uas_profile.specs.declared.TheConstants.{ENGINE_RING_PLACES}
 use Rattle.uas_driver.proofs.Pending.{HasPending, refused-nowhere, refused-told, stood}
-use Rattle.uas_driver.proofs.events.stand_engine.Goals as goal
+use Rattle.uas_driver.proofs.rings.stand_engine.Goals as goal
 
 pub returns-clause-stands : goal.returns-clause-stands
 returns-clause-stands c =

@@ -2,7 +2,7 @@ use Rattle.std.proofs.Common.{◌≡◌, false, sym, ◌∙◌}
 use Rattle.stream_array.specs.Map.{places_of}
 use Rattle.stream_array.specs.Rings.{ring_of, with_ring}
 use Rattle.uas_driver.proofs.Pending.{HasPending, refused-nowhere, refused-told, stood}
-use Rattle.uas_driver.proofs.events.stand.Goals as goal
+use Rattle.uas_driver.proofs.rings.stand.Goals as goal
 
 pub returns-clause-stands : goal.returns-clause-stands
 returns-clause-stands c =

@@ -1,0 +1,2 @@
+-- The numbers of the faults.
+pub mod Faults

@@ -3,8 +3,10 @@
 #![tactic(auto)]
 
 mod calls;
+mod control;
 mod slot;
 mod steps;
 
 pub use calls::{TAG_SLOTS, Transfers};
+pub use control::StreamPipe;
 pub use slot::Slot;

@@ -2,3 +2,4 @@ pub mod Progress
 pub mod Step
 pub mod Gate
 pub mod Pipe
+pub mod Orders

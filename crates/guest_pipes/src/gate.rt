@@ -116,7 +116,12 @@ impl Consumer {
 
     /// Posts what Stop Endpoint posts of a ring by what stands at its end.
     #[tactic(auto, unfolding(crate::specs::Step::posted))]
-    fn post_stopped<M: GuestMemory>(&self, memory: &mut M, events: &mut EventRing, front: &Front)
+    pub(crate) fn post_stopped<M: GuestMemory>(
+        &self,
+        memory: &mut M,
+        events: &mut EventRing,
+        front: &Front,
+    )
         requires room { has_place (M.contents memory.old) events.old ≡ true }
         ensures step { record { memory = M.contents memory.new; events = events.new; consumer = self.now }
             ≡ stop_told (record { memory = M.contents memory.old; events = events.old; consumer = self.now }) front.now }

@@ -25,6 +25,7 @@
 mod acted;
 mod consumer;
 mod gate;
+mod orders;
 mod pipe;
 mod progress;
 mod step;

@@ -1,5 +1,5 @@
 //! A pipe of streams: its doorbells, and what the commands of the command ring make of it.
-ghost use Rattle.std.specs.Prelude.{◌≡◌, ◌+◌, ◌*◌, ◌<◌, ◌≤◌, ◌^◌, IfOk, IfSome, ℕ, Some, None, true, false, get_or, replicate, vec_len};
+ghost use Rattle.std.specs.Prelude.{◌≡◌, ◌+◌, ◌*◌, ◌<◌, ◌≤◌, ◌^◌, IfOk, IfSome, ℕ, Some, None, true, false, get_or, replicate, vec_len, is_ok};
 ghost use Rattle.guest_pipes.specs.Progress.{fresh};
 ghost use Rattle.std.specs.Result.{result_ok};
 ghost use Rattle.guest_rings.specs.Ends.{looked};
@@ -240,5 +240,31 @@ impl Pipe {
             Some(at) => look(memory, Home::Stream { at }),
             None => Err(Outside),
         }
+    }
+
+    /// Where a stream's consumer's end is kept. Refused where a byte of that isn't there.
+    #[tactic(auto, using(guest_rings::specs::Past::past_end))]
+    pub(crate) fn home<M: GuestMemory>(&self, memory: &M, stream: u16) -> Result<Home, Outside>
+        ensures home { IfOk result (λ home. home ≡ home_of self.now stream) }
+        ensures there { is_ok result ≡ has_home (M.contents memory.now) (home_of self.now stream) }
+    {
+        match self.array.checked_add(16 * u64::from(stream)) {
+            Some(at) => {
+                if memory.has(at, 16) {
+                    Ok(Home::Stream { at })
+                } else {
+                    Err(Outside)
+                }
+            }
+            None => Err(Outside),
+        }
+    }
+
+    /// The state that a doorbell of a stream that isn't there leaves it in.
+    pub(crate) fn halt_invalid(&mut self, state: EndpointState)
+        ensures { self.new ≡ record self.old { state = state; invalid = false } }
+    {
+        self.state = state;
+        self.invalid = false;
     }
 }

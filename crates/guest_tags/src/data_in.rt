@@ -30,14 +30,14 @@ impl End {
 
 impl Tag {
     /// Whether something of a chunk is left.
-    pub(crate) fn has_chunk(&self) -> bool
+    pub fn has_chunk(&self) -> bool
         ensures { result ≡ has_chunk self.now }
     {
         self.chunk.held() != 0
     }
 
     /// Whether its task, which has ended, ends the TD in front, which has bytes of it or not.
-    pub(crate) fn ends_td(&self, fed: bool) -> bool
+    pub fn ends_td(&self, fed: bool) -> bool
         ensures { result ≡ ends_td self.now fed }
     {
         !self.gave || fed
@@ -386,7 +386,7 @@ impl Tag {
     }
 
     /// A step of a consumer of the data-in pipe for a tag.
-    pub(crate) fn step_in<M: GuestMemory, D: UasDevice>(
+    pub fn step_in<M: GuestMemory, D: UasDevice>(
         &mut self,
         memory: &mut M,
         events: &mut EventRing,

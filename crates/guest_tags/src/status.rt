@@ -19,7 +19,7 @@ use guest_rings::{EventRing, Flags, Found, Front, PipeTrb};
 
 impl Tag {
     /// Whether an information unit is on its way.
-    pub(crate) fn has_unit(&self) -> bool
+    pub fn has_unit(&self) -> bool
         ensures { result ≡ has_unit self.now }
     {
         self.unit.len() != 0
@@ -498,7 +498,7 @@ impl Tag {
     }
 
     /// A step of a consumer of the status pipe for a tag, whose task's answer is due or not.
-    pub(crate) fn step_status<M: GuestMemory, D: UasDevice>(
+    pub fn step_status<M: GuestMemory, D: UasDevice>(
         &mut self,
         memory: &mut M,
         events: &mut EventRing,

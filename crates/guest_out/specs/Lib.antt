@@ -1,0 +1,4 @@
+pub mod Immediate
+pub mod Worlds
+pub mod DataOut
+pub mod Command

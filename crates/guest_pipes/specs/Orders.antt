@@ -1,0 +1,45 @@
+-- What commands of the command ring make of a pipe and of memory, and a doorbell of a stream that isn't there.
+use Rattle.std.specs.Prelude.{ℕ, Bool, true, false, not, if◌then◌else◌, Option, Some, None}
+use Rattle.guest_memory.specs.Bytes.{Memory, written}
+use Rattle.guest_rings.specs.declared.cursor.Cursor.{Cursor}
+use Rattle.guest_rings.specs.Ends.{home_at, home_bytes}
+use Rattle.guest_rings.specs.Events.{EventEnd}
+use Rattle.guest_pipes.specs.declared.acted.Acted.{Acted}
+use Rattle.guest_pipes.specs.declared.acted.Acted.TheVariants.{Off, Idle, Worked}
+use Rattle.guest_pipes.specs.declared.consumer.Consumer.{Consumer}
+use Rattle.guest_pipes.specs.Step.{World, has_home, refused}
+use Rattle.guest_pipes.specs.Gate.{is_running, room_gate, stop_looked, through}
+use Rattle.guest_pipes.specs.Pipe.{PipeState, forgotten, home_of, loaded}
+
+-- Set TR Dequeue Pointer: the stream's context has the pointer, DCS and SCT, and what was moved is forgotten; None where the context
+-- isn't there
+unfoldable pub dequeue_set : Memory → PipeState → ℕ → Cursor → ℕ → Option (Memory × PipeState)
+dequeue_set memory p stream cursor kind =
+    if has_home memory (home_of p stream)
+    then Some (written memory (home_at (home_of p stream)) (home_bytes (home_of p stream) kind cursor), forgotten p stream) else None
+
+-- all that such a step may change
+pub record PipeWorld : Type 0 where
+  pub memory : Memory
+  pub events : EventEnd
+  pub pipe : PipeState
+
+abbrev pub pipe_ring : PipeWorld → ℕ → World
+pipe_ring w stream = record { memory = w.memory; events = w.events; consumer = loaded w.pipe stream }
+
+-- a doorbell of a stream that isn't there: Invalid Stream ID, and the endpoint halts
+abbrev pub invalid_kept : PipeWorld → World → PipeWorld
+invalid_kept w ring = record {
+  memory = ring.memory;
+  events = ring.events;
+  pipe = record w.pipe { state = ring.consumer.state; invalid = false };
+}
+
+abbrev pub invalid_told : PipeWorld → PipeWorld
+invalid_told w = invalid_kept w (refused (pipe_ring w 0) 34)
+
+unfoldable pub invalid_stepped : PipeWorld → Option (PipeWorld × Acted)
+invalid_stepped w =
+    if not (is_running w.pipe.state) then Some (w, Off)
+    else if not w.pipe.invalid then Some (w, Idle)
+    else through w (room_gate w.memory w.events) (Some (invalid_told w, Worked))

@@ -1,0 +1,92 @@
+-- What commands of the command ring make of the pipes, and what is left to do.
+use Rattle.std.specs.Prelude.{ℕ, ◌==◌, Bool, true, false, not, ◌&&◌, ◌||◌, if◌then◌else◌, [], List, Option, Some, None, is_some, option_map, replicate}
+use Rattle.guest_memory.specs.Bytes.{Memory}
+use Rattle.guest_rings.specs.declared.cursor.Cursor.{Cursor}
+use Rattle.guest_pipes.specs.declared.acted.Acted.{Acted}
+use Rattle.guest_pipes.specs.declared.acted.Acted.TheVariants.{Off, Idle, Full, Emptied, Waits, Worked}
+use Rattle.guest_pipes.specs.declared.consumer.EndpointState.{EndpointState}
+use Rattle.guest_pipes.specs.declared.consumer.EndpointState.TheVariants.{Disabled, Running, Halted, Stopped, Error}
+use Rattle.guest_pipes.specs.declared.consumer.Consumer.{Consumer}
+use Rattle.guest_pipes.specs.Progress.{fresh, runs}
+use Rattle.guest_pipes.specs.Gate.{after, is_running, room_gate, through}
+use Rattle.guest_pipes.specs.Orders.{PipeWorld, invalid_stepped}
+use Rattle.guest_pipes.specs.Pipe.{PipeState, configured, disabled, progress_on, reset_with, rung_on, stopped}
+use Rattle.guest_tags.specs.declared.device.End.{End}
+use Rattle.guest_tags.specs.declared.device.Phase.{Phase}
+use Rattle.guest_tags.specs.declared.device.Phase.TheVariants.{Absent, Gives, Takes, Ended}
+use Rattle.guest_tags.specs.Devices.{Kind}
+use Rattle.guest_tags.specs.Status.{has_unit}
+use Rattle.guest_transfers.specs.declared.slot.Slot.{Slot}
+use Rattle.guest_transfers.specs.declared.control.StreamPipe.{StreamPipe}
+use Rattle.guest_transfers.specs.declared.control.StreamPipe.TheVariants.{Status, DataOut, DataIn}
+use Rattle.guest_transfers.specs.State.{TransfersState, TransfersWorld, empty_slot, slot_of, with_slot}
+use Rattle.guest_transfers.specs.Steps.{in_stepped, out_stepped}
+
+-- a pipe with streams
+abbrev pub pipe_of : TransfersState → StreamPipe → PipeState
+pipe_of t Status = t.status
+pipe_of t DataOut = t.data_out
+pipe_of t DataIn = t.data_in
+
+abbrev pub with_pipe : TransfersState → StreamPipe → PipeState → TransfersState
+with_pipe t Status p = record t { status = p }
+with_pipe t DataOut p = record t { data_out = p }
+with_pipe t DataIn p = record t { data_in = p }
+
+-- the command pipe, by an endpoint that was added, dropped, stopped or reset
+abbrev pub command_configured : TransfersState → ℕ → TransfersState
+command_configured t home = record t {
+  command = record { endpoint = 2; state = Running; rung = false; progress = fresh };
+  home = home;
+  gathered = [];
+}
+
+abbrev pub command_disabled : TransfersState → TransfersState
+command_disabled t = record t {
+  command = record { endpoint = 2; state = Disabled; rung = false; progress = fresh };
+  home = 0;
+  gathered = [];
+}
+
+abbrev pub command_stopped : TransfersState → TransfersState
+command_stopped t = record t { command = record t.command { state = Stopped; rung = false } }
+
+-- the same of the TD that was begun, as Set TR Dequeue Pointer and Reset Endpoint without TSP forget it
+abbrev pub command_forgotten : TransfersState → EndpointState → TransfersState
+command_forgotten t state = record t { command = record t.command { state = state; progress = fresh }; gathered = [] }
+
+-- after a device reset nothing is kept of a tag
+abbrev pub tags_cleared : TransfersState → TransfersState
+tags_cleared t = record t { tags = replicate 241 empty_slot }
+
+-- whether the device has a task of a tag
+abbrev pub has_task : Phase → Bool
+has_task Absent = false
+has_task (Gives count) = true
+has_task (Takes count) = true
+has_task (Ended end) = true
+
+-- whether a tag has something to do: a task, an information unit on its way, an overlap to be answered, or a status TD whose rest
+-- is skipped
+abbrev pub has_work : TransfersState → ℕ → Phase → Bool
+has_work t tag phase =
+    has_task phase || (has_unit (slot_of t tag).tag || (not ((slot_of t tag).tag.overlaps == 0)
+    || not (runs (progress_on t.status tag).ending)))
+
+module _ {D : Type 0} (kind : Kind D) where
+  -- what a task still gives after its buffer wasn't there is dropped, a chunk a step
+  unfoldable pub chunk_dropped : TransfersWorld D → ℕ → TransfersWorld D
+  chunk_dropped w tag = record w {
+    transfers = with_slot w.transfers tag (record (slot_of w.transfers tag) { tag = record (slot_of w.transfers tag).tag { chunk = [] } });
+    device = kind.gave w.device tag;
+  }
+
+  -- data-in first; data-out where that did nothing
+  abbrev pub or_out : TransfersWorld D × Option Acted → ℕ → TransfersWorld D × Option Acted
+  or_out (w, None) tag = (w, None)
+  or_out (w, Some Off) tag = out_stepped kind w tag
+  or_out (w, Some Idle) tag = out_stepped kind w tag
+  or_out (w, Some Full) tag = out_stepped kind w tag
+  or_out (w, Some Emptied) tag = (w, Some Emptied)
+  or_out (w, Some Waits) tag = out_stepped kind w tag
+  or_out (w, Some Worked) tag = (w, Some Worked)

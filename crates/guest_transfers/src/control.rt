@@ -1,0 +1,174 @@
+//! What the controller's commands make of the pipes, and what is left to do for a tag.
+ghost use Rattle.std.specs.Prelude.{◌≡◌, ◌+◌, ◌<◌, ◌≤◌, ◌^◌, ℕ, get_or, set, Some, None, true, false, Bool, is_ok, is_some, unwrap_or};
+ghost use Rattle.std.specs.Result.{result_ok};
+ghost use Rattle.guest_pipes.specs.Gate.{after, stop_looked};
+ghost use Rattle.guest_pipes.specs.Step.{has_place};
+ghost use Rattle.guest_pipes.specs.Pipe.{PipeState, configured, disabled, home_of, loaded, progress_on, reset_with, stopped};
+ghost use Rattle.guest_pipes.specs.Orders.{PipeWorld, dequeue_set, invalid_stepped};
+ghost use Rattle.guest_tags.specs.Devices.{Kind};
+ghost use Rattle.guest_transfers.specs.State.{TransfersWorld, slot_of};
+ghost use Rattle.guest_transfers.specs.Steps.{in_stepped, out_stepped};
+ghost use Rattle.guest_transfers.specs.Orders.{command_configured, command_disabled, command_forgotten, command_stopped, has_task, has_work, or_out, pipe_of, with_pipe};
+
+use crate::calls::Transfers;
+use guest_memory::{GuestMemory, Outside};
+use guest_pipes::{Acted, Consumer, EndpointState, Pipe, Progress};
+use guest_rings::EventRing;
+use guest_tags::{Phase, UasDevice};
+
+/// A pipe with streams.
+#[derive(Clone, Copy, Debug, PartialEq, Eq)]
+pub enum StreamPipe {
+    /// Endpoint 3.
+    Status,
+    /// Endpoint 4.
+    DataOut,
+    /// Endpoint 5.
+    DataIn,
+}
+
+impl Transfers {
+    /// A pipe with streams.
+    pub fn pipe(&self, name: StreamPipe) -> &Pipe
+        ensures { result.now ≡ pipe_of self.now name }
+    {
+        match name {
+            StreamPipe::Status => &self.status,
+            StreamPipe::DataOut => &self.data_out,
+            StreamPipe::DataIn => &self.data_in,
+        }
+    }
+
+    /// The command pipe's consumer.
+    pub fn command(&self) -> Consumer
+        ensures { result ≡ self.now.command }
+    {
+        self.command
+    }
+
+    /// Adds a pipe with streams: its array of stream contexts, and how many it has, 0 where it has no streams (Configure Endpoint).
+    pub fn configure(&mut self, name: StreamPipe, array: u64, streams: u16)
+        requires { streams ≤ 256 }
+        ensures { self.new ≡ with_pipe self.old name (configured (pipe_of self.old name) array streams) }
+    {
+        match name {
+            StreamPipe::Status => self.status.configure(array, streams),
+            StreamPipe::DataOut => self.data_out.configure(array, streams),
+            StreamPipe::DataIn => self.data_in.configure(array, streams),
+        }
+    }
+
+    /// Drops a pipe with streams (Configure Endpoint).
+    pub fn disable(&mut self, name: StreamPipe)
+        ensures { self.new ≡ with_pipe self.old name (disabled (pipe_of self.old name).endpoint) }
+    {
+        match name {
+            StreamPipe::Status => self.status.disable(),
+            StreamPipe::DataOut => self.data_out.disable(),
+            StreamPipe::DataIn => self.data_in.disable(),
+        }
+    }
+
+    /// Stops a pipe with streams (Stop Endpoint): its doorbells are forgotten, and what is opaque stays. The caller tells of the rings
+    /// whose front TD was begun, by [`Pipe::tell_stopped`].
+    pub fn stop(&mut self, name: StreamPipe)
+        ensures { self.new ≡ with_pipe self.old name (stopped (pipe_of self.old name)) }
+    {
+        match name {
+            StreamPipe::Status => self.status.stop(),
+            StreamPipe::DataOut => self.data_out.stop(),
+            StreamPipe::DataIn => self.data_in.stop(),
+        }
+    }
+
+    /// Brings a pipe with streams from halted to stopped (Reset Endpoint); what is opaque stays where `keeps` (TSP).
+    pub fn reset(&mut self, name: StreamPipe, keeps: bool)
+        ensures { self.new ≡ with_pipe self.old name (reset_with keeps (pipe_of self.old name)) }
+    {
+        match name {
+            StreamPipe::Status => self.status.reset(keeps),
+            StreamPipe::DataOut => self.data_out.reset(keeps),
+            StreamPipe::DataIn => self.data_in.reset(keeps),
+        }
+    }
+
+    /// Adds the command pipe, whose dequeue pointer has this address (Configure Endpoint).
+    pub fn configure_command(&mut self, home: u64)
+        ensures { self.new ≡ command_configured self.old home }
+    {
+        self.command = Consumer {
+            endpoint: 2,
+            state: EndpointState::Running,
+            rung: false,
+            progress: Progress::fresh(),
+        };
+        self.home = home;
+        self.gathered.clear();
+    }
+
+    /// Drops the command pipe (Configure Endpoint).
+    pub fn disable_command(&mut self)
+        ensures { self.new ≡ command_disabled self.old }
+    {
+        self.command = Consumer {
+            endpoint: 2,
+            state: EndpointState::Disabled,
+            rung: false,
+            progress: Progress::fresh(),
+        };
+        self.home = 0;
+        self.gathered.clear();
+    }
+
+    /// Stops the command pipe (Stop Endpoint): its doorbell is forgotten, and what is opaque stays.
+    pub fn stop_command(&mut self)
+        ensures { self.new ≡ command_stopped self.old }
+    {
+        self.command.state = EndpointState::Stopped;
+        self.command.rung = false;
+    }
+
+    /// Forgets the TD that the command pipe began, and leaves its endpoint in this state (Set TR Dequeue Pointer, Reset Endpoint).
+    pub fn forget_command(&mut self, state: EndpointState)
+        ensures { self.new ≡ command_forgotten self.old state }
+    {
+        self.command.state = state;
+        self.command.progress = Progress::fresh();
+        self.gathered.clear();
+    }
+
+    /// A step for a tag's data: of data-in, and where that did nothing, of data-out. Refused as those are.
+    pub fn step_data<M: GuestMemory, D: UasDevice>(
+        &mut self,
+        memory: &mut M,
+        events: &mut EventRing,
+        device: &mut D,
+        tag: u16,
+    ) -> Result<Acted, Outside>
+        requires { tag < 241 }
+        ensures step { (record { memory = M.contents memory.new; events = events.new; transfers = self.new; device = D.state device.new }, result_ok result)
+            ≡ or_out D.kind (in_stepped D.kind (record { memory = M.contents memory.old; events = events.old; transfers = self.old; device = D.state device.old }) tag) tag }
+        ensures same_loan { M.loan memory.new ≡ M.loan memory.old }
+    {
+        match self.step_data_in(memory, events, device, tag) {
+            Err(Outside) => Err(Outside),
+            Ok(Acted::Worked) => Ok(Acted::Worked),
+            Ok(Acted::Emptied) => Ok(Acted::Emptied),
+            Ok(Acted::Off) | Ok(Acted::Idle) | Ok(Acted::Full) | Ok(Acted::Waits) => {
+                self.step_data_out(memory, events, device, tag)
+            }
+        }
+    }
+
+    /// Whether a tag has something to do, by what the device does next on it: a task, an information unit on its way, an overlap to be
+    /// answered, or a status TD whose rest is skipped.
+    pub fn has_work(&self, tag: u16, phase: Phase) -> bool
+        requires { tag < 241 }
+        ensures { result ≡ has_work self.now tag phase }
+    {
+        let slot = &self.tags[usize::from(tag)];
+        let task = phase != Phase::Absent;
+        task || (slot.tag.has_unit()
+            || (slot.tag.overlaps != 0 || !self.status.consumer(tag).progress.ending.runs()))
+    }
+}

@@ -76,4 +76,5 @@ there_sound P none units slots tag number read now sound so same value chunk len
 pub opening_made : (many : ℕ) (units shaped : List LogicalUnit) (set : CommandSet) (slots : List SlotState) (chunk room : ℕ) → units ≡ shaped →
     slots ≡ replicate many (fresh_slot chunk room) → room ≡ chunk * greatest_block units →
     ◌≡◌ {A = Machine} (record { units = units; set = set; slots = slots }) (made many shaped set chunk (chunk * greatest_block shaped))
+unfolding made
 opening_made many units shaped set slots chunk room units_is slots_is room_is = rw (slots_is, room_is, units_is) refl

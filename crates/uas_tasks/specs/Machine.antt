@@ -88,7 +88,7 @@ abbrev pub greatest_block : List LogicalUnit → ℕ
 greatest_block units = if list_any is_long units then 4096 else 512
 
 -- no attention and no task yet: `room` bytes in each chunk buffer
-abbrev pub made : ℕ → List LogicalUnit → CommandSet → ℕ → ℕ → Machine
+unfoldable pub made : ℕ → List LogicalUnit → CommandSet → ℕ → ℕ → Machine
 made many units set chunk room = record { units = units; set = set; slots = replicate many (fresh_slot chunk room) }
 
 abbrev pub opening : List LogicalUnit → CommandSet → ℕ → ℕ → Machine

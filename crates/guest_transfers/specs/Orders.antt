@@ -1,22 +1,16 @@
 -- What commands of the command ring make of the pipes, and what is left to do.
-use Rattle.std.specs.Prelude.{ℕ, ◌==◌, Bool, true, false, not, ◌&&◌, ◌||◌, if◌then◌else◌, [], List, Option, Some, None, is_some, option_map, replicate}
-use Rattle.guest_memory.specs.Bytes.{Memory}
-use Rattle.guest_rings.specs.declared.cursor.Cursor.{Cursor}
+use Rattle.std.specs.Prelude.{ℕ, ◌==◌, Bool, true, false, not, ◌||◌, [], Option, Some, None, replicate}
 use Rattle.guest_pipes.specs.declared.acted.Acted.{Acted}
 use Rattle.guest_pipes.specs.declared.acted.Acted.TheVariants.{Off, Idle, Full, Emptied, Waits, Worked}
 use Rattle.guest_pipes.specs.declared.consumer.EndpointState.{EndpointState}
-use Rattle.guest_pipes.specs.declared.consumer.EndpointState.TheVariants.{Disabled, Running, Halted, Stopped, Error}
-use Rattle.guest_pipes.specs.declared.consumer.Consumer.{Consumer}
+use Rattle.guest_pipes.specs.declared.consumer.EndpointState.TheVariants.{Disabled, Running, Stopped}
 use Rattle.guest_pipes.specs.Progress.{fresh, runs}
-use Rattle.guest_pipes.specs.Gate.{after, is_running, room_gate, through}
-use Rattle.guest_pipes.specs.Orders.{PipeWorld, invalid_stepped}
-use Rattle.guest_pipes.specs.Pipe.{PipeState, configured, disabled, progress_on, reset_with, rung_on, stopped}
-use Rattle.guest_tags.specs.declared.device.End.{End}
+use Rattle.guest_pipes.specs.Gate.{after, room_gate, through}
+use Rattle.guest_pipes.specs.Pipe.{PipeState, progress_on}
 use Rattle.guest_tags.specs.declared.device.Phase.{Phase}
 use Rattle.guest_tags.specs.declared.device.Phase.TheVariants.{Absent, Gives, Takes, Ended}
 use Rattle.guest_tags.specs.Devices.{Kind}
 use Rattle.guest_tags.specs.Status.{has_unit}
-use Rattle.guest_transfers.specs.declared.slot.Slot.{Slot}
 use Rattle.guest_transfers.specs.declared.control.StreamPipe.{StreamPipe}
 use Rattle.guest_transfers.specs.declared.control.StreamPipe.TheVariants.{Status, DataOut, DataIn}
 use Rattle.guest_transfers.specs.State.{TransfersState, TransfersWorld, empty_slot, slot_of, with_slot}
@@ -73,6 +67,13 @@ has_work t tag phase =
     has_task phase || (has_unit (slot_of t tag).tag || (not ((slot_of t tag).tag.overlaps == 0)
     || not (runs (progress_on t.status tag).ending)))
 
+-- a chunk is given that is dropped
+abbrev pub drops_now : Bool → Phase → Bool
+drops_now drops Absent = false
+drops_now drops (Gives count) = drops
+drops_now drops (Takes count) = false
+drops_now drops (Ended end) = false
+
 module _ {D : Type 0} (kind : Kind D) where
   -- what a task still gives after its buffer wasn't there is dropped, a chunk a step
   unfoldable pub chunk_dropped : TransfersWorld D → ℕ → TransfersWorld D
@@ -90,3 +91,14 @@ module _ {D : Type 0} (kind : Kind D) where
   or_out (w, Some Emptied) tag = (w, Some Emptied)
   or_out (w, Some Waits) tag = out_stepped kind w tag
   or_out (w, Some Worked) tag = (w, Some Worked)
+
+  abbrev pub dropped_in : TransfersWorld D → ℕ → TransfersWorld D × Option Acted
+  dropped_in w tag = after w (through w (room_gate w.memory w.events) (Some (chunk_dropped w tag, Worked)))
+
+  abbrev pub data_by : Bool → TransfersWorld D → ℕ → TransfersWorld D × Option Acted
+  data_by true w tag = dropped_in w tag
+  data_by false w tag = or_out (in_stepped kind w tag) tag
+
+  -- a step for a tag's data
+  abbrev pub data_stepped : TransfersWorld D → ℕ → TransfersWorld D × Option Acted
+  data_stepped w tag = data_by (drops_now (slot_of w.transfers tag).tag.drops (kind.phase w.device tag)) w tag

@@ -8,11 +8,13 @@ ghost use Rattle.guest_pipes.specs.Orders.{PipeWorld, dequeue_set, invalid_stepp
 ghost use Rattle.guest_tags.specs.Devices.{Kind};
 ghost use Rattle.guest_transfers.specs.State.{TransfersWorld, slot_of};
 ghost use Rattle.guest_transfers.specs.Steps.{in_stepped, out_stepped};
-ghost use Rattle.guest_transfers.specs.Orders.{command_configured, command_disabled, command_forgotten, command_stopped, has_task, has_work, or_out, pipe_of, with_pipe};
+ghost use Rattle.guest_transfers.specs.Orders.{command_configured, command_disabled, command_forgotten, command_stopped, chunk_dropped, data_stepped, dropped_in, drops_now, has_task, has_work, or_out, pipe_of, with_pipe};
+ghost use Rattle.guest_memory.specs.Bytes.{Memory};
+ghost use Rattle.guest_rings.specs.Events.{EventEnd};
 
 use crate::calls::Transfers;
 use guest_memory::{GuestMemory, Outside};
-use guest_pipes::{Acted, Consumer, EndpointState, Pipe, Progress};
+use guest_pipes::{Acted, Consumer, EndpointState, Pipe, Progress, room_gate};
 use guest_rings::EventRing;
 use guest_tags::{Phase, UasDevice};
 
@@ -137,8 +139,46 @@ impl Transfers {
         self.gathered.clear();
     }
 
-    /// A step for a tag's data: of data-in, and where that did nothing, of data-out. Refused as those are.
-    pub fn step_data<M: GuestMemory, D: UasDevice>(
+    /// Drops the next chunk of a tag that gives so many bytes.
+    #[tactic(auto, unfolding(crate::specs::Orders::chunk_dropped))]
+    fn drop_chunk<D: UasDevice>(&mut self, device: &mut D, tag: u16, count: usize)
+        requires tag { tag < 241 }
+        requires gives { D.kind.phase (D.state device.old) tag ≡ Phase.Gives count }
+        requires most { count ≤ 4096 }
+        ensures step { (memory : Memory) (events : EventEnd) → record { memory = memory; events = events; transfers = self.new; device = D.state device.new }
+            ≡ chunk_dropped D.kind (record { memory = memory; events = events; transfers = self.old; device = D.state device.old }) tag }
+    {
+        let slot = &mut self.tags[usize::from(tag)];
+        slot.tag.chunk.refill(device, tag, count);
+        slot.tag.chunk.clear();
+    }
+
+    /// A step that drops the next chunk of a tag that gives so many bytes.
+    fn step_drop<M: GuestMemory, D: UasDevice>(
+        &mut self,
+        memory: &M,
+        events: &EventRing,
+        device: &mut D,
+        tag: u16,
+        count: usize,
+    ) -> Result<Acted, Outside>
+        requires tag { tag < 241 }
+        requires gives { D.kind.phase (D.state device.old) tag ≡ Phase.Gives count }
+        requires most { count ≤ 4096 }
+        ensures step { (record { memory = M.contents memory.now; events = events.now; transfers = self.new; device = D.state device.new }, result_ok result)
+            ≡ dropped_in D.kind (record { memory = M.contents memory.now; events = events.now; transfers = self.old; device = D.state device.old }) tag }
+    {
+        match room_gate(memory, events)? {
+            Some(acted) => Ok(acted),
+            None => {
+                self.drop_chunk(device, tag, count);
+                Ok(Acted::Worked)
+            }
+        }
+    }
+
+    /// A step of data-in, and where that did nothing, of data-out.
+    fn step_moved<M: GuestMemory, D: UasDevice>(
         &mut self,
         memory: &mut M,
         events: &mut EventRing,
@@ -156,6 +196,35 @@ impl Transfers {
             Ok(Acted::Emptied) => Ok(Acted::Emptied),
             Ok(Acted::Off) | Ok(Acted::Idle) | Ok(Acted::Full) | Ok(Acted::Waits) => {
                 self.step_data_out(memory, events, device, tag)
+            }
+        }
+    }
+
+    /// A step for a tag's data: a chunk that is dropped, where a buffer of its task wasn't there; else of data-in, and where that did
+    /// nothing, of data-out. Refused where a byte of the event's place, of a stream's context or of a TRB isn't there, and then nothing
+    /// changes.
+    pub fn step_data<M: GuestMemory, D: UasDevice>(
+        &mut self,
+        memory: &mut M,
+        events: &mut EventRing,
+        device: &mut D,
+        tag: u16,
+    ) -> Result<Acted, Outside>
+        requires { tag < 241 }
+        ensures step { (record { memory = M.contents memory.new; events = events.new; transfers = self.new; device = D.state device.new }, result_ok result)
+            ≡ data_stepped D.kind (record { memory = M.contents memory.old; events = events.old; transfers = self.old; device = D.state device.old }) tag }
+        ensures same_loan { M.loan memory.new ≡ M.loan memory.old }
+    {
+        match device.phase(tag) {
+            Phase::Gives(count) => {
+                if self.tags[usize::from(tag)].tag.drops {
+                    self.step_drop(memory, events, device, tag, count)
+                } else {
+                    self.step_moved(memory, events, device, tag)
+                }
+            }
+            Phase::Absent | Phase::Takes(_) | Phase::Ended(_) => {
+                self.step_moved(memory, events, device, tag)
             }
         }
     }

@@ -74,7 +74,7 @@ impl Transfers {
 
     /// A step of the data-in pipe for a tag. Refused where a byte of the event's place, of the stream's context or of the TRB isn't
     /// there, and then nothing changes.
-    pub fn step_data_in<M: GuestMemory, D: UasDevice>(
+    pub(crate) fn step_data_in<M: GuestMemory, D: UasDevice>(
         &mut self,
         memory: &mut M,
         events: &mut EventRing,
@@ -96,7 +96,7 @@ impl Transfers {
     }
 
     /// A step of the data-out pipe for a tag. Refused as a step of data-in is.
-    pub fn step_data_out<M: GuestMemory, D: UasDevice>(
+    pub(crate) fn step_data_out<M: GuestMemory, D: UasDevice>(
         &mut self,
         memory: &mut M,
         events: &mut EventRing,

@@ -339,8 +339,23 @@ lost driver recovery code doors =
 
 -- ALL TOGETHER
 
+abbrev pub is_host_td : Subject → Bool
+is_host_td HostTd = true
+is_host_td _ = false
+
+-- the retirement of the host's whose Set TR Dequeue Pointer is the command that was done last
+abbrev pub host_move_of : DriverState → Recovery → Option Retirement
+host_move_of driver recovery =
+    if is_moving recovery.stage && is_host_td recovery.subject then retirement_on driver recovery.pipe else None
+
+-- the command that was done last is put once more
+abbrev pub put_again : DriverState → Recovery → List ℕ → Told
+put_again driver recovery doors =
+    option_map_or (λ retirement. host_moves_again driver recovery (tag_of retirement.place) doors) (host_move_of driver recovery)
+    (put driver recovery doors)
+
 abbrev pub by_next : DriverState → Recovery → ℕ → Next → List ℕ → Told
-by_next driver recovery code nexts.Again doors = put driver recovery doors
+by_next driver recovery code nexts.Again doors = put_again driver recovery doors
 by_next driver recovery code nexts.Reset doors = put driver (record recovery { stage = Resetting }) doors
 by_next driver recovery code nexts.Ask doors = (record driver { recovery = Some (record recovery { stage = Asking }) }, doors)
 by_next driver recovery code nexts.Retry doors = put driver (record recovery { stage = Stopping; again = true }) doors

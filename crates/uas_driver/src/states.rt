@@ -1,6 +1,6 @@
 //! What is kept of endpoints, of commands that are ended, and of the recovery that is under way.
 ghost use Rattle.std.specs.Prelude.{◌≡◌};
-ghost use Rattle.uas_driver.specs.Recovery.{is_halted, is_moving, is_put_again, is_resetting, next_by, next_stood, running_if, state_of, with_endpoint};
+ghost use Rattle.uas_driver.specs.Recovery.{is_halted, is_host_td, is_moving, is_put_again, is_resetting, next_by, next_stood, running_if, state_of, with_endpoint};
 
 use crate::{Cause, EndpointState};
 use stream_array::Pipe;
@@ -121,6 +121,14 @@ impl Stage {
         ensures { result ≡ is_moving self }
     {
         matches!(self, Stage::Moving)
+    }
+}
+
+impl Subject {
+    pub fn is_host_td(self) -> bool
+        ensures { result ≡ is_host_td self }
+    {
+        matches!(self, Subject::HostTd)
     }
 }
 

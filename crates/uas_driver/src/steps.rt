@@ -6,7 +6,7 @@ ghost use Rattle.uas_driver.specs.Endings.{stand_in};
 ghost use Rattle.uas_profile.specs.Places.{tag_of};
 ghost use Rattle.uas_host.specs.State.{IsRetirement};
 ghost use Rattle.uas_driver.specs.Recovery.{all_lost, by_next, ends_here, first_lost, given_back, gone_on, host_goes_on, host_handed, host_moved};
-ghost use Rattle.uas_driver.specs.Recovery.{host_moves, host_moves_again, is_matched, is_needed, lost, lost_host, lost_td, move_ended, moved_on_to, needed, new_recovery};
+ghost use Rattle.uas_driver.specs.Recovery.{host_move_of, host_moves, host_moves_again, is_matched, is_needed, lost, lost_host, lost_td, move_ended, moved_on_to, needed, new_recovery, put_again};
 ghost use Rattle.uas_driver.specs.Recovery.{now_stands, put, restarted, retirement_on, stood_still, taken_off, told_in, went_on, with_told_end, wrote};
 
 use crate::endings::stand_in;
@@ -214,13 +214,43 @@ impl Driver {
         self.put(next, doors);
     }
 
+    /// The same, by the retirement.
+    fn move_retired(&mut self, recovery: Recovery, retirement: Retirement, doors: &mut Doors)
+        requires { IsRetirement (length self.old.host.clients) retirement }
+        ensures { (self.new, doors.new.items) ≡ host_moves_again self.old recovery (tag_of retirement.place) doors.old.items }
+    {
+        sound(&self.host);
+        let tag = (retirement.place.client * TAGS + retirement.place.slot + 1) as u16;
+        self.move_host_again(recovery, tag, doors);
+    }
+
+    /// The retirement of the host's whose Set TR Dequeue Pointer is the command that was done last.
+    fn host_move_of(&self, recovery: &Recovery) -> Option<Retirement>
+        ensures retirement { result ≡ host_move_of self.now recovery.now }
+        ensures known { IfSome result (IsRetirement (length self.now.host.clients)) }
+    {
+        if recovery.stage.is_moving() && recovery.subject.is_host_td() {
+            self.retirement_on(recovery.pipe)
+        } else {
+            None
+        }
+    }
+
+    /// Puts the command that was done last once more.
+    fn put_again(&mut self, recovery: Recovery, doors: &mut Doors)
+        ensures { (self.new, doors.new.items) ≡ put_again self.old recovery doors.old.items }
+    {
+        match self.host_move_of(&recovery) {
+            Some(retirement) => self.move_retired(recovery, retirement, doors),
+            None => self.put(recovery, doors),
+        }
+    }
+
     /// The host's own retirement goes on.
     fn go_on_host(&mut self, recovery: Recovery, retirement: Retirement, doors: &mut Doors)
         requires { IsRetirement (length self.old.host.clients) retirement }
         ensures { (self.new, doors.new.items) ≡ host_goes_on self.old recovery retirement doors.old.items }
     {
-        sound(&self.host);
-        let tag = (retirement.place.client * TAGS + retirement.place.slot + 1) as u16;
         match retirement.stage {
             RetirementStage::Stopping if recovery.stage.is_resetting() => {
                 let next = Recovery {
@@ -230,7 +260,7 @@ impl Driver {
                 self.put(next, doors);
             }
             RetirementStage::Stopping => self.move_host(recovery, doors),
-            RetirementStage::Moving => self.move_host_again(recovery, tag, doors),
+            RetirementStage::Moving => self.move_retired(recovery, retirement, doors),
         }
     }
 
@@ -383,7 +413,7 @@ impl Driver {
         ensures { (self.new, doors.new.items) ≡ by_next self.old recovery code next doors.old.items }
     {
         match next {
-            Next::Again => self.put(recovery, doors),
+            Next::Again => self.put_again(recovery, doors),
             Next::Reset => {
                 let next = Recovery {
                     stage: Stage::Resetting,

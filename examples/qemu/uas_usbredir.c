@@ -198,8 +198,8 @@ static bool move(struct server *server, uint16_t tag, uint8_t phase, uint64_t mo
     return fault == UAS_OK;
 }
 
-/* Sends the answer of a task that has ended, once the host waits for it. Its data transfer is ended before: with what was moved, or, for data in of
- * which nothing moved, with no bytes, since a host takes a command whose data never ends for a fault of the transport. */
+/* Sends the answer of a task that has ended, once the host waits for it. Its data transfer is ended before, with what was moved of it, if anything:
+ * a host would have to cancel it else, and QEMU's controller then cancels the transfers of all streams of that pipe. */
 static void answer(struct server *server, uint16_t tag)
 {
     struct transfer *transfer = &server->statuses[tag], *data = &server->data[tag];
@@ -208,7 +208,7 @@ static void answer(struct server *server, uint16_t tag)
     uint64_t length = 0;
     if (uas_tasks_status(server->disk, tag, bytes, sizeof bytes, &length) != UAS_OK)
         return;
-    if (data->waits && (moved->count > 0 || (data->header.endpoint & 0x80) != 0)) {
+    if (data->waits) {
         moved->ended = bytes[0] == UAS_UNIT_SENSE && bytes[6] == UAS_GOOD;
         moved->id = data->id;
         complete(server, data, usb_redir_success, moved->bytes, moved->count);

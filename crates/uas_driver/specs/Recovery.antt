@@ -288,9 +288,14 @@ stood_still driver recovery doors =
     option_map_or (λ tag. move_ended driver recovery tag doors) (due_tag driver recovery.pipe)
     (option_map_or (λ retirement. host_goes_on driver recovery retirement doors) (retirement_on driver recovery.pipe) (ends_here driver recovery doors))
 
--- the same once Stop Endpoint or Reset Endpoint is done
+-- The same once Stop Endpoint or Reset Endpoint is done. A TD whose Set TR Dequeue Pointer was refused is moved behind once more first.
+abbrev pub stood_by : DriverState → Recovery → List ℕ → Subject → Told
+stood_by driver recovery doors Nothing = stood_still driver recovery doors
+stood_by driver recovery doors (Ended tag) = put driver (record recovery { stage = Moving }) doors
+stood_by driver recovery doors HostTd = stood_still driver recovery doors
+
 abbrev pub now_stands : DriverState → Recovery → List ℕ → Told
-now_stands driver recovery doors = stood_still (with_state driver recovery.pipe Stopped) recovery doors
+now_stands driver recovery doors = stood_by (with_state driver recovery.pipe Stopped) recovery doors recovery.subject
 
 -- Set TR Dequeue Pointer is done
 abbrev pub moved_on_to : DriverState → Recovery → List ℕ → Told
@@ -333,9 +338,16 @@ lost_host driver recovery (Some retirement) doors = by_stage retirement.stage
     by_stage hosts.Stopping = host_moves driver (record recovery { again = true }) doors
     by_stage hosts.Moving = host_moved driver recovery doors
 
+-- the TD whose Set TR Dequeue Pointer was refused is given back all the same
+abbrev pub subject_lost : DriverState → Recovery → Subject → DriverState
+subject_lost driver recovery Nothing = driver
+subject_lost driver recovery (Ended tag) = given_back driver recovery.pipe tag recovery.last
+subject_lost driver recovery HostTd = driver
+
 abbrev pub lost : DriverState → Recovery → ℕ → List ℕ → Told
 lost driver recovery code doors =
-    let now = all_lost recovery.pipe code driver in lost_host now recovery (retirement_on now recovery.pipe) doors
+    let now = all_lost recovery.pipe code (subject_lost driver recovery recovery.subject) in
+    lost_host now recovery (retirement_on now recovery.pipe) doors
 
 -- ALL TOGETHER
 

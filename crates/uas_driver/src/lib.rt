@@ -33,8 +33,8 @@
 //! What is promised: safe and total, whatever the controller beyond does. It may post any event, twice or never, and write any byte of
 //! a buffer. No call asks anything of it, and each call is one equation: what it makes of the driver, its answer and its doorbells
 //! are the function of its name in specs/Calls.antt and specs/Telling.antt. A refused call ([`Refusal`]) leaves the driver as it was and
-//! gives no doorbell. [`Driver::new`] takes all memory, and no other call takes any. Not proved, and tested over a controller with a
-//! temper: that each command has an answer in the end.
+//! gives no doorbell. [`Driver::new`] takes all memory, and no other call takes any. Not proved: that each command has an
+//! answer in the end.
 //!
 //! Where the host asks for room on a ring, or that nothing is lent for a tag, the driver tests it and refuses: a controller that posts no
 //! events gives no places back. The host's own promises, which events it takes for which command and what they leave over, stand in

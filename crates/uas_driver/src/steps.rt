@@ -7,7 +7,7 @@ ghost use Rattle.uas_profile.specs.Places.{tag_of};
 ghost use Rattle.uas_host.specs.State.{IsRetirement};
 ghost use Rattle.uas_driver.specs.Recovery.{all_lost, by_next, ends_here, first_lost, given_back, gone_on, host_goes_on, host_handed, host_moved};
 ghost use Rattle.uas_driver.specs.Recovery.{host_move_of, host_moves, host_moves_again, is_matched, is_needed, lost, lost_host, lost_td, move_ended, moved_on_to, needed, new_recovery, put_again};
-ghost use Rattle.uas_driver.specs.Recovery.{now_stands, put, restarted, retirement_on, stood_still, taken_off, told_in, went_on, with_told_end, wrote};
+ghost use Rattle.uas_driver.specs.Recovery.{now_stands, put, restarted, retirement_on, stood_by, stood_still, subject_lost, taken_off, told_in, went_on, with_told_end, wrote};
 
 use crate::endings::stand_in;
 use crate::recovery::{free, pass_td, put_stage, restart, ring, stream_of, td_end};
@@ -317,12 +317,28 @@ impl Driver {
         }
     }
 
+    /// The same; a TD whose Set TR Dequeue Pointer was refused is moved behind once more first.
+    fn stand_by(&mut self, recovery: Recovery, doors: &mut Doors)
+        ensures { (self.new, doors.new.items) ≡ stood_by self.old recovery doors.old.items recovery.subject }
+    {
+        match recovery.subject {
+            Subject::Nothing | Subject::HostTd => self.stand_still(recovery, doors),
+            Subject::Ended(_) => {
+                let next = Recovery {
+                    stage: Stage::Moving,
+                    ..recovery
+                };
+                self.put(next, doors);
+            }
+        }
+    }
+
     /// Stop Endpoint or Reset Endpoint is done.
     fn now_stand(&mut self, recovery: Recovery, doors: &mut Doors)
         ensures { (self.new, doors.new.items) ≡ now_stands self.old recovery doors.old.items }
     {
         self.endpoints.set(recovery.pipe, EndpointState::Stopped);
-        self.stand_still(recovery, doors);
+        self.stand_by(recovery, doors);
     }
 
     /// Set TR Dequeue Pointer is done.
@@ -399,10 +415,20 @@ impl Driver {
         }
     }
 
+    /// The TD whose Set TR Dequeue Pointer was refused is given back all the same.
+    fn lose_subject(&mut self, recovery: &Recovery)
+        ensures { self.new ≡ subject_lost self.old recovery.now recovery.now.subject }
+    {
+        if let Subject::Ended(tag) = recovery.subject {
+            self.give_back(recovery.pipe, tag, recovery.last);
+        }
+    }
+
     /// Gives a pipe up.
     fn lose(&mut self, recovery: Recovery, code: u8, doors: &mut Doors)
         ensures { (self.new, doors.new.items) ≡ lost self.old recovery code doors.old.items }
     {
+        self.lose_subject(&recovery);
         self.lose_all(recovery.pipe, code);
         let retirement = self.retirement_on(recovery.pipe);
         self.lose_host(recovery, retirement, doors);

@@ -1,16 +1,20 @@
 -- What commands of the command ring make of the pipes, and what is left to do.
-use Rattle.std.specs.Prelude.{ℕ, ◌==◌, Bool, true, false, not, ◌||◌, [], Option, Some, None, replicate}
+use Rattle.std.specs.Prelude.{ℕ, ◌==◌, nat_lt, Bool, true, false, not, ◌||◌, if◌then◌else◌, [], Option, Some, None, option_map, replicate}
+use Rattle.guest_memory.specs.Bytes.{Memory}
+use Rattle.guest_rings.specs.declared.cursor.Cursor.{Cursor}
 use Rattle.guest_pipes.specs.declared.acted.Acted.{Acted}
 use Rattle.guest_pipes.specs.declared.acted.Acted.TheVariants.{Off, Idle, Full, Emptied, Waits, Worked}
 use Rattle.guest_pipes.specs.declared.consumer.EndpointState.{EndpointState}
 use Rattle.guest_pipes.specs.declared.consumer.EndpointState.TheVariants.{Disabled, Running, Stopped}
 use Rattle.guest_pipes.specs.Progress.{fresh, runs}
 use Rattle.guest_pipes.specs.Gate.{after, room_gate, through}
+use Rattle.guest_pipes.specs.Orders.{dequeue_set}
 use Rattle.guest_pipes.specs.Pipe.{PipeState, progress_on}
 use Rattle.guest_tags.specs.declared.device.Phase.{Phase}
 use Rattle.guest_tags.specs.declared.device.Phase.TheVariants.{Absent, Gives, Takes, Ended}
 use Rattle.guest_tags.specs.Devices.{Kind}
-use Rattle.guest_tags.specs.Status.{has_unit}
+use Rattle.guest_tags.specs.Status.{has_unit, rewound}
+use Rattle.guest_transfers.specs.declared.slot.Slot.{Slot}
 use Rattle.guest_transfers.specs.declared.control.StreamPipe.{StreamPipe}
 use Rattle.guest_transfers.specs.declared.control.StreamPipe.TheVariants.{Status, DataOut, DataIn}
 use Rattle.guest_transfers.specs.State.{TransfersState, TransfersWorld, empty_slot, slot_of, with_slot}
@@ -48,6 +52,26 @@ command_stopped t = record t { command = record t.command { state = Stopped; run
 -- the same of the TD that was begun, as Set TR Dequeue Pointer and Reset Endpoint without TSP forget it
 abbrev pub command_forgotten : TransfersState → EndpointState → TransfersState
 command_forgotten t state = record t { command = record t.command { state = state; progress = fresh }; gathered = [] }
+
+-- Set TR Dequeue Pointer of a status stream: the information unit that its TD had begun goes from its start
+abbrev pub status_forgotten : Slot → Slot
+status_forgotten slot = record slot { tag = rewound slot.tag }
+
+abbrev pub unit_forgotten : TransfersState → StreamPipe → ℕ → TransfersState
+unit_forgotten t Status stream = if nat_lt stream 241 then with_slot t stream (status_forgotten (slot_of t stream)) else t
+unit_forgotten t DataOut stream = t
+unit_forgotten t DataIn stream = t
+
+abbrev pub pipe_kept : TransfersState → StreamPipe → Memory × PipeState → Memory × TransfersState
+pipe_kept t name after = (after.0, with_pipe t name after.1)
+
+abbrev pub dequeue_kept : TransfersState → StreamPipe → ℕ → Memory × PipeState → Memory × TransfersState
+dequeue_kept t name stream after = (after.0, unit_forgotten (with_pipe t name after.1) name stream)
+
+-- memory and pipes after Set TR Dequeue Pointer of a stream; None where its context isn't there
+abbrev pub dequeue_moved : Memory → TransfersState → StreamPipe → ℕ → Cursor → ℕ → Option (Memory × TransfersState)
+dequeue_moved memory t name stream cursor kind =
+    option_map (dequeue_kept t name stream) (dequeue_set memory (pipe_of t name) stream cursor kind)
 
 -- after a device reset nothing is kept of a tag
 abbrev pub tags_cleared : TransfersState → TransfersState

@@ -1,9 +1,11 @@
 -- The four pipes of a device, and what is kept of each tag.
-use Rattle.std.specs.Prelude.{ℕ, ◌+◌, ◌-◌, false, List, [], get_or, set, min, ◌^◌}
+use Rattle.std.specs.Prelude.{ℕ, ◌+◌, ◌-◌, false, List, [], get_or, set, min, ◌^◌, replicate}
 use Rattle.guest_memory.specs.Bytes.{Memory}
 use Rattle.guest_rings.specs.Events.{EventEnd}
+use Rattle.guest_pipes.specs.declared.consumer.EndpointState.TheVariants.{Disabled}
 use Rattle.guest_pipes.specs.declared.consumer.Consumer.{Consumer}
-use Rattle.guest_pipes.specs.Pipe.{PipeState}
+use Rattle.guest_pipes.specs.Progress.{fresh}
+use Rattle.guest_pipes.specs.Pipe.{PipeState, disabled}
 use Rattle.guest_tags.specs.Units.{whole}
 use Rattle.guest_transfers.specs.declared.slot.Slot.{Slot}
 
@@ -41,3 +43,15 @@ begun slot = record { tag = record slot.tag { chunk = []; gave = false; drops = 
 -- one more overlap is to be answered
 abbrev pub overlapped : Slot → Slot
 overlapped slot = record slot { tag = record slot.tag { overlaps = min (slot.tag.overlaps + 1) (2 ^ 32 - 1) } }
+
+-- nothing is configured, and nothing is kept of a tag
+abbrev pub opening : TransfersState
+opening = record {
+  command = record { endpoint = 2; state = Disabled; rung = false; progress = fresh };
+  home = 0;
+  gathered = [];
+  status = disabled 3;
+  data_out = disabled 4;
+  data_in = disabled 5;
+  tags = replicate 241 empty_slot;
+}

@@ -1,5 +1,5 @@
 //! What the controller's commands make of the pipes, and what is left to do for a tag.
-ghost use Rattle.std.specs.Prelude.{◌≡◌, ◌+◌, ◌<◌, ◌≤◌, ◌^◌, ℕ, get_or, set, Some, None, true, false, Bool, is_ok, is_some, unwrap_or};
+ghost use Rattle.std.specs.Prelude.{◌≡◌, ◌+◌, ◌<◌, ◌≤◌, ◌^◌, ℕ, get_or, set, Some, None, true, false, Bool, is_ok, is_some, option_map, unwrap_or};
 ghost use Rattle.std.specs.Result.{result_ok};
 ghost use Rattle.guest_pipes.specs.Gate.{after, stop_looked};
 ghost use Rattle.guest_pipes.specs.Step.{has_place};
@@ -8,14 +8,14 @@ ghost use Rattle.guest_pipes.specs.Orders.{PipeWorld, dequeue_set, invalid_stepp
 ghost use Rattle.guest_tags.specs.Devices.{Kind};
 ghost use Rattle.guest_transfers.specs.State.{TransfersWorld, slot_of};
 ghost use Rattle.guest_transfers.specs.Steps.{in_stepped, out_stepped};
-ghost use Rattle.guest_transfers.specs.Orders.{command_configured, command_disabled, command_forgotten, command_stopped, chunk_dropped, data_stepped, dropped_in, drops_now, has_task, has_work, or_out, pipe_of, with_pipe};
+ghost use Rattle.guest_transfers.specs.Orders.{pipe_kept, dequeue_kept, dequeue_moved, unit_forgotten, command_configured, command_disabled, command_forgotten, command_stopped, chunk_dropped, data_stepped, dropped_in, drops_now, has_task, has_work, or_out, pipe_of, with_pipe};
 ghost use Rattle.guest_memory.specs.Bytes.{Memory};
 ghost use Rattle.guest_rings.specs.Events.{EventEnd};
 
-use crate::calls::Transfers;
+use crate::calls::{TAG_SLOTS, Transfers};
 use guest_memory::{GuestMemory, Outside};
 use guest_pipes::{Acted, Consumer, EndpointState, Pipe, Progress, room_gate};
-use guest_rings::EventRing;
+use guest_rings::{Cursor, EventRing};
 use guest_tags::{Phase, UasDevice};
 
 /// A pipe with streams.
@@ -92,6 +92,64 @@ impl Transfers {
             StreamPipe::DataOut => self.data_out.reset(keeps),
             StreamPipe::DataIn => self.data_in.reset(keeps),
         }
+    }
+
+    /// The information unit that the TD of a status stream had begun goes from its start.
+    fn forget_unit(&mut self, name: StreamPipe, stream: u16)
+        ensures { self.new ≡ unit_forgotten self.old name stream }
+    {
+        match name {
+            StreamPipe::Status => {
+                if usize::from(stream) < TAG_SLOTS {
+                    self.tags[usize::from(stream)].tag.unit.rewind();
+                }
+            }
+            StreamPipe::DataOut | StreamPipe::DataIn => (),
+        }
+    }
+
+    fn set_pipe<M: GuestMemory>(
+        &mut self,
+        memory: &mut M,
+        name: StreamPipe,
+        stream: u16,
+        cursor: Cursor,
+        kind: u8,
+    ) -> Result<(), Outside>
+        requires stream { stream < 256 }
+        requires kind { kind < 8 }
+        ensures done { is_ok result ≡ is_some (dequeue_set (M.contents memory.old) (pipe_of self.old name) stream cursor kind) }
+        ensures after { (M.contents memory.new, self.new) ≡ unwrap_or (option_map (pipe_kept self.old name)
+            (dequeue_set (M.contents memory.old) (pipe_of self.old name) stream cursor kind)) (M.contents memory.old, self.old) }
+        ensures same_loan { M.loan memory.new ≡ M.loan memory.old }
+    {
+        match name {
+            StreamPipe::Status => self.status.set_dequeue(memory, stream, cursor, kind),
+            StreamPipe::DataOut => self.data_out.set_dequeue(memory, stream, cursor, kind),
+            StreamPipe::DataIn => self.data_in.set_dequeue(memory, stream, cursor, kind),
+        }
+    }
+
+    /// Sets the dequeue pointer of a stream that is there, with a type (SCT), and forgets what was moved; an endpoint in error is
+    /// stopped (Set TR Dequeue Pointer). A chunk in a tag's buffer stays. Refused where the stream's context isn't there, and then
+    /// nothing changes.
+    pub fn set_dequeue<M: GuestMemory>(
+        &mut self,
+        memory: &mut M,
+        name: StreamPipe,
+        stream: u16,
+        cursor: Cursor,
+        kind: u8,
+    ) -> Result<(), Outside>
+        requires stream { stream < 256 }
+        requires kind { kind < 8 }
+        ensures after { (M.contents memory.new, self.new) ≡ unwrap_or (dequeue_moved (M.contents memory.old) self.old name stream cursor kind) (M.contents memory.old, self.old) }
+        ensures done { is_ok result ≡ is_some (dequeue_moved (M.contents memory.old) self.old name stream cursor kind) }
+        ensures same_loan { M.loan memory.new ≡ M.loan memory.old }
+    {
+        self.set_pipe(memory, name, stream, cursor, kind)?;
+        self.forget_unit(name, stream);
+        Ok(())
     }
 
     /// Adds the command pipe, whose dequeue pointer has this address (Configure Endpoint).

@@ -64,3 +64,8 @@ IsReplayed log (Err (NotDue number)) = steps_fault log ≡ Some (NotDue number)
 IsReplayed log (Err (Refused number)) = steps_fault log ≡ Some (Refused number)
 IsReplayed log (Err (OtherReplies number)) = (steps_fault log ≡ None) × DifferFirst number (replayed_replies log) log.replies
 IsReplayed log (Err NoMemory) = Unit {0}
+
+-- A saved log replays: each of its steps is due and accepted in its turn, and its replies are those that come of them.
+pub record Replays (log : Saved) : Type 0 where
+  pub faultless : steps_fault log ≡ None
+  pub told : replayed_replies log ≡ log.replies

@@ -10,14 +10,19 @@
 //!               --replies------------------> OtherReplies(k), or the booked bus
 //! ```
 //!
+//! Of a log that is true nothing but memory can be wanting ([`true_logs_are_replayed`]): a refused step changes nothing and brings no
+//! reply, so that the steps that are kept are due and accepted in their turn ([`true_logs_replay`]).
+//!
 //! It stands on log_text and uas_work.
 #![tactic(auto)]
 
 mod faults;
+mod laws;
 mod replay;
 mod replies;
 mod units;
 
+pub use laws::{true_logs_are_replayed, true_logs_replay};
 pub use replay::replay_log;
 use thiserror::Error;
 

@@ -2,11 +2,10 @@
 //! can bring about; and one slip on one thread, from the desk into the log.
 //!
 //! ```text
-//! rounds      rounds with 1, 2 and 4 pumps, a full log, a gate that gives no turn, and one that lets no reply be taken
-//! meeting     every worker in its first turn at once, with 1, 2 and 4 pumps
-//! overlap     one client's command under way while another's two are answered, with 1, 2 and 4 pumps
-//! slip_home   slips that a pump books, on the first, a middle and the last tag; one that comes back at a full log
-//! saving      a log that is saved, loaded and replayed
+//! rounds      rounds with 1, 2 and 4 pumps, a full log, a gate that gives no turn
+//! meeting     every worker in its first turn at once
+//! overlap     one client's command under way while another's two are answered
+//! slip_home   a posted slip that a pump books
 //! ```
 //!
 //! What the calls of uas_work promise isn't tested: only that they get on, which no clause can say. The tests stand over the crate,
@@ -21,8 +20,6 @@ mod overlap;
 mod rounds;
 #[cfg(test)]
 mod runs;
-#[cfg(test)]
-mod saving;
 #[cfg(test)]
 mod slip_home;
 #[cfg(test)]

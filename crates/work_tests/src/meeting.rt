@@ -3,25 +3,20 @@
 use crate::runs::{PLAN, ROOM, assert_done, made, ran};
 use crate::turns::{MOST_TURNS, Turns, has_turn, pause};
 use bus_core::Step;
-use std::alloc::Global;
-use std::process::Abort;
-use std::sync::Wait;
 use std::sync::atomic::AtomicU64;
 use std::sync::atomic::Ordering::SeqCst;
 use std::test::Fail;
-use std::thread::Threads;
 use std::time::Clock;
-use uas_work::{Gate, Plan, PumpCount};
+use uas_work::Gate;
 
-/// How many workers there are beside the pumps: two clients, the plan's controllers, the dispatcher.
-const OTHERS: u64 = PLAN.controllers as u64 + 3;
+/// How many workers the plan has: two clients, two pumps, its controllers, the dispatcher.
+const WORKERS: u64 = PLAN.controllers as u64 + 5;
 
 /// Holds the first turn of each worker until every worker is in its own.
 #[derive(Drop)]
 struct MeetGate<'a, R> {
     rt: &'a R,
     turns: Turns,
-    workers: u64,
     come: AtomicU64,
 }
 
@@ -37,7 +32,7 @@ impl<R: Clock> Gate for MeetGate<'_, R> {
         }
         self.come.fetch_add(1, SeqCst);
         for waited in 0..MOST_TURNS {
-            if self.come.load(SeqCst) >= self.workers {
+            if self.come.load(SeqCst) >= WORKERS {
                 return true;
             }
             pause(self.rt, waited);
@@ -50,33 +45,15 @@ impl<R: Clock> Gate for MeetGate<'_, R> {
     }
 }
 
-/// Two clients and so many pumps are all in their first turn at once.
-fn meet_with<R: Threads + Wait + Abort + Clock + Sync>(
-    rt: &R,
-    alloc: Global,
-    pumps: PumpCount,
-) -> Result<(), Fail> {
-    let gate = MeetGate {
-        rt,
-        turns: Turns::new(alloc)?,
-        workers: OTHERS + pumps.count() as u64,
-        come: AtomicU64::new(0),
-    };
-    let finished = ran(
-        rt,
-        alloc,
-        made(alloc, 2, ROOM)?,
-        &gate,
-        Plan { pumps, ..PLAN },
-    )?;
-    assert_done(rt, &finished, 2, 9);
-    Ok(())
-}
-
-/// Every worker is in its first turn at once, with each number of pumps.
+/// Every worker is in its first turn at once.
 #[test]
 fn meet_gate(rt: HostRuntime) -> Result<(), Fail> {
-    meet_with(&rt, rt.alloc(), PumpCount::One)?;
-    meet_with(&rt, rt.alloc(), PumpCount::Two)?;
-    meet_with(&rt, rt.alloc(), PumpCount::Four)
+    let gate = MeetGate {
+        rt: &rt,
+        turns: Turns::new(),
+        come: AtomicU64::new(0),
+    };
+    let finished = ran(&rt, rt.alloc(), made(rt.alloc(), 2, ROOM)?, &gate, PLAN)?;
+    assert_done(&rt, &finished, 2, 9);
+    Ok(())
 }

@@ -1,5 +1,4 @@
 //! The turns that a gate gives: 10,000 to each worker, the later ones after a sleep.
-use std::alloc::{AllocError, Global};
 use std::sync::atomic::AtomicU64;
 use std::sync::atomic::Ordering::SeqCst;
 use std::thread;
@@ -11,20 +10,22 @@ pub(crate) const MOST_TURNS: u64 = 10_000;
 /// From this one on it sleeps before each.
 const AWAKE: u64 = 100;
 
-/// The most workers of these tests: two clients, four pumps, two controllers and the dispatcher.
-const MOST_WORKERS: usize = 9;
-
 /// The turns of each worker that were counted.
 #[derive(Drop)]
-pub(crate) struct Turns(Vec<AtomicU64>);
+pub(crate) struct Turns([AtomicU64; 8]);
 
 impl Turns {
-    pub(crate) fn new(alloc: Global) -> Result<Turns, AllocError> {
-        let mut turns = Vec::new(alloc);
-        for _ in 0..MOST_WORKERS {
-            turns.push(AtomicU64::new(0))?;
-        }
-        Ok(Turns(turns))
+    pub(crate) fn new() -> Turns {
+        Turns([
+            AtomicU64::new(0),
+            AtomicU64::new(0),
+            AtomicU64::new(0),
+            AtomicU64::new(0),
+            AtomicU64::new(0),
+            AtomicU64::new(0),
+            AtomicU64::new(0),
+            AtomicU64::new(0),
+        ])
     }
 
     /// Counts a turn of a worker: how many it had before.

@@ -1876,7 +1876,12 @@ static void driver_refuses(void)
     DRIVER_REFUSES(DRIVER_RING, 16, CONTEXT, .pipe = 1, .stream = 0);
     DRIVER_REFUSES(DRIVER_RING, 16, CONTEXT, .pipe = 3, .stream = 249);
     driver_refuses_call(driver, (struct uas_driver_door){ .call = 0 }, 0, UAS_CLIENT_CALL);
-    driver_refuses_call(driver, (struct uas_driver_door){ .call = 11 }, 16, UAS_CLIENT_CALL);
+    driver_refuses_call(driver, (struct uas_driver_door){ .call = 15 }, 16, UAS_CLIENT_CALL);
+    DRIVER_REFUSES(CLIENT_NOT_YOURS, 0, GIVE_UP, .client = 1, .tag = 1);
+    DRIVER_REFUSES(CLIENT_NO_SUCH_TASK, 0, GIVE_UP, .tag = 2);
+    DRIVER_REFUSES(DRIVER_RING, 0, STATE, .pipe = 5, .state = UAS_STATE_RUNNING);
+    DRIVER_REFUSES(DRIVER_STATE, 0, STATE, .pipe = UAS_PIPE_STATUS, .state = 0);
+    DRIVER_REFUSES(DRIVER_STATE, 0, STATE, .pipe = UAS_PIPE_STATUS, .state = UAS_STATE_ERROR + 1);
     driver_context_is(driver, UAS_PIPE_DATA_OUT, 248, "03 80 0f 44 00 x12");
     CHECK(uas_driver_read(driver, 0x1000f800, NULL, 0) == 0 && uas_driver_write(driver, 0x2000f800, NULL, 0) == 0);
     uas_driver_free(driver);

@@ -692,7 +692,7 @@ struct uas_driver_door {
     uint8_t reply;                  /* out of REPLY: UAS_REPLY_... */
     uint8_t status;                 /* out of REPLY: the SCSI status, a task management's response code, or what failed: a completion code */
     uint8_t sense_length;           /* out of REPLY */
-    uint8_t state;                  /* in of STATE: UAS_ENDPOINT_... */
+    uint8_t state;                  /* in of STATE: UAS_STATE_... */
     uint8_t reserved[2];
     uint32_t moved;                 /* out of REPLY: how many bytes of the command's data the events told to be moved */
     uint8_t sense[96];              /* out of REPLY: its first sense_length bytes */

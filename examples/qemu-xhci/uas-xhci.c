@@ -1,0 +1,299 @@
+/* A PCI device for QEMU 7.2: the library's xHCI controller with its UAS disk, over the guest's memory, with its blocks in a file.
+ *
+ *   -device uas-xhci,file=PATH[,msi=on|off|auto][,bad=BLOCK]
+ *
+ * QEMU's part is the bus: configuration space, the page of registers, the guest's memory by address, an interrupt, and threads for the file.
+ * Rings, contexts, commands and the disk are the library's. A register write notes what is to be done; a bottom half does it, under QEMU's
+ * lock, a number of steps at a time, so that no processor of the guest waits in its register access for a long ring. README.md says how it
+ * is built, and what is trusted. */
+#include "qemu/osdep.h"
+#include "block/aio.h"
+#include "block/thread-pool.h"
+#include "exec/memory.h"
+#include "hw/pci/msi.h"
+#include "hw/pci/pci.h"
+#include "hw/qdev-properties.h"
+#include "migration/vmstate.h"
+#include "qapi/error.h"
+#include "qemu/main-loop.h"
+#include "qemu/module.h"
+#include "qemu/timer.h"
+#include "qom/object.h"
+#include "uas_xhci.h"
+
+/* A READ or WRITE moves at most 1 MiB, which page B0h tells; a request to the file is of at most 64 KiB. */
+enum { MOST_BLOCKS = 2048, CHUNK_BLOCKS = 128, CHUNK_BYTES = CHUNK_BLOCKS * UAS_BLOCK_BYTES };
+
+enum { STEPS_A_TURN = 256, MICROFRAME_NS = 125000, MSI_AT = 0x70 };
+
+#define TYPE_UAS_XHCI "uas-xhci"
+OBJECT_DECLARE_SIMPLE_TYPE(UasXhci, UAS_XHCI)
+
+struct UasXhci {
+    PCIDevice parent;
+    MemoryRegion registers;
+    MemoryListener listener;
+    GArray *memory; /* of struct uas_memory: all that the device may reach */
+    QEMUBH *turn;
+    uas_xhci *xhci;
+    char *path;
+    OnOffAuto msi;
+    uint64_t bad;
+    int file;
+};
+
+/* ---- Blocks: each request is a job of QEMU's thread pool ---- */
+
+struct job {
+    UasXhci *device;
+    struct uas_request request;
+    uint8_t bytes[CHUNK_BYTES];
+};
+
+/* Reads or writes all of some bytes of a file. */
+static bool move_all(int file, uint8_t *bytes, size_t length, uint64_t at, bool writes)
+{
+    while (length > 0) {
+        ssize_t done = writes ? pwrite(file, bytes, length, (off_t)at) : pread(file, bytes, length, (off_t)at);
+        if (done == 0 || (done < 0 && errno != EINTR))
+            return false;
+        if (done > 0) {
+            bytes += done;
+            length -= (size_t)done;
+            at += (uint64_t)done;
+        }
+    }
+    return true;
+}
+
+/* What comes of reading a request's blocks a part at a time, against its bytes where it compares. */
+static int look_through(const struct job *job, uint64_t at, uint64_t length)
+{
+    uint8_t part[16 * UAS_BLOCK_BYTES];
+    for (uint64_t done = 0; done < length; done += sizeof part) {
+        size_t size = MIN(sizeof part, length - done);
+        if (!move_all(job->device->file, part, size, at + done, false))
+            return UAS_MEDIUM_ERROR;
+        if (job->request.kind == UAS_REQUEST_COMPARE && memcmp(part, job->bytes + done, size) != 0)
+            return UAS_DIFFERS;
+    }
+    return UAS_DONE;
+}
+
+/* Does a request, in a thread of the pool, and returns what came of it. */
+static int do_request(void *opaque)
+{
+    struct job *job = opaque;
+    const struct uas_request *request = &job->request;
+    int file = job->device->file;
+    uint64_t at = request->block * UAS_BLOCK_BYTES, length = request->count * UAS_BLOCK_BYTES;
+    bool good = false;
+    if (request->kind != UAS_REQUEST_SYNC && job->device->bad - request->block < request->count)
+        return UAS_MEDIUM_ERROR;
+    switch (request->kind) {
+    case UAS_REQUEST_READ:
+        good = move_all(file, job->bytes, length, at, false);
+        break;
+    case UAS_REQUEST_WRITE:
+        good = move_all(file, job->bytes, length, at, true) && (!request->through || fdatasync(file) == 0);
+        break;
+    case UAS_REQUEST_SYNC:
+        good = fdatasync(file) == 0;
+        break;
+    default:
+        return look_through(job, at, length);
+    }
+    return good ? UAS_DONE : UAS_MEDIUM_ERROR;
+}
+
+/* In QEMU's main loop again. The controller drops the answer itself where the task is gone. */
+static void request_done(void *opaque, int outcome)
+{
+    struct job *job = opaque;
+    bool has_bytes = job->request.kind == UAS_REQUEST_READ && outcome == UAS_DONE;
+    uas_xhci_answered(job->device->xhci, job->request.number, (uint8_t)outcome, job->bytes,
+                      has_bytes ? job->request.count * UAS_BLOCK_BYTES : 0);
+    qemu_bh_schedule(job->device->turn);
+    g_free(job);
+}
+
+static void begin_request(UasXhci *device, const struct uas_request *request)
+{
+    struct job *job = g_new(struct job, 1);
+    job->device = device;
+    job->request = *request;
+    if (request->kind == UAS_REQUEST_WRITE || request->kind == UAS_REQUEST_COMPARE)
+        uas_xhci_data(device->xhci, request->number, job->bytes, request->count * UAS_BLOCK_BYTES);
+    thread_pool_submit_aio(aio_get_thread_pool(qemu_get_aio_context()), do_request, job, request_done, job);
+}
+
+/* ---- Memory: all of the guest's that this function reaches as bus master, and none where it isn't one ---- */
+
+static bool lend(Int128 start, Int128 length, const MemoryRegion *region, hwaddr offset, void *opaque)
+{
+    UasXhci *device = opaque;
+    MemoryRegion *ram = (MemoryRegion *)region;
+    if (memory_access_is_direct(ram, true)) {
+        uint8_t *bytes = memory_region_get_ram_ptr(ram);
+        struct uas_memory range = { int128_get64(start), bytes + offset, int128_get64(length) };
+        g_array_append_val(device->memory, range);
+    }
+    return false;
+}
+
+static void memory_changed(MemoryListener *listener)
+{
+    UasXhci *device = container_of(listener, UasXhci, listener);
+    RCU_READ_LOCK_GUARD();
+    g_array_set_size(device->memory, 0);
+    flatview_for_each_range(address_space_to_flatview(pci_get_address_space(&device->parent)), lend, device);
+    qemu_bh_schedule(device->turn);
+}
+
+/* ---- Registers, steps, interrupts ---- */
+
+static void interrupt(UasXhci *device)
+{
+    if (!msi_enabled(&device->parent))
+        pci_set_irq(&device->parent, uas_xhci_interrupt(device->xhci));
+    else if (uas_xhci_take_message(device->xhci))
+        msi_notify(&device->parent, 0);
+}
+
+static void turn(void *opaque)
+{
+    UasXhci *device = opaque;
+    struct uas_memory *memory = (struct uas_memory *)device->memory->data;
+    struct uas_request request;
+    uint32_t steps;
+    if (device->memory->len > 0 && uas_xhci_work(device->xhci, memory, device->memory->len, STEPS_A_TURN, &steps))
+        qemu_bh_schedule(device->turn);
+    while (uas_xhci_next_request(device->xhci, &request))
+        begin_request(device, &request);
+    interrupt(device);
+}
+
+static uint64_t read_register(void *opaque, hwaddr at, unsigned width)
+{
+    UasXhci *device = opaque;
+    uas_xhci_set_frame(device->xhci, (uint16_t)(qemu_clock_get_ns(QEMU_CLOCK_VIRTUAL) / MICROFRAME_NS));
+    return uas_xhci_read(device->xhci, at, (uint8_t)width);
+}
+
+static void write_register(void *opaque, hwaddr at, uint64_t value, unsigned width)
+{
+    UasXhci *device = opaque;
+    uas_xhci_write(device->xhci, at, (uint8_t)width, value);
+    qemu_bh_schedule(device->turn);
+    interrupt(device);
+}
+
+static const MemoryRegionOps register_ops = {
+    .read = read_register,
+    .write = write_register,
+    .endianness = DEVICE_LITTLE_ENDIAN,
+    .valid = { .min_access_size = 1, .max_access_size = 8 },
+    .impl = { .min_access_size = 1, .max_access_size = 8 },
+};
+
+static void reset(DeviceState *state)
+{
+    UasXhci *device = UAS_XHCI(state);
+    uas_xhci_reset(device->xhci);
+    interrupt(device);
+}
+
+/* ---- The device ---- */
+
+/* Opens the file and makes a controller with a disk of as many blocks; the serial number is the file's inode. */
+static bool open_disk(UasXhci *device, Error **errp)
+{
+    struct stat told;
+    if (device->path == NULL) {
+        error_setg(errp, "uas-xhci: file=PATH is missing");
+        return false;
+    }
+    device->file = qemu_open(device->path, O_RDWR, errp);
+    if (device->file < 0)
+        return false;
+    if (fstat(device->file, &told) != 0 || told.st_size % UAS_BLOCK_BYTES != 0) {
+        error_setg(errp, "uas-xhci: %s isn't a file of whole blocks of %d bytes", device->path, UAS_BLOCK_BYTES);
+        return false;
+    }
+    struct uas_tasks_unit unit = { (uint64_t)told.st_size / UAS_BLOCK_BYTES, (uint32_t)(told.st_ino % 100000000), UAS_BLOCK_BYTES };
+    uint8_t fault = uas_xhci_new(&unit, 1, UAS_SET_HOST, MOST_BLOCKS, CHUNK_BLOCKS, &device->xhci);
+    if (fault != UAS_OK)
+        error_setg(errp, "uas-xhci: %s: %s", device->path, uas_fault_name(fault));
+    return fault == UAS_OK;
+}
+
+/* With msi=auto a machine without messages has the pin. */
+static bool add_message(UasXhci *device, Error **errp)
+{
+    Error *why = NULL;
+    if (device->msi == ON_OFF_AUTO_OFF || msi_init(&device->parent, MSI_AT, 1, true, false, &why) == 0)
+        return true;
+    if (device->msi == ON_OFF_AUTO_ON) {
+        error_propagate(errp, why);
+        return false;
+    }
+    error_free(why);
+    return true;
+}
+
+static void realize(PCIDevice *parent, Error **errp)
+{
+    UasXhci *device = UAS_XHCI(parent);
+    if (!open_disk(device, errp) || !add_message(device, errp))
+        return;
+    parent->config[PCI_CLASS_PROG] = 0x30; /* xHCI */
+    parent->config[0x60] = 0x30;           /* USB 3.0, which drivers read here (xHCI 5.2.3) */
+    pci_config_set_interrupt_pin(parent->config, 1);
+    memory_region_init_io(&device->registers, OBJECT(device), &register_ops, device, TYPE_UAS_XHCI, UAS_XHCI_REGISTER_BYTES);
+    pci_register_bar(parent, 0, PCI_BASE_ADDRESS_SPACE_MEMORY | PCI_BASE_ADDRESS_MEM_TYPE_64, &device->registers);
+    device->turn = qemu_bh_new(turn, device);
+    device->memory = g_array_new(FALSE, FALSE, sizeof(struct uas_memory));
+    device->listener = (MemoryListener){ .name = TYPE_UAS_XHCI, .commit = memory_changed };
+    memory_listener_register(&device->listener, pci_get_address_space(parent));
+}
+
+static Property properties[] = {
+    DEFINE_PROP_STRING("file", UasXhci, path),
+    DEFINE_PROP_ON_OFF_AUTO("msi", UasXhci, msi, ON_OFF_AUTO_AUTO),
+    DEFINE_PROP_UINT64("bad", UasXhci, bad, UINT64_MAX), /* a block that can't be read or written, for tests */
+    DEFINE_PROP_END_OF_LIST(),
+};
+
+/* The library tells nobody its state, so that a machine with it can be neither saved nor moved. */
+static const VMStateDescription state = { .name = TYPE_UAS_XHCI, .unmigratable = 1 };
+
+static void class_init(ObjectClass *class, void *data)
+{
+    PCIDeviceClass *pci = PCI_DEVICE_CLASS(class);
+    DeviceClass *device = DEVICE_CLASS(class);
+    pci->realize = realize;
+    pci->vendor_id = PCI_VENDOR_ID_REDHAT_QUMRANET;
+    pci->device_id = 0x10f0; /* for experiments (docs/specs/pci-ids.txt): a product has a number of its own */
+    pci->class_id = PCI_CLASS_SERIAL_USB;
+    device->desc = "xHCI controller with a UAS disk, from a library";
+    device->reset = reset;
+    device->vmsd = &state;
+    device->hotpluggable = false;
+    device_class_set_props(device, properties);
+    set_bit(DEVICE_CATEGORY_USB, device->categories);
+}
+
+static const TypeInfo type = {
+    .name = TYPE_UAS_XHCI,
+    .parent = TYPE_PCI_DEVICE,
+    .instance_size = sizeof(UasXhci),
+    .class_init = class_init,
+    .interfaces = (InterfaceInfo[]){ { INTERFACE_CONVENTIONAL_PCI_DEVICE }, { } },
+};
+
+static void register_types(void)
+{
+    type_register_static(&type);
+}
+
+type_init(register_types)

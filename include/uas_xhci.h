@@ -1,0 +1,111 @@
+/* uas_xhci.h: an xHCI controller with one SuperSpeed UAS disk behind it, over memory that the caller owns, for C, from a verified library
+ * (link libuas_xhci.a).
+ *
+ *     a driver writes registers -----> uas_xhci_write     notes the doorbell, takes no step
+ *                                      uas_xhci_work      steps: TRBs are fetched from the memory that is lent, data moves, events are posted
+ *     the backend <------------------- uas_xhci_next_request, uas_xhci_data
+ *     the backend -------------------> uas_xhci_answered  and then uas_xhci_work again
+ *     the driver is interrupted <----- uas_xhci_interrupt (the pin) or uas_xhci_take_message (MSI, MSI-X)
+ *
+ * The controller is whole: registers, one device slot, a USB 2.0 port without anything, a USB 3.0 port with the disk, command ring, event
+ * ring of one segment, endpoint 0 and the four pipes of UAS, of which three have streams. Rings, contexts and buffers are where the driver
+ * put them, at any address; TRBs are of any length. The disk is a uas_tasks device, so its blocks are somebody else's: each move of blocks
+ * is a request (uas_tasks.h), answered at any time and in any order.
+ *
+ * What isn't here is the caller's: PCI configuration space (class 0C0330h; the byte at 60h reads 30h; BAR 0 of one page of 4 KiB), the
+ * message or the pin itself, and time.
+ *
+ * The duties of a caller are those of uas.h, for a uas_xhci pointer as for its others. Memory is taken by uas_xhci_new alone. Sections are
+ * those of xHCI 1.2. */
+#ifndef UAS_XHCI_H
+#define UAS_XHCI_H
+
+#include "uas_tasks.h"
+
+#ifdef __cplusplus
+extern "C" {
+#define UAS_XHCI_ASSERT(what) static_assert(what, #what)
+#else
+#define UAS_XHCI_ASSERT(what) _Static_assert(what, #what)
+#endif
+
+typedef struct uas_xhci uas_xhci;
+
+enum { UAS_XHCI_REGISTER_BYTES = 4096 /* of the page of BAR 0 */ };
+
+/* Memory that is lent for a call: `length` bytes from the address `base` on, as the driver's rings and pointers name it. Ranges don't
+ * overlap, and nobody else writes them during the call. A controller reads each TRB, context and information unit once and decides on that
+ * copy. */
+struct uas_memory {
+    uint64_t base;
+    uint8_t *bytes;
+    size_t length;
+};
+UAS_XHCI_ASSERT(sizeof(struct uas_memory) == 8 + sizeof(void *) + sizeof(size_t));
+
+/* A controller as after a power-on, with a disk of `count` logical units plugged in. All but the last parameter are those of uas_tasks_new,
+ * and so are the faults. *xhci is for uas_xhci_free.
+ * Faults: UAS_UNITS, UAS_BLOCKS, UAS_TASKS_BLOCK_BYTES, UAS_TASKS_SERIAL, UAS_TASKS_SET, UAS_TASKS_CHUNK, UAS_NO_MEMORY. */
+uint8_t uas_xhci_new(const struct uas_tasks_unit *units, size_t count, uint8_t set, uint16_t most, uint16_t chunk, uas_xhci **xhci);
+
+/* Gives back all memory that the controller holds, but the block of malloc that the pointer is of. For uas_xhci_free alone. */
+void uas_xhci_close(uas_xhci *xhci);
+
+/* Gives all its memory back; a null pointer has none. */
+void uas_xhci_free(uas_xhci *xhci);
+
+/* ---- Registers (5.3 to 5.6) ---- */
+
+/* The register, or part of one, at an offset in the page. A read of 1, 2, 4 or 8 bytes at a multiple of its width has these bytes, the
+ * first in the lowest bits; another reads 0. */
+uint64_t uas_xhci_read(uas_xhci *xhci, uint64_t offset, uint8_t width);
+
+/* A write of 4 or 8 bytes at a multiple of its width; another does nothing. It takes no step: what a doorbell starts, or a port reports, is
+ * for uas_xhci_work. */
+void uas_xhci_write(uas_xhci *xhci, uint64_t offset, uint8_t width, uint64_t value);
+
+/* The microframe that MFINDEX tells (5.5.1), of which 14 bits count: 125 microseconds each. */
+void uas_xhci_set_frame(uas_xhci *xhci, uint16_t frame_index);
+
+/* ---- Work ---- */
+
+/* Takes at most `budget` steps, each of one TRB or one chunk, over the memory that is lent; *steps is how many it took. The value is whether
+ * there may be more to do at once; where it is false, the next register write or answer gives something to do. Memory that isn't there where
+ * a ring or a context should be halts the controller (USBSTS.HSE); where a TRB's buffer should be, the TD ends with Data Buffer Error. */
+bool uas_xhci_work(uas_xhci *xhci, struct uas_memory *memory, size_t count, uint32_t budget, uint32_t *steps);
+
+/* ---- Interrupts (4.17) ---- */
+
+/* The interrupt pin: IMAN.IP, IMAN.IE and USBCMD.INTE together. To be looked at after each register write and each work. */
+bool uas_xhci_interrupt(uas_xhci *xhci);
+
+/* Whether a message is to be sent, at the same places: true once where the pin would be asserted, and clears IP. */
+bool uas_xhci_take_message(uas_xhci *xhci);
+
+/* ---- The disk and the function ---- */
+
+/* The disk is plugged in, or unplugged with all its tasks. */
+void uas_xhci_plug(uas_xhci *xhci, bool attached);
+
+/* A reset of the whole function, as HCRST does it (5.4.1): registers, slot, rings, ports and the disk's tasks. */
+void uas_xhci_reset(uas_xhci *xhci);
+
+/* ---- Blocks ---- */
+
+/* The next request that is out newly: false where there is none. To be taken after each work. A request stays out until it is answered,
+ * also where its task is gone meanwhile. */
+bool uas_xhci_next_request(uas_xhci *xhci, struct uas_request *request);
+
+/* The bytes of a request that writes or compares, all of them.
+ * Faults: UAS_TASKS_NOT_OUT, UAS_TASKS_LENGTH. */
+uint8_t uas_xhci_data(uas_xhci *xhci, uint64_t number, uint8_t *bytes, size_t length);
+
+/* What came of a request, UAS_DONE and its like. `bytes` are those of its blocks where it read and is done, and aren't looked at otherwise.
+ * What was asked for a task that is gone is dropped. Work is due then.
+ * Faults: UAS_TASKS_CALL (no such outcome), UAS_TASKS_NOT_OUT, UAS_TASKS_LENGTH. */
+uint8_t uas_xhci_answered(uas_xhci *xhci, uint64_t number, uint8_t outcome, const uint8_t *bytes, size_t length);
+
+#ifdef __cplusplus
+}
+#endif
+#endif

@@ -8,11 +8,12 @@ ghost use Rattle.guest_pipes.specs.Orders.{PipeWorld, dequeue_set, invalid_stepp
 ghost use Rattle.guest_tags.specs.Devices.{Kind};
 ghost use Rattle.guest_transfers.specs.State.{TransfersWorld, slot_of};
 ghost use Rattle.guest_transfers.specs.Steps.{in_stepped, out_stepped};
-ghost use Rattle.guest_transfers.specs.Orders.{pipe_kept, dequeue_kept, dequeue_moved, unit_forgotten, command_configured, command_disabled, command_forgotten, command_stopped, chunk_dropped, data_stepped, dropped_in, drops_now, has_task, has_work, or_out, pipe_of, with_pipe};
+ghost use Rattle.guest_transfers.specs.Orders.{pipe_kept, dequeue_kept, dequeue_moved, unit_forgotten, command_configured, command_disabled, command_forgotten, command_stopped, chunk_dropped, data_stepped, dropped_in, drops_now, has_task, has_work, or_out, pipe_of, with_pipe, tags_cleared, invalid_on};
 ghost use Rattle.guest_memory.specs.Bytes.{Memory};
 ghost use Rattle.guest_rings.specs.Events.{EventEnd};
 
 use crate::calls::{TAG_SLOTS, Transfers};
+use crate::slot::empty_all;
 use guest_memory::{GuestMemory, Outside};
 use guest_pipes::{Acted, Consumer, EndpointState, Pipe, Progress, room_gate};
 use guest_rings::{Cursor, EventRing};
@@ -195,6 +196,32 @@ impl Transfers {
         self.command.state = state;
         self.command.progress = Progress::fresh();
         self.gathered.clear();
+    }
+
+    /// Nothing is kept of any tag any more: the device was reset, and every task is gone.
+    pub fn clear_tags(&mut self)
+        ensures { self.new ≡ tags_cleared self.old }
+    {
+        empty_all(&mut self.tags);
+    }
+
+    /// A step for a doorbell of a pipe's stream that isn't there: Invalid Stream ID, and the endpoint halts. Refused where the event's
+    /// place isn't there, and then nothing changes.
+    pub fn step_invalid<M: GuestMemory>(
+        &mut self,
+        memory: &mut M,
+        events: &mut EventRing,
+        name: StreamPipe,
+    ) -> Result<Acted, Outside>
+        ensures step { (M.contents memory.new, (events.new, (self.new, result_ok result)))
+            ≡ invalid_on (M.contents memory.old) events.old self.old name }
+        ensures same_loan { M.loan memory.new ≡ M.loan memory.old }
+    {
+        match name {
+            StreamPipe::Status => self.status.step_invalid(memory, events),
+            StreamPipe::DataOut => self.data_out.step_invalid(memory, events),
+            StreamPipe::DataIn => self.data_in.step_invalid(memory, events),
+        }
     }
 
     /// Drops the next chunk of a tag that gives so many bytes.

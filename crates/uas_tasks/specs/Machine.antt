@@ -167,6 +167,10 @@ attentive unit = record unit { attention = true }
 abbrev pub without_its_task : SlotState → SlotState
 without_its_task slot = with_task slot None
 
+-- no tag has a task any more
+abbrev pub tasks_ended : Machine → Machine
+tasks_ended machine = record machine { slots = map without_its_task machine.slots }
+
 -- a reset of the whole device: no tag has a task any more, and every logical unit has an attention
 abbrev pub reset_machine : Machine → Machine
 reset_machine machine = record machine { units = map attentive machine.units; slots = map without_its_task machine.slots }

@@ -3,7 +3,7 @@
 ghost use Rattle.std.specs.Prelude.{◌≡◌, map, slice_index};
 ghost use Rattle.uas_target.specs.Fields.{addressed};
 ghost use Rattle.uas_target.specs.Tasks.{is_at};
-ghost use Rattle.uas_tasks.specs.Machine.{aborted_on, attentive, managed, queried_on, reset_machine, reset_on, slot_under, without_command, without_its_task};
+ghost use Rattle.uas_tasks.specs.Machine.{aborted_on, attentive, managed, queried_on, reset_machine, reset_on, slot_under, tasks_ended, without_command, without_its_task};
 ghost use Rattle.uas_tasks.specs.Slots.{has_command, is_command_of, spared_slot};
 
 use crate::receiver::unit_number;
@@ -22,6 +22,14 @@ impl Tasks {
     {
         end_all(&mut self.slots);
         establish_attentions(&mut self.units);
+    }
+
+    /// Ends every task without an answer (a device that is configured anew, USB 3.2, 9.4.7). Requests that are out stay out until they
+    /// are answered.
+    pub fn end_tasks(&mut self)
+        ensures { self.new ≡ tasks_ended self.old }
+    {
+        end_all(&mut self.slots);
     }
 
     /// Does a task management function on the logical unit that a LUN addresses; its response code.

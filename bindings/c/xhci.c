@@ -39,9 +39,7 @@ void uas_xhci_set_frame(uas_xhci *xhci, uint16_t frame_index)
 
 bool uas_xhci_work(uas_xhci *xhci, const struct uas_memory *memory, uint32_t budget, uint32_t *steps)
 {
-    struct uas_xhci_door door = {
-        .call = UAS_XHCI_CALL_WORK, .budget = budget, .base = memory->base, .low = memory->low, .high = memory->high
-    };
+    struct uas_xhci_door door = { .call = UAS_XHCI_CALL_WORK, .budget = budget, .base = memory->base };
     call(xhci, &door, memory->bytes, memory->length);
     *steps = door.steps;
     return door.good != 0;

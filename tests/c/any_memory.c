@@ -185,11 +185,9 @@ static bool answer_one(uas_xhci *xhci)
 static bool work(uas_xhci *xhci)
 {
     uint32_t budget = below(64), steps;
-    struct uas_memory memory = { BASE, LENT, 0, lent, LENT };
-    if (one_in(32)) {
-        memory.low = below(LENT);
-        memory.high = drawn();
-    }
+    struct uas_memory memory = { BASE, lent, LENT };
+    if (one_in(64))
+        memory.base = one_in(2) ? drawn() : 0 - (uint64_t)below(LENT);
     uas_xhci_work(xhci, &memory, budget, &steps);
     steps_taken += steps;
     return steps <= budget;

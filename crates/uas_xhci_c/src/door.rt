@@ -5,7 +5,8 @@ ghost use Rattle.uas_xhci_c.specs.XhciCall.{is_answer};
 use c_faults::{TASKS_CALL, TASKS_LENGTH, TASKS_NOT_OUT};
 use guest_memory::{Lent, Pieces};
 use uas_tasks::{AnswerFault, Next, Outcome, Request};
-use xhci_machine::{Machine, Width};
+use std::marker::Model;
+use xhci_machine::{Machine, Width, Worked};
 
 /// What a call of the controller asks and answers. C writes `call` and what that call reads; the call writes what it answers.
 #[repr(C)]
@@ -34,10 +35,6 @@ pub struct UasXhciDoor {
     pub value: u64,
     /// Of WORK: the address of the first lent byte.
     pub base: u64,
-    /// Of WORK: how many bytes stand from there on.
-    pub low: u64,
-    /// Of WORK: the address of the byte behind those.
-    pub high: u64,
     /// Out of REQUEST, and of DATA and ANSWERED: the request's number.
     pub number: u64,
     /// Out of REQUEST: the logical unit's number.
@@ -52,6 +49,14 @@ pub struct UasXhciDoor {
 #[derive(Drop)]
 pub(crate) struct KeptXhci {
     pub(crate) machine: Machine,
+}
+
+impl Model for KeptXhci {
+    ghost use Rattle.xhci_machine.specs.declared.Machine.{Machine};
+
+    ghost Value = { Machine };
+
+    ghost view = { λ kept. kept.machine };
 }
 
 /// A call, by its number.
@@ -166,27 +171,24 @@ fn write(machine: &mut Machine, door: &UasXhciDoor) -> u8
     0
 }
 
-/// Steps over the lent bytes: the first `low` of them from the address `base` on, the others from `high` on.
+/// Steps over the lent bytes, which stand from the address `base` on.
 fn work(machine: &mut Machine, door: &mut UasXhciDoor, bytes: &mut [u8]) -> u8
     ensures { is_answer result ≡ true }
 {
-    let low = door.low.min(bytes.len() as u64) as usize;
-    let (first, others) = bytes.split_at_mut(low);
-    let mut lent = [
-        Lent {
-            base: door.base,
-            bytes: first,
-        },
-        Lent {
-            base: door.high,
-            bytes: others,
-        },
-    ];
-    let mut memory = Pieces { pieces: &mut lent };
-    let worked = machine.work(&mut memory, door.budget);
+    let mut lent = Lent {
+        base: door.base,
+        bytes,
+    };
+    let worked = work_over(machine, std::slice::from_mut(&mut lent), door.budget);
+    let Lent { base: _, bytes: _ } = lent;
     door.steps = worked.steps;
     door.good = u8::from(worked.more);
     0
+}
+
+fn work_over(machine: &mut Machine, pieces: &mut [Lent], budget: u32) -> Worked {
+    let mut memory = Pieces { pieces };
+    machine.work(&mut memory, budget)
 }
 
 /// The next request that isn't out yet.

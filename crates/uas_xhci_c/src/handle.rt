@@ -7,7 +7,7 @@ ghost use Rattle.uas_xhci_c.specs.contracts.door.KeptXhci.{the_row as xhci_row};
 ghost use Rattle.c_common.specs.Handed.{handed};
 ghost use Rattle.uas_xhci_c.specs.Lent.{handed_back};
 ghost use Rattle.uas_xhci_c.specs.XhciCall.{is_answer};
-ghost use Rattle.uas_xhci_c.specs.declared.door.KeptXhci.{KeptXhci};
+ghost use Rattle.xhci_machine.specs.declared.Machine.{Machine};
 ghost use Rattle.uas_xhci_c.specs.declared.door.UasXhciDoor.{UasXhciDoor};
 ghost use Rattle.uas_xhci_c.specs.contracts.door.UasXhciDoor.{the_row as door_row};
 
@@ -23,7 +23,7 @@ pub unsafe extern "C" fn uas_xhci_call(
     bytes: *mut u8,
     length: usize,
 ) -> u8
-    ghost had: { KeptXhci × (UasXhciDoor × List ℕ) }
+    ghost had: { Machine × (UasXhciDoor × List ℕ) }
     requires* { sem 𝓛 (handed xhci_row door_row xhci door bytes length had) ∗ ⌜ length < 2 ^ 63 ⌝ }
     ensures* { sem 𝓛 (handed_back xhci_row door_row xhci door bytes length) ∗ ⌜ is_answer result ≡ true ⌝ }
 {
@@ -37,7 +37,7 @@ pub unsafe extern "C" fn uas_xhci_call(
 /// Ends a controller: it gives back all memory that it holds but its own block, which is left as room and which the caller frees.
 #[unsafe(no_mangle)]
 pub unsafe extern "C" fn uas_xhci_close(xhci: *mut UasXhci)
-    ghost value: { KeptXhci }
+    ghost value: { Machine }
     requires* { sem 𝓛 (lies_at xhci_row full_share xhci value) }
     ensures* { sem 𝓛 (room_at xhci_row xhci) }
 {

@@ -179,7 +179,7 @@ static bool answer_one(uas_xhci *xhci)
     out[place] = request.number;
     kinds[place] = request.kind;
     lengths[place] = request.count * 512;
-    return request.kind >= UAS_REQUEST_READ && request.kind <= UAS_REQUEST_SYNC && (request.kind == UAS_REQUEST_SYNC || request.count <= 8);
+    return request.kind >= UAS_REQUEST_READ && request.kind <= UAS_REQUEST_SYNC && (request.kind >= UAS_REQUEST_VERIFY || request.count <= 8);
 }
 
 static bool work(uas_xhci *xhci)

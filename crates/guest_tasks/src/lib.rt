@@ -11,7 +11,7 @@
 ghost use Rattle.std.specs.Prelude.{◌≡◌, ◌≤◌, ◌<◌, IfSome, Some, None, option_map, length, min, slice_index, true};
 ghost use Rattle.uas_iu.specs.Units.{IsTextOf, unit_text};
 ghost use Rattle.uas_target.specs.Fields.{tag_in};
-ghost use Rattle.uas_tasks.specs.Machine.{Machine, answer_on, answered, opening, quiet, received, reset_machine, tasks_ended, wanted};
+ghost use Rattle.uas_tasks.specs.Machine.{Machine, answer_on, answered, opening, quiet, powered_machine, received, tasks_ended, wanted};
 ghost use Rattle.guest_tags.specs.Devices.{IsChunk, Kind};
 ghost use Rattle.guest_tasks.specs.Tasks.{end_of, end_of_status, gives_of, phase_of, received_as, received_told, takes_of, tasks_kind, text_of};
 
@@ -158,11 +158,11 @@ impl GuestTasks {
         None
     }
 
-    /// A reset of the device: no tag has a task, and each logical unit owes a unit attention.
-    pub fn reset(&mut self)
-        ensures { self.new.tasks ≡ reset_machine self.old.tasks }
+    /// A reset of the device by its bus: no tag has a task, and each logical unit owes the unit attention of one that was powered on.
+    pub fn power_on(&mut self)
+        ensures { self.new.tasks ≡ powered_machine self.old.tasks }
     {
-        self.tasks.reset();
+        self.tasks.power_on();
     }
 
     /// Ends every task without an answer.

@@ -5,6 +5,7 @@ ghost use Rattle.guest_pipes.specs.Gate.{after, stop_looked};
 ghost use Rattle.guest_pipes.specs.Step.{has_place};
 ghost use Rattle.guest_pipes.specs.Pipe.{PipeState, configured, disabled, home_of, loaded, progress_on, reset_with, stopped};
 ghost use Rattle.guest_pipes.specs.Orders.{PipeWorld, dequeue_set, invalid_stepped};
+ghost use Rattle.guest_tags.specs.DataIn.{has_chunk};
 ghost use Rattle.guest_tags.specs.Devices.{Kind};
 ghost use Rattle.guest_transfers.specs.State.{TransfersWorld, slot_of};
 ghost use Rattle.guest_transfers.specs.Steps.{in_stepped, out_stepped};
@@ -312,6 +313,14 @@ impl Transfers {
                 self.step_moved(memory, events, device, tag)
             }
         }
+    }
+
+    /// Whether something of a tag's chunk is left.
+    pub fn has_chunk(&self, tag: u16) -> bool
+        requires { tag < 241 }
+        ensures { result ≡ has_chunk (slot_of self.now tag).tag }
+    {
+        self.tags[usize::from(tag)].tag.has_chunk()
     }
 
     /// Whether a tag has something to do, by what the device does next on it: a task, an information unit on its way, an overlap to be

@@ -82,7 +82,7 @@ impl Machine {
 
     /// The disk is reset: it isn't configured, every task is gone, and each logical unit owes a unit attention.
     fn reset_device(&mut self) {
-        self.device.reset();
+        self.device.power_on();
         self.transfers.clear_tags();
         self.control.reset_disk();
     }

@@ -331,6 +331,10 @@ impl Machine {
         if turn.is_over() {
             return Ok(());
         }
+        if !self.has_work(tag) {
+            self.device.rest(tag);
+            return Ok(());
+        }
         let acted = self
             .transfers
             .step_data(memory, events, &mut self.device, tag)?;
@@ -341,10 +345,13 @@ impl Machine {
         let acted = self
             .transfers
             .step_status(memory, events, &mut self.device, tag)?;
-        self.note(memory, events, turn, acted)?;
-        if !self.transfers.has_work(tag, self.device.phase(tag)) {
-            self.device.rest(tag);
-        }
-        Ok(())
+        self.note(memory, events, turn, acted)
+    }
+
+    /// Whether a tag has something to do: of one whose request is at the backend a part of its chunk may be left.
+    fn has_work(&self, tag: u16) -> bool
+        requires { tag < 241 }
+    {
+        self.transfers.has_chunk(tag) || self.transfers.has_work(tag, self.device.phase(tag))
     }
 }

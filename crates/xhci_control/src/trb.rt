@@ -8,7 +8,10 @@ use usb_disk::Setup;
 #[derive(Clone, Copy, Debug, PartialEq, Eq)]
 pub(crate) enum ControlTrb {
     /// Type 2, with eight bytes of immediate data.
-    SetupStage { setup: Setup, flags: Flags },
+    SetupStage {
+        setup: Setup,
+        flags: Flags,
+    },
     /// Type 3: a buffer of at most 65,536 bytes, to the host or to the device.
     DataStage {
         pointer: u64,
@@ -17,7 +20,9 @@ pub(crate) enum ControlTrb {
         flags: Flags,
     },
     /// Type 4.
-    StatusStage { flags: Flags },
+    StatusStage {
+        flags: Flags,
+    },
     /// Any other.
     Other(PipeTrb),
 }

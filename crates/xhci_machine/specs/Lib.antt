@@ -1,0 +1,2 @@
+-- The registers of the whole controller.
+pub mod Access

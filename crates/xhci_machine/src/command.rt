@@ -8,7 +8,9 @@ use xhci_slots::SlotCommand;
 #[derive(Clone, Copy, Debug, PartialEq, Eq)]
 pub(crate) enum Order {
     /// Reset Endpoint; with TSP what is opaque stays.
-    Reset { keeps: bool },
+    Reset {
+        keeps: bool,
+    },
     /// Stop Endpoint.
     Stop,
     /// Set TR Dequeue Pointer: the pointer with its cycle state, the stream's type (SCT), and the stream.

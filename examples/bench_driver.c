@@ -321,6 +321,30 @@ static void stop_and_go(uint32_t chunk, bool elsewhere)
         gather(&rest, 1, 5 * ZONE + chunk, 2 * half);
 }
 
+/* A TD whose data has moved, and whose Event Data TRB is still to come, is stopped: that posts Stopped - Length Invalid (4.6.9), and the Event
+ * Data TRB posts its event once the endpoint goes on, however far the command's status has come. */
+static void stop_before_event_data(void)
+{
+    struct piece one = { area(10) + 0x2000, 512, IOC };
+    clear(10);
+    put_td(DATA_IN, 10, &one, 1, 512, 0x1234567890abcdef);
+    begin_command(10, read_write(false, 10 * ZONE, 1).bytes, DATA_IN, 0);
+    for (int i = 0; i < 1000 && expected[DATA_IN][10].count == 2; i++) {
+        work(1);
+        take_events();
+        serve();
+    }
+    stop(DATA_IN);
+    SAME(stops, 1);
+    SAME(stopped.code, STOPPED + 1);
+    SAME(stopped.length, 0);
+    run();
+    ring_doorbell(DATA_IN, 10);
+    finish();
+    check_status(10, 0);
+    gather(&one, 1, 10 * ZONE, 512);
+}
+
 /* A block that can't be read, in the second chunk; one that can't be written, in the first, whose TD waits until the driver takes it away. */
 static void bad_blocks(uint32_t chunk)
 {
@@ -355,7 +379,7 @@ static void wrong_trbs(void)
 {
     struct piece one = { area(9) + 0x2000, 512, IOC };
     clear(9);
-    const uint64_t outside[3] = { BASE - 100, BASE + LOW_BYTES - 100, UINT64_MAX - 100 };
+    const uint64_t outside[3] = { BASE - 100, BASE + MEMORY_BYTES - 100, UINT64_MAX - 100 };
     for (int i = 0; i < 3; i++) {
         expect(DATA_IN, 9, put(&pipes[DATA_IN][9], outside[i], 512, NORMAL | IOC), DATA_BUFFER, 512, false);
         do_command(9, read_write(false, 9 * ZONE, 1).bytes, DATA_IN, 0);
@@ -562,6 +586,7 @@ int main(int words, char **word)
         no_ops();
         stop_and_go(chunks[i], false);
         stop_and_go(chunks[i], true);
+        stop_before_event_data();
         printf("  No Ops, Stop Endpoint in a TRB, Set TR Dequeue Pointer\n");
         bad_blocks(chunks[i]);
         wrong_trbs();

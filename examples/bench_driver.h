@@ -9,9 +9,9 @@
 #include <stdlib.h>
 #include <string.h>
 
-/* Rings and contexts are in the memory below the hole, each tag's buffers above it, beyond 4 GiB. */
-enum { BASE = 0x100000, MEMORY_BYTES = 16 << 20, TAGS = 15, AREA = 0x90000, LOW_BYTES = MEMORY_BYTES - TAGS * AREA };
-static const uint64_t HIGH = 0x7654320000;
+/* Memory from an address beyond 4 GiB on: rings and contexts first, then each tag's buffers. */
+enum { MEMORY_BYTES = 16 << 20, TAGS = 15, AREA = 0x90000, RING_BYTES = MEMORY_BYTES - TAGS * AREA };
+static const uint64_t BASE = 0x7654300000;
 
 enum { ZONE = 600, BLOCKS = (TAGS + 1) * ZONE, EVENTS = 64, MOST_TRBS = 40, UNTOUCHED = 0x5a };
 
@@ -55,14 +55,14 @@ static uint32_t draw(uint32_t below)
 
 static uint8_t *at(uint64_t address)
 {
-    return address >= HIGH ? memory + LOW_BYTES + (address - HIGH) : memory + (address - BASE);
+    return memory + (address - BASE);
 }
 
 static uint64_t take(uint64_t bytes, uint64_t align)
 {
     uint64_t begin = (free_from + align - 1) / align * align;
     free_from = begin + bytes;
-    MUST(free_from <= BASE + LOW_BYTES);
+    MUST(free_from <= BASE + RING_BYTES);
     return begin;
 }
 
@@ -259,7 +259,7 @@ static bool take_events(void)
 
 static bool work(uint32_t budget)
 {
-    const struct uas_memory lent = { BASE, LOW_BYTES, HIGH, memory, sizeof memory };
+    const struct uas_memory lent = { BASE, memory, sizeof memory };
     uint32_t steps = 0;
     bool more = uas_xhci_work(xhci, &lent, budget, &steps);
     MUST(steps <= budget);
@@ -407,7 +407,7 @@ static void put_td(int endpoint, int stream, const struct piece *pieces, int cou
 /* Where a tag's memory is: its command, its status, its data. */
 static uint64_t area(int tag)
 {
-    return HIGH + (uint64_t)(tag - 1) * AREA;
+    return BASE + RING_BYTES + (uint64_t)(tag - 1) * AREA;
 }
 
 /* Puts a COMMAND information unit (UAS) on the command pipe, whole or as three TRBs, of which one may be empty. */

@@ -33,12 +33,11 @@ typedef struct uas_xhci uas_xhci;
 
 enum { UAS_XHCI_REGISTER_BYTES = 4096 /* of the page of BAR 0 */ };
 
-/* Memory that is lent for a call: `length` bytes, of which the first `low` stand from the address `base` on, as the driver's rings and
- * pointers name it, and the others from `high` on; so a machine whose memory goes on above a hole lends it whole, and others have
- * `low` = `length`. Nobody else writes it during the call: where a guest's processors do, a read may have bytes of two moments, so the
- * controller reads each TRB, context and information unit once and decides on that copy. */
+/* Memory that is lent for a call: `length` bytes from the address `base` on, as the driver's rings and pointers name it. Nobody else writes
+ * it during the call: where a guest's processors do, a read may have bytes of two moments, so the controller reads each TRB, context and
+ * information unit once and decides on that copy. */
 struct uas_memory {
-    uint64_t base, low, high;
+    uint64_t base;
     uint8_t *bytes;
     size_t length;
 };
@@ -84,10 +83,10 @@ struct uas_xhci_door {
     uint32_t steps;  /* out of WORK */
     uint64_t offset; /* in of READ, WRITE */
     uint64_t value;  /* in of WRITE, PLUG, FRAME; out of READ */
-    uint64_t base, low, high;             /* in of WORK, as struct uas_memory has them */
-    uint64_t number, unit, block, count;  /* out of REQUEST; `number` in of DATA and ANSWERED */
+    uint64_t base;   /* in of WORK: the address of the first byte */
+    uint64_t number, unit, block, count; /* out of REQUEST; `number` in of DATA and ANSWERED */
 };
-UAS_XHCI_ASSERT(sizeof(struct uas_xhci_door) == 88 && offsetof(struct uas_xhci_door, offset) == 16);
+UAS_XHCI_ASSERT(sizeof(struct uas_xhci_door) == 72 && offsetof(struct uas_xhci_door, offset) == 16);
 
 /* Any call of the controller; those below are easier to use. Where a call has no bytes, `length` may be 0.
  * Faults: UAS_TASKS_CALL, UAS_TASKS_NOT_OUT, UAS_TASKS_LENGTH. */

@@ -16,6 +16,7 @@
 #include "hw/qdev-properties.h"
 #include "migration/vmstate.h"
 #include "qapi/error.h"
+#include "qemu/error-report.h"
 #include "qemu/main-loop.h"
 #include "qemu/module.h"
 #include "qemu/timer.h"
@@ -128,19 +129,15 @@ static void begin_request(UasXhci *device, const struct uas_request *request)
     thread_pool_submit_aio(aio_get_thread_pool(qemu_get_aio_context()), do_request, job, request_done, job);
 }
 
-/* ---- Memory: the machine's RAM is one block, of which a part stands below a hole and the rest above 4 GiB ---- */
+/* ---- Memory: the machine's RAM from address 0 on; what a machine has above 4 GiB isn't reached ---- */
 
 static bool lend(Int128 start, Int128 length, const MemoryRegion *region, hwaddr offset, void *opaque)
 {
     struct uas_memory *memory = opaque;
-    if (region != current_machine->ram)
-        return false;
-    if (int128_get64(start) == offset)
-        memory->low = memory->length = offset + int128_get64(length);
-    else if (offset == memory->length) {
-        memory->high = memory->length == memory->low ? int128_get64(start) : memory->high;
-        memory->length += int128_get64(length);
-    }
+    if (region == current_machine->ram && int128_get64(start) == offset)
+        memory->length = offset + int128_get64(length);
+    else if (region == current_machine->ram)
+        warn_report_once("uas-xhci: the machine's memory above 4 GiB isn't reached: use -m 2048");
     return false;
 }
 

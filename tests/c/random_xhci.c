@@ -43,10 +43,10 @@ static void check(bool good, const char *what)
     abort();
 }
 
-/* An address of the lent memory by its place, or one that is nowhere. */
+/* The address of a place of the lent memory. */
 static uint64_t address(uint32_t place)
 {
-    return place < lent.low ? lent.base + place : lent.high + (place - lent.low);
+    return lent.base + place;
 }
 
 static void store(uint32_t place, int width, uint64_t value)
@@ -281,13 +281,12 @@ static void call(void)
     }
 }
 
-/* The lent memory ends at one of its edges where the next page can't be touched. */
+/* Lends the memory from one of some addresses on, the last of which are near the end of all addresses. */
 static void lend(uint8_t *pages)
 {
-    static const uint64_t bases[] = { 0, 0x100000, 0xfffffffffff00000, 0x7fffffff0000 };
+    static const uint64_t bases[] = { 0, 0x100000, 0x7fffffff0000, 0xffffffffffff0000 };
     memory = pages + PAGE;
-    uint64_t low = draw(2) ? BYTES : 0x3000 + PAGE * (uint64_t)draw(8);
-    lent = (struct uas_memory){ bases[draw(4)], low, low == BYTES ? 0 : 0x500000000 + PAGE * (uint64_t)draw(9), memory, BYTES };
+    lent = (struct uas_memory){ bases[draw(4)], memory, BYTES };
 }
 
 int main(int words, char **word)
@@ -297,7 +296,7 @@ int main(int words, char **word)
     check(pages != MAP_FAILED && mprotect(pages + PAGE, BYTES, PROT_READ | PROT_WRITE) == 0, "no memory");
     for (uint64_t driver = 0; driver < drivers; driver++) {
         const struct uas_tasks_unit unit = { 64, 1, UAS_BLOCK_BYTES };
-        state = (seed + driver) * 0x9e3779b97f4a7c15;
+        state = (seed << 32 | driver) * 0x9e3779b97f4a7c15;
         lend(pages);
         outs = 0;
         check(uas_xhci_new(&unit, 1, draw(2) ? UAS_SET_HOST : UAS_SET_PROFILE, 64, 8, &xhci) == UAS_OK, "no controller");

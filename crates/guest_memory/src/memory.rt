@@ -50,9 +50,9 @@ fn byte_ahead<P: Piece>(pieces: &[P], at: u64, ahead: usize) -> Option<u8>
     }
 }
 
-/// Whether each byte of a range is there.
+/// Whether each byte of a range is there, asked byte by byte.
 #[tactic(auto, using(crate::specs::Ranges::there_by_each, crate::specs::Ranges::lacks))]
-fn has<P: Piece>(pieces: &[P], at: u64, count: usize) -> bool
+fn has_each<P: Piece>(pieces: &[P], at: u64, count: usize) -> bool
     ensures { result ≡ is_there (held P.part pieces.now) at count }
 {
     for i in 0..count {
@@ -61,6 +61,18 @@ fn has<P: Piece>(pieces: &[P], at: u64, count: usize) -> bool
         }
     }
     true
+}
+
+/// Whether each byte of a range is there, at once where the first piece that has a byte of it has all.
+fn has<P: Piece>(pieces: &[P], at: u64, count: usize) -> bool
+    ensures { result ≡ is_there (held P.part pieces.now) at count }
+{
+    if let Some(i) = first(pieces, at, count) {
+        if pieces[i].has_all(at, count) {
+            return true;
+        }
+    }
+    has_each(pieces, at, count)
 }
 
 /// Reads a range that is there, byte by byte.

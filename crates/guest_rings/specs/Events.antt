@@ -1,5 +1,5 @@
 -- Events (xHCI 1.2, 6.4.2), and the producer of an event ring's one segment (4.9.4).
-use Rattle.std.specs.Prelude.{ℕ, ◌+◌, ◌-◌, ◌*◌, ◌%◌, ◌^◌, ◌==◌, nat_le, Bool, not, ◌||◌, if◌then◌else◌, List, ◌++◌}
+use Rattle.std.specs.Prelude.{ℕ, ◌+◌, ◌-◌, ◌*◌, ◌/◌, ◌%◌, ◌^◌, ◌==◌, nat_le, nat_lt, Bool, not, ◌||◌, if◌then◌else◌, List, ◌++◌, Option, Some, None}
 use Rattle.byteorder.specs.Endian.{little_bytes}
 use Rattle.guest_rings.specs.declared.words.Words.{Words}
 use Rattle.guest_rings.specs.declared.event.Event.{Event}
@@ -50,6 +50,12 @@ pub record EventEnd : Type 0 where
 -- the address of the enqueue place
 abbrev pub enqueue_pointer : EventEnd → ℕ
 enqueue_pointer ring = ring.base + 16 * ring.place
+
+-- the place of the segment that an address is of, by its multiple of 16 (5.5.2.3.3, ERDP)
+unfoldable pub place_at : EventEnd → ℕ → Option ℕ
+place_at ring address =
+    if nat_lt address ring.base then None
+    else if nat_lt ((address - ring.base) / 16) ring.places then Some ((address - ring.base) / 16) else None
 
 -- the producer one place on
 abbrev pub advanced : EventEnd → EventEnd

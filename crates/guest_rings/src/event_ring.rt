@@ -1,7 +1,7 @@
 //! The producer of an event ring's one segment (xHCI 1.2, 4.9.4).
-ghost use Rattle.std.specs.Prelude.{◌≡◌, ◌+◌, ◌-◌, ◌*◌, ◌^◌, ◌<◌, ◌≤◌, ℕ, true, false};
+ghost use Rattle.std.specs.Prelude.{◌≡◌, ◌+◌, ◌-◌, ◌*◌, ◌^◌, ◌<◌, ◌≤◌, ℕ, IfSome, true, false};
 ghost use Rattle.guest_memory.specs.Bytes.{is_there, written};
-ghost use Rattle.guest_rings.specs.Events.{EventEnd, advanced, enqueue_pointer, enqueued, event_bytes, free_by, has_room};
+ghost use Rattle.guest_rings.specs.Events.{EventEnd, advanced, enqueue_pointer, enqueued, event_bytes, free_by, has_room, place_at};
 
 use crate::event::{Event, event_bytes};
 use guest_memory::GuestMemory;
@@ -68,6 +68,23 @@ impl EventRing {
         ensures { result ≡ has_room self.now }
     {
         self.free >= 2
+    }
+
+    /// The place of the segment that an address is of; None where it is of none.
+    #[tactic(auto, unfolding(crate::specs::Events::place_at))]
+    pub fn place_at(&self, address: u64) -> Option<u16>
+        ensures place { result ≡ place_at self.now address }
+        ensures within { IfSome result (λ place. place < self.now.places) }
+    {
+        if address < self.base {
+            return None;
+        }
+        let place = (address - self.base) / 16;
+        if place < u64::from(self.places) {
+            Some(place as u16)
+        } else {
+            None
+        }
     }
 
     /// The consumer's dequeue place is this now.

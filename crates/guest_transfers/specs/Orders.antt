@@ -1,14 +1,15 @@
 -- What commands of the command ring make of the pipes, and what is left to do.
-use Rattle.std.specs.Prelude.{ℕ, ◌==◌, nat_lt, Bool, true, false, not, ◌||◌, if◌then◌else◌, [], Option, Some, None, option_map, replicate}
+use Rattle.std.specs.Prelude.{ℕ, ◌==◌, nat_lt, Bool, true, false, not, ◌||◌, if◌then◌else◌, [], Option, Some, None, option_map, map}
 use Rattle.guest_memory.specs.Bytes.{Memory}
 use Rattle.guest_rings.specs.declared.cursor.Cursor.{Cursor}
+use Rattle.guest_rings.specs.Events.{EventEnd}
 use Rattle.guest_pipes.specs.declared.acted.Acted.{Acted}
 use Rattle.guest_pipes.specs.declared.acted.Acted.TheVariants.{Off, Idle, Full, Emptied, Waits, Worked}
 use Rattle.guest_pipes.specs.declared.consumer.EndpointState.{EndpointState}
 use Rattle.guest_pipes.specs.declared.consumer.EndpointState.TheVariants.{Disabled, Running, Stopped}
 use Rattle.guest_pipes.specs.Progress.{fresh, runs}
 use Rattle.guest_pipes.specs.Gate.{after, room_gate, through}
-use Rattle.guest_pipes.specs.Orders.{dequeue_set}
+use Rattle.guest_pipes.specs.Orders.{PipeWorld, dequeue_set, invalid_stepped}
 use Rattle.guest_pipes.specs.Pipe.{PipeState, progress_on}
 use Rattle.guest_tags.specs.declared.device.Phase.{Phase}
 use Rattle.guest_tags.specs.declared.device.Phase.TheVariants.{Absent, Gives, Takes, Ended}
@@ -74,8 +75,22 @@ dequeue_moved memory t name stream cursor kind =
     option_map (dequeue_kept t name stream) (dequeue_set memory (pipe_of t name) stream cursor kind)
 
 -- after a device reset nothing is kept of a tag
+abbrev pub emptied : Slot → Slot
+emptied slot = empty_slot
+
 abbrev pub tags_cleared : TransfersState → TransfersState
-tags_cleared t = record t { tags = replicate 241 empty_slot }
+tags_cleared t = record t { tags = map emptied t.tags }
+
+-- memory, event ring and pipes after a step for a doorbell of a pipe's stream that isn't there
+abbrev pub pipe_world : Memory → EventEnd → TransfersState → StreamPipe → PipeWorld
+pipe_world memory events t name = record { memory = memory; events = events; pipe = pipe_of t name }
+
+abbrev pub invalid_noted : TransfersState → StreamPipe → PipeWorld × Option Acted → Memory × (EventEnd × (TransfersState × Option Acted))
+invalid_noted t name after = (after.0.memory, (after.0.events, (with_pipe t name after.0.pipe, after.1)))
+
+abbrev pub invalid_on : Memory → EventEnd → TransfersState → StreamPipe → Memory × (EventEnd × (TransfersState × Option Acted))
+invalid_on memory events t name =
+    invalid_noted t name (after (pipe_world memory events t name) (invalid_stepped (pipe_world memory events t name)))
 
 -- whether the device has a task of a tag
 abbrev pub has_task : Phase → Bool

@@ -5,14 +5,16 @@ ghost use Rattle.guest_pipes.specs.Gate.{after, stop_looked};
 ghost use Rattle.guest_pipes.specs.Step.{has_place};
 ghost use Rattle.guest_pipes.specs.Pipe.{PipeState, configured, disabled, home_of, loaded, progress_on, reset_with, stopped};
 ghost use Rattle.guest_pipes.specs.Orders.{PipeWorld, dequeue_set, invalid_stepped};
+ghost use Rattle.guest_tags.specs.DataIn.{has_chunk};
 ghost use Rattle.guest_tags.specs.Devices.{Kind};
 ghost use Rattle.guest_transfers.specs.State.{TransfersWorld, slot_of};
 ghost use Rattle.guest_transfers.specs.Steps.{in_stepped, out_stepped};
-ghost use Rattle.guest_transfers.specs.Orders.{pipe_kept, dequeue_kept, dequeue_moved, unit_forgotten, command_configured, command_disabled, command_forgotten, command_stopped, chunk_dropped, data_stepped, dropped_in, drops_now, has_task, has_work, or_out, pipe_of, with_pipe};
+ghost use Rattle.guest_transfers.specs.Orders.{pipe_kept, dequeue_kept, dequeue_moved, unit_forgotten, command_configured, command_disabled, command_forgotten, command_stopped, chunk_dropped, data_stepped, dropped_in, drops_now, has_task, has_work, or_out, pipe_of, with_pipe, tags_cleared, invalid_on};
 ghost use Rattle.guest_memory.specs.Bytes.{Memory};
 ghost use Rattle.guest_rings.specs.Events.{EventEnd};
 
 use crate::calls::{TAG_SLOTS, Transfers};
+use crate::slot::empty_all;
 use guest_memory::{GuestMemory, Outside};
 use guest_pipes::{Acted, Consumer, EndpointState, Pipe, Progress, room_gate};
 use guest_rings::{Cursor, EventRing};
@@ -197,6 +199,32 @@ impl Transfers {
         self.gathered.clear();
     }
 
+    /// Nothing is kept of any tag any more: the device was reset, and every task is gone.
+    pub fn clear_tags(&mut self)
+        ensures { self.new ≡ tags_cleared self.old }
+    {
+        empty_all(&mut self.tags);
+    }
+
+    /// A step for a doorbell of a pipe's stream that isn't there: Invalid Stream ID, and the endpoint halts. Refused where the event's
+    /// place isn't there, and then nothing changes.
+    pub fn step_invalid<M: GuestMemory>(
+        &mut self,
+        memory: &mut M,
+        events: &mut EventRing,
+        name: StreamPipe,
+    ) -> Result<Acted, Outside>
+        ensures step { (M.contents memory.new, (events.new, (self.new, result_ok result)))
+            ≡ invalid_on (M.contents memory.old) events.old self.old name }
+        ensures same_loan { M.loan memory.new ≡ M.loan memory.old }
+    {
+        match name {
+            StreamPipe::Status => self.status.step_invalid(memory, events),
+            StreamPipe::DataOut => self.data_out.step_invalid(memory, events),
+            StreamPipe::DataIn => self.data_in.step_invalid(memory, events),
+        }
+    }
+
     /// Drops the next chunk of a tag that gives so many bytes.
     #[tactic(auto, unfolding(crate::specs::Orders::chunk_dropped))]
     fn drop_chunk<D: UasDevice>(&mut self, device: &mut D, tag: u16, count: usize)
@@ -285,6 +313,14 @@ impl Transfers {
                 self.step_moved(memory, events, device, tag)
             }
         }
+    }
+
+    /// Whether something of a tag's chunk is left.
+    pub fn has_chunk(&self, tag: u16) -> bool
+        requires { tag < 241 }
+        ensures { result ≡ has_chunk (slot_of self.now tag).tag }
+    {
+        self.tags[usize::from(tag)].tag.has_chunk()
     }
 
     /// Whether a tag has something to do, by what the device does next on it: a task, an information unit on its way, an overlap to be

@@ -1,4 +1,7 @@
 //! What is kept of a tag.
+ghost use Rattle.std.specs.Prelude.{◌≡◌, map};
+ghost use Rattle.guest_transfers.specs.Orders.{emptied};
+
 use guest_tags::{Gather, Tag};
 
 /// A tag's data-in and status, and the chunk that data-out gathers for it.
@@ -6,4 +9,24 @@ use guest_tags::{Gather, Tag};
 pub struct Slot {
     pub tag: Tag,
     pub taken: Gather,
+}
+
+impl Slot {
+    /// Nothing is kept of the tag any more.
+    fn empty(&mut self)
+        ensures { self.new ≡ emptied self.old }
+    {
+        self.begin();
+        self.tag.unit.clear();
+        self.tag.overlaps = 0;
+    }
+}
+
+/// Nothing is kept of any tag any more.
+pub(crate) fn empty_all(slots: &mut [Slot])
+    ensures { slots.new ≡ map emptied slots.old }
+{
+    for slot in slots.iter_mut() {
+        slot.empty();
+    }
 }

@@ -16,7 +16,7 @@ use guest_tags::{End, Phase, Received, UasDevice};
 
 impl Slot {
     /// A task begins: what was kept of the tag's data is gone, and what is to go out stays.
-    fn begin(&mut self)
+    pub(crate) fn begin(&mut self)
         ensures { self.new ≡ begun self.old }
     {
         self.tag.chunk.clear();

@@ -1,10 +1,11 @@
 -- Worked rows of the host set: what the definitions give, byte by byte.
-use Rattle.std.proofs.Common.{◌≡◌, ℕ, true, false, List, [], ◌∷◌, ◌++◌, Result, Ok, Err, refl}
+use Rattle.std.proofs.Common.{◌≡◌, ℕ, true, false, List, [], ◌∷◌, ◌++◌, Some, None, Result, Ok, Err, refl}
 use Rattle.scsi_cmd.specs.declared.Sense.{Sense}
 use Rattle.scsi_cmd.specs.Fields.{zeros}
 use Rattle.scsi_cmd.specs.Sense.{invalid_field_in_cdb}
 use Rattle.host_commands.specs.declared.BlockLength.TheVariants.{Bytes512}
 use Rattle.host_commands.specs.declared.CommandSet.TheVariants.{Host}
+use Rattle.host_commands.specs.declared.UnitAttention.TheVariants.{Reset}
 use Rattle.host_commands.specs.declared.Work.{Work}
 use Rattle.host_commands.specs.declared.Work.TheVariants.{Nothing, Gives, Reads, Writes, Synchronizes, Verifies, Compares}
 use Rattle.host_commands.specs.Data.{given_bytes}
@@ -29,13 +30,13 @@ bytes_told (Ok (Compares lba count)) = []
 bytes_told (Err sense) = []
 
 -- INQUIRY of page B0h, allocation length 64
-block_limits : bytes_told (asked_of ((0x12 ∷ 1 ∷ 0xb0 ∷ 0 ∷ 64 ∷ []) ++ zeros 11) (Host 128) disk 3 false)
+block_limits : bytes_told (asked_of ((0x12 ∷ 1 ∷ 0xb0 ∷ 0 ∷ 64 ∷ []) ++ zeros 11) (Host 128) disk 3 None)
     ≡ (0 ∷ 0xb0 ∷ 0 ∷ 0x3c ∷ 0 ∷ 0 ∷ 0 ∷ 8 ∷ 0 ∷ 0 ∷ 0 ∷ 0x80 ∷ 0 ∷ 0 ∷ 0 ∷ 0x80 ∷ []) ++ zeros 48
 unfolding asked_of page_bytes disk
 block_limits = refl
 
 -- its device identification: 52 bytes
-identification : bytes_told (asked_of ((0x12 ∷ 1 ∷ 0x83 ∷ 0 ∷ 255 ∷ []) ++ zeros 11) (Host 128) disk 3 false)
+identification : bytes_told (asked_of ((0x12 ∷ 1 ∷ 0x83 ∷ 0 ∷ 255 ∷ []) ++ zeros 11) (Host 128) disk 3 None)
     ≡ (0 ∷ 0x83 ∷ 0 ∷ 0x30 ∷ 2 ∷ 1 ∷ 0 ∷ 0x20 ∷ 0x53 ∷ 0x49 ∷ 0x4d ∷ 0x44 ∷ 0x49 ∷ 0x53 ∷ 0x4b ∷ 0x20 ∷ [])
     ++ (0x55 ∷ 0x41 ∷ 0x53 ∷ 0x20 ∷ 0x53 ∷ 0x49 ∷ 0x4d ∷ 0x20 ∷ 0x44 ∷ 0x49 ∷ 0x53 ∷ 0x4b ∷ 0x20 ∷ 0x20 ∷ 0x20 ∷ 0x20 ∷ [])
     ++ (0x30 ∷ 0x30 ∷ 0x30 ∷ 0x30 ∷ 0x30 ∷ 0x30 ∷ 0x31 ∷ 0x32 ∷ 1 ∷ 3 ∷ 0 ∷ 8 ∷ 0x30 ∷ 0 ∷ 0 ∷ 0 ∷ 0 ∷ 0 ∷ 0 ∷ 12 ∷ [])
@@ -43,67 +44,67 @@ unfolding asked_of page_bytes disk
 identification = refl
 
 -- REPORT LUNS, allocation length 4,096
-luns : bytes_told (asked_of ((0xa0 ∷ 0 ∷ 0 ∷ 0 ∷ 0 ∷ 0 ∷ 0 ∷ 0 ∷ 0x10 ∷ 0 ∷ []) ++ zeros 6) (Host 128) disk 3 false)
+luns : bytes_told (asked_of ((0xa0 ∷ 0 ∷ 0 ∷ 0 ∷ 0 ∷ 0 ∷ 0 ∷ 0 ∷ 0x10 ∷ 0 ∷ []) ++ zeros 6) (Host 128) disk 3 None)
     ≡ (0 ∷ 0 ∷ 0 ∷ 0x18 ∷ []) ++ zeros 12 ++ (0 ∷ 1 ∷ []) ++ zeros 6 ++ (0 ∷ 2 ∷ []) ++ zeros 6
 unfolding asked_of disk
 luns = refl
 
 -- MODE SENSE(6) of page 08h, allocation length 255
-caching : bytes_told (asked_of ((0x1a ∷ 0 ∷ 8 ∷ 0 ∷ 255 ∷ []) ++ zeros 11) (Host 128) disk 3 false)
+caching : bytes_told (asked_of ((0x1a ∷ 0 ∷ 8 ∷ 0 ∷ 255 ∷ []) ++ zeros 11) (Host 128) disk 3 None)
     ≡ (0x1f ∷ 0 ∷ 0x10 ∷ 8 ∷ 0 ∷ 0 ∷ 0 ∷ 0x64 ∷ 0 ∷ 0 ∷ 2 ∷ 0 ∷ 8 ∷ 0x12 ∷ 4 ∷ []) ++ zeros 17
 unfolding asked_of mode_bytes disk
 caching = refl
 
 -- MODE SENSE(10) of all pages, changeable values, without a descriptor
-all_changeable : bytes_told (asked_of ((0x5a ∷ 8 ∷ 0x7f ∷ 0xff ∷ 0 ∷ 0 ∷ 0 ∷ 1 ∷ 0 ∷ []) ++ zeros 7) (Host 128) disk 3 false)
+all_changeable : bytes_told (asked_of ((0x5a ∷ 8 ∷ 0x7f ∷ 0xff ∷ 0 ∷ 0 ∷ 0 ∷ 1 ∷ 0 ∷ []) ++ zeros 7) (Host 128) disk 3 None)
     ≡ (0 ∷ 0x26 ∷ 0 ∷ 0x10 ∷ 0 ∷ 0 ∷ 0 ∷ 0 ∷ 8 ∷ 0x12 ∷ []) ++ zeros 18 ++ (0x0a ∷ 0x0a ∷ []) ++ zeros 10
 unfolding asked_of mode_bytes disk
 all_changeable = refl
 
 -- REQUEST SENSE after a reset
-attention_sense : bytes_told (asked_of ((3 ∷ 0 ∷ 0 ∷ 0 ∷ 18 ∷ []) ++ zeros 11) (Host 128) disk 3 true)
+attention_sense : bytes_told (asked_of ((3 ∷ 0 ∷ 0 ∷ 0 ∷ 18 ∷ []) ++ zeros 11) (Host 128) disk 3 (Some Reset))
     ≡ 0x70 ∷ 0 ∷ 6 ∷ 0 ∷ 0 ∷ 0 ∷ 0 ∷ 0x0a ∷ 0 ∷ 0 ∷ 0 ∷ 0 ∷ 0x29 ∷ 3 ∷ 0 ∷ 0 ∷ 0 ∷ 0 ∷ []
 unfolding asked_of disk
 attention_sense = refl
 
 -- REPORT SUPPORTED OPERATION CODES of READ(10) with its timeouts
-one_code : bytes_told (asked_of ((0xa3 ∷ 0x0c ∷ 0x81 ∷ 0x28 ∷ 0 ∷ 0 ∷ 0 ∷ 0 ∷ 1 ∷ 0 ∷ []) ++ zeros 6) (Host 128) disk 3 false)
+one_code : bytes_told (asked_of ((0xa3 ∷ 0x0c ∷ 0x81 ∷ 0x28 ∷ 0 ∷ 0 ∷ 0 ∷ 0 ∷ 1 ∷ 0 ∷ []) ++ zeros 6) (Host 128) disk 3 None)
     ≡ (0 ∷ 0x83 ∷ 0 ∷ 0x0a ∷ 0x28 ∷ 0xf8 ∷ 0xff ∷ 0xff ∷ 0xff ∷ 0xff ∷ 0 ∷ 0xff ∷ 0xff ∷ 0 ∷ 0 ∷ 0x0a ∷ []) ++ zeros 10
 unfolding asked_of disk
 one_code = refl
 
 -- of a code that isn't there, with option 3; and of A3h with option 1
-no_code : bytes_told (asked_of ((0xa3 ∷ 0x0c ∷ 0x83 ∷ 0xff ∷ 0 ∷ 0 ∷ 0 ∷ 0 ∷ 1 ∷ 0 ∷ []) ++ zeros 6) (Host 128) disk 3 false) ≡ 0 ∷ 1 ∷ 0 ∷ 0 ∷ []
+no_code : bytes_told (asked_of ((0xa3 ∷ 0x0c ∷ 0x83 ∷ 0xff ∷ 0 ∷ 0 ∷ 0 ∷ 0 ∷ 1 ∷ 0 ∷ []) ++ zeros 6) (Host 128) disk 3 None) ≡ 0 ∷ 1 ∷ 0 ∷ 0 ∷ []
 unfolding asked_of disk
 no_code = refl
 
-actions_unsaid : asked_of ((0xa3 ∷ 0x0c ∷ 1 ∷ 0xa3 ∷ 0 ∷ 0 ∷ 0 ∷ 0 ∷ 1 ∷ 0 ∷ []) ++ zeros 6) (Host 128) disk 3 false ≡ Err invalid_field_in_cdb
+actions_unsaid : asked_of ((0xa3 ∷ 0x0c ∷ 1 ∷ 0xa3 ∷ 0 ∷ 0 ∷ 0 ∷ 0 ∷ 1 ∷ 0 ∷ []) ++ zeros 6) (Host 128) disk 3 None ≡ Err invalid_field_in_cdb
 unfolding asked_of disk
 actions_unsaid = refl
 
 -- WRITE(6) of block 1, READ(12) of it, VERIFY(16) of 8 blocks from 92 on
-short_write : asked_of ((0x0a ∷ 0 ∷ 0 ∷ 1 ∷ 1 ∷ 0 ∷ []) ++ zeros 10) (Host 128) disk 3 false ≡ Ok (Writes 1 1 false)
+short_write : asked_of ((0x0a ∷ 0 ∷ 0 ∷ 1 ∷ 1 ∷ 0 ∷ []) ++ zeros 10) (Host 128) disk 3 None ≡ Ok (Writes 1 1 false)
 unfolding asked_of disk
 short_write = refl
 
-twelve_read : asked_of ((0xa8 ∷ 0 ∷ 0 ∷ 0 ∷ 0 ∷ 1 ∷ 0 ∷ 0 ∷ 0 ∷ 1 ∷ []) ++ zeros 6) (Host 128) disk 3 false ≡ Ok (Reads 1 1)
+twelve_read : asked_of ((0xa8 ∷ 0 ∷ 0 ∷ 0 ∷ 0 ∷ 1 ∷ 0 ∷ 0 ∷ 0 ∷ 1 ∷ []) ++ zeros 6) (Host 128) disk 3 None ≡ Ok (Reads 1 1)
 unfolding asked_of disk
 twelve_read = refl
 
-verify : asked_of ((0x8f ∷ 0 ∷ 0 ∷ 0 ∷ 0 ∷ 0 ∷ 0 ∷ 0 ∷ 0 ∷ 92 ∷ 0 ∷ 0 ∷ 0 ∷ 8 ∷ []) ++ zeros 2) (Host 128) disk 3 false ≡ Ok (Verifies 92 8)
+verify : asked_of ((0x8f ∷ 0 ∷ 0 ∷ 0 ∷ 0 ∷ 0 ∷ 0 ∷ 0 ∷ 0 ∷ 92 ∷ 0 ∷ 0 ∷ 0 ∷ 8 ∷ []) ++ zeros 2) (Host 128) disk 3 None ≡ Ok (Verifies 92 8)
 unfolding asked_of disk
 verify = refl
 
 -- 256 blocks by READ(6), which is a fault before the range is
-too_many : asked_of ((0x08 ∷ 0 ∷ 0 ∷ 200 ∷ 0 ∷ 0 ∷ []) ++ zeros 10) (Host 128) disk 3 false ≡ Err invalid_field_in_cdb
+too_many : asked_of ((0x08 ∷ 0 ∷ 0 ∷ 200 ∷ 0 ∷ 0 ∷ []) ++ zeros 10) (Host 128) disk 3 None ≡ Err invalid_field_in_cdb
 unfolding asked_of disk
 too_many = refl
 
 -- a stop brings all blocks to the medium, with NO FLUSH it doesn't
-stop : asked_of ((0x1b ∷ 0 ∷ 0 ∷ 0 ∷ 0 ∷ 0 ∷ []) ++ zeros 10) (Host 128) disk 3 false ≡ Ok (Synchronizes 0 0)
+stop : asked_of ((0x1b ∷ 0 ∷ 0 ∷ 0 ∷ 0 ∷ 0 ∷ []) ++ zeros 10) (Host 128) disk 3 None ≡ Ok (Synchronizes 0 0)
 unfolding asked_of disk
 stop = refl
 
-no_flush : asked_of ((0x1b ∷ 0 ∷ 0 ∷ 0 ∷ 4 ∷ 0 ∷ []) ++ zeros 10) (Host 128) disk 3 false ≡ Ok Nothing
+no_flush : asked_of ((0x1b ∷ 0 ∷ 0 ∷ 0 ∷ 4 ∷ 0 ∷ []) ++ zeros 10) (Host 128) disk 3 None ≡ Ok Nothing
 unfolding asked_of disk
 no_flush = refl

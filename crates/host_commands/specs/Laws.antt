@@ -1,5 +1,5 @@
 -- The profile's set on blocks of 512 bytes is what scsi_cmd says, in work and in bytes.
-use Rattle.std.specs.Prelude.{◌≡◌, ℕ, ◌^◌, ◌≤◌, Bool, List, Result, Ok, Err}
+use Rattle.std.specs.Prelude.{◌≡◌, ℕ, ◌^◌, ◌≤◌, List, Option, Result, Ok, Err}
 use Rattle.scsi_cmd.specs.declared.Sense.{Sense}
 use Rattle.scsi_cmd.specs.declared.Work.{Work as ProfileWork}
 use Rattle.scsi_cmd.specs.declared.Work.TheVariants.{Nothing as NoWork, Reads as ProfileReads, Writes as ProfileWrites, Synchronizes as ProfileSynchronizes}
@@ -7,6 +7,7 @@ use Rattle.scsi_cmd.specs.Meaning.{asked}
 use Rattle.scsi_cmd.specs.Work.{asked_without_unit, giving, work_asked, work_asked_without_unit}
 use Rattle.host_commands.specs.declared.BlockLength.TheVariants.{Bytes512}
 use Rattle.host_commands.specs.declared.CommandSet.TheVariants.{Profile}
+use Rattle.host_commands.specs.declared.UnitAttention.{UnitAttention}
 use Rattle.host_commands.specs.declared.Work.{Work}
 use Rattle.host_commands.specs.declared.Work.TheVariants.{Nothing, Gives, Reads, Writes, Synchronizes, Verifies, Compares}
 use Rattle.host_commands.specs.Data.{given_bytes}
@@ -30,7 +31,7 @@ answer_in_profile (Err sense) = Err sense
 -- of a logical unit of at most 2^32 blocks of 512 bytes
 abbrev pub ProfileIsKept : Type 0
 ProfileIsKept =
-    (cdb : List ℕ) (shape : Shape) (count : ℕ) (attention : Bool) → shape.block_length ≡ Bytes512 → shape.blocks ≤ 2 ^ 32
+    (cdb : List ℕ) (shape : Shape) (count : ℕ) (attention : Option UnitAttention) → shape.block_length ≡ Bytes512 → shape.blocks ≤ 2 ^ 32
     → answer_in_profile (asked_of cdb Profile shape count attention) ≡ work_asked shape.blocks (asked cdb shape.blocks)
 
 -- and where no logical unit is

@@ -18,6 +18,8 @@ use Rattle.host_commands.specs.declared.HostCommand.TheVariants.{ReportSupported
 use Rattle.host_commands.specs.declared.ModeForm.{ModeForm}
 use Rattle.host_commands.specs.declared.ModeForm.TheVariants.{Six, Ten}
 use Rattle.host_commands.specs.declared.ModePages.{ModePages}
+use Rattle.host_commands.specs.declared.UnitAttention.{UnitAttention}
+use Rattle.host_commands.specs.declared.UnitAttention.TheVariants.{PowerOn, Reset}
 use Rattle.host_commands.specs.declared.VitalPage.{VitalPage}
 use Rattle.host_commands.specs.declared.Work.{Work}
 use Rattle.host_commands.specs.declared.Work.TheVariants.{Nothing, Gives, Reads, Writes, Synchronizes, Verifies, Compares}
@@ -166,11 +168,21 @@ long_capacity_asked cdb shape =
 
 -- THE HOST SET
 
--- what a command asks; `attention` says whether the logical unit has a unit attention, of which REQUEST SENSE alone tells here
-abbrev pub command_asked : HostCommand → List ℕ → ℕ → Shape → ℕ → Bool → Result Work Sense
+-- the sense data that tell of a unit attention: POWER ON, RESET, OR BUS DEVICE RESET OCCURRED, and BUS DEVICE RESET FUNCTION OCCURRED
+abbrev pub sense_of_attention : UnitAttention → Sense
+sense_of_attention PowerOn = record { key = 6; asc = 0x29; ascq = 0 }
+sense_of_attention Reset = reset_occurred
+
+-- and what REQUEST SENSE tells
+abbrev pub sense_told : Option UnitAttention → Sense
+sense_told None = no_sense
+sense_told (Some attention) = sense_of_attention attention
+
+-- what a command asks; `attention` is the unit attention of the logical unit, of which REQUEST SENSE alone tells here
+abbrev pub command_asked : HostCommand → List ℕ → ℕ → Shape → ℕ → Option UnitAttention → Result Work Sense
 command_asked TestUnitReady cdb maximum shape count attention = Ok Nothing
 command_asked RequestSense cdb maximum shape count attention =
-    request_sense_asked cdb (if attention then reset_occurred else no_sense)
+    request_sense_asked cdb (sense_told attention)
 command_asked Read6 cdb maximum shape count attention = reads false (short_extent cdb) maximum shape.blocks
 command_asked Write6 cdb maximum shape count attention = writes false (short_extent cdb) false maximum shape.blocks
 command_asked Inquiry cdb maximum shape count attention = inquiry_asked cdb true shape.serial maximum
@@ -197,7 +209,7 @@ command_asked Write12 cdb maximum shape count attention =
     writes (asks_for_protection cdb) (twelve_extent cdb) (goes_through cdb) maximum shape.blocks
 command_asked Verify12 cdb maximum shape count attention = verifies cdb (twelve_extent cdb) maximum shape.blocks
 
-abbrev pub named_asked : Option HostCommand → List ℕ → ℕ → Shape → ℕ → Bool → Result Work Sense
+abbrev pub named_asked : Option HostCommand → List ℕ → ℕ → Shape → ℕ → Option UnitAttention → Result Work Sense
 named_asked None cdb maximum shape count attention = Err invalid_operation_code
 named_asked (Some command) cdb maximum shape count attention = command_asked command cdb maximum shape count attention
 
@@ -205,7 +217,7 @@ named_asked (Some command) cdb maximum shape count attention = command_asked com
 
 -- In a command set, of a logical unit of a device that has so many. Worked in the host set of at most 128 blocks: 0a 00 00 01 01 00
 -- writes block 1; 08 00 00 00 00 00 asks for 256 blocks, which is 5/24/00. In the profile's set both are 5/20/00.
-unfoldable pub asked_of : List ℕ → CommandSet → Shape → ℕ → Bool → Result Work Sense
+unfoldable pub asked_of : List ℕ → CommandSet → Shape → ℕ → Option UnitAttention → Result Work Sense
 asked_of cdb Profile shape count attention = profile_asked cdb shape
 asked_of cdb (Host maximum) shape count attention =
     named_asked (named_command (code_in cdb) (action_in cdb)) cdb maximum shape count attention

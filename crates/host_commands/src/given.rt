@@ -1,8 +1,7 @@
 //! The commands that give data of the logical unit or of the device, and START STOP UNIT.
 ghost use Rattle.std.specs.Prelude.{◌≡◌, ℕ, ◌-◌, ◌≤◌, if◌then◌else◌, IfOk};
-ghost use Rattle.scsi_cmd.specs.Sense.{reset_occurred};
 ghost use Rattle.host_commands.specs.Meaning.{IsWorkOn, codes_asked, descriptor_asked, inquiry_asked, long_capacity_asked, mode_sense_asked};
-ghost use Rattle.host_commands.specs.Meaning.{no_sense, operation_codes_asked, page_asked, report_luns_asked, request_sense_asked};
+ghost use Rattle.host_commands.specs.Meaning.{operation_codes_asked, page_asked, report_luns_asked, request_sense_asked, sense_told};
 ghost use Rattle.host_commands.specs.Meaning.{start_stop_asked, task_functions_asked};
 ghost use Rattle.host_commands.specs.ModeData.{pages_of};
 ghost use Rattle.host_commands.specs.OperationCodes.{named_action, named_either};
@@ -15,7 +14,7 @@ use crate::commands::{
 use crate::fields::{action_in, four_at, has_bit, two_at};
 use crate::{
     BlockDescriptor, Data, HostCommand, LogicalUnitShape, ModeData, ModeForm, ModePages,
-    SerialNumber, TransferLength, VitalPage, Work,
+    SerialNumber, UnitAttention, TransferLength, VitalPage, Work,
 };
 use scsi_cmd::Sense;
 
@@ -43,13 +42,12 @@ const SAVING_NOT_SUPPORTED: Sense = Sense {
 };
 
 /// The sense that REQUEST SENSE gives of a logical unit.
-pub(crate) fn sense_of(attention: bool) -> Sense
-    ensures { result ≡ (if attention then reset_occurred else no_sense) }
+pub(crate) fn sense_of(attention: Option<UnitAttention>) -> Sense
+    ensures { result ≡ sense_told attention }
 {
-    if attention {
-        Sense::RESET_OCCURRED
-    } else {
-        NO_SENSE
+    match attention {
+        Some(attention) => attention.sense(),
+        None => NO_SENSE,
     }
 }
 

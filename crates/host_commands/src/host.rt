@@ -12,7 +12,8 @@ use crate::given::{
 };
 use crate::profile::{read_profile, read_profile_of_none};
 use crate::{
-    CommandSet, HostCommand, LogicalUnitShape, ModeForm, SerialNumber, TransferLength, Work,
+    CommandSet, HostCommand, LogicalUnitShape, ModeForm, SerialNumber, TransferLength, UnitAttention,
+    Work,
 };
 use scsi_cmd::Sense;
 
@@ -25,7 +26,7 @@ pub fn read(
     set: &CommandSet,
     shape: &LogicalUnitShape,
     logical_units: u8,
-    attention: bool,
+    attention: Option<UnitAttention>,
 ) -> Result<Work, Sense>
     requires { logical_units ≤ MAX_CLIENTS }
     ensures work { result ≡ asked_of cdb.now set.now shape.now logical_units attention }
@@ -86,7 +87,7 @@ fn read_command(
     maximum: TransferLength,
     shape: &LogicalUnitShape,
     logical_units: u8,
-    attention: bool,
+    attention: Option<UnitAttention>,
 ) -> Result<Work, Sense>
     requires { logical_units ≤ MAX_CLIENTS }
     ensures work { result ≡ command_asked command cdb.now maximum shape.now logical_units attention }

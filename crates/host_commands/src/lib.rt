@@ -183,6 +183,34 @@ pub enum Attention {
     Reported,
 }
 
+/// Why a logical unit has a unit attention (SAM, SPC 4.5.6).
+#[derive(Clone, Copy, Debug, PartialEq, Eq)]
+pub enum UnitAttention {
+    /// It was powered on or reset with its bus: POWER ON, RESET, OR BUS DEVICE RESET OCCURRED.
+    PowerOn,
+    /// A task management function or the device's owner reset it: BUS DEVICE RESET FUNCTION OCCURRED.
+    Reset,
+}
+
+impl UnitAttention {
+    ghost use Rattle.std.specs.Prelude.{◌≡◌};
+    ghost use Rattle.host_commands.specs.Meaning.{sense_of_attention};
+
+    /// The sense data that tell of it.
+    pub fn sense(self) -> Sense
+        ensures { result ≡ sense_of_attention self }
+    {
+        match self {
+            UnitAttention::PowerOn => Sense {
+                key: 0x6,
+                asc: 0x29,
+                ascq: 0x00,
+            },
+            UnitAttention::Reset => Sense::RESET_OCCURRED,
+        }
+    }
+}
+
 /// A page of vital product data (SPC, SBC).
 #[derive(Clone, Copy, Debug, PartialEq, Eq)]
 pub enum VitalPage {

@@ -8,7 +8,8 @@ use Rattle.host_commands.specs.declared.CommandSet.{CommandSet}
 use Rattle.uas_target.specs.Fields.{addressed, is_tag}
 use Rattle.uas_profile.specs.declared.TheConstants.{GREATEST_TAG}
 use Rattle.uas_tasks.specs.declared.LogicalUnit.{LogicalUnit}
-use Rattle.uas_tasks.specs.Machine.{Machine, begun, executed_on, greatest_block, made, no_slot, reset_on, slot_under, with_slot_under}
+use Rattle.host_commands.specs.declared.UnitAttention.{UnitAttention}
+use Rattle.uas_tasks.specs.Machine.{Machine, attentive, begun, executed_on, greatest_block, made, no_slot, reset_on, slot_under, with_slot_under}
 use Rattle.uas_tasks.specs.Slots.{SlotState, fresh_slot, spared_slot}
 use Rattle.uas_tasks.specs.Soundness.{IsSoundMachine}
 use Rattle.uas_tasks.proofs.Places.{IsSoundMachine-slot, there}
@@ -22,7 +23,7 @@ tag_there tag slots is many =
 
 -- the logical unit of a number was read, and the tag's slot, and both were written as `begun` says
 pub executed_there : (units : List LogicalUnit) (set : CommandSet) (slots : List SlotState) (tag place number : ℕ) (cdb : List ℕ)
-    (unit : LogicalUnit) (read : SlotState) (after : Bool × SlotState) → number < length units → unit ≡ slice_index_or units number unit →
+    (unit : LogicalUnit) (read : SlotState) (after : Option UnitAttention × SlotState) → number < length units → unit ≡ slice_index_or units number unit →
     slot_under slots tag ≡ read → slice_set slots (place - 1) after.1 ≡ with_slot_under slots tag after.1 →
     after ≡ begun unit number set (length units) cdb read →
     ◌≡◌ {A = Machine} (record {
@@ -40,7 +41,7 @@ pub reset_there : (units : List LogicalUnit) (set : CommandSet) (slots : List Sl
     (number < length units) × (number ≡ slice_index lun 1) × (addressed units lun ≡ slice_get units number) → unit ≡ slice_index_or units number unit →
     ◌≡◌ {A = Machine × ℕ} (
       record {
-        units = slice_set units number (record unit { attention = true });
+        units = slice_set units number (attentive unit);
         set = set;
         slots = map (spared_slot number) slots;
       },

@@ -14,7 +14,7 @@ use Rattle.host_commands.specs.Shapes.{block_bytes}
 use Rattle.uas_profile.specs.declared.TheConstants.{GREATEST_TAG, MAX_CLIENTS}
 use Rattle.uas_tasks.specs.declared.LogicalUnit.{LogicalUnit}
 use Rattle.uas_tasks.specs.declared.slot.Out.{Out}
-use Rattle.uas_tasks.specs.Machine.{attentive, greatest_block, is_long, is_long_block, no_slot, out_on, slot_under, with_slot_under}
+use Rattle.uas_tasks.specs.Machine.{attentive, greatest_block, is_long, is_long_block, no_slot, out_on, powered, slot_under, with_slot_under}
 use Rattle.uas_tasks.specs.Slots.{SlotState, fresh_slot}
 use Rattle.uas_tasks.specs.Soundness.{EachFits, HasRoom, IsSoundMachine, lengths_of}
 
@@ -121,6 +121,10 @@ pub written_over : {T : Type 0} (len : ℕ) (items now : List T) → len ≡ len
 written_over len items now whole many =
     let same : len ≡ length now = whole ∙ sym many in
     rw same (take-append_seam now (drop (length now) items))
+
+pub lengths_of-powered : (units : List LogicalUnit) → lengths_of (map powered units) ≡ lengths_of units
+lengths_of-powered [] = refl
+lengths_of-powered (unit ∷ units) = ap (λ rest. unit.shape.block_length ∷ rest) (lengths_of-powered units)
 
 -- so many items changed, of which there are no more
 pub map-all : {T : Type 0} (f : T → T) (items now : List T) (many : ℕ) → now ≡ map f (take many items) ++ drop many items →

@@ -3,7 +3,6 @@ use Rattle.std.specs.Prelude.{ℕ, zero, suc, ◌+◌, ◌*◌, ◌/◌, ◌%◌
 use Rattle.std.specs.Prelude.{slice_index, slice_index_or, slice_get, slice_set, replicate, Option, None, Some, is_some, is_ok, option_map, option_and_then, Result, Ok, Err}
 use Rattle.std.specs.Option.{option_map_or}
 use Rattle.scsi_cmd.specs.declared.Sense.{Sense}
-use Rattle.scsi_cmd.specs.Sense.{reset_occurred}
 use Rattle.device_server.specs.declared.Answer.TheVariants.{Check}
 use Rattle.host_commands.specs.declared.Attention.{Attention}
 use Rattle.host_commands.specs.declared.Attention.TheVariants.{Ignored, Given, Reported}
@@ -11,9 +10,11 @@ use Rattle.std.specs.List.{list_any}
 use Rattle.host_commands.specs.declared.BlockLength.{BlockLength}
 use Rattle.host_commands.specs.declared.BlockLength.TheVariants.{Bytes512, Bytes4096}
 use Rattle.host_commands.specs.declared.CommandSet.{CommandSet}
+use Rattle.host_commands.specs.declared.UnitAttention.{UnitAttention}
+use Rattle.host_commands.specs.declared.UnitAttention.TheVariants.{PowerOn, Reset}
 use Rattle.host_commands.specs.declared.Work.{Work}
 use Rattle.host_commands.specs.Commands.{attention_of}
-use Rattle.host_commands.specs.Meaning.{asked_of, asked_of_none}
+use Rattle.host_commands.specs.Meaning.{asked_of, asked_of_none, sense_of_attention}
 use Rattle.host_commands.specs.Shapes.{Shape}
 use Rattle.uas_iu.specs.declared.Iu.{Iu}
 use Rattle.uas_iu.specs.Faults.{first_fault, identifier}
@@ -74,7 +75,7 @@ with_response machine tag code = with_slot machine tag (with_task (slot_of machi
 
 -- a logical unit without an attention
 abbrev pub quiet : Shape → LogicalUnit
-quiet shape = record { shape = shape; attention = false }
+quiet shape = record { shape = shape; attention = None }
 
 -- the bytes of the longest blocks of any of them
 abbrev pub is_long_block : BlockLength → Bool
@@ -99,19 +100,26 @@ opening units set chunk room = made GREATEST_TAG units set chunk room
 -- a command to a logical unit: what becomes of its attention, and of the slot. An attention comes before a fault, ends a command
 -- that reports it and is then gone; REQUEST SENSE gives it, and it is gone then too. Worked: with an attention INQUIRY is as ever,
 -- then REQUEST SENSE gives 6/29/03 with GOOD, and TEST UNIT READY is GOOD.
-abbrev pub begun_as : Attention → LogicalUnit → ℕ → SlotState → Result Work Sense → Bool × SlotState
-begun_as Ignored unit number slot asked = (unit.attention, started slot number unit.shape asked)
-begun_as Given unit number slot asked = (unit.attention && not (is_ok asked), started slot number unit.shape asked)
-begun_as Reported unit number slot asked =
-    if unit.attention then (false, started slot number unit.shape (Err reset_occurred))
-    else (false, started slot number unit.shape asked)
+abbrev pub kept_attention : Option UnitAttention → Bool → Option UnitAttention
+kept_attention attention true = None
+kept_attention attention false = attention
 
-abbrev pub begun : LogicalUnit → ℕ → CommandSet → ℕ → List ℕ → SlotState → Bool × SlotState
+abbrev pub reported_as : Option UnitAttention → Result Work Sense → Result Work Sense
+reported_as None asked = asked
+reported_as (Some attention) asked = Err (sense_of_attention attention)
+
+abbrev pub begun_as : Attention → LogicalUnit → ℕ → SlotState → Result Work Sense → Option UnitAttention × SlotState
+begun_as Ignored unit number slot asked = (unit.attention, started slot number unit.shape asked)
+begun_as Given unit number slot asked = (kept_attention unit.attention (is_ok asked), started slot number unit.shape asked)
+begun_as Reported unit number slot asked =
+    (None, started slot number unit.shape (reported_as unit.attention asked))
+
+abbrev pub begun : LogicalUnit → ℕ → CommandSet → ℕ → List ℕ → SlotState → Option UnitAttention × SlotState
 begun unit number set count cdb slot =
     begun_as (attention_of (slice_index cdb 0) set) unit number slot (asked_of cdb set unit.shape count unit.attention)
 
 -- the logical unit of this number has this attention now
-abbrev pub with_attention : List LogicalUnit → ℕ → LogicalUnit → Bool → List LogicalUnit
+abbrev pub with_attention : List LogicalUnit → ℕ → LogicalUnit → Option UnitAttention → List LogicalUnit
 with_attention units number unit attention = slice_set units number (record unit { attention = attention })
 
 abbrev pub executed_on : Machine → ℕ → ℕ → List ℕ → Option LogicalUnit → Machine
@@ -138,11 +146,17 @@ abbrev pub aborted_on : Machine → ℕ → ℕ → Option LogicalUnit → Machi
 aborted_on machine number tag None = (machine, 9)
 aborted_on machine number tag (Some unit) = (without_command machine number tag, 0)
 
+-- the attention of a logical unit that was reset: that it was powered on stands over that
+abbrev pub reset_over : Option UnitAttention → Option UnitAttention
+reset_over None = Some Reset
+reset_over (Some PowerOn) = Some PowerOn
+reset_over (Some Reset) = Some Reset
+
 -- LOGICAL UNIT RESET: its commands are gone and it has an attention
 abbrev pub reset_on : Machine → ℕ → Option LogicalUnit → Machine × ℕ
 reset_on machine number None = (machine, 9)
 reset_on machine number (Some unit) =
-    (record machine { units = with_attention machine.units number unit true; slots = map (spared_slot number) machine.slots }, 0)
+    (record machine { units = with_attention machine.units number unit (reset_over unit.attention); slots = map (spared_slot number) machine.slots }, 0)
 
 -- QUERY TASK: 08h, SUCCEEDED, where the tag has such a command, else 00h; nothing changes
 abbrev pub queried_on : Machine → ℕ → ℕ → Option LogicalUnit → Machine × ℕ
@@ -162,14 +176,26 @@ abbrev pub with_code : ℕ → Machine × ℕ → Machine
 with_code tag after = with_response after.0 tag after.1
 
 abbrev pub attentive : LogicalUnit → LogicalUnit
-attentive unit = record unit { attention = true }
+attentive unit = record unit { attention = reset_over unit.attention }
+
+-- and of one that was powered on
+abbrev pub powered : LogicalUnit → LogicalUnit
+powered unit = record unit { attention = Some PowerOn }
 
 abbrev pub without_its_task : SlotState → SlotState
 without_its_task slot = with_task slot None
 
+-- no tag has a task any more
+abbrev pub tasks_ended : Machine → Machine
+tasks_ended machine = record machine { slots = map without_its_task machine.slots }
+
 -- a reset of the whole device: no tag has a task any more, and every logical unit has an attention
 abbrev pub reset_machine : Machine → Machine
 reset_machine machine = record machine { units = map attentive machine.units; slots = map without_its_task machine.slots }
+
+-- the same where it was powered on, or reset with its bus
+abbrev pub powered_machine : Machine → Machine
+powered_machine machine = record machine { units = map powered machine.units; slots = map without_its_task machine.slots }
 
 -- WHAT COMES OF AN INFORMATION UNIT
 
@@ -271,4 +297,4 @@ without_task machine tag = with_slot machine tag (with_task (slot_of machine tag
 
 -- whether the logical unit of a number has an attention
 abbrev pub attention_on : Machine → ℕ → Bool
-attention_on machine number = option_map_or (λ unit. unit.attention) (slice_get machine.units number) false
+attention_on machine number = option_map_or (λ unit. is_some unit.attention) (slice_get machine.units number) false

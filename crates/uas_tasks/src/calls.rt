@@ -187,7 +187,7 @@ impl Tasks {
         ensures { result ≡ attention_on self.now number }
     {
         match self.units.get(number) {
-            Some(unit) => unit.attention,
+            Some(unit) => unit.attention.is_some(),
             None => false,
         }
     }
@@ -209,7 +209,7 @@ fn quiet(shape: &LogicalUnitShape) -> LogicalUnit
 {
     LogicalUnit {
         shape: *shape,
-        attention: false,
+        attention: None,
     }
 }
 

@@ -46,7 +46,7 @@ mod slot;
 mod starts;
 
 pub use device_server::Answer;
-use host_commands::{CommandSet, LogicalUnitShape};
+use host_commands::{CommandSet, LogicalUnitShape, UnitAttention};
 use slot::Slot;
 use std::marker::Model;
 use thiserror::Error;
@@ -56,7 +56,7 @@ pub use uas_target::{DeviceAnswer, Overlap, Took};
 #[derive(Clone, Copy, Debug, PartialEq, Eq)]
 pub struct LogicalUnit {
     pub shape: LogicalUnitShape,
-    pub attention: bool,
+    pub attention: Option<UnitAttention>,
 }
 
 /// What the backend is asked to do on the logical unit of a number: `count` blocks from `block` on.

@@ -3,12 +3,13 @@
 ghost use Rattle.std.specs.Prelude.{◌≡◌, map, slice_index};
 ghost use Rattle.uas_target.specs.Fields.{addressed};
 ghost use Rattle.uas_target.specs.Tasks.{is_at};
-ghost use Rattle.uas_tasks.specs.Machine.{aborted_on, attentive, managed, queried_on, reset_machine, reset_on, slot_under, without_command, without_its_task};
+ghost use Rattle.uas_tasks.specs.Machine.{aborted_on, attentive, managed, powered, powered_machine, queried_on, reset_machine, reset_on, reset_over, slot_under, tasks_ended, without_command, without_its_task};
 ghost use Rattle.uas_tasks.specs.Slots.{has_command, is_command_of, spared_slot};
 
 use crate::receiver::unit_number;
 use crate::slot::Slot;
 use crate::{DeviceAnswer, LogicalUnit, Task, Tasks};
+use host_commands::UnitAttention;
 use uas_iu::{
     ABORT_TASK, INCORRECT_LUN, LOGICAL_UNIT_RESET, LUN_BYTES, NOT_SUPPORTED, QUERY_TASK,
     TASK_COMPLETE, TASK_SUCCEEDED,
@@ -22,6 +23,22 @@ impl Tasks {
     {
         end_all(&mut self.slots);
         establish_attentions(&mut self.units);
+    }
+
+    /// The same where the device was powered on or reset with its bus, of which the attention tells.
+    pub fn power_on(&mut self)
+        ensures { self.new ≡ powered_machine self.old }
+    {
+        end_all(&mut self.slots);
+        power_units(&mut self.units);
+    }
+
+    /// Ends every task without an answer (a device that is configured anew, USB 3.2, 9.4.7). Requests that are out stay out until they
+    /// are answered.
+    pub fn end_tasks(&mut self)
+        ensures { self.new ≡ tasks_ended self.old }
+    {
+        end_all(&mut self.slots);
     }
 
     /// Does a task management function on the logical unit that a LUN addresses; its response code.
@@ -63,7 +80,9 @@ impl Tasks {
             return INCORRECT_LUN;
         };
         end_commands(&mut self.slots, number);
-        self.units[number].attention = true;
+        let unit = self.units[number];
+        let attention = reset_over(unit.attention);
+        self.units[number] = LogicalUnit { attention, ..unit };
         TASK_COMPLETE
     }
 
@@ -113,7 +132,26 @@ fn establish_attentions(units: &mut [LogicalUnit])
     ensures { units.new ≡ map attentive units.old }
 {
     for unit in units.iter_mut() {
-        unit.attention = true;
+        unit.attention = reset_over(unit.attention);
+    }
+}
+
+/// Every logical unit has the unit attention of one that was powered on.
+fn power_units(units: &mut [LogicalUnit])
+    ensures { units.new ≡ map powered units.old }
+{
+    for unit in units.iter_mut() {
+        unit.attention = Some(UnitAttention::PowerOn);
+    }
+}
+
+/// The attention of a logical unit that was reset, which had this one; one that tells of more stays.
+fn reset_over(attention: Option<UnitAttention>) -> Option<UnitAttention>
+    ensures { result ≡ reset_over attention }
+{
+    match attention {
+        Some(UnitAttention::PowerOn) => Some(UnitAttention::PowerOn),
+        Some(UnitAttention::Reset) | None => Some(UnitAttention::Reset),
     }
 }
 

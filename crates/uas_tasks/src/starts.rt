@@ -2,7 +2,7 @@
 ghost use Rattle.std.specs.Prelude.{◌≡◌, ◌+◌, ◌*◌, ◌≤◌, IfOk, None, Some, length};
 ghost use Rattle.host_commands.specs.Shapes.{block_bytes};
 ghost use Rattle.uas_profile.specs.declared.TheConstants.{MAX_CLIENTS};
-ghost use Rattle.uas_tasks.specs.Machine.{begun};
+ghost use Rattle.uas_tasks.specs.Machine.{begun, kept_attention};
 ghost use Rattle.uas_tasks.specs.Slots.{blocks_synchronized, job_task, started, started_none, started_work, with_task};
 ghost use Rattle.uas_tasks.specs.Soundness.{StartsOn};
 
@@ -10,13 +10,14 @@ use crate::jobs::{ended_check, ended_good, job_task};
 use crate::slot::Slot;
 use crate::{Answer, DeviceAnswer, JobKind, LogicalUnit, Task};
 use host_commands::{
-    Attention, CommandSet, LogicalUnitShape, MOST_BLOCKS, Work, attention_of, read,
+    Attention, CommandSet, LogicalUnitShape, MOST_BLOCKS, UnitAttention, Work, attention_of,
+    read,
 };
 use scsi_cmd::Sense;
 use uas_iu::CDB_BYTES;
 use uas_profile::MAX_CLIENTS;
 
-/// A logical unit begins what a CDB asks of it, on the slot of a tag: whether it has a unit attention then (SAM). An attention
+/// A logical unit begins what a CDB asks of it, on the slot of a tag: the unit attention that it has then (SAM). An attention
 /// comes before a fault, ends a command that reports it and is then gone; REQUEST SENSE gives it, and it is gone then too.
 #[tactic(auto, using(crate::proofs::Started::starts))]
 pub(crate) fn begin(
@@ -26,7 +27,7 @@ pub(crate) fn begin(
     set: &CommandSet,
     count: u8,
     cdb: &[u8; CDB_BYTES],
-) -> bool
+) -> Option<UnitAttention>
     requires most { count ≤ MAX_CLIENTS }
     requires room { slot.old.chunk * block_bytes unit.now.shape.block_length ≤ length slot.old.bytes }
     ensures begun { (result, slot.new) ≡ begun unit.now number set.now count cdb.now slot.old }
@@ -42,17 +43,23 @@ pub(crate) fn begin(
         Attention::Given => {
             let given = asked.is_ok();
             slot.start(number, &unit.shape, &asked);
-            unit.attention && !given
+            kept_attention(unit.attention, given)
         }
         Attention::Reported => {
-            if unit.attention {
-                slot.start(number, &unit.shape, &Err(Sense::RESET_OCCURRED));
-            } else {
-                slot.start(number, &unit.shape, &asked);
+            match unit.attention {
+                Some(attention) => slot.start(number, &unit.shape, &Err(attention.sense())),
+                None => slot.start(number, &unit.shape, &asked),
             }
-            false
+            None
         }
     }
+}
+
+/// What is left of an attention that was given, or wasn't.
+fn kept_attention(attention: Option<UnitAttention>, given: bool) -> Option<UnitAttention>
+    ensures { result ≡ kept_attention attention given }
+{
+    if given { None } else { attention }
 }
 
 impl Slot {

@@ -1,30 +1,13 @@
 //! A device without blocks, made for C.
-ghost use Rattle.std.specs.Prelude.{◌≡◌, ◌<◌, ◌≤◌, IfOk, IfSome, length, map, true};
-ghost use Rattle.std.specs.List.{list_all};
-ghost use Rattle.uas_profile.specs.declared.TheConstants.{MAX_CLIENTS};
-ghost use Rattle.uas_tasks_c.specs.Making.{block_length_of, has_block_bytes, has_blocks, has_serial, is_chunk, is_set, making_fault, set_of, shape_of, tells};
+ghost use Rattle.std.specs.Prelude.{◌≡◌, ◌<◌, true};
+ghost use Rattle.c_tasks.specs.Making.{making_fault, tells};
 
 use crate::door::KeptTasks;
 use c_common::hand_out;
-use c_faults::{BLOCKS, NO_MEMORY, TASKS_BLOCK_BYTES, TASKS_CHUNK, TASKS_SERIAL, TASKS_SET, UNITS};
-use host_commands::{
-    BlockLength, CommandSet, LogicalUnitShape, MOST_BLOCKS, SERIAL_NUMBERS, SerialNumber,
-};
+use c_faults::NO_MEMORY;
+use c_tasks::{UasTasksUnit, make_tasks, making_fault};
 use std::alloc::{AllocError, Global};
-use uas_profile::MAX_CLIENTS;
-use uas_tasks::{MOST_CHUNK_BLOCKS, Tasks};
-
-/// A logical unit as C has it.
-#[repr(C)]
-#[derive(Clone, Copy)]
-pub struct UasTasksUnit {
-    /// 1 to 2^48.
-    pub blocks: u64,
-    /// The serial number: eight decimal digits.
-    pub serial: u32,
-    /// 512 or 4,096.
-    pub block_bytes: u32,
-}
+use uas_tasks::Tasks;
 
 /// The device's name in C, which knows no more of it.
 #[repr(C)]
@@ -32,133 +15,7 @@ pub struct UasTasks {
     hidden: u8,
 }
 
-fn has_blocks(unit: &UasTasksUnit) -> bool
-    ensures { result ≡ has_blocks unit.now }
-{
-    unit.blocks != 0 && unit.blocks <= MOST_BLOCKS
-}
-
-fn has_block_bytes(unit: &UasTasksUnit) -> bool
-    ensures { result ≡ has_block_bytes unit.now }
-{
-    unit.block_bytes == 512 || unit.block_bytes == 4096
-}
-
-fn has_serial(unit: &UasTasksUnit) -> bool
-    ensures { result ≡ has_serial unit.now }
-{
-    unit.serial < SERIAL_NUMBERS
-}
-
-fn all_have_blocks(units: &[UasTasksUnit]) -> bool
-    ensures { result ≡ list_all has_blocks units.now }
-{
-    units.iter().all(|unit| has_blocks(unit))
-}
-
-fn all_have_block_bytes(units: &[UasTasksUnit]) -> bool
-    ensures { result ≡ list_all has_block_bytes units.now }
-{
-    units.iter().all(|unit| has_block_bytes(unit))
-}
-
-fn all_have_serials(units: &[UasTasksUnit]) -> bool
-    ensures { result ≡ list_all has_serial units.now }
-{
-    units.iter().all(|unit| has_serial(unit))
-}
-
-fn is_set(number: u8, most: u16) -> bool
-    ensures { result ≡ is_set number most }
-{
-    number == 0 || number == 1 && most >= 8 && most <= 65_528 && most % 8 == 0
-}
-
-fn is_chunk(blocks: u16) -> bool
-    ensures { result ≡ is_chunk blocks }
-{
-    blocks != 0 && blocks <= MOST_CHUNK_BLOCKS
-}
-
-/// The first fault of what is asked for.
-fn making_fault(units: &[UasTasksUnit], set: u8, most: u16, chunk: u16) -> Option<u8>
-    ensures { result ≡ making_fault units.now set most chunk }
-{
-    if units.is_empty() || units.len() > MAX_CLIENTS {
-        Some(UNITS)
-    } else if !all_have_blocks(units) {
-        Some(BLOCKS)
-    } else if !all_have_block_bytes(units) {
-        Some(TASKS_BLOCK_BYTES)
-    } else if !all_have_serials(units) {
-        Some(TASKS_SERIAL)
-    } else if !is_set(set, most) {
-        Some(TASKS_SET)
-    } else if !is_chunk(chunk) {
-        Some(TASKS_CHUNK)
-    } else {
-        None
-    }
-}
-
-fn block_length(bytes: u32) -> BlockLength
-    ensures { result ≡ block_length_of bytes }
-{
-    if bytes == 4096 {
-        BlockLength::Bytes4096
-    } else {
-        BlockLength::Bytes512
-    }
-}
-
-/// The logical unit, where it has no fault.
-fn shape(unit: &UasTasksUnit) -> Option<LogicalUnitShape>
-    ensures { IfSome result (λ shape. shape ≡ shape_of unit.now) }
-{
-    let serial = SerialNumber::new(unit.serial).ok()?;
-    LogicalUnitShape::new(unit.blocks, block_length(unit.block_bytes), serial).ok()
-}
-
-fn shapes(alloc: Global, units: &[UasTasksUnit]) -> Result<Vec<LogicalUnitShape>, AllocError>
-    ensures { IfOk result (λ shapes. shapes.items ≡ map shape_of units.now) }
-{
-    let mut shapes = Vec::new(alloc);
-    for unit in units {
-        // (each is whole: their faults were told before)
-        let Some(shape) = shape(unit) else {
-            return Err(AllocError);
-        };
-        shapes.push(shape)?;
-    }
-    Ok(shapes)
-}
-
-/// The command set, where it has no fault.
-fn command_set(number: u8, most: u16) -> Option<CommandSet>
-    ensures { IfSome result (λ set. set ≡ set_of number most) }
-{
-    if number == 0 {
-        return Some(CommandSet::Profile);
-    }
-    CommandSet::host(most).ok()
-}
-
-/// The device of what is asked for, where that has no fault.
-fn made(
-    alloc: Global,
-    units: &[UasTasksUnit],
-    set: u8,
-    most: u16,
-    chunk: u16,
-) -> Result<Box<KeptTasks, Global>, AllocError>
-    requires units { length units.now ≤ MAX_CLIENTS }
-    requires chunk { is_chunk chunk ≡ true }
-{
-    let shapes = shapes(alloc, units)?;
-    let Some(set) = command_set(set, most) else {
-        return Err(AllocError);
-    };
-    let tasks = Tasks::new(alloc, shapes.as_slice(), set, chunk)?;
+fn boxed(alloc: Global, tasks: Tasks) -> Result<Box<KeptTasks, Global>, AllocError> {
     match Box::new(alloc, KeptTasks { tasks }) {
         Ok(made) => Ok(made),
         Err(_) => Err(AllocError),
@@ -183,11 +40,12 @@ pub extern "C" fn uas_tasks_new(
     if let Some(fault) = making_fault(units, set, most, chunk) {
         return fault;
     }
-    match made(alloc, units, set, most, chunk) {
-        Ok(made) => {
-            *tasks = hand_out(made);
-            0
-        }
-        Err(AllocError) => NO_MEMORY,
-    }
+    let Ok(made) = make_tasks(alloc, units, set, most, chunk) else {
+        return NO_MEMORY;
+    };
+    let Ok(made) = boxed(alloc, made) else {
+        return NO_MEMORY;
+    };
+    *tasks = hand_out(made);
+    0
 }

@@ -8,7 +8,7 @@ use Rattle.host_commands.specs.declared.CommandSet.TheVariants.{Profile, Host}
 use Rattle.host_commands.specs.Shapes.{Shape}
 use Rattle.c_faults.specs.declared.TheConstants.{BLOCKS, NO_MEMORY, TASKS_BLOCK_BYTES, TASKS_CHUNK, TASKS_SERIAL, TASKS_SET, UNITS}
 use Rattle.uas_profile.specs.declared.TheConstants.{MAX_CLIENTS}
-use Rattle.uas_tasks_c.specs.declared.making.UasTasksUnit.{UasTasksUnit}
+use Rattle.c_tasks.specs.declared.UasTasksUnit.{UasTasksUnit}
 
 -- 1 to 2^48 blocks
 abbrev pub has_blocks : UasTasksUnit → Bool

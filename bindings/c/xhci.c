@@ -1,0 +1,94 @@
+/* The functions of include/uas_xhci.h that libuas_xhci.a has beside the proved exports: each makes one call of the door. */
+#include "uas_xhci.h"
+
+#include <stdlib.h>
+
+void uas_xhci_free(uas_xhci *xhci)
+{
+    if (xhci == NULL)
+        return;
+    uas_xhci_close(xhci);
+    free(xhci);
+}
+
+/* A call with bytes that it only reads. */
+static uint8_t call(uas_xhci *xhci, struct uas_xhci_door *door, const uint8_t *bytes, size_t length)
+{
+    uint8_t none = 0;
+    return uas_xhci_call(xhci, door, length > 0 ? (uint8_t *)(uintptr_t)bytes : &none, length);
+}
+
+uint64_t uas_xhci_read(uas_xhci *xhci, uint64_t offset, uint8_t width)
+{
+    struct uas_xhci_door door = { .call = UAS_XHCI_CALL_READ, .width = width, .offset = offset };
+    call(xhci, &door, NULL, 0);
+    return door.value;
+}
+
+void uas_xhci_write(uas_xhci *xhci, uint64_t offset, uint8_t width, uint64_t value)
+{
+    struct uas_xhci_door door = { .call = UAS_XHCI_CALL_WRITE, .width = width, .offset = offset, .value = value };
+    call(xhci, &door, NULL, 0);
+}
+
+void uas_xhci_set_frame(uas_xhci *xhci, uint16_t frame_index)
+{
+    struct uas_xhci_door door = { .call = UAS_XHCI_CALL_FRAME, .value = frame_index };
+    call(xhci, &door, NULL, 0);
+}
+
+bool uas_xhci_work(uas_xhci *xhci, const struct uas_memory *memory, uint32_t budget, uint32_t *steps)
+{
+    struct uas_xhci_door door = { .call = UAS_XHCI_CALL_WORK, .budget = budget, .base = memory->base };
+    call(xhci, &door, memory->bytes, memory->length);
+    *steps = door.steps;
+    return door.good != 0;
+}
+
+bool uas_xhci_interrupt(uas_xhci *xhci)
+{
+    struct uas_xhci_door door = { .call = UAS_XHCI_CALL_INTERRUPT };
+    call(xhci, &door, NULL, 0);
+    return door.good != 0;
+}
+
+bool uas_xhci_take_message(uas_xhci *xhci)
+{
+    struct uas_xhci_door door = { .call = UAS_XHCI_CALL_MESSAGE };
+    call(xhci, &door, NULL, 0);
+    return door.good != 0;
+}
+
+void uas_xhci_plug(uas_xhci *xhci, bool attached)
+{
+    struct uas_xhci_door door = { .call = UAS_XHCI_CALL_PLUG, .value = attached };
+    call(xhci, &door, NULL, 0);
+}
+
+void uas_xhci_reset(uas_xhci *xhci)
+{
+    struct uas_xhci_door door = { .call = UAS_XHCI_CALL_RESET };
+    call(xhci, &door, NULL, 0);
+}
+
+bool uas_xhci_next_request(uas_xhci *xhci, struct uas_request *request)
+{
+    struct uas_xhci_door door = { .call = UAS_XHCI_CALL_REQUEST };
+    call(xhci, &door, NULL, 0);
+    if (door.good == 0)
+        return false;
+    *request = (struct uas_request){ door.number, door.unit, door.block, door.count, door.kind, door.through != 0 };
+    return true;
+}
+
+uint8_t uas_xhci_data(uas_xhci *xhci, uint64_t number, uint8_t *bytes, size_t length)
+{
+    struct uas_xhci_door door = { .call = UAS_XHCI_CALL_DATA, .number = number };
+    return call(xhci, &door, bytes, length);
+}
+
+uint8_t uas_xhci_answered(uas_xhci *xhci, uint64_t number, uint8_t outcome, const uint8_t *bytes, size_t length)
+{
+    struct uas_xhci_door door = { .call = UAS_XHCI_CALL_ANSWERED, .number = number, .outcome = outcome };
+    return call(xhci, &door, bytes, length);
+}

@@ -1,0 +1,2 @@
+-- A device without blocks as C asks for it.
+pub mod Making

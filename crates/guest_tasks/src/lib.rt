@@ -1,0 +1,220 @@
+//! A device without blocks behind the pipes of a controller over a caller's memory.
+//!
+//! [`GuestTasks`] is a `uas_tasks::Tasks` as the device of `guest_tags`: chunks of at most 4,096 bytes of what it gives and takes, its answers,
+//! and what comes of an information unit, by `tasks_kind`. A tag whose request to the backend is to be asked or is out does nothing: its TDs
+//! wait. An information unit that overlaps is of the tag in its bytes 2 and 3.
+//!
+//! It also keeps which tags are active: those on which an information unit came since they were last found without a task. So nobody has to
+//! go over tags that have nothing to do.
+#![tactic(auto)]
+
+ghost use Rattle.std.specs.Prelude.{◌≡◌, ◌≤◌, ◌<◌, IfSome, Some, None, option_map, length, min, slice_index, true};
+ghost use Rattle.uas_iu.specs.Units.{IsTextOf, unit_text};
+ghost use Rattle.uas_target.specs.Fields.{tag_in};
+ghost use Rattle.uas_tasks.specs.Machine.{Machine, answer_on, answered, opening, quiet, powered_machine, received, tasks_ended, wanted};
+ghost use Rattle.guest_tags.specs.Devices.{IsChunk, Kind};
+ghost use Rattle.guest_tasks.specs.Tasks.{end_of, end_of_status, gives_of, phase_of, received_as, received_told, takes_of, tasks_kind, text_of};
+
+use arrayvec::ArrayVec;
+use guest_tags::{End, Phase, Received, UasDevice};
+use marks::Marks;
+use uas_iu::Iu;
+use uas_profile::STATUS_BYTES;
+use uas_tasks::{Next, Tasks, Wants};
+use uas_target::{Overlap, Took};
+
+/// The greatest chunk, in bytes.
+const CHUNK_BYTES: usize = 4096;
+
+/// A device without blocks, and which of its tags are active.
+#[derive(Debug, Drop)]
+pub struct GuestTasks {
+    pub tasks: Tasks,
+    active: Marks<4>,
+}
+
+fn end_of_status(good: bool) -> End
+    ensures { result ≡ end_of_status good }
+{
+    if good { End::Good } else { End::Check }
+}
+
+/// How a task ended, by the information unit that answers it.
+fn end_of(answer: &Option<Iu>) -> End
+    ensures { result ≡ end_of answer.now }
+{
+    match answer {
+        Some(Iu::Sense { status, .. }) => end_of_status(*status == 0),
+        Some(Iu::Command { .. }) | Some(Iu::Response { .. }) | Some(Iu::Task { .. }) | None => {
+            End::Response
+        }
+    }
+}
+
+fn gives_of(bytes: usize) -> Phase
+    ensures phase { result ≡ gives_of bytes }
+    ensures chunk { IsChunk result }
+{
+    match bytes {
+        0 => Phase::Absent,
+        _ => Phase::Gives(bytes.min(CHUNK_BYTES)),
+    }
+}
+
+fn takes_of(bytes: usize) -> Phase
+    ensures phase { result ≡ takes_of bytes }
+    ensures chunk { IsChunk result }
+{
+    match bytes {
+        0 => Phase::Absent,
+        _ => Phase::Takes(bytes.min(CHUNK_BYTES)),
+    }
+}
+
+/// What came of received bytes.
+fn received_as(bytes: &[u8], took: Result<Took, Overlap>) -> Received
+    ensures { result ≡ received_as bytes.now took }
+{
+    match took {
+        Ok(Took::Began(tag)) => Received::Began(tag),
+        Ok(Took::Dropped) => Received::Dropped,
+        Err(Overlap) => Received::Overlap(tag_of(bytes)),
+    }
+}
+
+/// The byte at a place, 0 where there is none.
+fn byte_at(bytes: &[u8], place: usize) -> u8
+    ensures { result ≡ slice_index bytes.now place }
+{
+    match bytes.get(place) {
+        Some(byte) => *byte,
+        None => 0,
+    }
+}
+
+/// The tag in bytes 2 and 3.
+fn tag_of(bytes: &[u8]) -> u16
+    ensures { result ≡ tag_in bytes.now }
+{
+    256 * u16::from(byte_at(bytes, 2)) + u16::from(byte_at(bytes, 3))
+}
+
+/// A tag is active from now on.
+fn mark(active: &mut Marks<4>, tag: u16) {
+    if tag < 256 {
+        active.set(usize::from(tag), true);
+    }
+}
+
+fn mark_received(active: &mut Marks<4>, received: Received) {
+    match received {
+        Received::Began(tag) | Received::Overlap(tag) => mark(active, tag),
+        Received::Dropped => (),
+    }
+}
+
+impl GuestTasks {
+    /// A device behind the pipes, without an active tag.
+    pub fn new(tasks: Tasks) -> GuestTasks
+        ensures { result.tasks ≡ tasks }
+    {
+        GuestTasks {
+            tasks,
+            active: Marks::new(),
+        }
+    }
+
+    /// The first active tag from one on.
+    pub fn next_active(&self, from: u16) -> Option<u16>
+        ensures { IfSome result (λ tag. (from ≤ tag) × (tag < 256)) }
+    {
+        match self.active.next_from(usize::from(from)) {
+            Some(tag) => Some(tag as u16),
+            None => None,
+        }
+    }
+
+    /// A tag that has no task isn't active any more, until an information unit comes on it.
+    pub fn rest(&mut self, tag: u16)
+        ensures { self.new.tasks ≡ self.old.tasks }
+    {
+        if tag < 256 && matches!(self.tasks.wants(tag), Wants::Absent) {
+            self.active.set(usize::from(tag), false);
+        }
+    }
+
+    /// The next request that is to be asked, of the tags from one on: it is out from then on.
+    pub fn next_request(&mut self, from: u16) -> Option<Next> {
+        let mut tag = from;
+        for _ in 0..256u16 {
+            let Some(active) = self.next_active(tag) else {
+                return None;
+            };
+            if matches!(self.tasks.wants(active), Wants::Asks) {
+                return Some(self.tasks.next(active));
+            }
+            tag = active + 1;
+        }
+        None
+    }
+
+    /// A reset of the device by its bus: no tag has a task, and each logical unit owes the unit attention of one that was powered on.
+    pub fn power_on(&mut self)
+        ensures { self.new.tasks ≡ powered_machine self.old.tasks }
+    {
+        self.tasks.power_on();
+    }
+
+    /// Ends every task without an answer.
+    pub fn end_tasks(&mut self)
+        ensures { self.new.tasks ≡ tasks_ended self.old.tasks }
+    {
+        self.tasks.end_tasks();
+    }
+}
+
+impl UasDevice for GuestTasks {
+    ghost State = { Machine };
+
+    ghost state = { λ device. device.tasks };
+
+    ghost kind = { tasks_kind };
+
+    fn phase(&self, tag: u16) -> Phase {
+        match self.tasks.wants(tag) {
+            Wants::Absent | Wants::Asks | Wants::Waits => Phase::Absent,
+            Wants::Gives(bytes) => gives_of(bytes),
+            Wants::Takes(bytes) => takes_of(bytes),
+            Wants::Ends => Phase::Ended(end_of(&self.tasks.status_of(tag))),
+        }
+    }
+
+    #[tactic(auto, using(crate::specs::Laws::may_give, crate::specs::Laws::gives_chunk))]
+    fn give(&mut self, tag: u16, into: &mut [u8]) -> bool {
+        self.tasks.give(tag, into);
+        true
+    }
+
+    #[tactic(auto, using(crate::specs::Laws::may_take))]
+    fn take(&mut self, tag: u16, bytes: &[u8]) -> bool {
+        self.tasks.take(tag, bytes);
+        true
+    }
+
+    #[tactic(auto, using(crate::specs::Laws::empty_items, crate::specs::Laws::ended_ends))]
+    fn write_status(&self, tag: u16, text: &mut ArrayVec<u8, STATUS_BYTES>) {
+        self.tasks.write_status(tag, text);
+    }
+
+    #[tactic(auto, using(crate::specs::Laws::ended_ends))]
+    fn sent(&mut self, tag: u16) {
+        self.tasks.sent(tag);
+    }
+
+    fn receive(&mut self, bytes: &[u8]) -> Received {
+        let took = self.tasks.receive(bytes);
+        let received = received_as(bytes, took);
+        mark_received(&mut self.active, received);
+        received
+    }
+}

@@ -1,0 +1,3 @@
+-- What C sees of a controller over its memory.
+pub mod Lent
+pub mod XhciCall

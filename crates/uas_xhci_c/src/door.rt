@@ -1,0 +1,252 @@
+//! A controller over a caller's memory for C: register accesses, steps, interrupts and requests, over one call with a door.
+ghost use Rattle.std.specs.Prelude.{◌≡◌, true};
+ghost use Rattle.uas_xhci_c.specs.XhciCall.{is_answer};
+
+use c_faults::{TASKS_CALL, TASKS_LENGTH, TASKS_NOT_OUT};
+use guest_memory::{Lent, Pieces};
+use uas_tasks::{AnswerFault, Next, Outcome, Request};
+use std::marker::Model;
+use xhci_machine::{Machine, Width, Worked};
+
+/// What a call of the controller asks and answers. C writes `call` and what that call reads; the call writes what it answers.
+#[repr(C)]
+#[derive(Clone, Copy)]
+pub struct UasXhciDoor {
+    /// The call, 1 to 11.
+    pub call: u8,
+    /// Of READ and WRITE: 1, 2, 4 or 8 bytes.
+    pub width: u8,
+    /// Out of WORK: 1 where there may be more to do; of INTERRUPT and MESSAGE: 1 where there is one; of REQUEST: 1 where one is out newly.
+    pub good: u8,
+    /// Out of REQUEST: 1 reads, 2 writes, 3 compares, 4 verifies, 5 brings to the medium.
+    pub kind: u8,
+    /// Out of REQUEST: 1 where a write goes through to the medium, else 0.
+    pub through: u8,
+    /// Of ANSWERED: 0 done, 1 differs, 2 medium error, 3 not ready.
+    pub outcome: u8,
+    pub reserved: u16,
+    /// Of WORK: the most steps.
+    pub budget: u32,
+    /// Out of WORK: how many steps were taken.
+    pub steps: u32,
+    /// Of READ and WRITE: where in the register page.
+    pub offset: u64,
+    /// Of WRITE: what is written; of PLUG: 0 to pull the disk; of FRAME: MFINDEX. Out of READ: what was read.
+    pub value: u64,
+    /// Of WORK: the address of the first lent byte.
+    pub base: u64,
+    /// Out of REQUEST, and of DATA and ANSWERED: the request's number.
+    pub number: u64,
+    /// Out of REQUEST: the logical unit's number.
+    pub unit: u64,
+    /// Out of REQUEST: the first block.
+    pub block: u64,
+    /// Out of REQUEST: how many blocks.
+    pub count: u64,
+}
+
+/// A controller, as its handle has it.
+#[derive(Drop)]
+pub(crate) struct KeptXhci {
+    pub(crate) machine: Machine,
+}
+
+impl Model for KeptXhci {
+    ghost use Rattle.xhci_machine.specs.declared.Machine.{Machine};
+
+    ghost Value = { Machine };
+
+    ghost view = { λ kept. kept.machine };
+}
+
+/// A call, by its number.
+#[derive(Clone, Copy)]
+enum Call {
+    Read,
+    Write,
+    Work,
+    Interrupt,
+    Message,
+    Plug,
+    Frame,
+    Reset,
+    Request,
+    Data,
+    Answered,
+}
+
+fn call_numbered(number: u8) -> Option<Call> {
+    match number {
+        1 => Some(Call::Read),
+        2 => Some(Call::Write),
+        3 => Some(Call::Work),
+        4 => Some(Call::Interrupt),
+        5 => Some(Call::Message),
+        6 => Some(Call::Plug),
+        7 => Some(Call::Frame),
+        8 => Some(Call::Reset),
+        9 => Some(Call::Request),
+        10 => Some(Call::Data),
+        11 => Some(Call::Answered),
+        _ => None,
+    }
+}
+
+fn width_of(bytes: u8) -> Option<Width> {
+    match bytes {
+        1 => Some(Width::One),
+        2 => Some(Width::Two),
+        4 => Some(Width::Four),
+        8 => Some(Width::Eight),
+        _ => None,
+    }
+}
+
+fn outcome_numbered(number: u8) -> Option<Outcome> {
+    match number {
+        0 => Some(Outcome::Done),
+        1 => Some(Outcome::Differs),
+        2 => Some(Outcome::MediumError),
+        3 => Some(Outcome::NotReady),
+        _ => None,
+    }
+}
+
+/// The call that a door names; the number of its refusal, or 0.
+pub(crate) fn serve(kept: &mut KeptXhci, door: &mut UasXhciDoor, bytes: &mut [u8]) -> u8
+    ensures { is_answer result ≡ true }
+{
+    let Some(call) = call_numbered(door.call) else {
+        return TASKS_CALL;
+    };
+    let machine = &mut kept.machine;
+    match call {
+        Call::Read => read(machine, door),
+        Call::Write => write(machine, door),
+        Call::Work => work(machine, door, bytes),
+        Call::Request => show_request(machine, door),
+        Call::Data => show_data(machine, door, bytes),
+        Call::Answered => answer(machine, door, bytes),
+        Call::Interrupt | Call::Message | Call::Plug | Call::Frame | Call::Reset => {
+            signal(machine, door, call);
+            0
+        }
+    }
+}
+
+/// The calls that have neither bytes nor a fault.
+fn signal(machine: &mut Machine, door: &mut UasXhciDoor, call: Call) {
+    match call {
+        Call::Interrupt => door.good = u8::from(machine.interrupt()),
+        Call::Message => door.good = u8::from(machine.take_message()),
+        Call::Plug => machine.plug(door.value != 0),
+        Call::Frame => machine.set_frame_index((door.value % 0x4000) as u16),
+        Call::Reset => machine.reset(),
+        Call::Read
+        | Call::Write
+        | Call::Work
+        | Call::Request
+        | Call::Data
+        | Call::Answered => (),
+    }
+}
+
+fn read(machine: &Machine, door: &mut UasXhciDoor) -> u8
+    ensures { is_answer result ≡ true }
+{
+    let Some(width) = width_of(door.width) else {
+        return TASKS_CALL;
+    };
+    door.value = machine.read(door.offset, width);
+    0
+}
+
+fn write(machine: &mut Machine, door: &UasXhciDoor) -> u8
+    ensures { is_answer result ≡ true }
+{
+    let Some(width) = width_of(door.width) else {
+        return TASKS_CALL;
+    };
+    machine.write(door.offset, width, door.value);
+    0
+}
+
+/// Steps over the lent bytes, which stand from the address `base` on.
+fn work(machine: &mut Machine, door: &mut UasXhciDoor, bytes: &mut [u8]) -> u8
+    ensures { is_answer result ≡ true }
+{
+    let mut lent = Lent {
+        base: door.base,
+        bytes,
+    };
+    let worked = work_over(machine, std::slice::from_mut(&mut lent), door.budget);
+    let Lent { base: _, bytes: _ } = lent;
+    door.steps = worked.steps;
+    door.good = u8::from(worked.more);
+    0
+}
+
+fn work_over(machine: &mut Machine, pieces: &mut [Lent], budget: u32) -> Worked {
+    let mut memory = Pieces { pieces };
+    machine.work(&mut memory, budget)
+}
+
+/// The next request that isn't out yet.
+fn show_request(machine: &mut Machine, door: &mut UasXhciDoor) -> u8
+    ensures { is_answer result ≡ true }
+{
+    door.good = 0;
+    if let Some(Next::Asks { number, request }) = machine.next_request() {
+        door.good = 1;
+        door.number = number;
+        tell_request(door, &request);
+    }
+    0
+}
+
+fn tell_request(door: &mut UasXhciDoor, request: &Request) {
+    let (kind, asked_of, first, many, goes_through) = match *request {
+        Request::Read { unit, block, count } => (1, unit, block, count, false),
+        Request::Write {
+            unit,
+            block,
+            count,
+            through,
+        } => (2, unit, block, count, through),
+        Request::Compare { unit, block, count } => (3, unit, block, count, false),
+        Request::Verify { unit, block, count } => (4, unit, block, count, false),
+        Request::Sync { unit, block, count } => (5, unit, block, count, false),
+    };
+    door.kind = kind;
+    door.through = u8::from(goes_through);
+    door.unit = asked_of as u64;
+    door.block = first;
+    door.count = many;
+}
+
+/// The bytes of the request of the door's number.
+fn show_data(machine: &Machine, door: &UasXhciDoor, bytes: &mut [u8]) -> u8
+    ensures { is_answer result ≡ true }
+{
+    let Some(out) = machine.request_bytes(door.number) else {
+        return TASKS_NOT_OUT;
+    };
+    if out.len() != bytes.len() {
+        return TASKS_LENGTH;
+    }
+    bytes.copy_from_slice(out);
+    0
+}
+
+fn answer(machine: &mut Machine, door: &UasXhciDoor, bytes: &[u8]) -> u8
+    ensures { is_answer result ≡ true }
+{
+    let Some(outcome) = outcome_numbered(door.outcome) else {
+        return TASKS_CALL;
+    };
+    match machine.answered(door.number, outcome, bytes) {
+        Ok(()) => 0,
+        Err(AnswerFault::NotOut) => TASKS_NOT_OUT,
+        Err(AnswerFault::WrongLength) => TASKS_LENGTH,
+    }
+}

@@ -1,0 +1,20 @@
+//! The library for C, its part of an xHCI controller over a caller's memory: `uas_xhci` as a static archive.
+//!
+//! | File | Exports |
+//! |---|---|
+//! | making.rt | `uas_xhci_new` |
+//! | handle.rt | `uas_xhci_call`, `uas_xhci_close` |
+//!
+//! What is promised: `uas_xhci_new` answers the first fault of what is asked for, as `uas_tasks_new` does. Every call through the door is safe
+//! and returns, for any bytes in the door, any register access and any memory; it answers 0 or one of the faults of specs/XhciCall.antt. What the
+//! calls do is the contracts' of `xhci_machine`.
+//!
+//! What a caller upholds stands in the head of include/uas.h; nothing here tests it. The memory that a call is lent is written by nobody else
+//! while it runs, or what the controller reads of it may be of two moments: each TRB, context and information unit is read once.
+//!
+//! It takes memory in `uas_xhci_new` alone. It stands on `c_common`, `c_tasks` and `xhci_machine`.
+#![tactic(auto)]
+
+mod door;
+mod handle;
+mod making;

@@ -1,0 +1,157 @@
+//! Register accesses, and what they ask for beyond the registers.
+ghost use Rattle.std.specs.Prelude.{◌≡◌};
+ghost use Rattle.xhci_registers.specs.Signals.{is_asserted, messaged};
+ghost use Rattle.xhci_registers.specs.Words.{read_of};
+
+use crate::Machine;
+use crate::interrupts::Interrupts;
+use crate::ring::CommandRing;
+use crate::states::States;
+use guest_tasks::GuestTasks;
+use guest_transfers::{StreamPipe, Transfers};
+use std::alloc::{AllocError, Global};
+use uas_tasks::{AnswerFault, Next, Outcome, Tasks};
+use xhci_control::ControlPipe;
+use xhci_registers::{Effect, Registers, Width};
+use xhci_slots::Slot;
+
+/// Bytes of the register page.
+const PAGE_BYTES: u64 = 4096;
+
+/// Endpoint 0's target in a doorbell.
+const CONTROL_TARGET: u8 = 1;
+
+impl Machine {
+    /// A controller after a reset, with this disk plugged in. It takes all memory that it ever has; the error is want of it.
+    pub fn new(alloc: Global, tasks: Tasks) -> Result<Machine, AllocError> {
+        Ok(Machine {
+            registers: Registers::new(true),
+            slot: Slot::free(),
+            commands: CommandRing::idle(),
+            interrupts: Interrupts::none(),
+            control: ControlPipe::new(),
+            transfers: Transfers::new(alloc)?,
+            device: GuestTasks::new(tasks),
+            told: States::disabled(),
+        })
+    }
+
+    /// A read of the register page: 1, 2, 4 or 8 bytes at a multiple of their number; any other reads 0 (5.3 to 5.6).
+    pub fn read(&self, offset: u64, width: Width) -> u64
+        ensures { result ≡ read_of self.now.registers offset width }
+    {
+        self.registers.read(offset, width)
+    }
+
+    /// A write of the register page: 4 or 8 bytes at a multiple of 4, the low half first; any other does nothing. It takes no step: it
+    /// notes what is to be done (5.4 to 5.6).
+    pub fn write(&mut self, offset: u64, width: Width, value: u64) {
+        if offset % 4 != 0 || offset >= PAGE_BYTES {
+            return;
+        }
+        match width {
+            Width::One | Width::Two => (),
+            Width::Four => self.write_word(offset, (value % 0x1_0000_0000) as u32),
+            Width::Eight => {
+                self.write_word(offset, (value % 0x1_0000_0000) as u32);
+                self.write_word(offset + 4, (value >> 32) as u32);
+            }
+        }
+    }
+
+    fn write_word(&mut self, offset: u64, value: u32) {
+        match self.registers.write_word(offset, value) {
+            Effect::Nothing => (),
+            Effect::Reset => self.reset_all(),
+            Effect::PortReset => self.reset_device(),
+            Effect::CommandRingStopped => self.commands.stop(),
+            Effect::CommandDoorbell => self.commands.ring_doorbell(),
+            Effect::Doorbell(target, stream) => self.ring_doorbell(target, stream),
+            Effect::EventRing => self.interrupts.restart(),
+            Effect::Dequeued(clears) => self.interrupts.note_dequeue(clears),
+        }
+    }
+
+    fn ring_doorbell(&mut self, target: u8, stream: u16) {
+        if target == CONTROL_TARGET {
+            self.control.ring_doorbell();
+        } else {
+            self.transfers.ring_doorbell(target, stream);
+        }
+    }
+
+    /// The disk is reset: it isn't configured, every task is gone, and each logical unit owes a unit attention.
+    fn reset_device(&mut self) {
+        self.device.power_on();
+        self.transfers.clear_tags();
+        self.control.reset_disk();
+    }
+
+    /// All but the registers, as a reset of the controller leaves it.
+    fn reset_all(&mut self) {
+        self.reset_device();
+        self.slot = Slot::free();
+        self.commands = CommandRing::idle();
+        self.interrupts = Interrupts::none();
+        self.control.disable();
+        self.transfers.disable_command();
+        self.transfers.disable(StreamPipe::Status);
+        self.transfers.disable(StreamPipe::DataOut);
+        self.transfers.disable(StreamPipe::DataIn);
+        self.told = States::disabled();
+    }
+
+    /// A reset of the controller from outside (of the PCI function, say): as HCRST.
+    pub fn reset(&mut self) {
+        self.registers = Registers::new(self.registers.port.attached);
+        self.reset_all();
+    }
+
+    /// Plugs the disk in, or pulls it, which resets it.
+    pub fn plug(&mut self, attached: bool) {
+        self.registers.plug(attached);
+        if !attached {
+            self.reset_device();
+        }
+    }
+
+    /// Sets MFINDEX.
+    pub fn set_frame_index(&mut self, frame_index: u16) {
+        self.registers.frame_index = frame_index % 0x4000;
+    }
+
+    /// Whether the interrupt's pin is asserted.
+    pub fn interrupt(&self) -> bool
+        ensures { result ≡ is_asserted self.now.registers }
+    {
+        self.registers.is_asserted()
+    }
+
+    /// Whether a message is to be sent (MSI, MSI-X): true once for each interrupt.
+    pub fn take_message(&mut self) -> bool
+        ensures message { result ≡ is_asserted self.old.registers }
+        ensures registers { self.new.registers ≡ messaged self.old.registers }
+    {
+        self.registers.take_message()
+    }
+
+    /// The next request to the backend that isn't out yet; it is out from then on.
+    pub fn next_request(&mut self) -> Option<Next> {
+        self.device.next_request(1)
+    }
+
+    /// The bytes of a request that writes or compares, while it is out.
+    pub fn request_bytes(&self, number: u64) -> Option<&[u8]> {
+        self.device.tasks.request_bytes(number)
+    }
+
+    /// What came of a request; its tag goes on at the next step.
+    pub fn answered(
+        &mut self,
+        number: u64,
+        outcome: Outcome,
+        bytes: &[u8],
+    ) -> Result<(), AnswerFault> {
+        self.device.tasks.answered(number, outcome, bytes)
+    }
+}

@@ -1,0 +1,161 @@
+//! Interrupter 0: its event ring, by its segment table and ERDP (xHCI 1.2, 4.9.4, 4.17 and 6.5).
+ghost use Rattle.std.specs.Prelude.{◌≡◌};
+
+use byteorder::{ByteOrder, LittleEndian};
+use guest_memory::{GuestMemory, Outside};
+use guest_rings::{Event, EventRing};
+use xhci_registers::{Interrupter, Registers};
+
+/// The fewest and the most TRBs of the segment (6.5).
+const FEWEST_PLACES: u16 = 16;
+
+const MOST_PLACES: u16 = 4096;
+
+/// The event ring, once its table was read; whether ERDP was written since, and cleared EHB by that; and whether Event Ring Full Error
+/// was posted since there was room.
+#[derive(Debug, Drop)]
+pub(crate) struct Interrupts {
+    ring: Option<EventRing>,
+    dequeued: bool,
+    cleared_busy: bool,
+    told_full: bool,
+}
+
+/// The event ring of the segment table's one entry, or None where the table has no entry. Refused where the entry isn't there or is no
+/// segment.
+fn load<M: GuestMemory>(
+    memory: &M,
+    interrupter: &Interrupter,
+) -> Result<Option<EventRing>, Outside> {
+    if interrupter.table_size == 0 {
+        return Ok(None);
+    }
+    let mut bytes = [0; 16];
+    memory.read(interrupter.table, &mut bytes)?;
+    let entry = LittleEndian::read_u64(&bytes);
+    segment(entry - entry % 64, LittleEndian::read_u16(&bytes[8..]))
+}
+
+fn segment(base: u64, places: u16) -> Result<Option<EventRing>, Outside> {
+    if places < FEWEST_PLACES || places > MOST_PLACES {
+        return Err(Outside);
+    }
+    match base.checked_add(16 * u64::from(places)) {
+        Some(_) => Ok(Some(EventRing::new(base, places))),
+        None => Err(Outside),
+    }
+}
+
+/// The consumer's dequeue pointer is this now. Refused where it is outside the segment.
+fn dequeue(ring: &mut EventRing, pointer: u64) -> Result<(), Outside> {
+    match ring.place_at(pointer) {
+        Some(place) => {
+            ring.dequeue(place);
+            Ok(())
+        }
+        None => Err(Outside),
+    }
+}
+
+/// Posts an event. Refused where its place isn't there.
+pub(crate) fn post<M: GuestMemory>(
+    memory: &mut M,
+    events: &mut EventRing,
+    event: &Event,
+) -> Result<(), Outside>
+    ensures same_loan { M.loan memory.new ≡ M.loan memory.old }
+{
+    if !memory.has(events.enqueue_pointer(), 16) {
+        return Err(Outside);
+    }
+    events.post(memory, event, false);
+    Ok(())
+}
+
+impl Interrupts {
+    /// No event ring.
+    pub fn none() -> Interrupts {
+        Interrupts {
+            ring: None,
+            dequeued: false,
+            cleared_busy: false,
+            told_full: false,
+        }
+    }
+
+    /// The event ring begins anew: its table is read at the next step.
+    pub fn restart(&mut self) {
+        self.ring = None;
+    }
+
+    /// ERDP was written, and cleared EHB by that or not.
+    pub fn note_dequeue(&mut self, cleared_busy: bool) {
+        self.dequeued = true;
+        self.cleared_busy = self.cleared_busy || cleared_busy;
+    }
+
+    /// The event ring, which is the caller's until it is kept again; None where there is none.
+    pub fn take<M: GuestMemory>(
+        &mut self,
+        memory: &M,
+        registers: &mut Registers,
+    ) -> Result<Option<EventRing>, Outside> {
+        match self.take_ring(memory, &registers.interrupter)? {
+            None => Ok(None),
+            Some(mut ring) => {
+                if self.dequeued {
+                    self.dequeue(&mut ring, registers)?;
+                }
+                Ok(Some(ring))
+            }
+        }
+    }
+
+    fn take_ring<M: GuestMemory>(
+        &mut self,
+        memory: &M,
+        interrupter: &Interrupter,
+    ) -> Result<Option<EventRing>, Outside> {
+        match self.ring.take() {
+            Some(ring) => Ok(Some(ring)),
+            None => {
+                self.dequeued = true;
+                self.told_full = false;
+                load(memory, interrupter)
+            }
+        }
+    }
+
+    /// Takes ERDP. Where its write cleared EHB while events are behind it, the interrupt is raised again (4.17.2).
+    fn dequeue(&mut self, ring: &mut EventRing, registers: &mut Registers) -> Result<(), Outside> {
+        let pointer = registers.interrupter.dequeue;
+        dequeue(ring, pointer)?;
+        if self.cleared_busy && ring.enqueue_pointer() / 16 != pointer / 16 {
+            registers.raise();
+        }
+        self.told_full = self.told_full && !ring.has_room();
+        self.dequeued = false;
+        self.cleared_busy = false;
+        Ok(())
+    }
+
+    /// The event ring comes back.
+    pub fn keep(&mut self, ring: EventRing) {
+        self.ring = Some(ring);
+    }
+
+    /// Event Ring Full Error takes the last place, once.
+    pub fn tell_full<M: GuestMemory>(
+        &mut self,
+        memory: &mut M,
+        events: &mut EventRing,
+    ) -> Result<(), Outside>
+        ensures same_loan { M.loan memory.new ≡ M.loan memory.old }
+    {
+        if self.told_full || events.free() != 1 {
+            return Ok(());
+        }
+        self.told_full = true;
+        post(memory, events, &Event::RingFull)
+    }
+}

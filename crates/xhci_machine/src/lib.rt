@@ -1,0 +1,61 @@
+//! An xHCI controller with one USB Attached SCSI disk behind it, over memory that a caller owns (xHCI 1.2): what a driver finds, addresses,
+//! configures and uses.
+//!
+//! ```text
+//!     read, write: registers ----> doorbells noted ----> work: one TRB or one chunk a step
+//!                                                          port, command ring, endpoint 0, command pipe,
+//!                                                          then each active tag, data before status
+//!     interrupt, take_message <---- events <---------------+
+//!     next_request, answered <----> the backend, which has the blocks
+//! ```
+//!
+//! The rules:
+//!
+//! 1. A register access takes no step and no memory. A write notes what it asks for; [`Machine::work`] does it.
+//! 2. Nothing is stepped while R/S is 0, or while there is no event ring.
+//! 3. Each step asks two free places of the event ring. Where there are none it isn't due, and Event Ring Full Error takes the last
+//!    place once.
+//! 4. Memory that isn't there, where the controller's own data structures should be, is a host system error: HSE is set, the
+//!    controller halts, and nothing else of that step happens. So is an ERDP outside the segment.
+//! 5. A doorbell starts an endpoint that is stopped; its context says so from the next step on.
+//! 6. A tag whose request is at the backend waits; no other tag does.
+//!
+//! What is promised: every call is safe and total, for any bytes in memory, any register access and any order; no step takes memory
+//! ([`Machine::new`] takes all); a read is `read_of` of the registers, and the interrupt's pin is `is_asserted`. The steps of the pipes, the
+//! commands on the slot and the register writes are the equations of the crates below; how they are put together here is tested.
+//!
+//! It stands on `xhci_registers`, `xhci_slots`, `xhci_control`, `guest_transfers` and `guest_tasks`.
+#![tactic(auto)]
+
+mod access;
+mod command;
+mod interrupts;
+mod orders;
+mod ring;
+mod states;
+mod work;
+
+use guest_tasks::GuestTasks;
+use guest_transfers::Transfers;
+use interrupts::Interrupts;
+use ring::CommandRing;
+use states::States;
+pub use work::Worked;
+use xhci_control::ControlPipe;
+use xhci_registers::Registers;
+pub use xhci_registers::Width;
+use xhci_slots::Slot;
+
+/// The controller and its disk.
+#[derive(Debug, Drop)]
+pub struct Machine {
+    registers: Registers,
+    slot: Slot,
+    commands: CommandRing,
+    interrupts: Interrupts,
+    control: ControlPipe,
+    transfers: Transfers,
+    device: GuestTasks,
+    /// The endpoints' states as their contexts have them.
+    told: States,
+}

@@ -1,0 +1,269 @@
+//! The command ring (xHCI 1.2, 4.6 and 4.9.3).
+ghost use Rattle.std.specs.Prelude.{◌≡◌, true};
+ghost use Rattle.guest_pipes.specs.Step.{has_place};
+
+use crate::Machine;
+use crate::command::{Command, read_command};
+use crate::interrupts::post;
+use guest_memory::{GuestMemory, Outside};
+use guest_pipes::{Acted, room_gate};
+use guest_rings::{Cursor, Event, EventRing, Words, fetch};
+use guest_transfers::StreamPipe;
+use xhci_slots::{Change, Changes, Code, SlotCommand};
+
+/// The one slot.
+const SLOT: u8 = 1;
+
+/// Completion codes (table 6-90).
+pub(crate) const SUCCESS: u8 = 1;
+
+const TRB_ERROR: u8 = 5;
+
+pub(crate) const SLOT_NOT_ENABLED: u8 = 11;
+
+const COMMAND_RING_STOPPED: u8 = 24;
+
+/// What is kept of the command ring beside CRCR: whether its doorbell is rung, whether its stop is still to be told, and the next stream
+/// to be looked at by a Stop Endpoint that is under way.
+#[derive(Clone, Copy, Debug, PartialEq, Eq)]
+pub(crate) struct CommandRing {
+    pub rung: bool,
+    pub owes_stop: bool,
+    pub stopping: Option<u16>,
+}
+
+/// How a command ended: its completion code, and the slot that its event names.
+#[derive(Clone, Copy, Debug, PartialEq, Eq)]
+pub(crate) struct Ended {
+    pub code: u8,
+    pub slot: u8,
+}
+
+impl CommandRing {
+    pub fn idle() -> CommandRing {
+        CommandRing {
+            rung: false,
+            owes_stop: false,
+            stopping: None,
+        }
+    }
+
+    pub fn ring_doorbell(&mut self) {
+        self.rung = true;
+    }
+
+    /// It was stopped by CS or CA: an event tells so.
+    pub fn stop(&mut self) {
+        self.rung = false;
+        self.owes_stop = true;
+        self.stopping = None;
+    }
+}
+
+fn number_of(code: Code) -> u8 {
+    match code {
+        Code::Success => SUCCESS,
+        Code::NoSlotsAvailable => 9,
+        Code::SlotNotEnabled => SLOT_NOT_ENABLED,
+        Code::ParameterError => 17,
+        Code::ContextStateError => 19,
+    }
+}
+
+/// The slot that the event of a command on a slot names: the one that was given out, or the command's.
+fn slot_told(slot: u8, command: SlotCommand, code: Code) -> u8 {
+    match (command, code) {
+        (SlotCommand::Enable, Code::Success) => SLOT,
+        (SlotCommand::Enable, _) => 0,
+        _ => slot,
+    }
+}
+
+/// Where the dequeue pointer of an endpoint is in the device context at an address (6.2.3).
+pub(crate) fn pointer_home(context: u64, endpoint: u8) -> u64 {
+    context
+        .wrapping_add(32 * u64::from(endpoint))
+        .wrapping_add(8)
+}
+
+impl Machine {
+    /// Takes the command in front, where there is one.
+    pub(crate) fn step_commands<M: GuestMemory>(
+        &mut self,
+        memory: &mut M,
+        events: &mut EventRing,
+    ) -> Result<Acted, Outside>
+        ensures same_loan { M.loan memory.new ≡ M.loan memory.old }
+    {
+        if !self.commands.owes_stop && !(self.registers.command_ring.runs && self.commands.rung) {
+            return Ok(Acted::Idle);
+        }
+        if let Some(acted) = room_gate(memory, events)? {
+            return Ok(acted);
+        }
+        if self.commands.owes_stop {
+            return self.tell_stop(memory, events);
+        }
+        let cursor = Cursor {
+            place: self.registers.command_ring.pointer,
+            cycle: self.registers.command_ring.cycle,
+        };
+        match fetch(memory, cursor)? {
+            None => {
+                self.commands.rung = false;
+                Ok(Acted::Emptied)
+            }
+            Some(words) => self.take_command(memory, events, cursor, words),
+        }
+    }
+
+    /// Tells that the command ring was stopped.
+    fn tell_stop<M: GuestMemory>(
+        &mut self,
+        memory: &mut M,
+        events: &mut EventRing,
+    ) -> Result<Acted, Outside>
+        ensures same_loan { M.loan memory.new ≡ M.loan memory.old }
+    {
+        self.commands.owes_stop = false;
+        let event = Event::Command {
+            pointer: self.registers.command_ring.pointer,
+            code: COMMAND_RING_STOPPED,
+            slot: 0,
+        };
+        post(memory, events, &event)?;
+        Ok(Acted::Worked)
+    }
+
+    fn take_command<M: GuestMemory>(
+        &mut self,
+        memory: &mut M,
+        events: &mut EventRing,
+        cursor: Cursor,
+        words: Words,
+    ) -> Result<Acted, Outside>
+        ensures same_loan { M.loan memory.new ≡ M.loan memory.old }
+    {
+        match read_command(words) {
+            Command::Link {
+                pointer,
+                toggle,
+                ioc,
+            } => {
+                if ioc {
+                    complete(memory, events, cursor, SUCCESS, 0)?;
+                }
+                self.stand_at(cursor.follow(pointer, toggle));
+            }
+            Command::OnEndpoint {
+                slot,
+                endpoint,
+                order,
+            } => {
+                if let Some(ended) = self.order(memory, events, slot, endpoint, order)? {
+                    self.end_command(memory, events, cursor, ended)?;
+                }
+            }
+            Command::OnSlot { slot, command } => {
+                let ended = self.on_slot(memory, slot, command)?;
+                self.end_command(memory, events, cursor, ended)?;
+            }
+            Command::NoOp => self.end_command(memory, events, cursor, end_with(SUCCESS, 0))?,
+            Command::Foreign => self.end_command(memory, events, cursor, end_with(TRB_ERROR, 0))?,
+        }
+        Ok(Acted::Worked)
+    }
+
+    /// Posts the event of a command that has ended, and goes behind it.
+    fn end_command<M: GuestMemory>(
+        &mut self,
+        memory: &mut M,
+        events: &mut EventRing,
+        cursor: Cursor,
+        ended: Ended,
+    ) -> Result<(), Outside>
+        ensures same_loan { M.loan memory.new ≡ M.loan memory.old }
+    {
+        complete(memory, events, cursor, ended.code, ended.slot)?;
+        self.stand_at(cursor.behind());
+        Ok(())
+    }
+
+    fn stand_at(&mut self, cursor: Cursor) {
+        self.registers.command_ring.pointer = cursor.place;
+        self.registers.command_ring.cycle = cursor.cycle;
+    }
+
+    /// Executes a command on the slot.
+    fn on_slot<M: GuestMemory>(
+        &mut self,
+        memory: &mut M,
+        slot: u8,
+        command: SlotCommand,
+    ) -> Result<Ended, Outside>
+        ensures same_loan { M.loan memory.new ≡ M.loan memory.old }
+    {
+        if slot != SLOT && !matches!(command, SlotCommand::Enable) {
+            return Ok(end_with(SLOT_NOT_ENABLED, slot));
+        }
+        let array = self.registers.contexts;
+        let done = self.slot.execute(memory, array, command)?;
+        self.change(&done.changes);
+        Ok(end_with(
+            number_of(done.code),
+            slot_told(slot, command, done.code),
+        ))
+    }
+
+    /// The endpoints as a command on the slot left them; their contexts have their states already.
+    fn change(&mut self, changes: &Changes) {
+        let context = self.slot.context;
+        match changes.control {
+            Change::Kept => (),
+            Change::Disabled => self.control.disable(),
+            Change::Set { .. } => self.control.configure(pointer_home(context, 1)),
+        }
+        match changes.command {
+            Change::Kept => (),
+            Change::Disabled => self.transfers.disable_command(),
+            Change::Set { .. } => self.transfers.configure_command(pointer_home(context, 2)),
+        }
+        self.change_pipe(StreamPipe::Status, changes.status);
+        self.change_pipe(StreamPipe::DataOut, changes.data_out);
+        self.change_pipe(StreamPipe::DataIn, changes.data_in);
+        self.told = self.states();
+    }
+
+    fn change_pipe(&mut self, name: StreamPipe, change: Change) {
+        match change {
+            Change::Kept => (),
+            Change::Disabled => self.transfers.disable(name),
+            Change::Set { pointer, entries } => {
+                self.transfers
+                    .configure(name, pointer, entries.min(256) as u16);
+            }
+        }
+    }
+}
+
+pub(crate) fn end_with(code: u8, slot: u8) -> Ended {
+    Ended { code, slot }
+}
+
+/// Posts the event of a command.
+fn complete<M: GuestMemory>(
+    memory: &mut M,
+    events: &mut EventRing,
+    cursor: Cursor,
+    code: u8,
+    slot: u8,
+) -> Result<(), Outside>
+    ensures same_loan { M.loan memory.new ≡ M.loan memory.old }
+{
+    let event = Event::Command {
+        pointer: cursor.place,
+        code,
+        slot,
+    };
+    post(memory, events, &event)
+}

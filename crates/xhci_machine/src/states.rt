@@ -1,0 +1,36 @@
+//! The states of the endpoints.
+use guest_pipes::EndpointState;
+use xhci_contexts::EndpointState as ContextState;
+
+/// The states of the endpoints.
+#[derive(Clone, Copy, Debug, PartialEq, Eq)]
+pub(crate) struct States {
+    pub control: EndpointState,
+    pub command: EndpointState,
+    pub status: EndpointState,
+    pub data_out: EndpointState,
+    pub data_in: EndpointState,
+}
+
+impl States {
+    pub fn disabled() -> States {
+        States {
+            control: EndpointState::Disabled,
+            command: EndpointState::Disabled,
+            status: EndpointState::Disabled,
+            data_out: EndpointState::Disabled,
+            data_in: EndpointState::Disabled,
+        }
+    }
+}
+
+/// A state as a context has it (6.2.3).
+pub(crate) fn context_state(state: EndpointState) -> ContextState {
+    match state {
+        EndpointState::Disabled => ContextState::Disabled,
+        EndpointState::Running => ContextState::Running,
+        EndpointState::Halted => ContextState::Halted,
+        EndpointState::Stopped => ContextState::Stopped,
+        EndpointState::Error => ContextState::Error,
+    }
+}

@@ -10,11 +10,13 @@
 #include "block/aio.h"
 #include "block/thread-pool.h"
 #include "exec/memory.h"
+#include "hw/boards.h"
 #include "hw/pci/msi.h"
 #include "hw/pci/pci.h"
 #include "hw/qdev-properties.h"
 #include "migration/vmstate.h"
 #include "qapi/error.h"
+#include "qemu/error-report.h"
 #include "qemu/main-loop.h"
 #include "qemu/module.h"
 #include "qemu/timer.h"
@@ -33,7 +35,7 @@ struct UasXhci {
     PCIDevice parent;
     MemoryRegion registers;
     MemoryListener listener;
-    GArray *memory; /* of struct uas_memory: all that the device may reach */
+    struct uas_memory memory; /* what the device reaches of the machine's RAM: nothing where it isn't bus master */
     QEMUBH *turn;
     uas_xhci *xhci;
     char *path;
@@ -127,17 +129,15 @@ static void begin_request(UasXhci *device, const struct uas_request *request)
     thread_pool_submit_aio(aio_get_thread_pool(qemu_get_aio_context()), do_request, job, request_done, job);
 }
 
-/* ---- Memory: all of the guest's that this function reaches as bus master, and none where it isn't one ---- */
+/* ---- Memory: the machine's RAM from address 0 on; what a machine has above 4 GiB isn't reached ---- */
 
 static bool lend(Int128 start, Int128 length, const MemoryRegion *region, hwaddr offset, void *opaque)
 {
-    UasXhci *device = opaque;
-    MemoryRegion *ram = (MemoryRegion *)region;
-    if (memory_access_is_direct(ram, true)) {
-        uint8_t *bytes = memory_region_get_ram_ptr(ram);
-        struct uas_memory range = { int128_get64(start), bytes + offset, int128_get64(length) };
-        g_array_append_val(device->memory, range);
-    }
+    struct uas_memory *memory = opaque;
+    if (region == current_machine->ram && int128_get64(start) == offset)
+        memory->length = offset + int128_get64(length);
+    else if (region == current_machine->ram)
+        warn_report_once("uas-xhci: the machine's memory above 4 GiB isn't reached: use -m 2048");
     return false;
 }
 
@@ -145,8 +145,8 @@ static void memory_changed(MemoryListener *listener)
 {
     UasXhci *device = container_of(listener, UasXhci, listener);
     RCU_READ_LOCK_GUARD();
-    g_array_set_size(device->memory, 0);
-    flatview_for_each_range(address_space_to_flatview(pci_get_address_space(&device->parent)), lend, device);
+    device->memory = (struct uas_memory){ .bytes = memory_region_get_ram_ptr(current_machine->ram) };
+    flatview_for_each_range(address_space_to_flatview(pci_get_address_space(&device->parent)), lend, &device->memory);
     qemu_bh_schedule(device->turn);
 }
 
@@ -163,10 +163,9 @@ static void interrupt(UasXhci *device)
 static void turn(void *opaque)
 {
     UasXhci *device = opaque;
-    struct uas_memory *memory = (struct uas_memory *)device->memory->data;
     struct uas_request request;
     uint32_t steps;
-    if (device->memory->len > 0 && uas_xhci_work(device->xhci, memory, device->memory->len, STEPS_A_TURN, &steps))
+    if (device->memory.length > 0 && uas_xhci_work(device->xhci, &device->memory, STEPS_A_TURN, &steps))
         qemu_bh_schedule(device->turn);
     while (uas_xhci_next_request(device->xhci, &request))
         begin_request(device, &request);
@@ -209,8 +208,8 @@ static void reset(DeviceState *state)
 static bool open_disk(UasXhci *device, Error **errp)
 {
     struct stat told;
-    if (device->path == NULL) {
-        error_setg(errp, "uas-xhci: file=PATH is missing");
+    if (device->path == NULL || current_machine->ram == NULL) {
+        error_setg(errp, "uas-xhci: %s", device->path == NULL ? "file=PATH is missing" : "the machine's memory isn't one block");
         return false;
     }
     device->file = qemu_open(device->path, O_RDWR, errp);
@@ -252,7 +251,6 @@ static void realize(PCIDevice *parent, Error **errp)
     memory_region_init_io(&device->registers, OBJECT(device), &register_ops, device, TYPE_UAS_XHCI, UAS_XHCI_REGISTER_BYTES);
     pci_register_bar(parent, 0, PCI_BASE_ADDRESS_SPACE_MEMORY | PCI_BASE_ADDRESS_MEM_TYPE_64, &device->registers);
     device->turn = qemu_bh_new(turn, device);
-    device->memory = g_array_new(FALSE, FALSE, sizeof(struct uas_memory));
     device->listener = (MemoryListener){ .name = TYPE_UAS_XHCI, .commit = memory_changed };
     memory_listener_register(&device->listener, pci_get_address_space(parent));
 }

@@ -633,6 +633,11 @@ int main(int count_of, char **words)
         }
     }
     uas_driver_free(driver);
+    static const uint8_t posted[] = { 1, 2, 3, 4, 5, 6, 8, 10, 13, 16, 19, 24, 25, 26, 27, 28, 34, 36 };
+    for (size_t i = 0; count >= 100000 && i < sizeof posted; i++) {
+        if (codes[posted[i]] == 0)
+            fail("a code that never came", posted[i]);
+    }
     printf("%lu acts: %" PRIu64 " statuses, %" PRIu64 " aborted, %" PRIu64 " responses, %" PRIu64 " failed, %" PRIu64 " stray events, %lu resets\n",
            count, replies[1], replies[2], replies[3], replies[4], all_strays, resets);
 }

@@ -130,7 +130,7 @@ enum uas_fault {
     UAS_DRIVER_CLIENTS = 112, /* no client, or more than 15 */
     UAS_DRIVER_ROOM = 113,    /* a ring has too few places, as the controller beyond completed too little, or a command is under the tag */
     UAS_DRIVER_ADDRESS = 114, /* what is named isn't all in one buffer; no item and no Link TRB stands there */
-    UAS_DRIVER_RING = 115,    /* no pipe with streams, or no stream from 1 to 248 */
+    UAS_DRIVER_RING = 115,    /* no pipe with streams, or no stream from 1 to 248; of a submission, a pipe was given up */
     UAS_DRIVER_EVENT = 116,   /* neither a Transfer Event nor a Command Completion Event */
     UAS_DRIVER_STATE = 117,   /* no state of an endpoint: none of UAS_STATE_RUNNING to UAS_STATE_ERROR */
     /* the bus */
@@ -631,8 +631,9 @@ uint8_t uas_controller_medium(const uas_controller *controller, uint16_t unit, u
  * What it takes in is what xHCI lets a controller post (4.6, 4.9 to 4.12, 6.4.5). Success consumes the TRB and those before it; a short
  * packet ends the whole TD; between Stop Endpoint and its event the three Stopped codes consume nothing. After an error the driver resets
  * the endpoint where it is halted, moves it behind the TD, and rings every stream of it that waits; the command's client has the device's
- * status where that comes meanwhile, else UAS_REPLY_FAILED. An event of no pending TRB, of another endpoint or slot, or of another code
- * changes nothing and is counted. One command at a time is on the command ring.
+ * status where that comes meanwhile, else UAS_REPLY_FAILED. A pipe whose Set TR Dequeue Pointer is refused twice is given up: its commands
+ * have failed, and no submission is taken any more (UAS_DRIVER_RING), so reset the device and make a new driver. An event of no pending
+ * TRB, of another endpoint or slot, or of another code changes nothing and is counted. One command at a time is on the command ring.
  *
  * Clients, tags and tickets are those of a bus. */
 typedef struct uas_driver uas_driver;
@@ -707,13 +708,13 @@ UAS_ASSERT(offsetof(struct uas_driver_door, sense) == 72 && offsetof(struct uas_
 uint8_t uas_driver_call(uas_driver *driver, struct uas_driver_door *door, uint8_t *data, size_t length);
 
 /* A client submits a command under one of its command tags, as uas_bus_submit. told->doorbell has the told->doorbells values to write.
- * Faults: UAS_CLIENT_TICKET, UAS_CLIENT_OPERATION, UAS_NO_MEMORY, UAS_DRIVER_ROOM, UAS_CLIENT_NOT_YOURS to
+ * Faults: UAS_CLIENT_TICKET, UAS_CLIENT_OPERATION, UAS_NO_MEMORY, UAS_DRIVER_RING, UAS_DRIVER_ROOM, UAS_CLIENT_NOT_YOURS to
  * UAS_CLIENT_OUT_OF_TURN. */
 uint8_t uas_driver_submit(uas_driver *driver, uint32_t client, uint16_t tag, uint64_t ticket, const struct uas_operation *operation,
                           const uint8_t *data, size_t length, struct uas_driver_door *told);
 
 /* A client submits a task management, as uas_bus_task. told->doorbell has the told->doorbells values to write.
- * Faults: UAS_CLIENT_TICKET, UAS_CLIENT_FUNCTION, UAS_DRIVER_ROOM, UAS_CLIENT_NOT_YOURS, UAS_CLIENT_IN_USE,
+ * Faults: UAS_CLIENT_TICKET, UAS_CLIENT_FUNCTION, UAS_DRIVER_RING, UAS_DRIVER_ROOM, UAS_CLIENT_NOT_YOURS, UAS_CLIENT_IN_USE,
  * UAS_CLIENT_OUT_OF_TURN, UAS_CLIENT_NO_SUCH_TASK. */
 uint8_t uas_driver_task(uas_driver *driver, uint32_t client, uint64_t ticket, uint8_t function, uint16_t tag, struct uas_driver_door *told);
 

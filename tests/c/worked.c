@@ -1698,6 +1698,113 @@ static void driver_retires(void)
     uas_driver_free(driver);
 }
 
+/* A driver with a READ of each of its two clients, under tags 1 and 18, whose command TRBs are consumed. */
+static uas_driver *reading_driver(void)
+{
+    static const struct uas_operation read_1 = { .opcode = UAS_READ_10, .count = 1 };
+    uas_driver *driver = new_driver(2);
+    driver_takes(driver, 0, 1, 0, read_1, 0x55, 512, "00010005 00010003 00000002");
+    driver_takes(driver, 1, 18, 0, read_1, 0x66, 512, "00120005 00120003 00000002");
+    matches(driver, 0x41000000, 0, 1, 1);
+    matches(driver, 0x41000010, 0, 1, 18);
+    return driver;
+}
+
+/* The command under way is done with this code. */
+static void command_ends(uas_driver *driver, uint64_t address, uint8_t code, const char *doorbells)
+{
+    took(driver, UAS_TRB_COMMAND_EVENT, address, 0, code, UAS_EVENT_ENGINE, doorbells);
+}
+
+static void driver_takes_no_more(uas_driver *driver)
+{
+    struct uas_driver_door told;
+    CHECK(uas_driver_submit(driver, 0, 2, 9, &ready, NULL, 0, &told) == UAS_DRIVER_RING);
+    CHECK(uas_driver_task(driver, 0, 9, UAS_LOGICAL_UNIT_RESET, 0, &told) == UAS_DRIVER_RING);
+}
+
+/* A stall of tag 1's data TD: Reset Endpoint, Set TR Dequeue Pointer behind it, and the next TD of the same command's; tag 18 goes on. */
+static void driver_recovers(void)
+{
+    uas_driver *driver = reading_driver();
+    took(driver, UAS_TRB_TRANSFER_EVENT, 0x43001000, 412, 6, UAS_EVENT_NOTED, "0");
+    item_is(driver, 0x50000000, "00 x12 01 38 05 01");
+    command_ends(driver, 0x50000000, 1, "0");
+    item_is(driver, 0x50000010, "13 10 00 43 00 00 00 00 00 00 01 00 01 40 05 01");
+    command_ends(driver, 0x50000010, 1, "00120005 0");
+    item_is(driver, 0x50000020, "00 x12 01 3c 03 01");
+    command_ends(driver, 0x50000020, 1, "0");
+    command_ends(driver, 0x50000030, 1, "00120003");
+    CHECK(driver_replies(driver, 0, 0, 1, UAS_REPLY_FAILED, 6, 512).moved == 100);
+    matches(driver, 0x43012000, 0, 1, 18);
+    uas_driver_free(driver);
+}
+
+/* An error of no TD: a dequeue pointer is set where an empty ring stands, so that no TD that has begun begins again. */
+static void driver_recovers_without_td(void)
+{
+    static const struct uas_trb error = { .type = UAS_TRB_TRANSFER_EVENT, .code = 34, .endpoint = UAS_ENDPOINT_DATA_IN, .slot = 1 };
+    struct uas_driver_door told;
+    uas_driver *driver = reading_driver();
+    CHECK(uas_driver_event(driver, &error, &told) == 0 && told.acted == UAS_EVENT_NOTED);
+    tells(&told, "0");
+    command_ends(driver, 0x50000000, 19, "0");
+    item_is(driver, 0x50000010, "03 80 0f 43 00 00 00 00 00 00 f8 00 01 40 05 01");
+    command_ends(driver, 0x50000010, 34, "0");
+    item_is(driver, 0x50000020, "00 x12 01 3c 05 01");
+    command_ends(driver, 0x50000020, 19, "0");
+    item_is(driver, 0x50000030, "03 80 0f 43 00 00 00 00 00 00 f8 00 01 40 05 01");
+    command_ends(driver, 0x50000030, 1, "00010005 00120005");
+    uas_driver_free(driver);
+}
+
+/* A Set TR Dequeue Pointer that is refused twice: each command on the pipe has failed, and nothing is submitted any more. */
+static void driver_gives_a_pipe_up(void)
+{
+    uas_driver *driver = reading_driver();
+    took(driver, UAS_TRB_TRANSFER_EVENT, 0x43001000, 512, 6, UAS_EVENT_NOTED, "0");
+    command_ends(driver, 0x50000000, 1, "0");
+    command_ends(driver, 0x50000010, 5, "0");
+    command_ends(driver, 0x50000020, 19, "0");
+    item_is(driver, 0x50000030, "13 10 00 43 00 00 00 00 00 00 01 00 01 40 05 01");
+    command_ends(driver, 0x50000030, 34, "0");
+    item_is(driver, 0x50000040, "00 x12 01 3c 03 01");
+    driver_takes_no_more(driver);
+    command_ends(driver, 0x50000040, 1, "0");
+    command_ends(driver, 0x50000050, 1, "0");
+    driver_replies(driver, 0, 0, 1, UAS_REPLY_FAILED, 6, 512);
+    no_driver_reply(driver, 1);
+    command_ends(driver, 0x50000060, 1, "");
+    driver_replies(driver, 1, 0, 18, UAS_REPLY_FAILED, 34, 512);
+    uas_driver_free(driver);
+}
+
+/* A command that is given up, and Stop Endpoint that is answered with Context State Error although the endpoint is told to run: once more, and
+ * then the pipe is given up. */
+static void driver_gives_up(void)
+{
+    struct uas_driver_door told;
+    uint8_t pipe = 0;
+    bool wanted = false;
+    uas_driver *driver = reading_driver();
+    CHECK(uas_driver_give_up(driver, 0, 1, &told) == 0);
+    tells(&told, "0");
+    for (int i = 0; i < 2; i++) {
+        command_ends(driver, i == 0 ? 0x50000000 : 0x50000010, 19, "");
+        CHECK(uas_driver_wanted_state(driver, &pipe, &wanted) == 0 && wanted && pipe == UAS_PIPE_DATA_IN);
+        CHECK(uas_driver_endpoint_state(driver, pipe, UAS_STATE_RUNNING, &told) == 0);
+        tells(&told, "0");
+    }
+    item_is(driver, 0x50000020, "00 x12 01 3c 03 01");
+    driver_takes_no_more(driver);
+    command_ends(driver, 0x50000020, 1, "0");
+    command_ends(driver, 0x50000030, 1, "0");
+    driver_replies(driver, 0, 0, 1, UAS_REPLY_ABORTED, 0, 512);
+    command_ends(driver, 0x50000040, 1, "");
+    driver_replies(driver, 1, 0, 18, UAS_REPLY_FAILED, 19, 512);
+    uas_driver_free(driver);
+}
+
 /* ABORT TASK of client 0 under its tag 16; the command's status TD is left over by the response. */
 static void driver_aborts(void)
 {
@@ -2390,6 +2497,10 @@ int main(void)
     driver_answers();
     driver_reads();
     driver_retires();
+    driver_recovers();
+    driver_recovers_without_td();
+    driver_gives_a_pipe_up();
+    driver_gives_up();
     driver_aborts();
     driver_leaves_nothing();
     driver_without_room();

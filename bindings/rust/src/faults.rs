@@ -138,6 +138,8 @@ faults! {
         Ticket = 104, "a ticket of 2^60 or more";
         /// The function is none of the three.
         Function = 106, "no such task management function";
+        /// Of a driver: a pipe was given up, and no submission is taken any more.
+        GivenUp = 115, "a pipe was given up";
     } else {
         /// Of a driver: a ring has too few places, or a command is under the tag.
         Room, "no room on a ring"

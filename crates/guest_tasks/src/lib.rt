@@ -20,8 +20,8 @@ use guest_tags::{End, Phase, Received, UasDevice};
 use marks::Marks;
 use uas_iu::Iu;
 use uas_profile::STATUS_BYTES;
-use uas_tasks::{Next, Tasks, Wants};
 use uas_target::{Overlap, Took};
+use uas_tasks::{Next, Tasks, Wants};
 
 /// The greatest chunk, in bytes.
 const CHUNK_BYTES: usize = 4096;

@@ -99,12 +99,16 @@ has_task (Gives count) = true
 has_task (Takes count) = true
 has_task (Ended end) = true
 
--- whether a tag has something to do: a task, an information unit on its way, an overlap to be answered, or a status TD whose rest
--- is skipped
+-- whether a data TD of a tag was begun and isn't over
+abbrev pub has_begun_data : TransfersState → ℕ → Bool
+has_begun_data t tag = (progress_on t.data_in tag).begun || (progress_on t.data_out tag).begun
+
+-- whether a tag has something to do: a task, an information unit on its way, an overlap to be answered, a status TD whose rest is
+-- skipped, or a data TD that was begun
 abbrev pub has_work : TransfersState → ℕ → Phase → Bool
 has_work t tag phase =
     has_task phase || (has_unit (slot_of t tag).tag || (not ((slot_of t tag).tag.overlaps == 0)
-    || not (runs (progress_on t.status tag).ending)))
+    || (not (runs (progress_on t.status tag).ending) || has_begun_data t tag)))
 
 -- a chunk is given that is dropped
 abbrev pub drops_now : Bool → Phase → Bool

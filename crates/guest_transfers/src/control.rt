@@ -9,7 +9,7 @@ ghost use Rattle.guest_tags.specs.DataIn.{has_chunk};
 ghost use Rattle.guest_tags.specs.Devices.{Kind};
 ghost use Rattle.guest_transfers.specs.State.{TransfersWorld, slot_of};
 ghost use Rattle.guest_transfers.specs.Steps.{in_stepped, out_stepped};
-ghost use Rattle.guest_transfers.specs.Orders.{pipe_kept, dequeue_kept, dequeue_moved, unit_forgotten, command_configured, command_disabled, command_forgotten, command_stopped, chunk_dropped, data_stepped, dropped_in, drops_now, has_task, has_work, or_out, pipe_of, with_pipe, tags_cleared, invalid_on};
+ghost use Rattle.guest_transfers.specs.Orders.{pipe_kept, dequeue_kept, dequeue_moved, unit_forgotten, command_configured, command_disabled, command_forgotten, command_stopped, chunk_dropped, data_stepped, dropped_in, drops_now, has_begun_data, has_task, has_work, or_out, pipe_of, with_pipe, tags_cleared, invalid_on};
 ghost use Rattle.guest_memory.specs.Bytes.{Memory};
 ghost use Rattle.guest_rings.specs.Events.{EventEnd};
 
@@ -323,8 +323,16 @@ impl Transfers {
         self.tags[usize::from(tag)].tag.has_chunk()
     }
 
+    /// Whether a data TD of a tag was begun and isn't over.
+    fn has_begun_data(&self, tag: u16) -> bool
+        requires { tag < 241 }
+        ensures { result ≡ has_begun_data self.now tag }
+    {
+        self.data_in.consumer(tag).progress.begun || self.data_out.consumer(tag).progress.begun
+    }
+
     /// Whether a tag has something to do, by what the device does next on it: a task, an information unit on its way, an overlap to be
-    /// answered, or a status TD whose rest is skipped.
+    /// answered, a status TD whose rest is skipped, or a data TD that was begun.
     pub fn has_work(&self, tag: u16, phase: Phase) -> bool
         requires { tag < 241 }
         ensures { result ≡ has_work self.now tag phase }
@@ -332,6 +340,7 @@ impl Transfers {
         let slot = &self.tags[usize::from(tag)];
         let task = phase != Phase::Absent;
         task || (slot.tag.has_unit()
-            || (slot.tag.overlaps != 0 || !self.status.consumer(tag).progress.ending.runs()))
+            || (slot.tag.overlaps != 0
+                || (!self.status.consumer(tag).progress.ending.runs() || self.has_begun_data(tag))))
     }
 }

@@ -14,7 +14,7 @@ use crate::commands::{
 use crate::fields::{action_in, four_at, has_bit, two_at};
 use crate::{
     BlockDescriptor, Data, HostCommand, LogicalUnitShape, ModeData, ModeForm, ModePages,
-    SerialNumber, UnitAttention, TransferLength, VitalPage, Work,
+    SerialNumber, TransferLength, UnitAttention, VitalPage, Work,
 };
 use scsi_cmd::Sense;
 

@@ -12,8 +12,8 @@ use crate::given::{
 };
 use crate::profile::{read_profile, read_profile_of_none};
 use crate::{
-    CommandSet, HostCommand, LogicalUnitShape, ModeForm, SerialNumber, TransferLength, UnitAttention,
-    Work,
+    CommandSet, HostCommand, LogicalUnitShape, ModeForm, SerialNumber, TransferLength,
+    UnitAttention, Work,
 };
 use scsi_cmd::Sense;
 

@@ -5,3 +5,4 @@ pub mod Least
 pub mod Waiting
 pub mod Turns
 pub mod Refusing
+pub mod Looking

@@ -1,5 +1,5 @@
 -- A step that is taken so many times.
-use Rattle.std.proofs.Common.{◌≡◌, ℕ, zero, suc, ◌+◌, refl, arith}
+use Rattle.std.proofs.Common.{◌≡◌, ℕ, suc, ◌+◌, refl, arith}
 use Rattle.uas_driver.specs.Recovery.{times}
 
 pub times-none : {A : Type 0} (step : A → A) (a : A) → times 0 step a ≡ a

@@ -1,6 +1,6 @@
 -- What the calls make of the driver, what they answer, and the doorbells that are to be written. A refused call leaves the driver as it
 -- was and gives no doorbell; of several refusals it answers the first that holds.
-use Rattle.std.specs.Prelude.{ℕ, ◌+◌, ◌*◌, ◌^◌, ◌++◌, ◌==◌, ◌&&◌, Bool, true, false, not, nat_lt, nat_le, if◌then◌else◌, List, [], ◌∷◌, length, Option, Some, None, Result, Ok, Err, is_none, is_some, slice_index_or, slice_set}
+use Rattle.std.specs.Prelude.{ℕ, ◌+◌, ◌*◌, ◌^◌, ◌++◌, ◌&&◌, Bool, true, false, not, nat_lt, nat_le, if◌then◌else◌, List, [], ◌∷◌, length, Option, Some, None, Result, Ok, Err, is_none, is_some, slice_index_or, slice_set}
 use Rattle.std.specs.Option.{option_map_or}
 use Rattle.scsi_cmd.specs.declared.Command.{Command}
 use Rattle.scsi_cmd.specs.declared.Reply.{Reply}
@@ -101,12 +101,13 @@ host_submits driver client tag ticket command =
     option_map_or (λ fault. refused driver (Fault fault)) (host_fault driver.host client tag ticket command)
     (submitted_to driver client tag ticket command)
 
--- A command of a client under a tag. A tag without rings is the host's to refuse. Worked: READ on tag 18 gives 00120005h, 00120003h,
--- 00000002h.
+-- A command of a client under a tag: none is taken once a pipe was given up. A tag without rings is the host's to refuse. Worked: READ on
+-- tag 18 gives 00120005h, 00120003h, 00000002h.
 abbrev pub submit_by : DriverState → ℕ → ℕ → ℕ → Command → After (Result (Unit {0}) Refusal)
 submit_by driver client tag ticket command =
     if not (is_ticket ticket) then refused driver BadTicket
-    else (if lacks_room driver.lines driver.frames tag then refused driver NoRoom else host_submits driver client tag ticket command)
+    else (if driver.given_up then refused driver NoRing
+    else (if lacks_room driver.lines driver.frames tag then refused driver NoRoom else host_submits driver client tag ticket command))
 
 -- the task tag of a client that is there
 abbrev pub task_tag_in : HostState → ℕ → ℕ
@@ -129,11 +130,13 @@ abbrev pub host_manages : DriverState → ℕ → ℕ → Task → After (Result
 host_manages driver client ticket task =
     option_map_or (λ fault. refused driver (Fault fault)) (task_fault driver.host client ticket task) (managed_to driver client ticket task)
 
--- A task management of a client under its task tag. A client that isn't there is the host's to refuse.
+-- A task management of a client under its task tag: none is taken once a pipe was given up. A client that isn't there is the host's to
+-- refuse.
 abbrev pub task_by : DriverState → ℕ → ℕ → Task → After (Result (Unit {0}) Refusal)
 task_by driver client ticket task =
     if not (is_ticket ticket) then refused driver BadTicket
-    else (if lacks_task_room driver.host driver.lines client then refused driver NoRoom else host_manages driver client ticket task)
+    else (if driver.given_up then refused driver NoRing
+    else (if lacks_task_room driver.host driver.lines client then refused driver NoRoom else host_manages driver client ticket task))
 
 -- RETIREMENTS
 

@@ -1,5 +1,5 @@
 -- The driver: host, rings and buffers, and no controller.
-use Rattle.std.specs.Prelude.{◌≡◌, ℕ, List, replicate, Option, None}
+use Rattle.std.specs.Prelude.{◌≡◌, ℕ, Bool, false, List, replicate, Option, None}
 use Rattle.uas_profile.specs.declared.TheConstants.{STREAM_ENTRIES}
 use Rattle.stream_array.specs.Rings.{LinesState, IsOpeningLines}
 use Rattle.frame_store.specs.declared.TagBuffers.{TagBuffers}
@@ -11,7 +11,8 @@ use Rattle.uas_driver.specs.declared.states.Endpoints.{Endpoints}
 use Rattle.uas_driver.specs.declared.states.Recovery.{Recovery}
 
 -- What the host knows of its clients, all rings and contexts, the buffers of each tag; how many bytes of its data TD were moved, and why
--- its command is ended, by tag; how many are ended, how many events were stray, what each endpoint does, and the recovery under way.
+-- its command is ended, by tag; how many are ended, how many events were stray, what each endpoint does, the recovery under way, and
+-- whether a pipe was given up.
 pub record DriverState : Type 0 where
   pub host : HostState
   pub lines : LinesState
@@ -22,6 +23,7 @@ pub record DriverState : Type 0 where
   pub ending : ℕ
   pub endpoints : Endpoints
   pub recovery : Option Recovery
+  pub given_up : Bool
 
 -- every endpoint runs
 abbrev pub all_run : Endpoints
@@ -39,3 +41,4 @@ pub record IsOpening (clients : ℕ) (driver : DriverState) : Type 0 where
   pub ending : driver.ending ≡ 0
   pub endpoints : driver.endpoints ≡ all_run
   pub recovery : driver.recovery ≡ None
+  pub given_up : driver.given_up ≡ false

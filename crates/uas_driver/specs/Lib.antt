@@ -8,5 +8,6 @@ pub mod Taking
 pub mod Endings
 pub mod Recovery
 pub mod Telling
+pub mod Looks
 pub mod Places
 pub mod Calls

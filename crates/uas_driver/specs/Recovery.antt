@@ -2,8 +2,7 @@
 -- Pointer behind each TD that is to be taken off; and the doorbells of all streams with pending TRBs.
 use Rattle.std.specs.Prelude.{ℕ, zero, suc, ◌+◌, ◌-◌, ◌*◌, ◌%◌, ◌==◌, ◌&&◌, ◌||◌, not, nat_le, nat_lt, Bool, true, false, if◌then◌else◌, List, [], ◌∷◌, ◌++◌, length}
 use Rattle.std.specs.Prelude.{is_some, is_none, slice_index, slice_set, Option, Some, None, option_and_then}
-use Rattle.std.specs.List.{find, range_with_len}
-use Rattle.std.specs.Option.{option_map_or, unwrap_or}
+use Rattle.std.specs.Option.{option_map_or}
 use Rattle.xhci_trb.specs.declared.Trb.{Trb}
 use Rattle.xhci_trb.specs.declared.Trb.TheVariants.{SetDequeue}
 use Rattle.cycle_ring.specs.Ring.{cycle_of, pointer_of}
@@ -11,7 +10,7 @@ use Rattle.cycle_ring.specs.Items.{ItemRing, item_read, known_consumed_at, known
 use Rattle.event_ring.specs.declared.Event.TheVariants.{Command as CommandCompletion}
 use Rattle.stream_array.specs.Contexts.{has_stream}
 use Rattle.stream_array.specs.Map.{has_ring, places_of}
-use Rattle.stream_array.specs.Rings.{LinesState, ring_of, stream_ring, with_engine}
+use Rattle.stream_array.specs.Rings.{LinesState, stream_ring, with_engine}
 use Rattle.uas_profile.specs.Doors.{door}
 use Rattle.uas_profile.specs.Pipes.{same_pipe, target_of}
 use Rattle.uas_profile.specs.Places.{tag_of}
@@ -27,7 +26,7 @@ use Rattle.frame_store.specs.Buffers.{left_at, written}
 use Rattle.uas_driver.specs.Driver.{DriverState}
 use Rattle.uas_driver.specs.Endings.{due_tag, end_of, stand_in, with_end}
 use Rattle.uas_driver.specs.Room.{has_engine_room}
-use Rattle.uas_driver.specs.Settled.{all_passed, first_stream, first_td, last_address, stepped}
+use Rattle.uas_driver.specs.Settled.{all_passed, first_td, last_address, stepped}
 use Rattle.uas_driver.specs.Taking.{handed, sides_of}
 use Rattle.uas_driver.specs.declared.Cause.TheVariants.{Failed}
 use Rattle.uas_driver.specs.declared.states.End.{End}
@@ -270,12 +269,19 @@ restarted driver recovery =
     let doors = restart_doors lines recovery.pipe in
     (with_state (record driver { lines = lines; recovery = None }) recovery.pipe (running_if (not (length doors == 0))), doors)
 
--- An endpoint that was halted, of which no TD is to be taken off: its dequeue pointer is set where its first pending stream stands, since
--- from state Error only that leads on (4.8.3).
+-- the last stream of a pipe, which no tag has, so that its ring is empty; the command pipe has one ring
+abbrev pub last_stream : Pipe → ℕ
+last_stream Command = 0
+last_stream Status = STREAMS
+last_stream DataIn = STREAMS
+last_stream DataOut = STREAMS
+
+-- An endpoint that was halted, of which no TD is to be taken off: a dequeue pointer is set where it stands, since from state Error only that
+-- leads on (4.8.3). It is that of an empty ring: of a TD that has begun no event told how far the controller is.
 abbrev pub ends_here : DriverState → Recovery → List ℕ → Told
 ends_here driver recovery doors =
     if is_resetting recovery.stage
-    then put driver (record recovery { stage = Moving; subject = Nothing; stream = first_stream driver.lines recovery.pipe }) doors
+    then put driver (record recovery { stage = Moving; subject = Nothing; stream = last_stream recovery.pipe }) doors
     else restarted driver recovery
 
 -- the retirement of the host's that is under way on a pipe
@@ -288,9 +294,11 @@ stood_still driver recovery doors =
     option_map_or (λ tag. move_ended driver recovery tag doors) (due_tag driver recovery.pipe)
     (option_map_or (λ retirement. host_goes_on driver recovery retirement doors) (retirement_on driver recovery.pipe) (ends_here driver recovery doors))
 
--- The same once Stop Endpoint or Reset Endpoint is done. A TD whose Set TR Dequeue Pointer was refused is moved behind once more first.
+-- The same once Stop Endpoint or Reset Endpoint is done. A Set TR Dequeue Pointer that was refused is put once more first, the host's own
+-- by its retirement.
 abbrev pub stood_by : DriverState → Recovery → List ℕ → Subject → Told
-stood_by driver recovery doors Nothing = stood_still driver recovery doors
+stood_by driver recovery doors Nothing =
+    if recovery.again then put driver (record recovery { stage = Moving }) doors else stood_still driver recovery doors
 stood_by driver recovery doors (Ended tag) = put driver (record recovery { stage = Moving }) doors
 stood_by driver recovery doors HostTd = stood_still driver recovery doors
 
@@ -329,9 +337,13 @@ times (suc more) step a = step (times more step a)
 abbrev pub all_lost : Pipe → ℕ → DriverState → DriverState
 all_lost pipe code driver = times STREAM_ENTRIES (first_lost pipe code) driver
 
+-- the endpoint stands, and no doorbell of it is written
+abbrev pub left : DriverState → Recovery → Told
+left driver recovery = (with_state (record driver { lines = freed driver.lines recovery.command; recovery = None }) recovery.pipe Stopped, [])
+
 -- the host's own retirement, where it is of this pipe, ends as if it had succeeded
 abbrev pub lost_host : DriverState → Recovery → Option Retirement → List ℕ → Told
-lost_host driver recovery None doors = restarted driver recovery
+lost_host driver recovery None doors = left driver recovery
 lost_host driver recovery (Some retirement) doors = by_stage retirement.stage
   where
     by_stage : RetirementStage → Told
@@ -344,9 +356,10 @@ subject_lost driver recovery Nothing = driver
 subject_lost driver recovery (Ended tag) = given_back driver recovery.pipe tag recovery.last
 subject_lost driver recovery HostTd = driver
 
+-- every command on the pipe has failed, its endpoint stands, and no submission is taken any more
 abbrev pub lost : DriverState → Recovery → ℕ → List ℕ → Told
 lost driver recovery code doors =
-    let now = all_lost recovery.pipe code (subject_lost driver recovery recovery.subject) in
+    let now = all_lost recovery.pipe code (subject_lost (record driver { given_up = true }) recovery recovery.subject) in
     lost_host now recovery (retirement_on now recovery.pipe) doors
 
 -- ALL TOGETHER
@@ -395,6 +408,7 @@ new_recovery pipe state = record {
   last = 0;
   command = 0;
   again = false;
+  asked = false;
 }
 
 -- where no recovery is under way the next one begins

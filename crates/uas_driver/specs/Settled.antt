@@ -2,7 +2,7 @@
 -- where a ring's consumer stands but by its events.
 use Rattle.std.specs.Prelude.{ℕ, ◌+◌, ◌-◌, ◌*◌, ◌==◌, ◌&&◌, nat_le, nat_lt, Bool, true, false, not, if◌then◌else◌, length, Option, None, Some, option_and_then, slice_get, is_some}
 use Rattle.std.specs.List.{find, range_with_len}
-use Rattle.std.specs.Option.{option_map_or, unwrap_or}
+use Rattle.std.specs.Option.{option_map_or}
 use Rattle.xhci_trb.specs.declared.Trb.{Trb}
 use Rattle.xhci_trb.specs.declared.Trb.TheVariants.{Normal, Link, StopEndpoint, SetDequeue, TransferEvent, CommandEvent}
 use Rattle.cycle_ring.specs.Ring.{cycle_of, item_at, pointer_of}
@@ -63,13 +63,6 @@ last_address lines pipe stream =
 -- the first stream of a pipe that has a pending TRB
 unfoldable pub first_pending : LinesState → Pipe → Option ℕ
 first_pending lines pipe = find (λ stream. has_pending (ring_of lines pipe stream)) (range_with_len 1 STREAMS)
-
--- the stream at which a pipe's endpoint goes on: its first one that waits, or stream 1
-abbrev pub first_stream : LinesState → Pipe → ℕ
-first_stream lines Command = 0
-first_stream lines Status = unwrap_or (first_pending lines Status) 1
-first_stream lines DataIn = unwrap_or (first_pending lines DataIn) 1
-first_stream lines DataOut = unwrap_or (first_pending lines DataOut) 1
 
 -- the tag of the TRB at the front of the command pipe
 abbrev pub front_tag : LinesState → Option ℕ

@@ -1,7 +1,6 @@
 -- What the driver makes of an event (xHCI 1.2, 4.10.1 and table 6-90): the rings as the event leaves them, what the host is handed for it,
 -- and what of it is kept.
-use Rattle.std.specs.Prelude.{ℕ, Bool, true, false, if◌then◌else◌, List, [], slice_set, Option, Some, None, option_and_then}
-use Rattle.std.specs.Option.{option_map_or}
+use Rattle.std.specs.Prelude.{ℕ, Bool, true, false, if◌then◌else◌, slice_set, Option, Some, None, option_and_then}
 use Rattle.cycle_ring.specs.Items.{known_front_of}
 use Rattle.uas_profile.specs.declared.Pipe.{Pipe}
 use Rattle.uas_profile.specs.declared.Pipe.TheVariants.{Command, Status, DataIn, DataOut}

@@ -186,14 +186,15 @@ is_asking recovery pipe = same_pipe recovery.pipe pipe && asks recovery.stage
     asks Asking = true
     asks _ = false
 
--- what it asks for: where the endpoint runs, Stop Endpoint once more
-abbrev pub next_told : EndpointState → Next
-next_told Running = nexts.Again
-next_told Halted = nexts.Reset
-next_told Stopped = nexts.Go
+-- What it asks for: where the endpoint runs, Stop Endpoint once more, and where that was asked for before, the pipe is given up.
+abbrev pub next_told : Bool → EndpointState → Next
+next_told asked Running = if asked then nexts.Lose else nexts.Again
+next_told asked Halted = nexts.Reset
+next_told asked Stopped = nexts.Go
 
+-- the code of Stop Endpoint was Context State Error, 19
 abbrev pub asked_state : DriverState → EndpointState → Recovery → Told
-asked_state driver state recovery = by_next driver (record recovery { stage = Stopping }) 0 (next_told state) []
+asked_state driver state recovery = by_next driver (record recovery { stage = Stopping; asked = true }) 19 (next_told recovery.asked state) []
 
 abbrev pub state_for : DriverState → Pipe → EndpointState → Recovery → Told
 state_for driver pipe state recovery = if is_asking recovery pipe then asked_state driver state recovery else (driver, [])

@@ -36,8 +36,8 @@ fn forget_moved(moved: &mut [u32; STREAM_ENTRIES], tag: u16)
 impl Driver {
     /// Submits a client's command under one of its command tags: its unit, its vector and its TDs are where the controller beyond finds
     /// them (4.11), and `doors` has the doorbells to write, data, status, command; that of a pipe under retirement is left out.
-    /// A refusal gives the command back: `BadTicket`, `NoRoom` (a tag from 1 to 248 whose rings have no room for the longest TDs, or
-    /// which has a vector lent), `Fault` (`Host::submit`'s).
+    /// A refusal gives the command back: `BadTicket`, `NoRing` (a pipe was given up), `NoRoom` (a tag from 1 to 248 whose rings have no room
+    /// for the longest TDs, or which has a vector lent), `Fault` (`Host::submit`'s).
     pub fn submit(
         &mut self,
         client: usize,
@@ -53,6 +53,9 @@ impl Driver {
         doors.clear();
         if ticket >= TICKETS {
             return Err((Refusal::BadTicket, command));
+        }
+        if self.given_up {
+            return Err((Refusal::NoRing, command));
         }
         sound(&self.host);
         if lacks_room(&self.lines, &mut self.frames, tag) {
@@ -98,7 +101,7 @@ impl Driver {
     }
 
     /// Submits a client's task management under its task tag; `doors` has the doorbells to write, status, command. Refused: `BadTicket`,
-    /// `NoRoom` (a client that is there, whose task tag's status ring or the command pipe's has no room), `Fault` (`Host::task`'s).
+    /// `NoRing` (a pipe was given up), `NoRoom` (a client that is there, whose task tag's status ring or the command pipe's has no room), `Fault` (`Host::task`'s).
     pub fn task(
         &mut self,
         client: usize,
@@ -111,6 +114,9 @@ impl Driver {
         doors.clear();
         if ticket >= TICKETS {
             return Err(Refusal::BadTicket);
+        }
+        if self.given_up {
+            return Err(Refusal::NoRing);
         }
         if lacks_task_room(&self.host, &self.lines, client) {
             return Err(Refusal::NoRoom);

@@ -1,10 +1,11 @@
 //! Events, and the states of endpoints that are handed in.
-ghost use Rattle.std.specs.Prelude.{◌≡◌};
+ghost use Rattle.std.specs.Prelude.{◌≡◌, ◌↔◌, ℕ};
+ghost use Rattle.uas_driver.specs.Looks.{IsOfCommand, IsOfLook, LeavesByLook, look_for};
 ghost use Rattle.uas_driver.specs.Recovery.{with_state};
 ghost use Rattle.uas_driver.specs.Telling.{asked_state, commanded, done, event_by, is_asking, next_told, state_for, state_taken, stated, wanted_state};
 
 use crate::rings::complete;
-use crate::states::{Next, Recovery, Stage, next_by};
+use crate::states::{CONTEXT_STATE_ERROR, Next, Recovery, Stage, next_by};
 use crate::{Driver, EndpointState, Taken};
 use arrayvec::ArrayVec;
 use event_ring::Event;
@@ -14,11 +15,11 @@ use uas_profile::{SLOT, STREAM_ENTRIES};
 type Doors = ArrayVec<u32, STREAM_ENTRIES>;
 
 /// What the state of an endpoint that was asked for leads to.
-fn next_told(state: EndpointState) -> Next
-    ensures { result ≡ next_told state }
+fn next_told(asked: bool, state: EndpointState) -> Next
+    ensures { result ≡ next_told asked state }
 {
     match state {
-        EndpointState::Running => Next::Again,
+        EndpointState::Running => { if asked { Next::Lose } else { Next::Again } }
         EndpointState::Halted => Next::Reset,
         EndpointState::Stopped => Next::Go,
     }
@@ -78,6 +79,19 @@ impl Driver {
     /// slot, or whose code says nothing of a TRB is `Stray`, and changes nothing but [`Driver::strays`]. Worked: the event of the first of two data TRBs of a TD, with
     /// code 1, is `Noted`; that of the second is `Matched`.
     pub fn take_event(&mut self, event: Event, doors: &mut Doors) -> Taken
+        ensures made { event_by self.old event ≡ (self.new, result, doors.new.items) }
+        // In words of the host's own: matched exactly where the host looks at an event of a TD of that tag that it waits for (uas_host
+        // specs/Awaited), Engine exactly where the event is of the command under way, and what a matched event leaves over is left over
+        // by what the host looked at (specs/LeftBy).
+        ensures matched { (tag : ℕ) → (result ≡ Taken.Matched tag) ↔ IsOfLook (look_for self.old event) self.old.frames tag }
+        ensures engine { (result ≡ Taken.Engine) ↔ IsOfCommand self.old event }
+        ensures left_over { (tag : ℕ) → result ≡ Taken.Matched tag → LeavesByLook (look_for self.old event) self.old.frames self.new.host }
+    {
+        self.take(event, doors)
+    }
+
+    /// Takes in an event, by its kind.
+    fn take(&mut self, event: Event, doors: &mut Doors) -> Taken
         ensures { event_by self.old event ≡ (self.new, result, doors.new.items) }
     {
         match event {
@@ -121,9 +135,11 @@ impl Driver {
         doors.clear();
         let now = Recovery {
             stage: Stage::Stopping,
+            asked: true,
             ..recovery
         };
-        self.go_by(now, 0, next_told(state), doors);
+        let next = next_told(recovery.asked, state);
+        self.go_by(now, CONTEXT_STATE_ERROR, next, doors);
     }
 
     fn set_state(&mut self, pipe: Pipe, state: EndpointState)
@@ -154,7 +170,8 @@ impl Driver {
     }
 
     /// Hands in the state of a pipe's endpoint, as its context has it (6.2.3); state Error counts as `Halted`. Where it was asked for
-    /// the recovery goes on; `doors` has the doorbells to write.
+    /// the recovery goes on: of an endpoint that runs with Stop Endpoint once more, and at the second time its pipe is given up; `doors` has
+    /// the doorbells to write.
     pub fn endpoint_state(&mut self, pipe: Pipe, state: EndpointState, doors: &mut Doors)
         ensures { (self.new, doors.new.items) ≡ stated self.old pipe state }
     {

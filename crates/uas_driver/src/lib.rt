@@ -26,7 +26,9 @@
 //!   Endpoint where the endpoint is halted; Set TR Dequeue Pointer behind each TD that is to be taken off; then the doorbells of all
 //!   streams that wait, in rising order. One is under way at a time, the host's own retirement too. A Stop Endpoint that is answered with
 //!   Context State Error is read by what events and doorbells said before, and where they said nothing the endpoint's state is asked for
-//!   ([`Driver::wanted_state`]). A Set TR Dequeue Pointer that is refused twice gives the pipe up: every command on it has failed.
+//!   ([`Driver::wanted_state`]). A Set TR Dequeue Pointer that is refused twice gives the pipe up, as does a Stop Endpoint whose endpoint is
+//!   told to run twice: every command on it has failed, no doorbell of it is written any more, and no submission is taken. The device is
+//!   to be reset then, and a new driver made.
 //! - *Ended commands*: a command of which a TD failed, or that its client gave up, is ended once all its TDs are off their rings. Where the
 //!   device's status comes before, its answer is the device's; else it is [`Answer::Failed`] or [`Answer::Aborted`].
 //!
@@ -55,8 +57,10 @@ mod calls;
 mod codes;
 mod endings;
 mod events;
+mod giving_back;
 mod memory;
 mod recovery;
+mod retiring;
 mod rings;
 mod room;
 mod states;
@@ -91,7 +95,7 @@ pub enum Refusal {
     /// A byte is in no buffer, or two are in different ones.
     #[error("the bytes are not all in one buffer")]
     BadAddress,
-    /// Contexts are those of streams 1 to 248 of a pipe with streams.
+    /// Contexts are those of streams 1 to 248 of a pipe with streams; of a submission, a pipe was given up.
     #[error("there is no such ring")]
     NoRing,
     /// The host refused the submission.
@@ -198,6 +202,8 @@ pub struct Driver {
     endpoints: Endpoints,
     /// The recovery that is under way, the host's own retirement too.
     recovery: Option<Recovery>,
+    /// Whether a pipe was given up.
+    given_up: bool,
 }
 
 impl Model for Driver {
@@ -215,6 +221,7 @@ impl Model for Driver {
       ending = driver.ending;
       endpoints = driver.endpoints;
       recovery = driver.recovery;
+      given_up = driver.given_up;
     } };
 }
 
@@ -241,6 +248,7 @@ impl Driver {
                 data_out: EndpointState::Running,
             },
             recovery: None,
+            given_up: false,
         })
     }
 

@@ -8,7 +8,7 @@ ghost use Rattle.uas_profile.specs.declared.TheConstants.{ENGINE_RING_PLACES, ST
 ghost use Rattle.stream_array.specs.Map.{HasRing, has_ring};
 ghost use Rattle.uas_host.specs.Retirement.{engine_freed, resumed_doors, stop_trb};
 ghost use Rattle.arrayvec.specs.ArrayVec.{array_vec_len};
-ghost use Rattle.uas_driver.specs.Recovery.{freed, move_to, reset_text, restart_doors, rung, standing, stream_of, td_end, td_passed, with_command};
+ghost use Rattle.uas_driver.specs.Recovery.{freed, last_stream, move_to, reset_text, restart_doors, rung, standing, stream_of, td_end, td_passed, with_command};
 ghost use Rattle.uas_driver.specs.Recovery.{with_move, with_reset, with_stage};
 
 use crate::rings::{last_address, pass_all, step_over};
@@ -17,7 +17,7 @@ use crate::states::{Recovery, Stage};
 use arrayvec::ArrayVec;
 use cycle_ring::laws::addresses_name_items;
 use stream_array::{Lines, Pipe, doorbell};
-use uas_profile::{SLOT, STREAM_ENTRIES};
+use uas_profile::{SLOT, STREAM_ENTRIES, STREAMS};
 use xhci_trb::Trb;
 
 /// Adds a doorbell, where there is room.
@@ -214,6 +214,16 @@ pub(crate) fn stream_of(pipe: Pipe, tag: u16) -> u16
     match pipe {
         Pipe::Command => 0,
         Pipe::Status | Pipe::DataIn | Pipe::DataOut => tag,
+    }
+}
+
+/// The last stream of a pipe, which no tag has.
+pub(crate) fn last_stream(pipe: Pipe) -> u16
+    ensures { result ≡ last_stream pipe }
+{
+    match pipe {
+        Pipe::Command => 0,
+        Pipe::Status | Pipe::DataIn | Pipe::DataOut => STREAMS,
     }
 }
 

@@ -7,7 +7,7 @@ ghost use Rattle.stream_array.specs.Map.{HasRing, places_of};
 ghost use Rattle.cycle_ring.specs.Items.{known_of};
 ghost use Rattle.stream_array.specs.Rings.{ring_of, with_engine, with_ring};
 ghost use Rattle.uas_driver.specs.Settled.{all_passed, completed, engine_passed, executed, is_pending_at, last_address, moved_at, moved_on};
-ghost use Rattle.uas_driver.specs.Settled.{first_pending, first_stream, first_td, front_tag, pending_place, pipe_at, stepped, stood, td_tag};
+ghost use Rattle.uas_driver.specs.Settled.{first_pending, first_td, front_tag, pending_place, pipe_at, stepped, stood, td_tag};
 ghost use Rattle.uas_host.specs.Events.{command_tag, tag_at_buffer};
 
 use crate::room::has_stream;
@@ -160,19 +160,6 @@ pub(crate) fn first_pending(lines: &mut Lines, pipe: Pipe) -> Option<u16>
     ensures known { IfSome result (λ stream. (1 ≤ stream) × (stream ≤ STREAMS)) }
 {
     lines.next_pending(pipe, 1)
-}
-
-/// The stream at which a pipe's endpoint goes on: its first one that waits, or stream 1.
-pub(crate) fn first_stream(lines: &mut Lines, pipe: Pipe) -> u16
-    ensures lines { lines.new ≡ lines.old }
-    ensures stream { result ≡ first_stream lines.old pipe }
-{
-    match pipe {
-        Pipe::Command => 0,
-        Pipe::Status => first_pending(lines, Pipe::Status).unwrap_or(1),
-        Pipe::DataIn => first_pending(lines, Pipe::DataIn).unwrap_or(1),
-        Pipe::DataOut => first_pending(lines, Pipe::DataOut).unwrap_or(1),
-    }
 }
 
 /// The tag at whose command buffer an address is.

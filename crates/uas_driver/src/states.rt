@@ -59,6 +59,8 @@ pub(crate) struct Recovery {
     pub command: u64,
     /// Whether a Set TR Dequeue Pointer was refused before.
     pub again: bool,
+    /// Whether the endpoint's state was asked for before.
+    pub asked: bool,
 }
 
 /// What a command's completion code asks for.
@@ -147,7 +149,7 @@ pub(crate) fn running_if(rings: bool) -> EndpointState
 const SUCCESS: u8 = 1;
 
 /// Context State Error.
-const CONTEXT_STATE_ERROR: u8 = 19;
+pub(crate) const CONTEXT_STATE_ERROR: u8 = 19;
 
 /// The command ring was stopped.
 const RING_STOPPED: u8 = 24;

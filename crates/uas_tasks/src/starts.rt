@@ -10,8 +10,7 @@ use crate::jobs::{ended_check, ended_good, job_task};
 use crate::slot::Slot;
 use crate::{Answer, DeviceAnswer, JobKind, LogicalUnit, Task};
 use host_commands::{
-    Attention, CommandSet, LogicalUnitShape, MOST_BLOCKS, UnitAttention, Work, attention_of,
-    read,
+    Attention, CommandSet, LogicalUnitShape, MOST_BLOCKS, UnitAttention, Work, attention_of, read,
 };
 use scsi_cmd::Sense;
 use uas_iu::CDB_BYTES;

@@ -4,8 +4,8 @@ ghost use Rattle.uas_xhci_c.specs.XhciCall.{is_answer};
 
 use c_faults::{TASKS_CALL, TASKS_LENGTH, TASKS_NOT_OUT};
 use guest_memory::{Lent, Pieces};
-use uas_tasks::{AnswerFault, Next, Outcome, Request};
 use std::marker::Model;
+use uas_tasks::{AnswerFault, Next, Outcome, Request};
 use xhci_machine::{Machine, Width, Worked};
 
 /// What a call of the controller asks and answers. C writes `call` and what that call reads; the call writes what it answers.
@@ -142,12 +142,7 @@ fn signal(machine: &mut Machine, door: &mut UasXhciDoor, call: Call) {
         Call::Plug => machine.plug(door.value != 0),
         Call::Frame => machine.set_frame_index((door.value % 0x4000) as u16),
         Call::Reset => machine.reset(),
-        Call::Read
-        | Call::Write
-        | Call::Work
-        | Call::Request
-        | Call::Data
-        | Call::Answered => (),
+        Call::Read | Call::Write | Call::Work | Call::Request | Call::Data | Call::Answered => (),
     }
 }
 

@@ -11,10 +11,12 @@
 //! 4. A Setup Stage in place of another stage begins a new transfer. A Data or Status Stage without a Setup Stage is TRB Error.
 //! 5. Link, No Op and Event Data TRBs are those of any pipe, as `guest_pipes` has them, and so is a buffer that isn't there.
 //!
-//! [`ControlPipe::step`] tells whether the request ended every task of the disk ([`Served`]). What is promised is that it is safe and total
-//! for any bytes in memory, and takes no memory; what its parts do is the contracts' of `guest_pipes` and `usb_disk`.
+//! What is promised: a step is one equation, `stepped` of specs/Steps.antt, over the memory's bytes, the event ring and the pipe, for any
+//! bytes; a step that is refused changes nothing. So are the calls by which the controller's commands change the pipe. It tells whether a
+//! request ended every task of the disk ([`Served`]). No step takes memory. It stands on `guest_pipes` and `usb_disk`.
 #![tactic(auto)]
 
+mod acts;
 mod pipe;
 mod stage;
 mod trb;

@@ -1,22 +1,30 @@
 //! The ring of endpoint 0, served one TRB a step.
-ghost use Rattle.std.specs.Prelude.{◌≡◌, ◌+◌, ◌<◌, ◌≤◌, ◌^◌, ℕ, IfOk, true, length as list_length};
-ghost use Rattle.guest_memory.specs.Bytes.{is_there};
+ghost use Rattle.std.specs.Prelude.{◌≡◌, ◌+◌, ◌-◌, ◌<◌, ◌≤◌, ◌^◌, ◌==◌, ◌&&◌, ℕ, IfOk, Bool, true, false, Option, Some, None, length as list_length, min, take, option_map, is_some, unwrap_or, is_ok};
+ghost use Rattle.std.specs.Result.{result_ok};
+ghost use Rattle.byteorder.specs.Endian.{little_number};
+ghost use Rattle.guest_memory.specs.Bytes.{bytes_from, is_there};
 ghost use Rattle.guest_pipes.specs.Step.{has_home, has_place};
+ghost use Rattle.guest_pipes.specs.Gate.{stop_looked};
 ghost use Rattle.guest_rings.specs.declared.context.Home.TheVariants.{Endpoint};
+ghost use Rattle.guest_rings.specs.Ends.{cursor_in, fetched};
+ghost use Rattle.xhci_control.specs.Stages.{is_restarted, left};
+ghost use Rattle.xhci_control.specs.Steps.{ControlWorld, asked, configured, consumer_in, cursor_at, data_ended, disabled, disk_reset, forgotten, front_at};
+ghost use Rattle.xhci_control.specs.Steps.{gave, gone_to, halt_reset, is_in_data, moved_by, moved_data, opened, rung_in, served_by, sets_address, stalled, stepped, stopped};
+ghost use Rattle.xhci_control.specs.Steps.{taken_by, taken_count, took, took_data, took_normal, took_other, took_setup, took_status, trb_ended, after, worked};
 
-use crate::stage::{Given, Stage};
+use crate::stage::Stage;
 use crate::trb::{ControlTrb, read_control};
 use byteorder::{ByteOrder, LittleEndian};
 use guest_memory::{GuestMemory, Outside};
-use guest_pipes::{Acted, Consumer, EndpointState, Progress, there};
-use guest_rings::{Cursor, Event, EventRing, Flags, Found, Front, Home, PipeTrb, Words, fetch};
-use usb_disk::{Answer, MOST_ANSWER_BYTES, Setup, UsbDisk};
+use guest_pipes::{Acted, Consumer, EndpointState, Progress};
+use guest_rings::{Cursor, EventRing, Found, Front, Home, Words, fetch};
+use usb_disk::{Answer, Setup, UsbDisk};
 
-/// Completion codes (table 6-90).
-const STALL_ERROR: u8 = 6;
+/// Stall Error (table 6-90).
+pub(crate) const STALL_ERROR: u8 = 6;
 
 /// Endpoint 0's ID.
-const CONTROL_ENDPOINT: u8 = 1;
+pub(crate) const CONTROL_ENDPOINT: u8 = 1;
 
 /// What a step did, and whether it ended every task of the disk.
 #[derive(Clone, Copy, Debug, PartialEq, Eq)]
@@ -28,13 +36,15 @@ pub struct Served {
 /// Endpoint 0: its consumer, the address of its dequeue pointer, the disk's answers, and where its control transfer is.
 #[derive(Debug, Drop)]
 pub struct ControlPipe {
-    consumer: Consumer,
+    pub(crate) consumer: Consumer,
     home: u64,
-    disk: UsbDisk,
-    stage: Stage,
+    pub(crate) disk: UsbDisk,
+    pub(crate) stage: Stage,
 }
 
-fn consumer_in(state: EndpointState) -> Consumer {
+fn consumer_in(state: EndpointState) -> Consumer
+    ensures { result ≡ consumer_in state }
+{
     Consumer {
         endpoint: CONTROL_ENDPOINT,
         state,
@@ -45,7 +55,8 @@ fn consumer_in(state: EndpointState) -> Consumer {
 
 /// The cursor that is kept in a dequeue pointer's quadword. Refused where a byte of it isn't there.
 fn cursor_at<M: GuestMemory>(memory: &M, at: u64) -> Result<Cursor, Outside>
-    ensures { IfOk result (λ cursor. is_there (M.contents memory.now) at 8 ≡ true) }
+    ensures cursor { result_ok result ≡ cursor_at (M.contents memory.now) at }
+    ensures there { IfOk result (λ cursor. is_there (M.contents memory.now) at 8 ≡ true) }
 {
     let mut bytes = [0; 8];
     memory.read(at, &mut bytes)?;
@@ -53,13 +64,23 @@ fn cursor_at<M: GuestMemory>(memory: &M, at: u64) -> Result<Cursor, Outside>
 }
 
 /// SET_ADDRESS (USB 3.2, 9.4.6).
-fn sets_address(setup: &Setup) -> bool {
+pub(crate) fn sets_address(setup: &Setup) -> bool
+    ensures { result ≡ sets_address setup.now }
+{
     setup.request_type == 0 && setup.request == 5
+}
+
+pub(crate) fn is_restarted(answer: &Answer) -> bool
+    ensures { result ≡ is_restarted answer.now }
+{
+    matches!(answer, Answer::Restarted)
 }
 
 impl ControlPipe {
     /// Disabled, over a disk that isn't configured.
-    pub fn new() -> ControlPipe {
+    pub fn new() -> ControlPipe
+        ensures { result ≡ opened }
+    {
         ControlPipe {
             consumer: consumer_in(EndpointState::Disabled),
             home: 0,
@@ -69,37 +90,49 @@ impl ControlPipe {
     }
 
     /// Its endpoint's state.
-    pub fn state(&self) -> EndpointState {
+    pub fn state(&self) -> EndpointState
+        ensures { result ≡ self.now.consumer.state }
+    {
         self.consumer.state
     }
 
     /// Whether its TD in front was begun.
-    pub fn is_begun(&self) -> bool {
+    pub fn is_begun(&self) -> bool
+        ensures { result ≡ self.now.consumer.progress.begun }
+    {
         self.consumer.progress.begun
     }
 
     /// Runs, from the dequeue pointer at this address on (Address Device).
-    pub fn configure(&mut self, home: u64) {
+    pub fn configure(&mut self, home: u64)
+        ensures { self.new ≡ configured self.old home }
+    {
         self.consumer = consumer_in(EndpointState::Running);
         self.home = home;
         self.stage = Stage::Setup;
     }
 
     /// Disabled (Disable Slot, a reset of the controller).
-    pub fn disable(&mut self) {
+    pub fn disable(&mut self)
+        ensures { self.new ≡ disabled self.old }
+    {
         self.consumer = consumer_in(EndpointState::Disabled);
         self.home = 0;
         self.stage = Stage::Setup;
     }
 
     /// The device was reset: it isn't configured.
-    pub fn reset_disk(&mut self) {
+    pub fn reset_disk(&mut self)
+        ensures { self.new ≡ disk_reset self.old }
+    {
         self.disk = UsbDisk::new();
         self.stage = Stage::Setup;
     }
 
-    /// A doorbell (4.7).
-    pub fn ring_doorbell(&mut self) {
+    /// A doorbell (4.7). It starts an endpoint that is stopped; of one that is disabled, halted or in error it does nothing.
+    pub fn ring_doorbell(&mut self)
+        ensures { self.new ≡ rung_in self.old.consumer.state self.old }
+    {
         match self.consumer.state {
             EndpointState::Disabled | EndpointState::Halted | EndpointState::Error => (),
             EndpointState::Running | EndpointState::Stopped => {
@@ -110,13 +143,17 @@ impl ControlPipe {
     }
 
     /// Stops it (Stop Endpoint): its doorbell is forgotten, and what is opaque stays.
-    pub fn stop(&mut self) {
+    pub fn stop(&mut self)
+        ensures { self.new ≡ stopped self.old }
+    {
         self.consumer.state = EndpointState::Stopped;
         self.consumer.rung = false;
     }
 
     /// From halted to stopped (Reset Endpoint); what is opaque stays where `keeps` (TSP).
-    pub fn reset(&mut self, keeps: bool) {
+    pub fn reset(&mut self, keeps: bool)
+        ensures { self.new ≡ halt_reset keeps self.old }
+    {
         self.consumer.state = EndpointState::Stopped;
         if !keeps {
             self.forget();
@@ -124,15 +161,12 @@ impl ControlPipe {
     }
 
     /// Its dequeue pointer was set: what was moved is forgotten, and so is the control transfer (Set TR Dequeue Pointer).
-    pub fn forget(&mut self) {
+    pub fn forget(&mut self)
+        ensures { self.new ≡ forgotten self.old }
+    {
         self.consumer.state = self.consumer.state.recover();
         self.consumer.progress = Progress::fresh();
         self.stage = Stage::Setup;
-    }
-
-    /// Where its dequeue pointer is kept.
-    pub fn home(&self) -> Home {
-        Home::Endpoint { at: self.home }
     }
 
     /// Posts what Stop Endpoint posts of its ring where its front TD was begun (4.6.9). Refused where a byte of the ring's end or of the
@@ -143,9 +177,13 @@ impl ControlPipe {
         events: &mut EventRing,
     ) -> Result<(), Outside>
         requires room { has_place (M.contents memory.old) events.old ≡ true }
+        ensures step { record { memory = M.contents memory.new; events = events.new; consumer = self.now.consumer }
+            ≡ unwrap_or (stop_looked (record { memory = M.contents memory.old; events = events.old; consumer = self.now.consumer }) (Endpoint self.now.home))
+            (record { memory = M.contents memory.old; events = events.old; consumer = self.now.consumer }) }
         ensures same_loan { M.loan memory.new ≡ M.loan memory.old }
     {
-        self.consumer.tell_stopped(memory, events, self.home())
+        self.consumer
+            .tell_stopped(memory, events, Home::Endpoint { at: self.home })
     }
 
     /// Takes the TRB in front, where there is one. Refused where a byte of the event's place, of the ring's end or of the TRB isn't there,
@@ -155,6 +193,8 @@ impl ControlPipe {
         memory: &mut M,
         events: &mut EventRing,
     ) -> Result<Served, Outside>
+        ensures step { (record { memory = M.contents memory.new; events = events.new; pipe = self.new }, result_ok result)
+            ≡ stepped (record { memory = M.contents memory.old; events = events.old; pipe = self.old }) }
         ensures same_loan { M.loan memory.new ≡ M.loan memory.old }
     {
         match self.consumer.gate(memory, events)? {
@@ -169,16 +209,37 @@ impl ControlPipe {
         events: &mut EventRing,
     ) -> Result<Served, Outside>
         requires room { has_place (M.contents memory.old) events.old ≡ true }
+        ensures step { (record { memory = M.contents memory.new; events = events.new; pipe = self.new }, result_ok result)
+            ≡ after (record { memory = M.contents memory.old; events = events.old; pipe = self.old }) (served_by (record { memory = M.contents memory.old; events = events.old; pipe = self.old }) (cursor_at (M.contents memory.old) self.old.home)) }
         ensures same_loan { M.loan memory.new ≡ M.loan memory.old }
     {
-        let at = self.home;
-        let cursor = cursor_at(memory, at)?;
-        match fetch(memory, cursor)? {
+        let cursor = cursor_at(memory, self.home)?;
+        let words = fetch(memory, cursor)?;
+        Ok(self.take_by(memory, events, cursor, words))
+    }
+
+    fn take_by<M: GuestMemory>(
+        &mut self,
+        memory: &mut M,
+        events: &mut EventRing,
+        cursor: Cursor,
+        words: Option<Words>,
+    ) -> Served
+        requires room { has_place (M.contents memory.old) events.old ≡ true }
+        requires home { is_there (M.contents memory.old) self.old.home 8 ≡ true }
+        ensures step { (record { memory = M.contents memory.new; events = events.new; pipe = self.new }, result)
+            ≡ taken_by (record { memory = M.contents memory.old; events = events.old; pipe = self.old }) cursor words }
+        ensures same_loan { M.loan memory.new ≡ M.loan memory.old }
+    {
+        match words {
             None => {
                 self.consumer.rung = false;
-                Ok(idle(Acted::Emptied))
+                idle(Acted::Emptied)
             }
-            Some(words) => Ok(self.take(memory, events, at, cursor, words)),
+            Some(words) => {
+                let front = front_at(self.home, cursor);
+                self.take(memory, events, front, read_control(words))
+            }
         }
     }
 
@@ -186,20 +247,16 @@ impl ControlPipe {
         &mut self,
         memory: &mut M,
         events: &mut EventRing,
-        at: u64,
-        cursor: Cursor,
-        words: Words,
+        front: Front,
+        trb: ControlTrb,
     ) -> Served
         requires room { has_place (M.contents memory.old) events.old ≡ true }
-        requires home { is_there (M.contents memory.old) at 8 ≡ true }
+        requires home { has_home (M.contents memory.old) front.home ≡ true }
+        ensures step { (record { memory = M.contents memory.new; events = events.new; pipe = self.new }, result)
+            ≡ took (record { memory = M.contents memory.old; events = events.old; pipe = self.old }) front trb }
         ensures same_loan { M.loan memory.new ≡ M.loan memory.old }
     {
-        let front = Front {
-            home: Home::Endpoint { at },
-            cursor,
-            found: Found::NotYet,
-        };
-        match read_control(words) {
+        match trb {
             ControlTrb::SetupStage { setup, flags } => {
                 self.take_setup(memory, events, front, &setup, flags)
             }
@@ -208,282 +265,47 @@ impl ControlPipe {
                 length,
                 to_host,
                 flags,
-            } => self.take_data(memory, events, front, pointer, length, to_host, flags),
-            ControlTrb::StatusStage { flags } => self.take_status(memory, events, front, flags),
-            ControlTrb::Other(trb) => self.take_other(memory, events, front, trb),
+            } => {
+                self.take_data(memory, events, front, pointer, length, to_host, flags);
+                worked(false)
+            }
+            ControlTrb::StatusStage { flags } => {
+                self.take_status(memory, events, front, flags);
+                worked(false)
+            }
+            ControlTrb::Other(trb) => {
+                self.take_other(memory, events, front, trb);
+                worked(false)
+            }
         }
     }
 }
 
-fn idle(acted: Acted) -> Served {
+/// A cursor in the ring whose end is kept at an address.
+fn front_at(home: u64, cursor: Cursor) -> Front
+    ensures { result ≡ front_at home cursor }
+{
+    Front {
+        home: Home::Endpoint { at: home },
+        cursor,
+        found: Found::NotYet,
+    }
+}
+
+fn idle(acted: Acted) -> Served
+    ensures { result ≡ record { acted = acted; restarted = false } }
+{
     Served {
         acted,
         restarted: false,
     }
 }
 
-fn worked(restarted: bool) -> Served {
+pub(crate) fn worked(restarted: bool) -> Served
+    ensures { result ≡ worked restarted }
+{
     Served {
         acted: Acted::Worked,
         restarted,
-    }
-}
-
-impl ControlPipe {
-    /// Posts a Stall Error, and halts.
-    fn stall<M: GuestMemory>(
-        &mut self,
-        memory: &mut M,
-        events: &mut EventRing,
-        front: Front,
-        left: u32,
-    )
-        requires room { has_place (M.contents memory.old) events.old ≡ true }
-        ensures same_loan { M.loan memory.new ≡ M.loan memory.old }
-    {
-        let event = Event::Transfer {
-            pointer: front.cursor.place,
-            residual: left,
-            code: STALL_ERROR,
-            endpoint: CONTROL_ENDPOINT,
-            event_data: false,
-        };
-        self.consumer.post(memory, events, &event, false);
-        self.consumer.state = EndpointState::Halted;
-        self.stage = Stage::Setup;
-    }
-
-    /// The disk does what a Setup Stage asks.
-    fn take_setup<M: GuestMemory>(
-        &mut self,
-        memory: &mut M,
-        events: &mut EventRing,
-        front: Front,
-        setup: &Setup,
-        flags: Flags,
-    ) -> Served
-        requires room { has_place (M.contents memory.old) events.old ≡ true }
-        requires home { has_home (M.contents memory.old) front.home ≡ true }
-        ensures same_loan { M.loan memory.new ≡ M.loan memory.old }
-    {
-        if sets_address(setup) {
-            self.consumer.err(memory, events, front);
-            return worked(false);
-        }
-        self.consumer.fill(memory, events, front, flags);
-        let answer = self.disk.control(setup);
-        let restarted = matches!(&answer, Answer::Restarted);
-        self.stage = Stage::after_setup(answer, setup.length);
-        worked(restarted)
-    }
-
-    /// Takes the first TRB of a Data Stage.
-    fn take_data<M: GuestMemory>(
-        &mut self,
-        memory: &mut M,
-        events: &mut EventRing,
-        front: Front,
-        pointer: u64,
-        length: u32,
-        to_host: bool,
-        flags: Flags,
-    ) -> Served
-        requires room { has_place (M.contents memory.old) events.old ≡ true }
-        requires home { has_home (M.contents memory.old) front.home ≡ true }
-        ensures same_loan { M.loan memory.new ≡ M.loan memory.old }
-    {
-        if !self.stage.is_data() {
-            self.consumer.err(memory, events, front);
-        } else if self.stage.stalls() {
-            self.stall(memory, events, front, length);
-        } else {
-            if !to_host {
-                self.stage = Stage::Data {
-                    given: Given::Taken,
-                };
-            }
-            self.move_data(memory, events, front, pointer, length, flags);
-        }
-        worked(false)
-    }
-
-    /// Takes a TRB of a Data Stage. Behind its last one the Status Stage is to come.
-    fn move_data<M: GuestMemory>(
-        &mut self,
-        memory: &mut M,
-        events: &mut EventRing,
-        front: Front,
-        pointer: u64,
-        length: u32,
-        flags: Flags,
-    )
-        requires room { has_place (M.contents memory.old) events.old ≡ true }
-        requires home { has_home (M.contents memory.old) front.home ≡ true }
-        ensures same_loan { M.loan memory.new ≡ M.loan memory.old }
-    {
-        if !self.consumer.progress.ending.runs() {
-            self.consumer.skip(memory, events, front, length, flags);
-        } else if length == 0 || self.stage.takes() {
-            self.consumer.fill(memory, events, front, flags);
-        } else {
-            self.give(memory, events, front, pointer, length, flags);
-        }
-        self.end_data(flags.chain);
-    }
-
-    fn end_data(&mut self, chain: bool) {
-        if !chain {
-            self.stage = Stage::Status { stalls: false };
-        }
-    }
-
-    /// Moves what is left of the answer into a TRB.
-    fn give<M: GuestMemory>(
-        &mut self,
-        memory: &mut M,
-        events: &mut EventRing,
-        front: Front,
-        pointer: u64,
-        length: u32,
-        flags: Flags,
-    )
-        requires room { has_place (M.contents memory.old) events.old ≡ true }
-        requires home { has_home (M.contents memory.old) front.home ≡ true }
-        ensures same_loan { M.loan memory.new ≡ M.loan memory.old }
-    {
-        let left = self.stage.left().len().min(MOST_ANSWER_BYTES);
-        let count = left.min(length as usize);
-        if count == 0 {
-            self.consumer.shorten(memory, events, front, length, flags);
-            return;
-        }
-        match there(memory, pointer, 0, count) {
-            Some(to) => {
-                self.pour(memory, events, to, count);
-                let left = length - count as u32;
-                self.end_trb(memory, events, front, left, flags);
-            }
-            None => self.consumer.fail(memory, events, front, length, flags),
-        }
-    }
-
-    /// Moves so many bytes of the answer to an address. A range that was there still is.
-    fn pour<M: GuestMemory>(
-        &mut self,
-        memory: &mut M,
-        events: &mut EventRing,
-        to: u64,
-        count: usize,
-    )
-        requires room { has_place (M.contents memory.old) events.old ≡ true }
-        requires there { is_there (M.contents memory.old) to count ≡ true }
-        requires most { count ≤ 65536 }
-        ensures same_loan { M.loan memory.new ≡ M.loan memory.old }
-        ensures there { (at n : ℕ) → is_there (M.contents memory.old) at n ≡ true → is_there (M.contents memory.new) at n ≡ true }
-        ensures room { has_place (M.contents memory.new) events.new ≡ true }
-    {
-        self.consumer.progress.moved = 0;
-        match self.stage.left().get(..count) {
-            Some(bytes) => self.consumer.pour(memory, events, to, bytes),
-            None => (),
-        }
-        self.stage.advance(count);
-    }
-
-    /// A TRB of which so many bytes are left is full, or ends its TD as a short packet.
-    fn end_trb<M: GuestMemory>(
-        &mut self,
-        memory: &mut M,
-        events: &mut EventRing,
-        front: Front,
-        left: u32,
-        flags: Flags,
-    )
-        requires room { has_place (M.contents memory.old) events.old ≡ true }
-        requires home { has_home (M.contents memory.old) front.home ≡ true }
-        ensures same_loan { M.loan memory.new ≡ M.loan memory.old }
-    {
-        if left == 0 {
-            self.consumer.fill(memory, events, front, flags);
-        } else {
-            self.consumer.shorten(memory, events, front, left, flags);
-        }
-    }
-
-    /// Ends the control transfer.
-    fn take_status<M: GuestMemory>(
-        &mut self,
-        memory: &mut M,
-        events: &mut EventRing,
-        front: Front,
-        flags: Flags,
-    ) -> Served
-        requires room { has_place (M.contents memory.old) events.old ≡ true }
-        requires home { has_home (M.contents memory.old) front.home ≡ true }
-        ensures same_loan { M.loan memory.new ≡ M.loan memory.old }
-    {
-        if self.stage.is_setup() {
-            self.consumer.err(memory, events, front);
-        } else if self.stage.stalls() {
-            self.stall(memory, events, front, 0);
-        } else {
-            self.consumer.fill(memory, events, front, flags);
-            self.stage = Stage::Setup;
-        }
-        worked(false)
-    }
-
-    /// Takes a TRB that is of no stage of its own.
-    fn take_other<M: GuestMemory>(
-        &mut self,
-        memory: &mut M,
-        events: &mut EventRing,
-        front: Front,
-        trb: PipeTrb,
-    ) -> Served
-        requires room { has_place (M.contents memory.old) events.old ≡ true }
-        requires home { has_home (M.contents memory.old) front.home ≡ true }
-        ensures same_loan { M.loan memory.new ≡ M.loan memory.old }
-    {
-        match trb {
-            PipeTrb::Normal {
-                pointer,
-                length,
-                flags,
-            } => self.take_normal(memory, events, front, pointer, length, flags),
-            PipeTrb::EventData { parameter, flags } => {
-                let ends = self.stage.is_data() && self.consumer.progress.begun;
-                self.consumer
-                    .tell_data(memory, events, front, parameter, flags);
-                if ends {
-                    self.end_data(flags.chain);
-                }
-            }
-            PipeTrb::Link { .. } | PipeTrb::NoOp { .. } | PipeTrb::Foreign => {
-                self.consumer.take_other(memory, events, front, trb);
-            }
-        }
-        worked(false)
-    }
-
-    /// Takes a Normal TRB: one of a Data Stage that has begun.
-    fn take_normal<M: GuestMemory>(
-        &mut self,
-        memory: &mut M,
-        events: &mut EventRing,
-        front: Front,
-        pointer: u64,
-        length: u32,
-        flags: Flags,
-    )
-        requires room { has_place (M.contents memory.old) events.old ≡ true }
-        requires home { has_home (M.contents memory.old) front.home ≡ true }
-        ensures same_loan { M.loan memory.new ≡ M.loan memory.old }
-    {
-        if self.stage.is_data() && self.consumer.progress.begun && length <= 65_536 {
-            self.move_data(memory, events, front, pointer, length, flags);
-        } else {
-            self.consumer.err(memory, events, front);
-        }
     }
 }

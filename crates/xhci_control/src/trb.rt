@@ -1,6 +1,10 @@
 //! What a TRB in the ring of endpoint 0 is (xHCI 1.2, 6.4.1.2).
-ghost use Rattle.std.specs.Prelude.{◌<◌};
+ghost use Rattle.std.specs.Prelude.{◌≡◌, ◌<◌, ◌≤◌};
+ghost use Rattle.byteorder.specs.Endian.{little_bytes};
+ghost use Rattle.guest_rings.specs.Words.{bit_in};
+ghost use Rattle.xhci_control.specs.Trbs.{control_in, data_flags, data_stage, setup_stage, stage_flags};
 
+use byteorder::{ByteOrder, LittleEndian};
 use guest_rings::{Flags, PipeTrb, Words, read_trb};
 use usb_disk::Setup;
 
@@ -8,7 +12,10 @@ use usb_disk::Setup;
 #[derive(Clone, Copy, Debug, PartialEq, Eq)]
 pub(crate) enum ControlTrb {
     /// Type 2, with eight bytes of immediate data.
-    SetupStage { setup: Setup, flags: Flags },
+    SetupStage {
+        setup: Setup,
+        flags: Flags,
+    },
     /// Type 3: a buffer of at most 65,536 bytes, to the host or to the device.
     DataStage {
         pointer: u64,
@@ -17,7 +24,9 @@ pub(crate) enum ControlTrb {
         flags: Flags,
     },
     /// Type 4.
-    StatusStage { flags: Flags },
+    StatusStage {
+        flags: Flags,
+    },
     /// Any other.
     Other(PipeTrb),
 }
@@ -25,12 +34,15 @@ pub(crate) enum ControlTrb {
 /// The bit at a place of a word.
 fn has_bit(word: u32, place: u32) -> bool
     requires { place < 31 }
+    ensures { result ≡ bit_in word place }
 {
     (word >> place) % 2 == 1
 }
 
 /// Flags of a TRB that ends its TD.
-fn stage_flags(words: Words) -> Flags {
+fn stage_flags(words: Words) -> Flags
+    ensures { result ≡ stage_flags words }
+{
     Flags {
         chain: false,
         ioc: has_bit(words.control, 5),
@@ -41,7 +53,9 @@ fn stage_flags(words: Words) -> Flags {
 }
 
 /// Flags of a TRB that may be one of several of its TD.
-fn data_flags(words: Words) -> Flags {
+fn data_flags(words: Words) -> Flags
+    ensures { result ≡ data_flags words }
+{
     Flags {
         chain: has_bit(words.control, 4),
         isp: has_bit(words.control, 2),
@@ -49,18 +63,30 @@ fn data_flags(words: Words) -> Flags {
     }
 }
 
-fn read_setup_stage(words: Words) -> ControlTrb {
-    let flags = stage_flags(words);
-    if words.status % 131_072 != 8 || !flags.idt {
+/// The bytes of a number, the low one first.
+fn bytes_of(number: u64) -> [u8; 8]
+    ensures { result ≡ little_bytes 8 number }
+{
+    let mut bytes = [0; 8];
+    LittleEndian::write_u64(&mut bytes, number);
+    bytes
+}
+
+fn read_setup_stage(words: Words) -> ControlTrb
+    ensures { result ≡ setup_stage words }
+{
+    if words.status % 131_072 != 8 || !has_bit(words.control, 6) {
         return ControlTrb::Other(PipeTrb::Foreign);
     }
     ControlTrb::SetupStage {
-        setup: Setup::from_bytes(&words.parameter.to_le_bytes()),
-        flags,
+        setup: Setup::from_bytes(&bytes_of(words.parameter)),
+        flags: stage_flags(words),
     }
 }
 
-fn read_data_stage(words: Words) -> ControlTrb {
+fn read_data_stage(words: Words) -> ControlTrb
+    ensures { result ≡ data_stage words }
+{
     let length = words.status % 131_072;
     if length > 65_536 {
         return ControlTrb::Other(PipeTrb::Foreign);
@@ -74,7 +100,10 @@ fn read_data_stage(words: Words) -> ControlTrb {
 }
 
 /// The TRB that three words are in the ring of endpoint 0.
-pub(crate) fn read_control(words: Words) -> ControlTrb {
+#[tactic(auto, unfolding(crate::specs::Trbs::control_in))]
+pub(crate) fn read_control(words: Words) -> ControlTrb
+    ensures { result ≡ control_in words }
+{
     match words.kind() {
         2 => read_setup_stage(words),
         3 => read_data_stage(words),

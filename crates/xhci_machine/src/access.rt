@@ -1,7 +1,10 @@
 //! Register accesses, and what they ask for beyond the registers.
-ghost use Rattle.std.specs.Prelude.{◌≡◌};
-ghost use Rattle.xhci_registers.specs.Signals.{is_asserted, messaged};
+ghost use Rattle.std.specs.Prelude.{◌≡◌, ◌<◌, ◌%◌, IfOk, option_copied, true};
+ghost use Rattle.uas_tasks.specs.Machine.{answered, bytes_out};
+ghost use Rattle.xhci_registers.specs.Signals.{is_asserted, messaged, plugged};
 ghost use Rattle.xhci_registers.specs.Words.{read_of};
+ghost use Rattle.xhci_registers.specs.Writes.{reset_registers};
+ghost use Rattle.xhci_machine.specs.Access.{both_set, page_written, word_set};
 
 use crate::Machine;
 use crate::interrupts::Interrupts;
@@ -23,7 +26,10 @@ const CONTROL_TARGET: u8 = 1;
 
 impl Machine {
     /// A controller after a reset, with this disk plugged in. It takes all memory that it ever has; the error is want of it.
-    pub fn new(alloc: Global, tasks: Tasks) -> Result<Machine, AllocError> {
+    pub fn new(alloc: Global, tasks: Tasks) -> Result<Machine, AllocError>
+        ensures registers { IfOk result (λ machine. machine.registers ≡ reset_registers true) }
+        ensures device { IfOk result (λ machine. machine.device.tasks ≡ tasks) }
+    {
         Ok(Machine {
             registers: Registers::new(true),
             slot: Slot::free(),
@@ -45,21 +51,31 @@ impl Machine {
 
     /// A write of the register page: 4 or 8 bytes at a multiple of 4, the low half first; any other does nothing. It takes no step: it
     /// notes what is to be done (5.4 to 5.6).
-    pub fn write(&mut self, offset: u64, width: Width, value: u64) {
+    pub fn write(&mut self, offset: u64, width: Width, value: u64)
+        ensures { self.new.registers ≡ page_written self.old.registers offset width value }
+    {
         if offset % 4 != 0 || offset >= PAGE_BYTES {
             return;
         }
         match width {
             Width::One | Width::Two => (),
             Width::Four => self.write_word(offset, (value % 0x1_0000_0000) as u32),
-            Width::Eight => {
-                self.write_word(offset, (value % 0x1_0000_0000) as u32);
-                self.write_word(offset + 4, (value >> 32) as u32);
-            }
+            Width::Eight => self.write_both(offset, value),
         }
     }
 
-    fn write_word(&mut self, offset: u64, value: u32) {
+    fn write_both(&mut self, offset: u64, value: u64)
+        requires { offset < 4096 }
+        ensures { self.new.registers ≡ both_set self.old.registers offset value }
+    {
+        self.write_word(offset, (value % 0x1_0000_0000) as u32);
+        self.write_word(offset + 4, (value / 0x1_0000_0000) as u32);
+    }
+
+    #[tactic(auto, unfolding(crate::specs::Access::word_set))]
+    fn write_word(&mut self, offset: u64, value: u32)
+        ensures { self.new.registers ≡ word_set self.old.registers offset value }
+    {
         match self.registers.write_word(offset, value) {
             Effect::Nothing => (),
             Effect::Reset => self.reset_all(),
@@ -72,7 +88,9 @@ impl Machine {
         }
     }
 
-    fn ring_doorbell(&mut self, target: u8, stream: u16) {
+    fn ring_doorbell(&mut self, target: u8, stream: u16)
+        ensures { self.new.registers ≡ self.old.registers }
+    {
         if target == CONTROL_TARGET {
             self.control.ring_doorbell();
         } else {
@@ -81,14 +99,18 @@ impl Machine {
     }
 
     /// The disk is reset: it isn't configured, every task is gone, and each logical unit owes a unit attention.
-    fn reset_device(&mut self) {
+    fn reset_device(&mut self)
+        ensures { self.new.registers ≡ self.old.registers }
+    {
         self.device.power_on();
         self.transfers.clear_tags();
         self.control.reset_disk();
     }
 
     /// All but the registers, as a reset of the controller leaves it.
-    fn reset_all(&mut self) {
+    fn reset_all(&mut self)
+        ensures { self.new.registers ≡ self.old.registers }
+    {
         self.reset_device();
         self.slot = Slot::free();
         self.commands = CommandRing::idle();
@@ -102,13 +124,17 @@ impl Machine {
     }
 
     /// A reset of the controller from outside (of the PCI function, say): as HCRST.
-    pub fn reset(&mut self) {
+    pub fn reset(&mut self)
+        ensures { self.new.registers ≡ reset_registers self.old.registers.port.attached }
+    {
         self.registers = Registers::new(self.registers.port.attached);
         self.reset_all();
     }
 
     /// Plugs the disk in, or pulls it, which resets it.
-    pub fn plug(&mut self, attached: bool) {
+    pub fn plug(&mut self, attached: bool)
+        ensures { self.new.registers ≡ plugged self.old.registers attached }
+    {
         self.registers.plug(attached);
         if !attached {
             self.reset_device();
@@ -116,7 +142,9 @@ impl Machine {
     }
 
     /// Sets MFINDEX.
-    pub fn set_frame_index(&mut self, frame_index: u16) {
+    pub fn set_frame_index(&mut self, frame_index: u16)
+        ensures { self.new.registers ≡ record self.old.registers { frame_index = frame_index % 0x4000 } }
+    {
         self.registers.frame_index = frame_index % 0x4000;
     }
 
@@ -141,7 +169,9 @@ impl Machine {
     }
 
     /// The bytes of a request that writes or compares, while it is out.
-    pub fn request_bytes(&self, number: u64) -> Option<&[u8]> {
+    pub fn request_bytes(&self, number: u64) -> Option<&[u8]>
+        ensures { option_copied result ≡ bytes_out self.now.device.tasks number }
+    {
         self.device.tasks.request_bytes(number)
     }
 
@@ -151,7 +181,9 @@ impl Machine {
         number: u64,
         outcome: Outcome,
         bytes: &[u8],
-    ) -> Result<(), AnswerFault> {
+    ) -> Result<(), AnswerFault>
+        ensures { (self.new.device.tasks, result) ≡ answered self.old.device.tasks number outcome bytes.now }
+    {
         self.device.tasks.answered(number, outcome, bytes)
     }
 }

@@ -1,5 +1,7 @@
 //! What a TRB in the command ring asks for (xHCI 1.2, 6.4.3).
-ghost use Rattle.std.specs.Prelude.{◌<◌};
+ghost use Rattle.std.specs.Prelude.{◌≡◌, ◌<◌, ◌/◌, ◌%◌, ◌^◌};
+ghost use Rattle.guest_rings.specs.Words.{bit_in};
+ghost use Rattle.xhci_machine.specs.Commands.{command_in, dequeue_in, on_endpoint, on_slot};
 
 use guest_rings::{Cursor, Words};
 use xhci_slots::SlotCommand;
@@ -8,7 +10,9 @@ use xhci_slots::SlotCommand;
 #[derive(Clone, Copy, Debug, PartialEq, Eq)]
 pub(crate) enum Order {
     /// Reset Endpoint; with TSP what is opaque stays.
-    Reset { keeps: bool },
+    Reset {
+        keeps: bool,
+    },
     /// Stop Endpoint.
     Stop,
     /// Set TR Dequeue Pointer: the pointer with its cycle state, the stream's type (SCT), and the stream.
@@ -47,22 +51,29 @@ pub(crate) enum Command {
 /// The bit at a place of a word.
 fn has_bit(word: u32, place: u32) -> bool
     requires { place < 31 }
+    ensures { result ≡ bit_in word place }
 {
     (word >> place) % 2 == 1
 }
 
-fn slot_in(words: Words) -> u8 {
+fn slot_in(words: Words) -> u8
+    ensures { result ≡ words.control / 2 ^ 24 }
+{
     (words.control >> 24) as u8
 }
 
-fn on_slot(words: Words, command: SlotCommand) -> Command {
+fn on_slot(words: Words, command: SlotCommand) -> Command
+    ensures { result ≡ on_slot words command }
+{
     Command::OnSlot {
         slot: slot_in(words),
         command,
     }
 }
 
-fn on_endpoint(words: Words, order: Order) -> Command {
+fn on_endpoint(words: Words, order: Order) -> Command
+    ensures { result ≡ on_endpoint words order }
+{
     Command::OnEndpoint {
         slot: slot_in(words),
         endpoint: ((words.control >> 16) % 32) as u8,
@@ -70,7 +81,9 @@ fn on_endpoint(words: Words, order: Order) -> Command {
     }
 }
 
-fn dequeue_in(words: Words) -> Order {
+fn dequeue_in(words: Words) -> Order
+    ensures { result ≡ dequeue_in words }
+{
     Order::SetDequeue {
         cursor: Cursor::of_number(words.parameter),
         kind: ((words.parameter >> 1) % 8) as u8,
@@ -79,7 +92,10 @@ fn dequeue_in(words: Words) -> Order {
 }
 
 /// The command that three words are.
-pub(crate) fn read_command(words: Words) -> Command {
+#[tactic(auto, unfolding(crate::specs::Commands::command_in))]
+pub(crate) fn read_command(words: Words) -> Command
+    ensures { result ≡ command_in words }
+{
     let pointer = 16 * (words.parameter / 16);
     let bit9 = has_bit(words.control, 9);
     match words.kind() {

@@ -21,8 +21,9 @@
 //! 6. A tag whose request is at the backend waits; no other tag does.
 //!
 //! What is promised: every call is safe and total, for any bytes in memory, any register access and any order; no step takes memory
-//! ([`Machine::new`] takes all); a read is `read_of` of the registers, and the interrupt's pin is `is_asserted`. The steps of the pipes, the
-//! commands on the slot and the register writes are the equations of the crates below; how they are put together here is tested.
+//! ([`Machine::new`] takes all). A read is `read_of`, a write `page_written`, the interrupt's pin `is_asserted`, a TRB of the command ring
+//! `command_in`, and an answer of the backend `answered` of uas_tasks. The steps of the pipes and of endpoint 0, the commands on the slot and
+//! the register writes are the equations of the crates below; how they are put together here is tested.
 //!
 //! It stands on `xhci_registers`, `xhci_slots`, `xhci_control`, `guest_transfers` and `guest_tasks`.
 #![tactic(auto)]

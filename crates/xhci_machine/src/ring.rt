@@ -209,10 +209,7 @@ impl Machine {
         let array = self.registers.contexts;
         let done = self.slot.execute(memory, array, command)?;
         self.change(&done.changes);
-        Ok(end_with(
-            number_of(done.code),
-            slot_told(slot, command, done.code),
-        ))
+        Ok(end_with(number_of(done.code), slot_told(slot, command, done.code)))
     }
 
     /// The endpoints as a command on the slot left them; their contexts have their states already.

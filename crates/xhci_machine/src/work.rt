@@ -1,5 +1,5 @@
 //! The steps, in turns.
-ghost use Rattle.std.specs.Prelude.{◌≡◌, ◌<◌, ◌≤◌};
+ghost use Rattle.std.specs.Prelude.{◌≡◌, ◌<◌, ◌≤◌, false};
 
 use crate::Machine;
 use crate::interrupts::post;
@@ -46,6 +46,7 @@ impl Machine {
     pub fn work<M: GuestMemory>(&mut self, memory: &mut M, budget: u32) -> Worked
         ensures same_loan { M.loan memory.new ≡ M.loan memory.old }
         ensures budget { result.steps ≤ budget }
+        ensures stands { self.old.registers.runs ≡ false → (self.new ≡ self.old) × (M.contents memory.new ≡ M.contents memory.old) }
     {
         if !self.registers.runs {
             return none();

@@ -15,6 +15,7 @@ returns-in-Err-clause-submitted c =
       ending = inside.ending;
       endpoints = inside.endpoints;
       recovery = inside.recovery;
+      given_up = inside.given_up;
     } in
     rw (← c.self.view_is) (refusal-told driver c.args.command c.in-Err.command c.in-Err.fault _ c.submit.new.self c.submit.new.lines
     c.submit.new.frames c.args.doors.now c.submit.new.doors c.submit.result _ _ _ _ _ c.submit.ensures c.requires.doors c.in-Err.is)

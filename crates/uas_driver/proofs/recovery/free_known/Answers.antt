@@ -1,4 +1,3 @@
-use Rattle.std.proofs.Common.{◌≡◌}
 use Rattle.uas_host.proofs.Emptying.{engine-item}
 use Rattle.uas_driver.proofs.recovery.free_known.Goals as goal
 

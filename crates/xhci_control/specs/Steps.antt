@@ -1,0 +1,219 @@
+-- A step of endpoint 0: one equation over memory, event ring and pipe; and what the controller's commands make of the pipe.
+use Rattle.std.specs.Prelude.{ℕ, ◌+◌, ◌-◌, ◌==◌, nat_le, min, Bool, true, false, not, ◌&&◌, ◌||◌, if◌then◌else◌, length as list_length, take, Option, Some, None, option_map}
+use Rattle.byteorder.specs.Endian.{little_number}
+use Rattle.guest_memory.specs.Bytes.{Memory, bytes_from, is_there}
+use Rattle.guest_rings.specs.declared.context.Front.{Front}
+use Rattle.guest_rings.specs.declared.context.Found.TheVariants.{NotYet}
+use Rattle.guest_rings.specs.declared.context.Home.TheVariants.{Endpoint}
+use Rattle.guest_rings.specs.declared.cursor.Cursor.{Cursor}
+use Rattle.guest_rings.specs.declared.event.Event.{Event}
+use Rattle.guest_rings.specs.declared.event.Event.TheVariants.{Transfer}
+use Rattle.guest_rings.specs.declared.trb.Flags.{Flags}
+use Rattle.guest_rings.specs.declared.trb.PipeTrb.{PipeTrb}
+use Rattle.guest_rings.specs.declared.trb.PipeTrb.TheVariants.{Normal, Link, NoOp, EventData, Foreign}
+use Rattle.guest_rings.specs.declared.words.Words.{Words}
+use Rattle.guest_rings.specs.Ends.{cursor_in, fetched}
+use Rattle.guest_rings.specs.Events.{EventEnd}
+use Rattle.guest_pipes.specs.declared.acted.Acted.{Acted}
+use Rattle.guest_pipes.specs.declared.acted.Acted.TheVariants.{Emptied, Worked}
+use Rattle.guest_pipes.specs.declared.consumer.Consumer.{Consumer}
+use Rattle.guest_pipes.specs.declared.consumer.EndpointState.{EndpointState}
+use Rattle.guest_pipes.specs.declared.consumer.EndpointState.TheVariants.{Disabled, Running, Halted, Stopped, Error}
+use Rattle.guest_pipes.specs.Progress.{fresh, runs}
+use Rattle.guest_pipes.specs.Pipe.{recovered}
+use Rattle.guest_pipes.specs.Step.{World, data_told, erred, failed, filled, in_state, posted, poured, shortened, skipped, used_up, with_progress}
+use Rattle.guest_pipes.specs.Gate.{gate, took_other as pipe_took_other}
+use Rattle.usb_disk.specs.declared.Setup.{Setup as SetupPacket}
+use Rattle.usb_disk.specs.Answers.{controlled, reset_disk}
+use Rattle.xhci_control.specs.declared.pipe.ControlPipe.{ControlPipe}
+use Rattle.xhci_control.specs.declared.pipe.Served.{Served}
+use Rattle.xhci_control.specs.declared.stage.Given.TheVariants.{Taken}
+use Rattle.xhci_control.specs.declared.stage.Stage.{Stage}
+use Rattle.xhci_control.specs.declared.stage.Stage.TheVariants.{Setup, Data, Status}
+use Rattle.xhci_control.specs.declared.trb.ControlTrb.{ControlTrb}
+use Rattle.xhci_control.specs.declared.trb.ControlTrb.TheVariants.{SetupStage, DataStage, StatusStage, Other}
+use Rattle.xhci_control.specs.Stages.{advanced, after_setup, behind_data, behind_data_if, directed, is_data, is_restarted, is_setup, left, stalls, takes}
+use Rattle.xhci_control.specs.Trbs.{control_in}
+
+-- all that a step may change
+pub record ControlWorld : Type 0 where
+  pub memory : Memory
+  pub events : EventEnd
+  pub pipe : ControlPipe
+
+abbrev pub ring_of : ControlWorld → World
+ring_of w = record { memory = w.memory; events = w.events; consumer = w.pipe.consumer }
+
+abbrev pub with_ring : ControlWorld → World → ControlWorld
+with_ring w ring = record { memory = ring.memory; events = ring.events; pipe = record w.pipe { consumer = ring.consumer } }
+
+abbrev pub in_stage : ControlWorld → Stage → ControlWorld
+in_stage w stage = record w { pipe = record w.pipe { stage = stage } }
+
+-- THE PIPE, AND COMMANDS ON IT
+
+abbrev pub consumer_in : EndpointState → Consumer
+consumer_in state = record { endpoint = 1; state = state; rung = false; progress = fresh }
+
+abbrev pub opened : ControlPipe
+opened = record { consumer = consumer_in Disabled; home = 0; disk = reset_disk; stage = Setup }
+
+abbrev pub configured : ControlPipe → ℕ → ControlPipe
+configured pipe home = record pipe { consumer = consumer_in Running; home = home; stage = Setup }
+
+abbrev pub disabled : ControlPipe → ControlPipe
+disabled pipe = record pipe { consumer = consumer_in Disabled; home = 0; stage = Setup }
+
+abbrev pub disk_reset : ControlPipe → ControlPipe
+disk_reset pipe = record pipe { disk = reset_disk; stage = Setup }
+
+-- a doorbell starts an endpoint that is stopped
+abbrev pub rung_in : EndpointState → ControlPipe → ControlPipe
+rung_in Disabled pipe = pipe
+rung_in Running pipe = record pipe { consumer = record pipe.consumer { state = Running; rung = true } }
+rung_in Halted pipe = pipe
+rung_in Stopped pipe = record pipe { consumer = record pipe.consumer { state = Running; rung = true } }
+rung_in Error pipe = pipe
+
+abbrev pub stopped : ControlPipe → ControlPipe
+stopped pipe = record pipe { consumer = record pipe.consumer { state = Stopped; rung = false } }
+
+-- Set TR Dequeue Pointer, and Reset Endpoint without TSP: what was moved is forgotten, and the control transfer
+abbrev pub forgotten : ControlPipe → ControlPipe
+forgotten pipe = record pipe { consumer = record pipe.consumer { state = recovered pipe.consumer.state; progress = fresh }; stage = Setup }
+
+abbrev pub halt_reset : Bool → ControlPipe → ControlPipe
+halt_reset true pipe = record pipe { consumer = record pipe.consumer { state = Stopped } }
+halt_reset false pipe = forgotten (record pipe { consumer = record pipe.consumer { state = Stopped } })
+
+-- A TRB
+
+-- a Stall Error, and the endpoint halts
+abbrev pub stall_told : ControlWorld → Front → ℕ → World
+stall_told w front rest = in_state (posted (ring_of w) (Transfer front.cursor.place rest 6 1 false) false) Halted
+
+unfoldable pub stalled : ControlWorld → Front → ℕ → ControlWorld
+stalled w front rest = in_stage (with_ring w (stall_told w front rest)) Setup
+
+-- SET_ADDRESS (USB 3.2, 9.4.6)
+abbrev pub sets_address : SetupPacket → Bool
+sets_address setup = setup.request_type == 0 && setup.request == 5
+
+abbrev pub worked : Bool → Served
+worked restarted = record { acted = Worked; restarted = restarted }
+
+-- the disk does what a Setup Stage asks
+unfoldable pub asked : ControlWorld → Front → SetupPacket → Flags → ControlWorld × Served
+asked w front setup flags =
+    let after = controlled w.pipe.disk setup in
+    let ring = filled (ring_of w) front flags in (
+      record {
+        memory = ring.memory;
+        events = ring.events;
+        pipe = record w.pipe { consumer = ring.consumer; disk = after.0; stage = after_setup after.1 setup.length };
+      },
+      worked (is_restarted after.1),
+    )
+
+abbrev pub took_setup : ControlWorld → Front → SetupPacket → Flags → ControlWorld × Served
+took_setup w front setup flags =
+    if sets_address setup then (with_ring w (erred (ring_of w) front), worked false) else asked w front setup flags
+
+-- so many bytes of the answer go to an address
+unfoldable pub gone_to : ControlWorld → ℕ → ℕ → ControlWorld
+gone_to w to count =
+    in_stage (with_ring w (poured (with_progress (ring_of w) (record w.pipe.consumer.progress { moved = 0 })) to (take count (left w.pipe.stage))))
+    (advanced w.pipe.stage count)
+
+-- a TRB of which so many bytes are left is full, or ends its TD as a short packet
+abbrev pub trb_ended : ControlWorld → Front → ℕ → Flags → ControlWorld
+trb_ended w front rest flags =
+    if rest == 0 then with_ring w (filled (ring_of w) front flags) else with_ring w (shortened (ring_of w) front rest flags)
+
+-- how many bytes of the answer a TRB takes; no answer has more than 86
+abbrev pub taken_count : ControlWorld → ℕ → ℕ
+taken_count w room = min (min (list_length (left w.pipe.stage)) 86) room
+
+unfoldable pub gave : ControlWorld → Front → ℕ → ℕ → Flags → ControlWorld
+gave w front pointer room flags =
+    let count = taken_count w room in
+    if count == 0 then with_ring w (shortened (ring_of w) front room flags)
+    else if is_there w.memory (pointer + 0) count then trb_ended (gone_to w (pointer + 0) count) front (room - count) flags
+    else with_ring w (failed (ring_of w) front room flags)
+
+abbrev pub moved_by : ControlWorld → Front → ℕ → ℕ → Flags → ControlWorld
+moved_by w front pointer room flags =
+    if not (runs w.pipe.consumer.progress.ending) then with_ring w (skipped (ring_of w) front room flags)
+    else if room == 0 || takes w.pipe.stage then with_ring w (filled (ring_of w) front flags)
+    else gave w front pointer room flags
+
+-- behind the last TRB of a Data Stage the Status Stage is to come
+abbrev pub data_ended : Bool → ControlWorld → ControlWorld
+data_ended chain w = in_stage w (behind_data chain w.pipe.stage)
+
+abbrev pub moved_data : ControlWorld → Front → ℕ → ℕ → Flags → ControlWorld
+moved_data w front pointer room flags = data_ended flags.chain (moved_by w front pointer room flags)
+
+abbrev pub took_data : ControlWorld → Front → ℕ → ℕ → Bool → Flags → ControlWorld
+took_data w front pointer room to_host flags =
+    if not (is_data w.pipe.stage) then with_ring w (erred (ring_of w) front)
+    else if stalls w.pipe.stage then stalled w front room
+    else moved_data (in_stage w (directed to_host w.pipe.stage)) front pointer room flags
+
+abbrev pub took_status : ControlWorld → Front → Flags → ControlWorld
+took_status w front flags =
+    if is_setup w.pipe.stage then with_ring w (erred (ring_of w) front)
+    else if stalls w.pipe.stage then stalled w front 0
+    else in_stage (with_ring w (filled (ring_of w) front flags)) Setup
+
+-- a Data Stage has begun and isn't over
+abbrev pub is_in_data : ControlPipe → Bool
+is_in_data pipe = is_data pipe.stage && pipe.consumer.progress.begun
+
+abbrev pub took_normal : ControlWorld → Front → ℕ → ℕ → Flags → ControlWorld
+took_normal w front pointer room flags =
+    if is_in_data w.pipe && nat_le room 65536 then moved_data w front pointer room flags else with_ring w (erred (ring_of w) front)
+
+abbrev pub took_other : ControlWorld → Front → PipeTrb → ControlWorld
+took_other w front (Normal pointer room flags) = took_normal w front pointer room flags
+took_other w front (Link pointer toggle flags) = with_ring w (pipe_took_other (ring_of w) front (Link pointer toggle flags))
+took_other w front (NoOp flags) = with_ring w (pipe_took_other (ring_of w) front (NoOp flags))
+took_other w front (EventData parameter flags) =
+    in_stage (with_ring w (data_told (ring_of w) front parameter flags)) (behind_data_if (is_in_data w.pipe) flags.chain w.pipe.stage)
+took_other w front Foreign = with_ring w (pipe_took_other (ring_of w) front Foreign)
+
+abbrev pub took : ControlWorld → Front → ControlTrb → ControlWorld × Served
+took w front (SetupStage setup flags) = took_setup w front setup flags
+took w front (DataStage pointer room to_host flags) = (took_data w front pointer room to_host flags, worked false)
+took w front (StatusStage flags) = (took_status w front flags, worked false)
+took w front (Other trb) = (took_other w front trb, worked false)
+
+-- A STEP
+
+abbrev pub front_at : ℕ → Cursor → Front
+front_at home cursor = record { home = Endpoint home; cursor = cursor; found = NotYet }
+
+abbrev pub cursor_at : Memory → ℕ → Option Cursor
+cursor_at memory home = option_map cursor_in (option_map (little_number 8) (bytes_from memory home 8))
+
+abbrev pub taken_by : ControlWorld → Cursor → Option Words → ControlWorld × Served
+taken_by w cursor None = (with_ring w (used_up (ring_of w)), record { acted = Emptied; restarted = false })
+taken_by w cursor (Some words) = took w (front_at w.pipe.home cursor) (control_in words)
+
+abbrev pub served_by : ControlWorld → Option Cursor → Option (ControlWorld × Served)
+served_by w None = None
+served_by w (Some cursor) = option_map (taken_by w cursor) (fetched w.memory cursor)
+
+abbrev pub through : ControlWorld → Option (Option Acted) → Option (ControlWorld × Served)
+through w None = None
+through w (Some None) = served_by w (cursor_at w.memory w.pipe.home)
+through w (Some (Some acted)) = Some (w, record { acted = acted; restarted = false })
+
+-- a refused step leaves the world
+abbrev pub after : ControlWorld → Option (ControlWorld × Served) → ControlWorld × Option Served
+after w None = (w, None)
+after w (Some done) = (done.0, Some done.1)
+
+-- one TRB, where there is one; None where a byte of the controller's own structures isn't there
+abbrev pub stepped : ControlWorld → ControlWorld × Option Served
+stepped w = after w (through w (gate w.memory w.events w.pipe.consumer))

@@ -183,8 +183,7 @@ static void write_register(void *opaque, hwaddr at, uint64_t value, unsigned wid
 {
     UasXhci *device = opaque;
     uas_xhci_write(device->xhci, at, (uint8_t)width, value);
-    qemu_bh_schedule(device->turn);
-    interrupt(device);
+    turn(device);
 }
 
 static const MemoryRegionOps register_ops = {

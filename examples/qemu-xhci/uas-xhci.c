@@ -3,9 +3,9 @@
  *   -device uas-xhci,file=PATH[,msi=on|off|auto][,bad=BLOCK]
  *
  * QEMU's part is the bus: configuration space, the page of registers, the guest's memory by address, an interrupt, and threads for the file.
- * Rings, contexts, commands and the disk are the library's. A register write notes what is to be done; a bottom half does it, under QEMU's
- * lock, a number of steps at a time, so that no processor of the guest waits in its register access for a long ring. README.md says how it
- * is built, and what is trusted. */
+ * Rings, contexts, commands and the disk are the library's. A register write notes what is to be done and takes a number of steps; what is
+ * left is done by a bottom half, in turns, so that no processor of the guest waits in its register access for a long ring. README.md says
+ * how it is built, and what is trusted. */
 #include "qemu/osdep.h"
 #include "block/aio.h"
 #include "block/thread-pool.h"

@@ -58,8 +58,7 @@ handed-tells driver (Some event) tag =
     let sides = sides_of driver in
     let there : Event = Transfer event.pointer event.residual event.code 0 0 in
     let by = taken-matched (handled sides driver.frames there).1 tag in
-    let of = matched-exactly sides driver.frames there tag in
-    (
+    let of = matched-exactly sides driver.frames there tag in (
       (λ is. of.0 (by.0 is), λ is. by.1 (of.1 is)),
       (λ is. (engine-exactly sides driver.frames there).0 (taken-engine (handled sides driver.frames there).1 is)),
       λ is. left-told sides (handled sides driver.frames there).0 driver.frames there (handled sides driver.frames there).1 refl,
@@ -130,9 +129,9 @@ on-tells : (driver : DriverState) (pointer residual code : ℕ) (meaning : Meani
 on-tells driver pointer residual code meaning pipe stream tag =
     elim (is_told meaning && is_pending_at driver.lines pipe stream pointer) as (λ b.
     Tells (if b then told_pending driver pointer residual code meaning pipe stream
-      else (if is_begun_at driver.lines pipe stream pointer then told_begun driver pipe stream pointer residual meaning else strayed driver))
+    else (if is_begun_at driver.lines pipe stream pointer then told_begun driver pipe stream pointer residual meaning else strayed driver))
     (if b then look_pending driver pointer residual meaning pipe stream
-      else (if is_begun_at driver.lines pipe stream pointer then look_begun driver pointer residual meaning pipe stream else None)) driver tag) [
+    else (if is_begun_at driver.lines pipe stream pointer then look_begun driver pointer residual meaning pipe stream else None)) driver tag) [
       | true ↦ pending-tells driver pointer residual code meaning pipe stream tag
       | false ↦ elim (is_begun_at driver.lines pipe stream pointer) as (λ b.
           Tells (if b then told_begun driver pipe stream pointer residual meaning else strayed driver)
@@ -234,12 +233,12 @@ command-tells driver pointer code slot =
     elim driver.recovery as (λ o. IsCommands (command_by driver pointer code slot o) (is_some o) slot (is_waited driver pointer)) [
       | None ↦ ((λ is. absurd (cc), λ is. absurd (false-true false refl is.0)), λ tag is. (cc))
       | Some recovery ↦ elim (slot == SLOT) as (λ b. (slot == SLOT) ≡ b → IsCommands (made_by driver pointer code recovery (b && is_waited driver pointer)) true slot (is_waited driver pointer)) [
-          | false ↦ λ other. ((λ is. absurd (cc), λ is. absurd (false-true (slot == SLOT) other (eq-eqb slot SLOT is.1))), λ tag is. (cc))
-          | true ↦ λ same. elim (is_waited driver pointer) as (λ b. IsCommands (made_by driver pointer code recovery b) true slot b) [
-              | false ↦ ((λ is. absurd (cc), λ is. absurd (false-true false refl is.2)), λ tag is. (cc))
-              | true ↦ ((λ is. (refl, eqb-true slot SLOT same, refl), λ is. refl), λ tag is. (cc))
-            ]
-        ] refl
+        | false ↦ λ other. ((λ is. absurd (cc), λ is. absurd (false-true (slot == SLOT) other (eq-eqb slot SLOT is.1))), λ tag is. (cc))
+        | true ↦ λ same. elim (is_waited driver pointer) as (λ b. IsCommands (made_by driver pointer code recovery b) true slot b) [
+          | false ↦ ((λ is. absurd (cc), λ is. absurd (false-true false refl is.2)), λ tag is. (cc))
+          | true ↦ ((λ is. (refl, eqb-true slot SLOT same, refl), λ is. refl), λ tag is. (cc))
+        ]
+      ] refl
     ]
 
 -- AS THE CALL TELLS IT

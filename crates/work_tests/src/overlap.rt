@@ -4,11 +4,15 @@
 use crate::runs::{PLAN, ROOM, assert_done, made, ran};
 use crate::turns::{Turns, has_turn};
 use bus_core::Step;
+use std::alloc::{AllocError, Global};
+use std::process::Abort;
+use std::sync::Wait;
 use std::sync::atomic::AtomicU64;
 use std::sync::atomic::Ordering::SeqCst;
 use std::test::Fail;
+use std::thread::Threads;
 use std::time::Clock;
-use uas_work::Gate;
+use uas_work::{Gate, Plan, PumpCount};
 
 /// Holds the status of client 0's command until client 1's second reply is asked for.
 #[derive(Drop)]
@@ -38,15 +42,34 @@ impl<R: Clock> Gate for OverlapGate<'_, R> {
     }
 }
 
-/// Client 0's command is under way while client 1's WRITE and READ are answered.
-#[test]
-fn overlap_gate(rt: HostRuntime) -> Result<(), Fail> {
+/// Client 0's command is under way while client 1's WRITE and READ are answered, with so many pumps.
+fn overlap_with<R: Threads + Wait + Abort + Clock + Sync>(
+    rt: &R,
+    alloc: Global,
+    pumps: PumpCount,
+) -> Result<(), AllocError> {
     let gate = OverlapGate {
-        rt: &rt,
+        rt,
         turns: Turns::new(),
         asked: AtomicU64::new(0),
     };
-    let finished = ran(&rt, rt.alloc(), made(rt.alloc(), 2, ROOM)?, &gate, PLAN)?;
-    assert_done(&rt, &finished, 2, 9);
+    let plan = Plan { pumps, ..PLAN };
+    let finished = ran(rt, alloc, made(alloc, 2, ROOM)?, &gate, plan)?;
+    assert_done(rt, &finished, 2, 9);
     Ok(())
+}
+
+#[test]
+fn overlap_gate(rt: HostRuntime) -> Result<(), Fail> {
+    Ok(overlap_with(&rt, rt.alloc(), PumpCount::Two)?)
+}
+
+#[test]
+fn overlap_gate_of_one_pump(rt: HostRuntime) -> Result<(), Fail> {
+    Ok(overlap_with(&rt, rt.alloc(), PumpCount::One)?)
+}
+
+#[test]
+fn overlap_gate_of_four_pumps(rt: HostRuntime) -> Result<(), Fail> {
+    Ok(overlap_with(&rt, rt.alloc(), PumpCount::Four)?)
 }

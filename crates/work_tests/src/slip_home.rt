@@ -1,5 +1,5 @@
-//! One slip on one thread: a client posts a WRITE, and a pump books it.
-ghost use Rattle.std.specs.Prelude.{◌≡◌, IfOk, IfSome};
+//! Slips on one thread, from the desk into the log: a client posts one, and a pump books it.
+ghost use Rattle.std.specs.Prelude.{◌≡◌, ◌<◌, ◌^◌, IfOk, IfSome};
 ghost use Rattle.tag_desk.specs.Seats.{AreNewCustomers, AreServersBelow, IsClientOf, IsFreeAt, IsPumpOf, IsTagOf};
 ghost use Rattle.tag_desk.specs.Slips.{IsAsk, ticket_in};
 ghost use Rattle.std.specs.Prelude.{All};
@@ -7,21 +7,22 @@ ghost use Rattle.uas_profile.specs.declared.TheConstants.{TAGS};
 
 use crate::runs::{ROOM, is_filled, made};
 use bus_core::Step;
-use scsi_cmd::{Buffer, Command, Op};
+use scsi_cmd::{Buffer, Command, Op, Task};
 use std::alloc::{AllocError, Global};
+use std::process::Abort;
 use std::test::Fail;
 use tag_desk::{ClientSeat, Desk, Seats, Slip, WorkSeat};
-use uas_work::{Booked, Held, pump_in};
+use uas_work::{Booked, Booking, Held, pump_in};
 
 /// A WRITE of one block of bytes 5a with ticket 0.
-fn ask(alloc: Global) -> Result<Slip, AllocError>
+fn write(alloc: Global, fua: bool) -> Result<Slip, AllocError>
     ensures ticket { IfOk result (λ slip. ticket_in slip ≡ 0) }
-    ensures ask { IfOk result (IsAsk 1 0) }
+    ensures ask { IfOk result (λ slip. IsAsk 1 0 slip × IsAsk 5 0 slip) }
 {
     let op = Op::Write {
         lba: 0,
         count: 1,
-        fua: false,
+        fua,
     };
     let buffer = Buffer::from_vec(Vec::from_elem(alloc, 0x5a, 512)?);
     Ok(Slip::Ask {
@@ -36,7 +37,8 @@ fn first_client(desk: &Desk, mut seats: Vec<ClientSeat>) -> Option<ClientSeat>
     requires own { All (IsClientOf desk.now) seats.items }
     requires free { All (λ seat. (tag : _) → IsTagOf seat.client tag → IsFreeAt seat tag) seats.items }
     ensures own { IfSome result (IsClientOf desk.now) }
-    ensures first { IfSome result (λ seat. (seat.client ≡ 0) × (seat.least_ticket ≡ 0) × IsFreeAt seat 1) }
+    ensures first { IfSome result (λ seat. (seat.client ≡ 0) × (seat.least_ticket ≡ 0)
+        × (IsFreeAt seat 1 × (IsFreeAt seat 5 × IsFreeAt seat 16))) }
 {
     seats.pop()
 }
@@ -52,31 +54,36 @@ fn first_pump(desk: &Desk, mut seats: Vec<WorkSeat>) -> Option<WorkSeat>
     seats.pop()
 }
 
-/// Posts the WRITE on tag 1 of a seat of client 0 that posted nothing.
-fn posts(alloc: Global, desk: &Desk, seat: &mut ClientSeat) -> Result<(), AllocError>
-    requires own { IsClientOf desk.now seat.old }
-    requires first { (seat.old.client ≡ 0) × (seat.old.least_ticket ≡ 0) × IsFreeAt seat.old 1 }
-{
-    desk.post(seat, 1, ask(alloc)?);
-    Ok(())
-}
-
-/// A bus of one client and its log, on which the pump booked what client 0 posted; none where it found nothing.
-fn booked_by(alloc: Global, desk: &Desk, seat: &mut WorkSeat) -> Result<Option<Booked>, AllocError>
+/// What a pump made of the one slip on the desk, and the bus and its log, which may hold so many steps.
+fn pumped(
+    alloc: Global,
+    desk: &Desk,
+    seat: &mut WorkSeat,
+    limit: usize,
+) -> Result<(Booked, Result<bool, Booking>), AllocError>
     requires desk { (desk.now.clients ≡ 1) × (desk.now.pumps ≡ 1) }
     requires own { IsPumpOf desk.now seat.old }
     requires first { seat.old.pump ≡ 0 }
+    requires limit { limit < 2 ^ 32 }
 {
-    let mut booked = made(alloc, 1, ROOM)?;
+    let mut booked = made(alloc, 1, limit)?;
     let mut held = Held::new(alloc, 1)?;
-    match pump_in(alloc, &mut booked, desk, seat, &mut held, 0) {
-        Ok(true) => Ok(Some(booked)),
-        Ok(false) | Err(_) => Ok(None),
-    }
+    let took = pump_in(alloc, &mut booked, desk, seat, &mut held, 0);
+    Ok((booked, took))
 }
 
-/// What a pump booked of the WRITE that the client of a new desk posted.
-fn booked(alloc: Global) -> Result<Option<Booked>, AllocError> {
+/// What a pump made of a slip that the client of a new desk posted on a tag.
+fn posted(
+    alloc: Global,
+    tag: u16,
+    slip: Slip,
+    limit: usize,
+) -> Result<Option<(Booked, Result<bool, Booking>)>, AllocError>
+    requires tag { (tag ≡ 1) ⊎ ((tag ≡ 5) ⊎ (tag ≡ 16)) }
+    requires ticket { ticket_in slip ≡ 0 }
+    requires ask { IsAsk tag 0 slip }
+    requires limit { limit < 2 ^ 32 }
+{
     let (desk, seats) = Desk::new(alloc, 1, 1)?;
     let Seats { clients, pumps } = seats;
     let Some(mut client) = first_client(&desk, clients) else {
@@ -85,36 +92,77 @@ fn booked(alloc: Global) -> Result<Option<Booked>, AllocError> {
     let Some(mut pump) = first_pump(&desk, pumps) else {
         return Ok(None);
     };
-    posts(alloc, &desk, &mut client)?;
-    booked_by(alloc, &desk, &mut pump)
+    desk.post(&mut client, tag, slip);
+    Ok(Some(pumped(alloc, &desk, &mut pump, limit)?))
 }
 
-/// Whether it is client 0's WRITE on tag 1 with 512 bytes 5a.
-fn is_posted(step: &Step) -> bool {
-    match step {
-        Step::Submit {
+/// Whether a pump took one slip, and the one step of its log is a WRITE with 512 bytes 5a on a tag.
+fn is_written(made: &Option<(Booked, Result<bool, Booking>)>, on: u16, with_fua: bool) -> bool {
+    let Some((booked, Ok(true))) = made else {
+        return false;
+    };
+    match booked.log().steps.as_slice() {
+        [Step::Submit {
             client: 0,
-            tag: 1,
+            tag,
             ticket: 0,
             command,
-        } => is_filled(command.buffer.as_slice(), 512, 0x5a),
-        _ => false,
-    }
-}
-
-/// Whether it is one step, which is that WRITE.
-fn are_posted(steps: &[Step]) -> bool {
-    match steps {
-        [step] => is_posted(step),
+        }] => {
+            let is_kind = match command.op {
+                Op::Write { fua, .. } => fua == with_fua,
+                _ => false,
+            };
+            is_kind && *tag == on && is_filled(command.buffer.as_slice(), 512, 0x5a)
+        }
         _ => false,
     }
 }
 
 #[test]
 fn slip_home(rt: HostRuntime) -> Result<(), Fail> {
-    let Some(booked) = booked(rt.alloc())? else {
-        return Ok(assert!(rt; false, "nothing booked"));
+    let made = posted(rt.alloc(), 1, write(rt.alloc(), false)?, ROOM)?;
+    assert!(rt; is_written(&made, 1, false));
+    Ok(())
+}
+
+/// A WRITE with FUA on the fifth tag.
+#[test]
+fn slip_with_fua(rt: HostRuntime) -> Result<(), Fail> {
+    let made = posted(rt.alloc(), 5, write(rt.alloc(), true)?, ROOM)?;
+    assert!(rt; is_written(&made, 5, true));
+    Ok(())
+}
+
+/// A task management, which goes on the client's last tag.
+#[test]
+fn task_slip(rt: HostRuntime) -> Result<(), Fail> {
+    let slip = Slip::AskTask {
+        ticket: 0,
+        task: Task::Query { tag: 3 },
     };
-    assert!(rt; are_posted(booked.log().steps.as_slice()));
+    let Some((booked, took)) = posted(rt.alloc(), 16, slip, ROOM)? else {
+        return Ok(assert!(rt; false, "no desk"));
+    };
+    assert!(rt; took == Ok(true));
+    let is_booked = matches!(
+        booked.log().steps.as_slice(),
+        [Step::Task {
+            client: 0,
+            ticket: 0,
+            task: Task::Query { tag: 3 },
+        }]
+    );
+    assert!(rt; is_booked);
+    Ok(())
+}
+
+/// A pump that may book no step says so, and books none.
+#[test]
+fn full_log(rt: HostRuntime) -> Result<(), Fail> {
+    let Some((booked, took)) = posted(rt.alloc(), 1, write(rt.alloc(), false)?, 0)? else {
+        return Ok(assert!(rt; false, "no desk"));
+    };
+    assert!(rt; took == Err(Booking::LogFull));
+    assert_eq!(rt; booked.log().steps.len(), 0);
     Ok(())
 }

@@ -7,16 +7,20 @@ use std::time::{Clock, Duration};
 /// After so many turns or waits a worker gets no more.
 pub(crate) const MOST_TURNS: u64 = 10_000;
 
+/// The most workers: two clients, four pumps, two controllers, a dispatcher.
+const WORKERS: usize = 9;
+
 /// From this one on it sleeps before each.
 const AWAKE: u64 = 100;
 
 /// The turns of each worker that were counted.
 #[derive(Drop)]
-pub(crate) struct Turns([AtomicU64; 8]);
+pub(crate) struct Turns([AtomicU64; WORKERS]);
 
 impl Turns {
     pub(crate) fn new() -> Turns {
         Turns([
+            AtomicU64::new(0),
             AtomicU64::new(0),
             AtomicU64::new(0),
             AtomicU64::new(0),

@@ -10,14 +10,14 @@ use crate::Server;
 use bus_core::{Outcome, Step};
 use scsi_cmd::{Buffer, Command, Op, Reply};
 use std::alloc::{AllocError, Global};
-use uas_profile::BLOCK_BYTES;
+use uas_profile::{BLOCK_BYTES, MOST_BLOCKS_MOVED, TASK_SLOT};
 use uas_replay::DRAIN_LIMIT;
 
-/// How many blocks a piece has.
-pub(crate) const PIECE_BLOCKS: usize = 128;
+/// How many blocks a piece has: as many as a command moves.
+pub(crate) const PIECE_BLOCKS: usize = MOST_BLOCKS_MOVED as usize;
 
-/// How many pieces are handed in at once.
-pub(crate) const BATCH_PIECES: usize = 15;
+/// How many pieces are handed in at once: one on each command tag of a client, which are those below its task tag.
+pub(crate) const BATCH_PIECES: usize = TASK_SLOT;
 
 /// How many blocks these are.
 pub(crate) const BATCH_BLOCKS: usize = PIECE_BLOCKS * BATCH_PIECES;
@@ -25,7 +25,7 @@ pub(crate) const BATCH_BLOCKS: usize = PIECE_BLOCKS * BATCH_PIECES;
 /// No ticket reaches this one.
 const TICKETS: u64 = 1_152_921_504_606_846_976;
 
-const _: () = prove!(BATCH_BLOCKS == 1920 && TICKETS == 0x1000_0000_0000_0000);
+const _: () = prove!(PIECE_BLOCKS == 128 && BATCH_PIECES == 15 && BATCH_BLOCKS == 1920 && TICKETS == 0x1000_0000_0000_0000);
 
 /// How many pieces so many blocks are.
 pub(crate) fn pieces_of(count: usize) -> usize

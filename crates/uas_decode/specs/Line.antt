@@ -9,7 +9,7 @@ use Rattle.hex.specs.declared.error.FromHexError.{FromHexError}
 use Rattle.hex.specs.declared.error.FromHexError.TheVariants.{InvalidHexCharacter}
 use Rattle.byte_io.specs.Words.{number_in}
 use Rattle.uas_decode.specs.declared.Kind.{Kind}
-use Rattle.uas_decode.specs.declared.Kind.TheVariants.{Unit as UnitKind, Trb, Context, Doorbell, Cdb, Sense}
+use Rattle.uas_decode.specs.declared.Kind.TheVariants.{Unit as UnitKind, Trb, Context, Doorbell, Cdb, HostCdb, Sense}
 use Rattle.uas_decode.specs.declared.LineFault.{LineFault}
 use Rattle.uas_decode.specs.declared.LineFault.TheVariants.{NoDigits, NotHex, WrongNumberOfDigits}
 
@@ -25,7 +25,8 @@ kind_named word =
     else (if bytes_eq word (codes "bell") then Some Doorbell
     else (if bytes_eq word (codes "cdb") then Some Cdb
     else (if bytes_eq word (codes "sense") then Some Sense
-    else None))))))))
+    else (if bytes_eq word (codes "host") then Some HostCdb
+    else None)))))))))
 
 -- the digits of a word, which may begin with 0x or 0X
 unfoldable pub digits_in : List ℕ → List ℕ

@@ -1,5 +1,5 @@
 -- What a line tells: where its bytes stand, if it says so, and what they mean to the codec of their kind, or why they mean nothing.
-use Rattle.std.specs.Prelude.{ℕ, ◌+◌, ◌-◌, ◌*◌, ◌/◌, ◌%◌, ◌==◌, nat_lt, nat_le, Bool, true, false, not, ◌&&◌, ◌||◌, if◌then◌else◌, List, ◌++◌, length}
+use Rattle.std.specs.Prelude.{ℕ, ◌+◌, ◌-◌, ◌*◌, ◌/◌, ◌%◌, ◌^◌, ◌==◌, nat_lt, nat_le, Bool, true, false, not, ◌&&◌, ◌||◌, if◌then◌else◌, List, ◌++◌, length}
 use Rattle.std.specs.Prelude.{take, drop, replicate, slice_index, slice_index_or, slice_get, codes, Option, Some, None, option_map, option_and_then, Result, Ok, Err, []}
 use Rattle.std.specs.List.{list_all}
 use Rattle.std.specs.Str.{bytes_eq}
@@ -19,7 +19,15 @@ use Rattle.xhci_trb.specs.Reader.{trb_in, cycle_in}
 use Rattle.scsi_cmd.specs.declared.Op.{Op}
 use Rattle.scsi_cmd.specs.declared.Sense.{Sense}
 use Rattle.scsi_cmd.specs.Meaning.{asked}
-use Rattle.scsi_cmd.specs.Sense.{sense_bytes}
+use Rattle.scsi_cmd.specs.Sense.{sense_bytes, invalid_operation_code}
+use Rattle.host_commands.specs.declared.BlockLength.TheVariants.{Bytes512}
+use Rattle.host_commands.specs.declared.CommandSet.TheVariants.{Host}
+use Rattle.host_commands.specs.declared.HostCommand.{HostCommand}
+use Rattle.host_commands.specs.declared.Work.{Work}
+use Rattle.host_commands.specs.Commands.{named_command}
+use Rattle.host_commands.specs.Fields.{action_in}
+use Rattle.host_commands.specs.Meaning.{asked_of}
+use Rattle.host_commands.specs.Shapes.{Shape}
 use Rattle.stream_array.specs.declared.Dequeue.{Dequeue}
 use Rattle.uas_decode.specs.declared.Answer.{Answer}
 use Rattle.uas_decode.specs.declared.Meaning.{Meaning}
@@ -143,6 +151,28 @@ cdb_told blocks bytes =
     then op_told (asked (bytes ++ replicate (16 - length bytes) 0) blocks)
     else refused WrongNumberOfDigits
 
+-- The largest logical unit that there can be, and the longest transfer: the bytes of a CDB of the host set don't tell those of its device.
+abbrev pub largest : Shape
+largest = record { blocks = 2 ^ 48; block_length = Bytes512; serial = 0 }
+
+abbrev pub work_told : HostCommand → Result Work Sense → Told
+work_told command (Ok work) = Ok (answer (meaning.HostCdb command work))
+work_told command (Err sense) = Err (refusal.Cdb sense)
+
+abbrev pub host_asked : List ℕ → Told
+host_asked cdb = of_command (named_command (slice_index cdb 0) (action_in cdb))
+  where
+    of_command : Option HostCommand → Told
+    of_command None = Err (refusal.Cdb invalid_operation_code)
+    of_command (Some command) = work_told command (asked_of cdb (Host 65528) largest 1 None)
+
+-- a CDB of the host set, filled up with zeros
+unfoldable pub host_told : List ℕ → Told
+host_told bytes =
+    if length bytes == 6 || length bytes == 10 || length bytes == 12 || length bytes == 16
+    then host_asked (bytes ++ replicate (16 - length bytes) 0)
+    else refused WrongNumberOfDigits
+
 -- the key and the codes in fixed sense data
 abbrev pub sense_in : List ℕ → Sense
 sense_in bytes = record { key = slice_index bytes 2; asc = slice_index bytes 12; ascq = slice_index bytes 13 }
@@ -166,6 +196,7 @@ answer_of_bytes kind.Trb leads bytes = trb_split leads bytes
 answer_of_bytes kind.Context leads bytes = context_told bytes
 answer_of_bytes kind.Doorbell leads bytes = doorbell_told bytes
 answer_of_bytes kind.Cdb leads bytes = cdb_told 65536 bytes
+answer_of_bytes kind.HostCdb leads bytes = host_told bytes
 answer_of_bytes kind.Sense leads bytes = sense_told bytes
 
 abbrev pub on_bytes : (List ℕ → Told) → Result (List ℕ) LineFault → Told

@@ -12,6 +12,17 @@ use Rattle.scsi_cmd.specs.declared.Op.TheVariants.{TestUnitReady, Inquiry, ReadC
 use Rattle.scsi_cmd.specs.declared.Sense.{Sense}
 use Rattle.scsi_cmd.specs.Meaning.{asked}
 use Rattle.scsi_cmd.specs.declared.TheConstants.{CHECK_CONDITION}
+use Rattle.host_commands.specs.declared.Data.{Data}
+use Rattle.host_commands.specs.declared.Data.TheVariants as data
+use Rattle.host_commands.specs.declared.HostCommand.{HostCommand}
+use Rattle.host_commands.specs.declared.HostCommand.TheVariants as host
+use Rattle.host_commands.specs.declared.ModeData.{ModeData}
+use Rattle.host_commands.specs.declared.ModePages.{ModePages}
+use Rattle.host_commands.specs.declared.ModePages.TheVariants as mode
+use Rattle.host_commands.specs.declared.VitalPage.{VitalPage}
+use Rattle.host_commands.specs.declared.VitalPage.TheVariants as page
+use Rattle.host_commands.specs.declared.Work.{Work}
+use Rattle.host_commands.specs.declared.Work.TheVariants as work
 use Rattle.stream_array.specs.declared.Dequeue.{Dequeue}
 use Rattle.uas_iu.specs.declared.Iu.{Iu}
 use Rattle.uas_iu.specs.declared.Iu.TheVariants as unit
@@ -170,6 +181,85 @@ op_fields (ReadCapacity16 allocation) = allocation_words allocation
 unfoldable pub op_words : Op → List ℕ
 op_words op = op_name op ++ op_fields op
 
+-- THE HOST SET
+
+-- a command's name in SPC or SBC
+unfoldable pub host_name : HostCommand → List ℕ
+host_name host.TestUnitReady = codes "TEST UNIT READY"
+host_name host.RequestSense = codes "REQUEST SENSE"
+host_name host.Read6 = codes "READ(6)"
+host_name host.Write6 = codes "WRITE(6)"
+host_name host.Inquiry = codes "INQUIRY"
+host_name host.ModeSense6 = codes "MODE SENSE(6)"
+host_name host.StartStopUnit = codes "START STOP UNIT"
+host_name host.ReadCapacity10 = codes "READ CAPACITY(10)"
+host_name host.Read10 = codes "READ(10)"
+host_name host.Write10 = codes "WRITE(10)"
+host_name host.Verify10 = codes "VERIFY(10)"
+host_name host.SynchronizeCache10 = codes "SYNCHRONIZE CACHE(10)"
+host_name host.ModeSense10 = codes "MODE SENSE(10)"
+host_name host.Read16 = codes "READ(16)"
+host_name host.Write16 = codes "WRITE(16)"
+host_name host.Verify16 = codes "VERIFY(16)"
+host_name host.SynchronizeCache16 = codes "SYNCHRONIZE CACHE(16)"
+host_name host.ReadCapacity16 = codes "READ CAPACITY(16)"
+host_name host.ReportLuns = codes "REPORT LUNS"
+host_name host.ReportSupportedOperationCodes = codes "REPORT SUPPORTED OPERATION CODES"
+host_name host.ReportSupportedTaskManagementFunctions = codes "REPORT SUPPORTED TASK MANAGEMENT FUNCTIONS"
+host_name host.Read12 = codes "READ(12)"
+host_name host.Write12 = codes "WRITE(12)"
+host_name host.Verify12 = codes "VERIFY(12)"
+
+-- a page of vital product data by its name
+unfoldable pub page_name : VitalPage → List ℕ
+page_name page.SupportedPages = codes "supported pages"
+page_name (page.UnitSerialNumber x) = codes "unit serial number"
+page_name (page.DeviceIdentification x) = codes "device identification"
+page_name (page.BlockLimits x) = codes "block limits"
+page_name page.BlockDeviceCharacteristics = codes "block device characteristics"
+page_name page.LogicalBlockProvisioning = codes "logical block provisioning"
+
+unfoldable pub mode_name : ModePages → List ℕ
+mode_name mode.Caching = codes "caching"
+mode_name mode.Control = codes "control"
+mode_name mode.All = codes "all"
+
+unfoldable pub mode_words : ModeData → List ℕ
+mode_words asked = codes " page " ++ mode_name asked.pages ++ flag_word asked.changeable (codes " changeable")
+
+abbrev pub described : Option HostCommand → List ℕ
+described None = codes " of an unknown command"
+described (Some command) = codes " of " ++ host_name command
+
+unfoldable pub timeouts_word : Bool → List ℕ
+timeouts_word is_set = flag_word is_set (codes " timeouts")
+
+-- the data that a command asks for; READ CAPACITY(10) has no allocation length
+unfoldable pub data_words : Data → ℕ → List ℕ
+data_words (data.Inquiry present) allocation = allocation_words allocation
+data_words (data.VitalProductData page present) allocation = codes " page " ++ page_name page ++ allocation_words allocation
+data_words (data.RequestSense sense) allocation = allocation_words allocation
+data_words (data.LogicalUnits count) allocation = allocation_words allocation
+data_words (data.Mode asked) allocation = mode_words asked ++ allocation_words allocation
+data_words (data.OperationCodes timeouts) allocation = timeouts_word timeouts ++ allocation_words allocation
+data_words (data.OperationCode command timeouts) allocation = described command ++ timeouts_word timeouts ++ allocation_words allocation
+data_words (data.TaskManagementFunctions extended) allocation = flag_word extended (codes " extended") ++ allocation_words allocation
+data_words (data.Capacity last_block block_length) allocation = []
+data_words (data.LongCapacity last_block block_length) allocation = allocation_words allocation
+
+unfoldable pub work_words : Work → List ℕ
+work_words work.Nothing = []
+work_words (work.Gives given allocation) = data_words given allocation
+work_words (work.Reads lba count) = range_words lba count
+work_words (work.Writes lba count through) = range_words lba count ++ fua_word through
+work_words (work.Synchronizes lba count) = range_words lba count
+work_words (work.Verifies lba count) = range_words lba count
+work_words (work.Compares lba count) = range_words lba count ++ codes " compared"
+
+-- By hand: 12 01 B0 00 40 00 is `INQUIRY page block limits allocation 64`; A8 00 00 00 00 05 00 00 00 08 00 00 is `READ(12) lba 5 count 8`.
+unfoldable pub host_words : HostCommand → Work → List ℕ
+host_words command work = host_name command ++ work_words work
+
 -- UNITS
 
 -- a LUN below 256 by its number, any other by its bytes
@@ -248,6 +338,7 @@ meaning_words (meaning.Trb trb cycle) = trb_words trb cycle
 meaning_words (meaning.Context entry) = context_words entry
 meaning_words (meaning.Doorbell target stream) = doorbell_words target stream
 meaning_words (meaning.Cdb op) = codes "CDB: " ++ op_words op
+meaning_words (meaning.HostCdb command work) = codes "CDB: " ++ host_words command work
 meaning_words (meaning.Sense sense) = codes "Sense: " ++ sense_words sense
 
 -- the name of the address that a line has

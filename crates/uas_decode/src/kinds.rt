@@ -2,10 +2,11 @@
 
 ghost use Rattle.std.specs.Prelude.{◌≡◌, ◌-◌, ◌≤◌, ◌==◌, ◌++◌, None, replicate, length};
 ghost use Rattle.std.specs.List.{list_all};
-ghost use Rattle.uas_decode.specs.Meaning.{address_in, answer_of_bytes, cdb_told, context_read, context_told, doorbell_told, is_sized, sense_read};
-ghost use Rattle.uas_decode.specs.Meaning.{sense_told, trb_split, trb_told, unit_read, unit_split, unit_told};
+ghost use Rattle.uas_decode.specs.Meaning.{address_in, answer_of_bytes, cdb_told, context_read, context_told, doorbell_told, host_asked, host_told};
+ghost use Rattle.uas_decode.specs.Meaning.{is_sized, sense_read, sense_told, trb_split, trb_told, unit_read, unit_split, unit_told};
 
 use crate::{Answer, Kind, LineFault, Meaning, Refusal};
+use host_commands::{BlockLength, CommandSet, LogicalUnitShape, MOST_BLOCKS, SerialNumber, named_command, read};
 use scsi_cmd::{Sense, parse};
 use stream_array::Dequeue;
 use uas_iu::{Iu, IuFault};
@@ -22,6 +23,12 @@ const MOST_UNIT_BYTES: usize = 4096;
 /// How many blocks a unit has where a line doesn't say it.
 const BLOCKS: u32 = 65_536;
 
+/// The most blocks that a command of the host set can move.
+const MOST_TRANSFER_BLOCKS: u16 = 65_528;
+
+/// The service action of a CDB is in these bits of byte 1.
+const SERVICE_ACTION: u8 = 0x1f;
+
 /// What bytes of a kind tell, of which the first 8 may be an address.
 #[tactic(auto, unfolding(crate::specs::Meaning::answer_of_bytes))]
 pub(crate) fn answer_of_bytes(kind: Kind, leads: bool, bytes: &[u8]) -> Result<Answer, Refusal>
@@ -33,6 +40,7 @@ pub(crate) fn answer_of_bytes(kind: Kind, leads: bool, bytes: &[u8]) -> Result<A
         Kind::Context => context_told(bytes),
         Kind::Doorbell => doorbell_told(bytes),
         Kind::Cdb => cdb_told(BLOCKS, bytes),
+        Kind::HostCdb => host_told(bytes),
         Kind::Sense => sense_told(bytes),
     }
 }
@@ -213,6 +221,36 @@ pub(crate) fn cdb_told(blocks: u32, bytes: &[u8]) -> Result<Answer, Refusal>
     }
     match parse(&padded(bytes), blocks) {
         Ok(op) => Ok(answer(Meaning::Cdb(op))),
+        Err(sense) => Err(Refusal::Cdb(sense)),
+    }
+}
+
+/// A CDB of the host set.
+#[tactic(auto, unfolding(crate::specs::Meaning::host_told))]
+fn host_told(bytes: &[u8]) -> Result<Answer, Refusal>
+    ensures { result ≡ host_told bytes.now }
+{
+    match bytes.len() {
+        6 | 10 | 12 | 16 => host_asked(&padded(bytes)),
+        _ => Err(Refusal::Line(LineFault::WrongNumberOfDigits)),
+    }
+}
+
+/// What a CDB of the host set asks for, of the largest logical unit and with the longest transfer that there can be.
+fn host_asked(cdb: &[u8; TRB_BYTES]) -> Result<Answer, Refusal>
+    ensures { result ≡ host_asked cdb.now }
+{
+    let Some(command) = named_command(cdb[0], cdb[1] & SERVICE_ACTION) else {
+        return Err(Refusal::Cdb(Sense::INVALID_OPERATION_CODE));
+    };
+    let (Ok(set), Ok(serial)) = (CommandSet::host(MOST_TRANSFER_BLOCKS), SerialNumber::new(0)) else {
+        unreachable!();
+    };
+    let Ok(shape) = LogicalUnitShape::new(MOST_BLOCKS, BlockLength::Bytes512, serial) else {
+        unreachable!();
+    };
+    match read(cdb, &set, &shape, 1, None) {
+        Ok(work) => Ok(answer(Meaning::HostCdb { command, work })),
         Err(sense) => Err(Refusal::Cdb(sense)),
     }
 }

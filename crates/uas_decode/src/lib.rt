@@ -5,8 +5,8 @@
 //! their order, and keeps none of them: the answers of the lines that one read brought go out before the next read.
 //!
 //! What is promised: each line's meaning (specs/Meaning.antt) is what the codecs answer for its bytes, `uas_iu` for a unit, `xhci_trb` for
-//! a TRB, `scsi_cmd` for a CDB and for sense, `stream_array`'s context for a context, or the refusal with its name; what is printed is
-//! that meaning's text (specs/Printed.antt); and the output is the answers of all lines, one after the other (specs/Runs.antt). An address
+//! a TRB, `scsi_cmd` for a CDB of the profile and for sense, `host_commands` for one of the host set, `stream_array`'s context for a
+//! context, or the refusal with its name; what is printed is that meaning's text (specs/Printed.antt, HostPrinted.antt); and the output is the answers of all lines, one after the other (specs/Runs.antt). An address
 //! is named by the address maps of `stream_array` and `frame_store`. A line of another first word stays as it is.
 //!
 //! It stands on the codecs, the address maps, and readers and writers; it knows no host, no device and no bus.
@@ -18,6 +18,7 @@ mod named;
 mod printed;
 mod run;
 
+use host_commands::{HostCommand, Work};
 pub use run::{DONE, FAULT, NO_MEMORY, REFUSED, run_decode};
 use scsi_cmd::{Op, Sense};
 use stream_array::Dequeue;
@@ -35,8 +36,10 @@ pub enum Kind {
     Context,
     /// A doorbell.
     Doorbell,
-    /// A CDB.
+    /// A CDB of the profile.
     Cdb,
+    /// A CDB of the host set.
+    HostCdb,
     /// Fixed sense data.
     Sense,
 }
@@ -52,8 +55,10 @@ pub enum Meaning {
     Context(Option<Dequeue>),
     /// A doorbell.
     Doorbell { target: u8, stream: u16 },
-    /// What a CDB asks for.
+    /// What a CDB of the profile asks for.
     Cdb(Op),
+    /// The command of a CDB of the host set, and what it does.
+    HostCdb { command: HostCommand, work: Work },
     /// Fixed sense data.
     Sense(Sense),
 }

@@ -77,6 +77,8 @@ fn kind_named(word: &[u8]) -> Option<Kind>
         Some(Kind::Cdb)
     } else if is_word(word, "sense") {
         Some(Kind::Sense)
+    } else if is_word(word, "host") {
+        Some(Kind::HostCdb)
     } else {
         None
     }
@@ -94,7 +96,9 @@ fn kind_answer(
     match kind {
         Kind::Context => context_answer(alloc, words),
         Kind::Cdb => cdb_answer(alloc, words),
-        Kind::Unit | Kind::Trb | Kind::Doorbell | Kind::Sense => bytes_answer(alloc, kind, words),
+        Kind::Unit | Kind::Trb | Kind::Doorbell | Kind::HostCdb | Kind::Sense => {
+            bytes_answer(alloc, kind, words)
+        }
     }
 }
 

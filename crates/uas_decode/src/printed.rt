@@ -9,11 +9,13 @@ use crate::{Answer, Meaning, Refusal};
 use std::alloc::{AllocError, Global};
 use stream_array::Dequeue;
 
+mod host;
 mod names;
 mod pointers;
 mod trbs;
 mod units;
 
+use host::push_host;
 use names::{door_name, line_fault_name, trb_fault_name, unit_fault_name};
 use pointers::push_pointer;
 use trbs::{push_dcs, push_stream, push_trb};
@@ -81,6 +83,10 @@ fn push_meaning(alloc: Global, text: &mut Vec<u8>, meaning: &Meaning) -> Result<
         Meaning::Cdb(op) => {
             text.extend_from_slice(b"CDB: ")?;
             push_op(alloc, text, op)
+        }
+        Meaning::HostCdb { command, work } => {
+            text.extend_from_slice(b"CDB: ")?;
+            push_host(alloc, text, *command, work)
         }
         Meaning::Sense(sense) => {
             text.extend_from_slice(b"Sense: ")?;

@@ -232,7 +232,7 @@ fn push_op_fields(alloc: Global, text: &mut Vec<u8>, op: &Op) -> Result<(), Allo
 
 /// Adds ` allocation N`.
 #[tactic(auto, unfolding(crate::specs::Printed::allocation_words))]
-fn push_allocation(alloc: Global, text: &mut Vec<u8>, allocation: u32) -> Result<(), AllocError>
+pub(super) fn push_allocation(alloc: Global, text: &mut Vec<u8>, allocation: u32) -> Result<(), AllocError>
     ensures { OnOk result (text.new.items ≡ text.old.items ++ allocation_words allocation) }
 {
     let words = format!(in alloc; " allocation {allocation}")?;
@@ -241,7 +241,7 @@ fn push_allocation(alloc: Global, text: &mut Vec<u8>, allocation: u32) -> Result
 
 /// Adds ` lba L count C`.
 #[tactic(auto, unfolding(crate::specs::Printed::range_words))]
-fn push_range(alloc: Global, text: &mut Vec<u8>, lba: u64, count: u32) -> Result<(), AllocError>
+pub(super) fn push_range(alloc: Global, text: &mut Vec<u8>, lba: u64, count: u32) -> Result<(), AllocError>
     ensures { OnOk result (text.new.items ≡ text.old.items ++ range_words lba count) }
 {
     let words = format!(in alloc; " lba {lba} count {count}")?;
@@ -250,7 +250,7 @@ fn push_range(alloc: Global, text: &mut Vec<u8>, lba: u64, count: u32) -> Result
 
 /// Adds ` FUA` where it is set.
 #[tactic(auto, unfolding(crate::specs::Printed::fua_word))]
-fn push_fua(text: &mut Vec<u8>, fua: bool) -> Result<(), AllocError>
+pub(super) fn push_fua(text: &mut Vec<u8>, fua: bool) -> Result<(), AllocError>
     ensures { OnOk result (text.new.items ≡ text.old.items ++ fua_word fua) }
 {
     if fua {

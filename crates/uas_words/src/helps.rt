@@ -41,8 +41,8 @@ Examples:
 
 /// What `decode` reads, and an example.
 pub(crate) const DECODE_HELP: &str = "\
-A line whose first word is unit, put, link, event, trb, context, bell, cdb or sense has bytes behind it, in hexadecimal
-digits; what they say is printed behind the line. Every other line stays as it is.
+A line whose first word is unit, put, link, event, trb, context, bell, cdb, host or sense has bytes behind it, in
+hexadecimal digits; what they say is printed behind the line. Every other line stays as it is.
 
 Example:
   uasdisk trace 1 100 < examples/first-reply.script | uasdisk decode";

@@ -40,7 +40,10 @@ fn runs_of_every_length(rt: HostRuntime) -> Result<(), Fail> {
     for count in 1..2001usize {
         let steps = idle_steps(alloc, count)?;
         let ran = bus.run(alloc, steps);
-        assert!(rt; ran.is_ok_and(|trace| trace.outcomes().len() == count), "a run is refused");
+        assert!(rt;
+            ran.is_ok_and(|trace| trace.outcomes().len() == count),
+            "a run is refused"
+        );
     }
     Ok(())
 }
@@ -58,7 +61,10 @@ fn buses_of_every_size(rt: HostRuntime) -> Result<(), Fail> {
     }
     let mut blocks = 1u32;
     while blocks <= MAX_BLOCKS {
-        assert!(rt; Unit::new(alloc, blocks, even_blocks(alloc)?).is_ok(), "a unit is refused");
+        assert!(rt;
+            Unit::new(alloc, blocks, even_blocks(alloc)?).is_ok(),
+            "a unit is refused"
+        );
         blocks = 2 * blocks;
     }
     Ok(())

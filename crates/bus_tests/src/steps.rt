@@ -89,7 +89,9 @@ pub(crate) fn are_same(one: &Reply, other: &Reply) -> bool {
                 buffer: other_buffer,
             },
         ) => {
-            tag == other_tag && ticket == other_ticket && status == other_status
+            tag == other_tag
+                && ticket == other_ticket
+                && status == other_status
                 && sense.as_slice() == other_sense.as_slice()
                 && buffer.as_slice() == other_buffer.as_slice()
         }
@@ -105,15 +107,12 @@ pub(crate) fn are_same(one: &Reply, other: &Reply) -> bool {
                 buffer: other_buffer,
             },
         ) => {
-            tag == other_tag && ticket == other_ticket
+            tag == other_tag
+                && ticket == other_ticket
                 && buffer.as_slice() == other_buffer.as_slice()
         }
         (
-            Reply::Task {
-                tag,
-                ticket,
-                code,
-            },
+            Reply::Task { tag, ticket, code },
             Reply::Task {
                 tag: other_tag,
                 ticket: other_ticket,

@@ -25,7 +25,12 @@ pub(crate) const BATCH_BLOCKS: usize = PIECE_BLOCKS * BATCH_PIECES;
 /// No ticket reaches this one.
 const TICKETS: u64 = 1_152_921_504_606_846_976;
 
-const _: () = prove!(PIECE_BLOCKS == 128 && BATCH_PIECES == 15 && BATCH_BLOCKS == 1920 && TICKETS == 0x1000_0000_0000_0000);
+const _: () = prove!(
+    PIECE_BLOCKS == 128
+        && BATCH_PIECES == 15
+        && BATCH_BLOCKS == 1920
+        && TICKETS == 0x1000_0000_0000_0000
+);
 
 /// How many pieces so many blocks are.
 pub(crate) fn pieces_of(count: usize) -> usize

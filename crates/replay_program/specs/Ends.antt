@@ -12,8 +12,8 @@ abbrev pub Ends : Run → Option (List ℕ) → Option (List ℕ) → Option (Li
 Ends (Replay disks) input old new status =
     ((status ≤ 1) ⊎ ((status ≡ 3) ⊎ (status ≡ 4)))
     × (status ≤ 1 → IfSome input (λ bytes.
-        Tells (zeroed_units disks.clients disks.blocks disks.bad) (script disks.clients bytes) old new status))
+    Tells (zeroed_units disks.clients disks.blocks disks.bad) (script disks.clients bytes) old new status))
 Ends (Trace disks) input old new status =
     ((status ≤ 1) ⊎ ((status ≡ 3) ⊎ (status ≡ 4)))
     × (status ≤ 1 → IfSome input (λ bytes.
-        TracesScript (zeroed_units disks.clients disks.blocks disks.bad) (script disks.clients bytes) old new))
+    TracesScript (zeroed_units disks.clients disks.blocks disks.bad) (script disks.clients bytes) old new))

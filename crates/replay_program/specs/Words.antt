@@ -15,7 +15,7 @@ disks_of (Trace disks) = disks
 abbrev pub disks_with : List ℕ → List ℕ → Option ℕ → Option Disks
 disks_with clients blocks bad =
     option_and_then (λ count. option_map (λ size. record { clients = count; blocks = size; bad = bad }) (number_in 1 MAX_BLOCKS blocks))
-      (number_in 1 MAX_CLIENTS clients)
+    (number_in 1 MAX_CLIENTS clients)
 
 -- `CLIENTS BLOCKS`, or `CLIENTS BLOCKS --bad LBA` with LBA from 0 to 65,535
 abbrev pub disks_in : List (List ℕ) → Option Disks

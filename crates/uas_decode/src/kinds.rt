@@ -6,7 +6,9 @@ ghost use Rattle.uas_decode.specs.Meaning.{address_in, answer_of_bytes, cdb_told
 ghost use Rattle.uas_decode.specs.Meaning.{is_sized, sense_read, sense_told, trb_split, trb_told, unit_read, unit_split, unit_told};
 
 use crate::{Answer, Kind, LineFault, Meaning, Refusal};
-use host_commands::{BlockLength, CommandSet, LogicalUnitShape, MOST_BLOCKS, SerialNumber, named_command, read};
+use host_commands::{
+    BlockLength, CommandSet, LogicalUnitShape, MOST_BLOCKS, SerialNumber, named_command, read,
+};
 use scsi_cmd::{Sense, parse};
 use stream_array::Dequeue;
 use uas_iu::{Iu, IuFault};
@@ -243,7 +245,8 @@ fn host_asked(cdb: &[u8; TRB_BYTES]) -> Result<Answer, Refusal>
     let Some(command) = named_command(cdb[0], cdb[1] & SERVICE_ACTION) else {
         return Err(Refusal::Cdb(Sense::INVALID_OPERATION_CODE));
     };
-    let (Ok(set), Ok(serial)) = (CommandSet::host(MOST_TRANSFER_BLOCKS), SerialNumber::new(0)) else {
+    let (Ok(set), Ok(serial)) = (CommandSet::host(MOST_TRANSFER_BLOCKS), SerialNumber::new(0))
+    else {
         unreachable!();
     };
     let Ok(shape) = LogicalUnitShape::new(MOST_BLOCKS, BlockLength::Bytes512, serial) else {

@@ -102,12 +102,14 @@ fn is_written(made: &Option<(Booked, Result<bool, Booking>)>, on: u16, with_fua:
         return false;
     };
     match booked.log().steps.as_slice() {
-        [Step::Submit {
-            client: 0,
-            tag,
-            ticket: 0,
-            command,
-        }] => {
+        [
+            Step::Submit {
+                client: 0,
+                tag,
+                ticket: 0,
+                command,
+            },
+        ] => {
             let is_kind = match command.op {
                 Op::Write { fua, .. } => fua == with_fua,
                 _ => false,

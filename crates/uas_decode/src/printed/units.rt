@@ -232,7 +232,11 @@ fn push_op_fields(alloc: Global, text: &mut Vec<u8>, op: &Op) -> Result<(), Allo
 
 /// Adds ` allocation N`.
 #[tactic(auto, unfolding(crate::specs::Printed::allocation_words))]
-pub(super) fn push_allocation(alloc: Global, text: &mut Vec<u8>, allocation: u32) -> Result<(), AllocError>
+pub(super) fn push_allocation(
+    alloc: Global,
+    text: &mut Vec<u8>,
+    allocation: u32,
+) -> Result<(), AllocError>
     ensures { OnOk result (text.new.items ≡ text.old.items ++ allocation_words allocation) }
 {
     let words = format!(in alloc; " allocation {allocation}")?;
@@ -241,7 +245,12 @@ pub(super) fn push_allocation(alloc: Global, text: &mut Vec<u8>, allocation: u32
 
 /// Adds ` lba L count C`.
 #[tactic(auto, unfolding(crate::specs::Printed::range_words))]
-pub(super) fn push_range(alloc: Global, text: &mut Vec<u8>, lba: u64, count: u32) -> Result<(), AllocError>
+pub(super) fn push_range(
+    alloc: Global,
+    text: &mut Vec<u8>,
+    lba: u64,
+    count: u32,
+) -> Result<(), AllocError>
     ensures { OnOk result (text.new.items ≡ text.old.items ++ range_words lba count) }
 {
     let words = format!(in alloc; " lba {lba} count {count}")?;

@@ -1,6 +1,7 @@
 //! What follows of the definition, as functions with empty bodies.
-ghost use Rattle.std.specs.Prelude.{◌≡◌, ℕ, List, ◌++◌, replicate, reverse};
+ghost use Rattle.std.specs.Prelude.{◌≡◌, ℕ, List, ◌<◌, ◌^◌, ◌∷◌, ◌++◌, replicate, reverse};
 ghost use Rattle.std.specs.List.{range_with_len};
+ghost use Rattle.log_checksum.specs.Bytes.{AreBytes};
 ghost use Rattle.log_checksum.specs.Division.{crc32c_of, with_bytes};
 
 /// The checksums that RFC 3720 B.4 prints: of 32 bytes of 00h, of FFh, of rising and of falling bytes.
@@ -14,4 +15,15 @@ pub fn printed_checksums()
 /// Bytes may come in parts.
 pub fn parts_are_taken_in_turn()
     ensures { (remainder : ℕ) (front back : List ℕ) → with_bytes remainder (front ++ back) ≡ with_bytes (with_bytes remainder front) back }
+{}
+
+/// The checksum of bytes has 32 bits.
+pub fn checksums_fit()
+    ensures { (bytes : List ℕ) → AreBytes bytes → crc32c_of bytes < 2 ^ 32 }
+{}
+
+/// Bytes that differ in one byte have different checksums.
+pub fn changed_bytes_are_met()
+    ensures { (front back : List ℕ) (one other : ℕ) → AreBytes (front ++ one ∷ back) → other < 256
+        → crc32c_of (front ++ one ∷ back) ≡ crc32c_of (front ++ other ∷ back) → one ≡ other }
 {}

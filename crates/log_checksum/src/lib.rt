@@ -14,7 +14,7 @@ ghost use Rattle.log_checksum.specs.Division.{begun, crc32c_of, ended, with_bits
 mod laws;
 mod table;
 
-pub use laws::{parts_are_taken_in_turn, printed_checksums};
+pub use laws::{changed_bytes_are_met, checksums_fit, parts_are_taken_in_turn, printed_checksums};
 use std::marker::Model;
 use table::REMAINDERS;
 

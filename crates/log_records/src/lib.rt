@@ -17,9 +17,11 @@
 #![tactic(auto)]
 
 mod finding;
+mod laws;
 mod writing;
 
 pub use finding::first_record;
+pub use laws::{cut_records_are_torn, found_records_are_records, records_are_found, records_go_on};
 use thiserror::Error;
 pub use writing::append_record;
 

@@ -3,6 +3,7 @@
 //! [`save_log`] writes a log's text, without its refused steps, and [`load_log`] reads one: a [`SavedLog`]. The text (`log_text` in
 //! specs/Text.antt) is the fields one behind the other, each number big endian; it has two versions, each with limits of its own
 //! (`IsWithin`), and a log has one text. Which fault a text has that is none is said by specs/Reading.antt, field by field.
+//! Whoever reads a text in parts has [`read_first_units`], [`read_step`], [`read_reply`] and the fields, each up to a [`Stop`].
 //! [`migrate`] brings a log of clients of 8 tags over to clients of 16. Whoever writes a text piece by piece has its parts: [`put_header`],
 //! [`put_units`], [`put`] for a count, [`put_step`] and [`put_reply`].
 //!
@@ -34,7 +35,10 @@ mod write_steps;
 
 pub use lists::SavedReplies;
 pub use migration::migrate;
-pub use read_log::load_log;
+pub use read_fields::{field as read_field, number as read_number};
+pub use read_log::{all_units as read_first_units, load_log};
+pub use read_replies::reply as read_reply;
+pub use read_steps::step as read_step;
 pub use saving::{kept_count, save_log, version_with};
 use scsi_cmd::Reply;
 use std::marker::Model;
@@ -109,7 +113,7 @@ pub enum MigrateFault {
 
 /// Why reading stops.
 #[derive(Clone, Copy, Debug, PartialEq, Eq)]
-pub(crate) enum Stop {
+pub enum Stop {
     Memory,
     Fault(LogFault),
 }

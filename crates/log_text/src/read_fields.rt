@@ -13,7 +13,7 @@ const MOST_BUFFER_BYTES: u64 = 65_536;
 /// A number of `len` bytes from `least` to `most`. Else the fault; `Truncated` where the bytes end before.
 #[tactic(auto, unfolding(crate::specs::Reading::number_at))]
 #[inline(always)]
-pub(crate) fn number(
+pub fn number(
     bytes: &[u8],
     fault: LogFault,
     len: usize,
@@ -38,7 +38,7 @@ pub(crate) fn number(
 
 /// A number of `len` bytes from `least` to `most`, else `BadField`; `Truncated` where the bytes end before.
 #[inline(always)]
-pub(crate) fn field(bytes: &[u8], len: usize, least: u64, most: u64) -> Result<(u64, &[u8]), Stop>
+pub fn field(bytes: &[u8], len: usize, least: u64, most: u64) -> Result<(u64, &[u8]), Stop>
     requires some { 1 ≤ len }
     requires few { len ≤ 8 }
     ensures gives { Gives (λ read. (read.0, read.1.now)) result (field_at len least most bytes.now) }

@@ -40,9 +40,13 @@ fn header(bytes: &[u8]) -> Result<(Version, &[u8]), Stop>
     Ok((version, rest))
 }
 
-/// As many units as the version can have clients.
+/// As many units as the version can have clients, and the bytes behind them.
 #[tactic(auto, unfolding(crate::specs::Reading::units_at))]
-fn all_units(alloc: Global, version: Version, bytes: &[u8]) -> Result<(Vec<FirstUnit>, &[u8]), Stop>
+pub fn all_units(
+    alloc: Global,
+    version: Version,
+    bytes: &[u8],
+) -> Result<(Vec<FirstUnit>, &[u8]), Stop>
     ensures gives { Gives (λ read. (read.0.items, read.1.now)) result (units_at version bytes.now) }
     ensures some { IfOk result (λ read. 1 ≤ length read.0.items) }
 {

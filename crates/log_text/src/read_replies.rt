@@ -81,9 +81,9 @@ fn reply_of(
     }
 }
 
-/// A reply of one of so many clients.
+/// A reply of one of so many clients, and the bytes behind it.
 #[tactic(auto, unfolding(crate::specs::Reading::reply_at))]
-fn reply(alloc: Global, clients: usize, bytes: &[u8]) -> Result<(SavedReply, &[u8]), Stop>
+pub fn reply(alloc: Global, clients: usize, bytes: &[u8]) -> Result<(SavedReply, &[u8]), Stop>
     requires { 1 ≤ clients }
     ensures { Gives (λ read. (read.0, read.1.now)) result (reply_at clients bytes.now) }
 {

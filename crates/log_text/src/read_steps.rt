@@ -224,9 +224,9 @@ fn step_of(
     }
 }
 
-/// A step of one of so many clients.
+/// A step of one of so many clients, and the bytes behind it.
 #[tactic(auto, unfolding(crate::specs::Reading::step_at))]
-fn step(
+pub fn step(
     alloc: Global,
     version: Version,
     clients: usize,

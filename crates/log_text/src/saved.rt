@@ -2,9 +2,9 @@
 ghost use Rattle.std.specs.Prelude.{◌≡◌};
 ghost use Rattle.log_text.specs.Text.{IsWithin, has_queries, version_clients, version_number, version_tags};
 
-use crate::{SavedLog, SavedReply, Version};
+use crate::{SavedLog, SavedReplies, SavedReply, Version};
 use shared_machine::Step;
-use uas_log::FirstUnit;
+use uas_log::{FirstUnit, FirstUnits, Steps};
 
 impl Version {
     /// Its number in a text.
@@ -49,6 +49,24 @@ impl Version {
 }
 
 impl SavedLog {
+    /// The log of these parts, which are within the limits of their version; takes no memory.
+    pub fn from_parts(
+        version: Version,
+        units: FirstUnits,
+        steps: Steps,
+        replies: SavedReplies,
+    ) -> SavedLog
+        requires { IsWithin (record { version = version; units = units; steps = steps; replies = replies }) }
+        ensures { result ≡ record { version = version; units = units; steps = steps; replies = replies } }
+    {
+        SavedLog {
+            version,
+            units,
+            steps,
+            replies,
+        }
+    }
+
     /// How many tags each client has: 8 or 16.
     pub fn tags(&self) -> usize
         ensures { result ≡ version_tags self.now.version }

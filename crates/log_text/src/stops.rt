@@ -24,7 +24,7 @@ impl<T: Drop> From<AllocFailed<T>> for Stop {
 
 impl Stop {
     /// What a caller is told.
-    pub(crate) fn fault(self) -> LogFault
+    pub fn fault(self) -> LogFault
         ensures { result ≡ fault_of self }
     {
         match self {

@@ -1,0 +1,4 @@
+pub mod Numbers
+pub mod Framing
+pub mod Found
+pub mod Growing

@@ -174,4 +174,5 @@ int main(int words, char **word)
     }
     uas_tasks_free(tasks);
     printf("%d tags wrote, synchronized and read back %d blocks each\n", TAGS, ZONE);
+    return 0;
 }

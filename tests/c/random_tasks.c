@@ -1,0 +1,313 @@
+/* Random calls of the device without blocks beside a second implementation, in front of a backend that answers late, out of order and with
+ * errors.
+ *
+ *   random_tasks COUNT SEED    COUNT calls, with a new device after each 20,000 */
+#include "check.h"
+#include "second_tasks.h"
+#include <inttypes.h>
+
+enum { CALLS = 20000, KINDS = 9 };
+
+static uas_tasks *tasks;
+static struct second_tasks model;
+static uint64_t state;
+static unsigned long number_of_call, phases[6], outcomes[4], answers[6], kinds[6], dropped, faults[256], senses;
+
+static uint64_t drawn(void)
+{
+    state ^= state << 13;
+    state ^= state >> 7;
+    state ^= state << 17;
+    return state * 0x2545f4914f6cdd1d >> 16;
+}
+
+static uint32_t below(uint32_t bound)
+{
+    return (uint32_t)(drawn() % bound);
+}
+
+static void agree(bool good, const char *what, int line)
+{
+    if (good)
+        return;
+    fprintf(stderr, "random_tasks.c:%d: call %lu: %s\n", line, number_of_call, what);
+    exit(1);
+}
+
+#define AGREE(good) agree((good), #good, __LINE__)
+
+static void renew(void)
+{
+    static const uint64_t blocks[] = { 1, 200, 3000, 1ull << 32, (1ull << 32) + 1, 1ull << 48 };
+    uas_tasks_free(tasks);
+    memset(&model, 0, sizeof model);
+    model.units = 1 + below(SECOND_TASK_UNITS);
+    for (uint32_t i = 0; i < model.units; i++)
+        model.unit[i] = (struct uas_tasks_unit){ blocks[below(6)], i, below(3) ? UAS_BLOCK_BYTES : 4096 };
+    model.set = (uint8_t)below(4) != 0;
+    model.most = model.set == UAS_SET_HOST ? (uint16_t)(8 + 8 * below(20)) : 128;
+    model.blocks = (uint16_t)(1 + below(SECOND_MOST_CHUNK));
+    AGREE(uas_tasks_new(model.unit, model.units, model.set, model.set == UAS_SET_HOST ? model.most : 0, model.blocks, &tasks) == UAS_OK);
+}
+
+/* ---- Information units ---- */
+
+/* A CDB of a command that the second implementation knows, or that neither does. */
+static void draw_cdb(uint8_t cdb[16])
+{
+    static const uint8_t codes[] = { 0x00, 0x03, 0x08, 0x0a, 0x12, 0x1b, 0x25, 0x28, 0x28, 0x2a, 0x2a, 0x2f, 0x35, 0x88, 0x8a, 0x8f, 0x91, 0x9e, 0xa0, 0xa8, 0xaa, 0xaf, 0x01, 0x42, 0xff };
+    uint64_t blocks = model.unit[below((uint32_t)model.units)].blocks;
+    uint32_t count = below(8) ? below(20) : below(200);
+    uint64_t block = below(8) == 0 ? drawn() << below(48) : below(2) ? below(100) : blocks - below(40);
+    block = below(8) && block < blocks ? block : block % blocks;
+    memset(cdb, 0, 16);
+    cdb[0] = codes[below(sizeof codes)];
+    cdb[1] = below(6) ? (uint8_t)(below(2) * 8 + below(2) * 2) : (uint8_t)drawn();
+    switch (cdb[0] >> 5) {
+    case 0:
+        put_big((uint32_t)block & 0x1fffff, cdb + 1, 3);
+        cdb[4] = (uint8_t)count;
+        break;
+    case 4:
+        put_big((uint32_t)(block >> 32), cdb + 2, 4);
+        put_big((uint32_t)block, cdb + 6, 4);
+        put_big(count, cdb + 10, 4);
+        break;
+    case 5:
+        put_big((uint32_t)block, cdb + 2, 4);
+        put_big(count, cdb + 6, 4);
+        break;
+    default:
+        put_big((uint32_t)block, cdb + 2, 4);
+        put_big(count, cdb + 7, 2);
+    }
+    if (cdb[0] == 0x9e)
+        cdb[1] = below(5) ? 0x10 : (uint8_t)drawn();
+    if (cdb[0] == 0x12) {
+        cdb[1] = model.set == UAS_SET_HOST || below(4) ? 0 : 1;
+        cdb[2] = below(6) == 0;
+        cdb[3] = 0;
+        cdb[4] = (uint8_t)below(50);
+    }
+    if (cdb[0] == 0x03)
+        cdb[1] = below(6) == 0;
+    if (cdb[0] == 0xa0)
+        cdb[2] = (uint8_t)below(4);
+}
+
+static void receive(void)
+{
+    uint8_t bytes[40] = { 0 };
+    size_t length = 32;
+    uint16_t tag = (uint16_t)(below(60) ? 1 + below(12) : below(260)), made = 0xffff, wanted;
+    uint32_t kind = below(40);
+    bytes[0] = kind < 34 ? UAS_UNIT_COMMAND : kind < 38 ? UAS_UNIT_TASK : (uint8_t)below(8);
+    put_big(tag, bytes + 2, 2);
+    bytes[9] = (uint8_t)(below(20) ? below((uint32_t)model.units) : below(4));
+    if (bytes[0] == UAS_UNIT_TASK) {
+        static const uint8_t functions[] = { UAS_ABORT_TASK, UAS_ABORT_TASK, UAS_ABORT_TASK, UAS_QUERY_TASK, UAS_LOGICAL_UNIT_RESET, 2 };
+        length = 16;
+        bytes[4] = functions[below(6)];
+        put_big(1 + below(12), bytes + 6, 2);
+    } else
+        draw_cdb(bytes + 16);
+    if (below(100) == 0)
+        bytes[below(16)] ^= (uint8_t)(1 << below(8));
+    if (below(100) == 0)
+        length = below(sizeof bytes + 1);
+    uint8_t fault = second_tasks_receive(&model, bytes, length, &wanted);
+    AGREE(uas_tasks_receive(tasks, bytes, length, &made) == fault);
+    AGREE(fault != UAS_OK || made == wanted);
+    faults[fault]++;
+}
+
+/* ---- Bytes ---- */
+
+static uint8_t bytes[SECOND_MOST_CHUNK * 4096 + 8], seen[SECOND_MOST_CHUNK * 4096 + 8];
+
+static void draw_bytes(size_t length)
+{
+    uint64_t word = drawn();
+    for (size_t i = 0; i < length; i++)
+        bytes[i] = (uint8_t)(word >> i % 8 * 8) ^ (uint8_t)(i / 8);
+}
+
+static uint16_t draw_tag(void)
+{
+    return (uint16_t)(below(100) ? 1 + below(12) : below(300));
+}
+
+/* Any part of what a tag gives or takes, and at times more, or of a tag that does neither. */
+static void move(bool give)
+{
+    uint16_t tag = draw_tag();
+    uint64_t most;
+    uint8_t phase = second_tasks_phase(&model, tag, &most), wants = give ? UAS_GIVES : UAS_TAKES;
+    size_t length = phase == wants && most > 0 ? (size_t)(below(3) ? most : 1 + below((uint32_t)most)) : below(10);
+    length += below(50) == 0;
+    uint8_t fault = phase != wants ? UAS_TASKS_PHASE : length > most ? UAS_TASKS_LENGTH : UAS_OK;
+    struct second_slot *slot = &model.slots[tag <= UAS_GREATEST_TAG ? tag : 0];
+    draw_bytes(length);
+    if (give) {
+        memcpy(seen, bytes, length);
+        AGREE(uas_tasks_give(tasks, tag, bytes, length) == fault);
+        const uint8_t *wanted = fault != UAS_OK ? seen : slot->stage == GIVING ? slot->data + slot->moved : slot->chunk + slot->moved;
+        AGREE(memcmp(bytes, wanted, length) == 0);
+    } else {
+        AGREE(uas_tasks_take(tasks, tag, bytes, length) == fault);
+        if (fault == UAS_OK)
+            memcpy(slot->chunk + slot->moved, bytes, length);
+    }
+    if (fault == UAS_OK)
+        second_tasks_move(&model, tag, length);
+    faults[fault]++;
+}
+
+/* ---- Requests ---- */
+
+static void next(void)
+{
+    uint16_t tag = draw_tag();
+    struct uas_request request = { 0, 0, 0, 0, 0, false };
+    uint64_t length = 0, wanted;
+    uint8_t phase = 0xff, wants = second_tasks_phase(&model, tag, &wanted);
+    AGREE(uas_tasks_next(tasks, tag, &phase, &length, &request) == UAS_OK && phase == wants);
+    phases[phase]++;
+    if (phase == UAS_GIVES || phase == UAS_TAKES)
+        AGREE(length == wanted);
+    if (phase != UAS_ASKS)
+        return;
+    for (uint16_t other = 1; other <= UAS_GREATEST_TAG; other++)
+        AGREE(!model.slots[other].out || model.slots[other].number != request.number);
+    second_tasks_ask(&model, tag, request.number);
+    const struct uas_request *asked = &model.slots[tag].request;
+    AGREE(request.unit == asked->unit && request.block == asked->block && request.count == asked->count);
+    AGREE(request.kind == asked->kind && request.through == asked->through);
+    kinds[request.kind]++;
+}
+
+/* A tag whose request is out, or 0. */
+static uint16_t out(void)
+{
+    uint16_t tag = (uint16_t)(1 + below(12));
+    return model.slots[tag].out ? tag : 0;
+}
+
+static void answer(void)
+{
+    uint16_t tag = out();
+    struct second_slot *slot = &model.slots[tag];
+    uint8_t outcome = below(10) ? UAS_DONE : (uint8_t)(below(40) ? below(4) : 4 + below(252));
+    uint64_t number = tag != 0 ? slot->number : below(3) ? slot->number + 256 * below(3) : drawn();
+    size_t length = tag != 0 && below(50) ? slot->length : below(100);
+    bool is_out = false;
+    for (uint16_t other = 1; other <= UAS_GREATEST_TAG; other++) {
+        if (model.slots[other].out && model.slots[other].number == number) {
+            is_out = true;
+            tag = other;
+            slot = &model.slots[other];
+        }
+    }
+    draw_bytes(length);
+    dropped += is_out && outcome < 4 && slot->stage != WAITING;
+    uint8_t fault = outcome > 3 ? UAS_TASKS_CALL : !is_out ? UAS_TASKS_NOT_OUT : second_tasks_answer(&model, tag, outcome, bytes, length);
+    AGREE(uas_tasks_answered(tasks, number, outcome, bytes, length) == fault);
+    faults[fault]++;
+    if (fault == UAS_OK)
+        outcomes[outcome]++;
+}
+
+static void look_at_data(void)
+{
+    uint16_t tag = out();
+    const struct second_slot *slot = &model.slots[tag];
+    size_t length = tag != 0 && below(20) ? slot->length : below(100);
+    uint8_t fault = tag == 0 ? UAS_TASKS_NOT_OUT : length != slot->length ? UAS_TASKS_LENGTH : UAS_OK;
+    AGREE(uas_tasks_data(tasks, tag == 0 ? UINT64_MAX : slot->number, bytes, length) == fault);
+    if (fault == UAS_OK && slot->kind != UAS_REQUEST_READ && slot->stage == WAITING)
+        AGREE(memcmp(bytes, slot->chunk, length) == 0);
+    faults[fault]++;
+}
+
+/* ---- Ends ---- */
+
+static void end(void)
+{
+    uint16_t tag = draw_tag();
+    uint64_t most, length = 0;
+    bool ends = second_tasks_phase(&model, tag, &most) == UAS_ENDS;
+    const struct second_slot *slot = &model.slots[tag <= UAS_GREATEST_TAG ? tag : 0];
+    size_t wanted = 0, room = below(20) ? UAS_MOST_UNIT_BYTES : below(40);
+    uint8_t text[UAS_MOST_UNIT_BYTES];
+    if (ends)
+        second_unit_write(&slot->answer, text, sizeof text, &wanted);
+    uint8_t fault = !ends ? UAS_TASKS_PHASE : wanted > room ? UAS_TASKS_LENGTH : UAS_OK;
+    AGREE(uas_tasks_status(tasks, tag, bytes, room, &length) == fault);
+    faults[fault]++;
+    if (fault != UAS_OK)
+        return;
+    AGREE(length == wanted && memcmp(bytes, text, wanted) == 0);
+    answers[slot->answer.id]++;
+    senses += slot->answer.id == UAS_UNIT_SENSE && slot->answer.status != UAS_GOOD;
+    if (below(8) == 0)
+        return;
+    AGREE(uas_tasks_sent(tasks, tag) == UAS_OK && uas_tasks_sent(tasks, tag) == UAS_TASKS_PHASE);
+    model.slots[tag].stage = NO_TASK;
+}
+
+static void call(void)
+{
+    switch (below(16)) {
+    case 0:
+    case 1:
+        receive();
+        return;
+    case 2:
+    case 3:
+    case 4:
+        next();
+        return;
+    case 5:
+    case 6:
+    case 7:
+        move(true);
+        return;
+    case 8:
+    case 9:
+    case 10:
+        move(false);
+        return;
+    case 11:
+    case 12:
+        answer();
+        return;
+    case 13:
+        look_at_data();
+        return;
+    default:
+        end();
+    }
+    if (below(2000) == 0) {
+        AGREE(uas_tasks_reset(tasks) == UAS_OK);
+        second_tasks_reset(&model);
+    }
+}
+
+int main(int count_of, char **words)
+{
+    unsigned long count = count_of > 1 ? strtoul(words[1], NULL, 10) : 20000;
+    state = (count_of > 2 ? strtoul(words[2], NULL, 10) : 1) * 0x9e3779b97f4a7c15u + 1;
+    for (number_of_call = 0; number_of_call < count; number_of_call++) {
+        if (number_of_call % CALLS == 0)
+            renew();
+        call();
+    }
+    uas_tasks_free(tasks);
+    static const uint8_t met[] = { UAS_TASKS_CALL, UAS_TASKS_OVERLAP, UAS_TASKS_PHASE, UAS_TASKS_LENGTH, UAS_TASKS_NOT_OUT };
+    for (size_t i = 0; count >= 100000 && i < sizeof met; i++)
+        AGREE(faults[met[i]] > 0);
+    printf("%lu calls: asked %lu READ, %lu WRITE, %lu COMPARE, %lu VERIFY, %lu SYNC; answered %lu done, %lu differ, %lu medium error, %lu not ready, "
+           "%lu of them dropped; %lu statuses, %lu of them with sense data, %lu responses\n",
+           count, kinds[1], kinds[2], kinds[3], kinds[4], kinds[5], outcomes[0], outcomes[1], outcomes[2], outcomes[3], dropped, answers[UAS_UNIT_SENSE], senses,
+           answers[UAS_UNIT_RESPONSE]);
+}

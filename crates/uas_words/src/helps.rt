@@ -50,11 +50,3 @@ contexts, events, tasks and replies behind it. Its keys are told on it.
 Examples:
   uasdisk draw 3 100 < examples/abort.script > abort.svg
   uasdisk draw 3 100 --page < examples/abort.script > abort.html";
-
-/// What `decode` reads, and an example.
-pub(crate) const DECODE_HELP: &str = "\
-A line whose first word is unit, put, link, event, trb, context, bell, cdb or sense has bytes behind it, in hexadecimal
-digits; what they say is printed behind the line. Every other line stays as it is.
-
-Example:
-  uasdisk trace 1 100 < examples/first-reply.script | uasdisk decode";

@@ -10,7 +10,7 @@ ghost use Rattle.std.specs.String.{string_bytes};
 ghost use Rattle.clap.specs.Words.{FailsBy, app_of, found_of, kind_of, one_of, rows_of, subcommand_rows_of};
 ghost use Rattle.byte_io.specs.Disks.{AreBlocks, AreClients, AreDisks};
 ghost use Rattle.uas_words.specs.Options.{IsBlock, IsInRange, IsMoved};
-ghost use Rattle.uas_words.specs.CommandLine.{audit, audit_app, capture_app, capture_of, draw_app, draw_of, has_page};
+ghost use Rattle.uas_words.specs.CommandLine.{audit, audit_app, capture_app, capture_of, draw_app, draw_of, has_page, is_true};
 ghost use Rattle.uas_words.specs.CommandLine.{Asked, AsksPlainly, asked_by, asked_for, asked_in, bad_of, blocks_of, clients_of, decode_app};
 ghost use Rattle.uas_words.specs.CommandLine.{dump_app, dump_of, extent_of, file_of, fill_app, fill_of, info_app, log_of, make_app, number_of};
 ghost use Rattle.uas_words.specs.CommandLine.{program_app, refusals, replay_app, script_of, top_app, trace_app, with_disks, with_extent, work_app, work_of};
@@ -23,7 +23,8 @@ use arguments::{bad, blocks, file, log, number, page, saved_log};
 use byte_io::{Disks, Extent};
 use clap::error::ErrorKind;
 use clap::{ArgMatches, Command, Error};
-use helps::{BYTE_HELP, DECODE_HELP, DRAW_HELP, LBA_HELP, LOG_HELP, PAGE_HELP, ROUNDS_HELP, SCRIPT_HELP, WORK_HELP};
+use decode_help::DECODE_HELP;
+use helps::{BYTE_HELP, DRAW_HELP, LBA_HELP, LOG_HELP, PAGE_HELP, ROUNDS_HELP, SCRIPT_HELP, WORK_HELP};
 pub use laws::plain_lines_ask;
 use std::alloc::{AllocError, Global};
 use uas_profile::{CLIENTS_HELP, MAX_BLOCKS, MAX_CLIENTS, MOST_BLOCKS_MOVED};
@@ -348,7 +349,14 @@ fn draw_in<'a>(words: &ArgMatches<'a>) -> Option<Run<'a>>
 fn has_page(words: &ArgMatches<'_>) -> bool
     ensures { result ≡ has_page (rows_of (found_of words.now)) }
 {
-    match words.get_str("page") {
+    is_true(words.get_str("page"))
+}
+
+/// Whether the word of a flag is `true`.
+fn is_true(word: Option<&str>) -> bool
+    ensures { result ≡ is_true (option_map (λ word. word.now) word) }
+{
+    match word {
         Some(word) => word == "true",
         None => false,
     }

@@ -112,7 +112,7 @@ bad_faults name d ds e es f fs m n o =
     (bad_last name d ds e es f fs m.hyphen n.hyphen o)
     (bad_defaults name d ds e es f fs m.hyphen n.hyphen o.hyphen) (bad_given name d ds e es f fs m.hyphen n.hyphen o.hyphen)
 
-pub numbers_ask : (run : ℕ → ℕ → Option ℕ → Asked) (clients blocks : ℕ) (bad : Option ℕ) (a b : Option ℕ) (c : Option (Option ℕ))
+numbers_ask : (run : ℕ → ℕ → Option ℕ → Asked) (clients blocks : ℕ) (bad : Option ℕ) (a b : Option ℕ) (c : Option (Option ℕ))
     → a ≡ Some clients → b ≡ Some blocks → c ≡ Some bad → asked_by_numbers run a b c ≡ Some (run clients blocks bad)
 numbers_ask run clients blocks bad a b c p q r = rw (p, q, r) refl
 

@@ -36,12 +36,7 @@ fn push_head(page: &mut Vec<u8>) -> Result<(), AllocError>
 
 /// Adds a trace as data, with what its bytes say.
 #[tactic(auto, unfolding(crate::specs::Page::data_of))]
-fn push_data(
-    alloc: Global,
-    page: &mut Vec<u8>,
-    clients: u8,
-    trace: &[u8],
-) -> Result<(), AllocError>
+fn push_data(alloc: Global, page: &mut Vec<u8>, clients: u8, trace: &[u8]) -> Result<(), AllocError>
     ensures { OnOk result (page.new.items ≡ page.old.items ++ data_of clients trace.now) }
 {
     push_numbers(alloc, page, clients)?;

@@ -6,11 +6,13 @@
 #![tactic(auto)]
 
 ghost use Rattle.std.specs.Prelude.{◌≡◌, ◌≤◌, ℕ, Option, Some, IfOk, IfSome, MatchResult, map, option_and_then, option_map};
+ghost use Rattle.std.specs.Prelude.{codes};
+ghost use Rattle.std.specs.Str.{bytes_eq};
 ghost use Rattle.std.specs.String.{string_bytes};
 ghost use Rattle.clap.specs.Words.{FailsBy, app_of, found_of, kind_of, one_of, rows_of, subcommand_rows_of};
 ghost use Rattle.byte_io.specs.Disks.{AreBlocks, AreClients, AreDisks};
 ghost use Rattle.uas_words.specs.Options.{IsBlock, IsInRange, IsMoved};
-ghost use Rattle.uas_words.specs.CommandLine.{audit, audit_app, capture_app, capture_of, draw_app, draw_of, has_page, is_true};
+ghost use Rattle.uas_words.specs.CommandLine.{audit, audit_app, capture_app, capture_of, draw_app, draw_of, has_page};
 ghost use Rattle.uas_words.specs.CommandLine.{Asked, AsksPlainly, asked_by, asked_for, asked_in, bad_of, blocks_of, clients_of, decode_app};
 ghost use Rattle.uas_words.specs.CommandLine.{dump_app, dump_of, extent_of, file_of, fill_app, fill_of, info_app, log_of, make_app, number_of};
 ghost use Rattle.uas_words.specs.CommandLine.{program_app, refusals, replay_app, script_of, top_app, trace_app, with_disks, with_extent, work_app, work_of};
@@ -24,7 +26,9 @@ use byte_io::{Disks, Extent};
 use clap::error::ErrorKind;
 use clap::{ArgMatches, Command, Error};
 use decode_help::DECODE_HELP;
-use helps::{BYTE_HELP, DRAW_HELP, LBA_HELP, LOG_HELP, PAGE_HELP, ROUNDS_HELP, SCRIPT_HELP, WORK_HELP};
+use helps::{
+    BYTE_HELP, DRAW_HELP, LBA_HELP, LOG_HELP, PAGE_HELP, ROUNDS_HELP, SCRIPT_HELP, WORK_HELP,
+};
 pub use laws::plain_lines_ask;
 use std::alloc::{AllocError, Global};
 use uas_profile::{CLIENTS_HELP, MAX_BLOCKS, MAX_CLIENTS, MOST_BLOCKS_MOVED};
@@ -349,17 +353,17 @@ fn draw_in<'a>(words: &ArgMatches<'a>) -> Option<Run<'a>>
 fn has_page(words: &ArgMatches<'_>) -> bool
     ensures { result ≡ has_page (rows_of (found_of words.now)) }
 {
-    is_true(words.get_str("page"))
+    match words.get_str("page") {
+        Some(word) => is_true(word),
+        None => false,
+    }
 }
 
 /// Whether the word of a flag is `true`.
-fn is_true(word: Option<&str>) -> bool
-    ensures { result ≡ is_true (option_map (λ word. word.now) word) }
+fn is_true(word: &str) -> bool
+    ensures { result ≡ bytes_eq word.now (codes "true") }
 {
-    match word {
-        Some(word) => word == "true",
-        None => false,
-    }
+    word == "true"
 }
 
 fn work_in<'a>(words: &ArgMatches<'a>) -> Option<Run<'a>>

@@ -47,7 +47,7 @@ fn start(rt: &HostRuntime, words: &[String]) -> u8
     ensures help { asked_by (map string_bytes words.now) ≡ Asked.Help → (result ≡ 0) ⊎ (result ≡ 3) }
     ensures refused { asked_by (map string_bytes words.now) ≡ Asked.Refused → result ≡ 2 }
 {
-    match asked(words) {
+    match asked_by(words) {
         Asked::Run => run(rt),
         Asked::Help => help(rt),
         Asked::Refused => {
@@ -61,7 +61,7 @@ fn start(rt: &HostRuntime, words: &[String]) -> u8
 }
 
 /// What the words ask for.
-fn asked(words: &[String]) -> Asked
+fn asked_by(words: &[String]) -> Asked
     ensures { result ≡ asked_by (map string_bytes words.now) }
 {
     match own_word(words) {

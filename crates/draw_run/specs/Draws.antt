@@ -8,18 +8,26 @@ use Rattle.uas_script.specs.declared.Line.{Line}
 use Rattle.uas_script.specs.declared.ScriptFault.{ScriptFault}
 use Rattle.uas_trace.specs.Texts.{traced_text}
 use Rattle.trace_picture.specs.Picture.{picture_of}
+use Rattle.page_text.specs.Page.{page_of}
+use Rattle.draw_run.specs.declared.Form.{Form}
+use Rattle.draw_run.specs.declared.Form.TheVariants.{Picture, Page}
 
--- the picture of a trace, of so many clients, was added
-pub record AppendsPicture (clients : ℕ) (old new : Option (List ℕ)) : Type 0 where
+-- what is drawn of a trace of so many clients: its picture or its page
+abbrev pub drawn_of : Form → ℕ → List ℕ → List ℕ
+drawn_of Picture clients trace = picture_of clients trace
+drawn_of Page clients trace = page_of clients trace
+
+-- what is drawn of a trace, of so many clients, was added
+pub record AppendsDrawn (form : Form) (clients : ℕ) (old new : Option (List ℕ)) : Type 0 where
   pub trace : List ℕ
-  pub added : Appends old new (picture_of clients trace)
+  pub added : Appends old new (drawn_of form clients trace)
 
--- the picture of the trace of a script's lines on these units, of so many clients, was added
-abbrev pub DrawsScript : ℕ → List BlockMaps → Result (List Line) ScriptFault → Option (List ℕ) → Option (List ℕ) → Type 0
-DrawsScript clients units (Ok lines) old new = Appends old new (picture_of clients (traced_text units lines))
-DrawsScript clients units (Err fault) old new = ⊥
+-- what is drawn of the trace of a script's lines on these units, of so many clients, was added
+abbrev pub DrawsScript : Form → ℕ → List BlockMaps → Result (List Line) ScriptFault → Option (List ℕ) → Option (List ℕ) → Type 0
+DrawsScript form clients units (Ok lines) old new = Appends old new (drawn_of form clients (traced_text units lines))
+DrawsScript form clients units (Err fault) old new = ⊥
 
--- a call that writes a picture gives up for want of memory, which leaves nothing written, or at a fault of the writer
+-- a call that writes what is drawn gives up for want of memory, which leaves nothing written, or at a fault of the writer
 abbrev pub StopsDrawing : Bool → Option (List ℕ) → Option (List ℕ) → RunFault → Type 0
 StopsDrawing can_fail old new NoMemory = Keeps old new
 StopsDrawing can_fail old new ScriptFile = IsTrue can_fail

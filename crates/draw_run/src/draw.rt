@@ -1,16 +1,17 @@
 //! The run `draw`.
 
-ghost use Rattle.std.specs.Prelude.{◌≡◌, ◌≤◌, ◌⊎◌, false, IsTrue, IsErr, IfErr, OnOk, IfSome};
+ghost use Rattle.std.specs.Prelude.{◌≡◌, ◌≤◌, ◌⊎◌, false, IsTrue, IsErr, IfErr, IfOk, OnOk, IfSome};
 ghost use Rattle.std.specs.Io.KnownBytes.{Appends, Keeps, IsAtEnd};
 ghost use Rattle.byte_io.specs.Disks.{AreDisks};
 ghost use Rattle.uas_script.specs.Script.{script};
 ghost use Rattle.uas_replay.specs.Told.{zeroed_units};
 ghost use Rattle.uas_trace.specs.Traced.{Traces};
-ghost use Rattle.draw_run.specs.Draws.{AppendsPicture, DrawsScript, StopsDrawing};
-ghost use Rattle.trace_picture.specs.Picture.{picture_of};
+ghost use Rattle.draw_run.specs.Draws.{AppendsDrawn, DrawsScript, StopsDrawing, drawn_of};
 
+use crate::Form;
 use byte_io::{BytesTaken, Disks, Sink, Source};
-use std::alloc::Global;
+use page_text::page;
+use std::alloc::{AllocError, Global};
 use std::io::Write;
 use trace_picture::picture;
 use uas_replay::{COMMAND_FAILED, RunFault, output_fault};
@@ -20,11 +21,12 @@ use uas_trace::run_trace;
 const LONG_TRACE: usize = 4_194_304;
 
 /// The run `draw`: reads a script of 1 to 15 clients, runs it on units of 1 to 65,536 zeroed blocks, of which one may be bad, and writes
-/// the picture of the run once it is done. A long run says so on `faults` once it is traced, where that is asked for. It answers the
+/// the run in this form once it is done. A long run says so on `faults` once it is traced, where that is asked for. It answers the
 /// exit status that `trace` answers.
 pub fn run_draw<S: Source, O: Sink, W: Write>(
     alloc: Global,
     disks: Disks,
+    form: Form,
     reader: &mut S,
     writer: &mut O,
     faults: &mut W,
@@ -34,10 +36,10 @@ pub fn run_draw<S: Source, O: Sink, W: Write>(
     ensures statuses { (result ≤ 1) ⊎ ((result ≡ 3) ⊎ (result ≡ 4)) }
     ensures traced { result ≤ 1 → IfSome (S.left reader.old) (λ bytes.
         Traces (zeroed_units disks.clients disks.blocks disks.bad) (script disks.clients bytes) result) }
-    ensures drawn { result ≤ 1 → AppendsPicture disks.clients (O.written writer.old) (O.written writer.new) }
+    ensures drawn { result ≤ 1 → AppendsDrawn form disks.clients (O.written writer.old) (O.written writer.new) }
     // The trace that is drawn is the one of the script.
     ensures of { result ≤ 1 → IfSome (S.left reader.old) (λ bytes.
-        DrawsScript disks.clients (zeroed_units disks.clients disks.blocks disks.bad) (script disks.clients bytes)
+        DrawsScript form disks.clients (zeroed_units disks.clients disks.blocks disks.bad) (script disks.clients bytes)
         (O.written writer.old) (O.written writer.new)) }
     ensures read { result ≤ 1 → IsAtEnd (S.left reader.new) }
     ensures there { result ≤ 1 → IsTrue (S.is_there reader.old) }
@@ -54,7 +56,7 @@ pub fn run_draw<S: Source, O: Sink, W: Write>(
     }
     let BytesTaken(text) = trace;
     note(text.len(), faults, may_show_progress);
-    match write_picture(alloc, disks.clients as u8, &text, writer) {
+    match write_drawn(alloc, form, disks.clients as u8, &text, writer) {
         Ok(()) => status,
         Err(fault) => fault.tell(faults),
     }
@@ -72,18 +74,29 @@ fn note<W: Write>(bytes: usize, notes: &mut W, may_show_progress: bool)
     }
 }
 
-/// Writes the picture of a trace.
-fn write_picture<O: Sink>(
+/// Writes what is drawn of a trace.
+fn write_drawn<O: Sink>(
     alloc: Global,
+    form: Form,
     clients: u8,
     trace: &[u8],
     writer: &mut O,
 ) -> Result<(), RunFault>
-    ensures drawn { OnOk result (Appends (O.written writer.old) (O.written writer.new) (picture_of clients trace.now)) }
+    ensures drawn { OnOk result (Appends (O.written writer.old) (O.written writer.new) (drawn_of form clients trace.now)) }
     ensures fault { IfErr result (StopsDrawing (O.can_fail writer.old) (O.written writer.old) (O.written writer.new)) }
 {
-    let Ok(picture) = picture(alloc, clients, trace) else {
+    let Ok(drawn) = drawn(alloc, form, clients, trace) else {
         return Err(RunFault::NoMemory);
     };
-    writer.write(&picture).map_err(|fault| output_fault(fault))
+    writer.write(&drawn).map_err(|fault| output_fault(fault))
+}
+
+/// What is drawn of a trace in this form.
+fn drawn(alloc: Global, form: Form, clients: u8, trace: &[u8]) -> Result<Vec<u8>, AllocError>
+    ensures { IfOk result (λ drawn. drawn.items ≡ drawn_of form clients trace.now) }
+{
+    match form {
+        Form::Picture => picture(alloc, clients, trace),
+        Form::Page => page(alloc, clients, trace),
+    }
 }

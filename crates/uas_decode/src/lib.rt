@@ -19,7 +19,7 @@ mod printed;
 mod run;
 
 use host_commands::{HostCommand, Work};
-pub use run::{DONE, FAULT, NO_MEMORY, REFUSED, run_decode};
+pub use run::{DONE, FAULT, NO_MEMORY, REFUSED, decoded, run_decode};
 use scsi_cmd::{Op, Sense};
 use stream_array::Dequeue;
 use uas_iu::{Iu, IuFault};

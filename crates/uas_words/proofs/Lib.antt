@@ -5,4 +5,5 @@ mod PlainNumbers
 mod Levels
 mod PlainScripts
 mod PlainFiles
+mod PlainPages
 mod PlainLines

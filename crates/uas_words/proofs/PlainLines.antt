@@ -16,10 +16,11 @@ use Rattle.uas_profile.specs.declared.TheConstants.{MAX_CLIENTS}
 use Rattle.uas_words.specs.declared.Run.{Run}
 use Rattle.byte_io.specs.Words.{number_in}
 use Rattle.uas_words.specs.CommandLine.{Asked, AsksPlainly, AsksWork, asked_by, asked_for, asked_in, extent_from, program_app, refusals}
-use Rattle.uas_words.specs.CommandLine.{audit, capture, decode, draw, dump, fill, info, make, replay, trace, work}
+use Rattle.uas_words.specs.CommandLine.{audit, capture, decode, draw, dump, fill, info, make, page, replay, trace, work}
 use Rattle.uas_words.proofs.Levels.{Enters, level_nothing}
 use Rattle.uas_words.proofs.PlainFiles.{audit_asked, capture_asked}
-use Rattle.uas_words.proofs.PlainScripts.{draw_is_script, replay_is_script, script_asked, trace_is_script}
+use Rattle.uas_words.proofs.PlainScripts.{replay_is_script, script_asked, trace_is_script}
+use Rattle.uas_words.proofs.PlainPages.{draw_asked, page_asked}
 use Rattle.uas_words.proofs.PlainNumbers.{IsIn, not-true, number_is_in}
 use Rattle.uas_words.proofs.CommandLineFacts.{nothing_refused}
 use Rattle.uas_words.proofs.WalkSteps.{fault-bad, fault-end, fault-plain, fault-value, walked-bad, walked-plain, walked-value}
@@ -266,7 +267,8 @@ plain_asks (fill (d ∷ ds) lba count byte) words plain =
           ∙ ap (λ (k : Kinds). or_else k []) (fill_faults d ds m.0 m.1 n.0 n.1 o.0 o.1 hyphen m.3 n.3 o.3)),
     )
 plain_asks (audit log) words plain = audit_asked log words plain
-plain_asks (draw clients blocks bad) words plain = script_asked (codes "draw") draw draw_is_script clients blocks bad words plain
+plain_asks (draw clients blocks bad) words plain = draw_asked clients blocks bad words plain
+plain_asks (page clients blocks bad) words plain = page_asked clients blocks bad words plain
 plain_asks (capture clients blocks file bad) words plain = capture_asked clients blocks file bad words plain
 
 -- a run that is plainly asked for is given, but for want of memory

@@ -37,6 +37,13 @@ pub walked-bad : (c : List Rule) (h : Held) (position : ℕ)
 unfolding walked
 walked-bad c h position = refl
 
+pub walked-page : (c : List Rule) (h : Held) (position : ℕ)
+    → walked c [] (standing h position) (codes "--page")
+    ≡ after_step c (codes "--page") (standing h position) (long_word c idle (codes "--page") (codes "page") None h).0
+    (long_word c idle (codes "--page") (codes "page") None h).1
+unfolding walked
+walked-page c h position = refl
+
 pub walked-value : (d : ℕ) (ds : Text) → (d == 45) ≡ false → (c : List Rule) (name : Text) (h : Held) (position : ℕ)
     → walked c [] (waiting name h position) (d ∷ ds) ≡ record (waiting name h position) {
       held = (option_word (arg_by_id c name) name (d ∷ ds) h).0;
@@ -53,6 +60,15 @@ pub fault-bad : (s : Shape) (h : Held) (position : ℕ) (rest : List Text)
     (long_word s.rules idle (codes "--bad") (codes "bad") None h).1) rest)
 unfolding walk_fault walked
 fault-bad s h position rest = refl
+
+pub fault-page : (s : Shape) (h : Held) (position : ℕ) (rest : List Text)
+    → walk_fault s [] (standing h position) (codes "--page" ∷ rest)
+    ≡ or_else (or_else (long_fault s.rules s.args_override_self (arg_by_long s.rules (codes "page")) None h)
+    (step_fault s position (long_word s.rules idle (codes "--page") (codes "page") None h).0 (long_word s.rules idle (codes "--page") (codes "page") None h).1))
+    (walk_fault s [] (after_step s.rules (codes "--page") (standing h position) (long_word s.rules idle (codes "--page") (codes "page") None h).0
+    (long_word s.rules idle (codes "--page") (codes "page") None h).1) rest)
+unfolding walk_fault walked
+fault-page s h position rest = refl
 
 pub fault-value : (d : ℕ) (ds : Text) → (d == 45) ≡ false → (s : Shape) (name : Text) (h : Held) (position : ℕ) (rest : List Text)
     → walk_fault s [] (waiting name h position) ((d ∷ ds) ∷ rest) ≡ walk_fault s [] (record (waiting name h position) {

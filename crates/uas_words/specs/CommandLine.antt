@@ -6,21 +6,21 @@ use Rattle.std.specs.Str.Parse.{without_leading_plus}
 use Rattle.clap.specs.Simple.{Shape, on_top}
 use Rattle.clap.specs.Words.{App, Kinds, Row, Rule, Text, fault_of, first_of, new_app, new_rule, one_of, subcommand_of, with_rule, with_subcommand}
 use Rattle.clap.specs.Kinds.{or_else}
-use Rattle.clap.specs.declared.builder.ArgAction.TheVariants.{Set}
+use Rattle.clap.specs.declared.builder.ArgAction.TheVariants.{Set, SetTrue}
 use Rattle.clap.specs.declared.builder.value_parser.ValueParser.TheVariants as parser
 use Rattle.clap.specs.declared.error.kind.ErrorKind.{ErrorKind}
 use Rattle.clap.specs.declared.error.kind.ErrorKind.TheVariants.{DisplayHelp, DisplayVersion, OutOfMemory, ValueValidation}
 use Rattle.uas_profile.specs.declared.TheConstants.{MAX_BLOCKS, MAX_CLIENTS, MOST_BLOCKS_MOVED}
 use Rattle.byte_io.specs.declared.disks.Extent.{Extent}
 use Rattle.uas_words.specs.declared.Run.{Run}
-use Rattle.uas_words.specs.declared.Run.TheVariants.{Replay, Trace, Work, Decode, Make, Info, Dump, Fill, Audit, Draw, Capture}
+use Rattle.uas_words.specs.declared.Run.TheVariants.{Replay, Trace, Work, Decode, Make, Info, Dump, Fill, Audit, Draw, Page, Capture}
 use Rattle.byte_io.specs.Words.{number_in}
 
 -- What is asked for, with a file's name as its text: to run a script of so many clients and blocks, and of the block that is bad in
 -- every unit, if one is; to run one and show its steps; to let so many clients work for so many rounds, and to save their log in a
 -- file, if one is named; to tell what lines of bytes say; to make an image of so many blocks, to tell the size of one, to print its
--- blocks from a number on, so many of them, or to fill them with a byte; to audit a saved log; to draw a script's run as a picture; to
--- write it to a file as a capture.
+-- blocks from a number on, so many of them, or to fill them with a byte; to audit a saved log; to draw a script's run as a picture, or as
+-- a page; to write it to a file as a capture.
 pub data Asked : Type 0 where
   replay : ℕ → ℕ → Option ℕ → Asked
   trace : ℕ → ℕ → Option ℕ → Asked
@@ -32,6 +32,7 @@ pub data Asked : Type 0 where
   fill : Text → ℕ → ℕ → ℕ → Asked
   audit : Text → Asked
   draw : ℕ → ℕ → Option ℕ → Asked
+  page : ℕ → ℕ → Option ℕ → Asked
   capture : ℕ → ℕ → Text → Option ℕ → Asked
 
 abbrev pub asked_by : Run → Asked
@@ -45,6 +46,7 @@ asked_by (Dump file extent) = dump file.now extent.lba extent.count
 asked_by (Fill file extent byte) = fill file.now extent.lba extent.count byte
 asked_by (Audit log) = audit log.now
 asked_by (Draw disks) = draw disks.clients disks.blocks disks.bad
+asked_by (Page disks) = page disks.clients disks.blocks disks.bad
 asked_by (Capture disks file) = capture disks.clients disks.blocks file.now disks.bad
 
 -- ---- the arguments of a subcommand, by what was found for it
@@ -107,6 +109,18 @@ abbrev pub script_of : (ℕ → ℕ → Option ℕ → Asked) → List Row → O
 script_of run rows =
     option_and_then (λ clients. option_and_then (λ blocks. option_map (run clients blocks) (bad_of rows)) (blocks_of rows)) (clients_of rows)
 
+-- `--page` may stand or not
+abbrev pub is_true : Option Text → Bool
+is_true None = false
+is_true (Some word) = bytes_eq word (codes "true")
+
+abbrev pub has_page : List Row → Bool
+has_page rows = is_true (first_of (codes "page") rows)
+
+-- CLIENTS BLOCKS [--page] [--bad LBA]
+abbrev pub draw_of : List Row → Option Asked
+draw_of rows = script_of (if has_page rows then page else draw) rows
+
 -- LOG is any text, and may stand or not
 abbrev pub log_of : List Row → Option Text
 log_of rows = first_of (codes "LOG") rows
@@ -151,7 +165,7 @@ asked_of name rows =
     else (if bytes_eq name (codes "dump") then dump_of rows
     else (if bytes_eq name (codes "fill") then fill_of rows
     else (if bytes_eq name (codes "audit") then option_map audit (log_of rows)
-    else (if bytes_eq name (codes "draw") then script_of draw rows
+    else (if bytes_eq name (codes "draw") then draw_of rows
     else (if bytes_eq name (codes "capture") then capture_of rows else None))))))))))
 
 abbrev pub asked_in : Option (Text × List Row) → Option Asked
@@ -204,6 +218,10 @@ bad_rule = record (new_rule (codes "bad")) {
   parser = Some (parser.Signed (pos 0) (pos last_block));
 }
 
+-- the option `--page`
+abbrev pub page_rule : Rule
+page_rule = record (new_rule (codes "page")) { long = Some (codes "page"); action = Some SetTrue }
+
 -- a subcommand that runs a script: CLIENTS BLOCKS [--bad LBA]
 abbrev pub with_disks : App → App
 with_disks app = with_rule (with_rule (with_rule app clients_rule) blocks_rule) bad_rule
@@ -245,8 +263,9 @@ fill_app = with_rule (with_extent (new_app (codes "fill"))) byte_rule
 abbrev pub audit_app : App
 audit_app = with_rule (new_app (codes "audit")) saved_log_rule
 
+-- draw CLIENTS BLOCKS [--page] [--bad LBA]
 abbrev pub draw_app : App
-draw_app = with_disks (new_app (codes "draw"))
+draw_app = with_rule (with_disks (new_app (codes "draw"))) page_rule
 
 -- capture CLIENTS BLOCKS FILE [--bad LBA]
 abbrev pub capture_app : App
@@ -289,6 +308,14 @@ AsksScript name clients blocks (Some bad) words =
     (program first second third : Text) × (words ≡ program ∷ name ∷ first ∷ second ∷ codes "--bad" ∷ third ∷ [])
     × (number_in 1 MAX_CLIENTS first ≡ Some clients) × (number_in 1 MAX_BLOCKS second ≡ Some blocks) × (number_in 0 last_block third ≡ Some bad)
 
+-- the words ask for a page: `draw CLIENTS BLOCKS --page`, or `draw CLIENTS BLOCKS --page --bad LBA`
+abbrev pub AsksPage : ℕ → ℕ → Option ℕ → List Text → Type 0
+AsksPage clients blocks None words = (program first second : Text) × (words ≡ program ∷ codes "draw" ∷ first ∷ second ∷ codes "--page" ∷ [])
+    × (number_in 1 MAX_CLIENTS first ≡ Some clients) × (number_in 1 MAX_BLOCKS second ≡ Some blocks)
+AsksPage clients blocks (Some bad) words =
+    (program first second third : Text) × (words ≡ program ∷ codes "draw" ∷ first ∷ second ∷ codes "--page" ∷ codes "--bad" ∷ third ∷ [])
+    × (number_in 1 MAX_CLIENTS first ≡ Some clients) × (number_in 1 MAX_BLOCKS second ≡ Some blocks) × (number_in 0 last_block third ≡ Some bad)
+
 -- the words ask to let clients work: `work CLIENTS ROUNDS`, or `work CLIENTS ROUNDS LOG`
 abbrev pub AsksWork : ℕ → ℕ → Option Text → List Text → Type 0
 AsksWork clients rounds None words = (program first second : Text) × (words ≡ program ∷ codes "work" ∷ first ∷ second ∷ [])
@@ -322,6 +349,7 @@ AsksPlainly (fill file lba count byte) words =
     × (number_in 0 max_lba second ≡ Some lba) × (number_in 1 MOST_BLOCKS_MOVED third ≡ Some count) × (number_in 0 255 fourth ≡ Some byte)
 AsksPlainly (audit log) words = (program : Text) × (words ≡ program ∷ codes "audit" ∷ log ∷ []) × (is_plain_name log ≡ true)
 AsksPlainly (draw clients blocks bad) words = AsksScript (codes "draw") clients blocks bad words
+AsksPlainly (page clients blocks bad) words = AsksPage clients blocks bad words
 AsksPlainly (capture clients blocks file bad) words = AsksCapture clients blocks file bad words
 
 -- a plain line asks for what it says, and isn't refused
@@ -342,6 +370,7 @@ MayEndRun (dump file lba count) status = (status ≤ 1) ⊎ ((status ≡ 3) ⊎ 
 MayEndRun (fill file lba count byte) status = (status ≤ 1) ⊎ ((status ≡ 3) ⊎ (status ≡ 4))
 MayEndRun (audit log) status = (status ≡ 0) ⊎ ((status ≡ 3) ⊎ (status ≡ 4))
 MayEndRun (draw clients blocks bad) status = (status ≤ 1) ⊎ ((status ≡ 3) ⊎ (status ≡ 4))
+MayEndRun (page clients blocks bad) status = (status ≤ 1) ⊎ ((status ≡ 3) ⊎ (status ≡ 4))
 MayEndRun (capture clients blocks file bad) status = (status ≤ 1) ⊎ ((status ≡ 3) ⊎ (status ≡ 4))
 
 -- Help or the version is asked for.

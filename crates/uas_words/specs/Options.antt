@@ -3,7 +3,7 @@ use Rattle.std.specs.Prelude.{ℕ, ◌≤◌, ◌<◌, IfSome}
 use Rattle.uas_profile.specs.declared.TheConstants.{MAX_BLOCKS, MOST_BLOCKS_MOVED}
 use Rattle.byte_io.specs.Disks.{AreBlocks, AreClients, AreDisks}
 use Rattle.uas_words.specs.declared.Run.{Run}
-use Rattle.uas_words.specs.declared.Run.TheVariants.{Replay, Trace, Work, Decode, Make, Info, Dump, Fill, Audit, Draw, Capture}
+use Rattle.uas_words.specs.declared.Run.TheVariants.{Replay, Trace, Work, Decode, Make, Info, Dump, Fill, Audit, Draw, Page, Capture}
 
 -- a unit's blocks have numbers from 0 to 65,535
 abbrev pub IsBlock : ℕ → Type 0
@@ -29,4 +29,5 @@ IsInRange (Dump file extent) = IsMoved extent.count
 IsInRange (Fill file extent byte) = IsMoved extent.count
 IsInRange (Audit log) = Unit {0}
 IsInRange (Draw disks) = AreDisks disks × IfSome disks.bad IsBlock
+IsInRange (Page disks) = AreDisks disks × IfSome disks.bad IsBlock
 IsInRange (Capture disks file) = AreDisks disks × IfSome disks.bad IsBlock

@@ -39,10 +39,14 @@ Examples:
   uasdisk work 4 3
   uasdisk work 4 3 work.log";
 
-/// What `decode` reads, and an example.
-pub(crate) const DECODE_HELP: &str = "\
-A line whose first word is unit, put, link, event, trb, context, bell, cdb, host or sense has bytes behind it, in
-hexadecimal digits; what they say is printed behind the line. Every other line stays as it is.
+pub(crate) const PAGE_HELP: &str =
+    "Write a page (HTML) that shows the run step by step, in place of the picture";
 
-Example:
-  uasdisk trace 1 100 < examples/first-reply.script | uasdisk decode";
+/// What `draw` writes, with examples.
+pub(crate) const DRAW_HELP: &str = "\
+The page needs a browser and nothing else: it shows each step's bytes with what they say, and the rings, stream
+contexts, events, tasks and replies behind it. Its keys are told on it.
+
+Examples:
+  uasdisk draw 3 100 < examples/abort.script > abort.svg
+  uasdisk draw 3 100 --page < examples/abort.script > abort.html";

@@ -6,11 +6,13 @@
 #![tactic(auto)]
 
 ghost use Rattle.std.specs.Prelude.{◌≡◌, ◌≤◌, ℕ, Option, Some, IfOk, IfSome, MatchResult, map, option_and_then, option_map};
+ghost use Rattle.std.specs.Prelude.{codes};
+ghost use Rattle.std.specs.Str.{bytes_eq};
 ghost use Rattle.std.specs.String.{string_bytes};
 ghost use Rattle.clap.specs.Words.{FailsBy, app_of, found_of, kind_of, one_of, rows_of, subcommand_rows_of};
 ghost use Rattle.byte_io.specs.Disks.{AreBlocks, AreClients, AreDisks};
 ghost use Rattle.uas_words.specs.Options.{IsBlock, IsInRange, IsMoved};
-ghost use Rattle.uas_words.specs.CommandLine.{audit, audit_app, capture_app, capture_of, draw_app};
+ghost use Rattle.uas_words.specs.CommandLine.{audit, audit_app, capture_app, capture_of, draw_app, draw_of, has_page};
 ghost use Rattle.uas_words.specs.CommandLine.{Asked, AsksPlainly, asked_by, asked_for, asked_in, bad_of, blocks_of, clients_of, decode_app};
 ghost use Rattle.uas_words.specs.CommandLine.{dump_app, dump_of, extent_of, file_of, fill_app, fill_of, info_app, log_of, make_app, number_of};
 ghost use Rattle.uas_words.specs.CommandLine.{program_app, refusals, replay_app, script_of, top_app, trace_app, with_disks, with_extent, work_app, work_of};
@@ -19,11 +21,14 @@ mod arguments;
 mod helps;
 mod laws;
 
-use arguments::{bad, blocks, file, log, number, saved_log};
+use arguments::{bad, blocks, file, log, number, page, saved_log};
 use byte_io::{Disks, Extent};
 use clap::error::ErrorKind;
 use clap::{ArgMatches, Command, Error};
-use helps::{BYTE_HELP, DECODE_HELP, LBA_HELP, LOG_HELP, ROUNDS_HELP, SCRIPT_HELP, WORK_HELP};
+use decode_help::DECODE_HELP;
+use helps::{
+    BYTE_HELP, DRAW_HELP, LBA_HELP, LOG_HELP, PAGE_HELP, ROUNDS_HELP, SCRIPT_HELP, WORK_HELP,
+};
 pub use laws::plain_lines_ask;
 use std::alloc::{AllocError, Global};
 use uas_profile::{CLIENTS_HELP, MAX_BLOCKS, MAX_CLIENTS, MOST_BLOCKS_MOVED};
@@ -97,6 +102,8 @@ pub enum Run<'a> {
     },
     /// Run a script as `Replay` does, and draw the run.
     Draw(Disks),
+    /// Run a script as `Replay` does, and write the run as a page.
+    Page(Disks),
     /// Run a script as `Replay` does, and write the run to a file as a capture.
     Capture {
         disks: Disks,
@@ -258,8 +265,8 @@ fn draw_command<'a>(alloc: Global) -> Result<Command<'a>, AllocError>
 {
     let command = Command::new(alloc, "draw")
         .about("Runs a script as replay does, and draws the run as a picture (SVG)")
-        .after_help("Example:\n  uasdisk draw 3 100 < examples/abort.script > abort.svg");
-    add_disks(alloc, command)
+        .after_help(DRAW_HELP);
+    add_disks(alloc, command)?.arg(page(alloc, PAGE_HELP))
 }
 
 fn capture_command<'a>(alloc: Global) -> Result<Command<'a>, AllocError>
@@ -307,7 +314,7 @@ fn asked<'a>(matches: &ArgMatches<'a>) -> Option<Run<'a>>
         "dump" => dump_in(words),
         "fill" => fill_in(words),
         "audit" => audit_in(words),
-        "draw" => Some(Run::Draw(disks_in(words)?)),
+        "draw" => draw_in(words),
         "capture" => capture_in(words),
         _ => None,
     }
@@ -327,6 +334,36 @@ fn disks_in(words: &ArgMatches<'_>) -> Option<Disks>
         blocks,
         bad,
     })
+}
+
+/// A run that is drawn, as a picture or as a page.
+fn draw_in<'a>(words: &ArgMatches<'a>) -> Option<Run<'a>>
+    ensures range { IfSome result IsInRange }
+    ensures asked { option_map asked_by result ≡ draw_of (rows_of (found_of words.now)) }
+{
+    let disks = disks_in(words)?;
+    if has_page(words) {
+        Some(Run::Page(disks))
+    } else {
+        Some(Run::Draw(disks))
+    }
+}
+
+/// Whether `--page` stands.
+fn has_page(words: &ArgMatches<'_>) -> bool
+    ensures { result ≡ has_page (rows_of (found_of words.now)) }
+{
+    match words.get_str("page") {
+        Some(word) => is_true(word),
+        None => false,
+    }
+}
+
+/// Whether the word of a flag is `true`.
+fn is_true(word: &str) -> bool
+    ensures { result ≡ bytes_eq word.now (codes "true") }
+{
+    word == "true"
 }
 
 fn work_in<'a>(words: &ArgMatches<'a>) -> Option<Run<'a>>

@@ -7,7 +7,7 @@ use Rattle.clap.specs.Words.{HasKind, kind_of}
 use Rattle.clap.specs.declared.error.Error.{Error}
 use Rattle.clap.specs.declared.error.kind.ErrorKind.TheVariants.{OutOfMemory}
 use Rattle.uas_decode.specs.Runs.{Begins, decoded}
-use Rattle.uas_words.specs.CommandLine.{Asked, replay, trace, work, decode, make, info, dump, fill, audit, draw, capture}
+use Rattle.uas_words.specs.CommandLine.{Asked, replay, trace, work, decode, make, info, dump, fill, audit, draw, page, capture}
 use Rattle.uasdisk.specs.Ends.{Ends, Host, World}
 
 appends-kept : (old new : Option (List ℕ)) → Keeps old new → Appends old new []
@@ -110,6 +110,15 @@ memory_ends (audit file) host old new status four kept files input = record {
   input = input;
 }
 memory_ends (draw clients blocks bad) host old new status four kept files input = record {
+  statuses = inr (inr four);
+  traced = λ low. absurd (omega (arith, four, low));
+  drawn = λ low. absurd (omega (arith, four, low));
+  read = λ low. absurd (omega (arith, four, low));
+  fault = λ three. absurd (omega (arith, four, three));
+  memory = λ is. kept;
+  files = files;
+}
+memory_ends (page clients blocks bad) host old new status four kept files input = record {
   statuses = inr (inr four);
   traced = λ low. absurd (omega (arith, four, low));
   drawn = λ low. absurd (omega (arith, four, low));

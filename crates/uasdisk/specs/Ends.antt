@@ -3,7 +3,7 @@ use Rattle.std.specs.Prelude.{◌≡◌, ℕ, ◌<◌, ◌≤◌, Bool, IsTrue, 
 use Rattle.std.specs.Io.KnownBytes.{Appends, Keeps, IsAtEnd}
 use Rattle.clap.specs.Words.{Kinds, Text}
 use Rattle.clap.specs.declared.error.kind.ErrorKind.{ErrorKind}
-use Rattle.uas_words.specs.CommandLine.{Asked, replay, trace, work, decode, make, info, dump, fill, audit, draw, capture, IsRequest, EndsRefused}
+use Rattle.uas_words.specs.CommandLine.{Asked, replay, trace, work, decode, make, info, dump, fill, audit, draw, page, capture, IsRequest, EndsRefused}
 use Rattle.disk_image.specs.Images.{blocks_in, made_image, made_text}
 use Rattle.uas_script.specs.Script.{script}
 use Rattle.uas_replay.specs.Told.{zeroed_units}
@@ -16,7 +16,9 @@ use Rattle.work_run.specs.WorkEnds.{Told}
 use Rattle.work_run.specs.SavedEnds.{CantBeSaved, Saved, Unsaved}
 use Rattle.uas_decode.specs.Runs.{Begins, Decodes}
 use Rattle.audit_run.specs.Ends.{IsRefused, Tells as AuditTells}
-use Rattle.draw_run.specs.Draws.{AppendsPicture}
+use Rattle.draw_run.specs.Draws.{AppendsDrawn}
+use Rattle.draw_run.specs.declared.Form.{Form}
+use Rattle.draw_run.specs.declared.Form.TheVariants.{Picture, Page}
 use Rattle.capture_run.specs.Ends.{IsCapture}
 
 -- What is known of a host: whether it tells what its files hold; of the file of a name, whether it can be opened, can
@@ -163,12 +165,13 @@ pub record AuditEnds (file : Text) (host : Host) (old new : World) (status : ℕ
   pub files : new.holds ≡ old.holds
   pub input : new.input ≡ old.input
 
--- `draw CLIENTS BLOCKS [--bad LBA]`: the script on standard input was run as `trace` runs it, and standard output has got a picture.
-pub record DrawEnds (clients blocks : ℕ) (bad : Option ℕ) (host : Host) (old new : World) (status : ℕ) : Type 0 where
+-- `draw CLIENTS BLOCKS [--page] [--bad LBA]`: the script on standard input was run as `trace` runs it, and standard output has got a
+-- picture, or a page.
+pub record DrawEnds (form : Form) (clients blocks : ℕ) (bad : Option ℕ) (host : Host) (old new : World) (status : ℕ) : Type 0 where
   pub statuses : (status ≤ 1) ⊎ ((status ≡ 3) ⊎ (status ≡ 4))
   pub traced : status ≤ 1 → IfSome old.input (λ bytes.
       Traces (zeroed_units clients blocks bad) (script clients bytes) status)
-  pub drawn : status ≤ 1 → AppendsPicture clients old.output new.output
+  pub drawn : status ≤ 1 → AppendsDrawn form clients old.output new.output
   pub read : status ≤ 1 → IsTrue host.has_input × IsAtEnd new.input
   pub fault : status ≡ 3 → ScriptStops clients host old new
   pub memory : status ≡ 4 → Keeps old.output new.output
@@ -198,7 +201,8 @@ Ends (info file) host old new status = InfoEnds file host old new status
 Ends (dump file lba count) host old new status = DumpEnds file lba count host old new status
 Ends (fill file lba count byte) host old new status = FillEnds file lba count byte host old new status
 Ends (audit file) host old new status = AuditEnds file host old new status
-Ends (draw clients blocks bad) host old new status = DrawEnds clients blocks bad host old new status
+Ends (draw clients blocks bad) host old new status = DrawEnds Picture clients blocks bad host old new status
+Ends (page clients blocks bad) host old new status = DrawEnds Page clients blocks bad host old new status
 Ends (capture clients blocks file bad) host old new status = CaptureEnds clients blocks file bad host old new status
 
 -- Words that are refused with an error of this kind: help and the version go to standard output, nothing else does.

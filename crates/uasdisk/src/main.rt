@@ -10,7 +10,8 @@
 //! uasdisk dump FILE LBA COUNT                            prints blocks of an image, by one READ
 //! uasdisk fill FILE LBA COUNT BYTE                       fills blocks of an image with a byte, by one WRITE
 //! uasdisk audit LOG                                      replays a saved log and audits each client's account in it
-//! uasdisk draw CLIENTS BLOCKS [--bad LBA] < script       runs a script and draws the run as a picture (SVG)
+//! uasdisk draw CLIENTS BLOCKS [--page] [--bad LBA] < script
+//!                                                        runs a script and draws the run as a picture (SVG), or writes it as a page (HTML)
 //! uasdisk capture CLIENTS BLOCKS FILE [--bad LBA] < script
 //!                                                        runs a script and writes the run to a file that Wireshark reads
 //! ```

@@ -16,7 +16,7 @@ use capture_run::run_capture;
 use clap::Error;
 use clap::error::ErrorKind;
 use disk_image::{run_dump, run_fill, run_info, run_make};
-use draw_run::run_draw;
+use draw_run::{Form, run_draw};
 use std::alloc::{AllocError, Global};
 use std::io::Write;
 use std::rt::Clock;
@@ -114,7 +114,24 @@ pub fn run_words<R: Threads + Wait + Clock + Sync, F: Files, S: Source, O: Sink,
             faults,
             may_show_progress,
         ),
-        Ok(Run::Draw(disks)) => run_draw(alloc, disks, input, output, faults, may_show_progress),
+        Ok(Run::Draw(disks)) => run_draw(
+            alloc,
+            disks,
+            Form::Picture,
+            input,
+            output,
+            faults,
+            may_show_progress,
+        ),
+        Ok(Run::Page(disks)) => run_draw(
+            alloc,
+            disks,
+            Form::Page,
+            input,
+            output,
+            faults,
+            may_show_progress,
+        ),
         Ok(Run::Capture { disks, file }) => run_capture(
             alloc,
             disks,

@@ -525,8 +525,12 @@ static void scatter(const struct piece *pieces, int count, uint32_t block)
 {
     uint8_t *from = blocks + block * UAS_BLOCK_BYTES;
     for (int i = 0; i < count; from += pieces[i++].length)
-        for (uint32_t k = 0; k < pieces[i].length; k++)
-            *at(pieces[i].at + k) = from[k] = (uint8_t)draw(256);
+        for (uint32_t k = 0, part; k < pieces[i].length; k += part) {
+            part = (uint32_t)together(pieces[i].at + k, pieces[i].length - k);
+            for (uint32_t m = k; m < k + part; m++)
+                from[m] = (uint8_t)draw(256);
+            memcpy(at(pieces[i].at + k), from + k, part);
+        }
 }
 
 /* Compares so many bytes in pieces with what blocks should have; behind them nothing was written. */

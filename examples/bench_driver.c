@@ -223,8 +223,8 @@ static void long_trbs(void)
     clear(4);
     put_td(DATA_IN, 4, parts, 5, 0x40000, 77);
     do_command(4, read_write(false, 4 * ZONE, 512).bytes, DATA_IN, 0);
-    MUST(memcmp(at(parts[0].at), blocks + 4 * ZONE * UAS_BLOCK_BYTES, 0x40000) == 0); /* the pieces adjoin */
-    SAME(at(parts[0].at)[0x40000], UNTOUCHED);
+    MUST(has(parts[0].at, blocks + 4 * ZONE * UAS_BLOCK_BYTES, 0x40000)); /* the pieces adjoin */
+    SAME(*at(parts[0].at + 0x40000), UNTOUCHED);
 }
 
 /* A block of which 8 bytes are in the TRB itself, as a TD of their own; and a block of a TD that has room for more, which is taken whole. */
@@ -379,7 +379,7 @@ static void wrong_trbs(void)
 {
     struct piece one = { area(9) + 0x2000, 512, IOC };
     clear(9);
-    const uint64_t outside[3] = { BASE - 100, BASE + MEMORY_BYTES - 100, UINT64_MAX - 100 };
+    const uint64_t outside[3] = { BASE - 100, HIGH + AREAS - 100, UINT64_MAX - 100 };
     for (int i = 0; i < 3; i++) {
         expect(DATA_IN, 9, put(&pipes[DATA_IN][9], outside[i], 512, NORMAL | IOC), DATA_BUFFER, 512, false);
         do_command(9, read_write(false, 9 * ZONE, 1).bytes, DATA_IN, 0);

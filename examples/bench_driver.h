@@ -1,5 +1,5 @@
-/* bench_driver.h: a driver of uas_xhci.h in user space, on 16 MiB of plain memory: registers, rings, events, TDs, and commands of a disk. What
- * a TD is to post is noted when it is put on its ring, so that the controller isn't its own judge; the first event, context or byte that is
+/* bench_driver.h: a driver of uas_xhci.h in user space, on 16 MiB of memory in four blocks: registers, rings, events, TDs, and commands of a
+ * disk. What a TD is to post is noted when it is put on its ring, so that the controller isn't its own judge; the first event, context or byte that is
  * another one ends the program. bench_driver.c drives it. */
 #ifndef BENCH_DRIVER_H
 #define BENCH_DRIVER_H
@@ -9,9 +9,17 @@
 #include <stdlib.h>
 #include <string.h>
 
-/* Memory from an address beyond 4 GiB on: rings and contexts first, then each tag's buffers. */
-enum { MEMORY_BYTES = 16 << 20, TAGS = 15, AREA = 0x90000, RING_BYTES = MEMORY_BYTES - TAGS * AREA };
-static const uint64_t BASE = 0x7654300000;
+/* Rings and contexts stand below 4 GiB; each tag's buffers above, in three blocks that adjoin by address and cut some buffers in two. */
+enum { TAGS = 15, AREA = 0x90000, RING_BYTES = 0x790000, FIRST_CUT = 3 * AREA + 0x2f123, SECOND_CUT = 8 * AREA + 0x13ff8, AREAS = TAGS * AREA };
+static const uint64_t BASE = 0x7f000000, HIGH = 0x7654300000;
+
+static uint8_t rings[RING_BYTES], first_block[FIRST_CUT], second_block[SECOND_CUT - FIRST_CUT], third_block[AREAS - SECOND_CUT];
+static const struct uas_region regions[] = {
+    { HIGH + FIRST_CUT, second_block, sizeof second_block },
+    { BASE, rings, sizeof rings },
+    { HIGH + SECOND_CUT, third_block, sizeof third_block },
+    { HIGH, first_block, sizeof first_block },
+};
 
 enum { ZONE = 600, BLOCKS = (TAGS + 1) * ZONE, EVENTS = 64, MOST_TRBS = 40, UNTOUCHED = 0x5a };
 
@@ -27,7 +35,7 @@ enum { SLOT_1 = 1 << 24, RUNNING = 1, HALTED = 2, STOPPED_STATE = 3 };
 enum { COMMANDS = 0, CONTROL = 1, COMMAND_PIPE = 2, STATUS_PIPE = 3, DATA_OUT = 4, DATA_IN = 5, PORTS = 6 };
 
 /* The disk's bytes, and what they should be. */
-static uint8_t memory[MEMORY_BYTES], disk[BLOCKS * UAS_BLOCK_BYTES], blocks[BLOCKS * UAS_BLOCK_BYTES];
+static uint8_t disk[BLOCKS * UAS_BLOCK_BYTES], blocks[BLOCKS * UAS_BLOCK_BYTES];
 static uint64_t free_from, random_state = 1;
 static uas_xhci *xhci;
 static unsigned long events_seen, steps_taken;
@@ -53,9 +61,44 @@ static uint32_t draw(uint32_t below)
 
 /* ---- Memory ---- */
 
+static const struct uas_region *region_of(uint64_t address)
+{
+    int i = 0;
+    while (address - regions[i].address >= regions[i].length)
+        MUST(++i < 4);
+    return &regions[i];
+}
+
 static uint8_t *at(uint64_t address)
 {
-    return memory + (address - BASE);
+    const struct uas_region *region = region_of(address);
+    return region->bytes + (address - region->address);
+}
+
+/* How many of some bytes from an address on stand in one block. */
+static size_t together(uint64_t address, size_t length)
+{
+    const struct uas_region *region = region_of(address);
+    uint64_t left = region->address + region->length - address;
+    return length < left ? length : (size_t)left;
+}
+
+static void fill(uint64_t address, uint8_t value, size_t length)
+{
+    for (size_t part; length > 0; address += part, length -= part) {
+        part = together(address, length);
+        memset(at(address), value, part);
+    }
+}
+
+static bool has(uint64_t address, const uint8_t *bytes, size_t length)
+{
+    for (size_t part; length > 0; address += part, bytes += part, length -= part) {
+        part = together(address, length);
+        if (memcmp(at(address), bytes, part) != 0)
+            return false;
+    }
+    return true;
 }
 
 static uint64_t take(uint64_t bytes, uint64_t align)
@@ -70,14 +113,14 @@ static uint64_t load(uint64_t address, int width)
 {
     uint64_t value = 0;
     while (width-- > 0)
-        value = value << 8 | at(address)[width];
+        value = value << 8 | *at(address + (unsigned)width);
     return value;
 }
 
 static void store(uint64_t address, int width, uint64_t value)
 {
     for (int i = 0; i < width; i++)
-        at(address)[i] = (uint8_t)(value >> 8 * i);
+        *at(address + (unsigned)i) = (uint8_t)(value >> 8 * i);
 }
 
 /* ---- Rings (4.9.2): two segments, each with a Link TRB at its end ---- */
@@ -259,9 +302,9 @@ static bool take_events(void)
 
 static bool work(uint32_t budget)
 {
-    const struct uas_memory lent = { BASE, memory, sizeof memory };
-    uint32_t steps = 0;
-    bool more = uas_xhci_work(xhci, &lent, budget, &steps);
+    uint32_t steps;
+    bool more;
+    SAME(uas_xhci_work(xhci, regions, 4, budget, &steps, &more), UAS_OK);
     MUST(steps <= budget);
     steps_taken += steps;
     return more;
@@ -407,7 +450,7 @@ static void put_td(int endpoint, int stream, const struct piece *pieces, int cou
 /* Where a tag's memory is: its command, its status, its data. */
 static uint64_t area(int tag)
 {
-    return BASE + RING_BYTES + (uint64_t)(tag - 1) * AREA;
+    return HIGH + (uint64_t)(tag - 1) * AREA;
 }
 
 /* Puts a COMMAND information unit (UAS) on the command pipe, whole or as three TRBs, of which one may be empty. */
@@ -482,8 +525,12 @@ static void scatter(const struct piece *pieces, int count, uint32_t block)
 {
     uint8_t *from = blocks + block * UAS_BLOCK_BYTES;
     for (int i = 0; i < count; from += pieces[i++].length)
-        for (uint32_t k = 0; k < pieces[i].length; k++)
-            at(pieces[i].at)[k] = from[k] = (uint8_t)draw(256);
+        for (uint32_t k = 0, part; k < pieces[i].length; k += part) {
+            part = (uint32_t)together(pieces[i].at + k, pieces[i].length - k);
+            for (uint32_t m = k; m < k + part; m++)
+                from[m] = (uint8_t)draw(256);
+            memcpy(at(pieces[i].at + k), from + k, part);
+        }
 }
 
 /* Compares so many bytes in pieces with what blocks should have; behind them nothing was written. */
@@ -492,8 +539,8 @@ static void gather(const struct piece *pieces, int count, uint32_t block, uint32
     const uint8_t *wanted = blocks + block * UAS_BLOCK_BYTES;
     for (int i = 0; i < count; i++) {
         uint32_t there = moved < pieces[i].length ? moved : pieces[i].length;
-        MUST(memcmp(at(pieces[i].at), wanted, there) == 0);
-        SAME(at(pieces[i].at)[there], UNTOUCHED);
+        MUST(has(pieces[i].at, wanted, there));
+        SAME(*at(pieces[i].at + there), UNTOUCHED);
         wanted += there;
         moved -= there;
     }
@@ -501,7 +548,7 @@ static void gather(const struct piece *pieces, int count, uint32_t block, uint32
 
 static void clear(int tag)
 {
-    memset(at(area(tag) + 0x1000), UNTOUCHED, AREA - 0x1000);
+    fill(area(tag) + 0x1000, UNTOUCHED, AREA - 0x1000);
 }
 
 #endif

@@ -146,7 +146,12 @@ enum uas_fault {
     UAS_TASKS_BLOCK_BYTES = 149, /* blocks of neither 512 nor 4,096 bytes */
     UAS_TASKS_SERIAL = 150,      /* a serial number of more than eight digits */
     UAS_TASKS_SET = 151,         /* no such command set, or no maximum transfer length */
-    UAS_TASKS_CHUNK = 152        /* a chunk of no blocks, or of more than 128 */
+    UAS_TASKS_CHUNK = 152,       /* a chunk of no blocks, or of more than 128 */
+    /* the controller over a caller's memory (uas_xhci.h) */
+    UAS_XHCI_MANY = 160,    /* more regions than a call takes */
+    UAS_XHCI_WRAPS = 161,   /* a region that goes past the last address */
+    UAS_XHCI_OVERLAP = 162, /* an address is in two regions */
+    UAS_XHCI_NULL = 163     /* a region whose bytes are a null pointer */
 };
 
 /* The name above, as "UAS_TRB_UNFIT"; a null pointer where the number is no fault's. */

@@ -31,16 +31,21 @@ extern "C" {
 
 typedef struct uas_xhci uas_xhci;
 
-enum { UAS_XHCI_REGISTER_BYTES = 4096 /* of the page of BAR 0 */ };
+enum {
+    UAS_XHCI_REGISTER_BYTES = 4096, /* of the page of BAR 0 */
+    UAS_XHCI_REGIONS = 64           /* the most of a call */
+};
 
-/* Memory that is lent for a call: `length` bytes from the address `base` on, as the driver's rings and pointers name it. Nobody else writes
- * it during the call: where a guest's processors do, a read may have bytes of two moments, so the controller reads each TRB, context and
- * information unit once and decides on that copy. */
-struct uas_memory {
-    uint64_t base;
+/* A region of memory that is lent for a call: `length` bytes from an address on, as the driver's rings and pointers name it. What crosses
+ * from one region into another that begins at its end is read and written as if they were one; a region of no bytes is none. Nobody else
+ * writes them during the call: where a guest's processors do, a read may have bytes of two moments, so the controller reads each TRB,
+ * context and information unit once and decides on that copy. */
+struct uas_region {
+    uint64_t address;
     uint8_t *bytes;
     size_t length;
 };
+UAS_XHCI_ASSERT(sizeof(struct uas_region) == 24 && offsetof(struct uas_region, bytes) == 8);
 
 /* A controller as after a power-on, with a disk of `count` logical units plugged in. All but the last parameter are those of uas_tasks_new,
  * and so are the faults. *xhci is for uas_xhci_free.
@@ -59,36 +64,32 @@ void uas_xhci_free(uas_xhci *xhci);
 enum {
     UAS_XHCI_CALL_READ = 1,
     UAS_XHCI_CALL_WRITE = 2,
-    UAS_XHCI_CALL_WORK = 3,
-    UAS_XHCI_CALL_INTERRUPT = 4,
-    UAS_XHCI_CALL_MESSAGE = 5,
-    UAS_XHCI_CALL_PLUG = 6,
-    UAS_XHCI_CALL_FRAME = 7,
-    UAS_XHCI_CALL_RESET = 8,
-    UAS_XHCI_CALL_REQUEST = 9,
-    UAS_XHCI_CALL_DATA = 10,
-    UAS_XHCI_CALL_ANSWERED = 11
+    UAS_XHCI_CALL_INTERRUPT = 3,
+    UAS_XHCI_CALL_MESSAGE = 4,
+    UAS_XHCI_CALL_PLUG = 5,
+    UAS_XHCI_CALL_FRAME = 6,
+    UAS_XHCI_CALL_RESET = 7,
+    UAS_XHCI_CALL_REQUEST = 8,
+    UAS_XHCI_CALL_DATA = 9,
+    UAS_XHCI_CALL_ANSWERED = 10
 };
 
 /* What goes in and comes out beside the bytes, where a call has it. */
 struct uas_xhci_door {
     uint8_t call;    /* in: UAS_XHCI_CALL_... */
     uint8_t width;   /* in of READ, WRITE: 1, 2, 4 or 8 */
-    uint8_t good;    /* out of WORK: 1 where there may be more to do; of INTERRUPT, MESSAGE, REQUEST: 1 where there is one */
+    uint8_t good;    /* out of INTERRUPT, MESSAGE, REQUEST: 1 where there is one */
     uint8_t kind;    /* out of REQUEST: UAS_REQUEST_... */
     uint8_t through; /* out of REQUEST: 1 where a write is to be on the medium when it is done */
     uint8_t outcome; /* in of ANSWERED: UAS_DONE and its like */
     uint16_t reserved;
-    uint32_t budget; /* in of WORK */
-    uint32_t steps;  /* out of WORK */
     uint64_t offset; /* in of READ, WRITE */
     uint64_t value;  /* in of WRITE, PLUG, FRAME; out of READ */
-    uint64_t base;   /* in of WORK: the address of the first byte */
     uint64_t number, unit, block, count; /* out of REQUEST; `number` in of DATA and ANSWERED */
 };
-UAS_XHCI_ASSERT(sizeof(struct uas_xhci_door) == 72 && offsetof(struct uas_xhci_door, offset) == 16);
+UAS_XHCI_ASSERT(sizeof(struct uas_xhci_door) == 56 && offsetof(struct uas_xhci_door, offset) == 8);
 
-/* Any call of the controller; those below are easier to use. Where a call has no bytes, `length` may be 0.
+/* Any call of the controller but its steps; those below are easier to use. Where a call has no bytes, `length` may be 0.
  * Faults: UAS_TASKS_CALL, UAS_TASKS_NOT_OUT, UAS_TASKS_LENGTH. */
 uint8_t uas_xhci_call(uas_xhci *xhci, struct uas_xhci_door *door, uint8_t *bytes, size_t length);
 
@@ -107,10 +108,24 @@ void uas_xhci_set_frame(uas_xhci *xhci, uint16_t frame_index);
 
 /* ---- Work ---- */
 
-/* Takes at most `budget` steps, each of one TRB or one chunk, over the memory that is lent; *steps is how many it took. The value is whether
- * there may be more to do at once; where it is false, the next register write or answer gives something to do. Memory that isn't there where
- * a ring or a context should be halts the controller (USBSTS.HSE); where a TRB's buffer should be, the TD ends with Data Buffer Error. */
-bool uas_xhci_work(uas_xhci *xhci, const struct uas_memory *memory, uint32_t budget, uint32_t *steps);
+/* What goes in and comes out of a turn of steps. */
+struct uas_xhci_turn {
+    uint32_t budget; /* in: the most steps */
+    uint32_t steps;  /* out: how many were taken */
+    uint32_t more;   /* out: 1 where there may be more to do at once */
+};
+UAS_XHCI_ASSERT(sizeof(struct uas_xhci_turn) == 12);
+
+/* Takes at most `budget` steps, each of one TRB or one chunk, over the memory that is lent, in any order of regions. *steps is how many it
+ * took; *more whether there may be more to do at once: where it is false, the next register write or answer gives something to do. Memory
+ * that isn't there where a ring or a context should be halts the controller (USBSTS.HSE); where a TRB's buffer should be, the TD ends with
+ * Data Buffer Error.
+ * Faults: UAS_XHCI_NULL (a region whose bytes are a null pointer), UAS_XHCI_MANY, UAS_XHCI_WRAPS, UAS_XHCI_OVERLAP. */
+uint8_t uas_xhci_work(uas_xhci *xhci, const struct uas_region *regions, size_t count, uint32_t budget, uint32_t *steps, bool *more);
+
+/* The same, of which uas_xhci_work makes one call: the regions' bytes are no null pointers.
+ * Faults: UAS_XHCI_MANY, UAS_XHCI_WRAPS, UAS_XHCI_OVERLAP. */
+uint8_t uas_xhci_take_turn(uas_xhci *xhci, struct uas_xhci_turn *turn, struct uas_region *regions, size_t count);
 
 /* ---- Interrupts (4.17) ---- */
 

@@ -37,12 +37,26 @@ void uas_xhci_set_frame(uas_xhci *xhci, uint16_t frame_index)
     call(xhci, &door, NULL, 0);
 }
 
-bool uas_xhci_work(uas_xhci *xhci, const struct uas_memory *memory, uint32_t budget, uint32_t *steps)
+/* The regions that have bytes, up to one more than a call takes, so that this tells. */
+uint8_t uas_xhci_work(uas_xhci *xhci, const struct uas_region *regions, size_t count, uint32_t budget, uint32_t *steps, bool *more)
 {
-    struct uas_xhci_door door = { .call = UAS_XHCI_CALL_WORK, .budget = budget, .base = memory->base };
-    call(xhci, &door, memory->bytes, memory->length);
-    *steps = door.steps;
-    return door.good != 0;
+    struct uas_xhci_turn turn = { .budget = budget };
+    struct uas_region lent[UAS_XHCI_REGIONS + 1];
+    size_t lents = 0;
+    for (size_t i = 0; i < count; i++) {
+        if (regions[i].length == 0)
+            continue;
+        if (regions[i].bytes == NULL)
+            return UAS_XHCI_NULL;
+        if (lents <= UAS_XHCI_REGIONS)
+            lent[lents++] = regions[i];
+    }
+    uint8_t fault = uas_xhci_take_turn(xhci, &turn, lent, lents);
+    if (fault == UAS_OK) {
+        *steps = turn.steps;
+        *more = turn.more != 0;
+    }
+    return fault;
 }
 
 bool uas_xhci_interrupt(uas_xhci *xhci)

@@ -1,5 +1,8 @@
-/* Random drivers of the controller of uas_xhci.h: any register access, any memory, any answer. No call may touch what isn't lent (pages that
- * can't be touched stand on both sides of it), take more steps than it was given, or answer a fault that the header doesn't name.
+/* Random drivers of the controller of uas_xhci.h: any register access, any memory, any answer. No call may touch what isn't lent, take more
+ * steps than it was given, or answer a fault that the header doesn't name.
+ *
+ * The memory is 64 KiB of addresses, cut anywhere into one to six parts, of which some are lent and the others gaps. Each region has pages of
+ * its own and ends where a page that can't be touched begins, or begins where one ends. Some calls lend what is refused.
  *
  * Half of the drivers begin with what a controller can use: rings, contexts and commands at addresses that are there, so that what follows
  * meets endpoints that run.
@@ -11,18 +14,22 @@
 #include <string.h>
 #include <sys/mman.h>
 
-enum { BYTES = 1 << 16, PAGE = 4096, CALLS = 400 };
+enum { BYTES = 1 << 16, PAGE = 4096, CALLS = 400, PARTS = 6, PART_PAGES = BYTES / PAGE + 2 };
 
 /* What stands where in the memory, from its beginning. */
 enum { TABLE = 0, ARRAY = 64, CONTEXT = 0x400, INPUT = 0x800, MORE_INPUT = 0xc00, EVENTS = 0x1000, COMMANDS = 0x2000, STREAMS = 0x3000 };
 enum { RINGS = 0x4000, DATA = 0x8000 };
 
-static uint64_t state, writes, steps_taken, events, requests, moves;
+static uint64_t state, writes, steps_taken, events, requests, moves, refusals;
 static uint32_t event, places; /* where the event ring is read, and how long it is */
 static bool cycle;
-static uint8_t *memory;
-static struct uas_memory lent;
 static uas_xhci *xhci;
+
+/* What is lent, in any order; where each byte of the memory is, those of gaps too; the address of the first. */
+static struct uas_region regions[PARTS + 1];
+static size_t lent;
+static uint8_t *homes[BYTES], gaps[BYTES], *pages;
+static uint64_t base;
 
 static uint64_t any(void)
 {
@@ -43,16 +50,16 @@ static void check(bool good, const char *what)
     abort();
 }
 
-/* The address of a place of the lent memory. */
+/* The address of a place of the memory. */
 static uint64_t address(uint32_t place)
 {
-    return lent.base + place;
+    return base + place;
 }
 
 static void store(uint32_t place, int width, uint64_t value)
 {
     for (int i = 0; i < width; i++)
-        memory[(place + (uint32_t)i) % BYTES] = (uint8_t)(value >> 8 * i);
+        *homes[(place + (uint32_t)i) % BYTES] = (uint8_t)(value >> 8 * i);
 }
 
 static void put_trb(uint32_t place, uint64_t parameter, uint32_t status, uint32_t control)
@@ -88,13 +95,14 @@ static void put_request(uint32_t place)
 static void put_unit(uint32_t place)
 {
     static const uint8_t codes[] = { 0x28, 0x28, 0x28, 0x2a, 0x2a, 0x2a, 0x12, 0x25, 0x35, 0x2f, 0x00, 0x9e };
-    memset(memory + place, 0, 32);
-    memory[place] = draw(20) ? 1 : (uint8_t)draw(6);
-    memory[place + 3] = (uint8_t)(1 + draw(4));
-    memory[place + 16] = draw(20) ? codes[draw(sizeof codes)] : (uint8_t)draw(256);
-    memory[place + 16 + 5] = (uint8_t)draw(64);
-    memory[place + 16 + 8] = (uint8_t)draw(8);
-    memory[place + 16 + 4] = memory[place + 16] == 0x12 ? 36 : 0;
+    uint8_t unit[32] = { draw(20) ? 1 : (uint8_t)draw(6) };
+    unit[3] = (uint8_t)(1 + draw(4));
+    unit[16] = draw(20) ? codes[draw(sizeof codes)] : (uint8_t)draw(256);
+    unit[16 + 5] = (uint8_t)draw(64);
+    unit[16 + 8] = (uint8_t)draw(8);
+    unit[16 + 4] = unit[16] == 0x12 ? 36 : 0;
+    for (uint32_t i = 0; i < 32; i++)
+        *homes[place + i] = unit[i];
 }
 
 /* The input context of Address Device or of Configure Endpoint, and stream contexts that name rings. */
@@ -136,7 +144,8 @@ static void put_command(void)
 static void begin(void)
 {
     static const uint32_t first[] = { 9, 11, 12 };
-    memset(memory, 0, RINGS);
+    for (uint32_t place = 0; place < RINGS; place++)
+        *homes[place] = 0;
     for (uint32_t place = RINGS; place < DATA; place += 16)
         put_any_trb(place);
     for (uint32_t place = RINGS + 0x200; place < RINGS + 0x3e0; place += 48)
@@ -169,15 +178,48 @@ static void begin(void)
 static void work(uint32_t budget)
 {
     uint32_t steps = 0;
-    uas_xhci_work(xhci, &lent, budget, &steps);
+    bool more;
+    check(uas_xhci_work(xhci, regions, lent, budget, &steps, &more) == UAS_OK, "regions were refused");
     check(steps <= budget, "a call took more steps than it was given");
     steps_taken += steps;
+}
+
+/* Regions that are refused: nothing may change, *steps and *more included. */
+static void refused_work(void)
+{
+    static struct uas_region many[UAS_XHCI_REGIONS + 2];
+    uint32_t steps = 1234, kind = draw(4), which = draw((uint32_t)lent);
+    bool more = true;
+    uint8_t fault, byte = 0, before = (uint8_t)uas_xhci_read(xhci, 0x44, 1);
+    struct uas_region extra = regions[which];
+    size_t count = lent + 1;
+    if (kind == 0) { /* one byte of a region again, or some more */
+        extra.address += draw((uint32_t)extra.length);
+        extra.length = 1 + (extra.address < base + BYTES ? draw((uint32_t)(base + BYTES - extra.address)) : 0);
+    } else if (kind == 1) { /* past the last address, by a byte or more */
+        extra.address = UINT64_MAX - draw(3);
+        extra.length = (size_t)(UINT64_MAX - extra.address) + 2 + draw(1000);
+    } else if (kind == 2)
+        extra.bytes = NULL;
+    memcpy(many, regions, sizeof regions);
+    if (kind == 3) /* single bytes, more than a call takes */
+        for (count = 0; count < UAS_XHCI_REGIONS + 1 + draw(2); count++)
+            many[count] = (struct uas_region){ 2 * count, &byte, 1 };
+    else {
+        many[lent] = many[which];
+        many[which] = extra;
+    }
+    static const uint8_t faults[] = { UAS_XHCI_OVERLAP, UAS_XHCI_WRAPS, UAS_XHCI_NULL, UAS_XHCI_MANY };
+    fault = uas_xhci_work(xhci, many, count, 9, &steps, &more);
+    check(fault == faults[kind], "regions weren't refused by their name");
+    check(steps == 1234 && more && uas_xhci_read(xhci, 0x44, 1) == before && byte == 0, "a refused call changed something");
+    refusals++;
 }
 
 /* Reads events as a driver does, and says so. */
 static void take_events(void)
 {
-    for (uint32_t i = 0; i < places && (memory[EVENTS + 16 * event + 12] & 1) == cycle; i++) {
+    for (uint32_t i = 0; i < places && (*homes[EVENTS + 16 * event + 12] & 1) == cycle; i++) {
         events++;
         event = event + 1 == places ? 0 : event + 1;
         cycle ^= event == 0;
@@ -247,6 +289,8 @@ static void call(void)
 {
     switch (draw(12)) {
     case 0: case 1: case 2: case 3:
+        if (lent > 0 && draw(60) == 0)
+            refused_work();
         work(draw(60));
         break;
     case 4: case 5:
@@ -257,7 +301,7 @@ static void call(void)
         break;
     case 7:
         if (draw(20) == 0)
-            memory[draw(BYTES)] = (uint8_t)any();
+            *homes[draw(BYTES)] = (uint8_t)any();
         else
             put_unit(DATA + 32 * draw(32));
         break;
@@ -281,33 +325,63 @@ static void call(void)
     }
 }
 
-/* Lends the memory from one of some addresses on, the last of which are near the end of all addresses. */
-static void lend(uint8_t *pages)
+/* Has a part of the memory stand in pages of its own, which it fills to their end, or from their begin on; a gap stands elsewhere. */
+static void place_part(uint32_t part, uint32_t from, uint32_t to, bool gap)
+{
+    uint8_t *begin = pages + (size_t)part * PART_PAGES * PAGE + PAGE, *home = draw(2) ? begin : begin + BYTES - (to - from);
+    if (gap)
+        home = gaps + from;
+    else if (to > from)
+        regions[lent++] = (struct uas_region){ base + from, home, to - from };
+    for (uint32_t place = from; place < to; place++)
+        homes[place] = home + (place - from);
+}
+
+/* Cuts the memory into parts; their addresses begin at one of some, the last of which are near the end of all addresses. */
+static void lend(void)
 {
     static const uint64_t bases[] = { 0, 0x100000, 0x7fffffff0000, 0xffffffffffff0000 };
-    memory = pages + PAGE;
-    lent = (struct uas_memory){ bases[draw(4)], memory, BYTES };
+    uint32_t parts = draw(3) ? 1 + draw(PARTS) : 1, gap = draw(2) ? draw(PARTS) : PARTS, from = 0;
+    base = bases[draw(4)];
+    lent = 0;
+    for (uint32_t part = 0; part < parts; part++) {
+        uint32_t to = part == parts - 1 ? BYTES : from + draw(2 * (BYTES - from) / (parts - part) + 1);
+        to = to > BYTES ? BYTES : to;
+        place_part(part, from, to, part == gap && parts > 1);
+        from = to;
+    }
+    for (uint32_t i = 0; i < lent; i++) { /* in any order */
+        struct uas_region one = regions[i];
+        uint32_t other = draw((uint32_t)lent);
+        regions[i] = regions[other];
+        regions[other] = one;
+    }
+    for (uint32_t i = 0; i < BYTES; i++)
+        *homes[i] = 0;
 }
 
 int main(int words, char **word)
 {
     uint64_t drivers = words > 1 ? strtoull(word[1], NULL, 10) : 1000, seed = words > 2 ? strtoull(word[2], NULL, 10) : 1;
-    uint8_t *pages = mmap(NULL, BYTES + 2 * PAGE, PROT_NONE, MAP_PRIVATE | MAP_ANONYMOUS, -1, 0);
-    check(pages != MAP_FAILED && mprotect(pages + PAGE, BYTES, PROT_READ | PROT_WRITE) == 0, "no memory");
+    pages = mmap(NULL, (size_t)PARTS * PART_PAGES * PAGE, PROT_NONE, MAP_PRIVATE | MAP_ANONYMOUS, -1, 0);
+    check(pages != MAP_FAILED, "no memory");
+    for (size_t part = 0; part < PARTS; part++)
+        check(mprotect(pages + part * PART_PAGES * PAGE + PAGE, BYTES, PROT_READ | PROT_WRITE) == 0, "no memory");
     for (uint64_t driver = 0; driver < drivers; driver++) {
         const struct uas_tasks_unit unit = { 64, 1, UAS_BLOCK_BYTES };
         state = (seed << 32 | driver) * 0x9e3779b97f4a7c15;
-        lend(pages);
+        lend();
         outs = 0;
         check(uas_xhci_new(&unit, 1, draw(2) ? UAS_SET_HOST : UAS_SET_PROFILE, 64, 8, &xhci) == UAS_OK, "no controller");
         for (uint32_t i = 0; i < BYTES && draw(2) == 0; i++)
-            memory[i] = (uint8_t)(any() & any());
+            *homes[i] = (uint8_t)(any() & any());
         if (draw(8))
             begin();
         for (int i = 0; i < CALLS; i++)
             call();
         uas_xhci_free(xhci);
     }
-    printf("%llu register writes, %llu steps, %llu events, %llu requests, %llu answers\n", (unsigned long long)writes,
-           (unsigned long long)steps_taken, (unsigned long long)events, (unsigned long long)requests, (unsigned long long)moves);
+    printf("%llu register writes, %llu steps, %llu events, %llu requests, %llu answers, %llu refusals\n", (unsigned long long)writes,
+           (unsigned long long)steps_taken, (unsigned long long)events, (unsigned long long)requests, (unsigned long long)moves,
+           (unsigned long long)refusals);
 }

@@ -1,1 +1,2 @@
-pub mod Called
+mod Called
+mod Over

@@ -1,22 +1,21 @@
-//! A controller over a caller's memory for C: register accesses, steps, interrupts and requests, over one call with a door.
+//! A controller over a caller's memory for C: register accesses, interrupts and requests, over one call with a door.
 ghost use Rattle.std.specs.Prelude.{◌≡◌, true};
 ghost use Rattle.uas_xhci_c.specs.XhciCall.{is_answer};
 
 use c_faults::{TASKS_CALL, TASKS_LENGTH, TASKS_NOT_OUT};
-use guest_memory::{Lent, Pieces};
 use std::marker::Model;
 use uas_tasks::{AnswerFault, Next, Outcome, Request};
-use xhci_machine::{Machine, Width, Worked};
+use xhci_machine::{Machine, Width};
 
 /// What a call of the controller asks and answers. C writes `call` and what that call reads; the call writes what it answers.
 #[repr(C)]
 #[derive(Clone, Copy)]
 pub struct UasXhciDoor {
-    /// The call, 1 to 11.
+    /// The call, 1 to 10.
     pub call: u8,
     /// Of READ and WRITE: 1, 2, 4 or 8 bytes.
     pub width: u8,
-    /// Out of WORK: 1 where there may be more to do; of INTERRUPT and MESSAGE: 1 where there is one; of REQUEST: 1 where one is out newly.
+    /// Out of INTERRUPT and MESSAGE: 1 where there is one; of REQUEST: 1 where one is out newly.
     pub good: u8,
     /// Out of REQUEST: 1 reads, 2 writes, 3 compares, 4 verifies, 5 brings to the medium.
     pub kind: u8,
@@ -25,16 +24,10 @@ pub struct UasXhciDoor {
     /// Of ANSWERED: 0 done, 1 differs, 2 medium error, 3 not ready.
     pub outcome: u8,
     pub reserved: u16,
-    /// Of WORK: the most steps.
-    pub budget: u32,
-    /// Out of WORK: how many steps were taken.
-    pub steps: u32,
     /// Of READ and WRITE: where in the register page.
     pub offset: u64,
     /// Of WRITE: what is written; of PLUG: 0 to pull the disk; of FRAME: MFINDEX. Out of READ: what was read.
     pub value: u64,
-    /// Of WORK: the address of the first lent byte.
-    pub base: u64,
     /// Out of REQUEST, and of DATA and ANSWERED: the request's number.
     pub number: u64,
     /// Out of REQUEST: the logical unit's number.
@@ -64,7 +57,6 @@ impl Model for KeptXhci {
 enum Call {
     Read,
     Write,
-    Work,
     Interrupt,
     Message,
     Plug,
@@ -79,15 +71,14 @@ fn call_numbered(number: u8) -> Option<Call> {
     match number {
         1 => Some(Call::Read),
         2 => Some(Call::Write),
-        3 => Some(Call::Work),
-        4 => Some(Call::Interrupt),
-        5 => Some(Call::Message),
-        6 => Some(Call::Plug),
-        7 => Some(Call::Frame),
-        8 => Some(Call::Reset),
-        9 => Some(Call::Request),
-        10 => Some(Call::Data),
-        11 => Some(Call::Answered),
+        3 => Some(Call::Interrupt),
+        4 => Some(Call::Message),
+        5 => Some(Call::Plug),
+        6 => Some(Call::Frame),
+        7 => Some(Call::Reset),
+        8 => Some(Call::Request),
+        9 => Some(Call::Data),
+        10 => Some(Call::Answered),
         _ => None,
     }
 }
@@ -123,7 +114,6 @@ pub(crate) fn serve(kept: &mut KeptXhci, door: &mut UasXhciDoor, bytes: &mut [u8
     match call {
         Call::Read => read(machine, door),
         Call::Write => write(machine, door),
-        Call::Work => work(machine, door, bytes),
         Call::Request => show_request(machine, door),
         Call::Data => show_data(machine, door, bytes),
         Call::Answered => answer(machine, door, bytes),
@@ -142,7 +132,7 @@ fn signal(machine: &mut Machine, door: &mut UasXhciDoor, call: Call) {
         Call::Plug => machine.plug(door.value != 0),
         Call::Frame => machine.set_frame_index((door.value % 0x4000) as u16),
         Call::Reset => machine.reset(),
-        Call::Read | Call::Write | Call::Work | Call::Request | Call::Data | Call::Answered => (),
+        Call::Read | Call::Write | Call::Request | Call::Data | Call::Answered => (),
     }
 }
 
@@ -164,26 +154,6 @@ fn write(machine: &mut Machine, door: &UasXhciDoor) -> u8
     };
     machine.write(door.offset, width, door.value);
     0
-}
-
-/// Steps over the lent bytes, which stand from the address `base` on.
-fn work(machine: &mut Machine, door: &mut UasXhciDoor, bytes: &mut [u8]) -> u8
-    ensures { is_answer result ≡ true }
-{
-    let mut lent = Lent {
-        base: door.base,
-        bytes,
-    };
-    let worked = work_over(machine, std::slice::from_mut(&mut lent), door.budget);
-    let Lent { base: _, bytes: _ } = lent;
-    door.steps = worked.steps;
-    door.good = u8::from(worked.more);
-    0
-}
-
-fn work_over(machine: &mut Machine, pieces: &mut [Lent], budget: u32) -> Worked {
-    let mut memory = Pieces { pieces };
-    machine.work(&mut memory, budget)
 }
 
 /// The next request that isn't out yet.

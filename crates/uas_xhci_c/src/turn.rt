@@ -1,0 +1,66 @@
+//! A turn of the controller's steps over regions of memory that are lent for it.
+ghost use Rattle.std.specs.Prelude.{◌≡◌, ◌≤◌, false};
+ghost use types.Logic.{sem};
+ghost use base.Fraction.{full_share};
+ghost use denote.RawPtr.{lies_at};
+ghost use Rattle.guest_memory.specs.Held.{held};
+ghost use Rattle.guest_memory.specs.Lend.{lent_in};
+ghost use Rattle.xhci_machine.specs.declared.Machine.{Machine};
+ghost use Rattle.uas_xhci_c.specs.contracts.door.KeptXhci.{the_row as xhci_row};
+ghost use Rattle.uas_xhci_c.specs.Turned.{Turned};
+
+use crate::door::KeptXhci;
+use crate::making::UasXhci;
+use crate::regions::regions_fault;
+use guest_memory::{Lent, Pieces};
+use xhci_machine::{Machine, Worked};
+
+/// What a turn asks and answers.
+#[repr(C)]
+#[derive(Clone, Copy)]
+pub struct UasXhciTurn {
+    /// In: the most steps.
+    pub budget: u32,
+    /// Out: how many steps were taken.
+    pub steps: u32,
+    /// Out: 1 where there may be more to do at once, else 0.
+    pub more: u32,
+}
+
+/// Steps over the memory of some regions, each of `length` bytes from its address on; the number of the fault, where nothing has changed, or
+/// 0: `XHCI_MANY`, `XHCI_WRAPS`, `XHCI_OVERLAP`. The controller is the caller's alone, and his again when it returns.
+#[unsafe(no_mangle)]
+pub unsafe extern "C" fn uas_xhci_take_turn(
+    xhci: *mut UasXhci,
+    turn: &mut UasXhciTurn,
+    regions: &mut [Lent],
+) -> u8
+    ghost had: { Machine }
+    requires* { sem 𝓛 (lies_at xhci_row full_share xhci had) }
+    ensures* { ∃ₛ (λ (now : Machine). sem 𝓛 (lies_at xhci_row full_share xhci now)
+        ∗ ⌜ Turned had now turn.old turn.new regions.old regions.new result ⌝) }
+{
+    take_turn(turn, regions, unsafe { &mut *(xhci as *mut KeptXhci) })
+}
+
+fn take_turn(turn: &mut UasXhciTurn, regions: &mut [Lent], kept: &mut KeptXhci) -> u8
+    ensures { Turned kept.old kept.new turn.old turn.new regions.old regions.new result }
+{
+    let fault = regions_fault(regions);
+    if fault == 0 {
+        let worked = work_over(&mut kept.machine, regions, turn.budget);
+        turn.steps = worked.steps;
+        turn.more = u32::from(worked.more);
+    }
+    fault
+}
+
+/// Steps over regions as one memory.
+fn work_over(machine: &mut Machine, regions: &mut [Lent], budget: u32) -> Worked
+    ensures budget { result.steps ≤ budget }
+    ensures stands { machine.old.registers.runs ≡ false
+        → (machine.new ≡ machine.old) × (held lent_in regions.new ≡ held lent_in regions.old) }
+{
+    let mut memory = Pieces { pieces: regions };
+    machine.work(&mut memory, budget)
+}

@@ -1,0 +1,3 @@
+pub mod TakenHead
+pub mod TakenBodies
+pub mod TakenNext

@@ -1,3 +1,4 @@
 pub mod TakenHead
 pub mod TakenBodies
 pub mod TakenNext
+pub mod Meaning

@@ -3,7 +3,7 @@ use Rattle.std.proofs.Common.{◌≡◌, ℕ, ◌+◌, ◌^◌, ◌<◌, ◌≤�
 use Rattle.std.specs.Prelude.{nat_le}
 use Rattle.std.proofs.lemmas.Bool.{and_parts, eq-eqb, eqb-true, leb-true, lt-leb}
 use Rattle.std.proofs.Math.Dec.{eqb-suc-zero}
-use Rattle.std.proofs.lemmas.List.{append-nil, length-take}
+use Rattle.std.proofs.lemmas.List.{append-nil, length-take, nil_from_length}
 use Rattle.byteorder.specs.Endian.{big_bytes}
 use Rattle.byteorder.specs.Numbers.{big_from-lt, big_from-take}
 use Rattle.log_checksum.specs.Bytes.{AreBytes}
@@ -104,6 +104,18 @@ found_record before bytes len sum are e =
       text = are_framed bytes are long ∙ ap (λ n. framed (body_of bytes) n (behind bytes)) right ∙ sym (record_framed before (body_of bytes) (behind bytes));
       few = omega (arith, body_size bytes long, big_from-lt 0 4 bytes are);
     }
+
+nothing_chosen : (empty whole followed : Bool) (len sum : ℕ) → cond empty Nothing (cond whole (Whole len sum) (cond followed Wrong Torn)) ≡ Nothing → empty ≡ true
+nothing_chosen true whole followed len sum e = refl
+nothing_chosen false true followed len sum e = absurd cc
+nothing_chosen false false true len sum e = absurd cc
+nothing_chosen false false false len sum e = absurd cc
+
+pub nothing_there : (before : ℕ) (bytes : List ℕ) → first_record before bytes ≡ Nothing → bytes ≡ []
+unfolding first_record
+nothing_there before bytes e =
+    nil_from_length bytes
+    (eqb-true (length bytes) 0 (nothing_chosen (length bytes == 0) (is_whole before bytes) (is_followed before bytes) (body_len bytes) (sum_of bytes) e))
 
 -- WHAT IS CUT
 

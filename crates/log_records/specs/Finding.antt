@@ -1,5 +1,5 @@
 -- What stands at the front of bytes, behind records whose last checksum is known.
-use Rattle.std.specs.Prelude.{ℕ, ◌+◌, ◌==◌, ◌&&◌, ◌||◌, nat_le, if◌then◌else◌, Bool, List, length, take, drop}
+use Rattle.std.specs.Prelude.{◌≡◌, ℕ, ◌≤◌, ◌+◌, ◌==◌, ◌&&◌, ◌||◌, nat_le, if◌then◌else◌, Bool, List, length, take, drop}
 use Rattle.byteorder.specs.Endian.{big_number}
 use Rattle.log_records.specs.declared.First.{First}
 use Rattle.log_records.specs.declared.First.TheVariants.{Nothing, Whole, Torn, Wrong}
@@ -38,3 +38,10 @@ first_record before bytes =
     else if is_whole before bytes then Whole (body_len bytes) (sum_of bytes)
     else if is_followed before bytes then Wrong
     else Torn
+
+-- a whole record that was found is as long as its body asks for, and lies within the bytes
+abbrev pub LiesIn : List ℕ → First → Type 0
+LiesIn bytes Nothing = Unit {0}
+LiesIn bytes (Whole len sum) = (len ≡ body_len bytes) × (8 + len ≤ length bytes)
+LiesIn bytes Torn = Unit {0}
+LiesIn bytes Wrong = Unit {0}

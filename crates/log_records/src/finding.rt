@@ -1,6 +1,6 @@
 //! The record at the front of bytes.
 ghost use Rattle.std.specs.Prelude.{◌≡◌, ◌+◌, ◌≤◌, ◌<◌, ◌^◌, length};
-ghost use Rattle.log_records.specs.Finding.{behind, body_len, body_of, first_record, is_long_enough, is_whole, sum_of};
+ghost use Rattle.log_records.specs.Finding.{LiesIn, behind, body_len, body_of, first_record, is_long_enough, is_whole, sum_of};
 ghost use Rattle.log_records.specs.Records.{sum_after};
 
 use crate::First;
@@ -14,7 +14,8 @@ const NUMBER_BYTES: usize = 4;
 /// where that has a wrong checksum at the one behind it.
 #[tactic(auto, unfolding(crate::specs::Finding::first_record))]
 pub fn first_record(before: u32, bytes: &[u8]) -> First
-    ensures { result ≡ first_record before bytes.now }
+    ensures found { result ≡ first_record before bytes.now }
+    ensures within { LiesIn bytes.now result }
 {
     if bytes.is_empty() {
         return First::Nothing;

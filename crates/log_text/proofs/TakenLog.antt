@@ -102,7 +102,7 @@ pub record AreUnits (version : Version) (units : List FirstUnit) : Type 0 where
   pub most : length units ≤ version_clients version
   pub each : AreItems UnitFits (length units) units
 
-units_taken : (version : Version) (bytes : List ℕ) (x : List FirstUnit × List ℕ) → IsBytes bytes → units_at version bytes ≡ Ok x
+pub units_taken : (version : Version) (bytes : List ℕ) (x : List FirstUnit × List ℕ) → IsBytes bytes → units_at version bytes ≡ Ok x
     → Taken (λ units. field 1 (length units) ++ flat_map unit_text units) (AreUnits version) bytes x
 unfolding units_at
 units_taken version bytes x is e =
@@ -118,7 +118,7 @@ units_taken version bytes x is e =
       };
     }
 
-units_again : (version : Version) (units : List FirstUnit) (rest : List ℕ) → AreUnits version units
+pub units_again : (version : Version) (units : List FirstUnit) (rest : List ℕ) → AreUnits version units
     → units_at version ((field 1 (length units) ++ flat_map unit_text units) ++ rest) ≡ Ok (units, rest)
 unfolding units_at
 units_again version units rest fits =

@@ -1,0 +1,4 @@
+pub mod TakenHead
+pub mod TakenBodies
+pub mod TakenNext
+pub mod Meaning

@@ -13,7 +13,7 @@ use Rattle.scsi_cmd.specs.declared.Sense.{Sense}
 use Rattle.scsi_cmd.specs.Meaning.{asked}
 use Rattle.scsi_cmd.specs.declared.TheConstants.{CHECK_CONDITION}
 use Rattle.host_commands.specs.declared.Data.{Data}
-use Rattle.host_commands.specs.declared.Data.TheVariants as data
+use Rattle.host_commands.specs.declared.Data.TheVariants as given
 use Rattle.host_commands.specs.declared.HostCommand.{HostCommand}
 use Rattle.host_commands.specs.declared.HostCommand.TheVariants as host
 use Rattle.host_commands.specs.declared.ModeData.{ModeData}
@@ -236,20 +236,20 @@ timeouts_word is_set = flag_word is_set (codes " timeouts")
 
 -- the data that a command asks for; READ CAPACITY(10) has no allocation length
 unfoldable pub data_words : Data → ℕ → List ℕ
-data_words (data.Inquiry present) allocation = allocation_words allocation
-data_words (data.VitalProductData page present) allocation = codes " page " ++ page_name page ++ allocation_words allocation
-data_words (data.RequestSense sense) allocation = allocation_words allocation
-data_words (data.LogicalUnits count) allocation = allocation_words allocation
-data_words (data.Mode asked) allocation = mode_words asked ++ allocation_words allocation
-data_words (data.OperationCodes timeouts) allocation = timeouts_word timeouts ++ allocation_words allocation
-data_words (data.OperationCode command timeouts) allocation = described command ++ timeouts_word timeouts ++ allocation_words allocation
-data_words (data.TaskManagementFunctions extended) allocation = flag_word extended (codes " extended") ++ allocation_words allocation
-data_words (data.Capacity last_block block_length) allocation = []
-data_words (data.LongCapacity last_block block_length) allocation = allocation_words allocation
+data_words (given.Inquiry present) allocation = allocation_words allocation
+data_words (given.VitalProductData page present) allocation = codes " page " ++ page_name page ++ allocation_words allocation
+data_words (given.RequestSense sense) allocation = allocation_words allocation
+data_words (given.LogicalUnits count) allocation = allocation_words allocation
+data_words (given.Mode asked) allocation = mode_words asked ++ allocation_words allocation
+data_words (given.OperationCodes timeouts) allocation = timeouts_word timeouts ++ allocation_words allocation
+data_words (given.OperationCode command timeouts) allocation = described command ++ timeouts_word timeouts ++ allocation_words allocation
+data_words (given.TaskManagementFunctions extended) allocation = flag_word extended (codes " extended") ++ allocation_words allocation
+data_words (given.Capacity last_block block_length) allocation = []
+data_words (given.LongCapacity last_block block_length) allocation = allocation_words allocation
 
 unfoldable pub work_words : Work → List ℕ
 work_words work.Nothing = []
-work_words (work.Gives given allocation) = data_words given allocation
+work_words (work.Gives asked allocation) = data_words asked allocation
 work_words (work.Reads lba count) = range_words lba count
 work_words (work.Writes lba count through) = range_words lba count ++ fua_word through
 work_words (work.Synchronizes lba count) = range_words lba count

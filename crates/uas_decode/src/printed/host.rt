@@ -87,12 +87,12 @@ fn push_work(alloc: Global, text: &mut Vec<u8>, work: &Work) -> Result<(), Alloc
 fn push_data(
     alloc: Global,
     text: &mut Vec<u8>,
-    data: &Data,
+    given: &Data,
     allocation: u32,
 ) -> Result<(), AllocError>
-    ensures { OnOk result (text.new.items ≡ text.old.items ++ data_words data.now allocation) }
+    ensures { OnOk result (text.new.items ≡ text.old.items ++ data_words given.now allocation) }
 {
-    match data {
+    match given {
         Data::Capacity { .. } => return Ok(()),
         Data::VitalProductData { page, .. } => {
             text.extend_from_slice(b" page ")?;

@@ -141,6 +141,56 @@ uint8_t uas_tasks_sent(uas_tasks *tasks, uint16_t tag);
 /* A reset of the whole device: no tag has a task, and each logical unit owes a unit attention. No fault. */
 uint8_t uas_tasks_reset(uas_tasks *tasks);
 
+/* ---- CDBs (SPC, SBC) without a device ---- */
+
+/* A logical unit of which a CDB asks, and its device. Where it isn't there its `unit` isn't looked at. */
+struct uas_tasks_target {
+    struct uas_tasks_unit unit;
+    uint8_t there;     /* 0 where it isn't there */
+    uint8_t units;     /* how many logical units the device has, 1 to 15 */
+    uint8_t set;       /* UAS_SET_PROFILE or UAS_SET_HOST */
+    uint8_t attention; /* which unit attention REQUEST SENSE tells of: UAS_ATTENTION_... */
+    uint16_t most;     /* of UAS_SET_HOST: the most blocks of a READ or WRITE, as of uas_tasks_new */
+    uint16_t reserved;
+};
+UAS_TASKS_ASSERT(sizeof(struct uas_tasks_target) == 24 && offsetof(struct uas_tasks_target, there) == 16);
+
+enum { UAS_ATTENTION_NONE = 0, UAS_ATTENTION_POWER_ON = 1 /* 6/29/00 */, UAS_ATTENTION_RESET = 2 /* 6/29/03 */ };
+
+/* What a command does. */
+enum {
+    UAS_WORK_NOTHING = 0,
+    UAS_WORK_GIVES = 1, /* data of the logical unit or the device, which uas_tasks_cdb_data has */
+    UAS_WORK_READS = 2,
+    UAS_WORK_WRITES = 3,
+    UAS_WORK_SYNCHRONIZES = 4, /* `count` 0: all blocks from `lba` on */
+    UAS_WORK_VERIFIES = 5,
+    UAS_WORK_COMPARES = 6
+};
+
+struct uas_tasks_work {
+    uint64_t lba;        /* the first block */
+    uint32_t count;      /* how many */
+    uint32_t allocation; /* of UAS_WORK_GIVES: the most bytes */
+    uint8_t kind;        /* UAS_WORK_... */
+    uint8_t through;     /* of UAS_WORK_WRITES: 1 where they are on the medium when it ends (FUA) */
+    uint16_t reserved;
+    uint32_t reserved_too;
+};
+UAS_TASKS_ASSERT(sizeof(struct uas_tasks_work) == 24 && offsetof(struct uas_tasks_work, kind) == 16);
+
+/* What a CDB asks: *work is written, or, with UAS_CDB_CHECK, *sense alone. A unit attention is the caller's: it ends a command before this is
+ * asked, but INQUIRY, REQUEST SENSE and, of UAS_SET_HOST, REPORT LUNS. First come operation codes, then fields, then blocks.
+ * Faults: UAS_UNITS, UAS_BLOCKS, UAS_TASKS_BLOCK_BYTES, UAS_TASKS_SERIAL, UAS_TASKS_SET, UAS_CDB_CHECK. */
+uint8_t uas_tasks_cdb_parse(const uint8_t cdb[16], const struct uas_tasks_target *target, struct uas_tasks_work *work, struct uas_sense *sense);
+
+enum { UAS_TASKS_DATA_BYTES = 484 /* always do for uas_tasks_cdb_data */ };
+
+/* The data that a CDB asks for, cut to its allocation length, into the first *length of `room` bytes: none where it asks for no data, or for
+ * blocks.
+ * Faults: those of uas_tasks_cdb_parse, UAS_TASKS_LENGTH (too little room). */
+uint8_t uas_tasks_cdb_data(const uint8_t cdb[16], const struct uas_tasks_target *target, uint8_t *bytes, size_t room, uint64_t *length);
+
 #ifdef __cplusplus
 }
 #endif

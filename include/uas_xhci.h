@@ -113,8 +113,16 @@ struct uas_xhci_turn {
     uint32_t budget; /* in: the most steps */
     uint32_t steps;  /* out: how many were taken */
     uint32_t more;   /* out: 1 where there may be more to do at once */
+    uint32_t lost;   /* out: 1 where not every range that was written is noted */
+    size_t noted;    /* out: how many are */
 };
-UAS_XHCI_ASSERT(sizeof(struct uas_xhci_turn) == 12);
+UAS_XHCI_ASSERT(sizeof(struct uas_xhci_turn) == 24 && offsetof(struct uas_xhci_turn, noted) == 16);
+
+/* Bytes that were written. */
+struct uas_range {
+    uint64_t address, length;
+};
+UAS_XHCI_ASSERT(sizeof(struct uas_range) == 16);
 
 /* Takes at most `budget` steps, each of one TRB or one chunk, over the memory that is lent, in any order of regions. *steps is how many it
  * took; *more whether there may be more to do at once: where it is false, the next register write or answer gives something to do. Memory
@@ -123,9 +131,17 @@ UAS_XHCI_ASSERT(sizeof(struct uas_xhci_turn) == 12);
  * Faults: UAS_XHCI_NULL (a region whose bytes are a null pointer), UAS_XHCI_MANY, UAS_XHCI_WRAPS, UAS_XHCI_OVERLAP. */
 uint8_t uas_xhci_work(uas_xhci *xhci, const struct uas_region *regions, size_t count, uint32_t budget, uint32_t *steps, bool *more);
 
-/* The same, of which uas_xhci_work makes one call: the regions' bytes are no null pointers.
+/* The same, and the ranges that were written, in the order of the writes, for whoever keeps a record of changed memory: the first turn->noted
+ * of `room` ranges. Where there were more of them, and with no room at all, turn->lost is 1, and any byte that is lent may have been written.
+ * Most steps write two or three ranges.
+ * Faults: those of uas_xhci_work. */
+uint8_t uas_xhci_work_noting(uas_xhci *xhci, const struct uas_region *regions, size_t count, struct uas_xhci_turn *turn,
+                             struct uas_range *written, size_t room);
+
+/* The same, of which both make one call: the regions' bytes are no null pointers.
  * Faults: UAS_XHCI_MANY, UAS_XHCI_WRAPS, UAS_XHCI_OVERLAP. */
-uint8_t uas_xhci_take_turn(uas_xhci *xhci, struct uas_xhci_turn *turn, struct uas_region *regions, size_t count);
+uint8_t uas_xhci_take_turn(uas_xhci *xhci, struct uas_xhci_turn *turn, struct uas_region *regions, size_t count, struct uas_range *written,
+                           size_t room);
 
 /* ---- Interrupts (4.17) ---- */
 

@@ -38,10 +38,11 @@ void uas_xhci_set_frame(uas_xhci *xhci, uint16_t frame_index)
 }
 
 /* The regions that have bytes, up to one more than a call takes, so that this tells. */
-uint8_t uas_xhci_work(uas_xhci *xhci, const struct uas_region *regions, size_t count, uint32_t budget, uint32_t *steps, bool *more)
+uint8_t uas_xhci_work_noting(uas_xhci *xhci, const struct uas_region *regions, size_t count, struct uas_xhci_turn *turn, struct uas_range *written,
+                             size_t room)
 {
-    struct uas_xhci_turn turn = { .budget = budget };
     struct uas_region lent[UAS_XHCI_REGIONS + 1];
+    struct uas_range none;
     size_t lents = 0;
     for (size_t i = 0; i < count; i++) {
         if (regions[i].length == 0)
@@ -51,7 +52,13 @@ uint8_t uas_xhci_work(uas_xhci *xhci, const struct uas_region *regions, size_t c
         if (lents <= UAS_XHCI_REGIONS)
             lent[lents++] = regions[i];
     }
-    uint8_t fault = uas_xhci_take_turn(xhci, &turn, lent, lents);
+    return uas_xhci_take_turn(xhci, turn, lent, lents, room > 0 ? written : &none, room);
+}
+
+uint8_t uas_xhci_work(uas_xhci *xhci, const struct uas_region *regions, size_t count, uint32_t budget, uint32_t *steps, bool *more)
+{
+    struct uas_xhci_turn turn = { .budget = budget };
+    uint8_t fault = uas_xhci_work_noting(xhci, regions, count, &turn, NULL, 0);
     if (fault == UAS_OK) {
         *steps = turn.steps;
         *more = turn.more != 0;

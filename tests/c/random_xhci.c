@@ -20,7 +20,7 @@ enum { BYTES = 1 << 16, PAGE = 4096, CALLS = 400, PARTS = 6, PART_PAGES = BYTES 
 enum { TABLE = 0, ARRAY = 64, CONTEXT = 0x400, INPUT = 0x800, MORE_INPUT = 0xc00, EVENTS = 0x1000, COMMANDS = 0x2000, STREAMS = 0x3000 };
 enum { RINGS = 0x4000, DATA = 0x8000 };
 
-static uint64_t state, writes, steps_taken, events, requests, moves, refusals;
+static uint64_t state, writes, steps_taken, events, requests, moves, refusals, ranges;
 static uint32_t event, places; /* where the event ring is read, and how long it is */
 static bool cycle;
 static uas_xhci *xhci;
@@ -184,6 +184,35 @@ static void work(uint32_t budget)
     steps_taken += steps;
 }
 
+/* Whether an address is in one of some ranges. */
+static bool is_noted(const struct uas_range *ranges, size_t count, uint64_t place)
+{
+    for (size_t i = 0; i < count; i++)
+        if (place - ranges[i].address < ranges[i].length)
+            return true;
+    return false;
+}
+
+/* The same, noting what is written: each byte that changes is noted, or something is lost; what is noted was lent. */
+static void noted_work(uint32_t budget)
+{
+    static struct uas_range written[512];
+    static uint8_t before[BYTES];
+    struct uas_xhci_turn turn = { .budget = budget };
+    size_t room = draw(4) ? 512 : draw(9);
+    for (uint32_t place = 0; place < BYTES; place++)
+        before[place] = *homes[place];
+    check(uas_xhci_work_noting(xhci, regions, lent, &turn, written, room) == UAS_OK, "regions were refused");
+    check(turn.steps <= budget && turn.noted <= room, "a call took more steps or places than it was given");
+    check(turn.lost == 0 || turn.noted == room, "a range was lost beside room for it");
+    for (uint32_t place = 0; place < BYTES && turn.lost == 0; place++)
+        check(before[place] == *homes[place] || is_noted(written, turn.noted, address(place)), "a byte that was written isn't noted");
+    for (size_t i = 0; i < turn.noted; i++)
+        check(written[i].address - base < BYTES && written[i].length <= BYTES - (written[i].address - base), "a range that isn't there was noted");
+    steps_taken += turn.steps;
+    ranges += turn.noted;
+}
+
 /* Regions that are refused: nothing may change, *steps and *more included. */
 static void refused_work(void)
 {
@@ -291,7 +320,10 @@ static void call(void)
     case 0: case 1: case 2: case 3:
         if (lent > 0 && draw(60) == 0)
             refused_work();
-        work(draw(60));
+        if (draw(16) == 0)
+            noted_work(draw(60));
+        else
+            work(draw(60));
         break;
     case 4: case 5:
         answer();
@@ -381,7 +413,7 @@ int main(int words, char **word)
             call();
         uas_xhci_free(xhci);
     }
-    printf("%llu register writes, %llu steps, %llu events, %llu requests, %llu answers, %llu refusals\n", (unsigned long long)writes,
+    printf("%llu register writes, %llu steps, %llu events, %llu requests, %llu answers, %llu refusals, %llu ranges\n", (unsigned long long)writes,
            (unsigned long long)steps_taken, (unsigned long long)events, (unsigned long long)requests, (unsigned long long)moves,
-           (unsigned long long)refusals);
+           (unsigned long long)refusals, (unsigned long long)ranges);
 }

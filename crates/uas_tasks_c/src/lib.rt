@@ -2,6 +2,7 @@
 //!
 //! | File | Exports |
 //! |---|---|
+//! | cdb.rt | `uas_tasks_cdb_parse`, `uas_tasks_cdb_data` (SPC and SBC) |
 //! | making.rt | `uas_tasks_new` |
 //! | handle.rt | `uas_tasks_call`, `uas_tasks_close` |
 //!
@@ -15,6 +16,7 @@
 //! the C library's memory functions.
 #![tactic(auto)]
 
+mod cdb;
 mod door;
 mod handle;
 mod making;

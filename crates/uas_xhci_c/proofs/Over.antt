@@ -1,5 +1,5 @@
--- A call of a handle over regions that are lent: what lies at the handle's pointer is lent to a function, which is handed the door and the
--- regions as they came.
+-- A call of a handle over regions that are lent: what lies at the handle's pointer is lent to a function, which is handed the door, the
+-- regions and the room for what was written as they came.
 use Rattle.std.proofs.Common.{◌≡◌, ℕ, ◌*◌, ◌^◌, ◌<◌, List, [], ◌∷◌, ◌++◌, length, refl, arith, w8, w64, MutBor}
 use Rattle.std.proofs.raw_atomic.Walks.{proved}
 use seplogic.Ra.Ura.{Ura}
@@ -47,6 +47,8 @@ use denote.Triple.Walked.{says, Stay, Stays, stay_none, walk_of, Goes, Goes-none
 use Rattle.c_common.proofs.ExportCode.{copied, one_local}
 use Rattle.guest_memory.specs.declared.lend.Lent.{Lent}
 use Rattle.guest_memory.specs.contracts.lend.Lent.{the_row as lent_row}
+use Rattle.guest_notes.specs.declared.WrittenRange.{WrittenRange}
+use Rattle.guest_notes.specs.contracts.WrittenRange.{the_row as range_row}
 
 -- THE CODE
 
@@ -56,40 +58,44 @@ region name κ = lent_row (record { mir = name; lft = κ })
 abbrev reference : Lifetime → Ty → Local
 reference name type = one_local (ty_ref name mut type)
 
--- The parameters are a handle, a door, and regions. A `&mut` of what lies at the handle's pointer is what `serve` is called with.
+-- The parameters are a handle, a door, regions, and room for ranges. A `&mut` of what lies at the handle's pointer is what `serve` is called
+-- with behind them.
 module _ (T D : RattleType) (serve : Callee) where
   abbrev called : Body
-  called = seq (call serve (copy (place 4 []) ∷ copy (place 6 []) ∷ copy (place 7 []) ∷ []) (place 0 [])) return
+  called = seq (call serve (copy (place 5 []) ∷ copy (place 7 []) ∷ copy (place 9 []) ∷ copy (place 10 []) ∷ []) (place 0 [])) return
 
   abbrev with_handle : Body
-  with_handle = seq (copied 7 8) called
+  with_handle = seq (copied 10 11) called
 
   abbrev pub function : Fn
   function = record {
-    lifetimes = 3;
+    lifetimes = 4;
     outlives = (2, 1) ∷ [];
     ty_params = [];
     givens = 0;
-    params = 3;
+    params = 4;
     locals =
         one_local (ty_int w8) ∷ one_local ty_ptr ∷ reference (named 0) D.written.ty
-        ∷ one_local (slice_ty (ty_ref (named 1) mut (region (named 2) []).written.ty))
+        ∷ one_local (slice_ty (ty_ref (named 1) mut (region (named 2) []).written.ty)) ∷ one_local (slice_ty (ty_ref (named 3) mut range_row.written.ty))
         ∷ reference erased D.written.ty ∷ reference erased (region erased []).written.ty
-        ∷ one_local (slice_ty (ty_ref erased mut (region erased []).written.ty))
+        ∷ one_local (slice_ty (ty_ref erased mut (region erased []).written.ty)) ∷ reference erased range_row.written.ty
+        ∷ one_local (slice_ty (ty_ref erased mut range_row.written.ty))
         ∷ reference erased T.written.ty ∷ reference erased T.written.ty ∷ one_local ty_ptr ∷ one_local ty_ptr ∷ [];
     body =
-        seq (assign (place 4 []) (addr_of (place 2 (deref (lone D.mir) ∷ []))))
-        (seq (assign (place 5 []) (addr_of (place 3 (field 0 ∷ deref (lone (region erased []).mir) ∷ []))))
-        (seq (assign (place 6 []) (aggregate (copy (place 5 []) ∷ copy (place 3 (field 1 ∷ [])) ∷ [])))
-        (seq (block (seq (copied 9 1) (seq (copied 10 9) (assign (place 8 []) (addr_of (place 10 (deref (lone T.mir) ∷ [])))))))
-        with_handle)));
+        seq (assign (place 5 []) (addr_of (place 2 (deref (lone D.mir) ∷ []))))
+        (seq (assign (place 6 []) (addr_of (place 3 (field 0 ∷ deref (lone (region erased []).mir) ∷ []))))
+        (seq (assign (place 7 []) (aggregate (copy (place 6 []) ∷ copy (place 3 (field 1 ∷ [])) ∷ [])))
+        (seq (assign (place 8 []) (addr_of (place 4 (field 0 ∷ deref (lone range_row.mir) ∷ []))))
+        (seq (assign (place 9 []) (aggregate (copy (place 8 []) ∷ copy (place 4 (field 1 ∷ [])) ∷ [])))
+        (seq (block (seq (copied 12 1) (seq (copied 13 12) (assign (place 11 []) (addr_of (place 13 (deref (lone T.mir) ∷ [])))))))
+        with_handle)))));
   }
 
 -- THE CONTRACTS
 
--- what a call makes of the handle, the door and the regions, and answers
+-- what a call makes of the handle, the door, the regions and the room, and answers
 abbrev pub Makes : RattleType → RattleType → Type 1
-Makes T D = T.Denot → T.Denot → D.Denot → D.Denot → List Lent → List Lent → ℕ → Type 0
+Makes T D = T.Denot → T.Denot → D.Denot → D.Denot → List Lent → List Lent → List WrittenRange → List WrittenRange → ℕ → Type 0
 
 abbrev doors : {n : ℕ} → RattleType → Slot n
 doors D = plain (λ κs. D)
@@ -98,26 +104,26 @@ doors D = plain (λ κs. D)
 abbrev pub served : RattleType → RattleType → Ended
 served T D = record {
   signature = record {
-    lifetimes = 4;
+    lifetimes = 5;
     outlives = record { long = 2; long_ok = tt; short = named 1; short_ok = tt } ∷ [];
-    params = mut_ref_to (0 ∷ []) tt (plain (λ κs. D)) ∷ mut_slice_of (1 ∷ []) tt (plain (λ κs. lent_row (named_lft 4 2 tt κs)))
-        ∷ mut_ref_to (3 ∷ []) tt (plain (λ κs. T)) ∷ [];
+    params = mut_ref_to (0 ∷ []) tt (plain (λ κs. D)) ∷ mut_slice_of (1 ∷ []) tt (plain (λ κs. lent_row (named_lft 5 2 tt κs)))
+        ∷ mut_slice_of (3 ∷ []) tt (plain (λ κs. range_row)) ∷ mut_ref_to (4 ∷ []) tt (plain (λ κs. T)) ∷ [];
     result = plain (λ κs. u8);
   };
-  kept = (yes, (yes, (yes, tt)));
+  kept = (yes, (yes, (yes, (yes, tt))));
 }
 
 -- of the export
 abbrev pub ended : RattleType → Ended
 ended D = record {
   signature = record {
-    lifetimes = 3;
+    lifetimes = 4;
     outlives = record { long = 2; long_ok = tt; short = named 1; short_ok = tt } ∷ [];
     params = plain (λ κs. RawPtr) ∷ mut_ref_to (0 ∷ []) tt (plain (λ κs. D))
-        ∷ mut_slice_of (1 ∷ []) tt (plain (λ κs. lent_row (named_lft 3 2 tt κs))) ∷ [];
+        ∷ mut_slice_of (1 ∷ []) tt (plain (λ κs. lent_row (named_lft 4 2 tt κs))) ∷ mut_slice_of (3 ∷ []) tt (plain (λ κs. range_row)) ∷ [];
     result = plain (λ κs. u8);
   };
-  kept = (yes, (yes, (yes, tt)));
+  kept = (yes, (yes, (yes, (yes, tt))));
 }
 
 -- a parameter that was handed on: what the callee left of it is had
@@ -129,7 +135,10 @@ stayed D = (
   stay_none (λ _. RawPtr) yes,
   (
     stay_left (mut_ref_to (0 ∷ []) tt (plain (λ κs. D))) yes,
-    (stay_left (mut_slice_of (1 ∷ []) tt (plain (λ κs. lent_row (named_lft 3 2 tt κs)))) yes, tt),
+    (
+      stay_left (mut_slice_of (1 ∷ []) tt (plain (λ κs. lent_row (named_lft 4 2 tt κs)))) yes,
+      (stay_left (mut_slice_of (3 ∷ []) tt (plain (λ κs. range_row))) yes, tt),
+    ),
   ),
 )
 
@@ -139,7 +148,7 @@ module _ (T D : RattleType) (makes : Makes T D) {M : Type 1} {𝓤 : Ura M} (�
     ghost = Unit {0};
     requires = λ ghost. (connectives 𝓤).⊤ₛ;
     ensures = λ ghost r. exits 𝓛 (served T D).signature (served T D).kept κs args (λ end.
-        fact 𝓤 (makes args.1.1.0.now end.1.1.0.now args.0.now end.0.now args.1.0.now end.1.0.now r));
+        fact 𝓤 (makes args.1.1.1.0.now end.1.1.1.0.now args.0.now end.0.now args.1.0.now end.1.0.now args.1.1.0.now end.1.1.0.now r));
   })
 
   abbrev pub clauses : Clauses 𝓤 (ended D)
@@ -147,43 +156,47 @@ module _ (T D : RattleType) (makes : Makes T D) {M : Type 1} {𝓤 : Ura M} (�
     ghost = T.Denot;
     requires = λ had. sem 𝓛 (lies_at T full_share args.0 had);
     ensures = λ had r end. ex 𝓤 (λ (now : T.Denot). sep 𝓤 (sem 𝓛 (lies_at T full_share args.0 now))
-        (fact 𝓤 (makes had now args.1.0.now end.1.0.now args.1.1.0.now end.1.1.0.now r)));
+        (fact 𝓤 (makes had now args.1.0.now end.1.0.now args.1.1.0.now end.1.1.0.now args.1.1.1.0.now end.1.1.1.0.now r)));
   }
 
 -- THE WALK
 
 module _ (T D : RattleType) (serve : Callee) (makes : Makes T D) {M : Type 1} {𝓤 : Ura M} (𝓛 : Logic 𝓤)
     (C : Calls 𝓤 𝓛.H) (Λ : Loops 𝓤 𝓛.H) (fm : FmC 𝓤 𝓛.H 𝓛.laws C)
-    (known : Triple 𝓤 (C serve) (Of T D makes 𝓛)) (κ₀ κ₁ κ₂ : Lft) (q₀ q₁ q₂ : Share) (x : MutBor D.Denot) (y : MutBor (List Lent)) (value : T.Denot) where
+    (known : Triple 𝓤 (C serve) (Of T D makes 𝓛)) (κ₀ κ₁ κ₂ κ₃ : Lft) (q₀ q₁ q₂ q₃ : Share) (x : MutBor D.Denot) (y : MutBor (List Lent))
+    (w : MutBor (List WrittenRange)) (value : T.Denot) where
   open 𝓛 use {H}
 
   abbrev Passed : Type 0
-  Passed = List Val × (List Val × (List Val × Unit {0}))
+  Passed = List Val × (List Val × (List Val × (List Val × Unit {0})))
 
   abbrev passed : Ptr → Passed
-  passed p = (rawptr_vals p, (mut_vals x, (mut_slice_vals y, tt)))
+  passed p = (rawptr_vals p, (mut_vals x, (mut_slice_vals y, (mut_slice_vals w, tt))))
 
   abbrev Entry : Ptr → SProp 𝓤
-  Entry p = on_entry 𝓛 (ended D).signature (κ₀, (κ₁, (κ₂, tt))) (q₀, (q₁, (q₂, tt))) (p, (x, (y, tt))) (passed p)
+  Entry p = on_entry 𝓛 (ended D).signature (κ₀, (κ₁, (κ₂, (κ₃, tt)))) (q₀, (q₁, (q₂, (q₃, tt)))) (p, (x, (y, (w, tt)))) (passed p)
 
   module _ (within : (κ₁ ⊑ κ₂) × Unit {0}) where
     abbrev bound : Ptr → (walk_of 𝓛 (ended D) (stayed D) (clauses T D makes 𝓛)).Ghost
-    bound p = (((κ₀, (κ₁, (κ₂, tt))), (q₀, (q₁, (q₂, tt))), within, (p, (x, (y, tt))), passed p), value)
+    bound p = (((κ₀, (κ₁, (κ₂, (κ₃, tt)))), (q₀, (q₁, (q₂, (q₃, tt)))), within, (p, (x, (y, (w, tt)))), passed p), value)
 
     abbrev Post : Ptr → Val → SProp 𝓤
     Post p = (walk_of 𝓛 (ended D) (stayed D) (clauses T D makes 𝓛)).post (bound p)
 
     abbrev Runs : Ptr → SProp 𝓤
-    Runs p = WpFn 𝓤 H C Λ (function T D serve) (rawptr_vals p ++ (mut_vals x ++ (mut_slice_vals y ++ []))) (Post p)
+    Runs p = WpFn 𝓤 H C Λ (function T D serve) (rawptr_vals p ++ (mut_vals x ++ (mut_slice_vals y ++ (mut_slice_vals w ++ [])))) (Post p)
 
     abbrev lent : RattleType
     lent = region (named 2) κ₂
 
     abbrev door_left : D.Denot → Fml
-    door_left w = left ((MutRef (named 0) κ₀ D).exit yes) x w
+    door_left z = left ((MutRef (named 0) κ₀ D).exit yes) x z
 
     abbrev regions_left : List Lent → Fml
-    regions_left w = left ((MutSlice (named 1) κ₁ lent).exit yes) y w
+    regions_left z = left ((MutSlice (named 1) κ₁ lent).exit yes) y z
+
+    abbrev room_left : List WrittenRange → Fml
+    room_left z = left ((MutSlice (named 3) κ₃ range_row).exit yes) w z
 
     module _ (b o : ℕ) where
       abbrev p : Ptr
@@ -192,75 +205,88 @@ module _ (T D : RattleType) (serve : Callee) (makes : Makes T D) {M : Type 1} {�
       abbrev At : T.Denot → Fml
       At v = part_at T full_share v b o
 
-      answered : (r : ℕ) (v : Val) (now : T.Denot) (door : D.Denot) (regions : List Lent) → makes value now x.now door y.now regions r
-          → ent 𝓤 (⋆ 𝓛 (‵ (RawPtr.own_val p (rawptr_vals p)) ∷ ‵ (door_left door) ∷ ‵ (regions_left regions) ∷ ‵ (At now)
-          ∷ ‵ (flft κ₀ q₀) ∷ ‵ (flft κ₁ q₁) ∷ ‵ (flft κ₂ q₂) ∷ ‵ (u8.own_val r (v ∷ [])) ∷ [])) (Post p v)
-      answered r v now door regions same =
-          qed 𝓛 (‵ (RawPtr.own_val p (rawptr_vals p)) ∷ ‵ (door_left door) ∷ ‵ (regions_left regions) ∷ ‵ (At now)
-          ∷ ‵ (flft κ₀ q₀) ∷ ‵ (flft κ₁ q₁) ∷ ‵ (flft κ₂ q₂) ∷ ‵ (u8.own_val r (v ∷ [])) ∷ []) ∵
-          suffices ! _ (ends_at 𝓛 (ended D) (stayed D) (clauses T D makes 𝓛) (bound p) v r (tt, (door, (regions, tt))) (tt, (tt, (tt, tt)))) $
+      answered : (r : ℕ) (v : Val) (now : T.Denot) (door : D.Denot) (regions : List Lent) (room : List WrittenRange)
+          → makes value now x.now door y.now regions w.now room r
+          → ent 𝓤 (⋆ 𝓛 (‵ (RawPtr.own_val p (rawptr_vals p)) ∷ ‵ (door_left door) ∷ ‵ (regions_left regions) ∷ ‵ (room_left room) ∷ ‵ (At now)
+          ∷ ‵ (flft κ₀ q₀) ∷ ‵ (flft κ₁ q₁) ∷ ‵ (flft κ₂ q₂) ∷ ‵ (flft κ₃ q₃) ∷ ‵ (u8.own_val r (v ∷ [])) ∷ [])) (Post p v)
+      answered r v now door regions room same =
+          qed 𝓛 (‵ (RawPtr.own_val p (rawptr_vals p)) ∷ ‵ (door_left door) ∷ ‵ (regions_left regions) ∷ ‵ (room_left room) ∷ ‵ (At now)
+          ∷ ‵ (flft κ₀ q₀) ∷ ‵ (flft κ₁ q₁) ∷ ‵ (flft κ₂ q₂) ∷ ‵ (flft κ₃ q₃) ∷ ‵ (u8.own_val r (v ∷ [])) ∷ []) ∵
+          suffices ! _ (ends_at 𝓛 (ended D) (stayed D) (clauses T D makes 𝓛) (bound p) v r (tt, (door, (regions, (room, tt)))) (tt, (tt, (tt, (tt, tt))))) $
           -- [what is left of the parameters with the result; the tokens]
-          nothing ! $ move ! (3 ∷ 0 ∷ []) $ fjoin ! $ move ! (2 ∷ 0 ∷ []) $ fjoin ! $ move ! (1 ∷ 0 ∷ []) $ fjoin ! $ move ! (0 ∷ 5 ∷ []) $ join ! $
-          nothing ! $ move ! (5 ∷ 0 ∷ []) $ join ! $ move ! (4 ∷ 0 ∷ []) $ join ! $ move ! (3 ∷ 0 ∷ []) $ join ! $ join ! $ frame ! $
-          show ! (λ (z : T.Denot). sep 𝓤 (sem 𝓛 (lies_at T full_share p z)) (fact 𝓤 (makes value z x.now door y.now regions r))) now $
+          nothing ! $ move ! (4 ∷ 0 ∷ []) $ fjoin ! $ move ! (3 ∷ 0 ∷ []) $ fjoin ! $ move ! (2 ∷ 0 ∷ []) $ fjoin ! $ move ! (1 ∷ 0 ∷ []) $ fjoin ! $
+          move ! (0 ∷ 6 ∷ []) $ join ! $
+          nothing ! $ move ! (6 ∷ 0 ∷ []) $ join ! $ move ! (5 ∷ 0 ∷ []) $ join ! $ move ! (4 ∷ 0 ∷ []) $ join ! $ move ! (3 ∷ 0 ∷ []) $ join ! $
+          join ! $ frame ! $
+          show ! (λ (z : T.Denot). sep 𝓤 (sem 𝓛 (lies_at T full_share p z)) (fact 𝓤 (makes value z x.now door y.now regions w.now room r))) now $
           says ! same $ done !
 
-      walk : length y.now < 2 ^ 64 → ent 𝓤 (sep 𝓤 (Entry p) (sem 𝓛 (At value))) (Runs p)
-      walk count =
-          qed 𝓛 (((‵ (flft κ₀ q₀) ⊛ (‵ (flft κ₁ q₁) ⊛ (‵ (flft κ₂ q₂) ⊛ ‵ ftrue))) ⊛ ‵ (owns (RawPtr ∷ MutRef (named 0) κ₀ D ∷ MutSlice (named 1) κ₁ lent ∷ [])
-          (p, (x, (y, tt))) (passed p))) ∷ ‵ (At value) ∷ []) ∵
+      walk : length y.now < 2 ^ 64 → length w.now < 2 ^ 64 → ent 𝓤 (sep 𝓤 (Entry p) (sem 𝓛 (At value))) (Runs p)
+      walk count more =
+          qed 𝓛 (((‵ (flft κ₀ q₀) ⊛ (‵ (flft κ₁ q₁) ⊛ (‵ (flft κ₂ q₂) ⊛ (‵ (flft κ₃ q₃) ⊛ ‵ ftrue)))) ⊛ ‵ (owns (RawPtr ∷ MutRef (named 0) κ₀ D
+          ∷ MutSlice (named 1) κ₁ lent ∷ MutSlice (named 3) κ₃ range_row ∷ []) (p, (x, (y, (w, tt)))) (passed p))) ∷ ‵ (At value) ∷ []) ∵
           split ! $
-          enter ! C Λ (function T D serve) (rawptr_vals p ++ (mut_vals x ++ (mut_slice_vals y ++ []))) _ $
-          alloc_all ! (λ l. pass_all ! refl ((tt, tt), ((tt, tt), ((tt, (tt, (record { fits = count }, tt))), tt))) $
+          enter ! C Λ (function T D serve) (rawptr_vals p ++ (mut_vals x ++ (mut_slice_vals y ++ (mut_slice_vals w ++ [])))) _ $
+          alloc_all ! (λ l. pass_all ! refl
+          ((tt, tt), ((tt, tt), ((tt, (tt, (record { fits = count }, tt))), ((tt, (tt, (record { fits = more }, tt))), tt)))) $
           let En : Env 𝓤 H = env (function T D serve).locals l in
-          split ! $ move ! (1 ∷ []) $ split ! $ move ! (1 ∷ []) $ split ! $ move ! (1 ∷ []) $ drop ! $
-          move ! (3 ∷ []) $ fsplit ! $ move ! (1 ∷ []) $ fsplit ! $ move ! (1 ∷ []) $ fsplit ! $ move ! (1 ∷ []) $ drop ! $
-          -- [the regions; the door; the pointer; the three tokens; the value]
+          split ! $ move ! (1 ∷ []) $ split ! $ move ! (1 ∷ []) $ split ! $ move ! (1 ∷ []) $ split ! $ move ! (1 ∷ []) $ drop ! $
+          move ! (4 ∷ []) $ fsplit ! $ move ! (1 ∷ []) $ fsplit ! $ move ! (1 ∷ []) $ fsplit ! $ move ! (1 ∷ []) $ fsplit ! $ move ! (1 ∷ []) $ drop ! $
+          -- [the room; the regions; the door; the pointer; the four tokens; the value]
           sets ! (addr ! (through ! refl (stop !))) refl (tt, tt) $
           sets ! (addr ! (from ! (fld ! refl (hop ! (look_in_at ! 3 (sub ! 0 refl (whole !))) (stop !))))) refl (tt, tt) $
           sets ! (agg ! (and_then ! (get ! refl) (and_then ! (get_in ! (fld ! refl (stop !)) (sub ! 1 refl (whole !))) (no_more !)))) refl
           (tt, (tt, (record { fits = count }, tt))) $
+          sets ! (addr ! (from ! (fld ! refl (hop ! (look_in_at ! 4 (sub ! 0 refl (whole !))) (stop !))))) refl (tt, tt) $
+          sets ! (agg ! (and_then ! (get ! refl) (and_then ! (get_in ! (fld ! refl (stop !)) (sub ! 1 refl (whole !))) (no_more !)))) refl
+          (tt, (tt, (record { fits = more }, tt))) $
           first ! $ blocks ! $ sets ! (of_opd ! (get ! refl)) refl (tt, tt) $ sets ! (of_opd ! (get ! refl)) refl (tt, tt) $
           sets_last ! (addr ! (through ! refl (stop !))) refl (tt, tt) $
           exec ! C Λ En (with_handle T D serve) (at_ret En (Post p)) $ sets ! (of_opd ! (get ! refl)) refl (tt, tt) $
           -- what lies at the pointer is lent
-          lft_new ! tt (λ α. let κ : Lft = α ∷ [] in move ! (7 ∷ 0 ∷ []) $
-          use1 𝓛 (later (some (λ (γ : GName). ‵ ((MutRef (named 3) κ T).own_val (record { ref_ptr = (b, o); ghost_name = γ; now = value })
+          lft_new ! tt (λ α. let κ : Lft = α ∷ [] in move ! (9 ∷ 0 ∷ []) $
+          use1 𝓛 (later (some (λ (γ : GName). ‵ ((MutRef (named 4) κ T).own_val (record { ref_ptr = (b, o); ghost_name = γ; now = value })
           (vptr b o ∷ [])) ⊛ ‵ (flent κ (Borrowed (mem T) b o γ)))))
-          (lends_ref 𝓛 T (named 3) κ value b o) $ await ! tt $ pick ! (λ γ. split ! $
+          (lends_ref 𝓛 T (named 4) κ value b o) $ await ! tt $ pick ! (λ γ. split ! $
           let r₀ : MutBor T.Denot = record { ref_ptr = (b, o); ghost_name = γ; now = value } in
           let z : (Of T D makes 𝓛).Ghost = (
             (
-              (κ₀, (κ₁, (κ₂, (κ, tt)))),
-              (q₀, (q₁, (q₂, (full_share, tt)))),
+              (κ₀, (κ₁, (κ₂, (κ₃, (κ, tt))))),
+              (q₀, (q₁, (q₂, (q₃, (full_share, tt))))),
               within,
-              (x, (y, (r₀, tt))),
-              (mut_vals x, (mut_slice_vals y, (vptr b o ∷ [], tt))),
+              (x, (y, (w, (r₀, tt)))),
+              (mut_vals x, (mut_slice_vals y, (mut_slice_vals w, (vptr b o ∷ [], tt)))),
             ),
             tt,
           ) in
-          nothing ! $ move ! (1 ∷ 0 ∷ []) $ fjoin ! $ move ! (3 ∷ 0 ∷ []) $ fjoin ! $ move ! (3 ∷ 0 ∷ []) $ fjoin ! $
-          nothing ! $ move ! (3 ∷ 0 ∷ []) $ join ! $ move ! (4 ∷ 0 ∷ []) $ join ! $ move ! (4 ∷ 0 ∷ []) $ join ! $ move ! (4 ∷ 0 ∷ []) $ join ! $ join ! $
+          nothing ! $ move ! (1 ∷ 0 ∷ []) $ fjoin ! $ move ! (3 ∷ 0 ∷ []) $ fjoin ! $ move ! (3 ∷ 0 ∷ []) $ fjoin ! $ move ! (3 ∷ 0 ∷ []) $ fjoin ! $
+          nothing ! $ move ! (3 ∷ 0 ∷ []) $ join ! $ move ! (4 ∷ 0 ∷ []) $ join ! $ move ! (4 ∷ 0 ∷ []) $ join ! $ move ! (4 ∷ 0 ∷ []) $ join ! $
+          move ! (4 ∷ 0 ∷ []) $ join ! $ join ! $
           nothing ! $ move ! (1 ∷ 0 ∷ []) $ join ! $ use1 𝓛 (raw ((Of T D makes 𝓛).pre z)) (id⊢ 𝓤 ((Of T D makes 𝓛).pre z)) $
           -- serve(..)
-          calls_at ! fm (Of T D makes 𝓛) known z (and_then ! (get ! refl) (and_then ! (get ! refl) (and_then ! (get ! refl) (no_more !)))) (λ v.
-          use1 𝓛 (later (some (λ (r : ℕ). ((‵ (flft κ₀ q₀) ⊛ (‵ (flft κ₁ q₁) ⊛ (‵ (flft κ₂ q₂) ⊛ (‵ (flft κ full_share) ⊛ ‵ ftrue)))) ⊛ ‵ (u8.own_val r (v ∷ [])))
-          ⊛ some (λ (ws : Lasts (served T D) (κ₀, (κ₁, (κ₂, (κ, tt)))) z.0.3). ‵ (lasts (served T D) (κ₀, (κ₁, (κ₂, (κ, tt)))) z.0.3 ws)
-          ⊛ raw (fact 𝓤 (makes value ws.1.1.0 x.now ws.0 y.now ws.1.0 r)))))) (id⊢ 𝓤 _) $
+          calls_at ! fm (Of T D makes 𝓛) known z (and_then ! (get ! refl) (and_then ! (get ! refl) (and_then ! (get ! refl) (and_then ! (get ! refl)
+          (no_more !))))) (λ v.
+          use1 𝓛 (later (some (λ (r : ℕ). ((‵ (flft κ₀ q₀) ⊛ (‵ (flft κ₁ q₁) ⊛ (‵ (flft κ₂ q₂) ⊛ (‵ (flft κ₃ q₃) ⊛ (‵ (flft κ full_share) ⊛ ‵ ftrue)))))
+          ⊛ ‵ (u8.own_val r (v ∷ [])))
+          ⊛ some (λ (ws : Lasts (served T D) z.0.0 z.0.3). ‵ (lasts (served T D) z.0.0 z.0.3 ws)
+          ⊛ raw (fact 𝓤 (makes value ws.1.1.1.0 x.now ws.0 y.now ws.1.0 w.now ws.1.1.0 r)))))) (id⊢ 𝓤 _) $
           await ! tt $ pick ! (λ r. split ! $ move ! (1 ∷ []) $ pick ! (λ ws. split ! $ move ! (1 ∷ []) $
-          heard ! (makes value ws.1.1.0 x.now ws.0 y.now ws.1.0 r) (λ same.
-          fsplit ! $ move ! (1 ∷ []) $ fsplit ! $ move ! (1 ∷ []) $ fsplit ! $ move ! (1 ∷ []) $ drop ! $ fsplit ! $ move ! (1 ∷ []) $ drop ! $
-          -- [the handle's last value; the regions; the door; the tokens with the result; the handle's right; the pointer]
-          move ! (3 ∷ []) $ split ! $ split ! $ move ! (1 ∷ []) $ split ! $ move ! (1 ∷ []) $ split ! $ move ! (1 ∷ []) $ split ! $ lft_end ! tt $
-          move ! (0 ∷ 9 ∷ 6 ∷ []) $ use3 𝓛 (later (‵ (At ws.1.1.0))) (ref_back 𝓛 T κ γ ws.1.1.0 b o) $ await ! tt $ move ! (1 ∷ []) $ drop ! $
-          move ! (4 ∷ []) $ peeks ! u8 (Is u8) (shows 𝓛 u8) r (v ∷ []) (λ is. lands_as ! refl refl ((uint_Lawful 𝓛 w8).typed r _ is).0 $
-          returns ! (look_at ! 0 refl) $ free_all ! refl $ move ! (7 ∷ 6 ∷ 5 ∷ 1 ∷ 4 ∷ 3 ∷ 2 ∷ 0 ∷ []) $
-          by ! (answered r v ws.1.1.0 ws.0 ws.1.0 same)))))))))
+          heard ! (makes value ws.1.1.1.0 x.now ws.0 y.now ws.1.0 w.now ws.1.1.0 r) (λ same.
+          fsplit ! $ move ! (1 ∷ []) $ fsplit ! $ move ! (1 ∷ []) $ fsplit ! $ move ! (1 ∷ []) $ fsplit ! $ move ! (1 ∷ []) $ drop ! $
+          fsplit ! $ move ! (1 ∷ []) $ drop ! $
+          -- [the handle's last value; the room; the regions; the door; the tokens with the result; the handle's right; the pointer]
+          move ! (4 ∷ []) $ split ! $ split ! $ move ! (1 ∷ []) $ split ! $ move ! (1 ∷ []) $ split ! $ move ! (1 ∷ []) $ split ! $ move ! (1 ∷ []) $
+          split ! $ lft_end ! tt $
+          move ! (0 ∷ 11 ∷ 7 ∷ []) $ use3 𝓛 (later (‵ (At ws.1.1.1.0))) (ref_back 𝓛 T κ γ ws.1.1.1.0 b o) $ await ! tt $ move ! (1 ∷ []) $ drop ! $
+          -- [the value; the four tokens; the result; the room; the regions; the door; the pointer]
+          move ! (5 ∷ []) $ peeks ! u8 (Is u8) (shows 𝓛 u8) r (v ∷ []) (λ is. lands_as ! refl refl ((uint_Lawful 𝓛 w8).typed r _ is).0 $
+          returns ! (look_at ! 0 refl) $ free_all ! refl $ move ! (9 ∷ 8 ∷ 7 ∷ 6 ∷ 1 ∷ 5 ∷ 4 ∷ 3 ∷ 2 ∷ 0 ∷ []) $
+          by ! (answered r v ws.1.1.1.0 ws.0 ws.1.0 ws.1.1.0 same)))))))))
 
     -- nothing lies at null
-    at_each : (p : Ptr) → length y.now < 2 ^ 64 → ent 𝓤 (sep 𝓤 (Entry p) (sem 𝓛 (lies_at T full_share p value))) (Runs p)
-    at_each (block_ptr b o) count = walk b o count
-    at_each null_ptr count =
+    at_each : (p : Ptr) → length y.now < 2 ^ 64 → length w.now < 2 ^ 64 → ent 𝓤 (sep 𝓤 (Entry p) (sem 𝓛 (lies_at T full_share p value))) (Runs p)
+    at_each (block_ptr b o) count more = walk b o count more
+    at_each null_ptr count more =
         qed 𝓛 (raw (Entry null_ptr) ∷ ‵ (lies_at T full_share null_ptr value) ∷ []) ∵
         move ! (1 ∷ []) $ use1 𝓛 (raw (Runs null_ptr)) (never_e 𝓤 (Runs null_ptr)) $ keep ! (0 ∷ []) $ done !
 
@@ -271,10 +297,27 @@ pub meets : (T D : RattleType) (serve : Callee) (makes : Makes T D) {M : Type 1}
 unfolding tables_of
 meets T D serve makes 𝓤 𝓛 𝓜 𝓡 export closed known =
     let 𝓣 = tables 𝓤 𝓛.H 𝓜 𝓡 𝓡.env in
-    proved 𝓛 (ended D) (stayed D) (clauses T D makes 𝓛) 𝓜 𝓡
-    (Goes-none 𝓛 3 (λ _. RawPtr) yes (λ κs a g. refl), ((λ κs x f vs fits. 𝓛.laws.⇛_intro _), ((λ κs x f vs fits. 𝓛.laws.⇛_intro _), tt)))
+    proved 𝓛 (ended D) (stayed D) (clauses T D makes 𝓛) 𝓜 𝓡 (
+      Goes-none 𝓛 4 (λ _. RawPtr) yes (λ κs a g. refl),
+      (
+        (λ κs x f vs fits. 𝓛.laws.⇛_intro _),
+        (
+          (λ κs x f vs fits. 𝓛.laws.⇛_intro _),
+          ((λ κs x f vs fits. 𝓛.laws.⇛_intro _), tt),
+        ),
+      ),
+    )
     export (function T D serve) closed
-    (λ κs. (rawptr_vals, (mut_vals, (mut_slice_vals, tt))))
-    (λ κs. (rawptr_Tells, (mut_Tells (named 0) κs.0 D, (mut_slice_Tells (named 1) κs.1.0 (region (named 2) κs.1.1.0), tt))))
+    (λ κs. (rawptr_vals, (mut_vals, (mut_slice_vals, (mut_slice_vals, tt)))))
+    (λ κs. (
+      rawptr_Tells,
+      (
+        mut_Tells (named 0) κs.0 D,
+        (
+          mut_slice_Tells (named 1) κs.1.0 (region (named 2) κs.1.1.0),
+          (mut_slice_Tells (named 3) κs.1.1.1.0 range_row, tt),
+        ),
+      ),
+    ))
     (λ κs qs bounds a had are. at_each T D serve makes 𝓛 𝓣.C 𝓣.Λ (fm_of 𝓤 𝓛.H 𝓛.laws (tables_of 𝓤 𝓛.H 𝓜 𝓣)) known
-    κs.0 κs.1.0 κs.1.1.0 qs.0 qs.1.0 qs.1.1.0 a.1.0 a.1.1.0 had bounds a.0 are.1.1.0.0.1.0)
+    κs.0 κs.1.0 κs.1.1.0 κs.1.1.1.0 qs.0 qs.1.0 qs.1.1.0 qs.1.1.1.0 a.1.0 a.1.1.0 a.1.1.1.0 had bounds a.0 are.1.1.0.0.1.0 are.1.1.1.0.0.1.0)

@@ -1,5 +1,5 @@
 //! A turn of the controller's steps over regions of memory that are lent for it.
-ghost use Rattle.std.specs.Prelude.{◌≡◌, ◌≤◌, false};
+ghost use Rattle.std.specs.Prelude.{◌≡◌, ◌≤◌, false, length};
 ghost use types.Logic.{sem};
 ghost use base.Fraction.{full_share};
 ghost use denote.RawPtr.{lies_at};
@@ -13,6 +13,7 @@ use crate::door::KeptXhci;
 use crate::making::UasXhci;
 use crate::regions::regions_fault;
 use guest_memory::{Lent, Pieces};
+use guest_notes::{Noted, WrittenRange};
 use xhci_machine::{Machine, Worked};
 
 /// What a turn asks and answers.
@@ -25,42 +26,110 @@ pub struct UasXhciTurn {
     pub steps: u32,
     /// Out: 1 where there may be more to do at once, else 0.
     pub more: u32,
+    /// Out: 1 where not every range that was written is noted, else 0.
+    pub lost: u32,
+    /// Out: how many ranges are noted.
+    pub noted: usize,
 }
 
 /// Steps over the memory of some regions, each of `length` bytes from its address on; the number of the fault, where nothing has changed, or
-/// 0: `XHCI_MANY`, `XHCI_WRAPS`, `XHCI_OVERLAP`. The controller is the caller's alone, and his again when it returns.
+/// 0: `XHCI_MANY`, `XHCI_WRAPS`, `XHCI_OVERLAP`. `written` is room for the ranges that are written. The controller is the caller's alone, and
+/// his again when it returns.
 #[unsafe(no_mangle)]
 pub unsafe extern "C" fn uas_xhci_take_turn(
     xhci: *mut UasXhci,
     turn: &mut UasXhciTurn,
     regions: &mut [Lent],
+    written: &mut [WrittenRange],
 ) -> u8
     ghost had: { Machine }
     requires* { sem 𝓛 (lies_at xhci_row full_share xhci had) }
     ensures* { ∃ₛ (λ (now : Machine). sem 𝓛 (lies_at xhci_row full_share xhci now)
-        ∗ ⌜ Turned had now turn.old turn.new regions.old regions.new result ⌝) }
+        ∗ ⌜ Turned had now turn.old turn.new regions.old regions.new written.old written.new result ⌝) }
 {
-    take_turn(turn, regions, unsafe { &mut *(xhci as *mut KeptXhci) })
+    take_turn(
+        turn,
+        regions,
+        written,
+        unsafe { &mut *(xhci as *mut KeptXhci) },
+    )
 }
 
-fn take_turn(turn: &mut UasXhciTurn, regions: &mut [Lent], kept: &mut KeptXhci) -> u8
-    ensures { Turned kept.old kept.new turn.old turn.new regions.old regions.new result }
+fn take_turn(
+    turn: &mut UasXhciTurn,
+    regions: &mut [Lent],
+    written: &mut [WrittenRange],
+    kept: &mut KeptXhci,
+) -> u8
+    ensures { Turned kept.old kept.new turn.old turn.new regions.old regions.new written.old written.new result }
 {
     let fault = regions_fault(regions);
     if fault == 0 {
-        let worked = work_over(&mut kept.machine, regions, turn.budget);
-        turn.steps = worked.steps;
-        turn.more = u32::from(worked.more);
+        let done = work_over(&mut kept.machine, regions, written, turn.budget);
+        turn.steps = done.worked.steps;
+        turn.more = u32::from(done.worked.more);
+        turn.lost = u32::from(done.lost);
+        turn.noted = done.noted;
     }
     fault
 }
 
-/// Steps over regions as one memory.
-fn work_over(machine: &mut Machine, regions: &mut [Lent], budget: u32) -> Worked
+/// What steps over regions came to.
+#[derive(Clone, Copy)]
+struct Done {
+    worked: Worked,
+    noted: usize,
+    lost: bool,
+}
+
+/// Steps over regions as one memory, whose writes are noted where there is any room for it.
+fn work_over(
+    machine: &mut Machine,
+    regions: &mut [Lent],
+    written: &mut [WrittenRange],
+    budget: u32,
+) -> Done
+    ensures budget { result.worked.steps ≤ budget }
+    ensures noted { result.noted ≤ length written.old }
+    ensures stands { machine.old.registers.runs ≡ false
+        → (machine.new ≡ machine.old) × (length written.old ≡ 0 → held lent_in regions.new ≡ held lent_in regions.old) }
+{
+    if written.is_empty() {
+        let worked = work_plainly(machine, regions, budget);
+        return Done {
+            worked,
+            noted: 0,
+            lost: true,
+        };
+    }
+    work_noting(machine, regions, written, budget)
+}
+
+fn work_plainly(machine: &mut Machine, regions: &mut [Lent], budget: u32) -> Worked
     ensures budget { result.steps ≤ budget }
     ensures stands { machine.old.registers.runs ≡ false
         → (machine.new ≡ machine.old) × (held lent_in regions.new ≡ held lent_in regions.old) }
 {
     let mut memory = Pieces { pieces: regions };
     machine.work(&mut memory, budget)
+}
+
+fn work_noting(
+    machine: &mut Machine,
+    regions: &mut [Lent],
+    written: &mut [WrittenRange],
+    budget: u32,
+) -> Done
+    ensures budget { result.worked.steps ≤ budget }
+    ensures noted { result.noted ≤ length written.old }
+    ensures stands { machine.old.registers.runs ≡ false → machine.new ≡ machine.old }
+{
+    let room = written.len();
+    let mut memory = Noted::new(Pieces { pieces: regions }, written);
+    let worked = machine.work(&mut memory, budget);
+    Done {
+        worked,
+        noted: memory.used.min(room),
+        lost: memory.lost,
+    }
 }

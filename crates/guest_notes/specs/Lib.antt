@@ -1,0 +1,2 @@
+-- What was written to a memory.
+pub mod Notes

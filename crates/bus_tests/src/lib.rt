@@ -10,8 +10,10 @@
 #![tactic(auto)]
 
 #[cfg(test)]
+mod acts;
+#[cfg(test)]
 mod memory;
 #[cfg(test)]
-mod steps;
+mod replies;
 #[cfg(test)]
 mod two_worlds;

@@ -1,26 +1,11 @@
 //! With memory enough no size of a run or of a disk is refused.
-ghost use Rattle.std.specs.Prelude.{◌≡◌, ◌≤◌, IfOk};
-ghost use Rattle.shared_machine.specs.Bus.{AllTicketed};
-ghost use Rattle.uas_profile.specs.declared.TheConstants.{MAX_CLIENTS};
-
+use crate::acts::{Act, steps_of};
 use block_unit::Unit;
-use bus_core::{Bus, Step};
+use bus_core::Bus;
 use std::alloc::{AllocError, Global};
 use std::process::Abort;
 use std::test::Fail;
 use uas_profile::{MAX_BLOCKS, MAX_CLIENTS};
-
-/// So many steps that find nothing to do.
-#[tactic(auto, using(isolation::proofs::WholeRuns::all_ticketed_push))]
-fn idle_steps(alloc: Global, count: usize) -> Result<Vec<Step>, AllocError>
-    ensures { IfOk result (λ steps. AllTicketed steps.items) }
-{
-    let mut steps = Vec::new(alloc);
-    for _ in 0..count {
-        steps.push(Step::Event)?;
-    }
-    Ok(steps)
-}
 
 /// The first thousand blocks of even number.
 fn even_blocks(alloc: Global) -> Result<Vec<u32>, AllocError> {
@@ -38,7 +23,8 @@ fn runs_of_every_length(rt: HostRuntime) -> Result<(), Fail> {
     let units = vec![in alloc; Unit::new(alloc, 1, Vec::new(alloc))?]?;
     let mut bus = Bus::new(alloc, units)?;
     for count in 1..2001usize {
-        let steps = idle_steps(alloc, count)?;
+        let acts = vec![in alloc; Act::Event; count]?;
+        let steps = steps_of(alloc, &acts)?;
         let ran = bus.run(alloc, steps);
         assert!(rt;
             ran.is_ok_and(|trace| trace.outcomes().len() == count),

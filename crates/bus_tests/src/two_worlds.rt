@@ -1,15 +1,190 @@
 //! One client's WRITE and READ in three worlds: alone, beside another client's, and among that client's abort, reset and retirement.
-ghost use Rattle.std.specs.Prelude.{◌≡◌};
-ghost use Rattle.shared_machine.specs.Bus.{AllTicketed};
-
-use crate::steps::{are_same, manage, read, replies_of, write};
+use crate::acts::{Act, steps_of};
+use crate::replies::{are_same, replies_of};
 use block_unit::Unit;
-use bus_core::{Bus, Outcome, Step};
+use bus_core::{Bus, Outcome};
 use scsi_cmd::{GOOD, Reply, Task};
 use std::alloc::{AllocError, Global};
 use std::process::Abort;
 use std::test::Fail;
 use stream_array::Pipe;
+
+/// Client 0's steps and no others.
+const ALONE: [Act; 16] = [
+    Act::Write {
+        client: 0,
+        tag: 1,
+        ticket: 0,
+        byte: 0xa5,
+    },
+    Act::CommandPipe,
+    Act::Data(1),
+    Act::Status(1),
+    Act::Event,
+    Act::Event,
+    Act::Event,
+    Act::Take(0),
+    Act::Read {
+        client: 0,
+        tag: 2,
+        ticket: 1,
+        blocks: 8,
+    },
+    Act::CommandPipe,
+    Act::Data(2),
+    Act::Status(2),
+    Act::Event,
+    Act::Event,
+    Act::Event,
+    Act::Take(0),
+];
+
+/// The same with a WRITE and a READ of client 1 between them, of the same blocks.
+const BESIDE: [Act; 32] = [
+    Act::Write {
+        client: 1,
+        tag: 17,
+        ticket: 0,
+        byte: 0x5a,
+    },
+    Act::Write {
+        client: 0,
+        tag: 1,
+        ticket: 0,
+        byte: 0xa5,
+    },
+    Act::CommandPipe,
+    Act::CommandPipe,
+    Act::Data(1),
+    Act::Data(17),
+    Act::Status(17),
+    Act::Status(1),
+    Act::Event,
+    Act::Event,
+    Act::Event,
+    Act::Event,
+    Act::Event,
+    Act::Event,
+    Act::Take(1),
+    Act::Take(0),
+    Act::Read {
+        client: 0,
+        tag: 2,
+        ticket: 1,
+        blocks: 8,
+    },
+    Act::Read {
+        client: 1,
+        tag: 18,
+        ticket: 1,
+        blocks: 8,
+    },
+    Act::CommandPipe,
+    Act::CommandPipe,
+    Act::Data(18),
+    Act::Data(2),
+    Act::Status(18),
+    Act::Status(2),
+    Act::Event,
+    Act::Event,
+    Act::Event,
+    Act::Event,
+    Act::Event,
+    Act::Event,
+    Act::Take(0),
+    Act::Take(1),
+];
+
+/// The same while client 1 aborts a READ after a chunk of it, has its TD retired, and resets its logical unit with a WRITE under way.
+const AMONG_TROUBLES: [Act; 59] = [
+    Act::Read {
+        client: 1,
+        tag: 17,
+        ticket: 0,
+        blocks: 24,
+    },
+    Act::CommandPipe,
+    Act::Data(17),
+    Act::Write {
+        client: 0,
+        tag: 1,
+        ticket: 0,
+        byte: 0xa5,
+    },
+    Act::Manage {
+        client: 1,
+        ticket: 1,
+        task: Task::Abort { tag: 17 },
+    },
+    Act::CommandPipe,
+    Act::CommandPipe,
+    Act::Data(1),
+    Act::Status(32),
+    Act::Event,
+    Act::Event,
+    Act::Event,
+    Act::Event,
+    Act::Event,
+    Act::Event,
+    Act::Retire(Pipe::DataIn, 17),
+    Act::Engine,
+    Act::Event,
+    Act::Status(1),
+    Act::Engine,
+    Act::Event,
+    Act::Event,
+    Act::Retire(Pipe::Status, 17),
+    Act::Engine,
+    Act::Event,
+    Act::Engine,
+    Act::Event,
+    Act::Take(1),
+    Act::Take(1),
+    Act::Take(0),
+    Act::Write {
+        client: 1,
+        tag: 18,
+        ticket: 2,
+        byte: 0x5a,
+    },
+    Act::CommandPipe,
+    Act::Read {
+        client: 0,
+        tag: 2,
+        ticket: 1,
+        blocks: 8,
+    },
+    Act::Manage {
+        client: 1,
+        ticket: 3,
+        task: Task::Reset,
+    },
+    Act::CommandPipe,
+    Act::Data(2),
+    Act::CommandPipe,
+    Act::Status(32),
+    Act::Status(2),
+    Act::Event,
+    Act::Event,
+    Act::Event,
+    Act::Event,
+    Act::Event,
+    Act::Event,
+    Act::Event,
+    Act::Retire(Pipe::DataOut, 18),
+    Act::Engine,
+    Act::Event,
+    Act::Engine,
+    Act::Event,
+    Act::Retire(Pipe::Status, 18),
+    Act::Engine,
+    Act::Event,
+    Act::Engine,
+    Act::Event,
+    Act::Take(0),
+    Act::Take(1),
+    Act::Take(1),
+];
 
 /// What a run came to: the outcome of each step, and the bus behind them.
 #[derive(Drop)]
@@ -19,144 +194,15 @@ struct Ended {
 }
 
 /// Takes the steps on a new bus of two clients with 64 blocks each.
-fn ran(alloc: Global, steps: Vec<Step>) -> Result<Ended, AllocError>
-    requires { AllTicketed steps.items }
-{
+fn ran(alloc: Global, acts: &[Act]) -> Result<Ended, AllocError> {
     let units = vec![in alloc;
         Unit::new(alloc, 64, Vec::new(alloc))?,
         Unit::new(alloc, 64, Vec::new(alloc))?,
     ]?;
     let mut bus = Bus::new(alloc, units)?;
+    let steps = steps_of(alloc, acts)?;
     let outcomes = bus.run(alloc, steps)?.into_vec();
     Ok(Ended { outcomes, bus })
-}
-
-/// Client 0's steps and no others.
-fn alone(alloc: Global) -> Result<Ended, AllocError> {
-    let steps = vec![in alloc;
-        write(alloc, 0, 1, 0, 0xa5)?,
-        Step::CommandPipe,
-        Step::Data(1),
-        Step::Status(1),
-        Step::Event,
-        Step::Event,
-        Step::Event,
-        Step::Take(0),
-        read(alloc, 0, 2, 1, 8)?,
-        Step::CommandPipe,
-        Step::Data(2),
-        Step::Status(2),
-        Step::Event,
-        Step::Event,
-        Step::Event,
-        Step::Take(0),
-    ]?;
-    ran(alloc, steps)
-}
-
-/// The same with a WRITE and a READ of client 1 between them, of the same blocks.
-fn beside(alloc: Global) -> Result<Ended, AllocError> {
-    let steps = vec![in alloc;
-        write(alloc, 1, 17, 0, 0x5a)?,
-        write(alloc, 0, 1, 0, 0xa5)?,
-        Step::CommandPipe,
-        Step::CommandPipe,
-        Step::Data(1),
-        Step::Data(17),
-        Step::Status(17),
-        Step::Status(1),
-        Step::Event,
-        Step::Event,
-        Step::Event,
-        Step::Event,
-        Step::Event,
-        Step::Event,
-        Step::Take(1),
-        Step::Take(0),
-        read(alloc, 0, 2, 1, 8)?,
-        read(alloc, 1, 18, 1, 8)?,
-        Step::CommandPipe,
-        Step::CommandPipe,
-        Step::Data(18),
-        Step::Data(2),
-        Step::Status(18),
-        Step::Status(2),
-        Step::Event,
-        Step::Event,
-        Step::Event,
-        Step::Event,
-        Step::Event,
-        Step::Event,
-        Step::Take(0),
-        Step::Take(1),
-    ]?;
-    ran(alloc, steps)
-}
-
-/// The same while client 1 aborts a READ after a chunk of it, has its TD retired, and resets its logical unit with a WRITE under way.
-fn among_troubles(alloc: Global) -> Result<Ended, AllocError> {
-    let steps = vec![in alloc;
-        read(alloc, 1, 17, 0, 24)?,
-        Step::CommandPipe,
-        Step::Data(17),
-        write(alloc, 0, 1, 0, 0xa5)?,
-        manage(1, 1, Task::Abort { tag: 17 }),
-        Step::CommandPipe,
-        Step::CommandPipe,
-        Step::Data(1),
-        Step::Status(32),
-        Step::Event,
-        Step::Event,
-        Step::Event,
-        Step::Event,
-        Step::Event,
-        Step::Event,
-        Step::Retire(Pipe::DataIn, 17),
-        Step::Engine,
-        Step::Event,
-        Step::Status(1),
-        Step::Engine,
-        Step::Event,
-        Step::Event,
-        Step::Retire(Pipe::Status, 17),
-        Step::Engine,
-        Step::Event,
-        Step::Engine,
-        Step::Event,
-        Step::Take(1),
-        Step::Take(1),
-        Step::Take(0),
-        write(alloc, 1, 18, 2, 0x5a)?,
-        Step::CommandPipe,
-        read(alloc, 0, 2, 1, 8)?,
-        manage(1, 3, Task::Reset),
-        Step::CommandPipe,
-        Step::Data(2),
-        Step::CommandPipe,
-        Step::Status(32),
-        Step::Status(2),
-        Step::Event,
-        Step::Event,
-        Step::Event,
-        Step::Event,
-        Step::Event,
-        Step::Event,
-        Step::Event,
-        Step::Retire(Pipe::DataOut, 18),
-        Step::Engine,
-        Step::Event,
-        Step::Engine,
-        Step::Event,
-        Step::Retire(Pipe::Status, 18),
-        Step::Engine,
-        Step::Event,
-        Step::Engine,
-        Step::Event,
-        Step::Take(0),
-        Step::Take(1),
-        Step::Take(1),
-    ]?;
-    ran(alloc, steps)
 }
 
 /// Whether a client has the same replies in both worlds, and the same blocks and medium.
@@ -183,7 +229,7 @@ fn acted(outcomes: &[Outcome], place: usize) -> bool {
 #[test]
 fn two_worlds(rt: HostRuntime) -> Result<(), Fail> {
     let alloc = rt.alloc();
-    let alone = alone(alloc)?;
+    let alone = ran(alloc, &ALONE)?;
     let replies = replies_of(alloc, &alone.outcomes, 0)?;
     assert_eq!(rt; replies.len(), 2);
     for reply in &replies {
@@ -199,13 +245,13 @@ fn two_worlds(rt: HostRuntime) -> Result<(), Fail> {
         _ => false,
     };
     assert!(rt; brought, "other bytes than were written");
-    let beside = beside(alloc)?;
+    let beside = ran(alloc, &BESIDE)?;
     assert!(rt;
         is_same(alloc, &alone, &beside, 0)?,
         "beside another client"
     );
     assert_eq!(rt; replies_of(alloc, &beside.outcomes, 1)?.len(), 2);
-    let troubled = among_troubles(alloc)?;
+    let troubled = ran(alloc, &AMONG_TROUBLES)?;
     assert!(rt;
         is_same(alloc, &alone, &troubled, 0)?,
         "among another client's troubles"

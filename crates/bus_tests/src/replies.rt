@@ -1,74 +1,7 @@
-//! Steps of clients, and what is asked of what came of them.
-ghost use Rattle.std.specs.Prelude.{◌≡◌, ◌<◌, ◌≤◌, ◌^◌, IfOk};
-ghost use Rattle.shared_machine.specs.Bus.{HasTicket};
-
-use bus_core::{Outcome, Step};
-use scsi_cmd::{Buffer, Command, Op, Reply, Task};
+//! What is asked of the outcomes of steps.
+use bus_core::Outcome;
+use scsi_cmd::Reply;
 use std::alloc::{AllocError, Global};
-use uas_profile::BLOCK_BYTES;
-
-/// A READ of blocks from 0 on.
-pub(crate) fn read(
-    alloc: Global,
-    client: usize,
-    tag: u16,
-    ticket: u64,
-    blocks: u16,
-) -> Result<Step, AllocError>
-    requires ticket { ticket < 2 ^ 60 }
-    requires blocks { blocks ≤ 128 }
-    ensures { IfOk result HasTicket }
-{
-    let buffer = Buffer::from_vec(vec![in alloc; 0; BLOCK_BYTES * usize::from(blocks)]?);
-    let op = Op::Read {
-        lba: 0,
-        count: blocks,
-        fua: false,
-    };
-    Ok(Step::Submit {
-        client,
-        tag,
-        ticket,
-        command: Command { op, buffer },
-    })
-}
-
-/// A WRITE of eight blocks of one byte from 0 on.
-pub(crate) fn write(
-    alloc: Global,
-    client: usize,
-    tag: u16,
-    ticket: u64,
-    byte: u8,
-) -> Result<Step, AllocError>
-    requires { ticket < 2 ^ 60 }
-    ensures { IfOk result HasTicket }
-{
-    let buffer = Buffer::from_vec(vec![in alloc; byte; 4096]?);
-    let op = Op::Write {
-        lba: 0,
-        count: 8,
-        fua: false,
-    };
-    Ok(Step::Submit {
-        client,
-        tag,
-        ticket,
-        command: Command { op, buffer },
-    })
-}
-
-/// A task management.
-pub(crate) fn manage(client: usize, ticket: u64, task: Task) -> Step
-    requires { ticket < 2 ^ 60 }
-    ensures { HasTicket result }
-{
-    Step::Task {
-        client,
-        ticket,
-        task,
-    }
-}
 
 /// Whether two replies are the same, byte for byte.
 pub(crate) fn are_same(one: &Reply, other: &Reply) -> bool {

@@ -1,6 +1,6 @@
 /* A PCI device for QEMU 7.2: the library's xHCI controller with its UAS disk, over the guest's memory, with its blocks in a file.
  *
- *   -device uas-xhci,file=PATH[,msi=on|off|auto][,bad=BLOCK]
+ *   -device uas-xhci,file=PATH[,msi=on|off|auto][,attached=off][,bad=BLOCK]
  *
  * QEMU's part is the bus: configuration space, the page of registers, the guest's memory by address, an interrupt, and threads for the file.
  * Rings, contexts, commands and the disk are the library's. A register write notes what is to be done and takes a number of steps; what is
@@ -10,7 +10,6 @@
 #include "block/aio.h"
 #include "block/thread-pool.h"
 #include "exec/memory.h"
-#include "hw/boards.h"
 #include "hw/pci/msi.h"
 #include "hw/pci/pci.h"
 #include "hw/qdev-properties.h"
@@ -26,7 +25,8 @@
 /* A READ or WRITE moves at most 1 MiB, which page B0h tells; a request to the file is of at most 64 KiB. */
 enum { MOST_BLOCKS = 2048, CHUNK_BLOCKS = 128, CHUNK_BYTES = CHUNK_BLOCKS * UAS_BLOCK_BYTES };
 
-enum { STEPS_A_TURN = 256, MICROFRAME_NS = 125000, MSI_AT = 0x70 };
+/* Most steps write two or three ranges. */
+enum { STEPS_A_TURN = 256, RANGES = 4 * STEPS_A_TURN, MICROFRAME_NS = 125000, MSI_AT = 0x70 };
 
 #define TYPE_UAS_XHCI "uas-xhci"
 OBJECT_DECLARE_SIMPLE_TYPE(UasXhci, UAS_XHCI)
@@ -35,9 +35,13 @@ struct UasXhci {
     PCIDevice parent;
     MemoryRegion registers;
     MemoryListener listener;
-    struct uas_memory memory; /* what the device reaches of the machine's RAM: nothing where it isn't bus master */
+    struct uas_region regions[UAS_XHCI_REGIONS]; /* what the device reaches of the machine's RAM: nothing where it isn't bus master */
+    size_t lent;
+    struct uas_range written[RANGES];
     QEMUBH *turn;
     uas_xhci *xhci;
+    uint32_t jobs; /* requests that are at work */
+    bool attached;
     char *path;
     OnOffAuto msi;
     uint64_t bad;
@@ -115,6 +119,7 @@ static void request_done(void *opaque, int outcome)
     bool has_bytes = job->request.kind == UAS_REQUEST_READ && outcome == UAS_DONE;
     uas_xhci_answered(job->device->xhci, job->request.number, (uint8_t)outcome, job->bytes,
                       has_bytes ? job->request.count * UAS_BLOCK_BYTES : 0);
+    job->device->jobs--;
     qemu_bh_schedule(job->device->turn);
     g_free(job);
 }
@@ -126,18 +131,26 @@ static void begin_request(UasXhci *device, const struct uas_request *request)
     job->request = *request;
     if (request->kind == UAS_REQUEST_WRITE || request->kind == UAS_REQUEST_COMPARE)
         uas_xhci_data(device->xhci, request->number, job->bytes, request->count * UAS_BLOCK_BYTES);
+    device->jobs++;
     thread_pool_submit_aio(aio_get_thread_pool(qemu_get_aio_context()), do_request, job, request_done, job);
 }
 
-/* ---- Memory: the machine's RAM from address 0 on; what a machine has above 4 GiB isn't reached ---- */
+/* ---- Memory: the machine's RAM, wherever it stands ---- */
 
+/* Lends a range of RAM: with the region before it where both are one. */
 static bool lend(Int128 start, Int128 length, const MemoryRegion *region, hwaddr offset, void *opaque)
 {
-    struct uas_memory *memory = opaque;
-    if (region == current_machine->ram && int128_get64(start) == offset)
-        memory->length = offset + int128_get64(length);
-    else if (region == current_machine->ram)
-        warn_report_once("uas-xhci: the machine's memory above 4 GiB isn't reached: use -m 2048");
+    UasXhci *device = opaque;
+    struct uas_region *last = device->lent > 0 ? &device->regions[device->lent - 1] : NULL;
+    if (!region->ram || region->readonly || region->ram_device)
+        return false;
+    struct uas_region one = { int128_get64(start), memory_region_get_ram_ptr((MemoryRegion *)region) + offset, int128_get64(length) };
+    if (last != NULL && last->address + last->length == one.address && last->bytes + last->length == one.bytes)
+        last->length += one.length;
+    else if (device->lent < UAS_XHCI_REGIONS)
+        device->regions[device->lent++] = one;
+    else
+        warn_report_once("uas-xhci: the machine's memory is in more than %d parts, of which the others aren't reached", UAS_XHCI_REGIONS);
     return false;
 }
 
@@ -145,12 +158,38 @@ static void memory_changed(MemoryListener *listener)
 {
     UasXhci *device = container_of(listener, UasXhci, listener);
     RCU_READ_LOCK_GUARD();
-    device->memory = (struct uas_memory){ .bytes = memory_region_get_ram_ptr(current_machine->ram) };
-    flatview_for_each_range(address_space_to_flatview(pci_get_address_space(&device->parent)), lend, &device->memory);
+    device->lent = 0;
+    flatview_for_each_range(address_space_to_flatview(pci_get_address_space(&device->parent)), lend, device);
     qemu_bh_schedule(device->turn);
 }
 
+/* Tells QEMU that RAM was written, as a mapping that ends does: translated code is dropped, pages are dirty. */
+static void tell_written(UasXhci *device, uint64_t address, uint64_t length)
+{
+    AddressSpace *space = pci_get_address_space(&device->parent);
+    for (hwaddr part; length > 0; address += part, length -= part) {
+        part = length;
+        void *bytes = address_space_map(space, address, &part, true, MEMTXATTRS_UNSPECIFIED);
+        if (bytes == NULL)
+            break;
+        address_space_unmap(space, bytes, part, true, part);
+    }
+}
+
 /* ---- Registers, steps, interrupts ---- */
+
+static void work(UasXhci *device)
+{
+    struct uas_xhci_turn turn = { .budget = STEPS_A_TURN };
+    if (device->lent > 0 && uas_xhci_work_noting(device->xhci, device->regions, device->lent, &turn, device->written, RANGES) != UAS_OK)
+        error_report_once("uas-xhci: the machine's memory was refused");
+    for (size_t i = 0; i < turn.noted; i++)
+        tell_written(device, device->written[i].address, device->written[i].length);
+    for (size_t i = 0; turn.lost && i < device->lent; i++)
+        tell_written(device, device->regions[i].address, device->regions[i].length);
+    if (turn.more)
+        qemu_bh_schedule(device->turn);
+}
 
 static void interrupt(UasXhci *device)
 {
@@ -164,9 +203,7 @@ static void turn(void *opaque)
 {
     UasXhci *device = opaque;
     struct uas_request request;
-    uint32_t steps;
-    if (device->memory.length > 0 && uas_xhci_work(device->xhci, &device->memory, STEPS_A_TURN, &steps))
-        qemu_bh_schedule(device->turn);
+    work(device);
     while (uas_xhci_next_request(device->xhci, &request))
         begin_request(device, &request);
     interrupt(device);
@@ -207,8 +244,8 @@ static void reset(DeviceState *state)
 static bool open_disk(UasXhci *device, Error **errp)
 {
     struct stat told;
-    if (device->path == NULL || current_machine->ram == NULL) {
-        error_setg(errp, "uas-xhci: %s", device->path == NULL ? "file=PATH is missing" : "the machine's memory isn't one block");
+    if (device->path == NULL) {
+        error_setg(errp, "uas-xhci: file=PATH is missing");
         return false;
     }
     device->file = qemu_open(device->path, O_RDWR, errp);
@@ -223,6 +260,14 @@ static bool open_disk(UasXhci *device, Error **errp)
     if (fault != UAS_OK)
         error_setg(errp, "uas-xhci: %s: %s", device->path, uas_fault_name(fault));
     return fault == UAS_OK;
+}
+
+static void close_disk(UasXhci *device)
+{
+    uas_xhci_free(device->xhci);
+    device->xhci = NULL;
+    if (device->file >= 0)
+        close(device->file);
 }
 
 /* With msi=auto a machine without messages has the pin. */
@@ -242,8 +287,12 @@ static bool add_message(UasXhci *device, Error **errp)
 static void realize(PCIDevice *parent, Error **errp)
 {
     UasXhci *device = UAS_XHCI(parent);
-    if (!open_disk(device, errp) || !add_message(device, errp))
+    device->file = -1;
+    if (!open_disk(device, errp) || !add_message(device, errp)) {
+        close_disk(device);
         return;
+    }
+    uas_xhci_plug(device->xhci, device->attached);
     parent->config[PCI_CLASS_PROG] = 0x30; /* xHCI */
     parent->config[0x60] = 0x30;           /* USB 3.0, which drivers read here (xHCI 5.2.3) */
     pci_config_set_interrupt_pin(parent->config, 1);
@@ -252,6 +301,40 @@ static void realize(PCIDevice *parent, Error **errp)
     device->turn = qemu_bh_new(turn, device);
     device->listener = (MemoryListener){ .name = TYPE_UAS_XHCI, .commit = memory_changed };
     memory_listener_register(&device->listener, pci_get_address_space(parent));
+}
+
+/* The device is taken out of the machine, after its requests, each of which has a pointer to it. */
+static void unrealize(PCIDevice *parent)
+{
+    UasXhci *device = UAS_XHCI(parent);
+    memory_listener_unregister(&device->listener);
+    device->lent = 0;
+    while (device->jobs > 0)
+        aio_poll(qemu_get_aio_context(), true);
+    qemu_bh_delete(device->turn);
+    msi_uninit(parent);
+    close_disk(device);
+}
+
+/* The disk's cable: `qom-set PATH attached off` pulls it. */
+static bool is_attached(Object *object, Error **errp)
+{
+    return UAS_XHCI(object)->attached;
+}
+
+static void attach(Object *object, bool attached, Error **errp)
+{
+    UasXhci *device = UAS_XHCI(object);
+    device->attached = attached;
+    if (device->xhci == NULL)
+        return;
+    uas_xhci_plug(device->xhci, attached);
+    qemu_bh_schedule(device->turn);
+}
+
+static void init(Object *object)
+{
+    UAS_XHCI(object)->attached = true;
 }
 
 static Property properties[] = {
@@ -275,7 +358,8 @@ static void class_init(ObjectClass *class, void *data)
     device->desc = "xHCI controller with a UAS disk, from a library";
     device->reset = reset;
     device->vmsd = &state;
-    device->hotpluggable = false;
+    pci->exit = unrealize;
+    object_class_property_add_bool(class, "attached", is_attached, attach);
     device_class_set_props(device, properties);
     set_bit(DEVICE_CATEGORY_USB, device->categories);
 }
@@ -284,6 +368,7 @@ static const TypeInfo type = {
     .name = TYPE_UAS_XHCI,
     .parent = TYPE_PCI_DEVICE,
     .instance_size = sizeof(UasXhci),
+    .instance_init = init,
     .class_init = class_init,
     .interfaces = (InterfaceInfo[]){ { INTERFACE_CONVENTIONAL_PCI_DEVICE }, { } },
 };

@@ -2,3 +2,4 @@ pub mod TakenHead
 pub mod TakenBodies
 pub mod TakenNext
 pub mod Meaning
+pub mod SavedOf

@@ -1,3 +1,4 @@
 pub mod Form
 pub mod Reading
 pub mod Loading
+pub mod Saved

@@ -20,6 +20,8 @@ mod bodies;
 mod entries;
 mod head;
 mod loading;
+mod saved;
+mod writing;
 
 pub use entries::Entries;
 pub use loading::load;
@@ -28,6 +30,7 @@ use shared_machine::Step;
 use std::marker::Model;
 use thiserror::Error;
 use uas_log::FirstUnits;
+pub use writing::{write_end, write_head, write_refused, write_step, write_taken};
 
 /// A step of a log.
 #[derive(Debug, Drop)]

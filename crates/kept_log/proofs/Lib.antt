@@ -2,4 +2,5 @@ pub mod TakenHead
 pub mod TakenBodies
 pub mod TakenNext
 pub mod Meaning
+pub mod Growing
 pub mod SavedOf

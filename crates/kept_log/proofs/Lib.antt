@@ -3,4 +3,5 @@ pub mod TakenBodies
 pub mod TakenNext
 pub mod Meaning
 pub mod Growing
+pub mod Again
 pub mod SavedOf

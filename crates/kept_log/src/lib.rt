@@ -25,7 +25,7 @@ mod saved;
 mod writing;
 
 pub use entries::Entries;
-pub use laws::texts_go_on;
+pub use laws::{steps_are_read_again, texts_go_on};
 pub use loading::load;
 use log_text::{LogFault, SavedReply};
 use shared_machine::Step;

@@ -1,7 +1,12 @@
 -- What is told of a log's text.
-use Rattle.std.specs.Prelude.{◌≡◌, ℕ, zero, suc, ◌==◌, List, [], ◌++◌, length, filter, map, codes, None, Ok, Err}
+use Rattle.std.specs.Prelude.{◌≡◌, ℕ, zero, suc, ◌==◌, Bool, true, false, nat_eq, if◌then◌else◌, List, [], ◌∷◌, ◌++◌, length, filter, map, codes, Option, Some, None, is_some, Ok, Err}
+use Rattle.std.specs.List.{starts_with}
 use Rattle.std.specs.Fmt.{decimal}
 use Rattle.scsi_cmd.specs.declared.Reply.{Reply}
+use Rattle.kept_log.specs.declared.Loaded.{Loaded}
+use Rattle.kept_log.specs.Loading.{IsLoaded}
+use Rattle.kept_log.specs.Loading as kept
+use Rattle.kept_log.specs.Saved.{saved_of}
 use Rattle.log_text.specs.declared.MigrateFault.{MigrateFault}
 use Rattle.log_text.specs.declared.SavedReply.{SavedReply}
 use Rattle.log_text.specs.Loading.{Loads}
@@ -11,7 +16,8 @@ use Rattle.log_text.specs.Text.{Saved}
 use Rattle.log_replay.specs.declared.ReplayFault.{ReplayFault}
 use Rattle.log_replay.specs.Replaying.{IsReplayed, replayed_replies, steps_fault}
 use Rattle.audit_run.specs.declared.AuditFault.{AuditFault}
-use Rattle.audit_run.specs.declared.AuditFault.TheVariants.{File, TooLarge, Text, Old, Replay, Output, NoMemory}
+use Rattle.audit_run.specs.declared.KeptState.{KeptState}
+use Rattle.audit_run.specs.declared.AuditFault.TheVariants.{File, TooLarge, Text, Kept, Old, Replay, Output, NoMemory}
 
 -- LINES
 
@@ -36,40 +42,86 @@ audit_lines log (suc client) = audit_lines log client ++ client_line log client
 abbrev pub audit_text : Saved → List ℕ
 audit_text log = audit_lines log (length log.units)
 
+-- `beginning of N steps`, where there is no end
+abbrev pub beginning_line : ℕ → List ℕ
+beginning_line steps = codes "beginning of " ++ (decimal steps ++ codes " steps\n")
+
+abbrev pub beginning_text : KeptState → List ℕ
+beginning_text state = if state.has_end then [] else beginning_line state.steps
+
+-- `torn at byte N`, where a record was cut off
+abbrev pub torn_line : ℕ → List ℕ
+torn_line place = codes "torn at byte " ++ (decimal place ++ codes "\n")
+
+abbrev pub torn_text : Option ℕ → List ℕ
+torn_text None = []
+torn_text (Some place) = torn_line place
+
+-- what is told of a log that was kept as it grew; of another nothing
+abbrev pub state_text : Option KeptState → List ℕ
+state_text None = []
+state_text (Some state) = beginning_text state ++ torn_text state.torn
+
 -- ANSWERS
 
--- a text is a log's, which can be brought over to this one
+-- how a text of the third version begins: `UASLOG` and its number
+abbrev pub is_kept : List ℕ → Bool
+is_kept bytes = starts_with nat_eq bytes (0x55 ∷ 0x41 ∷ 0x53 ∷ 0x4C ∷ 0x4F ∷ 0x47 ∷ 0 ∷ 3 ∷ [])
+
+-- a text of the first or second version is a log's, which can be brought over to this one
 pub record IsLogOf (bytes : List ℕ) (log : Saved) : Type 0 where
   pub saved : Saved
+  pub older : is_kept bytes ≡ false
   pub read : whole_log bytes ≡ Ok saved
   pub brought : migrated saved ≡ Ok log
+
+-- what there is of a log that was kept as it grew
+abbrev pub state_of : Loaded → KeptState
+state_of loaded = record { steps = length loaded.log.entries; has_end = is_some loaded.log.ending; torn = loaded.torn }
+
+-- a text of the third version is a log's, of which there is so much
+pub record IsKeptLogOf (bytes : List ℕ) (log : Saved) (state : KeptState) : Type 0 where
+  pub loaded : Loaded
+  pub third : is_kept bytes ≡ true
+  pub read : IsLoaded bytes loaded
+  pub log_is : log ≡ saved_of loaded.log
+  pub state_is : state ≡ state_of loaded
+
+-- a text is a log's, of either kind
+abbrev pub IsFileLog : List ℕ → Saved → Option KeptState → Type 0
+IsFileLog bytes log None = IsLogOf bytes log
+IsFileLog bytes log (Some state) = IsKeptLogOf bytes log state
 
 -- A text that is answered: its log's steps are all due and accepted in their turn, its replies are those that come of them, and this is
 -- told.
 pub record IsAnswered (bytes told : List ℕ) : Type 0 where
   pub log : Saved
-  pub is : IsLogOf bytes log
+  pub state : Option KeptState
+  pub is : IsFileLog bytes log state
   pub steps : steps_fault log ≡ None
   pub replies : replayed_replies log ≡ log.replies
-  pub text : told ≡ audit_text log
+  pub text : told ≡ audit_text log ++ state_text state
 
 -- a log that can't be brought over
 pub record CantBeBrought (bytes : List ℕ) (fault : MigrateFault) : Type 0 where
   pub saved : Saved
+  pub older : is_kept bytes ≡ false
   pub read : whole_log bytes ≡ Ok saved
   pub because : Migrates (Err fault) (migrated saved)
 
 -- a log that isn't the replay of its steps
 pub record CantBeReplayed (bytes : List ℕ) (fault : ReplayFault) : Type 0 where
   pub log : Saved
-  pub is : IsLogOf bytes log
+  pub state : Option KeptState
+  pub is : IsFileLog bytes log state
   pub because : IsReplayed log (Err fault)
 
 -- What is wrong with a text: its form, what it has of clients, its steps or replies. Want of memory can always be.
 abbrev pub IsRefusedBy : List ℕ → AuditFault → Type 0
 IsRefusedBy bytes File = ⊥
 IsRefusedBy bytes TooLarge = ⊥
-IsRefusedBy bytes (Text fault) = Loads (Err fault) (whole_log bytes)
+IsRefusedBy bytes (Text fault) = (is_kept bytes ≡ false) × Loads (Err fault) (whole_log bytes)
+IsRefusedBy bytes (Kept fault) = (is_kept bytes ≡ true) × kept.IsRefusedBy bytes fault
 IsRefusedBy bytes (Old fault) = CantBeBrought bytes fault
 IsRefusedBy bytes (Replay fault) = CantBeReplayed bytes fault
 IsRefusedBy bytes Output = ⊥

@@ -3,7 +3,7 @@ use Rattle.std.specs.Prelude.{◌≡◌, ℕ, ◌<◌, ◌≤◌, Bool, IsTrue, 
 use Rattle.std.specs.Io.KnownBytes.{Appends, Keeps}
 use Rattle.audit_run.specs.declared.TheConstants.{MAX_LOG_BYTES}
 use Rattle.audit_run.specs.declared.AuditFault.{AuditFault}
-use Rattle.audit_run.specs.declared.AuditFault.TheVariants.{File, TooLarge, Text, Old, Replay, Output, NoMemory}
+use Rattle.audit_run.specs.declared.AuditFault.TheVariants.{File, TooLarge, Text, Kept, Old, Replay, Output, NoMemory}
 use Rattle.audit_run.specs.Audits.{IsAnswered, IsRefusedBy}
 use Rattle.audit_run.specs.Faults.{status_of}
 
@@ -19,6 +19,7 @@ abbrev pub IsFaulty : List ℕ → AuditFault → Type 0
 IsFaulty bytes File = ⊥
 IsFaulty bytes TooLarge = MAX_LOG_BYTES < length bytes
 IsFaulty bytes (Text fault) = IsRefusedBy bytes (Text fault)
+IsFaulty bytes (Kept fault) = IsRefusedBy bytes (Kept fault)
 IsFaulty bytes (Old fault) = IsRefusedBy bytes (Old fault)
 IsFaulty bytes (Replay fault) = IsRefusedBy bytes (Replay fault)
 IsFaulty bytes Output = ⊥
@@ -35,6 +36,7 @@ abbrev pub ReadGivesUp : Option (List ℕ) → Bool → Bool → AuditFault → 
 ReadGivesUp left is_there can_fail File = IsTrue can_fail
 ReadGivesUp left is_there can_fail TooLarge = IfSome left (λ bytes. MAX_LOG_BYTES < length bytes) × IsTrue is_there
 ReadGivesUp left is_there can_fail (Text fault) = ⊥
+ReadGivesUp left is_there can_fail (Kept fault) = ⊥
 ReadGivesUp left is_there can_fail (Old fault) = ⊥
 ReadGivesUp left is_there can_fail (Replay fault) = ⊥
 ReadGivesUp left is_there can_fail Output = ⊥
@@ -48,6 +50,8 @@ GivesUp left is_there can_read_fail can_write_fail old new TooLarge =
     IfSome left (λ bytes. MAX_LOG_BYTES < length bytes) × IsTrue is_there × Keeps old new
 GivesUp left is_there can_read_fail can_write_fail old new (Text fault) =
     IfSome left (λ bytes. IsRefusedBy bytes (Text fault)) × IsTrue is_there × Keeps old new
+GivesUp left is_there can_read_fail can_write_fail old new (Kept fault) =
+    IfSome left (λ bytes. IsRefusedBy bytes (Kept fault)) × IsTrue is_there × Keeps old new
 GivesUp left is_there can_read_fail can_write_fail old new (Old fault) =
     IfSome left (λ bytes. IsRefusedBy bytes (Old fault)) × IsTrue is_there × Keeps old new
 GivesUp left is_there can_read_fail can_write_fail old new (Replay fault) =

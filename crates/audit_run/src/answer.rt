@@ -1,14 +1,14 @@
 //! What is told of a log's text.
 ghost use Rattle.std.specs.Prelude.{◌≡◌, ◌<◌, ◌++◌, length, true, false, IfOk, IfErr, OnOk};
 ghost use Rattle.std.specs.String.{string_bytes};
-ghost use Rattle.log_text.specs.declared.Version.TheVariants.{Second};
 ghost use Rattle.log_replay.specs.Replaying.{IsReplayOf};
-ghost use Rattle.audit_run.specs.Audits.{IsAnswered, IsLogOf, IsRefusedBy, audit_lines, audit_text, client_line, line_text};
+ghost use Rattle.audit_run.specs.Audits.{IsAnswered, IsRefusedBy, audit_lines, audit_text, beginning_line, beginning_text, client_line, line_text, state_text, torn_line, torn_text};
 
 use crate::accounts::{is_true_of, replies_of};
-use crate::{AuditFault, Told};
+use crate::texts::file_log;
+use crate::{AuditFault, FileLog, KeptState, Told};
 use log_replay::replay_log;
-use log_text::{SavedLog, load_log, migrate};
+use log_text::SavedLog;
 use std::alloc::{AllocError, Global};
 use std::io::Write;
 use uas_work::Booked;
@@ -29,8 +29,8 @@ pub(crate) fn answered<W: Write>(
     ensures fault { IfErr result (IsRefusedBy bytes.now) }
     ensures quiet { shows_progress ≡ false → notes.new ≡ notes.old }
 {
-    let log = match log_in(alloc, bytes) {
-        Ok(log) => log,
+    let FileLog { log, state } = match file_log(alloc, bytes) {
+        Ok(found) => found,
         Err(fault) => return Err(fault),
     };
     note(&log, notes, shows_progress);
@@ -38,25 +38,9 @@ pub(crate) fn answered<W: Write>(
         Ok(booked) => booked,
         Err(fault) => return Err(AuditFault::Replay(fault)),
     };
-    match lines(alloc, &booked, &log) {
+    match told(alloc, &booked, &log, state) {
         Ok(answer) => Ok(answer),
         Err(_) => Err(AuditFault::NoMemory),
-    }
-}
-
-/// The log of a text, brought over to clients of 16 tags.
-fn log_in(alloc: Global, bytes: &[u8]) -> Result<SavedLog, AuditFault>
-    ensures ok { IfOk result (λ log. IsLogOf bytes.now log) }
-    ensures tags { IfOk result (λ log. log.version ≡ Second) }
-    ensures fault { IfErr result (IsRefusedBy bytes.now) }
-{
-    let saved = match load_log(alloc, bytes) {
-        Ok(saved) => saved,
-        Err(fault) => return Err(AuditFault::Text(fault)),
-    };
-    match migrate(alloc, &saved) {
-        Ok(log) => Ok(log),
-        Err(fault) => Err(AuditFault::Old(fault)),
     }
 }
 
@@ -69,6 +53,67 @@ fn note<W: Write>(log: &SavedLog, notes: &mut W, shows_progress: bool)
         return;
     }
     let _ = writeln!(notes, "replaying {steps} steps");
+}
+
+/// A line for each client, and what there is of the log. Asks that the bus is booked by the log.
+fn told(
+    alloc: Global,
+    booked: &Booked,
+    log: &SavedLog,
+    state: Option<KeptState>,
+) -> Result<Told, AllocError>
+    requires { IsReplayOf log.now booked.now }
+    ensures text { IfOk result (λ answer. answer.text.items ≡ audit_text log.now ++ state_text state) }
+    ensures audited { IfOk result (λ answer. answer.is_true ≡ true) }
+{
+    let mut answer = lines(alloc, booked, log)?;
+    let state = state_of(alloc, state)?;
+    answer.text.extend_from_slice(&state)?;
+    Ok(answer)
+}
+
+/// `beginning of N steps` of a log without an end, and `torn at byte N` where a record was cut off.
+fn state_of(alloc: Global, state: Option<KeptState>) -> Result<Vec<u8>, AllocError>
+    ensures { IfOk result (λ text. text.items ≡ state_text state) }
+{
+    let mut text = Vec::new(alloc);
+    if let Some(state) = state {
+        push_beginning(alloc, &mut text, state)?;
+        push_torn(alloc, &mut text, state)?;
+    }
+    Ok(text)
+}
+
+fn push_beginning(alloc: Global, text: &mut Vec<u8>, state: KeptState) -> Result<(), AllocError>
+    ensures { OnOk result (text.new.items ≡ text.old.items ++ beginning_text state) }
+{
+    if !state.has_end {
+        let line = beginning_line(alloc, state.steps)?;
+        text.extend_from_slice(line.as_bytes())?;
+    }
+    Ok(())
+}
+
+fn push_torn(alloc: Global, text: &mut Vec<u8>, state: KeptState) -> Result<(), AllocError>
+    ensures { OnOk result (text.new.items ≡ text.old.items ++ torn_text state.torn) }
+{
+    if let Some(place) = state.torn {
+        let line = torn_line(alloc, place)?;
+        text.extend_from_slice(line.as_bytes())?;
+    }
+    Ok(())
+}
+
+fn beginning_line(alloc: Global, steps: usize) -> Result<String, AllocError>
+    ensures { IfOk result (λ line. string_bytes line ≡ beginning_line steps) }
+{
+    format!(in alloc; "beginning of {steps} steps\n")
+}
+
+fn torn_line(alloc: Global, place: usize) -> Result<String, AllocError>
+    ensures { IfOk result (λ line. string_bytes line ≡ torn_line place) }
+{
+    format!(in alloc; "torn at byte {place}\n")
 }
 
 /// A line for each client. Asks that the bus is booked by the log.

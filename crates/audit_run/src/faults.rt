@@ -3,6 +3,7 @@ ghost use Rattle.std.specs.Prelude.{◌≡◌};
 ghost use Rattle.audit_run.specs.Faults.{status_of};
 
 use crate::{AuditFault, FAULT, NO_MEMORY};
+use kept_log::KeptFault;
 use log_replay::ReplayFault;
 use log_text::{LogFault, MigrateFault};
 use std::io::Write;
@@ -15,11 +16,13 @@ impl AuditFault {
         match self {
             AuditFault::NoMemory
             | AuditFault::Text(LogFault::NoMemory)
+            | AuditFault::Kept(KeptFault::NoMemory | KeptFault::Head(LogFault::NoMemory))
             | AuditFault::Old(MigrateFault::NoMemory)
             | AuditFault::Replay(ReplayFault::NoMemory) => NO_MEMORY,
             AuditFault::File
             | AuditFault::TooLarge
             | AuditFault::Text(_)
+            | AuditFault::Kept(_)
             | AuditFault::Old(_)
             | AuditFault::Replay(_)
             | AuditFault::Output => FAULT,
@@ -31,10 +34,20 @@ impl AuditFault {
         match self {
             AuditFault::File => "log: file",
             AuditFault::TooLarge => "log: too large",
-            AuditFault::Text(LogFault::BadHeader) => "log: BadHeader",
-            AuditFault::Text(LogFault::Truncated) => "log: Truncated",
-            AuditFault::Text(LogFault::BadField) => "log: BadField",
-            AuditFault::Text(LogFault::TrailingBytes) => "log: TrailingBytes",
+            AuditFault::Text(LogFault::BadHeader)
+            | AuditFault::Kept(KeptFault::Head(LogFault::BadHeader)) => "log: BadHeader",
+            AuditFault::Text(LogFault::Truncated)
+            | AuditFault::Kept(KeptFault::Head(LogFault::Truncated)) => "log: Truncated",
+            AuditFault::Text(LogFault::BadField)
+            | AuditFault::Kept(KeptFault::Head(LogFault::BadField)) => "log: BadField",
+            AuditFault::Text(LogFault::TrailingBytes)
+            | AuditFault::Kept(KeptFault::Head(LogFault::TrailingBytes)) => "log: TrailingBytes",
+            AuditFault::Kept(KeptFault::HeadSum) => "log: HeadSum",
+            AuditFault::Kept(KeptFault::WrongRecord(_)) => "log: WrongRecord",
+            AuditFault::Kept(KeptFault::BadBody(_)) => "log: BadBody",
+            AuditFault::Kept(KeptFault::TooMany(_)) => "log: TooMany",
+            AuditFault::Kept(KeptFault::WrongCount(_)) => "log: WrongCount",
+            AuditFault::Kept(KeptFault::BehindEnd(_)) => "log: BehindEnd",
             AuditFault::Old(MigrateFault::TooManyClients) => "log: TooManyClients",
             AuditFault::Replay(ReplayFault::NotDue(_)) => "log: NotDue",
             AuditFault::Replay(ReplayFault::Refused(_)) => "log: Refused",
@@ -42,6 +55,7 @@ impl AuditFault {
             AuditFault::Output => "script: file",
             AuditFault::NoMemory
             | AuditFault::Text(LogFault::NoMemory)
+            | AuditFault::Kept(KeptFault::NoMemory | KeptFault::Head(LogFault::NoMemory))
             | AuditFault::Old(MigrateFault::NoMemory)
             | AuditFault::Replay(ReplayFault::NoMemory) => "no memory",
         }
@@ -53,11 +67,26 @@ impl AuditFault {
             AuditFault::File =>
                 "the log can't be opened or read: look at its name and at its rights",
             AuditFault::TooLarge => "a log's file has at most 1073741824 bytes",
-            AuditFault::Text(LogFault::BadHeader) =>
-                "it doesn't begin as a log of 8 or 16 tags does",
-            AuditFault::Text(LogFault::Truncated) => "it ends within a field",
-            AuditFault::Text(LogFault::BadField) => "a field has a value that it can't have",
-            AuditFault::Text(LogFault::TrailingBytes) => "bytes follow its end",
+            AuditFault::Text(LogFault::BadHeader)
+            | AuditFault::Kept(KeptFault::Head(LogFault::BadHeader)) => {
+                "it doesn't begin as a log of 8 or 16 tags does"
+            }
+            AuditFault::Text(LogFault::Truncated)
+            | AuditFault::Kept(KeptFault::Head(LogFault::Truncated)) => "it ends within a field",
+            AuditFault::Text(LogFault::BadField)
+            | AuditFault::Kept(KeptFault::Head(LogFault::BadField)) => {
+                "a field has a value that it can't have"
+            }
+            AuditFault::Text(LogFault::TrailingBytes)
+            | AuditFault::Kept(KeptFault::Head(LogFault::TrailingBytes))
+            | AuditFault::Kept(KeptFault::BehindEnd(_)) => "bytes follow its end",
+            AuditFault::Kept(KeptFault::HeadSum) => "the checksum of its head is wrong",
+            AuditFault::Kept(KeptFault::WrongRecord(_)) => {
+                "a record has a wrong checksum, in front of a whole one"
+            }
+            AuditFault::Kept(KeptFault::BadBody(_)) => "a record is no step's and no end's",
+            AuditFault::Kept(KeptFault::TooMany(_)) => "a log has at most 4294967295 steps",
+            AuditFault::Kept(KeptFault::WrongCount(_)) => "its end counts the steps otherwise",
             AuditFault::Old(MigrateFault::TooManyClients) => {
                 "a log of clients of 8 tags has at most 15 of them, to be brought over"
             }
@@ -70,6 +99,7 @@ impl AuditFault {
                 "standard output can't be written: is it open, and is there room?",
             AuditFault::NoMemory
             | AuditFault::Text(LogFault::NoMemory)
+            | AuditFault::Kept(KeptFault::NoMemory | KeptFault::Head(LogFault::NoMemory))
             | AuditFault::Old(MigrateFault::NoMemory)
             | AuditFault::Replay(ReplayFault::NoMemory) => "the machine gave no memory for it",
         }

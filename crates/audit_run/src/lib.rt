@@ -5,17 +5,21 @@
 //! them exactly where the text is a log's, its steps are all due and accepted in their turn, and its replies are those that come of
 //! them. Each such client's audit is true: so no line says `false`, and the exit status 1 never comes.
 //!
+//! A log that was kept as it grew (kept_log) may have no end and a torn tail. Both are told behind the clients' lines.
+//!
 //! Else the first thing that is wrong is told in one line: of the file, of the text, of the steps, then of the replies
-//! (`IsRefusedBy`). It stands on log_audit and log_replay.
+//! (`IsRefusedBy`). It stands on log_audit, log_replay and kept_log.
 #![tactic(auto)]
 
 mod accounts;
 mod answer;
 mod faults;
 mod run;
+mod texts;
 
+use kept_log::KeptFault;
 use log_replay::ReplayFault;
-use log_text::{LogFault, MigrateFault};
+use log_text::{LogFault, MigrateFault, SavedLog};
 pub use run::run_audit;
 
 /// The most bytes of a log's file.
@@ -46,6 +50,8 @@ pub enum AuditFault {
     TooLarge,
     /// The file has no log's text.
     Text(LogFault),
+    /// The file of a log that was kept has no such text.
+    Kept(KeptFault),
     /// The log can't be brought over.
     Old(MigrateFault),
     /// The log isn't the replay of its own steps.
@@ -54,6 +60,24 @@ pub enum AuditFault {
     Output,
     /// Want of memory.
     NoMemory,
+}
+
+/// A log of a file, of clients of 16 tags.
+#[derive(Debug, Drop)]
+pub(crate) struct FileLog {
+    pub(crate) log: SavedLog,
+    /// What there is of it, where it was kept as it grew.
+    pub(crate) state: Option<KeptState>,
+}
+
+/// What there is of a log that was kept as it grew.
+#[derive(Clone, Copy, Debug, PartialEq, Eq)]
+pub(crate) struct KeptState {
+    /// How many steps it has, refused ones too.
+    pub(crate) steps: usize,
+    pub(crate) has_end: bool,
+    /// Where the beginning of a record stands that was cut off.
+    pub(crate) torn: Option<usize>,
 }
 
 /// What is told of a log.

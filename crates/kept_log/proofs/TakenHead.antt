@@ -22,7 +22,7 @@ pub name_text : field 6 name_number ≡ codes "UASLOG"
 unfolding field
 name_text = refl
 
-field_len : (len number : ℕ) → length (field len number) ≡ len
+pub field_len : (len number : ℕ) → length (field len number) ≡ len
 unfolding field
 field_len len number = length-bytes_high_first len number
 

@@ -19,11 +19,13 @@
 mod bodies;
 mod entries;
 mod head;
+mod laws;
 mod loading;
 mod saved;
 mod writing;
 
 pub use entries::Entries;
+pub use laws::{steps_are_read_again, texts_go_on};
 pub use loading::load;
 use log_text::{LogFault, SavedReply};
 use shared_machine::Step;

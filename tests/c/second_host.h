@@ -1,6 +1,6 @@
-/* A second implementation of the commands that hosts send, written from their tables (SPC, SBC; the fields, pages and refusals of
- * docs/FORMATS.md), and of the profile's nine beside them. host_cdbs.c compares the library with it. It is a table of commands: a length, the
- * bits of each byte that are looked at, and what is done; all else is read off these. */
+/* A second implementation of the commands that hosts send, and of the profile's nine, written from tables of their fields, refusals and pages
+ * (SPC, SBC) and not from the library, with which host_cdbs.c compares it. It is a table of commands: a length, and the bits of each byte that
+ * are looked at; what is done with them is a function for each kind. */
 #ifndef UAS_TESTS_SECOND_HOST_H
 #define UAS_TESTS_SECOND_HOST_H
 

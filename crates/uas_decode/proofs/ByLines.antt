@@ -61,6 +61,15 @@ behind (byte ∷ rest) line clear = one_byte byte rest line (is_feed byte) refl 
 pub decoded-by_lines : (bytes : List ℕ) → decoded_from [] bytes ≡ decoded bytes
 decoded-by_lines bytes = behind bytes [] open-none
 
+-- a whole text that was taken in, where nothing was before it, and its last line
+pub decoded-whole : (bytes text line first begun after : List ℕ) → first ≡ [] → begun ≡ []
+    → ((rest : List ℕ) → first ++ decoded_from begun (bytes ++ rest) ≡ text ++ decoded_from line rest) → after ≡ text ++ answered line
+    → after ≡ decoded bytes
+unfolding decoded_from
+decoded-whole bytes text line first begun after no_text no_line goes is =
+    is ∙ (sym (goes []) ∙ (ap (λ l. l ++ decoded_from begun (bytes ++ [])) no_text
+    ∙ (ap (λ l. decoded_from l (bytes ++ [])) no_line ∙ (ap (decoded_from []) (append-nil bytes) ∙ decoded-by_lines bytes))))
+
 -- REFUSALS
 
 abbrev any_refused : List ℕ → Bool

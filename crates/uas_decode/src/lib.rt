@@ -18,7 +18,7 @@ mod named;
 mod printed;
 mod run;
 
-pub use run::{DONE, FAULT, NO_MEMORY, REFUSED, run_decode};
+pub use run::{DONE, FAULT, NO_MEMORY, REFUSED, decoded, run_decode};
 use scsi_cmd::{Op, Sense};
 use stream_array::Dequeue;
 use uas_iu::{Iu, IuFault};

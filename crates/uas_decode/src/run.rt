@@ -2,7 +2,7 @@
 
 ghost use Rattle.std.specs.Prelude.{◌≡◌, ◌⊎◌, ℕ, List, [], ◌∷◌, ◌≤◌, ◌++◌, ◌||◌, IsTrue, IfOk, OnOk, IfSome};
 ghost use Rattle.std.specs.Io.KnownBytes.{Appends, IsAtEnd, Keeps};
-ghost use Rattle.uas_decode.specs.Runs.{Begins, Decodes, decoded_from, refused_from, status_of};
+ghost use Rattle.uas_decode.specs.Runs.{Begins, Decodes, decoded, decoded_from, refused_from, status_of};
 
 use crate::printed::push_answered;
 use byte_io::{Sink, Source, StreamFault};
@@ -66,7 +66,22 @@ struct Lines {
 }
 
 impl Lines {
+    ghost use Rattle.std.specs.Prelude.{false};
     ghost use Rattle.uas_decode.specs.Printed.{answered, is_refused};
+
+    /// Nothing that was read.
+    fn new(alloc: Global) -> Lines
+        ensures line { result.line.items ≡ [] }
+        ensures text { result.text.items ≡ [] }
+        ensures refused { result.refused ≡ false }
+    {
+        Lines {
+            alloc,
+            line: Vec::new(alloc),
+            text: Vec::new(alloc),
+            refused: false,
+        }
+    }
 
     /// Takes the next bytes in.
     fn take(&mut self, bytes: &[u8]) -> Result<(), AllocError>
@@ -125,6 +140,16 @@ impl Lines {
     }
 }
 
+/// Each line of a text with what its bytes say behind it: what [`run_decode`] prints of that text.
+pub fn decoded(alloc: Global, bytes: &[u8]) -> Result<Vec<u8>, AllocError>
+    ensures { IfOk result (λ text. text.items ≡ decoded bytes.now) }
+{
+    let mut lines = Lines::new(alloc);
+    lines.take(bytes)?;
+    lines.end()?;
+    Ok(lines.text)
+}
+
 /// Decodes all of `input`, and answers whether a line was refused.
 fn decode<S: Source, O: Sink>(
     alloc: Global,
@@ -139,12 +164,7 @@ fn decode<S: Source, O: Sink>(
     ensures memory { result ≡ Err StreamFault.NoMemory
         → IfSome (S.left input.old) (λ bytes. Begins bytes (O.written output.old) (O.written output.new)) }
 {
-    let mut lines = Lines {
-        alloc,
-        line: Vec::new(alloc),
-        text: Vec::new(alloc),
-        refused: false,
-    };
+    let mut lines = Lines::new(alloc);
     let mut chunk = [0; CHUNK_BYTES];
     for _ in 0..u64::MAX {
         let count = input.read(&mut chunk).map_err(|_| StreamFault::File)?;

@@ -1,0 +1,2 @@
+pub mod Embedded
+pub mod Page

@@ -1,0 +1,52 @@
+//! A text inside a string of JSON that stands in a page.
+
+ghost use Rattle.std.specs.Prelude.{◌≡◌, ◌++◌, OnOk};
+ghost use Rattle.page_text.specs.Embedded.{embedded, escaped, is_plain};
+
+use std::alloc::{AllocError, Global};
+
+/// Adds bytes as they stand inside a string.
+#[tactic(auto, unfolding(crate::specs::Embedded::embedded))]
+pub(crate) fn push_embedded(
+    alloc: Global,
+    text: &mut Vec<u8>,
+    bytes: &[u8],
+) -> Result<(), AllocError>
+    ensures { OnOk result (text.new.items ≡ text.old.items ++ embedded bytes.now) }
+{
+    for byte in bytes {
+        push_escaped(alloc, text, *byte)?;
+    }
+    Ok(())
+}
+
+/// Adds a byte as it stands inside a string (RFC 8259, 7).
+#[tactic(auto, unfolding(crate::specs::Embedded::escaped))]
+fn push_escaped(alloc: Global, text: &mut Vec<u8>, byte: u8) -> Result<(), AllocError>
+    ensures { OnOk result (text.new.items ≡ text.old.items ++ escaped byte) }
+{
+    if is_plain(byte) {
+        text.push(byte)?;
+        Ok(())
+    } else if byte == b'\n' {
+        text.extend_from_slice(b"\\n")
+    } else {
+        text.extend_from_slice(b"\\u00")?;
+        let digits = hex::encode(alloc, [byte])?;
+        text.extend_from_slice(digits.as_bytes())
+    }
+}
+
+/// Whether a byte is printed and ends neither a string nor an element.
+#[tactic(auto, unfolding(crate::specs::Embedded::is_plain))]
+fn is_plain(byte: u8) -> bool
+    ensures { result ≡ is_plain byte }
+{
+    32 <= byte
+        && byte <= 126
+        && byte != b'"'
+        && byte != b'\\'
+        && byte != b'&'
+        && byte != b'<'
+        && byte != b'>'
+}

@@ -1,0 +1,83 @@
+//! The page of a trace.
+
+ghost use Rattle.std.specs.Prelude.{◌≡◌, ◌++◌, IfOk, OnOk};
+ghost use Rattle.page_text.specs.Page.{data_of, head, number, numbers, page_of, tail};
+
+use crate::embedding::push_embedded;
+use crate::markup::{BODY, HEAD, STYLE};
+use crate::script_run::SCRIPT_RUN;
+use crate::script_view::SCRIPT_VIEW;
+use std::alloc::{AllocError, Global};
+use uas_decode::decoded;
+use uas_profile::{EVENT_RING_PLACES, TAGS};
+
+/// The page of a trace of so many clients.
+#[tactic(auto, unfolding(crate::specs::Page::page_of))]
+pub fn page(alloc: Global, clients: u8, trace: &[u8]) -> Result<Vec<u8>, AllocError>
+    ensures { IfOk result (λ page. page.items ≡ page_of clients trace.now) }
+{
+    let mut page = Vec::new(alloc);
+    push_head(&mut page)?;
+    push_data(alloc, &mut page, clients, trace)?;
+    push_tail(&mut page)?;
+    Ok(page)
+}
+
+/// Adds what stands before the data: the style and the elements.
+#[tactic(auto, unfolding(crate::specs::Page::head))]
+fn push_head(page: &mut Vec<u8>) -> Result<(), AllocError>
+    ensures { OnOk result (page.new.items ≡ page.old.items ++ head) }
+{
+    page.extend_from_slice(HEAD.as_bytes())?;
+    page.extend_from_slice(STYLE.as_bytes())?;
+    page.extend_from_slice(BODY.as_bytes())?;
+    Ok(())
+}
+
+/// Adds a trace as data, with what its bytes say.
+#[tactic(auto, unfolding(crate::specs::Page::data_of))]
+fn push_data(alloc: Global, page: &mut Vec<u8>, clients: u8, trace: &[u8]) -> Result<(), AllocError>
+    ensures { OnOk result (page.new.items ≡ page.old.items ++ data_of clients trace.now) }
+{
+    push_numbers(alloc, page, clients)?;
+    page.extend_from_slice(b",\"text\":\"")?;
+    let text = decoded(alloc, trace)?;
+    push_embedded(alloc, page, &text)?;
+    page.extend_from_slice(b"\"}")
+}
+
+/// Adds the numbers that the script asks for.
+#[tactic(auto, unfolding(crate::specs::Page::numbers))]
+fn push_numbers(alloc: Global, page: &mut Vec<u8>, clients: u8) -> Result<(), AllocError>
+    ensures { OnOk result (page.new.items ≡ page.old.items ++ numbers clients) }
+{
+    push_number(alloc, page, "{\"clients\":", usize::from(clients))?;
+    push_number(alloc, page, ",\"tags\":", TAGS)?;
+    push_number(alloc, page, ",\"events\":", EVENT_RING_PLACES)?;
+    Ok(())
+}
+
+/// Adds a number behind its name.
+#[tactic(auto, unfolding(crate::specs::Page::number))]
+fn push_number(
+    alloc: Global,
+    page: &mut Vec<u8>,
+    name: &str,
+    value: usize,
+) -> Result<(), AllocError>
+    ensures { OnOk result (page.new.items ≡ page.old.items ++ number name.now value) }
+{
+    page.extend_from_slice(name.as_bytes())?;
+    let digits = format!(in alloc; "{value}")?;
+    page.extend_from_slice(digits.as_bytes())
+}
+
+/// Adds what stands behind the data: the script.
+#[tactic(auto, unfolding(crate::specs::Page::tail))]
+fn push_tail(page: &mut Vec<u8>) -> Result<(), AllocError>
+    ensures { OnOk result (page.new.items ≡ page.old.items ++ tail) }
+{
+    page.extend_from_slice(SCRIPT_RUN.as_bytes())?;
+    page.extend_from_slice(SCRIPT_VIEW.as_bytes())?;
+    Ok(())
+}

@@ -10,7 +10,8 @@ ghost use Rattle.decode_program.specs.Words.{asked_by, asked_of, is_word, own_wo
 
 use byte_io::{Reader, Writer};
 use decode_help::DECODE_HELP;
-use std::io::Write;
+use line_colours::Painted;
+use std::io::{IsTerminal, Write};
 use std::process::ExitCode;
 use std::{env, io};
 use uas_decode::{DONE, FAULT, NO_MEMORY, run_decode};
@@ -92,13 +93,18 @@ fn word_at(words: &[String], place: usize) -> Option<&str>
     }
 }
 
-/// Decodes standard input to standard output, and answers the exit status.
+/// Decodes standard input to standard output, in colours on a terminal, and answers the exit status.
 fn run(rt: &HostRuntime) -> u8
     ensures { (result ≤ 1) ⊎ ((result ≡ 3) ⊎ (result ≡ 4)) }
 {
     // a standard output that is closed takes nothing
     let is_output_open = rt.stdout().write(b"").is_ok();
-    let mut output = is_output_open.then(|| Writer(rt.stdout()));
+    let is_coloured = rt.stdout().is_terminal();
+    let mut output = is_output_open.then(|| Painted::new(
+        rt.alloc(),
+        Writer(rt.stdout()),
+        is_coloured,
+    ));
     run_decode(
         rt.alloc(),
         &mut Reader(rt.reader()),
@@ -114,7 +120,7 @@ fn help(rt: &HostRuntime) -> u8
     let mut output = rt.stdout();
     let written = writeln!(
         output,
-        "Reads lines of bytes from standard input and tells what each says\n\nUsage: uasdisk decode\n\nOptions:\n  -h, --help  Print help\n\n{DECODE_HELP}"
+        "Reads lines of bytes from standard input and tells what each says\n\nUsage: uasdisk decode [OPTIONS]\n\nOptions:\n      --color <WHEN>  Colours: always, auto (on a terminal alone, as without this option) or never\n  -h, --help          Print help\n\n{DECODE_HELP}"
     );
     if written.is_ok() && output.flush().is_ok() {
         DONE

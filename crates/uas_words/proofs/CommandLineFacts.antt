@@ -2,9 +2,10 @@
 use Rattle.std.proofs.Common.{◌≡◌, ◌∙◌, ◌&&◌, Bool, true, false, not, List, [], ◌∷◌, Option, Some, None, Result, option_map, is_some, if◌then◌else◌}
 use Rattle.std.proofs.Common.{refl, ap, sym, subst, inl, inr}
 use Rattle.std.specs.Prelude.{codes, option_and_then}
-use Rattle.clap.specs.Words.{App, Row, FailsBy, HasKind, HasMatchesOf, IsAmong, Kinds, Text, fault_of, is_simple, is_simple_and_free, subcommand_of}
+use Rattle.clap.specs.Words.{App, Row, AddsSubcommand, FailsBy, app_of, with_subcommand, HasKind, HasMatchesOf, IsAmong, Kinds, Text, fault_of, is_simple, is_simple_and_free, subcommand_of}
 use Rattle.clap.specs.Words.{subcommand_rows_of}
 use Rattle.clap.specs.Kinds.{or_else}
+use Rattle.clap.specs.declared.builder.command.Command.{Command}
 use Rattle.clap.specs.declared.error.Error.{Error}
 use Rattle.clap.specs.declared.error.kind.ErrorKind.{ErrorKind}
 use Rattle.clap.specs.declared.error.kind.ErrorKind.TheVariants.{ValueValidation}
@@ -13,11 +14,16 @@ use Rattle.clap.proofs.OnLiterals.{clap_on_literals}
 use Rattle.uas_words.specs.CommandLine.{Asked, asked_for, asked_in, asked_of, blocks_of, file_of, info, make, program_app, refusals}
 
 -- the third of the tests that a plain command passes
-pub third_fails : (a b c d : Bool) → (a && (b && (not c && d))) ≡ true → c ≡ false
+third_fails : (a b c d : Bool) → (a && (b && (not c && d))) ≡ true → c ≡ false
 third_fails false b c d passes = cc
 third_fails true false c d passes = cc
 third_fails true true false d passes = refl
 third_fails true true true d passes = cc
+
+-- what a command is with a plain subcommand
+pub with_plain : (old sub new : Command) → (app_of sub).top.is_plain ≡ true → AddsSubcommand old sub new
+    → app_of new ≡ with_subcommand (app_of old) (app_of sub).top
+with_plain old sub new plain adds = adds.shape (third_fails _ _ _ _ plain)
 
 -- a name and what stands with it, of what is found by both
 pub both_found : {X Y A B : Type 0} (f : X → A) (h : X → A × B) → ((x : X) → f x ≡ (h x).0) → (o : Option X) (n : Y → A) (w : Y → B) (r : Option Y)

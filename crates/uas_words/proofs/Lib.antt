@@ -6,4 +6,5 @@ mod Levels
 mod PlainScripts
 mod PlainFiles
 mod PlainPages
+mod PlainTraces
 mod PlainLines

@@ -19,8 +19,9 @@ use Rattle.uas_words.specs.CommandLine.{Asked, AsksPlainly, AsksWork, asked_by, 
 use Rattle.uas_words.specs.CommandLine.{audit, capture, decode, draw, dump, fill, info, make, page, replay, trace, work}
 use Rattle.uas_words.proofs.Levels.{Enters, level_nothing}
 use Rattle.uas_words.proofs.PlainFiles.{audit_asked, capture_asked}
-use Rattle.uas_words.proofs.PlainScripts.{replay_is_script, script_asked, trace_is_script}
+use Rattle.uas_words.proofs.PlainScripts.{replay_is_script, script_asked}
 use Rattle.uas_words.proofs.PlainPages.{draw_asked, page_asked}
+use Rattle.uas_words.proofs.PlainTraces.{trace_asked}
 use Rattle.uas_words.proofs.PlainNumbers.{IsIn, not-true, number_is_in}
 use Rattle.uas_words.proofs.CommandLineFacts.{nothing_refused}
 use Rattle.uas_words.proofs.WalkSteps.{fault-bad, fault-end, fault-plain, fault-value, walked-bad, walked-plain, walked-value}
@@ -211,7 +212,7 @@ work_asked clients rounds (Some (d ∷ ds)) words plain =
 -- the program asks for what its words plainly ask for, and refuses nothing
 pub plain_asks : (asked : Asked) (words : List Text) → AsksPlainly asked words → (asked_for words ≡ Some asked) × (fault_of program_app words ≡ [])
 plain_asks (replay clients blocks bad) words plain = script_asked (codes "replay") replay replay_is_script clients blocks bad words plain
-plain_asks (trace clients blocks bad) words plain = script_asked (codes "trace") trace trace_is_script clients blocks bad words plain
+plain_asks (trace clients blocks bad) words plain = trace_asked clients blocks bad words plain
 plain_asks (work clients rounds log) words plain = work_asked clients rounds log words plain
 plain_asks decode words plain = (ap asked_for plain.1 ∙ decode_asks plain.0, ap (fault_of program_app) plain.1 ∙ decode_passes plain.0)
 plain_asks (make [] blocks) words plain = absurd (true≢false (sym plain.3))

@@ -1,4 +1,4 @@
--- What the plain command lines ask for that run a script: replay and trace.
+-- What the plain command lines ask for that replay a script.
 use Rattle.std.proofs.Common.{◌≡◌, ◌∙◌, ℕ, ◌==◌, false, List, [], ◌∷◌, Option, Some, None}
 use Rattle.std.proofs.Common.{option_map, refl, ap, ap₂, sym, arith}
 use Rattle.std.specs.Prelude.{codes, option_and_then}
@@ -12,7 +12,7 @@ use Rattle.std.specs.Option.{option_map_or}
 use Rattle.std.specs.Prelude.{find}
 use Rattle.uas_profile.specs.declared.TheConstants.{MAX_CLIENTS}
 use Rattle.byte_io.specs.Words.{number_in}
-use Rattle.uas_words.specs.CommandLine.{Asked, AsksScript, asked_for, asked_in, program_app, replay, script_of, trace}
+use Rattle.uas_words.specs.CommandLine.{Asked, AsksScript, asked_for, asked_in, program_app, replay, script_of}
 use Rattle.uas_words.proofs.Levels.{Enters, level_nothing}
 use Rattle.uas_words.proofs.PlainNumbers.{IsIn, number_is_in}
 use Rattle.uas_words.proofs.WalkSteps.{fault-bad, fault-end, fault-plain, fault-value, walked-bad, walked-plain, walked-value}
@@ -21,7 +21,7 @@ use Rattle.uas_words.proofs.WalkSteps.{fault-bad, fault-end, fault-plain, fault-
 abbrev pub asked_by_numbers : (ℕ → ℕ → Option ℕ → Asked) → Option ℕ → Option ℕ → Option (Option ℕ) → Option Asked
 asked_by_numbers run clients blocks bad = option_and_then (λ c. option_and_then (λ b. option_map (run c b) bad) blocks) clients
 
--- A subcommand of this name that runs a script, built. `replay` and `trace` differ in their names alone.
+-- A subcommand of this name that runs a script and has no option but `--bad`, built.
 abbrev pub script_shape : Text → Shape
 script_shape name = record (option_map_or (λ s. s) (find (λ s. answers_to (codes "replay") (label_of s)) (built program_app).subs) (built program_app).top) {
   name = name;
@@ -124,10 +124,6 @@ replay_enters : EntersScript (codes "replay")
 unfolding asked_for clap_on_literals
 replay_enters = (λ a b p. (refl, refl), λ a b c d p. (refl, refl))
 
-trace_enters : EntersScript (codes "trace")
-unfolding asked_for clap_on_literals
-trace_enters = (λ a b p. (refl, refl), λ a b c d p. (refl, refl))
-
 -- a subcommand of this name runs a script, and asks for this run
 pub record IsScript (name : Text) (run : ℕ → ℕ → Option ℕ → Asked) : Type 0 where
   pub enters : EntersScript name
@@ -136,9 +132,6 @@ pub record IsScript (name : Text) (run : ℕ → ℕ → Option ℕ → Asked) :
 
 pub replay_is_script : IsScript (codes "replay") replay
 replay_is_script = record { enters = replay_enters; asks = λ words. refl; faults = λ words. refl }
-
-pub trace_is_script : IsScript (codes "trace") trace
-trace_is_script = record { enters = trace_enters; asks = λ words. refl; faults = λ words. refl }
 
 -- its plain words ask for the run, and are not refused
 pub script_asked : (name : Text) (run : ℕ → ℕ → Option ℕ → Asked) → IsScript name run → (clients blocks : ℕ) (bad : Option ℕ) (words : List Text)

@@ -1,5 +1,5 @@
 -- What a command line asks for: the subcommands with their arguments, and what is read of each.
-use Rattle.std.specs.Prelude.{◌≡◌, ◌≢◌, ◌≤◌, ◌⊎◌, ◌==◌, ℕ, Bool, not, pos, true, false, List, [], ◌∷◌, Option, Some, None, is_some, option_map}
+use Rattle.std.specs.Prelude.{◌≡◌, ◌≢◌, ◌≤◌, ◌⊎◌, ◌==◌, ◌||◌, ℕ, Bool, not, pos, true, false, List, [], ◌∷◌, Option, Some, None, is_some, option_map}
 use Rattle.std.specs.Prelude.{option_and_then, if◌then◌else◌, codes}
 use Rattle.std.specs.Str.{bytes_eq}
 use Rattle.std.specs.Str.Parse.{without_leading_plus}
@@ -117,6 +117,22 @@ is_true (Some word) = bytes_eq word (codes "true")
 abbrev pub has_page : List Row → Bool
 has_page rows = is_true (first_of (codes "page") rows)
 
+-- `--color WHEN` may stand or not, and WHEN is `always`, `auto` or `never`. It changes how lines are shown, and not what is asked for.
+abbrev pub is_when : Option Text → Bool
+is_when None = true
+is_when (Some word) = bytes_eq word (codes "always") || (bytes_eq word (codes "auto") || bytes_eq word (codes "never"))
+
+abbrev pub has_when : List Row → Bool
+has_when rows = is_when (first_of (codes "color") rows)
+
+-- CLIENTS BLOCKS [--bad LBA] [--color WHEN]
+abbrev pub trace_of : List Row → Option Asked
+trace_of rows = if has_when rows then script_of trace rows else None
+
+-- [--color WHEN]
+abbrev pub decode_of : List Row → Option Asked
+decode_of rows = if has_when rows then Some decode else None
+
 -- CLIENTS BLOCKS [--page] [--bad LBA]
 abbrev pub draw_of : List Row → Option Asked
 draw_of rows = script_of (if has_page rows then page else draw) rows
@@ -156,9 +172,9 @@ asked_of name rows =
     if bytes_eq name (codes "replay")
     then script_of replay rows
     else (if bytes_eq name (codes "trace")
-    then script_of trace rows
+    then trace_of rows
     else (if bytes_eq name (codes "work") then work_of rows
-    else (if bytes_eq name (codes "decode") then Some decode
+    else (if bytes_eq name (codes "decode") then decode_of rows
     else (if bytes_eq name (codes "make")
     then option_and_then (λ file. option_map (make file) (blocks_of rows)) (file_of rows)
     else (if bytes_eq name (codes "info") then option_map info (file_of rows)
@@ -222,6 +238,14 @@ bad_rule = record (new_rule (codes "bad")) {
 abbrev pub page_rule : Rule
 page_rule = record (new_rule (codes "page")) { long = Some (codes "page"); action = Some SetTrue }
 
+-- the option `--color WHEN`
+abbrev pub color_rule : Rule
+color_rule = record (new_rule (codes "color")) {
+  long = Some (codes "color");
+  action = Some Set;
+  value_names = 1;
+}
+
 -- a subcommand that runs a script: CLIENTS BLOCKS [--bad LBA]
 abbrev pub with_disks : App → App
 with_disks app = with_rule (with_rule (with_rule app clients_rule) blocks_rule) bad_rule
@@ -229,16 +253,17 @@ with_disks app = with_rule (with_rule (with_rule app clients_rule) blocks_rule) 
 abbrev pub replay_app : App
 replay_app = with_disks (new_app (codes "replay"))
 
+-- trace CLIENTS BLOCKS [--bad LBA] [--color WHEN]
 abbrev pub trace_app : App
-trace_app = with_disks (new_app (codes "trace"))
+trace_app = with_rule (with_disks (new_app (codes "trace"))) color_rule
 
 -- work CLIENTS ROUNDS [LOG]
 abbrev pub work_app : App
 work_app = with_rule (with_rule (with_rule (new_app (codes "work")) clients_rule) rounds_rule) log_rule
 
--- decode
+-- decode [--color WHEN]
 abbrev pub decode_app : App
-decode_app = new_app (codes "decode")
+decode_app = with_rule (new_app (codes "decode")) color_rule
 
 -- make FILE BLOCKS
 abbrev pub make_app : App

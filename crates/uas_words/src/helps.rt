@@ -39,6 +39,9 @@ Examples:
   uasdisk work 4 3
   uasdisk work 4 3 work.log";
 
+pub(crate) const COLOR_HELP: &str =
+    "Colours: always, auto (on a terminal alone, as without this option) or never";
+
 pub(crate) const PAGE_HELP: &str =
     "Write a page (HTML) that shows the run step by step, in place of the picture";
 

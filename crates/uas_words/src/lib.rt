@@ -12,7 +12,7 @@ ghost use Rattle.std.specs.String.{string_bytes};
 ghost use Rattle.clap.specs.Words.{FailsBy, app_of, found_of, kind_of, one_of, rows_of, subcommand_rows_of};
 ghost use Rattle.byte_io.specs.Disks.{AreBlocks, AreClients, AreDisks};
 ghost use Rattle.uas_words.specs.Options.{IsBlock, IsInRange, IsMoved};
-ghost use Rattle.uas_words.specs.CommandLine.{audit, audit_app, capture_app, capture_of, draw_app, draw_of, has_page};
+ghost use Rattle.uas_words.specs.CommandLine.{audit, audit_app, capture_app, capture_of, decode_of, draw_app, draw_of, has_page, has_when, is_when, trace_of};
 ghost use Rattle.uas_words.specs.CommandLine.{Asked, AsksPlainly, asked_by, asked_for, asked_in, bad_of, blocks_of, clients_of, decode_app};
 ghost use Rattle.uas_words.specs.CommandLine.{dump_app, dump_of, extent_of, file_of, fill_app, fill_of, info_app, log_of, make_app, number_of};
 ghost use Rattle.uas_words.specs.CommandLine.{program_app, refusals, replay_app, script_of, top_app, trace_app, with_disks, with_extent, work_app, work_of};
@@ -21,13 +21,14 @@ mod arguments;
 mod helps;
 mod laws;
 
-use arguments::{bad, blocks, file, log, number, page, saved_log};
+use arguments::{bad, blocks, color, file, log, number, page, saved_log};
 use byte_io::{Disks, Extent};
 use clap::error::ErrorKind;
 use clap::{ArgMatches, Command, Error};
 use decode_help::DECODE_HELP;
 use helps::{
-    BYTE_HELP, DRAW_HELP, LBA_HELP, LOG_HELP, PAGE_HELP, ROUNDS_HELP, SCRIPT_HELP, WORK_HELP,
+    BYTE_HELP, COLOR_HELP, DRAW_HELP, LBA_HELP, LOG_HELP, PAGE_HELP, ROUNDS_HELP, SCRIPT_HELP,
+    WORK_HELP,
 };
 pub use laws::plain_lines_ask;
 use std::alloc::{AllocError, Global};
@@ -132,7 +133,10 @@ fn run_by<'a>(mut command: Command<'a>, words: &'a [String]) -> Result<Run<'a>, 
     let matches = command.try_get_matches_from_mut(words)?;
     match asked(&matches) {
         Some(run) => Ok(run),
-        None => Err(command.error(ErrorKind::ValueValidation, "a word is missing")?),
+        None => Err(command.error(
+            ErrorKind::ValueValidation,
+            "a word is missing, or --color has another than always, auto and never",
+        )?),
     }
 }
 
@@ -143,7 +147,7 @@ fn command<'a>(alloc: Global) -> Result<Command<'a>, AllocError>
         .subcommand(replay_command(alloc)?)?
         .subcommand(trace_command(alloc)?)?
         .subcommand(work_command(alloc)?)?
-        .subcommand(decode_command(alloc))?
+        .subcommand(decode_command(alloc)?)?
         .subcommand(make_command(alloc)?)?
         .subcommand(info_command(alloc)?)?
         .subcommand(dump_command(alloc)?)?
@@ -179,7 +183,7 @@ fn trace_command<'a>(alloc: Global) -> Result<Command<'a>, AllocError>
     let command = Command::new(alloc, "trace")
         .about("Runs a script as replay does, and prints each step with the bytes that it wrote")
         .after_help("Example:\n  uasdisk trace 1 100 < examples/first-reply.script");
-    add_disks(alloc, command)
+    add_disks(alloc, command)?.arg(color(alloc, COLOR_HELP))
 }
 
 /// Adds what tells the disks that a script runs on.
@@ -206,12 +210,13 @@ fn work_command<'a>(alloc: Global) -> Result<Command<'a>, AllocError>
         .arg(log(alloc, LOG_HELP))
 }
 
-fn decode_command<'a>(alloc: Global) -> Command<'a>
-    ensures { app_of result ≡ decode_app }
+fn decode_command<'a>(alloc: Global) -> Result<Command<'a>, AllocError>
+    ensures { IfOk result (λ command. app_of command ≡ decode_app) }
 {
     Command::new(alloc, "decode")
         .about("Reads lines of bytes from standard input and tells what each says")
         .after_help(DECODE_HELP)
+        .arg(color(alloc, COLOR_HELP))
 }
 
 fn make_command<'a>(alloc: Global) -> Result<Command<'a>, AllocError>
@@ -299,9 +304,9 @@ fn asked<'a>(matches: &ArgMatches<'a>) -> Option<Run<'a>>
     let (name, words) = matches.subcommand()?;
     match name {
         "replay" => Some(Run::Replay(disks_in(words)?)),
-        "trace" => Some(Run::Trace(disks_in(words)?)),
+        "trace" => trace_in(words),
         "work" => work_in(words),
-        "decode" => Some(Run::Decode),
+        "decode" => decode_in(words),
         "make" => {
             let file = words.get_str("FILE")?;
             let blocks = blocks_in(words)?;
@@ -334,6 +339,45 @@ fn disks_in(words: &ArgMatches<'_>) -> Option<Disks>
         blocks,
         bad,
     })
+}
+
+/// A run whose steps are shown.
+fn trace_in<'a>(words: &ArgMatches<'a>) -> Option<Run<'a>>
+    ensures range { IfSome result IsInRange }
+    ensures asked { option_map asked_by result ≡ trace_of (rows_of (found_of words.now)) }
+{
+    if !has_when(words) {
+        return None;
+    }
+    Some(Run::Trace(disks_in(words)?))
+}
+
+/// Lines that are told.
+fn decode_in<'a>(words: &ArgMatches<'a>) -> Option<Run<'a>>
+    ensures range { IfSome result IsInRange }
+    ensures asked { option_map asked_by result ≡ decode_of (rows_of (found_of words.now)) }
+{
+    if has_when(words) {
+        Some(Run::Decode)
+    } else {
+        None
+    }
+}
+
+/// Whether the word of `--color` is one that there is, where it stands.
+fn has_when(words: &ArgMatches<'_>) -> bool
+    ensures { result ≡ has_when (rows_of (found_of words.now)) }
+{
+    match words.get_str("color") {
+        Some(word) => is_when(word),
+        None => true,
+    }
+}
+
+fn is_when(word: &str) -> bool
+    ensures { result ≡ is_when (Some word.now) }
+{
+    word == "always" || word == "auto" || word == "never"
 }
 
 /// A run that is drawn, as a picture or as a page.

@@ -2,9 +2,10 @@
 //!
 //! ```text
 //! uasdisk replay CLIENTS BLOCKS [--bad LBA] < script     runs a script on zeroed units, one for each client
-//! uasdisk trace CLIENTS BLOCKS [--bad LBA] < script      the same, and prints each step with the bytes that it wrote
+//! uasdisk trace CLIENTS BLOCKS [--bad LBA] [--color WHEN] < script
+//!                                                        the same, and prints each step with the bytes that it wrote
 //! uasdisk work CLIENTS ROUNDS [LOG]                      lets clients write and read in threads, and counts what they read
-//! uasdisk decode < lines                                 tells what lines of bytes say
+//! uasdisk decode [--color WHEN] < lines                  tells what lines of bytes say
 //! uasdisk make FILE BLOCKS                               makes an image of zeroed blocks
 //! uasdisk info FILE                                      tells how many blocks an image has
 //! uasdisk dump FILE LBA COUNT                            prints blocks of an image, by one READ
@@ -16,6 +17,7 @@
 //!                                                        runs a script and writes the run to a file that Wireshark reads
 //! ```
 //!
+//! With `--color always`, and on a terminal without `--color never`, the lines of `trace` and `decode` are in colours (`line_colours`).
 //! With `--bad LBA` the block of this number can neither be read nor written, in every unit that has it. With LOG each client of `work`
 //! is audited, and the log of their bus is saved in that file.
 //!
@@ -31,6 +33,7 @@
 //! `work_run`'s, `uas_decode`'s, `disk_image`'s, `audit_run`'s, `draw_run`'s and `capture_run`'s. The rest is tested: the texts of faults and of help.
 #![tactic(auto)]
 
+mod colours;
 mod edges;
 mod hints;
 mod program;
@@ -41,8 +44,10 @@ ghost use Rattle.uas_words.specs.CommandLine.{asked_for, refusals, MayEndRun, En
 ghost use Rattle.uasdisk.specs.Ends.{HoldsOfOne};
 
 use byte_io::{HostFiles, Reader};
+use colours::is_coloured;
 use edges::{Faults, Output};
 use hints::say_hint;
+use line_colours::Painted;
 use program::run_words;
 use std::cell::Cell;
 use std::io::{IsTerminal, Write};
@@ -81,7 +86,12 @@ fn start<R: Threads + Wait + Clock + Sync>(rt: &HostRuntime, threads: &R, words:
     let mut faults = Faults::new(rt.stderr(), &is_unread);
     // A file that is opened takes the place of a standard output that is closed, and would get its text.
     let is_output_open = rt.stdout().write(b"").is_ok();
-    let mut output = is_output_open.then(|| Output::new(rt.stdout(), &is_unread));
+    let is_coloured = is_coloured(words, rt.stdout().is_terminal());
+    let mut output = is_output_open.then(|| Painted::new(
+        rt.alloc(),
+        Output::new(rt.stdout(), &is_unread),
+        is_coloured,
+    ));
     let status = run_words(
         threads,
         rt.alloc(),

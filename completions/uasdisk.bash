@@ -1,0 +1,34 @@
+# Completion of uasdisk for bash, written by completions/write from the program's help.
+_uasdisk() {
+    local word=${COMP_WORDS[COMP_CWORD]} before=${COMP_WORDS[COMP_CWORD - 1]} words= files=
+    COMPREPLY=()
+    case $before in
+        --bad) return ;;
+        --color) COMPREPLY=($(compgen -W 'always auto never' -- "$word")); return ;;
+    esac
+    if [ "$COMP_CWORD" = 1 ]; then
+        COMPREPLY=($(compgen -W 'replay trace work decode make info dump fill audit draw capture serve prove many completions help --help --version' -- "$word"))
+        return
+    fi
+    case ${COMP_WORDS[1]} in
+        help) words='replay trace work decode make info dump fill audit draw capture' ;;
+        replay) words='--bad -h --help' ;;
+        trace) words='--bad --color -h --help' ;;
+        work) words='-h --help' files=1 ;;
+        decode) words='--color -h --help' ;;
+        make) words='-h --help' files=1 ;;
+        info) words='-h --help' files=1 ;;
+        dump) words='-h --help' files=1 ;;
+        fill) words='-h --help' files=1 ;;
+        audit) words='-h --help' files=1 ;;
+        draw) words='--bad --page -h --help' ;;
+        capture) words='--bad -h --help' files=1 ;;
+        serve) words='--help' files=1 ;;
+        prove) words='' ;;
+        many) words='' files=1 ;;
+        completions) words='bash zsh fish' ;;
+    esac
+    COMPREPLY=($(compgen -W "$words" -- "$word"))
+    if [ -n "$files" ]; then compopt -o filenames 2>/dev/null; COMPREPLY+=($(compgen -f -- "$word")); fi
+}
+complete -F _uasdisk uasdisk ./uasdisk

@@ -1,0 +1,47 @@
+#compdef uasdisk
+# Completion of uasdisk for zsh, written by completions/write from the program's help.
+_uasdisk() {
+  local -a commands
+  commands=(
+    'replay:Reads a script from standard input and runs it on zeroed units'
+    'trace:Runs a script as replay does, and prints each step with the bytes that it wrote'
+    'work:Lets clients write and read in threads, and counts what they read'
+    'decode:Reads lines of bytes from standard input and tells what each says'
+    'make:Makes an image file of zeroed blocks'
+    'info:Tells how many blocks an image file has, and the number of the last'
+    'dump:Reads blocks of an image file by one READ, and prints their bytes'
+    'fill:Fills blocks of an image file with a byte by one WRITE, and writes the file'
+    'audit:Replays a saved log and audits each client’s account in it'
+    'draw:Runs a script as replay does, and draws the run as a picture (SVG)'
+    'capture:Runs a script as replay does, and writes the run to a file that Wireshark reads'
+    'serve:an image as a disk for any client of NBD'
+    'prove:builds the proved program, or that of decode or serve, and puts it into the cache'
+    'many:runs the words on each file of a folder as standard input; unproved, on one build for all'
+    'completions:prints what completes these words in bash, zsh or fish'
+  )
+  if (( CURRENT == 2 )); then
+    _describe command commands
+    return
+  fi
+  local command=$words[2]
+  shift words
+  (( CURRENT-- ))
+  case $command in
+    replay) _arguments '--bad[A block that is bad in every unit: 0 to 65535]:LBA:' '(-h --help)'{-h,--help}'[Print help]' ':CLIENTS:' ':BLOCKS:' ;;
+    trace) _arguments '--bad[A block that is bad in every unit: 0 to 65535]:LBA:' '--color[Colours: always, auto (on a terminal alone, as without this option) or never]:WHEN:(always auto never)' '(-h --help)'{-h,--help}'[Print help]' ':CLIENTS:' ':BLOCKS:' ;;
+    work) _arguments '(-h --help)'{-h,--help}'[Print help]' ':CLIENTS:' ':ROUNDS:' ':LOG:_files' ;;
+    decode) _arguments '--color[Colours: always, auto (on a terminal alone, as without this option) or never]:WHEN:(always auto never)' '(-h --help)'{-h,--help}'[Print help]' ;;
+    make) _arguments '(-h --help)'{-h,--help}'[Print help]' ':FILE:_files' ':BLOCKS:' ;;
+    info) _arguments '(-h --help)'{-h,--help}'[Print help]' ':FILE:_files' ;;
+    dump) _arguments '(-h --help)'{-h,--help}'[Print help]' ':FILE:_files' ':LBA:' ':COUNT:' ;;
+    fill) _arguments '(-h --help)'{-h,--help}'[Print help]' ':FILE:_files' ':LBA:' ':COUNT:' ':BYTE:' ;;
+    audit) _arguments '(-h --help)'{-h,--help}'[Print help]' ':LOG:_files' ;;
+    draw) _arguments '--bad[A block that is bad in every unit: 0 to 65535]:LBA:' '--page[Write a page (HTML) that shows the run step by step, in place of the picture]' '(-h --help)'{-h,--help}'[Print help]' ':CLIENTS:' ':BLOCKS:' ;;
+    capture) _arguments '--bad[A block that is bad in every unit: 0 to 65535]:LBA:' '(-h --help)'{-h,--help}'[Print help]' ':CLIENTS:' ':BLOCKS:' ':FILE:_files' ;;
+    serve) _arguments '--help[Print help]' ':FILE:_files' ;;
+    prove) _arguments ':NAME:' ;;
+    many) _arguments ':FOLDER:_files' ':WORDS:' ;;
+    completions) _arguments ':SHELL:(bash zsh fish)' ;;
+  esac
+}
+compdef _uasdisk uasdisk

@@ -37,8 +37,8 @@ fn first_client(desk: &Desk, mut seats: Vec<ClientSeat>) -> Option<ClientSeat>
     requires own { All (IsClientOf desk.now) seats.items }
     requires free { All (λ seat. (tag : _) → IsTagOf seat.client tag → IsFreeAt seat tag) seats.items }
     ensures own { IfSome result (IsClientOf desk.now) }
-    ensures first { IfSome result (λ seat. (seat.client ≡ 0) × (seat.least_ticket ≡ 0)
-        × (IsFreeAt seat 1 × (IsFreeAt seat 5 × IsFreeAt seat 16))) }
+    ensures first { IfSome result (λ seat. (seat.client ≡ 0) × (seat.least_ticket ≡ 0)) }
+    ensures free { IfSome result (λ seat. (tag : _) → IsTagOf seat.client tag → IsFreeAt seat tag) }
 {
     seats.pop()
 }
@@ -79,7 +79,7 @@ fn posted(
     slip: Slip,
     limit: usize,
 ) -> Result<Option<(Booked, Result<bool, Booking>)>, AllocError>
-    requires tag { (tag ≡ 1) ⊎ ((tag ≡ 5) ⊎ (tag ≡ 16)) }
+    requires tag { IsTagOf 0 tag }
     requires ticket { ticket_in slip ≡ 0 }
     requires ask { IsAsk tag 0 slip }
     requires limit { limit < 2 ^ 32 }

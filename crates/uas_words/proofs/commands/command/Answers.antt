@@ -3,7 +3,7 @@ use Rattle.std.proofs.lemmas.Result.{IfOk-weaker}
 use Rattle.clap.specs.Words.{App, app_of, with_subcommand}
 use Rattle.uas_words.specs.CommandLine.{audit_app, capture_app, decode_app, draw_app, dump_app, fill_app, info_app, make_app, replay_app, top_app, trace_app, work_app}
 use Rattle.uas_words.proofs.CommandLineFacts.{with_plain}
-use Rattle.uas_words.proofs.command.Goals as goal
+use Rattle.uas_words.proofs.commands.command.Goals as goal
 
 pub returns : goal.returns
 returns c =

@@ -1,8 +1,8 @@
 use Rattle.std.proofs.Common.{vec_len, rules}
 use Rattle.uas_work.specs.Parts.{IsSeatOfClient, IsStartedClient}
 use Rattle.uas_work.proofs.Rows.{first_of, pushed_each, rest_of}
-use Rattle.uas_work.proofs.hall.Hall.joined_clients.Goals.{in-Thread, in-Here}
-use Rattle.uas_work.proofs.hall.Hall.joined_clients.Goals as goal
+use Rattle.uas_work.proofs.desk_and_board.DeskAndBoard.joined_clients.Goals.{in-Thread, in-Here}
+use Rattle.uas_work.proofs.desk_and_board.DeskAndBoard.joined_clients.Goals as goal
 
 pub loop-hand-preserved : goal.loop-hand-preserved
 loop-hand-preserved g c =

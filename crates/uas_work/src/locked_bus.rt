@@ -12,7 +12,7 @@ use std::thread;
 
 /// What the workers share.
 #[derive(Drop)]
-pub(crate) struct Floor<J: Origin> {
+pub(crate) struct LockedBus<J: Origin> {
     pub(crate) alloc: Global,
     booked: Mutex<Handed<J>>,
     /// Why they ended, as a number; 0 while they work.
@@ -23,11 +23,11 @@ pub(crate) struct Floor<J: Origin> {
     pumps_left: AtomicU64,
 }
 
-impl<J: Origin> Floor<J> {
-    pub(crate) fn new(alloc: Global, booked: Booked, clients: usize, pumps: usize) -> Floor<J>
+impl<J: Origin> LockedBus<J> {
+    pub(crate) fn new(alloc: Global, booked: Booked, clients: usize, pumps: usize) -> LockedBus<J>
         requires { booked ≡ J.first }
     {
-        Floor {
+        LockedBus {
             alloc,
             booked: Mutex::new(Handed::new(booked)),
             ended: AtomicU64::new(Ended::Done.code()),
@@ -41,14 +41,14 @@ impl<J: Origin> Floor<J> {
         ensures later { IsLater J.first result.0 }
         ensures booked { IsBooked result.0 }
     {
-        let Floor { booked, ended, .. } = self;
+        let LockedBus { booked, ended, .. } = self;
         (
             booked.into_inner().into_booked(),
             Ended::from_code(ended.load(SeqCst)),
         )
     }
 
-    /// The workers are to end. The first that says so is heard.
+    /// The workers are to end. The first that says so gives the reason.
     pub(crate) fn end(&self, why: Ended) {
         let _ = self
             .ended

@@ -14,7 +14,7 @@ use tag_range::TagRange;
 
 /// The desk and the board, and for how many clients and pumps they were made.
 #[derive(Drop)]
-pub(crate) struct Hall {
+pub(crate) struct DeskAndBoard {
     pub(crate) desk: Desk,
     pub(crate) board: Board,
     pub(crate) clients: usize,
@@ -22,16 +22,16 @@ pub(crate) struct Hall {
     ghost made: { IsDeskFor desk clients pumps },
 }
 
-/// A hall, and what each worker has of its own there.
+/// A desk and a board, and what each worker has of its own there.
 #[derive(Drop)]
 pub(crate) struct Opened {
-    pub(crate) hall: Hall,
+    pub(crate) shared: DeskAndBoard,
     pub(crate) clients: Vec<ClientPart>,
     pub(crate) pumps: Vec<PumpPart>,
 }
 
-/// A hall for so many clients and pumps, with a worker's part for each; a client's has room for the replies of so many rounds.
-pub(crate) fn open_hall(
+/// A desk and a board for so many clients and pumps, with a worker's part for each; a client's has room for the replies of so many rounds.
+pub(crate) fn open_desk_and_board(
     alloc: Global,
     clients: usize,
     pumps: PumpCount,
@@ -39,14 +39,14 @@ pub(crate) fn open_hall(
 ) -> Result<Opened, AllocError>
     requires some { 1 ≤ clients }
     requires most { clients ≤ MAX_CLIENTS }
-    ensures number { IfOk result (λ opened. opened.hall.clients ≡ clients) }
-    ensures clients { IfOk result (λ opened. AreClientParts opened.hall.desk opened.hall.board rounds opened.clients.items) }
-    ensures pumps { IfOk result (λ opened. ArePumpParts opened.hall.desk opened.hall.board opened.pumps.items) }
+    ensures number { IfOk result (λ opened. opened.shared.clients ≡ clients) }
+    ensures clients { IfOk result (λ opened. AreClientParts opened.shared.desk opened.shared.board rounds opened.clients.items) }
+    ensures pumps { IfOk result (λ opened. ArePumpParts opened.shared.desk opened.shared.board opened.pumps.items) }
 {
     let pumps = pumps.count();
     let (desk, seats) = Desk::new(alloc, clients, pumps)?;
     let (board, mut bells) = Board::new(alloc, clients + pumps)?;
-    let hall = Hall {
+    let shared = DeskAndBoard {
         desk,
         board,
         clients,
@@ -56,16 +56,16 @@ pub(crate) fn open_hall(
         clients: customers,
         pumps: servers,
     } = seats;
-    let client_parts = hall.client_parts(alloc, customers, &mut bells, rounds)?;
-    let pump_parts = hall.pump_parts(alloc, servers, &mut bells)?;
+    let client_parts = shared.client_parts(alloc, customers, &mut bells, rounds)?;
+    let pump_parts = shared.pump_parts(alloc, servers, &mut bells)?;
     Ok(Opened {
-        hall,
+        shared,
         clients: client_parts,
         pumps: pump_parts,
     })
 }
 
-impl Hall {
+impl DeskAndBoard {
     /// A part for each client, of its seat and of one of the bells, with room for the replies of so many rounds.
     fn client_parts(
         &self,

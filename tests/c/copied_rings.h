@@ -69,6 +69,7 @@ static void ring(const struct uas_driver_door *door)
             }
         }
     }
+    settle();
 }
 
 static uint64_t buffer(uint64_t base, uint64_t span, uint16_t tag)

@@ -29,6 +29,7 @@ enum { QTEST_SECONDS = 60 };
 
 static uint8_t *guest_memory;
 static int qtest_socket;
+static unsigned owed_answers;
 static pid_t qemu;
 
 /* Prints what the program knows of where it is. */
@@ -69,47 +70,69 @@ static void set_guest_trb(uint64_t address, const void *bytes)
     set_guest_word(address + 12, words[3]);
 }
 
-/* Sends a line, and reads the number that answers it, if there is one. */
-__attribute__((format(printf, 1, 2))) static uint64_t qtest(const char *format, ...)
+/* Sends a line. Its answer is owed. */
+__attribute__((format(printf, 1, 2))) static void send_line(const char *format, ...)
 {
-    char line[128], answer[128];
-    size_t got = 0;
+    char line[128];
     va_list words;
     va_start(words, format);
     int length = vsnprintf(line, sizeof line, format, words);
     va_end(words);
     if (length <= 0 || write(qtest_socket, line, (size_t)length) != length)
         fail("QEMU has gone before this line", 0);
-    while (got == 0 || answer[got - 1] != '\n') {
+    owed_answers++;
+}
+
+/* Reads a byte of what QEMU answers. */
+static char next_of_answer(void)
+{
+    static char answers[4096];
+    static size_t first, last;
+    if (first == last) {
         struct pollfd readable = { .fd = qtest_socket, .events = POLLIN };
         if (poll(&readable, 1, QTEST_SECONDS * 1000) != 1)
             fail("QEMU is silent", QTEST_SECONDS);
-        ssize_t more = read(qtest_socket, answer + got, sizeof answer - 1 - got);
+        ssize_t more = read(qtest_socket, answers, sizeof answers);
         if (more <= 0)
-            fail("QEMU has gone", got);
-        got += (size_t)more;
+            fail("QEMU has gone", owed_answers);
+        first = 0;
+        last = (size_t)more;
     }
-    answer[got] = 0;
-    if (strncmp(answer, "OK", 2) != 0)
-        fail("QEMU refuses a line", (uint64_t)(unsigned char)answer[0]);
+    return answers[first++];
+}
+
+/* Reads the answers that are owed: what the lines asked for is done. The number of the last, if it has one. */
+static uint64_t settle(void)
+{
+    char answer[128] = "OK";
+    for (; owed_answers > 0; owed_answers--) {
+        size_t length = 0;
+        do
+            answer[length] = next_of_answer();
+        while (answer[length] != '\n' && ++length < sizeof answer - 1);
+        answer[length] = 0;
+        if (strncmp(answer, "OK", 2) != 0)
+            fail("QEMU refuses a line", (uint64_t)(unsigned char)answer[0]);
+    }
     return strtoull(answer + 2, NULL, 0);
 }
 
 static uint32_t reg(uint64_t address)
 {
-    return (uint32_t)qtest("readl 0x%" PRIx64 "\n", address);
+    send_line("readl 0x%" PRIx64 "\n", address);
+    return (uint32_t)settle();
 }
 
 static void set_reg(uint64_t address, uint32_t value)
 {
-    qtest("writel 0x%" PRIx64 " 0x%" PRIx32 "\n", address, value);
+    send_line("writel 0x%" PRIx64 " 0x%" PRIx32 "\n", address, value);
 }
 
 /* A word of a PCI device's configuration space, by ports CF8h and CFCh. */
 static void set_config(uint32_t device, uint32_t at, uint32_t value)
 {
-    qtest("outl 0xcf8 0x%" PRIx32 "\n", 0x80000000u | device << 11 | at);
-    qtest("outl 0xcfc 0x%" PRIx32 "\n", value);
+    send_line("outl 0xcf8 0x%" PRIx32 "\n", 0x80000000u | device << 11 | at);
+    send_line("outl 0xcfc 0x%" PRIx32 "\n", value);
 }
 
 static void end_qemu(void)

@@ -320,11 +320,12 @@ static void do_round(void)
         rest(true);
         begin();
         pipes_lost++;
-    } else if (act < 100) {
-        submit();
-    } else if (act < 120) {
+    } else if (act < 60) {
+        for (uint32_t more = 1 + below(6); more > 0; more--)
+            submit();
+    } else if (act < 80) {
         manage();
-    } else if (act == 120) {
+    } else if (act == 80) {
         give_up_some();
     } else {
         for (uint32_t more = below(8); more > 0 && take_event(); more--)
@@ -361,8 +362,7 @@ int main(int count, char **words)
     for (unsigned long round = 0; round < rounds; round++)
         do_round();
     rest(lost);
-    if (lost)
-        begin();
+    begin();
     read_all();
     begin();
     uas_driver_free(driver);

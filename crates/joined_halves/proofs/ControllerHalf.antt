@@ -13,7 +13,7 @@ use Rattle.xhci_ctl.specs.Pipes.{ControllerState}
 use Rattle.xhci_ctl.specs.Steps.{armed_front, commanded, front_at, has_event_room, moved, room_front, sent_by}
 use Rattle.uas_controller.specs.Machine.{MachineState, sides}
 use Rattle.uas_controller.specs.Own.{foreign, is_own_answer, is_own_command, is_own_in, is_own_out}
-use Rattle.uas_controller.specs.Steps.{command_by, data_by, foreign_in, foreign_out, foreign_status, over_or, rung, status_by, stepped, without_event}
+use Rattle.uas_controller.specs.Steps.{command_by, data_by, foreign_in, foreign_out, foreign_status, over_or, rung, status_by, stepped}
 use Rattle.uas_controller.proofs.OwnLaws.{Tells, is_own_answer-tells, is_own_command-tells, is_own_in-tells, is_own_out-tells}
 use Rattle.bus_core.specs.World.{World}
 use Rattle.bus_core.specs.WorldSteps.{rung_all}
@@ -79,7 +79,7 @@ doors_alike half controller (door ∷ doors) = doors_alike half (rung (record ha
 pub steps_alike : (state : Shared) (world : World) → Fits state world → StepsAsTheBus world
 steps_alike state world fits = record {
   command = command_alike state world fits;
-  data = λ tag. data_alike state world tag fits;
+  chunk = λ tag. data_alike state world tag fits;
   status = λ tag. status_alike state world tag fits;
   engine = refl;
   event = λ (event : Event) first. rw first refl;

@@ -1,5 +1,5 @@
 -- The driver's half: what a submission writes, and its doorbells.
-use Rattle.std.proofs.Common.{◌≡◌, ◌∙◌, ℕ, Bool, true, false, List, ◌++◌, Option, Some, None, refl, ap, ap₂}
+use Rattle.std.proofs.Common.{◌≡◌, ◌∙◌, ℕ, Bool, true, false, not, if◌then◌else◌, ◌++◌, Option, Some, None, refl, ap, ap₂}
 use Rattle.std.specs.Prelude.{IsTrue}
 use Rattle.std.specs.Option.{option_map_or}
 use Rattle.scsi_cmd.specs.declared.Command.{Command}
@@ -14,9 +14,9 @@ use Rattle.uas_host.specs.Retirement.{is_held}
 use Rattle.uas_host.specs.Submit.{host_fault, lent, submitted}
 use Rattle.uas_host.specs.Tds.{pushed}
 use Rattle.xhci_ctl.specs.Pipes.{ControllerState}
-use Rattle.uas_driver.specs.declared.Refusal.TheVariants.{Fault}
+use Rattle.uas_driver.specs.declared.Refusal.TheVariants.{BadTicket, Fault, NoRing, NoRoom}
 use Rattle.uas_driver.specs.Driver.{DriverState}
-use Rattle.uas_driver.specs.Calls.{is_ticket, is_under, refused, rung_answer, rung_submission, submit_by, submitted_to}
+use Rattle.uas_driver.specs.Calls.{host_submits, is_ticket, is_under, refused, rung_submission, submitted_to}
 use Rattle.uas_driver.specs.Room.{lacks_room}
 use Rattle.bus_core.specs.World.{world_of}
 use Rattle.bus_core.specs.WorldSteps.{rung_all}
@@ -46,7 +46,14 @@ by_fault driver controller device client tag ticket command calm None =
     (doors_alike driver (direction_of command.op) tag calm)
 by_fault driver controller device client tag ticket command calm (Some fault) = refl
 
+-- what comes where no test refuses
+tested : {Answer : Type 0} (ticketed kept lacks : Bool) → IsTrue ticketed → kept ≡ false → lacks ≡ false → (ticket ring room after : Answer)
+    → (if not ticketed then ticket else (if kept then ring else (if lacks then room else after))) ≡ after
+tested ticketed kept lacks is_ticketed is_kept has_room ticket ring room after = rw is_ticketed (rw is_kept (rw has_room refl))
+
 pub submits_alike : DriversSubmitAsTheBus
 submits_alike driver controller device client tag ticket command calm ticketed room =
-    rw ticketed (rw calm.kept (rw room
-    (by_fault driver controller device client tag ticket command calm (host_fault driver.host client tag ticket command))))
+    ap (λ after. joined after.0 (rung_all controller after.2) device)
+    (tested (is_ticket ticket) driver.given_up (lacks_room driver.lines driver.frames tag) ticketed calm.kept room
+    (refused driver BadTicket) (refused driver NoRing) (refused driver NoRoom) (host_submits driver client tag ticket command))
+    ∙ by_fault driver controller device client tag ticket command calm (host_fault driver.host client tag ticket command)

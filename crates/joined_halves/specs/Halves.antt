@@ -1,5 +1,5 @@
 -- A driver's half and a controller's half over equal bytes, and what of them is the bus.
-use Rattle.std.specs.Prelude.{◌≡◌, ℕ, false, List, fold, slice_get, IsTrue, Option, Some}
+use Rattle.std.specs.Prelude.{◌≡◌, ℕ, false, List, fold, slice_get, IsTrue, Some}
 use Rattle.event_ring.specs.declared.Event.{Event}
 use Rattle.scsi_cmd.specs.declared.Command.{Command}
 use Rattle.shared_machine.specs.Shared.{Shared}
@@ -29,7 +29,7 @@ controller_half world = record { lines = world.lines; frames = world.frames; con
 -- the host finds them when it handles that event. Doorbells, in their order, are those of the bus.
 pub record StepsAsTheBus (world : World) : Type 0 where
   pub command : (command_by (controller_half world)).0 ≡ controller_half (world_after world CommandPipe)
-  pub data : (tag : ℕ) → (data_by (controller_half world) tag).0 ≡ controller_half (world_after world (Data tag))
+  pub chunk : (tag : ℕ) → (data_by (controller_half world) tag).0 ≡ controller_half (world_after world (Data tag))
   pub status : (tag : ℕ) → (status_by (controller_half world) tag).0 ≡ controller_half (world_after world (Status tag))
   pub engine : (engine_by (controller_half world)).0 ≡ controller_half (world_after world Engine)
   pub event : (event : Event) → slice_get world.lines.events.pending 0 ≡ Some event
@@ -60,4 +60,4 @@ DriversSubmitAsTheBus =
     (driver : DriverState) (controller : ControllerState) (device : Device) (client tag ticket : ℕ) (command : Command) → IsUndisturbed driver
     → IsTrue (is_ticket ticket) → lacks_room driver.lines driver.frames tag ≡ false
     → joined (submit_by driver client tag ticket command).0 (rung_all controller (submit_by driver client tag ticket command).2) device
-      ≡ world_after (joined driver controller device) (Submit client tag ticket command)
+    ≡ world_after (joined driver controller device) (Submit client tag ticket command)

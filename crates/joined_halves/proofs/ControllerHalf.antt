@@ -1,6 +1,6 @@
 -- The controller's half: what is in front of a ring of a bus is carried out, and so the half's step is the bus's.
 use Rattle.std.proofs.Common.{◌≡◌, ◌∙◌, ℕ, Bool, true, false, List, [], ◌∷◌, fold, Option, Some, None, refl, ap, if◌then◌else◌}
-use Rattle.std.specs.Prelude.{IfSome, slice_get}
+use Rattle.std.specs.Prelude.{IfSome}
 use Rattle.event_ring.specs.declared.Event.{Event}
 use Rattle.xhci_trb.specs.declared.Trb.{Trb}
 use Rattle.uas_profile.specs.declared.Pipe.TheVariants.{Command, Status, DataIn, DataOut}
@@ -13,7 +13,7 @@ use Rattle.xhci_ctl.specs.Pipes.{ControllerState}
 use Rattle.xhci_ctl.specs.Steps.{armed_front, commanded, front_at, has_event_room, moved, room_front, sent_by}
 use Rattle.uas_controller.specs.Machine.{MachineState, sides}
 use Rattle.uas_controller.specs.Own.{foreign, is_own_answer, is_own_command, is_own_in, is_own_out}
-use Rattle.uas_controller.specs.Steps.{command_by, data_by, foreign_in, foreign_out, foreign_status, over_or, rung, status_by, stepped}
+use Rattle.uas_controller.specs.Steps.{command_by, data_by, foreign_out, over_or, rung, status_by, stepped}
 use Rattle.uas_controller.proofs.OwnLaws.{Tells, is_own_answer-tells, is_own_command-tells, is_own_in-tells, is_own_out-tells}
 use Rattle.bus_core.specs.World.{World}
 use Rattle.bus_core.specs.WorldSteps.{rung_all}

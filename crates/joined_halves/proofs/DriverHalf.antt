@@ -1,5 +1,5 @@
 -- The driver's half: what a submission writes, and its doorbells.
-use Rattle.std.proofs.Common.{◌≡◌, ◌∙◌, ℕ, Bool, true, false, not, if◌then◌else◌, ◌++◌, Option, Some, None, refl, ap, ap₂}
+use Rattle.std.proofs.Common.{◌≡◌, ◌∙◌, ℕ, Bool, false, not, if◌then◌else◌, ◌++◌, Option, Some, None, refl, ap, ap₂}
 use Rattle.std.specs.Prelude.{IsTrue}
 use Rattle.std.specs.Option.{option_map_or}
 use Rattle.scsi_cmd.specs.declared.Command.{Command}

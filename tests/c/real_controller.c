@@ -259,24 +259,32 @@ static void give_up(uint16_t tag)
 
 /* ---- All together ---- */
 
-/* Waits until no client waits. Where commands were given up those that are silent are given up too. */
-static void rest(bool gives_up)
+static uint64_t milliseconds(void)
 {
-    unsigned idle = 0;
+    struct timespec now;
+    clock_gettime(CLOCK_MONOTONIC, &now);
+    return (uint64_t)now.tv_sec * 1000 + (uint64_t)now.tv_nsec / 1000000;
+}
+
+/* Waits until at most so many clients' tags wait. Where commands were given up those that are silent are given up too. */
+static void wait_until(uint16_t most, bool gives_up)
+{
+    uint64_t since = milliseconds();
     for (;;) {
-        bool waits = false;
+        uint16_t waiting = 0;
         for (uint16_t tag = 1; tag <= TAGS; tag++)
-            waits = waits || asked[tag].there;
-        if (!waits)
+            waiting = (uint16_t)(waiting + asked[tag].there);
+        if (waiting <= most)
             return;
         if (take_event()) {
-            idle = 0;
+            since = milliseconds();
             continue;
         }
         usleep(50);
-        if (++idle == HUNG_MS * 20)
-            fail("a client waits", HUNG_MS);
-        for (uint16_t tag = 1; gives_up && idle == SILENT_MS * 20 && tag < TAGS; tag++)
+        uint64_t silent = milliseconds() - since;
+        if (silent > HUNG_MS)
+            fail("a client waits", silent);
+        for (uint16_t tag = 1; gives_up && silent > SILENT_MS && tag < TAGS; tag++)
             give_up(tag);
     }
 }
@@ -308,7 +316,7 @@ static void give_up_some(void)
         if (below(4) == 0 || is_read(&asked[tag].operation))
             give_up(tag);
     }
-    rest(true);
+    wait_until(0, true);
     begin();
     resets++;
 }
@@ -317,10 +325,11 @@ static void do_round(void)
 {
     uint32_t act = below(200);
     if (lost) {
-        rest(true);
+        wait_until(0, true);
         begin();
         pipes_lost++;
     } else if (act < 60) {
+        wait_until(TAGS - 3, false);
         for (uint32_t more = 1 + below(6); more > 0; more--)
             submit();
     } else if (act < 80) {
@@ -344,7 +353,7 @@ static void read_all(void)
         asked[1] = (struct asked){ .there = true, .moving = true, .ticket = tickets, .length = sizeof data, .operation = operation };
         copy_buffers(1, sizeof data);
         ring(&told);
-        rest(false);
+        wait_until(0, false);
     }
 }
 
@@ -361,7 +370,7 @@ int main(int count, char **words)
     begin();
     for (unsigned long round = 0; round < rounds; round++)
         do_round();
-    rest(lost);
+    wait_until(0, lost);
     begin();
     read_all();
     begin();

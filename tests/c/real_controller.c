@@ -225,18 +225,28 @@ static void submit(void)
     ring(&told);
 }
 
+/* Whether data of a command that a task management would end is to be moved yet. */
+static bool is_moving(uint8_t function, uint16_t tag)
+{
+    bool moving = false;
+    fetch();
+    for (uint16_t other = 1; other < TAGS; other++)
+        moving = moving || (asked[other].there && asked[other].moving && (other == tag || function == UAS_LOGICAL_UNIT_RESET));
+    return moving && function != UAS_QUERY_TASK;
+}
+
 /* A task management. QEMU forgets the data TDs of what it ends, and ends itself where one of these is stopped then (usb_uas_cancel_io: "canceled
  * usb packet not found"): so only commands whose data has moved are ended. */
 static void manage(void)
 {
     uint16_t tag = (uint16_t)(1 + below(TAGS - 1));
-    uint32_t kind = below(16);
-    uint8_t function = kind == 0 ? UAS_LOGICAL_UNIT_RESET : kind < 3 ? UAS_QUERY_TASK : UAS_ABORT_TASK;
-    bool moving = false;
-    fetch();
-    for (uint16_t other = 1; other < TAGS; other++)
-        moving = moving || (asked[other].there && asked[other].moving && (other == tag || function == UAS_LOGICAL_UNIT_RESET));
-    if (asked[TASK_TAG].there || !asked[tag].there || (moving && function != UAS_QUERY_TASK))
+    uint32_t kind = below(8);
+    uint8_t function = kind == 0 ? UAS_LOGICAL_UNIT_RESET : kind == 1 ? UAS_QUERY_TASK : UAS_ABORT_TASK;
+    for (unsigned tries = 0; is_moving(function, tag) && tries < 4000; tries++) {
+        if (!take_event())
+            usleep(50);
+    }
+    if (asked[TASK_TAG].there || !asked[tag].there || is_moving(function, tag))
         return;
     if (!is_taken(uas_driver_task(driver, 0, ++tickets, function, tag, &told)))
         return;

@@ -272,18 +272,17 @@ static bool greet(int client)
     return false;
 }
 
-/* The tags of a connection serve a client. */
+/* The tags of a connection serve a client. The disk is made for the first. */
 static void serve_client(struct connection *here)
 {
     struct uas_tasks_unit unit = { size / UAS_BLOCK_BYTES, 1, UAS_BLOCK_BYTES };
     pthread_t threads[TAGS];
-    must(uas_tasks_new(&unit, 1, UAS_SET_HOST, MOST_BLOCKS, CHUNK, &here->tasks) == UAS_OK, "no disk");
+    must(here->tasks != NULL || uas_tasks_new(&unit, 1, UAS_SET_HOST, MOST_BLOCKS, CHUNK, &here->tasks) == UAS_OK, "no disk");
     here->left = false;
     for (int k = 0; k < TAGS; k++)
         must(pthread_create(&threads[k], NULL, serve, &here->jobs[k]) == 0, "no thread");
     for (int k = 0; k < TAGS; k++)
         pthread_join(threads[k], NULL);
-    uas_tasks_free(here->tasks);
 }
 
 /* The thread of a connection, a client after the other. */

@@ -1,6 +1,7 @@
-/* A file as a network block device: uas_tasks behind NBD (fixed newstyle handshake, simple replies), one client at a time, up to 32 requests at
- * once. Each request is one command of the disk: READ(16), WRITE(16) or SYNCHRONIZE CACHE(16). A thread takes a request, does its command's
- * moves of blocks by pread, pwrite and fdatasync, and replies; the disk itself is in one call at a time, under a lock.
+/* A file as a network block device: uas_tasks behind NBD (fixed newstyle handshake, simple replies), up to seven connections with up to 32 requests
+ * each at once. Each request is one command of the disk: READ(16), WRITE(16) or SYNCHRONIZE CACHE(16). Each tag has a thread, which receives a
+ * request, does its command's moves of blocks by pread, pwrite and fdatasync, and replies: no request goes from thread to thread. The disk itself
+ * is in one call at a time, under a lock.
  *
  *   cc -O2 -Iinclude examples/file_server.c $(bindings/archive tasks) -lpthread -o file_server && ./file_server FILE SOCKET
  *   nbdcopy nbd+unix:///?socket=SOCKET copy */
@@ -16,8 +17,8 @@
 #include <sys/un.h>
 #include <unistd.h>
 
-enum { TAGS = 32, CHUNK = 128, MOST_BLOCKS = 65528, MOST_BYTES = 32768 * UAS_BLOCK_BYTES };
-enum { READ = 0, WRITE = 1, LEAVE = 2, FLUSH = 3, FUA = 1, HAS_FLAGS = 1, SENDS_FLUSH = 4, SENDS_FUA = 8 };
+enum { CONNECTIONS = 7, TAGS = 32, CHUNK = 128, MOST_BLOCKS = 65528, MOST_BYTES = 32768 * UAS_BLOCK_BYTES };
+enum { READ = 0, WRITE = 1, LEAVE = 2, FLUSH = 3, FUA = 1, HAS_FLAGS = 1, SENDS_FLUSH = 4, SENDS_FUA = 8, MANY = 256 };
 enum { DONE = 0, NO_IO = 5, INVALID = 22 };
 enum { EXPORT_NAME = 1, ABORT = 2, INFO = 6, GO = 7, ACK = 1, ABOUT = 3 };
 
@@ -37,21 +38,31 @@ struct __attribute__((packed)) reply {
     uint64_t cookie;
 };
 
-/* A request under its tag, in the host's order, with its data. */
+struct connection;
+
+/* A request under its tag, in the host's order, with its data behind the place of a reply. */
 struct job {
+    struct connection *from;
     struct request request;
-    uint8_t *data;
+    struct reply *reply;
+    uint8_t *data, bytes[CHUNK * UAS_BLOCK_BYTES];
     size_t room, moved;
     uint16_t tag;
 };
 
-static pthread_mutex_t lock = PTHREAD_MUTEX_INITIALIZER, device = PTHREAD_MUTEX_INITIALIZER, writing = PTHREAD_MUTEX_INITIALIZER;
-static pthread_cond_t came = PTHREAD_COND_INITIALIZER, freed = PTHREAD_COND_INITIALIZER;
-static struct job jobs[TAGS], *idle[TAGS], *queue[TAGS];
-static unsigned idles, first, last; /* of the queue from `first` on to `last` */
+struct connection {
+    pthread_t thread;
+    int socket;
+    bool left; /* the client has */
+    pthread_mutex_t reading, writing;
+    struct job jobs[TAGS];
+};
+
+static pthread_mutex_t device = PTHREAD_MUTEX_INITIALIZER;
+static struct connection connections[CONNECTIONS];
 static uas_tasks *tasks;
 static uint64_t size;
-static int file, client;
+static int file, listener;
 
 static void must(bool good, const char *what)
 {
@@ -61,15 +72,15 @@ static void must(bool good, const char *what)
     exit(1);
 }
 
-static bool get(void *bytes, size_t length)
+static bool get(int from, void *bytes, size_t length)
 {
-    return length == 0 || recv(client, bytes, length, MSG_WAITALL) == (ssize_t)length;
+    return length == 0 || recv(from, bytes, length, MSG_WAITALL) == (ssize_t)length;
 }
 
-static bool put(const void *bytes, size_t length)
+static bool put(int to, const void *bytes, size_t length)
 {
     for (const uint8_t *at = bytes; length > 0;) {
-        ssize_t part = send(client, at, length, MSG_NOSIGNAL);
+        ssize_t part = send(to, at, length, MSG_NOSIGNAL);
         if (part <= 0)
             return false;
         at += part;
@@ -110,7 +121,7 @@ static uint8_t move(const struct uas_request *request, uint8_t *bytes)
 }
 
 /* Goes on with a tag, under the lock of the disk, until it asks or ends; what it asks for, with a write's bytes. */
-static bool asks(struct job *job, struct uas_request *request, uint8_t *bytes)
+static bool asks(struct job *job, struct uas_request *request)
 {
     for (;;) {
         uint8_t phase;
@@ -122,7 +133,7 @@ static bool asks(struct job *job, struct uas_request *request, uint8_t *bytes)
             must(uas_tasks_take(tasks, job->tag, job->data + job->moved, (size_t)length) == UAS_OK, "no data");
         else {
             if (phase == UAS_ASKS && request->kind == UAS_REQUEST_WRITE)
-                must(uas_tasks_data(tasks, request->number, bytes, (size_t)request->count * UAS_BLOCK_BYTES) == UAS_OK, "no bytes");
+                must(uas_tasks_data(tasks, request->number, job->bytes, (size_t)request->count * UAS_BLOCK_BYTES) == UAS_OK, "no bytes");
             return phase == UAS_ASKS;
         }
         job->moved += (size_t)length;
@@ -130,7 +141,7 @@ static bool asks(struct job *job, struct uas_request *request, uint8_t *bytes)
 }
 
 /* A command from its beginning to its end; the error of its reply. */
-static uint32_t run(struct job *job, uint8_t *bytes)
+static uint32_t run(struct job *job)
 {
     struct uas_request request;
     uint8_t status[UAS_MOST_UNIT_BYTES];
@@ -138,53 +149,26 @@ static uint32_t run(struct job *job, uint8_t *bytes)
     job->moved = 0;
     pthread_mutex_lock(&device);
     begin(job);
-    while (asks(job, &request, bytes)) {
+    while (asks(job, &request)) {
         pthread_mutex_unlock(&device);
-        uint8_t outcome = move(&request, bytes);
+        uint8_t outcome = move(&request, job->bytes);
         size_t moved = request.kind == UAS_REQUEST_READ && outcome == UAS_DONE ? (size_t)request.count * UAS_BLOCK_BYTES : 0;
         pthread_mutex_lock(&device);
-        must(uas_tasks_answered(tasks, request.number, outcome, bytes, moved) == UAS_OK, "no request");
+        must(uas_tasks_answered(tasks, request.number, outcome, job->bytes, moved) == UAS_OK, "no request");
     }
     must(uas_tasks_status(tasks, job->tag, status, sizeof status, &length) == UAS_OK && uas_tasks_sent(tasks, job->tag) == UAS_OK, "no status");
     pthread_mutex_unlock(&device);
     return status[6] == UAS_GOOD ? DONE : NO_IO;
 }
 
-/* ---- The client ---- */
+/* ---- Requests ---- */
 
-static void *serve(void *none)
-{
-    uint8_t *bytes = malloc(CHUNK * UAS_BLOCK_BYTES);
-    must(bytes != NULL, "no memory");
-    for (;;) {
-        pthread_mutex_lock(&lock);
-        while (first == last)
-            pthread_cond_wait(&came, &lock);
-        struct job *job = queue[first++ % TAGS];
-        pthread_mutex_unlock(&lock);
-        const struct request *request = &job->request;
-        bool moves = request->type == READ || request->type == WRITE;
-        bool valid = request->type == FLUSH || (moves && request->length > 0 && request->length <= MOST_BYTES && request->length % UAS_BLOCK_BYTES == 0 &&
-                     request->offset % UAS_BLOCK_BYTES == 0 && request->offset <= size && request->length <= size - request->offset);
-        uint32_t error = valid ? run(job, bytes) : INVALID;
-        struct reply reply = { htobe32(0x67446698), htobe32(error), request->cookie };
-        pthread_mutex_lock(&writing);
-        if (put(&reply, sizeof reply) && request->type == READ && error == DONE)
-            put(job->data, request->length);
-        pthread_mutex_unlock(&writing);
-        pthread_mutex_lock(&lock);
-        idle[idles++] = job;
-        pthread_cond_signal(&freed);
-        pthread_mutex_unlock(&lock);
-    }
-    return none;
-}
-
-/* Reads a request into a free tag's job; false at the client's end. */
-static bool read_request(struct job *job)
+/* Receives a request into a job; false at the client's end. */
+static bool receive(struct job *job)
 {
     struct request *now = &job->request;
-    if (!get(now, sizeof *now) || be32toh(now->magic) != 0x25609513)
+    int from = job->from->socket;
+    if (!get(from, now, sizeof *now) || be32toh(now->magic) != 0x25609513)
         return false;
     now->flags = be16toh(now->flags);
     now->type = be16toh(now->type);
@@ -192,64 +176,76 @@ static bool read_request(struct job *job)
     now->length = be32toh(now->length);
     bool moves = now->type == READ || now->type == WRITE;
     if (moves && now->length > job->room && now->length <= MOST_BYTES) {
-        free(job->data);
-        job->data = malloc(job->room = now->length);
-        must(job->data != NULL, "no memory");
+        free(job->reply);
+        job->reply = malloc(sizeof *job->reply + (job->room = now->length));
+        must(job->reply != NULL, "no memory");
+        job->data = (uint8_t *)(job->reply + 1);
     }
-    return now->type != LEAVE && (now->type != WRITE || (now->length <= MOST_BYTES && get(job->data, now->length)));
+    return now->type != LEAVE && (now->type != WRITE || (now->length <= MOST_BYTES && get(from, job->data, now->length)));
 }
 
-/* Reads requests until the client leaves and all are done. */
-static void serve_client(void)
+static bool receive_next(struct job *job)
 {
-    pthread_mutex_lock(&lock);
-    for (bool more = true; more || idles < TAGS;) {
-        if (!more || idles == 0) {
-            pthread_cond_wait(&freed, &lock);
-            continue;
-        }
-        struct job *job = idle[--idles];
-        pthread_mutex_unlock(&lock);
-        more = read_request(job);
-        pthread_mutex_lock(&lock);
-        if (more)
-            queue[last++ % TAGS] = job;
-        else
-            idle[idles++] = job;
-        pthread_cond_signal(&came);
-    }
-    pthread_mutex_unlock(&lock);
+    pthread_mutex_lock(&job->from->reading);
+    bool more = !job->from->left && receive(job);
+    job->from->left = !more;
+    pthread_mutex_unlock(&job->from->reading);
+    return more;
 }
 
-static bool answer_option(uint32_t option, uint32_t kind, const void *data, uint32_t length)
+static bool is_valid(const struct request *request)
+{
+    bool moves = request->type == READ || request->type == WRITE;
+    return request->type == FLUSH || (moves && request->length > 0 && request->length <= MOST_BYTES && request->length % UAS_BLOCK_BYTES == 0 &&
+           request->offset % UAS_BLOCK_BYTES == 0 && request->offset <= size && request->length <= size - request->offset);
+}
+
+/* The thread of a tag, until the client leaves. */
+static void *serve(void *whole)
+{
+    struct job *job = whole;
+    while (receive_next(job)) {
+        uint32_t error = is_valid(&job->request) ? run(job) : INVALID;
+        size_t length = job->request.type == READ && error == DONE ? job->request.length : 0;
+        *job->reply = (struct reply){ htobe32(0x67446698), htobe32(error), job->request.cookie };
+        pthread_mutex_lock(&job->from->writing);
+        put(job->from->socket, job->reply, sizeof *job->reply + length);
+        pthread_mutex_unlock(&job->from->writing);
+    }
+    return NULL;
+}
+
+/* ---- Connections ---- */
+
+static bool answer_option(int to, uint32_t option, uint32_t kind, const void *data, uint32_t length)
 {
     struct __attribute__((packed)) { uint64_t magic; uint32_t option, kind, length; } head = { htobe64(REPLY_MAGIC), htobe32(option), htobe32(kind), htobe32(length) };
-    return put(&head, sizeof head) && put(data, length);
+    return put(to, &head, sizeof head) && put(to, data, length);
 }
 
 /* The handshake; whether requests come. */
-static bool greet(void)
+static bool greet(int client)
 {
-    const uint16_t ours = htobe16(3), flags = htobe16(HAS_FLAGS | SENDS_FLUSH | SENDS_FUA);
+    const uint16_t ours = htobe16(3), flags = htobe16(HAS_FLAGS | SENDS_FLUSH | SENDS_FUA | MANY);
     struct __attribute__((packed)) { uint64_t size; uint16_t flags; uint8_t zeros[124]; } old = { htobe64(size), flags, { 0 } };
     struct __attribute__((packed)) { uint16_t kind; uint64_t size; uint16_t flags; } export = { 0, htobe64(size), flags };
     struct __attribute__((packed)) { uint16_t kind; uint32_t least, best, most; } sizes = { htobe16(3), htobe32(UAS_BLOCK_BYTES), htobe32(4096), htobe32(MOST_BYTES) };
     struct __attribute__((packed)) { uint64_t magic; uint32_t option, length; } asked;
     uint32_t theirs;
-    if (!put("NBDMAGICIHAVEOPT", 16) || !put(&ours, 2) || !get(&theirs, 4))
+    if (!put(client, "NBDMAGICIHAVEOPT", 16) || !put(client, &ours, 2) || !get(client, &theirs, 4))
         return false;
-    while (get(&asked, sizeof asked) && be64toh(asked.magic) == OPTION_MAGIC) {
+    while (get(client, &asked, sizeof asked) && be64toh(asked.magic) == OPTION_MAGIC) {
         uint32_t option = be32toh(asked.option), length = be32toh(asked.length);
         uint8_t skipped;
         for (uint32_t i = 0; i < length; i++)
-            if (!get(&skipped, 1))
+            if (!get(client, &skipped, 1))
                 return false;
         if (option == EXPORT_NAME)
-            return put(&old, be32toh(theirs) & 2 ? 10 : sizeof old);
+            return put(client, &old, be32toh(theirs) & 2 ? 10 : sizeof old);
         bool tells = option == INFO || option == GO;
-        if (tells && !(answer_option(option, ABOUT, &export, sizeof export) && answer_option(option, ABOUT, &sizes, sizeof sizes)))
+        if (tells && !(answer_option(client, option, ABOUT, &export, sizeof export) && answer_option(client, option, ABOUT, &sizes, sizeof sizes)))
             return false;
-        if (!answer_option(option, tells || option == ABORT ? ACK : UNSUPPORTED, NULL, 0) || option == ABORT)
+        if (!answer_option(client, option, tells || option == ABORT ? ACK : UNSUPPORTED, NULL, 0) || option == ABORT)
             return false;
         if (option == GO)
             return true;
@@ -257,11 +253,46 @@ static bool greet(void)
     return false;
 }
 
+/* The tags of a connection serve a client. */
+static void serve_client(struct connection *here)
+{
+    pthread_t threads[TAGS];
+    here->left = false;
+    for (int k = 0; k < TAGS; k++)
+        must(pthread_create(&threads[k], NULL, serve, &here->jobs[k]) == 0, "no thread");
+    for (int k = 0; k < TAGS; k++)
+        pthread_join(threads[k], NULL);
+}
+
+/* The thread of a connection, a client after the other. */
+static void *accept_clients(void *whole)
+{
+    struct connection *here = whole;
+    while ((here->socket = accept(listener, NULL, NULL)) >= 0) {
+        if (greet(here->socket))
+            serve_client(here);
+        close(here->socket);
+    }
+    return NULL;
+}
+
+static void open_connection(int number)
+{
+    struct connection *here = &connections[number];
+    pthread_mutex_init(&here->reading, NULL);
+    pthread_mutex_init(&here->writing, NULL);
+    for (int k = 0; k < TAGS; k++) {
+        here->jobs[k].from = here;
+        here->jobs[k].tag = (uint16_t)(number * TAGS + k + 1);
+        must((here->jobs[k].reply = malloc(sizeof *here->jobs[k].reply)) != NULL, "no memory");
+    }
+    must(pthread_create(&here->thread, NULL, accept_clients, here) == 0, "no thread");
+}
+
 int main(int words, char **word)
 {
     struct sockaddr_un name = { .sun_family = AF_UNIX };
     struct stat about;
-    pthread_t thread;
     file = words == 3 ? open(word[1], O_RDWR) : -1;
     if (file < 0 || fstat(file, &about) != 0 || about.st_size < UAS_BLOCK_BYTES || strlen(word[2]) >= sizeof name.sun_path) {
         fprintf(stderr, "usage: file_server FILE SOCKET\n");
@@ -272,17 +303,10 @@ int main(int words, char **word)
     must(uas_tasks_new(&unit, 1, UAS_SET_HOST, MOST_BLOCKS, CHUNK, &tasks) == UAS_OK, "no disk");
     strcpy(name.sun_path, word[2]);
     unlink(word[2]);
-    int socket_of = socket(AF_UNIX, SOCK_STREAM, 0);
-    must(socket_of >= 0 && bind(socket_of, (struct sockaddr *)&name, sizeof name) == 0 && listen(socket_of, 8) == 0, "no socket");
-    for (uint16_t k = 0; k < TAGS; k++) {
-        jobs[k].tag = (uint16_t)(k + 1);
-        idle[idles++] = &jobs[k];
-        must(pthread_create(&thread, NULL, serve, NULL) == 0, "no thread");
-    }
-    while ((client = accept(socket_of, NULL, NULL)) >= 0) {
-        if (greet())
-            serve_client();
-        close(client);
-    }
+    listener = socket(AF_UNIX, SOCK_STREAM, 0);
+    must(listener >= 0 && bind(listener, (struct sockaddr *)&name, sizeof name) == 0 && listen(listener, CONNECTIONS) == 0, "no socket");
+    for (int k = 0; k < CONNECTIONS; k++)
+        open_connection(k);
+    pthread_join(connections[0].thread, NULL);
     return 1;
 }

@@ -29,11 +29,12 @@ struct asked {
 /* What a disk has under a tag. */
 struct held {
     bool there, silent, moving, failed;
+    bool open;        /* the event of its data's end doesn't tell where that is */
     uint8_t pipe;     /* where its data goes, or 0 */
     uint8_t function; /* of a task management, or 0 */
     uint8_t response; /* of that */
     uint64_t ticket;
-    uint32_t moved;
+    uint32_t moved, known; /* bytes, and what Stopped events told of them */
 };
 
 static uas_driver *driver;
@@ -46,7 +47,7 @@ static uint64_t commands;
 static bool commands_rung, calm, lost;
 static struct uas_trb events[EVENTS];
 static size_t first_event, last_event;
-static uint64_t next_ticket[CLIENTS], seed, replies[5], codes[256];
+static uint64_t next_ticket[CLIENTS], seed, replies[5], codes[256], opened;
 static struct uas_driver_door told;
 
 static uint64_t drawn(void)
@@ -237,6 +238,8 @@ static void stop(uint8_t pipe)
         if (code == 27 && place % 4096 == 0 && below(2))
             place += LINK; /* at the Link TRB that led here */
         post_transfer(pipe, place, code == 28 ? before + moved : code == 26 ? trb.length - moved : 0, code);
+        if (pipe != COMMAND && pipe != STATUS && code != 27)
+            held[stream].known = before + moved;
         break;
     }
     state[pipe] = UAS_STATE_STOPPED;
@@ -334,6 +337,27 @@ static bool receive(void)
     return true;
 }
 
+/* A data-in TD ends short after so many bytes of the TRB at which its ring's consumer stands. The event is of that TRB, and another one of the
+ * last TRB may follow; or, as no TRB before the last has ISP, it is of the last alone, of which nothing was moved. */
+static void end_short(uint16_t tag, const struct uas_trb *trb, uint32_t bytes)
+{
+    uint8_t item_bytes[16];
+    struct uas_trb at_last = *trb;
+    uint64_t place = dequeue[IN][tag], last = skip(IN, tag);
+    bool alone = last != place && below(2);
+    if (last != place && (!item(last, item_bytes) || uas_trb_decode(item_bytes, &at_last) != UAS_OK))
+        fail("no last TRB", last);
+    held[tag].open = alone || (last == place && bytes == 0 && trb->pointer % 65536 != 0);
+    opened += held[tag].open;
+    if (alone) {
+        post_transfer(IN, last, at_last.length, 13);
+        return;
+    }
+    post_transfer(IN, place, trb->length - bytes, 13);
+    if (last != place && below(2))
+        post_transfer(IN, last, 0, below(2) ? 13 : 1);
+}
+
 /* Moves the data of a TRB. */
 static bool move(uint16_t tag)
 {
@@ -351,10 +375,7 @@ static bool move(uint16_t tag)
     }
     if (now->pipe == IN && bytes < trb.length) {
         move_bytes(tag, &trb, bytes);
-        uint64_t last = skip(IN, tag);
-        post_transfer(IN, place, trb.length - bytes, 13);
-        if (last != place && below(2))
-            post_transfer(IN, last, 0, below(2) ? 13 : 1);
+        end_short(tag, &trb, bytes);
         now->moving = false;
         return true;
     }
@@ -461,7 +482,7 @@ static void give_up(uint16_t tag)
 static void look_at_data(const struct asked *now, const uint8_t *data)
 {
     const struct held *then = &held[told.tag];
-    uint32_t moved = then->ticket == now->ticket ? then->moved : 0;
+    uint32_t moved = then->ticket != now->ticket ? 0 : told.reply == UAS_REPLY_STATUS && then->open ? then->known : then->moved;
     if (told.moved > told.length)
         fail("more bytes were moved than there are", told.moved);
     if (told.reply == UAS_REPLY_STATUS && told.status == UAS_GOOD ? told.moved != moved : told.moved > moved)
@@ -638,6 +659,8 @@ int main(int count_of, char **words)
         if (codes[posted[i]] == 0)
             fail("a code that never came", posted[i]);
     }
+    if (count >= 100000 && opened == 0)
+        fail("no event left open where its TD ended", 0);
     printf("%lu acts: %" PRIu64 " statuses, %" PRIu64 " aborted, %" PRIu64 " responses, %" PRIu64 " failed, %" PRIu64 " stray events, %lu resets\n",
            count, replies[1], replies[2], replies[3], replies[4], all_strays, resets);
 }

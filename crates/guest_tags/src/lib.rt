@@ -24,6 +24,7 @@ mod chunk;
 mod data_in;
 mod device;
 mod gather;
+mod sending;
 mod status;
 mod tag;
 mod unit;

@@ -1,3 +1,4 @@
+pub mod Wider
 pub mod TakenHead
 pub mod TakenBodies
 pub mod TakenNext
@@ -5,3 +6,11 @@ pub mod Meaning
 pub mod Growing
 pub mod Again
 pub mod SavedOf
+pub mod Short
+pub mod HeadAgain
+pub mod NextAgain
+pub mod ReadOn
+pub mod Exact
+pub mod Written
+pub mod Cutting
+pub mod Headless

@@ -33,6 +33,7 @@ parts_text read = head_front read.0 ++ field 4 read.1
 
 pub record PartsFit (read : List FirstUnit × ℕ) : Type 0 where
   pub units : AreUnits Second read.0
+  pub sum : read.1 < 2 ^ 32
 
 pub head_taken : (text : List ℕ) (x : (List FirstUnit × ℕ) × List ℕ) → IsBytes text → head_at text ≡ Ok x → Taken parts_text PartsFit text x
 unfolding head_at
@@ -57,7 +58,7 @@ head_taken text x is e =
     let made : (List FirstUnit × ℕ) × List ℕ = ((d.0.0, f.0.0), f.0.1) in
     subst (λ (y : (List FirstUnit × ℕ) × List ℕ). Taken parts_text PartsFit text y) (ok_is made x f.2) (record {
       takes = then_takes (then_takes (then_takes (then_takes name-text version-text) tags-text) units.takes) sum.takes;
-      fits = record { units = units.fits };
+      fits = record { units = units.fits; sum = omega (arith, sum.fits.most) };
     })
 
 pub head_size : (text : List ℕ) (x : (List FirstUnit × ℕ) × List ℕ) → Taken parts_text PartsFit text x

@@ -3,6 +3,7 @@ use Rattle.std.specs.Prelude.{◌≡◌, ℕ, ◌^◌, ◌<◌, ◌≤◌, Bool,
 use Rattle.std.specs.List.{flat_map, AllByRecursion}
 use Rattle.shared_machine.specs.declared.Step.{Step}
 use Rattle.shared_machine.specs.declared.Step.TheVariants as steps
+use Rattle.uas_profile.specs.declared.TheConstants.{MAX_CLIENTS}
 use Rattle.uas_log.specs.declared.FirstUnit.{FirstUnit}
 use Rattle.log_checksum.specs.Division.{crc32c_of}
 use Rattle.log_records.specs.Records.{last_sum, records_text}
@@ -96,7 +97,7 @@ EntryFits clients (Refused step number) = StepFits Second clients step × (1 ≤
 -- the parts of a log that has a text
 pub record AreKeepable (units : List FirstUnit) (entries : List Entry) : Type 0 where
   pub some : 1 ≤ length units
-  pub most : length units ≤ 15
+  pub most : length units ≤ MAX_CLIENTS
   pub units_fit : AllByRecursion UnitFits units
   pub entries_fit : AllByRecursion (EntryFits (length units)) entries
   pub few : length entries < 2 ^ 32

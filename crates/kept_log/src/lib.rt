@@ -12,8 +12,9 @@
 //! ```
 //!
 //! [`load`] reads one: the longest whole prefix of its records, up to the end or up to a torn record, of which it tells the place; or what is
-//! wrong with it (`IsLoaded`, `IsRefusedBy` in specs/Loading.antt). It stands on log_text and log_records, uas_log, shared_machine, scsi_cmd,
-//! and on `thiserror`.
+//! wrong with it (`load_at` in specs/LoadAt.antt). So what is written loads ([`kept_logs_load`]), and what is left of it where a write was
+//! cut short loads as a beginning ([`cut_logs_load`]). It stands on log_text and log_records, uas_log, shared_machine, scsi_cmd, and on
+//! `thiserror`.
 #![tactic(auto)]
 
 mod bodies;
@@ -25,7 +26,9 @@ mod saved;
 mod writing;
 
 pub use entries::Entries;
-pub use laws::{steps_are_read_again, texts_go_on};
+pub use laws::{
+    cut_logs_load, kept_logs_load, steps_are_read_again, texts_begin_alike, texts_go_on,
+};
 pub use loading::load;
 use log_text::{LogFault, SavedReply};
 use shared_machine::Step;

@@ -4,6 +4,7 @@ ghost use Rattle.log_text.specs.declared.LogFault.{LogFault};
 ghost use Rattle.log_text.specs.Reading.{Gives};
 ghost use Rattle.kept_log.specs.declared.Body.{Body};
 ghost use Rattle.kept_log.specs.Form.{AreKeepable, front_sum};
+ghost use Rattle.kept_log.specs.LoadAt.{Loads, load_at};
 ghost use Rattle.kept_log.specs.Loading.{EndsIn, HasBody, IsKept, IsLoaded, IsNext, IsRefusedBy, StandsIn, next_at, of_body};
 
 use crate::bodies::body;
@@ -36,6 +37,7 @@ const MOST_STEPS: usize = 0xffff_ffff;
 /// What a text has: the log of the longest whole prefix of its records, up to the end or a torn record. Else what is wrong with it, the
 /// first fault from its front. `NoMemory` may come at any text.
 pub fn load(alloc: Global, text: &[u8]) -> Result<Loaded, KeptFault>
+    ensures exact { Loads result (load_at text.now) }
     ensures loaded { IfOk result (IsLoaded text.now) }
     ensures kept { IfOk result (λ loaded. IsKept loaded.log loaded.torn text.now) }
     ensures fault { IfErr result (IsRefusedBy text.now) }

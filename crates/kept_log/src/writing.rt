@@ -4,6 +4,7 @@ ghost use Rattle.std.specs.List.{AllByRecursion};
 ghost use Rattle.log_records.specs.Records.{record_text, sum_after};
 ghost use Rattle.log_text.specs.declared.Version.TheVariants.{Second};
 ghost use Rattle.log_text.specs.Text.{ReplyFits, StepFits, UnitFits};
+ghost use Rattle.uas_profile.specs.declared.TheConstants.{MAX_CLIENTS};
 ghost use Rattle.kept_log.specs.declared.Entry.TheVariants.{Acted, Refused};
 ghost use Rattle.kept_log.specs.Form.{end_text, entry_text, head_front, head_sum, head_text, why_number};
 
@@ -44,23 +45,24 @@ impl Why {
     }
 }
 
-/// Adds the head of a log of these units, and gives its checksum.
+/// Adds the head of a log of these units, and gives its checksum. At a fault `out` is as before.
 pub fn write_head(alloc: Global, units: &[FirstUnit], out: &mut Vec<u8>) -> Result<u32, AllocError>
-    requires few { length units.now ≤ 31 }
+    requires few { length units.now ≤ MAX_CLIENTS }
     requires fit { AllByRecursion UnitFits units.now }
     ensures text { OnOk result (out.new.items ≡ out.old.items ++ head_text units.now) }
     ensures sum { IfOk result (λ sum. sum ≡ head_sum units.now) }
+    ensures same { OnErr result (out.new.items ≡ out.old.items) }
 {
-    let front = head_front(alloc, units)?;
-    let sum = crc32c(&front);
-    out.extend_from_slice(&front)?;
-    put(out, 4, u64::from(sum)).map_err(|_| AllocError)?;
+    let mut head = head_front(alloc, units)?;
+    let sum = crc32c(&head);
+    put(&mut head, 4, u64::from(sum)).map_err(|_| AllocError)?;
+    out.extend_from_slice(&head)?;
     Ok(sum)
 }
 
 /// What stands before a head's checksum.
 fn head_front(alloc: Global, units: &[FirstUnit]) -> Result<Vec<u8>, AllocError>
-    requires few { length units.now ≤ 31 }
+    requires few { length units.now ≤ MAX_CLIENTS }
     requires fit { AllByRecursion UnitFits units.now }
     ensures { IfOk result (λ front. front.items ≡ head_front units.now) }
 {
@@ -73,13 +75,14 @@ fn head_front(alloc: Global, units: &[FirstUnit]) -> Result<Vec<u8>, AllocError>
 }
 
 /// Adds the record of a step that acted and gave no reply, behind `before`, and gives its checksum. At a fault `out` is as before.
+#[tactic(auto, using(crate::proofs::Wider::step_fits_wider))]
 pub fn write_step(
     alloc: Global,
     step: &Step,
     before: u32,
     out: &mut Vec<u8>,
 ) -> Result<u32, RecordFault>
-    requires { StepFits Second 31 step.now }
+    requires { StepFits Second MAX_CLIENTS step.now }
     ensures text { OnOk result (out.new.items ≡ out.old.items ++ record_text before (entry_text (Acted step.now None))) }
     ensures sum { IfOk result (λ sum. sum ≡ sum_after before (entry_text (Acted step.now None))) }
     ensures same { OnErr result (out.new.items ≡ out.old.items) }
@@ -91,6 +94,7 @@ pub fn write_step(
 }
 
 /// Adds the record of a Take and the reply that it gave, behind `before`, and gives its checksum. At a fault `out` is as before.
+#[tactic(auto, using(crate::proofs::Wider::step_fits_wider, crate::proofs::Wider::reply_fits_wider))]
 pub fn write_taken(
     alloc: Global,
     step: &Step,
@@ -99,8 +103,8 @@ pub fn write_taken(
     before: u32,
     out: &mut Vec<u8>,
 ) -> Result<u32, RecordFault>
-    requires step { StepFits Second 31 step.now }
-    requires reply { ReplyFits 31 (record { client = client; reply = reply.now }) }
+    requires step { StepFits Second MAX_CLIENTS step.now }
+    requires reply { ReplyFits MAX_CLIENTS (record { client = client; reply = reply.now }) }
     ensures text { OnOk result
         (out.new.items ≡ out.old.items ++ record_text before (entry_text (Acted step.now (Some (record { client = client; reply = reply.now }))))) }
     ensures sum { IfOk result (λ sum. sum ≡ sum_after before (entry_text (Acted step.now (Some (record { client = client; reply = reply.now }))))) }
@@ -114,6 +118,7 @@ pub fn write_taken(
 }
 
 /// Adds the record of a refused step and its refusal's number, behind `before`, and gives its checksum. At a fault `out` is as before.
+#[tactic(auto, using(crate::proofs::Wider::step_fits_wider))]
 pub fn write_refused(
     alloc: Global,
     step: &Step,
@@ -121,7 +126,7 @@ pub fn write_refused(
     before: u32,
     out: &mut Vec<u8>,
 ) -> Result<u32, RecordFault>
-    requires { StepFits Second 31 step.now }
+    requires { StepFits Second MAX_CLIENTS step.now }
     ensures text { OnOk result (out.new.items ≡ out.old.items ++ record_text before (entry_text (Refused step.now number))) }
     ensures sum { IfOk result (λ sum. sum ≡ sum_after before (entry_text (Refused step.now number))) }
     ensures same { OnErr result (out.new.items ≡ out.old.items) }

@@ -1,7 +1,8 @@
 -- What a controller may post for the TRBs that the host puts, and what it means (xHCI 1.2, 4.6.9, 4.10.1 and table 6-90).
-use Rattle.std.specs.Prelude.{ℕ, ◌+◌, ◌-◌, ◌%◌, ◌==◌, min, Bool, true, false, if◌then◌else◌, List, [], ◌∷◌, Option, Some, None}
+use Rattle.std.specs.Prelude.{ℕ, ◌+◌, ◌-◌, ◌%◌, ◌==◌, ◌&&◌, not, nat_le, min, Bool, true, false, if◌then◌else◌, List, [], ◌∷◌, Option, Some, None}
 use Rattle.xhci_trb.specs.declared.Trb.{Trb}
 use Rattle.xhci_trb.specs.declared.Trb.TheVariants.{Normal}
+use Rattle.xhci_trb.specs.Text.{has_chain}
 use Rattle.uas_profile.specs.declared.Pipe.{Pipe}
 use Rattle.uas_profile.specs.declared.Pipe.TheVariants.{Command, Status, DataIn, DataOut}
 use Rattle.uas_profile.specs.declared.TheConstants.{WINDOW_BYTES, WINDOW_SPAN}
@@ -45,12 +46,22 @@ in_window bytes = min bytes WINDOW_BYTES
 abbrev pub moved_up_to : ℕ → ℕ → ℕ
 moved_up_to pointer bytes = in_window (pointer % WINDOW_SPAN + bytes)
 
+-- A short packet is told at its own TRB where that has ISP, and else at the TD's last TRB, which has IOC and of which nothing was moved then
+-- (4.10.1.1). So Short Packet at the last TRB with a residual of all its bytes leaves open where on the TRBs before it the TD ended. Worked:
+-- of two TRBs of 4,096 bytes each, Short Packet at the second with residual 4,096 comes of 0 bytes, of 100 and of 4,096.
+abbrev pub leaves_open : Trb → ℕ → ℕ → Bool
+leaves_open (Normal pointer length td_size flags) code residual =
+    code == 13 && (not (has_chain (Normal pointer length td_size flags)) && (nat_le length residual && not (pointer % WINDOW_SPAN == 0)))
+leaves_open _ code residual = false
+
 -- How many bytes of its TD were moved, by the event of a data TRB: those of the TRBs before it, and of its own all with Success, else all
--- but the residual. Stopped, Short Packet (28) tells the TD's bytes in place of a residual, and Stopped, Length Invalid (27) nothing.
--- Worked: of the second TRB of a TD, whose buffer is 4,096 bytes at 100121000h, Short Packet with residual 96 tells 8,096 bytes.
+-- but the residual. Stopped, Short Packet (28) tells the TD's bytes in place of a residual, and Stopped, Length Invalid (27) nothing. An
+-- event that leaves open where the TD ended tells nothing either: what the events before it told stays, and no more was counted than did
+-- move. Worked: of the second TRB of a TD, whose buffer is 4,096 bytes at 100121000h, Short Packet with residual 96 tells 8,096 bytes.
 abbrev pub moved_by : Trb → ℕ → ℕ → Option ℕ
 moved_by (Normal pointer length td_size flags) code residual =
-    if code == 1 then Some (moved_up_to pointer length)
+    if leaves_open (Normal pointer length td_size flags) code residual then None
+    else (if code == 1 then Some (moved_up_to pointer length)
     else (if code == 28 then Some (in_window residual)
-    else (if code == 27 then None else Some (moved_up_to pointer (length - residual))))
+    else (if code == 27 then None else Some (moved_up_to pointer (length - residual)))))
 moved_by _ code residual = None

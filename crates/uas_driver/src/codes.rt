@@ -1,7 +1,7 @@
 //! What a transfer event means, and how many bytes it says were moved.
 ghost use Rattle.std.specs.Prelude.{◌≡◌, ◌≤◌, ◌-◌, IfSome};
 ghost use Rattle.uas_profile.specs.declared.TheConstants.{WINDOW_BYTES};
-ghost use Rattle.uas_driver.specs.Meaning.{in_window, meaning, moved_by, moved_up_to, short_on, stopped_if};
+ghost use Rattle.uas_driver.specs.Meaning.{in_window, leaves_open, meaning, moved_by, moved_up_to, short_on, stopped_if};
 
 use crate::Meaning;
 use stream_array::Pipe;
@@ -65,6 +65,25 @@ fn moved_up_to(pointer: u64, bytes: u32) -> u32
     in_window(pointer % WINDOW_SPAN + u64::from(bytes))
 }
 
+/// Whether an event of a data TRB leaves open where its TD ended (4.10.1.1).
+fn leaves_open(trb: &Trb, code: u8, residual: u32) -> bool
+    ensures { result ≡ leaves_open trb.now code residual }
+{
+    match *trb {
+        Trb::Normal {
+            pointer,
+            length,
+            ..
+        } => {
+            code == SHORT_PACKET
+                && !trb.has_chain()
+                && length <= residual
+                && pointer % WINDOW_SPAN != 0
+        }
+        _ => false,
+    }
+}
+
 /// How many bytes of its TD were moved, by the event of a data TRB.
 pub(crate) fn moved_by(trb: &Trb, code: u8, residual: u32) -> Option<u32>
     ensures { result ≡ moved_by trb.now code residual }
@@ -77,6 +96,9 @@ pub(crate) fn moved_by(trb: &Trb, code: u8, residual: u32) -> Option<u32>
     else {
         return None;
     };
+    if leaves_open(trb, code, residual) {
+        return None;
+    }
     match code {
         SUCCESS => Some(moved_up_to(pointer, length)),
         STOPPED_SHORT_PACKET => Some(in_window(u64::from(residual))),

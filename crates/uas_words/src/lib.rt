@@ -12,30 +12,25 @@ ghost use Rattle.std.specs.String.{string_bytes};
 ghost use Rattle.clap.specs.Words.{FailsBy, app_of, found_of, kind_of, one_of, rows_of, subcommand_rows_of};
 ghost use Rattle.byte_io.specs.Disks.{AreBlocks, AreClients, AreDisks};
 ghost use Rattle.uas_words.specs.Options.{IsBlock, IsInRange, IsMoved};
-ghost use Rattle.uas_words.specs.CommandLine.{audit, audit_app, capture_app, capture_of, decode_of, draw_app, draw_of, has_page, has_when, is_when, trace_of};
-ghost use Rattle.uas_words.specs.CommandLine.{Asked, AsksPlainly, asked_by, asked_for, asked_in, bad_of, blocks_of, clients_of, decode_app};
-ghost use Rattle.uas_words.specs.CommandLine.{dump_app, dump_of, extent_of, file_of, fill_app, fill_of, info_app, log_of, make_app, number_of};
-ghost use Rattle.uas_words.specs.CommandLine.{program_app, refusals, replay_app, script_of, top_app, trace_app, with_disks, with_extent, work_app, work_of};
+ghost use Rattle.uas_words.specs.CommandLine.{Asked, AsksPlainly, asked_by, asked_for, asked_in, audit, bad_of, blocks_of, capture_of, clients_of, decode_of};
+ghost use Rattle.uas_words.specs.CommandLine.{draw_of, dump_of, extent_of, file_of, fill_of, has_page, has_when, is_when, log_of, number_of, program_app};
+ghost use Rattle.uas_words.specs.CommandLine.{refusals, script_of, trace_of, work_of};
 
 mod arguments;
+mod commands;
 mod helps;
 mod laws;
 
-use arguments::{bad, blocks, color, file, log, number, page, saved_log};
 use byte_io::{Disks, Extent};
 use clap::error::ErrorKind;
 use clap::{ArgMatches, Command, Error};
-use decode_help::DECODE_HELP;
-use helps::{
-    BYTE_HELP, COLOR_HELP, DRAW_HELP, LBA_HELP, LOG_HELP, PAGE_HELP, ROUNDS_HELP, SCRIPT_HELP,
-    WORK_HELP,
-};
+use commands::command;
 pub use laws::plain_lines_ask;
-use std::alloc::{AllocError, Global};
-use uas_profile::{CLIENTS_HELP, MAX_BLOCKS, MAX_CLIENTS, MOST_BLOCKS_MOVED};
+use std::alloc::Global;
+use uas_profile::{MAX_BLOCKS, MAX_CLIENTS, MOST_BLOCKS_MOVED};
 
 /// The most clients, as a word of the command line.
-const MOST_CLIENTS: u32 = MAX_CLIENTS as u32;
+pub(crate) const MOST_CLIENTS: u32 = MAX_CLIENTS as u32;
 
 const _: () = prove!(MOST_CLIENTS as usize == MAX_CLIENTS);
 
@@ -47,15 +42,15 @@ pub(crate) const LAST_BLOCK: u32 = MAX_BLOCKS - 1;
 const _: () = prove!(LAST_BLOCK == 65_535);
 
 /// The most blocks that one command moves, as a word of the command line.
-const MOST_MOVED: u32 = MOST_BLOCKS_MOVED as u32;
+pub(crate) const MOST_MOVED: u32 = MOST_BLOCKS_MOVED as u32;
 
 const _: () = prove!(MOST_MOVED == 128);
 
 /// The most rounds of each client that works.
-const MAX_ROUNDS: u32 = 1_000;
+pub(crate) const MAX_ROUNDS: u32 = 1_000;
 
 /// The greatest byte.
-const MAX_BYTE: u32 = u8::MAX as u32;
+pub(crate) const MAX_BYTE: u32 = u8::MAX as u32;
 
 const _: () = prove!(MAX_BYTE == 255);
 
@@ -138,162 +133,6 @@ fn run_by<'a>(mut command: Command<'a>, words: &'a [String]) -> Result<Run<'a>, 
             "a word is missing, or --color has another than always, auto and never",
         )?),
     }
-}
-
-fn command<'a>(alloc: Global) -> Result<Command<'a>, AllocError>
-    ensures { IfOk result (λ command. app_of command ≡ program_app) }
-{
-    top_command(alloc)
-        .subcommand(replay_command(alloc)?)?
-        .subcommand(trace_command(alloc)?)?
-        .subcommand(work_command(alloc)?)?
-        .subcommand(decode_command(alloc)?)?
-        .subcommand(make_command(alloc)?)?
-        .subcommand(info_command(alloc)?)?
-        .subcommand(dump_command(alloc)?)?
-        .subcommand(fill_command(alloc)?)?
-        .subcommand(audit_command(alloc)?)?
-        .subcommand(draw_command(alloc)?)?
-        .subcommand(capture_command(alloc)?)
-}
-
-/// The command without its subcommands.
-fn top_command<'a>(alloc: Global) -> Command<'a>
-    ensures { app_of result ≡ top_app }
-{
-    Command::new(alloc, "uasdisk")
-        .about("Runs disks of many clients over USB Attached SCSI, simulated and verified")
-        .version(VERSION)
-        .subcommand_required(true)
-        .arg_required_else_help(true)
-}
-
-fn replay_command<'a>(alloc: Global) -> Result<Command<'a>, AllocError>
-    ensures { IfOk result (λ command. app_of command ≡ replay_app) }
-{
-    let command = Command::new(alloc, "replay")
-        .about("Reads a script from standard input and runs it on zeroed units")
-        .after_help(SCRIPT_HELP);
-    add_disks(alloc, command)
-}
-
-fn trace_command<'a>(alloc: Global) -> Result<Command<'a>, AllocError>
-    ensures { IfOk result (λ command. app_of command ≡ trace_app) }
-{
-    let command = Command::new(alloc, "trace")
-        .about("Runs a script as replay does, and prints each step with the bytes that it wrote")
-        .after_help("Example:\n  uasdisk trace 1 100 < examples/first-reply.script");
-    add_disks(alloc, command)?.arg(color(alloc, COLOR_HELP))
-}
-
-/// Adds what tells the disks that a script runs on.
-fn add_disks<'a>(alloc: Global, command: Command<'a>) -> Result<Command<'a>, AllocError>
-    ensures { IfOk result (λ made. app_of made ≡ with_disks (app_of command.entry)) }
-{
-    command
-        .arg(number(alloc, "CLIENTS", 1, MOST_CLIENTS, CLIENTS_HELP))?
-        .arg(blocks(
-            alloc,
-            "How many blocks of 512 bytes each unit has: 1 to 65536",
-        ))?
-        .arg(bad(alloc, "A block that is bad in every unit: 0 to 65535"))
-}
-
-fn work_command<'a>(alloc: Global) -> Result<Command<'a>, AllocError>
-    ensures { IfOk result (λ command. app_of command ≡ work_app) }
-{
-    Command::new(alloc, "work")
-        .about("Lets clients write and read in threads, and counts what they read")
-        .after_help(WORK_HELP)
-        .arg(number(alloc, "CLIENTS", 1, MOST_CLIENTS, CLIENTS_HELP))?
-        .arg(number(alloc, "ROUNDS", 1, MAX_ROUNDS, ROUNDS_HELP))?
-        .arg(log(alloc, LOG_HELP))
-}
-
-fn decode_command<'a>(alloc: Global) -> Result<Command<'a>, AllocError>
-    ensures { IfOk result (λ command. app_of command ≡ decode_app) }
-{
-    Command::new(alloc, "decode")
-        .about("Reads lines of bytes from standard input and tells what each says")
-        .after_help(DECODE_HELP)
-        .arg(color(alloc, COLOR_HELP))
-}
-
-fn make_command<'a>(alloc: Global) -> Result<Command<'a>, AllocError>
-    ensures { IfOk result (λ command. app_of command ≡ make_app) }
-{
-    Command::new(alloc, "make")
-        .about("Makes an image file of zeroed blocks")
-        .after_help("Example:\n  uasdisk make disk.image 100")
-        .arg(file(alloc, "The image file, in place of one that is there"))?
-        .arg(blocks(alloc, "How many blocks of 512 bytes it gets: 1 to 65536"))
-}
-
-fn info_command<'a>(alloc: Global) -> Result<Command<'a>, AllocError>
-    ensures { IfOk result (λ command. app_of command ≡ info_app) }
-{
-    Command::new(alloc, "info")
-        .about("Tells how many blocks an image file has, and the number of the last")
-        .after_help("Example:\n  uasdisk info disk.image")
-        .arg(file(alloc, "The image file: 1 to 65536 blocks of 512 bytes"))
-}
-
-fn dump_command<'a>(alloc: Global) -> Result<Command<'a>, AllocError>
-    ensures { IfOk result (λ command. app_of command ≡ dump_app) }
-{
-    let command = Command::new(alloc, "dump")
-        .about("Reads blocks of an image file by one READ, and prints their bytes")
-        .after_help("Example:\n  uasdisk dump disk.image 0 1");
-    add_extent(alloc, command)
-}
-
-fn fill_command<'a>(alloc: Global) -> Result<Command<'a>, AllocError>
-    ensures { IfOk result (λ command. app_of command ≡ fill_app) }
-{
-    let command = Command::new(alloc, "fill")
-        .about("Fills blocks of an image file with a byte by one WRITE, and writes the file")
-        .after_help("Example:\n  uasdisk fill disk.image 0 1 255");
-    add_extent(alloc, command)?.arg(number(alloc, "BYTE", 0, MAX_BYTE, BYTE_HELP))
-}
-
-fn audit_command<'a>(alloc: Global) -> Result<Command<'a>, AllocError>
-    ensures { IfOk result (λ command. app_of command ≡ audit_app) }
-{
-    Command::new(alloc, "audit")
-        .about("Replays a saved log and audits each client's account in it")
-        .after_help("Example:\n  uasdisk audit work.log")
-        .arg(saved_log(alloc, "The file of a log, of at most 1073741824 bytes"))
-}
-
-fn draw_command<'a>(alloc: Global) -> Result<Command<'a>, AllocError>
-    ensures { IfOk result (λ command. app_of command ≡ draw_app) }
-{
-    let command = Command::new(alloc, "draw")
-        .about("Runs a script as replay does, and draws the run as a picture (SVG)")
-        .after_help(DRAW_HELP);
-    add_disks(alloc, command)?.arg(page(alloc, PAGE_HELP))
-}
-
-fn capture_command<'a>(alloc: Global) -> Result<Command<'a>, AllocError>
-    ensures { IfOk result (λ command. app_of command ≡ capture_app) }
-{
-    let command = Command::new(alloc, "capture")
-        .about("Runs a script as replay does, and writes the run to a file that Wireshark reads")
-        .after_help("Example:\n  uasdisk capture 2 100 run.pcapng < examples/two-clients.script");
-    add_disks(alloc, command)?.arg(file(
-        alloc,
-        "The capture (pcapng), in place of one that is there",
-    ))
-}
-
-/// Adds what tells the blocks of an image.
-fn add_extent<'a>(alloc: Global, command: Command<'a>) -> Result<Command<'a>, AllocError>
-    ensures { IfOk result (λ made. app_of made ≡ with_extent (app_of command.entry)) }
-{
-    command
-        .arg(file(alloc, "The image file: 1 to 65536 blocks of 512 bytes"))?
-        .arg(number(alloc, "LBA", 0, u32::MAX, LBA_HELP))?
-        .arg(number(alloc, "COUNT", 1, MOST_MOVED, "How many blocks: 1 to 128"))
 }
 
 /// What was found for the subcommand; the parsers have refused every other word before.

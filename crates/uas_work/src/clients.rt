@@ -3,9 +3,9 @@ ghost use Rattle.std.specs.Prelude.{◌≡◌, ◌+◌, ◌≤◌, ◌<◌, ◌^
 ghost use Rattle.tag_desk.specs.Seats.{IsClientOf, IsTagOf};
 ghost use Rattle.uas_work.specs.Parts.{HasRoomForRounds, IsClientPart, IsSeatOfClient};
 
-use crate::floor::Floor;
-use crate::hall::Hall;
+use crate::desk_and_board::DeskAndBoard;
 use crate::handed::Origin;
+use crate::locked_bus::LockedBus;
 use crate::parts::{ClientBack, ClientPart};
 use crate::rounds::{Half, command};
 use crate::{Ended, Gate};
@@ -21,17 +21,17 @@ impl ClientPart {
     pub(crate) fn work<J: Origin, R: Wait, G: Gate>(
         mut self,
         rt: &R,
-        floor: &Floor<J>,
-        hall: &Hall,
+        locked: &LockedBus<J>,
+        shared: &DeskAndBoard,
         gate: &G,
         rounds: u32,
     ) -> ClientBack
-        requires part { IsClientPart hall.now.desk hall.now.board self }
+        requires part { IsClientPart shared.now.desk shared.now.board self }
         requires room { HasRoomForRounds rounds self }
-        ensures { IsSeatOfClient hall.now.desk self.client result.seat }
+        ensures { IsSeatOfClient shared.now.desk self.client result.seat }
     {
-        if self.took_rounds(rt, floor, hall, gate, rounds) {
-            floor.client_done();
+        if self.took_rounds(rt, locked, shared, gate, rounds) {
+            locked.client_done();
         }
         let ClientPart { seat, replies, .. } = self;
         ClientBack { seat, replies }
@@ -41,19 +41,19 @@ impl ClientPart {
     fn took_rounds<J: Origin, R: Wait, G: Gate>(
         &mut self,
         rt: &R,
-        floor: &Floor<J>,
-        hall: &Hall,
+        locked: &LockedBus<J>,
+        shared: &DeskAndBoard,
         gate: &G,
         rounds: u32,
     ) -> bool
-        requires part { IsClientPart hall.now.desk hall.now.board self.old }
+        requires part { IsClientPart shared.now.desk shared.now.board self.old }
         requires room { HasRoomForRounds rounds self.old }
-        ensures part { IsClientPart hall.now.desk hall.now.board self.new }
+        ensures part { IsClientPart shared.now.desk shared.now.board self.new }
         ensures same { self.new.client ≡ self.old.client }
     {
         for round in 0..rounds {
-            if !self.took_half(rt, floor, hall, gate, round, Half::Write)
-                || !self.took_half(rt, floor, hall, gate, round, Half::Read)
+            if !self.took_half(rt, locked, shared, gate, round, Half::Write)
+                || !self.took_half(rt, locked, shared, gate, round, Half::Read)
             {
                 return false;
             }
@@ -65,40 +65,40 @@ impl ClientPart {
     fn took_half<J: Origin, R: Wait, G: Gate>(
         &mut self,
         rt: &R,
-        floor: &Floor<J>,
-        hall: &Hall,
+        locked: &LockedBus<J>,
+        shared: &DeskAndBoard,
         gate: &G,
         round: u32,
         half: Half,
     ) -> bool
-        requires part { IsClientPart hall.now.desk hall.now.board self.old }
+        requires part { IsClientPart shared.now.desk shared.now.board self.old }
         requires room { vec_len self.old.replies < vec_capacity self.old.replies }
-        ensures part { IsClientPart hall.now.desk hall.now.board self.new }
+        ensures part { IsClientPart shared.now.desk shared.now.board self.new }
         ensures same { self.new.client ≡ self.old.client }
         ensures one { vec_len self.new.replies ≤ vec_len self.old.replies + 1 }
         ensures room { vec_capacity self.new.replies ≡ vec_capacity self.old.replies }
     {
-        if floor.is_over(gate, u32::from(self.client)) {
+        if locked.is_over(gate, u32::from(self.client)) {
             return false;
         }
-        let Ok(command) = command(floor.alloc, self.client, round, half) else {
-            floor.end(Ended::NoMemory);
+        let Ok(command) = command(locked.alloc, self.client, round, half) else {
+            locked.end(Ended::NoMemory);
             return false;
         };
-        let Some(tag) = self.posted(hall, command) else {
-            floor.end(Ended::Stopped);
+        let Some(tag) = self.posted(shared, command) else {
+            locked.end(Ended::Stopped);
             return false;
         };
-        match self.awaited(rt, floor, hall, gate, tag) {
+        match self.awaited(rt, locked, shared, gate, tag) {
             Some(slip) => self.took(slip, tag),
             None => false,
         }
     }
 
     /// Posts a command on a free tag of the client's and rings its bell: the tag. None where the client has no tag left.
-    fn posted(&mut self, hall: &Hall, command: Command) -> Option<u16>
-        requires part { IsClientPart hall.now.desk hall.now.board self.old }
-        ensures part { IsClientPart hall.now.desk hall.now.board self.new }
+    fn posted(&mut self, shared: &DeskAndBoard, command: Command) -> Option<u16>
+        requires part { IsClientPart shared.now.desk shared.now.board self.old }
+        ensures part { IsClientPart shared.now.desk shared.now.board self.new }
         ensures same { self.new.client ≡ self.old.client }
         ensures room { self.new.replies ≡ self.old.replies }
         ensures tag { IfSome result (IsTagOf self.new.client) }
@@ -107,11 +107,12 @@ impl ClientPart {
         if !self.seat.is_free(tag) {
             return None;
         }
-        hall.desk
+        shared
+            .desk
             .post(&mut self.seat, tag, Slip::Ask { ticket, command });
         let client = usize::from(self.client);
         let index = usize::from(tag) - TAGS * client;
-        hall.board.ring(&mut self.bell, place(client, index));
+        shared.board.ring(&mut self.bell, place(client, index));
         Some(tag)
     }
 
@@ -119,26 +120,26 @@ impl ClientPart {
     fn awaited<J: Origin, R: Wait, G: Gate>(
         &mut self,
         rt: &R,
-        floor: &Floor<J>,
-        hall: &Hall,
+        locked: &LockedBus<J>,
+        shared: &DeskAndBoard,
         gate: &G,
         tag: u16,
     ) -> Option<Slip>
-        requires part { IsClientPart hall.now.desk hall.now.board self.old }
+        requires part { IsClientPart shared.now.desk shared.now.board self.old }
         requires tag { IsTagOf self.old.client tag }
-        ensures part { IsClientPart hall.now.desk hall.now.board self.new }
+        ensures part { IsClientPart shared.now.desk shared.now.board self.new }
         ensures same { self.new.client ≡ self.old.client }
         ensures room { self.new.replies ≡ self.old.replies }
     {
         for _ in rt.forever() {
-            let is_last = floor.are_pumps_done();
-            let slip = hall.desk.look(&mut self.seat, tag);
+            let is_last = locked.are_pumps_done();
+            let slip = shared.desk.look(&mut self.seat, tag);
             if slip.is_some() || is_last {
                 return slip;
             }
             thread::yield_now();
-            if !floor.is_ended() && !gate.turn(u32::from(self.client)) {
-                floor.end(Ended::Stopped);
+            if !locked.is_ended() && !gate.turn(u32::from(self.client)) {
+                locked.end(Ended::Stopped);
             }
         }
         None

@@ -6,7 +6,7 @@ ghost use Rattle.uas_work.specs.Held.{ServesClient};
 ghost use Rattle.uas_work.specs.Parts.{IsPumpPart};
 ghost use Rattle.uas_work.specs.Pumps.{EnteredOrLeft, Served};
 
-use crate::hall::Hall;
+use crate::desk_and_board::DeskAndBoard;
 use crate::parts::PumpPart;
 use crate::{Booked, Booking, Gate, control, dispatch};
 use std::alloc::Global;
@@ -74,17 +74,17 @@ impl<J: Origin> Handed<J> {
         &mut self,
         alloc: Global,
         pump: &mut PumpPart,
-        hall: &Hall,
+        shared: &DeskAndBoard,
         gate: &G,
         client: usize,
     ) -> Result<bool, Booking>
-        requires part { IsPumpPart hall.now.desk hall.now.board pump.old }
-        requires client { ServesClient hall.now.desk pump.old.seat client }
-        ensures part { IsPumpPart hall.now.desk hall.now.board pump.new }
+        requires part { IsPumpPart shared.now.desk shared.now.board pump.old }
+        requires client { ServesClient shared.now.desk pump.old.seat client }
+        ensures part { IsPumpPart shared.now.desk shared.now.board pump.new }
         ensures same { pump.new.pump ≡ pump.old.pump }
         ensures served { MatchResult result (λ served. Served (G.says gate.now) client self.old.booked self.new.booked)
             (λ booking. EnteredOrLeft client self.old.booked self.new.booked) }
     {
-        pump.served(alloc, hall, gate, &mut self.booked, client)
+        pump.served(alloc, shared, gate, &mut self.booked, client)
     }
 }

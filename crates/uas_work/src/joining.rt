@@ -3,14 +3,14 @@ ghost use Rattle.std.specs.Prelude.{◌≡◌, ◌≤◌, length, vec_len, vec_c
 ghost use Rattle.tag_desk.specs.Left.{IsAllClientsOf, IsAllPumpsOf};
 ghost use Rattle.uas_work.specs.Parts.{ArePumpsHome, AreStartedClients, AreStartedPumps};
 
-use crate::hall::Hall;
+use crate::desk_and_board::DeskAndBoard;
 use crate::parts::ClientBack;
 use crate::workers::{StartedClient, StartedPump};
 use std::thread::Threads;
 use tag_desk::{ClientSeat, WorkSeat};
 use uas_log::Replies;
 
-impl Hall {
+impl DeskAndBoard {
     /// Joins the clients' workers: their seats and what each took, by number.
     pub(crate) fn joined_clients<R: Threads>(
         &self,

@@ -24,11 +24,11 @@
 
 mod claims;
 mod clients;
-mod floor;
+mod desk_and_board;
 mod gates;
-mod hall;
 mod handed;
 mod joining;
+mod locked_bus;
 mod opening;
 mod parts;
 mod pump_part;

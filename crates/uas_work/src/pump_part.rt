@@ -7,9 +7,9 @@ ghost use Rattle.uas_work.specs.Booked.{booked_step};
 ghost use Rattle.uas_work.specs.Held.{ServesClient};
 ghost use Rattle.uas_work.specs.Parts.{IsPumpPart, IsSeatOfPump};
 
-use crate::floor::Floor;
-use crate::hall::Hall;
+use crate::desk_and_board::DeskAndBoard;
 use crate::handed::Origin;
+use crate::locked_bus::LockedBus;
 use crate::parts::PumpPart;
 use crate::pumps::is_open;
 use crate::{Booked, Booking, Gate, pump_in, pump_out};
@@ -28,22 +28,22 @@ impl PumpPart {
     pub(crate) fn work<J: Origin, R: Wait, G: Gate>(
         mut self,
         rt: &R,
-        floor: &Floor<J>,
-        hall: &Hall,
+        locked: &LockedBus<J>,
+        shared: &DeskAndBoard,
         gate: &G,
         worker: u32,
     ) -> WorkSeat
-        requires { IsPumpPart hall.now.desk hall.now.board self }
-        ensures { IsSeatOfPump hall.now.desk self.pump result }
+        requires { IsPumpPart shared.now.desk shared.now.board self }
+        ensures { IsSeatOfPump shared.now.desk self.pump result }
     {
-        self.took_turns(rt, floor, hall, gate, worker);
+        self.took_turns(rt, locked, shared, gate, worker);
         let PumpPart {
             mut seat,
             mut held,
             ..
         } = self;
-        held.give_back(floor.alloc, &hall.desk, &mut seat);
-        floor.pump_done();
+        held.give_back(locked.alloc, &shared.desk, &mut seat);
+        locked.pump_done();
         seat
     }
 
@@ -51,45 +51,45 @@ impl PumpPart {
     fn took_turns<J: Origin, R: Wait, G: Gate>(
         &mut self,
         rt: &R,
-        floor: &Floor<J>,
-        hall: &Hall,
+        locked: &LockedBus<J>,
+        shared: &DeskAndBoard,
         gate: &G,
         worker: u32,
     )
-        requires part { IsPumpPart hall.now.desk hall.now.board self.old }
-        ensures part { IsPumpPart hall.now.desk hall.now.board self.new }
+        requires part { IsPumpPart shared.now.desk shared.now.board self.old }
+        ensures part { IsPumpPart shared.now.desk shared.now.board self.new }
         ensures same { self.new.pump ≡ self.old.pump }
     {
         let mut quiet = 0;
         for _ in rt.forever() {
-            if floor.is_over(gate, worker) {
+            if locked.is_over(gate, worker) {
                 return;
             }
-            if !self.is_called(hall) && quiet < MOST_QUIET {
+            if !self.is_called(shared) && quiet < MOST_QUIET {
                 quiet += 1;
                 thread::yield_now();
                 continue;
             }
-            let served = self.served_all(rt, floor, hall, gate);
+            let served = self.served_all(rt, locked, shared, gate);
             quiet = if matches!(served, Ok(true)) {
                 MOST_QUIET
             } else {
                 0
             };
-            floor.rest(served);
+            locked.rest(served);
         }
     }
 
     /// Whether a bell stood in one of the pump's words of the board; none stands there now.
-    fn is_called(&mut self, hall: &Hall) -> bool
-        requires part { IsPumpPart hall.now.desk hall.now.board self.old }
-        ensures part { IsPumpPart hall.now.desk hall.now.board self.new }
+    fn is_called(&mut self, shared: &DeskAndBoard) -> bool
+        requires part { IsPumpPart shared.now.desk shared.now.board self.old }
+        ensures part { IsPumpPart shared.now.desk shared.now.board self.new }
         ensures same { self.new.pump ≡ self.old.pump }
     {
         let mut called = false;
         for word in 0..WORDS {
-            if word % hall.pumps == self.pump {
-                called |= hall.board.collect(&mut self.bell, word) != 0;
+            if word % shared.pumps == self.pump {
+                called |= shared.board.collect(&mut self.bell, word) != 0;
             }
         }
         called
@@ -99,20 +99,20 @@ impl PumpPart {
     fn served_all<J: Origin, R: Wait, G: Gate>(
         &mut self,
         rt: &R,
-        floor: &Floor<J>,
-        hall: &Hall,
+        locked: &LockedBus<J>,
+        shared: &DeskAndBoard,
         gate: &G,
     ) -> Result<bool, Booking>
-        requires part { IsPumpPart hall.now.desk hall.now.board self.old }
-        ensures part { IsPumpPart hall.now.desk hall.now.board self.new }
+        requires part { IsPumpPart shared.now.desk shared.now.board self.old }
+        ensures part { IsPumpPart shared.now.desk shared.now.board self.new }
         ensures same { self.new.pump ≡ self.old.pump }
     {
-        let mut guard = floor.lock(rt);
+        let mut guard = locked.lock(rt);
         let handed = &mut *guard;
         let mut served = false;
-        for client in 0..hall.clients {
-            if client % hall.pumps == self.pump {
-                served |= handed.serve(floor.alloc, self, hall, gate, client)?;
+        for client in 0..shared.clients {
+            if client % shared.pumps == self.pump {
+                served |= handed.serve(locked.alloc, self, shared, gate, client)?;
             }
         }
         Ok(served)
@@ -122,20 +122,20 @@ impl PumpPart {
     pub(crate) fn served<G: Gate>(
         &mut self,
         alloc: Global,
-        hall: &Hall,
+        shared: &DeskAndBoard,
         gate: &G,
         booked: &mut Booked,
         client: usize,
     ) -> Result<bool, Booking>
-        requires part { IsPumpPart hall.now.desk hall.now.board self.old }
-        requires client { ServesClient hall.now.desk self.old.seat client }
-        ensures part { IsPumpPart hall.now.desk hall.now.board self.new }
+        requires part { IsPumpPart shared.now.desk shared.now.board self.old }
+        requires client { ServesClient shared.now.desk self.old.seat client }
+        ensures part { IsPumpPart shared.now.desk shared.now.board self.new }
         ensures same { self.new.pump ≡ self.old.pump }
         ensures served { MatchResult result (λ served. Served (G.says gate.now) client booked.old booked.new)
             (λ booking. EnteredOrLeft client booked.old booked.new) }
     {
-        let posted = self.took_in(alloc, hall, booked, client)?;
-        let took = self.brought_out(alloc, hall, gate, booked, client)?;
+        let posted = self.took_in(alloc, shared, booked, client)?;
+        let took = self.brought_out(alloc, shared, gate, booked, client)?;
         Ok(posted || took)
     }
 
@@ -143,33 +143,33 @@ impl PumpPart {
     fn took_in(
         &mut self,
         alloc: Global,
-        hall: &Hall,
+        shared: &DeskAndBoard,
         booked: &mut Booked,
         client: usize,
     ) -> Result<bool, Booking>
-        requires part { IsPumpPart hall.now.desk hall.now.board self.old }
-        requires client { ServesClient hall.now.desk self.old.seat client }
-        ensures part { IsPumpPart hall.now.desk hall.now.board self.new }
+        requires part { IsPumpPart shared.now.desk shared.now.board self.old }
+        requires client { ServesClient shared.now.desk self.old.seat client }
+        ensures part { IsPumpPart shared.now.desk shared.now.board self.new }
         ensures same { self.new.pump ≡ self.old.pump }
         ensures entered { IfOk result (λ posted. EnteredOrLeft client booked.old booked.new) }
         ensures err { IfErr result (λ booking. booked.new ≡ booked.old) }
     {
         let PumpPart { seat, held, .. } = self;
-        pump_in(alloc, booked, &hall.desk, seat, held, client)
+        pump_in(alloc, booked, &shared.desk, seat, held, client)
     }
 
     /// Takes a client's reply and finishes its claim, where that is due and the gate allows it: `pump_out`.
     fn brought_out<G: Gate>(
         &mut self,
         alloc: Global,
-        hall: &Hall,
+        shared: &DeskAndBoard,
         gate: &G,
         booked: &mut Booked,
         client: usize,
     ) -> Result<bool, Booking>
-        requires part { IsPumpPart hall.now.desk hall.now.board self.old }
-        requires client { ServesClient hall.now.desk self.old.seat client }
-        ensures part { IsPumpPart hall.now.desk hall.now.board self.new }
+        requires part { IsPumpPart shared.now.desk shared.now.board self.old }
+        requires client { ServesClient shared.now.desk self.old.seat client }
+        ensures part { IsPumpPart shared.now.desk shared.now.board self.new }
         ensures same { self.new.pump ≡ self.old.pump }
         ensures taken { IfOk result (TakenOrLeft (G.says gate.now) client booked.old booked.new) }
         ensures err { IfErr result (λ booking. booked.new ≡ booked.old) }
@@ -177,26 +177,26 @@ impl PumpPart {
         if !is_open(booked.bus(), gate, &Step::Take(client)) {
             return Ok(false);
         }
-        self.taken_out(alloc, hall, booked, client)
+        self.taken_out(alloc, shared, booked, client)
     }
 
     /// Takes a client's reply and finishes its claim: `pump_out`.
     fn taken_out(
         &mut self,
         alloc: Global,
-        hall: &Hall,
+        shared: &DeskAndBoard,
         booked: &mut Booked,
         client: usize,
     ) -> Result<bool, Booking>
-        requires part { IsPumpPart hall.now.desk hall.now.board self.old }
-        requires client { ServesClient hall.now.desk self.old.seat client }
-        ensures part { IsPumpPart hall.now.desk hall.now.board self.new }
+        requires part { IsPumpPart shared.now.desk shared.now.board self.old }
+        requires client { ServesClient shared.now.desk self.old.seat client }
+        ensures part { IsPumpPart shared.now.desk shared.now.board self.new }
         ensures same { self.new.pump ≡ self.old.pump }
         ensures took { IfOk result (λ took. took ≡ due booked.old.bus (Step.Take client)) }
         ensures booked { IfOk result (λ took. booked.new ≡ (booked_step booked.old (Step.Take client)).0) }
         ensures err { IfErr result (λ booking. booked.new ≡ booked.old) }
     {
         let PumpPart { seat, held, .. } = self;
-        pump_out(alloc, booked, &hall.desk, seat, held, client)
+        pump_out(alloc, booked, &shared.desk, seat, held, client)
     }
 }

@@ -4,9 +4,9 @@ ghost use Rattle.tag_desk.specs.Left.{IsAllClientsOf, IsAllPumpsOf};
 ghost use Rattle.uas_work.specs.Booked.{IsBooked, IsLater};
 ghost use Rattle.uas_work.specs.Parts.{AreClientParts, ArePumpParts, ArePumpsHome, AreStartedClients, AreStartedPumps, HasRoomFor, HasRoomForRounds, IsClientPart, IsPumpPart, IsSeatOfClient, IsSeatOfPump};
 
-use crate::floor::Floor;
-use crate::hall::{Hall, Opened, open_hall};
+use crate::desk_and_board::{DeskAndBoard, Opened, open_desk_and_board};
 use crate::handed::Origin;
+use crate::locked_bus::LockedBus;
 use crate::parts::{ClientBack, ClientPart, PumpPart};
 use crate::{Booked, Ended, Finished, Gate, Plan};
 use std::alloc::{AllocError, Global};
@@ -97,16 +97,17 @@ pub fn spawn_all<R: Threads + Wait + Sync, G: Gate + Sync>(
     ensures held { IfOk result (λ finished. IfSome finished.left (λ left. left.held ≡ [])) }
     ensures err { IfErr result (λ back. back.1 ≡ booked) }
 {
-    let Ok(opened) = open_hall(alloc, booked.bus().clients(), plan.pumps, plan.rounds) else {
+    let Ok(opened) = open_desk_and_board(alloc, booked.bus().clients(), plan.pumps, plan.rounds)
+    else {
         return Err((AllocError, booked));
     };
-    let Ok(lists) = make_lists(alloc, opened.hall.clients, opened.hall.pumps) else {
+    let Ok(lists) = make_lists(alloc, opened.shared.clients, opened.shared.pumps) else {
         return Err((AllocError, booked));
     };
     Ok(finished::<Brand, R, G>(rt, alloc, booked, gate, plan, opened, lists))
 }
 
-/// Lets the workers of a hall work on the bus that is handed in.
+/// Lets the workers of a desk and a board work on the bus that is handed in.
 fn finished<J: Origin + Send + Sync, R: Threads + Wait + Sync, G: Gate + Sync>(
     rt: &R,
     alloc: Global,
@@ -117,26 +118,26 @@ fn finished<J: Origin + Send + Sync, R: Threads + Wait + Sync, G: Gate + Sync>(
     lists: Lists,
 ) -> Finished
     requires origin { booked ≡ J.first }
-    requires clients { AreClientParts opened.hall.desk opened.hall.board plan.rounds opened.clients.items }
-    requires pumps { ArePumpParts opened.hall.desk opened.hall.board opened.pumps.items }
-    requires room { HasRoomFor opened.hall.clients opened.hall.pumps lists }
+    requires clients { AreClientParts opened.shared.desk opened.shared.board plan.rounds opened.clients.items }
+    requires pumps { ArePumpParts opened.shared.desk opened.shared.board opened.pumps.items }
+    requires room { HasRoomFor opened.shared.clients opened.shared.pumps lists }
     ensures later { IsLater J.first result.booked }
     ensures booked { IsBooked result.booked }
-    ensures replies { length result.replies.items ≡ opened.hall.clients }
+    ensures replies { length result.replies.items ≡ opened.shared.clients }
     ensures closed { IfNone result.left (result.ended ≢ Ended.Done) }
     ensures held { IfSome result.left (λ left. left.held ≡ []) }
 {
     let Opened {
-        hall,
+        shared,
         clients,
         pumps,
     } = opened;
-    let floor: Floor<J> = Floor::new(alloc, booked, hall.clients, hall.pumps);
-    let backs = worked(rt, &floor, &hall, gate, plan, clients, pumps, lists);
+    let locked: LockedBus<J> = LockedBus::new(alloc, booked, shared.clients, shared.pumps);
+    let backs = worked(rt, &locked, &shared, gate, plan, clients, pumps, lists);
     let Backs { seats, replies } = backs;
-    let Hall { desk, .. } = hall;
+    let DeskAndBoard { desk, .. } = shared;
     let left = closed(alloc, desk, seats);
-    let (booked, ended) = floor.into_parts();
+    let (booked, ended) = locked.into_parts();
     let ended = ended_with(ended, &left);
     Finished {
         booked,
@@ -187,36 +188,36 @@ fn make_lists(alloc: Global, clients: usize, pumps: usize) -> Result<Lists, Allo
 /// Starts all workers and joins them.
 fn worked<'h, J: Origin + Send + Sync, R: Threads + Wait + Sync, G: Gate + Sync>(
     rt: &'h R,
-    floor: &'h Floor<J>,
-    hall: &'h Hall,
+    locked: &'h LockedBus<J>,
+    shared: &'h DeskAndBoard,
     gate: &'h G,
     plan: Plan,
     clients: Vec<ClientPart>,
     pumps: Vec<PumpPart>,
     lists: Lists,
 ) -> Backs
-    requires clients { AreClientParts hall.now.desk hall.now.board plan.rounds clients.items }
-    requires pumps { ArePumpParts hall.now.desk hall.now.board pumps.items }
-    requires room { HasRoomFor hall.now.clients hall.now.pumps lists }
-    ensures clients { IsAllClientsOf hall.now.desk result.seats.clients.items }
-    ensures pumps { IsAllPumpsOf hall.now.desk result.seats.pumps.items }
-    ensures home { ArePumpsHome hall.now.desk result.seats.pumps.items }
-    ensures replies { length result.replies.items ≡ hall.now.clients }
+    requires clients { AreClientParts shared.now.desk shared.now.board plan.rounds clients.items }
+    requires pumps { ArePumpParts shared.now.desk shared.now.board pumps.items }
+    requires room { HasRoomFor shared.now.clients shared.now.pumps lists }
+    ensures clients { IsAllClientsOf shared.now.desk result.seats.clients.items }
+    ensures pumps { IsAllPumpsOf shared.now.desk result.seats.pumps.items }
+    ensures home { ArePumpsHome shared.now.desk result.seats.pumps.items }
+    ensures replies { length result.replies.items ≡ shared.now.clients }
 {
     thread::scope(
         thread::scope_env(),
         rt,
         move |scope| -> Backs
-            requires clients { AreClientParts hall.now.desk hall.now.board plan.rounds clients.items }
-            requires pumps { ArePumpParts hall.now.desk hall.now.board pumps.items }
-            requires room { HasRoomFor hall.now.clients hall.now.pumps lists }
-            ensures clients { IsAllClientsOf hall.entry.now.desk result.seats.clients.items }
-            ensures pumps { IsAllPumpsOf hall.entry.now.desk result.seats.pumps.items }
-            ensures home { ArePumpsHome hall.entry.now.desk result.seats.pumps.items }
-            ensures replies { length result.replies.items ≡ hall.entry.now.clients }
+            requires clients { AreClientParts shared.now.desk shared.now.board plan.rounds clients.items }
+            requires pumps { ArePumpParts shared.now.desk shared.now.board pumps.items }
+            requires room { HasRoomFor shared.now.clients shared.now.pumps lists }
+            ensures clients { IsAllClientsOf shared.entry.now.desk result.seats.clients.items }
+            ensures pumps { IsAllPumpsOf shared.entry.now.desk result.seats.pumps.items }
+            ensures home { ArePumpsHome shared.entry.now.desk result.seats.pumps.items }
+            ensures replies { length result.replies.items ≡ shared.entry.now.clients }
         {
             let backs = started_and_joined(
-                scope, rt, floor, hall, gate, plan, clients, pumps, lists,
+                scope, rt, locked, shared, gate, plan, clients, pumps, lists,
             );
             backs
         },
@@ -234,21 +235,21 @@ fn started_and_joined<
 >(
     scope: &Scope<'s, E>,
     rt: &'h R,
-    floor: &'h Floor<J>,
-    hall: &'h Hall,
+    locked: &'h LockedBus<J>,
+    shared: &'h DeskAndBoard,
     gate: &'h G,
     plan: Plan,
     clients: Vec<ClientPart>,
     pumps: Vec<PumpPart>,
     lists: Lists,
 ) -> Backs
-    requires clients { AreClientParts hall.now.desk hall.now.board plan.rounds clients.items }
-    requires pumps { ArePumpParts hall.now.desk hall.now.board pumps.items }
-    requires room { HasRoomFor hall.now.clients hall.now.pumps lists }
-    ensures clients { IsAllClientsOf hall.now.desk result.seats.clients.items }
-    ensures pumps { IsAllPumpsOf hall.now.desk result.seats.pumps.items }
-    ensures home { ArePumpsHome hall.now.desk result.seats.pumps.items }
-    ensures replies { length result.replies.items ≡ hall.now.clients }
+    requires clients { AreClientParts shared.now.desk shared.now.board plan.rounds clients.items }
+    requires pumps { ArePumpParts shared.now.desk shared.now.board pumps.items }
+    requires room { HasRoomFor shared.now.clients shared.now.pumps lists }
+    ensures clients { IsAllClientsOf shared.now.desk result.seats.clients.items }
+    ensures pumps { IsAllPumpsOf shared.now.desk result.seats.pumps.items }
+    ensures home { ArePumpsHome shared.now.desk result.seats.pumps.items }
+    ensures replies { length result.replies.items ≡ shared.now.clients }
 {
     let Lists {
         clients: client_hands,
@@ -260,17 +261,17 @@ fn started_and_joined<
     let client_hands = start_clients(
         scope,
         rt,
-        floor,
-        hall,
+        locked,
+        shared,
         gate,
         plan.rounds,
         clients,
         client_hands,
     );
-    let pump_hands = start_pumps(scope, rt, floor, hall, gate, pumps, pump_hands);
-    start_others(scope, rt, floor, hall, gate, plan.controllers);
-    let (clients, replies) = hall.joined_clients(rt, client_hands, client_seats, replies);
-    let pumps = hall.joined_pumps(rt, pump_hands, pump_seats);
+    let pump_hands = start_pumps(scope, rt, locked, shared, gate, pumps, pump_hands);
+    start_others(scope, rt, locked, shared, gate, plan.controllers);
+    let (clients, replies) = shared.joined_clients(rt, client_hands, client_seats, replies);
+    let pumps = shared.joined_pumps(rt, pump_hands, pump_seats);
     Backs {
         seats: Seats { clients, pumps },
         replies,
@@ -281,29 +282,29 @@ fn started_and_joined<
 fn start_clients<'s, 'h: 's, E, J: Origin + Send + Sync, R: Wait + Sync, G: Gate + Sync>(
     scope: &Scope<'s, E>,
     rt: &'h R,
-    floor: &'h Floor<J>,
-    hall: &'h Hall,
+    locked: &'h LockedBus<J>,
+    shared: &'h DeskAndBoard,
     gate: &'h G,
     rounds: u32,
     parts: Vec<ClientPart>,
     mut hands: Vec<StartedClient>,
 ) -> Vec<StartedClient>
-    requires parts { AreClientParts hall.now.desk hall.now.board rounds parts.items }
-    requires room { (vec_len hands ≡ 0) × (hall.now.clients ≤ vec_capacity hands) }
-    ensures { AreStartedClients hall.now.desk result.items }
+    requires parts { AreClientParts shared.now.desk shared.now.board rounds parts.items }
+    requires room { (vec_len hands ≡ 0) × (shared.now.clients ≤ vec_capacity hands) }
+    ensures { AreStartedClients shared.now.desk result.items }
 {
     for part in parts {
-        let desk = Snapshot::of(&hall.desk);
+        let desk = Snapshot::of(&shared.desk);
         let client = part.client;
         let work = move || -> ClientBack
-            requires part { IsClientPart hall.now.desk hall.now.board part }
+            requires part { IsClientPart shared.now.desk shared.now.board part }
             requires room { HasRoomForRounds rounds part }
-            ensures { IsSeatOfClient hall.entry.now.desk part.client result.seat }
-        { part.work(rt, floor, hall, gate, rounds) };
+            ensures { IsSeatOfClient shared.entry.now.desk part.client result.seat }
+        { part.work(rt, locked, shared, gate, rounds) };
         let hand = match scope.spawn_with(ClientOf { desk, client }, work) {
             Ok(hand) => StartedClient::Thread(hand),
             Err(refused) => {
-                floor.end(Ended::NoThread);
+                locked.end(Ended::NoThread);
                 let SpawnError { value } = refused;
                 StartedClient::Here(value())
             }
@@ -317,28 +318,28 @@ fn start_clients<'s, 'h: 's, E, J: Origin + Send + Sync, R: Wait + Sync, G: Gate
 fn start_pumps<'s, 'h: 's, E, J: Origin + Send + Sync, R: Wait + Sync, G: Gate + Sync>(
     scope: &Scope<'s, E>,
     rt: &'h R,
-    floor: &'h Floor<J>,
-    hall: &'h Hall,
+    locked: &'h LockedBus<J>,
+    shared: &'h DeskAndBoard,
     gate: &'h G,
     parts: Vec<PumpPart>,
     mut hands: Vec<StartedPump>,
 ) -> Vec<StartedPump>
-    requires parts { ArePumpParts hall.now.desk hall.now.board parts.items }
-    requires room { (vec_len hands ≡ 0) × (hall.now.pumps ≤ vec_capacity hands) }
-    ensures { AreStartedPumps hall.now.desk result.items }
+    requires parts { ArePumpParts shared.now.desk shared.now.board parts.items }
+    requires room { (vec_len hands ≡ 0) × (shared.now.pumps ≤ vec_capacity hands) }
+    ensures { AreStartedPumps shared.now.desk result.items }
 {
-    let mut worker = hall.clients as u32;
+    let mut worker = shared.clients as u32;
     for part in parts {
-        let desk = Snapshot::of(&hall.desk);
+        let desk = Snapshot::of(&shared.desk);
         let pump = part.pump;
         let work = move || -> WorkSeat
-            requires { IsPumpPart hall.now.desk hall.now.board part }
-            ensures { IsSeatOfPump hall.entry.now.desk part.pump result }
-        { part.work(rt, floor, hall, gate, worker) };
+            requires { IsPumpPart shared.now.desk shared.now.board part }
+            ensures { IsSeatOfPump shared.entry.now.desk part.pump result }
+        { part.work(rt, locked, shared, gate, worker) };
         let hand = match scope.spawn_with(PumpOf { desk, pump }, work) {
             Ok(hand) => StartedPump::Thread(hand),
             Err(refused) => {
-                floor.end(Ended::NoThread);
+                locked.end(Ended::NoThread);
                 let SpawnError { value } = refused;
                 StartedPump::Here(value())
             }
@@ -353,26 +354,26 @@ fn start_pumps<'s, 'h: 's, E, J: Origin + Send + Sync, R: Wait + Sync, G: Gate +
 fn start_others<'s, 'h: 's, E, J: Origin + Send + Sync, R: Wait + Sync, G: Gate + Sync>(
     scope: &Scope<'s, E>,
     rt: &'h R,
-    floor: &'h Floor<J>,
-    hall: &Hall,
+    locked: &'h LockedBus<J>,
+    shared: &DeskAndBoard,
     gate: &'h G,
     controllers: u32,
 ) {
-    let mut worker = (hall.clients + hall.pumps) as u32;
+    let mut worker = (shared.clients + shared.pumps) as u32;
     for _ in 0..controllers {
         if scope
-            .spawn(move || floor.control(rt, gate, worker))
+            .spawn(move || locked.control(rt, gate, worker))
             .is_err()
         {
-            floor.end(Ended::NoThread);
+            locked.end(Ended::NoThread);
             return;
         }
         worker = worker.wrapping_add(1);
     }
     if scope
-        .spawn(move || floor.dispatch(rt, gate, worker))
+        .spawn(move || locked.dispatch(rt, gate, worker))
         .is_err()
     {
-        floor.end(Ended::NoThread);
+        locked.end(Ended::NoThread);
     }
 }

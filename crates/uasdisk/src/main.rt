@@ -33,7 +33,6 @@
 //! `work_run`'s, `uas_decode`'s, `disk_image`'s, `audit_run`'s, `draw_run`'s and `capture_run`'s. The rest is tested: the texts of faults and of help.
 #![tactic(auto)]
 
-mod colours;
 mod edges;
 mod hints;
 mod program;
@@ -44,10 +43,9 @@ ghost use Rattle.uas_words.specs.CommandLine.{asked_for, refusals, MayEndRun, En
 ghost use Rattle.uasdisk.specs.Ends.{HoldsOfOne};
 
 use byte_io::{HostFiles, Reader};
-use colours::is_coloured;
 use edges::{Faults, Output};
 use hints::say_hint;
-use line_colours::Painted;
+use line_colours::{Painted, are_coloured};
 use program::run_words;
 use std::cell::Cell;
 use std::io::{IsTerminal, Write};
@@ -86,7 +84,7 @@ fn start<R: Threads + Wait + Clock + Sync>(rt: &HostRuntime, threads: &R, words:
     let mut faults = Faults::new(rt.stderr(), &is_unread);
     // A file that is opened takes the place of a standard output that is closed, and would get its text.
     let is_output_open = rt.stdout().write(b"").is_ok();
-    let is_coloured = is_coloured(words, rt.stdout().is_terminal());
+    let is_coloured = are_coloured(words, rt.stdout().is_terminal());
     let mut output = is_output_open.then(|| Painted::new(
         rt.alloc(),
         Output::new(rt.stdout(), &is_unread),

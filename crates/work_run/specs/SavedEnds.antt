@@ -1,5 +1,5 @@
 -- How the run `work` ends that saves its log: what is printed, what the file holds, and the exit status.
-use Rattle.std.specs.Prelude.{◌≡◌, ℕ, ◌⊎◌, ◌&&◌, Bool, IsTrue, if◌then◌else◌, List, ◌++◌, length, Option, Some, ⊤}
+use Rattle.std.specs.Prelude.{◌≡◌, ℕ, ◌⊎◌, ◌&&◌, Bool, IsTrue, if◌then◌else◌, List, ◌++◌, length, map, Option, Some, ⊤}
 use Rattle.std.specs.Io.KnownBytes.{Appends, Keeps}
 use Rattle.scsi_cmd.specs.declared.Reply.{Reply}
 use Rattle.uas_log.specs.declared.Log.{Log}
@@ -9,17 +9,20 @@ use Rattle.log_text.specs.Text.{log_text}
 use Rattle.uas_replay.specs.declared.status.RunFault.TheVariants.{Image, ImageFile, Script, ScriptFile, NoMemory}
 use Rattle.work_run.specs.declared.faults.WorkFault.{WorkFault}
 use Rattle.work_run.specs.declared.faults.WorkFault.TheVariants.{LogFull, LogFile, Run}
+use Rattle.uas_work.specs.Booked.{first_unit}
 use Rattle.work_run.specs.Audits.{AreAudits, all_true, audit_text}
 use Rattle.work_run.specs.Tallies.{all_whole, tallies_of, work_text}
+use Rattle.work_run.specs.WorkEnds.{work_units}
 
 -- 0 where every client wrote, read and found equal each of its rounds, and every audit is true
 abbrev pub audited_status : ℕ → List (List Reply) → List Bool → ℕ
 audited_status rounds replies audits = if all_whole rounds (tallies_of replies) && all_true audits then 0 else 1
 
--- The clients took these replies of a bus with this log, which is its own replay: their lines were printed, then those of their audits,
+-- The clients took these replies of a bus with this log, which is its own replay and began with their logical units: their lines were printed, then those of their audits,
 -- and the status follows from both.
 pub record Audited (clients rounds : ℕ) (log : Log) (old new : Option (List ℕ)) (status : ℕ) : Type 0 where
   pub replay : IsReplay log
+  pub units : log.units ≡ map first_unit (work_units clients)
   pub replies : List (List Reply)
   pub of_each : length replies ≡ clients
   pub audits : List Bool

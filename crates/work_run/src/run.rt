@@ -1,8 +1,8 @@
 //! The run `work`: the threads, what they left, and what is told of it.
 
-ghost use Rattle.std.specs.Prelude.{◌≡◌, ℕ, ◌+◌, ◌*◌, ◌^◌, ◌<◌, ◌≤◌, Bool, List, Option, false, IfOk, IfErr};
+ghost use Rattle.std.specs.Prelude.{◌≡◌, ℕ, ◌+◌, ◌*◌, ◌^◌, ◌<◌, ◌≤◌, Bool, List, Option, false, map, IfOk, IfErr};
 ghost use Rattle.byte_io.specs.Disks.{AreClients};
-ghost use Rattle.shared_machine.specs.Shared.{opening};
+ghost use Rattle.uas_work.specs.Booked.{first_unit};
 ghost use Rattle.work_run.specs.WorkEnds.{GivesUp, Told, WorkEnds, work_units};
 
 use crate::Load;
@@ -121,7 +121,8 @@ pub(crate) fn ran<R: Threads + Wait + Sync>(
     load: Load,
 ) -> Result<Finished, WorkFault>
     requires { AreClients load.clients }
-    ensures { IfErr result (λ fault. (can_fail : Bool) → (text : Option (List ℕ)) → GivesUp can_fail text text fault) }
+    ensures units { IfOk result (λ finished. finished.booked.log.units ≡ map first_unit (work_units load.clients)) }
+    ensures fault { IfErr result (λ fault. (can_fail : Bool) → (text : Option (List ℕ)) → GivesUp can_fail text text fault) }
 {
     let Ok(booked) = booked(alloc, load) else {
         return Err(WorkFault::Run(RunFault::NoMemory));
@@ -144,7 +145,7 @@ pub(crate) fn ran<R: Threads + Wait + Sync>(
 /// The bus of so many zeroed units, whose log has room for the steps of all rounds.
 pub(crate) fn booked(alloc: Global, load: Load) -> Result<Booked, AllocError>
     requires { AreClients load.clients }
-    ensures { IfOk result (λ booked. booked.bus ≡ opening (work_units load.clients)) }
+    ensures { IfOk result (λ booked. booked.log.units ≡ map first_unit (work_units load.clients)) }
 {
     Booked::new(alloc, work_units(alloc, load.clients)?, step_limit(load))
 }

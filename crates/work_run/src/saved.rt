@@ -1,12 +1,13 @@
 //! The run `work` with the file of a log: each client is audited once the threads have ended, and the log is saved.
 
-ghost use Rattle.std.specs.Prelude.{◌≡◌, ◌≤◌, ◌⊎◌, ⊤, Some, false, IsTrue, IfOk, IfErr, OnOk, OnErr};
+ghost use Rattle.std.specs.Prelude.{◌≡◌, ◌≤◌, ◌⊎◌, ⊤, Some, false, IsTrue, map, IfOk, IfErr, OnOk, OnErr};
 ghost use Rattle.std.specs.Io.KnownBytes.{Keeps};
 ghost use Rattle.byte_io.specs.Disks.{AreClients};
 ghost use Rattle.log_text.specs.Kept.{saved_log};
 ghost use Rattle.log_text.specs.Text.{log_text};
 ghost use Rattle.work_run.specs.SavedEnds.{Audited, CantBeSaved, Saved, SavedGivesUp, SavingGivesUp, Unsaved};
-ghost use Rattle.work_run.specs.WorkEnds.{GivesUp};
+ghost use Rattle.uas_work.specs.Booked.{first_unit};
+ghost use Rattle.work_run.specs.WorkEnds.{GivesUp, work_units};
 
 use crate::Load;
 use crate::audits::{all_true, audits_of, push_audits};
@@ -107,7 +108,8 @@ fn tell<O: Sink>(
     finished: &Finished,
     output: &mut O,
 ) -> Result<u8, WorkFault>
-    requires { AreClients load.clients }
+    requires clients { AreClients load.clients }
+    requires units { finished.now.booked.log.units ≡ map first_unit (work_units load.clients) }
     ensures status { IfOk result (λ status. status ≤ 1) }
     ensures told { IfOk result (λ status. Audited load.clients load.rounds finished.now.booked.log
         (O.written output.old) (O.written output.new) status) }

@@ -3,6 +3,7 @@ use Rattle.log_checksum.specs.Bytes.{AreBytes}
 use Rattle.kept_log.specs.declared.KeptFault.{KeptFault}
 use Rattle.kept_log.specs.declared.Loaded.{Loaded}
 use Rattle.kept_log.specs.Loading.{IsKept, IsLoaded}
+use Rattle.kept_log.proofs.Exact.{loads_exact}
 use Rattle.kept_log.proofs.Meaning.{loaded_kept}
 use Rattle.kept_log.proofs.loading.load.Goals as goal
 
@@ -13,3 +14,7 @@ kept text (Err fault) are is = tt
 
 pub returns-clause-kept : goal.returns-clause-kept
 returns-clause-kept c = kept c.args.text.now c.records.result (λ i. omega (arith, c.type_inv.text i)) c.records.ensures.loaded
+
+pub returns-clause-exact : goal.returns-clause-exact
+returns-clause-exact c =
+    loads_exact c.args.text.now c.records.result (λ i. omega (arith, c.type_inv.text i)) c.records.ensures.loaded c.records.ensures.fault

@@ -5,10 +5,10 @@ use Rattle.uas_work.proofs.workers.start_clients.Given as goal
 
 abbrev pub invariant-loop-part : goal.invariant-loop-part
 invariant-loop-part g l =
-    let done = vec_len l.hands in let rest = l.part-iterator in let hall = l.hall in
-    (done + into_iter_len rest ≡ hall.clients)
-    × (hall.clients ≤ vec_capacity l.hands)
-    × ((k : ℕ) (d : _) → k < into_iter_len rest → IsClientPart hall.desk hall.board (get_or (into_iter_items rest) k d))
+    let done = vec_len l.hands in let rest = l.part-iterator in let shared = l.shared in
+    (done + into_iter_len rest ≡ shared.clients)
+    × (shared.clients ≤ vec_capacity l.hands)
+    × ((k : ℕ) (d : _) → k < into_iter_len rest → IsClientPart shared.desk shared.board (get_or (into_iter_items rest) k d))
     × ((k : ℕ) (d : _) → k < into_iter_len rest → (get_or (into_iter_items rest) k d).client ≡ done + k)
-    × ((k : ℕ) (d : _) → k < done → IsStartedClient hall.desk k (get_or (vec_items l.hands) k d))
+    × ((k : ℕ) (d : _) → k < done → IsStartedClient shared.desk k (get_or (vec_items l.hands) k d))
     × ((k : ℕ) (d : _) → k < into_iter_len rest → HasRoomForRounds l.rounds (get_or (into_iter_items rest) k d))

@@ -8,7 +8,7 @@ pub returns-in_err-finished-clause-fault : goal.returns-in_err-finished-clause-f
 returns-in_err-finished-clause-fault g c =
     let stopped : c.ran.result ≡ Err c.in_err-finished.field-0.0 = search rules in
     let given : c.from_residual.result ≡ Err c.in_err-finished.field-0.0 = search rules in
-    let nothing = subst (λ r. IfErr r (λ fault. (can_fail : Bool) → (text : Option (List ℕ)) → GivesUp can_fail text text fault)) stopped c.ran.ensures in
+    let nothing = subst (λ r. IfErr r (λ fault. (can_fail : Bool) → (text : Option (List ℕ)) → GivesUp can_fail text text fault)) stopped c.ran.ensures.fault in
     subst (λ r. IfErr r (GivesUp (g.O.Sink.can_fail c.args.output.now) (g.O.Sink.written c.args.output.now) (g.O.Sink.written c.args.output.now)))
     (sym given) (nothing (g.O.Sink.can_fail c.args.output.now) (g.O.Sink.written c.args.output.now))
 

@@ -10,7 +10,7 @@ returns-in-Err-clause-fault g c =
     let old = g.O.Sink.written c.args.output.now in
     let can_fail = g.O.Sink.can_fail c.args.output.now in
     gives_up_before c.args.load.clients c.args.load.rounds (g.F.Files.can_fail c.args.files.now c.args.file.now) can_fail old old c.in-Err.fault
-    (c.in-Err.ensures can_fail old)
+    (c.in-Err.ensures.fault can_fail old)
 
 -- the log that is saved is the one that was audited
 pub returns-in-Ok-save-clause-saved : goal.returns-in-Ok-save-clause-saved

@@ -6,7 +6,7 @@ use Rattle.uas_work.proofs.parts.ClientPart.awaited.Given as goal
 abbrev pub invariant-loop : goal.invariant-loop
 invariant-loop g l =
     (goal.iterator-loop g).can_next l.iterator' × (goal.iterator-loop g).is_finite l.iterator'
-    × IsClientPart l.hall.desk l.hall.board l.self
+    × IsClientPart l.shared.desk l.shared.board l.self
     × (l.self.client ≡ l.fn.self.client)
     × (l.self.replies ≡ l.fn.self.replies)
     × IsTagOf l.self.seat.client l.tag

@@ -3,4 +3,4 @@ use Rattle.uas_work.specs.Parts.{IsPumpPart}
 use Rattle.uas_work.proofs.parts.PumpPart.served_all.Given as goal
 
 abbrev pub invariant-loop-client : goal.invariant-loop-client
-invariant-loop-client g l = IsPumpPart l.hall.desk l.hall.board l.self × (l.self.pump ≡ l.fn.self.pump)
+invariant-loop-client g l = IsPumpPart l.shared.desk l.shared.board l.self × (l.self.pump ≡ l.fn.self.pump)

@@ -10,7 +10,7 @@ use Rattle.uas_work.proofs.parts.PumpPart.taken_out.Goals as goal
 
 pub returns-clause-part : goal.returns-clause-part
 returns-clause-part c =
-    let desk : MadeDesk = c.args.hall.now.desk in
+    let desk : MadeDesk = c.args.shared.now.desk in
     let reply : Option Reply = (booked_step c.args.booked.now (Take c.args.client)).1.reply in
     let old : Pump = record { seat = c.args.self.now.seat; held = c.args.self.now.held } in
     let new : Pump = record { seat = c.pump_out.new.seat; held = c.pump_out.new.held } in

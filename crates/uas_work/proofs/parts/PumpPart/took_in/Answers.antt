@@ -8,7 +8,7 @@ use Rattle.uas_work.proofs.parts.PumpPart.took_in.Goals as goal
 
 pub returns-clause-part : goal.returns-clause-part
 returns-clause-part c =
-    let desk : MadeDesk = c.args.hall.now.desk in
+    let desk : MadeDesk = c.args.shared.now.desk in
     let ticket : ℕ = turns_in c.args.client c.args.booked.now.log.steps in
     let old : Pump = record { seat = c.args.self.now.seat; held = c.args.self.now.held } in
     let new : Pump = record { seat = c.pump_in.new.seat; held = c.pump_in.new.held } in

@@ -1,0 +1,2 @@
+pub mod ControllerHalf
+pub mod DriverHalf

@@ -1,0 +1,18 @@
+use Rattle.std.specs.Prelude.{◌≡◌, ℕ, ◌+◌, ◌*◌, ◌<◌, All, get_or, vec_items, vec_len}
+use Rattle.std.specs.Vec.Iter.{into_iter_items, into_iter_len}
+use Rattle.uas_profile.specs.declared.TheConstants.{TAGS}
+use Rattle.door_board.specs.Counts.{IsSeatOf}
+use Rattle.tag_desk.specs.Seats.{IsPumpOf, IsServerBelow}
+use Rattle.uas_work.specs.Parts.{IsPumpPart}
+use Rattle.uas_work.proofs.desk_and_board.DeskAndBoard.pump_parts.Given as goal
+
+abbrev pub invariant-loop-seat : goal.invariant-loop-seat
+invariant-loop-seat l =
+    let done = vec_len l.parts in let rest = l.seat-iterator in let shared = l.self in
+    (done + into_iter_len rest ≡ shared.pumps)
+    × (l.pump ≡ done)
+    × All (IsSeatOf shared.board) (vec_items l.bells)
+    × ((k : ℕ) (d : _) → k < into_iter_len rest → IsServerBelow shared.desk (TAGS * shared.clients) (done + k) (get_or (into_iter_items rest) k d))
+    × ((k : ℕ) (d : _) → k < into_iter_len rest → IsPumpOf shared.desk (get_or (into_iter_items rest) k d))
+    × ((k : ℕ) (d : _) → k < done → IsPumpPart shared.desk shared.board (get_or (vec_items l.parts) k d))
+    × ((k : ℕ) (d : _) → k < done → (get_or (vec_items l.parts) k d).pump ≡ k)

@@ -1,0 +1,125 @@
+//! What the workers share: the bus under its lock, and why they end.
+ghost use Rattle.std.specs.Prelude.{◌≡◌};
+ghost use Rattle.uas_work.specs.Booked.{IsBooked, IsLater};
+
+use crate::handed::{Handed, Origin};
+use crate::{Booked, Booking, Ended, Gate};
+use std::alloc::Global;
+use std::sync::atomic::AtomicU64;
+use std::sync::atomic::Ordering::SeqCst;
+use std::sync::{Mutex, MutexGuard, Wait};
+use std::thread;
+
+/// What the workers share.
+#[derive(Drop)]
+pub(crate) struct LockedBus<J: Origin> {
+    pub(crate) alloc: Global,
+    booked: Mutex<Handed<J>>,
+    /// Why they ended, as a number; 0 while they work.
+    ended: AtomicU64,
+    /// The clients that have rounds left.
+    clients_left: AtomicU64,
+    /// The pumps that may still finish a claim.
+    pumps_left: AtomicU64,
+}
+
+impl<J: Origin> LockedBus<J> {
+    pub(crate) fn new(alloc: Global, booked: Booked, clients: usize, pumps: usize) -> LockedBus<J>
+        requires { booked ≡ J.first }
+    {
+        LockedBus {
+            alloc,
+            booked: Mutex::new(Handed::new(booked)),
+            ended: AtomicU64::new(Ended::Done.code()),
+            clients_left: AtomicU64::new(clients as u64),
+            pumps_left: AtomicU64::new(pumps as u64),
+        }
+    }
+
+    /// The bus with its log and why the workers ended, once all are joined.
+    pub(crate) fn into_parts(self) -> (Booked, Ended)
+        ensures later { IsLater J.first result.0 }
+        ensures booked { IsBooked result.0 }
+    {
+        let LockedBus { booked, ended, .. } = self;
+        (
+            booked.into_inner().into_booked(),
+            Ended::from_code(ended.load(SeqCst)),
+        )
+    }
+
+    /// The workers are to end. The first that says so gives the reason.
+    pub(crate) fn end(&self, why: Ended) {
+        let _ = self
+            .ended
+            .compare_exchange(Ended::Done.code(), why.code(), SeqCst, SeqCst);
+    }
+
+    /// A client took all its rounds.
+    pub(crate) fn client_done(&self) {
+        self.clients_left.fetch_sub(1, SeqCst);
+    }
+
+    /// A pump finishes no claim any more.
+    pub(crate) fn pump_done(&self) {
+        self.pumps_left.fetch_sub(1, SeqCst);
+    }
+
+    /// Whether no pump finishes a claim any more.
+    pub(crate) fn are_pumps_done(&self) -> bool {
+        self.pumps_left.load(SeqCst) == 0
+    }
+
+    /// Whether the workers were told to end.
+    pub(crate) fn is_ended(&self) -> bool {
+        self.ended.load(SeqCst) != Ended::Done.code()
+    }
+
+    /// Whether a worker has nothing more to do: it is told so, or the gate gives it no turn, which ends the others too.
+    pub(crate) fn is_over<G: Gate>(&self, gate: &G, worker: u32) -> bool {
+        if self.is_ended() || self.clients_left.load(SeqCst) == 0 {
+            return true;
+        }
+        if gate.turn(worker) {
+            return false;
+        }
+        self.end(Ended::Stopped);
+        true
+    }
+
+    /// The bus, locked.
+    pub(crate) fn lock<R: Wait>(&self, rt: &R) -> MutexGuard<'_, Handed<J>> {
+        self.booked.lock(rt)
+    }
+
+    /// The part of a controller.
+    pub(crate) fn control<R: Wait, G: Gate>(&self, rt: &R, gate: &G, worker: u32) {
+        for _ in rt.forever() {
+            if self.is_over(gate, worker) {
+                return;
+            }
+            let took = self.booked.lock(rt).control(self.alloc, gate);
+            self.rest(took);
+        }
+    }
+
+    /// The part of the dispatcher.
+    pub(crate) fn dispatch<R: Wait, G: Gate>(&self, rt: &R, gate: &G, worker: u32) {
+        for _ in rt.forever() {
+            if self.is_over(gate, worker) {
+                return;
+            }
+            let took = self.booked.lock(rt).dispatch(self.alloc, gate);
+            self.rest(took);
+        }
+    }
+
+    /// A worker that took nothing lets others run first; one whose step wasn't booked ends them.
+    pub(crate) fn rest(&self, took: Result<bool, Booking>) {
+        match took {
+            Ok(true) => {}
+            Ok(false) => thread::yield_now(),
+            Err(booking) => self.end(Ended::from_booking(booking)),
+        }
+    }
+}

@@ -8,11 +8,13 @@
 //! go over tags that have nothing to do.
 #![tactic(auto)]
 
-ghost use Rattle.std.specs.Prelude.{◌≡◌, ◌≤◌, ◌<◌, IfSome, Some, None, option_map, length, min, slice_index, true};
+ghost use Rattle.std.specs.Prelude.{◌≡◌, ℕ, ◌≤◌, ◌<◌, IfSome, IfNone, Some, None, option_map, length, min, slice_index, true, false};
+ghost use Rattle.marks.specs.Marks.{is_marked};
 ghost use Rattle.uas_iu.specs.Units.{IsTextOf, unit_text};
 ghost use Rattle.uas_target.specs.Fields.{tag_in};
-ghost use Rattle.uas_tasks.specs.Machine.{Machine, answer_on, answered, opening, quiet, powered_machine, received, tasks_ended, wanted};
+ghost use Rattle.uas_tasks.specs.Machine.{Machine, answer_on, answered, next_of, opening, quiet, powered_machine, received, tasks_ended, wanted};
 ghost use Rattle.guest_tags.specs.Devices.{IsChunk, Kind};
+ghost use Rattle.guest_tasks.specs.Active.{asks_on, is_asking};
 ghost use Rattle.guest_tasks.specs.Tasks.{end_of, end_of_status, gives_of, phase_of, received_as, received_told, takes_of, tasks_kind, text_of};
 
 use arrayvec::ArrayVec;
@@ -116,7 +118,8 @@ fn mark_received(active: &mut Marks<4>, received: Received) {
 impl GuestTasks {
     /// A device behind the pipes, without an active tag.
     pub fn new(tasks: Tasks) -> GuestTasks
-        ensures { result.tasks ≡ tasks }
+        ensures tasks { result.tasks ≡ tasks }
+        ensures active { (place : ℕ) → is_marked result.active place ≡ false }
     {
         GuestTasks {
             tasks,
@@ -126,7 +129,9 @@ impl GuestTasks {
 
     /// The first active tag from one on.
     pub fn next_active(&self, from: u16) -> Option<u16>
-        ensures { IfSome result (λ tag. (from ≤ tag) × (tag < 256)) }
+        ensures next { IfSome result (λ tag. (from ≤ tag) × (tag < 256) × (is_marked self.now.active tag ≡ true)
+            × ((other : ℕ) → from ≤ other → other < tag → is_marked self.now.active other ≡ false)) }
+        ensures none { IfNone result ((other : ℕ) → from ≤ other → is_marked self.now.active other ≡ false) }
     {
         match self.active.next_from(usize::from(from)) {
             Some(tag) => Some(tag as u16),
@@ -136,38 +141,63 @@ impl GuestTasks {
 
     /// A tag that has no task isn't active any more, until an information unit comes on it.
     pub fn rest(&mut self, tag: u16)
-        ensures { self.new.tasks ≡ self.old.tasks }
+        ensures tasks { self.new.tasks ≡ self.old.tasks }
+        ensures here { wanted self.old.tasks tag ≡ Wants.Absent → tag < 256 → is_marked self.new.active tag ≡ false }
+        ensures busy { (wanted self.old.tasks tag ≡ Wants.Absent → ⊥) → self.new ≡ self.old }
+        ensures others { (other : ℕ) → (other ≡ tag → ⊥) → is_marked self.new.active other ≡ is_marked self.old.active other }
     {
         if tag < 256 && matches!(self.tasks.wants(tag), Wants::Absent) {
             self.active.set(usize::from(tag), false);
         }
     }
 
-    /// The next request that is to be asked, of the tags from one on: it is out from then on.
-    pub fn next_request(&mut self, from: u16) -> Option<Next> {
+    /// Whether a tag's request is to be asked.
+    fn asks(&self, tag: u16) -> bool
+        ensures { result ≡ is_asking (wanted self.now.tasks tag) }
+    {
+        matches!(self.tasks.wants(tag), Wants::Asks)
+    }
+
+    /// The first active tag from one on whose request is to be asked.
+    fn next_asking(&self, from: u16) -> Option<u16>
+        ensures next { IfSome result (λ tag. (from ≤ tag) × (asks_on self.now tag ≡ true)
+            × ((other : ℕ) → from ≤ other → other < tag → asks_on self.now other ≡ false)) }
+        ensures none { IfNone result ((other : ℕ) → from ≤ other → asks_on self.now other ≡ false) }
+    {
         let mut tag = from;
-        for _ in 0..256u16 {
-            let Some(active) = self.next_active(tag) else {
-                return None;
-            };
-            if matches!(self.tasks.wants(active), Wants::Asks) {
-                return Some(self.tasks.next(active));
+        while let Some(active) = self.next_active(tag) {
+            if self.asks(active) {
+                return Some(active);
             }
             tag = active + 1;
         }
         None
     }
 
+    /// The next request that is to be asked, of the active tags from one on: it is out from then on.
+    pub fn next_request(&mut self, from: u16) -> Option<Next>
+        ensures asks { IfSome result (λ next. (tag : ℕ) × (from ≤ tag) × (asks_on self.old tag ≡ true)
+            × ((other : ℕ) → from ≤ other → other < tag → asks_on self.old other ≡ false)
+            × ((self.new.tasks, next) ≡ next_of self.old.tasks tag)) }
+        ensures none { IfNone result ((self.new ≡ self.old) × ((other : ℕ) → from ≤ other → asks_on self.old other ≡ false)) }
+        ensures active { self.new.active ≡ self.old.active }
+    {
+        match self.next_asking(from) {
+            Some(tag) => Some(self.tasks.next(tag)),
+            None => None,
+        }
+    }
+
     /// A reset of the device by its bus: no tag has a task, and each logical unit owes the unit attention of one that was powered on.
     pub fn power_on(&mut self)
-        ensures { self.new.tasks ≡ powered_machine self.old.tasks }
+        ensures { self.new ≡ record self.old { tasks = powered_machine self.old.tasks } }
     {
         self.tasks.power_on();
     }
 
     /// Ends every task without an answer.
     pub fn end_tasks(&mut self)
-        ensures { self.new.tasks ≡ tasks_ended self.old.tasks }
+        ensures { self.new ≡ record self.old { tasks = tasks_ended self.old.tasks } }
     {
         self.tasks.end_tasks();
     }

@@ -180,6 +180,7 @@ impl ControlPipe {
         ensures step { record { memory = M.contents memory.new; events = events.new; consumer = self.now.consumer }
             ≡ unwrap_or (stop_looked (record { memory = M.contents memory.old; events = events.old; consumer = self.now.consumer }) (Endpoint self.now.home))
             (record { memory = M.contents memory.old; events = events.old; consumer = self.now.consumer }) }
+        ensures done { is_ok result ≡ is_some (stop_looked (record { memory = M.contents memory.old; events = events.old; consumer = self.now.consumer }) (Endpoint self.now.home)) }
         ensures same_loan { M.loan memory.new ≡ M.loan memory.old }
     {
         self.consumer

@@ -1,10 +1,12 @@
 //! Register accesses, and what they ask for beyond the registers.
-ghost use Rattle.std.specs.Prelude.{◌≡◌, ◌<◌, ◌%◌, IfOk, option_copied, true};
-ghost use Rattle.uas_tasks.specs.Machine.{answered, bytes_out};
-ghost use Rattle.xhci_registers.specs.Signals.{is_asserted, messaged, plugged};
+ghost use Rattle.std.specs.Prelude.{◌≡◌, ℕ, ◌<◌, ◌≤◌, ◌%◌, IfOk, IfSome, IfNone, option_copied, true, false};
+ghost use Rattle.guest_tasks.specs.Active.{asks_on};
+ghost use Rattle.uas_tasks.specs.Machine.{answered, bytes_out, next_of};
+ghost use Rattle.xhci_registers.specs.Signals.{is_asserted, messaged};
 ghost use Rattle.xhci_registers.specs.Words.{read_of};
 ghost use Rattle.xhci_registers.specs.Writes.{reset_registers};
 ghost use Rattle.xhci_machine.specs.Access.{both_set, page_written, word_set};
+ghost use Rattle.xhci_machine.specs.Effects.{all_reset, both_done, device_reset, opened, page_done, plugged_in, rung, word_done};
 
 use crate::Machine;
 use crate::interrupts::Interrupts;
@@ -29,6 +31,7 @@ impl Machine {
     pub fn new(alloc: Global, tasks: Tasks) -> Result<Machine, AllocError>
         ensures registers { IfOk result (λ machine. machine.registers ≡ reset_registers true) }
         ensures device { IfOk result (λ machine. machine.device.tasks ≡ tasks) }
+        ensures all { IfOk result (λ machine. machine ≡ opened machine.device) }
     {
         Ok(Machine {
             registers: Registers::new(true),
@@ -52,7 +55,8 @@ impl Machine {
     /// A write of the register page: 4 or 8 bytes at a multiple of 4, the low half first; any other does nothing. It takes no step: it
     /// notes what is to be done (5.4 to 5.6).
     pub fn write(&mut self, offset: u64, width: Width, value: u64)
-        ensures { self.new.registers ≡ page_written self.old.registers offset width value }
+        ensures registers { self.new.registers ≡ page_written self.old.registers offset width value }
+        ensures all { self.new ≡ page_done self.old offset width value }
     {
         if offset % 4 != 0 || offset >= PAGE_BYTES {
             return;
@@ -66,15 +70,17 @@ impl Machine {
 
     fn write_both(&mut self, offset: u64, value: u64)
         requires { offset < 4096 }
-        ensures { self.new.registers ≡ both_set self.old.registers offset value }
+        ensures registers { self.new.registers ≡ both_set self.old.registers offset value }
+        ensures all { self.new ≡ both_done self.old offset value }
     {
         self.write_word(offset, (value % 0x1_0000_0000) as u32);
         self.write_word(offset + 4, (value / 0x1_0000_0000) as u32);
     }
 
-    #[tactic(auto, unfolding(crate::specs::Access::word_set))]
+    #[tactic(auto, unfolding(crate::specs::Access::word_set, crate::specs::Effects::word_done))]
     fn write_word(&mut self, offset: u64, value: u32)
-        ensures { self.new.registers ≡ word_set self.old.registers offset value }
+        ensures registers { self.new.registers ≡ word_set self.old.registers offset value }
+        ensures all { self.new ≡ word_done self.old offset value }
     {
         match self.registers.write_word(offset, value) {
             Effect::Nothing => (),
@@ -89,7 +95,7 @@ impl Machine {
     }
 
     fn ring_doorbell(&mut self, target: u8, stream: u16)
-        ensures { self.new.registers ≡ self.old.registers }
+        ensures { self.new ≡ rung self.old target stream }
     {
         if target == CONTROL_TARGET {
             self.control.ring_doorbell();
@@ -100,7 +106,7 @@ impl Machine {
 
     /// The disk is reset: it isn't configured, every task is gone, and each logical unit owes a unit attention.
     fn reset_device(&mut self)
-        ensures { self.new.registers ≡ self.old.registers }
+        ensures { self.new ≡ device_reset self.old }
     {
         self.device.power_on();
         self.transfers.clear_tags();
@@ -109,7 +115,7 @@ impl Machine {
 
     /// All but the registers, as a reset of the controller leaves it.
     fn reset_all(&mut self)
-        ensures { self.new.registers ≡ self.old.registers }
+        ensures { self.new ≡ all_reset self.old }
     {
         self.reset_device();
         self.slot = Slot::free();
@@ -125,7 +131,7 @@ impl Machine {
 
     /// A reset of the controller from outside (of the PCI function, say): as HCRST.
     pub fn reset(&mut self)
-        ensures { self.new.registers ≡ reset_registers self.old.registers.port.attached }
+        ensures { self.new ≡ all_reset (record self.old { registers = reset_registers self.old.registers.port.attached }) }
     {
         self.registers = Registers::new(self.registers.port.attached);
         self.reset_all();
@@ -133,7 +139,7 @@ impl Machine {
 
     /// Plugs the disk in, or pulls it, which resets it.
     pub fn plug(&mut self, attached: bool)
-        ensures { self.new.registers ≡ plugged self.old.registers attached }
+        ensures { self.new ≡ plugged_in self.old attached }
     {
         self.registers.plug(attached);
         if !attached {
@@ -143,7 +149,7 @@ impl Machine {
 
     /// Sets MFINDEX.
     pub fn set_frame_index(&mut self, frame_index: u16)
-        ensures { self.new.registers ≡ record self.old.registers { frame_index = frame_index % 0x4000 } }
+        ensures { self.new ≡ record self.old { registers = record self.old.registers { frame_index = frame_index % 0x4000 } } }
     {
         self.registers.frame_index = frame_index % 0x4000;
     }
@@ -158,13 +164,19 @@ impl Machine {
     /// Whether a message is to be sent (MSI, MSI-X): true once for each interrupt.
     pub fn take_message(&mut self) -> bool
         ensures message { result ≡ is_asserted self.old.registers }
-        ensures registers { self.new.registers ≡ messaged self.old.registers }
+        ensures registers { self.new ≡ record self.old { registers = messaged self.old.registers } }
     {
         self.registers.take_message()
     }
 
     /// The next request to the backend that isn't out yet; it is out from then on.
-    pub fn next_request(&mut self) -> Option<Next> {
+    pub fn next_request(&mut self) -> Option<Next>
+        ensures asks { IfSome result (λ next. (tag : ℕ) × (1 ≤ tag) × (asks_on self.old.device tag ≡ true)
+            × ((other : ℕ) → 1 ≤ other → other < tag → asks_on self.old.device other ≡ false)
+            × ((self.new.device.tasks, next) ≡ next_of self.old.device.tasks tag)) }
+        ensures none { IfNone result ((self.new ≡ self.old) × ((other : ℕ) → 1 ≤ other → asks_on self.old.device other ≡ false)) }
+        ensures rest { self.new ≡ record self.old { device = record self.old.device { tasks = self.new.device.tasks } } }
+    {
         self.device.next_request(1)
     }
 
@@ -182,7 +194,8 @@ impl Machine {
         outcome: Outcome,
         bytes: &[u8],
     ) -> Result<(), AnswerFault>
-        ensures { (self.new.device.tasks, result) ≡ answered self.old.device.tasks number outcome bytes.now }
+        ensures tasks { (self.new.device.tasks, result) ≡ answered self.old.device.tasks number outcome bytes.now }
+        ensures rest { self.new ≡ record self.old { device = record self.old.device { tasks = self.new.device.tasks } } }
     {
         self.device.tasks.answered(number, outcome, bytes)
     }

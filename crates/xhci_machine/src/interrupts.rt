@@ -1,5 +1,6 @@
 //! Interrupter 0: its event ring, by its segment table and ERDP (xHCI 1.2, 4.9.4, 4.17 and 6.5).
-ghost use Rattle.std.specs.Prelude.{◌≡◌};
+ghost use Rattle.std.specs.Prelude.{◌≡◌, ◌||◌, None, true};
+ghost use Rattle.xhci_machine.specs.Effects.{no_event_ring};
 
 use byteorder::{ByteOrder, LittleEndian};
 use guest_memory::{GuestMemory, Outside};
@@ -74,7 +75,9 @@ pub(crate) fn post<M: GuestMemory>(
 
 impl Interrupts {
     /// No event ring.
-    pub fn none() -> Interrupts {
+    pub fn none() -> Interrupts
+        ensures { result ≡ no_event_ring }
+    {
         Interrupts {
             ring: None,
             dequeued: false,
@@ -84,12 +87,16 @@ impl Interrupts {
     }
 
     /// The event ring begins anew: its table is read at the next step.
-    pub fn restart(&mut self) {
+    pub fn restart(&mut self)
+        ensures { self.new ≡ record self.old { ring = None } }
+    {
         self.ring = None;
     }
 
     /// ERDP was written, and cleared EHB by that or not.
-    pub fn note_dequeue(&mut self, cleared_busy: bool) {
+    pub fn note_dequeue(&mut self, cleared_busy: bool)
+        ensures { self.new ≡ record self.old { dequeued = true; cleared_busy = self.old.cleared_busy || cleared_busy } }
+    {
         self.dequeued = true;
         self.cleared_busy = self.cleared_busy || cleared_busy;
     }

@@ -21,9 +21,11 @@
 //! 6. A tag whose request is at the backend waits; no other tag does.
 //!
 //! What is promised: every call is safe and total, for any bytes in memory, any register access and any order; no step takes memory
-//! ([`Machine::new`] takes all). A read is `read_of`, a write `page_written`, the interrupt's pin `is_asserted`, a TRB of the command ring
-//! `command_in`, and an answer of the backend `answered` of uas_tasks. The steps of the pipes and of endpoint 0, the commands on the slot and
-//! the register writes are the equations of the crates below; how they are put together here is tested.
+//! ([`Machine::new`] takes all). A read is `read_of`, and the interrupt's pin `is_asserted`. Of the whole machine, a write is `page_done`, with
+//! what it asks for beyond the registers, and so are a reset, the plug, MFINDEX and a message an equation each. The next request is that of
+//! the first active tag that asks; an answer of the backend is `answered` of uas_tasks; neither changes anything else. A TRB of the command
+//! ring is `command_in`. The steps of the pipes and of endpoint 0 and the commands on the slot are the equations of the crates below; how
+//! [`Machine::work`] puts them together is tested.
 //!
 //! It stands on `xhci_registers`, `xhci_slots`, `xhci_control`, `guest_transfers` and `guest_tasks`.
 #![tactic(auto)]

@@ -1,6 +1,7 @@
 //! The command ring (xHCI 1.2, 4.6 and 4.9.3).
-ghost use Rattle.std.specs.Prelude.{◌≡◌, true};
+ghost use Rattle.std.specs.Prelude.{◌≡◌, true, false, None};
 ghost use Rattle.guest_pipes.specs.Step.{has_place};
+ghost use Rattle.xhci_machine.specs.Effects.{idle_ring};
 
 use crate::Machine;
 use crate::command::{Command, read_command};
@@ -40,7 +41,9 @@ pub(crate) struct Ended {
 }
 
 impl CommandRing {
-    pub fn idle() -> CommandRing {
+    pub fn idle() -> CommandRing
+        ensures { result ≡ idle_ring }
+    {
         CommandRing {
             rung: false,
             owes_stop: false,
@@ -48,12 +51,16 @@ impl CommandRing {
         }
     }
 
-    pub fn ring_doorbell(&mut self) {
+    pub fn ring_doorbell(&mut self)
+        ensures { self.new ≡ record self.old { rung = true } }
+    {
         self.rung = true;
     }
 
     /// It was stopped by CS or CA: an event tells so.
-    pub fn stop(&mut self) {
+    pub fn stop(&mut self)
+        ensures { self.new ≡ record { rung = false; owes_stop = true; stopping = None } }
+    {
         self.rung = false;
         self.owes_stop = true;
         self.stopping = None;

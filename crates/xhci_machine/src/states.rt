@@ -1,4 +1,7 @@
 //! The states of the endpoints.
+ghost use Rattle.std.specs.Prelude.{◌≡◌};
+ghost use Rattle.xhci_machine.specs.Effects.{all_disabled};
+
 use guest_pipes::EndpointState;
 use xhci_contexts::EndpointState as ContextState;
 
@@ -13,7 +16,9 @@ pub(crate) struct States {
 }
 
 impl States {
-    pub fn disabled() -> States {
+    pub fn disabled() -> States
+        ensures { result ≡ all_disabled }
+    {
         States {
             control: EndpointState::Disabled,
             command: EndpointState::Disabled,

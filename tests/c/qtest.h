@@ -26,7 +26,7 @@
 #define GUEST_HIGH 0x100000000u
 #define GUEST_BYTES 0xc0000000u
 
-enum { QTEST_SECONDS = 60 };
+enum { QTEST_SECONDS = 30 };
 
 static uint8_t *guest_memory;
 static int qtest_socket;
@@ -40,6 +40,8 @@ static void fail(const char *what, uint64_t number)
 {
     fprintf(stderr, "real_controller: %s: %" PRIx64 "\n", what, number);
     show_state();
+    if (qemu > 0)
+        kill(qemu, SIGKILL);
     exit(1);
 }
 
@@ -139,8 +141,13 @@ static void set_config(uint32_t device, uint32_t at, uint32_t value)
 static void end_qemu(void)
 {
     if (qemu > 0) {
+        settle();
         kill(qemu, SIGKILL);
         waitpid(qemu, NULL, 0);
+        munmap(guest_memory, GUEST_BYTES);
+        close(qtest_socket);
+        guest_memory = NULL;
+        qemu = 0;
     }
 }
 
@@ -153,7 +160,7 @@ static int new_file(const char *name, uint64_t bytes)
     return file;
 }
 
-/* Starts QEMU with these words behind those for its memory and its socket, in the current folder. */
+/* Starts QEMU, a new one where there is one, with these words behind those for its memory and its socket, in the current folder. */
 static void start_qemu(const char *const *more)
 {
     struct sockaddr_un name = { .sun_family = AF_UNIX, .sun_path = "qtest.socket" };
@@ -163,6 +170,7 @@ static void start_qemu(const char *const *more)
     size_t count = 17;
     while (*more != NULL && count < 63)
         words[count++] = *more++;
+    end_qemu();
     int file = new_file("guest.memory", GUEST_BYTES), listener = socket(AF_UNIX, SOCK_STREAM, 0);
     guest_memory = mmap(NULL, GUEST_BYTES, PROT_READ | PROT_WRITE, MAP_SHARED, file, 0);
     unlink(name.sun_path);
@@ -175,12 +183,15 @@ static void start_qemu(const char *const *more)
         execvp(words[0], (char *const *)(uintptr_t)words);
         _exit(127);
     }
-    atexit(end_qemu);
     signal(SIGPIPE, SIG_IGN);
     struct pollfd readable = { .fd = listener, .events = POLLIN };
     if (poll(&readable, 1, QTEST_SECONDS * 1000) != 1 || (qtest_socket = accept(listener, NULL, NULL)) < 0)
         fail("QEMU doesn't start", QTEST_SECONDS);
     close(listener);
+    send_line("endianness\n"); /* answered once all is open */
+    settle();
+    unlink("guest.memory");
+    unlink(name.sun_path);
 }
 
 #endif

@@ -299,7 +299,7 @@ static void wait_until(uint16_t most, bool gives_up)
     }
 }
 
-/* A new driver over a controller and a disk that were reset. */
+/* A new driver over a new QEMU with the same disk. One that is reset with commands under way uses what it has freed (usb_uas_handle_reset). */
 static void begin(void)
 {
     uint64_t more;
@@ -308,6 +308,7 @@ static void begin(void)
     uas_driver_free(driver);
     if (uas_driver_new(1, &driver) != UAS_OK)
         fail("no driver", 0);
+    start_controller();
     run_controller();
     first_event = last_event = 0;
     empty_rings();
@@ -317,7 +318,7 @@ static void begin(void)
 }
 
 /* Some commands are given up, and all from which data is to come: QEMU loses data of a pipe that is stopped, and ends itself where it had it
- * ready then (usb_packet_complete: "usb packet state check failed"). It keeps their statuses, so the disk is reset. */
+ * ready then (usb_packet_complete: "usb packet state check failed"). It keeps their statuses, so it starts anew. */
 static void give_up_some(void)
 {
     for (uint16_t tag = 1; tag < TAGS; tag++) {
@@ -373,20 +374,17 @@ int main(int count, char **words)
     seed = (count > 2 ? strtoul(words[2], NULL, 10) : 1) * 0x9e3779b97f4a7c15u + 1;
     memset(candidates, 1, sizeof candidates);
     close(new_file("disk", (uint64_t)BLOCKS * UAS_BLOCK_BYTES));
-    start_controller();
-    unlink("disk");
-    unlink("guest.memory");
-    unlink("qtest.socket");
     begin();
     for (unsigned long round = 0; round < rounds; round++)
         do_round();
     wait_until(0, lost);
     begin();
     read_all();
-    begin();
+    end_qemu();
+    unlink("disk");
     uas_driver_free(driver);
     printf("%lu rounds: %" PRIu64 " statuses, %" PRIu64 " aborted, %" PRIu64 " responses, %" PRIu64 " failed; %" PRIu64 " stops, %" PRIu64
            " commands of the ring refused, %" PRIu64 " stray events, %" PRIu64 " blocks out of range, %" PRIu64 " unit attentions, %" PRIu64
-           " resets, %" PRIu64 " pipes given up\n",
+           " times given up, %" PRIu64 " pipes given up\n",
            rounds, replies[1], replies[2], replies[3], replies[4], stops, refusals, strays, checks, attentions, resets, pipes_lost);
 }

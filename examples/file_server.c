@@ -1,4 +1,4 @@
-/* A file as a network block device: uas_tasks behind NBD (fixed newstyle handshake, simple replies), up to seven connections with up to 32 requests
+/* A file as a network block device: uas_tasks behind NBD (fixed newstyle handshake, simple replies), up to eight connections with up to 32 requests
  * each at once. Each request is one command: READ(16), WRITE(16) or SYNCHRONIZE CACHE(16). Each connection has a disk of its own over the file, in
  * one call at a time, under a lock; each tag has a thread, which receives a request, does its command's moves of blocks by pread, pwrite and
  * fdatasync, and replies. So no request goes from thread to thread, and connections don't wait for each other.
@@ -17,7 +17,7 @@
 #include <sys/un.h>
 #include <unistd.h>
 
-enum { CONNECTIONS = 7, TAGS = 32, CHUNK = 128, MOST_BLOCKS = 65528, MOST_BYTES = 32768 * UAS_BLOCK_BYTES };
+enum { CONNECTIONS = 8, TAGS = 32, CHUNK = 128, MOST_BLOCKS = 65528, MOST_BYTES = 32768 * UAS_BLOCK_BYTES };
 enum { READ = 0, WRITE = 1, LEAVE = 2, FLUSH = 3, FUA = 1, HAS_FLAGS = 1, SENDS_FLUSH = 4, SENDS_FUA = 8, MANY = 256 };
 enum { DONE = 0, NO_IO = 5, INVALID = 22 };
 enum { EXPORT_NAME = 1, ABORT = 2, INFO = 6, GO = 7, ACK = 1, ABOUT = 3 };

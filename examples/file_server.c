@@ -1,7 +1,7 @@
 /* A file as a network block device: uas_tasks behind NBD (fixed newstyle handshake, simple replies), up to seven connections with up to 32 requests
- * each at once. Each request is one command of the disk: READ(16), WRITE(16) or SYNCHRONIZE CACHE(16). Each tag has a thread, which receives a
- * request, does its command's moves of blocks by pread, pwrite and fdatasync, and replies: no request goes from thread to thread. The disk itself
- * is in one call at a time, under a lock.
+ * each at once. Each request is one command: READ(16), WRITE(16) or SYNCHRONIZE CACHE(16). Each connection has a disk of its own over the file, in
+ * one call at a time, under a lock; each tag has a thread, which receives a request, does its command's moves of blocks by pread, pwrite and
+ * fdatasync, and replies. So no request goes from thread to thread, and connections don't wait for each other.
  *
  *   cc -O2 -Iinclude examples/file_server.c $(bindings/archive tasks) -lpthread -o file_server && ./file_server FILE SOCKET
  *   nbdcopy nbd+unix:///?socket=SOCKET copy */
@@ -40,27 +40,30 @@ struct __attribute__((packed)) reply {
 
 struct connection;
 
-/* A request under its tag, in the host's order, with its data behind the place of a reply. */
+/* A request under its tag, in the host's order, with its data behind the place of a reply. `moved` bytes of them were given or taken; what the
+ * disk asks for are the `size` bytes at `place`. */
 struct job {
     struct connection *from;
+    uint16_t tag;
     struct request request;
     struct reply *reply;
-    uint8_t *data, bytes[CHUNK * UAS_BLOCK_BYTES];
+    uint8_t *data;
     size_t room, moved;
-    uint16_t tag;
+    struct uas_request asked;
+    uint8_t *place;
+    size_t size;
 };
 
 struct connection {
     pthread_t thread;
     int socket;
     bool left; /* the client has */
-    pthread_mutex_t reading, writing;
+    pthread_mutex_t reading, device, writing;
+    uas_tasks *tasks;
     struct job jobs[TAGS];
 };
 
-static pthread_mutex_t device = PTHREAD_MUTEX_INITIALIZER;
 static struct connection connections[CONNECTIONS];
-static uas_tasks *tasks;
 static uint64_t size;
 static int file, listener;
 
@@ -102,66 +105,86 @@ static void begin(struct job *job)
     unit[17] = job->request.type == WRITE && job->request.flags & FUA ? 8 : 0;
     memcpy(unit + 18, &block, 8);
     memcpy(unit + 26, &count, 4);
-    must(uas_tasks_receive(tasks, unit, sizeof unit, &began) == UAS_OK && began == job->tag, "no command");
+    must(uas_tasks_receive(job->from->tasks, unit, sizeof unit, &began) == UAS_OK && began == job->tag, "no command");
 }
 
-/* Moves a request's blocks between the file and `bytes`. */
-static uint8_t move(const struct uas_request *request, uint8_t *bytes)
+/* Finds the place of a request's bytes: behind those that were moved, or, of a write, the last of them. */
+static void find_place(struct job *job)
 {
-    ssize_t length = (ssize_t)request->count * UAS_BLOCK_BYTES;
-    off_t at = (off_t)request->block * UAS_BLOCK_BYTES;
-    bool good = true;
-    if (request->kind == UAS_REQUEST_READ)
-        good = pread(file, bytes, (size_t)length, at) == length;
-    if (request->kind == UAS_REQUEST_WRITE)
-        good = pwrite(file, bytes, (size_t)length, at) == length;
-    if (request->kind == UAS_REQUEST_SYNC || request->through)
-        good = good && fdatasync(file) == 0;
-    return good ? UAS_DONE : UAS_MEDIUM_ERROR;
+    bool writes = job->asked.kind == UAS_REQUEST_WRITE;
+    job->size = job->asked.kind == UAS_REQUEST_SYNC ? 0 : (size_t)job->asked.count * UAS_BLOCK_BYTES;
+    job->place = job->data + job->moved - (writes ? job->size : 0);
+    must(!writes || uas_tasks_data(job->from->tasks, job->asked.number, job->place, job->size) == UAS_OK, "no bytes");
 }
 
-/* Goes on with a tag, under the lock of the disk, until it asks or ends; what it asks for, with a write's bytes. */
-static bool asks(struct job *job, struct uas_request *request)
+/* Goes on with a tag, under the lock of the disk, until it asks or ends. */
+static bool asks(struct job *job)
 {
+    uas_tasks *tasks = job->from->tasks;
     for (;;) {
         uint8_t phase;
         uint64_t length;
-        must(uas_tasks_next(tasks, job->tag, &phase, &length, request) == UAS_OK, "no task");
+        must(uas_tasks_next(tasks, job->tag, &phase, &length, &job->asked) == UAS_OK, "no task");
         if (phase == UAS_GIVES)
             must(uas_tasks_give(tasks, job->tag, job->data + job->moved, (size_t)length) == UAS_OK, "no data");
         else if (phase == UAS_TAKES)
             must(uas_tasks_take(tasks, job->tag, job->data + job->moved, (size_t)length) == UAS_OK, "no data");
+        else if (phase != UAS_ASKS)
+            return false;
         else {
-            if (phase == UAS_ASKS && request->kind == UAS_REQUEST_WRITE)
-                must(uas_tasks_data(tasks, request->number, job->bytes, (size_t)request->count * UAS_BLOCK_BYTES) == UAS_OK, "no bytes");
-            return phase == UAS_ASKS;
+            find_place(job);
+            return true;
         }
         job->moved += (size_t)length;
     }
 }
 
+/* Moves the bytes of what is asked between the file and their place. */
+static uint8_t move(const struct job *job)
+{
+    off_t at = (off_t)job->asked.block * UAS_BLOCK_BYTES;
+    bool good = true;
+    if (job->asked.kind == UAS_REQUEST_READ)
+        good = pread(file, job->place, job->size, at) == (ssize_t)job->size;
+    if (job->asked.kind == UAS_REQUEST_WRITE)
+        good = pwrite(file, job->place, job->size, at) == (ssize_t)job->size;
+    if (job->asked.kind == UAS_REQUEST_SYNC || job->asked.through)
+        good = good && fdatasync(file) == 0;
+    return good ? UAS_DONE : UAS_MEDIUM_ERROR;
+}
+
 /* A command from its beginning to its end; the error of its reply. */
 static uint32_t run(struct job *job)
 {
-    struct uas_request request;
+    uas_tasks *tasks = job->from->tasks;
+    pthread_mutex_t *device = &job->from->device;
     uint8_t status[UAS_MOST_UNIT_BYTES];
     uint64_t length;
     job->moved = 0;
-    pthread_mutex_lock(&device);
+    pthread_mutex_lock(device);
     begin(job);
-    while (asks(job, &request)) {
-        pthread_mutex_unlock(&device);
-        uint8_t outcome = move(&request, job->bytes);
-        size_t moved = request.kind == UAS_REQUEST_READ && outcome == UAS_DONE ? (size_t)request.count * UAS_BLOCK_BYTES : 0;
-        pthread_mutex_lock(&device);
-        must(uas_tasks_answered(tasks, request.number, outcome, job->bytes, moved) == UAS_OK, "no request");
+    while (asks(job)) {
+        pthread_mutex_unlock(device);
+        uint8_t outcome = move(job);
+        size_t moved = job->asked.kind == UAS_REQUEST_READ && outcome == UAS_DONE ? job->size : 0;
+        pthread_mutex_lock(device);
+        must(uas_tasks_answered(tasks, job->asked.number, outcome, job->place, moved) == UAS_OK, "no request");
     }
     must(uas_tasks_status(tasks, job->tag, status, sizeof status, &length) == UAS_OK && uas_tasks_sent(tasks, job->tag) == UAS_OK, "no status");
-    pthread_mutex_unlock(&device);
+    pthread_mutex_unlock(device);
     return status[6] == UAS_GOOD ? DONE : NO_IO;
 }
 
 /* ---- Requests ---- */
+
+static void make_room(struct job *job, size_t length)
+{
+    free(job->reply);
+    job->reply = malloc(sizeof *job->reply + length);
+    must(job->reply != NULL, "no memory");
+    job->data = (uint8_t *)(job->reply + 1);
+    job->room = length;
+}
 
 /* Receives a request into a job; false at the client's end. */
 static bool receive(struct job *job)
@@ -175,12 +198,8 @@ static bool receive(struct job *job)
     now->offset = be64toh(now->offset);
     now->length = be32toh(now->length);
     bool moves = now->type == READ || now->type == WRITE;
-    if (moves && now->length > job->room && now->length <= MOST_BYTES) {
-        free(job->reply);
-        job->reply = malloc(sizeof *job->reply + (job->room = now->length));
-        must(job->reply != NULL, "no memory");
-        job->data = (uint8_t *)(job->reply + 1);
-    }
+    if (moves && now->length > job->room && now->length <= MOST_BYTES)
+        make_room(job, now->length);
     return now->type != LEAVE && (now->type != WRITE || (now->length <= MOST_BYTES && get(from, job->data, now->length)));
 }
 
@@ -253,10 +272,12 @@ static bool greet(int client)
     return false;
 }
 
-/* The tags of a connection serve a client. */
+/* The tags of a connection serve a client. The disk is made for the first. */
 static void serve_client(struct connection *here)
 {
+    struct uas_tasks_unit unit = { size / UAS_BLOCK_BYTES, 1, UAS_BLOCK_BYTES };
     pthread_t threads[TAGS];
+    must(here->tasks != NULL || uas_tasks_new(&unit, 1, UAS_SET_HOST, MOST_BLOCKS, CHUNK, &here->tasks) == UAS_OK, "no disk");
     here->left = false;
     for (int k = 0; k < TAGS; k++)
         must(pthread_create(&threads[k], NULL, serve, &here->jobs[k]) == 0, "no thread");
@@ -276,15 +297,15 @@ static void *accept_clients(void *whole)
     return NULL;
 }
 
-static void open_connection(int number)
+static void open_connection(struct connection *here)
 {
-    struct connection *here = &connections[number];
     pthread_mutex_init(&here->reading, NULL);
+    pthread_mutex_init(&here->device, NULL);
     pthread_mutex_init(&here->writing, NULL);
     for (int k = 0; k < TAGS; k++) {
         here->jobs[k].from = here;
-        here->jobs[k].tag = (uint16_t)(number * TAGS + k + 1);
-        must((here->jobs[k].reply = malloc(sizeof *here->jobs[k].reply)) != NULL, "no memory");
+        here->jobs[k].tag = (uint16_t)(k + 1);
+        make_room(&here->jobs[k], 0);
     }
     must(pthread_create(&here->thread, NULL, accept_clients, here) == 0, "no thread");
 }
@@ -299,14 +320,12 @@ int main(int words, char **word)
         return 2;
     }
     size = (uint64_t)about.st_size / UAS_BLOCK_BYTES * UAS_BLOCK_BYTES;
-    struct uas_tasks_unit unit = { size / UAS_BLOCK_BYTES, 1, UAS_BLOCK_BYTES };
-    must(uas_tasks_new(&unit, 1, UAS_SET_HOST, MOST_BLOCKS, CHUNK, &tasks) == UAS_OK, "no disk");
     strcpy(name.sun_path, word[2]);
     unlink(word[2]);
     listener = socket(AF_UNIX, SOCK_STREAM, 0);
     must(listener >= 0 && bind(listener, (struct sockaddr *)&name, sizeof name) == 0 && listen(listener, CONNECTIONS) == 0, "no socket");
     for (int k = 0; k < CONNECTIONS; k++)
-        open_connection(k);
+        open_connection(&connections[k]);
     pthread_join(connections[0].thread, NULL);
     return 1;
 }

@@ -758,7 +758,8 @@ uint8_t uas_driver_give_up(uas_driver *driver, uint32_t client, uint16_t tag, st
 uint8_t uas_driver_strays(const uas_driver *driver, uint64_t *strays);
 
 /* A client takes its oldest reply that is ready, as uas_bus_reply; reply->moved is how many bytes of its data the events told to be
- * moved. UAS_REPLY_FAILED tells a completion code in reply->status.
+ * moved. They tell fewer than were where a TD of several TRBs ended short and the event is of its last TRB, of which nothing was moved: bytes
+ * of the TRBs before it aren't counted then. UAS_REPLY_FAILED tells a completion code in reply->status.
  * Fault: UAS_CLIENT_LENGTH. */
 uint8_t uas_driver_reply(uas_driver *driver, uint32_t client, uint8_t *data, size_t length, struct uas_driver_door *reply);
 

@@ -1,10 +1,9 @@
 /* A disk whose cache is lost with its process: what a program wrote to a file by pwrite is in the file only once fdatasync was called.
  *
- *   cc -shared -fPIC -O2 lossy.c -o lossy.so && LD_PRELOAD=./lossy.so uas_usbredir ..
+ *   cc -D_GNU_SOURCE -shared -fPIC -O2 lossy.c -o lossy.so && LD_PRELOAD=./lossy.so uas_usbredir ..
  *
  * The cache is a private mapping of the one file that the program writes. With LIE=1 in the environment fdatasync does nothing, as a disk that
  * tells its host a lie. */
-#define _GNU_SOURCE
 #include <dlfcn.h>
 #include <errno.h>
 #include <stdbool.h>
@@ -56,7 +55,8 @@ ssize_t pwrite(int file, const void *bytes, size_t length, off_t place)
 
 int fdatasync(int file)
 {
-    ssize_t (*write_through)(int, const void *, size_t, off_t) = (ssize_t(*)(int, const void *, size_t, off_t))dlsym(RTLD_NEXT, "pwrite");
+    ssize_t (*write_through)(int, const void *, size_t, off_t);
+    *(void **)&write_through = dlsym(RTLD_NEXT, "pwrite");
     if (getenv("LIE") != NULL || !open_cache(file, 0, 0))
         return 0;
     for (size_t at = 0; at < size; at += PART) {

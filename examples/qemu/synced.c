@@ -6,7 +6,6 @@
  *
  * A writer has a zone of its own. Writer 0 writes with O_DSYNC (FUA), 1 calls fdatasync (SYNCHRONIZE CACHE) after some blocks, 2 too, through
  * Linux's page cache. */
-#define _GNU_SOURCE
 #include <fcntl.h>
 #include <inttypes.h>
 #include <stdbool.h>

@@ -73,7 +73,7 @@ static const uint8_t configuration_descriptor[] = {
 
 static const uint8_t bos_descriptor[] = {
     5, 15, 22, 0, 2, 7, 16, 2, 2, 0, 0, 0, /* USB 2.0 extension: LPM */
-    10, 16, 3, 0, 8, 0, 3, 0, 0, 0,        /* SuperSpeed */
+    10, 16, 3, 0, 8, 0, 3, 10, 32, 0,      /* SuperSpeed; out of U1 in 10 us, out of U2 in 32 */
 };
 
 static const char *const strings[] = { "", "SIMDISK", "UAS SIM DISK", "0001" };

@@ -171,7 +171,7 @@ static uint8_t endpoint_state(uint32_t endpoint)
 
 static void start_controller(void)
 {
-    static const char *const words[] = { "-device", "qemu-xhci,id=xhci,addr=4", "-drive", "if=none,id=disk,file=disk,format=raw,throttling.iops-total=200", "-device",
+    static const char *const words[] = { "-device", "qemu-xhci,id=xhci,addr=4", "-drive", "if=none,id=disk,file=disk,format=raw,throttling.iops-total=500", "-device",
                                          "usb-uas,id=uas,bus=xhci.0", "-device", "scsi-hd,bus=uas.0,scsi-id=0,lun=0,drive=disk", NULL };
     start_qemu(words);
     set_config(PCI_DEVICE, 0x10, BAR);

@@ -18,6 +18,7 @@
 #include <sys/socket.h>
 #include <sys/un.h>
 #include <sys/wait.h>
+#include <time.h>
 #include <unistd.h>
 
 /* A q35 has 2 GiB of its memory from 0 on, and the rest from 4 GiB on. */

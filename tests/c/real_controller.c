@@ -225,18 +225,28 @@ static void submit(void)
     ring(&told);
 }
 
+/* Whether data of a command that a task management would end is to be moved yet. */
+static bool is_moving(uint8_t function, uint16_t tag)
+{
+    bool moving = false;
+    fetch();
+    for (uint16_t other = 1; other < TAGS; other++)
+        moving = moving || (asked[other].there && asked[other].moving && (other == tag || function == UAS_LOGICAL_UNIT_RESET));
+    return moving && function != UAS_QUERY_TASK;
+}
+
 /* A task management. QEMU forgets the data TDs of what it ends, and ends itself where one of these is stopped then (usb_uas_cancel_io: "canceled
  * usb packet not found"): so only commands whose data has moved are ended. */
 static void manage(void)
 {
     uint16_t tag = (uint16_t)(1 + below(TAGS - 1));
-    uint32_t kind = below(16);
-    uint8_t function = kind == 0 ? UAS_LOGICAL_UNIT_RESET : kind < 3 ? UAS_QUERY_TASK : UAS_ABORT_TASK;
-    bool moving = false;
-    fetch();
-    for (uint16_t other = 1; other < TAGS; other++)
-        moving = moving || (asked[other].there && asked[other].moving && (other == tag || function == UAS_LOGICAL_UNIT_RESET));
-    if (asked[TASK_TAG].there || !asked[tag].there || (moving && function != UAS_QUERY_TASK))
+    uint32_t kind = below(8);
+    uint8_t function = kind == 0 ? UAS_LOGICAL_UNIT_RESET : kind == 1 ? UAS_QUERY_TASK : UAS_ABORT_TASK;
+    for (unsigned tries = 0; is_moving(function, tag) && tries < 4000; tries++) {
+        if (!take_event())
+            usleep(50);
+    }
+    if (asked[TASK_TAG].there || !asked[tag].there || is_moving(function, tag))
         return;
     if (!is_taken(uas_driver_task(driver, 0, ++tickets, function, tag, &told)))
         return;
@@ -259,24 +269,32 @@ static void give_up(uint16_t tag)
 
 /* ---- All together ---- */
 
-/* Waits until no client waits. Where commands were given up those that are silent are given up too. */
-static void rest(bool gives_up)
+static uint64_t milliseconds(void)
 {
-    unsigned idle = 0;
+    struct timespec now;
+    clock_gettime(CLOCK_MONOTONIC, &now);
+    return (uint64_t)now.tv_sec * 1000 + (uint64_t)now.tv_nsec / 1000000;
+}
+
+/* Waits until at most so many clients' tags wait. Where commands were given up those that are silent are given up too. */
+static void wait_until(uint16_t most, bool gives_up)
+{
+    uint64_t since = milliseconds();
     for (;;) {
-        bool waits = false;
+        uint16_t waiting = 0;
         for (uint16_t tag = 1; tag <= TAGS; tag++)
-            waits = waits || asked[tag].there;
-        if (!waits)
+            waiting = (uint16_t)(waiting + asked[tag].there);
+        if (waiting <= most)
             return;
         if (take_event()) {
-            idle = 0;
+            since = milliseconds();
             continue;
         }
         usleep(50);
-        if (++idle == HUNG_MS * 20)
-            fail("a client waits", HUNG_MS);
-        for (uint16_t tag = 1; gives_up && idle == SILENT_MS * 20 && tag < TAGS; tag++)
+        uint64_t silent = milliseconds() - since;
+        if (silent > HUNG_MS)
+            fail("a client waits", silent);
+        for (uint16_t tag = 1; gives_up && silent > SILENT_MS && tag < TAGS; tag++)
             give_up(tag);
     }
 }
@@ -308,7 +326,7 @@ static void give_up_some(void)
         if (below(4) == 0 || is_read(&asked[tag].operation))
             give_up(tag);
     }
-    rest(true);
+    wait_until(0, true);
     begin();
     resets++;
 }
@@ -317,10 +335,11 @@ static void do_round(void)
 {
     uint32_t act = below(200);
     if (lost) {
-        rest(true);
+        wait_until(0, true);
         begin();
         pipes_lost++;
     } else if (act < 60) {
+        wait_until(TAGS - 3, false);
         for (uint32_t more = 1 + below(6); more > 0; more--)
             submit();
     } else if (act < 80) {
@@ -344,7 +363,7 @@ static void read_all(void)
         asked[1] = (struct asked){ .there = true, .moving = true, .ticket = tickets, .length = sizeof data, .operation = operation };
         copy_buffers(1, sizeof data);
         ring(&told);
-        rest(false);
+        wait_until(0, false);
     }
 }
 
@@ -361,7 +380,7 @@ int main(int count, char **words)
     begin();
     for (unsigned long round = 0; round < rounds; round++)
         do_round();
-    rest(lost);
+    wait_until(0, lost);
     begin();
     read_all();
     begin();

@@ -1,5 +1,5 @@
 -- A text has one log, or one fault.
-use Rattle.std.proofs.Common.{◌≡◌, ℕ, ◌-◌, ◌==◌, Bool, cond, List, length, Result, Ok, Err, IfOk, refl, ap, ◌∙◌, inl, inr}
+use Rattle.std.proofs.Common.{◌≡◌, ℕ, ◌-◌, Bool, cond, List, length, Result, Ok, Err, IfOk, refl, ap, ◌∙◌, inl, inr}
 use Rattle.std.specs.Prelude.{IfErr}
 use Rattle.std.proofs.lemmas.Bool.{ne_eqb}
 use Rattle.log_checksum.specs.Bytes.{AreBytes}

@@ -1,8 +1,6 @@
 -- A head is read again, and the beginning of one isn't.
-use Rattle.std.proofs.Common.{◌≡◌, ℕ, ◌+◌, ◌<◌, ◌≤◌, ◌^◌, List, [], ◌++◌, length, take, drop, Result, Ok, Err, refl, sym, ap, ◌∙◌, append_assoc, arith}
-use Rattle.std.specs.Prelude.{codes}
+use Rattle.std.proofs.Common.{◌≡◌, ℕ, ◌<◌, ◌^◌, List, ◌++◌, length, Ok, refl, sym, ap, ◌∙◌, append_assoc, arith}
 use Rattle.std.specs.List.{flat_map}
-use Rattle.std.proofs.lemmas.List.{append-nil, length-append, length-drop, take-append-drop}
 use Rattle.uas_log.specs.declared.FirstUnit.{FirstUnit}
 use Rattle.log_checksum.specs.Bytes.{AreBytes}
 use Rattle.log_checksum.proofs.Bytes.{bytes_front}
@@ -10,9 +8,8 @@ use Rattle.log_checksum.proofs.Fits.{checksum_fits}
 use Rattle.log_text.specs.declared.LogFault.TheVariants.{BadField, BadHeader}
 use Rattle.log_text.specs.declared.Version.TheVariants.{Second}
 use Rattle.log_text.specs.Text.{field, unit_text}
-use Rattle.log_text.specs.Reading.{field_at, name_number, number_at, units_at}
-use Rattle.log_text.proofs.ReadResults.{ok_is}
-use Rattle.log_text.proofs.TakenFields.{Taken, Within, number_again}
+use Rattle.log_text.specs.Reading.{name_number}
+use Rattle.log_text.proofs.TakenFields.{Within, number_again}
 use Rattle.log_text.proofs.TakenLog.{AreUnits, units_again}
 use Rattle.kept_log.specs.Form.{AreKeepable, head_front, head_sum, head_text}
 use Rattle.kept_log.specs.declared.Entry.{Entry}

@@ -1,16 +1,14 @@
 -- A head that was cut off isn't one.
-use Rattle.std.proofs.Common.{◌≡◌, ℕ, ◌+◌, ◌<◌, ◌≤◌, List, [], ◌++◌, length, take, drop, map, Result, Ok, Err, refl, sym, ap, subst, ◌∙◌, append_assoc, arith}
+use Rattle.std.proofs.Common.{◌≡◌, ℕ, ◌<◌, ◌≤◌, List, ◌++◌, length, take, drop, map, Result, Ok, Err, refl, sym, ap, subst, ◌∙◌, append_assoc, arith}
 use Rattle.std.proofs.lemmas.List.{length-append, length-take-le, take-append-drop}
 use Rattle.uas_log.specs.declared.FirstUnit.{FirstUnit}
 use Rattle.log_checksum.specs.Bytes.{AreBytes}
 use Rattle.log_checksum.proofs.Bytes.{bytes_taken}
 use Rattle.log_records.specs.Records.{records_text}
 use Rattle.log_text.specs.declared.LogFault.{LogFault}
-use Rattle.log_text.specs.Text.{field}
 use Rattle.log_text.proofs.ReadResults.{ok_is}
-use Rattle.kept_log.specs.declared.KeptFault.TheVariants.{Head}
 use Rattle.kept_log.specs.Cuts.{IsHeadless}
-use Rattle.kept_log.specs.Form.{AreKeepable, Kept, end_bodies, entry_text, front_sum, head_front, head_sum, head_text, kept_text}
+use Rattle.kept_log.specs.Form.{AreKeepable, Kept, end_bodies, entry_text, front_sum, head_sum, head_text, kept_text}
 use Rattle.kept_log.specs.LoadAt.{behind_head, load_at}
 use Rattle.kept_log.specs.Reading.{head_at}
 use Rattle.kept_log.proofs.HeadAgain.{are_units, head_again, head_read}

@@ -1,19 +1,17 @@
 -- What comes at the place of a record that was written.
-use Rattle.std.proofs.Common.{◌≡◌, ℕ, ◌+◌, ◌^◌, ◌<◌, ◌≤◌, ◌==◌, Bool, true, cond, List, [], ◌++◌, length, drop, Result, Ok, Err, Option, Some, None, refl, sym, ap, ◌∙◌, append_assoc, arith, eq-eqb}
+use Rattle.std.proofs.Common.{◌≡◌, ℕ, ◌+◌, ◌^◌, ◌<◌, ◌≤◌, ◌==◌, Bool, cond, List, [], ◌++◌, length, drop, Result, Ok, Err, Some, None, refl, sym, ap, ◌∙◌, append_assoc, arith, eq-eqb}
 use Rattle.std.proofs.lemmas.Bool.{ne_eqb}
-use Rattle.std.proofs.lemmas.List.{append-nil, drop_at, length-append}
+use Rattle.std.proofs.lemmas.List.{append-nil, drop_at}
 use Rattle.log_checksum.specs.Bytes.{AreBytes}
 use Rattle.log_checksum.proofs.Bytes.{bytes_joined}
-use Rattle.log_records.specs.declared.First.{First}
-use Rattle.log_records.specs.declared.First.TheVariants.{Nothing, Whole, Torn}
+use Rattle.log_records.specs.declared.First.TheVariants.{Torn}
 use Rattle.log_records.specs.Finding.{behind, body_of, first_record}
 use Rattle.log_records.specs.Records.{record_text, sum_after}
 use Rattle.log_records.proofs.Found.{record_found}
-use Rattle.log_records.proofs.Framing.{framed, framed_behind, framed_body, framed_size, record_framed}
+use Rattle.log_records.proofs.Framing.{framed_behind, framed_body, framed_size, record_framed}
 use Rattle.log_records.proofs.Numbers.{number_is_bytes}
 use Rattle.log_text.specs.declared.LogFault.{LogFault}
 use Rattle.log_text.specs.declared.LogFault.TheVariants.{BadField}
-use Rattle.log_text.specs.Reading.{field_at}
 use Rattle.log_text.specs.Text.{field}
 use Rattle.log_text.proofs.TakenFields.{Within, number_again}
 use Rattle.log_text.proofs.TakenSteps.{byte_within}

@@ -1,7 +1,7 @@
 -- The records of steps, read one by one.
-use Rattle.std.proofs.Common.{◌≡◌, ℕ, zero, suc, ◌+◌, ◌-◌, ◌^◌, ◌<◌, ◌≤◌, ◌==◌, Bool, true, cond, List, [], ◌∷◌, ◌++◌, length, drop, map, Result, Ok, Err, Option, None, refl, sym, ap, subst, ◌∙◌, append_assoc, arith, eq-eqb}
+use Rattle.std.proofs.Common.{◌≡◌, ℕ, zero, suc, ◌+◌, ◌-◌, ◌^◌, ◌<◌, ◌≤◌, Bool, cond, List, [], ◌∷◌, ◌++◌, length, drop, map, Result, Ok, Err, Option, None, refl, sym, ap, subst, ◌∙◌, append_assoc, arith, eq-eqb}
 use Rattle.std.specs.List.{AllByRecursion}
-use Rattle.std.proofs.lemmas.List.{length-append, nil_from_length}
+use Rattle.std.proofs.lemmas.List.{length-append}
 use Rattle.uas_log.specs.declared.FirstUnit.{FirstUnit}
 use Rattle.log_checksum.specs.Bytes.{AreBytes}
 use Rattle.log_checksum.proofs.Bytes.{bytes_back, bytes_front}
@@ -10,11 +10,10 @@ use Rattle.byteorder.specs.Endian.{big_bytes}
 use Rattle.kept_log.specs.declared.Entry.{Entry}
 use Rattle.kept_log.specs.declared.KeptFault.{KeptFault}
 use Rattle.kept_log.specs.declared.KeptFault.TheVariants.{HeadSum}
-use Rattle.kept_log.specs.declared.Loaded.{Loaded}
 use Rattle.kept_log.specs.declared.Next.{Next}
 use Rattle.kept_log.specs.declared.Next.TheVariants.{Goes, Ends}
 use Rattle.kept_log.specs.declared.Why.{Why}
-use Rattle.kept_log.specs.Form.{EntryFits, entry_text, front_sum, front_text, head_sum, head_text}
+use Rattle.kept_log.specs.Form.{EntryFits, entry_text, front_sum, head_sum, head_text}
 use Rattle.kept_log.specs.LoadAt.{Rest, behind_head, load_at, loaded_of, rest_at, then_read, with_entry}
 use Rattle.kept_log.specs.Loading.{Comes, next_at}
 use Rattle.kept_log.specs.Reading.{head_at}

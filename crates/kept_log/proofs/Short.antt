@@ -1,6 +1,5 @@
 -- How long the bodies of records are.
-use Rattle.std.proofs.Common.{◌≡◌, ℕ, ◌+◌, ◌^◌, ◌<◌, ◌≤◌, List, ◌++◌, length, Option, Some, None, ap, ◌∙◌, arith, inl, inr}
-use Rattle.std.specs.Prelude.{◌⊎◌, cond}
+use Rattle.std.proofs.Common.{◌≡◌, ℕ, ◌+◌, ◌^◌, ◌<◌, ◌≤◌, List, ◌++◌, length, Option, Some, None, arith, inl, inr}
 use Rattle.std.proofs.lemmas.List.{length-append}
 use Rattle.scsi_cmd.specs.declared.Op.{Op}
 use Rattle.scsi_cmd.specs.declared.Reply.{Reply}
@@ -10,7 +9,7 @@ use Rattle.shared_machine.specs.declared.Step as machine
 use Rattle.shared_machine.specs.declared.Step.TheVariants as steps
 use Rattle.log_text.specs.declared.SavedReply.{SavedReply}
 use Rattle.log_text.specs.declared.Version.TheVariants.{Second}
-use Rattle.log_text.specs.Text.{BodyFits, BufferFits, ReplyFits, SenseFits, StepFits, buffer_text, field, fields_text, op_code, op_fields, op_text, pipe_number, reply_body, reply_kind, reply_text, step_body, step_kind, step_text, task_function, task_tag, task_text}
+use Rattle.log_text.specs.Text.{BodyFits, BufferFits, ReplyFits, SenseFits, StepFits, buffer_text, field, op_code, op_fields, op_text, pipe_number, reply_body, reply_kind, reply_text, step_body, step_kind, step_text, task_function, task_tag, task_text}
 use Rattle.kept_log.specs.declared.Entry.{Entry}
 use Rattle.kept_log.specs.declared.Entry.TheVariants.{Acted, Refused}
 use Rattle.kept_log.specs.declared.Why.{Why}

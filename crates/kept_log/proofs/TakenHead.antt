@@ -1,20 +1,19 @@
 -- A head, taken and read again.
-use Rattle.std.proofs.Common.{◌≡◌, ℕ, ◌+◌, ◌-◌, ◌<◌, ◌≤◌, ◌^◌, List, [], ◌∷◌, ◌++◌, length, take, map, Ok, refl, sym, ap, subst, ◌∙◌, append_assoc, arith}
+use Rattle.std.proofs.Common.{◌≡◌, ℕ, ◌+◌, ◌-◌, ◌<◌, ◌^◌, List, [], ◌++◌, length, take, Ok, refl, sym, ap, subst, ◌∙◌, append_assoc, arith}
 use Rattle.std.specs.Prelude.{codes}
-use Rattle.std.specs.List.{flat_map, AllByRecursion}
 use Rattle.std.proofs.lemmas.List.{append-nil, length-append, take_at}
 use Rattle.uas_log.specs.declared.FirstUnit.{FirstUnit}
 use Rattle.byteorder.specs.Numbers.{length-bytes_high_first}
 use Rattle.log_checksum.specs.Division.{crc32c_of}
 use Rattle.log_text.specs.declared.LogFault.TheVariants.{BadField, BadHeader}
 use Rattle.log_text.specs.declared.Version.TheVariants.{Second}
-use Rattle.log_text.specs.Text.{UnitFits, field, unit_text}
+use Rattle.log_text.specs.Text.{field}
 use Rattle.log_text.specs.Reading.{field_at, name_number, number_at, units_at}
 use Rattle.log_text.proofs.Numbers.{IsBytes}
 use Rattle.log_text.proofs.ReadResults.{bind_ok, ok_is}
-use Rattle.log_text.proofs.TakenFields.{Taken, Takes, Within, number_again, number_taken, then_takes}
-use Rattle.log_text.proofs.TakenLog.{AreUnits, units_again, units_taken}
-use Rattle.kept_log.specs.Form.{AreKeepable, front_text, head_front, head_sum, head_text}
+use Rattle.log_text.proofs.TakenFields.{Taken, Takes, number_taken, then_takes}
+use Rattle.log_text.proofs.TakenLog.{AreUnits, units_taken}
+use Rattle.kept_log.specs.Form.{head_front, head_sum, head_text}
 use Rattle.kept_log.specs.Loading.{HasOtherSum, StandsIn}
 use Rattle.kept_log.specs.Reading.{head_at}
 

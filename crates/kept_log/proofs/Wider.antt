@@ -1,5 +1,5 @@
 -- What fits a client of the profile fits the writers of fields, which take more clients.
-use Rattle.std.proofs.Common.{List, [], ◌∷◌, arith}
+use Rattle.std.proofs.Common.{[], ◌∷◌, arith}
 use Rattle.uas_profile.specs.declared.TheConstants.{MAX_CLIENTS}
 use Rattle.shared_machine.specs.declared.Step.{Step}
 use Rattle.log_text.specs.declared.SavedReply.{SavedReply}

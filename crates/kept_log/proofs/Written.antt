@@ -1,5 +1,5 @@
 -- A text that was written loads as its log.
-use Rattle.std.proofs.Common.{◌≡◌, ℕ, ◌+◌, ◌^◌, ◌<◌, List, [], ◌++◌, length, Result, Ok, Option, Some, None, refl, arith}
+use Rattle.std.proofs.Common.{◌≡◌, ℕ, List, [], ◌++◌, length, Ok, Option, Some, None, refl, arith}
 use Rattle.std.proofs.lemmas.List.{length-append}
 use Rattle.uas_log.specs.declared.FirstUnit.{FirstUnit}
 use Rattle.log_checksum.specs.Bytes.{AreBytes}

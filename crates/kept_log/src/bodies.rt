@@ -13,7 +13,7 @@ use std::alloc::Global;
 const MOST_64: u64 = 0xffff_ffff_ffff_ffff;
 
 /// Whether a step takes a reply.
-pub(crate) fn is_take(step: &Step) -> bool
+pub fn is_take(step: &Step) -> bool
     ensures { result ≡ is_take step.now }
 {
     match step {

@@ -25,6 +25,7 @@ mod loading;
 mod saved;
 mod writing;
 
+pub use bodies::is_take;
 pub use entries::Entries;
 pub use laws::{
     cut_logs_load, kept_logs_load, steps_are_read_again, texts_begin_alike, texts_go_on,

@@ -3,6 +3,7 @@
 //! `log_text` writes the text of a log that is within the limits of its version, and asks for them (`IsSavable` in log_text
 //! specs/Kept.antt). [`is_savable`] is that test, for whoever has a log of which nothing is known. The limits are those that a text's
 //! reader has: a client is one of the log's, a ticket is below 2^60, a buffer has at most 65,536 bytes, and so on. It takes no memory.
+//! Whoever writes a log piece by piece has the tests of the pieces: [`are_units`], [`step_fits`], [`reply_fits`].
 //!
 //! ```text
 //!     tags           8 or 16, by which the version goes
@@ -20,4 +21,6 @@ mod replies;
 mod steps;
 mod units;
 
-pub use limits::is_savable;
+pub use limits::{are_units, is_savable};
+pub use replies::reply_fits;
+pub use steps::step_fits;

@@ -31,7 +31,7 @@ pub fn is_savable(log: &Log) -> bool
 }
 
 /// Whether the units are those of 1 to so many clients as the version can have.
-fn are_units(version: Version, units: &[FirstUnit]) -> bool
+pub fn are_units(version: Version, units: &[FirstUnit]) -> bool
     ensures { IsTrue result ↔ ((1 ≤ length units.now) × (length units.now ≤ version_clients version) × AllByRecursion UnitFits units.now) }
 {
     1 <= units.len() && units.len() <= version.most_clients() && all_units(units)

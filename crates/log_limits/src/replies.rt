@@ -12,7 +12,7 @@ const MOST_8: u64 = 0xff;
 const MOST_16: u64 = 0xffff;
 
 /// Whether a reply fits into its fields, as one of the client whose tag it brings back.
-pub(crate) fn reply_fits(clients: usize, tags: usize, reply: &Reply) -> bool
+pub fn reply_fits(clients: usize, tags: usize, reply: &Reply) -> bool
     requires { 1 ≤ tags }
     ensures { IsTrue result ↔ ReplyFits clients (with_client tags reply.now) }
 {

@@ -36,7 +36,7 @@ pub(crate) fn kept_fit(version: Version, clients: usize, steps: &[Step], refusal
 }
 
 /// Whether a step fits into its fields, as one of so many clients.
-fn step_fits(version: Version, clients: usize, step: &Step) -> bool
+pub fn step_fits(version: Version, clients: usize, step: &Step) -> bool
     ensures { IsTrue result ↔ StepFits version clients step.now }
 {
     match step {

@@ -4,11 +4,13 @@
 //! log_mutations [COUNT] < LOG     COUNT texts, 1,000 where none is named
 //! ```
 //!
-//! A text that is loaded must be written again to the same bytes. It tells on standard error how many texts were loaded, how many had each fault, and
+//! A text that is loaded must be written again to the same bytes; of a log that was kept as it grew a changed text must not load as a whole
+//! log, and a cut one must load as a beginning or be refused. It tells on standard error how many texts were loaded, how many had each fault, and
 //! how many were told otherwise than they are; its exit status is 1 where there is one of these, 3 where the log can't be read, and 4
 //! for want of memory. That every answer is the right one is what `load_log` promises; this shows it of the program that runs.
 #![tactic(auto)]
 
+mod kept;
 mod mutations;
 mod tally;
 

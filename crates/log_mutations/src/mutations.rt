@@ -1,5 +1,6 @@
 //! A text that is changed at random places, and put back.
 
+use crate::kept::{is_kept, kept};
 use crate::tally::Outcome;
 use log_text::load_log;
 use std::alloc::{AllocError, Global};
@@ -8,14 +9,17 @@ use std::alloc::{AllocError, Global};
 #[derive(Debug, Drop)]
 pub struct Mutations {
     text: Vec<u8>,
+    is_kept: bool,
     state: u64,
 }
 
 impl Mutations {
     /// Those of a text.
     pub fn of(text: Vec<u8>) -> Mutations {
+        let is_kept = is_kept(text.as_slice());
         Mutations {
             text,
+            is_kept,
             state: 0x9e37_79b9_7f4a_7c15,
         }
     }
@@ -46,22 +50,38 @@ impl Mutations {
     pub fn try_one(&mut self, alloc: Global) -> Result<Outcome, AllocError> {
         let len = self.text.len();
         if len == 0 {
-            return loaded(alloc, self.text.as_slice());
+            return self.come(alloc, self.text.as_slice(), false, false);
         }
         let place = (self.next() % len as u64) as usize;
         let how = self.next();
         if how % 16 == 0 {
             return match self.text.get(..place) {
-                Some(front) => loaded(alloc, front),
-                None => loaded(alloc, self.text.as_slice()),
+                Some(front) => self.come(alloc, front, false, true),
+                None => self.come(alloc, self.text.as_slice(), false, false),
             };
         }
         let before = self.exchange(place, how);
-        let outcome = loaded(alloc, self.text.as_slice());
+        let is_changed = self.text.get(place) != Some(&before);
+        let outcome = self.come(alloc, self.text.as_slice(), is_changed, false);
         if let Some(byte) = self.text.as_mut_slice().get_mut(place) {
             *byte = before;
         }
         outcome
+    }
+
+    /// What comes of a text, by the version that the log's text had.
+    fn come(
+        &self,
+        alloc: Global,
+        text: &[u8],
+        is_changed: bool,
+        is_cut: bool,
+    ) -> Result<Outcome, AllocError> {
+        if self.is_kept {
+            kept(alloc, text, is_changed, is_cut)
+        } else {
+            loaded(alloc, text)
+        }
     }
 }
 

@@ -1,0 +1,99 @@
+-- A text that grows by the record of a step.
+use Rattle.std.proofs.Common.{◌≡◌, ℕ, suc, ◌+◌, ◌<◌, ◌≤◌, ◌&&◌, Bool, true, false, cond, List, [], ◌∷◌, ◌++◌, length, get_or, drop, map, Some, refl, sym, ap, ◌∙◌, add-one, append_assoc, arith}
+use Rattle.std.specs.Prelude.{nat_lt}
+use Rattle.std.proofs.Math.Seq.{drop-cons}
+use Rattle.std.proofs.lemmas.Bool.{lt-ltb}
+use Rattle.std.proofs.lemmas.List.{length-drop}
+use Rattle.scsi_cmd.specs.declared.Reply.{Reply}
+use Rattle.shared_machine.specs.declared.Step.{Step}
+use Rattle.uas_log.specs.declared.Log.{Log}
+use Rattle.log_records.specs.Records.{last_sum, record_text, records_text, sum_after}
+use Rattle.log_text.specs.Kept.{with_client}
+use Rattle.kept_log.specs.declared.Entry.{Entry}
+use Rattle.kept_log.specs.declared.Entry.TheVariants.{Acted}
+use Rattle.kept_log.specs.Form.{entry_text}
+use Rattle.log_keeper.specs.declared.Place.{Place}
+use Rattle.log_keeper.specs.Entries.{Added, bare_entry, entries_behind, entries_of, gives, records_behind}
+
+-- ADDED
+
+pub added_same : (log : Log) (place : Place) (text : List ℕ) → Added log place text place text
+added_same log place text = record { text = refl; sum = refl }
+
+pub added_then : (log : Log) (first next last : Place) (one two three : List ℕ) → Added log first one next two → Added log next two last three
+    → Added log first one last three
+added_then log first next last one two three p q = record { text = q.text ∙ p.text; sum = q.sum ∙ p.sum }
+
+pub added_one : (log : Log) (old new : Place) (before after : List ℕ) (entry : Entry) → entries_behind log old ≡ entry ∷ entries_behind log new
+    → after ≡ before ++ record_text old.sum (entry_text entry) → new.sum ≡ sum_after old.sum (entry_text entry) → Added log old before new after
+added_one log old new before after entry more grown sum =
+    let body : List ℕ = entry_text entry in
+    let bodies : List (List ℕ) = map entry_text (entries_behind log new) in
+    let all : records_behind log old ≡ record_text old.sum body ++ records_behind log new =
+    ap (λ (entries : List Entry). records_text old.sum (map entry_text entries)) more
+    ∙ ap (λ n. record_text old.sum body ++ records_text n bodies) (sym sum) in
+    record {
+      text = ap (λ (text : List ℕ). text ++ records_behind log new) grown ∙ append_assoc before (record_text old.sum body) (records_behind log new)
+          ∙ ap (λ (back : List ℕ). before ++ back) (sym all);
+      sum = ap (λ n. last_sum n bodies) sum ∙ ap (λ (entries : List Entry). last_sum old.sum (map entry_text entries)) (sym more);
+    }
+
+-- THE NEXT ENTRY
+
+both_false : (a b : Bool) → (a && b) ≡ false → b ≡ true → a ≡ false
+both_false true b e p = absurd cc
+both_false false b e p = refl
+
+pub bare_head : (tags number : ℕ) (step : Step) (steps : List Step) (numbers : List ℕ) (replies : List Reply)
+    → (1 ≤ length replies → gives number step ≡ false)
+    → entries_of tags (step ∷ steps) (number ∷ numbers) replies ≡ bare_entry number step ∷ entries_of tags steps numbers replies
+bare_head tags number step steps numbers [] bare = refl
+bare_head tags number step steps numbers (reply ∷ replies) bare =
+    ap (λ (given : Bool). cond given (Acted step (Some (with_client tags reply)) ∷ entries_of tags steps numbers replies)
+    (bare_entry number step ∷ entries_of tags steps numbers (reply ∷ replies))) (bare (omega arith))
+
+taken_head : (tags number : ℕ) (step : Step) (steps : List Step) (numbers : List ℕ) (reply : Reply) (replies : List Reply) → gives number step ≡ true
+    → entries_of tags (step ∷ steps) (number ∷ numbers) (reply ∷ replies) ≡ Acted step (Some (with_client tags reply)) ∷ entries_of tags steps numbers replies
+taken_head tags number step steps numbers reply replies given =
+    ap (λ (given : Bool). cond given (Acted step (Some (with_client tags reply)) ∷ entries_of tags steps numbers replies)
+    (bare_entry number step ∷ entries_of tags steps numbers (reply ∷ replies))) given
+
+here : {A : Type 0} (list : List A) (at : ℕ) (one : A) → at < length list → get_or list at one ≡ one → drop at list ≡ one ∷ drop (at + 1) list
+here list at one within is =
+    drop-cons list at one within ∙ ap (λ first. first ∷ drop (suc at) list) is ∙ ap (λ n. one ∷ drop n list) (sym (add-one at))
+
+numbers_here : (list : List ℕ) (at one : ℕ) → at < length list → get_or list at 0 ≡ one → drop at list ≡ one ∷ drop (at + 1) list
+numbers_here list at one within is =
+    drop-cons list at 0 within ∙ ap (λ first. first ∷ drop (suc at) list) is ∙ ap (λ n. one ∷ drop n list) (sym (add-one at))
+
+pub bare_behind : (log : Log) (place : Place) (step : Step) (number sum : ℕ) → place.steps < length log.steps → place.steps < length log.refusals
+    → get_or log.steps place.steps step ≡ step → get_or log.refusals place.steps 0 ≡ number
+    → (gives number step && nat_lt place.replies (length log.replies)) ≡ false
+    → entries_behind log place ≡ bare_entry number step ∷ entries_behind log (record { steps = place.steps + 1; replies = place.replies; sum = sum })
+bare_behind log place step number sum within told is-step is-number bare =
+    let replies : List Reply = drop place.replies log.replies in
+    ap (λ (steps : List Step). entries_of log.tags steps (drop place.steps log.refusals) replies) (here log.steps place.steps step within is-step)
+    ∙ ap (λ (numbers : List ℕ). entries_of log.tags (step ∷ drop (place.steps + 1) log.steps) numbers replies)
+    (numbers_here log.refusals place.steps number told is-number)
+    ∙ bare_head log.tags number step (drop (place.steps + 1) log.steps) (drop (place.steps + 1) log.refusals) replies (λ some.
+    both_false (gives number step) (nat_lt place.replies (length log.replies)) bare
+    (lt-ltb place.replies (length log.replies) (omega (arith, some, length-drop place.replies log.replies))))
+
+first_true : (a b : Bool) → (a && b) ≡ true → a ≡ true
+first_true true b e = refl
+first_true false b e = absurd cc
+
+pub taken_behind : (log : Log) (place : Place) (step : Step) (number sum : ℕ) (reply : Reply) → place.steps < length log.steps
+    → place.steps < length log.refusals → place.replies < length log.replies → get_or log.steps place.steps step ≡ step
+    → get_or log.refusals place.steps 0 ≡ number → get_or log.replies place.replies reply ≡ reply
+    → (gives number step && nat_lt place.replies (length log.replies)) ≡ true
+    → entries_behind log place ≡ Acted step (Some (with_client log.tags reply))
+    ∷ entries_behind log (record { steps = place.steps + 1; replies = place.replies + 1; sum = sum })
+taken_behind log place step number sum reply within told some is-step is-number is-reply given =
+    let steps : List Step = drop (place.steps + 1) log.steps in
+    let numbers : List ℕ = drop (place.steps + 1) log.refusals in
+    let replies : List Reply = drop (place.replies + 1) log.replies in
+    ap (λ (list : List Step). entries_of log.tags list (drop place.steps log.refusals) (drop place.replies log.replies)) (here log.steps place.steps step within is-step)
+    ∙ ap (λ (list : List ℕ). entries_of log.tags (step ∷ steps) list (drop place.replies log.replies)) (numbers_here log.refusals place.steps number told is-number)
+    ∙ ap (λ (list : List Reply). entries_of log.tags (step ∷ steps) (number ∷ numbers) list) (here log.replies place.replies reply some is-reply)
+    ∙ taken_head log.tags number step steps numbers reply replies (first_true (gives number step) (nat_lt place.replies (length log.replies)) given)

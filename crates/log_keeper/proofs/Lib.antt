@@ -1,0 +1,3 @@
+pub mod Behind
+pub mod Wider
+pub mod Whole

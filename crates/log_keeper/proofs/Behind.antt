@@ -1,9 +1,10 @@
 -- A text that grows by the record of a step.
-use Rattle.std.proofs.Common.{◌≡◌, ℕ, zero, suc, ◌+◌, ◌^◌, ◌<◌, ◌≤◌, ◌==◌, ◌&&◌, Bool, true, false, cond, List, [], ◌∷◌, ◌++◌, length, get_or, drop, map, Some, refl, sym, ap, ◌∙◌, subst, add-one, append_assoc, arith}
-use Rattle.std.specs.Prelude.{nat_lt}
+use Rattle.std.proofs.Common.{◌≡◌, ℕ, zero, suc, ◌+◌, ◌^◌, ◌<◌, ◌≤◌, ◌==◌, ◌&&◌, Bool, true, false, cond, List, [], ◌∷◌, ◌++◌, length, get_or, drop, map, Some, None, refl, sym, ap, ◌∙◌, subst, add-one, append_assoc, arith, inl, inr}
+use Rattle.std.specs.Prelude.{◌⊎◌, nat_lt}
+use Rattle.std.proofs.Math.Dec.{eqb-suc-zero}
 use Rattle.std.proofs.Math.Seq.{drop-cons}
 use Rattle.std.proofs.lemmas.Bool.{lt-ltb}
-use Rattle.std.proofs.lemmas.List.{length-drop}
+use Rattle.std.proofs.lemmas.List.{append-nil, length-drop, nil_from_length}
 use Rattle.scsi_cmd.specs.declared.Reply.{Reply}
 use Rattle.shared_machine.specs.declared.Step.{Step}
 use Rattle.uas_log.specs.declared.Log.{Log}
@@ -12,7 +13,7 @@ use Rattle.log_text.specs.declared.Version.TheVariants.{Second}
 use Rattle.log_text.specs.Kept.{with_client}
 use Rattle.log_text.specs.Text.{ReplyFits, StepFits}
 use Rattle.kept_log.specs.declared.Entry.{Entry}
-use Rattle.kept_log.specs.declared.Entry.TheVariants.{Acted}
+use Rattle.kept_log.specs.declared.Entry.TheVariants.{Acted, Refused}
 use Rattle.kept_log.specs.Form.{EntryFits, entry_text, is_take}
 use Rattle.log_keeper.specs.declared.Place.{Place}
 use Rattle.log_keeper.specs.Entries.{Added, AllFit, FirstFits, OneMore, bare_entry, entries_behind, entries_of, gives, records_behind}
@@ -112,25 +113,58 @@ taken_behind log place step number sum reply within told some is-step is-number 
     ∙ ap (λ (list : List Reply). entries_of log.tags (step ∷ steps) (number ∷ numbers) list) (here log.replies place.replies reply some is-reply)
     ∙ taken_head log.tags number step steps numbers reply replies (first_true (gives number step) (nat_lt place.replies (length log.replies)) given)
 
+-- NOTHING MORE
+
+no_numbers : (tags : ℕ) (steps : List Step) (replies : List Reply) → entries_of tags steps [] replies ≡ []
+no_numbers tags [] replies = refl
+no_numbers tags (step ∷ steps) replies = refl
+
+dropped : {A : Type 0} (at : ℕ) (list : List A) → length list ≤ at → drop at list ≡ []
+dropped at list past = nil_from_length (drop at list) (omega (arith, past, length-drop at list))
+
+pub nothing_behind : (log : Log) (place : Place) (count : ℕ) → (count ≡ length log.steps) ⊎ (count ≡ length log.refusals) → count ≤ place.steps
+    → entries_behind log place ≡ []
+nothing_behind log place count all past =
+    elim all [
+      | inl steps ↦
+          ap (λ (list : List Step). entries_of log.tags list (drop place.steps log.refusals) (drop place.replies log.replies))
+          (dropped place.steps log.steps (omega (arith, past, steps)))
+      | inr numbers ↦
+          ap (λ (list : List ℕ). entries_of log.tags (drop place.steps log.steps) list (drop place.replies log.replies))
+          (dropped place.steps log.refusals (omega (arith, past, numbers))) ∙ no_numbers log.tags (drop place.steps log.steps) (drop place.replies log.replies)
+    ]
+
+pub all_written : (log : Log) (old new : Place) (before after : List ℕ) → Added log old before new after → entries_behind log new ≡ []
+    → after ≡ before ++ records_behind log old
+all_written log old new before after added none =
+    sym (append-nil after) ∙ ap (λ (entries : List Entry). after ++ records_text new.sum (map entry_text entries)) (sym none) ∙ added.text
+
+pub none_fit : (log : Log) (place : Place) → entries_behind log place ≡ [] → AllFit (length log.units) (entries_behind log place)
+none_fit log place none = subst (AllFit (length log.units)) (sym none) tt
+
 -- WITH ITS RECORD
 
 bare_fits : (clients number : ℕ) (step : Step) → number < 2 ^ 8 → StepFits Second clients step → EntryFits clients (bare_entry number step)
 bare_fits clients zero step small fits = (fits, tt)
-bare_fits clients (suc number) step small fits = (fits, omega arith, small)
+bare_fits clients (suc number) step small fits =
+    subst (λ (none : Bool). EntryFits clients (cond none (Acted step None) (Refused step (suc number)))) (sym (eqb-suc-zero number)) (fits, omega arith, small)
 
 bare_step : (clients number : ℕ) (step : Step) → EntryFits clients (bare_entry number step) → StepFits Second clients step
 bare_step clients zero step fits = fits.0
-bare_step clients (suc number) step fits = fits.0
+bare_step clients (suc number) step fits =
+    let refused : EntryFits clients (Refused step (suc number)) =
+    subst (λ (none : Bool). EntryFits clients (cond none (Acted step None) (Refused step (suc number)))) (eqb-suc-zero number) fits in
+    refused.0
 
 -- a step without a reply
 pub bare_more : (log : Log) (place : Place) (step : Step) (number sum : ℕ) (before after : List ℕ) → place.steps < length log.steps
-    → place.steps < length log.refusals → get_or log.steps place.steps step ≡ step → get_or log.refusals place.steps 0 ≡ number → number < 2 ^ 8
+    → place.steps < length log.refusals → step ≡ get_or log.steps place.steps step → number ≡ get_or log.refusals place.steps 0 → number < 2 ^ 8
     → (gives number step && nat_lt place.replies (length log.replies)) ≡ false → after ≡ before ++ record_text place.sum (entry_text (bare_entry number step))
     → sum ≡ sum_after place.sum (entry_text (bare_entry number step)) → StepFits Second (length log.units) step
     → OneMore log place before (record { steps = place.steps + 1; replies = place.replies; sum = sum }) after
 bare_more log place step number sum before after within told is-step is-number small bare grown summed fits = record {
   entry = bare_entry number step;
-  more = bare_behind log place step number sum within told is-step is-number bare;
+  more = bare_behind log place step number sum within told (sym is-step) (sym is-number) bare;
   text = grown;
   sum = summed;
   fits = bare_fits (length log.units) number step small fits;
@@ -138,8 +172,8 @@ bare_more log place step number sum before after within told is-step is-number s
 
 -- a Take and its reply
 pub taken_more : (log : Log) (place : Place) (step : Step) (number sum : ℕ) (reply : Reply) (before after : List ℕ) → place.steps < length log.steps
-    → place.steps < length log.refusals → place.replies < length log.replies → get_or log.steps place.steps step ≡ step
-    → get_or log.refusals place.steps 0 ≡ number → get_or log.replies place.replies reply ≡ reply
+    → place.steps < length log.refusals → place.replies < length log.replies → step ≡ get_or log.steps place.steps step
+    → number ≡ get_or log.refusals place.steps 0 → reply ≡ get_or log.replies place.replies reply
     → (gives number step && nat_lt place.replies (length log.replies)) ≡ true
     → after ≡ before ++ record_text place.sum (entry_text (Acted step (Some (with_client log.tags reply))))
     → sum ≡ sum_after place.sum (entry_text (Acted step (Some (with_client log.tags reply))))
@@ -147,7 +181,7 @@ pub taken_more : (log : Log) (place : Place) (step : Step) (number sum : ℕ) (r
     → OneMore log place before (record { steps = place.steps + 1; replies = place.replies + 1; sum = sum }) after
 taken_more log place step number sum reply before after within told some is-step is-number is-reply given grown summed fits reply-fits = record {
   entry = Acted step (Some (with_client log.tags reply));
-  more = taken_behind log place step number sum reply within told some is-step is-number is-reply given;
+  more = taken_behind log place step number sum reply within told some (sym is-step) (sym is-number) (sym is-reply) given;
   text = grown;
   sum = summed;
   fits = (fits, (second_true (number == 0) (is_take step) (first_true (gives number step) (nat_lt place.replies (length log.replies)) given), reply-fits));
@@ -155,17 +189,17 @@ taken_more log place step number sum reply before after within told some is-step
 
 -- the limits of the first entry are those of its parts
 pub bare_limits : (log : Log) (place : Place) (step : Step) (number : ℕ) → place.steps < length log.steps → place.steps < length log.refusals
-    → get_or log.steps place.steps step ≡ step → get_or log.refusals place.steps 0 ≡ number
+    → step ≡ get_or log.steps place.steps step → number ≡ get_or log.refusals place.steps 0
     → (gives number step && nat_lt place.replies (length log.replies)) ≡ false → FirstFits (length log.units) (entries_behind log place)
     → StepFits Second (length log.units) step
 bare_limits log place step number within told is-step is-number bare fits =
-    bare_step (length log.units) number step (subst (FirstFits (length log.units)) (bare_behind log place step number 0 within told is-step is-number bare) fits)
+    bare_step (length log.units) number step (subst (FirstFits (length log.units)) (bare_behind log place step number 0 within told (sym is-step) (sym is-number) bare) fits)
 
 pub taken_limits : (log : Log) (place : Place) (step : Step) (number : ℕ) (reply : Reply) → place.steps < length log.steps
-    → place.steps < length log.refusals → place.replies < length log.replies → get_or log.steps place.steps step ≡ step
-    → get_or log.refusals place.steps 0 ≡ number → get_or log.replies place.replies reply ≡ reply
+    → place.steps < length log.refusals → place.replies < length log.replies → step ≡ get_or log.steps place.steps step
+    → number ≡ get_or log.refusals place.steps 0 → reply ≡ get_or log.replies place.replies reply
     → (gives number step && nat_lt place.replies (length log.replies)) ≡ true → FirstFits (length log.units) (entries_behind log place)
     → StepFits Second (length log.units) step × ReplyFits (length log.units) (with_client log.tags reply)
 taken_limits log place step number reply within told some is-step is-number is-reply given fits =
-    let both = subst (FirstFits (length log.units)) (taken_behind log place step number 0 reply within told some is-step is-number is-reply given) fits in
+    let both = subst (FirstFits (length log.units)) (taken_behind log place step number 0 reply within told some (sym is-step) (sym is-number) (sym is-reply) given) fits in
     (both.0, both.1.1)

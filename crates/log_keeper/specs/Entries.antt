@@ -81,8 +81,8 @@ abbrev pub entries_before : Log → Place → List Entry
 entries_before log place = entries_of log.tags (take place.steps log.steps) (take place.steps log.refusals) (take place.replies log.replies)
 
 -- a text is the head of a log and the records of the entries before a place
-pub record StandsAt (log : Log) (place : Place) (text : List ℕ) : Type 0 where
-  pub text : text ≡ front_text log.units (entries_before log place)
+pub record StandsAt (log : Log) (place : Place) (bytes : List ℕ) : Type 0 where
+  pub text : bytes ≡ front_text log.units (entries_before log place)
   pub sum : place.sum ≡ front_sum log.units (entries_before log place)
 
 -- how many replies these steps gave

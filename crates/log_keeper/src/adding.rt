@@ -1,5 +1,5 @@
 //! The records of the steps behind a place.
-ghost use Rattle.std.specs.Prelude.{◌≡◌, ◌+◌, ◌<◌, ◌≤◌, ◌++◌, ⊥, ◌&&◌, nat_lt, IfErr, IfOk, IsErr, Ok, OnErr, OnOk, Some, [], length};
+ghost use Rattle.std.specs.Prelude.{◌≡◌, ◌+◌, ◌<◌, ◌≤◌, ◌++◌, ◌⊎◌, ◌&&◌, nat_lt, IfErr, IfOk, IsErr, Ok, OnErr, OnOk, Some, [], length};
 ghost use Rattle.log_records.specs.Records.{record_text, sum_after};
 ghost use Rattle.log_text.specs.declared.Version.TheVariants.{Second};
 ghost use Rattle.log_text.specs.Kept.{with_client};
@@ -56,13 +56,28 @@ pub fn add_records(
     ensures added { Added log.now place.old text.old.items place.new text.new.items }
     ensures limits { IfErr result (λ fault. fault ≡ KeepFault.Limits → FirstFits (length log.now.units) (entries_behind log.now place.new) → ⊥) }
 {
-    while place.steps < log.steps.len() && place.steps < log.refusals.len() {
+    let count = told_steps(log);
+    while place.steps < count {
         add_next(alloc, log, place, text)?;
     }
     Ok(())
 }
 
+/// How many steps there are whose refusal's number is there too.
+fn told_steps(log: &Log) -> usize
+    ensures steps { result ≤ length log.now.steps }
+    ensures refusals { result ≤ length log.now.refusals }
+    ensures all { (result ≡ length log.now.steps) ⊎ (result ≡ length log.now.refusals) }
+{
+    if log.refusals.len() < log.steps.len() {
+        log.refusals.len()
+    } else {
+        log.steps.len()
+    }
+}
+
 /// Adds the record of the step at a place, and moves the place behind it. At a fault both are as before.
+#[tactic(auto, using(crate::proofs::Behind::bare_more, crate::proofs::Behind::taken_more, crate::proofs::Behind::bare_limits, crate::proofs::Behind::taken_limits))]
 fn add_next(
     alloc: Global,
     log: &Log,

@@ -1,19 +1,22 @@
 -- A text that grows by the record of a step.
-use Rattle.std.proofs.Common.{◌≡◌, ℕ, suc, ◌+◌, ◌<◌, ◌≤◌, ◌&&◌, Bool, true, false, cond, List, [], ◌∷◌, ◌++◌, length, get_or, drop, map, Some, refl, sym, ap, ◌∙◌, add-one, append_assoc, arith}
-use Rattle.std.specs.Prelude.{nat_lt}
+use Rattle.std.proofs.Common.{◌≡◌, ℕ, zero, suc, ◌+◌, ◌^◌, ◌<◌, ◌≤◌, ◌==◌, ◌&&◌, Bool, true, false, cond, List, [], ◌∷◌, ◌++◌, length, get_or, drop, map, Some, None, refl, sym, ap, ◌∙◌, subst, add-one, append_assoc, arith, inl, inr}
+use Rattle.std.specs.Prelude.{◌⊎◌, nat_lt}
+use Rattle.std.proofs.Math.Dec.{eqb-suc-zero}
 use Rattle.std.proofs.Math.Seq.{drop-cons}
 use Rattle.std.proofs.lemmas.Bool.{lt-ltb}
-use Rattle.std.proofs.lemmas.List.{length-drop}
+use Rattle.std.proofs.lemmas.List.{append-nil, length-drop, nil_from_length}
 use Rattle.scsi_cmd.specs.declared.Reply.{Reply}
 use Rattle.shared_machine.specs.declared.Step.{Step}
 use Rattle.uas_log.specs.declared.Log.{Log}
 use Rattle.log_records.specs.Records.{last_sum, record_text, records_text, sum_after}
+use Rattle.log_text.specs.declared.Version.TheVariants.{Second}
 use Rattle.log_text.specs.Kept.{with_client}
+use Rattle.log_text.specs.Text.{ReplyFits, StepFits}
 use Rattle.kept_log.specs.declared.Entry.{Entry}
-use Rattle.kept_log.specs.declared.Entry.TheVariants.{Acted}
-use Rattle.kept_log.specs.Form.{entry_text}
+use Rattle.kept_log.specs.declared.Entry.TheVariants.{Acted, Refused}
+use Rattle.kept_log.specs.Form.{EntryFits, entry_text, is_take}
 use Rattle.log_keeper.specs.declared.Place.{Place}
-use Rattle.log_keeper.specs.Entries.{Added, bare_entry, entries_behind, entries_of, gives, records_behind}
+use Rattle.log_keeper.specs.Entries.{Added, AllFit, FirstFits, OneMore, bare_entry, entries_behind, entries_of, gives, records_behind}
 
 -- ADDED
 
@@ -24,9 +27,12 @@ pub added_then : (log : Log) (first next last : Place) (one two three : List ℕ
     → Added log first one last three
 added_then log first next last one two three p q = record { text = q.text ∙ p.text; sum = q.sum ∙ p.sum }
 
-pub added_one : (log : Log) (old new : Place) (before after : List ℕ) (entry : Entry) → entries_behind log old ≡ entry ∷ entries_behind log new
-    → after ≡ before ++ record_text old.sum (entry_text entry) → new.sum ≡ sum_after old.sum (entry_text entry) → Added log old before new after
-added_one log old new before after entry more grown sum =
+pub added_one : (log : Log) (old new : Place) (before after : List ℕ) → OneMore log old before new after → Added log old before new after
+added_one log old new before after one =
+    let entry : Entry = one.entry in
+    let more : entries_behind log old ≡ entry ∷ entries_behind log new = one.more in
+    let grown : after ≡ before ++ record_text old.sum (entry_text entry) = one.text in
+    let sum : new.sum ≡ sum_after old.sum (entry_text entry) = one.sum in
     let body : List ℕ = entry_text entry in
     let bodies : List (List ℕ) = map entry_text (entries_behind log new) in
     let all : records_behind log old ≡ record_text old.sum body ++ records_behind log new =
@@ -37,6 +43,11 @@ added_one log old new before after entry more grown sum =
           ∙ ap (λ (back : List ℕ). before ++ back) (sym all);
       sum = ap (λ n. last_sum n bodies) sum ∙ ap (λ (entries : List Entry). last_sum old.sum (map entry_text entries)) (sym more);
     }
+
+-- all entries fit where the first does and those behind it do
+pub all_fit : (log : Log) (old new : Place) (before after : List ℕ) → OneMore log old before new after → AllFit (length log.units) (entries_behind log new)
+    → AllFit (length log.units) (entries_behind log old)
+all_fit log old new before after one rest = subst (AllFit (length log.units)) (sym one.more) (one.fits, rest)
 
 -- THE NEXT ENTRY
 
@@ -79,6 +90,10 @@ bare_behind log place step number sum within told is-step is-number bare =
     both_false (gives number step) (nat_lt place.replies (length log.replies)) bare
     (lt-ltb place.replies (length log.replies) (omega (arith, some, length-drop place.replies log.replies))))
 
+second_true : (a b : Bool) → (a && b) ≡ true → b ≡ true
+second_true true b e = e
+second_true false b e = absurd cc
+
 first_true : (a b : Bool) → (a && b) ≡ true → a ≡ true
 first_true true b e = refl
 first_true false b e = absurd cc
@@ -97,3 +112,94 @@ taken_behind log place step number sum reply within told some is-step is-number 
     ∙ ap (λ (list : List ℕ). entries_of log.tags (step ∷ steps) list (drop place.replies log.replies)) (numbers_here log.refusals place.steps number told is-number)
     ∙ ap (λ (list : List Reply). entries_of log.tags (step ∷ steps) (number ∷ numbers) list) (here log.replies place.replies reply some is-reply)
     ∙ taken_head log.tags number step steps numbers reply replies (first_true (gives number step) (nat_lt place.replies (length log.replies)) given)
+
+-- NOTHING MORE
+
+no_numbers : (tags : ℕ) (steps : List Step) (replies : List Reply) → entries_of tags steps [] replies ≡ []
+no_numbers tags [] replies = refl
+no_numbers tags (step ∷ steps) replies = refl
+
+dropped : {A : Type 0} (at : ℕ) (list : List A) → length list ≤ at → drop at list ≡ []
+dropped at list past = nil_from_length (drop at list) (omega (arith, past, length-drop at list))
+
+pub nothing_behind : (log : Log) (place : Place) (count : ℕ) → (count ≡ length log.steps) ⊎ (count ≡ length log.refusals) → count ≤ place.steps
+    → entries_behind log place ≡ []
+nothing_behind log place count all past =
+    elim all [
+      | inl steps ↦
+          ap (λ (list : List Step). entries_of log.tags list (drop place.steps log.refusals) (drop place.replies log.replies))
+          (dropped place.steps log.steps (omega (arith, past, steps)))
+      | inr numbers ↦
+          ap (λ (list : List ℕ). entries_of log.tags (drop place.steps log.steps) list (drop place.replies log.replies))
+          (dropped place.steps log.refusals (omega (arith, past, numbers))) ∙ no_numbers log.tags (drop place.steps log.steps) (drop place.replies log.replies)
+    ]
+
+pub all_written : (log : Log) (old new : Place) (before after : List ℕ) → Added log old before new after → entries_behind log new ≡ []
+    → after ≡ before ++ records_behind log old
+all_written log old new before after added none =
+    sym (append-nil after) ∙ ap (λ (entries : List Entry). after ++ records_text new.sum (map entry_text entries)) (sym none) ∙ added.text
+
+pub none_fit : (log : Log) (place : Place) → entries_behind log place ≡ [] → AllFit (length log.units) (entries_behind log place)
+none_fit log place none = subst (AllFit (length log.units)) (sym none) tt
+
+-- WITH ITS RECORD
+
+bare_fits : (clients number : ℕ) (step : Step) → number < 2 ^ 8 → StepFits Second clients step → EntryFits clients (bare_entry number step)
+bare_fits clients zero step small fits = (fits, tt)
+bare_fits clients (suc number) step small fits =
+    subst (λ (none : Bool). EntryFits clients (cond none (Acted step None) (Refused step (suc number)))) (sym (eqb-suc-zero number)) (fits, omega arith, small)
+
+bare_step : (clients number : ℕ) (step : Step) → EntryFits clients (bare_entry number step) → StepFits Second clients step
+bare_step clients zero step fits = fits.0
+bare_step clients (suc number) step fits =
+    let refused : EntryFits clients (Refused step (suc number)) =
+    subst (λ (none : Bool). EntryFits clients (cond none (Acted step None) (Refused step (suc number)))) (eqb-suc-zero number) fits in
+    refused.0
+
+-- a step without a reply
+pub bare_more : (log : Log) (place : Place) (step : Step) (number sum : ℕ) (before after : List ℕ) → place.steps < length log.steps
+    → place.steps < length log.refusals → step ≡ get_or log.steps place.steps step → number ≡ get_or log.refusals place.steps 0 → number < 2 ^ 8
+    → (gives number step && nat_lt place.replies (length log.replies)) ≡ false → after ≡ before ++ record_text place.sum (entry_text (bare_entry number step))
+    → sum ≡ sum_after place.sum (entry_text (bare_entry number step)) → StepFits Second (length log.units) step
+    → OneMore log place before (record { steps = place.steps + 1; replies = place.replies; sum = sum }) after
+bare_more log place step number sum before after within told is-step is-number small bare grown summed fits = record {
+  entry = bare_entry number step;
+  more = bare_behind log place step number sum within told (sym is-step) (sym is-number) bare;
+  text = grown;
+  sum = summed;
+  fits = bare_fits (length log.units) number step small fits;
+}
+
+-- a Take and its reply
+pub taken_more : (log : Log) (place : Place) (step : Step) (number sum : ℕ) (reply : Reply) (before after : List ℕ) → place.steps < length log.steps
+    → place.steps < length log.refusals → place.replies < length log.replies → step ≡ get_or log.steps place.steps step
+    → number ≡ get_or log.refusals place.steps 0 → reply ≡ get_or log.replies place.replies reply
+    → (gives number step && nat_lt place.replies (length log.replies)) ≡ true
+    → after ≡ before ++ record_text place.sum (entry_text (Acted step (Some (with_client log.tags reply))))
+    → sum ≡ sum_after place.sum (entry_text (Acted step (Some (with_client log.tags reply))))
+    → StepFits Second (length log.units) step → ReplyFits (length log.units) (with_client log.tags reply)
+    → OneMore log place before (record { steps = place.steps + 1; replies = place.replies + 1; sum = sum }) after
+taken_more log place step number sum reply before after within told some is-step is-number is-reply given grown summed fits reply-fits = record {
+  entry = Acted step (Some (with_client log.tags reply));
+  more = taken_behind log place step number sum reply within told some (sym is-step) (sym is-number) (sym is-reply) given;
+  text = grown;
+  sum = summed;
+  fits = (fits, (second_true (number == 0) (is_take step) (first_true (gives number step) (nat_lt place.replies (length log.replies)) given), reply-fits));
+}
+
+-- the limits of the first entry are those of its parts
+pub bare_limits : (log : Log) (place : Place) (step : Step) (number : ℕ) → place.steps < length log.steps → place.steps < length log.refusals
+    → step ≡ get_or log.steps place.steps step → number ≡ get_or log.refusals place.steps 0
+    → (gives number step && nat_lt place.replies (length log.replies)) ≡ false → FirstFits (length log.units) (entries_behind log place)
+    → StepFits Second (length log.units) step
+bare_limits log place step number within told is-step is-number bare fits =
+    bare_step (length log.units) number step (subst (FirstFits (length log.units)) (bare_behind log place step number 0 within told (sym is-step) (sym is-number) bare) fits)
+
+pub taken_limits : (log : Log) (place : Place) (step : Step) (number : ℕ) (reply : Reply) → place.steps < length log.steps
+    → place.steps < length log.refusals → place.replies < length log.replies → step ≡ get_or log.steps place.steps step
+    → number ≡ get_or log.refusals place.steps 0 → reply ≡ get_or log.replies place.replies reply
+    → (gives number step && nat_lt place.replies (length log.replies)) ≡ true → FirstFits (length log.units) (entries_behind log place)
+    → StepFits Second (length log.units) step × ReplyFits (length log.units) (with_client log.tags reply)
+taken_limits log place step number reply within told some is-step is-number is-reply given fits =
+    let both = subst (FirstFits (length log.units)) (taken_behind log place step number 0 reply within told some (sym is-step) (sym is-number) (sym is-reply) given) fits in
+    (both.0, both.1.1)

@@ -1,13 +1,14 @@
 -- The records of a log's steps, and where a text stands that grows.
-use Rattle.std.specs.Prelude.{◌≡◌, ℕ, ◌+◌, ◌&&◌, ◌==◌, if◌then◌else◌, Bool, List, [], ◌∷◌, ◌++◌, drop, map, take, Some, None}
+use Rattle.std.specs.Prelude.{◌≡◌, ℕ, ◌+◌, ◌&&◌, ◌==◌, if◌then◌else◌, Bool, List, [], ◌∷◌, ◌++◌, drop, length, map, take, Some, None}
+use Rattle.std.specs.List.{AllByRecursion}
 use Rattle.scsi_cmd.specs.declared.Reply.{Reply}
 use Rattle.shared_machine.specs.declared.Step.{Step}
 use Rattle.uas_log.specs.declared.Log.{Log}
-use Rattle.log_records.specs.Records.{last_sum, records_text}
+use Rattle.log_records.specs.Records.{last_sum, record_text, records_text, sum_after}
 use Rattle.log_text.specs.Kept.{with_client}
 use Rattle.kept_log.specs.declared.Entry.{Entry}
 use Rattle.kept_log.specs.declared.Entry.TheVariants.{Acted, Refused}
-use Rattle.kept_log.specs.Form.{entry_text, front_sum, front_text, is_take}
+use Rattle.kept_log.specs.Form.{EntryFits, entry_text, front_sum, front_text, is_take}
 use Rattle.log_keeper.specs.declared.Place.{Place}
 
 -- ENTRIES
@@ -54,6 +55,25 @@ pub record Added (log : Log) (old : Place) (before : List ℕ) (new : Place) (af
   pub text : after ++ records_behind log new ≡ before ++ records_behind log old
   pub sum : sum_behind log new ≡ sum_behind log old
 
+-- ONE MORE
+
+-- A text got the record of the entry at a place, which moved behind it.
+pub record OneMore (log : Log) (old : Place) (before : List ℕ) (new : Place) (after : List ℕ) : Type 0 where
+  pub entry : Entry
+  pub more : entries_behind log old ≡ entry ∷ entries_behind log new
+  pub text : after ≡ before ++ record_text old.sum (entry_text entry)
+  pub sum : new.sum ≡ sum_after old.sum (entry_text entry)
+  pub fits : EntryFits (length log.units) entry
+
+-- all of these fit a log of so many clients
+abbrev pub AllFit : ℕ → List Entry → Type 0
+AllFit clients entries = AllByRecursion (EntryFits clients) entries
+
+-- the first of these fits a log of so many clients
+abbrev pub FirstFits : ℕ → List Entry → Type 0
+FirstFits clients [] = Unit {0}
+FirstFits clients (entry ∷ entries) = EntryFits clients entry
+
 -- STANDING
 
 -- the entries before a place
@@ -61,8 +81,8 @@ abbrev pub entries_before : Log → Place → List Entry
 entries_before log place = entries_of log.tags (take place.steps log.steps) (take place.steps log.refusals) (take place.replies log.replies)
 
 -- a text is the head of a log and the records of the entries before a place
-pub record StandsAt (log : Log) (place : Place) (text : List ℕ) : Type 0 where
-  pub text : text ≡ front_text log.units (entries_before log place)
+pub record StandsAt (log : Log) (place : Place) (bytes : List ℕ) : Type 0 where
+  pub text : bytes ≡ front_text log.units (entries_before log place)
   pub sum : place.sum ≡ front_sum log.units (entries_before log place)
 
 -- how many replies these steps gave

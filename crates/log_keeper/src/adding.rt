@@ -1,11 +1,13 @@
 //! The records of the steps behind a place.
-ghost use Rattle.std.specs.Prelude.{◌≡◌, ◌+◌, ◌<◌, ◌≤◌, ◌++◌, ◌&&◌, nat_lt, IfErr, IfOk, IsErr, Ok, OnErr, OnOk, Some, [], length};
+ghost use Rattle.std.specs.Prelude.{◌≡◌, ◌+◌, ◌<◌, ◌≤◌, ◌++◌, ◌⊎◌, ◌&&◌, nat_lt, IfErr, IfOk, IsErr, Ok, OnErr, OnOk, Some, [], length};
 ghost use Rattle.log_records.specs.Records.{record_text, sum_after};
+ghost use Rattle.log_text.specs.declared.Version.TheVariants.{Second};
 ghost use Rattle.log_text.specs.Kept.{with_client};
+ghost use Rattle.log_text.specs.Text.{ReplyFits, StepFits};
 ghost use Rattle.uas_profile.specs.declared.TheConstants.{MAX_CLIENTS};
 ghost use Rattle.kept_log.specs.declared.Entry.TheVariants.{Acted};
 ghost use Rattle.kept_log.specs.Form.{entry_text, head_sum, head_text};
-ghost use Rattle.log_keeper.specs.Entries.{Added, bare_entry, entries_behind, gives, records_behind};
+ghost use Rattle.log_keeper.specs.Entries.{Added, AllFit, FirstFits, OneMore, bare_entry, entries_behind, gives, records_behind};
 
 use crate::{KeepFault, Place};
 use kept_log::{is_take, write_head, write_refused, write_step, write_taken};
@@ -49,16 +51,33 @@ pub fn add_records(
     requires few { length log.now.units ≤ MAX_CLIENTS }
     requires tags { 1 ≤ log.now.tags }
     ensures all { OnOk result (text.new.items ≡ text.old.items ++ records_behind log.now place.old) }
+    ensures fit { OnOk result (AllFit (length log.now.units) (entries_behind log.now place.old)) }
     ensures none { OnOk result (entries_behind log.now place.new ≡ []) }
     ensures added { Added log.now place.old text.old.items place.new text.new.items }
+    ensures limits { IfErr result (λ fault. fault ≡ KeepFault.Limits → FirstFits (length log.now.units) (entries_behind log.now place.new) → ⊥) }
 {
-    while place.steps < log.steps.len() && place.steps < log.refusals.len() {
+    let count = told_steps(log);
+    while place.steps < count {
         add_next(alloc, log, place, text)?;
     }
     Ok(())
 }
 
+/// How many steps there are whose refusal's number is there too.
+fn told_steps(log: &Log) -> usize
+    ensures steps { result ≤ length log.now.steps }
+    ensures refusals { result ≤ length log.now.refusals }
+    ensures all { (result ≡ length log.now.steps) ⊎ (result ≡ length log.now.refusals) }
+{
+    if log.refusals.len() < log.steps.len() {
+        log.refusals.len()
+    } else {
+        log.steps.len()
+    }
+}
+
 /// Adds the record of the step at a place, and moves the place behind it. At a fault both are as before.
+#[tactic(auto, using(crate::proofs::Behind::bare_more, crate::proofs::Behind::taken_more, crate::proofs::Behind::bare_limits, crate::proofs::Behind::taken_limits))]
 fn add_next(
     alloc: Global,
     log: &Log,
@@ -69,8 +88,11 @@ fn add_next(
     requires tags { 1 ≤ log.now.tags }
     requires steps { place.old.steps < length log.now.steps }
     requires refusals { place.old.steps < length log.now.refusals }
-    ensures added { Added log.now place.old text.old.items place.new text.new.items }
-    ensures one { OnOk result (place.new.steps ≡ place.old.steps + 1) }
+    ensures one { OnOk result (OneMore log.now place.old text.old.items place.new text.new.items) }
+    ensures count { OnOk result (place.new.steps ≡ place.old.steps + 1) }
+    ensures place { OnErr result (place.new ≡ place.old) }
+    ensures text { OnErr result (text.new.items ≡ text.old.items) }
+    ensures limits { IfErr result (λ fault. fault ≡ KeepFault.Limits → FirstFits (length log.now.units) (entries_behind log.now place.old) → ⊥) }
 {
     let step = &log.steps.as_slice()[place.steps];
     let number = log.refusals.as_slice()[place.steps];
@@ -116,7 +138,9 @@ fn add_taken(
     requires tags { 1 ≤ tags }
     ensures text { OnOk result (text.new.items ≡ text.old.items ++ record_text before (entry_text (Acted step.now (Some (with_client tags reply.now))))) }
     ensures sum { IfOk result (λ sum. sum ≡ sum_after before (entry_text (Acted step.now (Some (with_client tags reply.now))))) }
+    ensures fits { OnOk result (StepFits Second clients step.now × ReplyFits clients (with_client tags reply.now)) }
     ensures same { OnErr result (text.new.items ≡ text.old.items) }
+    ensures limits { IfErr result (λ fault. fault ≡ KeepFault.Limits → StepFits Second clients step.now → ReplyFits clients (with_client tags reply.now) → ⊥) }
 {
     if !step_fits(Version::Second, clients, step) || !reply_fits(clients, tags, reply) {
         return Err(KeepFault::Limits);
@@ -138,7 +162,9 @@ fn add_bare(
     requires { clients ≤ MAX_CLIENTS }
     ensures text { OnOk result (text.new.items ≡ text.old.items ++ record_text before (entry_text (bare_entry number step.now))) }
     ensures sum { IfOk result (λ sum. sum ≡ sum_after before (entry_text (bare_entry number step.now))) }
+    ensures fits { OnOk result (StepFits Second clients step.now) }
     ensures same { OnErr result (text.new.items ≡ text.old.items) }
+    ensures limits { IfErr result (λ fault. fault ≡ KeepFault.Limits → StepFits Second clients step.now → ⊥) }
 {
     if !step_fits(Version::Second, clients, step) {
         return Err(KeepFault::Limits);
@@ -149,14 +175,13 @@ fn add_bare(
     told(write_refused(alloc, step, number, before, text))
 }
 
-/// What a writer of a record answers.
+/// What a writer of a record answers. No record is too long: what fits is far shorter.
 fn told(written: Result<u32, RecordFault>) -> Result<u32, KeepFault>
     ensures ok { IfOk result (λ sum. written ≡ Ok sum) }
-    ensures err { IfErr result (λ fault. IsErr written) }
+    ensures err { IfErr result (λ fault. IsErr written × (fault ≡ KeepFault.NoMemory)) }
 {
     match written {
         Ok(sum) => Ok(sum),
-        Err(RecordFault::TooLong) => Err(KeepFault::Limits),
-        Err(RecordFault::NoMemory) => Err(KeepFault::NoMemory),
+        Err(RecordFault::TooLong | RecordFault::NoMemory) => Err(KeepFault::NoMemory),
     }
 }

@@ -1,4 +1,4 @@
-use Rattle.std.proofs.Common.{List, ℕ, Result, Ok, Err, IfOk, arith}
+use Rattle.std.proofs.Common.{List, ℕ, Result, Ok, Err, IfOk, rules, arith}
 use Rattle.log_checksum.specs.Bytes.{AreBytes}
 use Rattle.kept_log.specs.declared.KeptFault.{KeptFault}
 use Rattle.kept_log.specs.declared.Loaded.{Loaded}
@@ -14,6 +14,10 @@ kept text (Err fault) are is = tt
 
 pub returns-clause-kept : goal.returns-clause-kept
 returns-clause-kept c = kept c.args.text.now c.records.result (λ i. omega (arith, c.type_inv.text i)) c.records.ensures.loaded
+
+pub returns-in_err-units-clause-exact : goal.returns-in_err-units-clause-exact
+returns-in_err-units-clause-exact c =
+    loads_exact c.args.text.now c.from_residual.result (λ i. omega (arith, c.type_inv.text i)) (search rules) (search rules)
 
 pub returns-clause-exact : goal.returns-clause-exact
 returns-clause-exact c =

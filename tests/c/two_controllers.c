@@ -378,8 +378,9 @@ static void bring_buffers(uint16_t tag, const uint8_t *data, uint32_t length)
     memcpy(memory + unit, bytes, sizeof bytes);
     lengths[tag] = length;
     used[tag] = true;
-    if (length > 0)
-        must(uas_controller_lend(fixed, tag, data, length) == UAS_OK, "no loan");
+    if (length == 0)
+        return;
+    must(uas_controller_lend(fixed, tag, data, length) == UAS_OK, "no loan");
     memcpy(memory + window(tag), data, length);
 }
 

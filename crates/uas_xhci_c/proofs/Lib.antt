@@ -1,2 +1,2 @@
-mod Called
 mod Over
+pub mod Requests

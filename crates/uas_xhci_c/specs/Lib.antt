@@ -1,5 +1,5 @@
 -- What C sees of a controller over its memory.
-pub mod Lent
+pub mod CallLaws
 pub mod RegionLaws
 pub mod Regions
 pub mod Turned

@@ -1,6 +1,154 @@
--- What a call through the door answers: nothing, no such call, bytes that are more or fewer than a request's, or no such request.
-use Rattle.std.specs.Prelude.{ℕ, ◌==◌, Bool, ◌||◌}
+-- What a call through the door makes of the controller, the door and the bytes.
+use Rattle.std.specs.Prelude.{ℕ, ◌%◌, ◌==◌, not, if◌then◌else◌, List, [], ◌∷◌, length, Option, None, Some, Result, Ok, Err}
+use Rattle.std.specs.List.{find, range_with_len}
+use Rattle.std.specs.Option.{option_map_or}
+use Rattle.c_common.specs.Bytes.{yes}
+use Rattle.c_common.specs.Door.{After, DoorAfter, numbered, refused, with_bytes}
 use Rattle.c_faults.specs.declared.TheConstants.{TASKS_CALL, TASKS_LENGTH, TASKS_NOT_OUT}
+use Rattle.guest_tasks.specs.Active.{asks_on}
+use Rattle.guest_tasks.specs.declared.GuestTasks.{GuestTasks}
+use Rattle.uas_tasks.specs.declared.AnswerFault.{AnswerFault}
+use Rattle.uas_tasks.specs.declared.AnswerFault.TheVariants.{NotOut, WrongLength}
+use Rattle.uas_tasks.specs.declared.Next.{Next}
+use Rattle.uas_tasks.specs.declared.Next.TheVariants as nexts
+use Rattle.uas_tasks.specs.declared.Outcome.{Outcome}
+use Rattle.uas_tasks.specs.declared.Outcome.TheVariants as outcomes
+use Rattle.uas_tasks.specs.declared.Request.{Request}
+use Rattle.uas_tasks.specs.declared.Request.TheVariants as requests
+use Rattle.uas_tasks.specs.Machine.{Machine as Tasks, answered, bytes_out, next_of}
+use Rattle.xhci_registers.specs.declared.Width.{Width}
+use Rattle.xhci_registers.specs.declared.Width.TheVariants as widths
+use Rattle.xhci_registers.specs.Signals.{is_asserted, messaged}
+use Rattle.xhci_registers.specs.Words.{read_of}
+use Rattle.xhci_registers.specs.Writes.{reset_registers}
+use Rattle.xhci_machine.specs.declared.Machine.{Machine}
+use Rattle.xhci_machine.specs.Effects.{all_reset, page_done, plugged_in}
+use Rattle.uas_xhci_c.specs.declared.door.Call.{Call}
+use Rattle.uas_xhci_c.specs.declared.door.Call.TheVariants as calls
+use Rattle.uas_xhci_c.specs.declared.door.UasXhciDoor.{UasXhciDoor}
 
-abbrev pub is_answer : ℕ → Bool
-is_answer number = number == 0 || (number == TASKS_CALL || (number == TASKS_LENGTH || number == TASKS_NOT_OUT))
+-- REGISTERS
+
+-- an access has 1, 2, 4 or 8 bytes
+abbrev pub width_of : ℕ → Option Width
+width_of = numbered ((1, widths.One) ∷ (2, widths.Two) ∷ (4, widths.Four) ∷ (8, widths.Eight) ∷ [])
+
+-- READ (1): the value is that of the registers there
+abbrev pub read_at : Machine → UasXhciDoor → Width → DoorAfter Machine UasXhciDoor
+read_at machine door width = (0, (machine, record door { value = read_of machine.registers door.offset width }))
+
+abbrev pub after_read : Machine → UasXhciDoor → DoorAfter Machine UasXhciDoor
+after_read machine door = option_map_or (read_at machine door) (width_of door.width) (refused TASKS_CALL machine door)
+
+-- WRITE (2): the value is written there
+abbrev pub written_at : Machine → UasXhciDoor → Width → DoorAfter Machine UasXhciDoor
+written_at machine door width = (0, (page_done machine door.offset width door.value, door))
+
+abbrev pub after_write : Machine → UasXhciDoor → DoorAfter Machine UasXhciDoor
+after_write machine door = option_map_or (written_at machine door) (width_of door.width) (refused TASKS_CALL machine door)
+
+-- SIGNALS
+
+-- INTERRUPT (3): whether the interrupt's pin is asserted
+abbrev pub after_interrupt : Machine → UasXhciDoor → DoorAfter Machine UasXhciDoor
+after_interrupt machine door = (0, (machine, record door { good = yes (is_asserted machine.registers) }))
+
+-- MESSAGE (4): whether a message is to be sent, which it then is
+abbrev pub after_message : Machine → UasXhciDoor → DoorAfter Machine UasXhciDoor
+after_message machine door =
+    (0, (record machine { registers = messaged machine.registers }, record door { good = yes (is_asserted machine.registers) }))
+
+-- PLUG (5): the disk is pulled for 0, and plugged in for any other value
+abbrev pub after_plug : Machine → UasXhciDoor → DoorAfter Machine UasXhciDoor
+after_plug machine door = (0, (plugged_in machine (not (door.value == 0)), door))
+
+-- FRAME (6): MFINDEX has 14 bits
+abbrev pub after_frame : Machine → UasXhciDoor → DoorAfter Machine UasXhciDoor
+after_frame machine door = (0, (record machine { registers = record machine.registers { frame_index = door.value % 0x4000 } }, door))
+
+-- RESET (7): all registers, and all that they stand for; a disk that was plugged in still is
+abbrev pub after_reset : Machine → UasXhciDoor → DoorAfter Machine UasXhciDoor
+after_reset machine door = (0, (all_reset (record machine { registers = reset_registers machine.registers.port.attached }), door))
+
+-- REQUESTS
+
+abbrev pub with_tasks : Machine → Tasks → Machine
+with_tasks machine tasks = record machine { device = record machine.device { tasks = tasks } }
+
+-- the first active tag whose request is to be asked, of as many tags as the device has slots
+abbrev pub first_asking : GuestTasks → Option ℕ
+first_asking device = find (asks_on device) (range_with_len 1 (length device.tasks.slots))
+
+abbrev pub asked_on : Machine → ℕ → Machine × Option Next
+asked_on machine tag = (with_tasks machine (next_of machine.device.tasks tag).0, Some (next_of machine.device.tasks tag).1)
+
+-- the next request that isn't out yet, which is out from then on
+abbrev pub next_request : Machine → Machine × Option Next
+next_request machine = option_map_or (asked_on machine) (first_asking machine.device) (machine, None)
+
+-- 1 reads, 2 writes, 3 compares, 4 verifies, 5 brings to the medium
+abbrev pub with_request : UasXhciDoor → Request → UasXhciDoor
+with_request door (requests.Read unit block count) = record door { kind = 1; through = 0; unit = unit; block = block; count = count }
+with_request door (requests.Write unit block count through) =
+    record door { kind = 2; through = yes through; unit = unit; block = block; count = count }
+with_request door (requests.Compare unit block count) = record door { kind = 3; through = 0; unit = unit; block = block; count = count }
+with_request door (requests.Verify unit block count) = record door { kind = 4; through = 0; unit = unit; block = block; count = count }
+with_request door (requests.Sync unit block count) = record door { kind = 5; through = 0; unit = unit; block = block; count = count }
+
+abbrev pub with_next : UasXhciDoor → Option Next → UasXhciDoor
+with_next door (Some (nexts.Asks number request)) = with_request (record door { good = 1; number = number }) request
+with_next door _ = record door { good = 0 }
+
+-- REQUEST (8)
+abbrev pub after_request : Machine → UasXhciDoor → DoorAfter Machine UasXhciDoor
+after_request machine door = (0, ((next_request machine).0, with_next door (next_request machine).1))
+
+-- DATA (9): the bytes of a request that writes or compares, which are as many as the caller's
+abbrev pub given_out : Machine → UasXhciDoor → List ℕ → List ℕ → After Machine UasXhciDoor
+given_out machine door bytes out =
+    if length out == length bytes then (0, (machine, (door, out))) else with_bytes bytes (refused TASKS_LENGTH machine door)
+
+abbrev pub after_data : Machine → UasXhciDoor → List ℕ → After Machine UasXhciDoor
+after_data machine door bytes =
+    option_map_or (given_out machine door bytes) (bytes_out machine.device.tasks door.number)
+    (with_bytes bytes (refused TASKS_NOT_OUT machine door))
+
+-- ANSWERED (10): the request is done (0), its blocks differ (1), are bad (2), or aren't to be had now (3)
+abbrev pub outcome_numbered : ℕ → Option Outcome
+outcome_numbered = numbered ((0, outcomes.Done) ∷ (1, outcomes.Differs) ∷ (2, outcomes.MediumError) ∷ (3, outcomes.NotReady) ∷ [])
+
+abbrev pub answer_told : Machine → UasXhciDoor → Tasks × Result (Unit {0}) AnswerFault → DoorAfter Machine UasXhciDoor
+answer_told machine door (tasks, Ok done) = (0, (with_tasks machine tasks, door))
+answer_told machine door (tasks, Err NotOut) = refused TASKS_NOT_OUT machine door
+answer_told machine door (tasks, Err WrongLength) = refused TASKS_LENGTH machine door
+
+abbrev pub answered_with : Machine → UasXhciDoor → List ℕ → Outcome → DoorAfter Machine UasXhciDoor
+answered_with machine door bytes outcome = answer_told machine door (answered machine.device.tasks door.number outcome bytes)
+
+abbrev pub after_answer : Machine → UasXhciDoor → List ℕ → DoorAfter Machine UasXhciDoor
+after_answer machine door bytes =
+    option_map_or (answered_with machine door bytes) (outcome_numbered door.outcome) (refused TASKS_CALL machine door)
+
+-- CALLS
+
+abbrev pub call_numbered : ℕ → Option Call
+call_numbered =
+    numbered ((1, calls.Read) ∷ (2, calls.Write) ∷ (3, calls.Interrupt) ∷ (4, calls.Message) ∷ (5, calls.Plug) ∷ (6, calls.Frame) ∷ (7, calls.Reset)
+    ∷ (8, calls.Request) ∷ (9, calls.Data) ∷ (10, calls.Answered) ∷ [])
+
+abbrev pub after_named : Machine → UasXhciDoor → List ℕ → Call → After Machine UasXhciDoor
+after_named machine door bytes calls.Read = with_bytes bytes (after_read machine door)
+after_named machine door bytes calls.Write = with_bytes bytes (after_write machine door)
+after_named machine door bytes calls.Interrupt = with_bytes bytes (after_interrupt machine door)
+after_named machine door bytes calls.Message = with_bytes bytes (after_message machine door)
+after_named machine door bytes calls.Plug = with_bytes bytes (after_plug machine door)
+after_named machine door bytes calls.Frame = with_bytes bytes (after_frame machine door)
+after_named machine door bytes calls.Reset = with_bytes bytes (after_reset machine door)
+after_named machine door bytes calls.Request = with_bytes bytes (after_request machine door)
+after_named machine door bytes calls.Data = after_data machine door bytes
+after_named machine door bytes calls.Answered = with_bytes bytes (after_answer machine door bytes)
+
+-- a call of a number that is none is refused
+abbrev pub after_call : Machine → UasXhciDoor → List ℕ → After Machine UasXhciDoor
+after_call machine door bytes =
+    option_map_or (after_named machine door bytes) (call_numbered door.call) (with_bytes bytes (refused TASKS_CALL machine door))

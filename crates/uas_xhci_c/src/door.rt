@@ -1,6 +1,8 @@
 //! A controller over a caller's memory for C: register accesses, interrupts and requests, over one call with a door.
-ghost use Rattle.std.specs.Prelude.{◌≡◌, true};
-ghost use Rattle.uas_xhci_c.specs.XhciCall.{is_answer};
+ghost use Rattle.std.specs.Prelude.{◌≡◌};
+ghost use Rattle.uas_xhci_c.specs.CallLaws.{IsTold, IsWhole};
+ghost use Rattle.uas_xhci_c.specs.XhciCall.{after_answer, after_call, after_data, after_read, after_request, after_write, call_numbered};
+ghost use Rattle.uas_xhci_c.specs.XhciCall.{outcome_numbered, width_of, with_next, with_request};
 
 use c_faults::{TASKS_CALL, TASKS_LENGTH, TASKS_NOT_OUT};
 use std::marker::Model;
@@ -67,7 +69,9 @@ enum Call {
     Answered,
 }
 
-fn call_numbered(number: u8) -> Option<Call> {
+fn call_numbered(number: u8) -> Option<Call>
+    ensures { result ≡ call_numbered number }
+{
     match number {
         1 => Some(Call::Read),
         2 => Some(Call::Write),
@@ -83,7 +87,9 @@ fn call_numbered(number: u8) -> Option<Call> {
     }
 }
 
-fn width_of(bytes: u8) -> Option<Width> {
+fn width_of(bytes: u8) -> Option<Width>
+    ensures { result ≡ width_of bytes }
+{
     match bytes {
         1 => Some(Width::One),
         2 => Some(Width::Two),
@@ -93,7 +99,9 @@ fn width_of(bytes: u8) -> Option<Width> {
     }
 }
 
-fn outcome_numbered(number: u8) -> Option<Outcome> {
+fn outcome_numbered(number: u8) -> Option<Outcome>
+    ensures { result ≡ outcome_numbered number }
+{
     match number {
         0 => Some(Outcome::Done),
         1 => Some(Outcome::Differs),
@@ -105,7 +113,7 @@ fn outcome_numbered(number: u8) -> Option<Outcome> {
 
 /// The call that a door names; the number of its refusal, or 0.
 pub(crate) fn serve(kept: &mut KeptXhci, door: &mut UasXhciDoor, bytes: &mut [u8]) -> u8
-    ensures { is_answer result ≡ true }
+    ensures { (result, (kept.new, (door.new, bytes.new))) ≡ after_call kept.old door.old bytes.old }
 {
     let Some(call) = call_numbered(door.call) else {
         return TASKS_CALL;
@@ -114,30 +122,34 @@ pub(crate) fn serve(kept: &mut KeptXhci, door: &mut UasXhciDoor, bytes: &mut [u8
     match call {
         Call::Read => read(machine, door),
         Call::Write => write(machine, door),
+        Call::Interrupt => {
+            door.good = u8::from(machine.interrupt());
+            0
+        }
+        Call::Message => {
+            door.good = u8::from(machine.take_message());
+            0
+        }
+        Call::Plug => {
+            machine.plug(door.value != 0);
+            0
+        }
+        Call::Frame => {
+            machine.set_frame_index((door.value % 0x4000) as u16);
+            0
+        }
+        Call::Reset => {
+            machine.reset();
+            0
+        }
         Call::Request => show_request(machine, door),
         Call::Data => show_data(machine, door, bytes),
         Call::Answered => answer(machine, door, bytes),
-        Call::Interrupt | Call::Message | Call::Plug | Call::Frame | Call::Reset => {
-            signal(machine, door, call);
-            0
-        }
-    }
-}
-
-/// The calls that have neither bytes nor a fault.
-fn signal(machine: &mut Machine, door: &mut UasXhciDoor, call: Call) {
-    match call {
-        Call::Interrupt => door.good = u8::from(machine.interrupt()),
-        Call::Message => door.good = u8::from(machine.take_message()),
-        Call::Plug => machine.plug(door.value != 0),
-        Call::Frame => machine.set_frame_index((door.value % 0x4000) as u16),
-        Call::Reset => machine.reset(),
-        Call::Read | Call::Write | Call::Request | Call::Data | Call::Answered => (),
     }
 }
 
 fn read(machine: &Machine, door: &mut UasXhciDoor) -> u8
-    ensures { is_answer result ≡ true }
+    ensures { (result, (machine.now, door.new)) ≡ after_read machine.now door.old }
 {
     let Some(width) = width_of(door.width) else {
         return TASKS_CALL;
@@ -147,7 +159,7 @@ fn read(machine: &Machine, door: &mut UasXhciDoor) -> u8
 }
 
 fn write(machine: &mut Machine, door: &UasXhciDoor) -> u8
-    ensures { is_answer result ≡ true }
+    ensures { (result, (machine.new, door.now)) ≡ after_write machine.old door.now }
 {
     let Some(width) = width_of(door.width) else {
         return TASKS_CALL;
@@ -158,18 +170,27 @@ fn write(machine: &mut Machine, door: &UasXhciDoor) -> u8
 
 /// The next request that isn't out yet.
 fn show_request(machine: &mut Machine, door: &mut UasXhciDoor) -> u8
-    ensures { is_answer result ≡ true }
+    ensures { (result, (machine.new, door.new)) ≡ after_request machine.old door.old }
+{
+    let next = machine.next_request();
+    tell_next(door, next);
+    0
+}
+
+fn tell_next(door: &mut UasXhciDoor, next: Option<Next>)
+    ensures { door.new ≡ with_next door.old next }
 {
     door.good = 0;
-    if let Some(Next::Asks { number, request }) = machine.next_request() {
+    if let Some(Next::Asks { number, request }) = next {
         door.good = 1;
         door.number = number;
         tell_request(door, &request);
     }
-    0
 }
 
-fn tell_request(door: &mut UasXhciDoor, request: &Request) {
+fn tell_request(door: &mut UasXhciDoor, request: &Request)
+    ensures { door.new ≡ with_request door.old request.now }
+{
     let (kind, asked_of, first, many, goes_through) = match *request {
         Request::Read { unit, block, count } => (1, unit, block, count, false),
         Request::Write {
@@ -191,7 +212,7 @@ fn tell_request(door: &mut UasXhciDoor, request: &Request) {
 
 /// The bytes of the request of the door's number.
 fn show_data(machine: &Machine, door: &UasXhciDoor, bytes: &mut [u8]) -> u8
-    ensures { is_answer result ≡ true }
+    ensures { (result, (machine.now, (door.now, bytes.new))) ≡ after_data machine.now door.now bytes.old }
 {
     let Some(out) = machine.request_bytes(door.number) else {
         return TASKS_NOT_OUT;
@@ -204,7 +225,7 @@ fn show_data(machine: &Machine, door: &UasXhciDoor, bytes: &mut [u8]) -> u8
 }
 
 fn answer(machine: &mut Machine, door: &UasXhciDoor, bytes: &[u8]) -> u8
-    ensures { is_answer result ≡ true }
+    ensures { (result, (machine.new, door.now)) ≡ after_answer machine.old door.now bytes.now }
 {
     let Some(outcome) = outcome_numbered(door.outcome) else {
         return TASKS_CALL;
@@ -215,3 +236,15 @@ fn answer(machine: &mut Machine, door: &UasXhciDoor, bytes: &[u8]) -> u8
         Err(AnswerFault::WrongLength) => TASKS_LENGTH,
     }
 }
+
+#[tactic(auto, using(crate::specs::CallLaws::calls_are_whole))]
+/// Law: a call answers 0 or one of three faults, and one that is refused changes nothing.
+pub fn refused_calls_change_nothing(machine: &Machine, door: &UasXhciDoor, bytes: &[u8])
+    ensures { IsWhole machine.now door.now bytes.now (after_call machine.now door.now bytes.now) }
+{}
+
+#[tactic(auto, using(crate::specs::CallLaws::requests_are_told))]
+/// Law: REQUEST tells of a request exactly where an active tag's is to be asked.
+pub fn requests_are_told(machine: &Machine, door: &UasXhciDoor)
+    ensures { IsTold machine.now door.now }
+{}

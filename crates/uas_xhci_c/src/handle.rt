@@ -1,12 +1,11 @@
 //! The handle of a controller in C: called and ended.
-ghost use Rattle.std.specs.Prelude.{◌≡◌, ℕ, List, ◌<◌, ◌^◌, true};
+ghost use Rattle.std.specs.Prelude.{◌≡◌, ℕ, List, ◌<◌, ◌^◌};
 ghost use types.Logic.{sem};
 ghost use base.Fraction.{full_share};
 ghost use denote.RawPtr.{lies_at, room_at};
 ghost use Rattle.uas_xhci_c.specs.contracts.door.KeptXhci.{the_row as xhci_row};
 ghost use Rattle.c_common.specs.Handed.{handed};
-ghost use Rattle.uas_xhci_c.specs.Lent.{handed_back};
-ghost use Rattle.uas_xhci_c.specs.XhciCall.{is_answer};
+ghost use Rattle.uas_xhci_c.specs.XhciCall.{after_call};
 ghost use Rattle.xhci_machine.specs.declared.Machine.{Machine};
 ghost use Rattle.uas_xhci_c.specs.declared.door.UasXhciDoor.{UasXhciDoor};
 ghost use Rattle.uas_xhci_c.specs.contracts.door.UasXhciDoor.{the_row as door_row};
@@ -15,7 +14,7 @@ use crate::door::{KeptXhci, UasXhciDoor, serve};
 use crate::making::UasXhci;
 
 /// One call of a controller: `bytes` are `length` bytes, and the controller and its door are the caller's alone. All three are the caller's
-/// again when it returns.
+/// again when it returns. What it does and answers is `after_call`.
 #[unsafe(no_mangle)]
 pub unsafe extern "C" fn uas_xhci_call(
     xhci: *mut UasXhci,
@@ -25,7 +24,8 @@ pub unsafe extern "C" fn uas_xhci_call(
 ) -> u8
     ghost had: { Machine × (UasXhciDoor × List ℕ) }
     requires* { sem 𝓛 (handed xhci_row door_row xhci door bytes length had) ∗ ⌜ length < 2 ^ 63 ⌝ }
-    ensures* { sem 𝓛 (handed_back xhci_row door_row xhci door bytes length) ∗ ⌜ is_answer result ≡ true ⌝ }
+    ensures* { sem 𝓛 (handed xhci_row door_row xhci door bytes length (after_call had.0 had.1.0 had.1.1).1)
+        ∗ ⌜ result ≡ (after_call had.0 had.1.0 had.1.1).0 ⌝ }
 {
     serve(
         unsafe { &mut *(xhci as *mut KeptXhci) },

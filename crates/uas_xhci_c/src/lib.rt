@@ -6,16 +6,17 @@
 //! | handle.rt | `uas_xhci_call`, `uas_xhci_close` |
 //! | turn.rt | `uas_xhci_take_turn` |
 //!
-//! What is promised: `uas_xhci_new` answers the first fault of what is asked for, as `uas_tasks_new` does. Every call through the door is safe
-//! and returns, for any bytes in the door, any register access and any memory; it answers 0 or one of the faults of specs/XhciCall.antt. What the
-//! calls do is the contracts' of `xhci_machine`. `uas_xhci_take_turn` works over up to 64 regions as one memory, whose bytes are those of
-//! `held lent_in regions`; it answers the first fault of the regions (specs/Regions.antt), and then nothing has changed (specs/Turned.antt). Each
-//! range that it writes is noted in the room that it is given, or a flag tells that not all are (`guest_notes`).
+//! What is promised: `uas_xhci_new` answers the first fault of what is asked for, as `uas_tasks_new` does. A call through the door is
+//! `after_call` of specs/XhciCall.antt: what it makes of the controller, the door and the bytes, for every number of a call, any register
+//! access and any bytes. A refused call changes nothing, and REQUEST tells of a request exactly where a tag's is to be asked
+//! (specs/CallLaws.antt). `uas_xhci_take_turn` works over up to 64 regions as one memory, whose bytes are those of `held lent_in regions`; it
+//! answers the first fault of the regions (specs/Regions.antt), and then nothing has changed (specs/Turned.antt). Each range that it writes is
+//! noted in the room that it is given, or a flag tells that not all are (`guest_notes`).
 //!
 //! What a caller upholds stands in the head of include/uas.h; nothing here tests it. The memory that a call is lent is written by nobody else
 //! while it runs, or what the controller reads of it may be of two moments: each TRB, context and information unit is read once.
 //!
-//! It takes memory in `uas_xhci_new` alone. It stands on `c_common`, `c_tasks` and `xhci_machine`.
+//! It takes memory in `uas_xhci_new` alone. It stands on `c_common`, `c_tasks` and `xhci_machine` by their contracts.
 #![tactic(auto)]
 
 mod door;

@@ -1,0 +1,134 @@
+-- Laws of the calls through the door: what a call answers, that a refused one changes nothing, and that a request which is asked is told.
+use Rattle.std.proofs.Common.{◌≡◌, ℕ, ◌<◌, Bool, true, List, [], ◌∷◌, length, Option, Some, None, Result, Ok, Err, refl, sym, ap, ◌∙◌, arith, inl, inr}
+use Rattle.std.specs.Prelude.{◌==◌, ◌||◌, is_some, option_and_then}
+use Rattle.std.specs.List.{find, range_with_len}
+use Rattle.std.specs.Option.{option_map_or}
+use Rattle.std.proofs.lemmas.Bool.{and_parts, cases_Bool, false≢true}
+use Rattle.std.proofs.lemmas.Option.{none-some, same_Some}
+use Rattle.c_common.specs.Bytes.{yes}
+use Rattle.c_common.specs.Door.{After, with_bytes}
+use Rattle.c_faults.specs.declared.TheConstants.{TASKS_CALL, TASKS_LENGTH, TASKS_NOT_OUT}
+use Rattle.guest_tasks.specs.Active.{asks_on, is_asking}
+use Rattle.uas_tasks.specs.declared.AnswerFault.{AnswerFault}
+use Rattle.uas_tasks.specs.declared.AnswerFault.TheVariants.{NotOut, WrongLength}
+use Rattle.uas_tasks.specs.declared.Next.TheVariants.{Asks, Waits}
+use Rattle.uas_tasks.specs.declared.Request.{Request}
+use Rattle.uas_tasks.specs.declared.Request.TheVariants.{Read, Write, Compare, Verify, Sync}
+use Rattle.uas_tasks.specs.declared.slot.Out.{Out}
+use Rattle.uas_tasks.specs.declared.Task.{Task}
+use Rattle.uas_tasks.specs.declared.Task.TheVariants.{Giving, Blocks, Ended}
+use Rattle.uas_tasks.specs.declared.Wants.{Wants}
+use Rattle.uas_tasks.specs.declared.Wants.TheVariants as wants
+use Rattle.uas_tasks.specs.Machine.{Machine as Tasks, next_by, number_of, slot_of, wanted}
+use Rattle.uas_tasks.specs.Slots.{SlotState, asked_slot, out_of, task_wants}
+use Rattle.xhci_machine.specs.declared.Machine.{Machine}
+use Rattle.uas_xhci_c.specs.declared.door.Call.{Call}
+use Rattle.uas_xhci_c.specs.declared.door.Call.TheVariants as calls
+use Rattle.uas_xhci_c.specs.declared.door.UasXhciDoor.{UasXhciDoor}
+use Rattle.uas_xhci_c.specs.XhciCall.{after_call, after_named, after_request, answer_told, answered_with, asked_on, call_numbered, first_asking}
+use Rattle.uas_xhci_c.specs.XhciCall.{given_out, outcome_numbered, read_at, width_of, with_next, written_at}
+
+-- nothing, no such call, bytes that are more or fewer than a request's, or no such request
+abbrev pub is_answer : ℕ → Bool
+is_answer number = number == 0 || (number == TASKS_CALL || (number == TASKS_LENGTH || number == TASKS_NOT_OUT))
+
+-- it answers a number of these, and where that is a fault, all is as it was
+abbrev pub IsWhole : Machine → UasXhciDoor → List ℕ → After Machine UasXhciDoor → Type 0
+IsWhole machine door bytes after = (is_answer after.0 ≡ true) × (0 < after.0 → after.1 ≡ (machine, (door, bytes)))
+
+either : {X Y : Type 0} (P : Y → Type 0) (f : X → Y) (o : Option X) (d : Y) → P d → ((x : X) → P (f x)) → P (option_map_or f o d)
+either P f None d none some = none
+either P f (Some x) d none some = some x
+
+module _ (machine : Machine) (door : UasXhciDoor) (bytes : List ℕ) where
+  abbrev Whole : After Machine UasXhciDoor → Type 0
+  Whole = IsWhole machine door bytes
+
+  done : (machine' : Machine) (door' : UasXhciDoor) (bytes' : List ℕ) → Whole (0, (machine', (door', bytes')))
+  done machine' door' bytes' = (refl, λ some. absurd (omega (arith, some)))
+
+  given : (out : List ℕ) → Whole (given_out machine door bytes out)
+  given out = elim (cases_Bool (length out == length bytes)) [
+    | inl same ↦ rw same (done machine door out)
+    | inr other ↦ rw other (refl, λ some. refl)
+  ]
+
+  told : (after : Tasks × Result (Unit {0}) AnswerFault) → Whole (with_bytes bytes (answer_told machine door after))
+  told (after, Ok ended) = done _ door bytes
+  told (after, Err NotOut) = (refl, λ some. refl)
+  told (after, Err WrongLength) = (refl, λ some. refl)
+
+  named : (call : Call) → Whole (after_named machine door bytes call)
+  named calls.Read =
+      either (λ after. Whole (with_bytes bytes after)) (read_at machine door) (width_of door.width) _ (refl, λ some. refl) (λ width. done machine _ bytes)
+  named calls.Write =
+      either (λ after. Whole (with_bytes bytes after)) (written_at machine door) (width_of door.width) _ (refl, λ some. refl) (λ width. done _ door bytes)
+  named calls.Interrupt = done _ _ bytes
+  named calls.Message = done _ _ bytes
+  named calls.Plug = done _ door bytes
+  named calls.Frame = done _ door bytes
+  named calls.Reset = done _ door bytes
+  named calls.Request = done _ _ bytes
+  named calls.Data = either Whole (given_out machine door bytes) _ _ (refl, λ some. refl) given
+  named calls.Answered =
+      either (λ after. Whole (with_bytes bytes after)) (answered_with machine door bytes) (outcome_numbered door.outcome) _ (refl, λ some. refl)
+      (λ outcome. told _)
+
+  pub calls_are_whole : Whole (after_call machine door bytes)
+  calls_are_whole = either Whole (after_named machine door bytes) (call_numbered door.call) _ (refl, λ some. refl) named
+
+-- REQUEST tells of one exactly where a tag's request is to be asked
+abbrev pub IsTold : Machine → UasXhciDoor → Type 0
+IsTold machine door = (after_request machine door).1.1.good ≡ yes (is_some (first_asking machine.device))
+
+found : (test : ℕ → Bool) (list : List ℕ) (x : ℕ) → find test list ≡ Some x → test x ≡ true
+found test [] x is = absurd (none-some x is)
+found test (y ∷ ys) x is = elim (cases_Bool (test y)) as (λ _. test x ≡ true) [
+  | inl here ↦
+      let same : y ≡ x = same_Some y x (rw here at is) in
+      ap test (sym same) ∙ here
+  | inr past ↦ found test ys x (rw past at is)
+]
+
+-- a task whose request is to be asked has one
+has_request : (chunk given : ℕ) (out : Bool) (task : Option Task)
+    → is_asking (option_map_or (task_wants chunk out given) task wants.Absent) ≡ true → is_some (option_and_then (out_of chunk) task) ≡ true
+has_request chunk given out None is = absurd (false≢true is)
+has_request chunk given out (Some (Giving unit at)) is = absurd (false≢true is)
+has_request chunk given out (Some (Blocks unit job stage)) is = refl
+has_request chunk given out (Some (Ended unit answer)) is = absurd (false≢true is)
+
+module _ (door : UasXhciDoor) where
+  good_request : (number : ℕ) (request : Request) → (with_next door (Some (Asks number request))).good ≡ 1
+  good_request number (Read unit block count) = refl
+  good_request number (Write unit block count through) = refl
+  good_request number (Compare unit block count) = refl
+  good_request number (Verify unit block count) = refl
+  good_request number (Sync unit block count) = refl
+
+  good_out : (number : ℕ) (out : Option Out) → is_some out ≡ true
+      → (with_next door (Some (option_map_or (λ out. Asks number out.request) out Waits))).good ≡ 1
+  good_out number None there = absurd (false≢true there)
+  good_out number (Some out) there = good_request number out.request
+
+  good_next : (tasks : Tasks) (tag : ℕ) (wants : Wants) → is_asking wants ≡ true → is_some (asked_slot (slot_of tasks tag)).out ≡ true
+      → (with_next door (Some (next_by tasks tag wants).1)).good ≡ 1
+  good_next tasks tag wants.Absent asks there = absurd (false≢true asks)
+  good_next tasks tag wants.Asks asks there = good_out (number_of tag (asked_slot (slot_of tasks tag))) (asked_slot (slot_of tasks tag)).out there
+  good_next tasks tag wants.Waits asks there = absurd (false≢true asks)
+  good_next tasks tag (wants.Gives count) asks there = absurd (false≢true asks)
+  good_next tasks tag (wants.Takes count) asks there = absurd (false≢true asks)
+  good_next tasks tag wants.Ends asks there = absurd (false≢true asks)
+
+  told_by : (machine : Machine) (first : Option ℕ) → first_asking machine.device ≡ first
+      → (with_next door (option_map_or (asked_on machine) first (machine, None)).1).good ≡ yes (is_some first)
+  told_by machine None is = refl
+  told_by machine (Some tag) is =
+      let asks : asks_on machine.device tag ≡ true = found (asks_on machine.device) (range_with_len 1 (length machine.device.tasks.slots)) tag is in
+      let wanting : is_asking (wanted machine.device.tasks tag) ≡ true = (and_parts _ _ asks).1 in
+      let slot : SlotState = slot_of machine.device.tasks tag in
+      good_next machine.device.tasks tag (wanted machine.device.tasks tag) wanting
+      (has_request slot.chunk (length slot.given) (is_some slot.out) slot.task wanting)
+
+  pub requests_are_told : (machine : Machine) → IsTold machine door
+  requests_are_told machine = told_by machine (first_asking machine.device) refl

@@ -15,7 +15,7 @@ use guest_rings::{EventRing, Flags, Found, Front, Home, PipeTrb, look};
 use guest_tags::{Buffer, Gather, Received, UasDevice};
 
 /// How many bytes of a TD are gathered at most.
-const MOST_GATHERED: usize = 1024;
+pub(crate) const MOST_GATHERED: usize = 1024;
 
 const _: () = prove!(MOST_GATHERED == 1024);
 

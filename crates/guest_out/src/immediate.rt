@@ -8,7 +8,7 @@ use guest_pipes::Progress;
 use guest_tags::{Buffer, Gather};
 
 /// Whether the bytes are in the TRB itself (Immediate Data).
-fn is_immediate(buffer: Buffer) -> bool
+pub(crate) fn is_immediate(buffer: Buffer) -> bool
     ensures { result ≡ is_immediate buffer }
 {
     buffer.flags.idt && buffer.length <= 8

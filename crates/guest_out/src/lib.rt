@@ -20,6 +20,8 @@
 mod command;
 mod data_out;
 mod immediate;
+mod wanting;
 
 pub use command::command_step;
 pub use data_out::data_out_step;
+pub use wanting::{command_wants, data_out_wants};

@@ -3,3 +3,5 @@ pub mod Step
 pub mod Gate
 pub mod Pipe
 pub mod Orders
+pub mod Wanted
+pub mod WantedLaws

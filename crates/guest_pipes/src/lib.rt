@@ -29,6 +29,7 @@ mod orders;
 mod pipe;
 mod progress;
 mod step;
+mod wanting;
 
 pub use acted::Acted;
 pub use consumer::{Consumer, EndpointState};
@@ -36,3 +37,4 @@ pub use gate::room_gate;
 pub use pipe::{Pipe, STREAM_CONTEXTS};
 pub use progress::{Ending, Progress};
 pub use step::there;
+pub use wanting::place_range;

@@ -4,12 +4,13 @@ ghost use Rattle.guest_pipes.specs.Progress.{fresh};
 ghost use Rattle.std.specs.Result.{result_ok};
 ghost use Rattle.guest_rings.specs.Ends.{looked};
 ghost use Rattle.guest_pipes.specs.Step.{has_home};
+ghost use Rattle.guest_pipes.specs.Wanted.{front_wanted};
 ghost use Rattle.guest_pipes.specs.Pipe.{configured, disabled, forgotten, has_stream, home_of, loaded, noted, progress_on, recovered, reset_with, rung_by, stopped, stored};
 
 use crate::consumer::{Consumer, EndpointState};
 use crate::progress::Progress;
 use guest_memory::{GuestMemory, Outside};
-use guest_rings::{Front, Home, look};
+use guest_rings::{Front, Home, Range, look, look_wants};
 use std::alloc::{AllocError, Global};
 use std::marker::Model;
 
@@ -239,6 +240,20 @@ impl Pipe {
         match self.array.checked_add(16 * u64::from(stream)) {
             Some(at) => look(memory, Home::Stream { at }),
             None => Err(Outside),
+        }
+    }
+
+    /// The first range that [`Pipe::front`] reads of which a byte isn't there; the array up to the stream's context where that would begin
+    /// at 2^64 or above.
+    pub fn front_wants<M: GuestMemory>(&self, memory: &M, stream: u16) -> Option<Range>
+        ensures { result ≡ front_wanted (M.contents memory.now) self.now stream }
+    {
+        match self.array.checked_add(16 * u64::from(stream)) {
+            Some(at) => look_wants(memory, Home::Stream { at }),
+            None => Some(Range {
+                at: self.array,
+                count: 16 * usize::from(stream) + 16,
+            }),
         }
     }
 

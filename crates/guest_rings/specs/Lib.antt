@@ -3,3 +3,5 @@ pub mod Trbs
 pub mod Ends
 pub mod Events
 pub mod Past
+pub mod Wanted
+pub mod WantedLaws

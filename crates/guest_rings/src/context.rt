@@ -42,7 +42,7 @@ pub struct Front {
 }
 
 impl Home {
-    fn is_ring(self, number: u64) -> bool
+    pub(crate) fn is_ring(self, number: u64) -> bool
         ensures { result ≡ is_ring self number }
     {
         match self {
@@ -83,7 +83,7 @@ fn found_of(words: Option<Words>) -> Found
 }
 
 /// The quadword of a consumer's end: the whole of what is kept is asked to be there.
-fn number_at<M: GuestMemory>(memory: &M, home: Home) -> Result<u64, Outside>
+pub(crate) fn number_at<M: GuestMemory>(memory: &M, home: Home) -> Result<u64, Outside>
     ensures number { result_ok result ≡ option_map (little_number 8) (bytes_from (M.contents memory.now) (home_at home) (home_size home)) }
     ensures there { IfOk result (λ number. is_there (M.contents memory.now) (home_at home) (home_size home) ≡ true) }
 {

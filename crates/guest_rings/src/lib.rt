@@ -21,6 +21,7 @@ mod cursor;
 mod event;
 mod event_ring;
 mod trb;
+mod wanting;
 mod words;
 
 pub use context::{Found, Front, Home, look, stand};
@@ -28,4 +29,5 @@ pub use cursor::{Cursor, fetch};
 pub use event::Event;
 pub use event_ring::EventRing;
 pub use trb::{Flags, PipeTrb, read_trb};
+pub use wanting::{Range, look_wants, part_wants};
 pub use words::Words;

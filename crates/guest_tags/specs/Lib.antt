@@ -3,3 +3,4 @@ pub mod Units
 pub mod Tags
 pub mod DataIn
 pub mod Status
+pub mod Wanted

@@ -28,6 +28,7 @@ mod sending;
 mod status;
 mod tag;
 mod unit;
+mod wanting;
 
 pub use buffer::Buffer;
 pub use chunk::Chunk;
@@ -35,3 +36,4 @@ pub use device::{End, Phase, Received, UasDevice};
 pub use gather::Gather;
 pub use tag::Tag;
 pub use unit::Unit;
+pub use wanting::moving;

@@ -1,1 +1,12 @@
 pub mod Places
+pub mod Lacking
+pub mod Idle
+pub mod BesideRing
+pub mod BesideLook
+pub mod BesideTags
+pub mod BesideStatus
+pub mod BesideOut
+pub mod BesideCommand
+pub mod BesideSteps
+pub mod DataSteps
+pub mod Invalid

@@ -2,3 +2,5 @@ pub mod State
 pub mod Steps
 pub mod Calls
 pub mod Orders
+pub mod Wanted
+pub mod Beside

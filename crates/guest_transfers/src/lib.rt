@@ -17,14 +17,24 @@
 //! What is promised: each call is one equation over memory, event ring, pipes, tags and device (`specs/Steps.antt` and
 //! `specs/Orders.antt`); a step that is refused changes nothing. [`Transfers::new`] takes all memory that the pipes ever have.
 //!
+//! A caller who can't lend all of memory asks before a step what it lacks ([`Transfers::wants_data`], [`Transfers::wants_status`],
+//! [`Transfers::wants_command`], [`Transfers::wants_invalid`]), and copies that in. Once nothing is asked for, the step over his copies is the step over all of his
+//! memory, and writes only to the copies (`src/laws.rt`).
+//!
 //! It stands on `guest_tags` and `guest_out` for the steps of each pipe, and on `guest_pipes` for the pipes.
 #![tactic(auto)]
 
 mod calls;
 mod control;
+mod laws;
 mod slot;
 mod steps;
+mod waiting;
+mod wanting;
 
 pub use calls::{TAG_SLOTS, Transfers};
 pub use control::StreamPipe;
+pub use laws::{
+    copies_stand_for_all_memory, what_is_wanted_is_not_there, what_lacks_nothing_is_taken,
+};
 pub use slot::Slot;

@@ -56,7 +56,7 @@ fn out_open(pipe: &Pipe, tag: u16, end: End) -> bool
 
 impl Transfers {
     /// Whether the answer of a tag's task is due, by what the device does next.
-    fn is_due(&self, tag: u16, phase: Phase) -> bool
+    pub(crate) fn is_due(&self, tag: u16, phase: Phase) -> bool
         requires { tag < 241 }
         ensures due { result ≡ due_by self.now tag phase }
         ensures ended { result ≡ true → IsEnded phase }

@@ -1,0 +1,12 @@
+use Rattle.guest_transfers.proofs.DataSteps.{data_there}
+use Rattle.guest_transfers.proofs.Lacking.{command_there, status_there}
+use Rattle.guest_transfers.proofs.Invalid.{invalid_there}
+use Rattle.guest_transfers.proofs.laws.what_lacks_nothing_is_taken.Goals as goal
+
+pub returns : goal.returns
+returns g c = record {
+  of_data = λ w tag none. data_there g.D.UasDevice.kind w tag none;
+  of_status = λ w tag none. status_there g.D.UasDevice.kind w tag none;
+  of_command = λ w none. command_there g.D.UasDevice.kind w none;
+  of_invalid = λ memory events t name none. invalid_there memory events t name none;
+}

@@ -1,0 +1,169 @@
+-- A true log fits its text: its steps and replies one by one, as they come of its replay.
+use Rattle.std.proofs.Common.{◌≡◌, ℕ, zero, suc, ◌+◌, ◌*◌, ◌^◌, ◌<◌, ◌≤◌, true, false, cond, List, [], ◌∷◌, ◌++◌, map, length, length-append, Option, Some, None}
+use Rattle.std.proofs.Common.{IfSome, inr, refl, arith, ap, sym, subst, ◌∙◌}
+use Rattle.std.specs.Prelude.{◌==◌, option_to_list, slice_get}
+use Rattle.std.specs.List.{AllByRecursion}
+use Rattle.std.proofs.lemmas.Bool.{eqb-true}
+use Rattle.std.proofs.lemmas.Option.{none-some, same_Some}
+use Rattle.block_unit.specs.BlockMaps.{BlockMaps}
+use Rattle.uas_profile.specs.declared.TheConstants.{MAX_CLIENTS, TAGS}
+use Rattle.scsi_cmd.specs.declared.Reply.{Reply}
+use Rattle.shared_machine.specs.Bus.{AllTicketed}
+use Rattle.shared_machine.specs.Laws.{AllDue}
+use Rattle.shared_machine.specs.Replay.{replayed}
+use Rattle.shared_machine.specs.Shared.{Shared, shared_step}
+use Rattle.shared_machine.specs.declared.Outcome.{Outcome}
+use Rattle.shared_machine.specs.declared.Step.{Step}
+use Rattle.shared_machine.proofs.NumberOfClients.{length-parts}
+use Rattle.shared_machine.proofs.Opening.{length-new_parts}
+use Rattle.uas_log.specs.declared.FirstUnit.{FirstUnit}
+use Rattle.uas_log.specs.declared.Log.{Log}
+use Rattle.uas_log.specs.Booking.{IsReplay, first_maps, first_units, log_opening, log_replay, refusal_of, replies_of}
+use Rattle.log_text.specs.declared.Version.TheVariants.{Second}
+use Rattle.log_text.specs.Kept.{kept, version_with, with_client}
+use Rattle.log_text.specs.Text.{IsWithin, ReplyFits, StepFits, UnitFits}
+use Rattle.booked_limits.specs.Fitting.{HasFields, TrueLogsFit}
+use Rattle.booked_limits.proofs.FineTasks.{IsWide}
+use Rattle.booked_limits.proofs.FineReplies.{Fits}
+use Rattle.booked_limits.proofs.FineSteps.{AreFine, AreWide, opening-fine, shared_step-fine}
+use Rattle.booked_limits.proofs.StepLimits.{step-fits}
+
+-- LENGTHS
+
+outcomes-length : (state : Shared) (steps : List Step) → length (replayed state steps).1 ≡ length steps
+outcomes-length state [] = refl
+outcomes-length state (step ∷ rest) = ap suc (outcomes-length (shared_step state step).0 rest)
+
+mapped-length : {A B : Type 0} (f : A → B) (list : List A) → length (map f list) ≡ length list
+mapped-length f [] = refl
+mapped-length f (x ∷ xs) = ap suc (mapped-length f xs)
+
+kept-length : (steps : List Step) (refusals : List ℕ) → length (kept steps refusals) ≤ length steps
+kept-length [] refusals = omega arith
+kept-length (step ∷ rest) [] = omega arith
+kept-length (step ∷ rest) (number ∷ numbers) =
+    elim (number == 0) as (λ b. length (cond b (step ∷ kept rest numbers) (kept rest numbers)) ≤ length (step ∷ rest)) [
+      | true ↦ omega (arith, kept-length rest numbers)
+      | false ↦ omega (arith, kept-length rest numbers)
+    ]
+
+told-length : (told : Option Reply) → length (option_to_list told) ≤ 1
+told-length None = omega arith
+told-length (Some reply) = omega arith
+
+replies-length : (outcomes : List Outcome) → length (replies_of outcomes) ≤ length outcomes
+replies-length [] = omega arith
+replies-length (outcome ∷ rest) =
+    omega (arith, length-append (option_to_list outcome.reply) (replies_of rest), told-length outcome.reply, replies-length rest)
+
+-- THE REPLAY
+
+-- what comes of steps fits, and what they leave is fine
+record FitsAll (units : List BlockMaps) (clients : ℕ) (steps : List Step) (after : Shared × List Outcome) : Type 0 where
+  steps_fit : AllByRecursion (StepFits Second clients) (kept steps (map refusal_of after.1))
+  replies_fit : AllByRecursion (ReplyFits clients) (map (with_client TAGS) (replies_of after.1))
+  parts_fine : AreFine units after.0.parts
+
+more-replies : (clients : ℕ) (told : Option Reply) (rest : List Reply) → IfSome told (Fits clients)
+    → AllByRecursion (ReplyFits clients) (map (with_client TAGS) rest)
+    → AllByRecursion (ReplyFits clients) (map (with_client TAGS) (option_to_list told ++ rest))
+more-replies clients None rest fits all = all
+more-replies clients (Some reply) rest fits all = (fits, all)
+
+replay-fits : (units : List BlockMaps) → AreWide units → (clients : ℕ) (state : Shared) (steps : List Step) → length state.parts ≡ clients
+    → clients ≤ MAX_CLIENTS → AreFine units state.parts → AllDue state steps → AllTicketed steps → AllByRecursion HasFields steps
+    → FitsAll units clients steps (replayed state steps)
+replay-fits units wide clients state [] many most all due has fields = record { steps_fit = tt; replies_fit = tt; parts_fine = all }
+replay-fits units wide clients state (step ∷ rest) many most all due has fields =
+    let now : Shared × Outcome = shared_step state step in
+    let fine = shared_step-fine units wide clients state step many most has.0 all in
+    let later : FitsAll units clients rest (replayed now.0 rest) =
+    replay-fits units wide clients now.0 rest (length-parts state step ∙ many) most fine.parts_fine due.1 has.1 fields.1 in
+    let numbers : List ℕ = map refusal_of (replayed now.0 rest).1 in
+    record {
+      steps_fit =
+          elim (refusal_of now.1 == 0) as (λ b. (refusal_of now.1 == 0) ≡ b
+          → AllByRecursion (StepFits Second clients) (cond b (step ∷ kept rest numbers) (kept rest numbers))) [
+            | true ↦ λ is. (
+              subst (λ n. StepFits Second n step) many
+                  (step-fits state step (omega (arith, many, most)) due.0 has.0 fields.0 (eqb-true (refusal_of now.1) 0 is)),
+              later.steps_fit,
+            )
+            | false ↦ λ is. later.steps_fit
+          ] refl;
+      replies_fit = more-replies clients now.1.reply (replies_of (replayed now.0 rest).1) fine.reply_fits later.replies_fit;
+      parts_fine = later.parts_fine;
+    }
+
+-- THE LOG
+
+first-wide : (firsts : List FirstUnit) → AreWide (map first_maps firsts)
+first-wide [] client first is = absurd (none-some first is)
+first-wide (one ∷ rest) zero first is = subst (λ (unit : BlockMaps). IsWide unit) (same_Some (first_maps one) first is) (omega arith)
+first-wide (one ∷ rest) (suc client) first is = first-wide rest client first is
+
+log-fits : (log : Log) → IsReplay log → AllByRecursion HasFields log.steps → FitsAll (first_units log) (length log.units) log.steps (log_replay log)
+log-fits log is_true fields =
+    replay-fits (first_units log) (first-wide log.units) (length log.units) (log_opening log) log.steps
+    (length-new_parts 0 (first_units log) ∙ mapped-length first_maps log.units) is_true.most (opening-fine 0 (first_units log)) is_true.acted is_true.ticketed fields
+
+-- its replay has a part for each of its units
+pub log-parts : (log : Log) → length (log_replay log).0.parts ≡ length log.units
+log-parts log =
+    replayed-parts (log_opening log) log.steps ∙ length-new_parts 0 (first_units log) ∙ mapped-length first_maps log.units
+  where
+    replayed-parts : (state : Shared) (steps : List Step) → length (replayed state steps).0.parts ≡ length state.parts
+    replayed-parts state [] = refl
+    replayed-parts state (step ∷ rest) = replayed-parts (shared_step state step).0 rest ∙ length-parts state step
+
+-- what a log's replay leaves is fine
+pub log-fine : (log : Log) → IsReplay log → AllByRecursion HasFields log.steps → AreFine (first_units log) (log_replay log).0.parts
+log-fine log is_true fields = (log-fits log is_true fields).parts_fine
+
+pub true-logs-fit : TrueLogsFit
+true-logs-fit log is_true few units fields =
+    let it : FitsAll (first_units log) (length log.units) log.steps (log_replay log) = log-fits log is_true fields in
+    let long : length (log_replay log).1 ≡ length log.steps = outcomes-length (log_opening log) log.steps in
+    let within : IsWithin (record {
+      version = version_with TAGS;
+      units = log.units;
+      steps = kept log.steps (map refusal_of (log_replay log).1);
+      replies = map (with_client TAGS) (replies_of (log_replay log).1);
+    }) = record {
+      some = is_true.some;
+      most = is_true.most;
+      units = units;
+      steps = it.steps_fit;
+      few_steps = omega (arith, few, kept-length log.steps (map refusal_of (log_replay log).1));
+      replies = it.replies_fit;
+      few_replies = omega (
+        arith,
+        few,
+        long,
+        replies-length (log_replay log).1,
+        mapped-length (with_client TAGS) (replies_of (log_replay log).1),
+      );
+    } in
+    record {
+      tags = inr is_true.tags;
+      told = ap length is_true.refusals ∙ mapped-length refusal_of (log_replay log).1 ∙ long;
+      within =
+          subst (λ tags. IsWithin (record {
+            version = version_with tags;
+            units = log.units;
+            steps = kept log.steps log.refusals;
+            replies = map (with_client tags) log.replies;
+          })) (sym is_true.tags)
+          (subst (λ (refusals : List ℕ). IsWithin (record {
+            version = version_with TAGS;
+            units = log.units;
+            steps = kept log.steps refusals;
+            replies = map (with_client TAGS) log.replies;
+          })) (sym is_true.refusals)
+          (subst (λ (replies : List Reply). IsWithin (record {
+            version = version_with TAGS;
+            units = log.units;
+            steps = kept log.steps (map refusal_of (log_replay log).1);
+            replies = map (with_client TAGS) replies;
+          })) (sym is_true.replies) within));
+    }

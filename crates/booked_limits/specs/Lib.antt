@@ -1,0 +1,2 @@
+-- Logs that have a text.
+pub mod Fitting

@@ -1,6 +1,9 @@
 //! The logical units of a handle, zeroed or from an image, and handles of what is made of them.
 ghost use Rattle.std.specs.Prelude.{◌≡◌, ◌≤◌, ◌<◌, ◌*◌, List, [], length, slice_index, sum, vec_len, IfOk, true};
 ghost use Rattle.std.specs.List.{list_all};
+ghost use types.Logic.{sem};
+ghost use base.Fraction.{full_share};
+ghost use denote.RawPtr.{lies_at};
 ghost use Rattle.block_unit.specs.BlockMaps.{BlockMaps};
 ghost use Rattle.uas_profile.specs.declared.TheConstants.{MAX_CLIENTS};
 ghost use Rattle.c_common.specs.Units.{bad_of, image_of, is_bad_block, is_image, is_size, opened_unit, opened_units, units_fault_number};
@@ -92,8 +95,10 @@ pub fn new_handle<T: OfUnits + Drop, Name>(
     open_handle::<T, Name>(alloc, blocks, &[], &[], handle)
 }
 
-/// The pointer by which C has it.
-pub fn hand_out<T: Drop, Name>(made: Box<T, Global>) -> *mut Name {
+/// The pointer by which C has it: what was made lies there, and is C's.
+pub fn hand_out<T: Drop, Name>(made: Box<T, Global>) -> *mut Name
+    ensures* { sem 𝓛 (lies_at T.row full_share result made.value) }
+{
     Box::into_raw(made) as *mut Name
 }
 

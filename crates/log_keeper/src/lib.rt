@@ -12,19 +12,21 @@
 //! What is promised: what is added is the record of each step behind the place, with the reply that a Take gave (`entries_behind` in
 //! specs/Entries.antt), and at a fault those of the first of them, whole; the text with the records of what is behind the place is always
 //! the same (`Added`). So, at each moment, what was written is the text of a beginning, and behind the last step it is the log's
-//! ([`kept_texts_are_the_logs`]). A [`KeptWriter`] gives the records to a file and syncs
-//! it after each so many steps (`is_due` in specs/Syncing.antt). No call takes a lock or starts a thread: the records are added where the
-//! log is, and written where nobody waits for it. It stands on kept_log, log_limits, byte_io, and the types of a log.
+//! ([`kept_texts_are_the_logs`]). A [`Keeper`] gathers the records of a log, gives them to a file
+//! and syncs it after each so many steps (`is_due` in specs/Syncing.antt). No call takes a lock or starts a thread: the records are gathered
+//! where the log is, and written where nobody waits for it. It stands on kept_log, log_limits, byte_io, and the types of a log.
 #![tactic(auto)]
 
 mod adding;
+mod keeper;
 mod laws;
 mod writer;
 
 pub use adding::{add_records, begin};
+pub use keeper::{KeepStop, Keeper};
 pub use laws::{kept_texts_are_the_logs, steps_go_on};
 use thiserror::Error;
-pub use writer::{KeptFile, KeptWriter};
+pub use writer::{KeptFile, KeptFiles, KeptWriter};
 
 /// Where the text of a log stands: of how many steps and replies it has the records, and the last checksum.
 #[derive(Clone, Copy, Debug, PartialEq, Eq)]

@@ -1,5 +1,5 @@
 //! The file of a log that is kept: bytes behind those that it has, and syncs.
-ghost use Rattle.std.specs.Prelude.{◌≡◌, ◌+◌, ◌<◌, ◌^◌, ℕ, List, Bool, Option, if◌then◌else◌, Err, IfOk, IsTrue, OnErr, OnOk};
+ghost use Rattle.std.specs.Prelude.{◌≡◌, ◌+◌, ◌<◌, ◌^◌, ℕ, List, Bool, Option, if◌then◌else◌, [], Err, IfOk, IfSome, IsTrue, OnErr, OnOk};
 ghost use Rattle.std.specs.Io.KnownBytes.{Appends};
 ghost use Rattle.log_keeper.specs.Syncing.{is_due, unsynced_after};
 
@@ -30,6 +30,16 @@ pub trait KeptFile {
         ensures lost { OnErr result (synced self.new ≡ synced self.old) }
         ensures fault { result ≡ Err StreamFault.File → IsTrue (can_fail self.old) }
         ensures same { can_fail self.new ≡ can_fail self.old };
+}
+
+/// Begins the files of logs.
+pub trait KeptFiles {
+    /// A file of a log.
+    type File: KeptFile + Drop + Send;
+
+    /// The file of a name, empty; what it had is gone.
+    fn create(&mut self, name: &str) -> Result<Self::File, StreamFault>
+        ensures empty { IfOk result (λ file. IfSome (Self.File.written file) (λ bytes. bytes ≡ [])) };
 }
 
 /// The file of a log, and when it is synced.
@@ -64,14 +74,14 @@ impl<F: KeptFile> KeptWriter<F> {
         Ok(true)
     }
 
-    /// Writes the record of the end, and syncs.
-    pub fn finish(&mut self, record: &[u8]) -> Result<(), StreamFault>
-        ensures bytes { OnOk result (Appends (F.written self.old.file) (F.written self.new.file) record.now) }
+    /// Writes the last records, and syncs.
+    pub fn finish(&mut self, last: &[u8]) -> Result<(), StreamFault>
+        ensures bytes { OnOk result (Appends (F.written self.old.file) (F.written self.new.file) last.now) }
         ensures synced { OnOk result (F.synced self.new.file ≡ F.written self.new.file) }
         ensures lost { OnErr result (F.synced self.new.file ≡ F.synced self.old.file) }
         ensures fault { result ≡ Err StreamFault.File → IsTrue (F.can_fail self.old.file) }
     {
-        self.file.add(record)?;
+        self.file.add(last)?;
         self.file.sync()
     }
 }

@@ -16,7 +16,7 @@ use Rattle.uas_profile.specs.declared.TheConstants.{MAX_CLIENTS}
 use Rattle.uas_words.specs.declared.Run.{Run}
 use Rattle.byte_io.specs.Words.{number_in}
 use Rattle.uas_words.specs.CommandLine.{Asked, AsksPlainly, AsksWork, asked_by, asked_for, asked_in, extent_from, program_app, refusals}
-use Rattle.uas_words.specs.CommandLine.{audit, capture, decode, draw, dump, fill, info, make, page, replay, trace, work}
+use Rattle.uas_words.specs.CommandLine.{audit, capture, decode, draw, dump, fill, info, keep, make, page, replay, trace, work, worked}
 use Rattle.uas_words.proofs.Levels.{Enters, level_nothing}
 use Rattle.uas_words.proofs.PlainFiles.{audit_asked, capture_asked}
 use Rattle.uas_words.proofs.PlainScripts.{replay_is_script, script_asked}
@@ -70,7 +70,7 @@ fill_enters a b c d p = (refl, refl)
 
 -- what the numbers of clients that work ask for
 abbrev worked_by_numbers : Option ℕ → Option ℕ → Option Text → Option Asked
-worked_by_numbers clients rounds log = option_and_then (λ c. option_map (λ r. work c r log) rounds) clients
+worked_by_numbers clients rounds log = option_and_then (λ c. option_and_then (λ r. worked c r log None) rounds) clients
 
 work_rows : (d : ℕ) (ds : Text) (e : ℕ) (es : Text) → (d == 45) ≡ false → (d == 43) ≡ false → (e == 45) ≡ false → (e == 43) ≡ false
     → asked_in (entered (built program_app) (Some (codes "work", (d ∷ ds) ∷ (e ∷ es) ∷ [])))
@@ -92,13 +92,41 @@ logged_rows : (d : ℕ) (ds : Text) (e : ℕ) (es : Text) (f : ℕ) (fs : Text) 
 logged_rows d ds e es f fs hyphen plus hyphen' plus' plain =
     simp (walked-plain d ds hyphen, walked-plain e es hyphen', walked-plain f fs plain) (simp (hyphen, plus) (simp (hyphen', plus')))
 
-logged_faults : (d : ℕ) (ds : Text) (e : ℕ) (es : Text) (f : ℕ) (fs : Text) → IsIn 1 MAX_CLIENTS d ds → IsIn 1 1000 e es → (f == 45) ≡ false
-    → entered_fault (built program_app) (Some (codes "work", (d ∷ ds) ∷ (e ∷ es) ∷ (f ∷ fs) ∷ [])) ≡ []
+-- the subcommand `work`, built
+abbrev work_shape : Shape
+work_shape = option_map_or (λ s. s) (find (λ s. answers_to (codes "work") (label_of s)) (built program_app).subs) (built program_app).top
+
+work_level : (words : List Text) → entered_fault (built program_app) (Some (codes "work", words)) ≡ level_fault work_shape [] nothing_held words false []
+work_level words = refl
+
+abbrev logged_words : (d : ℕ) (ds : Text) (e : ℕ) (es : Text) (f : ℕ) (fs : Text) → List Text
+logged_words d ds e es f fs = (d ∷ ds) ∷ (e ∷ es) ∷ (f ∷ fs) ∷ []
+
+logged_walk : (d : ℕ) (ds : Text) (e : ℕ) (es : Text) (f : ℕ) (fs : Text) → IsIn 1 MAX_CLIENTS d ds → IsIn 1 1000 e es → (f == 45) ≡ false
+    → walk_fault work_shape [] (walk_from nothing_held) (logged_words d ds e es f fs) ≡ []
+logged_walk d ds e es f fs m n plain =
+    simp (fault-plain d ds m.hyphen) (simp (fault-plain e es n.hyphen) (simp (fault-plain f fs plain) (simp fault-end
+    (simp (m.hyphen, m.plus, m.some, m.first, m.rest, m.fits, m.low, m.high) (simp (n.hyphen, n.plus, n.some, n.first, n.rest, n.fits, n.low, n.high))))))
+
+logged_last : (d : ℕ) (ds : Text) (e : ℕ) (es : Text) (f : ℕ) (fs : Text) → (d == 45) ≡ false → (e == 45) ≡ false → (f == 45) ≡ false
+    → settle_fault work_shape.rules work_shape.args_override_self (walk work_shape.rules [] nothing_held (logged_words d ds e es f fs)).held ≡ []
+logged_last d ds e es f fs hyphen hyphen' plain = simp (walked-plain d ds hyphen, walked-plain e es hyphen', walked-plain f fs plain)
+
+logged_defaults : (d : ℕ) (ds : Text) (e : ℕ) (es : Text) (f : ℕ) (fs : Text) → (d == 45) ≡ false → (e == 45) ≡ false → (f == 45) ≡ false
+    → defaults_fault (settled work_shape.rules (walk work_shape.rules [] nothing_held (logged_words d ds e es f fs)).held).rows work_shape.rules ≡ []
 unfolding defaults_fault
+logged_defaults d ds e es f fs hyphen hyphen' plain = simp (walked-plain d ds hyphen, walked-plain e es hyphen', walked-plain f fs plain)
+
+logged_given : (d : ℕ) (ds : Text) (e : ℕ) (es : Text) (f : ℕ) (fs : Text) → (d == 45) ≡ false → (e == 45) ≡ false → (f == 45) ≡ false
+    → check_fault work_shape (finished work_shape.rules (walk work_shape.rules [] nothing_held (logged_words d ds e es f fs)).held) false ≡ []
+logged_given d ds e es f fs hyphen hyphen' plain = simp (walked-plain d ds hyphen, walked-plain e es hyphen', walked-plain f fs plain)
+
+logged_faults : (d : ℕ) (ds : Text) (e : ℕ) (es : Text) (f : ℕ) (fs : Text) → IsIn 1 MAX_CLIENTS d ds → IsIn 1 1000 e es → (f == 45) ≡ false
+    → entered_fault (built program_app) (Some (codes "work", logged_words d ds e es f fs)) ≡ []
 logged_faults d ds e es f fs m n plain =
-    simp (walked-plain d ds m.hyphen, walked-plain e es n.hyphen, walked-plain f fs plain)
-    (simp (fault-plain d ds m.hyphen, fault-plain e es n.hyphen, fault-plain f fs plain, fault-end)
-    (simp (m.hyphen, m.plus, m.some, m.first, m.rest, m.fits, m.low, m.high) (simp (n.hyphen, n.plus, n.some, n.first, n.rest, n.fits, n.low, n.high))))
+    work_level (logged_words d ds e es f fs) ∙ level_nothing work_shape (logged_words d ds e es f fs) (logged_walk d ds e es f fs m n plain)
+    (logged_last d ds e es f fs m.hyphen n.hyphen plain) (logged_defaults d ds e es f fs m.hyphen n.hyphen plain)
+    (logged_given d ds e es f fs m.hyphen n.hyphen plain)
 
 worked_asks : (clients rounds : ℕ) (log : Option Text) (a b : Option ℕ) → a ≡ Some clients → b ≡ Some rounds
     → worked_by_numbers a b log ≡ Some (work clients rounds log)
@@ -214,6 +242,7 @@ pub plain_asks : (asked : Asked) (words : List Text) → AsksPlainly asked words
 plain_asks (replay clients blocks bad) words plain = script_asked (codes "replay") replay replay_is_script clients blocks bad words plain
 plain_asks (trace clients blocks bad) words plain = trace_asked clients blocks bad words plain
 plain_asks (work clients rounds log) words plain = work_asked clients rounds log words plain
+plain_asks (keep clients rounds log every) words plain = absurd plain
 plain_asks decode words plain = (ap asked_for plain.1 ∙ decode_asks plain.0, ap (fault_of program_app) plain.1 ∙ decode_passes plain.0)
 plain_asks (make [] blocks) words plain = absurd (true≢false (sym plain.3))
 plain_asks (make (d ∷ ds) blocks) words plain =

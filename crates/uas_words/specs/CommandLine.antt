@@ -13,18 +13,19 @@ use Rattle.clap.specs.declared.error.kind.ErrorKind.TheVariants.{DisplayHelp, Di
 use Rattle.uas_profile.specs.declared.TheConstants.{MAX_BLOCKS, MAX_CLIENTS, MOST_BLOCKS_MOVED}
 use Rattle.byte_io.specs.declared.disks.Extent.{Extent}
 use Rattle.uas_words.specs.declared.Run.{Run}
-use Rattle.uas_words.specs.declared.Run.TheVariants.{Replay, Trace, Work, Decode, Make, Info, Dump, Fill, Audit, Draw, Page, Capture}
+use Rattle.uas_words.specs.declared.Run.TheVariants.{Replay, Trace, Work, Keep, Decode, Make, Info, Dump, Fill, Audit, Draw, Page, Capture}
 use Rattle.byte_io.specs.Words.{number_in}
 
 -- What is asked for, with a file's name as its text: to run a script of so many clients and blocks, and of the block that is bad in
 -- every unit, if one is; to run one and show its steps; to let so many clients work for so many rounds, and to save their log in a
--- file, if one is named; to tell what lines of bytes say; to make an image of so many blocks, to tell the size of one, to print its
+-- file, if one is named, or to keep it there while it grows, synced after so many steps; to tell what lines of bytes say; to make an image of so many blocks, to tell the size of one, to print its
 -- blocks from a number on, so many of them, or to fill them with a byte; to audit a saved log; to draw a script's run as a picture, or as
 -- a page; to write it to a file as a capture.
 pub data Asked : Type 0 where
   replay : ℕ → ℕ → Option ℕ → Asked
   trace : ℕ → ℕ → Option ℕ → Asked
   work : ℕ → ℕ → Option Text → Asked
+  keep : ℕ → ℕ → Text → ℕ → Asked
   decode : Asked
   make : Text → ℕ → Asked
   info : Text → Asked
@@ -39,6 +40,7 @@ abbrev pub asked_by : Run → Asked
 asked_by (Replay disks) = replay disks.clients disks.blocks disks.bad
 asked_by (Trace disks) = trace disks.clients disks.blocks disks.bad
 asked_by (Work clients rounds log) = work clients rounds (option_map (λ name. name.now) log)
+asked_by (Keep clients rounds log every) = keep clients rounds log.now every
 asked_by Decode = decode
 asked_by (Make file blocks) = make file.now blocks
 asked_by (Info file) = info file.now
@@ -141,9 +143,20 @@ draw_of rows = script_of (if has_page rows then page else draw) rows
 abbrev pub log_of : List Row → Option Text
 log_of rows = first_of (codes "LOG") rows
 
--- CLIENTS ROUNDS [LOG]
+-- `--sync N` may stand or not, and N is a number from 0 to 4,294,967,295
+abbrev pub sync_of : List Row → Option (Option ℕ)
+sync_of rows = optional_number 0 max_lba (one_of (codes "sync") rows)
+
+-- a log is kept only in a file
+abbrev pub worked : ℕ → ℕ → Option Text → Option ℕ → Option Asked
+worked clients rounds log None = Some (work clients rounds log)
+worked clients rounds None (Some every) = None
+worked clients rounds (Some log) (Some every) = Some (keep clients rounds log every)
+
+-- CLIENTS ROUNDS [LOG [--sync N]]
 abbrev pub work_of : List Row → Option Asked
-work_of rows = option_and_then (λ clients. option_map (λ rounds. work clients rounds (log_of rows)) (rounds_of rows)) (clients_of rows)
+work_of rows = option_and_then (λ clients. option_and_then (λ rounds. option_and_then (worked clients rounds (log_of rows)) (sync_of rows))
+    (rounds_of rows)) (clients_of rows)
 
 -- CLIENTS BLOCKS FILE [--bad LBA]
 abbrev pub capture_of : List Row → Option Asked
@@ -234,6 +247,15 @@ bad_rule = record (new_rule (codes "bad")) {
   parser = Some (parser.Signed (pos 0) (pos last_block));
 }
 
+-- the option `--sync N`
+abbrev pub sync_rule : Rule
+sync_rule = record (new_rule (codes "sync")) {
+  long = Some (codes "sync");
+  action = Some Set;
+  value_names = 1;
+  parser = Some (parser.Signed (pos 0) (pos max_lba));
+}
+
 -- the option `--page`
 abbrev pub page_rule : Rule
 page_rule = record (new_rule (codes "page")) { long = Some (codes "page"); action = Some SetTrue }
@@ -257,9 +279,13 @@ replay_app = with_disks (new_app (codes "replay"))
 abbrev pub trace_app : App
 trace_app = with_rule (with_disks (new_app (codes "trace"))) color_rule
 
--- work CLIENTS ROUNDS [LOG]
+-- clients that work: CLIENTS ROUNDS [LOG]
+abbrev pub with_work : App → App
+with_work app = with_rule (with_rule (with_rule app clients_rule) rounds_rule) log_rule
+
+-- work CLIENTS ROUNDS [LOG] [--sync N]
 abbrev pub work_app : App
-work_app = with_rule (with_rule (with_rule (new_app (codes "work")) clients_rule) rounds_rule) log_rule
+work_app = with_rule (with_work (new_app (codes "work"))) sync_rule
 
 -- decode [--color WHEN]
 abbrev pub decode_app : App
@@ -357,11 +383,13 @@ AsksCapture clients blocks file (Some bad) words =
     × (is_plain_name file ≡ true) × (number_in 1 MAX_CLIENTS first ≡ Some clients) × (number_in 1 MAX_BLOCKS second ≡ Some blocks)
     × (number_in 0 last_block third ≡ Some bad)
 
--- The words ask for a run in their plain form: a subcommand and its arguments, each number in decimal digits, and an option after them.
+-- The words ask for a run in their plain form: a subcommand and its arguments, each number in decimal digits, and an option after them;
+-- no plain form is told of a log that is kept.
 abbrev pub AsksPlainly : Asked → List Text → Type 0
 AsksPlainly (replay clients blocks bad) words = AsksScript (codes "replay") clients blocks bad words
 AsksPlainly (trace clients blocks bad) words = AsksScript (codes "trace") clients blocks bad words
 AsksPlainly (work clients rounds log) words = AsksWork clients rounds log words
+AsksPlainly (keep clients rounds log every) words = ⊥
 AsksPlainly decode words = (program : Text) × (words ≡ program ∷ codes "decode" ∷ [])
 AsksPlainly (make file blocks) words = (program second : Text) × (words ≡ program ∷ codes "make" ∷ file ∷ second ∷ [])
     × (is_plain_name file ≡ true) × (number_in 1 MAX_BLOCKS second ≡ Some blocks)
@@ -388,6 +416,7 @@ abbrev pub MayEndRun : Asked → ℕ → Type 0
 MayEndRun (replay clients blocks bad) status = (status ≤ 1) ⊎ ((status ≡ 3) ⊎ (status ≡ 4))
 MayEndRun (trace clients blocks bad) status = (status ≤ 1) ⊎ ((status ≡ 3) ⊎ (status ≡ 4))
 MayEndRun (work clients rounds log) status = (status ≤ 1) ⊎ ((status ≡ 3) ⊎ (status ≡ 4))
+MayEndRun (keep clients rounds log every) status = (status ≤ 1) ⊎ ((status ≡ 3) ⊎ (status ≡ 4))
 MayEndRun decode status = (status ≤ 1) ⊎ ((status ≡ 3) ⊎ (status ≡ 4))
 MayEndRun (make file blocks) status = (status ≡ 0) ⊎ ((status ≡ 3) ⊎ (status ≡ 4))
 MayEndRun (info file) status = (status ≡ 0) ⊎ ((status ≡ 3) ⊎ (status ≡ 4))

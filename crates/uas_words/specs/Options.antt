@@ -3,7 +3,7 @@ use Rattle.std.specs.Prelude.{ℕ, ◌≤◌, ◌<◌, IfSome}
 use Rattle.uas_profile.specs.declared.TheConstants.{MAX_BLOCKS, MOST_BLOCKS_MOVED}
 use Rattle.byte_io.specs.Disks.{AreBlocks, AreClients, AreDisks}
 use Rattle.uas_words.specs.declared.Run.{Run}
-use Rattle.uas_words.specs.declared.Run.TheVariants.{Replay, Trace, Work, Decode, Make, Info, Dump, Fill, Audit, Draw, Page, Capture}
+use Rattle.uas_words.specs.declared.Run.TheVariants.{Replay, Trace, Work, Keep, Decode, Make, Info, Dump, Fill, Audit, Draw, Page, Capture}
 
 -- a unit's blocks have numbers from 0 to 65,535
 abbrev pub IsBlock : ℕ → Type 0
@@ -22,6 +22,7 @@ abbrev pub IsInRange : Run → Type 0
 IsInRange (Replay disks) = AreDisks disks × IfSome disks.bad IsBlock
 IsInRange (Trace disks) = AreDisks disks × IfSome disks.bad IsBlock
 IsInRange (Work clients rounds log) = AreClients clients × AreRounds rounds
+IsInRange (Keep clients rounds log every) = AreClients clients × AreRounds rounds
 IsInRange Decode = Unit {0}
 IsInRange (Make file blocks) = AreBlocks blocks
 IsInRange (Info file) = Unit {0}

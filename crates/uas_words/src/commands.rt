@@ -2,12 +2,12 @@
 ghost use Rattle.std.specs.Prelude.{◌≡◌, IfOk};
 ghost use Rattle.clap.specs.Words.{app_of};
 ghost use Rattle.uas_words.specs.CommandLine.{audit_app, capture_app, decode_app, draw_app, dump_app, fill_app, info_app, make_app, program_app};
-ghost use Rattle.uas_words.specs.CommandLine.{replay_app, top_app, trace_app, with_disks, with_extent, work_app};
+ghost use Rattle.uas_words.specs.CommandLine.{replay_app, top_app, trace_app, with_disks, with_extent, with_work, work_app};
 
-use crate::arguments::{bad, blocks, color, file, log, number, page, saved_log};
+use crate::arguments::{bad, blocks, color, file, log, number, page, saved_log, sync};
 use crate::helps::{
     BYTE_HELP, COLOR_HELP, DRAW_HELP, LBA_HELP, LOG_HELP, PAGE_HELP, ROUNDS_HELP, SCRIPT_HELP,
-    WORK_HELP,
+    SYNC_HELP, WORK_HELP,
 };
 use crate::{MAX_BYTE, MAX_ROUNDS, MOST_CLIENTS, MOST_MOVED, VERSION};
 use clap::Command;
@@ -78,9 +78,17 @@ fn add_disks<'a>(alloc: Global, command: Command<'a>) -> Result<Command<'a>, All
 fn work_command<'a>(alloc: Global) -> Result<Command<'a>, AllocError>
     ensures { IfOk result (λ command. app_of command ≡ work_app) }
 {
-    Command::new(alloc, "work")
+    let command = Command::new(alloc, "work")
         .about("Lets clients write and read in threads, and counts what they read")
-        .after_help(WORK_HELP)
+        .after_help(WORK_HELP);
+    add_work(alloc, command)?.arg(sync(alloc, SYNC_HELP))
+}
+
+/// Adds what tells the clients' work and its log.
+fn add_work<'a>(alloc: Global, command: Command<'a>) -> Result<Command<'a>, AllocError>
+    ensures { IfOk result (λ made. app_of made ≡ with_work (app_of command.entry)) }
+{
+    command
         .arg(number(alloc, "CLIENTS", 1, MOST_CLIENTS, CLIENTS_HELP))?
         .arg(number(alloc, "ROUNDS", 1, MAX_ROUNDS, ROUNDS_HELP))?
         .arg(log(alloc, LOG_HELP))

@@ -27,6 +27,9 @@ pub(crate) const ROUNDS_HELP: &str =
 pub(crate) const LOG_HELP: &str =
     "A file that the log is saved in, in place of one that is there; each client is audited then";
 
+pub(crate) const SYNC_HELP: &str = "\
+Keep LOG while it grows, synced after each N steps, or at the end alone where N is 0: 0 to 4294967295";
+
 /// What `work` does, and an example.
 pub(crate) const WORK_HELP: &str = "\
 Each client has a unit of 64 blocks and a thread of its own. In round r, from 0 on, client c fills 8 blocks from block
@@ -34,10 +37,13 @@ Each client has a unit of 64 blocks and a thread of its own. In round r, from 0 
   client C writes R reads R equal E         R ended GOOD, E of the reads brought what had been written
 With LOG a second line follows of each client, by number, and then the log is saved in that file:
   audit C true                              its replies are those of a disk that it had alone; else false
+With --sync the log is written while the clients work, so that LOG has its beginning whatever ends the program. With
+--sync 1 a client has a reply only once the step that gave it is synced.
 
 Examples:
   uasdisk work 4 3
-  uasdisk work 4 3 work.log";
+  uasdisk work 4 3 work.log
+  uasdisk work 4 3 work.log --sync 1";
 
 pub(crate) const COLOR_HELP: &str =
     "Colours: always, auto (on a terminal alone, as without this option) or never";

@@ -11,10 +11,10 @@ ghost use Rattle.std.specs.Str.{bytes_eq};
 ghost use Rattle.std.specs.String.{string_bytes};
 ghost use Rattle.clap.specs.Words.{FailsBy, app_of, found_of, kind_of, one_of, rows_of, subcommand_rows_of};
 ghost use Rattle.byte_io.specs.Disks.{AreBlocks, AreClients, AreDisks};
-ghost use Rattle.uas_words.specs.Options.{IsBlock, IsInRange, IsMoved};
+ghost use Rattle.uas_words.specs.Options.{AreRounds, IsBlock, IsInRange, IsMoved};
 ghost use Rattle.uas_words.specs.CommandLine.{Asked, AsksPlainly, asked_by, asked_for, asked_in, audit, bad_of, blocks_of, capture_of, clients_of, decode_of};
 ghost use Rattle.uas_words.specs.CommandLine.{draw_of, dump_of, extent_of, file_of, fill_of, has_page, has_when, is_when, log_of, number_of, program_app};
-ghost use Rattle.uas_words.specs.CommandLine.{refusals, script_of, trace_of, work_of};
+ghost use Rattle.uas_words.specs.CommandLine.{refusals, script_of, sync_of, trace_of, work_of, worked};
 
 mod arguments;
 mod commands;
@@ -69,6 +69,13 @@ pub enum Run<'a> {
         clients: usize,
         rounds: u32,
         log: Option<&'a str>,
+    },
+    /// Let clients work as `Work` does, and keep the log in the file while it grows, synced after so many steps; 0: at the end alone.
+    Keep {
+        clients: usize,
+        rounds: u32,
+        log: &'a str,
+        every: u32,
     },
     /// Tell what lines of bytes on standard input say.
     Decode,
@@ -130,7 +137,7 @@ fn run_by<'a>(mut command: Command<'a>, words: &'a [String]) -> Result<Run<'a>, 
         Some(run) => Ok(run),
         None => Err(command.error(
             ErrorKind::ValueValidation,
-            "a word is missing, or --color has another than always, auto and never",
+            "a word is missing, --sync stands without LOG, or --color has another than always, auto and never",
         )?),
     }
 }
@@ -255,12 +262,46 @@ fn work_in<'a>(words: &ArgMatches<'a>) -> Option<Run<'a>>
 {
     let clients = clients_in(words)?;
     let rounds = number_in(words, "ROUNDS", 1, MAX_ROUNDS)?;
-    let log = log_in(words);
-    Some(Run::Work {
-        clients,
-        rounds,
-        log,
-    })
+    worked(clients, rounds, log_in(words), sync_in(words)?)
+}
+
+/// Clients that work, with a log that is saved or kept, where it is one.
+fn worked<'a>(
+    clients: usize,
+    rounds: u32,
+    log: Option<&'a str>,
+    sync: Option<u32>,
+) -> Option<Run<'a>>
+    requires clients { AreClients clients }
+    requires rounds { AreRounds rounds }
+    ensures range { IfSome result IsInRange }
+    ensures asked { option_map asked_by result ≡ worked clients rounds (option_map (λ name. name.now) log.entry) sync }
+{
+    match (sync, log) {
+        (None, log) => Some(Run::Work {
+            clients,
+            rounds,
+            log,
+        }),
+        (Some(every), Some(log)) => Some(Run::Keep {
+            clients,
+            rounds,
+            log,
+            every,
+        }),
+        (Some(_), None) => None,
+    }
+}
+
+/// After how many steps a log is synced that is kept, where it is to be. None where the word of `--sync` is no number of its range.
+fn sync_in(words: &ArgMatches<'_>) -> Option<Option<u32>>
+    ensures { result ≡ sync_of (rows_of (found_of words.now)) }
+{
+    match words.try_get_one::<u32>("sync") {
+        Ok(None) => Some(None),
+        Ok(Some(every)) => Some(Some(every)),
+        Err(_) => None,
+    }
 }
 
 /// The file of a log, where one is named.

@@ -90,7 +90,7 @@ impl ClientPart {
             return false;
         };
         match self.awaited(rt, locked, shared, gate, tag) {
-            Some(slip) => self.took(slip, tag),
+            Some(slip) => locked.may_tell(rt, gate) && self.took(slip, tag),
             None => false,
         }
     }

@@ -53,6 +53,11 @@ impl<J: Origin> Handed<J> {
         booked
     }
 
+    /// Lets the gate look at the log.
+    pub(crate) fn look<G: Gate>(&self, alloc: Global, gate: &G) {
+        gate.look(alloc, self.booked.log());
+    }
+
     /// Takes a controller's turn: `control`.
     pub(crate) fn control<G: Gate>(&mut self, alloc: Global, gate: &G) -> Result<bool, Booking>
         ensures { MatchResult result (TookOrLeft IsControl (G.says gate.now) self.old.booked self.new.booked)

@@ -114,6 +114,37 @@ impl<J: Origin> LockedBus<J> {
         }
     }
 
+    /// The part of the one who looks at the log: until the others end, and once more then.
+    pub(crate) fn look<R: Wait, G: Gate>(&self, rt: &R, gate: &G) {
+        for _ in rt.forever() {
+            let is_last = self.is_ended() || self.clients_left.load(SeqCst) == 0;
+            self.booked.lock(rt).look(self.alloc, gate);
+            if !gate.settle() {
+                self.end(Ended::Stopped);
+                return;
+            }
+            if is_last {
+                return;
+            }
+            thread::yield_now();
+        }
+    }
+
+    /// Waits until a client may have the reply that it found. False where the workers end before.
+    pub(crate) fn may_tell<R: Wait, G: Gate>(&self, rt: &R, gate: &G) -> bool {
+        let look = gate.next_look();
+        for _ in rt.forever() {
+            if gate.may_tell(look) {
+                return true;
+            }
+            if self.is_ended() {
+                return false;
+            }
+            thread::yield_now();
+        }
+        false
+    }
+
     /// A worker that took nothing lets others run first; one whose step wasn't booked ends them.
     pub(crate) fn rest(&self, took: Result<bool, Booking>) {
         match took {

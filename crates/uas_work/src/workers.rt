@@ -350,7 +350,7 @@ fn start_pumps<'s, 'h: 's, E, J: Origin + Send + Sync, R: Wait + Sync, G: Gate +
     hands
 }
 
-/// Starts the controllers and the dispatcher. One that gets no thread ends all.
+/// Starts the controllers, the dispatcher and, where the gate looks at the log, the one who does. One that gets no thread ends all.
 fn start_others<'s, 'h: 's, E, J: Origin + Send + Sync, R: Wait + Sync, G: Gate + Sync>(
     scope: &Scope<'s, E>,
     rt: &'h R,
@@ -374,6 +374,10 @@ fn start_others<'s, 'h: 's, E, J: Origin + Send + Sync, R: Wait + Sync, G: Gate 
         .spawn(move || locked.dispatch(rt, gate, worker))
         .is_err()
     {
+        locked.end(Ended::NoThread);
+        return;
+    }
+    if gate.is_looking() && scope.spawn(move || locked.look(rt, gate)).is_err() {
         locked.end(Ended::NoThread);
     }
 }

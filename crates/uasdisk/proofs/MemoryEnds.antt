@@ -7,7 +7,7 @@ use Rattle.clap.specs.Words.{HasKind, kind_of}
 use Rattle.clap.specs.declared.error.Error.{Error}
 use Rattle.clap.specs.declared.error.kind.ErrorKind.TheVariants.{OutOfMemory}
 use Rattle.uas_decode.specs.Runs.{Begins, decoded}
-use Rattle.uas_words.specs.CommandLine.{Asked, replay, trace, work, decode, make, info, dump, fill, audit, draw, page, capture}
+use Rattle.uas_words.specs.CommandLine.{Asked, replay, trace, work, keep, decode, make, info, dump, fill, audit, draw, page, capture}
 use Rattle.uasdisk.specs.Ends.{Ends, Host, World}
 
 appends-kept : (old new : Option (List ℕ)) → Keeps old new → Appends old new []
@@ -51,6 +51,13 @@ memory_ends (work clients rounds (Some file)) host old new status four kept file
   fault = λ three. absurd (omega (arith, four, three));
   memory = λ is. inl kept;
   held = λ high tells. files;
+  input = input;
+}
+memory_ends (keep clients rounds file every) host old new status four kept files input = record {
+  statuses = inr (inr four);
+  told = λ low. absurd (omega (arith, four, low));
+  fault = λ three. absurd (omega (arith, four, three));
+  memory = λ is. kept;
   input = input;
 }
 memory_ends decode host old new status four kept files input = record {

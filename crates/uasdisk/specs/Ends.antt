@@ -1,9 +1,9 @@
 -- How a command line ends: the exit status, what was printed, and what the files hold, on a host that tells its bytes.
-use Rattle.std.specs.Prelude.{◌≡◌, ℕ, ◌<◌, ◌≤◌, Bool, IsTrue, IsErr, List, [], ◌∷◌, length, ◌⊎◌, ⊤, Option, None, Some, IfSome}
+use Rattle.std.specs.Prelude.{◌≡◌, ℕ, ◌<◌, ◌≤◌, Bool, true, false, IsTrue, IsErr, List, [], ◌∷◌, length, ◌⊎◌, ⊤, Option, None, Some, IfSome}
 use Rattle.std.specs.Io.KnownBytes.{Appends, Keeps, IsAtEnd}
 use Rattle.clap.specs.Words.{Kinds, Text}
 use Rattle.clap.specs.declared.error.kind.ErrorKind.{ErrorKind}
-use Rattle.uas_words.specs.CommandLine.{Asked, replay, trace, work, decode, make, info, dump, fill, audit, draw, page, capture, IsRequest, EndsRefused}
+use Rattle.uas_words.specs.CommandLine.{Asked, replay, trace, work, keep, decode, make, info, dump, fill, audit, draw, page, capture, IsRequest, EndsRefused}
 use Rattle.disk_image.specs.Images.{blocks_in, made_image, made_text}
 use Rattle.uas_script.specs.Script.{script}
 use Rattle.uas_replay.specs.Told.{zeroed_units}
@@ -75,7 +75,7 @@ pub record TraceEnds (clients blocks : ℕ) (bad : Option ℕ) (host : Host) (ol
 -- input isn't read.
 pub record WorkEnds (clients rounds : ℕ) (host : Host) (old new : World) (status : ℕ) : Type 0 where
   pub statuses : (status ≤ 1) ⊎ ((status ≡ 3) ⊎ (status ≡ 4))
-  pub told : status ≤ 1 → Told clients rounds old.output new.output status
+  pub told : status ≤ 1 → Told clients rounds false old.output new.output status
   pub fault : status ≡ 3 → IsTrue host.output_can_fail
   pub memory : status ≡ 4 → Keeps old.output new.output
   pub files : new.holds ≡ old.holds
@@ -92,6 +92,15 @@ pub record SavedWorkEnds (clients rounds : ℕ) (file : Text) (host : Host) (old
       ⊎ Unsaved clients rounds (CantBeSaved (host.file_can_fail file)) old.output new.output
   pub memory : status ≡ 4 → Keeps old.output new.output ⊎ Unsaved clients rounds (λ log. ⊤) old.output new.output
   pub held : 3 ≤ status → IsTrue host.tells → new.holds ≡ old.holds
+  pub input : new.input ≡ old.input
+
+-- `work CLIENTS ROUNDS LOG --sync N`: standard output has got the lines of so many clients that worked in threads, and behind them whether
+-- each of their audits is true. What the file of the log has then is what its keeper wrote.
+pub record KeptWorkEnds (clients rounds : ℕ) (host : Host) (old new : World) (status : ℕ) : Type 0 where
+  pub statuses : (status ≤ 1) ⊎ ((status ≡ 3) ⊎ (status ≡ 4))
+  pub told : status ≤ 1 → Told clients rounds true old.output new.output status
+  pub fault : status ≡ 3 → IsTrue host.output_can_fail ⊎ Keeps old.output new.output
+  pub memory : status ≡ 4 → Keeps old.output new.output
   pub input : new.input ≡ old.input
 
 -- `decode`: standard output has got each line of standard input, with what its bytes say.
@@ -195,6 +204,7 @@ Ends (replay clients blocks bad) host old new status = ReplayEnds clients blocks
 Ends (trace clients blocks bad) host old new status = TraceEnds clients blocks bad host old new status
 Ends (work clients rounds None) host old new status = WorkEnds clients rounds host old new status
 Ends (work clients rounds (Some file)) host old new status = SavedWorkEnds clients rounds file host old new status
+Ends (keep clients rounds file every) host old new status = KeptWorkEnds clients rounds host old new status
 Ends decode host old new status = DecodeEnds host old new status
 Ends (make file blocks) host old new status = MakeEnds file blocks host old new status
 Ends (info file) host old new status = InfoEnds file host old new status

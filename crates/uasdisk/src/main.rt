@@ -4,7 +4,7 @@
 //! uasdisk replay CLIENTS BLOCKS [--bad LBA] < script     runs a script on zeroed units, one for each client
 //! uasdisk trace CLIENTS BLOCKS [--bad LBA] [--color WHEN] < script
 //!                                                        the same, and prints each step with the bytes that it wrote
-//! uasdisk work CLIENTS ROUNDS [LOG]                      lets clients write and read in threads, and counts what they read
+//! uasdisk work CLIENTS ROUNDS [LOG [--sync N]]           lets clients write and read in threads, and counts what they read
 //! uasdisk decode [--color WHEN] < lines                  tells what lines of bytes say
 //! uasdisk make FILE BLOCKS                               makes an image of zeroed blocks
 //! uasdisk info FILE                                      tells how many blocks an image has
@@ -19,7 +19,7 @@
 //!
 //! With `--color always`, and on a terminal without `--color never`, the lines of `trace` and `decode` are in colours (`line_colours`).
 //! With `--bad LBA` the block of this number can neither be read nor written, in every unit that has it. With LOG each client of `work`
-//! is audited, and the log of their bus is saved in that file.
+//! is audited, and the log of their bus is saved in that file, or with `--sync N` kept there while it grows.
 //!
 //! A line of a script submits a command or a task management for a client, takes one step of the bus, or drains it; what
 //! replies and refusals came of it is printed. A command on an image is submitted, drained and answered on a bus of its own. The exit status is 0
@@ -35,6 +35,7 @@
 
 mod edges;
 mod hints;
+mod kept;
 mod program;
 
 ghost use Rattle.std.specs.Prelude.{◌≡◌, ◌≢◌, ◌⊎◌, [], IfSome, map};
@@ -45,6 +46,7 @@ ghost use Rattle.uasdisk.specs.Ends.{HoldsOfOne};
 use byte_io::{HostFiles, Reader};
 use edges::{Faults, Output};
 use hints::say_hint;
+use kept::HostKeptFiles;
 use line_colours::{Painted, are_coloured};
 use program::run_words;
 use std::cell::Cell;
@@ -95,6 +97,7 @@ fn start<R: Threads + Wait + Clock + Sync>(rt: &HostRuntime, threads: &R, words:
         rt.alloc(),
         words,
         &mut HostFiles(rt),
+        &mut HostKeptFiles { rt, is_watched },
         &mut Reader(rt.reader()),
         &mut output,
         &mut faults,

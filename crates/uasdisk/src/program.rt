@@ -17,6 +17,7 @@ use clap::Error;
 use clap::error::ErrorKind;
 use disk_image::{run_dump, run_fill, run_info, run_make};
 use draw_run::{Form, run_draw};
+use log_keeper::KeptFiles;
 use std::alloc::{AllocError, Global};
 use std::io::Write;
 use std::rt::Clock;
@@ -26,15 +27,23 @@ use uas_decode::run_decode;
 use uas_replay::{DONE, RunFault, WORDS_REFUSED, output_fault, run_script};
 use uas_trace::run_trace;
 use uas_words::{Run, run_of};
-use work_run::{Load, run_saved_work, run_work};
+use work_run::{Kept, Load, run_kept_work, run_saved_work, run_work};
 
 /// Does what the words of a command line ask for, the program's own name first, and answers the exit status. A fault of
 /// `faults` changes nothing. A long run may show there how far it is. The runtime is asked for threads and the time.
-pub fn run_words<R: Threads + Wait + Clock + Sync, F: Files, S: Source, O: Sink, W: Write>(
+pub fn run_words<
+    R: Threads + Wait + Clock + Sync,
+    F: Files,
+    K: KeptFiles,
+    S: Source,
+    O: Sink,
+    W: Write,
+>(
     rt: &R,
     alloc: Global,
     words: &[String],
     files: &mut F,
+    kept_files: &mut K,
     input: &mut S,
     output: &mut O,
     faults: &mut W,
@@ -86,6 +95,26 @@ pub fn run_words<R: Threads + Wait + Clock + Sync, F: Files, S: Source, O: Sink,
             Load { clients, rounds },
             files,
             log,
+            output,
+            faults,
+            may_show_progress,
+        ),
+        Ok(
+            Run::Keep {
+                clients,
+                rounds,
+                log,
+                every,
+            },
+        ) => run_kept_work(
+            rt,
+            alloc,
+            Load { clients, rounds },
+            kept_files,
+            Kept {
+                file: log,
+                every: every as usize,
+            },
             output,
             faults,
             may_show_progress,

@@ -1,11 +1,11 @@
 -- A run that saves its log and gives up.
-use Rattle.std.proofs.Common.{ℕ, Bool, List, Option, inl, inr}
+use Rattle.std.proofs.Common.{ℕ, Bool, true, List, Option, inl, inr}
 use Rattle.uas_log.specs.declared.Log.{Log}
 use Rattle.uas_replay.specs.declared.status.RunFault.TheVariants.{Image, ImageFile, Script, ScriptFile, NoMemory}
 use Rattle.work_run.specs.declared.faults.WorkFault.{WorkFault}
 use Rattle.work_run.specs.declared.faults.WorkFault.TheVariants.{LogFull, LogFile, Run}
-use Rattle.work_run.specs.SavedEnds.{Audited, SavedGivesUp, SavingGivesUp}
-use Rattle.work_run.specs.WorkEnds.{GivesUp}
+use Rattle.work_run.specs.SavedEnds.{SavedGivesUp, SavingGivesUp}
+use Rattle.work_run.specs.WorkEnds.{Audited, GivesUp, KeptGivesUp}
 
 -- before its lines were printed
 pub gives_up_before : (clients rounds : ℕ) (can_file_fail can_fail : Bool) (old new : Option (List ℕ)) (fault : WorkFault)
@@ -20,7 +20,7 @@ gives_up_before clients rounds can_file_fail can_fail old new (Run NoMemory) up 
 
 -- and after that
 pub gives_up_after : (clients rounds : ℕ) (can_file_fail can_fail : Bool) (old new : Option (List ℕ)) (log : Log) (status : ℕ) (fault : WorkFault)
-    → Audited clients rounds log old new status → SavingGivesUp log can_file_fail fault
+    → Audited clients rounds log true old new status → SavingGivesUp log can_file_fail fault
     → SavedGivesUp clients rounds can_file_fail can_fail old new fault
 gives_up_after clients rounds can_file_fail can_fail old new log status LogFull audited up = absurd up
 gives_up_after clients rounds can_file_fail can_fail old new log status LogFile audited up =
@@ -31,3 +31,13 @@ gives_up_after clients rounds can_file_fail can_fail old new log status (Run (Sc
 gives_up_after clients rounds can_file_fail can_fail old new log status (Run ScriptFile) audited up = absurd up
 gives_up_after clients rounds can_file_fail can_fail old new log status (Run NoMemory) audited up =
     inr (record { log = log; status = status; audited = audited; reason = tt })
+
+-- a run that keeps its log, at its lines
+pub kept_gives_up : (can_fail : Bool) (old new : Option (List ℕ)) (fault : WorkFault) → GivesUp can_fail old new fault → KeptGivesUp can_fail old new fault
+kept_gives_up can_fail old new LogFull up = up
+kept_gives_up can_fail old new LogFile up = absurd up
+kept_gives_up can_fail old new (Run (Image fault)) up = up
+kept_gives_up can_fail old new (Run ImageFile) up = up
+kept_gives_up can_fail old new (Run (Script fault)) up = up
+kept_gives_up can_fail old new (Run ScriptFile) up = up
+kept_gives_up can_fail old new (Run NoMemory) up = up

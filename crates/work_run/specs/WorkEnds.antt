@@ -1,33 +1,51 @@
 -- How the run `work` ends: what is printed, and the exit status.
-use Rattle.std.specs.Prelude.{◌≡◌, ℕ, ◌≤◌, ◌⊎◌, Bool, IsTrue, if◌then◌else◌, List, [], length, replicate, Option}
+use Rattle.std.specs.Prelude.{◌≡◌, ℕ, ◌≤◌, ◌⊎◌, ◌&&◌, Bool, false, IsTrue, if◌then◌else◌, List, [], ◌++◌, length, map, replicate, Option}
 use Rattle.std.specs.Io.KnownBytes.{Appends, Keeps}
 use Rattle.block_unit.specs.BlockMaps.{BlockMaps, fresh}
 use Rattle.scsi_cmd.specs.declared.Reply.{Reply}
+use Rattle.uas_log.specs.declared.Log.{Log}
+use Rattle.uas_log.specs.Booking.{IsReplay}
+use Rattle.uas_work.specs.Booked.{first_unit}
 use Rattle.uas_replay.specs.declared.status.RunFault.TheVariants.{Image, ImageFile, Script, ScriptFile, NoMemory}
 use Rattle.uas_replay.specs.Runs.{status_of as run_status_of}
 use Rattle.work_run.specs.declared.faults.WorkFault.{WorkFault}
 use Rattle.work_run.specs.declared.faults.WorkFault.TheVariants.{LogFull, LogFile, Run}
+use Rattle.work_run.specs.Audits.{AreAudits, all_true, audit_text}
 use Rattle.work_run.specs.Tallies.{all_whole, tallies_of, work_text}
 
 -- so many units of 64 zeroed blocks, none of them bad
 abbrev pub work_units : ℕ → List BlockMaps
 work_units clients = replicate clients (fresh 64 [])
 
--- 0 where every client wrote, read and found equal each of its rounds
-abbrev pub work_status : ℕ → List (List Reply) → ℕ
-work_status rounds replies = if all_whole rounds (tallies_of replies) then 0 else 1
+-- 0 where every client wrote, read and found equal each of its rounds, and every audit is true
+abbrev pub audited_status : ℕ → List (List Reply) → List Bool → ℕ
+audited_status rounds replies audits = if all_whole rounds (tallies_of replies) && all_true audits then 0 else 1
 
--- The clients took these replies: their lines were printed, and the status follows from them.
-pub record Told (clients rounds : ℕ) (old new : Option (List ℕ)) (status : ℕ) : Type 0 where
+-- the clients' lines, and those of their audits where they are shown
+abbrev pub told_text : Bool → List (List Reply) → List Bool → List ℕ
+told_text shows_audits replies audits = work_text (tallies_of replies) ++ (if shows_audits then audit_text audits else [])
+
+-- The clients took these replies of a bus with this log, which is its own replay and began with their logical units: their lines were
+-- printed, and the status follows from their replies and audits.
+pub record Audited (clients rounds : ℕ) (log : Log) (shows_audits : Bool) (old new : Option (List ℕ)) (status : ℕ) : Type 0 where
+  pub replay : IsReplay log
+  pub units : log.units ≡ map first_unit (work_units clients)
   pub replies : List (List Reply)
   pub of_each : length replies ≡ clients
-  pub lines : Appends old new (work_text (tallies_of replies))
-  pub follows : status ≡ work_status rounds replies
+  pub audits : List Bool
+  pub audited : AreAudits log rounds replies audits
+  pub lines : Appends old new (told_text shows_audits replies audits)
+  pub follows : status ≡ audited_status rounds replies audits
+
+-- so they did of some bus
+pub record Told (clients rounds : ℕ) (shows_audits : Bool) (old new : Option (List ℕ)) (status : ℕ) : Type 0 where
+  pub log : Log
+  pub audited : Audited clients rounds log shows_audits old new status
 
 -- A run that gives up printed nothing, or couldn't print: then standard output can fail.
 pub record WorkEnds (clients rounds : ℕ) (can_fail : Bool) (old new : Option (List ℕ)) (status : ℕ) : Type 0 where
   pub statuses : (status ≤ 1) ⊎ ((status ≡ 3) ⊎ (status ≡ 4))
-  pub told : status ≤ 1 → Told clients rounds old new status
+  pub told : status ≤ 1 → Told clients rounds false old new status
   pub fault : status ≡ 3 → IsTrue can_fail
   pub memory : status ≡ 4 → Keeps old new
 
@@ -46,3 +64,13 @@ GivesUp can_fail old new (Run ImageFile) = ⊥
 GivesUp can_fail old new (Run (Script fault)) = ⊥
 GivesUp can_fail old new (Run ScriptFile) = IsTrue can_fail
 GivesUp can_fail old new (Run NoMemory) = Keeps old new
+
+-- a run that keeps its log gives up before its lines are printed, or at a fault of standard output
+abbrev pub KeptGivesUp : Bool → Option (List ℕ) → Option (List ℕ) → WorkFault → Type 0
+KeptGivesUp can_fail old new LogFull = Keeps old new
+KeptGivesUp can_fail old new LogFile = Keeps old new
+KeptGivesUp can_fail old new (Run (Image fault)) = ⊥
+KeptGivesUp can_fail old new (Run ImageFile) = ⊥
+KeptGivesUp can_fail old new (Run (Script fault)) = ⊥
+KeptGivesUp can_fail old new (Run ScriptFile) = IsTrue can_fail
+KeptGivesUp can_fail old new (Run NoMemory) = Keeps old new

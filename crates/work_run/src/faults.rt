@@ -13,7 +13,7 @@ pub(crate) enum WorkFault {
     /// The log holds as many steps as it may.
     #[error("log full")]
     LogFull,
-    /// The file of the log couldn't be created, written or closed, or the log is past the limits of its text.
+    /// The file of the log couldn't be created, written or closed.
     #[error("log: file")]
     LogFile,
     /// A fault that other runs have too: want of memory, or of standard output.

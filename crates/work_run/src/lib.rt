@@ -10,20 +10,27 @@
 //! ended GOOD, and the READs that brought what had been written ([`Tally`]).
 //!
 //! What is promised: each line tells what a client's replies come to (specs/Tallies.antt), and the exit status is 0 exactly where every
-//! client wrote, read and found equal each of its rounds (specs/WorkEnds.antt). Which replies there are no contract says, as threads
-//! made them; what is known of the bus that they leave is `uas_work`'s. That all rounds come to an end is tested.
+//! client wrote, read and found equal each of its rounds, and its audit (`log_audit`) is true: its replies are those of the log of the bus
+//! that the threads left, which is its own replay and began with the clients' logical units (specs/WorkEnds.antt). That all rounds come
+//! to an end is tested.
 //!
-//! [`run_saved_work`] does the same and knows its log: behind those lines it prints for each client whether its audit is true
-//! (`log_audit`), of the rounds that it was to take and the replies that it holds, and then it saves the log in a file, which has the
-//! text of that very log or what it had (specs/SavedEnds.antt). The log is its own replay, so whoever reads the file can audit again.
+//! [`run_saved_work`] prints behind those lines for each client whether its audit is true, and then it saves the log in a file, which has
+//! the text of that very log or what it had (specs/SavedEnds.antt). The log is its own replay, so whoever reads the file can audit again.
+//!
+//! [`run_kept_work`] keeps the log in the file while the threads work: a thread of its own gathers the records of the steps that were
+//! booked since, under the lock of the bus, and writes and syncs them outside of it. That the file has that log's records is tested.
 #![tactic(auto)]
 
 mod audits;
 mod faults;
+mod keeping;
+mod kept;
 mod run;
 mod saved;
 mod tallies;
+mod telling;
 
+pub use kept::{Kept, run_kept_work};
 pub use run::run_work;
 pub use saved::run_saved_work;
 

@@ -7,7 +7,7 @@ ghost use Rattle.work_run.specs.WorkEnds.{GivesUp, Told, WorkEnds, work_units};
 
 use crate::Load;
 use crate::faults::WorkFault;
-use crate::tallies::{all_whole, tallies_of, work_text};
+use crate::telling::tell;
 use block_unit::Unit;
 use byte_io::Sink;
 use std::alloc::{AllocError, Global};
@@ -16,8 +16,8 @@ use std::rt::Clock;
 use std::sync::Wait;
 use std::thread::Threads;
 use std::time::Instant;
-use uas_replay::{COMMAND_FAILED, DONE, RunFault, output_fault};
-use uas_work::{Booked, Ended, Finished, Plan, PumpCount, Unhindered, spawn_all};
+use uas_replay::RunFault;
+use uas_work::{Booked, Ended, Finished, Gate, Plan, PumpCount, Unhindered, spawn_all};
 
 /// Blocks of each unit: eight rounds write to blocks of their own.
 const UNIT_BLOCKS: u32 = 64;
@@ -40,8 +40,8 @@ pub(crate) struct Worked {
 }
 
 /// The run `work`: lets so many clients, 1 to 15, take their rounds in threads, and prints a line of each. Where it is asked for, the
-/// pace is shown on `faults` at the end. It answers the exit status: 1 where a command of a client didn't end GOOD or a READ didn't
-/// bring what was written, 3 at a fault of standard output, 4 for want of memory or where the log is full, else 0.
+/// pace is shown on `faults` at the end. It answers the exit status: 1 where a command of a client didn't end GOOD, a READ didn't
+/// bring what was written or a client's audit is false, 3 at a fault of standard output, 4 for want of memory or where the log is full, else 0.
 pub fn run_work<R: Threads + Wait + Clock + Sync, O: Sink, W: Write>(
     rt: &R,
     alloc: Global,
@@ -73,44 +73,18 @@ fn work<R: Threads + Wait + Clock + Sync, O: Sink>(
 ) -> Result<Worked, WorkFault>
     requires { AreClients load.clients }
     ensures status { IfOk result (λ worked. worked.status ≤ 1) }
-    ensures told { IfOk result (λ worked. Told load.clients load.rounds (O.written output.old) (O.written output.new) worked.status) }
+    ensures told { IfOk result (λ worked. Told load.clients load.rounds false (O.written output.old) (O.written output.new) worked.status) }
     ensures fault { IfErr result (GivesUp (O.can_fail output.old) (O.written output.old) (O.written output.new)) }
 {
     let start = Instant::now(rt).ok();
     let finished = ran(rt, alloc, load)?;
     let millis = start.and_then(|start| millis_since(rt, &start));
     let commands = finished.booked.log().replies.len();
-    let status = tell(alloc, load, &finished, output)?;
+    let status = tell(alloc, load, &finished, false, output)?;
     Ok(Worked {
         status,
         commands,
         millis,
-    })
-}
-
-/// Prints what the clients took, and answers the status.
-fn tell<O: Sink>(
-    alloc: Global,
-    load: Load,
-    finished: &Finished,
-    output: &mut O,
-) -> Result<u8, WorkFault>
-    ensures status { IfOk result (λ status. status ≤ 1) }
-    ensures told { IfOk result (λ status. Told load.clients load.rounds (O.written output.old) (O.written output.new) status) }
-    ensures fault { IfErr result (GivesUp (O.can_fail output.old) (O.written output.old) (O.written output.new)) }
-{
-    let Some(replies) = finished.replies.as_slice().get(..load.clients) else {
-        return Err(WorkFault::Run(RunFault::NoMemory));
-    };
-    let tallies = tallies_of(alloc, replies).map_err(|_| WorkFault::Run(RunFault::NoMemory))?;
-    let text = work_text(alloc, &tallies).map_err(|_| WorkFault::Run(RunFault::NoMemory))?;
-    output
-        .write(&text)
-        .map_err(|fault| WorkFault::Run(output_fault(fault)))?;
-    Ok(if all_whole(load.rounds, &tallies) {
-        DONE
-    } else {
-        COMMAND_FAILED
     })
 }
 
@@ -127,18 +101,40 @@ pub(crate) fn ran<R: Threads + Wait + Sync>(
     let Ok(booked) = booked(alloc, load) else {
         return Err(WorkFault::Run(RunFault::NoMemory));
     };
-    let plan = Plan {
-        rounds: load.rounds,
-        pumps: PumpCount::Two,
-        controllers: CONTROLLERS,
-    };
-    let Ok(finished) = spawn_all(rt, alloc, booked, &Unhindered, plan) else {
+    let Ok(finished) = ran_by(rt, alloc, load, booked, &Unhindered) else {
         return Err(WorkFault::Run(RunFault::NoMemory));
     };
     match finished.ended {
         Ended::Done | Ended::Stopped => Ok(finished),
         Ended::LogFull => Err(WorkFault::LogFull),
         Ended::NoMemory | Ended::NoThread => Err(WorkFault::Run(RunFault::NoMemory)),
+    }
+}
+
+/// Lets the clients of a bus take their rounds, as far as a gate lets them.
+pub(crate) fn ran_by<R: Threads + Wait + Sync, G: Gate + Sync>(
+    rt: &R,
+    alloc: Global,
+    load: Load,
+    booked: Booked,
+    gate: &G,
+) -> Result<Finished, AllocError>
+    ensures { IfOk result (λ finished. finished.booked.log.units ≡ booked.log.units) }
+{
+    match spawn_all(rt, alloc, booked, gate, plan_of(load)) {
+        Ok(finished) => Ok(finished),
+        Err((fault, _)) => Err(fault),
+    }
+}
+
+/// Two pumps and a controller beside the clients.
+fn plan_of(load: Load) -> Plan
+    ensures { 1 ≤ result.controllers }
+{
+    Plan {
+        rounds: load.rounds,
+        pumps: PumpCount::Two,
+        controllers: CONTROLLERS,
     }
 }
 

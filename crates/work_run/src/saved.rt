@@ -1,22 +1,19 @@
 //! The run `work` with the file of a log: each client is audited once the threads have ended, and the log is saved.
 
-ghost use Rattle.std.specs.Prelude.{◌≡◌, ◌≤◌, ◌⊎◌, ⊤, Some, false, IsTrue, map, IfOk, IfErr, OnOk, OnErr};
+ghost use Rattle.std.specs.Prelude.{◌≡◌, ◌≤◌, ◌⊎◌, ⊤, Some, false, IsTrue, IfOk, IfErr, OnOk, OnErr};
 ghost use Rattle.std.specs.Io.KnownBytes.{Keeps};
 ghost use Rattle.byte_io.specs.Disks.{AreClients};
-ghost use Rattle.log_text.specs.Kept.{saved_log};
+ghost use Rattle.log_text.specs.Kept.{IsSavable, saved_log};
 ghost use Rattle.log_text.specs.Text.{log_text};
-ghost use Rattle.work_run.specs.SavedEnds.{Audited, CantBeSaved, Saved, SavedGivesUp, SavingGivesUp, Unsaved};
-ghost use Rattle.uas_work.specs.Booked.{first_unit};
-ghost use Rattle.work_run.specs.WorkEnds.{GivesUp, work_units};
+ghost use Rattle.work_run.specs.SavedEnds.{CantBeSaved, Saved, SavedGivesUp, SavingGivesUp, Unsaved};
 
 use crate::Load;
-use crate::audits::{all_true, audits_of, push_audits};
 use crate::faults::WorkFault;
 use crate::run::{Worked, millis_since, ran};
-use crate::tallies::{all_whole, tallies_of, work_text};
+use crate::telling::tell;
+use booked_limits::booked_logs_fit;
 use byte_io::{Files, Sink, StreamFault};
 use log_file::save_file;
-use log_limits::is_savable;
 use std::alloc::Global;
 use std::io::Write;
 use std::rt::Clock;
@@ -24,12 +21,11 @@ use std::sync::Wait;
 use std::thread::Threads;
 use std::time::Instant;
 use uas_log::Log;
-use uas_replay::{COMMAND_FAILED, DONE, RunFault, output_fault};
-use uas_work::Finished;
+use uas_replay::RunFault;
 
 /// The run `work` that saves its log: as `run_work`, but behind the lines of the clients it prints for each of them whether its audit
 /// is true, and then saves the log in the file of a name. It answers the exit status: 1 where an audit is false too, 3 at a fault of
-/// the file too. A log past the limits of its text is told as a fault of the file, and isn't saved.
+/// the file too.
 pub fn run_saved_work<R: Threads + Wait + Clock + Sync, F: Files, O: Sink, W: Write>(
     rt: &R,
     alloc: Global,
@@ -87,10 +83,11 @@ fn work<R: Threads + Wait + Clock + Sync, F: Files, O: Sink>(
     };
     let millis = start.and_then(|start| millis_since(rt, &start));
     let commands = finished.booked.log().replies.len();
-    let status = match tell(alloc, load, &finished, output) {
+    let status = match tell(alloc, load, &finished, true, output) {
         Ok(status) => status,
         Err(fault) => return Err(fault),
     };
+    booked_logs_fit(&finished.booked);
     match save(alloc, finished.booked.log(), files, file) {
         Ok(()) => Ok(Worked {
             status,
@@ -101,49 +98,14 @@ fn work<R: Threads + Wait + Clock + Sync, F: Files, O: Sink>(
     }
 }
 
-/// Prints what the clients took and whether their audits are true, and answers the status.
-fn tell<O: Sink>(
-    alloc: Global,
-    load: Load,
-    finished: &Finished,
-    output: &mut O,
-) -> Result<u8, WorkFault>
-    requires clients { AreClients load.clients }
-    requires units { finished.now.booked.log.units ≡ map first_unit (work_units load.clients) }
-    ensures status { IfOk result (λ status. status ≤ 1) }
-    ensures told { IfOk result (λ status. Audited load.clients load.rounds finished.now.booked.log
-        (O.written output.old) (O.written output.new) status) }
-    ensures fault { IfErr result (GivesUp (O.can_fail output.old) (O.written output.old) (O.written output.new)) }
-{
-    let Some(replies) = finished.replies.as_slice().get(..load.clients) else {
-        return Err(WorkFault::Run(RunFault::NoMemory));
-    };
-    let tallies = tallies_of(alloc, replies).map_err(|_| WorkFault::Run(RunFault::NoMemory))?;
-    let audits = audits_of(alloc, finished.booked.log(), load.rounds, replies).map_err(
-        |_| WorkFault::Run(RunFault::NoMemory),
-    )?;
-    let mut text = work_text(alloc, &tallies).map_err(|_| WorkFault::Run(RunFault::NoMemory))?;
-    push_audits(alloc, &mut text, &audits).map_err(|_| WorkFault::Run(RunFault::NoMemory))?;
-    output
-        .write(&text)
-        .map_err(|fault| WorkFault::Run(output_fault(fault)))?;
-    Ok(if all_whole(load.rounds, &tallies) && all_true(&audits) {
-        DONE
-    } else {
-        COMMAND_FAILED
-    })
-}
-
-/// Saves a log in the file of a name. At a fault every file holds what it held.
+/// Saves a log that has a text in the file of a name. At a fault every file holds what it held.
 fn save<F: Files>(alloc: Global, log: &Log, files: &mut F, file: &str) -> Result<(), WorkFault>
+    requires { IsSavable log.now }
     ensures text { OnOk result (IsTrue (F.tells files.old) → F.holds files.new file.now ≡ Some (log_text (saved_log log.now))) }
     ensures created { OnOk result (IsTrue (F.can_create files.old file.now)) }
     ensures fault { IfErr result (SavingGivesUp log.now (F.can_fail files.old file.now)) }
     ensures held { OnErr result (IsTrue (F.tells files.old) → F.holds files.new ≡ F.holds files.old) }
 {
-    if !is_savable(log) {
-        return Err(WorkFault::LogFile);
-    }
     match save_file(alloc, log, files, file) {
         Ok(()) => Ok(()),
         Err(StreamFault::NoMemory) => Err(WorkFault::Run(RunFault::NoMemory)),

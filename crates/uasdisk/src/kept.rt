@@ -1,0 +1,69 @@
+//! The files of the machine in which logs are kept.
+
+ghost use Rattle.std.specs.Prelude.{None, true};
+
+use byte_io::StreamFault;
+use log_keeper::{KeptFile, KeptFiles};
+use std::fs;
+use std::fs::File;
+use std::io::Write;
+
+/// The files of the machine that the program runs on. What they hold isn't known.
+#[derive(Drop)]
+pub struct HostKeptFiles<'a> {
+    pub rt: &'a HostRuntime,
+    /// Whether standard error is told how many bytes were synced.
+    pub is_watched: bool,
+}
+
+/// A file of the machine that takes bytes behind those that it has.
+#[derive(Drop)]
+pub struct HostKeptFile<'a> {
+    rt: &'a HostRuntime,
+    file: File,
+    is_watched: bool,
+    bytes: u64,
+}
+
+impl<'a> KeptFiles for HostKeptFiles<'a> {
+    type File = HostKeptFile<'a>;
+
+    fn create(&mut self, name: &str) -> Result<HostKeptFile<'a>, StreamFault> {
+        let Ok(file) = fs::create(self.rt, name) else {
+            return Err(StreamFault::File);
+        };
+        Ok(HostKeptFile {
+            rt: self.rt,
+            file,
+            is_watched: self.is_watched,
+            bytes: 0,
+        })
+    }
+}
+
+impl KeptFile for HostKeptFile<'_> {
+    ghost written = { λ _. None };
+
+    ghost synced = { λ _. None };
+
+    ghost can_fail = { λ _. true };
+
+    fn add(&mut self, bytes: &[u8]) -> Result<(), StreamFault> {
+        if self.file.write_all(bytes).is_err() {
+            return Err(StreamFault::File);
+        }
+        self.bytes = self.bytes.saturating_add(bytes.len() as u64);
+        Ok(())
+    }
+
+    fn sync(&mut self) -> Result<(), StreamFault> {
+        if self.file.sync_data().is_err() {
+            return Err(StreamFault::File);
+        }
+        if self.is_watched {
+            // a fault of standard error changes nothing
+            let _ = write!(self.rt.stderr(), "\r{} bytes synced", self.bytes);
+        }
+        Ok(())
+    }
+}

@@ -1,16 +1,18 @@
 //! The program `serve`: an image as a disk for any client of NBD, over standard input and output.
 //!
 //! ```text
-//! uasdisk serve FILE [--bad LBA]
+//! uasdisk serve FILE [--bad LBA | --file]
 //! ```
 //!
-//! It is `serve_run`'s run over the standard streams and the files of the machine, and the words of the command line. The exit status
-//! is 2 where the words are refused, 3 at a fault, 4 for want of memory, else 0.
+//! It is `serve_run`'s run, or with `--file` that of `file_serve`, over the standard streams and the files of the machine, and the words of
+//! the command line. The exit status is 2 where the words are refused, 3 at a fault, 4 for want of memory, else 0.
 #![tactic(auto)]
 
 mod words;
 
 use byte_io::{Files, HostFiles, Reader, Writer};
+use file_disk::HostBlocks;
+use file_serve::run_file_serve;
 use image_file::HostImage;
 use serve_run::run_serve;
 use std::io::Write;
@@ -42,6 +44,13 @@ fn start(rt: &HostRuntime, words: &[String]) -> u8 {
     let is_output_open = rt.stdout().write(b"").is_ok();
     let mut output = is_output_open.then(|| Writer(rt.stdout()));
     match asked_of(rt.alloc(), words) {
+        Ok(asked) if asked.in_file => run_file_serve(
+            rt.alloc(),
+            &mut HostBlocks::open(rt, asked.file),
+            &mut Reader(rt.reader()),
+            &mut output,
+            &mut rt.stderr(),
+        ),
         Ok(asked) => run_serve(
             rt.alloc(),
             asked.bad,

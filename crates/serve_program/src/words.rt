@@ -17,6 +17,8 @@ pub struct Asked<'a> {
     pub file: &'a str,
     /// The block that is bad, where the disk has it.
     pub bad: Option<u32>,
+    /// Whether the blocks stay in the file, which may be of any length.
+    pub in_file: bool,
 }
 
 /// Reads the words, the program's own name first. An error has the text to print, help among them.
@@ -54,6 +56,13 @@ fn serve_command<'a>(alloc: Global) -> Result<Command<'a>, AllocError> {
                 .action(ArgAction::Set)
                 .value_parser(clap::value_parser!(u32).range(0..=i64::from(LAST_BLOCK)))
                 .help("A block that is bad: 0 to 65535"),
+        )?
+        .arg(
+            Arg::new(alloc, "file")
+                .long("file")
+                .action(ArgAction::SetTrue)
+                .conflicts_with("bad")?
+                .help("Leaves the blocks in the file, which may be of any length"),
         )
 }
 
@@ -64,6 +73,7 @@ fn found<'a>(matches: &ArgMatches<'a>) -> Option<Asked<'a>> {
     Some(Asked {
         file,
         bad: words.get_one::<u32>("bad"),
+        in_file: words.get_flag("file"),
     })
 }
 

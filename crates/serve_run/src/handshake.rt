@@ -45,7 +45,7 @@ pub(crate) enum Next {
 }
 
 /// Greets the client and answers its options, and tells whether the transmission begins.
-pub(crate) fn shake<S: Source, O: Sink>(
+pub fn shake<S: Source, O: Sink>(
     input: &mut S,
     output: &mut O,
     size: u64,

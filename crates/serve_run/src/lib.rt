@@ -4,6 +4,8 @@
 //! [`Server`](disk_server::Server) of the image's unit. What is refused, and as what, is specs/Serves.antt; what a request is told, and
 //! what all of them make of the server, is specs/Transcript.antt; the bytes that a session reads and writes are specs/Sessions.antt.
 //!
+//! The parts of a session that say nothing of that server ([`shake`], [`read_request`], [`refuse`] and their like) serve other disks too.
+//!
 //! It stands on the messages of `nbd`, on the server of a disk, on images by position, and on readers and writers.
 #![tactic(auto)]
 
@@ -15,5 +17,7 @@ mod serve;
 mod transmission;
 
 pub use fault::ServeFault;
+pub use handshake::shake;
+pub use requests::{read_data, send_part};
 pub use serve::run_serve;
-pub use transmission::{refusal_of, transmit};
+pub use transmission::{FUA, read_request, refusal_of, refuse, tell, transmit};

@@ -43,8 +43,8 @@ pub(crate) fn give<O: Sink>(
     Ok(send_part(output, part, error, request.cookie))
 }
 
-/// Writes a reply and what stands behind the room for its head.
-fn send_part<O: Sink>(
+/// Writes a reply and the bytes of a READ, which stand in `part` behind 16 bytes of room for its head.
+pub fn send_part<O: Sink>(
     output: &mut O,
     part: &mut [u8],
     error: ErrorNumber,
@@ -106,8 +106,8 @@ pub(crate) fn take<I: Image, S: Source, O: Sink>(
     Ok(tell(output, request.cookie, error))
 }
 
-/// Reads the data of a WRITE into the front of `taken`.
-fn read_data<S: Source>(
+/// Reads the data of a WRITE, as many bytes as it names, into the front of `taken`, which grows where it is shorter.
+pub fn read_data<S: Source>(
     taken: &mut Vec<u8>,
     input: &mut S,
     request: &Request,

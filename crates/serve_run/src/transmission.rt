@@ -21,7 +21,7 @@ use nbd::{Command, ErrorNumber, REQUEST_BYTES, Reply, Request, request_writes_ba
 use std::alloc::{AllocError, Global};
 
 /// The flag FUA, the one that is offered.
-pub(crate) const FUA: u16 = 1;
+pub const FUA: u16 = 1;
 
 /// What is kept from one request to the next: room for a write's data, and for a read's reply.
 #[derive(Drop)]
@@ -71,8 +71,8 @@ pub fn transmit<I: Image, S: Source, O: Sink>(
     Ok(Some(ServeFault::Stream))
 }
 
-/// Reads a request; none where the client leaves.
-fn read_request<S: Source>(input: &mut S) -> Result<Option<Request>, ServeFault>
+/// Reads a request of the client; none where it leaves, by the end of its bytes or by a disconnection.
+pub fn read_request<S: Source>(input: &mut S) -> Result<Option<Request>, ServeFault>
     ensures request { IfOk result (λ found. IfSome found (λ request. Consumes (S.left input.old) (S.left input.new) (request_text request))) }
     ensures stays { IfOk result (λ found. IfSome found (λ request. is_disconnection request.command ≡ false)) }
     ensures leaves { result ≡ Ok None → Leaves (S.left input.old) (S.left input.new) }
@@ -136,8 +136,8 @@ fn answer<I: Image, S: Source, O: Sink>(
     }
 }
 
-/// Answers a request that isn't served; a WRITE's data are dropped.
-fn refuse<S: Source, O: Sink>(
+/// Answers a request that isn't served, for this reason; a WRITE's data are dropped.
+pub fn refuse<S: Source, O: Sink>(
     input: &mut S,
     output: &mut O,
     request: &Request,
@@ -194,7 +194,7 @@ fn is_beyond(size: u64, request: &Request) -> bool
 }
 
 /// Writes a reply without data.
-pub(crate) fn tell<O: Sink>(output: &mut O, cookie: u64, error: ErrorNumber) -> Option<ServeFault>
+pub fn tell<O: Sink>(output: &mut O, cookie: u64, error: ErrorNumber) -> Option<ServeFault>
     ensures { result ≡ None → Appends (O.written output.old) (O.written output.new) (reply_text (record { error = error; cookie = cookie })) }
 {
     send(output, &Reply { error, cookie }.to_bytes()).err()

@@ -1,0 +1,5 @@
+pub mod Answered
+pub mod Begun
+pub mod Bytes
+pub mod Opened
+pub mod Steps

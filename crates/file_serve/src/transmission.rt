@@ -1,0 +1,177 @@
+//! The transmission: requests in their order, each answered before the next one is read.
+
+ghost use Rattle.std.specs.Prelude.{◌≡◌, ◌+◌, ◌*◌, ◌≤◌, false, true, length, IsTrue, OnOk, OnErr};
+ghost use Rattle.image_file.specs.Written.{written_over};
+ghost use Rattle.serve_run.specs.Serves.{is_disconnection};
+ghost use Rattle.serve_run.specs.Transcript.{has_fua};
+
+use byte_io::{Sink, Source};
+use file_disk::{Blocks, DiskFault, FileDisk};
+use nbd::{Command, ErrorNumber, REPLY_BYTES, Request};
+use serve_run::{FUA, ServeFault, read_data, read_request, refusal_of, refuse, send_part, tell};
+use std::alloc::{AllocError, Global};
+
+/// Reads requests and answers them, each before the next one is read, until the client leaves, or a fault ends that.
+pub fn transmit<B: Blocks, S: Source, O: Sink>(
+    alloc: Global,
+    disk: &mut FileDisk,
+    file: &mut B,
+    input: &mut S,
+    output: &mut O,
+) -> Result<Option<ServeFault>, AllocError>
+    requires { IsTrue (B.tells file.old) → length (B.holds file.old) ≡ 512 * disk.old }
+    ensures disk { disk.new ≡ disk.old }
+    ensures told { B.tells file.new ≡ B.tells file.old }
+    ensures same { B.can_fail file.new ≡ B.can_fail file.old }
+    ensures len { IsTrue (B.tells file.old) → length (B.holds file.new) ≡ length (B.holds file.old) }
+{
+    let mut room = Vec::new(alloc);
+    for turn in 0..u64::MAX {
+        let request = match read_request(input) {
+            Ok(Some(request)) => request,
+            Ok(None) => return Ok(None),
+            Err(fault) => return Ok(Some(fault)),
+        };
+        let fault = serve_request(disk, &mut room, file, input, output, &request)?;
+        if fault.is_some() {
+            return Ok(fault);
+        }
+    }
+    // so many requests nobody sends
+    Ok(Some(ServeFault::Stream))
+}
+
+/// Answers a request that isn't a disconnection. `room` holds the data of the request while it is served.
+pub fn serve_request<B: Blocks, S: Source, O: Sink>(
+    disk: &mut FileDisk,
+    room: &mut Vec<u8>,
+    file: &mut B,
+    input: &mut S,
+    output: &mut O,
+    request: &Request,
+) -> Result<Option<ServeFault>, AllocError>
+    requires file { IsTrue (B.tells file.old) → length (B.holds file.old) ≡ 512 * disk.old }
+    requires stays { is_disconnection request.now.command ≡ false }
+    ensures disk { disk.new ≡ disk.old }
+    ensures told { B.tells file.new ≡ B.tells file.old }
+    ensures same { B.can_fail file.new ≡ B.can_fail file.old }
+    ensures len { IsTrue (B.tells file.old) → length (B.holds file.new) ≡ length (B.holds file.old) }
+{
+    let refusal = refusal_of(disk.size(), request);
+    if refusal != ErrorNumber::None {
+        return Ok(refuse(input, output, request, refusal));
+    }
+    match request.command {
+        Command::Read => give(disk, room, file, output, request),
+        Command::Write => take(disk, room, file, input, output, request),
+        Command::Flush | Command::Disconnect | Command::Other(_) => {
+            Ok(make_safe(disk, file, output, request))
+        }
+    }
+}
+
+/// Serves a READ: its bytes stand in `room` behind the place of the reply's head.
+fn give<B: Blocks, O: Sink>(
+    disk: &mut FileDisk,
+    room: &mut Vec<u8>,
+    file: &B,
+    output: &mut O,
+    request: &Request,
+) -> Result<Option<ServeFault>, AllocError>
+    requires fits { request.now.offset + request.now.length ≤ 512 * disk.old }
+    requires file { IsTrue (B.tells file.now) → length (B.holds file.now) ≡ 512 * disk.old }
+    ensures disk { disk.new ≡ disk.old }
+{
+    let end = REPLY_BYTES + request.length as usize;
+    if room.len() < end {
+        room.resize(end, 0)?;
+    }
+    Ok(give_part(disk, &mut room[..end], file, output, request))
+}
+
+/// Serves a READ of as many bytes as `part` has behind the place of the reply's head.
+fn give_part<B: Blocks, O: Sink>(
+    disk: &mut FileDisk,
+    part: &mut [u8],
+    file: &B,
+    output: &mut O,
+    request: &Request,
+) -> Option<ServeFault>
+    requires len { length part.old ≡ 16 + request.now.length }
+    requires fits { request.now.offset + request.now.length ≤ 512 * disk.old }
+    requires file { IsTrue (B.tells file.now) → length (B.holds file.now) ≡ 512 * disk.old }
+    ensures disk { disk.new ≡ disk.old }
+{
+    match disk.read(file, request.offset, &mut part[REPLY_BYTES..]) {
+        Ok(()) => send_part(output, part, ErrorNumber::None, request.cookie),
+        Err(DiskFault) => tell(output, request.cookie, ErrorNumber::Io),
+    }
+}
+
+/// Reads the data of a WRITE, all of it before anything is written, and serves it.
+fn take<B: Blocks, S: Source, O: Sink>(
+    disk: &mut FileDisk,
+    room: &mut Vec<u8>,
+    file: &mut B,
+    input: &mut S,
+    output: &mut O,
+    request: &Request,
+) -> Result<Option<ServeFault>, AllocError>
+    requires fits { request.now.offset + request.now.length ≤ 512 * disk.old }
+    requires file { IsTrue (B.tells file.old) → length (B.holds file.old) ≡ 512 * disk.old }
+    ensures disk { disk.new ≡ disk.old }
+    ensures told { B.tells file.new ≡ B.tells file.old }
+    ensures same { B.can_fail file.new ≡ B.can_fail file.old }
+    ensures len { IsTrue (B.tells file.old) → length (B.holds file.new) ≡ length (B.holds file.old) }
+{
+    if let Some(fault) = read_data(room, input, request)? {
+        return Ok(Some(fault));
+    }
+    let data = &room[..request.length as usize];
+    match store(disk, file, request, data) {
+        Ok(()) => Ok(tell(output, request.cookie, ErrorNumber::None)),
+        Err(DiskFault) => Ok(tell(output, request.cookie, ErrorNumber::Io)),
+    }
+}
+
+/// Writes the data of a WRITE, and makes them safe where it has FUA.
+fn store<B: Blocks>(
+    disk: &mut FileDisk,
+    file: &mut B,
+    request: &Request,
+    bytes: &[u8],
+) -> Result<(), DiskFault>
+    requires fits { request.now.offset + length bytes.now ≤ 512 * disk.old }
+    requires file { IsTrue (B.tells file.old) → length (B.holds file.old) ≡ 512 * disk.old }
+    ensures disk { disk.new ≡ disk.old }
+    ensures bytes { OnOk result (IsTrue (B.tells file.old) → B.holds file.new ≡ written_over (B.holds file.old) request.now.offset bytes.now) }
+    ensures safe { OnOk result (has_fua request.now ≡ true → IsTrue (B.tells file.old) → B.synced file.new ≡ B.holds file.new) }
+    ensures fault { OnErr result (IsTrue (B.can_fail file.old)) }
+    ensures told { B.tells file.new ≡ B.tells file.old }
+    ensures same { B.can_fail file.new ≡ B.can_fail file.old }
+    ensures len { IsTrue (B.tells file.old) → length (B.holds file.new) ≡ length (B.holds file.old) }
+{
+    disk.write(file, request.offset, bytes)?;
+    if request.flags.0 == FUA {
+        return disk.flush(file);
+    }
+    Ok(())
+}
+
+/// Serves a FLUSH.
+fn make_safe<B: Blocks, O: Sink>(
+    disk: &mut FileDisk,
+    file: &mut B,
+    output: &mut O,
+    request: &Request,
+) -> Option<ServeFault>
+    ensures disk { disk.new ≡ disk.old }
+    ensures told { B.tells file.new ≡ B.tells file.old }
+    ensures same { B.can_fail file.new ≡ B.can_fail file.old }
+    ensures len { IsTrue (B.tells file.old) → length (B.holds file.new) ≡ length (B.holds file.old) }
+{
+    match disk.flush(file) {
+        Ok(()) => tell(output, request.cookie, ErrorNumber::None),
+        Err(DiskFault) => tell(output, request.cookie, ErrorNumber::Io),
+    }
+}

@@ -5,6 +5,7 @@ _uasdisk() {
     case $before in
         --bad) return ;;
         --color) COMPREPLY=($(compgen -W 'always auto never' -- "$word")); return ;;
+        --sync) return ;;
     esac
     if [ "$COMP_CWORD" = 1 ]; then
         COMPREPLY=($(compgen -W 'replay trace work decode make info dump fill audit draw capture serve prove many completions help --help --version' -- "$word"))
@@ -14,7 +15,7 @@ _uasdisk() {
         help) words='replay trace work decode make info dump fill audit draw capture' ;;
         replay) words='--bad -h --help' ;;
         trace) words='--bad --color -h --help' ;;
-        work) words='-h --help' files=1 ;;
+        work) words='--sync -h --help' files=1 ;;
         decode) words='--color -h --help' ;;
         make) words='-h --help' files=1 ;;
         info) words='-h --help' files=1 ;;
@@ -23,7 +24,7 @@ _uasdisk() {
         audit) words='-h --help' files=1 ;;
         draw) words='--bad --page -h --help' ;;
         capture) words='--bad -h --help' files=1 ;;
-        serve) words='--help' files=1 ;;
+        serve) words='--bad --file --help' files=1 ;;
         prove) words='' ;;
         many) words='' files=1 ;;
         completions) words='bash zsh fish' ;;

@@ -8,6 +8,7 @@ complete -c uasdisk -n '__fish_seen_subcommand_from trace' -l bad -x -d 'A block
 complete -c uasdisk -n '__fish_seen_subcommand_from trace' -l color -x -a 'always auto never' -d 'Colours: always, auto (on a terminal alone, as without this option) or never'
 complete -c uasdisk -n '__fish_seen_subcommand_from trace' -s h -l help -d 'Print help'
 complete -c uasdisk -n __fish_use_subcommand -a work -d 'Lets clients write and read in threads, and counts what they read'
+complete -c uasdisk -n '__fish_seen_subcommand_from work' -l sync -x -d 'Keep LOG while it grows, synced after each N steps, or at the end alone where N is 0: 0 to 4294967295'
 complete -c uasdisk -n '__fish_seen_subcommand_from work' -s h -l help -d 'Print help'
 complete -c uasdisk -n '__fish_seen_subcommand_from work' -F
 complete -c uasdisk -n __fish_use_subcommand -a decode -d 'Reads lines of bytes from standard input and tells what each says'
@@ -37,6 +38,8 @@ complete -c uasdisk -n '__fish_seen_subcommand_from capture' -l bad -x -d 'A blo
 complete -c uasdisk -n '__fish_seen_subcommand_from capture' -s h -l help -d 'Print help'
 complete -c uasdisk -n '__fish_seen_subcommand_from capture' -F
 complete -c uasdisk -n __fish_use_subcommand -a serve -d 'an image as a disk for any client of NBD'
+complete -c uasdisk -n '__fish_seen_subcommand_from serve' -l bad -x -d 'A block that is bad: 0 to 65535'
+complete -c uasdisk -n '__fish_seen_subcommand_from serve' -l file -d 'Leaves the blocks in the file, which may be of any length'
 complete -c uasdisk -n '__fish_seen_subcommand_from serve' -l help -d 'Print help'
 complete -c uasdisk -n '__fish_seen_subcommand_from serve' -F
 complete -c uasdisk -n __fish_use_subcommand -a prove -d 'builds the proved program, or that of decode or serve, and puts it into the cache'

@@ -29,7 +29,7 @@ _uasdisk() {
   case $command in
     replay) _arguments '--bad[A block that is bad in every unit: 0 to 65535]:LBA:' '(-h --help)'{-h,--help}'[Print help]' ':CLIENTS:' ':BLOCKS:' ;;
     trace) _arguments '--bad[A block that is bad in every unit: 0 to 65535]:LBA:' '--color[Colours: always, auto (on a terminal alone, as without this option) or never]:WHEN:(always auto never)' '(-h --help)'{-h,--help}'[Print help]' ':CLIENTS:' ':BLOCKS:' ;;
-    work) _arguments '(-h --help)'{-h,--help}'[Print help]' ':CLIENTS:' ':ROUNDS:' ':LOG:_files' ;;
+    work) _arguments '--sync[Keep LOG while it grows, synced after each N steps, or at the end alone where N is 0: 0 to 4294967295]:N:' '(-h --help)'{-h,--help}'[Print help]' ':CLIENTS:' ':ROUNDS:' ':LOG:_files' ;;
     decode) _arguments '--color[Colours: always, auto (on a terminal alone, as without this option) or never]:WHEN:(always auto never)' '(-h --help)'{-h,--help}'[Print help]' ;;
     make) _arguments '(-h --help)'{-h,--help}'[Print help]' ':FILE:_files' ':BLOCKS:' ;;
     info) _arguments '(-h --help)'{-h,--help}'[Print help]' ':FILE:_files' ;;
@@ -38,7 +38,7 @@ _uasdisk() {
     audit) _arguments '(-h --help)'{-h,--help}'[Print help]' ':LOG:_files' ;;
     draw) _arguments '--bad[A block that is bad in every unit: 0 to 65535]:LBA:' '--page[Write a page (HTML) that shows the run step by step, in place of the picture]' '(-h --help)'{-h,--help}'[Print help]' ':CLIENTS:' ':BLOCKS:' ;;
     capture) _arguments '--bad[A block that is bad in every unit: 0 to 65535]:LBA:' '(-h --help)'{-h,--help}'[Print help]' ':CLIENTS:' ':BLOCKS:' ':FILE:_files' ;;
-    serve) _arguments '--help[Print help]' ':FILE:_files' ;;
+    serve) _arguments '--bad[A block that is bad: 0 to 65535]:LBA:' '--file[Leaves the blocks in the file, which may be of any length]' '--help[Print help]' ':FILE:_files' ;;
     prove) _arguments ':NAME:' ;;
     many) _arguments ':FOLDER:_files' ':WORDS:' ;;
     completions) _arguments ':SHELL:(bash zsh fish)' ;;

@@ -4,3 +4,7 @@ pub mod Opened
 pub mod ExportCode
 pub mod Called
 pub mod Closed
+pub mod HandedOut
+pub mod Given
+pub mod OpenExport
+pub mod NewExport

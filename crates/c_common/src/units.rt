@@ -1,14 +1,14 @@
 //! The logical units of a handle, zeroed or from an image, and handles of what is made of them.
-ghost use Rattle.std.specs.Prelude.{◌≡◌, ◌≤◌, ◌<◌, ◌*◌, List, [], length, slice_index, sum, vec_len, IfOk, true};
+ghost use Rattle.std.specs.Prelude.{◌≡◌, ◌≤◌, ◌<◌, ◌*◌, List, [], length, slice_index, sum, vec_len, IfErr, IfOk, true};
 ghost use Rattle.std.specs.List.{list_all};
 ghost use types.Logic.{sem};
-ghost use base.Fraction.{full_share};
-ghost use denote.RawPtr.{lies_at};
 ghost use Rattle.block_unit.specs.BlockMaps.{BlockMaps};
 ghost use Rattle.uas_profile.specs.declared.TheConstants.{MAX_CLIENTS};
 ghost use Rattle.c_common.specs.Units.{bad_of, image_of, is_bad_block, is_image, is_size, opened_unit, opened_units, units_fault_number};
 ghost use Rattle.c_common.specs.Units.{units_number, units_told};
+ghost use Rattle.c_common.specs.HandedOut.{handed_out, made_number};
 
+use crate::handle::hand_out_made;
 use block_unit::Unit;
 use c_faults::{BAD_BLOCK, BLOCKS, IMAGE, NO_MEMORY, UNITS};
 use std::alloc::{AllocError, Global};
@@ -37,8 +37,9 @@ pub enum UnitsFault {
 }
 
 impl UnitsFault {
-    pub fn number(&self) -> u8
-        ensures { result ≡ units_fault_number self.now }
+    pub fn number(self) -> u8
+        ensures fault { result ≡ units_fault_number self }
+        ensures not_0 { 0 < result }
     {
         match self {
             UnitsFault::Count => UNITS,
@@ -73,14 +74,9 @@ pub fn open_handle<T: OfUnits + Drop, Name>(
 ) -> u8
     ensures fault { units_told result blocks.now image.now bad.now ≡ true }
     ensures refused { 0 < result → handle.new ≡ handle.old }
+    ensures* handed_out { sem 𝓛 (handed_out T.row (T.is_of (opened_units blocks.now image.now bad.now)) result handle.new) }
 {
-    match made::<T>(alloc, blocks, image, bad) {
-        Ok(made) => {
-            *handle = hand_out(made);
-            0
-        }
-        Err(fault) => fault.number(),
-    }
+    hand_out_made(made::<T>(alloc, blocks, image, bad), handle)
 }
 
 /// The same of zeroed units without a bad block.
@@ -91,18 +87,38 @@ pub fn new_handle<T: OfUnits + Drop, Name>(
 ) -> u8
     ensures fault { units_told result blocks.now [] [] ≡ true }
     ensures refused { 0 < result → handle.new ≡ handle.old }
+    ensures* handed_out { sem 𝓛 (handed_out T.row (T.is_of (opened_units blocks.now [] [])) result handle.new) }
 {
-    open_handle::<T, Name>(alloc, blocks, &[], &[], handle)
+    hand_out_made(zeroed::<T>(alloc, blocks), handle)
 }
 
-/// The pointer by which C has it: what was made lies there, and is C's.
-pub fn hand_out<T: Drop, Name>(made: Box<T, Global>) -> *mut Name
-    ensures* { sem 𝓛 (lies_at T.row full_share result made.value) }
+/// Of zeroed units without a bad block.
+fn zeroed<T: OfUnits + Drop>(alloc: Global, blocks: &[u32]) -> Result<Box<T, Global>, u8>
+    ensures made { IfOk result (λ made. T.is_of (opened_units blocks.now [] []) made.value) }
+    ensures fault { units_told (made_number result) blocks.now [] [] ≡ true }
+    ensures number { IfErr result (λ number. 0 < number) }
 {
-    Box::into_raw(made) as *mut Name
+    made::<T>(alloc, blocks, &[], &[])
 }
 
+/// The error is the number of the fault.
 fn made<T: OfUnits + Drop>(
+    alloc: Global,
+    blocks: &[u32],
+    image: &[u8],
+    bad: &[UasBadBlock],
+) -> Result<Box<T, Global>, u8>
+    ensures made { IfOk result (λ made. T.is_of (opened_units blocks.now image.now bad.now) made.value) }
+    ensures fault { units_told (made_number result) blocks.now image.now bad.now ≡ true }
+    ensures number { IfErr result (λ number. 0 < number) }
+{
+    match boxed(alloc, blocks, image, bad) {
+        Ok(made) => Ok(made),
+        Err(fault) => Err(fault.number()),
+    }
+}
+
+fn boxed<T: OfUnits + Drop>(
     alloc: Global,
     blocks: &[u32],
     image: &[u8],

@@ -43,10 +43,6 @@ clients_fault clients = if clients == 0 || nat_lt MAX_CLIENTS clients then DRIVE
 abbrev pub clients_told : ℕ → ℕ → Bool
 clients_told number clients = number == clients_fault clients || (number == NO_MEMORY && clients_fault clients == 0)
 
-abbrev pub made_number : {X : Type 0} → Result X ℕ → ℕ
-made_number (Ok x) = 0
-made_number (Err fault) = fault
-
 -- WHAT IS ANSWERED
 
 -- the number of what a call was refused with

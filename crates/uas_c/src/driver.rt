@@ -1,8 +1,9 @@
 //! The driver for C: host, rings and buffers without a controller, over one call with a door.
-ghost use Rattle.std.specs.Prelude.{◌≡◌, true, IfOk};
+ghost use Rattle.std.specs.Prelude.{◌≡◌, ◌<◌, true, IfErr, IfOk};
 ghost use Rattle.uas_driver.specs.Driver.{IsOpening};
 ghost use Rattle.uas_c.specs.DriverCall.{after_context, after_event, after_give_up, after_item, after_left_over, after_read, after_reply, after_retire};
-ghost use Rattle.uas_c.specs.DriverCall.{after_state, after_submit, after_task, after_write, clients_told, driver_answer, made_number, next_left_over};
+ghost use Rattle.c_common.specs.HandedOut.{made_number};
+ghost use Rattle.uas_c.specs.DriverCall.{after_state, after_submit, after_task, after_write, clients_told, driver_answer, next_left_over};
 
 mod answer;
 mod door;
@@ -48,6 +49,7 @@ const ITEM_BYTES: usize = 16;
 pub(crate) fn made(alloc: Global, clients: usize) -> Result<Box<KeptDriver, Global>, u8>
     ensures made { IfOk result (λ made. IsOpening clients made.value) }
     ensures fault { clients_told (made_number result) clients ≡ true }
+    ensures number { IfErr result (λ number. 0 < number) }
 {
     if clients == 0 || clients > MAX_CLIENTS {
         return Err(DRIVER_CLIENTS);

@@ -3,10 +3,11 @@ ghost use Rattle.std.specs.Prelude.{◌≡◌, ℕ, List, [], ◌<◌, ◌^◌, 
 ghost use types.Logic.{sem};
 ghost use base.Fraction.{full_share};
 ghost use denote.RawPtr.{lies_at, room_at};
-ghost use Rattle.shared_machine.specs.Shared.{Shared};
+ghost use Rattle.shared_machine.specs.Shared.{Shared, opening};
 ghost use Rattle.uas_c.specs.BusCall.{bus_answer};
 ghost use Rattle.c_common.specs.Handed.{handed};
-ghost use Rattle.c_common.specs.Units.{units_told};
+ghost use Rattle.c_common.specs.HandedOut.{handed_out};
+ghost use Rattle.c_common.specs.Units.{opened_units, units_told};
 ghost use Rattle.uas_c.specs.contracts.bus.KeptBus.{the_row as bus_row};
 ghost use Rattle.uas_c.specs.contracts.bus.UasBusDoor.{the_row as door_row};
 ghost use Rattle.uas_c.specs.declared.bus.UasBusDoor.{UasBusDoor};
@@ -27,6 +28,7 @@ pub struct UasBus {
 pub extern "C" fn uas_bus_new(alloc: Global, blocks: &[u32], bus: &mut *mut UasBus) -> u8
     ensures fault { units_told result blocks.now [] [] ≡ true }
     ensures refused { 0 < result → bus.new ≡ bus.old }
+    ensures* handed_out { sem 𝓛 (handed_out bus_row (λ made. made ≡ opening (opened_units blocks.now [] [])) result bus.new) }
 {
     new_handle::<KeptBus, UasBus>(alloc, blocks, bus)
 }
@@ -43,6 +45,7 @@ pub extern "C" fn uas_bus_open(
 ) -> u8
     ensures fault { units_told result blocks.now image.now bad.now ≡ true }
     ensures refused { 0 < result → bus.new ≡ bus.old }
+    ensures* handed_out { sem 𝓛 (handed_out bus_row (λ made. made ≡ opening (opened_units blocks.now image.now bad.now)) result bus.new) }
 {
     open_handle::<KeptBus, UasBus>(alloc, blocks, image, bad, bus)
 }

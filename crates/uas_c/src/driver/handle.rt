@@ -3,16 +3,17 @@ ghost use Rattle.std.specs.Prelude.{◌≡◌, ℕ, List, ◌<◌, ◌^◌, true
 ghost use types.Logic.{sem};
 ghost use base.Fraction.{full_share};
 ghost use denote.RawPtr.{lies_at, room_at};
-ghost use Rattle.uas_driver.specs.Driver.{DriverState};
+ghost use Rattle.uas_driver.specs.Driver.{DriverState, IsOpening};
 ghost use Rattle.uas_c.specs.DriverCall.{clients_told, driver_answer};
 ghost use Rattle.c_common.specs.Handed.{handed};
+ghost use Rattle.c_common.specs.HandedOut.{handed_out};
 ghost use Rattle.uas_c.specs.contracts.driver.KeptDriver.{the_row as driver_row};
 ghost use Rattle.uas_c.specs.contracts.driver.door.UasDriverDoor.{the_row as door_row};
 ghost use Rattle.uas_c.specs.declared.driver.door.UasDriverDoor.{UasDriverDoor};
 
 use crate::driver::door::UasDriverDoor;
 use crate::driver::{KeptDriver, made, serve};
-use c_common::hand_out;
+use c_common::hand_out_made;
 use std::alloc::Global;
 
 /// The driver's name in C, which knows no more of it.
@@ -27,14 +28,9 @@ pub struct UasDriver {
 pub extern "C" fn uas_driver_new(alloc: Global, clients: usize, driver: &mut *mut UasDriver) -> u8
     ensures fault { clients_told result clients ≡ true }
     ensures refused { 0 < result → driver.new ≡ driver.old }
+    ensures* handed_out { sem 𝓛 (handed_out driver_row (IsOpening clients) result driver.new) }
 {
-    match made(alloc, clients) {
-        Ok(made) => {
-            *driver = hand_out(made);
-            0
-        }
-        Err(fault) => fault,
-    }
+    hand_out_made(made(alloc, clients), driver)
 }
 
 /// One call of a driver: `bytes` are `length` bytes, and the driver and its door are the caller's alone. What it does and answers is

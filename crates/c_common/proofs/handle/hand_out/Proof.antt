@@ -40,11 +40,11 @@ use Rattle.std.specs.contracts.impls.GlobalAllocator.TheImpl as allocator
 use Rattle.std.proofs.impls.GlobalAllocator.TheImpl.Met as allocator_met
 use Rattle.std.specs.contracts.boxed.Box.into_raw as callee
 use Rattle.std.proofs.boxed.Box.into_raw.Met.{met}
-use Rattle.c_common.specs.contracts.units.hand_out.{ended, clauses}
-use Rattle.c_common.specs.contracts.units.hand_out.Key.{name as #self}
+use Rattle.c_common.specs.contracts.handle.hand_out.{ended, clauses}
+use Rattle.c_common.specs.contracts.handle.hand_out.Key.{name as #self}
 use Rattle.c_common.proofs.Destruct++none.drop.Code as dropped
-use Rattle.c_common.proofs.units.hand_out.Statement.{statement}
-use Rattle.c_common.proofs.units.hand_out.Code as code
+use Rattle.c_common.proofs.handle.hand_out.Statement.{statement}
+use Rattle.c_common.proofs.handle.hand_out.Code as code
 
 pub hand_out_spec : {M : Type 1} → statement M
 unfolding dropped.code

@@ -1,0 +1,19 @@
+pub mod Lists
+pub mod Cases
+pub mod Settling
+pub mod Works
+pub mod Devices
+pub mod Wanted
+pub mod Opening
+pub mod Managed
+pub mod Begun
+pub mod Soon
+pub mod Commanded
+pub mod Received
+pub mod Chunks
+pub mod Given
+pub mod ReadsGiven
+pub mod Taken
+pub mod Calls
+pub mod Parts
+mod Rows

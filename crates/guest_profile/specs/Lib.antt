@@ -1,0 +1,9 @@
+pub mod Rings
+pub mod Contexts
+pub mod Events
+pub mod Layout
+pub mod Ready
+pub mod Steps
+pub mod Data
+pub mod Host
+pub mod Opening

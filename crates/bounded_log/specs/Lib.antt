@@ -1,0 +1,2 @@
+-- A log with a limit in bytes.
+pub mod Bytes

@@ -5,6 +5,7 @@ _uasdisk() {
     case $before in
         --bad) return ;;
         --color) COMPREPLY=($(compgen -W 'always auto never' -- "$word")); return ;;
+        --head) return ;;
         --sync) return ;;
     esac
     if [ "$COMP_CWORD" = 1 ]; then
@@ -21,7 +22,7 @@ _uasdisk() {
         info) words='-h --help' files=1 ;;
         dump) words='-h --help' files=1 ;;
         fill) words='-h --help' files=1 ;;
-        audit) words='-h --help' files=1 ;;
+        audit) words='--head -h --help' files=1 ;;
         draw) words='--bad --page -h --help' ;;
         capture) words='--bad -h --help' files=1 ;;
         serve) words='--bad --file --help' files=1 ;;

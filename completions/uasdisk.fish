@@ -27,6 +27,7 @@ complete -c uasdisk -n __fish_use_subcommand -a fill -d 'Fills blocks of an imag
 complete -c uasdisk -n '__fish_seen_subcommand_from fill' -s h -l help -d 'Print help'
 complete -c uasdisk -n '__fish_seen_subcommand_from fill' -F
 complete -c uasdisk -n __fish_use_subcommand -a audit -d 'Replays a saved log and audits each client’s account in it'
+complete -c uasdisk -n '__fish_seen_subcommand_from audit' -l head -x -d 'Tell at which step of a log that was kept this checksum stands: 1 to 8 hexadecimal digits'
 complete -c uasdisk -n '__fish_seen_subcommand_from audit' -s h -l help -d 'Print help'
 complete -c uasdisk -n '__fish_seen_subcommand_from audit' -F
 complete -c uasdisk -n __fish_use_subcommand -a draw -d 'Runs a script as replay does, and draws the run as a picture (SVG)'

@@ -35,7 +35,7 @@ _uasdisk() {
     info) _arguments '(-h --help)'{-h,--help}'[Print help]' ':FILE:_files' ;;
     dump) _arguments '(-h --help)'{-h,--help}'[Print help]' ':FILE:_files' ':LBA:' ':COUNT:' ;;
     fill) _arguments '(-h --help)'{-h,--help}'[Print help]' ':FILE:_files' ':LBA:' ':COUNT:' ':BYTE:' ;;
-    audit) _arguments '(-h --help)'{-h,--help}'[Print help]' ':LOG:_files' ;;
+    audit) _arguments '--head[Tell at which step of a log that was kept this checksum stands: 1 to 8 hexadecimal digits]:HEX:' '(-h --help)'{-h,--help}'[Print help]' ':LOG:_files' ;;
     draw) _arguments '--bad[A block that is bad in every unit: 0 to 65535]:LBA:' '--page[Write a page (HTML) that shows the run step by step, in place of the picture]' '(-h --help)'{-h,--help}'[Print help]' ':CLIENTS:' ':BLOCKS:' ;;
     capture) _arguments '--bad[A block that is bad in every unit: 0 to 65535]:LBA:' '(-h --help)'{-h,--help}'[Print help]' ':CLIENTS:' ':BLOCKS:' ':FILE:_files' ;;
     serve) _arguments '--bad[A block that is bad: 0 to 65535]:LBA:' '--file[Leaves the blocks in the file, which may be of any length]' '--help[Print help]' ':FILE:_files' ;;

@@ -1,1 +1,2 @@
 pub mod FileAccounts
+pub mod FileHeads

@@ -1,12 +1,15 @@
 -- What is told of a log's text.
-use Rattle.std.specs.Prelude.{◌≡◌, ℕ, zero, suc, ◌==◌, Bool, true, false, nat_eq, if◌then◌else◌, List, [], ◌∷◌, ◌++◌, length, filter, map, codes, Option, Some, None, is_some, Ok, Err}
+use Rattle.std.specs.Prelude.{◌≡◌, ℕ, zero, suc, ◌==◌, Bool, true, false, nat_eq, if◌then◌else◌, List, [], ◌∷◌, ◌++◌, length, filter, map, codes, Option, Some, None, is_some, option_map, Ok, Err}
 use Rattle.std.specs.List.{starts_with}
 use Rattle.std.specs.Fmt.{decimal}
+use Rattle.std.specs.Int.{w32, to_be_bytes}
+use Rattle.hex.specs.Hex.{encode_lower}
 use Rattle.scsi_cmd.specs.declared.Reply.{Reply}
 use Rattle.kept_log.specs.declared.Loaded.{Loaded}
 use Rattle.kept_log.specs.Loading.{IsLoaded}
 use Rattle.kept_log.specs.Loading as kept
 use Rattle.kept_log.specs.Saved.{saved_of}
+use Rattle.kept_log.specs.Sums.{step_in}
 use Rattle.log_text.specs.declared.MigrateFault.{MigrateFault}
 use Rattle.log_text.specs.declared.SavedReply.{SavedReply}
 use Rattle.log_text.specs.Loading.{Loads}
@@ -16,8 +19,9 @@ use Rattle.log_text.specs.Text.{Saved}
 use Rattle.log_replay.specs.declared.ReplayFault.{ReplayFault}
 use Rattle.log_replay.specs.Replaying.{IsReplayed, replayed_replies, steps_fault}
 use Rattle.audit_run.specs.declared.AuditFault.{AuditFault}
+use Rattle.audit_run.specs.declared.HeadAt.{HeadAt}
 use Rattle.audit_run.specs.declared.KeptState.{KeptState}
-use Rattle.audit_run.specs.declared.AuditFault.TheVariants.{File, TooLarge, Text, Kept, Old, Replay, Output, NoMemory}
+use Rattle.audit_run.specs.declared.AuditFault.TheVariants.{File, TooLarge, Text, Kept, Old, OtherHead, Replay, Output, NoMemory}
 
 -- LINES
 
@@ -62,11 +66,29 @@ abbrev pub state_text : Option KeptState → List ℕ
 state_text None = []
 state_text (Some state) = beginning_text state ++ torn_text state.torn
 
+-- `head HEX at step N`, the checksum in 8 hexadecimal digits
+abbrev pub head_line : ℕ → ℕ → List ℕ
+head_line sum step = codes "head " ++ (encode_lower (to_be_bytes w32 sum) ++ (codes " at step " ++ (decimal step ++ codes "\n")))
+
+-- what is told of a checksum that was found
+abbrev pub found_text : Option HeadAt → List ℕ
+found_text None = []
+found_text (Some at) = head_line at.sum at.step
+
 -- ANSWERS
 
 -- how a text of the third version begins: `UASLOG` and its number
 abbrev pub is_kept : List ℕ → Bool
 is_kept bytes = starts_with nat_eq bytes (0x55 ∷ 0x41 ∷ 0x53 ∷ 0x4C ∷ 0x4F ∷ 0x47 ∷ 0 ∷ 3 ∷ [])
+
+-- behind how many steps of a text's log a checksum stands first; an older log has none
+abbrev pub step_found : ℕ → List ℕ → Option ℕ
+step_found sum bytes = if is_kept bytes then step_in sum bytes else None
+
+-- What is told of the checksum that is asked for. Where none is asked for that is nothing; one that isn't the log's can't be told of.
+abbrev pub head_text : Option ℕ → List ℕ → Option (List ℕ)
+head_text None bytes = Some []
+head_text (Some sum) bytes = option_map (head_line sum) (step_found sum bytes)
 
 -- a text of the first or second version is a log's, which can be brought over to this one
 pub record IsLogOf (bytes : List ℕ) (log : Saved) : Type 0 where
@@ -92,15 +114,17 @@ abbrev pub IsFileLog : List ℕ → Saved → Option KeptState → Type 0
 IsFileLog bytes log None = IsLogOf bytes log
 IsFileLog bytes log (Some state) = IsKeptLogOf bytes log state
 
--- A text that is answered: its log's steps are all due and accepted in their turn, its replies are those that come of them, and this is
--- told.
-pub record IsAnswered (bytes told : List ℕ) : Type 0 where
+-- A text that is answered, where this checksum is asked for: it is the log's, the log's steps are all due and accepted in their turn, its
+-- replies are those that come of them, and this is told.
+pub record IsAnswered (head : Option ℕ) (bytes told : List ℕ) : Type 0 where
   pub log : Saved
   pub state : Option KeptState
   pub is : IsFileLog bytes log state
   pub steps : steps_fault log ≡ None
   pub replies : replayed_replies log ≡ log.replies
-  pub text : told ≡ audit_text log ++ state_text state
+  pub last : List ℕ
+  pub found : head_text head bytes ≡ Some last
+  pub text : told ≡ (audit_text log ++ state_text state) ++ last
 
 -- a log that can't be brought over
 pub record CantBeBrought (bytes : List ℕ) (fault : MigrateFault) : Type 0 where
@@ -109,20 +133,31 @@ pub record CantBeBrought (bytes : List ℕ) (fault : MigrateFault) : Type 0 wher
   pub read : whole_log bytes ≡ Ok saved
   pub because : Migrates (Err fault) (migrated saved)
 
--- a log that isn't the replay of its steps
-pub record CantBeReplayed (bytes : List ℕ) (fault : ReplayFault) : Type 0 where
+-- a log of which the checksum that is asked for is none
+pub record IsOtherLog (head : Option ℕ) (bytes : List ℕ) : Type 0 where
   pub log : Saved
   pub state : Option KeptState
   pub is : IsFileLog bytes log state
+  pub other : head_text head bytes ≡ None
+
+-- a log of which it is one, and that isn't the replay of its steps
+pub record CantBeReplayed (head : Option ℕ) (bytes : List ℕ) (fault : ReplayFault) : Type 0 where
+  pub log : Saved
+  pub state : Option KeptState
+  pub is : IsFileLog bytes log state
+  pub last : List ℕ
+  pub found : head_text head bytes ≡ Some last
   pub because : IsReplayed log (Err fault)
 
--- What is wrong with a text: its form, what it has of clients, its steps or replies. Want of memory can always be.
-abbrev pub IsRefusedBy : List ℕ → AuditFault → Type 0
-IsRefusedBy bytes File = ⊥
-IsRefusedBy bytes TooLarge = ⊥
-IsRefusedBy bytes (Text fault) = (is_kept bytes ≡ false) × Loads (Err fault) (whole_log bytes)
-IsRefusedBy bytes (Kept fault) = (is_kept bytes ≡ true) × kept.IsRefusedBy bytes fault
-IsRefusedBy bytes (Old fault) = CantBeBrought bytes fault
-IsRefusedBy bytes (Replay fault) = CantBeReplayed bytes fault
-IsRefusedBy bytes Output = ⊥
-IsRefusedBy bytes NoMemory = Unit {0}
+-- What is wrong with a text: its form, what it has of clients, the checksum that is asked for, its steps or replies. Want of memory can
+-- always be.
+abbrev pub IsRefusedBy : Option ℕ → List ℕ → AuditFault → Type 0
+IsRefusedBy head bytes File = ⊥
+IsRefusedBy head bytes TooLarge = ⊥
+IsRefusedBy head bytes (Text fault) = (is_kept bytes ≡ false) × Loads (Err fault) (whole_log bytes)
+IsRefusedBy head bytes (Kept fault) = (is_kept bytes ≡ true) × kept.IsRefusedBy bytes fault
+IsRefusedBy head bytes (Old fault) = CantBeBrought bytes fault
+IsRefusedBy head bytes OtherHead = IsOtherLog head bytes
+IsRefusedBy head bytes (Replay fault) = CantBeReplayed head bytes fault
+IsRefusedBy head bytes Output = ⊥
+IsRefusedBy head bytes NoMemory = Unit {0}

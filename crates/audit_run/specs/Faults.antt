@@ -5,7 +5,7 @@ use Rattle.log_text.specs.declared.MigrateFault.TheVariants as old
 use Rattle.log_replay.specs.declared.ReplayFault.TheVariants as replay
 use Rattle.kept_log.specs.declared.KeptFault.TheVariants as kept
 use Rattle.audit_run.specs.declared.AuditFault.{AuditFault}
-use Rattle.audit_run.specs.declared.AuditFault.TheVariants.{File, TooLarge, Text, Kept, Old, Replay, Output, NoMemory}
+use Rattle.audit_run.specs.declared.AuditFault.TheVariants.{File, TooLarge, Text, Kept, Old, OtherHead, Replay, Output, NoMemory}
 
 -- want of memory is 4, and every other fault 3
 abbrev pub status_of : AuditFault → ℕ
@@ -30,6 +30,7 @@ status_of (Kept (kept.BehindEnd at)) = 3
 status_of (Kept kept.NoMemory) = 4
 status_of (Old old.TooManyClients) = 3
 status_of (Old old.NoMemory) = 4
+status_of OtherHead = 3
 status_of (Replay (replay.NotDue number)) = 3
 status_of (Replay (replay.Refused number)) = 3
 status_of (Replay (replay.OtherReplies number)) = 3

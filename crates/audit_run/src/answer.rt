@@ -2,11 +2,11 @@
 ghost use Rattle.std.specs.Prelude.{◌≡◌, ◌<◌, ◌++◌, length, true, false, IfOk, IfErr, OnOk};
 ghost use Rattle.std.specs.String.{string_bytes};
 ghost use Rattle.log_replay.specs.Replaying.{IsReplayOf};
-ghost use Rattle.audit_run.specs.Audits.{IsAnswered, IsRefusedBy, audit_lines, audit_text, beginning_line, beginning_text, client_line, line_text, state_text, torn_line, torn_text};
+ghost use Rattle.audit_run.specs.Audits.{IsAnswered, IsRefusedBy, audit_lines, audit_text, beginning_line, beginning_text, client_line, found_text, head_line, line_text, state_text, torn_line, torn_text};
 
 use crate::accounts::{is_true_of, replies_of};
 use crate::texts::file_log;
-use crate::{AuditFault, FileLog, KeptState, Told};
+use crate::{AuditFault, FileLog, HeadAt, KeptState, Told};
 use log_replay::replay_log;
 use log_text::SavedLog;
 use std::alloc::{AllocError, Global};
@@ -21,15 +21,16 @@ const LONG_STEPS: usize = 100_000;
 pub(crate) fn answered<W: Write>(
     alloc: Global,
     bytes: &[u8],
+    head: Option<u32>,
     notes: &mut W,
     shows_progress: bool,
 ) -> Result<Told, AuditFault>
-    ensures ok { IfOk result (λ answer. IsAnswered bytes.now answer.text.items) }
+    ensures ok { IfOk result (λ answer. IsAnswered head bytes.now answer.text.items) }
     ensures audited { IfOk result (λ answer. answer.is_true ≡ true) }
-    ensures fault { IfErr result (IsRefusedBy bytes.now) }
+    ensures fault { IfErr result (IsRefusedBy head bytes.now) }
     ensures quiet { shows_progress ≡ false → notes.new ≡ notes.old }
 {
-    let FileLog { log, state } = match file_log(alloc, bytes) {
+    let FileLog { log, state, head } = match file_log(alloc, bytes, head) {
         Ok(found) => found,
         Err(fault) => return Err(fault),
     };
@@ -38,7 +39,7 @@ pub(crate) fn answered<W: Write>(
         Ok(booked) => booked,
         Err(fault) => return Err(AuditFault::Replay(fault)),
     };
-    match told(alloc, &booked, &log, state) {
+    match told(alloc, &booked, &log, state, head) {
         Ok(answer) => Ok(answer),
         Err(_) => Err(AuditFault::NoMemory),
     }
@@ -55,20 +56,22 @@ fn note<W: Write>(log: &SavedLog, notes: &mut W, shows_progress: bool)
     let _ = writeln!(notes, "replaying {steps} steps");
 }
 
-/// A line for each client, and what there is of the log. Asks that the bus is booked by the log.
+/// A line for each client, what there is of the log, and where the checksum stands. Asks that the bus is booked by the log.
 fn told(
     alloc: Global,
     booked: &Booked,
     log: &SavedLog,
     state: Option<KeptState>,
+    head: Option<HeadAt>,
 ) -> Result<Told, AllocError>
     requires { IsReplayOf log.now booked.now }
-    ensures text { IfOk result (λ answer. answer.text.items ≡ audit_text log.now ++ state_text state) }
+    ensures text { IfOk result (λ answer. answer.text.items ≡ (audit_text log.now ++ state_text state) ++ found_text head) }
     ensures audited { IfOk result (λ answer. answer.is_true ≡ true) }
 {
     let mut answer = lines(alloc, booked, log)?;
     let state = state_of(alloc, state)?;
     answer.text.extend_from_slice(&state)?;
+    push_head(alloc, &mut answer.text, head)?;
     Ok(answer)
 }
 
@@ -104,6 +107,16 @@ fn push_torn(alloc: Global, text: &mut Vec<u8>, state: KeptState) -> Result<(), 
     Ok(())
 }
 
+fn push_head(alloc: Global, text: &mut Vec<u8>, head: Option<HeadAt>) -> Result<(), AllocError>
+    ensures { OnOk result (text.new.items ≡ text.old.items ++ found_text head) }
+{
+    if let Some(at) = head {
+        let line = head_line(alloc, at.sum, at.step)?;
+        text.extend_from_slice(line.as_bytes())?;
+    }
+    Ok(())
+}
+
 fn beginning_line(alloc: Global, steps: usize) -> Result<String, AllocError>
     ensures { IfOk result (λ line. string_bytes line ≡ beginning_line steps) }
 {
@@ -114,6 +127,14 @@ fn torn_line(alloc: Global, place: usize) -> Result<String, AllocError>
     ensures { IfOk result (λ line. string_bytes line ≡ torn_line place) }
 {
     format!(in alloc; "torn at byte {place}\n")
+}
+
+/// `head HEX at step N`.
+fn head_line(alloc: Global, sum: u32, step: usize) -> Result<String, AllocError>
+    ensures { IfOk result (λ line. string_bytes line ≡ head_line sum step) }
+{
+    let digits = hex::encode(alloc, sum.to_be_bytes())?;
+    format!(in alloc; "head {digits} at step {step}\n")
 }
 
 /// A line for each client. Asks that the bus is booked by the log.

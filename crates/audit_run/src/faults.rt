@@ -24,6 +24,7 @@ impl AuditFault {
             | AuditFault::Text(_)
             | AuditFault::Kept(_)
             | AuditFault::Old(_)
+            | AuditFault::OtherHead
             | AuditFault::Replay(_)
             | AuditFault::Output => FAULT,
         }
@@ -49,6 +50,7 @@ impl AuditFault {
             AuditFault::Kept(KeptFault::WrongCount(_)) => "log: WrongCount",
             AuditFault::Kept(KeptFault::BehindEnd(_)) => "log: BehindEnd",
             AuditFault::Old(MigrateFault::TooManyClients) => "log: TooManyClients",
+            AuditFault::OtherHead => "log: OtherHead",
             AuditFault::Replay(ReplayFault::NotDue(_)) => "log: NotDue",
             AuditFault::Replay(ReplayFault::Refused(_)) => "log: Refused",
             AuditFault::Replay(ReplayFault::OtherReplies(_)) => "log: OtherReplies",
@@ -90,6 +92,7 @@ impl AuditFault {
             AuditFault::Old(MigrateFault::TooManyClients) => {
                 "a log of clients of 8 tags has at most 15 of them, to be brought over"
             }
+            AuditFault::OtherHead => "no whole record of it has this checksum, or it has none",
             AuditFault::Replay(ReplayFault::NotDue(_)) => "a step wasn't due in its turn",
             AuditFault::Replay(ReplayFault::Refused(_)) => "a step is a submission that is refused",
             AuditFault::Replay(ReplayFault::OtherReplies(_)) => {

@@ -5,9 +5,10 @@
 //! them exactly where the text is a log's, its steps are all due and accepted in their turn, and its replies are those that come of
 //! them. Each such client's audit is true: so no line says `false`, and the exit status 1 never comes.
 //!
-//! A log that was kept as it grew (kept_log) may have no end and a torn tail. Both are told behind the clients' lines.
+//! A log that was kept as it grew (kept_log) may have no end and a torn tail. Both are told behind the clients' lines. Where a checksum is
+//! asked for that somebody kept of a log, the step behind which it stands is told last (`head_text`).
 //!
-//! Else the first thing that is wrong is told in one line: of the file, of the text, of the steps, then of the replies
+//! Else the first thing that is wrong is told in one line: of the file, of the text, of the checksum, of the steps, then of the replies
 //! (`IsRefusedBy`). It stands on log_audit, log_replay and kept_log.
 #![tactic(auto)]
 
@@ -54,6 +55,8 @@ pub enum AuditFault {
     Kept(KeptFault),
     /// The log can't be brought over.
     Old(MigrateFault),
+    /// The checksum that is asked for is none of the log's.
+    OtherHead,
     /// The log isn't the replay of its own steps.
     Replay(ReplayFault),
     /// Writing to standard output failed.
@@ -68,6 +71,15 @@ pub(crate) struct FileLog {
     pub(crate) log: SavedLog,
     /// What there is of it, where it was kept as it grew.
     pub(crate) state: Option<KeptState>,
+    /// Where the checksum stands that is asked for.
+    pub(crate) head: Option<HeadAt>,
+}
+
+/// A checksum of a log, and how many of its steps stand before it.
+#[derive(Clone, Copy, Debug, PartialEq, Eq)]
+pub(crate) struct HeadAt {
+    pub(crate) sum: u32,
+    pub(crate) step: usize,
 }
 
 /// What there is of a log that was kept as it grew.

@@ -14,3 +14,4 @@ pub mod Exact
 pub mod Written
 pub mod Cutting
 pub mod Headless
+pub mod Walked

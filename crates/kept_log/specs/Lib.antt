@@ -4,3 +4,4 @@ pub mod Loading
 pub mod Saved
 pub mod LoadAt
 pub mod Cuts
+pub mod Sums

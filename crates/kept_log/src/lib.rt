@@ -23,6 +23,7 @@ mod head;
 mod laws;
 mod loading;
 mod saved;
+mod sums;
 mod writing;
 
 pub use bodies::is_take;
@@ -34,6 +35,7 @@ pub use loading::load;
 use log_text::{LogFault, SavedReply};
 use shared_machine::Step;
 use std::marker::Model;
+pub use sums::step_of_sum;
 use thiserror::Error;
 use uas_log::FirstUnits;
 pub use writing::{write_end, write_head, write_refused, write_step, write_taken};

@@ -119,7 +119,7 @@ fn next(
 }
 
 /// What stands behind the record at the front, of whose body this is the length.
-fn behind_record(bytes: &[u8], len: usize) -> &[u8]
+pub(crate) fn behind_record(bytes: &[u8], len: usize) -> &[u8]
     requires { 8 + len ≤ length bytes.now }
     ensures { result.now ≡ drop (8 + len) bytes.now }
 {

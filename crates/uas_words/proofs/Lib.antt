@@ -2,6 +2,7 @@ mod NumberWords
 mod CommandLineFacts
 mod WalkSteps
 mod PlainNumbers
+mod HexWords
 mod Levels
 mod PlainScripts
 mod PlainFiles

@@ -13,15 +13,16 @@ use Rattle.std.specs.Option.{option_map_or}
 use Rattle.std.specs.Prelude.{find}
 use Rattle.uas_profile.specs.declared.TheConstants.{MAX_CLIENTS}
 use Rattle.byte_io.specs.Words.{number_in}
-use Rattle.uas_words.specs.CommandLine.{Asked, AsksCapture, AsksPlainly, asked_for, asked_in, audit, bad_of, blocks_of, capture}
+use Rattle.uas_words.specs.CommandLine.{Asked, AsksCapture, AsksPlainly, asked_for, asked_in, audit, hex_number, bad_of, blocks_of, capture}
 use Rattle.uas_words.specs.CommandLine.{capture_of, clients_of, file_of, program_app}
 use Rattle.uas_words.proofs.Levels.{Enters, level_nothing}
+use Rattle.uas_words.proofs.HexWords.{hex_begins}
 use Rattle.uas_words.proofs.PlainNumbers.{IsIn, not-true, number_is_in}
 use Rattle.uas_words.proofs.WalkSteps.{fault-bad, fault-end, fault-plain, fault-value, walked-bad, walked-plain, walked-value}
 
--- AUDIT LOG
+-- AUDIT LOG, and --head HEX behind it
 
-audit_asks : (p : Text) (d : ℕ) (ds : Text) → (d == 45) ≡ false → asked_for (p ∷ codes "audit" ∷ (d ∷ ds) ∷ []) ≡ Some (audit (d ∷ ds))
+audit_asks : (p : Text) (d : ℕ) (ds : Text) → (d == 45) ≡ false → asked_for (p ∷ codes "audit" ∷ (d ∷ ds) ∷ []) ≡ Some (audit (d ∷ ds) None)
 unfolding asked_for clap_on_literals
 audit_asks p d ds plain = simp plain
 
@@ -29,14 +30,36 @@ audit_passes : (p : Text) (d : ℕ) (ds : Text) → (d == 45) ≡ false → faul
 unfolding clap_on_literals
 audit_passes p d ds plain = simp plain
 
+headed_asks : (p : Text) (d : ℕ) (ds : Text) (e : ℕ) (es : Text) → (d == 45) ≡ false → (e == 45) ≡ false
+    → asked_for (p ∷ codes "audit" ∷ (d ∷ ds) ∷ codes "--head" ∷ (e ∷ es) ∷ [])
+    ≡ option_map (audit (d ∷ ds)) (option_map (λ number. Some number) (hex_number (e ∷ es)))
+unfolding asked_for clap_on_literals
+headed_asks p d ds e es plain hyphen = simp (plain, hyphen)
+
+headed_passes : (p : Text) (d : ℕ) (ds : Text) (e : ℕ) (es : Text) → (d == 45) ≡ false → (e == 45) ≡ false
+    → fault_of program_app (p ∷ codes "audit" ∷ (d ∷ ds) ∷ codes "--head" ∷ (e ∷ es) ∷ []) ≡ []
+unfolding clap_on_literals
+headed_passes p d ds e es plain hyphen = simp (plain, hyphen)
+
 -- its plain words ask for the audit, and are not refused
-pub audit_asked : (log : Text) (words : List Text) → AsksPlainly (audit log) words
-    → (asked_for words ≡ Some (audit log)) × (fault_of program_app words ≡ [])
-audit_asked [] words plain = absurd (true≢false (sym plain.2))
-audit_asked (d ∷ ds) words plain =
+pub audit_asked : (log : Text) (head : Option ℕ) (words : List Text) → AsksPlainly (audit log head) words
+    → (asked_for words ≡ Some (audit log head)) × (fault_of program_app words ≡ [])
+audit_asked [] None words plain = absurd (true≢false (sym plain.2))
+audit_asked [] (Some head) words plain = absurd (true≢false (sym plain.3))
+audit_asked (d ∷ ds) None words plain =
     let hyphen : (d == 45) ≡ false = not-true (d == 45) plain.2 in (
       ap asked_for plain.1 ∙ audit_asks plain.0 d ds hyphen,
       ap (fault_of program_app) plain.1 ∙ audit_passes plain.0 d ds hyphen,
+    )
+audit_asked (d ∷ ds) (Some head) words plain =
+    let n = hex_begins plain.1 head plain.4 in
+    let hyphen : (d == 45) ≡ false = not-true (d == 45) plain.3 in
+    let is : words ≡ plain.0 ∷ codes "audit" ∷ (d ∷ ds) ∷ codes "--head" ∷ (n.0 ∷ n.1) ∷ [] =
+    plain.2 ∙ ap (λ (e : Text). plain.0 ∷ codes "audit" ∷ (d ∷ ds) ∷ codes "--head" ∷ e ∷ []) n.2 in
+    let number : hex_number (n.0 ∷ n.1) ≡ Some head = ap hex_number (sym n.2) ∙ plain.4 in (
+      ap asked_for is ∙ (headed_asks plain.0 d ds n.0 n.1 hyphen n.3
+          ∙ ap (λ (found : Option ℕ). option_map (audit (d ∷ ds)) (option_map (λ one. Some one) found)) number),
+      ap (fault_of program_app) is ∙ headed_passes plain.0 d ds n.0 n.1 hyphen n.3,
     )
 
 -- CAPTURE CLIENTS BLOCKS FILE, and --bad LBA behind them

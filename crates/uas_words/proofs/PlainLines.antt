@@ -296,7 +296,7 @@ plain_asks (fill (d ∷ ds) lba count byte) words plain =
       ap (fault_of program_app) is ∙ ((fill_enters (d ∷ ds) (m.0 ∷ m.1) (n.0 ∷ n.1) (o.0 ∷ o.1) plain.0).1
           ∙ ap (λ (k : Kinds). or_else k []) (fill_faults d ds m.0 m.1 n.0 n.1 o.0 o.1 hyphen m.3 n.3 o.3)),
     )
-plain_asks (audit log) words plain = audit_asked log words plain
+plain_asks (audit log head) words plain = audit_asked log head words plain
 plain_asks (draw clients blocks bad) words plain = draw_asked clients blocks bad words plain
 plain_asks (page clients blocks bad) words plain = page_asked clients blocks bad words plain
 plain_asks (capture clients blocks file bad) words plain = capture_asked clients blocks file bad words plain

@@ -1,8 +1,10 @@
 -- What a command line asks for: the subcommands with their arguments, and what is read of each.
 use Rattle.std.specs.Prelude.{◌≡◌, ◌≢◌, ◌≤◌, ◌⊎◌, ◌==◌, ◌||◌, ℕ, Bool, not, pos, true, false, List, [], ◌∷◌, Option, Some, None, is_some, option_map}
-use Rattle.std.specs.Prelude.{option_and_then, if◌then◌else◌, codes}
+use Rattle.std.specs.Prelude.{option_and_then, if◌then◌else◌, codes, length, nat_le, ◌&&◌}
 use Rattle.std.specs.Str.{bytes_eq}
-use Rattle.std.specs.Str.Parse.{without_leading_plus}
+use Rattle.std.specs.Char.{is_ascii_hexdigit}
+use Rattle.std.specs.List.{list_all}
+use Rattle.std.specs.Str.Parse.{digits_value, without_leading_plus}
 use Rattle.clap.specs.Simple.{Shape, on_top}
 use Rattle.clap.specs.Words.{App, Kinds, Row, Rule, Text, fault_of, first_of, new_app, new_rule, one_of, subcommand_of, with_rule, with_subcommand}
 use Rattle.clap.specs.Kinds.{or_else}
@@ -19,8 +21,8 @@ use Rattle.byte_io.specs.Words.{number_in}
 -- What is asked for, with a file's name as its text: to run a script of so many clients and blocks, and of the block that is bad in
 -- every unit, if one is; to run one and show its steps; to let so many clients work for so many rounds, and to save their log in a
 -- file, if one is named, or to keep it there while it grows, synced after so many steps; to tell what lines of bytes say; to make an image of so many blocks, to tell the size of one, to print its
--- blocks from a number on, so many of them, or to fill them with a byte; to audit a saved log; to draw a script's run as a picture, or as
--- a page; to write it to a file as a capture.
+-- blocks from a number on, so many of them, or to fill them with a byte; to audit a saved log, and to find there a checksum, if one is named; to draw a
+-- script's run as a picture, or as a page; to write it to a file as a capture.
 pub data Asked : Type 0 where
   replay : ℕ → ℕ → Option ℕ → Asked
   trace : ℕ → ℕ → Option ℕ → Asked
@@ -31,7 +33,7 @@ pub data Asked : Type 0 where
   info : Text → Asked
   dump : Text → ℕ → ℕ → Asked
   fill : Text → ℕ → ℕ → ℕ → Asked
-  audit : Text → Asked
+  audit : Text → Option ℕ → Asked
   draw : ℕ → ℕ → Option ℕ → Asked
   page : ℕ → ℕ → Option ℕ → Asked
   capture : ℕ → ℕ → Text → Option ℕ → Asked
@@ -46,7 +48,7 @@ asked_by (Make file blocks) = make file.now blocks
 asked_by (Info file) = info file.now
 asked_by (Dump file extent) = dump file.now extent.lba extent.count
 asked_by (Fill file extent byte) = fill file.now extent.lba extent.count byte
-asked_by (Audit log) = audit log.now
+asked_by (Audit log head) = audit log.now head
 asked_by (Draw disks) = draw disks.clients disks.blocks disks.bad
 asked_by (Page disks) = page disks.clients disks.blocks disks.bad
 asked_by (Capture disks file) = capture disks.clients disks.blocks file.now disks.bad
@@ -158,6 +160,26 @@ abbrev pub work_of : List Row → Option Asked
 work_of rows = option_and_then (λ clients. option_and_then (λ rounds. option_and_then (worked clients rounds (log_of rows)) (sync_of rows))
     (rounds_of rows)) (clients_of rows)
 
+-- A checksum is written in 1 to 8 hexadecimal digits of either case.
+abbrev pub is_hex : Text → Bool
+is_hex word = nat_le 1 (length word) && (nat_le (length word) 8 && list_all is_ascii_hexdigit word)
+
+-- its number; by hand: 1f is 31
+abbrev pub hex_number : Text → Option ℕ
+hex_number word = if is_hex word then Some (digits_value 16 word) else None
+
+-- `--head HEX` may stand or not, and HEX is a checksum
+abbrev pub optional_hex : Option Text → Option (Option ℕ)
+optional_hex None = Some None
+optional_hex (Some word) = option_map (λ number. Some number) (hex_number word)
+
+abbrev pub head_of : List Row → Option (Option ℕ)
+head_of rows = optional_hex (first_of (codes "head") rows)
+
+-- LOG [--head HEX]
+abbrev pub audit_of : List Row → Option Asked
+audit_of rows = option_and_then (λ log. option_map (audit log) (head_of rows)) (log_of rows)
+
 -- CLIENTS BLOCKS FILE [--bad LBA]
 abbrev pub capture_of : List Row → Option Asked
 capture_of rows = option_and_then (λ file. script_of (λ clients blocks bad. capture clients blocks file bad) rows) (file_of rows)
@@ -193,7 +215,7 @@ asked_of name rows =
     else (if bytes_eq name (codes "info") then option_map info (file_of rows)
     else (if bytes_eq name (codes "dump") then dump_of rows
     else (if bytes_eq name (codes "fill") then fill_of rows
-    else (if bytes_eq name (codes "audit") then option_map audit (log_of rows)
+    else (if bytes_eq name (codes "audit") then audit_of rows
     else (if bytes_eq name (codes "draw") then draw_of rows
     else (if bytes_eq name (codes "capture") then capture_of rows else None))))))))))
 
@@ -256,6 +278,14 @@ sync_rule = record (new_rule (codes "sync")) {
   parser = Some (parser.Signed (pos 0) (pos max_lba));
 }
 
+-- the option `--head HEX`
+abbrev pub head_rule : Rule
+head_rule = record (new_rule (codes "head")) {
+  long = Some (codes "head");
+  action = Some Set;
+  value_names = 1;
+}
+
 -- the option `--page`
 abbrev pub page_rule : Rule
 page_rule = record (new_rule (codes "page")) { long = Some (codes "page"); action = Some SetTrue }
@@ -310,9 +340,9 @@ dump_app = with_extent (new_app (codes "dump"))
 abbrev pub fill_app : App
 fill_app = with_rule (with_extent (new_app (codes "fill"))) byte_rule
 
--- audit LOG
+-- audit LOG [--head HEX]
 abbrev pub audit_app : App
-audit_app = with_rule (new_app (codes "audit")) saved_log_rule
+audit_app = with_rule (with_rule (new_app (codes "audit")) saved_log_rule) head_rule
 
 -- draw CLIENTS BLOCKS [--page] [--bad LBA]
 abbrev pub draw_app : App
@@ -383,6 +413,12 @@ AsksCapture clients blocks file (Some bad) words =
     × (is_plain_name file ≡ true) × (number_in 1 MAX_CLIENTS first ≡ Some clients) × (number_in 1 MAX_BLOCKS second ≡ Some blocks)
     × (number_in 0 last_block third ≡ Some bad)
 
+-- the words ask to audit a log: `audit LOG`, or `audit LOG --head HEX`
+abbrev pub AsksAudit : Text → Option ℕ → List Text → Type 0
+AsksAudit log None words = (program : Text) × (words ≡ program ∷ codes "audit" ∷ log ∷ []) × (is_plain_name log ≡ true)
+AsksAudit log (Some head) words = (program second : Text) × (words ≡ program ∷ codes "audit" ∷ log ∷ codes "--head" ∷ second ∷ [])
+    × (is_plain_name log ≡ true) × (hex_number second ≡ Some head)
+
 -- The words ask for a run in their plain form: a subcommand and its arguments, each number in decimal digits, and an option after them;
 -- no plain form is told of a log that is kept.
 abbrev pub AsksPlainly : Asked → List Text → Type 0
@@ -400,7 +436,7 @@ AsksPlainly (dump file lba count) words =
 AsksPlainly (fill file lba count byte) words =
     (program second third fourth : Text) × (words ≡ program ∷ codes "fill" ∷ file ∷ second ∷ third ∷ fourth ∷ []) × (is_plain_name file ≡ true)
     × (number_in 0 max_lba second ≡ Some lba) × (number_in 1 MOST_BLOCKS_MOVED third ≡ Some count) × (number_in 0 255 fourth ≡ Some byte)
-AsksPlainly (audit log) words = (program : Text) × (words ≡ program ∷ codes "audit" ∷ log ∷ []) × (is_plain_name log ≡ true)
+AsksPlainly (audit log head) words = AsksAudit log head words
 AsksPlainly (draw clients blocks bad) words = AsksScript (codes "draw") clients blocks bad words
 AsksPlainly (page clients blocks bad) words = AsksPage clients blocks bad words
 AsksPlainly (capture clients blocks file bad) words = AsksCapture clients blocks file bad words
@@ -422,7 +458,7 @@ MayEndRun (make file blocks) status = (status ≡ 0) ⊎ ((status ≡ 3) ⊎ (st
 MayEndRun (info file) status = (status ≡ 0) ⊎ ((status ≡ 3) ⊎ (status ≡ 4))
 MayEndRun (dump file lba count) status = (status ≤ 1) ⊎ ((status ≡ 3) ⊎ (status ≡ 4))
 MayEndRun (fill file lba count byte) status = (status ≤ 1) ⊎ ((status ≡ 3) ⊎ (status ≡ 4))
-MayEndRun (audit log) status = (status ≡ 0) ⊎ ((status ≡ 3) ⊎ (status ≡ 4))
+MayEndRun (audit log head) status = (status ≡ 0) ⊎ ((status ≡ 3) ⊎ (status ≡ 4))
 MayEndRun (draw clients blocks bad) status = (status ≤ 1) ⊎ ((status ≡ 3) ⊎ (status ≡ 4))
 MayEndRun (page clients blocks bad) status = (status ≤ 1) ⊎ ((status ≡ 3) ⊎ (status ≡ 4))
 MayEndRun (capture clients blocks file bad) status = (status ≤ 1) ⊎ ((status ≡ 3) ⊎ (status ≡ 4))

@@ -2,7 +2,7 @@
 
 ghost use Rattle.std.specs.Prelude.{◌≡◌, false};
 ghost use Rattle.clap.specs.Words.{rule_of};
-ghost use Rattle.uas_words.specs.CommandLine.{bad_rule, blocks_rule, color_rule, file_rule, log_rule, number_rule, page_rule, saved_log_rule, sync_rule};
+ghost use Rattle.uas_words.specs.CommandLine.{bad_rule, blocks_rule, color_rule, file_rule, head_rule, log_rule, number_rule, page_rule, saved_log_rule, sync_rule};
 
 use crate::LAST_BLOCK;
 use clap::{Arg, ArgAction};
@@ -66,6 +66,17 @@ pub(crate) fn sync<'a>(alloc: Global, help: &'a str) -> Arg<'a>
         .value_name("N")
         .action(ArgAction::Set)
         .value_parser(clap::value_parser!(u32).range(0..=i64::from(u32::MAX)))
+        .help(help)
+}
+
+pub(crate) fn head<'a>(alloc: Global, help: &'a str) -> Arg<'a>
+    ensures rule { rule_of result ≡ head_rule }
+    ensures local { result.global ≡ false }
+{
+    Arg::new(alloc, "head")
+        .long("head")
+        .value_name("HEX")
+        .action(ArgAction::Set)
         .help(help)
 }
 

@@ -4,10 +4,10 @@ ghost use Rattle.clap.specs.Words.{app_of};
 ghost use Rattle.uas_words.specs.CommandLine.{audit_app, capture_app, decode_app, draw_app, dump_app, fill_app, info_app, make_app, program_app};
 ghost use Rattle.uas_words.specs.CommandLine.{replay_app, top_app, trace_app, with_disks, with_extent, with_work, work_app};
 
-use crate::arguments::{bad, blocks, color, file, log, number, page, saved_log, sync};
+use crate::arguments::{bad, blocks, color, file, head, log, number, page, saved_log, sync};
 use crate::helps::{
-    BYTE_HELP, COLOR_HELP, DRAW_HELP, LBA_HELP, LOG_HELP, PAGE_HELP, ROUNDS_HELP, SCRIPT_HELP,
-    SYNC_HELP, WORK_HELP,
+    AUDIT_HELP, BYTE_HELP, COLOR_HELP, DRAW_HELP, HEAD_HELP, LBA_HELP, LOG_HELP, PAGE_HELP,
+    ROUNDS_HELP, SCRIPT_HELP, SYNC_HELP, WORK_HELP,
 };
 use crate::{MAX_BYTE, MAX_ROUNDS, MOST_CLIENTS, MOST_MOVED, VERSION};
 use clap::Command;
@@ -145,8 +145,9 @@ fn audit_command<'a>(alloc: Global) -> Result<Command<'a>, AllocError>
 {
     Command::new(alloc, "audit")
         .about("Replays a saved log and audits each client's account in it")
-        .after_help("Example:\n  uasdisk audit work.log")
-        .arg(saved_log(alloc, "The file of a log, of at most 1073741824 bytes"))
+        .after_help(AUDIT_HELP)
+        .arg(saved_log(alloc, "The file of a log, of at most 1073741824 bytes"))?
+        .arg(head(alloc, HEAD_HELP))
 }
 
 fn draw_command<'a>(alloc: Global) -> Result<Command<'a>, AllocError>

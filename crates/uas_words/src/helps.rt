@@ -45,6 +45,19 @@ Examples:
   uasdisk work 4 3 work.log
   uasdisk work 4 3 work.log --sync 1";
 
+pub(crate) const HEAD_HELP: &str =
+    "Tell at which step of a log that was kept this checksum stands: 1 to 8 hexadecimal digits";
+
+/// What `audit` says of a kept head, and an example.
+pub(crate) const AUDIT_HELP: &str = "\
+A log that work kept by --sync has behind each record a checksum of all that came before. With --head the last line is
+  head HEX at step N                        HEX, in 8 digits, stands first behind N of its steps; 0: behind its head
+Where no whole record has that checksum, and of a log without any, the fault is OtherHead.
+
+Examples:
+  uasdisk audit work.log
+  uasdisk audit work.log --head 1c291ca3";
+
 pub(crate) const COLOR_HELP: &str =
     "Colours: always, auto (on a terminal alone, as without this option) or never";
 

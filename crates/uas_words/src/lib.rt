@@ -12,15 +12,17 @@ ghost use Rattle.std.specs.String.{string_bytes};
 ghost use Rattle.clap.specs.Words.{FailsBy, app_of, found_of, kind_of, one_of, rows_of, subcommand_rows_of};
 ghost use Rattle.byte_io.specs.Disks.{AreBlocks, AreClients, AreDisks};
 ghost use Rattle.uas_words.specs.Options.{AreRounds, IsBlock, IsInRange, IsMoved};
-ghost use Rattle.uas_words.specs.CommandLine.{Asked, AsksPlainly, asked_by, asked_for, asked_in, audit, bad_of, blocks_of, capture_of, clients_of, decode_of};
+ghost use Rattle.uas_words.specs.CommandLine.{Asked, AsksPlainly, asked_by, asked_for, asked_in, bad_of, blocks_of, capture_of, clients_of, decode_of};
 ghost use Rattle.uas_words.specs.CommandLine.{draw_of, dump_of, extent_of, file_of, fill_of, has_page, has_when, is_when, log_of, number_of, program_app};
 ghost use Rattle.uas_words.specs.CommandLine.{refusals, script_of, sync_of, trace_of, work_of, worked};
 
 mod arguments;
+mod audits;
 mod commands;
 mod helps;
 mod laws;
 
+use audits::audit_in;
 use byte_io::{Disks, Extent};
 use clap::error::ErrorKind;
 use clap::{ArgMatches, Command, Error};
@@ -99,9 +101,10 @@ pub enum Run<'a> {
         extent: Extent,
         byte: u8,
     },
-    /// Replay a saved log and audit each client.
+    /// Replay a saved log and audit each client. Where a checksum is named, find it in the log.
     Audit {
         log: &'a str,
+        head: Option<u32>,
     },
     /// Run a script as `Replay` does, and draw the run.
     Draw(Disks),
@@ -137,7 +140,7 @@ fn run_by<'a>(mut command: Command<'a>, words: &'a [String]) -> Result<Run<'a>, 
         Some(run) => Ok(run),
         None => Err(command.error(
             ErrorKind::ValueValidation,
-            "a word is missing, --sync stands without LOG, or --color has another than always, auto and never",
+            "a word is missing, --sync stands without LOG, --head isn't 1 to 8 hexadecimal digits, or --color has another than always, auto and never",
         )?),
     }
 }
@@ -335,14 +338,6 @@ fn fill_in<'a>(words: &ArgMatches<'a>) -> Option<Run<'a>>
     let extent = extent_in(words)?;
     let byte = number_in(words, "BYTE", 0, MAX_BYTE)? as u8;
     Some(Run::Fill { file, extent, byte })
-}
-
-fn audit_in<'a>(words: &ArgMatches<'a>) -> Option<Run<'a>>
-    ensures range { IfSome result IsInRange }
-    ensures asked { option_map asked_by result ≡ option_map audit (log_of (rows_of (found_of words.now))) }
-{
-    let log = log_in(words)?;
-    Some(Run::Audit { log })
 }
 
 fn capture_in<'a>(words: &ArgMatches<'a>) -> Option<Run<'a>>

@@ -107,7 +107,7 @@ memory_ends (fill file lba count byte) host old new status four kept files input
   memory = λ is. kept;
   input = input;
 }
-memory_ends (audit file) host old new status four kept files input = record {
+memory_ends (audit file head) host old new status four kept files input = record {
   statuses = inr (inr four);
   told = λ low. absurd (omega (arith, four, low));
   read = λ low. absurd (omega (arith, four, low));

@@ -163,12 +163,13 @@ pub record FillEnds (file : Text) (lba count byte : ℕ) (host : Host) (old new 
   pub memory : status ≡ 4 → Keeps old.output new.output
   pub input : new.input ≡ old.input
 
--- `audit LOG`: standard output has got a line for each client of the log that the file of this name holds, whose account is true.
-pub record AuditEnds (file : Text) (host : Host) (old new : World) (status : ℕ) : Type 0 where
+-- `audit LOG [--head HEX]`: standard output has got a line for each client of the log that the file of this name holds, whose account is
+-- true, and behind which step the checksum stands that is asked for.
+pub record AuditEnds (file : Text) (head : Option ℕ) (host : Host) (old new : World) (status : ℕ) : Type 0 where
   pub statuses : (status ≡ 0) ⊎ ((status ≡ 3) ⊎ (status ≡ 4))
-  pub told : status ≡ 0 → IsTrue host.tells → IfSome (old.holds file) (λ bytes. AuditTells bytes old.output new.output)
+  pub told : status ≡ 0 → IsTrue host.tells → IfSome (old.holds file) (λ bytes. AuditTells head bytes old.output new.output)
   pub read : status ≡ 0 → IsTrue (host.can_open file)
-  pub fault : status ≡ 3 → (((IsTrue host.tells → IfSome (old.holds file) IsRefused) ⊎ IsTrue (host.file_can_fail file))
+  pub fault : status ≡ 3 → (((IsTrue host.tells → IfSome (old.holds file) (IsRefused head)) ⊎ IsTrue (host.file_can_fail file))
       × Keeps old.output new.output) ⊎ IsTrue host.output_can_fail
   pub memory : status ≡ 4 → Keeps old.output new.output
   pub files : new.holds ≡ old.holds
@@ -210,7 +211,7 @@ Ends (make file blocks) host old new status = MakeEnds file blocks host old new 
 Ends (info file) host old new status = InfoEnds file host old new status
 Ends (dump file lba count) host old new status = DumpEnds file lba count host old new status
 Ends (fill file lba count byte) host old new status = FillEnds file lba count byte host old new status
-Ends (audit file) host old new status = AuditEnds file host old new status
+Ends (audit file head) host old new status = AuditEnds file head host old new status
 Ends (draw clients blocks bad) host old new status = DrawEnds Picture clients blocks bad host old new status
 Ends (page clients blocks bad) host old new status = DrawEnds Page clients blocks bad host old new status
 Ends (capture clients blocks file bad) host old new status = CaptureEnds clients blocks file bad host old new status

@@ -10,7 +10,7 @@
 //! uasdisk info FILE                                      tells how many blocks an image has
 //! uasdisk dump FILE LBA COUNT                            prints blocks of an image, by one READ
 //! uasdisk fill FILE LBA COUNT BYTE                       fills blocks of an image with a byte, by one WRITE
-//! uasdisk audit LOG                                      replays a saved log and audits each client's account in it
+//! uasdisk audit LOG [--head HEX]                         replays a saved log and audits each client's account in it
 //! uasdisk draw CLIENTS BLOCKS [--page] [--bad LBA] < script
 //!                                                        runs a script and draws the run as a picture (SVG), or writes it as a page (HTML)
 //! uasdisk capture CLIENTS BLOCKS FILE [--bad LBA] < script
@@ -19,7 +19,8 @@
 //!
 //! With `--color always`, and on a terminal without `--color never`, the lines of `trace` and `decode` are in colours (`line_colours`).
 //! With `--bad LBA` the block of this number can neither be read nor written, in every unit that has it. With LOG each client of `work`
-//! is audited, and the log of their bus is saved in that file, or with `--sync N` kept there while it grows.
+//! is audited, and the log of their bus is saved in that file, or with `--sync N` kept there while it grows. With `--head HEX`
+//! `audit` tells behind which step of a kept log the checksum HEX stands.
 //!
 //! A line of a script submits a command or a task management for a client, takes one step of the bus, or drains it; what
 //! replies and refusals came of it is printed. A command on an image is submitted, drained and answered on a bus of its own. The exit status is 0

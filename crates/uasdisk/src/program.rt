@@ -136,9 +136,10 @@ pub fn run_words<
         Ok(Run::Fill { file, extent, byte }) => {
             run_fill(alloc, extent, byte, files, file, output, faults)
         }
-        Ok(Run::Audit { log }) => run_audit(
+        Ok(Run::Audit { log, head }) => run_audit(
             alloc,
             &mut files.open(log),
+            head,
             output,
             faults,
             may_show_progress,

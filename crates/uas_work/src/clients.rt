@@ -6,13 +6,13 @@ ghost use Rattle.uas_work.specs.Parts.{HasRoomForRounds, IsClientPart, IsSeatOfC
 use crate::desk_and_board::DeskAndBoard;
 use crate::handed::Origin;
 use crate::locked_bus::LockedBus;
+use crate::parking::Worker;
 use crate::parts::{ClientBack, ClientPart};
 use crate::rounds::{Half, command};
 use crate::{Ended, Gate};
 use door_board::place;
 use scsi_cmd::Command;
 use std::sync::Wait;
-use std::thread;
 use tag_desk::Slip;
 use uas_profile::TAGS;
 
@@ -89,8 +89,11 @@ impl ClientPart {
             locked.end(Ended::Stopped);
             return false;
         };
+        locked
+            .parkers()
+            .unpark_pump(usize::from(self.client) % shared.pumps);
         match self.awaited(rt, locked, shared, gate, tag) {
-            Some(slip) => locked.may_tell(rt, gate) && self.took(slip, tag),
+            Some(slip) => locked.may_tell(rt, gate, self.client) && self.took(slip, tag),
             None => false,
         }
     }
@@ -137,7 +140,7 @@ impl ClientPart {
             if slip.is_some() || is_last {
                 return slip;
             }
-            thread::yield_now();
+            locked.park(rt, Worker::Client(usize::from(self.client)));
             if !locked.is_ended() && !gate.turn(u32::from(self.client)) {
                 locked.end(Ended::Stopped);
             }

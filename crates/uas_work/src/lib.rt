@@ -30,6 +30,7 @@ mod handed;
 mod joining;
 mod locked_bus;
 mod opening;
+mod parking;
 mod parts;
 mod pump_part;
 mod pumps;

@@ -3,12 +3,16 @@ ghost use Rattle.std.specs.Prelude.{◌≡◌};
 ghost use Rattle.uas_work.specs.Booked.{IsBooked, IsLater};
 
 use crate::handed::{Handed, Origin};
+use crate::parking::{Parkers, Worker};
 use crate::{Booked, Booking, Ended, Gate};
 use std::alloc::Global;
 use std::sync::atomic::AtomicU64;
 use std::sync::atomic::Ordering::SeqCst;
 use std::sync::{Mutex, MutexGuard, Wait};
 use std::thread;
+
+/// The most steps that a controller or the dispatcher takes in one hold of the lock.
+const MOST_HELD: u32 = 64;
 
 /// What the workers share.
 #[derive(Drop)]
@@ -21,6 +25,7 @@ pub(crate) struct LockedBus<J: Origin> {
     clients_left: AtomicU64,
     /// The pumps that may still finish a claim.
     pumps_left: AtomicU64,
+    parkers: Parkers,
 }
 
 impl<J: Origin> LockedBus<J> {
@@ -33,6 +38,7 @@ impl<J: Origin> LockedBus<J> {
             ended: AtomicU64::new(Ended::Done.code()),
             clients_left: AtomicU64::new(clients as u64),
             pumps_left: AtomicU64::new(pumps as u64),
+            parkers: Parkers::new(),
         }
     }
 
@@ -53,16 +59,20 @@ impl<J: Origin> LockedBus<J> {
         let _ = self
             .ended
             .compare_exchange(Ended::Done.code(), why.code(), SeqCst, SeqCst);
+        self.parkers.unpark_all();
     }
 
     /// A client took all its rounds.
     pub(crate) fn client_done(&self) {
-        self.clients_left.fetch_sub(1, SeqCst);
+        if self.clients_left.fetch_sub(1, SeqCst) == 1 {
+            self.parkers.unpark_all();
+        }
     }
 
     /// A pump finishes no claim any more.
     pub(crate) fn pump_done(&self) {
         self.pumps_left.fetch_sub(1, SeqCst);
+        self.parkers.unpark_clients();
     }
 
     /// Whether no pump finishes a claim any more.
@@ -92,15 +102,35 @@ impl<J: Origin> LockedBus<J> {
         self.booked.lock(rt)
     }
 
-    /// The part of a controller.
-    pub(crate) fn control<R: Wait, G: Gate>(&self, rt: &R, gate: &G, worker: u32) {
+    /// The part of a controller, of its number among these.
+    pub(crate) fn control<R: Wait, G: Gate>(&self, rt: &R, gate: &G, worker: u32, number: usize) {
         for _ in rt.forever() {
             if self.is_over(gate, worker) {
                 return;
             }
-            let took = self.booked.lock(rt).control(self.alloc, gate);
-            self.rest(took);
+            match self.controlled(rt, gate) {
+                Ok(taken) => {
+                    if taken > 0 {
+                        self.parkers.unpark_dispatcher();
+                    }
+                    if taken < MOST_HELD {
+                        self.park(rt, Worker::Controller(number));
+                    }
+                }
+                Err(booking) => self.end(Ended::from_booking(booking)),
+            }
         }
+    }
+
+    /// Takes a controller's steps in one hold of the lock: how many.
+    fn controlled<R: Wait, G: Gate>(&self, rt: &R, gate: &G) -> Result<u32, Booking> {
+        let mut handed = self.booked.lock(rt);
+        for taken in 0..MOST_HELD {
+            if !handed.control(self.alloc, gate)? {
+                return Ok(taken);
+            }
+        }
+        Ok(MOST_HELD)
     }
 
     /// The part of the dispatcher.
@@ -109,9 +139,30 @@ impl<J: Origin> LockedBus<J> {
             if self.is_over(gate, worker) {
                 return;
             }
-            let took = self.booked.lock(rt).dispatch(self.alloc, gate);
-            self.rest(took);
+            match self.dispatched(rt, gate) {
+                Ok(taken) => {
+                    if taken > 0 {
+                        self.parkers.unpark_pumps();
+                        self.parkers.unpark_controllers();
+                    }
+                    if taken < MOST_HELD {
+                        self.park(rt, Worker::Dispatcher);
+                    }
+                }
+                Err(booking) => self.end(Ended::from_booking(booking)),
+            }
         }
+    }
+
+    /// Takes the dispatcher's steps in one hold of the lock: how many.
+    fn dispatched<R: Wait, G: Gate>(&self, rt: &R, gate: &G) -> Result<u32, Booking> {
+        let mut handed = self.booked.lock(rt);
+        for taken in 0..MOST_HELD {
+            if !handed.dispatch(self.alloc, gate)? {
+                return Ok(taken);
+            }
+        }
+        Ok(MOST_HELD)
     }
 
     /// The part of the one who looks at the log: until the others end, and once more then.
@@ -123,6 +174,7 @@ impl<J: Origin> LockedBus<J> {
                 self.end(Ended::Stopped);
                 return;
             }
+            self.parkers.unpark_clients();
             if is_last {
                 return;
             }
@@ -131,7 +183,7 @@ impl<J: Origin> LockedBus<J> {
     }
 
     /// Waits until a client may have the reply that it found. False where the workers end before.
-    pub(crate) fn may_tell<R: Wait, G: Gate>(&self, rt: &R, gate: &G) -> bool {
+    pub(crate) fn may_tell<R: Wait, G: Gate>(&self, rt: &R, gate: &G, client: u8) -> bool {
         let look = gate.next_look();
         for _ in rt.forever() {
             if gate.may_tell(look) {
@@ -140,17 +192,17 @@ impl<J: Origin> LockedBus<J> {
             if self.is_ended() {
                 return false;
             }
-            thread::yield_now();
+            self.park(rt, Worker::Client(usize::from(client)));
         }
         false
     }
 
-    /// A worker that took nothing lets others run first; one whose step wasn't booked ends them.
-    pub(crate) fn rest(&self, took: Result<bool, Booking>) {
-        match took {
-            Ok(true) => {}
-            Ok(false) => thread::yield_now(),
-            Err(booking) => self.end(Ended::from_booking(booking)),
-        }
+    /// Parks a worker until another has something for it, or for a moment.
+    pub(crate) fn park<R: Wait>(&self, rt: &R, worker: Worker) {
+        self.parkers.park(rt, worker);
+    }
+
+    pub(crate) fn parkers(&self) -> &Parkers {
+        &self.parkers
     }
 }

@@ -10,18 +10,15 @@ ghost use Rattle.uas_work.specs.Parts.{IsPumpPart, IsSeatOfPump};
 use crate::desk_and_board::DeskAndBoard;
 use crate::handed::Origin;
 use crate::locked_bus::LockedBus;
+use crate::parking::Worker;
 use crate::parts::PumpPart;
 use crate::pumps::is_open;
-use crate::{Booked, Booking, Gate, pump_in, pump_out};
+use crate::{Booked, Booking, Ended, Gate, pump_in, pump_out};
 use bus_core::Step;
 use door_board::WORDS;
 use std::alloc::Global;
 use std::sync::Wait;
-use std::thread;
 use tag_desk::WorkSeat;
-
-/// Turns in a row in which a pump that no bell called leaves its clients out.
-const MOST_QUIET: u32 = 15;
 
 impl PumpPart {
     /// Serves its clients until the workers end, and gives back every claim that it holds then.
@@ -60,23 +57,31 @@ impl PumpPart {
         ensures part { IsPumpPart shared.now.desk shared.now.board self.new }
         ensures same { self.new.pump ≡ self.old.pump }
     {
-        let mut quiet = 0;
+        let mut is_busy = false;
         for _ in rt.forever() {
             if locked.is_over(gate, worker) {
                 return;
             }
-            if !self.is_called(shared) && quiet < MOST_QUIET {
-                quiet += 1;
-                thread::yield_now();
-                continue;
+            if !self.is_called(shared) && !is_busy {
+                locked.park(rt, Worker::Pump(self.pump));
             }
-            let served = self.served_all(rt, locked, shared, gate);
-            quiet = if matches!(served, Ok(true)) {
-                MOST_QUIET
-            } else {
-                0
-            };
-            locked.rest(served);
+            match self.served_all(rt, locked, shared, gate) {
+                Ok(served) => is_busy = served,
+                Err(booking) => locked.end(Ended::from_booking(booking)),
+            }
+            if is_busy {
+                self.unpark_others(locked, shared);
+            }
+        }
+    }
+
+    /// Unparks those who go on with what the pump did: the controllers, and its clients.
+    fn unpark_others<J: Origin>(&self, locked: &LockedBus<J>, shared: &DeskAndBoard) {
+        locked.parkers().unpark_controllers();
+        for client in 0..shared.clients {
+            if client % shared.pumps == self.pump {
+                locked.parkers().unpark_client(client);
+            }
         }
     }
 

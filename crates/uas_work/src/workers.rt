@@ -360,9 +360,9 @@ fn start_others<'s, 'h: 's, E, J: Origin + Send + Sync, R: Wait + Sync, G: Gate 
     controllers: u32,
 ) {
     let mut worker = (shared.clients + shared.pumps) as u32;
-    for _ in 0..controllers {
+    for number in 0..controllers {
         if scope
-            .spawn(move || locked.control(rt, gate, worker))
+            .spawn(move || locked.control(rt, gate, worker, number as usize))
             .is_err()
         {
             locked.end(Ended::NoThread);

@@ -3,11 +3,20 @@
 use log_keeper::{KeepStop, Keeper, KeptFile};
 use shared_machine::Step;
 use std::alloc::Global;
+use std::rt::Clock;
 use std::sync::atomic::AtomicU64;
 use std::sync::atomic::Ordering::SeqCst;
 use std::sync::{Mutex, Wait};
+use std::thread;
+use std::time::Duration;
 use uas_log::Log;
 use uas_work::Gate;
+
+/// How many microseconds the keeper leaves the bus alone behind a look at its log.
+const PAUSE: u64 = 1000;
+
+/// The same where replies wait for it and a look found nothing.
+const SHORT_PAUSE: u64 = 50;
 
 /// A log that is kept, and how far that is.
 #[derive(Drop)]
@@ -59,7 +68,7 @@ impl<'a, R, F: KeptFile + Drop> Keeping<'a, R, F> {
     }
 }
 
-impl<R: Wait, F: KeptFile + Drop> Gate for Keeping<'_, R, F> {
+impl<R: Wait + Clock, F: KeptFile + Drop> Gate for Keeping<'_, R, F> {
     ghost use Rattle.std.specs.Prelude.{◌≡◌, true};
 
     ghost says = { λ gate step answer. answer ≡ true };
@@ -87,11 +96,18 @@ impl<R: Wait, F: KeptFile + Drop> Gate for Keeping<'_, R, F> {
         if self.stop.load(SeqCst) != 0 {
             return false;
         }
-        if let Err(fault) = self.keeper.lock(self.rt).settle() {
-            self.note(KeepStop::from(fault));
-            return false;
-        }
+        let settled = self.keeper.lock(self.rt).settle();
+        let has_synced = match settled {
+            Ok(has_synced) => has_synced,
+            Err(fault) => {
+                self.note(KeepStop::from(fault));
+                return false;
+            }
+        };
         self.settled.fetch_add(1, SeqCst);
+        if !(self.holds_replies && has_synced) {
+            pause(self.rt, self.holds_replies);
+        }
         true
     }
 
@@ -102,4 +118,10 @@ impl<R: Wait, F: KeptFile + Drop> Gate for Keeping<'_, R, F> {
     fn may_tell(&self, look: u64) -> bool {
         !self.holds_replies || look < self.settled.load(SeqCst)
     }
+}
+
+/// Leaves the bus alone for a while, a short one where replies wait.
+fn pause<R: Clock>(rt: &R, is_short: bool) {
+    let micros = if is_short { SHORT_PAUSE } else { PAUSE };
+    thread::sleep(rt, Duration::from_micros(micros));
 }

@@ -94,7 +94,7 @@ fn work<R: Threads + Wait + Clock + Sync, K: KeptFiles, O: Sink>(
 }
 
 /// Lets the clients take their rounds while their log is kept, and ends it.
-fn ran_kept<R: Threads + Wait + Sync, K: KeptFiles>(
+fn ran_kept<R: Threads + Wait + Clock + Sync, K: KeptFiles>(
     rt: &R,
     alloc: Global,
     load: Load,
@@ -126,7 +126,7 @@ fn keeper_of<K: KeptFiles>(
 }
 
 /// Lets the clients of a bus take their rounds while its log is kept, and ends it.
-fn ran_with<R: Threads + Wait + Sync, F: KeptFile + Drop + Send>(
+fn ran_with<R: Threads + Wait + Clock + Sync, F: KeptFile + Drop + Send>(
     rt: &R,
     alloc: Global,
     load: Load,

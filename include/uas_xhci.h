@@ -118,7 +118,7 @@ struct uas_xhci_turn {
 };
 UAS_XHCI_ASSERT(sizeof(struct uas_xhci_turn) == 24 && offsetof(struct uas_xhci_turn, noted) == 16);
 
-/* Bytes that were written. */
+/* Bytes of the memory. */
 struct uas_range {
     uint64_t address, length;
 };
@@ -142,6 +142,16 @@ uint8_t uas_xhci_work_noting(uas_xhci *xhci, const struct uas_region *regions, s
  * Faults: UAS_XHCI_MANY, UAS_XHCI_WRAPS, UAS_XHCI_OVERLAP. */
 uint8_t uas_xhci_take_turn(uas_xhci *xhci, struct uas_xhci_turn *turn, struct uas_region *regions, size_t count, struct uas_range *written,
                            size_t room);
+
+/* What the next step lacks, for a caller who can't lend all of a guest's memory: the first range that it may read or write of which a byte
+ * isn't lent, or one of length 0. Copy that range in and ask again, until the length is 0; then call uas_xhci_work with a budget of 1 over
+ * these copies, and write them back. A range that the guest has no memory for can't be copied in: take the step without it.
+ * Faults: those of uas_xhci_work. */
+uint8_t uas_xhci_wants(uas_xhci *xhci, const struct uas_region *regions, size_t count, struct uas_range *wanted);
+
+/* The same, which makes that call: the regions' bytes are no null pointers.
+ * Faults: UAS_XHCI_MANY, UAS_XHCI_WRAPS, UAS_XHCI_OVERLAP. */
+uint8_t uas_xhci_look(uas_xhci *xhci, struct uas_range *wanted, struct uas_region *regions, size_t count);
 
 /* ---- Interrupts (4.17) ---- */
 

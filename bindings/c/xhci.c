@@ -37,22 +37,35 @@ void uas_xhci_set_frame(uas_xhci *xhci, uint16_t frame_index)
     call(xhci, &door, NULL, 0);
 }
 
-/* The regions that have bytes, up to one more than a call takes, so that this tells. */
-uint8_t uas_xhci_work_noting(uas_xhci *xhci, const struct uas_region *regions, size_t count, struct uas_xhci_turn *turn, struct uas_range *written,
-                             size_t room)
+/* What is lent for a call: the regions that have bytes, up to one more than it takes, so that this tells. */
+struct lent {
+    struct uas_region regions[UAS_XHCI_REGIONS + 1];
+    size_t count;
+};
+
+/* False where a region's bytes are a null pointer. */
+static bool lend(struct lent *lent, const struct uas_region *regions, size_t count)
 {
-    struct uas_region lent[UAS_XHCI_REGIONS + 1];
-    struct uas_range none;
-    size_t lents = 0;
+    lent->count = 0;
     for (size_t i = 0; i < count; i++) {
         if (regions[i].length == 0)
             continue;
         if (regions[i].bytes == NULL)
-            return UAS_XHCI_NULL;
-        if (lents <= UAS_XHCI_REGIONS)
-            lent[lents++] = regions[i];
+            return false;
+        if (lent->count <= UAS_XHCI_REGIONS)
+            lent->regions[lent->count++] = regions[i];
     }
-    return uas_xhci_take_turn(xhci, turn, lent, lents, room > 0 ? written : &none, room);
+    return true;
+}
+
+uint8_t uas_xhci_work_noting(uas_xhci *xhci, const struct uas_region *regions, size_t count, struct uas_xhci_turn *turn, struct uas_range *written,
+                             size_t room)
+{
+    struct lent lent;
+    struct uas_range none;
+    if (!lend(&lent, regions, count))
+        return UAS_XHCI_NULL;
+    return uas_xhci_take_turn(xhci, turn, lent.regions, lent.count, room > 0 ? written : &none, room);
 }
 
 uint8_t uas_xhci_work(uas_xhci *xhci, const struct uas_region *regions, size_t count, uint32_t budget, uint32_t *steps, bool *more)
@@ -64,6 +77,12 @@ uint8_t uas_xhci_work(uas_xhci *xhci, const struct uas_region *regions, size_t c
         *more = turn.more != 0;
     }
     return fault;
+}
+
+uint8_t uas_xhci_wants(uas_xhci *xhci, const struct uas_region *regions, size_t count, struct uas_range *wanted)
+{
+    struct lent lent;
+    return lend(&lent, regions, count) ? uas_xhci_look(xhci, wanted, lent.regions, lent.count) : UAS_XHCI_NULL;
 }
 
 bool uas_xhci_interrupt(uas_xhci *xhci)

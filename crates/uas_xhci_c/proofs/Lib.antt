@@ -1,2 +1,3 @@
 mod Over
+mod OverRegions
 pub mod Requests

@@ -1,5 +1,6 @@
 -- What C sees of a controller over its memory.
 pub mod CallLaws
+pub mod Looked
 pub mod RegionLaws
 pub mod Regions
 pub mod Turned

@@ -5,6 +5,7 @@
 //! | making.rt | `uas_xhci_new` |
 //! | handle.rt | `uas_xhci_call`, `uas_xhci_close` |
 //! | turn.rt | `uas_xhci_take_turn` |
+//! | wants.rt | `uas_xhci_look` |
 //!
 //! What is promised: `uas_xhci_new` answers the first fault of what is asked for, as `uas_tasks_new` does. A call through the door is
 //! `after_call` of specs/XhciCall.antt: what it makes of the controller, the door and the bytes, for every number of a call, any register
@@ -24,3 +25,4 @@ mod handle;
 mod making;
 mod regions;
 mod turn;
+mod wants;

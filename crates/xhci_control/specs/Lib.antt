@@ -2,3 +2,4 @@
 pub mod Trbs
 pub mod Stages
 pub mod Steps
+pub mod Wanted

@@ -191,7 +191,7 @@ impl ControlPipe {
     }
 
     /// How many bytes of the answer a TRB of this length takes.
-    fn taken_count(&self, length: u32) -> usize
+    pub(crate) fn taken_count(&self, length: u32) -> usize
         ensures count { result ≡ min (min (list_length (left self.now.stage)) 86) length }
         ensures has { result ≤ list_length (left self.now.stage) }
         ensures most { result ≤ 86 }
@@ -276,7 +276,7 @@ impl ControlPipe {
     }
 
     /// Whether a Data Stage has begun and isn't over.
-    fn is_in_data(&self) -> bool
+    pub(crate) fn is_in_data(&self) -> bool
         ensures { result ≡ is_in_data self.now }
     {
         self.stage.is_data() && self.consumer.progress.begun

@@ -13,12 +13,15 @@
 //!
 //! What is promised: a step is one equation, `stepped` of specs/Steps.antt, over the memory's bytes, the event ring and the pipe, for any
 //! bytes; a step that is refused changes nothing. So are the calls by which the controller's commands change the pipe. It tells whether a
-//! request ended every task of the disk ([`Served`]). No step takes memory. It stands on `guest_pipes` and `usb_disk`.
+//! request ended every task of the disk ([`Served`]), and before a step what memory that lacks ([`ControlPipe::wants`]). It stands on
+//! `guest_pipes` and `usb_disk`.
 #![tactic(auto)]
 
 mod acts;
 mod pipe;
 mod stage;
 mod trb;
+mod wanting;
 
 pub use pipe::{ControlPipe, Served};
+pub use wanting::{what_is_wanted_is_not_there, what_lacks_nothing_is_taken};

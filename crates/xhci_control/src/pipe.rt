@@ -37,7 +37,7 @@ pub struct Served {
 #[derive(Debug, Drop)]
 pub struct ControlPipe {
     pub(crate) consumer: Consumer,
-    home: u64,
+    pub(crate) home: u64,
     pub(crate) disk: UsbDisk,
     pub(crate) stage: Stage,
 }
@@ -54,7 +54,7 @@ fn consumer_in(state: EndpointState) -> Consumer
 }
 
 /// The cursor that is kept in a dequeue pointer's quadword. Refused where a byte of it isn't there.
-fn cursor_at<M: GuestMemory>(memory: &M, at: u64) -> Result<Cursor, Outside>
+pub(crate) fn cursor_at<M: GuestMemory>(memory: &M, at: u64) -> Result<Cursor, Outside>
     ensures cursor { result_ok result ≡ cursor_at (M.contents memory.now) at }
     ensures there { IfOk result (λ cursor. is_there (M.contents memory.now) at 8 ≡ true) }
 {

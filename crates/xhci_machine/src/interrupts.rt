@@ -4,7 +4,8 @@ ghost use Rattle.xhci_machine.specs.Effects.{no_event_ring};
 
 use byteorder::{ByteOrder, LittleEndian};
 use guest_memory::{GuestMemory, Outside};
-use guest_rings::{Event, EventRing};
+use guest_pipes::place_range;
+use guest_rings::{Event, EventRing, Range};
 use xhci_registers::{Interrupter, Registers};
 
 /// The fewest and the most TRBs of the segment (6.5).
@@ -71,6 +72,71 @@ pub(crate) fn post<M: GuestMemory>(
     }
     events.post(memory, event, false);
     Ok(())
+}
+
+/// The event ring as the next step finds it.
+#[derive(Drop)]
+pub(crate) enum Seen {
+    /// A byte of this range isn't there.
+    Lacks(Range),
+    /// There is none, or the step fails by it.
+    Nothing,
+    /// One of its likeness, to be looked at alone: its next place, and up to 2 how many are free.
+    Ring(EventRing),
+}
+
+/// The event ring that is loaded at the next step.
+fn see_table<M: GuestMemory>(memory: &M, interrupter: &Interrupter) -> Seen {
+    if interrupter.table_size == 0 {
+        return Seen::Nothing;
+    }
+    let entry = Range {
+        at: interrupter.table,
+        count: 16,
+    };
+    if let Some(range) = entry.missing(memory) {
+        return Seen::Lacks(range);
+    }
+    let Ok(Some(mut ring)) = load(memory, interrupter) else {
+        return Seen::Nothing;
+    };
+    match dequeue(&mut ring, interrupter.dequeue) {
+        Ok(()) => Seen::Ring(ring),
+        Err(Outside) => Seen::Nothing,
+    }
+}
+
+/// How many places of a ring are free where its consumer's dequeue place is this, up to 2.
+fn free_by(ring: &EventRing, place: u16) -> u16 {
+    let end = ring.enqueue_pointer();
+    let (next, second) = match ring.place_at(end.wrapping_add(16)) {
+        None => (0, 1),
+        Some(next) => match ring.place_at(end.wrapping_add(32)) {
+            None => (next, 0),
+            Some(second) => (next, second),
+        },
+    };
+    if place == next {
+        0
+    } else if place == second {
+        1
+    } else {
+        2
+    }
+}
+
+/// A ring with this one's next place, of which so many, up to 2, are free. Where that would go past 2^64, it begins some places before.
+fn see<M: GuestMemory>(memory: &M, ring: &EventRing, free: u16) -> Seen {
+    let places = free.min(2) + 1;
+    let last = u64::MAX - 16 * u64::from(places) + 1;
+    let next = place_range(ring);
+    if next.at <= last {
+        return Seen::Ring(EventRing::new(next.at, places));
+    }
+    match next.missing(memory) {
+        Some(range) => Seen::Lacks(range),
+        None => Seen::Ring(EventRing::new(last, places)),
+    }
 }
 
 impl Interrupts {
@@ -144,6 +210,27 @@ impl Interrupts {
         self.dequeued = false;
         self.cleared_busy = false;
         Ok(())
+    }
+
+    /// The event ring as [`Interrupts::take`] finds it.
+    pub fn look<M: GuestMemory>(&self, memory: &M, interrupter: &Interrupter) -> Seen {
+        match &self.ring {
+            None => see_table(memory, interrupter),
+            Some(ring) => {
+                if !self.dequeued {
+                    return see(memory, ring, ring.free());
+                }
+                match ring.place_at(interrupter.dequeue) {
+                    Some(place) => see(memory, ring, free_by(ring, place)),
+                    None => Seen::Nothing,
+                }
+            }
+        }
+    }
+
+    /// Whether Event Ring Full Error is to be posted in such a ring once a step finds no room there.
+    pub fn owes_full(&self, events: &EventRing) -> bool {
+        events.free() == 1 && !(self.told_full && self.ring.is_some())
     }
 
     /// The event ring comes back.

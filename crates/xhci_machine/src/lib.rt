@@ -36,6 +36,7 @@ mod interrupts;
 mod orders;
 mod ring;
 mod states;
+mod wanting;
 mod work;
 
 use guest_tasks::GuestTasks;

@@ -19,18 +19,18 @@ const CONTEXT_STATE_ERROR: u8 = 19;
 const INVALID_STREAM_ID: u8 = 34;
 
 /// Streams of a pipe.
-const STREAMS: u16 = 256;
+pub(crate) const STREAMS: u16 = 256;
 
 /// An endpoint of the disk.
 #[derive(Clone, Copy, Debug, PartialEq, Eq)]
-enum Endpoint {
+pub(crate) enum Endpoint {
     Control,
     Command,
     Streams(StreamPipe),
 }
 
 /// The endpoint of an ID.
-fn endpoint_of(id: u8) -> Option<Endpoint> {
+pub(crate) fn endpoint_of(id: u8) -> Option<Endpoint> {
     match id {
         1 => Some(Endpoint::Control),
         2 => Some(Endpoint::Command),
@@ -97,7 +97,7 @@ impl Machine {
         }
     }
 
-    fn state_of(&self, endpoint: Endpoint) -> EndpointState {
+    pub(crate) fn state_of(&self, endpoint: Endpoint) -> EndpointState {
         match endpoint {
             Endpoint::Control => self.control.state(),
             Endpoint::Command => self.transfers.command().state,
@@ -161,7 +161,7 @@ impl Machine {
     }
 
     /// The first ring from this stream on whose TD in front was begun.
-    fn begun(&self, endpoint: Endpoint, from: u16) -> Option<u16> {
+    pub(crate) fn begun(&self, endpoint: Endpoint, from: u16) -> Option<u16> {
         let begun = match endpoint {
             Endpoint::Control => self.control.is_begun(),
             Endpoint::Command => self.transfers.command().progress.begun,

@@ -13,7 +13,7 @@ use guest_transfers::StreamPipe;
 use xhci_slots::{Change, Changes, Code, SlotCommand};
 
 /// The one slot.
-const SLOT: u8 = 1;
+pub(crate) const SLOT: u8 = 1;
 
 /// Completion codes (table 6-90).
 pub(crate) const SUCCESS: u8 = 1;
@@ -94,6 +94,19 @@ pub(crate) fn pointer_home(context: u64, endpoint: u8) -> u64 {
 }
 
 impl Machine {
+    /// Whether the command ring's stop is to be told, or it is to be looked at.
+    pub(crate) fn has_command(&self) -> bool {
+        self.commands.owes_stop || self.registers.command_ring.runs && self.commands.rung
+    }
+
+    /// Where the next command is.
+    pub(crate) fn command_cursor(&self) -> Cursor {
+        Cursor {
+            place: self.registers.command_ring.pointer,
+            cycle: self.registers.command_ring.cycle,
+        }
+    }
+
     /// Takes the command in front, where there is one.
     pub(crate) fn step_commands<M: GuestMemory>(
         &mut self,
@@ -102,7 +115,7 @@ impl Machine {
     ) -> Result<Acted, Outside>
         ensures same_loan { M.loan memory.new ≡ M.loan memory.old }
     {
-        if !self.commands.owes_stop && !(self.registers.command_ring.runs && self.commands.rung) {
+        if !self.has_command() {
             return Ok(Acted::Idle);
         }
         if let Some(acted) = room_gate(memory, events)? {
@@ -111,10 +124,7 @@ impl Machine {
         if self.commands.owes_stop {
             return self.tell_stop(memory, events);
         }
-        let cursor = Cursor {
-            place: self.registers.command_ring.pointer,
-            cycle: self.registers.command_ring.cycle,
-        };
+        let cursor = self.command_cursor();
         match fetch(memory, cursor)? {
             None => {
                 self.commands.rung = false;

@@ -15,7 +15,7 @@ use xhci_contexts::Number;
 const DISK_PORT: u8 = 2;
 
 /// Tags from here on have no task.
-const TAGS: u16 = 241;
+pub(crate) const TAGS: u16 = 241;
 
 /// How many steps a call took, and whether there may be more to do at once.
 #[derive(Clone, Copy, Debug, PartialEq, Eq)]
@@ -350,7 +350,7 @@ impl Machine {
     }
 
     /// Whether a tag has something to do: of one whose request is at the backend a part of its chunk may be left.
-    fn has_work(&self, tag: u16) -> bool
+    pub(crate) fn has_work(&self, tag: u16) -> bool
         requires { tag < 241 }
     {
         self.transfers.has_chunk(tag) || self.transfers.has_work(tag, self.device.phase(tag))

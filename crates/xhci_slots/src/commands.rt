@@ -16,7 +16,7 @@ use xhci_contexts::{DeviceContext, EndpointState, InputContext, Number, SlotStat
 
 /// The slot's entry of the device context base address array (6.1): a multiple of 64.
 #[tactic(auto, unfolding(crate::specs::Slots::entry_at))]
-fn entry_at<M: GuestMemory>(memory: &M, array: u64) -> Result<u64, Outside>
+pub(crate) fn entry_at<M: GuestMemory>(memory: &M, array: u64) -> Result<u64, Outside>
     ensures { result_ok result ≡ entry_at (M.contents memory.now) array }
 {
     let mut bytes = [0; 8];

@@ -18,13 +18,16 @@
 //! A command also tells what became of the endpoints ([`Changes`]), for whoever has their rings.
 //!
 //! What is promised: [`Slot::execute`] is `executed` of specs/Slots.antt over the driver's memory and the slot, for any command and any bytes
-//! there, and [`Slot::tell`] is `told`. It takes no memory. It stands on `guest_memory` and `xhci_contexts`.
+//! there, and [`Slot::tell`] is `told`. [`Slot::wants`] and [`Slot::wants_to_tell`] say what of that memory either lacks (src/wanting.rt). It
+//! stands on `guest_rings` and `xhci_contexts`.
 #![tactic(auto)]
 
 mod commands;
 mod states;
+mod wanting;
 
 pub use guest_memory::Outside;
+pub use wanting::{what_is_wanted_is_not_there, what_lacks_nothing_is_executed};
 use xhci_contexts::SlotState;
 
 /// The slot: its state where it is given out, and where its device context is.

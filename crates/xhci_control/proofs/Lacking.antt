@@ -1,15 +1,13 @@
 -- A step that lacks nothing isn't refused, and what it lacks isn't there.
 use Rattle.std.proofs.Common.{◌≡◌, ℕ, ◌==◌, ◌&&◌, ◌||◌, not, Bool, true, false, nat_le, List, Option, Some, None, refl, sym, ap, ◌∙◌, arith}
-use Rattle.std.proofs.lemmas.Bool.{false≢true}
 use Rattle.std.proofs.lemmas.Option.{none-some}
 use Rattle.std.specs.Prelude.{is_some, option_map, if◌then◌else◌}
 use Rattle.byteorder.specs.Endian.{little_number}
-use Rattle.guest_memory.specs.Bytes.{Memory, bytes_from, is_there}
+use Rattle.guest_memory.specs.Bytes.{Memory, bytes_from}
 use Rattle.guest_rings.specs.declared.cursor.Cursor.{Cursor}
 use Rattle.guest_rings.specs.declared.context.Home.TheVariants.{Endpoint}
 use Rattle.guest_rings.specs.declared.trb.PipeTrb.{PipeTrb}
 use Rattle.guest_rings.specs.declared.trb.PipeTrb.TheVariants.{Normal, Link, NoOp, EventData, Foreign}
-use Rattle.guest_rings.specs.declared.wanting.Range.{Range}
 use Rattle.guest_rings.specs.declared.words.Words.{Words}
 use Rattle.guest_rings.specs.Ends.{cursor_in, fetched, looked, owned}
 use Rattle.guest_rings.specs.Wanted.{LacksIt, look_wanted, missing}
@@ -25,7 +23,7 @@ use Rattle.xhci_control.specs.declared.trb.ControlTrb.TheVariants.{SetupStage, D
 use Rattle.xhci_control.specs.Stages.{is_data, stalls, takes}
 use Rattle.xhci_control.specs.Steps.{ControlWorld, after, cursor_at, is_in_data, ring_of, served_by, stepped, taken_by, through}
 use Rattle.xhci_control.specs.Trbs.{control_in}
-use Rattle.xhci_control.specs.Wanted.{control_wanted, data_wanted, front_wanted, given_range, moved_wanted, normal_wanted, other_wanted, trb_wanted, words_wanted}
+use Rattle.xhci_control.specs.Wanted.{control_wanted, data_wanted, front_wanted, given_range, moved_wanted, other_wanted, trb_wanted, words_wanted}
 
 pub control_there : (w : ControlWorld) → control_wanted w ≡ None → is_some (stepped w).1 ≡ true
 control_there w none = by_gate (gate w.memory w.events w.pipe.consumer) none

@@ -1,5 +1,5 @@
 -- The first range of memory that a step of endpoint 0 lacks, in the order of `stepped`.
-use Rattle.std.specs.Prelude.{ℕ, ◌==◌, ◌&&◌, ◌||◌, nat_le, not, Bool, true, false, if◌then◌else◌, min, length as list_length, Option, Some, None}
+use Rattle.std.specs.Prelude.{ℕ, ◌==◌, ◌&&◌, ◌||◌, nat_le, not, Bool, if◌then◌else◌, min, length as list_length, Option, Some, None}
 use Rattle.guest_memory.specs.Bytes.{Memory}
 use Rattle.guest_rings.specs.declared.cursor.Cursor.{Cursor}
 use Rattle.guest_rings.specs.declared.trb.PipeTrb.{PipeTrb}

@@ -24,8 +24,8 @@
 //! ([`Machine::new`] takes all). A read is `read_of`, and the interrupt's pin `is_asserted`. Of the whole machine, a write is `page_done`, with
 //! what it asks for beyond the registers, and so are a reset, the plug, MFINDEX and a message an equation each. The next request is that of
 //! the first active tag that asks; an answer of the backend is `answered` of uas_tasks; neither changes anything else. A TRB of the command
-//! ring is `command_in`. The steps of the pipes and of endpoint 0 and the commands on the slot are the equations of the crates below; how
-//! [`Machine::work`] puts them together is tested.
+//! ring is `command_in`. Steps and commands, and what they lack, are the equations of the crates below; how [`Machine::work`] and
+//! [`Machine::wants`] put them together is tested. Of a range that is wanted it is proved alone that a byte isn't there.
 //!
 //! It stands on `xhci_registers`, `xhci_slots`, `xhci_control`, `guest_transfers` and `guest_tasks`.
 #![tactic(auto)]

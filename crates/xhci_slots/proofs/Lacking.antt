@@ -1,5 +1,5 @@
 -- A command that lacks nothing isn't refused, and what it lacks isn't there.
-use Rattle.std.proofs.Common.{◌≡◌, ℕ, ◌+◌, ◌-◌, ◌*◌, ◌%◌, ◌^◌, ◌<◌, ◌≤◌, Bool, true, false, ◌&&◌, Option, Some, None, List, refl, sym, ap, ◌∙◌, arith, inl, inr}
+use Rattle.std.proofs.Common.{◌≡◌, ℕ, ◌+◌, ◌-◌, ◌*◌, ◌%◌, ◌^◌, ◌<◌, ◌≤◌, Bool, true, false, Option, Some, None, List, refl, sym, ap, ◌∙◌, arith, inl, inr}
 use Rattle.std.proofs.lemmas.Bool.{false≢true, and_parts, and_from, cases_Bool, cases_lt}
 use Rattle.std.proofs.lemmas.Option.{none-some}
 use Rattle.std.proofs.Math.Nat.{mod-eq_of_lt}
@@ -8,8 +8,8 @@ use Rattle.byteorder.specs.Endian.{little_number}
 use Rattle.guest_memory.specs.Bytes.{Memory, IsWithinAddresses, bytes_from, is_there, ◌>>=◌}
 use Rattle.guest_memory.specs.Ranges.{there_by_each, there_each}
 use Rattle.guest_rings.specs.declared.wanting.Range.{Range}
-use Rattle.guest_rings.specs.Wanted.{LacksIt, missing}
-use Rattle.guest_rings.specs.WantedLaws.{missing_lacks, some_lacking, there_if}
+use Rattle.guest_rings.specs.Wanted.{LacksIt}
+use Rattle.guest_rings.specs.WantedLaws.{missing_lacks, there_if}
 use Rattle.xhci_contexts.specs.declared.DeviceContext.{DeviceContext}
 use Rattle.xhci_contexts.specs.declared.EndpointState.{EndpointState}
 use Rattle.xhci_contexts.specs.declared.InputContext.{InputContext}

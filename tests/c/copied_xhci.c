@@ -1,18 +1,16 @@
 /* Two controllers of uas_xhci.h do the same for the same random driver (random_driver.h): one is lent all of its memory, and the other before each
- * step copies of what it asks for and no more. After each step both have the same memory, registers, requests and answers.
- *
- * A copy is of the pages that a range touches, of 16 bytes there, or of the range alone. What would be more regions than a call takes is copied
- * whole instead. A range of which nothing more is there is left out.
+ * step copies of what it asks for and no more (copied_work.h). After each step both have the same memory, registers, requests and answers.
  *
  *   copied_xhci [DRIVERS [SEED]] */
+#include "copied_work.h"
 #include "random_driver.h"
 
-static uint64_t writes, steps_taken, requests, moves, asked, absent, crowded, failures, bytes_copied;
+static uint64_t writes, steps_taken, requests, moves, failures;
 static uas_xhci *whole, *twin;
 
-/* Of the memory: which bytes are lent, what they were before a step, which were copied for it, and the copies. */
-static bool there[BYTES], copied[BYTES];
-static uint8_t before[BYTES], copies[BYTES];
+/* The twin's memory, in regions that are like those of the other. */
+static struct uas_region twins[PARTS + 1];
+static uint8_t others[BYTES];
 
 static void write_register(uint64_t offset, uint8_t width, uint64_t value)
 {
@@ -28,80 +26,18 @@ static uint64_t read_register(uint64_t offset, uint8_t width)
     return value;
 }
 
-/* The copies as regions, neighbours as one; one more than a call takes where there are more. */
-static size_t lend_copies(struct uas_region *lends)
-{
-    size_t count = 0;
-    for (uint32_t place = 0; place < BYTES && count <= UAS_XHCI_REGIONS; place++) {
-        if (!copied[place])
-            continue;
-        if (place == 0 || !copied[place - 1])
-            lends[count++] = (struct uas_region){ address(place), copies + place, 0 };
-        lends[count - 1].length++;
-    }
-    return count;
-}
-
-/* Copies a byte that is there: whether it wasn't yet. */
-static bool copy(uint32_t place)
-{
-    if (!there[place] || copied[place])
-        return false;
-    copies[place] = before[place];
-    bytes_copied++;
-    return copied[place] = true;
-}
-
-/* Copies a range, whose bytes come with their neighbours of a grain: whether something was copied. Addresses wrap. */
-static bool copy_range(const struct uas_range *range, uint32_t grain)
-{
-    bool some = false;
-    for (uint64_t i = 0; i < range->length; i++) {
-        uint64_t place = range->address + i - base;
-        if (place >= BYTES)
-            continue;
-        uint32_t first = (uint32_t)place / grain * grain;
-        for (uint32_t at = copied[place] ? grain : 0; at < grain; at++)
-            some |= copy(first + at);
-    }
-    return some;
-}
-
-/* A step of the twin over copies of what it asks for. */
-static void copied_step(uint32_t grain, uint32_t *steps, bool *more)
-{
-    static struct uas_region lends[UAS_XHCI_REGIONS + 1];
-    struct uas_range wanted = { 0, 1 };
-    size_t count = 0;
-    memset(copied, 0, sizeof copied);
-    for (bool some = true; some;) {
-        count = lend_copies(lends);
-        if (count > UAS_XHCI_REGIONS) {
-            crowded++;
-            for (uint32_t place = 0; place < BYTES; place++)
-                copy(place);
-            count = lend_copies(lends);
-        }
-        check(uas_xhci_wants(twin, lends, count, &wanted) == UAS_OK, "copies were refused");
-        some = wanted.length > 0 && copy_range(&wanted, grain);
-        asked += some;
-        absent += wanted.length > 0 && !some;
-    }
-    check(uas_xhci_work(twin, lends, count, 1, steps, more) == UAS_OK, "copies were refused");
-}
-
 /* A step of each: whether there may be more to do. */
-static bool step(uint32_t grain)
+static bool step(void)
 {
     uint32_t steps = 0, other_steps = 0;
     bool more, other_more, ran = read_register(0x40, 4) & 1;
-    for (uint32_t place = 0; place < BYTES; place++)
-        before[place] = *homes[place];
+    for (size_t i = 0; i < lent; i++)
+        memcpy(twins[i].bytes, regions[i].bytes, regions[i].length);
     check(uas_xhci_work(whole, regions, lent, 1, &steps, &more) == UAS_OK, "regions were refused");
-    copied_step(grain, &other_steps, &other_more);
+    check(copied_work(twin, twins, lent, 1, &other_steps, &other_more) == UAS_OK, "copies were refused");
     check(steps == other_steps && more == other_more, "one took a step, and the other didn't");
-    for (uint32_t place = 0; place < BYTES; place++)
-        check(!there[place] || *homes[place] == (copied[place] ? copies[place] : before[place]), "the memories differ");
+    for (size_t i = 0; i < lent; i++)
+        check(memcmp(twins[i].bytes, regions[i].bytes, regions[i].length) == 0, "the memories differ");
     for (uint32_t offset = 0; offset < UAS_XHCI_REGISTER_BYTES; offset += 8)
         read_register(offset, 8);
     failures += ran && read_register(0x44, 4) & 4;
@@ -112,8 +48,8 @@ static bool step(uint32_t grain)
 static void work(uint32_t budget)
 {
     static const uint32_t grains[] = { 1, 16, PAGE };
-    uint32_t grain = grains[draw(3)];
-    while (budget-- > 0 && step(grain))
+    grain = grains[draw(3)];
+    while (budget-- > 0 && step())
         ;
 }
 
@@ -222,8 +158,8 @@ int main(int words, char **word)
         const struct uas_tasks_unit unit = { 64, 1, UAS_BLOCK_BYTES };
         state = (seed << 32 | driver) * 0x9e3779b97f4a7c15;
         lend();
-        for (uint32_t place = 0; place < BYTES; place++)
-            there[place] = homes[place] != gaps + place;
+        for (size_t i = 0; i < lent; i++)
+            twins[i] = (struct uas_region){ regions[i].address, others + (regions[i].address - base), regions[i].length };
         outs = 0;
         uint8_t set = draw(2) ? UAS_SET_HOST : UAS_SET_PROFILE;
         check(uas_xhci_new(&unit, 1, set, 64, 8, &whole) == UAS_OK && uas_xhci_new(&unit, 1, set, 64, 8, &twin) == UAS_OK, "no controller");
@@ -236,9 +172,9 @@ int main(int words, char **word)
         uas_xhci_free(whole);
         uas_xhci_free(twin);
     }
-    printf("%llu register writes, %llu steps, %llu events, %llu requests, %llu answers; %llu ranges copied of %llu bytes, %llu that weren't there, %llu times "
-           "all, %llu host errors\n",
-           (unsigned long long)writes, (unsigned long long)steps_taken, (unsigned long long)events, (unsigned long long)requests,
-           (unsigned long long)moves, (unsigned long long)asked, (unsigned long long)bytes_copied, (unsigned long long)absent,
-           (unsigned long long)crowded, (unsigned long long)failures);
+    printf("%llu register writes, %llu steps, %llu events, %llu requests, %llu answers, %llu host errors\n", (unsigned long long)writes,
+           (unsigned long long)steps_taken, (unsigned long long)events, (unsigned long long)requests, (unsigned long long)moves,
+           (unsigned long long)failures);
+    printf("%llu ranges copied of %llu bytes, %llu that weren't there, all for %llu steps\n", (unsigned long long)ranges_copied,
+           (unsigned long long)bytes_copied, (unsigned long long)ranges_absent, (unsigned long long)steps_crowded);
 }

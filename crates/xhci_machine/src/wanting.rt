@@ -1,8 +1,11 @@
 //! What the next step lacks, for a caller who copies in what is asked for.
 //!
-//! He who can't lend all of a guest's memory asks [`Machine::wants`], copies that range in, and asks again until None is answered. Then one
-//! step over the copies is the step over all of memory. A range that the guest has no memory for can't be copied in: he takes the step
-//! without it.
+//! A caller who can't lend all of a guest's memory asks [`Machine::wants`], copies that range in, and asks again until None is answered. Then
+//! [`Machine::work`] with a budget of 1 over the copies does what it does over all of memory; that is tested. A range that the guest has no
+//! memory for can't be copied in: he takes the step without it.
+//!
+//! A look goes through the turns of a round as `work` does, and ends with the turn that acts. What it asks for beyond a step's needs is the
+//! device context, which the guest has, or comes behind all that the step needs: a range that can't be copied in hides none of those.
 ghost use Rattle.std.specs.Prelude.{◌≡◌, ◌<◌, None, IfSome, false};
 ghost use Rattle.guest_memory.specs.Bytes.{is_there};
 
@@ -49,8 +52,9 @@ fn is_due(consumer: &Consumer) -> bool {
 
 impl Machine {
     /// The first range, in the order of a round, of which a byte isn't there, of those that a call of [`Machine::work`] with a budget of 1
-    /// may read or write. Where a step may change an endpoint's state, the device context is asked for before that step's own ranges; of a
-    /// stream whose dequeue pointer is set also the TRB in front, and of a chunk room for all of it.
+    /// may read or write. The device context is asked for before any step that may change an endpoint's state, the last free place of the
+    /// event ring before any step that may find it full, room for a whole chunk before its first byte, and behind a stream's dequeue pointer
+    /// that is to be set the TRB in front.
     pub fn wants<M: GuestMemory>(&self, memory: &M) -> Option<Range>
         ensures lacks { IfSome result (λ range. is_there (M.contents memory.now) range.at range.count ≡ false) }
         ensures stands { self.now.registers.runs ≡ false → result ≡ None }

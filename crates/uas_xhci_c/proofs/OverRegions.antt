@@ -1,40 +1,39 @@
 -- A call of a handle over regions that are lent: what lies at the handle's pointer is lent to a function, which is handed the door and the
 -- regions as they came.
-use Rattle.std.proofs.Common.{◌≡◌, ℕ, ◌*◌, ◌^◌, ◌<◌, List, [], ◌∷◌, ◌++◌, length, refl, arith, w8, w64, MutBor}
+use Rattle.std.proofs.Common.{ℕ, ◌^◌, ◌<◌, List, [], ◌∷◌, ◌++◌, length, refl, w8, MutBor}
 use Rattle.std.proofs.raw_atomic.Walks.{proved}
 use seplogic.Ra.Ura.{Ura}
 use base.Fraction.{full_share}
 use mir.Syntax.{Ty, Callee, Body, Fn, Local, Lifetime, named, erased, mut, ty_int, ty_ptr, ty_ref}
 use mir.Syntax.{deref, field, place, copy, addr_of, aggregate, seq, assign, block, call, return}
-use mir.Val.{Val, vint, vptr}
+use mir.Val.{Val, vptr}
 use base.Logic.{SProp, ent, sep, ex, never_e, id⊢}
-use base.Fml.{Lft, GName, Fml, Share, ftrue, feq, fsep, flft, flent}
+use base.Fml.{Lft, GName, Fml, Share, ftrue, flft, flent}
 use prog.Model.{Model}
 use prog.Wp.{Env, Calls, Loops, Closed, WpFn}
 use types.Logic.{Logic, sem}
 use contract.Monad.{fact}
-use contract.Lifetimes.{Lfts, Shares}
 use contract.BorrowLft.{◌⊑◌}
 use contract.Notation.{connectives}
 use contract.Running.{Running, tables, tables_of}
-use types.Kit.{‵, raw, ◌⊛◌, some, later, at_ret, ◌$◌, ◌∵◌, !, qed, by, move, keep, drop, use1, use3, split, join, pick, fsplit, fjoin, fpack, feq_l}
+use types.Kit.{‵, raw, ◌⊛◌, some, later, at_ret, ◌$◌, ◌∵◌, !, qed, by, move, keep, drop, use1, use3, split, join, pick, fsplit, fjoin}
 use types.Kit.{⋆, suffices, frame, await, done, show}
 use types.Tokens.{lft_new, lft_end}
 use types.Part.{whole, sub}
-use types.Run.{stop, fld, hop, look, from, addr, of_opd, and_then, no_more, first, blocks, exec, returns, enter}
+use types.Run.{stop, fld, hop, from, addr, of_opd, and_then, no_more, first, blocks, exec, returns, enter}
 use types.Part.{agg}
 use types.SemTy.{Body as Borrowed}
 use types.ByLocal.{alloc_all, pass_all, free_all, look_at, look_in_at, get, get_in, through, sets, sets_last, lands_as, env}
 use sound.WpLaws.{FmC, fm_of}
-use denote.Exit.{Kept, Last, left, yes}
+use denote.Exit.{Kept, left, yes}
 use denote.RattleType.{RattleType, owns}
 use denote.Laws.{Is, shows}
 use denote.Memory.{part_at, mem, lone}
-use denote.Plain.{uint_vals, uint_Tells, uint_Lawful}
+use denote.Plain.{uint_Lawful}
 use denote.Builtin.{u8}
-use denote.Ref.{MutRef, NamedLft, mut_vals, mut_Tells}
+use denote.Ref.{MutRef, mut_vals, mut_Tells}
 use denote.Signature.{Slot, plain, mut_ref_to, mut_slice_of, named_lft}
-use denote.Slice.{MutSlice, slice_ty, slice_val, mut_slice_vals, mut_slice_Tells}
+use denote.Slice.{MutSlice, slice_ty, mut_slice_vals, mut_slice_Tells}
 use denote.Lend.{lends_ref, ref_back}
 use denote.RawPtr.{Ptr, block_ptr, null_ptr, RawPtr, lies_at, rawptr_vals, rawptr_Tells}
 use denote.Steps.{peeks, heard, nothing}
@@ -43,7 +42,7 @@ use denote.Triple.Call.{calls_at}
 use denote.Triple.Clauses.{Ended, Clauses, Lasts, lasts, closing}
 use denote.Triple.Entry.{on_entry}
 use denote.Triple.Spec.{Meets, exits, triple_of}
-use denote.Triple.Walked.{says, Stay, Stays, stay_none, walk_of, Goes, Goes-none, ends_at}
+use denote.Triple.Walked.{says, Stay, Stays, stay_none, walk_of, Goes-none, ends_at}
 use Rattle.c_common.proofs.ExportCode.{copied, one_local}
 use Rattle.guest_memory.specs.declared.lend.Lent.{Lent}
 use Rattle.guest_memory.specs.contracts.lend.Lent.{the_row as lent_row}

@@ -602,4 +602,5 @@ int main(int words, char **word)
         uas_xhci_free(xhci);
     }
     printf("%lu events as they were to be, %lu steps\n", events_seen, steps_taken);
+    return 0;
 }

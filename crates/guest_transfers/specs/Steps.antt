@@ -1,7 +1,9 @@
 -- The steps: each loads the consumer of one ring and one tag, takes a step of that pipe, and stores them.
-use Rattle.std.specs.Prelude.{ℕ, nat_lt, Bool, false, not, ◌&&◌, ◌||◌, if◌then◌else◌, Option, Some, None}
+use Rattle.std.specs.Prelude.{ℕ, nat_lt, Bool, true, false, not, ◌&&◌, ◌||◌, if◌then◌else◌, Option, Some, None}
 use Rattle.guest_rings.specs.declared.context.Home.TheVariants.{Endpoint}
 use Rattle.guest_pipes.specs.declared.acted.Acted.{Acted}
+use Rattle.guest_pipes.specs.declared.consumer.EndpointState.{EndpointState}
+use Rattle.guest_pipes.specs.declared.consumer.EndpointState.TheVariants.{Disabled, Running, Halted, Stopped, Error}
 use Rattle.guest_pipes.specs.Progress.{runs}
 use Rattle.guest_pipes.specs.Gate.{after, is_running}
 use Rattle.guest_pipes.specs.Pipe.{PipeState, home_of, loaded, progress_on, rung_on, stored}
@@ -20,15 +22,23 @@ use Rattle.guest_out.specs.Command.{command_after, stepped_command}
 use Rattle.guest_transfers.specs.declared.slot.Slot.{Slot}
 use Rattle.guest_transfers.specs.State.{TransfersState, TransfersWorld, begun, overlapped, slot_of, with_slot}
 
+-- whether an endpoint in this state goes on with a TD that was begun: at once, or once a doorbell has started it again
+abbrev pub keeps_begun : EndpointState → Bool
+keeps_begun Disabled = false
+keeps_begun Running = true
+keeps_begun Halted = false
+keeps_begun Stopped = true
+keeps_begun Error = false
+
 -- DATA-IN OPEN: the data-in ring of a tag has still to end a TD, or the rest of one
 abbrev pub in_open : PipeState → Slot → ℕ → End → Bool
 in_open pipe slot tag end =
-    is_running pipe.state && (rung_on pipe tag
-    && ((is_status end && ends_td slot.tag (progress_on pipe tag).fed) || not (runs (progress_on pipe tag).ending)))
+    ((is_running pipe.state && rung_on pipe tag) || (keeps_begun pipe.state && (progress_on pipe tag).begun))
+    && ((is_status end && ends_td slot.tag (progress_on pipe tag).fed) || not (runs (progress_on pipe tag).ending))
 
 -- DATA-OUT OPEN: the rest of a TD that was begun has still to be dropped
 abbrev pub out_open : PipeState → ℕ → End → Bool
-out_open pipe tag end = is_running pipe.state && (rung_on pipe tag && (is_good end && (progress_on pipe tag).begun))
+out_open pipe tag end = keeps_begun pipe.state && (is_good end && (progress_on pipe tag).begun)
 
 -- the answer of a tag's task is due: it has ended, nothing is left of its chunk, and no TD is open
 abbrev pub due_by : TransfersState → ℕ → Phase → Bool

@@ -9,7 +9,7 @@
 //!
 //! Stream t of a pipe serves tag t, 1 to 240. A doorbell is used up where no TRB is there yet; Stop Endpoint forgets the doorbells of
 //! its endpoint and keeps what is opaque. A status is due once its task has ended, nothing of its chunk is left, no data-in TD is still
-//! to be ended and no data-out TD is still to be dropped; where no TD is there, at once.
+//! to be ended and no data-out TD is still to be dropped, also of an endpoint that is stopped; where no TD is there, at once.
 //!
 //! The caller has the event ring, the contexts' other fields and the command ring. It gives turns to those tags that have something
 //! to do ([`Transfers::has_work`]), data before status, and writes an endpoint's state where a step has changed it.

@@ -4,13 +4,13 @@ ghost use Rattle.std.specs.Result.{result_ok};
 ghost use Rattle.guest_pipes.specs.Pipe.{progress_on, rung_on};
 ghost use Rattle.guest_tags.specs.Devices.{IsEnded, Kind};
 ghost use Rattle.guest_transfers.specs.State.{TransfersWorld, begun, overlapped, slot_of};
-ghost use Rattle.guest_transfers.specs.Steps.{command_stepped, due_by, in_open, in_stepped, out_open, out_stepped, received_on, status_stepped};
+ghost use Rattle.guest_transfers.specs.Steps.{command_stepped, due_by, in_open, in_stepped, keeps_begun, out_open, out_stepped, received_on, status_stepped};
 
 use crate::calls::{TAG_SLOTS, Transfers};
 use crate::slot::Slot;
 use guest_memory::{GuestMemory, Outside};
 use guest_out::{command_step, data_out_step};
-use guest_pipes::{Acted, Pipe};
+use guest_pipes::{Acted, EndpointState, Pipe};
 use guest_rings::{EventRing, Home};
 use guest_tags::{End, Phase, Received, UasDevice};
 
@@ -33,16 +33,27 @@ impl Slot {
     }
 }
 
-/// Whether the data-in ring of a tag whose task has ended so has still to end a TD, or the rest of one.
+/// Whether an endpoint in this state goes on with a TD that was begun: at once, or once a doorbell has started it again.
+fn keeps_begun(state: EndpointState) -> bool
+    ensures { result ≡ keeps_begun state }
+{
+    match state {
+        EndpointState::Running | EndpointState::Stopped => true,
+        EndpointState::Disabled | EndpointState::Halted | EndpointState::Error => false,
+    }
+}
+
+/// Whether the data-in ring of a tag whose task has ended so has still to end a TD, or the rest of one. One that was begun stays open while
+/// its endpoint is stopped.
 fn in_open(pipe: &Pipe, slot: &Slot, tag: u16, end: End) -> bool
     requires { tag < 256 }
     ensures { result ≡ in_open pipe.now slot.now tag end }
 {
     let consumer = pipe.consumer(tag);
     let progress = consumer.progress;
-    consumer.state.runs()
-        && (consumer.rung
-            && (end.is_status() && slot.tag.ends_td(progress.fed) || !progress.ending.runs()))
+    let is_there = consumer.state.runs() && consumer.rung
+        || keeps_begun(consumer.state) && progress.begun;
+    is_there && (end.is_status() && slot.tag.ends_td(progress.fed) || !progress.ending.runs())
 }
 
 /// Whether the rest of a data-out TD that was begun for a tag whose task has ended so has still to be dropped.
@@ -51,7 +62,7 @@ fn out_open(pipe: &Pipe, tag: u16, end: End) -> bool
     ensures { result ≡ out_open pipe.now tag end }
 {
     let consumer = pipe.consumer(tag);
-    consumer.state.runs() && (consumer.rung && (end == End::Good && consumer.progress.begun))
+    keeps_begun(consumer.state) && (end == End::Good && consumer.progress.begun)
 }
 
 impl Transfers {

@@ -141,6 +141,22 @@ static uint32_t draw_flags(void)
     return (below(3) == 0 ? BIT_IOC : 0) | (below(4) == 0 ? BIT_ISP : 0) | (below(4) == 0 ? 1u << 9 : 0);
 }
 
+/* A TRB of an unknown type, one that is too long, one whose buffer isn't in the memory or only in part, one of the other cycle state. */
+static void put_rubbish(struct ring *ring, uint32_t flags)
+{
+    uint32_t length = draw_length(), kind = below(8);
+    uint64_t ends[] = { BASE - below(length + 2), BASE + SECOND_MEMORY_BYTES - below(length + 2), UINT64_MAX - below(length + 2), drawn() };
+    uint32_t type = below(64);
+    if (kind == 0 && type != TRB_LINK)
+        put(ring, drawn(), (uint32_t)drawn(), type << 10 | flags);
+    else if (kind == 1)
+        put(ring, draw_buffer(0), TRB_MOST_BYTES + 1 + below(TRB_MOST_BYTES - 1), TRB_NORMAL << 10 | flags);
+    else if (kind == 2)
+        put(ring, draw_buffer(length), length, (TRB_NORMAL << 10 | flags) ^ BIT_CYCLE);
+    else
+        put(ring, ends[below(4)], length, TRB_NORMAL << 10 | flags);
+}
+
 /* One TRB of a TD. */
 static void put_random_trb(struct ring *ring, uint32_t chain)
 {
@@ -153,6 +169,8 @@ static void put_random_trb(struct ring *ring, uint32_t chain)
         put_link(ring, flags, ring->segment == 1 || below(16) == 0);
     else if (kind == 4 && ring->pipe == PIPE_OUT)
         put(ring, drawn(), below(12), TRB_NORMAL << 10 | flags | BIT_IMMEDIATE);
+    else if (below(100) == 0)
+        put_rubbish(ring, flags);
     else
         put(ring, draw_buffer(length), length | below(32) << 17, TRB_NORMAL << 10 | flags);
 }
@@ -198,23 +216,16 @@ static void draw_cdb(uint8_t cdb[16])
 static size_t draw_unit(uint8_t bytes[40])
 {
     uint16_t tag = tags[below(TAGS)];
-    size_t length = 32;
-    if (second.device.slots[tag].stage != NO_TASK && below(8))
+    for (int i = 0; i < 12 && second.device.slots[tag].stage != NO_TASK; i++)
         tag = tags[below(TAGS)];
     memset(bytes, 0, 40);
-    bytes[0] = below(16) ? UAS_UNIT_COMMAND : UAS_UNIT_TASK;
+    bytes[0] = UAS_UNIT_COMMAND;
     put_big(tag, bytes + 2, 2);
     bytes[9] = (uint8_t)below(below(20) ? UNITS : 4);
-    if (bytes[0] == UAS_UNIT_TASK) {
-        static const uint8_t functions[] = { UAS_ABORT_TASK, UAS_ABORT_TASK, UAS_ABORT_TASK, UAS_QUERY_TASK, UAS_LOGICAL_UNIT_RESET, 2 };
-        length = 16;
-        bytes[4] = functions[below(6)];
-        put_big(tags[below(TAGS)], bytes + 6, 2);
-    } else
-        draw_cdb(bytes + 16);
+    draw_cdb(bytes + 16);
     if (below(60) == 0)
         bytes[below(16)] ^= (uint8_t)(1 << below(8));
-    return below(60) ? length : below(40);
+    return below(60) ? 32 : below(40);
 }
 
 static void put_command(void)
@@ -242,6 +253,36 @@ static void ring_doorbell(int pipe, uint32_t stream)
     set(DOORBELL + 4, 4, (uint32_t)pipe | stream << 16);
     second_doorbell(&second, pipe, stream);
 }
+
+/* Whether a tag has a chunk of which bytes were given and more are to be. */
+static bool is_any_chunk_left(void)
+{
+    bool left = false;
+    for (int i = 0; i < TAGS; i++)
+        left |= second.ways[tags[i]].from < second.ways[tags[i]].to;
+    return left;
+}
+
+/* A task management, which the device receives before any tag's turn. */
+static void manage(void)
+{
+    static const uint8_t functions[] = { UAS_ABORT_TASK, UAS_ABORT_TASK, UAS_ABORT_TASK, UAS_QUERY_TASK, UAS_LOGICAL_UNIT_RESET, 2 };
+    struct ring *ring = &pipes[PIPE_COMMAND][0];
+    const struct second_endpoint *endpoint = &second.endpoints[PIPE_COMMAND];
+    uint8_t bytes[16] = { UAS_UNIT_TASK, 0, 0, (uint8_t)tags[below(TAGS)], functions[below(6)] };
+    uint64_t at = draw_buffer(sizeof bytes);
+    bool is_empty = (second_long(second_context(&second, PIPE_COMMAND, 0)) & ~(uint64_t)15) == next_place(ring);
+    if (!is_empty || endpoint->state != STATE_RUNNING || endpoint->fronts[0].begun || second_free_places(&second.events) < 8 || is_any_chunk_left())
+        return;
+    put_big(tags[below(TAGS)], bytes + 6, 2);
+    bytes[9] = (uint8_t)below(below(20) ? UNITS : 4);
+    store(at, bytes, sizeof bytes);
+    put(ring, at, sizeof bytes, TRB_NORMAL << 10 | draw_flags());
+    ring_doorbell(PIPE_COMMAND, 0);
+    for (int i = 0; i < 8 && endpoint->rung[0]; i++)
+        step();
+}
+
 
 static void issue(uint32_t type, int pipe, uint64_t parameter, uint32_t stream, uint32_t flags)
 {
@@ -293,7 +334,7 @@ static void take_events(void)
 
 static void act(void)
 {
-    uint32_t kind = below(17);
+    uint32_t kind = below(18);
     int pipe = PIPE_STATUS + (int)below(3), which = (int)below(TAGS);
     if (kind < 2)
         put_command();
@@ -302,13 +343,15 @@ static void act(void)
     else if (kind < 8)
         ring_doorbell(PIPE_COMMAND, 0);
     else if (kind < 11)
-        ring_doorbell(pipe, tags[which]);
+        ring_doorbell(pipe, below(60) ? tags[which] : below(2) ? 0 : below(300));
     else if (kind == 11)
         answer();
     else if (kind == 12)
         take_events();
     else if (kind == 16)
         put_controller_command();
+    else if (kind == 17)
+        manage();
     else
         for (uint32_t i = below(12); i > 0 && step(); i--)
             ;

@@ -101,7 +101,7 @@ static void put_link(struct ring *ring, uint32_t flags, bool toggles)
 static uint64_t put(struct ring *ring, uint64_t parameter, uint32_t status, uint32_t control)
 {
     uint64_t here = next_place(ring);
-    store_trb(here, parameter, status, control | ring->cycle);
+    store_trb(here, parameter, status, control ^ ring->cycle);
     if (++ring->place == ring->places - 1)
         put_link(ring, control & BIT_CHAIN, ring->segment == 1);
     return here;

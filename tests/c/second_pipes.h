@@ -51,7 +51,7 @@ struct second_machine {
     uint64_t contexts, arrays[SECOND_PIPES];
     struct second_endpoint endpoints[SECOND_PIPES];
     struct second_way ways[UAS_GREATEST_TAG + 1];
-    uint8_t gathered[UNIT_ROOM + 1];
+    uint8_t gathered[UNIT_ROOM];
     size_t gathered_bytes;
     uint16_t acted; /* the tag of the last step */
     int looked;     /* the pipe */
@@ -253,14 +253,13 @@ static inline bool second_command_turn(struct second_machine *machine)
         return found == FOUND_ACTED;
     bool fails = front->ended != 0;
     if (!second_take_other(machine, PIPE_COMMAND, 0, &trb)) {
-        uint32_t length = second_length(&trb);
-        const uint8_t *from = second_source(machine, front, &trb, length);
+        uint32_t length = second_length(&trb), room = UNIT_ROOM - (uint32_t)machine->gathered_bytes, bytes = length < room ? length : room;
+        const uint8_t *from = bytes > 0 ? second_source(machine, front, &trb, bytes) : machine->gathered;
         if (from == NULL) {
             second_no_buffer(machine, PIPE_COMMAND, 0, &trb);
             fails = true;
         } else {
-            size_t room = sizeof machine->gathered - machine->gathered_bytes, bytes = length < room ? length : room;
-            memcpy(machine->gathered + machine->gathered_bytes, from, bytes);
+            memmove(machine->gathered + machine->gathered_bytes, from, bytes);
             machine->gathered_bytes += bytes;
             second_moved(machine, PIPE_COMMAND, 0, &trb, length);
         }
@@ -318,6 +317,7 @@ static inline void second_give(struct second_machine *machine, uint16_t tag, con
     way->fed = true;
     if (!second_is_there(&machine->memory, trb->parameter + front->moved, bytes)) {
         way->drops = true;
+        way->from = way->to;
         second_no_buffer(machine, PIPE_IN, tag, trb);
         return;
     }
@@ -473,7 +473,7 @@ static inline void second_send(struct second_machine *machine, uint16_t tag, con
     second_leave(machine, tag);
     if (bytes > 0 && !second_is_there(&machine->memory, trb->parameter + front->moved, bytes)) {
         second_no_buffer(machine, PIPE_STATUS, tag, trb);
-        way->sends = false;
+        way->sent = 0;
         return;
     }
     if (bytes > 0)
@@ -496,15 +496,17 @@ static inline void second_send(struct second_machine *machine, uint16_t tag, con
 static inline bool second_status_turn(struct second_machine *machine, uint16_t tag)
 {
     struct second_front *front = &machine->endpoints[PIPE_STATUS].fronts[tag];
+    struct second_way *way = &machine->ways[tag];
     struct second_trb trb;
     enum second_found found = second_look(machine, PIPE_STATUS, tag, &trb);
     if (found != FOUND_TRB)
         return found == FOUND_ACTED;
     uint32_t type = second_type(&trb);
-    if (machine->ways[tag].sends && machine->ways[tag].sent > 0 && front->ended == 0 && (type == TRB_NO_OP || type == TRB_EVENT_DATA) && !(trb.control & BIT_CHAIN))
+    bool ends = (type == TRB_NO_OP || type == TRB_EVENT_DATA) && !(trb.control & BIT_CHAIN), whole = way->sent == way->length;
+    if (way->sends && way->sent > 0 && !whole && front->ended == 0 && ends)
         second_babble(machine, tag, &trb);
     else if (second_take_other(machine, PIPE_STATUS, tag, &trb))
-        ;
+        way->sends = way->sends && !(whole && ends);
     else if (second_begin_unit(machine, tag))
         second_send(machine, tag, &trb);
     else if (second_room(front, &trb) == 0)
@@ -523,7 +525,7 @@ static inline bool second_tag_turn(struct second_machine *machine, uint16_t tag)
     uint8_t phase = second_phase(machine, tag, &left);
     bool begun = machine->endpoints[PIPE_IN].fronts[tag].begun || machine->endpoints[PIPE_OUT].fronts[tag].begun;
     bool idle = (phase == UAS_ABSENT || phase == UAS_WAITS) && !begun;
-    if (idle && !machine->ways[tag].sends && machine->ways[tag].overlaps == 0 && !machine->endpoints[PIPE_STATUS].fronts[tag].begun)
+    if (idle && !machine->ways[tag].sends && machine->ways[tag].overlaps == 0 && machine->endpoints[PIPE_STATUS].fronts[tag].ended == 0)
         return false;
     return second_in_turn(machine, tag) || second_out_turn(machine, tag) || second_status_turn(machine, tag);
 }

@@ -145,7 +145,7 @@ static uint32_t draw_flags(void)
 static void put_rubbish(struct ring *ring, uint32_t flags)
 {
     uint32_t length = draw_length(), kind = below(8);
-    uint64_t ends[] = { BASE - below(length + 2), BASE + SECOND_MEMORY_BYTES - below(length + 2), UINT64_MAX - below(length + 2), drawn() };
+    uint64_t ends[] = { BASE - 1 - below(length + 2), BASE + SECOND_MEMORY_BYTES - below(length + 2), UINT64_MAX - below(length + 2), drawn() };
     uint32_t type = below(64);
     if (kind == 0 && type != TRB_LINK)
         put(ring, drawn(), (uint32_t)drawn(), type << 10 | flags);

@@ -70,6 +70,8 @@ static inline void second_forget(struct second_machine *machine, int pipe, uint3
         machine->gathered_bytes = 0;
     if (pipe == PIPE_STATUS)
         machine->ways[stream].sent = 0;
+    if (pipe == PIPE_IN)
+        machine->ways[stream].open = false;
 }
 
 static inline void second_reset_endpoint(struct second_machine *machine, int pipe, const struct second_trb *trb)

@@ -116,7 +116,6 @@ static inline enum second_found second_look(struct second_machine *machine, int 
         return acted ? FOUND_ACTED : FOUND_NOTHING;
     uint64_t pointer = second_long(second_context(machine, pipe, stream));
     if (pipe != PIPE_COMMAND && (pointer >> 1 & 7) != 1) {
-        endpoint->rung[stream] = false;
         second_set_state(machine, pipe, STATE_HALTED);
         second_tell(machine, pipe, 0, CODE_STREAM_TYPE, 0, false);
         return FOUND_ACTED;

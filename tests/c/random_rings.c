@@ -1,7 +1,12 @@
-/* Random rings of the four pipes of a controller of uas_xhci.h, step by step beside a second implementation (second_pipes.h): after each step
- * all bytes of the memory are equal, and what is asked of the backend, which answers late, out of order and with errors.
+/* Random rings of the four pipes of a controller of uas_xhci.h, step by step beside a second implementation (second_pipes.h): after each step all
+ * bytes of the memory are equal, events and contexts among them, whether a step was taken, and what is asked of the backend, which answers
+ * late, out of order and with errors.
  *
- *   random_rings [ROUNDS [SEED]]    each round has a new controller */
+ *   random_rings [ROUNDS [SEED]]    each round has a new controller
+ *
+ * Left out: a task management that comes while a chunk of a task is given in part: the controller then gives what is left of the chunk of a
+ * task that is gone. Links, contexts and an event ring where no memory is (HSE). Buffers over rings and contexts. Registers (interrupts, EHB)
+ * and *more. */
 #include "random_rings.h"
 
 enum { ACTIONS = 2000 };

@@ -27,10 +27,11 @@ struct second_endpoint {
     struct second_front fronts[UAS_GREATEST_TAG + 1];
 };
 
-/* What a tag has on its way: how much of a unit, whether that is the answer to an overlap, and of its task's data. */
+/* What a tag has on its way: how much of a unit, and of its task's data. */
 struct second_way {
     uint32_t overlaps;
-    bool sends, overlap, fed, open, drops, done;
+    bool sends, overlap; /* a unit is on its way, and it answers an overlap */
+    bool fed, open, drops, done; /* the task gave bytes; its last one's TD isn't over; bytes are dropped; it ends no TD any more */
     size_t sent, length;
     uint8_t unit[UAS_MOST_UNIT_BYTES], chunk[SECOND_MOST_CHUNK * 4096];
     size_t from, to; /* what is left of the chunk that was taken from the device */
@@ -53,8 +54,7 @@ struct second_machine {
     struct second_way ways[UAS_GREATEST_TAG + 1];
     uint8_t gathered[UNIT_ROOM];
     size_t gathered_bytes;
-    uint16_t acted; /* the tag of the last step */
-    int looked;     /* the pipe */
+    uint16_t acted; /* the tag whose turn was the last */
     unsigned long taken[SECOND_PIPES][64], commands_done[64], units, statuses, overlaps, codes[64];
 };
 
@@ -109,7 +109,6 @@ static inline enum second_found second_look(struct second_machine *machine, int 
 {
     struct second_endpoint *endpoint = &machine->endpoints[pipe];
     bool acted;
-    machine->looked = pipe;
     if (endpoint->state != STATE_RUNNING || !endpoint->rung[stream])
         return FOUND_NOTHING;
     if (!second_has_room(&machine->memory, &machine->events, &acted))
@@ -349,16 +348,15 @@ static inline bool second_in_turn(struct second_machine *machine, uint16_t tag)
     enum second_found found = second_look(machine, PIPE_IN, tag, &trb);
     if (found != FOUND_TRB)
         return found == FOUND_ACTED;
-    if (second_take_other(machine, PIPE_IN, tag, &trb))
-        ;
-    else if (second_room(front, &trb) == 0)
+    bool taken = second_take_other(machine, PIPE_IN, tag, &trb);
+    if (!taken && second_room(front, &trb) == 0)
         second_moved(machine, PIPE_IN, tag, &trb, 0);
-    else if (phase == UAS_GIVES)
+    else if (!taken && phase == UAS_GIVES)
         second_give(machine, tag, &trb);
-    else if (phase == UAS_ENDS && second_ends_data(machine, tag)) {
+    else if (!taken && phase == UAS_ENDS && second_ends_data(machine, tag)) {
         way->done = true;
         second_end_short(machine, PIPE_IN, tag, &trb);
-    } else
+    } else if (!taken)
         return false;
     way->open = way->open && front->begun && front->ended == 0;
     return true;
@@ -394,14 +392,12 @@ static inline bool second_out_turn(struct second_machine *machine, uint16_t tag)
     uint32_t room = second_room(front, &trb);
     bool drops = phase == UAS_ENDS && second_is_good(&machine->device.slots[tag]) && front->begun;
     if (second_take_other(machine, PIPE_OUT, tag, &trb))
-        ;
-    else if (room == 0 || drops)
+        return true;
+    if (room == 0 || drops)
         second_moved(machine, PIPE_OUT, tag, &trb, room);
     else if (phase == UAS_TAKES)
         second_take(machine, tag, &trb, left);
-    else
-        return false;
-    return true;
+    return room == 0 || drops || phase == UAS_TAKES;
 }
 
 /* A TD that was begun is there also while its endpoint is stopped or its doorbell isn't rung, but not once its endpoint had an error. */
@@ -552,7 +548,7 @@ static inline bool second_pipes_step(struct second_machine *machine)
         if (second_invalid_turn(machine, pipe))
             return true;
     for (uint16_t tag = 1; tag <= UAS_GREATEST_TAG; tag++)
-        if (machine->acted = tag, second_tag_turn(machine, tag))
+        if (second_tag_turn(machine, machine->acted = tag))
             return true;
     return false;
 }

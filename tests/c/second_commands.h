@@ -27,7 +27,7 @@ static inline void second_tell_stopped(struct second_machine *machine, int pipe,
     bool there = (trb.control & BIT_CYCLE) == (pointer & 1);
     if (front->ended == CODE_SHORT)
         second_tell(machine, pipe, trb.at, CODE_STOPPED_SHORT, front->transferred, false);
-    else if (there && second_type(&trb) == TRB_NORMAL)
+    else if (there && second_type(&trb) == TRB_NORMAL && second_length(&trb) <= TRB_MOST_BYTES)
         second_tell(machine, pipe, trb.at, CODE_STOPPED, second_room(front, &trb), false);
     else
         second_tell(machine, pipe, trb.at, CODE_STOPPED_LENGTH, 0, false);

@@ -5,7 +5,8 @@
  *   random_rings [ROUNDS [SEED]]    each round has a new controller
  *
  * Left out: a task management that comes while a chunk of a task is given in part: the controller then gives what is left of the chunk of a
- * task that is gone. Links, contexts and an event ring where no memory is (HSE). Buffers over rings and contexts. Registers (interrupts, EHB)
+ * task that is gone. A TRB that is begun and overwritten by a Link TRB: the bytes that were moved are then counted for the TRB behind the
+ * Link. Links, contexts and an event ring where no memory is (HSE). Buffers over rings and contexts. Registers (interrupts, EHB)
  * and *more. */
 #include "random_rings.h"
 
@@ -180,12 +181,20 @@ static void put_random_trb(struct ring *ring, uint32_t chain)
         put(ring, draw_buffer(length), length | below(32) << 17, TRB_NORMAL << 10 | flags);
 }
 
+/* Whether the next TRBs would be put over the one in front. */
+static bool is_at_front(const struct ring *ring)
+{
+    uint64_t pointer = second_long(second_context(&second, ring->pipe, ring->stream)) & ~(uint64_t)15;
+    return pointer - next_place(ring) <= 32;
+}
+
 static void put_random_td(struct ring *ring)
 {
+    bool begun = second.endpoints[ring->pipe].fronts[ring->stream].begun;
     uint32_t count = below(2) ? 1 : 1 + below(6);
     if (room_of(ring) < count + 4)
         return;
-    while (count-- > 0)
+    while (count-- > 0 && !(begun && is_at_front(ring)))
         put_random_trb(ring, count > 0 ? BIT_CHAIN : 0);
 }
 

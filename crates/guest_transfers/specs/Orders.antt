@@ -110,6 +110,10 @@ has_work t tag phase =
     has_task phase || (has_unit (slot_of t tag).tag || (not ((slot_of t tag).tag.overlaps == 0)
     || (not (runs (progress_on t.status tag).ending) || has_begun_data t tag)))
 
+-- what a task that is gone has left of its chunk is dropped
+abbrev pub left_dropped : TransfersState → ℕ → TransfersState
+left_dropped t tag = with_slot t tag (record (slot_of t tag) { tag = record (slot_of t tag).tag { chunk = [] } })
+
 -- a chunk is given that is dropped
 abbrev pub drops_now : Bool → Phase → Bool
 drops_now drops Absent = false

@@ -9,7 +9,7 @@ ghost use Rattle.guest_tags.specs.DataIn.{has_chunk};
 ghost use Rattle.guest_tags.specs.Devices.{Kind};
 ghost use Rattle.guest_transfers.specs.State.{TransfersWorld, slot_of};
 ghost use Rattle.guest_transfers.specs.Steps.{in_stepped, out_stepped};
-ghost use Rattle.guest_transfers.specs.Orders.{pipe_kept, dequeue_kept, dequeue_moved, unit_forgotten, command_configured, command_disabled, command_forgotten, command_stopped, chunk_dropped, data_stepped, dropped_in, drops_now, has_begun_data, has_task, has_work, or_out, pipe_of, with_pipe, tags_cleared, invalid_on};
+ghost use Rattle.guest_transfers.specs.Orders.{pipe_kept, dequeue_kept, dequeue_moved, unit_forgotten, command_configured, command_disabled, command_forgotten, command_stopped, chunk_dropped, data_stepped, dropped_in, drops_now, has_begun_data, has_task, has_work, left_dropped, or_out, pipe_of, with_pipe, tags_cleared, invalid_on};
 ghost use Rattle.guest_memory.specs.Bytes.{Memory};
 ghost use Rattle.guest_rings.specs.Events.{EventEnd};
 
@@ -321,6 +321,14 @@ impl Transfers {
         ensures { result ≡ has_chunk (slot_of self.now tag).tag }
     {
         self.tags[usize::from(tag)].tag.has_chunk()
+    }
+
+    /// What a task that is gone has left of its chunk is dropped.
+    pub fn drop_left(&mut self, tag: u16)
+        requires { tag < 241 }
+        ensures { self.new ≡ left_dropped self.old tag }
+    {
+        self.tags[usize::from(tag)].tag.chunk.clear();
     }
 
     /// Whether a data TD of a tag was begun and isn't over.

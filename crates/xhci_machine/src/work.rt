@@ -7,7 +7,7 @@ use crate::states::{States, context_state};
 use guest_memory::{GuestMemory, Outside};
 use guest_pipes::{Acted, EndpointState};
 use guest_rings::{Event, EventRing};
-use guest_tags::UasDevice;
+use guest_tags::{Phase, UasDevice};
 use guest_transfers::StreamPipe;
 use xhci_contexts::Number;
 
@@ -331,6 +331,9 @@ impl Machine {
     {
         if turn.is_over() {
             return Ok(());
+        }
+        if matches!(self.device.phase(tag), Phase::Absent) {
+            self.transfers.drop_left(tag);
         }
         if !self.has_work(tag) {
             self.device.rest(tag);

@@ -304,7 +304,7 @@ impl Machine {
             self.look_context(memory)?;
         }
         let phase = self.device.phase(tag);
-        let has_chunk = self.transfers.has_chunk(tag) && !matches!(phase, Phase::Absent);
+        let has_chunk = self.transfers.has_chunk(tag) && !self.is_gone(tag);
         needs(self.transfers.wants_data(memory, events, &self.device, tag))?;
         let gives = has_chunk || matches!(phase, Phase::Gives(_));
         if self.acts_for(memory, StreamPipe::DataIn, tag, gives) {

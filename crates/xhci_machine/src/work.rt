@@ -7,8 +7,9 @@ use crate::states::{States, context_state};
 use guest_memory::{GuestMemory, Outside};
 use guest_pipes::{Acted, EndpointState};
 use guest_rings::{Event, EventRing};
-use guest_tags::{Phase, UasDevice};
+use guest_tags::UasDevice;
 use guest_transfers::StreamPipe;
+use uas_tasks::Wants;
 use xhci_contexts::Number;
 
 /// The root hub port of the disk.
@@ -332,7 +333,7 @@ impl Machine {
         if turn.is_over() {
             return Ok(());
         }
-        if matches!(self.device.phase(tag), Phase::Absent) {
+        if self.is_gone(tag) {
             self.transfers.drop_left(tag);
         }
         if !self.has_work(tag) {
@@ -350,6 +351,11 @@ impl Machine {
             .transfers
             .step_status(memory, events, &mut self.device, tag)?;
         self.note(memory, events, turn, acted)
+    }
+
+    /// Whether a tag has no task, as one has that waits for the backend.
+    pub(crate) fn is_gone(&self, tag: u16) -> bool {
+        matches!(self.device.tasks.wants(tag), Wants::Absent)
     }
 
     /// Whether a tag has something to do: of one whose request is at the backend a part of its chunk may be left.

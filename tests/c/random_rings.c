@@ -4,10 +4,10 @@
  *
  *   random_rings [ROUNDS [SEED]]    each round has a new controller
  *
- * Left out: a task management that comes while a chunk of a task is given in part: the controller then gives what is left of the chunk of a
- * task that is gone. A TRB that is begun and overwritten by a Link TRB: the bytes that were moved are then counted for the TRB behind the
- * Link. Links, contexts and an event ring where no memory is (HSE). Buffers over rings and contexts. Registers (interrupts, EHB)
- * and *more. */
+ * Left out: a TRB that is begun and overwritten by a Link TRB (the bytes that were moved are then counted for the TRB behind the Link). Links,
+ * contexts and an event ring where no memory is (HSE). Buffers over rings and contexts. Registers (interrupts, EHB) and *more.
+ * Not settled: in one of some million steps the machines differ in whether a unit of which bytes were sent begins anew (seed 11, step
+ * 1,219,660), and in whether a Response waits for a data TD whose endpoint is stopped (seed 99, step 68,392). */
 #include "random_rings.h"
 
 enum { ACTIONS = 2000 };
@@ -268,15 +268,6 @@ static void ring_doorbell(int pipe, uint32_t stream)
     second_doorbell(&second, pipe, stream);
 }
 
-/* Whether a tag has a chunk of which bytes were given and more are to be. */
-static bool is_any_chunk_left(void)
-{
-    bool left = false;
-    for (int i = 0; i < TAGS; i++)
-        left |= second.ways[tags[i]].from < second.ways[tags[i]].to;
-    return left;
-}
-
 /* A task management, which the device receives before any tag's turn. */
 static void manage(void)
 {
@@ -286,7 +277,7 @@ static void manage(void)
     uint8_t bytes[16] = { UAS_UNIT_TASK, 0, 0, (uint8_t)tags[below(TAGS)], functions[below(6)] };
     uint64_t at = draw_buffer(sizeof bytes);
     bool is_empty = (second_long(second_context(&second, PIPE_COMMAND, 0)) & ~(uint64_t)15) == next_place(ring);
-    if (!is_empty || endpoint->state != STATE_RUNNING || endpoint->fronts[0].begun || second_free_places(&second.events) < 8 || is_any_chunk_left())
+    if (!is_empty || endpoint->state != STATE_RUNNING || endpoint->fronts[0].begun || second_free_places(&second.events) < 8)
         return;
     put_big(tags[below(TAGS)], bytes + 6, 2);
     bytes[9] = (uint8_t)below(below(20) ? UNITS : 4);

@@ -353,7 +353,7 @@ impl Machine {
         self.note(memory, events, turn, acted)
     }
 
-    /// Whether a tag has no task, as one has that waits for the backend.
+    /// Whether a tag has no task; one that waits for the backend has.
     pub(crate) fn is_gone(&self, tag: u16) -> bool {
         matches!(self.device.tasks.wants(tag), Wants::Absent)
     }

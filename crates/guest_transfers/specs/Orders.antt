@@ -10,7 +10,7 @@ use Rattle.guest_pipes.specs.declared.consumer.EndpointState.TheVariants.{Disabl
 use Rattle.guest_pipes.specs.Progress.{fresh, runs}
 use Rattle.guest_pipes.specs.Gate.{after, room_gate, through}
 use Rattle.guest_pipes.specs.Orders.{PipeWorld, dequeue_set, invalid_stepped}
-use Rattle.guest_pipes.specs.Pipe.{PipeState, progress_on}
+use Rattle.guest_pipes.specs.Pipe.{PipeState, configured, progress_on, reset_with}
 use Rattle.guest_tags.specs.declared.device.Phase.{Phase}
 use Rattle.guest_tags.specs.declared.device.Phase.TheVariants.{Absent, Gives, Takes, Ended}
 use Rattle.guest_tags.specs.Devices.{Kind}
@@ -62,6 +62,20 @@ abbrev pub unit_forgotten : TransfersState → StreamPipe → ℕ → TransfersS
 unit_forgotten t Status stream = if nat_lt stream 241 then with_slot t stream (status_forgotten (slot_of t stream)) else t
 unit_forgotten t DataOut stream = t
 unit_forgotten t DataIn stream = t
+
+-- and those of all its streams, where the pipe is added or reset
+abbrev pub units_forgotten : TransfersState → StreamPipe → TransfersState
+units_forgotten t Status = record t { tags = map status_forgotten t.tags }
+units_forgotten t DataOut = t
+units_forgotten t DataIn = t
+
+-- a pipe with streams, by an endpoint that was added, or reset, where TSP keeps what is opaque
+abbrev pub pipe_added : TransfersState → StreamPipe → ℕ → ℕ → TransfersState
+pipe_added t name array streams = units_forgotten (with_pipe t name (configured (pipe_of t name) array streams)) name
+
+abbrev pub pipe_reset : Bool → TransfersState → StreamPipe → TransfersState
+pipe_reset true t name = with_pipe t name (reset_with true (pipe_of t name))
+pipe_reset false t name = units_forgotten (with_pipe t name (reset_with false (pipe_of t name))) name
 
 abbrev pub pipe_kept : TransfersState → StreamPipe → Memory × PipeState → Memory × TransfersState
 pipe_kept t name after = (after.0, with_pipe t name after.1)

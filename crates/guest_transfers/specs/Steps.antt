@@ -30,11 +30,11 @@ keeps_begun Halted = false
 keeps_begun Stopped = true
 keeps_begun Error = false
 
--- DATA-IN OPEN: the data-in ring of a tag has still to end a TD, or the rest of one
+-- DATA-IN OPEN: the data-in ring of a tag has still to end a TD, or the rest of one, before a status; a Response ends none
 abbrev pub in_open : PipeState → Slot → ℕ → End → Bool
 in_open pipe slot tag end =
     ((is_running pipe.state && rung_on pipe tag) || (keeps_begun pipe.state && (progress_on pipe tag).begun))
-    && ((is_status end && ends_td slot.tag (progress_on pipe tag).fed) || not (runs (progress_on pipe tag).ending))
+    && (is_status end && (ends_td slot.tag (progress_on pipe tag).fed || not (runs (progress_on pipe tag).ending)))
 
 -- DATA-OUT OPEN: the rest of a TD that was begun has still to be dropped
 abbrev pub out_open : PipeState → ℕ → End → Bool

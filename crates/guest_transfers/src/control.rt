@@ -3,18 +3,18 @@ ghost use Rattle.std.specs.Prelude.{◌≡◌, ◌+◌, ◌<◌, ◌≤◌, ◌^
 ghost use Rattle.std.specs.Result.{result_ok};
 ghost use Rattle.guest_pipes.specs.Gate.{after, stop_looked};
 ghost use Rattle.guest_pipes.specs.Step.{has_place};
-ghost use Rattle.guest_pipes.specs.Pipe.{PipeState, configured, disabled, home_of, loaded, progress_on, reset_with, stopped};
+ghost use Rattle.guest_pipes.specs.Pipe.{PipeState, disabled, home_of, loaded, progress_on, stopped};
 ghost use Rattle.guest_pipes.specs.Orders.{PipeWorld, dequeue_set, invalid_stepped};
 ghost use Rattle.guest_tags.specs.DataIn.{has_chunk};
 ghost use Rattle.guest_tags.specs.Devices.{Kind};
 ghost use Rattle.guest_transfers.specs.State.{TransfersWorld, slot_of};
 ghost use Rattle.guest_transfers.specs.Steps.{in_stepped, out_stepped};
-ghost use Rattle.guest_transfers.specs.Orders.{pipe_kept, dequeue_kept, dequeue_moved, unit_forgotten, command_configured, command_disabled, command_forgotten, command_stopped, chunk_dropped, data_stepped, dropped_in, drops_now, has_begun_data, has_task, has_work, left_dropped, or_out, pipe_of, with_pipe, tags_cleared, invalid_on};
+ghost use Rattle.guest_transfers.specs.Orders.{pipe_added, pipe_kept, pipe_reset, dequeue_kept, dequeue_moved, unit_forgotten, units_forgotten, command_configured, command_disabled, command_forgotten, command_stopped, chunk_dropped, data_stepped, dropped_in, drops_now, has_begun_data, has_task, has_work, left_dropped, or_out, pipe_of, with_pipe, tags_cleared, invalid_on};
 ghost use Rattle.guest_memory.specs.Bytes.{Memory};
 ghost use Rattle.guest_rings.specs.Events.{EventEnd};
 
 use crate::calls::{TAG_SLOTS, Transfers};
-use crate::slot::empty_all;
+use crate::slot::{empty_all, forget_statuses};
 use guest_memory::{GuestMemory, Outside};
 use guest_pipes::{Acted, Consumer, EndpointState, Pipe, Progress, room_gate};
 use guest_rings::{Cursor, EventRing};
@@ -53,13 +53,14 @@ impl Transfers {
     /// Adds a pipe with streams: its array of stream contexts, and how many it has, 0 where it has no streams (Configure Endpoint).
     pub fn configure(&mut self, name: StreamPipe, array: u64, streams: u16)
         requires { streams ≤ 256 }
-        ensures { self.new ≡ with_pipe self.old name (configured (pipe_of self.old name) array streams) }
+        ensures { self.new ≡ pipe_added self.old name array streams }
     {
         match name {
             StreamPipe::Status => self.status.configure(array, streams),
             StreamPipe::DataOut => self.data_out.configure(array, streams),
             StreamPipe::DataIn => self.data_in.configure(array, streams),
         }
+        self.forget_units(name);
     }
 
     /// Drops a pipe with streams (Configure Endpoint).
@@ -87,12 +88,15 @@ impl Transfers {
 
     /// Brings a pipe with streams from halted to stopped (Reset Endpoint); what is opaque stays where `keeps` (TSP).
     pub fn reset(&mut self, name: StreamPipe, keeps: bool)
-        ensures { self.new ≡ with_pipe self.old name (reset_with keeps (pipe_of self.old name)) }
+        ensures { self.new ≡ pipe_reset keeps self.old name }
     {
         match name {
             StreamPipe::Status => self.status.reset(keeps),
             StreamPipe::DataOut => self.data_out.reset(keeps),
             StreamPipe::DataIn => self.data_in.reset(keeps),
+        }
+        if !keeps {
+            self.forget_units(name);
         }
     }
 
@@ -103,9 +107,19 @@ impl Transfers {
         match name {
             StreamPipe::Status => {
                 if usize::from(stream) < TAG_SLOTS {
-                    self.tags[usize::from(stream)].tag.unit.rewind();
+                    self.tags[usize::from(stream)].forget_status();
                 }
             }
+            StreamPipe::DataOut | StreamPipe::DataIn => (),
+        }
+    }
+
+    /// The same of all streams of a pipe.
+    fn forget_units(&mut self, name: StreamPipe)
+        ensures { self.new ≡ units_forgotten self.old name }
+    {
+        match name {
+            StreamPipe::Status => forget_statuses(&mut self.tags),
             StreamPipe::DataOut | StreamPipe::DataIn => (),
         }
     }

@@ -1,6 +1,6 @@
 //! What is kept of a tag.
 ghost use Rattle.std.specs.Prelude.{◌≡◌, map};
-ghost use Rattle.guest_transfers.specs.Orders.{emptied};
+ghost use Rattle.guest_transfers.specs.Orders.{emptied, status_forgotten};
 
 use guest_tags::{Gather, Tag};
 
@@ -20,6 +20,13 @@ impl Slot {
         self.tag.unit.clear();
         self.tag.overlaps = 0;
     }
+
+    /// The information unit on its way goes from its start.
+    pub(crate) fn forget_status(&mut self)
+        ensures { self.new ≡ status_forgotten self.old }
+    {
+        self.tag.unit.rewind();
+    }
 }
 
 /// Nothing is kept of any tag any more.
@@ -28,5 +35,14 @@ pub(crate) fn empty_all(slots: &mut [Slot])
 {
     for slot in slots.iter_mut() {
         slot.empty();
+    }
+}
+
+/// The information units of all tags go from their starts.
+pub(crate) fn forget_statuses(slots: &mut [Slot])
+    ensures { slots.new ≡ map status_forgotten slots.old }
+{
+    for slot in slots.iter_mut() {
+        slot.forget_status();
     }
 }

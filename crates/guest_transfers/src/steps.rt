@@ -44,7 +44,7 @@ fn keeps_begun(state: EndpointState) -> bool
 }
 
 /// Whether the data-in ring of a tag whose task has ended so has still to end a TD, or the rest of one. One that was begun stays open while
-/// its endpoint is stopped.
+/// its endpoint is stopped. A Response ends none.
 fn in_open(pipe: &Pipe, slot: &Slot, tag: u16, end: End) -> bool
     requires { tag < 256 }
     ensures { result ≡ in_open pipe.now slot.now tag end }
@@ -53,7 +53,7 @@ fn in_open(pipe: &Pipe, slot: &Slot, tag: u16, end: End) -> bool
     let progress = consumer.progress;
     let is_there = consumer.state.runs() && consumer.rung
         || keeps_begun(consumer.state) && progress.begun;
-    is_there && (end.is_status() && slot.tag.ends_td(progress.fed) || !progress.ending.runs())
+    is_there && (end.is_status() && (slot.tag.ends_td(progress.fed) || !progress.ending.runs()))
 }
 
 /// Whether the rest of a data-out TD that was begun for a tag whose task has ended so has still to be dropped.

@@ -5,9 +5,7 @@
  *   random_rings [ROUNDS [SEED]]    each round has a new controller
  *
  * Left out: a TRB that is begun and overwritten by a Link TRB (the bytes that were moved are then counted for the TRB behind the Link). Links,
- * contexts and an event ring where no memory is (HSE). Buffers over rings and contexts. Registers (interrupts, EHB) and *more.
- * Not settled: once in 100,000 to 1,000,000 steps the machines differ in whether a unit of which bytes were sent begins anew (seed 11, step
- * 1,219,660), and in whether a Response waits for a data TD whose endpoint is stopped (seed 99, step 68,392). */
+ * contexts and an event ring where no memory is (HSE). Buffers over rings and contexts. Registers (interrupts, EHB) and *more. */
 #include "random_rings.h"
 
 enum { ACTIONS = 2000 };

@@ -519,7 +519,7 @@ static inline bool second_tag_turn(struct second_machine *machine, uint16_t tag)
     uint64_t left;
     uint8_t phase = second_phase(machine, tag, &left);
     bool begun = machine->endpoints[PIPE_IN].fronts[tag].begun || machine->endpoints[PIPE_OUT].fronts[tag].begun;
-    bool idle = (phase == UAS_ABSENT || phase == UAS_WAITS) && !begun;
+    bool idle = (phase == UAS_ABSENT || phase == UAS_ASKS || phase == UAS_WAITS) && !begun;
     if (idle && !machine->ways[tag].sends && machine->ways[tag].overlaps == 0 && machine->endpoints[PIPE_STATUS].fronts[tag].ended == 0)
         return false;
     return second_in_turn(machine, tag) || second_out_turn(machine, tag) || second_status_turn(machine, tag);

@@ -46,8 +46,8 @@ struct TextHead {
 }
 
 /// What the bytes of `front` and then of `source` have, as [`load`](crate::load) of them all, and behind how many steps the checksum `wanted`
-/// stands first. They are read in parts, of which one is in memory at a time: a part is longer than a MiB only where the head or a
-/// record is, or where no whole record was found yet in what is left.
+/// stands first. They are read in parts, of which one is in memory at a time. A part is longer than a MiB only where the head or a record
+/// is; and what follows a head that is refused, or a record that is torn, is read to its end into one, since more may still make it whole.
 pub fn load_from<S: Source>(
     alloc: Global,
     front: Vec<u8>,

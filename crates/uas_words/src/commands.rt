@@ -146,7 +146,10 @@ fn audit_command<'a>(alloc: Global) -> Result<Command<'a>, AllocError>
     Command::new(alloc, "audit")
         .about("Replays a saved log and audits each client's account in it")
         .after_help(AUDIT_HELP)
-        .arg(saved_log(alloc, "The file of a log, of at most 1073741824 bytes"))?
+        .arg(saved_log(
+            alloc,
+            "The file of a log; of version 1 or 2 it has at most 1073741824 bytes",
+        ))?
         .arg(head(alloc, HEAD_HELP))
 }
 

@@ -159,12 +159,12 @@ impl RingBus {
                     Handled::Engine => None,
                 }
             }
-            Event::Command { .. } => {
+            Event::Command { pointer, code, .. } => {
                 let retirement = self.host.retirement();
                 self.doors.clear();
                 let handled = self
                     .host
-                    .on_event(&mut self.lines, &self.frames, &mut self.doors, event);
+                    .on_completion(&mut self.lines, &mut self.doors, pointer, code);
                 ring(&mut self.controller, &self.doors);
                 stand(&self.host, &self.lines, &self.frames);
                 match handled {

@@ -27,6 +27,7 @@ pub fn chunk_len(bytes: usize, chunk: u16) -> usize
 
 /// Fills `bytes` with the next chunk of a command to the host: what the command is at then. A READ that meets a bad
 /// block ends with UNRECOVERED READ ERROR (SBC), and `bytes` are as they were.
+#[inline(always)]
 pub fn give_chunk(unit: &Unit, work: &Work, chunk: u16, bytes: &mut [u8]) -> Progress
     requires direction { work_direction work.now ≡ Direction.ToHost }
     requires left { CHUNK_BYTES * chunk < work_bytes work.now }

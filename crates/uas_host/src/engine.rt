@@ -72,9 +72,10 @@ impl Host {
         self.retirement = None;
     }
 
-    /// Takes in a completion of the controller's command ring, with this pointer and this code.
+    /// Takes in a completion of the controller's command ring, with this pointer and this code, whatever its slot, which is not
+    /// read. As [`Host::on_event`] does.
     #[inline(never)]
-    pub(crate) fn on_completion(
+    pub fn on_completion(
         &mut self,
         lines: &mut Lines,
         doors: &mut ArrayVec<u32, STREAM_ENTRIES>,

@@ -131,6 +131,7 @@ impl Host {
 
     /// Takes in a transfer event with this pointer, this residual and this code, whatever its endpoint and its slot, which are
     /// not read. As [`Host::on_event`] does, but it rings nothing, as no transfer event does: it is `Matched` or `Stray`.
+    #[inline(always)]
     pub fn on_transfer(
         &mut self,
         lines: &mut Lines,

@@ -6,6 +6,7 @@ ghost use Rattle.scsi_cmd.specs.declared.TheConstants.{MAX_SENSE_BYTES};
 ghost use Rattle.uas_host.specs.Seen.{after_response, client_seen, completes, data_after, doomed, goes_to_device, goes_to_host, host_seen};
 ghost use Rattle.uas_host.specs.Seen.{is_data_left_over, is_doomed, is_td_left_over, left_over_data, ended_in, place_seen, seen, seen_data, with_retired};
 ghost use Rattle.uas_host.specs.Sights.{notice_by};
+ghost use Rattle.uas_host.specs.declared.HostAnswer.TheVariants as HostAnswer;
 ghost use Rattle.uas_host.specs.Notices.{Answered, TdRetired};
 ghost use Rattle.uas_profile.specs.TdStates.{is_left_over, is_over, is_pending, is_retired, is_seen};
 ghost use Rattle.uas_host.specs.State.{is_data_over, is_ready};
@@ -30,16 +31,21 @@ pub(crate) enum Sight {
     TdRetired(Pipe),
 }
 
-/// Sense as it is held.
-fn held_sense(bytes: &[u8]) -> ArrayVec<u8, MAX_SENSE_BYTES>
+/// What a Sense unit told. Where there is no sense it is made in one piece.
+#[inline(always)]
+fn told_status(status: u8, bytes: &[u8]) -> HostAnswer
     requires { length bytes.now ≤ MAX_SENSE_BYTES }
-    ensures { result.items ≡ bytes.now }
+    ensures { result ≡ HostAnswer.Status status (record { items = bytes.now }) }
 {
-    let mut sense = ArrayVec::new();
-    if !bytes.is_empty() {
-        sense.try_extend_from_slice(bytes).unwrap();
+    if bytes.is_empty() {
+        return HostAnswer::Status {
+            status,
+            sense: ArrayVec::new(),
+        };
     }
-    sense
+    let mut sense = ArrayVec::new();
+    sense.try_extend_from_slice(bytes).unwrap();
+    HostAnswer::Status { status, sense }
 }
 
 fn is_data_td_over(data_td: &Option<TdState>) -> bool
@@ -176,6 +182,7 @@ impl HostEntry {
     }
 
     /// The status and the sense of a command come; false, and nothing changes, where it waits for none.
+    #[inline(always)]
     fn answer(&mut self, status: u8, sense: &[u8]) -> bool
         requires { length sense.now ≤ MAX_SENSE_BYTES }
         ensures { MatchOption (seen (Answered status (record { items = sense.now })) self.old) ((result ≡ false) × (self.new ≡ self.old))
@@ -185,10 +192,7 @@ impl HostEntry {
             return false;
         }
         settle_data(&mut self.data_td, status);
-        self.told = HostAnswer::Status {
-            status,
-            sense: held_sense(sense),
-        };
+        self.told = told_status(status, sense);
         self.status_td = TdState::Seen;
         true
     }
@@ -270,7 +274,6 @@ fn leave_doomed_over(entries: &mut [Option<HostEntry>; TAGS], noted: &[u64])
 }
 
 /// The tickets of the commands that a task management ends.
-#[inline(never)]
 fn ended_by(held: &Option<HostEntry>) -> ArrayVec<u64, TASK_SLOT>
     ensures { IfSome held.now (λ entry. result.items ≡ ended_in entry.request) }
 {
@@ -278,6 +281,17 @@ fn ended_by(held: &Option<HostEntry>) -> ArrayVec<u64, TASK_SLOT>
         Some(entry) => entry.ended(),
         None => ArrayVec::new(),
     }
+}
+
+/// What the task management in a slot ends, among the commands of its client, is left over where its status wasn't seen. The
+/// tickets have their room here, and not at each event.
+#[inline(never)]
+fn leave_ended_over(entries: &mut [Option<HostEntry>; TAGS], slot: usize)
+    requires { slot < TAGS }
+    ensures { IfSome (held_at entries.old slot) (λ entry. entries.new ≡ after_response (ended_in entry.request) entries.old) }
+{
+    let ended = ended_by(&entries[slot]);
+    leave_doomed_over(entries, &ended);
 }
 
 impl Sight {
@@ -304,8 +318,7 @@ impl HostClient {
             None => false,
             Some(ready) => {
                 if completes {
-                    let ended = ended_by(&self.entries[slot]);
-                    leave_doomed_over(&mut self.entries, &ended);
+                    leave_ended_over(&mut self.entries, slot);
                 }
                 if ready {
                     self.ready.push(slot);

@@ -113,6 +113,7 @@ pub(crate) fn write_task(frames: &mut Frames, client: u8, task: Task)
 }
 
 /// What the bytes of a Sense or a Response unit of a tag tell, if they are one.
+#[inline(always)]
 pub(crate) fn read_answer(tag: u16, bytes: &[u8]) -> Option<Sight>
     ensures { option_map (notice_by (drop 16 bytes.now)) result ≡ answer_in tag bytes.now }
 {

@@ -167,6 +167,7 @@ impl Trb {
 /// The 16 bytes of a TRB with its Cycle bit (6.4). Asks that each field fits its bits: a Normal
 /// length 17, TD Size 5, flags 7, an endpoint 5, a residual 24, and that a pointer which loses its
 /// low four bits is a multiple of 16.
+#[inline(always)]
 pub fn encode(trb: &Trb, cycle: bool) -> [u8; 16]
     requires { Fits trb.now }
     ensures text { result ≡ text trb.now cycle }

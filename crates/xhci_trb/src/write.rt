@@ -8,6 +8,7 @@ use crate::words::Words;
 use crate::{Trb, TrbFlags};
 
 /// The words of a TRB with its Cycle bit.
+#[inline(always)]
 pub(crate) fn words_of_trb(trb: &Trb, cycle: bool) -> Words
     requires { Fits trb.now }
     ensures { result ≡ words_of trb.now cycle }
@@ -19,6 +20,7 @@ pub(crate) fn words_of_trb(trb: &Trb, cycle: bool) -> Words
     }
 }
 
+#[inline(always)]
 fn parameter(trb: &Trb) -> u64
     requires { Fits trb.now }
     ensures { result ≡ parameter_of trb.now }
@@ -35,6 +37,7 @@ fn parameter(trb: &Trb) -> u64
     }
 }
 
+#[inline(always)]
 fn status(trb: &Trb) -> u32
     requires { Fits trb.now }
     ensures { result ≡ status_of trb.now }
@@ -53,6 +56,7 @@ fn status(trb: &Trb) -> u32
 }
 
 // The control word without its Cycle bit.
+#[inline(always)]
 fn control(trb: &Trb) -> u32
     requires { Fits trb.now }
     ensures { result ≡ control_of trb.now }
@@ -77,6 +81,7 @@ fn control(trb: &Trb) -> u32
 const PRIMARY_RING: u64 = 2;
 
 // ENT to IDT lie in control bits 6:1, BEI in bit 9 (6.4.1.1).
+#[inline(always)]
 fn flag_bits(flags: TrbFlags) -> u32
     requires { flags.0 < 2 ^ 7 }
     ensures { result ≡ 2 * (flags.0 % 2 ^ 6) + 2 ^ 9 * (flags.0 / 2 ^ 6) }

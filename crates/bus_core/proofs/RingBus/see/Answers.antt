@@ -1,9 +1,10 @@
-use Rattle.std.proofs.Common.{◌≡◌, [], ap, sym, ◌∙◌}
+use Rattle.std.proofs.Common.{◌≡◌, ◌++◌, ℕ, List, [], ap, sym, ◌∙◌}
 use Rattle.std.specs.Option.{option_map_or}
 use Rattle.shared_machine.specs.declared.Step.TheVariants.{Event}
 use Rattle.bus_core.specs.Owners.{handled_as, retirement_seen}
 use Rattle.shared_machine.specs.Shared.{idle, ringing}
-use Rattle.uas_host.specs.Events.{event_doors, handled}
+use Rattle.uas_host.specs.Events.{event_doors, handled, Sides}
+use Rattle.event_ring.specs.declared.Event.{Event as EventOf}
 use Rattle.bus_core.specs.World.{world_of}
 use Rattle.bus_core.specs.WorldSteps.{event_sides, rung_all}
 use Rattle.bus_core.specs.Decoded.{decoded}
@@ -52,26 +53,39 @@ returns-after-handled-clause-shared c =
 
 -- an event of the controller's own command ring
 
+-- the doorbells of its completion are those of the event
+event-rung : (sides : Sides) (event completion : EventOf) (before rung : List ℕ) → event ≡ completion →
+    rung ≡ before ++ event_doors sides completion → rung ≡ before ++ event_doors sides event
+event-rung sides event completion before rung is rang = rang ∙ ap (λ of. before ++ event_doors sides of) (sym is)
+
+completed : (c : Joined-handled-2) → handled (event_sides (world_in c.self.inside)) c.self.inside.frames c.in_ok-event.event
+    ≡ (record { host = c.on_completion-handled.new.self; lines = c.on_completion-handled.new.lines }, c.on_completion-handled.result)
+completed c =
+    ap (handled (event_sides (world_in c.self.inside)) c.self.inside.frames) c.in-Command.is
+    ∙ rw c.in_ok-event.ensures.taken at c.on_completion-handled.ensures.handled
+
 pub rung_at-requires-clause-resumed : goal.rung_at-requires-clause-resumed
 rung_at-requires-clause-resumed c = λ moves.
     event-resumed (event_sides (world_in c.self.inside)) c.in_ok-event.event c.in_ok-ended-in-Engine-handled.ended c.deref-in-Engine-handled.result.now
     (sym c.retirement-retirement.ensures ∙ c.in_ok-ended-in-Engine-handled.was) moves
     (c.deref-in-Engine-handled.ensures.0
-    ∙ doors-cleared c.clear.new.self.items c.on_event-handled.new.doors.items _ c.clear.ensures
-    (rw c.in_ok-event.ensures.taken at c.on_event-handled.ensures.doors))
+    ∙ doors-cleared c.clear.new.self.items c.on_completion-handled.new.doors.items _ c.clear.ensures
+    (event-rung (event_sides (world_in c.self.inside)) c.in_ok-event.event _ c.clear.new.self.items c.on_completion-handled.new.doors.items c.in-Command.is
+    (rw c.in_ok-event.ensures.taken at c.on_completion-handled.ensures.doors)))
 
 -- what the host makes of the event is the shared machine's step
 seen : (c : Joined-handled-2) → IsTaken (decoded c.args.self.now) Event
-    (world_of c.on_event-handled.new.self (rung_all c.self.inside.controller c.on_event-handled.new.doors.items) c.self.inside.target
-    c.on_event-handled.new.lines c.self.inside.frames)
-    (handled_as c.self.inside.host.retirement c.on_event-handled.new.doors.items c.on_event-handled.result)
+    (world_of c.on_completion-handled.new.self (rung_all c.self.inside.controller c.on_completion-handled.new.doors.items) c.self.inside.target
+    c.on_completion-handled.new.lines c.self.inside.frames)
+    (handled_as c.self.inside.host.retirement c.on_completion-handled.new.doors.items c.on_completion-handled.result)
 seen c =
     event-taken (decoded c.args.self.now) (world_in c.self.inside)
-    c.in_ok-event.event c.on_event-handled.new.self c.on_event-handled.new.lines c.on_event-handled.new.doors.items c.on_event-handled.result events-fit
+    c.in_ok-event.event c.on_completion-handled.new.self c.on_completion-handled.new.lines c.on_completion-handled.new.doors.items c.on_completion-handled.result events-fit
     (fits-in c.self.inside c.self.view_is c.self.invariant) (sym c.in_ok-event.ensures.first)
-    (rw c.in_ok-event.ensures.taken at c.on_event-handled.ensures.handled)
-    (sym (doors-cleared c.clear.new.self.items c.on_event-handled.new.doors.items _ c.clear.ensures
-    (rw c.in_ok-event.ensures.taken at c.on_event-handled.ensures.doors)))
+    (completed c)
+    (sym (doors-cleared c.clear.new.self.items c.on_completion-handled.new.doors.items _ c.clear.ensures
+    (event-rung (event_sides (world_in c.self.inside)) c.in_ok-event.event _ c.clear.new.self.items c.on_completion-handled.new.doors.items c.in-Command.is
+    (rw c.in_ok-event.ensures.taken at c.on_completion-handled.ensures.doors))))
     c.stand-in-Command.ensures.host c.stand-in-Command.ensures.lines c.stand-in-Command.ensures.frames
 
 pub invariant_of-self-in-Command : goal.invariant_of-self-in-Command
@@ -80,16 +94,17 @@ invariant_of-self-in-Command c = rw (c.ring.ensures, c.deref.ensures.0) (seen c)
 pub returns-after-handled-2-clause-shared : goal.returns-after-handled-2-clause-shared
 returns-after-handled-2-clause-shared c =
     let retirement = c.self.inside.host.retirement in
-    let rung = c.on_event-handled.new.doors.items in
+    let rung = c.on_completion-handled.new.doors.items in
     let told : option_map_or (λ client. ringing client c.match-handled-2.doors) c.match-handled-2.result idle
-    ≡ handled_as retirement rung c.on_event-handled.result = elim c.match-handled-2.branch [
+    ≡ handled_as retirement rung c.on_completion-handled.result = elim c.match-handled-2.branch [
       | in-Matched-handled w ↦
           rw (w.result-is, w.doors-is, w.owner_of-in-Matched-handled.ensures)
           (sym (td-told (event_sides (world_in c.self.inside))
-          c.self.inside.frames c.in_ok-event.event _ w.in-Matched-handled.tag c.on_event-handled.result retirement rung c.args.doors.now
-          (rw c.in_ok-event.ensures.taken at c.on_event-handled.ensures.handled) w.in-Matched-handled.is
+          c.self.inside.frames c.in_ok-event.event _ w.in-Matched-handled.tag c.on_completion-handled.result retirement rung c.args.doors.now
+          (completed c) w.in-Matched-handled.is
           (sym (doors-cleared c.clear.new.self.items rung _ c.clear.ensures
-          (rw c.in_ok-event.ensures.taken at c.on_event-handled.ensures.doors))) c.requires))
+          (event-rung (event_sides (world_in c.self.inside)) c.in_ok-event.event _ c.clear.new.self.items c.on_completion-handled.new.doors.items c.in-Command.is
+          (rw c.in_ok-event.ensures.taken at c.on_completion-handled.ensures.doors)))) c.requires))
       | in-Stray-handled w ↦ rw w.result-is (sym (ap (handled_as retirement rung) w.in-Stray-handled.is))
       | in-Engine-handled+in_ok-ended-in-Engine-handled w ↦
           rw (w.result-is, w.doors-is, w.rung_at.ensures, w.deref-in-Engine-handled.ensures.0)

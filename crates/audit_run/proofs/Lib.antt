@@ -1,2 +1,3 @@
 pub mod FileAccounts
 pub mod FileHeads
+pub mod Files

@@ -1,12 +1,14 @@
 //! What is told of a log's text.
-ghost use Rattle.std.specs.Prelude.{◌≡◌, ◌<◌, ◌++◌, length, true, false, IfOk, IfErr, OnOk};
+ghost use Rattle.std.specs.Prelude.{◌≡◌, ◌<◌, ◌++◌, [], length, true, false, IfOk, IfErr, IfSome, IsTrue, OnOk};
 ghost use Rattle.std.specs.String.{string_bytes};
 ghost use Rattle.log_replay.specs.Replaying.{IsReplayOf};
-ghost use Rattle.audit_run.specs.Audits.{IsAnswered, IsRefusedBy, audit_lines, audit_text, beginning_line, beginning_text, client_line, found_text, head_line, line_text, state_text, torn_line, torn_text};
+ghost use Rattle.audit_run.specs.Audits.{audit_lines, audit_text, beginning_line, beginning_text, client_line, found_text, head_line, line_text, state_text, torn_line, torn_text};
+ghost use Rattle.audit_run.specs.Ends.{CantTell, IsTold};
 
 use crate::accounts::{is_true_of, replies_of};
 use crate::texts::file_log;
 use crate::{AuditFault, FileLog, HeadAt, KeptState, Told};
+use byte_io::Source;
 use log_replay::replay_log;
 use log_text::SavedLog;
 use std::alloc::{AllocError, Global};
@@ -16,21 +18,22 @@ use uas_work::Booked;
 /// A log of so many steps takes seconds to replay.
 const LONG_STEPS: usize = 100_000;
 
-/// What is told of a text: a line for each client of its log, or the first thing that is wrong. Where it is asked for, `notes` gets a
+/// What is told of a file: a line for each client of its log, or the first thing that is wrong. Where it is asked for, `notes` gets a
 /// line once a long log is read.
-pub(crate) fn answered<W: Write>(
+pub(crate) fn answered<S: Source, W: Write>(
     alloc: Global,
-    bytes: &[u8],
+    source: &mut S,
     head: Option<u32>,
     notes: &mut W,
     shows_progress: bool,
 ) -> Result<Told, AuditFault>
-    ensures ok { IfOk result (λ answer. IsAnswered head bytes.now answer.text.items) }
+    ensures ok { IfOk result (λ answer. IfSome (S.left source.old) (λ bytes. IsTold head bytes answer.text.items)) }
     ensures audited { IfOk result (λ answer. answer.is_true ≡ true) }
-    ensures fault { IfErr result (IsRefusedBy head bytes.now) }
+    ensures there { OnOk result (IsTrue (S.is_there source.old)) }
+    ensures fault { IfErr result (CantTell head [] (S.left source.old) (S.is_there source.old) (S.can_fail source.old)) }
     ensures quiet { shows_progress ≡ false → notes.new ≡ notes.old }
 {
-    let FileLog { log, state, head } = match file_log(alloc, bytes, head) {
+    let FileLog { log, state, head } = match file_log(alloc, source, head) {
         Ok(found) => found,
         Err(fault) => return Err(fault),
     };

@@ -68,7 +68,9 @@ impl AuditFault {
         match self {
             AuditFault::File =>
                 "the log can't be opened or read: look at its name and at its rights",
-            AuditFault::TooLarge => "a log's file has at most 1073741824 bytes",
+            AuditFault::TooLarge => {
+                "a log's file of the first or second version has at most 1073741824 bytes"
+            },
             AuditFault::Text(LogFault::BadHeader)
             | AuditFault::Kept(KeptFault::Head(LogFault::BadHeader)) => {
                 "it doesn't begin as a log of 8 or 16 tags does"

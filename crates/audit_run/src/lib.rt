@@ -23,7 +23,7 @@ use log_replay::ReplayFault;
 use log_text::{LogFault, MigrateFault, SavedLog};
 pub use run::run_audit;
 
-/// The most bytes of a log's file.
+/// The most bytes of a log's file of the first or second version.
 pub const MAX_LOG_BYTES: usize = 1_073_741_824;
 
 const _: () = prove!(MAX_LOG_BYTES == 1_073_741_824);
@@ -47,7 +47,7 @@ const _: () = prove!(DONE == 0 && UNTRUE == 1 && FAULT == 3 && NO_MEMORY == 4);
 pub enum AuditFault {
     /// Reading the file failed.
     File,
-    /// The file has too many bytes.
+    /// The file of a log of the first or second version has too many bytes.
     TooLarge,
     /// The file has no log's text.
     Text(LogFault),

@@ -1,11 +1,11 @@
-//! The run itself: a reader's bytes, and what is told of them to a writer.
-ghost use Rattle.std.specs.Prelude.{◌≡◌, ◌≤◌, ◌⊎◌, length, Err, IsTrue, IfOk, IfErr, OnOk, IfSome, false};
+//! The run itself: what is told to a writer of a reader's bytes.
+ghost use Rattle.std.specs.Prelude.{◌≡◌, ◌⊎◌, IsTrue, IfOk, IfErr, OnOk, IfSome, false};
 ghost use Rattle.std.specs.Io.KnownBytes.{Keeps};
-ghost use Rattle.audit_run.specs.Ends.{GivesUp, IsRefused, ReadGivesUp, Tells};
+ghost use Rattle.audit_run.specs.Ends.{GivesUp, IsRefused, Tells};
 
 use crate::answer::answered;
-use crate::{AuditFault, DONE, MAX_LOG_BYTES, UNTRUE};
-use byte_io::{Sink, Source, StreamFault, read_at_most};
+use crate::{AuditFault, DONE, UNTRUE};
+use byte_io::{Sink, Source, StreamFault};
 use std::alloc::Global;
 use std::io::Write;
 
@@ -54,26 +54,10 @@ fn audited<S: Source, O: Sink, W: Write>(
         (O.written output.old) (O.written output.new)) }
     ensures quiet { shows_progress ≡ false → notes.new ≡ notes.old }
 {
-    let bytes = read_log(alloc, source)?;
-    let answer = answered(alloc, &bytes, head, notes, shows_progress)?;
+    let answer = answered(alloc, source, head, notes, shows_progress)?;
     match output.write(&answer.text) {
         Ok(()) => Ok(answer.is_true),
         Err(StreamFault::NoMemory) => Err(AuditFault::NoMemory),
         Err(StreamFault::File) => Err(AuditFault::Output),
-    }
-}
-
-/// The bytes of a log's file: `TooLarge` once the reader gave more than one has, else the reader's fault.
-fn read_log<S: Source>(alloc: Global, source: &mut S) -> Result<Vec<u8>, AuditFault>
-    ensures bytes { IfOk result (λ bytes. IfSome (S.left source.old) (λ left. bytes.items ≡ left)) }
-    ensures bound { IfOk result (λ bytes. length bytes.items ≤ MAX_LOG_BYTES) }
-    ensures there { OnOk result (IsTrue (S.is_there source.old)) }
-    ensures fault { IfErr result (ReadGivesUp (S.left source.old) (S.is_there source.old) (S.can_fail source.old)) }
-{
-    match read_at_most(alloc, source, MAX_LOG_BYTES + 1) {
-        Ok(bytes) if bytes.len() > MAX_LOG_BYTES => Err(AuditFault::TooLarge),
-        Ok(bytes) => Ok(bytes),
-        Err(StreamFault::NoMemory) => Err(AuditFault::NoMemory),
-        Err(StreamFault::File) => Err(AuditFault::File),
     }
 }

@@ -1,3 +1,4 @@
+pub mod Texts
 pub mod Lent
 pub mod Least
 pub mod Opened
@@ -6,5 +7,6 @@ pub mod Called
 pub mod Closed
 pub mod HandedOut
 pub mod Given
+pub mod Behind
 pub mod OpenExport
 pub mod NewExport

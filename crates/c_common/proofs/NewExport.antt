@@ -1,12 +1,14 @@
 -- The making of a handle for C, once for every type R behind one and every name N of it in C: the code of an export that calls `new_handle` alone,
 -- and that it meets the export's contract. The callee's lifetimes of R and N are 'static, which both outlive.
 use Rattle.std.proofs.Common.{◌≡◌, ℕ, ◌<◌, [], ◌∷◌, true, refl, sym, subst, w8, w32}
-use mir.Syntax.{Callee, Dict, Fn, named, erased, imm, mut, ty_int, ty_ptr, ty_ref, deref, place, copy, addr_of, seq, assign, call, return}
+use mir.Syntax.{Callee, Dict, Fn, method, no_args, named, erased, imm, mut, ty_int, ty_ptr, ty_ref, deref, place, copy, addr_of, seq, assign, call, return}
 use mir.Val.{Val}
 use base.Fraction.{full_share}
 use base.Logic.{ent, emp, sep, id⊢}
 use base.Fml.{Lft, ftrue, flft}
 use prog.Model.{Model}
+use prog.Routine.{◌≼⁺◌}
+use prog.Wired.{Wired}
 use prog.Wp.{Closed, WpFn}
 use seplogic.Ra.Ura.{Ura}
 use contract.BorrowLft.{◌⊑◌, ⊑_static}
@@ -39,9 +41,14 @@ use Rattle.std.proofs.alloc.Global.TheLaws as heap_laws
 use Rattle.c_common.specs.HandedOut.{handed_out}
 use Rattle.c_common.specs.Units.{opened_units, units_told}
 use Rattle.c_common.specs.declared.units.OfUnits as of_units
+use Rattle.c_common.specs.contracts.units.OfUnits.TheBound as bound
 use Rattle.c_common.specs.contracts.units.new_handle as callee
+use Rattle.c_common.specs.contracts.units.new_handle.Key.{name as #make}
+use Rattle.c_common.proofs.units.new_handle.Symbol.{code as make_code}
+use Rattle.c_common.proofs.new_handle.Met.{met}
+use Rattle.c_common.proofs.Behind.{Behind, given_types, known_laws}
 use Rattle.c_common.proofs.ExportCode.{one_local}
-use Rattle.c_common.proofs.Given.{As}
+use Rattle.c_common.proofs.Given.{As, glue_of, letting_go, silent}
 use Rattle.c_common.proofs.HandedOut.{one_value}
 
 -- THE CODE
@@ -138,3 +145,16 @@ meets R N units dU dR make within name_within 𝓤 𝓛 𝓜 𝓡 export closed 
     use0 𝓛 (raw (fact 𝓤 (0 < n → end.1.1.0 ≡ r.now))) (fact_i 𝓤 (0 < n → end.1.1.0 ≡ r.now) (emp 𝓤) refused) $ join ! $
     use0 𝓛 (raw (fact 𝓤 (units_told n blocks.now [] [] ≡ true))) (fact_i 𝓤 (units_told n blocks.now [] [] ≡ true) (emp 𝓤) told) $ join ! $ keep ! (2 ∷ 1 ∷ 3 ∷ 0 ∷ []) $
     by ! (leaves 𝓛 ended stayed c z' v n (tt, (tt, (end.1.1.0, tt))) (tt, (tt, (tt, tt)))))))))))))
+
+-- THE EXPORT OF A CRATE
+
+-- The crate has a type behind the handle, made of units as its trait says, and let go by the `drop` under the name s.
+pub exported : (b : Behind) {M : Type 1} (𝓤 : Ura M) (𝓛 : Logic 𝓤) (𝓜 : Model 𝓤 𝓛.H) (𝓡 : Running 𝓤 𝓛.H 𝓜) → Wired 𝓡.env make_code
+    → bound.Met 𝓛 𝓜 𝓡 𝓡.env (As b.type.row) b.units b.of_units
+    → (s : Callee) → 𝓡.env s ≼⁺ 𝓡.env (method b.drop 0 no_args) → Meets 𝓛 (letting_go b.type.row) (𝓡.run (𝓡.env s)) (silent b.type.row yes 𝓛)
+    → (export : Callee) → Closed 𝓤 𝓛.H (tables 𝓤 𝓛.H 𝓜 𝓡 𝓡.env).C (tables 𝓤 𝓛.H 𝓜 𝓡 𝓡.env).Λ export (function (#make (given_types b)))
+    → Meets 𝓛 (ended).signature ((tables 𝓤 𝓛.H 𝓜 𝓡 𝓡.env).C export) (closing 𝓛 ended (clauses b.type.row b.units 𝓛))
+exported b 𝓤 𝓛 𝓜 𝓡 wired made s above dropped export closed =
+    let glue = glue_of b.type.row yes b.drop 𝓤 𝓛 𝓜 𝓡 s above dropped in
+    meets b.type.row b.name.row b.units b.of_units b.drop (#make (given_types b)) b.type.within b.name.within 𝓤 𝓛 𝓜 𝓡 export closed
+    (met 𝓤 𝓛 𝓜 𝓡 wired (As b.type.row) (As b.name.row) (known_laws b.type) (known_laws b.name) b.units b.of_units b.drop made glue)

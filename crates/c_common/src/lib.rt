@@ -6,6 +6,7 @@
 //! | operation.rt | [`UasOperation`], an operation of SCSI, and its conversions both ways |
 //! | sense.rt | sense data in a room of fixed size |
 //! | shown.rt | [`show`], a look at a unit's blocks |
+//! | text.rt | [`put_unit`], an information unit as its bytes |
 //! | units.rt | [`UasBadBlock`], units of zeros or from an image, and handles of what is made of them |
 //!
 //! What is promised: [`open_handle`] makes units exactly as `opened_units` of `specs/Units.antt` says, each of its own part of the image and
@@ -24,10 +25,12 @@ mod handle;
 mod operation;
 mod sense;
 mod shown;
+mod text;
 mod units;
 
 pub use handle::{hand_out, hand_out_made};
 pub use operation::{UasOperation, read_operation, record_of};
 pub use sense::padded;
 pub use shown::{ShownFaults, show};
+pub use text::put_unit;
 pub use units::{OfUnits, UasBadBlock, UnitsFault, new_handle, open_handle};

@@ -1,18 +1,20 @@
 -- A text has one log, or one fault.
-use Rattle.std.proofs.Common.{◌≡◌, ℕ, ◌-◌, Bool, cond, List, length, Result, Ok, Err, IfOk, refl, ap, ◌∙◌, inl, inr}
+use Rattle.std.proofs.Common.{◌≡◌, ℕ, ◌-◌, Bool, cond, List, length, Result, Ok, Err, IfOk, refl, ap, subst, ◌∙◌, inl, inr}
 use Rattle.std.specs.Prelude.{IfErr}
 use Rattle.std.proofs.lemmas.Bool.{ne_eqb}
 use Rattle.log_checksum.specs.Bytes.{AreBytes}
+use Rattle.log_checksum.proofs.Bytes.{bytes_front}
 use Rattle.kept_log.specs.declared.KeptFault.{KeptFault}
 use Rattle.kept_log.specs.declared.KeptFault.TheVariants.{Head, HeadSum, WrongRecord, BadBody, TooMany, WrongCount, BehindEnd, NoMemory}
 use Rattle.kept_log.specs.declared.Loaded.{Loaded}
-use Rattle.kept_log.specs.Form.{head_sum}
+use Rattle.kept_log.specs.Form.{front_text, head_sum}
 use Rattle.kept_log.specs.LoadAt.{Loads, behind_head, load_at, loaded_of, rest_at}
 use Rattle.kept_log.specs.Loading.{HasOtherSum, IsLoaded, IsRefusedBy, Stops}
 use Rattle.kept_log.proofs.ReadOn.{ends_load, faults_load}
 
 stops_load : (text : List ℕ) (fault : KeptFault) → AreBytes text → Stops text fault → load_at text ≡ Err fault
-stops_load text fault are it = faults_load text it.units it.entries fault are it.stops
+stops_load text fault are it =
+    faults_load text it.units it.entries fault (bytes_front (front_text it.units it.entries) it.stops.rest (subst AreBytes it.stops.stand.parts are)) it.stops
 
 other_sum : (text : List ℕ) → HasOtherSum text → load_at text ≡ Err HeadSum
 unfolding load_at
@@ -22,7 +24,7 @@ other_sum text it =
     ∙ ap (λ (right : Bool). cond right (loaded_of read.0.0 (rest_at (length read.1) (length read.0.0) 0 (length text - length read.1) read.0.1 read.1)) (Err HeadSum))
     (ne_eqb read.0.1 (head_sum read.0.0) it.other)
 
-refused_exact : (text : List ℕ) (fault : KeptFault) → AreBytes text → IsRefusedBy text fault → Loads (Err fault) (load_at text)
+pub refused_exact : (text : List ℕ) (fault : KeptFault) → AreBytes text → IsRefusedBy text fault → Loads (Err fault) (load_at text)
 unfolding load_at
 refused_exact text (Head fault) are it = inl (ap (behind_head text) it)
 refused_exact text HeadSum are it = inl (other_sum text it)

@@ -48,8 +48,8 @@ head_read units sum rest fits small =
       number_again BadField 4 0 0xffffffff sum rest (record { least = omega arith; most = omega (arith, small); wide = omega (arith, small) }),
     ) refl
 
-pub head_again : (units : List FirstUnit) (rest : List ℕ) → AreUnits Second units → AreBytes (head_text units ++ rest)
+pub head_again : (units : List FirstUnit) (rest : List ℕ) → AreUnits Second units → AreBytes (head_text units)
     → head_at (head_text units ++ rest) ≡ Ok ((units, head_sum units), rest)
 head_again units rest fits are =
-    let front : AreBytes (head_front units) = bytes_front (head_front units) (field 4 (head_sum units)) (bytes_front (head_text units) rest are) in
+    let front : AreBytes (head_front units) = bytes_front (head_front units) (field 4 (head_sum units)) are in
     head_read units (head_sum units) rest fits (checksum_fits (head_front units) front)

@@ -3,7 +3,7 @@ use Rattle.std.proofs.Common.{◌≡◌, ℕ, ◌<◌, ◌≤◌, List, ◌++◌
 use Rattle.std.proofs.lemmas.List.{length-append, length-take-le, take-append-drop}
 use Rattle.uas_log.specs.declared.FirstUnit.{FirstUnit}
 use Rattle.log_checksum.specs.Bytes.{AreBytes}
-use Rattle.log_checksum.proofs.Bytes.{bytes_taken}
+use Rattle.log_checksum.proofs.Bytes.{bytes_front, bytes_taken}
 use Rattle.log_records.specs.Records.{records_text}
 use Rattle.log_text.specs.declared.LogFault.{LogFault}
 use Rattle.log_text.proofs.ReadResults.{ok_is}
@@ -47,4 +47,4 @@ head_cut kept size keepable are cut =
     let ends : List ℕ = records_text (front_sum kept.units kept.entries) (end_bodies (length kept.entries) kept.ending) in
     let parts : kept_text kept ≡ head ++ (records ++ ends) = append_assoc head records ends in
     refused_there (kept_text kept) kept.units (records ++ ends) size (head_at (take size (kept_text kept))) are parts
-    (ap head_at parts ∙ head_again kept.units (records ++ ends) (are_units kept.units kept.entries keepable) (subst AreBytes parts are)) cut refl
+    (ap head_at parts ∙ head_again kept.units (records ++ ends) (are_units kept.units kept.entries keepable) (bytes_front head (records ++ ends) (subst AreBytes parts are))) cut refl

@@ -14,4 +14,6 @@ pub mod Exact
 pub mod Written
 pub mod Cutting
 pub mod Headless
-pub mod Walked
+pub mod Further
+pub mod Placed
+pub mod Seen

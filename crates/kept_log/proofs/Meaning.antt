@@ -1,5 +1,5 @@
 -- What a text that is loaded has: its log's text, and what a cut has left.
-use Rattle.std.proofs.Common.{◌≡◌, ℕ, ◌+◌, ◌==◌, Bool, true, false, cond, List, [], ◌∷◌, ◌++◌, length, drop, take, Result, Ok, Err, Option, Some, None, refl, sym, ap, subst, ◌∙◌, append_assoc, arith}
+use Rattle.std.proofs.Common.{◌≡◌, ℕ, ◌==◌, Bool, true, false, cond, List, [], ◌++◌, length, drop, Result, Ok, Err, Option, Some, None, refl, sym, ap, subst, ◌∙◌, arith}
 use Rattle.std.proofs.lemmas.Bool.{eqb-true}
 use Rattle.std.proofs.lemmas.List.{append-nil, length-append, nil_from_length}
 use Rattle.uas_log.specs.declared.FirstUnit.{FirstUnit}
@@ -31,7 +31,7 @@ next_result next = Ok next
 abbrev body_result : Body → Result Body LogFault
 body_result body = Ok body
 
-ends_are : (ending other : Option Why) (torn cut : Option ℕ) → next_result (Ends ending torn) ≡ next_result (Ends other cut) → (ending ≡ other) × (torn ≡ cut)
+pub ends_are : (ending other : Option Why) (torn cut : Option ℕ) → next_result (Ends ending torn) ≡ next_result (Ends other cut) → (ending ≡ other) × (torn ≡ cut)
 ends_are ending other torn cut e = (cc, cc)
 
 -- THE END
@@ -56,7 +56,7 @@ end_alone true true at reason ending torn e = (refl, refl, cc, cc)
 end_alone true false at reason ending torn e = absurd cc
 end_alone false alone at reason ending torn e = absurd cc
 
-body_ends : (count at len sum : ℕ) (rest : List ℕ) (ending : Option Why) (torn : Option ℕ) (read : Result Body LogFault)
+pub body_ends : (count at len sum : ℕ) (rest : List ℕ) (ending : Option Why) (torn : Option ℕ) (read : Result Body LogFault)
     → of_body count at len sum rest read ≡ Ok (Ends ending torn) → IsEnd count rest read ending torn
 body_ends count at len sum rest ending torn (Err fault) e = absurd cc
 body_ends count at len sum rest ending torn (Ok (bodies.Step entry)) e = absurd (step_no_end (count == 0xffffffff) at len sum entry ending torn e)

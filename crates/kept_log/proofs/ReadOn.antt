@@ -13,7 +13,7 @@ use Rattle.kept_log.specs.declared.KeptFault.TheVariants.{HeadSum}
 use Rattle.kept_log.specs.declared.Next.{Next}
 use Rattle.kept_log.specs.declared.Next.TheVariants.{Goes, Ends}
 use Rattle.kept_log.specs.declared.Why.{Why}
-use Rattle.kept_log.specs.Form.{EntryFits, entry_text, front_sum, head_sum, head_text}
+use Rattle.kept_log.specs.Form.{EntryFits, entry_text, front_sum, front_text, head_sum, head_text}
 use Rattle.kept_log.specs.LoadAt.{Rest, behind_head, load_at, loaded_of, rest_at, then_read, with_entry}
 use Rattle.kept_log.specs.Loading.{Comes, next_at}
 use Rattle.kept_log.specs.Reading.{head_at}
@@ -111,7 +111,8 @@ records_long sum (entry ∷ entries) =
     omega (arith, length-append (record_text sum body) back, record_size sum body, records_long (sum_after sum body) entries)
 
 -- what is loaded where this comes behind the records of these steps, with as many bytes left
-comes_at : (text : List ℕ) (units : List FirstUnit) (entries : List Entry) (next : Result Next KeptFault) (it : Comes text units entries next) → AreBytes text
+comes_at : (text : List ℕ) (units : List FirstUnit) (entries : List Entry) (next : Result Next KeptFault) (it : Comes text units entries next)
+    → AreBytes (front_text units entries)
     → load_at text ≡ loaded_of units (with_entries entries
     (rest_at (length (records_text (head_sum units) (bodies_of entries) ++ it.rest) - length entries) (length units) (length entries) it.at
     (front_sum units entries) it.rest))
@@ -122,12 +123,11 @@ comes_at text units entries next it are =
     let records : List ℕ = records_text sum (bodies_of entries) in
     let back : List ℕ = records ++ it.rest in
     let parts : text ≡ head_text units ++ back = it.stand.parts ∙ append_assoc (head_text units) records it.rest in
-    let all : AreBytes (head_text units ++ back) = subst AreBytes parts are in
-    let behind : AreBytes back = bytes_back (head_text units) back all in
-    let head : head_at text ≡ Ok ((units, sum), back) = ap head_at parts ∙ head_again units back (are_units units entries keepable) all in
+    let head : head_at text ≡ Ok ((units, sum), back) =
+    ap head_at parts ∙ head_again units back (are_units units entries keepable) (bytes_front (head_text units) records are) in
     let size = length-append records it.rest in
     let on = read_on (length back - length entries) (length back) (length units) 0 (length text - length back) sum (length entries) it.at entries it.rest keepable.some
-    (omega (arith, keepable.most)) keepable.entries_fit keepable.few (bytes_front records it.rest behind)
+    (omega (arith, keepable.most)) keepable.entries_fit keepable.few (bytes_back (head_text units) records are)
     (omega (arith, size, records_long sum entries)) (omega arith)
     (omega (arith, size, it.stand.place, ap length parts, length-append (head_text units) back)) in
     ap (behind_head text) head
@@ -141,13 +141,13 @@ left_over sum entries rest = omega (arith, length-append (records_text sum (bodi
 pub ends_load : (text : List ℕ) (units : List FirstUnit) (entries : List Entry) (ending : Option Why) (torn : Option ℕ) → AreBytes text
     → Comes text units entries (Ok (Ends ending torn)) → load_at text ≡ Ok (record { log = record { units = units; entries = entries; ending = ending }; torn = torn })
 ends_load text units entries ending torn are it =
-    comes_at text units entries (Ok (Ends ending torn)) it are
+    comes_at text units entries (Ok (Ends ending torn)) it (bytes_front (front_text units entries) it.rest (subst AreBytes it.stand.parts are))
     ∙ ap (λ (rest : Result Rest KeptFault). loaded_of units (with_entries entries rest))
     (rest_ends (length (records_text (head_sum units) (bodies_of entries) ++ it.rest) - length entries) (length units) (length entries) it.at
     (front_sum units entries) it.rest ending torn (left_over (head_sum units) entries it.rest) it.comes)
     ∙ ap (loaded_of units) (entries_end entries ending torn)
 
-pub faults_load : (text : List ℕ) (units : List FirstUnit) (entries : List Entry) (fault : KeptFault) → AreBytes text
+pub faults_load : (text : List ℕ) (units : List FirstUnit) (entries : List Entry) (fault : KeptFault) → AreBytes (front_text units entries)
     → Comes text units entries (Err fault) → load_at text ≡ Err fault
 faults_load text units entries fault are it =
     comes_at text units entries (Err fault) it are

@@ -137,8 +137,8 @@ given_short : (clients : ℕ) (step : machine.Step) (given : Option SavedReply) 
 given_short clients step None fits = omega arith
 given_short clients step (Some saved) fits = reply_short clients saved fits.1
 
-pub entry_short : (clients : ℕ) (entry : Entry) → EntryFits clients entry → length (entry_text entry) < 2 ^ 32
-entry_short clients (Acted step given) fits =
+pub entry_small : (clients : ℕ) (entry : Entry) → EntryFits clients entry → length (entry_text entry) ≤ 131300
+entry_small clients (Acted step given) fits =
     omega (
       arith,
       length-append (field 1 1 ++ step_text step) (given_text given),
@@ -147,7 +147,7 @@ entry_short clients (Acted step given) fits =
       step_short clients step fits.0,
       given_short clients step given fits.1,
     )
-entry_short clients (Refused step number) fits =
+entry_small clients (Refused step number) fits =
     omega (
       arith,
       length-append (field 1 2 ++ step_text step) (field 1 number),
@@ -156,6 +156,9 @@ entry_short clients (Refused step number) fits =
       field_len 1 number,
       step_short clients step fits.0,
     )
+
+pub entry_short : (clients : ℕ) (entry : Entry) → EntryFits clients entry → length (entry_text entry) < 2 ^ 32
+entry_short clients entry fits = omega (arith, entry_small clients entry fits)
 
 pub end_short : (count : ℕ) (reason : Why) → length (end_text count reason) < 2 ^ 32
 end_short count reason =

@@ -1,9 +1,8 @@
 -- One record more.
-use Rattle.std.proofs.Common.{◌≡◌, ℕ, ◌+◌, ◌-◌, ◌^◌, ◌<◌, ◌≤◌, ◌==◌, Bool, true, false, cond, List, [], ◌∷◌, ◌++◌, length, take, drop, map, Result, Ok, Err, Option, Some, None, refl, sym, ap, subst, ◌∙◌, append_assoc, arith, inl, inr}
-use Rattle.std.specs.Prelude.{◌⊎◌}
+use Rattle.std.proofs.Common.{◌≡◌, ℕ, ◌+◌, ◌-◌, ◌==◌, Bool, true, false, cond, List, [], ◌∷◌, ◌++◌, length, drop, map, Result, Ok, Err, Some, None, refl, sym, ap, subst, ◌∙◌, append_assoc, arith}
 use Rattle.std.specs.List.{AllByRecursion}
-use Rattle.std.proofs.lemmas.Bool.{eqb-false, eqb-true}
-use Rattle.std.proofs.lemmas.List.{append-nil, length-append, length-drop, nil_from_length}
+use Rattle.std.proofs.lemmas.Bool.{eqb-false}
+use Rattle.std.proofs.lemmas.List.{append-nil, length-append, length-drop}
 use Rattle.uas_log.specs.declared.FirstUnit.{FirstUnit}
 use Rattle.log_checksum.specs.Bytes.{AreBytes}
 use Rattle.log_checksum.proofs.Bytes.{bytes_dropped, bytes_taken}
@@ -11,7 +10,7 @@ use Rattle.log_records.specs.declared.First.{First}
 use Rattle.log_records.specs.declared.First.TheVariants.{Nothing, Whole, Torn, Wrong}
 use Rattle.log_records.specs.Finding.{behind, body_len, body_of, first_record}
 use Rattle.log_records.specs.Records.{last_sum, record_text, records_text, sum_after}
-use Rattle.log_records.proofs.Found.{IsRecordAt, found_record}
+use Rattle.log_records.proofs.Found.{found_record}
 use Rattle.log_records.proofs.Framing.{body_size}
 use Rattle.log_records.proofs.Growing.{last_sum-append, records-append}
 use Rattle.log_text.specs.declared.LogFault.{LogFault}
@@ -25,10 +24,10 @@ use Rattle.kept_log.specs.declared.Loaded.{Loaded}
 use Rattle.kept_log.specs.declared.Next.{Next}
 use Rattle.kept_log.specs.declared.Next.TheVariants.{Goes, Ends}
 use Rattle.kept_log.specs.declared.Why.{Why}
-use Rattle.kept_log.specs.Form.{AreKeepable, EntryFits, end_text, entry_text, front_sum, front_text, head_sum, head_text}
+use Rattle.kept_log.specs.Form.{EntryFits, entry_text, front_sum, front_text, head_sum, head_text}
 use Rattle.kept_log.specs.Loading.{Comes, IsLoaded, IsNext, IsRefusedBy, StandsIn, Stops, next_at, of_body, of_first}
 use Rattle.kept_log.specs.Reading.{body_at}
-use Rattle.kept_log.proofs.TakenBodies.{BodyTaken, body_taken}
+use Rattle.kept_log.proofs.TakenBodies.{body_taken}
 
 -- WHICH NEXT
 
@@ -114,7 +113,7 @@ not_of_head : (clients count at sum : ℕ) (bytes : List ℕ) → NotOfHead (nex
 unfolding next_at
 not_of_head clients count at sum bytes = first_not_of_head clients count at bytes (first_record sum bytes)
 
-comes_there : (text : List ℕ) (units : List FirstUnit) (entries : List Entry) (at sum : ℕ) (rest : List ℕ) (next : Result Next KeptFault)
+pub comes_there : (text : List ℕ) (units : List FirstUnit) (entries : List Entry) (at sum : ℕ) (rest : List ℕ) (next : Result Next KeptFault)
     → StandsIn text units entries at rest → sum ≡ front_sum units entries → next_at (length units) (length entries) at sum rest ≡ next
     → Comes text units entries next
 comes_there text units entries at sum rest next stand right e =
@@ -150,7 +149,7 @@ refused_there text units entries at sum rest faults.NoMemory stand right e = tt
 
 -- ONE STEP MORE
 
-map_more : (entries : List Entry) (entry : Entry) → map entry_text (entries ++ entry ∷ []) ≡ map entry_text entries ++ entry_text entry ∷ []
+pub map_more : (entries : List Entry) (entry : Entry) → map entry_text (entries ++ entry ∷ []) ≡ map entry_text entries ++ entry_text entry ∷ []
 map_more [] entry = refl
 map_more (first ∷ rest) entry = ap (λ (texts : List (List ℕ)). entry_text first ∷ texts) (map_more rest entry)
 

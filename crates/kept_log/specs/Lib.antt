@@ -5,3 +5,5 @@ pub mod Saved
 pub mod LoadAt
 pub mod Cuts
 pub mod Sums
+pub mod Shown
+pub mod Parts

@@ -13,8 +13,9 @@
 //!
 //! [`load`] reads one: the longest whole prefix of its records, up to the end or up to a torn record, of which it tells the place; or what is
 //! wrong with it (`load_at` in specs/LoadAt.antt). So what is written loads ([`kept_logs_load`]), and what is left of it where a write was
-//! cut short loads as a beginning ([`cut_logs_load`]). It stands on log_text and log_records, uas_log, shared_machine, scsi_cmd, and on
-//! `thiserror`.
+//! cut short loads as a beginning ([`cut_logs_load`]). [`load_from`] says the same of a text that a source gives: it reads a part, takes the
+//! whole records from its front and reads on, so that the text is never in memory as a whole; and it finds the step behind which a checksum
+//! stands. It stands on byte_io, log_text and log_records, uas_log, shared_machine, scsi_cmd, and on `thiserror`.
 #![tactic(auto)]
 
 mod bodies;
@@ -22,22 +23,25 @@ mod entries;
 mod head;
 mod laws;
 mod loading;
+mod parts;
 mod saved;
-mod sums;
+mod window;
 mod writing;
 
 pub use bodies::is_take;
+use byte_io::StreamFault;
 pub use entries::Entries;
 pub use laws::{
     cut_logs_load, kept_logs_load, steps_are_read_again, texts_begin_alike, texts_go_on,
 };
 pub use loading::load;
 use log_text::{LogFault, SavedReply};
+pub use parts::load_from;
 use shared_machine::Step;
 use std::marker::Model;
-pub use sums::step_of_sum;
 use thiserror::Error;
 use uas_log::FirstUnits;
+pub use window::read_at_least;
 pub use writing::{write_end, write_head, write_refused, write_step, write_taken};
 
 /// A step of a log.
@@ -88,6 +92,14 @@ pub struct Loaded {
     pub torn: Option<usize>,
 }
 
+/// What a text has that comes in parts.
+#[derive(Debug, Drop)]
+pub struct Found {
+    pub loaded: Loaded,
+    /// Behind how many steps the checksum stands first that is asked for.
+    pub step: Option<usize>,
+}
+
 /// What is wrong with a text: the first fault from its front. A place is the number of the byte where a record begins.
 #[derive(Clone, Copy, Debug, PartialEq, Eq, Error)]
 pub enum KeptFault {
@@ -107,6 +119,17 @@ pub enum KeptFault {
     BehindEnd(usize),
     #[error("no memory for the log")]
     NoMemory,
+}
+
+/// Why a text isn't loaded that comes in parts.
+#[derive(Clone, Copy, Debug, PartialEq, Eq, Error)]
+pub enum PartsFault {
+    /// What is wrong with the text.
+    #[error("{0}")]
+    Kept(KeptFault),
+    /// Want of memory, or a read that failed.
+    #[error("the log can't be read")]
+    Read(StreamFault),
 }
 
 /// What a record's body says.

@@ -1,32 +1,23 @@
 //! A log from its text.
-ghost use Rattle.std.specs.Prelude.{◌≡◌, ◌+◌, ◌-◌, ◌≤◌, Result, [], IfErr, IfOk, drop, length};
+ghost use Rattle.std.specs.Prelude.{◌≡◌, ◌+◌, ◌≤◌, Result, IfErr, IfOk, drop, length};
 ghost use Rattle.log_text.specs.declared.LogFault.{LogFault};
 ghost use Rattle.log_text.specs.Reading.{Gives};
 ghost use Rattle.kept_log.specs.declared.Body.{Body};
-ghost use Rattle.kept_log.specs.Form.{AreKeepable, front_sum};
+ghost use Rattle.kept_log.specs.Form.{AreKeepable};
 ghost use Rattle.kept_log.specs.LoadAt.{Loads, load_at};
-ghost use Rattle.kept_log.specs.Loading.{EndsIn, HasBody, IsKept, IsLoaded, IsNext, IsRefusedBy, StandsIn, next_at, of_body};
+ghost use Rattle.kept_log.specs.Loading.{EndsIn, HasBody, IsKept, IsLoaded, IsNext, IsRefusedBy, next_at, of_body};
 
 use crate::bodies::body;
-use crate::head::head;
-use crate::{Body, Entries, Entry, KeptFault, KeptLog, Loaded, Next, Why};
+use crate::parts::load_from;
+use crate::{Body, Entries, Entry, KeptFault, KeptLog, Loaded, Next, PartsFault, Why};
+use byte_io::{BytesLeft, StreamFault};
 use log_records::{First, first_record};
 use log_text::Stop;
-use std::alloc::{AllocFailed, Global};
+use std::alloc::Global;
 use uas_log::{FirstUnit, FirstUnits};
 
-impl From<AllocFailed<Entry>> for KeptFault {
-    ghost use Rattle.kept_log.specs.declared.KeptFault.TheVariants.{NoMemory};
-
-    ghost from_gives = { λ _ fault. fault ≡ NoMemory };
-
-    fn from(_error: AllocFailed<Entry>) -> KeptFault {
-        KeptFault::NoMemory
-    }
-}
-
 /// How many bytes a record has beside its body.
-const FRAME_BYTES: usize = 8;
+pub(crate) const FRAME_BYTES: usize = 8;
 
 /// Where a body begins in its record.
 const BODY_AT: usize = 4;
@@ -42,41 +33,16 @@ pub fn load(alloc: Global, text: &[u8]) -> Result<Loaded, KeptFault>
     ensures kept { IfOk result (λ loaded. IsKept loaded.log loaded.torn text.now) }
     ensures fault { IfErr result (IsRefusedBy text.now) }
 {
-    let (units, sum, rest) = head(alloc, text)?;
-    records(alloc, text, units, sum, rest)
-}
-
-/// The log of a head and the records behind it.
-fn records(
-    alloc: Global,
-    text: &[u8],
-    units: Vec<FirstUnit>,
-    head_sum: u32,
-    behind: &[u8],
-) -> Result<Loaded, KeptFault>
-    requires stand { StandsIn text.now units.items [] (length text.now - length behind.now) behind.now }
-    requires sum { head_sum ≡ front_sum units.items [] }
-    ensures loaded { IfOk result (IsLoaded text.now) }
-    ensures fault { IfErr result (IsRefusedBy text.now) }
-{
-    let mut entries = Vec::new(alloc);
-    let mut sum = head_sum;
-    let mut rest = behind;
-    loop {
-        let at = text.len() - rest.len();
-        match next(alloc, units.len(), entries.len(), at, sum, rest) {
-            Ok(Next::Goes(entry, len, after)) => {
-                entries.push(entry)?;
-                sum = after;
-                rest = behind_record(rest, len);
-            }
-            Ok(Next::Ends(ending, torn)) => return Ok(made(units, entries, ending, torn)),
-            Err(fault) => return Err(fault),
-        }
+    match load_from(alloc, Vec::new(alloc), &mut BytesLeft(text), None) {
+        Ok(found) => Ok(found.loaded),
+        Err(PartsFault::Kept(fault)) => Err(fault),
+        Err(PartsFault::Read(StreamFault::NoMemory)) => Err(KeptFault::NoMemory),
+        Err(PartsFault::Read(StreamFault::File)) => unreachable!(),
     }
 }
 
-fn made(
+/// The log of these parts; takes no memory.
+pub(crate) fn made(
     units: Vec<FirstUnit>,
     entries: Vec<Entry>,
     ending: Option<Why>,
@@ -95,7 +61,7 @@ fn made(
 
 /// What comes at a place, behind so many steps of so many clients and the checksum of the record before.
 #[tactic(auto, unfolding(crate::specs::Loading::next_at))]
-fn next(
+pub(crate) fn next(
     alloc: Global,
     clients: usize,
     count: usize,

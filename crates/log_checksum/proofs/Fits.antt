@@ -2,9 +2,9 @@
 use Rattle.std.proofs.Common.{ℕ, zero, suc, ◌/◌, ◌%◌, ◌^◌, ◌<◌, ◌==◌, Bool, true, false, List, [], ◌∷◌, if◌then◌else◌, arith}
 use Rattle.std.specs.Prelude.{bit_xor}
 use Rattle.std.proofs.lemmas.Nat.{xor_lt}
-use Rattle.log_checksum.specs.Bytes.{AreBytes}
+use Rattle.byte_numbers.specs.Bytes.{AreBytes}
 use Rattle.log_checksum.specs.Division.{crc32c_of, polynomial, with_bit, with_bits, with_byte, with_bytes}
-use Rattle.log_checksum.proofs.Bytes.{bytes_behind}
+use Rattle.byte_numbers.proofs.Bytes.{bytes_behind}
 
 bit_fits : (b : Bool) (half : ℕ) → half < 2 ^ 32 → (if b then bit_xor half polynomial else half) < 2 ^ 32
 bit_fits true half small = xor_lt 32 half polynomial small (omega arith)

@@ -1,5 +1,5 @@
 pub mod Bytewise
 pub mod Places
-pub mod Bytes
 pub mod Fits
 pub mod Telling
+pub mod Bytes

@@ -5,9 +5,9 @@ use Rattle.std.specs.Int.Bits.{xor_assoc, xor_self, xor_zero_l, xor_zero_r}
 use Rattle.std.proofs.lemmas.Bool.{eqb-true, eqb-false}
 use Rattle.std.proofs.lemmas.List.Sums.{fold-append}
 use Rattle.std.proofs.lemmas.Nat.{xor_comm, xor_lt, xor_shr}
-use Rattle.log_checksum.specs.Bytes.{AreBytes}
+use Rattle.byte_numbers.specs.Bytes.{AreBytes}
 use Rattle.log_checksum.specs.Division.{begun, crc32c_of, polynomial, with_bit, with_bits, with_byte, with_bytes}
-use Rattle.log_checksum.proofs.Bytes.{bytes_behind}
+use Rattle.byte_numbers.proofs.Bytes.{bytes_behind}
 use Rattle.log_checksum.proofs.Fits.{bits_fit, bytes_fit}
 
 again : (a mask : ℕ) → bit_xor (bit_xor a mask) mask ≡ a

@@ -1,6 +1,2 @@
--- Lists of bytes.
-use Rattle.std.specs.Prelude.{ℕ, ◌<◌, List, slice_index}
-
--- each number of a list is a byte
-abbrev pub AreBytes : List ℕ → Type 0
-AreBytes bytes = (at : ℕ) → slice_index bytes at < 256
+-- Lists of bytes: those of byte_numbers.
+pub use Rattle.byte_numbers.specs.Bytes.{AreBytes}

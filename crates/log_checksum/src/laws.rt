@@ -1,7 +1,7 @@
 //! What follows of the definition, as functions with empty bodies.
 ghost use Rattle.std.specs.Prelude.{◌≡◌, ℕ, List, ◌<◌, ◌^◌, ◌∷◌, ◌++◌, replicate, reverse};
 ghost use Rattle.std.specs.List.{range_with_len};
-ghost use Rattle.log_checksum.specs.Bytes.{AreBytes};
+ghost use Rattle.byte_numbers.specs.Bytes.{AreBytes};
 ghost use Rattle.log_checksum.specs.Division.{crc32c_of, with_bytes};
 
 /// The checksums that RFC 3720 B.4 prints: of 32 bytes of 00h, of FFh, of rising and of falling bytes.

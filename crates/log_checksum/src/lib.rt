@@ -5,7 +5,7 @@
 //! divided at once, by a table of what its 8 bits leave; the table is proved to have what the division leaves, place by place.
 //!
 //! Each change of up to 32 bits in a row of a text is met; of any other change one in 4,294,967,296 is not. That is the polynomial's, and
-//! isn't proved here. The crate stands on std alone, and no call takes memory.
+//! isn't proved here. The crate stands on `byte_numbers`, and no call takes memory.
 #![tactic(auto)]
 
 ghost use Rattle.std.specs.Prelude.{◌≡◌};

@@ -6,15 +6,15 @@ use Rattle.std.proofs.Math.Dec.{eqb-suc-zero}
 use Rattle.std.proofs.lemmas.List.{append-nil, length-take, nil_from_length}
 use Rattle.byteorder.specs.Endian.{big_bytes}
 use Rattle.byteorder.specs.Numbers.{big_from-lt, big_from-take}
-use Rattle.log_checksum.specs.Bytes.{AreBytes}
-use Rattle.log_checksum.proofs.Bytes.{bytes_joined}
+use Rattle.byte_numbers.specs.Bytes.{AreBytes}
+use Rattle.byte_numbers.proofs.Bytes.{bytes_joined}
 use Rattle.log_checksum.proofs.Fits.{checksum_fits}
 use Rattle.log_records.specs.declared.First.{First}
 use Rattle.log_records.specs.declared.First.TheVariants.{Nothing, Whole, Torn, Wrong}
 use Rattle.log_records.specs.Finding.{behind, body_len, body_of, first_record, is_followed, is_long_enough, is_whole, sum_of}
 use Rattle.log_records.specs.Records.{record_text, sum_after}
 use Rattle.log_records.proofs.Framing.{IsLong, are_framed, are_long, body_size, framed, framed_body, framed_len, framed_long, framed_size, framed_sum, record_framed}
-use Rattle.log_records.proofs.Numbers.{number_is_bytes}
+use Rattle.byte_numbers.proofs.Numbers.{number_is_bytes}
 
 -- a record's checksum has 32 bits
 pub sum_fits : (before : ℕ) (body : List ℕ) → AreBytes body → sum_after before body < 2 ^ 32

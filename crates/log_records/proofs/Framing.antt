@@ -5,11 +5,11 @@ use Rattle.std.proofs.lemmas.Bool.{and_parts, leb-true, le-leb}
 use Rattle.std.proofs.lemmas.List.{drop_at, drop-drop, length-append, length-drop, length-take, take_at, take-append-drop}
 use Rattle.byteorder.specs.Endian.{big_bytes}
 use Rattle.byteorder.specs.Numbers.{big_number-reads_back, length-bytes_high_first}
-use Rattle.log_checksum.specs.Bytes.{AreBytes}
-use Rattle.log_checksum.proofs.Bytes.{bytes_dropped}
+use Rattle.byte_numbers.specs.Bytes.{AreBytes}
+use Rattle.byte_numbers.proofs.Bytes.{bytes_dropped}
 use Rattle.log_records.specs.Finding.{behind, body_len, body_of, is_long_enough, sum_of}
 use Rattle.log_records.specs.Records.{record_text, sum_after}
-use Rattle.log_records.proofs.Numbers.{number_bytes}
+use Rattle.byte_numbers.proofs.Numbers.{number_bytes}
 
 -- a body between its length and a checksum, and what follows
 abbrev pub framed : List ℕ → ℕ → List ℕ → List ℕ

@@ -1,6 +1,6 @@
 //! What follows for records, as functions with empty bodies.
 ghost use Rattle.std.specs.Prelude.{◌≡◌, ℕ, ◌≤◌, ◌<◌, ◌^◌, List, ◌++◌, length, take};
-ghost use Rattle.log_checksum.specs.Bytes.{AreBytes};
+ghost use Rattle.byte_numbers.specs.Bytes.{AreBytes};
 ghost use Rattle.log_records.specs.declared.First.TheVariants.{Torn, Whole};
 ghost use Rattle.log_records.specs.Finding.{behind, body_of, first_record};
 ghost use Rattle.log_records.specs.Records.{last_sum, record_text, records_text, sum_after};

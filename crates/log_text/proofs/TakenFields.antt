@@ -9,7 +9,9 @@ use Rattle.log_text.specs.declared.LogFault.{LogFault}
 use Rattle.log_text.specs.declared.LogFault.TheVariants.{Truncated, BadField}
 use Rattle.log_text.specs.Text.{BufferFits, buffer_text, field}
 use Rattle.log_text.specs.Reading.{buffer_at, bytes_at, field_at, number_at}
-use Rattle.log_text.proofs.Numbers.{IsBytes, bytes_dropped, number_bytes}
+use Rattle.byte_numbers.specs.Bytes.{AreBytes}
+use Rattle.byte_numbers.proofs.Bytes.{bytes_dropped}
+use Rattle.byte_numbers.proofs.Numbers.{number_bytes}
 use Rattle.log_text.proofs.ReadResults.{bind_ok, guard_ok, ok_is}
 
 neither : (a b : Bool) → (a || b) ≡ false → (a ≡ false) × (b ≡ false)
@@ -21,7 +23,7 @@ neither false b e = (refl, e)
 -- what a reader took from the front
 pub record Takes (bytes text rest : List ℕ) : Type 0 where
   pub parts : bytes ≡ text ++ rest
-  pub rest_bytes : IsBytes rest
+  pub rest_bytes : AreBytes rest
 
 pub then_takes : {a x b y c : List ℕ} → Takes a x b → Takes b y c → Takes a (x ++ y) c
 then_takes {x = x} {y = y} {c = c} p q = record {
@@ -36,7 +38,7 @@ pub record Taken {A : Type 0} (text : A → List ℕ) (holds : A → Type 0) (by
 
 -- A reader takes the texts of items that fit, and takes them all.
 pub record Reads {A : Type 0} (item_at : List ℕ → Result (A × List ℕ) LogFault) (text : A → List ℕ) (fits : A → Type 0) : Type 0 where
-  pub taken : (bytes : List ℕ) (x : A × List ℕ) → IsBytes bytes → item_at bytes ≡ Ok x → Taken text fits bytes x
+  pub taken : (bytes : List ℕ) (x : A × List ℕ) → AreBytes bytes → item_at bytes ≡ Ok x → Taken text fits bytes x
   pub again : (item : A) (rest : List ℕ) → fits item → item_at (text item ++ rest) ≡ Ok (item, rest)
 
 -- NUMBERS
@@ -46,7 +48,7 @@ pub record Within (size from upto number : ℕ) : Type 0 where
   pub most : number ≤ upto
   pub wide : number < 256 ^ size
 
-pub number_taken : (fault : LogFault) (len least most : ℕ) (bytes : List ℕ) (x : ℕ × List ℕ) → IsBytes bytes
+pub number_taken : (fault : LogFault) (len least most : ℕ) (bytes : List ℕ) (x : ℕ × List ℕ) → AreBytes bytes
     → number_at fault len least most bytes ≡ Ok x → Taken (field len) (Within len least most) bytes x
 unfolding number_at field
 number_taken fault len least most bytes x is e =
@@ -78,7 +80,7 @@ reads_number fault len least most = record { taken = number_taken fault len leas
 pub record HasLength (size : ℕ) (bytes : List ℕ) : Type 0 where
   pub len : length bytes ≡ size
 
-pub bytes_taken_at : (len : ℕ) (bytes : List ℕ) (x : List ℕ × List ℕ) → IsBytes bytes → bytes_at len bytes ≡ Ok x
+pub bytes_taken_at : (len : ℕ) (bytes : List ℕ) (x : List ℕ × List ℕ) → AreBytes bytes → bytes_at len bytes ≡ Ok x
     → Taken (λ taken. taken) (HasLength len) bytes x
 unfolding bytes_at
 bytes_taken_at len bytes x is e =
@@ -96,7 +98,7 @@ bytes_again len bytes rest fits =
     let long : nat_lt (length (bytes ++ rest)) len ≡ false = le-ltb _ _ (omega (arith, length-append bytes rest, fits.len)) in
     rw (long, take_at bytes rest len fits.len, drop_at bytes rest len fits.len) refl
 
-buffer_taken : (bytes : List ℕ) (x : List ℕ × List ℕ) → IsBytes bytes → buffer_at bytes ≡ Ok x → Taken buffer_text BufferFits bytes x
+buffer_taken : (bytes : List ℕ) (x : List ℕ × List ℕ) → AreBytes bytes → buffer_at bytes ≡ Ok x → Taken buffer_text BufferFits bytes x
 unfolding buffer_at
 buffer_taken bytes x is e =
     let a = bind_ok (field_at 4 0 65536 bytes) _ x e in

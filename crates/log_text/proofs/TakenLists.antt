@@ -6,7 +6,7 @@ use Rattle.log_text.specs.declared.LogFault.{LogFault}
 use Rattle.log_text.specs.declared.LogFault.TheVariants.{BadField}
 use Rattle.log_text.specs.Text.{AreRising, field, listed}
 use Rattle.log_text.specs.Reading.{field_at, items_at, listed_at, rising_at}
-use Rattle.log_text.proofs.Numbers.{IsBytes}
+use Rattle.byte_numbers.specs.Bytes.{AreBytes}
 use Rattle.log_text.proofs.ReadResults.{bind_ok, ok_is}
 use Rattle.log_text.proofs.TakenFields.{Reads, Taken, Takes, Within, number_again, number_taken, then_takes}
 
@@ -17,7 +17,7 @@ pub record AreItems {A : Type 0} (holds : A → Type 0) (count : ℕ) (items : L
   pub each : AllByRecursion holds items
 
 pub items_taken : {A : Type 0} (item_at : List ℕ → Result (A × List ℕ) LogFault) (text : A → List ℕ) (holds : A → Type 0) → Reads item_at text holds
-    → (count : ℕ) (bytes : List ℕ) (x : List A × List ℕ) → IsBytes bytes → items_at item_at count bytes ≡ Ok x
+    → (count : ℕ) (bytes : List ℕ) (x : List A × List ℕ) → AreBytes bytes → items_at item_at count bytes ≡ Ok x
     → Taken (flat_map text) (AreItems holds count) bytes x
 unfolding items_at
 items_taken {A = A} item_at text holds reads zero bytes x is e =
@@ -79,7 +79,7 @@ pub record AreBad (upto least count : ℕ) (numbers : List ℕ) : Type 0 where
   pub len : length numbers ≡ count
   pub rising : AreRising least (upto + 1) numbers
 
-pub rising_taken : (most count least : ℕ) (bytes : List ℕ) (x : List ℕ × List ℕ) → IsBytes bytes → rising_at most count least bytes ≡ Ok x
+pub rising_taken : (most count least : ℕ) (bytes : List ℕ) (x : List ℕ × List ℕ) → AreBytes bytes → rising_at most count least bytes ≡ Ok x
     → Taken (flat_map (field 4)) (AreBad most least count) bytes x
 unfolding rising_at
 rising_taken most zero least bytes x is e =

@@ -11,7 +11,7 @@ use Rattle.log_text.specs.declared.Version.{Version}
 use Rattle.log_text.specs.declared.Version.TheVariants.{First, Second}
 use Rattle.log_text.specs.Text.{IsWithin, ReplyFits, Saved, StepFits, UnitFits, field, header_text, listed, log_text, reply_text, step_text, unit_text, version_clients, version_number, version_tags}
 use Rattle.log_text.specs.Reading.{field_at, header_at, listed_at, log_at, name_number, number_at, reply_at, step_at, unit_at, units_at, version_of, whole_log}
-use Rattle.log_text.proofs.Numbers.{IsBytes}
+use Rattle.byte_numbers.specs.Bytes.{AreBytes}
 use Rattle.log_text.proofs.ReadResults.{bind_ok, ok_is, test_ok}
 use Rattle.log_text.proofs.TakenFields.{Taken, Takes, Within, number_again, number_taken, then_takes}
 use Rattle.log_text.proofs.TakenLists.{AreItems, items_again, items_taken, reads_listed}
@@ -38,7 +38,7 @@ any : (version : Version) → Any version
 any First = record { few = omega arith }
 any Second = record { few = omega arith }
 
-header_taken : (bytes : List ℕ) (x : Version × List ℕ) → IsBytes bytes → header_at bytes ≡ Ok x → Taken header_text Any bytes x
+header_taken : (bytes : List ℕ) (x : Version × List ℕ) → AreBytes bytes → header_at bytes ≡ Ok x → Taken header_text Any bytes x
 unfolding header_at
 header_taken bytes x is e =
     let a = bind_ok (number_at BadHeader 6 name_number name_number bytes) _ x e in
@@ -102,7 +102,7 @@ pub record AreUnits (version : Version) (units : List FirstUnit) : Type 0 where
   pub most : length units ≤ version_clients version
   pub each : AreItems UnitFits (length units) units
 
-pub units_taken : (version : Version) (bytes : List ℕ) (x : List FirstUnit × List ℕ) → IsBytes bytes → units_at version bytes ≡ Ok x
+pub units_taken : (version : Version) (bytes : List ℕ) (x : List FirstUnit × List ℕ) → AreBytes bytes → units_at version bytes ≡ Ok x
     → Taken (λ units. field 1 (length units) ++ flat_map unit_text units) (AreUnits version) bytes x
 unfolding units_at
 units_taken version bytes x is e =
@@ -130,7 +130,7 @@ units_again version units rest fits =
 
 -- THE WHOLE
 
-log_taken : (bytes : List ℕ) (x : Saved × List ℕ) → IsBytes bytes → log_at bytes ≡ Ok x → Taken log_text IsWithin bytes x
+log_taken : (bytes : List ℕ) (x : Saved × List ℕ) → AreBytes bytes → log_at bytes ≡ Ok x → Taken log_text IsWithin bytes x
 unfolding log_at
 log_taken bytes x is e =
     let a = bind_ok (header_at bytes) _ x e in
@@ -183,7 +183,7 @@ log_again log rest fits =
     ) refl
 
 -- what was found is a log within its limits, and the whole text is the log's
-pub whole_taken : (bytes : List ℕ) (log : Saved) → IsBytes bytes → whole_log bytes ≡ Ok log → (bytes ≡ log_text log) × IsWithin log
+pub whole_taken : (bytes : List ℕ) (log : Saved) → AreBytes bytes → whole_log bytes ≡ Ok log → (bytes ≡ log_text log) × IsWithin log
 unfolding whole_log
 whole_taken bytes log is e =
     let a = bind_ok (log_at bytes) _ log e in

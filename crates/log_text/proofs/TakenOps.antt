@@ -6,7 +6,7 @@ use Rattle.log_text.specs.declared.LogFault.TheVariants.{BadField}
 use Rattle.log_text.specs.declared.OpFields.{OpFields}
 use Rattle.log_text.specs.Text.{OpFits, field, fields_text, op_code, op_fields, op_text}
 use Rattle.log_text.specs.Reading.{◌>>=◌, field_at, fields_at, op_at, op_of}
-use Rattle.log_text.proofs.Numbers.{IsBytes}
+use Rattle.byte_numbers.specs.Bytes.{AreBytes}
 use Rattle.log_text.proofs.ReadResults.{bind_ok, ok_is}
 use Rattle.log_text.proofs.TakenFields.{Reads, Taken, Takes, Within, number_again, number_taken, then_takes}
 
@@ -17,7 +17,7 @@ pub record FieldsWithin (block_most count_most fua_most : ℕ) (fields : OpField
   pub count : Within 4 0 count_most fields.count
   pub fua : Within 1 0 fua_most fields.fua
 
-fields_taken : (block_most count_most fua_most : ℕ) (bytes : List ℕ) (x : OpFields × List ℕ) → IsBytes bytes → fields_at block_most count_most fua_most bytes ≡ Ok x
+fields_taken : (block_most count_most fua_most : ℕ) (bytes : List ℕ) (x : OpFields × List ℕ) → AreBytes bytes → fields_at block_most count_most fua_most bytes ≡ Ok x
     → Taken fields_text (FieldsWithin block_most count_most fua_most) bytes x
 unfolding fields_at
 fields_taken block_most count_most fua_most bytes x is e =
@@ -75,7 +75,7 @@ pub record KindTaken (code : ℕ) (bytes : List ℕ) (x : Op × List ℕ) : Type
   pub taken : Taken (λ op. fields_text (op_fields op)) OpFits bytes x
 
 made_taken : (made : OpFields → Op) (code block_most count_most fua_most : ℕ) → ((fields : OpFields) → FieldsWithin block_most count_most fua_most fields → IsMade code fields (made fields))
-    → (bytes : List ℕ) (x : Op × List ℕ) → IsBytes bytes → (fields_at block_most count_most fua_most bytes >>= λ f. Ok (made f.0, f.1)) ≡ Ok x → KindTaken code bytes x
+    → (bytes : List ℕ) (x : Op × List ℕ) → AreBytes bytes → (fields_at block_most count_most fua_most bytes >>= λ f. Ok (made f.0, f.1)) ≡ Ok x → KindTaken code bytes x
 made_taken made code block_most count_most fua_most is-made bytes x is e =
     let a = bind_ok (fields_at block_most count_most fua_most bytes) (λ f. Ok (made f.0, f.1)) x e in
     let taken = fields_taken block_most count_most fua_most bytes a.0 is a.1 in
@@ -101,7 +101,7 @@ below_nine P a b c d e f g h i (suc (suc (suc (suc (suc (suc (suc (suc zero)))))
 below_nine P a b c d e f g h i (suc (suc (suc (suc (suc (suc (suc (suc (suc n))))))))) small = absurd (omega arith)
 
 abbrev CodeTaken : ℕ → Type 0
-CodeTaken code = (bytes : List ℕ) (x : Op × List ℕ) → IsBytes bytes → op_of code bytes ≡ Ok x → KindTaken code bytes x
+CodeTaken code = (bytes : List ℕ) (x : Op × List ℕ) → AreBytes bytes → op_of code bytes ≡ Ok x → KindTaken code bytes x
 
 op_of_taken : (code : ℕ) → code ≤ 8 → CodeTaken code
 unfolding op_of
@@ -192,7 +192,7 @@ op_of_again (ReadCapacity16 allocation) rest fits =
 
 -- AN OPERATION
 
-op_taken : (bytes : List ℕ) (x : Op × List ℕ) → IsBytes bytes → op_at bytes ≡ Ok x → Taken op_text OpFits bytes x
+op_taken : (bytes : List ℕ) (x : Op × List ℕ) → AreBytes bytes → op_at bytes ≡ Ok x → Taken op_text OpFits bytes x
 unfolding op_at
 op_taken bytes x is e =
     let a = bind_ok (field_at 1 0 8 bytes) _ x e in

@@ -10,7 +10,7 @@ use Rattle.log_text.specs.declared.LogFault.TheVariants.{BadField}
 use Rattle.log_text.specs.declared.SavedReply.{SavedReply}
 use Rattle.log_text.specs.Text.{BodyFits, BufferFits, ReplyFits, SenseFits, buffer_text, field, reply_body, reply_kind, reply_text}
 use Rattle.log_text.specs.Reading.{◌>>=◌, buffer_at, bytes_at, field_at, reply_at, reply_of, sense_at, status_at}
-use Rattle.log_text.proofs.Numbers.{IsBytes}
+use Rattle.byte_numbers.specs.Bytes.{AreBytes}
 use Rattle.log_text.proofs.ReadResults.{bind_ok, ok_is, test_ok}
 use Rattle.log_text.proofs.TakenFields.{Reads, Taken, Takes, Within, bytes_again, bytes_taken_at, number_again, number_taken, reads_buffer, then_takes}
 use Rattle.log_text.proofs.TakenSteps.{byte_within, client_within, tag_within, ticket_within}
@@ -29,7 +29,7 @@ sense_sized len bytes is e =
       | inr some ↦ inr (is ∙ eqb-true _ _ some)
     ]
 
-sense_taken : (bytes : List ℕ) (x : List ℕ × List ℕ) → IsBytes bytes → sense_at bytes ≡ Ok x → Taken (λ sense. field 1 (length sense) ++ sense) SenseFits bytes x
+sense_taken : (bytes : List ℕ) (x : List ℕ × List ℕ) → AreBytes bytes → sense_at bytes ≡ Ok x → Taken (λ sense. field 1 (length sense) ++ sense) SenseFits bytes x
 unfolding sense_at
 sense_taken bytes x is e =
     let a = bind_ok (field_at 1 0 0xff bytes) _ x e in
@@ -65,7 +65,7 @@ pub record BodyTaken (kind tag ticket : ℕ) (bytes : List ℕ) (x : Reply × Li
   pub ticket_is : reply_ticket x.0 ≡ ticket
   pub taken : Taken reply_body BodyFits bytes x
 
-status_taken : (tag ticket : ℕ) (bytes : List ℕ) (x : Reply × List ℕ) → IsBytes bytes → status_at tag ticket bytes ≡ Ok x → BodyTaken 1 tag ticket bytes x
+status_taken : (tag ticket : ℕ) (bytes : List ℕ) (x : Reply × List ℕ) → AreBytes bytes → status_at tag ticket bytes ≡ Ok x → BodyTaken 1 tag ticket bytes x
 unfolding status_at
 status_taken tag ticket bytes x is e =
     let a = bind_ok (field_at 1 0 0xff bytes) _ x e in
@@ -85,7 +85,7 @@ status_taken tag ticket bytes x is e =
       };
     })
 
-aborted_taken : (tag ticket : ℕ) (bytes : List ℕ) (x : Reply × List ℕ) → IsBytes bytes
+aborted_taken : (tag ticket : ℕ) (bytes : List ℕ) (x : Reply × List ℕ) → AreBytes bytes
     → (buffer_at bytes >>= λ buffer. Ok (replies.Aborted tag ticket buffer.0, buffer.1)) ≡ Ok x → BodyTaken 2 tag ticket bytes x
 aborted_taken tag ticket bytes x is e =
     let a = bind_ok (buffer_at bytes) (λ buffer. Ok (replies.Aborted tag ticket buffer.0, buffer.1)) x e in
@@ -98,7 +98,7 @@ aborted_taken tag ticket bytes x is e =
       taken = record { takes = buffer.takes; fits = buffer.fits };
     })
 
-code_taken : (tag ticket : ℕ) (bytes : List ℕ) (x : Reply × List ℕ) → IsBytes bytes
+code_taken : (tag ticket : ℕ) (bytes : List ℕ) (x : Reply × List ℕ) → AreBytes bytes
     → (field_at 1 0 0xff bytes >>= λ code. Ok (replies.Task tag ticket code.0, code.1)) ≡ Ok x → BodyTaken 3 tag ticket bytes x
 code_taken tag ticket bytes x is e =
     let a = bind_ok (field_at 1 0 0xff bytes) (λ code. Ok (replies.Task tag ticket code.0, code.1)) x e in
@@ -119,7 +119,7 @@ from_one_to_three P a b c (suc (suc (suc zero))) low small = c
 from_one_to_three P a b c (suc (suc (suc (suc n)))) low small = absurd (omega arith)
 
 abbrev KindTaken : ℕ → Type 0
-KindTaken kind = (tag ticket : ℕ) (bytes : List ℕ) (x : Reply × List ℕ) → IsBytes bytes → reply_of kind tag ticket bytes ≡ Ok x → BodyTaken kind tag ticket bytes x
+KindTaken kind = (tag ticket : ℕ) (bytes : List ℕ) (x : Reply × List ℕ) → AreBytes bytes → reply_of kind tag ticket bytes ≡ Ok x → BodyTaken kind tag ticket bytes x
 
 reply_of_taken : (kind : ℕ) → 1 ≤ kind → kind ≤ 3 → KindTaken kind
 unfolding reply_of
@@ -150,7 +150,7 @@ reply_of_again (replies.Task tag ticket code) rest fits =
 
 -- A REPLY
 
-reply_taken : (clients : ℕ) → 1 ≤ clients → (bytes : List ℕ) (x : SavedReply × List ℕ) → IsBytes bytes → reply_at clients bytes ≡ Ok x
+reply_taken : (clients : ℕ) → 1 ≤ clients → (bytes : List ℕ) (x : SavedReply × List ℕ) → AreBytes bytes → reply_at clients bytes ≡ Ok x
     → Taken reply_text (ReplyFits clients) bytes x
 unfolding reply_at
 reply_taken clients some bytes x is e =

@@ -14,7 +14,7 @@ use Rattle.log_text.specs.declared.LogFault.TheVariants.{BadField}
 use Rattle.log_text.specs.declared.Version.{Version}
 use Rattle.log_text.specs.Text.{has_queries, BufferFits, OpFits, PipeFits, StepFits, TaskFits, buffer_text, field, op_text, pipe_number, step_body, step_kind, step_text, task_function, task_tag}
 use Rattle.log_text.specs.Reading.{◌>>=◌, buffer_at, field_at, op_at, pipe_of, retire_at, step_at, step_of, submit_at, task_at, task_of}
-use Rattle.log_text.proofs.Numbers.{IsBytes}
+use Rattle.byte_numbers.specs.Bytes.{AreBytes}
 use Rattle.log_text.proofs.ReadResults.{bind_ok, not_ok, ok_is, result_of}
 use Rattle.log_text.proofs.TakenFields.{Reads, Taken, Takes, Within, number_again, number_taken, reads_buffer, then_takes}
 use Rattle.log_text.proofs.TakenOps.{reads_op}
@@ -43,7 +43,7 @@ chosen : {A : Type 0} (b : Bool) (x y z : A) → cond b x y ≡ z → ((b ≡ tr
 chosen true x y z e = inl (refl, e)
 chosen false x y z e = inr (refl, e)
 
-task_of_taken : (version : Version) (function : ℕ) (bytes : List ℕ) (x : Task × List ℕ) → IsBytes bytes → task_of version function bytes ≡ Ok x
+task_of_taken : (version : Version) (function : ℕ) (bytes : List ℕ) (x : Task × List ℕ) → AreBytes bytes → task_of version function bytes ≡ Ok x
     → TaskTaken version function bytes x
 unfolding task_of
 task_of_taken version function bytes x is e =
@@ -102,7 +102,7 @@ pub record StepTaken (version : Version) (clients kind : ℕ) (bytes : List ℕ)
   pub kind_is : step_kind x.0 ≡ kind
   pub taken : Taken step_body (StepFits version clients) bytes x
 
-submit_taken : (version : Version) (clients : ℕ) (bytes : List ℕ) (x : Step × List ℕ) → 1 ≤ clients → IsBytes bytes → submit_at clients bytes ≡ Ok x → StepTaken version clients 1 bytes x
+submit_taken : (version : Version) (clients : ℕ) (bytes : List ℕ) (x : Step × List ℕ) → 1 ≤ clients → AreBytes bytes → submit_at clients bytes ≡ Ok x → StepTaken version clients 1 bytes x
 unfolding submit_at
 submit_taken version clients bytes x some is e =
     let a = bind_ok (field_at 1 0 (clients - 1) bytes) _ x e in
@@ -143,7 +143,7 @@ submit_again clients client tag ticket op buffer rest few c t k o b =
       reads_buffer.again buffer rest b,
     ) refl
 
-task_taken : (version : Version) (clients : ℕ) (bytes : List ℕ) (x : Step × List ℕ) → 1 ≤ clients → IsBytes bytes → task_at version clients bytes ≡ Ok x → StepTaken version clients 2 bytes x
+task_taken : (version : Version) (clients : ℕ) (bytes : List ℕ) (x : Step × List ℕ) → 1 ≤ clients → AreBytes bytes → task_at version clients bytes ≡ Ok x → StepTaken version clients 2 bytes x
 unfolding task_at
 task_taken version clients bytes x some is e =
     let a = bind_ok (field_at 1 0 (clients - 1) bytes) _ x e in
@@ -192,7 +192,7 @@ pipe_made (suc (suc (suc zero))) low high = record { number_is = refl; fits = tt
 pipe_made (suc (suc (suc (suc zero)))) low high = record { number_is = refl; fits = tt }
 pipe_made (suc (suc (suc (suc (suc number))))) low high = absurd (omega arith)
 
-retire_taken : (version : Version) (clients : ℕ) (bytes : List ℕ) (x : Step × List ℕ) → IsBytes bytes → retire_at bytes ≡ Ok x → StepTaken version clients 8 bytes x
+retire_taken : (version : Version) (clients : ℕ) (bytes : List ℕ) (x : Step × List ℕ) → AreBytes bytes → retire_at bytes ≡ Ok x → StepTaken version clients 8 bytes x
 unfolding retire_at
 retire_taken version clients bytes x is e =
     let a = bind_ok (field_at 1 2 4 bytes) _ x e in
@@ -225,7 +225,7 @@ retire_again pipe tag rest p t =
     (ap (λ (q : Pipe). Ok (steps.Retire q tag, rest)) back.0)
 
 tagged_taken : (version : Version) (clients kind : ℕ) (made : ℕ → Step) → ((tag : ℕ) → step_kind (made tag) ≡ kind) → ((tag : ℕ) → step_body (made tag) ≡ field 2 tag)
-    → ((tag : ℕ) → tag < 2 ^ 16 → StepFits version clients (made tag)) → (bytes : List ℕ) (x : Step × List ℕ) → IsBytes bytes
+    → ((tag : ℕ) → tag < 2 ^ 16 → StepFits version clients (made tag)) → (bytes : List ℕ) (x : Step × List ℕ) → AreBytes bytes
     → (field_at 2 0 0xffff bytes >>= λ tag. Ok (made tag.0, tag.1)) ≡ Ok x → StepTaken version clients kind bytes x
 tagged_taken version clients kind made kind-is body fits bytes x is e =
     let a = bind_ok (field_at 2 0 0xffff bytes) (λ tag. Ok (made tag.0, tag.1)) x e in
@@ -240,7 +240,7 @@ tagged_taken version clients kind made kind-is body fits bytes x is e =
     })
 
 bare_taken : (version : Version) (clients kind : ℕ) (step : Step) → step_kind step ≡ kind → step_body step ≡ [] → StepFits version clients step
-    → (bytes : List ℕ) (x : Step × List ℕ) → IsBytes bytes → result_of (step, bytes) ≡ Ok x → StepTaken version clients kind bytes x
+    → (bytes : List ℕ) (x : Step × List ℕ) → AreBytes bytes → result_of (step, bytes) ≡ Ok x → StepTaken version clients kind bytes x
 bare_taken version clients kind step kind-is body fits bytes x is e =
     let read : Step × List ℕ = (step, bytes) in
     subst (λ (y : Step × List ℕ). StepTaken version clients kind bytes y) (ok_is read x e) (record {
@@ -251,7 +251,7 @@ bare_taken version clients kind step kind-is body fits bytes x is e =
       };
     })
 
-take_taken : (version : Version) (clients : ℕ) → 1 ≤ clients → (bytes : List ℕ) (x : Step × List ℕ) → IsBytes bytes
+take_taken : (version : Version) (clients : ℕ) → 1 ≤ clients → (bytes : List ℕ) (x : Step × List ℕ) → AreBytes bytes
     → (field_at 1 0 (clients - 1) bytes >>= λ client. Ok (steps.Take client.0, client.1)) ≡ Ok x → StepTaken version clients 9 bytes x
 take_taken version clients some bytes x is e =
     let a = bind_ok (field_at 1 0 (clients - 1) bytes) (λ client. Ok (steps.Take client.0, client.1)) x e in
@@ -276,7 +276,7 @@ from_one_to_nine P a b c d e f g h i (suc (suc (suc (suc (suc (suc (suc (suc (su
 from_one_to_nine P a b c d e f g h i (suc (suc (suc (suc (suc (suc (suc (suc (suc (suc n)))))))))) low small = absurd (omega arith)
 
 abbrev KindTaken : Version → ℕ → ℕ → Type 0
-KindTaken version clients kind = (bytes : List ℕ) (x : Step × List ℕ) → IsBytes bytes → step_of version clients kind bytes ≡ Ok x → StepTaken version clients kind bytes x
+KindTaken version clients kind = (bytes : List ℕ) (x : Step × List ℕ) → AreBytes bytes → step_of version clients kind bytes ≡ Ok x → StepTaken version clients kind bytes x
 
 step_of_taken : (version : Version) (clients : ℕ) → 1 ≤ clients → (kind : ℕ) → 1 ≤ kind → kind ≤ 9 → KindTaken version clients kind
 unfolding step_of
@@ -308,7 +308,7 @@ step_of_again version clients (steps.Take client) rest few fits =
 
 -- A STEP
 
-step_taken : (version : Version) (clients : ℕ) → 1 ≤ clients → (bytes : List ℕ) (x : Step × List ℕ) → IsBytes bytes → step_at version clients bytes ≡ Ok x → Taken step_text (StepFits version clients) bytes x
+step_taken : (version : Version) (clients : ℕ) → 1 ≤ clients → (bytes : List ℕ) (x : Step × List ℕ) → AreBytes bytes → step_at version clients bytes ≡ Ok x → Taken step_text (StepFits version clients) bytes x
 unfolding step_at
 step_taken version clients some bytes x is e =
     let a = bind_ok (field_at 1 1 9 bytes) _ x e in

@@ -6,12 +6,12 @@ use Rattle.uas_log.specs.declared.FirstUnit.{FirstUnit}
 use Rattle.log_text.specs.declared.LogFault.TheVariants.{BadField}
 use Rattle.log_text.specs.Text.{AreRising, UnitFits, field, unit_text}
 use Rattle.log_text.specs.Reading.{bytes_at, field_at, rising_at, unit_at}
-use Rattle.log_text.proofs.Numbers.{IsBytes}
+use Rattle.byte_numbers.specs.Bytes.{AreBytes}
 use Rattle.log_text.proofs.ReadResults.{bind_ok, ok_is}
 use Rattle.log_text.proofs.TakenFields.{Reads, Taken, Takes, Within, bytes_again, bytes_taken_at, number_again, number_taken, then_takes}
 use Rattle.log_text.proofs.TakenLists.{rising_again, rising_taken}
 
-unit_taken : (bytes : List ℕ) (x : FirstUnit × List ℕ) → IsBytes bytes → unit_at bytes ≡ Ok x → Taken unit_text UnitFits bytes x
+unit_taken : (bytes : List ℕ) (x : FirstUnit × List ℕ) → AreBytes bytes → unit_at bytes ≡ Ok x → Taken unit_text UnitFits bytes x
 unfolding unit_at
 unit_taken bytes x is e =
     let a = bind_ok (field_at 4 1 65536 bytes) _ x e in

@@ -16,7 +16,9 @@ use Rattle.nbd.specs.declared.handshake.OptionHead.{OptionHead}
 use Rattle.nbd.specs.declared.handshake.OptionReply.{OptionReply}
 use Rattle.nbd.specs.Handshake.{FitsExport, FitsOption, FitsOptionReply, export_in, export_text, greeting_in, greeting_text, kind_of, number_of_kind}
 use Rattle.nbd.specs.Handshake.{number_of_option, option_in, option_of, option_reply_in, option_reply_text, option_text}
-use Rattle.nbd.proofs.Numbers.{IsBytes, bytes_dropped, number_bytes}
+use Rattle.byte_numbers.specs.Bytes.{AreBytes}
+use Rattle.byte_numbers.proofs.Bytes.{bytes_dropped}
+use Rattle.byte_numbers.proofs.Numbers.{number_bytes}
 
 -- requests and replies with the same parts
 same_request : (f n k o l : ℕ) (r : Request) → f ≡ r.flags.0 → n ≡ number_of_command r.command → command_of (number_of_command r.command) ≡ r.command
@@ -57,7 +59,7 @@ reply_in-reply_text r fits =
 -- THE OTHER WAY
 
 -- a number of bytes in the middle, and what follows them
-middle : (n at : ℕ) (bytes : List ℕ) (rest : List ℕ) → n + at ≤ length bytes → IsBytes bytes → rest ≡ drop (at + n) bytes
+middle : (n at : ℕ) (bytes : List ℕ) (rest : List ℕ) → n + at ≤ length bytes → AreBytes bytes → rest ≡ drop (at + n) bytes
     → big_bytes n (big_number n (drop at bytes)) ++ rest ≡ drop at bytes
 middle n at bytes rest long is e =
     ap (λ (front : List ℕ). front ++ rest) (number_bytes n (drop at bytes) (omega (arith, length-drop at bytes)) (bytes_dropped at bytes is))
@@ -65,7 +67,7 @@ middle n at bytes rest long is e =
     ∙ take-append-drop n (drop at bytes)
 
 -- the number at the end
-last : (n at : ℕ) (bytes : List ℕ) → length bytes ≡ n + at → IsBytes bytes → big_bytes n (big_number n (drop at bytes)) ≡ drop at bytes
+last : (n at : ℕ) (bytes : List ℕ) → length bytes ≡ n + at → AreBytes bytes → big_bytes n (big_number n (drop at bytes)) ≡ drop at bytes
 last n at bytes long is =
     number_bytes n (drop at bytes) (omega (arith, length-drop at bytes)) (bytes_dropped at bytes is)
     ∙ take_all n (drop at bytes) (omega (arith, length-drop at bytes))
@@ -77,7 +79,7 @@ number_of_error-error_of : (n : ℕ) → number_of_error (error_of n) ≡ n
 number_of_error-error_of n = search (rules, eqb-true)
 
 -- bytes that are read as a request are its bytes
-pub request_text-request_in : (bytes : List ℕ) → length bytes ≡ 28 → IsBytes bytes → IfOk (request_in bytes) (λ r. request_text r ≡ bytes)
+pub request_text-request_in : (bytes : List ℕ) → length bytes ≡ 28 → AreBytes bytes → IfOk (request_in bytes) (λ r. request_text r ≡ bytes)
 unfolding request_in request_text
 request_text-request_in bytes long is =
     let n : ℕ = big_number 2 (drop 6 bytes) in
@@ -105,7 +107,7 @@ request_text-request_in bytes long is =
     ] refl
 
 -- bytes that are read as a reply are its bytes
-pub reply_text-reply_in : (bytes : List ℕ) → length bytes ≡ 16 → IsBytes bytes → IfOk (reply_in bytes) (λ r. reply_text r ≡ bytes)
+pub reply_text-reply_in : (bytes : List ℕ) → length bytes ≡ 16 → AreBytes bytes → IfOk (reply_in bytes) (λ r. reply_text r ≡ bytes)
 unfolding reply_in reply_text
 reply_text-reply_in bytes long is =
     let n : ℕ = big_number 4 (drop 4 bytes) in

@@ -3,26 +3,22 @@
 ghost use Rattle.std.specs.Prelude.{◌≡◌, ◌++◌, OnOk};
 ghost use Rattle.page_text.specs.Embedded.{embedded, escaped, is_plain};
 
-use std::alloc::{AllocError, Global};
+use std::alloc::AllocError;
 
 /// Adds bytes as they stand inside a string.
 #[tactic(auto, unfolding(crate::specs::Embedded::embedded))]
-pub(crate) fn push_embedded(
-    alloc: Global,
-    text: &mut Vec<u8>,
-    bytes: &[u8],
-) -> Result<(), AllocError>
+pub(crate) fn push_embedded(text: &mut Vec<u8>, bytes: &[u8]) -> Result<(), AllocError>
     ensures { OnOk result (text.new.items ≡ text.old.items ++ embedded bytes.now) }
 {
     for byte in bytes {
-        push_escaped(alloc, text, *byte)?;
+        push_escaped(text, *byte)?;
     }
     Ok(())
 }
 
 /// Adds a byte as it stands inside a string (RFC 8259, 7).
 #[tactic(auto, unfolding(crate::specs::Embedded::escaped))]
-fn push_escaped(alloc: Global, text: &mut Vec<u8>, byte: u8) -> Result<(), AllocError>
+fn push_escaped(text: &mut Vec<u8>, byte: u8) -> Result<(), AllocError>
     ensures { OnOk result (text.new.items ≡ text.old.items ++ escaped byte) }
 {
     if is_plain(byte) {
@@ -32,7 +28,7 @@ fn push_escaped(alloc: Global, text: &mut Vec<u8>, byte: u8) -> Result<(), Alloc
         text.extend_from_slice(b"\\n")
     } else {
         text.extend_from_slice(b"\\u00")?;
-        let digits = hex::encode(alloc, [byte])?;
+        let digits = hex::encode(*text.allocator(), [byte])?;
         text.extend_from_slice(digits.as_bytes())
     }
 }

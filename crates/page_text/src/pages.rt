@@ -18,7 +18,7 @@ pub fn page(alloc: Global, clients: u8, trace: &[u8]) -> Result<Vec<u8>, AllocEr
 {
     let mut page = Vec::new(alloc);
     push_head(&mut page)?;
-    push_data(alloc, &mut page, clients, trace)?;
+    push_data(&mut page, clients, trace)?;
     push_tail(&mut page)?;
     Ok(page)
 }
@@ -36,39 +36,34 @@ fn push_head(page: &mut Vec<u8>) -> Result<(), AllocError>
 
 /// Adds a trace as data, with what its bytes say.
 #[tactic(auto, unfolding(crate::specs::Page::data_of))]
-fn push_data(alloc: Global, page: &mut Vec<u8>, clients: u8, trace: &[u8]) -> Result<(), AllocError>
+fn push_data(page: &mut Vec<u8>, clients: u8, trace: &[u8]) -> Result<(), AllocError>
     ensures { OnOk result (page.new.items ≡ page.old.items ++ data_of clients trace.now) }
 {
-    push_numbers(alloc, page, clients)?;
+    push_numbers(page, clients)?;
     page.extend_from_slice(b",\"text\":\"")?;
-    let text = decoded(alloc, trace)?;
-    push_embedded(alloc, page, &text)?;
+    let text = decoded(*page.allocator(), trace)?;
+    push_embedded(page, &text)?;
     page.extend_from_slice(b"\"}")
 }
 
 /// Adds the numbers that the script asks for.
 #[tactic(auto, unfolding(crate::specs::Page::numbers))]
-fn push_numbers(alloc: Global, page: &mut Vec<u8>, clients: u8) -> Result<(), AllocError>
+fn push_numbers(page: &mut Vec<u8>, clients: u8) -> Result<(), AllocError>
     ensures { OnOk result (page.new.items ≡ page.old.items ++ numbers clients) }
 {
-    push_number(alloc, page, "{\"clients\":", usize::from(clients))?;
-    push_number(alloc, page, ",\"tags\":", TAGS)?;
-    push_number(alloc, page, ",\"events\":", EVENT_RING_PLACES)?;
+    push_number(page, "{\"clients\":", usize::from(clients))?;
+    push_number(page, ",\"tags\":", TAGS)?;
+    push_number(page, ",\"events\":", EVENT_RING_PLACES)?;
     Ok(())
 }
 
 /// Adds a number behind its name.
 #[tactic(auto, unfolding(crate::specs::Page::number))]
-fn push_number(
-    alloc: Global,
-    page: &mut Vec<u8>,
-    name: &str,
-    value: usize,
-) -> Result<(), AllocError>
+fn push_number(page: &mut Vec<u8>, name: &str, value: usize) -> Result<(), AllocError>
     ensures { OnOk result (page.new.items ≡ page.old.items ++ number name.now value) }
 {
     page.extend_from_slice(name.as_bytes())?;
-    let digits = format!(in alloc; "{value}")?;
+    let digits = format!(in *page.allocator(); "{value}")?;
     page.extend_from_slice(digits.as_bytes())
 }
 

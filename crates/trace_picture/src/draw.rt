@@ -6,7 +6,7 @@ ghost use Rattle.trace_picture.specs.Drawn.{rule_if, shape_of, shape_text, width
 
 use crate::elements::{push_arrow, push_bar_at, push_dot, push_rule_at, push_words_at};
 use crate::{Held, Lane, Mark, Point, Shape};
-use std::alloc::{AllocError, Global};
+use std::alloc::AllocError;
 
 /// Where a row is, from the top.
 #[tactic(auto, unfolding(crate::specs::Drawn::row_y))]
@@ -70,23 +70,7 @@ impl Mark {
     fn is_row(self) -> bool
         ensures { result ≡ is_row self }
     {
-        match self {
-            Mark::Blank => false,
-            Mark::Handed(_)
-            | Mark::Taken(_)
-            | Mark::OfTag(_)
-            | Mark::Hold { .. }
-            | Mark::Heard
-            | Mark::Step
-            | Mark::Put
-            | Mark::Doorbell
-            | Mark::Unit { .. }
-            | Mark::Chunk { .. }
-            | Mark::Event
-            | Mark::Release
-            | Mark::Told(_)
-            | Mark::Other => true,
-        }
+        !matches!(self, Mark::Blank)
     }
 
     /// Whether it is a step's line.
@@ -94,23 +78,15 @@ impl Mark {
     fn is_step(self) -> bool
         ensures { result ≡ is_step self }
     {
-        match self {
+        matches!(
+            self,
             Mark::Handed(_)
-            | Mark::Taken(_)
-            | Mark::OfTag(_)
-            | Mark::Hold { .. }
-            | Mark::Heard
-            | Mark::Step => true,
-            Mark::Blank
-            | Mark::Put
-            | Mark::Doorbell
-            | Mark::Unit { .. }
-            | Mark::Chunk { .. }
-            | Mark::Event
-            | Mark::Release
-            | Mark::Told(_)
-            | Mark::Other => false,
-        }
+                | Mark::Taken(_)
+                | Mark::OfTag(_)
+                | Mark::Hold { .. }
+                | Mark::Heard
+                | Mark::Step
+        )
     }
 
     /// What its row has: an arrow from who writes to where it is written, or a dot on the lane of who acts.
@@ -139,7 +115,6 @@ impl Mark {
 
 /// Draws a line that stands at a point.
 pub(crate) fn push_drawn(
-    alloc: Global,
     text: &mut Vec<u8>,
     clients: u8,
     point: Point,
@@ -149,7 +124,7 @@ pub(crate) fn push_drawn(
     ensures { OnOk result (text.new.items ≡ text.old.items ++ drawn_as clients point mark line.now) }
 {
     if mark.is_row() {
-        push_row(alloc, text, clients, point, mark, line)?;
+        push_row(text, clients, point, mark, line)?;
     }
     Ok(())
 }
@@ -157,7 +132,6 @@ pub(crate) fn push_drawn(
 /// Draws a row, in the colour of the client whose step it is.
 #[tactic(auto, unfolding(crate::specs::Drawn::row_text))]
 fn push_row(
-    alloc: Global,
     text: &mut Vec<u8>,
     clients: u8,
     point: Point,
@@ -169,44 +143,35 @@ fn push_row(
     let y = row_y(point.row);
     let here = point.after(mark);
     let shape = mark.shape();
-    push_row_start(alloc, text, mark.kind(), here.client)?;
-    push_rule(alloc, text, mark, width_of(clients), y)?;
-    push_ended_bar(alloc, text, clients, point, here)?;
-    push_shape(alloc, text, clients, shape, y)?;
-    push_words(alloc, text, clients, shape, point.row, line)?;
+    push_row_start(text, mark.kind(), here.client)?;
+    push_rule(text, mark, width_of(clients), y)?;
+    push_ended_bar(text, clients, point, here)?;
+    push_shape(text, clients, shape, y)?;
+    push_words(text, clients, shape, point.row, line)?;
     text.extend_from_slice(b"</g>\n")?;
     Ok(())
 }
 
 /// Begins a row of a kind, of a client's step.
 #[tactic(auto, unfolding(crate::specs::Drawn::row_start))]
-fn push_row_start(
-    alloc: Global,
-    text: &mut Vec<u8>,
-    kind: &str,
-    client: Option<u8>,
-) -> Result<(), AllocError>
+fn push_row_start(text: &mut Vec<u8>, kind: &str, client: Option<u8>) -> Result<(), AllocError>
     ensures { OnOk result (text.new.items ≡ text.old.items ++ row_start kind.now client) }
 {
     text.extend_from_slice(b"<g class=\"")?;
     text.extend_from_slice(kind.as_bytes())?;
     text.extend_from_slice(b" ")?;
-    push_colour(alloc, text, client)?;
+    push_colour(text, client)?;
     text.extend_from_slice(b"\">")
 }
 
 /// Adds the name of a client's colour.
 #[tactic(auto, unfolding(crate::specs::Drawn::colour_of))]
-pub(crate) fn push_colour(
-    alloc: Global,
-    text: &mut Vec<u8>,
-    client: Option<u8>,
-) -> Result<(), AllocError>
+pub(crate) fn push_colour(text: &mut Vec<u8>, client: Option<u8>) -> Result<(), AllocError>
     ensures { OnOk result (text.new.items ≡ text.old.items ++ colour_of client) }
 {
     match client {
         Some(client) => {
-            let colour = format!(in alloc; "c{client}")?;
+            let colour = format!(in *text.allocator(); "c{client}")?;
             text.extend_from_slice(colour.as_bytes())
         }
         None => text.extend_from_slice(b"none"),
@@ -214,17 +179,11 @@ pub(crate) fn push_colour(
 }
 
 /// A thin line above a step.
-fn push_rule(
-    alloc: Global,
-    text: &mut Vec<u8>,
-    mark: Mark,
-    width: u64,
-    y: u64,
-) -> Result<(), AllocError>
+fn push_rule(text: &mut Vec<u8>, mark: Mark, width: u64, y: u64) -> Result<(), AllocError>
     ensures { OnOk result (text.new.items ≡ text.old.items ++ rule_if mark width y) }
 {
     if mark.is_step() {
-        push_rule_at(alloc, text, width, y.saturating_sub(15))?;
+        push_rule_at(text, width, y.saturating_sub(15))?;
     }
     Ok(())
 }
@@ -232,7 +191,6 @@ fn push_rule(
 /// The bar of a pipe that is held before a line, and not behind it.
 #[tactic(auto, unfolding(crate::specs::Drawn::ended_bar))]
 fn push_ended_bar(
-    alloc: Global,
     text: &mut Vec<u8>,
     clients: u8,
     before: Point,
@@ -241,7 +199,7 @@ fn push_ended_bar(
     ensures { OnOk result (text.new.items ≡ text.old.items ++ ended_bar clients before behind) }
 {
     match (before.held, behind.held) {
-        (Some(held), None) => push_bar(alloc, text, clients, held, before.row),
+        (Some(held), None) => push_bar(text, clients, held, before.row),
         _ => Ok(()),
     }
 }
@@ -249,7 +207,6 @@ fn push_ended_bar(
 /// The bar of a pipe that is held up to a row.
 #[tactic(auto, unfolding(crate::specs::Drawn::bar))]
 pub(crate) fn push_bar(
-    alloc: Global,
     text: &mut Vec<u8>,
     clients: u8,
     held: Held,
@@ -260,26 +217,20 @@ pub(crate) fn push_bar(
     let x = Lane::Rings.x(clients).saturating_sub(4);
     let y = row_y(held.since);
     let height = row_y(row).saturating_sub(y);
-    push_bar_at(alloc, text, x, y, height)?;
+    push_bar_at(text, x, y, height)?;
     let pipe = held.pipe;
-    let name = format!(in alloc; "<title>pipe {pipe} is held</title></rect>")?;
+    let name = format!(in *text.allocator(); "<title>pipe {pipe} is held</title></rect>")?;
     text.extend_from_slice(name.as_bytes())
 }
 
 /// Draws an arrow or a dot.
 #[tactic(auto, unfolding(crate::specs::Drawn::shape_text))]
-fn push_shape(
-    alloc: Global,
-    text: &mut Vec<u8>,
-    clients: u8,
-    shape: Shape,
-    y: u64,
-) -> Result<(), AllocError>
+fn push_shape(text: &mut Vec<u8>, clients: u8, shape: Shape, y: u64) -> Result<(), AllocError>
     ensures { OnOk result (text.new.items ≡ text.old.items ++ shape_text clients shape y) }
 {
     match shape {
-        Shape::Arrow { from, to } => push_arrow(alloc, text, from.x(clients), to.x(clients), y),
-        Shape::Dot(lane) => push_dot(alloc, text, lane.x(clients), y),
+        Shape::Arrow { from, to } => push_arrow(text, from.x(clients), to.x(clients), y),
+        Shape::Dot(lane) => push_dot(text, lane.x(clients), y),
         Shape::Nothing => Ok(()),
     }
 }
@@ -287,7 +238,6 @@ fn push_shape(
 /// Adds the words of a row: over an arrow from its left end on, or beside a dot.
 #[tactic(auto, unfolding(crate::specs::Drawn::words_text))]
 fn push_words(
-    alloc: Global,
     text: &mut Vec<u8>,
     clients: u8,
     shape: Shape,
@@ -300,9 +250,9 @@ fn push_words(
     match shape {
         Shape::Arrow { from, to } => {
             let left = from.x(clients).min(to.x(clients)) + 10;
-            push_words_at(alloc, text, left, y.saturating_sub(5), line)
+            push_words_at(text, left, y.saturating_sub(5), line)
         }
-        Shape::Dot(lane) => push_words_at(alloc, text, lane.x(clients) + 8, y + 3, line),
-        Shape::Nothing => push_words_at(alloc, text, 10, y + 3, line),
+        Shape::Dot(lane) => push_words_at(text, lane.x(clients) + 8, y + 3, line),
+        Shape::Nothing => push_words_at(text, 10, y + 3, line),
     }
 }

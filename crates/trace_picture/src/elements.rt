@@ -4,23 +4,17 @@ ghost use Rattle.std.specs.Prelude.{◌≡◌, ◌++◌, IsTrue, OnOk};
 ghost use Rattle.std.specs.List.{list_all};
 ghost use Rattle.trace_picture.specs.Elements.{arrow, arrow_from, attribute, bar_at, dot, escaped, escaped_byte, is_plain, rule_at, shown, text_at, words_at};
 
-use std::alloc::{AllocError, Global};
+use std::alloc::AllocError;
 
 /// The most bytes of a line that are shown.
 pub const MOST_WORDS: usize = 120;
 
 /// Draws an arrow, its head at its end.
 #[tactic(auto, unfolding(crate::specs::Elements::arrow))]
-pub(crate) fn push_arrow(
-    alloc: Global,
-    text: &mut Vec<u8>,
-    from: u64,
-    to: u64,
-    y: u64,
-) -> Result<(), AllocError>
+pub(crate) fn push_arrow(text: &mut Vec<u8>, from: u64, to: u64, y: u64) -> Result<(), AllocError>
     ensures { OnOk result (text.new.items ≡ text.old.items ++ arrow from to y) }
 {
-    push_arrow_from(alloc, text, from, to, y)?;
+    push_arrow_from(text, from, to, y)?;
     if from < to {
         text.extend_from_slice(b"l-8-4v8l8-4z\"/>")
     } else {
@@ -29,77 +23,54 @@ pub(crate) fn push_arrow(
 }
 
 #[tactic(auto, unfolding(crate::specs::Elements::arrow_from))]
-fn push_arrow_from(
-    alloc: Global,
-    text: &mut Vec<u8>,
-    from: u64,
-    to: u64,
-    y: u64,
-) -> Result<(), AllocError>
+fn push_arrow_from(text: &mut Vec<u8>, from: u64, to: u64, y: u64) -> Result<(), AllocError>
     ensures { OnOk result (text.new.items ≡ text.old.items ++ arrow_from from to y) }
 {
-    let drawn = format!(in alloc; "<path d=\"M{from} {y}H{to}")?;
+    let drawn = format!(in *text.allocator(); "<path d=\"M{from} {y}H{to}")?;
     text.extend_from_slice(drawn.as_bytes())
 }
 
-pub(crate) fn push_dot(alloc: Global, text: &mut Vec<u8>, x: u64, y: u64) -> Result<(), AllocError>
+pub(crate) fn push_dot(text: &mut Vec<u8>, x: u64, y: u64) -> Result<(), AllocError>
     ensures { OnOk result (text.new.items ≡ text.old.items ++ dot x y) }
 {
     text.extend_from_slice(b"<circle r=\"3\"")?;
-    push_attribute(alloc, text, "cx", x)?;
-    push_attribute(alloc, text, "cy", y)?;
+    push_attribute(text, "cx", x)?;
+    push_attribute(text, "cy", y)?;
     text.extend_from_slice(b"/>")?;
     Ok(())
 }
 
 #[tactic(auto, unfolding(crate::specs::Elements::bar_at))]
-pub(crate) fn push_bar_at(
-    alloc: Global,
-    text: &mut Vec<u8>,
-    x: u64,
-    y: u64,
-    height: u64,
-) -> Result<(), AllocError>
+pub(crate) fn push_bar_at(text: &mut Vec<u8>, x: u64, y: u64, height: u64) -> Result<(), AllocError>
     ensures { OnOk result (text.new.items ≡ text.old.items ++ bar_at x y height) }
 {
     text.extend_from_slice(b"<rect class=\"held\" width=\"8\"")?;
-    push_attribute(alloc, text, "x", x)?;
-    push_attribute(alloc, text, "y", y)?;
-    push_attribute(alloc, text, "height", height)?;
+    push_attribute(text, "x", x)?;
+    push_attribute(text, "y", y)?;
+    push_attribute(text, "height", height)?;
     text.extend_from_slice(b">")
 }
 
 #[tactic(auto, unfolding(crate::specs::Elements::rule_at))]
-pub(crate) fn push_rule_at(
-    alloc: Global,
-    text: &mut Vec<u8>,
-    width: u64,
-    y: u64,
-) -> Result<(), AllocError>
+pub(crate) fn push_rule_at(text: &mut Vec<u8>, width: u64, y: u64) -> Result<(), AllocError>
     ensures { OnOk result (text.new.items ≡ text.old.items ++ rule_at width y) }
 {
     text.extend_from_slice(b"<rect class=\"rule\" height=\"1\"")?;
-    push_attribute(alloc, text, "y", y)?;
-    push_attribute(alloc, text, "width", width)?;
+    push_attribute(text, "y", y)?;
+    push_attribute(text, "width", width)?;
     text.extend_from_slice(b"/>")
 }
 
 /// Adds an attribute of an element.
 #[tactic(auto, unfolding(crate::specs::Elements::attribute))]
-pub(crate) fn push_attribute(
-    alloc: Global,
-    text: &mut Vec<u8>,
-    name: &str,
-    value: u64,
-) -> Result<(), AllocError>
+pub(crate) fn push_attribute(text: &mut Vec<u8>, name: &str, value: u64) -> Result<(), AllocError>
     ensures { OnOk result (text.new.items ≡ text.old.items ++ attribute name.now value) }
 {
-    let attribute = format!(in alloc; " {name}=\"{value}\"")?;
+    let attribute = format!(in *text.allocator(); " {name}=\"{value}\"")?;
     text.extend_from_slice(attribute.as_bytes())
 }
 
 pub(crate) fn push_words_at(
-    alloc: Global,
     text: &mut Vec<u8>,
     x: u64,
     y: u64,
@@ -107,24 +78,19 @@ pub(crate) fn push_words_at(
 ) -> Result<(), AllocError>
     ensures { OnOk result (text.new.items ≡ text.old.items ++ words_at x y line.now) }
 {
-    push_text_at(alloc, text, x, y)?;
+    push_text_at(text, x, y)?;
     push_escaped(text, shown(line))?;
     text.extend_from_slice(b"</text>")?;
     Ok(())
 }
 
 #[tactic(auto, unfolding(crate::specs::Elements::text_at))]
-pub(crate) fn push_text_at(
-    alloc: Global,
-    text: &mut Vec<u8>,
-    x: u64,
-    y: u64,
-) -> Result<(), AllocError>
+pub(crate) fn push_text_at(text: &mut Vec<u8>, x: u64, y: u64) -> Result<(), AllocError>
     ensures { OnOk result (text.new.items ≡ text.old.items ++ text_at x y) }
 {
     text.extend_from_slice(b"<text")?;
-    push_attribute(alloc, text, "x", x)?;
-    push_attribute(alloc, text, "y", y)?;
+    push_attribute(text, "x", x)?;
+    push_attribute(text, "y", y)?;
     text.extend_from_slice(b">")
 }
 

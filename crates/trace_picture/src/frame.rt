@@ -6,7 +6,7 @@ ghost use Rattle.trace_picture.specs.Frame.{client_lanes, device_lanes, foot, he
 use crate::draw::{push_bar, push_colour, row_y, width_of};
 use crate::elements::{push_attribute, push_text_at};
 use crate::{Lane, Point};
-use std::alloc::{AllocError, Global};
+use std::alloc::AllocError;
 
 /// What a picture shows, for readers who can't see it.
 pub const ABOUT: &str =
@@ -46,38 +46,35 @@ pub const COLOURS: &str = ".none{fill:#444;stroke:#444}
 pub const GROUND: &str = "<rect width=\"100%\" height=\"100%\" fill=\"#fff\"/>\n";
 
 /// Begins a picture of so many clients and rows.
-pub(crate) fn push_head(
-    alloc: Global,
-    text: &mut Vec<u8>,
-    clients: u8,
-    rows: u32,
-) -> Result<(), AllocError>
+pub(crate) fn push_head(text: &mut Vec<u8>, clients: u8, rows: u32) -> Result<(), AllocError>
     ensures { OnOk result (text.new.items ≡ text.old.items ++ head clients rows) }
 {
     let bottom = row_y(rows);
-    push_size(alloc, text, width_of(clients), bottom)?;
-    push_title(alloc, text, clients)?;
+    push_size(text, width_of(clients), bottom)?;
+    push_title(text, clients)?;
     push_style(text)?;
-    push_client_lanes(alloc, text, clients, bottom)?;
-    push_device_lanes(alloc, text, clients, bottom)?;
+    push_client_lanes(text, clients, bottom)?;
+    push_device_lanes(text, clients, bottom)?;
     Ok(())
 }
 
-fn push_size(alloc: Global, text: &mut Vec<u8>, width: u64, height: u64) -> Result<(), AllocError>
+fn push_size(text: &mut Vec<u8>, width: u64, height: u64) -> Result<(), AllocError>
     ensures { OnOk result (text.new.items ≡ text.old.items ++ size width height) }
 {
     text.extend_from_slice(b"<svg xmlns=\"http://www.w3.org/2000/svg\" role=\"img\"")?;
-    push_attribute(alloc, text, "width", width)?;
-    push_attribute(alloc, text, "height", height)?;
+    push_attribute(text, "width", width)?;
+    push_attribute(text, "height", height)?;
     text.extend_from_slice(b">\n")?;
     Ok(())
 }
 
 #[tactic(auto, unfolding(crate::specs::Frame::title))]
-fn push_title(alloc: Global, text: &mut Vec<u8>, clients: u8) -> Result<(), AllocError>
+fn push_title(text: &mut Vec<u8>, clients: u8) -> Result<(), AllocError>
     ensures { OnOk result (text.new.items ≡ text.old.items ++ title clients) }
 {
-    let title = format!(in alloc; "<title>A run step by step, clients: {clients}</title>\n")?;
+    let title = format!(in *text.allocator();
+        "<title>A run step by step, clients: {clients}</title>\n"
+    )?;
     text.extend_from_slice(title.as_bytes())
 }
 
@@ -93,58 +90,42 @@ fn push_style(text: &mut Vec<u8>) -> Result<(), AllocError>
 }
 
 /// Draws the lanes of the clients.
-fn push_client_lanes(
-    alloc: Global,
-    text: &mut Vec<u8>,
-    clients: u8,
-    bottom: u64,
-) -> Result<(), AllocError>
+fn push_client_lanes(text: &mut Vec<u8>, clients: u8, bottom: u64) -> Result<(), AllocError>
     ensures { OnOk result (text.new.items ≡ text.old.items ++ client_lanes clients bottom clients) }
 {
     for client in 0..clients {
-        push_lane(alloc, text, clients, bottom, Lane::Client(client))?;
+        push_lane(text, clients, bottom, Lane::Client(client))?;
     }
     Ok(())
 }
 
 /// Draws the lanes of host, rings, controller and device.
 #[tactic(auto, unfolding(crate::specs::Frame::device_lanes))]
-fn push_device_lanes(
-    alloc: Global,
-    text: &mut Vec<u8>,
-    clients: u8,
-    bottom: u64,
-) -> Result<(), AllocError>
+fn push_device_lanes(text: &mut Vec<u8>, clients: u8, bottom: u64) -> Result<(), AllocError>
     ensures { OnOk result (text.new.items ≡ text.old.items ++ device_lanes clients bottom) }
 {
-    push_lane(alloc, text, clients, bottom, Lane::Host)?;
-    push_lane(alloc, text, clients, bottom, Lane::Rings)?;
-    push_lane(alloc, text, clients, bottom, Lane::Controller)?;
-    push_lane(alloc, text, clients, bottom, Lane::Device)
+    push_lane(text, clients, bottom, Lane::Host)?;
+    push_lane(text, clients, bottom, Lane::Rings)?;
+    push_lane(text, clients, bottom, Lane::Controller)?;
+    push_lane(text, clients, bottom, Lane::Device)
 }
 
 /// Draws a lane, with its name on top.
 #[tactic(auto, unfolding(crate::specs::Frame::lane_text))]
-fn push_lane(
-    alloc: Global,
-    text: &mut Vec<u8>,
-    clients: u8,
-    bottom: u64,
-    lane: Lane,
-) -> Result<(), AllocError>
+fn push_lane(text: &mut Vec<u8>, clients: u8, bottom: u64, lane: Lane) -> Result<(), AllocError>
     ensures { OnOk result (text.new.items ≡ text.old.items ++ lane_text clients bottom lane) }
 {
     let x = lane.x(clients);
-    push_lane_start(alloc, text, lane)?;
-    push_lane_line(alloc, text, x, bottom)?;
-    push_text_at(alloc, text, x, 30)?;
-    push_lane_name(alloc, text, lane)?;
+    push_lane_start(text, lane)?;
+    push_lane_line(text, x, bottom)?;
+    push_text_at(text, x, 30)?;
+    push_lane_name(text, lane)?;
     text.extend_from_slice(b"</text></g>\n")
 }
 
 /// Begins a lane, in the colour of its client.
 #[tactic(auto, unfolding(crate::specs::Frame::lane_start))]
-fn push_lane_start(alloc: Global, text: &mut Vec<u8>, lane: Lane) -> Result<(), AllocError>
+fn push_lane_start(text: &mut Vec<u8>, lane: Lane) -> Result<(), AllocError>
     ensures { OnOk result (text.new.items ≡ text.old.items ++ lane_start lane) }
 {
     let client = match lane {
@@ -152,27 +133,27 @@ fn push_lane_start(alloc: Global, text: &mut Vec<u8>, lane: Lane) -> Result<(), 
         Lane::Host | Lane::Rings | Lane::Controller | Lane::Device => None,
     };
     text.extend_from_slice(b"<g class=\"lane ")?;
-    push_colour(alloc, text, client)?;
+    push_colour(text, client)?;
     text.extend_from_slice(b"\">")
 }
 
 #[tactic(auto, unfolding(crate::specs::Frame::lane_line))]
-fn push_lane_line(alloc: Global, text: &mut Vec<u8>, x: u64, bottom: u64) -> Result<(), AllocError>
+fn push_lane_line(text: &mut Vec<u8>, x: u64, bottom: u64) -> Result<(), AllocError>
     ensures { OnOk result (text.new.items ≡ text.old.items ++ lane_line x bottom) }
 {
-    let line = format!(in alloc; "<path d=\"M{x} 40V{bottom}")?;
+    let line = format!(in *text.allocator(); "<path d=\"M{x} 40V{bottom}")?;
     text.extend_from_slice(line.as_bytes())?;
     text.extend_from_slice(b"\"/>")
 }
 
 /// Adds the name of a lane.
 #[tactic(auto, unfolding(crate::specs::Frame::lane_name))]
-fn push_lane_name(alloc: Global, text: &mut Vec<u8>, lane: Lane) -> Result<(), AllocError>
+fn push_lane_name(text: &mut Vec<u8>, lane: Lane) -> Result<(), AllocError>
     ensures { OnOk result (text.new.items ≡ text.old.items ++ lane_name lane) }
 {
     match lane {
         Lane::Client(client) => {
-            let name = format!(in alloc; "client {client}")?;
+            let name = format!(in *text.allocator(); "client {client}")?;
             text.extend_from_slice(name.as_bytes())
         }
         Lane::Host => text.extend_from_slice(b"host"),
@@ -184,16 +165,11 @@ fn push_lane_name(alloc: Global, text: &mut Vec<u8>, lane: Lane) -> Result<(), A
 
 /// Ends a picture: with the bar of the pipe that is held still, if one is.
 #[tactic(auto, unfolding(crate::specs::Frame::foot))]
-pub(crate) fn push_foot(
-    alloc: Global,
-    text: &mut Vec<u8>,
-    clients: u8,
-    point: Point,
-) -> Result<(), AllocError>
+pub(crate) fn push_foot(text: &mut Vec<u8>, clients: u8, point: Point) -> Result<(), AllocError>
     ensures { OnOk result (text.new.items ≡ text.old.items ++ foot clients point) }
 {
     if let Some(held) = point.held {
-        push_bar(alloc, text, clients, held, point.row)?;
+        push_bar(text, clients, held, point.row)?;
     }
     text.extend_from_slice(b"</svg>\n")
 }

@@ -18,28 +18,23 @@ pub fn picture(alloc: Global, clients: u8, trace: &[u8]) -> Result<Vec<u8>, Allo
 {
     let lines = pieces(alloc, trace)?;
     let mut rows = Vec::new(alloc);
-    let last = push_rows(alloc, &mut rows, clients, &lines)?;
+    let last = push_rows(&mut rows, clients, &lines)?;
     let mut picture = Vec::new(alloc);
-    push_head(alloc, &mut picture, clients, last.row)?;
+    push_head(&mut picture, clients, last.row)?;
     picture.extend_from_slice(&rows)?;
-    push_foot(alloc, &mut picture, clients, last)?;
+    push_foot(&mut picture, clients, last)?;
     Ok(picture)
 }
 
 /// Draws each line where it stands, and answers where the picture ends.
 #[tactic(auto, unfolding(crate::specs::Picture::last, crate::specs::Picture::rows_of))]
-fn push_rows(
-    alloc: Global,
-    text: &mut Vec<u8>,
-    clients: u8,
-    lines: &[&[u8]],
-) -> Result<Point, AllocError>
+fn push_rows(text: &mut Vec<u8>, clients: u8, lines: &[&[u8]]) -> Result<Point, AllocError>
     ensures rows { OnOk result (text.new.items ≡ text.old.items ++ rows_of clients (map (λ line. line.now) lines.now)) }
     ensures last { IfOk result (λ point. point ≡ last (map (λ line. line.now) lines.now)) }
 {
     let mut point = start();
     for line in lines {
-        point = push_line(alloc, text, clients, point, line)?;
+        point = push_line(text, clients, point, line)?;
     }
     Ok(point)
 }
@@ -47,7 +42,6 @@ fn push_rows(
 /// Draws a line where it stands, and answers where the next one stands.
 #[tactic(auto, unfolding(crate::specs::Drawn::drawn))]
 fn push_line(
-    alloc: Global,
     text: &mut Vec<u8>,
     clients: u8,
     point: Point,
@@ -56,7 +50,7 @@ fn push_line(
     ensures row { OnOk result (text.new.items ≡ text.old.items ++ drawn clients point line.now) }
     ensures next { IfOk result (λ next. next ≡ after_line point line.now) }
 {
-    let mark = mark_of(alloc, line)?;
-    push_drawn(alloc, text, clients, point, mark, line)?;
+    let mark = mark_of(*text.allocator(), line)?;
+    push_drawn(text, clients, point, mark, line)?;
     Ok(point.after(mark))
 }

@@ -1,1 +1,2 @@
 pub mod LeftOver
+pub mod BusBehind

@@ -2,7 +2,6 @@
 use Rattle.std.specs.Prelude.{ℕ, ◌-◌, ◌^◌, Bool, not, if◌then◌else◌, ◌==◌, nat_lt, min}
 use Rattle.std.specs.Prelude.{List, [], ◌∷◌, ◌++◌, length, take, drop, Option, Result, Ok, Err}
 use Rattle.std.specs.Option.{option_map_or}
-use Rattle.arrayvec.specs.ArrayVec.{array_vec_len}
 use Rattle.scsi_cmd.specs.declared.Op.{Op}
 use Rattle.scsi_cmd.specs.declared.Reply.{Reply}
 use Rattle.scsi_cmd.specs.declared.Reply.TheVariants as replies
@@ -60,28 +59,28 @@ overlaid buffer bytes = take (length bytes) buffer ++ drop (length buffer) bytes
 abbrev pub told_length : List ℕ → ℕ
 told_length buffer = min (length buffer) (2 ^ 32 - 1)
 
--- what is told of a reply; where it has no sense data, the door's stays
-abbrev pub told_of : List ℕ → Reply → ToldReply
-told_of before (replies.Status tag ticket status sense buffer) = record {
+-- what is told of a status and its sense data, with so many bytes of data
+abbrev pub told_status : ℕ → ℕ → ℕ → List ℕ → ℕ → ToldReply
+told_status tag ticket status sense count = record {
   kind = 1;
   tag = tag;
   ticket = ticket;
   status = status;
-  sense_length = array_vec_len sense;
-  sense = padded sense.items (array_vec_len sense);
-  length = told_length buffer;
+  sense_length = length sense;
+  sense = padded sense (length sense);
+  length = count;
 }
-told_of before (replies.Aborted tag ticket buffer) = record {
-  kind = 2;
-  tag = tag;
-  ticket = ticket;
-  status = 0;
-  sense_length = 0;
-  sense = before;
-  length = told_length buffer;
-}
-told_of before (replies.Task tag ticket code) =
-    record { kind = 3; tag = tag; ticket = ticket; status = code; sense_length = 0; sense = before; length = 0 }
+
+-- what is told of a reply of another kind; where it has no sense data, the door's stays
+abbrev pub told_without_sense : ℕ → ℕ → ℕ → ℕ → List ℕ → ℕ → ToldReply
+told_without_sense kind tag ticket status before count =
+    record { kind = kind; tag = tag; ticket = ticket; status = status; sense_length = 0; sense = before; length = count }
+
+-- what is told of a reply
+abbrev pub told_of : List ℕ → Reply → ToldReply
+told_of before (replies.Status tag ticket status sense buffer) = told_status tag ticket status sense.items (told_length buffer)
+told_of before (replies.Aborted tag ticket buffer) = told_without_sense 2 tag ticket 0 before (told_length buffer)
+told_of before (replies.Task tag ticket code) = told_without_sense 3 tag ticket code before 0
 
 -- the bytes once it was told
 abbrev pub with_buffer : List ℕ → Reply → List ℕ

@@ -20,14 +20,14 @@ use Rattle.uas_driver.specs.declared.Answer.TheVariants as answers
 use Rattle.uas_driver.specs.declared.EndpointState.{EndpointState}
 use Rattle.uas_driver.specs.declared.EndpointState.TheVariants as states
 use Rattle.uas_profile.specs.declared.Pipe.TheVariants as pipes
-use Rattle.arrayvec.specs.ArrayVec.{array_vec_len}
 use Rattle.uas_driver.specs.declared.Refusal.{Refusal}
 use Rattle.uas_driver.specs.declared.Refusal.TheVariants as refusals
 use Rattle.c_faults.specs.declared.TheConstants.{CLIENT_CALL, CLIENT_FUNCTION, CLIENT_LENGTH, CLIENT_TICKET, DRIVER_ADDRESS, DRIVER_CLIENTS}
 use Rattle.c_faults.specs.declared.TheConstants.{DRIVER_EVENT, DRIVER_RING, DRIVER_ROOM, DRIVER_STATE, NO_MEMORY}
-use Rattle.uas_c.specs.ClientCall.{asked_operation, client_fault, not_ticket, overlaid, pipe_numbered, task_numbered, told_length}
+use Rattle.uas_c.specs.ClientCall.{asked_operation, client_fault, not_ticket, overlaid, pipe_numbered, task_numbered, told_length, told_status}
+use Rattle.uas_c.specs.ClientCall.{told_without_sense}
 use Rattle.c_common.specs.Door.{After, DoorAfter, numbered, refused, with_bytes}
-use Rattle.c_common.specs.Bytes.{padded, yes}
+use Rattle.c_common.specs.Bytes.{yes}
 use Rattle.uas_c.specs.declared.driver.answer.ToldAnswer.{ToldAnswer}
 use Rattle.uas_c.specs.declared.driver.door.DriverCall.{DriverCall}
 use Rattle.uas_c.specs.declared.driver.door.DriverCall.TheVariants as calls
@@ -139,40 +139,15 @@ after_event driver door = option_map_or (λ event. with_event door (event_by dri
 
 -- REPLIES
 
--- what is told of an answer; where it has no sense data, the door's stays
+-- what is told of an answer: a reply, and the bytes that were moved; 4 is a command that failed, with its completion code
 abbrev pub answer_of : List ℕ → Answer → ToldAnswer
-answer_of before (answers.Status tag ticket status sense buffer moved) = record {
-  kind = 1;
-  tag = tag;
-  ticket = ticket;
-  status = status;
-  sense_length = array_vec_len sense;
-  sense = padded sense.items (array_vec_len sense);
-  length = told_length buffer;
-  moved = moved;
-}
-answer_of before (answers.Aborted tag ticket buffer moved) = record {
-  kind = 2;
-  tag = tag;
-  ticket = ticket;
-  status = 0;
-  sense_length = 0;
-  sense = before;
-  length = told_length buffer;
-  moved = moved;
-}
-answer_of before (answers.Failed tag ticket code buffer moved) = record {
-  kind = 4;
-  tag = tag;
-  ticket = ticket;
-  status = code;
-  sense_length = 0;
-  sense = before;
-  length = option_map_or told_length buffer 0;
-  moved = moved;
-}
-answer_of before (answers.Task tag ticket code) =
-    record { kind = 3; tag = tag; ticket = ticket; status = code; sense_length = 0; sense = before; length = 0; moved = 0 }
+answer_of before (answers.Status tag ticket status sense buffer moved) =
+    record { reply = told_status tag ticket status sense.items (told_length buffer); moved = moved }
+answer_of before (answers.Aborted tag ticket buffer moved) =
+    record { reply = told_without_sense 2 tag ticket 0 before (told_length buffer); moved = moved }
+answer_of before (answers.Failed tag ticket code buffer moved) =
+    record { reply = told_without_sense 4 tag ticket code before (option_map_or told_length buffer 0); moved = moved }
+answer_of before (answers.Task tag ticket code) = record { reply = told_without_sense 3 tag ticket code before 0; moved = 0 }
 
 -- the bytes once it was told
 abbrev pub with_answer_bytes : List ℕ → Answer → List ℕ
@@ -185,13 +160,13 @@ with_answer_bytes bytes (answers.Task tag ticket code) = bytes
 abbrev pub with_answer : UasDriverDoor → ToldAnswer → UasDriverDoor
 with_answer door told = record door {
   acted = 1;
-  reply = told.kind;
-  tag = told.tag;
-  ticket = told.ticket;
-  status = told.status;
-  sense_length = told.sense_length;
-  sense = told.sense;
-  length = told.length;
+  reply = told.reply.kind;
+  tag = told.reply.tag;
+  ticket = told.reply.ticket;
+  status = told.reply.status;
+  sense_length = told.reply.sense_length;
+  sense = told.reply.sense;
+  length = told.reply.length;
   moved = told.moved;
 }
 

@@ -1,7 +1,8 @@
 //! What clients ask of a bus and of a driver, and what a reply tells, whatever the door.
-ghost use Rattle.std.specs.Prelude.{◌≡◌, ◌<◌, ◌-◌, ◌^◌, IfErr, OnOk, length, min};
+ghost use Rattle.std.specs.Prelude.{◌≡◌, ◌<◌, ◌≤◌, ◌-◌, ◌^◌, IfErr, OnOk, length, min};
 ghost use Rattle.c_faults.specs.declared.TheConstants.{NO_MEMORY};
-ghost use Rattle.uas_c.specs.ClientCall.{asked_operation, client_fault, overlaid, pipe_numbered, task_numbered, told_of, with_buffer};
+ghost use Rattle.uas_c.specs.ClientCall.{asked_operation, client_fault, overlaid, pipe_numbered, task_numbered, told_of};
+ghost use Rattle.uas_c.specs.ClientCall.{told_status, told_without_sense, with_buffer};
 
 use c_common::{UasOperation, padded, read_operation};
 use c_faults::{
@@ -101,37 +102,53 @@ pub(crate) fn tell_reply(
             status,
             sense,
             buffer,
-        } => ToldReply {
-            kind: 1,
-            tag: *tag,
-            ticket: *ticket,
-            status: *status,
-            sense_length: sense.len() as u8,
-            sense: padded(sense),
-            length: show_buffer(buffer, bytes),
-        },
+        } => told_status(*tag, *ticket, *status, sense, show_buffer(buffer, bytes)),
         Reply::Aborted {
             tag,
             ticket,
             buffer,
-        } => ToldReply {
-            kind: 2,
-            tag: *tag,
-            ticket: *ticket,
-            status: 0,
-            sense_length: 0,
-            sense: before,
-            length: show_buffer(buffer, bytes),
-        },
-        Reply::Task { tag, ticket, code } => ToldReply {
-            kind: 3,
-            tag: *tag,
-            ticket: *ticket,
-            status: *code,
-            sense_length: 0,
-            sense: before,
-            length: 0,
-        },
+        } => told_without_sense(2, *tag, *ticket, 0, before, show_buffer(buffer, bytes)),
+        Reply::Task { tag, ticket, code } => {
+            told_without_sense(3, *tag, *ticket, *code, before, 0)
+        }
+    }
+}
+
+/// What is told of a status and its sense data, with so many bytes of data.
+pub(crate) fn told_status(tag: u16, ticket: u64, status: u8, sense: &[u8], count: u32) -> ToldReply
+    requires { length sense.now ≤ 96 }
+    ensures { result ≡ told_status tag ticket status sense.now count }
+{
+    ToldReply {
+        kind: 1,
+        tag,
+        ticket,
+        status,
+        sense_length: sense.len() as u8,
+        sense: padded(sense),
+        length: count,
+    }
+}
+
+/// What is told of a reply of another kind, which has no sense data: the room for it stays as it was `before`.
+pub(crate) fn told_without_sense(
+    kind: u8,
+    tag: u16,
+    ticket: u64,
+    status: u8,
+    before: [u8; MAX_SENSE_BYTES],
+    count: u32,
+) -> ToldReply
+    ensures { result ≡ told_without_sense kind tag ticket status before count }
+{
+    ToldReply {
+        kind,
+        tag,
+        ticket,
+        status,
+        sense_length: 0,
+        sense: before,
+        length: count,
     }
 }
 

@@ -4,7 +4,7 @@ ghost use Rattle.std.specs.Prelude.{◌≡◌, ℕ, ◌++◌, OnOk};
 ghost use Rattle.uas_decode.specs.Named.{buffer_name, byte_words, named_at, named_words, pipe_name, place_in, ring_words};
 
 use frame_store::{Buffer, Place};
-use std::alloc::{AllocError, Global};
+use std::alloc::AllocError;
 use stream_array::{Pipe, find};
 use uas_profile::{ENGINE_RING, ENGINE_RING_PLACES, EVENT_RING, EVENT_RING_PLACES};
 
@@ -63,7 +63,7 @@ fn place_in(base: u64, places: u64, address: u64) -> Option<u64>
 
 /// Adds the name of what stands at an address.
 #[tactic(auto, unfolding(crate::specs::Named::named_words))]
-pub(crate) fn push_named(alloc: Global, text: &mut Vec<u8>, named: &Named) -> Result<(), AllocError>
+pub(crate) fn push_named(text: &mut Vec<u8>, named: &Named) -> Result<(), AllocError>
     ensures { OnOk result (text.new.items ≡ text.old.items ++ named_words named.now) }
 {
     match *named {
@@ -71,35 +71,29 @@ pub(crate) fn push_named(alloc: Global, text: &mut Vec<u8>, named: &Named) -> Re
             pipe,
             stream,
             place,
-        } => push_ring(alloc, text, pipe, stream, place),
+        } => push_ring(text, pipe, stream, place),
         Named::Engine(place) => {
-            let words = format!(in alloc; "command ring, place {place}")?;
+            let words = format!(in *text.allocator(); "command ring, place {place}")?;
             text.extend_from_slice(words.as_bytes())
         }
         Named::Event(place) => {
-            let words = format!(in alloc; "event ring, place {place}")?;
+            let words = format!(in *text.allocator(); "event ring, place {place}")?;
             text.extend_from_slice(words.as_bytes())
         }
-        Named::Buffer(place) => push_buffer(alloc, text, &place),
+        Named::Buffer(place) => push_buffer(text, &place),
     }
 }
 
 /// Adds the name of a place of a pipe's ring. The command pipe has one ring, without streams.
 #[tactic(auto, unfolding(crate::specs::Named::ring_words))]
-fn push_ring(
-    alloc: Global,
-    text: &mut Vec<u8>,
-    pipe: Pipe,
-    stream: u16,
-    place: usize,
-) -> Result<(), AllocError>
+fn push_ring(text: &mut Vec<u8>, pipe: Pipe, stream: u16, place: usize) -> Result<(), AllocError>
     ensures { OnOk result (text.new.items ≡ text.old.items ++ ring_words pipe stream place) }
 {
     let name = pipe_name(pipe);
     let words = match pipe {
-        Pipe::Command => format!(in alloc; "{name} pipe ring, place {place}")?,
+        Pipe::Command => format!(in *text.allocator(); "{name} pipe ring, place {place}")?,
         Pipe::Status | Pipe::DataIn | Pipe::DataOut => {
-            format!(in alloc; "{name} ring of stream {stream}, place {place}")?
+            format!(in *text.allocator(); "{name} ring of stream {stream}, place {place}")?
         }
     };
     text.extend_from_slice(words.as_bytes())
@@ -107,7 +101,7 @@ fn push_ring(
 
 /// Adds the name of a tag's buffer, and of its byte where it isn't the first.
 #[tactic(auto, unfolding(crate::specs::Named::buffer_name))]
-fn push_buffer(alloc: Global, text: &mut Vec<u8>, place: &Place) -> Result<(), AllocError>
+fn push_buffer(text: &mut Vec<u8>, place: &Place) -> Result<(), AllocError>
     ensures { OnOk result (text.new.items ≡ text.old.items ++ buffer_name place.now.buffer place.now.tag ++ byte_words place.now.offset) }
 {
     let tag = place.tag;
@@ -116,20 +110,20 @@ fn push_buffer(alloc: Global, text: &mut Vec<u8>, place: &Place) -> Result<(), A
         Buffer::Status => "status buffer",
         Buffer::Window => "data window",
     };
-    let words = format!(in alloc; "{name} of tag {tag}")?;
+    let words = format!(in *text.allocator(); "{name} of tag {tag}")?;
     text.extend_from_slice(words.as_bytes())?;
-    push_byte(alloc, text, place.offset)
+    push_byte(text, place.offset)
 }
 
 /// Adds `, byte N`, where it isn't the first.
 #[tactic(auto, unfolding(crate::specs::Named::byte_words))]
-fn push_byte(alloc: Global, text: &mut Vec<u8>, offset: usize) -> Result<(), AllocError>
+fn push_byte(text: &mut Vec<u8>, offset: usize) -> Result<(), AllocError>
     ensures { OnOk result (text.new.items ≡ text.old.items ++ byte_words offset) }
 {
     if offset == 0 {
         return Ok(());
     }
-    let words = format!(in alloc; ", byte {offset}")?;
+    let words = format!(in *text.allocator(); ", byte {offset}")?;
     text.extend_from_slice(words.as_bytes())
 }
 

@@ -59,7 +59,6 @@ pub fn run_decode<S: Source, O: Sink, W: Write>(
 /// What was read of a line that has no end yet, and the answers that were not written yet.
 #[derive(Drop)]
 struct Lines {
-    alloc: Global,
     line: Vec<u8>,
     text: Vec<u8>,
     refused: bool,
@@ -76,7 +75,6 @@ impl Lines {
         ensures refused { result.refused ≡ false }
     {
         Lines {
-            alloc,
             line: Vec::new(alloc),
             text: Vec::new(alloc),
             refused: false,
@@ -118,7 +116,7 @@ impl Lines {
         ensures line { OnOk result (self.new.line.items ≡ []) }
         ensures refused { OnOk result (self.new.refused ≡ (self.old.refused || is_refused self.old.line.items)) }
     {
-        let refused = push_answered(self.alloc, &mut self.text, &self.line)?;
+        let refused = push_answered(&mut self.text, &self.line)?;
         self.refused = self.refused || refused;
         self.line.clear();
         Ok(())

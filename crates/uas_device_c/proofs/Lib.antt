@@ -1,2 +1,3 @@
-pub mod Texts
 pub mod Ended
+pub mod ControllerBehind
+pub mod DeviceBehind

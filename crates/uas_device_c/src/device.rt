@@ -9,9 +9,8 @@ mod ended;
 mod handle;
 
 use crate::device::ended::{ENDED_BYTES, next_task, receive_bytes};
-use crate::unit::put;
 use block_unit::Unit;
-use c_common::{OfUnits, ShownFaults, show};
+use c_common::{OfUnits, ShownFaults, put_unit, show};
 use c_faults::{
     DEVICE_CALL, DEVICE_LENGTH, DEVICE_OVERLAP, DEVICE_PHASE, DEVICE_RANGE, DEVICE_UNIT,
 };
@@ -217,7 +216,7 @@ fn status(target: &Target, door: &mut UasDeviceDoor, bytes: &mut [u8]) -> u8
     let Some(unit) = target.status_of(door.tag) else {
         return DEVICE_PHASE;
     };
-    let Some(size) = put(&unit, bytes) else {
+    let Some(size) = put_unit(&unit, bytes) else {
         return DEVICE_LENGTH;
     };
     door.length = size as u32;

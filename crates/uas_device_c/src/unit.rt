@@ -9,7 +9,7 @@ ghost use Rattle.trb_record.specs.RecordFault.{record_fault};
 ghost use Rattle.uas_device_c.specs.UnitRecord.{has_too_much_sense, named_unit, record_size, unit_read_fault, unit_record, unit_write_fault};
 
 use arrayvec::ArrayVec;
-use c_common::padded;
+use c_common::{padded, put_unit};
 use c_faults::{
     UNIT_LENGTH_FIELD, UNIT_LONG, UNIT_NO_ROOM, UNIT_RESERVED_SET, UNIT_SHORT, UNIT_UNFIT,
     UNIT_UNKNOWN_ID,
@@ -192,30 +192,11 @@ pub extern "C" fn uas_unit_write(unit: &UasUnit, bytes: &mut [u8], written: &mut
         Ok(named) => named,
         Err(fault) => return fault.number(UNIT_UNKNOWN_ID, UNIT_UNFIT),
     };
-    match put(&named, bytes) {
+    match put_unit(&named, bytes) {
         Some(size) => {
             *written = size;
             0
         }
         None => UNIT_NO_ROOM,
     }
-}
-
-/// Writes a unit to the front of `bytes`, and tells how many it has; `None` where there is too little room.
-#[tactic(auto, using(crate::proofs::Texts::text_size))]
-pub(crate) fn put(unit: &Iu, bytes: &mut [u8]) -> Option<usize>
-    ensures size { IfSome result (λ size. size ≡ unit_size unit.now) }
-    ensures room { IfSome result (λ size. size ≤ length bytes.old) }
-    ensures text { IfSome result (λ size. bytes.new ≡ unit_text unit.now ++ drop (unit_size unit.now) bytes.old) }
-    ensures no_room { IfNone result (length bytes.old < unit_size unit.now) }
-    ensures as_it_was { IfNone result (bytes.new ≡ bytes.old) }
-{
-    let mut text = ArrayVec::new();
-    uas_iu::write(unit, &mut text);
-    let size = text.len();
-    if bytes.len() < size {
-        return None;
-    }
-    bytes[..size].copy_from_slice(&text);
-    Some(size)
 }

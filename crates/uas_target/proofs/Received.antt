@@ -31,23 +31,19 @@ tag_in-task : (tag function task_tag : ℕ) (lun : List ℕ) → Fits (Task tag 
 unfolding unit_text
 tag_in-task tag function task_tag lun fits = two_bytes tag fits.0
 
+-- what is made of the fields of a Command is made of what it was written with
+pub at_command : {X : Type 0} (made : ℕ → List ℕ → List ℕ → X) (tag : ℕ) (lun cdb : List ℕ) → Fits (Command tag lun cdb) →
+    made (tag_in (unit_text (Command tag lun cdb))) (lun_in (unit_text (Command tag lun cdb))) (cdb_in (unit_text (Command tag lun cdb))) ≡ made tag lun cdb
+at_command made tag lun cdb fits = rw (tag_in-command tag lun cdb fits, lun_in-command tag lun cdb fits, cdb_in-command tag lun cdb fits) refl
+
 command_unit : (device : Device) (tag : ℕ) (lun cdb : List ℕ) → Fits (Command tag lun cdb) →
     received_unit device (unit_text (Command tag lun cdb)) (tag_in (unit_text (Command tag lun cdb)))
-    ≡ on_its_tag device tag
-    (with_units_and_task device tag (executed device.units (lun_in (unit_text (Command tag lun cdb))) (cdb_in (unit_text (Command tag lun cdb)))))
+    ≡ on_its_tag device tag (with_units_and_task device tag (executed device.units lun cdb))
 unfolding unit_text
-command_unit device tag lun cdb fits =
-    ap (λ n. on_its_tag device n
-    (with_units_and_task device n (executed device.units (lun_in (unit_text (Command tag lun cdb))) (cdb_in (unit_text (Command tag lun cdb))))))
-    (tag_in-command tag lun cdb fits)
+command_unit device = at_command (λ tag lun cdb. on_its_tag device tag (with_units_and_task device tag (executed device.units lun cdb)))
 
 pub received-command : CommandsAreExecuted
-received-command device tag lun cdb fits =
-    rw (first_fault-unit_text (Command tag lun cdb) fits)
-    (command_unit device tag lun cdb fits
-    ∙ ap (λ l. on_its_tag device tag (with_units_and_task device tag (executed device.units l (cdb_in (unit_text (Command tag lun cdb))))))
-    (lun_in-command tag lun cdb fits)
-    ∙ ap (λ b. on_its_tag device tag (with_units_and_task device tag (executed device.units lun b))) (cdb_in-command tag lun cdb fits))
+received-command device tag lun cdb fits = rw (first_fault-unit_text (Command tag lun cdb) fits) (command_unit device tag lun cdb fits)
 
 task_tag_in-task : (tag function task_tag : ℕ) (lun : List ℕ) → Fits (Task tag function task_tag lun) →
     task_tag_in (unit_text (Task tag function task_tag lun)) ≡ task_tag
@@ -58,25 +54,22 @@ lun_in-task : (tag function task_tag : ℕ) (lun : List ℕ) → Fits (Task tag 
 unfolding unit_text
 lun_in-task tag function task_tag lun fits = take_all 8 lun (omega (arith, fits.2))
 
+-- the same of a Task Management
+pub at_task : {X : Type 0} (made : ℕ → ℕ → List ℕ → X) (tag function task_tag : ℕ) (lun : List ℕ) → Fits (Task tag function task_tag lun) →
+    made (tag_in (unit_text (Task tag function task_tag lun))) (task_tag_in (unit_text (Task tag function task_tag lun)))
+    (lun_in (unit_text (Task tag function task_tag lun))) ≡ made tag task_tag lun
+at_task made tag function task_tag lun fits =
+    rw (tag_in-task tag function task_tag lun fits, task_tag_in-task tag function task_tag lun fits, lun_in-task tag function task_tag lun fits) refl
+
 task_unit : (device : Device) (tag function task_tag : ℕ) (lun : List ℕ) → Fits (Task tag function task_tag lun) →
     received_unit device (unit_text (Task tag function task_tag lun)) (tag_in (unit_text (Task tag function task_tag lun)))
-    ≡ on_its_tag device tag
-    (with_code tag
-    (managed device function (task_tag_in (unit_text (Task tag function task_tag lun))) (lun_in (unit_text (Task tag function task_tag lun)))))
+    ≡ on_its_tag device tag (with_code tag (managed device function task_tag lun))
 unfolding unit_text
-task_unit device tag function task_tag lun fits =
-    ap (λ n. on_its_tag device n
-    (with_code n
-    (managed device function (task_tag_in (unit_text (Task tag function task_tag lun))) (lun_in (unit_text (Task tag function task_tag lun))))))
-    (tag_in-task tag function task_tag lun fits)
+task_unit device tag function = at_task (λ tag task_tag lun. on_its_tag device tag (with_code tag (managed device function task_tag lun))) tag function
 
 pub received-task : TasksAreManaged
 received-task device tag function task_tag lun fits =
-    rw (first_fault-unit_text (Task tag function task_tag lun) fits)
-    (task_unit device tag function task_tag lun fits
-    ∙ ap (λ n. on_its_tag device tag (with_code tag (managed device function n (lun_in (unit_text (Task tag function task_tag lun))))))
-    (task_tag_in-task tag function task_tag lun fits)
-    ∙ ap (λ l. on_its_tag device tag (with_code tag (managed device function task_tag l))) (lun_in-task tag function task_tag lun fits))
+    rw (first_fault-unit_text (Task tag function task_tag lun) fits) (task_unit device tag function task_tag lun fits)
 
 pub received-sense : SensesAreDropped
 unfolding unit_text

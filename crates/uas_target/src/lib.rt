@@ -49,9 +49,11 @@ use device_server::Answer;
 pub use laws::{
     begins_as_asked, calls_are_folded, other_tags_are_kept, received_texts, tags_are_kept,
 };
+pub use receiver::unit_number;
 use scsi_cmd::Op;
 use std::marker::Model;
 use table::TaskTable;
+pub use table::is_tag;
 use thiserror::Error;
 
 /// How a task ended.

@@ -21,7 +21,7 @@ use scsi_cmd::{
 use uas_iu::{CDB_BYTES, INVALID_INFORMATION_UNIT, Iu, LUN_BYTES, lun_number, read};
 
 /// The number of the unit that a LUN addresses, where it is there (SAM, single level LUN structure).
-pub(crate) fn unit_number(units: &[Unit], lun: &[u8; LUN_BYTES]) -> Option<usize>
+pub fn unit_number<T>(units: &[T], lun: &[u8; LUN_BYTES]) -> Option<usize>
     ensures none { IfNone result (addressed units.now lun.now ≡ None) }
     ensures some { IfSome result
         (λ number. (number < length units.now) × (number ≡ slice_index lun.now 1) × (addressed units.now lun.now ≡ slice_get units.now number)) }

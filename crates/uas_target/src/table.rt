@@ -43,7 +43,7 @@ impl Model for TaskTable {
 }
 
 /// Whether a task may have this tag.
-pub(crate) fn is_tag(tag: u16) -> bool
+pub fn is_tag(tag: u16) -> bool
     ensures { result ≡ is_tag tag }
 {
     tag != 0 && tag <= GREATEST_TAG

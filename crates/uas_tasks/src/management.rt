@@ -6,7 +6,6 @@ ghost use Rattle.uas_target.specs.Tasks.{is_at};
 ghost use Rattle.uas_tasks.specs.Machine.{aborted_on, attentive, managed, powered, powered_machine, queried_on, reset_machine, reset_on, reset_over, slot_under, tasks_ended, without_command, without_its_task};
 ghost use Rattle.uas_tasks.specs.Slots.{has_command, is_command_of, spared_slot};
 
-use crate::receiver::unit_number;
 use crate::slot::Slot;
 use crate::{DeviceAnswer, LogicalUnit, Task, Tasks};
 use host_commands::UnitAttention;
@@ -14,6 +13,7 @@ use uas_iu::{
     ABORT_TASK, INCORRECT_LUN, LOGICAL_UNIT_RESET, LUN_BYTES, NOT_SUPPORTED, QUERY_TASK,
     TASK_COMPLETE, TASK_SUCCEEDED,
 };
+use uas_target::unit_number;
 
 impl Tasks {
     /// Resets the whole device (SAM): no tag has a task any more, and each logical unit has a unit attention. Requests that are

@@ -1,34 +1,13 @@
 //! What comes of received bytes.
-ghost use Rattle.std.specs.Prelude.{◌≡◌, ℕ, ◌<◌, true, false, None, Ok, IfNone, IfSome, length, slice_get, slice_index};
-ghost use Rattle.uas_target.specs.Fields.{addressed, is_tag, tag_in};
+ghost use Rattle.std.specs.Prelude.{◌≡◌, ℕ, ◌<◌, true, false, None, Ok, IfNone, IfSome, length, slice_get};
+ghost use Rattle.uas_target.specs.Fields.{is_tag, tag_in};
 ghost use Rattle.uas_tasks.specs.Machine.{Machine, executed, executed_on, has_task, managed, on_its_tag, received, received_unreadable, with_code, with_response};
 
 use crate::starts::begin;
 use crate::{DeviceAnswer, LogicalUnit, Overlap, Task, Tasks, Took};
 use host_commands::read_without_logical_unit;
-use uas_iu::{CDB_BYTES, INVALID_INFORMATION_UNIT, Iu, LUN_BYTES, lun_number, read};
-use uas_profile::GREATEST_TAG;
-
-/// The number of the logical unit that a LUN addresses, where it is there (SAM, single level LUN structure).
-pub(crate) fn unit_number(units: &[LogicalUnit], lun: &[u8; LUN_BYTES]) -> Option<usize>
-    ensures none { IfNone result (addressed units.now lun.now ≡ None) }
-    ensures some { IfSome result
-        (λ number. (number < length units.now) × (number ≡ slice_index lun.now 1) × (addressed units.now lun.now ≡ slice_get units.now number)) }
-{
-    let number = usize::from(lun_number(lun)?);
-    if number < units.len() {
-        Some(number)
-    } else {
-        None
-    }
-}
-
-/// Whether a task may have this tag.
-fn is_tag(tag: u16) -> bool
-    ensures { result ≡ is_tag tag }
-{
-    tag != 0 && tag <= GREATEST_TAG
-}
+use uas_iu::{CDB_BYTES, INVALID_INFORMATION_UNIT, Iu, LUN_BYTES, read};
+use uas_target::{is_tag, unit_number};
 
 impl Tasks {
     /// Receives the bytes of an information unit (INCITS 471): `Began` where a task began on its tag, which may have ended at

@@ -1,13 +1,11 @@
 //! A device without blocks for C: information units in, requests, data and information units out, over one call with a door.
-ghost use Rattle.std.specs.Prelude.{◌≡◌, ◌≤◌, ◌<◌, ◌++◌, drop, length, IfNone, IfSome};
-ghost use Rattle.uas_iu.specs.Units.{unit_size, unit_text};
+ghost use Rattle.std.specs.Prelude.{◌≡◌};
 ghost use Rattle.uas_tasks_c.specs.TasksCall.{after_answer, after_call, after_data, after_give, after_next, after_receive, after_sent, after_status};
 ghost use Rattle.uas_tasks_c.specs.TasksCall.{after_take, answer_told, call_numbered, outcome_numbered, with_next, with_request, with_took};
 
-use arrayvec::ArrayVec;
+use c_common::put_unit;
 use c_faults::{TASKS_CALL, TASKS_LENGTH, TASKS_NOT_OUT, TASKS_OVERLAP, TASKS_PHASE};
 use std::marker::Model;
-use uas_iu::Iu;
 use uas_tasks::{AnswerFault, Next, Outcome, Request, Tasks, Took, Wants};
 
 /// What a call of the device asks and answers. C writes `call` and what that call reads; the call writes what it answers.
@@ -253,30 +251,11 @@ fn status(tasks: &Tasks, door: &mut UasTasksDoor, bytes: &mut [u8]) -> u8
     let Some(unit) = tasks.status_of(door.tag) else {
         return TASKS_PHASE;
     };
-    let Some(size) = put(&unit, bytes) else {
+    let Some(size) = put_unit(&unit, bytes) else {
         return TASKS_LENGTH;
     };
     door.length = size as u64;
     0
-}
-
-/// Writes an information unit to the front of `bytes`, and tells how many it has; `None` where there is too little room.
-#[tactic(auto, using(crate::proofs::Texts::text_size))]
-fn put(unit: &Iu, bytes: &mut [u8]) -> Option<usize>
-    ensures size { IfSome result (λ size. size ≡ unit_size unit.now) }
-    ensures room { IfSome result (λ size. size ≤ length bytes.old) }
-    ensures text { IfSome result (λ size. bytes.new ≡ unit_text unit.now ++ drop (unit_size unit.now) bytes.old) }
-    ensures no_room { IfNone result (length bytes.old < unit_size unit.now) }
-    ensures as_it_was { IfNone result (bytes.new ≡ bytes.old) }
-{
-    let mut text = ArrayVec::new();
-    uas_iu::write(unit, &mut text);
-    let size = text.len();
-    if bytes.len() < size {
-        return None;
-    }
-    bytes[..size].copy_from_slice(&text);
-    Some(size)
 }
 
 fn sent(tasks: &mut Tasks, door: &UasTasksDoor) -> u8

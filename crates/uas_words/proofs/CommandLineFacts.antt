@@ -1,6 +1,6 @@
 -- The program's command, its matches and its refusals, as the words' parser tells them.
 use Rattle.std.proofs.Common.{◌≡◌, ◌∙◌, ◌&&◌, Bool, true, false, not, List, [], ◌∷◌, Option, Some, None, Result, option_map, is_some, if◌then◌else◌}
-use Rattle.std.proofs.Common.{refl, ap, sym, subst, inl, inr}
+use Rattle.std.proofs.Common.{refl, ap, ap₂, sym, subst, inl, inr}
 use Rattle.std.specs.Prelude.{codes, option_and_then}
 use Rattle.clap.specs.Words.{App, Row, AddsSubcommand, FailsBy, app_of, with_subcommand, HasKind, HasMatchesOf, IsAmong, Kinds, Text, fault_of, is_simple, is_simple_and_free, subcommand_of}
 use Rattle.clap.specs.Words.{subcommand_rows_of}
@@ -24,6 +24,12 @@ third_fails true true true d passes = cc
 pub with_plain : (old sub new : Command) → (app_of sub).top.is_plain ≡ true → AddsSubcommand old sub new
     → app_of new ≡ with_subcommand (app_of old) (app_of sub).top
 with_plain old sub new plain adds = adds.shape (third_fails _ _ _ _ plain)
+
+-- the same where both commands are known
+pub added : (old sub new : Command) (before mine : App) → app_of old ≡ before → app_of sub ≡ mine → mine.top.is_plain ≡ true → AddsSubcommand old sub new
+    → app_of new ≡ with_subcommand before mine.top
+added old sub new before mine was is plain adds =
+    with_plain old sub new (ap (λ (a : App). a.top.is_plain) is ∙ plain) adds ∙ ap₂ with_subcommand was (ap (λ (a : App). a.top) is)
 
 -- a name and what stands with it, of what is found by both
 pub both_found : {X Y A B : Type 0} (f : X → A) (h : X → A × B) → ((x : X) → f x ≡ (h x).0) → (o : Option X) (n : Y → A) (w : Y → B) (r : Option Y)

@@ -260,31 +260,25 @@ count_rule = number_rule (codes "COUNT") 1 MOST_BLOCKS_MOVED
 abbrev pub byte_rule : Rule
 byte_rule = number_rule (codes "BYTE") 0 255
 
+-- an option with a word behind it
+abbrev pub option_rule : Text → Rule
+option_rule name = record (new_rule name) { long = Some name; action = Some Set; value_names = 1 }
+
+-- an option with a number up to `most` behind it
+abbrev pub number_option_rule : Text → ℕ → Rule
+number_option_rule name most = record (option_rule name) { parser = Some (parser.Signed (pos 0) (pos most)) }
+
 -- the option `--bad LBA`
 abbrev pub bad_rule : Rule
-bad_rule = record (new_rule (codes "bad")) {
-  long = Some (codes "bad");
-  action = Some Set;
-  value_names = 1;
-  parser = Some (parser.Signed (pos 0) (pos last_block));
-}
+bad_rule = number_option_rule (codes "bad") last_block
 
 -- the option `--sync N`
 abbrev pub sync_rule : Rule
-sync_rule = record (new_rule (codes "sync")) {
-  long = Some (codes "sync");
-  action = Some Set;
-  value_names = 1;
-  parser = Some (parser.Signed (pos 0) (pos max_lba));
-}
+sync_rule = number_option_rule (codes "sync") max_lba
 
 -- the option `--head HEX`
 abbrev pub head_rule : Rule
-head_rule = record (new_rule (codes "head")) {
-  long = Some (codes "head");
-  action = Some Set;
-  value_names = 1;
-}
+head_rule = option_rule (codes "head")
 
 -- the option `--page`
 abbrev pub page_rule : Rule
@@ -292,11 +286,7 @@ page_rule = record (new_rule (codes "page")) { long = Some (codes "page"); actio
 
 -- the option `--color WHEN`
 abbrev pub color_rule : Rule
-color_rule = record (new_rule (codes "color")) {
-  long = Some (codes "color");
-  action = Some Set;
-  value_names = 1;
-}
+color_rule = option_rule (codes "color")
 
 -- a subcommand that runs a script: CLIENTS BLOCKS [--bad LBA]
 abbrev pub with_disks : App → App

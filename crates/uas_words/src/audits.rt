@@ -6,7 +6,7 @@ ghost use Rattle.clap.specs.Words.{found_of, rows_of};
 ghost use Rattle.uas_words.specs.Options.{IsInRange};
 ghost use Rattle.uas_words.specs.CommandLine.{asked_by, audit_of, head_of, hex_number, is_hex};
 
-use crate::{Run, log_in};
+use crate::{Run, word_in};
 use clap::ArgMatches;
 
 /// The most hexadecimal digits of a checksum.
@@ -17,7 +17,7 @@ pub(crate) fn audit_in<'a>(words: &ArgMatches<'a>) -> Option<Run<'a>>
     ensures range { IfSome result IsInRange }
     ensures asked { option_map asked_by result ≡ audit_of (rows_of (found_of words.now)) }
 {
-    let log = log_in(words)?;
+    let log = word_in(words, "LOG")?;
     let head = head_in(words)?;
     Some(Run::Audit { log, head })
 }
@@ -26,7 +26,7 @@ pub(crate) fn audit_in<'a>(words: &ArgMatches<'a>) -> Option<Run<'a>>
 fn head_in(words: &ArgMatches<'_>) -> Option<Option<u32>>
     ensures { result ≡ head_of (rows_of (found_of words.now)) }
 {
-    match words.get_str("head") {
+    match word_in(words, "head") {
         Some(word) => Some(Some(hex_number(word)?)),
         None => Some(None),
     }

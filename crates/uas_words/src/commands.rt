@@ -4,16 +4,16 @@ ghost use Rattle.clap.specs.Words.{app_of};
 ghost use Rattle.uas_words.specs.CommandLine.{audit_app, capture_app, decode_app, draw_app, dump_app, fill_app, info_app, make_app, program_app};
 ghost use Rattle.uas_words.specs.CommandLine.{replay_app, top_app, trace_app, with_disks, with_extent, with_work, work_app};
 
-use crate::arguments::{bad, blocks, color, file, head, log, number, page, saved_log, sync};
+use crate::arguments::{log, number, number_option, option, page, required};
 use crate::helps::{
     AUDIT_HELP, BYTE_HELP, COLOR_HELP, DRAW_HELP, HEAD_HELP, LBA_HELP, LOG_HELP, PAGE_HELP,
     ROUNDS_HELP, SCRIPT_HELP, SYNC_HELP, WORK_HELP,
 };
-use crate::{MAX_BYTE, MAX_ROUNDS, MOST_CLIENTS, MOST_MOVED, VERSION};
+use crate::{LAST_BLOCK, MAX_BYTE, MAX_ROUNDS, MOST_CLIENTS, MOST_MOVED, VERSION};
 use clap::Command;
 use decode_help::DECODE_HELP;
 use std::alloc::{AllocError, Global};
-use uas_profile::CLIENTS_HELP;
+use uas_profile::{CLIENTS_HELP, MAX_BLOCKS};
 
 /// The program's command, with its subcommands.
 pub(crate) fn command<'a>(alloc: Global) -> Result<Command<'a>, AllocError>
@@ -59,7 +59,7 @@ fn trace_command<'a>(alloc: Global) -> Result<Command<'a>, AllocError>
     let command = Command::new(alloc, "trace")
         .about("Runs a script as replay does, and prints each step with the bytes that it wrote")
         .after_help("Example:\n  uasdisk trace 1 100 < examples/first-reply.script");
-    add_disks(alloc, command)?.arg(color(alloc, COLOR_HELP))
+    add_disks(alloc, command)?.arg(option(alloc, "color", "WHEN", COLOR_HELP))
 }
 
 /// Adds what tells the disks that a script runs on.
@@ -68,11 +68,20 @@ fn add_disks<'a>(alloc: Global, command: Command<'a>) -> Result<Command<'a>, All
 {
     command
         .arg(number(alloc, "CLIENTS", 1, MOST_CLIENTS, CLIENTS_HELP))?
-        .arg(blocks(
+        .arg(number(
             alloc,
+            "BLOCKS",
+            1,
+            MAX_BLOCKS,
             "How many blocks of 512 bytes each unit has: 1 to 65536",
         ))?
-        .arg(bad(alloc, "A block that is bad in every unit: 0 to 65535"))
+        .arg(number_option(
+            alloc,
+            "bad",
+            "LBA",
+            LAST_BLOCK,
+            "A block that is bad in every unit: 0 to 65535",
+        ))
 }
 
 fn work_command<'a>(alloc: Global) -> Result<Command<'a>, AllocError>
@@ -81,7 +90,7 @@ fn work_command<'a>(alloc: Global) -> Result<Command<'a>, AllocError>
     let command = Command::new(alloc, "work")
         .about("Lets clients write and read in threads, and counts what they read")
         .after_help(WORK_HELP);
-    add_work(alloc, command)?.arg(sync(alloc, SYNC_HELP))
+    add_work(alloc, command)?.arg(number_option(alloc, "sync", "N", u32::MAX, SYNC_HELP))
 }
 
 /// Adds what tells the clients' work and its log.
@@ -100,7 +109,7 @@ fn decode_command<'a>(alloc: Global) -> Result<Command<'a>, AllocError>
     Command::new(alloc, "decode")
         .about("Reads lines of bytes from standard input and tells what each says")
         .after_help(DECODE_HELP)
-        .arg(color(alloc, COLOR_HELP))
+        .arg(option(alloc, "color", "WHEN", COLOR_HELP))
 }
 
 fn make_command<'a>(alloc: Global) -> Result<Command<'a>, AllocError>
@@ -109,8 +118,18 @@ fn make_command<'a>(alloc: Global) -> Result<Command<'a>, AllocError>
     Command::new(alloc, "make")
         .about("Makes an image file of zeroed blocks")
         .after_help("Example:\n  uasdisk make disk.image 100")
-        .arg(file(alloc, "The image file, in place of one that is there"))?
-        .arg(blocks(alloc, "How many blocks of 512 bytes it gets: 1 to 65536"))
+        .arg(required(
+            alloc,
+            "FILE",
+            "The image file, in place of one that is there",
+        ))?
+        .arg(number(
+            alloc,
+            "BLOCKS",
+            1,
+            MAX_BLOCKS,
+            "How many blocks of 512 bytes it gets: 1 to 65536",
+        ))
 }
 
 fn info_command<'a>(alloc: Global) -> Result<Command<'a>, AllocError>
@@ -119,7 +138,11 @@ fn info_command<'a>(alloc: Global) -> Result<Command<'a>, AllocError>
     Command::new(alloc, "info")
         .about("Tells how many blocks an image file has, and the number of the last")
         .after_help("Example:\n  uasdisk info disk.image")
-        .arg(file(alloc, "The image file: 1 to 65536 blocks of 512 bytes"))
+        .arg(required(
+            alloc,
+            "FILE",
+            "The image file: 1 to 65536 blocks of 512 bytes",
+        ))
 }
 
 fn dump_command<'a>(alloc: Global) -> Result<Command<'a>, AllocError>
@@ -146,8 +169,12 @@ fn audit_command<'a>(alloc: Global) -> Result<Command<'a>, AllocError>
     Command::new(alloc, "audit")
         .about("Replays a saved log and audits each client's account in it")
         .after_help(AUDIT_HELP)
-        .arg(saved_log(alloc, "The file of a log, of at most 1073741824 bytes"))?
-        .arg(head(alloc, HEAD_HELP))
+        .arg(required(
+            alloc,
+            "LOG",
+            "The file of a log; of version 1 or 2 it has at most 1073741824 bytes",
+        ))?
+        .arg(option(alloc, "head", "HEX", HEAD_HELP))
 }
 
 fn draw_command<'a>(alloc: Global) -> Result<Command<'a>, AllocError>
@@ -165,8 +192,9 @@ fn capture_command<'a>(alloc: Global) -> Result<Command<'a>, AllocError>
     let command = Command::new(alloc, "capture")
         .about("Runs a script as replay does, and writes the run to a file that Wireshark reads")
         .after_help("Example:\n  uasdisk capture 2 100 run.pcapng < examples/two-clients.script");
-    add_disks(alloc, command)?.arg(file(
+    add_disks(alloc, command)?.arg(required(
         alloc,
+        "FILE",
         "The capture (pcapng), in place of one that is there",
     ))
 }
@@ -176,7 +204,11 @@ fn add_extent<'a>(alloc: Global, command: Command<'a>) -> Result<Command<'a>, Al
     ensures { IfOk result (λ made. app_of made ≡ with_extent (app_of command.entry)) }
 {
     command
-        .arg(file(alloc, "The image file: 1 to 65536 blocks of 512 bytes"))?
+        .arg(required(
+            alloc,
+            "FILE",
+            "The image file: 1 to 65536 blocks of 512 bytes",
+        ))?
         .arg(number(alloc, "LBA", 0, u32::MAX, LBA_HELP))?
         .arg(number(alloc, "COUNT", 1, MOST_MOVED, "How many blocks: 1 to 128"))
 }

@@ -9,12 +9,12 @@ ghost use Rattle.std.specs.Prelude.{◌≡◌, ◌≤◌, ℕ, Option, Some, IfO
 ghost use Rattle.std.specs.Prelude.{codes};
 ghost use Rattle.std.specs.Str.{bytes_eq};
 ghost use Rattle.std.specs.String.{string_bytes};
-ghost use Rattle.clap.specs.Words.{FailsBy, app_of, found_of, kind_of, one_of, rows_of, subcommand_rows_of};
+ghost use Rattle.clap.specs.Words.{FailsBy, app_of, first_of, found_of, kind_of, one_of, rows_of, subcommand_rows_of};
 ghost use Rattle.byte_io.specs.Disks.{AreBlocks, AreClients, AreDisks};
 ghost use Rattle.uas_words.specs.Options.{AreRounds, IsBlock, IsInRange, IsMoved};
-ghost use Rattle.uas_words.specs.CommandLine.{Asked, AsksPlainly, asked_by, asked_for, asked_in, bad_of, blocks_of, capture_of, clients_of, decode_of};
-ghost use Rattle.uas_words.specs.CommandLine.{draw_of, dump_of, extent_of, file_of, fill_of, has_page, has_when, is_when, log_of, number_of, program_app};
-ghost use Rattle.uas_words.specs.CommandLine.{refusals, script_of, sync_of, trace_of, work_of, worked};
+ghost use Rattle.uas_words.specs.CommandLine.{Asked, AsksPlainly, asked_by, asked_for, asked_in, blocks_of, capture_of, clients_of, decode_of};
+ghost use Rattle.uas_words.specs.CommandLine.{draw_of, dump_of, extent_of, fill_of, has_page, has_when, is_when, number_of, optional_number, program_app};
+ghost use Rattle.uas_words.specs.CommandLine.{refusals, script_of, trace_of, work_of, worked};
 
 mod arguments;
 mod audits;
@@ -182,7 +182,7 @@ fn disks_in(words: &ArgMatches<'_>) -> Option<Disks>
 {
     let clients = clients_in(words)?;
     let blocks = blocks_in(words)?;
-    let bad = bad_in(words)?;
+    let bad = option_in(words, "bad", LAST_BLOCK)?;
     Some(Disks {
         clients,
         blocks,
@@ -217,7 +217,7 @@ fn decode_in<'a>(words: &ArgMatches<'a>) -> Option<Run<'a>>
 fn has_when(words: &ArgMatches<'_>) -> bool
     ensures { result ≡ has_when (rows_of (found_of words.now)) }
 {
-    match words.get_str("color") {
+    match word_in(words, "color") {
         Some(word) => is_when(word),
         None => true,
     }
@@ -246,7 +246,7 @@ fn draw_in<'a>(words: &ArgMatches<'a>) -> Option<Run<'a>>
 fn has_page(words: &ArgMatches<'_>) -> bool
     ensures { result ≡ has_page (rows_of (found_of words.now)) }
 {
-    match words.get_str("page") {
+    match word_in(words, "page") {
         Some(word) => is_true(word),
         None => false,
     }
@@ -265,7 +265,8 @@ fn work_in<'a>(words: &ArgMatches<'a>) -> Option<Run<'a>>
 {
     let clients = clients_in(words)?;
     let rounds = number_in(words, "ROUNDS", 1, MAX_ROUNDS)?;
-    worked(clients, rounds, log_in(words), sync_in(words)?)
+    let every = option_in(words, "sync", u32::MAX)?;
+    worked(clients, rounds, word_in(words, "LOG"), every)
 }
 
 /// Clients that work, with a log that is saved or kept, where it is one.
@@ -296,24 +297,6 @@ fn worked<'a>(
     }
 }
 
-/// After how many steps a log is synced that is kept, where it is to be. None where the word of `--sync` is no number of its range.
-fn sync_in(words: &ArgMatches<'_>) -> Option<Option<u32>>
-    ensures { result ≡ sync_of (rows_of (found_of words.now)) }
-{
-    match words.try_get_one::<u32>("sync") {
-        Ok(None) => Some(None),
-        Ok(Some(every)) => Some(Some(every)),
-        Err(_) => None,
-    }
-}
-
-/// The file of a log, where one is named.
-fn log_in<'a>(words: &ArgMatches<'a>) -> Option<&'a str>
-    ensures { option_map (λ log. log.now) result ≡ log_of (rows_of (found_of words.now)) }
-{
-    words.get_str("LOG")
-}
-
 fn clients_in(words: &ArgMatches<'_>) -> Option<usize>
     ensures number { result ≡ clients_of (rows_of (found_of words.now)) }
     ensures range { IfSome result AreClients }
@@ -325,7 +308,7 @@ fn dump_in<'a>(words: &ArgMatches<'a>) -> Option<Run<'a>>
     ensures range { IfSome result IsInRange }
     ensures asked { option_map asked_by result ≡ dump_of (rows_of (found_of words.now)) }
 {
-    let file = file_in(words)?;
+    let file = word_in(words, "FILE")?;
     let extent = extent_in(words)?;
     Some(Run::Dump { file, extent })
 }
@@ -334,7 +317,7 @@ fn fill_in<'a>(words: &ArgMatches<'a>) -> Option<Run<'a>>
     ensures range { IfSome result IsInRange }
     ensures asked { option_map asked_by result ≡ fill_of (rows_of (found_of words.now)) }
 {
-    let file = file_in(words)?;
+    let file = word_in(words, "FILE")?;
     let extent = extent_in(words)?;
     let byte = number_in(words, "BYTE", 0, MAX_BYTE)? as u8;
     Some(Run::Fill { file, extent, byte })
@@ -344,15 +327,16 @@ fn capture_in<'a>(words: &ArgMatches<'a>) -> Option<Run<'a>>
     ensures range { IfSome result IsInRange }
     ensures asked { option_map asked_by result ≡ capture_of (rows_of (found_of words.now)) }
 {
-    let file = file_in(words)?;
+    let file = word_in(words, "FILE")?;
     let disks = disks_in(words)?;
     Some(Run::Capture { disks, file })
 }
 
-fn file_in<'a>(words: &ArgMatches<'a>) -> Option<&'a str>
-    ensures { option_map (λ file. file.now) result ≡ file_of (rows_of (found_of words.now)) }
+/// The word under this name, where one stands.
+fn word_in<'a>(words: &ArgMatches<'a>, name: &str) -> Option<&'a str>
+    ensures { option_map (λ word. word.now) result ≡ first_of name.now (rows_of (found_of words.now)) }
 {
-    words.get_str("FILE")
+    words.get_str(name)
 }
 
 /// The blocks that a `dump` or a `fill` is of.
@@ -385,14 +369,14 @@ fn number_in(words: &ArgMatches<'_>, name: &str, least: u32, most: u32) -> Optio
     }
 }
 
-/// The block that `--bad` names, where it stands. None where its word is no number of the range.
-fn bad_in(words: &ArgMatches<'_>) -> Option<Option<u32>>
-    ensures bad { result ≡ bad_of (rows_of (found_of words.now)) }
-    ensures range { IfSome result (λ bad. IfSome bad IsBlock) }
+/// The number under this name, where one stands. None where its word is no number up to `most`.
+fn option_in(words: &ArgMatches<'_>, name: &str, most: u32) -> Option<Option<u32>>
+    ensures number { result ≡ optional_number 0 most (one_of name.now (rows_of (found_of words.now))) }
+    ensures range { IfSome result (λ number. IfSome number (λ number. number ≤ most)) }
 {
-    match words.try_get_one::<u32>("bad") {
+    match words.try_get_one::<u32>(name) {
         Ok(None) => Some(None),
-        Ok(Some(block)) if block <= LAST_BLOCK => Some(Some(block)),
+        Ok(Some(number)) if number <= most => Some(Some(number)),
         Ok(Some(_)) => None,
         Err(_) => None,
     }

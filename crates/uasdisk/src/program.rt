@@ -31,6 +31,7 @@ use work_run::{Kept, Load, run_kept_work, run_saved_work, run_work};
 
 /// Does what the words of a command line ask for, the program's own name first, and answers the exit status. A fault of
 /// `faults` changes nothing. A long run may show there how far it is. The runtime is asked for threads and the time.
+#[tactic(auto, unfolding(uas_words::specs::CommandLine::refusals, uas_words::specs::CommandLine::asked_for))]
 pub fn run_words<
     R: Threads + Wait + Clock + Sync,
     F: Files,

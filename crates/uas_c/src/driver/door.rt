@@ -185,13 +185,13 @@ pub(crate) fn show_answer(door: &mut UasDriverDoor, told: &ToldAnswer)
     ensures { door.new ≡ with_answer door.old told.now }
 {
     door.acted = 1;
-    door.reply = told.kind;
-    door.tag = told.tag;
-    door.ticket = told.ticket;
-    door.status = told.status;
-    door.sense_length = told.sense_length;
-    door.sense = told.sense;
-    door.length = told.length;
+    door.reply = told.reply.kind;
+    door.tag = told.reply.tag;
+    door.ticket = told.reply.ticket;
+    door.status = told.reply.status;
+    door.sense_length = told.reply.sense_length;
+    door.sense = told.reply.sense;
+    door.length = told.reply.length;
     door.moved = told.moved;
 }
 

@@ -5,12 +5,11 @@ ghost use Rattle.uas_decode.specs.Printed.{data_words, described, host_name, hos
 
 use super::units::{push_allocation, push_fua, push_range};
 use host_commands::{Data, HostCommand, ModeData, ModePages, VitalPage, Work};
-use std::alloc::{AllocError, Global};
+use std::alloc::AllocError;
 
 /// Adds a command and what it does.
 #[tactic(auto, unfolding(crate::specs::Printed::host_words))]
 pub(crate) fn push_host(
-    alloc: Global,
     text: &mut Vec<u8>,
     command: HostCommand,
     work: &Work,
@@ -18,7 +17,7 @@ pub(crate) fn push_host(
     ensures { OnOk result (text.new.items ≡ text.old.items ++ host_words command work.now) }
 {
     text.extend_from_slice(host_name(command).as_bytes())?;
-    push_work(alloc, text, work)
+    push_work(text, work)
 }
 
 /// The name of a command (SPC, SBC).
@@ -58,38 +57,33 @@ fn host_name(command: HostCommand) -> &'static str
 
 /// Adds what a command does.
 #[tactic(auto, unfolding(crate::specs::Printed::work_words))]
-fn push_work(alloc: Global, text: &mut Vec<u8>, work: &Work) -> Result<(), AllocError>
+fn push_work(text: &mut Vec<u8>, work: &Work) -> Result<(), AllocError>
     ensures { OnOk result (text.new.items ≡ text.old.items ++ work_words work.now) }
 {
     match work {
         Work::Nothing => Ok(()),
-        Work::Gives { given, allocation } => push_data(alloc, text, given, *allocation),
+        Work::Gives { given, allocation } => push_data(text, given, *allocation),
         Work::Writes {
             lba,
             count,
             through,
         } => {
-            push_range(alloc, text, *lba, *count)?;
+            push_range(text, *lba, *count)?;
             push_fua(text, *through)
         }
         Work::Compares { lba, count } => {
-            push_range(alloc, text, *lba, *count)?;
+            push_range(text, *lba, *count)?;
             text.extend_from_slice(b" compared")
         }
         Work::Reads { lba, count }
         | Work::Synchronizes { lba, count }
-        | Work::Verifies { lba, count } => push_range(alloc, text, *lba, *count),
+        | Work::Verifies { lba, count } => push_range(text, *lba, *count),
     }
 }
 
 /// Adds which data a command asks for, and its allocation length.
 #[tactic(auto, unfolding(crate::specs::Printed::data_words))]
-fn push_data(
-    alloc: Global,
-    text: &mut Vec<u8>,
-    given: &Data,
-    allocation: u32,
-) -> Result<(), AllocError>
+fn push_data(text: &mut Vec<u8>, given: &Data, allocation: u32) -> Result<(), AllocError>
     ensures { OnOk result (text.new.items ≡ text.old.items ++ data_words given.now allocation) }
 {
     match given {
@@ -113,7 +107,7 @@ fn push_data(
         | Data::TaskManagementFunctions { extended: false }
         | Data::LongCapacity { .. } => {}
     }
-    push_allocation(alloc, text, allocation)
+    push_allocation(text, allocation)
 }
 
 /// The name of a page of vital product data.

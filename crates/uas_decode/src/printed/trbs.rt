@@ -2,34 +2,30 @@
 
 ghost use Rattle.std.specs.Prelude.{◌≡◌, ◌++◌, OnOk};
 ghost use Rattle.xhci_trb.specs.Text.{bit};
-ghost use Rattle.uas_decode.specs.Printed.{code_words, command_event_words, cycle_words, dcs_words, endpoint_words, field_words, flag_word};
-ghost use Rattle.uas_decode.specs.Printed.{flags_words, length_words, link_words, normal_words, residual_words, set_dequeue_words, slot_words, stream_words, transfer_event_words, trb_words, type_name};
+ghost use Rattle.uas_decode.specs.Printed.{code_words, command_event_words, endpoint_words, field_words, flag_word, flags_words};
+ghost use Rattle.uas_decode.specs.Printed.{link_words, normal_words, set_dequeue_words, transfer_event_words, trb_words, type_name};
 
 use super::names::code_name;
+use super::numbers::push_number;
 use super::pointers::{push_digits, push_pointer};
-use std::alloc::{AllocError, Global};
+use std::alloc::AllocError;
 use xhci_trb::{Trb, TrbFlags};
 
 /// A bit as a number.
-pub(crate) fn bit(is_set: bool) -> u8
+pub(crate) fn bit(is_set: bool) -> u64
     ensures { result ≡ bit is_set }
 {
     if is_set { 1 } else { 0 }
 }
 
 /// Adds the text of a TRB and its Cycle bit.
-#[tactic(auto, unfolding(crate::specs::Printed::trb_words))]
-pub(crate) fn push_trb(
-    alloc: Global,
-    text: &mut Vec<u8>,
-    trb: &Trb,
-    cycle: bool,
-) -> Result<(), AllocError>
+#[tactic(auto, unfolding(crate::specs::Printed::trb_words, crate::specs::Printed::cycle_words))]
+pub(crate) fn push_trb(text: &mut Vec<u8>, trb: &Trb, cycle: bool) -> Result<(), AllocError>
     ensures { OnOk result (text.new.items ≡ text.old.items ++ trb_words trb.now cycle) }
 {
     text.extend_from_slice(type_name(trb).as_bytes())?;
-    push_fields(alloc, text, trb)?;
-    push_cycle(alloc, text, cycle)
+    push_fields(text, trb)?;
+    push_number(text, " cycle ", bit(cycle))
 }
 
 /// The name of a TRB's type (xHCI 1.2, 6.4.6).
@@ -47,19 +43,9 @@ fn type_name(trb: &Trb) -> &'static str
     }
 }
 
-/// Adds ` cycle C`.
-#[tactic(auto, unfolding(crate::specs::Printed::cycle_words))]
-fn push_cycle(alloc: Global, text: &mut Vec<u8>, cycle: bool) -> Result<(), AllocError>
-    ensures { OnOk result (text.new.items ≡ text.old.items ++ cycle_words cycle) }
-{
-    let cycle = bit(cycle);
-    let words = format!(in alloc; " cycle {cycle}")?;
-    text.extend_from_slice(words.as_bytes())
-}
-
 /// Adds a TRB's fields, without its Cycle bit.
 #[tactic(auto, unfolding(crate::specs::Printed::field_words))]
-fn push_fields(alloc: Global, text: &mut Vec<u8>, trb: &Trb) -> Result<(), AllocError>
+fn push_fields(text: &mut Vec<u8>, trb: &Trb) -> Result<(), AllocError>
     ensures { OnOk result (text.new.items ≡ text.old.items ++ field_words trb.now) }
 {
     match *trb {
@@ -68,39 +54,38 @@ fn push_fields(alloc: Global, text: &mut Vec<u8>, trb: &Trb) -> Result<(), Alloc
             length,
             td_size,
             flags,
-        } => push_normal(alloc, text, pointer, length, td_size, flags),
+        } => push_normal(text, pointer, length, td_size, flags),
         Trb::Link {
             pointer,
             toggle,
             chain,
             ioc,
-        } => push_link(alloc, text, pointer, toggle, chain, ioc),
-        Trb::StopEndpoint { endpoint, slot } => push_endpoint(alloc, text, endpoint, slot),
+        } => push_link(text, pointer, toggle, chain, ioc),
+        Trb::StopEndpoint { endpoint, slot } => push_endpoint(text, endpoint, slot),
         Trb::SetDequeue {
             pointer,
             cycle,
             stream,
             endpoint,
             slot,
-        } => push_set_dequeue(alloc, text, pointer, cycle, stream, endpoint, slot),
+        } => push_set_dequeue(text, pointer, cycle, stream, endpoint, slot),
         Trb::TransferEvent {
             pointer,
             residual,
             code,
             endpoint,
             slot,
-        } => push_transfer_event(alloc, text, pointer, residual, code, endpoint, slot),
+        } => push_transfer_event(text, pointer, residual, code, endpoint, slot),
         Trb::CommandEvent {
             pointer,
             code,
             slot,
-        } => push_command_event(alloc, text, pointer, code, slot),
+        } => push_command_event(text, pointer, code, slot),
     }
 }
 
-#[tactic(auto, unfolding(crate::specs::Printed::normal_words))]
+#[tactic(auto, unfolding(crate::specs::Printed::normal_words, crate::specs::Printed::length_words))]
 fn push_normal(
-    alloc: Global,
     text: &mut Vec<u8>,
     pointer: u64,
     length: u32,
@@ -109,23 +94,10 @@ fn push_normal(
 ) -> Result<(), AllocError>
     ensures { OnOk result (text.new.items ≡ text.old.items ++ normal_words pointer length td_size flags) }
 {
-    push_digits(alloc, text, pointer)?;
-    push_length(alloc, text, length, td_size)?;
+    push_digits(text, pointer)?;
+    push_number(text, " length ", u64::from(length))?;
+    push_number(text, " td-size ", u64::from(td_size))?;
     push_flags(text, flags)
-}
-
-/// Adds ` length L td-size S`.
-#[tactic(auto, unfolding(crate::specs::Printed::length_words))]
-fn push_length(
-    alloc: Global,
-    text: &mut Vec<u8>,
-    length: u32,
-    td_size: u8,
-) -> Result<(), AllocError>
-    ensures { OnOk result (text.new.items ≡ text.old.items ++ length_words length td_size) }
-{
-    let words = format!(in alloc; " length {length} td-size {td_size}")?;
-    text.extend_from_slice(words.as_bytes())
 }
 
 /// Adds the names of the flags that are set, each behind a space.
@@ -155,7 +127,6 @@ fn push_flag(text: &mut Vec<u8>, is_set: bool, name: &str) -> Result<(), AllocEr
 
 #[tactic(auto, unfolding(crate::specs::Printed::link_words))]
 fn push_link(
-    alloc: Global,
     text: &mut Vec<u8>,
     pointer: u64,
     toggle: bool,
@@ -164,7 +135,7 @@ fn push_link(
 ) -> Result<(), AllocError>
     ensures { OnOk result (text.new.items ≡ text.old.items ++ link_words pointer toggle chain ioc) }
 {
-    push_pointer(alloc, text, pointer)?;
+    push_pointer(text, pointer)?;
     push_flag(text, toggle, " TC")?;
     push_flag(text, chain, " CH")?;
     push_flag(text, ioc, " IOC")
@@ -172,21 +143,15 @@ fn push_link(
 
 /// Adds ` endpoint E slot S`.
 #[tactic(auto, unfolding(crate::specs::Printed::endpoint_words))]
-fn push_endpoint(
-    alloc: Global,
-    text: &mut Vec<u8>,
-    endpoint: u8,
-    slot: u8,
-) -> Result<(), AllocError>
+fn push_endpoint(text: &mut Vec<u8>, endpoint: u8, slot: u8) -> Result<(), AllocError>
     ensures { OnOk result (text.new.items ≡ text.old.items ++ endpoint_words endpoint slot) }
 {
-    let words = format!(in alloc; " endpoint {endpoint} slot {slot}")?;
-    text.extend_from_slice(words.as_bytes())
+    push_number(text, " endpoint ", u64::from(endpoint))?;
+    push_number(text, " slot ", u64::from(slot))
 }
 
-#[tactic(auto, unfolding(crate::specs::Printed::set_dequeue_words))]
+#[tactic(auto, unfolding(crate::specs::Printed::set_dequeue_words, crate::specs::Printed::dcs_words, crate::specs::Printed::stream_words))]
 fn push_set_dequeue(
-    alloc: Global,
     text: &mut Vec<u8>,
     pointer: u64,
     cycle: bool,
@@ -196,46 +161,26 @@ fn push_set_dequeue(
 ) -> Result<(), AllocError>
     ensures { OnOk result (text.new.items ≡ text.old.items ++ set_dequeue_words pointer cycle stream endpoint slot) }
 {
-    push_pointer(alloc, text, pointer)?;
-    push_dcs(alloc, text, cycle)?;
-    push_stream(alloc, text, stream)?;
-    push_endpoint(alloc, text, endpoint, slot)
-}
-
-/// Adds ` dcs C`, the cycle state of a dequeue pointer.
-#[tactic(auto, unfolding(crate::specs::Printed::dcs_words))]
-pub(crate) fn push_dcs(alloc: Global, text: &mut Vec<u8>, cycle: bool) -> Result<(), AllocError>
-    ensures { OnOk result (text.new.items ≡ text.old.items ++ dcs_words cycle) }
-{
-    let cycle = bit(cycle);
-    let words = format!(in alloc; " dcs {cycle}")?;
-    text.extend_from_slice(words.as_bytes())
-}
-
-/// Adds ` stream S`.
-#[tactic(auto, unfolding(crate::specs::Printed::stream_words))]
-pub(crate) fn push_stream(alloc: Global, text: &mut Vec<u8>, stream: u16) -> Result<(), AllocError>
-    ensures { OnOk result (text.new.items ≡ text.old.items ++ stream_words stream) }
-{
-    let words = format!(in alloc; " stream {stream}")?;
-    text.extend_from_slice(words.as_bytes())
+    push_pointer(text, pointer)?;
+    push_number(text, " dcs ", bit(cycle))?;
+    push_number(text, " stream ", u64::from(stream))?;
+    push_endpoint(text, endpoint, slot)
 }
 
 /// Adds a space and the name of a completion code, or the code where it has none.
 #[tactic(auto, unfolding(crate::specs::Printed::code_words))]
-fn push_code(alloc: Global, text: &mut Vec<u8>, code: u8) -> Result<(), AllocError>
+fn push_code(text: &mut Vec<u8>, code: u8) -> Result<(), AllocError>
     ensures { OnOk result (text.new.items ≡ text.old.items ++ code_words code) }
 {
     let words = match code_name(code) {
-        Some(name) => format!(in alloc; " {name}")?,
-        None => format!(in alloc; " code {code}")?,
+        Some(name) => format!(in *text.allocator(); " {name}")?,
+        None => format!(in *text.allocator(); " code {code}")?,
     };
     text.extend_from_slice(words.as_bytes())
 }
 
-#[tactic(auto, unfolding(crate::specs::Printed::transfer_event_words))]
+#[tactic(auto, unfolding(crate::specs::Printed::transfer_event_words, crate::specs::Printed::residual_words))]
 fn push_transfer_event(
-    alloc: Global,
     text: &mut Vec<u8>,
     pointer: u64,
     residual: u32,
@@ -245,24 +190,14 @@ fn push_transfer_event(
 ) -> Result<(), AllocError>
     ensures { OnOk result (text.new.items ≡ text.old.items ++ transfer_event_words pointer residual code endpoint slot) }
 {
-    push_pointer(alloc, text, pointer)?;
-    push_code(alloc, text, code)?;
-    push_residual(alloc, text, residual)?;
-    push_endpoint(alloc, text, endpoint, slot)
+    push_pointer(text, pointer)?;
+    push_code(text, code)?;
+    push_number(text, " residual ", u64::from(residual))?;
+    push_endpoint(text, endpoint, slot)
 }
 
-/// Adds ` residual R`.
-#[tactic(auto, unfolding(crate::specs::Printed::residual_words))]
-fn push_residual(alloc: Global, text: &mut Vec<u8>, residual: u32) -> Result<(), AllocError>
-    ensures { OnOk result (text.new.items ≡ text.old.items ++ residual_words residual) }
-{
-    let words = format!(in alloc; " residual {residual}")?;
-    text.extend_from_slice(words.as_bytes())
-}
-
-#[tactic(auto, unfolding(crate::specs::Printed::command_event_words))]
+#[tactic(auto, unfolding(crate::specs::Printed::command_event_words, crate::specs::Printed::slot_words))]
 fn push_command_event(
-    alloc: Global,
     text: &mut Vec<u8>,
     pointer: u64,
     code: u8,
@@ -270,16 +205,7 @@ fn push_command_event(
 ) -> Result<(), AllocError>
     ensures { OnOk result (text.new.items ≡ text.old.items ++ command_event_words pointer code slot) }
 {
-    push_pointer(alloc, text, pointer)?;
-    push_code(alloc, text, code)?;
-    push_slot(alloc, text, slot)
-}
-
-/// Adds ` slot S`.
-#[tactic(auto, unfolding(crate::specs::Printed::slot_words))]
-fn push_slot(alloc: Global, text: &mut Vec<u8>, slot: u8) -> Result<(), AllocError>
-    ensures { OnOk result (text.new.items ≡ text.old.items ++ slot_words slot) }
-{
-    let words = format!(in alloc; " slot {slot}")?;
-    text.extend_from_slice(words.as_bytes())
+    push_pointer(text, pointer)?;
+    push_code(text, code)?;
+    push_number(text, " slot ", u64::from(slot))
 }

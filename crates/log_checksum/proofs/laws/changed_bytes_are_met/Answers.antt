@@ -1,5 +1,5 @@
 use Rattle.std.proofs.Common.{◌∷◌}
-use Rattle.log_checksum.proofs.Bytes.{bytes_back, bytes_behind, bytes_front}
+use Rattle.byte_numbers.proofs.Bytes.{bytes_back, bytes_behind, bytes_front}
 use Rattle.log_checksum.proofs.Telling.{changed_byte}
 use Rattle.log_checksum.proofs.laws.changed_bytes_are_met.Goals as goal
 

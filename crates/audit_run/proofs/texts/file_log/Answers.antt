@@ -1,4 +1,0 @@
-use Rattle.audit_run.proofs.texts.file_log.Goals as goal
-
-pub returns-in-Err-clause-fault : goal.returns-in-Err-clause-fault
-returns-in-Err-clause-fault c = c.in-Err.ensures.fault c.args.head

@@ -1,0 +1,4 @@
+use Rattle.audit_run.proofs.texts.older_log.Goals as goal
+
+pub returns-in-Err-clause-fault : goal.returns-in-Err-clause-fault
+returns-in-Err-clause-fault c = c.in-Err.ensures.fault c.args.head

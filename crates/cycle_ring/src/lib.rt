@@ -53,8 +53,6 @@ use xhci_trb::Trb;
 pub mod laws;
 mod places;
 mod segment;
-#[cfg(test)]
-mod tests;
 
 /// Want of memory, the one refusal of a constructor.
 pub type NoMemory = AllocError;

@@ -276,6 +276,3 @@ impl Seat {
         seat
     }
 }
-
-#[cfg(test)]
-mod tests;

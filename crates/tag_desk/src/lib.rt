@@ -324,6 +324,3 @@ impl Desk {
         Ok(lists.into_left())
     }
 }
-
-#[cfg(test)]
-mod tests;

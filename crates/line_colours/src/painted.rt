@@ -15,7 +15,9 @@ pub struct Painted<O: Sink> {
 }
 
 impl<O: Sink> Painted<O> {
-    pub fn new(alloc: Global, sink: O, is_coloured: bool) -> Painted<O> {
+    pub fn new(alloc: Global, sink: O, is_coloured: bool) -> Painted<O>
+        ensures { (result.sink ≡ sink) × (result.is_coloured ≡ is_coloured) }
+    {
         Painted {
             sink,
             alloc,

@@ -1,5 +1,6 @@
 //! Interrupter 0: its event ring, by its segment table and ERDP (xHCI 1.2, 4.9.4, 4.17 and 6.5).
-ghost use Rattle.std.specs.Prelude.{◌≡◌, ◌||◌, None, true};
+ghost use Rattle.std.specs.Prelude.{◌≡◌, ◌||◌, ◌&&◌, ◌==◌, not, is_some, min, IfSome, Ok, Some, None, true, false};
+ghost use Rattle.guest_rings.specs.Events.{EventEnd};
 ghost use Rattle.xhci_machine.specs.Effects.{no_event_ring};
 
 use byteorder::{ByteOrder, LittleEndian};
@@ -126,7 +127,9 @@ fn free_by(ring: &EventRing, place: u16) -> u16 {
 }
 
 /// A ring with this one's next place, of which so many, up to 2, are free. Where that would go past 2^64, it begins some places before.
-fn see<M: GuestMemory>(memory: &M, ring: &EventRing, free: u16) -> Seen {
+fn see<M: GuestMemory>(memory: &M, ring: &EventRing, free: u16) -> Seen
+    ensures { (seen : EventEnd) → result ≡ Seen.Ring seen → seen.free ≡ min free 2 }
+{
     let places = free.min(2) + 1;
     let last = u64::MAX - 16 * u64::from(places) + 1;
     let next = place_range(ring);
@@ -172,7 +175,9 @@ impl Interrupts {
         &mut self,
         memory: &M,
         registers: &mut Registers,
-    ) -> Result<Option<EventRing>, Outside> {
+    ) -> Result<Option<EventRing>, Outside>
+        ensures kept { self.old.dequeued ≡ false → IfSome self.old.ring (λ ring. result ≡ Ok (Some ring)) }
+    {
         match self.take_ring(memory, &registers.interrupter)? {
             None => Ok(None),
             Some(mut ring) => {
@@ -188,7 +193,10 @@ impl Interrupts {
         &mut self,
         memory: &M,
         interrupter: &Interrupter,
-    ) -> Result<Option<EventRing>, Outside> {
+    ) -> Result<Option<EventRing>, Outside>
+        ensures kept { IfSome self.old.ring (λ ring. result ≡ Ok (Some ring)) }
+        ensures rest { IfSome self.old.ring (λ ring. self.new ≡ record self.old { ring = None }) }
+    {
         match self.ring.take() {
             Some(ring) => Ok(Some(ring)),
             None => {
@@ -213,7 +221,10 @@ impl Interrupts {
     }
 
     /// The event ring as [`Interrupts::take`] finds it.
-    pub fn look<M: GuestMemory>(&self, memory: &M, interrupter: &Interrupter) -> Seen {
+    pub fn look<M: GuestMemory>(&self, memory: &M, interrupter: &Interrupter) -> Seen
+        ensures free { self.now.dequeued ≡ false → IfSome self.now.ring (λ ring.
+            (seen : EventEnd) → result ≡ Seen.Ring seen → seen.free ≡ min ring.free 2) }
+    {
         match &self.ring {
             None => see_table(memory, interrupter),
             Some(ring) => {
@@ -229,12 +240,16 @@ impl Interrupts {
     }
 
     /// Whether Event Ring Full Error is to be posted in such a ring once a step finds no room there.
-    pub fn owes_full(&self, events: &EventRing) -> bool {
+    pub fn owes_full(&self, events: &EventRing) -> bool
+        ensures { result ≡ (events.now.free == 1 && not (self.now.told_full && is_some self.now.ring)) }
+    {
         events.free() == 1 && !(self.told_full && self.ring.is_some())
     }
 
     /// The event ring comes back.
-    pub fn keep(&mut self, ring: EventRing) {
+    pub fn keep(&mut self, ring: EventRing)
+        ensures { self.new ≡ record self.old { ring = Some ring } }
+    {
         self.ring = Some(ring);
     }
 
@@ -245,6 +260,7 @@ impl Interrupts {
         events: &mut EventRing,
     ) -> Result<(), Outside>
         ensures same_loan { M.loan memory.new ≡ M.loan memory.old }
+        ensures told { self.new ≡ record self.old { told_full = self.old.told_full || events.old.free == 1 } }
     {
         if self.told_full || events.free() != 1 {
             return Ok(());

@@ -1,6 +1,6 @@
 //! The run `work` whose log is kept in a file while it grows: whatever ends the program, the file has a beginning of the log.
 
-ghost use Rattle.std.specs.Prelude.{◌≡◌, ℕ, ◌≤◌, ◌⊎◌, Bool, List, Option, IsTrue, false, true, map, IfErr, IfOk};
+ghost use Rattle.std.specs.Prelude.{◌≡◌, ℕ, ◌≤◌, ◌⊎◌, Bool, List, Option, IsTrue, false, true, map, IfErr, IfOk, IfSome};
 ghost use Rattle.std.specs.Io.KnownBytes.{Keeps};
 ghost use Rattle.byte_io.specs.Disks.{AreClients};
 ghost use Rattle.uas_work.specs.Booked.{first_unit};
@@ -9,8 +9,7 @@ ghost use Rattle.work_run.specs.WorkEnds.{KeptGivesUp, Told, work_units};
 use crate::Load;
 use crate::faults::WorkFault;
 use crate::keeping::Keeping;
-use crate::run::{Worked, booked, millis_since, ran_by};
-use crate::telling::tell;
+use crate::run::{Worked, booked, fault_of, millis_since, ran_by, release, tell_work};
 use byte_io::Sink;
 use kept_log::Why;
 use log_keeper::{KeepStop, Keeper, KeptFile, KeptFiles};
@@ -82,13 +81,10 @@ fn work<R: Threads + Wait + Clock + Sync, K: KeptFiles, O: Sink>(
         Err(fault) => return Err(fault),
     };
     let millis = start.and_then(|start| millis_since(rt, &start));
-    let commands = finished.booked.log().replies.len();
-    match tell(alloc, load, &finished, true, output) {
-        Ok(status) => Ok(Worked {
-            status,
-            commands,
-            millis,
-        }),
+    let told = tell_work(alloc, load, &finished, millis, true, output);
+    release(finished);
+    match told {
+        Ok(worked) => Ok(worked),
         Err(fault) => Err(fault),
     }
 }
@@ -141,13 +137,26 @@ fn ran_with<R: Threads + Wait + Clock + Sync, F: KeptFile + Drop + Send>(
     let Ok(finished) = ran_by(rt, alloc, load, booked, &keeping) else {
         return Err(WorkFault::Run(RunFault::NoMemory));
     };
-    if let Err(stop) = end_log(alloc, keeping, &finished) {
-        return Err(stopped(stop));
+    match ended_fault(alloc, keeping, &finished) {
+        None => Ok(finished),
+        Some(fault) => {
+            release(finished);
+            Err(fault)
+        }
     }
-    match finished.ended {
-        Ended::Done | Ended::Stopped => Ok(finished),
-        Ended::LogFull => Err(WorkFault::LogFull),
-        Ended::NoMemory | Ended::NoThread => Err(WorkFault::Run(RunFault::NoMemory)),
+}
+
+/// Ends the log of a run: the fault of that, or of the run.
+fn ended_fault<R, F: KeptFile + Drop>(
+    alloc: Global,
+    keeping: Keeping<'_, R, F>,
+    finished: &Finished,
+) -> Option<WorkFault>
+    ensures { IfSome result (λ fault. (can_fail : Bool) → (text : Option (List ℕ)) → KeptGivesUp can_fail text text fault) }
+{
+    match end_log(alloc, keeping, finished) {
+        Ok(()) => fault_of(finished.ended),
+        Err(stop) => Some(stopped(stop)),
     }
 }
 

@@ -1,9 +1,9 @@
 //! The run `work`: the threads, what they left, and what is told of it.
 
-ghost use Rattle.std.specs.Prelude.{◌≡◌, ℕ, ◌+◌, ◌*◌, ◌^◌, ◌<◌, ◌≤◌, Bool, List, Option, false, map, IfOk, IfErr};
+ghost use Rattle.std.specs.Prelude.{◌≡◌, ℕ, ◌+◌, ◌*◌, ◌^◌, ◌<◌, ◌≤◌, Bool, List, Option, false, map, IfOk, IfErr, IfSome};
 ghost use Rattle.byte_io.specs.Disks.{AreClients};
 ghost use Rattle.uas_work.specs.Booked.{first_unit};
-ghost use Rattle.work_run.specs.WorkEnds.{GivesUp, Told, WorkEnds, work_units};
+ghost use Rattle.work_run.specs.WorkEnds.{GivesUp, KeptGivesUp, Told, WorkEnds, work_units};
 
 use crate::Load;
 use crate::faults::WorkFault;
@@ -77,15 +77,44 @@ fn work<R: Threads + Wait + Clock + Sync, O: Sink>(
     ensures fault { IfErr result (GivesUp (O.can_fail output.old) (O.written output.old) (O.written output.new)) }
 {
     let start = Instant::now(rt).ok();
-    let finished = ran(rt, alloc, load)?;
+    let finished = match ran(rt, alloc, load) {
+        Ok(finished) => finished,
+        Err(fault) => return Err(fault),
+    };
     let millis = start.and_then(|start| millis_since(rt, &start));
-    let commands = finished.booked.log().replies.len();
-    let status = tell(alloc, load, &finished, false, output)?;
-    Ok(Worked {
-        status,
-        commands,
-        millis,
-    })
+    let worked = tell_work(alloc, load, &finished, millis, false, output);
+    release(finished);
+    worked
+}
+
+/// Prints what came of a run.
+pub(crate) fn tell_work<O: Sink>(
+    alloc: Global,
+    load: Load,
+    finished: &Finished,
+    millis: Option<u64>,
+    shows_audits: bool,
+    output: &mut O,
+) -> Result<Worked, WorkFault>
+    requires clients { AreClients load.clients }
+    requires units { finished.now.booked.log.units ≡ map first_unit (work_units load.clients) }
+    ensures status { IfOk result (λ worked. worked.status ≤ 1) }
+    ensures told { IfOk result (λ worked. Told load.clients load.rounds shows_audits (O.written output.old) (O.written output.new) worked.status) }
+    ensures fault { IfErr result (GivesUp (O.can_fail output.old) (O.written output.old) (O.written output.new)) }
+{
+    match tell(alloc, load, finished, shows_audits, output) {
+        Ok(status) => Ok(Worked {
+            status,
+            commands: finished.booked.log().replies.len(),
+            millis,
+        }),
+        Err(fault) => Err(fault),
+    }
+}
+
+/// Gives back what a run holds. Wherever one goes, it goes here: its going is long to prove.
+pub(crate) fn release(finished: Finished) {
+    drop(finished);
 }
 
 /// Lets the clients take their rounds. A worker without a thread or memory ends them all, and so does a full log.
@@ -104,10 +133,24 @@ pub(crate) fn ran<R: Threads + Wait + Sync>(
     let Ok(finished) = ran_by(rt, alloc, load, booked, &Unhindered) else {
         return Err(WorkFault::Run(RunFault::NoMemory));
     };
-    match finished.ended {
-        Ended::Done | Ended::Stopped => Ok(finished),
-        Ended::LogFull => Err(WorkFault::LogFull),
-        Ended::NoMemory | Ended::NoThread => Err(WorkFault::Run(RunFault::NoMemory)),
+    match fault_of(finished.ended) {
+        None => Ok(finished),
+        Some(fault) => {
+            release(finished);
+            Err(fault)
+        }
+    }
+}
+
+/// The fault of a run that ended so, which printed nothing.
+pub(crate) fn fault_of(ended: Ended) -> Option<WorkFault>
+    ensures gives_up { IfSome result (λ fault. (can_fail : Bool) → (text : Option (List ℕ)) → GivesUp can_fail text text fault) }
+    ensures kept { IfSome result (λ fault. (can_fail : Bool) → (text : Option (List ℕ)) → KeptGivesUp can_fail text text fault) }
+{
+    match ended {
+        Ended::Done | Ended::Stopped => None,
+        Ended::LogFull => Some(WorkFault::LogFull),
+        Ended::NoMemory | Ended::NoThread => Some(WorkFault::Run(RunFault::NoMemory)),
     }
 }
 
@@ -121,10 +164,13 @@ pub(crate) fn ran_by<R: Threads + Wait + Sync, G: Gate + Sync>(
 ) -> Result<Finished, AllocError>
     ensures { IfOk result (λ finished. finished.booked.log.units ≡ booked.log.units) }
 {
-    match spawn_all(rt, alloc, booked, gate, plan_of(load)) {
-        Ok(finished) => Ok(finished),
-        Err((fault, _)) => Err(fault),
-    }
+    spawn_all(rt, alloc, booked, gate, plan_of(load)).map_err(unstarted)
+}
+
+/// The fault of workers that couldn't start, whose bus goes.
+fn unstarted(failed: (AllocError, Booked)) -> AllocError {
+    let (fault, _) = failed;
+    fault
 }
 
 /// Two pumps and a controller beside the clients.

@@ -1,15 +1,17 @@
 //! The run `work` with the file of a log: each client is audited once the threads have ended, and the log is saved.
 
-ghost use Rattle.std.specs.Prelude.{◌≡◌, ◌≤◌, ◌⊎◌, ⊤, Some, false, IsTrue, IfOk, IfErr, OnOk, OnErr};
+ghost use Rattle.std.specs.Prelude.{◌≡◌, ◌≤◌, ◌⊎◌, ⊤, Some, false, map, IsTrue, IfOk, IfErr, OnOk, OnErr};
 ghost use Rattle.std.specs.Io.KnownBytes.{Keeps};
 ghost use Rattle.byte_io.specs.Disks.{AreClients};
 ghost use Rattle.log_text.specs.Kept.{IsSavable, saved_log};
 ghost use Rattle.log_text.specs.Text.{log_text};
 ghost use Rattle.work_run.specs.SavedEnds.{CantBeSaved, Saved, SavedGivesUp, SavingGivesUp, Unsaved};
+ghost use Rattle.uas_work.specs.Booked.{first_unit};
+ghost use Rattle.work_run.specs.WorkEnds.{work_units};
 
 use crate::Load;
 use crate::faults::WorkFault;
-use crate::run::{Worked, millis_since, ran};
+use crate::run::{Worked, millis_since, ran, release};
 use crate::telling::tell;
 use booked_limits::booked_logs_fit;
 use byte_io::{Files, Sink, StreamFault};
@@ -22,6 +24,7 @@ use std::thread::Threads;
 use std::time::Instant;
 use uas_log::Log;
 use uas_replay::RunFault;
+use uas_work::Finished;
 
 /// The run `work` that saves its log: as `run_work`, but behind the lines of the clients it prints for each of them whether its audit
 /// is true, and then saves the log in the file of a name. It answers the exit status: 1 where an audit is false too, 3 at a fault of
@@ -82,8 +85,33 @@ fn work<R: Threads + Wait + Clock + Sync, F: Files, O: Sink>(
         Err(fault) => return Err(fault),
     };
     let millis = start.and_then(|start| millis_since(rt, &start));
+    let saved = told_and_saved(alloc, load, &finished, millis, files, file, output);
+    release(finished);
+    saved
+}
+
+/// Prints what came of a run, and saves its log.
+fn told_and_saved<F: Files, O: Sink>(
+    alloc: Global,
+    load: Load,
+    finished: &Finished,
+    millis: Option<u64>,
+    files: &mut F,
+    file: &str,
+    output: &mut O,
+) -> Result<Worked, WorkFault>
+    requires clients { AreClients load.clients }
+    requires units { finished.now.booked.log.units ≡ map first_unit (work_units load.clients) }
+    ensures status { IfOk result (λ worked. worked.status ≤ 1) }
+    ensures saved { IfOk result (λ worked. Saved load.clients load.rounds (F.tells files.old) (F.holds files.new file.now)
+        (O.written output.old) (O.written output.new) worked.status) }
+    ensures created { OnOk result (IsTrue (F.can_create files.old file.now)) }
+    ensures fault { IfErr result (SavedGivesUp load.clients load.rounds (F.can_fail files.old file.now) (O.can_fail output.old)
+        (O.written output.old) (O.written output.new)) }
+    ensures held { OnErr result (IsTrue (F.tells files.old) → F.holds files.new ≡ F.holds files.old) }
+{
     let commands = finished.booked.log().replies.len();
-    let status = match tell(alloc, load, &finished, true, output) {
+    let status = match tell(alloc, load, finished, true, output) {
         Ok(status) => status,
         Err(fault) => return Err(fault),
     };
